@@ -1,0 +1,4 @@
+# acpiset: build, run and test.
+.PHONY: test
+test:
+	rt ci
