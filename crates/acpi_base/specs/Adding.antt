@@ -1,0 +1,13 @@
+-- When bytes cannot be added to an image.
+use Rattle.std.specs.Prelude.{ℕ, ◌+◌, ◌^◌, List, length, Option, Some, nat_lt, if◌then◌else◌}
+use Rattle.std.specs.Option.{option_map}
+use Rattle.acpi_base.specs.declared.image.ImageFault.{ImageFault}
+use Rattle.acpi_base.specs.declared.image.ImageFault.TheVariants.{PastEnd, Twice}
+use Rattle.acpi_base.specs.Memory.{Memory, first_held}
+
+-- the bytes would pass the address 2^64 - 1, or the least of their addresses that is held already
+abbrev pub add_refusal : Memory → ℕ → List ℕ → Option ImageFault
+add_refusal m base bytes =
+    if nat_lt (2 ^ 64) (base + length bytes)
+    then Some PastEnd
+    else option_map (λ address. Twice address) (first_held m base (length bytes))

@@ -1,0 +1,49 @@
+-- The faults of an image, and the first of them.
+use Rattle.std.specs.Prelude.{◌≡◌, ℕ, ◌<◌, ◌≤◌, ◌⊎◌}
+use Rattle.acpi_base.specs.Memory.{Memory}
+use Rattle.acpi_base.specs.Policy.{PolicyValue}
+use Rattle.acpi_base.specs.Codes.{stage_number, code_number, stage_of}
+use Rattle.acpi_base.specs.Rsdp.{RsdpFault}
+use Rattle.acpi_base.specs.Root.{RootFault, IsSlot}
+use Rattle.acpi_base.specs.Tables.{TableFault}
+use Rattle.acpi_base.specs.Statements.{Holds, CleanTo}
+use Rattle.acpi_base.specs.declared.stage.Stage.{Stage}
+use Rattle.acpi_base.specs.declared.stage.Stage.TheVariants as stage
+use Rattle.acpi_base.specs.declared.witness.Witness.{Witness}
+use Rattle.acpi_base.specs.declared.verdict.Verdict.{Verdict}
+use Rattle.acpi_base.specs.declared.verdict.Verdict.TheVariants.{Yes, No}
+
+-- The faults of a stage. Numbers that a fault does not use are 0.
+--   RSDP: at is the RSDP's address.
+--   root: at is the RSDP's address or the root's.
+--   tables: at is the slot's number, other the table's address.
+abbrev pub FaultOfStage : Stage → Memory → PolicyValue → Witness → Type 0
+FaultOfStage stage.Rsdp m q w = RsdpFault m q.rsdp w.code × (w.at ≡ q.rsdp) × (w.other ≡ 0) × (w.point ≡ 0)
+FaultOfStage stage.Root m q w = RootFault m q.rsdp w.code w.at × (w.other ≡ 0) × (w.point ≡ 0)
+FaultOfStage stage.Tables m q w = IsSlot m q.rsdp w.at w.other × TableFault m w.other w.code × (w.point ≡ 0)
+FaultOfStage _ m q w = ⊥
+
+-- w is a fault of the image. Whether earlier stages hold does not matter.
+abbrev pub Fault : Memory → PolicyValue → Witness → Type 0
+Fault m q w = FaultOfStage (stage_of w.code) m q w
+
+-- w stands before v in the order by at, code, other and point, or is like it
+abbrev pub NotAfter : Witness → Witness → Type 0
+NotAfter w v =
+    (w.at < v.at)
+    ⊎ ((w.at ≡ v.at)
+    × ((code_number w.code < code_number v.code)
+    ⊎ ((code_number w.code ≡ code_number v.code)
+    × ((w.other < v.other)
+    ⊎ ((w.other ≡ v.other) × (w.point ≤ v.point))))))
+
+-- w is the first fault: all earlier stages hold, and no fault of its stage stands before it
+pub record IsFirstFault (m : Memory) (q : PolicyValue) (w : Witness) : Type 0 where
+  pub fault : Fault m q w
+  pub earlier : (stage : Stage) → stage_number stage < stage_number (stage_of w.code) → Holds stage m q
+  pub least : (v : Witness) → stage_of v.code ≡ stage_of w.code → Fault m q v → NotAfter w v
+
+-- the verdict over the stages up to `last`: yes where they hold, else the first fault, of one of them
+abbrev pub IsVerdict : Stage → Memory → PolicyValue → Verdict → Type 0
+IsVerdict last m q Yes = CleanTo last m q
+IsVerdict last m q (No w) = IsFirstFault m q w × (stage_number (stage_of w.code) ≤ stage_number last)

@@ -1,0 +1,14 @@
+pub mod Adding
+pub mod Codes
+pub mod Faults
+pub mod ImageText
+pub mod Memory
+pub mod Number
+pub mod Policy
+pub mod Root
+pub mod Rsdp
+pub mod Signature
+pub mod Statements
+pub mod Tables
+pub mod TextMachine
+pub mod WitnessText

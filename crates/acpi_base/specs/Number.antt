@@ -1,0 +1,11 @@
+-- Numbers and sums of bytes.
+use Rattle.std.specs.Prelude.{ℕ, ◌%◌, List, drop, sum}
+use Rattle.byteorder.specs.Endian.{little_number}
+
+-- the little-endian number in the `width` bytes from `offset` on (5.2.2)
+unfoldable pub field : List ℕ → ℕ → ℕ → ℕ
+field bytes offset width = little_number width (drop offset bytes)
+
+-- the sum of the bytes modulo 256, which is 0 where a checksum is right (5.2.5.3, 5.2.6)
+unfoldable pub byte_sum : List ℕ → ℕ
+byte_sum bytes = sum bytes % 256

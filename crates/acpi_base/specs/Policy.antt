@@ -1,0 +1,16 @@
+-- What a check is told beside the image.
+use Rattle.std.specs.Prelude.{◌≡◌, ℕ, ◌^◌, ◌<◌, ◌≤◌, Some}
+use Rattle.std.specs.Ordering.{nat_cmp}
+use Rattle.std.specs.FinMap.{FinMap, get}
+
+-- the RSDP's address, and how many inputs an I/O APIC has: by its address, or else by default
+pub record PolicyValue : Type 0 where
+  pub rsdp : ℕ
+  pub default_inputs : ℕ
+  pub inputs : FinMap nat_cmp ℕ
+
+-- addresses are below 2^64, those of I/O APICs below 2^32, and counts lie from 1 to 256
+pub record IsPolicy (q : PolicyValue) : Type 0 where
+  pub rsdp_fits : q.rsdp < 2 ^ 64
+  pub default_fits : (1 ≤ q.default_inputs) × (q.default_inputs ≤ 256)
+  pub inputs_fit : (address count : ℕ) → get q.inputs address ≡ Some count → (address < 2 ^ 32) × (1 ≤ count) × (count ≤ 256)

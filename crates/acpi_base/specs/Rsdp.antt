@@ -1,0 +1,70 @@
+-- The RSDP (ACPI 6.5, 5.2.5.3): what it says, and when it is sound. Offsets are from its start.
+use Rattle.std.specs.Prelude.{◌≡◌, ◌≢◌, ℕ, ◌<◌, ◌≤◌, List, Option, Some, None, true, false, nat_lt, if◌then◌else◌}
+use Rattle.std.specs.Option.{option_map, option_and_then}
+use Rattle.acpi_base.specs.Memory.{Memory, bytes_at}
+use Rattle.acpi_base.specs.Number.{field, byte_sum}
+use Rattle.acpi_base.specs.Signature.{has_signature, rsdp_signature}
+use Rattle.acpi_base.specs.declared.code.Code.{Code}
+use Rattle.acpi_base.specs.declared.code.Code.TheVariants as code
+
+-- the revision: 0 or 1 means the short form of 20 bytes, 2 or more the extended one of at least 36
+abbrev pub revision_of : List ℕ → ℕ
+revision_of head = field head 15 1
+
+-- the whole structure's length in bytes, in the extended form
+abbrev pub rsdp_length : List ℕ → ℕ
+rsdp_length front = field front 20 4
+
+-- the addresses of the RSDT and the XSDT; 0 names none
+pub record Addresses : Type 0 where
+  pub rsdt : ℕ
+  pub xsdt : ℕ
+
+abbrev pub short_addresses : List ℕ → Addresses
+short_addresses head = record { rsdt = field head 16 4; xsdt = 0 }
+
+abbrev pub extended_addresses : List ℕ → Addresses
+extended_addresses front = record { rsdt = field front 16 4; xsdt = field front 24 8 }
+
+-- what the RSDP at p names, where its 20 bytes are held, and in the extended form its 36; a short one
+-- names no XSDT
+unfoldable pub addresses_at : Memory → ℕ → Option Addresses
+addresses_at m p =
+    option_and_then
+    (λ head. if nat_lt (revision_of head) 2 then Some (short_addresses head) else option_map extended_addresses (bytes_at m p 36))
+    (bytes_at m p 20)
+
+-- head and front are the first 20 and 36 bytes of an RSDP of the extended form at p
+pub record IsExtended (m : Memory) (p : ℕ) (head front : List ℕ) : Type 0 where
+  pub head_held : bytes_at m p 20 ≡ Some head
+  pub extended : 2 ≤ revision_of head
+  pub front_held : bytes_at m p 36 ≡ Some front
+
+-- the extended form's Length is at least 36, and its Length bytes are held and sum to 0
+pub record IsSoundExtended (m : Memory) (p : ℕ) : Type 0 where
+  pub front : List ℕ
+  pub front_held : bytes_at m p 36 ≡ Some front
+  pub least : 36 ≤ rsdp_length front
+  pub whole : List ℕ
+  pub held : bytes_at m p (rsdp_length front) ≡ Some whole
+  pub zero_sum : byte_sum whole ≡ 0
+
+-- Stage 1: the 20 bytes at p are held, begin with the signature and sum to 0; the extended form is
+-- sound whole.
+pub record IsSoundRsdp (m : Memory) (p : ℕ) : Type 0 where
+  pub head : List ℕ
+  pub head_held : bytes_at m p 20 ≡ Some head
+  pub signed : has_signature head rsdp_signature ≡ true
+  pub zero_sum : byte_sum head ≡ 0
+  pub extended : 2 ≤ revision_of head → IsSoundExtended m p
+
+-- The faults of stage 1, by their code.
+abbrev pub RsdpFault : Memory → ℕ → Code → Type 0
+RsdpFault m p code.RsdpOut = bytes_at m p 20 ≡ None
+RsdpFault m p code.RsdpSignature = (head : List ℕ) × (bytes_at m p 20 ≡ Some head) × (has_signature head rsdp_signature ≡ false)
+RsdpFault m p code.RsdpSum = (head : List ℕ) × (bytes_at m p 20 ≡ Some head) × (byte_sum head ≢ 0)
+RsdpFault m p code.RsdpTailOut = (head : List ℕ) × (bytes_at m p 20 ≡ Some head) × (2 ≤ revision_of head) × (bytes_at m p 36 ≡ None)
+RsdpFault m p code.RsdpLength = (head : List ℕ) × (front : List ℕ) × IsExtended m p head front × (rsdp_length front < 36)
+RsdpFault m p code.RsdpLongOut = (head : List ℕ) × (front : List ℕ) × IsExtended m p head front × (36 ≤ rsdp_length front) × (bytes_at m p (rsdp_length front) ≡ None)
+RsdpFault m p code.RsdpExtendedSum = (head : List ℕ) × (front : List ℕ) × (whole : List ℕ) × IsExtended m p head front × (36 ≤ rsdp_length front) × (bytes_at m p (rsdp_length front) ≡ Some whole) × (byte_sum whole ≢ 0)
+RsdpFault m p _ = ⊥

@@ -1,0 +1,39 @@
+-- Reading a text byte by byte: what a reader of text in pieces keeps. `acpi_base::machine_reads_lines`
+-- says that it agrees with reading by lines.
+use Rattle.std.specs.Prelude.{ℕ, ◌+◌, List, [], ◌∷◌, ◌++◌, length, Result, Ok, Err, ◌==◌, if◌then◌else◌}
+use Rattle.acpi_base.specs.ImageText.{Reading, start, read_line, is_too_long, on_ok}
+use Rattle.acpi_base.specs.declared.text.TextFault.{TextFault}
+use Rattle.acpi_base.specs.declared.text.TextFault.TheVariants as text
+
+-- where reading stands: within a line, of which these bytes have come, or stopped for good
+pub data Standing : Type 0 where
+  Going : Reading → List ℕ → Standing
+  Stopped : TextFault → Standing
+
+-- a line has ended
+abbrev pub line_ended : Result Reading TextFault → Standing
+line_ended (Ok r) = Going r []
+line_ended (Err fault) = Stopped fault
+
+-- a byte of the text comes
+abbrev pub step : Standing → ℕ → Standing
+step (Going r line) b =
+    if b == 10
+    then line_ended (read_line r line 1)
+    else (if is_too_long (length line + 1) (r.through + (length line + 1)) then Stopped text.TooLong else Going r (line ++ b ∷ []))
+step (Stopped fault) b = Stopped fault
+
+-- these bytes come, one after the other
+unfoldable pub run : Standing → List ℕ → Standing
+run standing [] = standing
+run standing (b ∷ rest) = run (step standing b) rest
+
+-- the text ends
+abbrev pub end_text : Standing → Result Reading TextFault
+end_text (Going r line) = read_line r line 0
+end_text (Stopped fault) = Err fault
+
+-- what the front of a text stands for
+abbrev pub standing_of : Standing → Result Reading TextFault
+standing_of (Going r line) = Ok r
+standing_of (Stopped fault) = Err fault

@@ -1,0 +1,29 @@
+//! Why an image text could not be read.
+
+use thiserror::Error;
+
+/// Why an image text could not be read. Lines count from 1.
+#[derive(Clone, Copy, Debug, PartialEq, Eq, Error)]
+pub enum TextFault {
+    /// The line is neither an address, nor data, nor empty.
+    #[error("line {line}: bad line")]
+    BadLine { line: u64 },
+    /// Data stands before the first address.
+    #[error("line {line}: no address")]
+    NoAddress { line: u64 },
+    /// An address is given a second byte.
+    #[error("address {address:#x} twice")]
+    Twice { address: u64 },
+    /// The line's data passes the address 2^64 - 1.
+    #[error("line {line}: past the end")]
+    PastEnd { line: u64 },
+    /// The text has more than 67,108,864 bytes, or a line more than 65,536.
+    #[error("too long")]
+    TooLong,
+    /// The reader failed.
+    #[error("device")]
+    Read,
+    /// No memory was found for the text or the image.
+    #[error("out of memory")]
+    Memory,
+}
