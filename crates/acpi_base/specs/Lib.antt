@@ -5,6 +5,7 @@ pub mod ImageText
 pub mod Memory
 pub mod Number
 pub mod Policy
+pub mod PolicyFields
 pub mod Root
 pub mod Rsdp
 pub mod Signature

@@ -1,7 +1,8 @@
 -- What a check is told beside the image.
-use Rattle.std.specs.Prelude.{◌≡◌, ℕ, ◌^◌, ◌<◌, ◌≤◌, Some}
+use Rattle.std.specs.Prelude.{◌≡◌, ℕ, ◌^◌, ◌<◌, ◌≤◌, Some, refl}
 use Rattle.std.specs.Ordering.{nat_cmp}
-use Rattle.std.specs.FinMap.{FinMap, get}
+use Rattle.std.specs.Coded.{Coded, code_by, coded×, coded_ℕ}
+use Rattle.std.specs.FinMap.{FinMap, get, code}
 
 -- the RSDP's address, and how many inputs an I/O APIC has: by its address, or else by default
 pub record PolicyValue : Type 0 where
@@ -14,3 +15,13 @@ pub record IsPolicy (q : PolicyValue) : Type 0 where
   pub rsdp_fits : q.rsdp < 2 ^ 64
   pub default_fits : (1 ≤ q.default_inputs) × (q.default_inputs ≤ 256)
   pub inputs_fit : (address count : ℕ) → get q.inputs address ≡ Some count → (address < 2 ^ 32) × (1 ≤ count) × (count ≤ 256)
+
+-- how a model's value is told apart: as its three parts
+abbrev pub policy_code : Coded PolicyValue
+policy_code =
+    code_by
+    (ℕ × (ℕ × FinMap nat_cmp ℕ))
+    (coded× coded_ℕ (coded× coded_ℕ (code coded_ℕ coded_ℕ)))
+    (λ q. (q.rsdp, (q.default_inputs, q.inputs)))
+    (λ p. record { rsdp = p.0; default_inputs = p.1.0; inputs = p.1.1 })
+    (λ _. refl)

@@ -285,10 +285,8 @@ impl Code {
             | Code::RootOut
             | Code::RootRagged
             | Code::RootSum => Stage::Root,
-            Code::TableHeaderOut
-            | Code::TableLength
-            | Code::TableOut
-            | Code::TableSum => Stage::Tables,
+            Code::TableHeaderOut | Code::TableLength | Code::TableOut | Code::TableSum =>
+                Stage::Tables,
             Code::NoFadt
             | Code::FadtShort
             | Code::PmEventLength
@@ -311,20 +309,13 @@ impl Code {
             | Code::GsiPastEnd => Stage::Madt,
             Code::GsiClash => Stage::Interrupts,
             Code::OverrideClash => Stage::Overrides,
-            Code::SratShort
-            | Code::SratEntryCut
-            | Code::SratEntryLength
-            | Code::RangePastEnd => Stage::Srat,
+            Code::SratShort | Code::SratEntryCut | Code::SratEntryLength | Code::RangePastEnd =>
+                Stage::Srat,
             Code::Overlap => Stage::Ranges,
-            Code::SlitShort
-            | Code::SlitSize
-            | Code::SlitDiagonal
-            | Code::SlitLow => Stage::Slit,
-            Code::PpttEntryCut
-            | Code::PpttEntryLength => Stage::Pptt,
-            Code::DanglingParent
-            | Code::DanglingResource
-            | Code::DanglingCache => Stage::References,
+            Code::SlitShort | Code::SlitSize | Code::SlitDiagonal | Code::SlitLow => Stage::Slit,
+            Code::PpttEntryCut | Code::PpttEntryLength => Stage::Pptt,
+            Code::DanglingParent | Code::DanglingResource | Code::DanglingCache =>
+                Stage::References,
             Code::ParentCycle => Stage::Parents,
             Code::CacheCycle => Stage::Caches,
             Code::TwoDomains => Stage::Domains,
