@@ -1,1 +1,24 @@
+pub mod Clean
+pub mod CodeNumbers
+pub mod Edits
+pub mod FaultLaws
+pub mod FirstFaults
+pub mod Firsts
+pub mod HeldBytes
+pub mod Held
+pub mod Images
+pub mod Joins
+mod LineLemmas
+mod MachineLemmas
+pub mod Places
 pub mod Policies
+mod ReadingLemmas
+pub mod RootFaults
+pub mod RootRead
+pub mod Roots
+pub mod RsdpFaults
+pub mod Runs
+pub mod Search
+pub mod Segments
+pub mod Slots
+pub mod TableFaults

@@ -76,9 +76,7 @@ unfoldable pub data_from : List ℕ → Option ℕ → List ℕ → Line
 data_from bytes None [] = Data bytes
 data_from bytes (Some high) [] = Bad
 data_from bytes None (b ∷ rest) =
-    if is_blank b
-    then data_from bytes None rest
-    else option_map_or (λ digit. data_from bytes (Some digit) rest) (digit_of b) Bad
+    option_map_or (λ digit. data_from bytes (Some digit) rest) (digit_of b) (if is_blank b then data_from bytes None rest else Bad)
 data_from bytes (Some high) (b ∷ rest) = option_map_or (λ low. data_from (bytes ++ (16 * high + low) ∷ []) None rest) (digit_of b) Bad
 
 -- after the blanks in front: nothing, `@` and directly an address, or data

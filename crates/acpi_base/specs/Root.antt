@@ -1,6 +1,5 @@
 -- The root, which is the XSDT or the RSDT, and its slots (ACPI 6.5, 5.2.7, 5.2.8).
-use Rattle.std.specs.Prelude.{◌≡◌, ◌≢◌, ℕ, ◌+◌, ◌-◌, ◌*◌, ◌%◌, ◌<◌, ◌≤◌, List, length, Option, Some, None, true, false, ◌==◌, if◌then◌else◌}
-use Rattle.std.specs.Option.{option_and_then}
+use Rattle.std.specs.Prelude.{◌≡◌, ◌≢◌, ℕ, ◌+◌, ◌-◌, ◌*◌, ◌%◌, ◌<◌, ◌≤◌, List, length, Option, Some, None, true, false, ◌⊎◌, ◌==◌, if◌then◌else◌}
 use Rattle.acpi_base.specs.Memory.{Memory, bytes_at}
 use Rattle.acpi_base.specs.Number.{field, byte_sum}
 use Rattle.acpi_base.specs.Signature.{has_signature, rsdt_signature, xsdt_signature}
@@ -33,26 +32,36 @@ pub record HasNoRoot (m : Memory) (p : ℕ) : Type 0 where
   pub read : addresses_at m p ≡ Some named
   pub none : chosen_root named ≡ None
 
+-- slots have 4 bytes in an RSDT and 8 in an XSDT
+abbrev pub IsSlotWidth : ℕ → Type 0
+IsSlotWidth d = (d ≡ 4) ⊎ (d ≡ 8)
+
 -- the signature of a root with slots of d bytes
 abbrev pub root_signature : ℕ → List ℕ
 root_signature d = if d == 8 then xsdt_signature else rsdt_signature
 
--- the root that the RSDP at p names is a table with its kind's signature: at r, with slots of d bytes
-pub record IsRootTable (m : Memory) (p r d : ℕ) (header whole : List ℕ) : Type 0 where
-  pub root : IsRoot m p r d
+-- a table with the signature of a root with slots of d bytes stands at r, and these are all its bytes
+pub record IsRootTable (m : Memory) (r d : ℕ) (whole : List ℕ) : Type 0 where
+  pub header : List ℕ
   pub table : IsTable m r header whole
   pub signed : has_signature header (root_signature d) ≡ true
 
--- slot k, from 0, lies wholly below the root's Length and holds the address a, which is not 0
+-- slot k, from 0, of a root with slots of d bytes lies wholly within its bytes and holds the address a,
+-- which is not 0
+pub record HasSlot (whole : List ℕ) (d k a : ℕ) : Type 0 where
+  pub inside : 36 + d * (k + 1) ≤ length whole
+  pub address : field whole (36 + d * k) d ≡ a
+  pub listed : a ≢ 0
+
+-- the root that the RSDP at p names is a table with its kind's signature, and its slot k lists the
+-- address a
 pub record IsSlot (m : Memory) (p k a : ℕ) : Type 0 where
   pub r : ℕ
   pub d : ℕ
-  pub header : List ℕ
   pub whole : List ℕ
-  pub root : IsRootTable m p r d header whole
-  pub inside : 36 + d * (k + 1) ≤ length_of header
-  pub address : field whole (36 + d * k) d ≡ a
-  pub listed : a ≢ 0
+  pub root : IsRoot m p r d
+  pub table : IsRootTable m r d whole
+  pub slot : HasSlot whole d k a
 
 -- a is the first listed table with this signature, in the order of the slots: a header is all that is
 -- asked of it
@@ -62,24 +71,34 @@ pub record IsFirstTable (m : Memory) (p : ℕ) (signature : List ℕ) (a : ℕ) 
   pub signed : IsSigned m a signature
   pub none_before : (j b : ℕ) → j < k → IsSlot m p j b → ¬ IsSigned m b signature
 
--- Stage 2: there is a root; it is a table with its kind's signature, has a whole number of slots and
--- sums to 0.
+-- a root with slots of d bytes stands at r whose bytes, these, are a whole number of slots after the
+-- header and sum to 0
+pub record IsSoundRootTable (m : Memory) (r d : ℕ) (whole : List ℕ) : Type 0 where
+  pub table : IsRootTable m r d whole
+  pub slots : (length whole - 36) % d ≡ 0
+  pub zero_sum : byte_sum whole ≡ 0
+
+-- Stage 2: there is a root, and it is sound.
 pub record IsSoundRoot (m : Memory) (p : ℕ) : Type 0 where
   pub r : ℕ
   pub d : ℕ
-  pub header : List ℕ
   pub whole : List ℕ
-  pub root : IsRootTable m p r d header whole
-  pub slots : (length_of header - 36) % d ≡ 0
-  pub zero_sum : byte_sum whole ≡ 0
+  pub root : IsRoot m p r d
+  pub sound : IsSoundRootTable m r d whole
 
--- The faults of stage 2, by their code, and the address that each is told of: the RSDP's or the root's.
+-- The faults of a root at r with slots of d bytes, by their code.
+abbrev pub RootTableFault : Memory → ℕ → ℕ → Code → Type 0
+RootTableFault m r d code.RootHeaderOut = bytes_at m r 36 ≡ None
+RootTableFault m r d code.RootSignature = (header : List ℕ) × (bytes_at m r 36 ≡ Some header) × (has_signature header (root_signature d) ≡ false)
+RootTableFault m r d code.RootLength = (header : List ℕ) × (bytes_at m r 36 ≡ Some header) × (length_of header < 36)
+RootTableFault m r d code.RootOut = (header : List ℕ) × (bytes_at m r 36 ≡ Some header) × (36 ≤ length_of header) × (bytes_at m r (length_of header) ≡ None)
+RootTableFault m r d code.RootRagged = (header : List ℕ) × (bytes_at m r 36 ≡ Some header) × (36 ≤ length_of header) × ((length_of header - 36) % d ≢ 0)
+RootTableFault m r d code.RootSum = (header : List ℕ) × (whole : List ℕ) × IsTable m r header whole × (byte_sum whole ≢ 0)
+RootTableFault m r d _ = ⊥
+
+-- The faults of stage 2, by their code and the address that each is told of: the RSDP's where there is no
+-- root, else the root's.
 abbrev pub RootFault : Memory → ℕ → Code → ℕ → Type 0
-RootFault m p code.NoRoot at = HasNoRoot m p × (at ≡ p)
-RootFault m p code.RootHeaderOut at = (d : ℕ) × IsRoot m p at d × (bytes_at m at 36 ≡ None)
-RootFault m p code.RootSignature at = (d : ℕ) × (header : List ℕ) × IsRoot m p at d × (bytes_at m at 36 ≡ Some header) × (has_signature header (root_signature d) ≡ false)
-RootFault m p code.RootLength at = (d : ℕ) × (header : List ℕ) × IsRoot m p at d × (bytes_at m at 36 ≡ Some header) × (length_of header < 36)
-RootFault m p code.RootOut at = (d : ℕ) × (header : List ℕ) × IsRoot m p at d × (bytes_at m at 36 ≡ Some header) × (36 ≤ length_of header) × (bytes_at m at (length_of header) ≡ None)
-RootFault m p code.RootRagged at = (d : ℕ) × (header : List ℕ) × IsRoot m p at d × (bytes_at m at 36 ≡ Some header) × (36 ≤ length_of header) × ((length_of header - 36) % d ≢ 0)
-RootFault m p code.RootSum at = (d : ℕ) × (header : List ℕ) × (whole : List ℕ) × IsRoot m p at d × IsTable m at header whole × (byte_sum whole ≢ 0)
-RootFault m p _ at = ⊥
+RootFault m p fault at =
+    (HasNoRoot m p × (fault ≡ code.NoRoot) × (at ≡ p))
+    ⊎ ((d : ℕ) × IsRoot m p at d × RootTableFault m at d fault)

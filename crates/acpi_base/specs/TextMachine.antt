@@ -10,6 +10,10 @@ pub data Standing : Type 0 where
   Going : Reading → List ℕ → Standing
   Stopped : TextFault → Standing
 
+-- before the first byte
+abbrev pub beginning : Standing
+beginning = Going start []
+
 -- a line has ended
 abbrev pub line_ended : Result Reading TextFault → Standing
 line_ended (Ok r) = Going r []

@@ -1,5 +1,19 @@
 //! Memory images.
 
+ghost use Rattle.std.specs.Prelude.{◌≡◌, ◌+◌, ◌^◌, nat_lt, if◌then◌else◌, IsOk, IsOkUnless, OnOk, OnErr, IfSome, MatchOption, length};
+ghost use Rattle.std.specs.Option.{option_map};
+ghost use Rattle.std.specs.List.{AllByRecursion};
+ghost use Rattle.std.specs.FinMap.{empty};
+ghost use Rattle.acpi_base.specs.Memory.{IsImage, first_of, byte_of, bytes_at, with_bytes};
+ghost use Rattle.acpi_base.specs.Adding.{add_refusal};
+ghost use Rattle.acpi_base.specs.Segments.{lookup, runs, IsWhole};
+
+mod segments;
+
+use segments::Segment;
+use std::alloc::{AllocError, Global};
+use std::marker::Model;
+
 /// Why bytes could not be added to an image.
 #[derive(Clone, Copy, Debug, PartialEq, Eq)]
 pub enum ImageFault {
@@ -9,4 +23,108 @@ pub enum ImageFault {
     Twice { address: u64 },
     /// No memory was found for them.
     Memory,
+}
+
+impl From<AllocError> for ImageFault {
+    ghost use Rattle.acpi_base.specs.declared.image.ImageFault.{ImageFault};
+
+    ghost from_gives = { λ _ fault. fault ≡ ImageFault.Memory };
+
+    fn from(_error: AllocError) -> ImageFault {
+        ImageFault::Memory
+    }
+}
+
+fn refusal(segments: &[Segment], base: u64, count: u64) -> Option<ImageFault>
+    requires { AllByRecursion IsWhole (runs segments.now) }
+    ensures { result ≡ (if nat_lt (2 ^ 64) (base + count) then Some ImageFault.PastEnd else option_map (λ address. ImageFault.Twice address) (first_of (lookup (runs segments.now)) base count)) }
+{
+    if count == 0 {
+        return None;
+    }
+    // The end itself may be 2^64, which is no number of 64 bits.
+    if count - 1 > u64::MAX - base {
+        return Some(ImageFault::PastEnd);
+    }
+    segments::first_held(segments, base, count).map(|address| ImageFault::Twice { address })
+}
+
+/// Bytes at 64-bit addresses, in pieces that may lie anywhere.
+///
+/// Every search goes over the pieces from the first on, so it costs by their number. Pieces that touch are one.
+#[derive(Debug, Drop)]
+pub struct Image {
+    segments: Vec<Segment>,
+    alloc: Global,
+}
+
+impl Model for Image {
+    ghost use Rattle.std.specs.Coded.{coded_ℕ};
+    ghost use Rattle.std.specs.FinMap.{code};
+    ghost use Rattle.acpi_base.specs.Memory.{Memory};
+
+    ghost Value = { Memory };
+
+    ghost coded = { code coded_ℕ coded_ℕ };
+
+    ghost use Rattle.acpi_base.specs.Segments.{runs, memory_of, IsTidy};
+
+    ghost view = { λ image. memory_of (runs image.segments.items) };
+
+    ghost invariant = { λ image. IsTidy (runs image.segments.items) };
+}
+
+impl Image {
+    /// The image that holds nothing. Takes no memory.
+    pub fn new(alloc: Global) -> Image
+        ensures nothing { result ≡ empty }
+        ensures image { IsImage result }
+    {
+        Image {
+            segments: Vec::new(alloc),
+            alloc,
+        }
+    }
+
+    /// Puts the bytes in from the address `base` on.
+    ///
+    /// Refuses, in this order, and then leaves the image as it was:
+    /// `PastEnd`, where the last byte would lie past the address 2^64 - 1;
+    /// `Twice`, where an address is held already, with the least such address;
+    /// `Memory`, where no memory is found. No bytes are always Ok, and take no memory.
+    pub fn add(&mut self, base: u64, bytes: &[u8]) -> Result<(), ImageFault>
+        ensures refused { MatchOption (add_refusal self.old base bytes.now) (IsOkUnless result ImageFault.Memory) (λ fault. result ≡ Err fault) }
+        ensures ok { OnOk result (self.new ≡ with_bytes self.old base bytes.now) }
+        ensures image { OnOk result (IsImage self.new) }
+        ensures err { OnErr result (self.new ≡ self.old) }
+        ensures nothing { length bytes.now ≡ 0 → IsOk result }
+    {
+        if let Some(fault) = refusal(&self.segments, base, bytes.len() as u64) {
+            return Err(fault);
+        }
+        if bytes.is_empty() {
+            return Ok(());
+        }
+        segments::put(self.alloc, &mut self.segments, base, bytes)?;
+        Ok(())
+    }
+
+    /// The byte at an address, where it is held. Takes no memory.
+    pub fn byte_at(&self, address: u64) -> Option<u8>
+        ensures { result ≡ byte_of self.now address }
+    {
+        segments::byte_at(&self.segments, address)
+    }
+
+    /// The `count` bytes from an address on, where all are held, also where they were added apart.
+    /// No bytes are held at every address. Takes no memory.
+    pub fn window(&self, address: u64, count: u64) -> Option<&[u8]>
+        ensures bytes { option_map (λ bytes. bytes.now) result ≡ bytes_at self.now address count }
+        ensures count { IfSome result (λ bytes. length bytes.now ≡ count) }
+    {
+        if count == 0 {
+            return Some(&[]);
+        }
+        segments::window(&self.segments, address, count)
+    }
 }

@@ -1,0 +1,53 @@
+-- A number tells which code, and which stage, it is the number of.
+use Rattle.std.proofs.Common.{◌≡◌, List, [], ◌∷◌, Some, refl, sym, ap, ◌∙◌}
+use Rattle.std.specs.List.{slice_get}
+use Rattle.std.proofs.lemmas.Option.{same_Some}
+use Rattle.acpi_base.specs.Codes.{code_number, stage_number}
+use Rattle.acpi_base.specs.declared.code.Code.{Code}
+use Rattle.acpi_base.specs.declared.code.Code.TheVariants as code
+use Rattle.acpi_base.specs.declared.stage.Stage.{Stage}
+use Rattle.acpi_base.specs.declared.stage.Stage.TheVariants as stage
+
+-- the codes by their numbers; the first also stands at 0, which is no code's number
+abbrev pub codes_by_number : List Code
+codes_by_number =
+    code.RsdpOut ∷
+    code.RsdpOut ∷ code.RsdpSignature ∷ code.RsdpSum ∷ code.RsdpTailOut ∷ code.RsdpLength ∷
+    code.RsdpLongOut ∷ code.RsdpExtendedSum ∷ code.NoRoot ∷ code.RootHeaderOut ∷
+    code.RootSignature ∷ code.RootLength ∷ code.RootOut ∷ code.RootRagged ∷ code.RootSum ∷
+    code.TableHeaderOut ∷ code.TableLength ∷ code.TableOut ∷ code.TableSum ∷ code.NoFadt ∷
+    code.FadtShort ∷ code.PmEventLength ∷ code.PmControlLength ∷ code.PmTimerLength ∷
+    code.GpeLength ∷ code.ResetRegister ∷ code.NoFacs ∷ code.FacsAlign ∷ code.FacsHeaderOut ∷
+    code.FacsSignature ∷ code.FacsLength ∷ code.FacsOut ∷ code.MadtShort ∷ code.MadtEntryCut ∷
+    code.MadtEntryLength ∷ code.OverrideBus ∷ code.ReservedInti ∷ code.SecondAddressOverride ∷
+    code.GsiPastEnd ∷ code.GsiClash ∷ code.OverrideClash ∷ code.SratShort ∷ code.SratEntryCut ∷
+    code.SratEntryLength ∷ code.RangePastEnd ∷ code.Overlap ∷ code.SlitShort ∷ code.SlitSize ∷
+    code.SlitDiagonal ∷ code.SlitLow ∷ code.PpttEntryCut ∷ code.PpttEntryLength ∷
+    code.DanglingParent ∷ code.DanglingResource ∷ code.DanglingCache ∷ code.ParentCycle ∷
+    code.CacheCycle ∷ code.TwoDomains ∷ code.GsiNowhere ∷ code.LeafUnknown ∷ []
+
+-- the stages by their numbers; the first also stands at 0, which is no stage's number
+abbrev pub stages_by_number : List Stage
+stages_by_number =
+    stage.Rsdp ∷
+    stage.Rsdp ∷ stage.Root ∷ stage.Tables ∷ stage.Fadt ∷ stage.Facs ∷ stage.Madt ∷
+    stage.Interrupts ∷ stage.Overrides ∷ stage.Srat ∷ stage.Ranges ∷ stage.Slit ∷ stage.Pptt ∷
+    stage.References ∷ stage.Parents ∷ stage.Caches ∷ stage.Domains ∷ stage.Served ∷ stage.Leaves ∷ []
+
+-- a code stands at its number
+pub code_at_number : (c : Code) → slice_get codes_by_number (code_number c) ≡ Some c
+code_at_number code.RsdpOut = refl
+code_at_number _ = refl
+
+-- a stage stands at its number
+pub stage_at_number : (s : Stage) → slice_get stages_by_number (stage_number s) ≡ Some s
+stage_at_number stage.Rsdp = refl
+stage_at_number _ = refl
+
+-- two codes with one number are one
+pub same_code : (c d : Code) → code_number c ≡ code_number d → c ≡ d
+same_code c d e = same_Some c d (sym (code_at_number c) ∙ ap (slice_get codes_by_number) e ∙ code_at_number d)
+
+-- two stages with one number are one
+pub same_stage : (s t : Stage) → stage_number s ≡ stage_number t → s ≡ t
+same_stage s t e = same_Some s t (sym (stage_at_number s) ∙ ap (slice_get stages_by_number) e ∙ stage_at_number t)

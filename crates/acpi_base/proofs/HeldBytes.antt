@@ -1,0 +1,60 @@
+-- Bytes that an image holds, and the numbers in them.
+use Rattle.std.proofs.Common.{◌≡◌, ℕ, zero, suc, ◌+◌, ◌^◌, ◌<◌, List, [], ◌∷◌, length, drop, Option, Some, None, refl, sym, ap, ◌∙◌, subst, inl, inr, arith}
+use Rattle.std.specs.Prelude.{◌⊎◌, slice_index}
+use Rattle.std.proofs.lemmas.List.{get_or-drop}
+use Rattle.std.proofs.lemmas.Option.{none-some, same_Some}
+use Rattle.byteorder.specs.Numbers.{little_from-lt}
+use Rattle.acpi_base.specs.Memory.{Memory, IsImage, byte_of, bytes_at, run_of, cons_both}
+use Rattle.acpi_base.specs.Number.{field}
+
+-- there is a value or none
+pub cases_Option : {X : Type 0} (o : Option X) → ((x : X) × (o ≡ Some x)) ⊎ (o ≡ None)
+cases_Option (Some x) = inl (x, refl)
+cases_Option None = inr refl
+
+-- where there is a value there is not none
+pub none_and_some : {X : Type 0} {o : Option X} {x : X} → o ≡ None → o ≡ Some x → ⊥
+none_and_some {x = x} none some = none-some x (sym none ∙ some)
+
+-- a value is one
+pub same_value : {X : Type 0} {o : Option X} (x y : X) → o ≡ Some x → o ≡ Some y → x ≡ y
+same_value x y e f = same_Some x y (sym e ∙ f)
+
+-- what an element in front of the rest is made of
+pub cons_both_parts : (o : Option ℕ) (rest : Option (List ℕ)) (bytes : List ℕ) → cons_both o rest ≡ Some bytes → (b : ℕ) × (bs : List ℕ) × (o ≡ Some b) × (rest ≡ Some bs) × (b ∷ bs ≡ bytes)
+unfolding cons_both
+cons_both_parts None rest bytes e = absurd (none-some bytes e)
+cons_both_parts (Some b) None bytes e = absurd (none-some bytes e)
+cons_both_parts (Some b) (Some bs) bytes e = (b, bs, refl, refl, same_Some (b ∷ bs) bytes e)
+
+-- the n bytes from an address on are n
+pub length-bytes_at : (m : Memory) (a n : ℕ) (bytes : List ℕ) → bytes_at m a n ≡ Some bytes → length bytes ≡ n
+unfolding run_of
+length-bytes_at m a zero bytes e = ap length (sym (same_Some [] bytes e))
+length-bytes_at m a (suc n) bytes e =
+    let parts = cons_both_parts (byte_of m a) (run_of (byte_of m) (a + 1) n) bytes e in
+    ap length (sym parts.4) ∙ ap suc (length-bytes_at m (a + 1) n parts.1 parts.3)
+
+-- each byte of an image is below 256
+pub bytes_below : (m : Memory) → IsImage m → (a n : ℕ) (bytes : List ℕ) → bytes_at m a n ≡ Some bytes → (k : ℕ) → slice_index bytes k < 256
+unfolding run_of
+bytes_below m image a zero bytes e k =
+    subst (λ (bs : List ℕ). slice_index bs k < 256) (same_Some [] bytes e) (omega arith)
+bytes_below m image a (suc n) bytes e k =
+    let parts = cons_both_parts (byte_of m a) (run_of (byte_of m) (a + 1) n) bytes e in
+    subst (λ (bs : List ℕ). slice_index bs k < 256) parts.4
+    (front_below parts.0 parts.1 (image.bytes a parts.0 parts.2) (bytes_below m image (a + 1) n parts.1 parts.3) k)
+  where
+    front_below : (b : ℕ) (bs : List ℕ) → b < 256 → ((k : ℕ) → slice_index bs k < 256) → (k : ℕ) → slice_index (b ∷ bs) k < 256
+    front_below b bs here rest zero = here
+    front_below b bs here rest (suc k) = rest k
+
+-- a number in so many bytes below 256
+pub field_below : (bytes : List ℕ) → ((k : ℕ) → slice_index bytes k < 256) → (offset width : ℕ) → field bytes offset width < 256 ^ width
+unfolding field
+field_below bytes below offset width =
+    little_from-lt 0 width (drop offset bytes) (λ k. subst (λ (x : ℕ). x < 256) (sym (get_or-drop offset bytes k 0)) (below (offset + k)))
+
+-- a number in so many bytes of an image
+pub held_field_below : (m : Memory) → IsImage m → (a n : ℕ) (bytes : List ℕ) → bytes_at m a n ≡ Some bytes → (offset width : ℕ) → field bytes offset width < 256 ^ width
+held_field_below m image a n bytes held = field_below bytes (bytes_below m image a n bytes held)

@@ -1,0 +1,81 @@
+-- The memory that runs make.
+use Rattle.std.proofs.Common.{◌≡◌, ℕ, zero, suc, ◌+◌, ◌-◌, ◌^◌, ◌<◌, ◌≤◌, inl, inr, Bool, true, false, cond, List, [], ◌∷◌, length, get_or, slice_get, Option, Some, None, IsSome, is_some, refl, sym, ap, subst, ◌∙◌, arith}
+use Rattle.std.specs.Prelude.{nat_lt}
+use Rattle.std.specs.Option.{option_or, option_map}
+use Rattle.std.specs.List.{AllByRecursion}
+use Rattle.std.specs.FinMap.{empty, same_map, nat_cmp-IsAntisymmetric}
+use Rattle.std.specs.Cmp.{nat_cmp_total}
+use Rattle.std.proofs.lemmas.Bool.Decides.{nat_tests}
+use Rattle.acpi_base.specs.Memory.{Memory, byte_of, run_of, first_of, bytes_at, first_held, with_bytes, IsImage}
+use Rattle.acpi_base.specs.declared.image.segments.Segment.{Segment}
+use Rattle.acpi_base.specs.declared.image.ImageFault.{ImageFault}
+use Rattle.acpi_base.specs.declared.image.ImageFault.TheVariants.{PastEnd, Twice}
+use Rattle.acpi_base.specs.Adding.{add_refusal}
+use Rattle.acpi_base.specs.Segments.{Run, runs, held, lookup, end_of, run_at, memory_of, window_of, IsWhole, IsTidy, Puts}
+use Rattle.acpi_base.proofs.Held.{held_inside, held_from, byte_of-memory_of, byte_of-with_bytes}
+use Rattle.acpi_base.proofs.Runs.{run_of-same, first_of-same}
+use Rattle.acpi_base.proofs.Segments.{window_of-lookup}
+
+each_byte : (bs : List ℕ) (i b : ℕ) → AllByRecursion (λ x. x < 256) bs → slice_get bs i ≡ Some b → b < 256
+each_byte [] i b h e = absurd (cc)
+each_byte (x ∷ xs) zero b h e = let same : x ≡ b = cc in let low = h.0 in omega arith
+each_byte (x ∷ xs) (suc i) b h e = each_byte xs i b h.1 e
+
+held_byte : (r : Run) (a b : ℕ) → IsWhole r → held r a ≡ Some b → (a < 2 ^ 64) × (b < 256)
+held_byte r a b w e =
+    let inside = held_inside r a (ap is_some e) in
+    let top = w.fits in
+    (omega arith, each_byte r.bytes (a - r.base) b w.bytes (sym (held_from r a inside.0) ∙ e))
+
+lookup_byte : (rs : List Run) (a b : ℕ) → AllByRecursion IsWhole rs → lookup rs a ≡ Some b → (a < 2 ^ 64) × (b < 256)
+lookup_byte [] a b w e = absurd (cc)
+lookup_byte (r ∷ rs) a b w e =
+    elim (held r a) as (λ v. held r a ≡ v → option_or v (lookup rs a) ≡ Some b → (a < 2 ^ 64) × (b < 256)) [
+      | None ↦ λ p q. lookup_byte rs a b w.1 q
+      | Some x ↦ λ p q. held_byte r a b w.0 (p ∙ q)
+    ] refl e
+
+pub image_of : (rs : List Run) → IsTidy rs → IsImage (memory_of rs)
+image_of rs t = record {
+  addresses = λ a b e. (lookup_byte rs a b t.whole (sym (byte_of-memory_of rs a) ∙ e)).0;
+  bytes = λ a b e. (lookup_byte rs a b t.whole (sym (byte_of-memory_of rs a) ∙ e)).1;
+}
+
+pub bytes_at-memory_of : (rs : List Run) (a n : ℕ) → 0 < n → IsTidy rs → bytes_at (memory_of rs) a n ≡ window_of rs a n
+bytes_at-memory_of rs a n h t = run_of-same (byte_of (memory_of rs)) (lookup rs) (byte_of-memory_of rs) a n ∙ sym (window_of-lookup rs a n h t.apart)
+
+pub first_held-memory_of : (rs : List Run) (a n : ℕ) → first_held (memory_of rs) a n ≡ first_of (lookup rs) a n
+first_held-memory_of rs a n = first_of-same (byte_of (memory_of rs)) (lookup rs) (byte_of-memory_of rs) a n
+
+-- images with the same byte at each address are the same
+pub same_memory : (m n : Memory) → ((x : ℕ) → byte_of m x ≡ byte_of n x) → m ≡ n
+same_memory m n h = same_map nat_cmp_total nat_cmp-IsAntisymmetric m n h
+
+pub memory_of-put : (a : ℕ) (bs : List ℕ) (old new : List Run) → Puts (run_at a bs) old new → memory_of new ≡ with_bytes (memory_of old) a bs
+memory_of-put a bs old new p = same_memory (memory_of new) (with_bytes (memory_of old) a bs) (λ x.
+    byte_of-memory_of new x
+    ∙ p.lookup_is x
+    ∙ ap (option_or (held (run_at a bs) x)) (sym (byte_of-memory_of old x))
+    ∙ sym (byte_of-with_bytes (memory_of old) a bs x))
+
+-- no bytes are never refused
+pub no_refusal : (f : ℕ → Option ℕ) (a n : ℕ) → a < 2 ^ 64 → n ≡ 0 → None ≡ cond (nat_lt (2 ^ 64) (a + n)) (Some PastEnd) (option_map (λ x. Twice x) (first_of f a n))
+unfolding first_of
+no_refusal f a zero l e =
+    let low : nat_lt (2 ^ 64) (a + 0) ≡ false = grind (arith, nat_tests) in
+    rw low refl
+no_refusal f a (suc n) l e = absurd (omega arith)
+
+-- what the segments refuse, the memory refuses
+pub refusal_of : (found ss : List Segment) (m : Memory) (a : ℕ) (bs : List ℕ) (refused : Option ImageFault) → found ≡ ss → memory_of (runs ss) ≡ m
+    → refused ≡ cond (nat_lt (2 ^ 64) (a + length bs)) (Some PastEnd) (option_map (λ x. Twice x) (first_of (lookup (runs found)) a (length bs))) → refused ≡ add_refusal m a bs
+refusal_of found ss m a bs refused f e r =
+    r
+    ∙ ap (λ (ts : List Segment). cond (nat_lt (2 ^ 64) (a + length bs)) (Some PastEnd) (option_map (λ x. Twice x) (first_of (lookup (runs ts)) a (length bs)))) f
+    ∙ ap (λ o. cond (nat_lt (2 ^ 64) (a + length bs)) (Some PastEnd) (option_map (λ x. Twice x) o)) (sym (first_held-memory_of (runs ss) a (length bs)))
+    ∙ ap (λ n. add_refusal n a bs) e
+
+pub no_bytes : (m : Memory) (a : ℕ) (bs : List ℕ) → length bs ≡ 0 → m ≡ with_bytes m a bs
+unfolding with_bytes
+no_bytes m a [] e = refl
+no_bytes m a (b ∷ bs) e = absurd (omega arith)

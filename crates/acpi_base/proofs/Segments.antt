@@ -1,0 +1,129 @@
+-- What the functions that search segments from the front find.
+use Rattle.std.proofs.Common.{◌≡◌, ℕ, zero, suc, ◌+◌, ◌-◌, ◌<◌, ◌≤◌, ◌⊎◌, inl, inr, min, Bool, true, false, cond, List, [], ◌∷◌, length, get_or, take, drop, map, Option, Some, None, IsSome, is_some, refl, sym, ap, subst, ◌∙◌, arith}
+use Rattle.std.specs.Option.{option_or, option_map}
+use Rattle.std.specs.List.{AllByRecursion}
+use Rattle.std.proofs.lemmas.List.{drop_more, drop_all}
+use Rattle.std.proofs.lemmas.Bool.{cases_lt}
+use Rattle.std.proofs.lemmas.Bool.Decides.{nat_tests}
+use Rattle.std.proofs.lemmas.Grind.{common_steps}
+use Rattle.acpi_base.specs.declared.image.segments.Segment.{Segment}
+use Rattle.acpi_base.specs.Memory.{run_of, first_of, cons_both}
+use Rattle.acpi_base.specs.Segments.{Run, held, end_of, lookup, window_of, earlier, run, runs, Apart, ApartFrom, NoneTouch, IsWhole, IsTidy}
+use Rattle.acpi_base.proofs.Held.{held_below, held_past, held_inside}
+use Rattle.acpi_base.proofs.Runs.{first_of_from, first_of_none}
+
+-- where f has something, g has nothing, nor at the next number; and the other way round at the next number
+pub record IsParted (f g : ℕ → Option ℕ) : Type 0 where
+  pub here : (x : ℕ) → IsSome (f x) → g x ≡ None
+  pub above : (x : ℕ) → IsSome (f x) → g (x + 1) ≡ None
+  pub below : (x : ℕ) → IsSome (g x) → f (x + 1) ≡ None
+
+cons-or : (b : ℕ) (o : Option (List ℕ)) → cons_both (Some b) (option_or o None) ≡ option_or (cons_both (Some b) o) None
+unfolding cons_both
+cons-or b None = refl
+cons-or b (Some bs) = refl
+
+pub run_of-or : (f g : ℕ → Option ℕ) → IsParted f g → (a n : ℕ) → run_of (λ x. option_or (f x) (g x)) a (suc n) ≡ option_or (run_of f a (suc n)) (run_of g a (suc n))
+unfolding run_of cons_both
+run_of-or f g p a zero =
+    elim (f a) as (λ v. cons_both (option_or v (g a)) (Some []) ≡ option_or (cons_both v (Some [])) (cons_both (g a) (Some []))) [
+      | None ↦ refl
+      | Some b ↦ refl
+    ]
+run_of-or f g p a (suc n) =
+    let rest = run_of-or f g p (a + 1) n in
+    let F : Option (List ℕ) = run_of f (a + 1) (suc n) in
+    let G : Option (List ℕ) = run_of g (a + 1) (suc n) in
+    rw rest (
+    elim (f a) as (λ v. f a ≡ v → cons_both (option_or v (g a)) (option_or F G) ≡ option_or (cons_both v F) (cons_both (g a) G)) [
+      | None ↦ λ e. elim (g a) as (λ w. g a ≡ w → cons_both w (option_or F G) ≡ cons_both w G) [
+        | None ↦ λ e. refl
+        | Some c ↦ λ e. (let none : F ≡ None = rw (p.below a (ap is_some e)) refl in rw none refl)
+      ] refl
+      | Some b ↦ λ e.
+          let none : G ≡ None = rw (p.above a (ap is_some e)) refl in
+          rw (none, p.here a (ap is_some e)) (cons-or b F)
+    ] refl)
+
+-- the runs apart from r hold nothing in r, nor just behind it
+pub lookup_apart : (r : Run) (rs : List Run) (x : ℕ) → ApartFrom r rs → r.base ≤ x → x ≤ end_of r → lookup rs x ≡ None
+lookup_apart r [] x h l m = refl
+lookup_apart r (s ∷ ss) x h l m =
+    let none : held s x ≡ None = elim h.0 [ inl a ↦ held_below s x (omega arith) | inr a ↦ held_past s x (omega arith) ] in
+    rw none (lookup_apart r ss x h.1 l m)
+
+pub held_apart : (r : Run) (rs : List Run) (x : ℕ) → ApartFrom r rs → IsSome (lookup rs x) → held r (x + 1) ≡ None
+held_apart r [] x h s = absurd (cc)
+held_apart r (s ∷ ss) x h i =
+    elim (held s x) as (λ v. held s x ≡ v → is_some (option_or v (lookup ss x)) ≡ true → held r (x + 1) ≡ None) [
+      | None ↦ λ e j. held_apart r ss x h.1 j
+      | Some b ↦ λ e j.
+          let w = held_inside s x (ap is_some e) in
+          elim h.0 [ inl a ↦ held_past r (x + 1) (omega arith) | inr a ↦ held_below r (x + 1) (omega arith) ]
+    ] refl i
+
+pub run_is_parted : (r : Run) (rs : List Run) → ApartFrom r rs → IsParted (held r) (lookup rs)
+run_is_parted r rs h = record {
+  here = λ x s. (let w = held_inside r x s in lookup_apart r rs x h w.0 (omega arith));
+  above = λ x s. (let w = held_inside r x s in lookup_apart r rs (x + 1) h (omega arith) (omega arith));
+  below = λ x s. held_apart r rs x h s;
+}
+
+nothing-run_of : (a n : ℕ) → None ≡ run_of (λ x. None) a (suc n)
+unfolding run_of cons_both
+nothing-run_of a n = refl
+
+-- one run holds all that runs hold in a row
+pub window_of-lookup : (rs : List Run) (a n : ℕ) → 0 < n → NoneTouch rs → window_of rs a n ≡ run_of (lookup rs) a n
+window_of-lookup rs a zero l h = absurd (omega arith)
+window_of-lookup rs a (suc n) l h = windows rs a n h
+  where
+    windows : (rs : List Run) (a n : ℕ) → NoneTouch rs → window_of rs a (suc n) ≡ run_of (lookup rs) a (suc n)
+    windows [] a n h = nothing-run_of a n
+    windows (r ∷ rs) a n h = rw (windows rs a n h.1) (sym (run_of-or (held r) (lookup rs) (run_is_parted r rs h.0) a n))
+
+pub earlier-assoc : (x y z : Option ℕ) → earlier (earlier x y) z ≡ earlier x (earlier y z)
+earlier-assoc None y z = refl
+earlier-assoc (Some a) None z = refl
+earlier-assoc (Some a) (Some b) None = refl
+earlier-assoc (Some a) (Some b) (Some c) = ap Some (omega arith)
+
+earlier-least : (a : ℕ) (y : Option ℕ) → ((x : ℕ) → y ≡ Some x → a ≤ x) → (earlier (Some a) y ≡ Some a) × (earlier y (Some a) ≡ Some a)
+earlier-least a None h = (refl, refl)
+earlier-least a (Some x) h = (let l : a ≤ x = h x refl in ap Some (omega arith), let l : a ≤ x = h x refl in ap Some (omega arith))
+
+pub first_of-or : (f g : ℕ → Option ℕ) (a n : ℕ) → first_of (λ x. option_or (f x) (g x)) a n ≡ earlier (first_of f a n) (first_of g a n)
+unfolding first_of
+first_of-or f g a zero = refl
+first_of-or f g a (suc n) =
+    let rest = first_of-or f g (a + 1) n in
+    let F : Option ℕ = first_of f (a + 1) n in
+    let G : Option ℕ = first_of g (a + 1) n in
+    elim (f a) as (λ v. cond (is_some (option_or v (g a))) (Some a) (first_of (λ x. option_or (f x) (g x)) (a + 1) n) ≡ earlier (cond (is_some v) (Some a) F) (cond (is_some (g a)) (Some a) G)) [
+      | None ↦ elim (g a) as (λ w. cond (is_some w) (Some a) (first_of (λ x. option_or (f x) (g x)) (a + 1) n) ≡ earlier F (cond (is_some w) (Some a) G)) [
+        | None ↦ rest
+        | Some c ↦ sym (earlier-least a F (λ x e. (let l : a + 1 ≤ x = first_of_from f (a + 1) n x e in omega arith))).1
+      ]
+      | Some b ↦ sym (earlier-least a _ (λ x e. first_of_from g a (suc n) x e)).0
+    ]
+
+pub runs_more : (ss : List Segment) (i : ℕ) (s : Segment) → i < length ss → s ≡ get_or ss i s → runs (drop i ss) ≡ run s ∷ runs (drop (i + 1) ss)
+runs_more ss i s h e = ap runs (drop_more ss i s h) ∙ ap (λ x. run x ∷ runs (drop (i + 1) ss)) (sym e)
+
+-- what holds of each run holds of the one that was read
+pub each_run : (P : Run → Type 0) (ss : List Segment) (i : ℕ) (s : Segment) → i < length ss → s ≡ get_or ss i s → AllByRecursion P (runs ss) → P (run s)
+each_run P [] i s h e a = absurd (omega arith)
+each_run P (t ∷ ts) zero s h e a = subst (λ u. P (run u)) (sym e) a.0
+each_run P (t ∷ ts) (suc i) s h e a = each_run P ts i s (omega arith) e a.1
+
+pub first_of-lookup_more : (ss : List Segment) (i : ℕ) (s : Segment) (b n : ℕ) → i < length ss → s ≡ get_or ss i s → first_of (lookup (runs (drop i ss))) b n ≡ earlier (first_of (held (run s)) b n) (first_of (lookup (runs (drop (i + 1) ss))) b n)
+first_of-lookup_more ss i s b n h e = ap (λ rs. first_of (lookup rs) b n) (runs_more ss i s h e) ∙ first_of-or (held (run s)) (lookup (runs (drop (i + 1) ss))) b n
+
+earlier-none : (x : Option ℕ) → earlier x None ≡ x
+earlier-none None = refl
+earlier-none (Some a) = refl
+
+pub first_of-lookup_all : (ss : List Segment) (i b n : ℕ) (x : Option ℕ) → length ss ≤ i → earlier x (first_of (lookup (runs (drop i ss))) b n) ≡ x
+first_of-lookup_all ss i b n x h =
+    let e : first_of (lookup (runs (drop i ss))) b n ≡ None = ap (λ r. first_of (lookup (runs r)) b n) (drop_all i ss h) ∙ first_of_none (lookup []) b n (λ k l. refl) in
+    rw e (earlier-none x)

@@ -1,0 +1,5 @@
+use Rattle.acpi_base.proofs.FaultLaws.{clean_or_fault}
+use Rattle.acpi_base.proofs.laws.clean_or_fault.Goals as goal
+
+pub returns : goal.returns
+returns c = record { either = clean_or_fault }

@@ -1,0 +1,5 @@
+use Rattle.acpi_base.proofs.FaultLaws.{faults_fit}
+use Rattle.acpi_base.proofs.laws.faults_fit.Goals as goal
+
+pub returns : goal.returns
+returns c = record { fit = faults_fit }

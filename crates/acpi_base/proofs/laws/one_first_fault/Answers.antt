@@ -1,0 +1,5 @@
+use Rattle.acpi_base.proofs.FaultLaws.{one_first_fault}
+use Rattle.acpi_base.proofs.laws.one_first_fault.Goals as goal
+
+pub returns : goal.returns
+returns c = record { one = one_first_fault }

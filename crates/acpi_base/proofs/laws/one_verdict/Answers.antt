@@ -1,0 +1,5 @@
+use Rattle.acpi_base.proofs.FaultLaws.{one_verdict}
+use Rattle.acpi_base.proofs.laws.one_verdict.Goals as goal
+
+pub returns : goal.returns
+returns c = record { one = one_verdict }

@@ -1,0 +1,46 @@
+-- The laws of faults, over the definitions alone.
+use Rattle.std.specs.Prelude.{◌≡◌, ℕ, ◌^◌, ◌<◌, ◌≤◌, ◌⊎◌}
+use Rattle.acpi_base.specs.Memory.{Memory, IsImage}
+use Rattle.acpi_base.specs.Policy.{PolicyValue, IsPolicy}
+use Rattle.acpi_base.specs.Codes.{stage_number, stage_of}
+use Rattle.acpi_base.specs.Statements.{CleanTo}
+use Rattle.acpi_base.specs.Faults.{Fault, IsFirstFault, IsVerdict}
+use Rattle.acpi_base.specs.declared.stage.Stage.{Stage}
+use Rattle.acpi_base.specs.declared.witness.Witness.{Witness}
+use Rattle.acpi_base.specs.declared.verdict.Verdict.{Verdict}
+
+-- the number of the last stage that is built
+abbrev pub built : ℕ
+built = 3
+
+-- the three numbers are numbers of 64 bits
+abbrev pub NumbersFit : Witness → Type 0
+NumbersFit w = (w.at < 2 ^ 64) × (w.other < 2 ^ 64) × (w.point < 2 ^ 64)
+
+-- a fault of a stage up to `last` excludes that the stages up to `last` hold
+abbrev pub FaultsExcludeClean : Type 0
+FaultsExcludeClean =
+    (m : Memory) (q : PolicyValue) (w : Witness) (last : Stage) → Fault m q w → stage_number (stage_of w.code) ≤ stage_number last → ¬ CleanTo last m q
+
+-- the numbers of a fault fit
+abbrev pub FaultsFit : Type 0
+FaultsFit = (m : Memory) (q : PolicyValue) (w : Witness) → IsImage m → IsPolicy q → Fault m q w → NumbersFit w
+
+-- the stages up to `last` hold, or one of them has a fault, whose numbers fit
+abbrev pub CleanOrFaulty : Type 0
+CleanOrFaulty =
+    (m : Memory) (q : PolicyValue) → IsImage m → IsPolicy q → (last : Stage) → stage_number last ≤ built → CleanTo last m q ⊎ ((w : Witness) × Fault m q w × (stage_number (stage_of w.code) ≤ stage_number last) × NumbersFit w)
+
+-- the stages up to `last` hold, or there is a first fault, of one of them
+abbrev pub CleanOrFirstFault : Type 0
+CleanOrFirstFault =
+    (m : Memory) (q : PolicyValue) (last : Stage) → stage_number last ≤ built → CleanTo last m q ⊎ ((w : Witness) × IsFirstFault m q w × (stage_number (stage_of w.code) ≤ stage_number last))
+
+-- at most one fault is the first
+abbrev pub OneFirstFault : Type 0
+OneFirstFault = (m : Memory) (q : PolicyValue) (w v : Witness) → IsFirstFault m q w → IsFirstFault m q v → w ≡ v
+
+-- at most one verdict is right
+abbrev pub OneVerdict : Type 0
+OneVerdict =
+    (last : Stage) (m : Memory) (q : PolicyValue) (one other : Verdict) → IsVerdict last m q one → IsVerdict last m q other → one ≡ other

@@ -1,0 +1,63 @@
+-- What `read_image` answers, and what its parts answer, in the words of image text.
+use Rattle.std.specs.Prelude.{◌≡◌, ◌⊎◌, ℕ, ◌+◌, List, length, Option, Bool, true, false, Result, Ok, Err}
+use Rattle.std.specs.Io.KnownBytes.{IsAtEnd}
+use Rattle.acpi_base.specs.ImageText.{Line, Blank, Address, Data, Bad, Reading, max_text, read_front, IsRefused, IsRefusedFront}
+use Rattle.acpi_base.specs.Tally.{CountsFailure}
+use Rattle.acpi_base.specs.declared.text.TextFault.{TextFault}
+use Rattle.acpi_base.specs.declared.text.TextFault.TheVariants as text
+use Rattle.acpi_base.specs.declared.image_text.collect.Ending.{Ending}
+use Rattle.acpi_base.specs.declared.image_text.collect.Ending.TheVariants as ending
+use Rattle.acpi_base.specs.declared.image_text.line.Form.{Form}
+use Rattle.acpi_base.specs.declared.image_text.line.Form.TheVariants as form
+use Rattle.acpi_base.specs.declared.image_text.lines.Progress.{Progress}
+
+-- the lines that had ended have no fault, nor have the lengths so far
+abbrev pub IsFaultlessFront : List ℕ → Type 0
+IsFaultlessFront bytes = (r : Reading) × (read_front bytes ≡ Ok r)
+
+-- The text is refused with this fault; `left` is what the reader has left. A fault of the text stands in
+-- what was read, whatever comes after it, or in all that there is. A failed read is answered where no
+-- fault stood. Want of memory says nothing of the text.
+abbrev pub IsRefusal : List ℕ → Option (List ℕ) → TextFault → Type 0
+IsRefusal bytes left text.Read = IsFaultlessFront bytes
+IsRefusal bytes left text.Memory = Unit {0}
+IsRefusal bytes left fault = IsRefusedFront bytes fault ⊎ (IsAtEnd left × IsRefused bytes fault)
+
+-- The reader's count of failures, before and after: a failure is counted where the fault is one. Another
+-- fault may have been found in what had come before a failure.
+abbrev pub CountsRead : ℕ → ℕ → TextFault → Type 0
+CountsRead old new text.Read = CountsFailure old new
+CountsRead old new fault = (new ≡ old) ⊎ CountsFailure old new
+
+-- How the collecting of these bytes ended, with what the reader has left and its count of failures before
+-- and after.
+abbrev pub HasEnded : Ending → List ℕ → Option (List ℕ) → ℕ → ℕ → Type 0
+HasEnded ending.End bytes left old new = IsAtEnd left × (new ≡ old)
+HasEnded ending.Full bytes left old new = (length bytes ≡ max_text + 1) × (new ≡ old)
+HasEnded ending.Failed bytes left old new = CountsFailure old new
+
+-- what a line says, where the code holds a data line's bytes apart from the form
+abbrev pub line_with : Form → List ℕ → Line
+line_with form.Blank bytes = Blank
+line_with (form.Address address) bytes = Address address
+line_with form.Data bytes = Data bytes
+line_with form.Bad bytes = Bad
+
+-- a data line with these bytes, or a bad one
+abbrev pub data_line : Bool → List ℕ → Line
+data_line true bytes = Data bytes
+data_line false bytes = Bad
+
+-- where the code stands between two lines
+abbrev pub reading_of : Progress → Reading
+reading_of p = record { lines = p.lines; through = p.through; next = p.next; image = p.image }
+
+-- whether the fault is one of a text, and not of its reader or of memory
+abbrev pub is_of_text : TextFault → Bool
+is_of_text text.Read = false
+is_of_text text.Memory = false
+is_of_text fault = true
+
+-- what the definition gives is this fault of the text, unless memory ran out
+abbrev pub Refuses : {A : Type 0} → Result A TextFault → TextFault → Type 0
+Refuses read fault = (fault ≡ text.Memory) ⊎ ((read ≡ Err fault) × (is_of_text fault ≡ true))

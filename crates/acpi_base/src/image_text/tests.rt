@@ -1,0 +1,149 @@
+use crate::{Tally, TextFault, read_image};
+use std::io;
+use std::io::Read;
+use std::test::Fail;
+
+const TABLES: &[u8] = b"@e0000
+52 53 44 20 50 54 52 20 4b 41 41 41 41 41 41 00
+00 10 00 00
+@1000
+52 53 44 54 24 00 00 00 01 0a 41 41 41 41 41 41
+41 41 41 41 41 41 41 41 01 00 00 00 41 41 41 41
+01 00 00 00
+";
+
+// Gives its bytes, one a call, then fails once, and then ends.
+#[derive(Drop)]
+struct FailsOnce {
+    bytes: &'static [u8],
+    failed: bool,
+}
+
+impl Read for FailsOnce {
+    fn read(&mut self, buffer: &mut [u8]) -> io::Result<usize> {
+        if let [first, rest @ ..] = self.bytes {
+            if buffer.is_empty() {
+                return Ok(0);
+            }
+            buffer[0] = *first;
+            self.bytes = rest;
+            return Ok(1);
+        }
+        if self.failed {
+            return Ok(0);
+        }
+        self.failed = true;
+        Err(io::ErrorKind::Other.into())
+    }
+}
+
+// Gives lines of comments for ever.
+#[derive(Drop)]
+struct Endless;
+
+impl Read for Endless {
+    fn read(&mut self, buffer: &mut [u8]) -> io::Result<usize> {
+        buffer.fill(b'#');
+        if let Some(last) = buffer.last_mut() {
+            *last = b'\n';
+        }
+        Ok(buffer.len())
+    }
+}
+
+#[test]
+fn reads_each_byte(rt: HostRuntime) {
+    let mut reader = Tally::new(TABLES);
+    let image = read_image(rt.alloc(), &mut reader).ok();
+    assert!(rt; image.is_some());
+    if let Some(image) = image {
+        for (address, byte) in [
+            (0xdffff, None),
+            (0xe0000, Some(0x52)),
+            (0xe0008, Some(0x4b)),
+            (0xe0013, Some(0)),
+            (0xe0014, None),
+            (0xfff, None),
+            (0x1000, Some(0x52)),
+            (0x1009, Some(0x0a)),
+            (0x1020, Some(1)),
+            (0x1023, Some(0)),
+            (0x1024, None),
+        ] {
+            assert_eq!(rt; image.byte_at(address), byte, "at {address:#x}");
+        }
+    }
+    assert_eq!(rt; reader.failures(), 0);
+    assert!(rt; reader.into_inner().is_empty());
+}
+
+#[test]
+fn takes_each_form_of_line(rt: HostRuntime) {
+    for text in [
+        b"".as_slice(),
+        b"\n\r\n \t\n# @0 x\n",
+        b"@0 # from here on\r\n 0aB0\tc1 2d \r\n",
+        b"@0\n01 # a CR may stand in a comment \r\r",
+        b"@FFFFFFFFFFFFFFFF\n01",
+        b"@0123456789abcdef \n",
+    ] {
+        let read = read_image(rt.alloc(), &mut Tally::new(text));
+        assert_eq!(rt; read.err(), None, "{text:?}");
+    }
+}
+
+#[test]
+fn answers_the_first_fault(rt: HostRuntime) {
+    for (text, fault) in [
+        (b"@0\n1".as_slice(), TextFault::BadLine { line: 2 }),
+        (b"01", TextFault::NoAddress { line: 1 }),
+        (b"@0\n01\n@0\n02", TextFault::Twice { address: 0 }),
+        (b"@ffffffffffffffff\n01 02", TextFault::PastEnd { line: 2 }),
+        (b"@ffffffffffffffff\n01\n02", TextFault::PastEnd { line: 3 }),
+        (b"@0\r\r\n", TextFault::BadLine { line: 1 }),
+        (b"@0\n01\r02\n", TextFault::BadLine { line: 2 }),
+        (b"@\n", TextFault::BadLine { line: 1 }),
+        (b"@ 0\n", TextFault::BadLine { line: 1 }),
+        (b"@00000000000000000\n", TextFault::BadLine { line: 1 }),
+        (b"@0 1\n", TextFault::BadLine { line: 1 }),
+        (b"\n@0\n0 1\n", TextFault::BadLine { line: 3 }),
+        (b"01\nx\n", TextFault::NoAddress { line: 1 }),
+    ] {
+        let read = read_image(rt.alloc(), &mut Tally::new(text));
+        assert_eq!(rt; read.err(), Some(fault), "{text:?}");
+    }
+}
+
+#[test]
+fn limits_lines_and_texts(rt: HostRuntime) -> Result<(), Fail> {
+    let mut line = Vec::with_capacity(rt.alloc(), 65_538)?;
+    for _ in 0..65_535 {
+        line.push(b' ')?;
+    }
+    line.extend_from_slice(b"\r\n")?;
+    let read = read_image(rt.alloc(), &mut Tally::new(line.as_slice()));
+    assert_eq!(rt; read.err(), None);
+    line.insert(0, b'#')?;
+    let read = read_image(rt.alloc(), &mut Tally::new(line.as_slice()));
+    assert_eq!(rt; read.err(), Some(TextFault::TooLong));
+    let read = read_image(rt.alloc(), &mut Tally::new(Endless));
+    assert_eq!(rt; read.err(), Some(TextFault::TooLong));
+    Ok(())
+}
+
+#[test]
+fn judges_what_came_before_a_failure(rt: HostRuntime) {
+    for (bytes, fault) in [
+        (b"@0\n01\n".as_slice(), TextFault::Read),
+        (b"@0\n01\n@0\n02", TextFault::Read),
+        (b"@0\n01\n@0\n02\n", TextFault::Twice { address: 0 }),
+    ] {
+        let mut reader = Tally::new(FailsOnce {
+            bytes,
+            failed: false,
+        });
+        let read = read_image(rt.alloc(), &mut reader);
+        assert_eq!(rt; read.err(), Some(fault), "{bytes:?}");
+        assert_eq!(rt; reader.failures(), 1);
+    }
+}

@@ -1,0 +1,58 @@
+//! Laws over the definitions alone: each function's contract is the law, and its body is empty.
+
+ghost use Rattle.std.specs.Prelude.{◌≡◌, ℕ, ◌↔◌, List, Some, IsSome};
+ghost use Rattle.acpi_base.specs.Memory.{Memory, bytes_at, Has, AreBytes};
+ghost use Rattle.acpi_base.specs.Laws.{FaultsExcludeClean, FaultsFit, CleanOrFaulty, CleanOrFirstFault, OneFirstFault, OneVerdict};
+ghost use Rattle.acpi_base.specs.TextLaws.{RunReadsText, RunReadsFront, RunStopsAtFaults, RunGoesOn, FrontDecides};
+
+/// An image with a fault of a stage is not clean to that stage or a later one: a fault that is told is
+/// always a reason to refuse the image.
+pub fn fault_excludes_clean()
+    ensures excluded { FaultsExcludeClean }
+{}
+
+/// The three numbers of a fault of an image are numbers of 64 bits: each fault can be told by a `Witness`.
+pub fn faults_fit()
+    ensures fit { FaultsFit }
+{}
+
+/// An image is clean to a stage that is built, or has a fault of a stage up to it whose numbers fit a
+/// `Witness`: there is always something to tell of an image that is refused.
+pub fn clean_or_fault()
+    ensures either { CleanOrFaulty }
+{}
+
+/// An image is clean to a stage that is built, or has a first fault, of a stage up to it: each image has a
+/// verdict.
+pub fn first_fault_exists()
+    ensures either { CleanOrFirstFault }
+{}
+
+/// Two first faults of an image are one: which fault is told does not depend on how it was looked for.
+pub fn one_first_fault()
+    ensures one { OneFirstFault }
+{}
+
+/// Two verdicts that are right for the same stages of an image are one.
+pub fn one_verdict()
+    ensures one { OneVerdict }
+{}
+
+/// Reading an image text byte by byte is reading it by lines, in any pieces.
+pub fn machine_reads_lines()
+    ensures text { RunReadsText }
+    ensures front { RunReadsFront }
+    ensures faults { RunStopsAtFaults }
+    ensures pieces { RunGoesOn }
+{}
+
+/// A fault that stands in the front of an image text is the fault of the whole text.
+pub fn front_decides()
+    ensures { FrontDecides }
+{}
+
+/// `bytes_at` gives a list exactly where all addresses are held, and then the list of their bytes.
+pub fn held_bytes()
+    ensures held { (m : Memory) (a n : ℕ) → IsSome (bytes_at m a n) ↔ Has m a n }
+    ensures bytes { (m : Memory) (a n : ℕ) (l : List ℕ) → (bytes_at m a n ≡ Some l) ↔ AreBytes m a n l }
+{}

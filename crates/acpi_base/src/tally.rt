@@ -1,0 +1,107 @@
+//! Readers and writers whose failures are counted.
+
+#[cfg(test)]
+mod tests;
+
+ghost use Rattle.std.specs.Prelude.{◌≡◌, ◌<◌, IfOk, OnOk, OnErr, length};
+ghost use Rattle.std.specs.Io.{ReadsAtMost, WritesAtMost};
+ghost use Rattle.std.specs.Io.KnownBytes.{ReadConsumes, WriteAppends};
+ghost use Rattle.acpi_base.specs.Tally.{CountsFailure};
+
+use std::io::{Read, Write};
+use std::marker::Model;
+use thiserror::Error;
+
+/// A read or a write failed.
+#[derive(Clone, Copy, Debug, PartialEq, Eq, Error)]
+#[error("device")]
+pub struct DeviceFailed;
+
+/// A reader or a writer with a count of its failures. Its bytes are those of the reader or writer
+/// inside. No call takes memory.
+#[derive(Drop)]
+pub struct Tally<T> {
+    inner: T,
+    failures: u64,
+}
+
+impl<T> Model for Tally<T> {
+    ghost use Rattle.acpi_base.specs.Tally.{Counted, counted_code};
+
+    ghost Value = { Counted T };
+
+    ghost coded = { counted_code T.code };
+
+    ghost view = { λ t. record { inner = t.inner; failures = t.failures } };
+}
+
+impl<T> Tally<T> {
+    /// Counts from 0.
+    pub fn new(inner: T) -> Tally<T>
+        ensures inner { result.inner ≡ inner }
+        ensures failures { result.failures ≡ 0 }
+    {
+        Tally { inner, failures: 0 }
+    }
+
+    /// How many reads and writes have failed, 0 to 2^64 - 1.
+    pub fn failures(&self) -> u64
+        ensures { result ≡ self.now.failures }
+    {
+        self.failures
+    }
+
+    /// The reader or writer inside.
+    pub fn into_inner(self) -> T
+        ensures { result ≡ self.inner }
+    {
+        self.inner
+    }
+
+    /// One read into the front of the buffer: how many bytes it gave. `DeviceFailed` where it failed in
+    /// any way, which adds one to the count. At a count of 2^64 - 1 nothing is read: `DeviceFailed`, and
+    /// the count stays.
+    pub fn read(&mut self, buffer: &mut [u8]) -> Result<usize, DeviceFailed>
+    where
+        T: Read,
+        ensures bound { ReadsAtMost result buffer.new }
+        ensures bytes { ReadConsumes (T.remaining self.old.inner) (T.remaining self.new.inner) result buffer.new }
+        ensures ok { OnOk result (self.new.failures ≡ self.old.failures) }
+        ensures err { OnErr result (CountsFailure self.old.failures self.new.failures) }
+    {
+        if self.failures == u64::MAX {
+            return Err(DeviceFailed);
+        }
+        match self.inner.read(buffer) {
+            Ok(count) => Ok(count),
+            Err(_) => {
+                self.failures += 1;
+                Err(DeviceFailed)
+            }
+        }
+    }
+
+    /// One write from the front of the bytes: how many it took, of at least one byte at least one.
+    /// `DeviceFailed` where it failed in any way, or took none of at least one byte, which adds one to
+    /// the count. At a count of 2^64 - 1 nothing is written: `DeviceFailed`, and the count stays.
+    pub fn write(&mut self, bytes: &[u8]) -> Result<usize, DeviceFailed>
+    where
+        T: Write,
+        ensures bound { WritesAtMost result bytes.now }
+        ensures bytes { WriteAppends (T.contents self.old.inner) (T.contents self.new.inner) result bytes.now }
+        ensures some { IfOk result (λ count. 0 < length bytes.now → 0 < count) }
+        ensures ok { OnOk result (self.new.failures ≡ self.old.failures) }
+        ensures err { OnErr result (CountsFailure self.old.failures self.new.failures) }
+    {
+        if self.failures == u64::MAX {
+            return Err(DeviceFailed);
+        }
+        match self.inner.write(bytes) {
+            Ok(count) if count > 0 || bytes.is_empty() => Ok(count),
+            _ => {
+                self.failures += 1;
+                Err(DeviceFailed)
+            }
+        }
+    }
+}
