@@ -53,19 +53,28 @@ runs "no RSDP at the address" 1 'no 1 RsdpOut 0xfffffffffffffff0 0x0 0x0\n' '' "
 tr 'a-f' 'A-F' <"$smallest" | sed 's/$/\r/' >"$scratch/upper"
 runs "digits in upper case, and lines that end in CR LF" 0 'yes\n' '' "$scratch/upper" check --rsdp e0000 --through 3
 
-while read -r image rsdp; do
+# Each image, where its RSDP lies, and what a search says: an RSDP above the BIOS's memory is not found.
+while read -r image rsdp status found; do
   runs "firmware $image" 0 'yes\n' '' "images/$image.img.txt" check --rsdp "$rsdp" --through 3
+  runs "firmware $image, found" "$status" "rsdp $found\n" '' "images/$image.img.txt" find
 done <<'LIST'
-sb-q35-default f59e0
-sb-q35-numa4-dist f59c0
-sb-pc-nvdimm-numa f59d0
-ovmf-q35 f77e014
-mv-acpi f4a10
-q10-efi-virt-smp4 4f0b0018
-q11-efi-virt-caches 47fe0000
+sb-q35-default f59e0 0 0xf59e0
+sb-q35-numa4-dist f59c0 0 0xf59c0
+sb-pc-nvdimm-numa f59d0 0 0xf59d0
+ovmf-q35 f77e014 1 none
+mv-acpi f4a10 0 0xf4a10
+q10-efi-virt-smp4 4f0b0018 1 none
+q11-efi-virt-caches 47fe0000 1 none
 LIST
 gzip -dc images/sb-q35-default.region.img.txt.gz >"$scratch/region"
 runs "firmware sb-q35-default, its whole region" 0 'yes\n' '' "$scratch/region" check --rsdp f59e0 --through 3
+
+# ---- the search for the RSDP
+runs "the smallest set, found" 0 "rsdp 0xe0000\n" "" "$smallest" find
+runs "the smallest set, checked where it is found" 0 "yes\n" "" "$smallest" check --through 3
+runs "nothing to find" 1 "rsdp none\n" "" /dev/null find
+runs "nothing to check" 1 "no rsdp\n" "" /dev/null check
+runs "no RSDP with a right sum to check" 1 "no rsdp\n" "" "$scratch/sum" check
 
 # ---- texts that are refused
 runs "half a pair" 3 '' 'acpiset: line 2: bad line\n' "$(text half '@0\n1')" check --rsdp e0000
@@ -84,7 +93,7 @@ runs "a text of 67,108,865 bytes" 3 '' 'acpiset: too long\n' "$scratch/text" che
 rm "$scratch/text"
 
 # ---- words that are refused
-for words in '' '--help' 'check --help' 'help' 'chek --rsdp e0000' 'check' 'check --rsdp' 'check --rsdp g' 'check --rsdp 00000000000000000' 'check --rsdp 0x' \
+for words in '' '--help' 'check --help' 'help' 'chek --rsdp e0000' 'check --rsdp' 'check --rsdp g' 'check --rsdp 00000000000000000' 'check --rsdp 0x' \
   'check --rsdp e0000 --through 0' 'check --rsdp e0000 --through 4' 'check --rsdp e0000 --through 19' 'check --rsdp e0000 --through 003' 'check --rsdp e0000 --through' \
   'check --rsdp e0000 --rsdp e0000' 'check --rsdp e0000 fec00000=24'; do
   # shellcheck disable=SC2086

@@ -1,0 +1,15 @@
+use Rattle.std.proofs.Common.{◌∙◌, ap, ap₂}
+use Rattle.std.proofs.lemmas.Result.{IfOk-weaker}
+use Rattle.clap.specs.Words.{App, with_subcommand}
+use Rattle.acpi_cli.specs.CommandLine.{command_line, find_line}
+use Rattle.acpi_cli.proofs.command_line.acpiset.Goals as goal
+
+pub returns : goal.returns
+unfolding command_line find_line
+returns c =
+    let check = ap (λ (a : App). a.top) c.in_ok-check.ensures.line in
+    let first = c.in_ok-subcommand.ensures.shape c.in_ok-check.ensures.own ∙ ap₂ with_subcommand c.new.ensures.app check in
+    let find = ap (λ (a : App). a.top) c.new-2.ensures.app in
+    record {
+      line = IfOk-weaker c.subcommand-2.result _ _ (λ command adds. adds.shape c.new-2.ensures.local ∙ ap₂ with_subcommand first find) c.subcommand-2.ensures;
+    }

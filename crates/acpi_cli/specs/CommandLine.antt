@@ -1,0 +1,126 @@
+-- The command line as it is told to `clap`, and what its words ask for.
+use Rattle.std.specs.Prelude.{◌≡◌, ◌≤◌, ℕ, ◌&&◌, Bool, true, false, List, [], ◌∷◌, Option, Some, None}
+use Rattle.std.specs.Prelude.{if◌then◌else◌, codes, nat_le, option_and_then, option_map}
+use Rattle.std.specs.Str.{bytes_eq}
+use Rattle.std.specs.FinMap.{empty}
+use Rattle.clap.specs.Words.{App, Kinds, Row, Rule, Text, fault_of, first_of, new_app, new_rule}
+use Rattle.clap.specs.Words.{subcommand_of, with_rule, with_subcommand}
+use Rattle.clap.specs.declared.builder.action.ArgAction.TheVariants.{Set}
+use Rattle.acpi_base.specs.Codes.{stage_number}
+use Rattle.acpi_base.specs.Policy.{PolicyValue}
+use Rattle.acpi_base.specs.declared.stage.TheConstants.{BUILT}
+use Rattle.acpi_cli.specs.Words.{decimal_word, hex_word}
+use Rattle.acpi_cli.specs.declared.words.Job.{Job}
+use Rattle.acpi_cli.specs.declared.words.Job.TheVariants.{Check, Find}
+
+-- ---- the command line, as `clap` is told it
+
+-- `--NAME VALUE`, at most once
+abbrev pub option_rule : Text → Rule
+option_rule name = record (new_rule name) { long = Some name; action = Some Set }
+
+-- `check --rsdp HEX --through N`
+unfoldable pub check_line : App
+check_line = with_rule
+    (with_rule (new_app (codes "check")) (option_rule (codes "rsdp")))
+    (option_rule (codes "through"))
+
+-- `find`
+unfoldable pub find_line : App
+find_line = new_app (codes "find")
+
+-- `acpiset COMMAND ..`
+unfoldable pub command_line : App
+command_line = with_subcommand (with_subcommand (new_app (codes "acpiset")) check_line.top) find_line.top
+
+abbrev pub are_none : Kinds → Bool
+are_none [] = true
+are_none (kind ∷ kinds) = false
+
+-- `clap` finds no fault with the words, of which the first is the program's name
+unfoldable pub is_taken : List Text → Bool
+is_taken words = are_none (fault_of command_line words)
+
+-- the command that the words name, and the values of its options
+unfoldable pub command_of : List Text → Option (Text × List Row)
+command_of = subcommand_of command_line
+
+-- ---- what the words ask for
+
+pub data Asked : Type 0 where
+  -- the RSDP's address, where it is given, and the number of the last stage
+  check : Option ℕ → ℕ → Asked
+  find : Asked
+
+-- `--rsdp HEX`: without it the RSDP is to be found
+abbrev pub rsdp_word : Option Text → Option (Option ℕ)
+rsdp_word None = Some None
+rsdp_word (Some text) = option_map (λ address. Some address) (hex_word 16 text)
+
+-- the number of a stage that is built
+abbrev pub built_stage : ℕ → Option ℕ
+built_stage n = if nat_le 1 n && nat_le n BUILT then Some n else None
+
+-- `--through N`: without it the last stage that is built
+abbrev pub last_word : Option Text → Option ℕ
+last_word None = Some BUILT
+last_word (Some text) = option_and_then built_stage (decimal_word 2 text)
+
+-- the options of `check`
+abbrev pub check_asked : List Row → Option Asked
+check_asked options =
+    option_and_then
+    (λ rsdp. option_map (check rsdp) (last_word (first_of (codes "through") options)))
+    (rsdp_word (first_of (codes "rsdp") options))
+
+abbrev pub command_asked : Option (Text × List Row) → Option Asked
+command_asked None = None
+command_asked (Some command) =
+    if bytes_eq command.0 (codes "check")
+    then check_asked command.1
+    else (if bytes_eq command.0 (codes "find") then Some find else None)
+
+-- what a whole command line asks for, where it is one
+abbrev pub asked : List Text → Option Asked
+asked words = if is_taken words then command_asked (command_of words) else None
+
+-- ---- plain command lines
+
+-- `PROGRAM find`
+abbrev pub find_words : Text → List Text
+find_words program = program ∷ codes "find" ∷ []
+
+-- `PROGRAM check`
+abbrev pub check_words : Text → List Text
+check_words program = program ∷ codes "check" ∷ []
+
+-- `PROGRAM check --rsdp HEX`
+abbrev pub short_line : Text → Text → List Text
+short_line program hex = program ∷ codes "check" ∷ codes "--rsdp" ∷ hex ∷ []
+
+-- `PROGRAM check --rsdp HEX --through N`
+abbrev pub whole_line : Text → Text → Text → List Text
+whole_line program hex number =
+    program ∷ codes "check" ∷ codes "--rsdp" ∷ hex ∷ codes "--through" ∷ number ∷ []
+
+-- ---- the job that carries it
+
+-- no RSDP is set yet, and each I/O APIC has 24 inputs
+abbrev pub plain_policy : PolicyValue
+plain_policy = record { rsdp = 0; default_inputs = 24; inputs = empty }
+
+abbrev pub Does : Asked → Job → Type 0
+Does (check rsdp last) (Check given policy stage) =
+    (given ≡ rsdp) × (policy ≡ plain_policy) × (stage_number stage ≡ last)
+Does find Find = Unit {0}
+Does _ _ = ⊥
+
+-- the job's stages are built
+abbrev pub IsBuilt : Job → Type 0
+IsBuilt (Check given policy stage) = stage_number stage ≤ BUILT
+IsBuilt Find = Unit {0}
+
+-- the job does what is asked, and something is asked
+abbrev pub DoesAsked : Option Asked → Job → Type 0
+DoesAsked None job = ⊥
+DoesAsked (Some what) job = Does what job

@@ -1,0 +1,124 @@
+-- What an engine reads, writes and answers.
+use Rattle.std.specs.Prelude.{◌≡◌, ◌⊎◌, ◌++◌, ℕ, List, take, codes, Option, Some, None, Result, Ok, Err}
+use Rattle.std.specs.Io.KnownBytes.{Appends, Consumes, IsAtEnd, Keeps}
+use Rattle.acpi_base.specs.Memory.{Memory}
+use Rattle.acpi_base.specs.Policy.{PolicyValue}
+use Rattle.acpi_base.specs.ImageText.{IsText}
+use Rattle.acpi_base.specs.TextReading.{IsRefusal}
+use Rattle.acpi_base.specs.Tally.{CountsFailure}
+use Rattle.acpi_base.specs.Found.{IsFound, IsNowhere}
+use Rattle.acpi_base.specs.Faults.{IsVerdict}
+use Rattle.acpi_base.specs.WitnessText.{hex_text, verdict_line}
+use Rattle.acpi_base.specs.declared.stage.Stage.{Stage}
+use Rattle.acpi_base.specs.declared.text.TextFault.{TextFault}
+use Rattle.acpi_base.specs.declared.verdict.Verdict.{Verdict}
+use Rattle.acpi_base.specs.declared.verdict.Verdict.TheVariants as verdict
+use Rattle.acpi_cli.specs.declared.outcome.Outcome.{Outcome}
+use Rattle.acpi_cli.specs.declared.outcome.Outcome.TheVariants as outcome
+use Rattle.acpi_cli.specs.declared.outcome.RunFault.{RunFault}
+use Rattle.acpi_cli.specs.declared.outcome.RunFault.TheVariants as run
+
+-- What a reader or a writer had and has: its known bytes and its count of failures.
+pub record Device : Type 0 where
+  pub bytes_before : Option (List ℕ)
+  pub bytes_after : Option (List ℕ)
+  pub failures_before : ℕ
+  pub failures_after : ℕ
+
+-- a call of the device failed: its count rose, or stood at the highest
+abbrev pub HasFailed : Device → Type 0
+HasFailed device = CountsFailure device.failures_before device.failures_after
+
+-- ---- reading
+
+-- a text of this image was read to its end
+pub record ReadsImage (input : Device) (m : Memory) : Type 0 where
+  pub text : List ℕ
+  pub consumed : Consumes input.bytes_before input.bytes_after text
+  pub whole : IsAtEnd input.bytes_after
+  pub spells : IsText text m
+
+-- the text that was read is refused with this fault
+pub record ReadsRefused (input : Device) (fault : TextFault) : Type 0 where
+  pub text : List ℕ
+  pub consumed : Consumes input.bytes_before input.bytes_after text
+  pub refused : IsRefusal text input.bytes_after fault
+
+-- What was read: a whole text of the image, or a text that is refused, or a failed read.
+abbrev pub ReadsInput : Device → Result Memory RunFault → Type 0
+ReadsInput input (Ok image) = ReadsImage input image
+ReadsInput input (Err (run.Image fault)) = ReadsRefused input fault
+ReadsInput input (Err run.Memory) = Unit {0}
+ReadsInput input (Err run.Device) = HasFailed input
+
+-- ---- writing
+
+-- this was written, after what had been written before
+abbrev pub Writes : Device → List ℕ → Type 0
+Writes output bytes = Appends output.bytes_before output.bytes_after bytes
+
+-- nothing was written
+abbrev pub WritesNothing : Device → Type 0
+WritesNothing output = Keeps output.bytes_before output.bytes_after
+
+-- What was written: the whole output, with its outcome; or nothing for want of memory; or a front of it
+-- where the device failed.
+abbrev pub WritesOutput : Device → List ℕ → Outcome → Result Outcome RunFault → Type 0
+WritesOutput output bytes answer (Ok given) = (given ≡ answer) × Writes output bytes
+WritesOutput output bytes answer (Err (run.Image fault)) = ⊥
+WritesOutput output bytes answer (Err run.Memory) = WritesNothing output
+WritesOutput output bytes answer (Err run.Device) = HasFailed output × ((n : ℕ) × Writes output (take n bytes))
+
+-- ---- engines
+
+-- What an engine does that tells something of an image. It reads a text of an image and writes what is to
+-- be told of it, as far as memory and the writer go; or it writes nothing, where the text is refused, a
+-- read failed or memory was wanting.
+abbrev pub Runs : (Memory → List ℕ → Outcome → Type 0) → Device → Device → Result Outcome RunFault → Type 0
+Runs Tells input output result =
+    ((m : Memory) × (bytes : List ℕ) × (answer : Outcome) × ReadsImage input m × Tells m bytes answer × WritesOutput output bytes answer result)
+    ⊎ ((fault : RunFault) × (result ≡ Err fault) × ReadsInput input (Err fault) × WritesNothing output)
+
+-- the RSDP's address: the one that is given, else the one that is found
+abbrev pub IsRsdpAddress : Option ℕ → Memory → ℕ → Type 0
+IsRsdpAddress (Some given) m p = p ≡ given
+IsRsdpAddress None m p = IsFound m p
+
+-- no address is given, and none is found
+abbrev pub HasNoRsdp : Option ℕ → Memory → Type 0
+HasNoRsdp (Some given) m = ⊥
+HasNoRsdp None m = IsNowhere m
+
+-- the policy with this address of the RSDP
+abbrev pub with_rsdp : PolicyValue → ℕ → PolicyValue
+with_rsdp q p = record q { rsdp = p }
+
+-- the outcome that goes with a verdict
+abbrev pub outcome_of : Verdict → Outcome
+outcome_of verdict.Yes = outcome.Yes
+outcome_of (verdict.No w) = outcome.No
+
+-- a check tells the line of the verdict over the stages up to `last`, with its outcome
+pub record TellsVerdict (given : Option ℕ) (q : PolicyValue) (last : Stage) (m : Memory) (bytes : List ℕ) (answer : Outcome) : Type 0 where
+  pub address : ℕ
+  pub rsdp : IsRsdpAddress given m address
+  pub told : Verdict
+  pub judged : IsVerdict last m (with_rsdp q address) told
+  pub line : bytes ≡ verdict_line told
+  pub outcome : answer ≡ outcome_of told
+
+-- there is no RSDP to start from
+pub record TellsNoRsdp (given : Option ℕ) (m : Memory) (bytes : List ℕ) (answer : Outcome) : Type 0 where
+  pub none : HasNoRsdp given m
+  pub line : bytes ≡ codes "no rsdp\n"
+  pub outcome : answer ≡ outcome.No
+
+-- what a check tells of an image
+abbrev pub TellsCheck : Option ℕ → PolicyValue → Stage → Memory → List ℕ → Outcome → Type 0
+TellsCheck given q last m bytes answer = TellsVerdict given q last m bytes answer ⊎ TellsNoRsdp given m bytes answer
+
+-- what a search tells of an image: where it finds the RSDP, or that it finds none
+abbrev pub TellsFound : Memory → List ℕ → Outcome → Type 0
+TellsFound m bytes answer =
+    ((p : ℕ) × IsFound m p × (bytes ≡ codes "rsdp " ++ hex_text p ++ codes "\n") × (answer ≡ outcome.Yes))
+    ⊎ (IsNowhere m × (bytes ≡ codes "rsdp none\n") × (answer ≡ outcome.No))

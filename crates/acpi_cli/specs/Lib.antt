@@ -1,0 +1,5 @@
+-- What the contracts of the program cite.
+pub mod CommandLine
+pub mod Engine
+pub mod Outcome
+pub mod Words

@@ -1,0 +1,86 @@
+//! The engine of the command `check`.
+
+ghost use Rattle.std.specs.Prelude.{◌≡◌, ◌≤◌, IfOk, IfSome, IsNone};
+ghost use Rattle.acpi_base.specs.Codes.{stage_number};
+ghost use Rattle.acpi_base.specs.declared.stage.TheConstants.{BUILT};
+ghost use Rattle.acpi_cli.specs.Engine.{HasNoRsdp, IsRsdpAddress, Runs, TellsCheck, outcome_of};
+
+use crate::devices::{Answer, read_input, write_answer};
+use crate::outcome::{Outcome, RunFault};
+use crate::stages::check_to;
+use acpi_base::{Image, Policy, Stage, Tally, Verdict, find_rsdp, verdict_text};
+use std::alloc::{AllocError, Global};
+use std::io::{Read, Write};
+
+/// The outcome that goes with a verdict.
+fn outcome_of(verdict: &Verdict) -> Outcome
+    ensures { result ≡ outcome_of verdict.now }
+{
+    match verdict {
+        Verdict::Yes => Outcome::Yes,
+        Verdict::No(_) => Outcome::No,
+    }
+}
+
+/// The address that is given, else the one that is found.
+fn rsdp_address(image: &Image, given: Option<u64>) -> Option<u64>
+    ensures some { IfSome result (IsRsdpAddress given image.now) }
+    ensures none { IsNone result → HasNoRsdp given image.now }
+{
+    match given {
+        Some(address) => Some(address),
+        None => find_rsdp(image),
+    }
+}
+
+/// What a check tells of the image.
+fn check_answer(
+    alloc: Global,
+    image: &Image,
+    given: Option<u64>,
+    mut policy: Policy,
+    last: Stage,
+) -> Result<Answer, AllocError>
+    requires { stage_number last ≤ BUILT }
+    ensures { IfOk result (λ answer. TellsCheck given policy last image.now answer.bytes.items answer.outcome) }
+{
+    let Some(address) = rsdp_address(image, given) else {
+        let bytes = Vec::from_slice(alloc, b"no rsdp\n")?;
+        let outcome = Outcome::No;
+        return Ok(Answer { bytes, outcome });
+    };
+    policy.set_rsdp(address);
+    let verdict = check_to(image, &policy, last);
+    let bytes = verdict_text(alloc, &verdict)?;
+    let outcome = outcome_of(&verdict);
+    Ok(Answer { bytes, outcome })
+}
+
+/// Checks the tables of the image whose text is on `reader`, from the RSDP at the address `rsdp`, or
+/// where it is `None` from the one that is found, up to the stage `last`. The policy's own address is
+/// not looked at.
+///
+/// Writes the verdict's line: `yes`, and answers `Yes`, or `no` with the first fault, and answers `No`.
+/// Where no address is given and none is found it writes `no rsdp` and answers `No`. Nothing is written
+/// before the image is read and judged. Refuses `Image` where the text is none, `Memory`, and `Device`
+/// where a read or a write failed; what went out then is a front of the line.
+pub fn run_check<R: Read, W: Write>(
+    alloc: Global,
+    reader: &mut Tally<R>,
+    writer: &mut Tally<W>,
+    rsdp: Option<u64>,
+    policy: Policy,
+    last: Stage,
+) -> Result<Outcome, RunFault>
+    requires { stage_number last ≤ BUILT }
+    ensures { Runs (TellsCheck rsdp policy last)
+        (record { bytes_before = R.remaining reader.old.inner; bytes_after = R.remaining reader.new.inner; failures_before = reader.old.failures; failures_after = reader.new.failures })
+        (record { bytes_before = W.contents writer.old.inner; bytes_after = W.contents writer.new.inner; failures_before = writer.old.failures; failures_after = writer.new.failures })
+        result }
+{
+    let image = read_input(alloc, reader)?;
+    let Ok(answer) = check_answer(alloc, &image, rsdp, policy, last) else {
+        return Err(RunFault::Memory);
+    };
+    write_answer(writer, &answer)
+}

@@ -1,0 +1,81 @@
+//! The command line as it is told to `clap`. No other module builds its commands.
+
+ghost use Rattle.std.specs.Prelude.{◌≡◌, IfErr, IfOk, false, map, option_map, true};
+ghost use Rattle.std.specs.String.{string_bytes};
+ghost use Rattle.clap.specs.Words.{app_of, first_of, found_of, kind_of, rows_of, rule_of, subcommand_rows_of};
+ghost use Rattle.clap.specs.declared.builder.command.Command.TheViews.{out-Command};
+ghost use Rattle.acpi_cli.specs.CommandLine.{check_line, command_line, command_of, is_taken, option_rule};
+
+use crate::words::WordFault;
+use clap::error::ErrorKind;
+use clap::{Arg, ArgAction, ArgMatches, Command, Error};
+use std::alloc::{AllocError, Global};
+
+/// Reads the words by the program's command line.
+pub fn parse<'a>(alloc: Global, words: &'a [String]) -> Result<ArgMatches<'a>, WordFault>
+    ensures taken { IfOk result (λ matches. is_taken (map string_bytes words.now) ≡ true) }
+    ensures command { IfOk result (λ matches.
+        subcommand_rows_of matches ≡ command_of (map string_bytes words.now)) }
+    ensures refused { IfErr result (λ fault.
+        is_taken (map string_bytes words.now) ≡ true → fault ≡ WordFault.Memory) }
+{
+    let Ok(command) = acpiset(alloc) else {
+        return Err(WordFault::Memory);
+    };
+    match command.try_get_matches_from(words) {
+        Ok(matches) => Ok(matches),
+        Err(error) => Err(fault_of(&error)),
+    }
+}
+
+/// The first thing that is wrong with the words, in a line: the word that is not known, that is
+/// repeated or that wants a value. `None` where only a value is wrong, where a word is missing,
+/// where help is asked for, or where there is no memory to say it.
+pub fn complaint(alloc: Global, words: &[String]) -> Option<String> {
+    let error = acpiset(alloc).ok()?.try_get_matches_from(words).err()?;
+    let text = format!(in alloc; "{error}").ok()?;
+    let line = text.lines().next()?;
+    String::from_str(alloc, line.strip_prefix("error: ")?).ok()
+}
+
+/// The value that `--id` was given.
+pub fn value<'a>(options: &ArgMatches<'a>, id: &str) -> Option<&'a str>
+    ensures { option_map (λ text. text.now) result ≡ first_of id.now (rows_of (found_of options.now)) }
+{
+    options.get_str(id)
+}
+
+fn fault_of(error: &Error) -> WordFault
+    ensures memory { kind_of error.now ≡ ErrorKind.OutOfMemory → result ≡ WordFault.Memory }
+{
+    if error.kind() == ErrorKind::OutOfMemory {
+        WordFault::Memory
+    } else {
+        WordFault::Words
+    }
+}
+
+fn acpiset<'a>(alloc: Global) -> Result<Command<'a>, AllocError>
+    ensures line { IfOk result (λ command. app_of command ≡ command_line) }
+{
+    Command::new(alloc, "acpiset")
+        .subcommand(check(alloc)?)?
+        .subcommand(Command::new(alloc, "find"))
+}
+
+fn check<'a>(alloc: Global) -> Result<Command<'a>, AllocError>
+    ensures line { IfOk result (λ command. app_of command ≡ check_line) }
+    ensures own { IfOk result (λ command. (out-Command command).has_globals ≡ false) }
+{
+    Command::new(alloc, "check")
+        .arg(option(alloc, "rsdp"))?
+        .arg(option(alloc, "through"))
+}
+
+/// `--NAME VALUE`, at most once.
+fn option<'a>(alloc: Global, name: &'a str) -> Arg<'a>
+    ensures rule { rule_of result ≡ option_rule name.entry.now }
+    ensures own { result.global ≡ false }
+{
+    Arg::new(alloc, name).long(name).action(ArgAction::Set)
+}

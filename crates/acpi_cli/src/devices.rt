@@ -1,0 +1,56 @@
+//! Reading an engine's input and writing its output.
+
+ghost use Rattle.std.specs.Prelude.{ℕ, OnOk, OnErr, take};
+ghost use Rattle.std.specs.Io.KnownBytes.{Appends};
+ghost use Rattle.acpi_base.specs.Tally.{CountsFailure};
+ghost use Rattle.acpi_cli.specs.Engine.{ReadsInput, WritesOutput};
+
+use crate::outcome::{Outcome, RunFault};
+use acpi_base::{DeviceFailed, Image, Tally, TextFault, read_image};
+use std::alloc::Global;
+use std::io::{Read, Write};
+
+/// What an engine is to write, and what it then answers.
+#[derive(Debug, Drop)]
+pub struct Answer {
+    pub bytes: Vec<u8>,
+    pub outcome: Outcome,
+}
+
+/// The image whose text is on `reader`.
+pub fn read_input<R: Read>(alloc: Global, reader: &mut Tally<R>) -> Result<Image, RunFault>
+    ensures { ReadsInput
+        (record { bytes_before = R.remaining reader.old.inner; bytes_after = R.remaining reader.new.inner; failures_before = reader.old.failures; failures_after = reader.new.failures }) result }
+{
+    match read_image(alloc, reader) {
+        Ok(image) => Ok(image),
+        Err(TextFault::Read) => Err(RunFault::Device),
+        Err(TextFault::Memory) => Err(RunFault::Memory),
+        Err(fault) => Err(RunFault::Image(fault)),
+    }
+}
+
+/// Writes the answer's bytes, and gives its outcome.
+pub fn write_answer<W: Write>(writer: &mut Tally<W>, answer: &Answer) -> Result<Outcome, RunFault>
+    ensures { WritesOutput
+        (record { bytes_before = W.contents writer.old.inner; bytes_after = W.contents writer.new.inner; failures_before = writer.old.failures; failures_after = writer.new.failures })
+        answer.now.bytes.items answer.now.outcome result }
+{
+    match write_whole(writer, &answer.bytes) {
+        Ok(()) => Ok(answer.outcome),
+        Err(DeviceFailed) => Err(RunFault::Device),
+    }
+}
+
+/// Writes all the bytes, by as many writes as it takes.
+fn write_whole<W: Write>(writer: &mut Tally<W>, bytes: &[u8]) -> Result<(), DeviceFailed>
+    ensures ok { OnOk result (Appends (W.contents writer.old.inner) (W.contents writer.new.inner) bytes.now) }
+    ensures err { OnErr result ((n : ℕ) × Appends (W.contents writer.old.inner) (W.contents writer.new.inner) (take n bytes.now)) }
+    ensures counted { OnErr result (CountsFailure writer.old.failures writer.new.failures) }
+{
+    let mut written = 0;
+    while written < bytes.len() {
+        written += writer.write(&bytes[written..])?;
+    }
+    Ok(())
+}

@@ -1,0 +1,49 @@
+//! The engine of the command `find`.
+
+ghost use Rattle.std.specs.Prelude.{IfOk};
+ghost use Rattle.acpi_cli.specs.Engine.{Runs, TellsFound};
+
+use crate::devices::{Answer, read_input, write_answer};
+use crate::outcome::{Outcome, RunFault};
+use acpi_base::{Image, Tally, find_rsdp};
+use std::alloc::{AllocError, Global};
+use std::io::{Read, Write};
+
+/// What a search tells of the image.
+#[tactic(auto, unfolding(acpi_base::specs::WitnessText::hex_text))]
+fn find_answer(alloc: Global, image: &Image) -> Result<Answer, AllocError>
+    ensures { IfOk result (λ answer. TellsFound image.now answer.bytes.items answer.outcome) }
+{
+    let Some(address) = find_rsdp(image) else {
+        let bytes = Vec::from_slice(alloc, b"rsdp none\n")?;
+        let outcome = Outcome::No;
+        return Ok(Answer { bytes, outcome });
+    };
+    let bytes = format!(in alloc; "rsdp 0x{address:x}\n")?.into_bytes();
+    let outcome = Outcome::Yes;
+    Ok(Answer { bytes, outcome })
+}
+
+/// Looks for the RSDP in the image whose text is on `reader`, at the multiples of 16 from E0000h to
+/// FFFF0h.
+///
+/// Writes `rsdp` and the least address at which it is found, in hex, and answers `Yes`; or `rsdp none`,
+/// and answers `No`. Nothing is written before the image is read. Refuses `Image` where the text is
+/// none, `Memory`, and `Device` where a read or a write failed; what went out then is a front of the
+/// line.
+pub fn run_find<R: Read, W: Write>(
+    alloc: Global,
+    reader: &mut Tally<R>,
+    writer: &mut Tally<W>,
+) -> Result<Outcome, RunFault>
+    ensures { Runs TellsFound
+        (record { bytes_before = R.remaining reader.old.inner; bytes_after = R.remaining reader.new.inner; failures_before = reader.old.failures; failures_after = reader.new.failures })
+        (record { bytes_before = W.contents writer.old.inner; bytes_after = W.contents writer.new.inner; failures_before = writer.old.failures; failures_after = writer.new.failures })
+        result }
+{
+    let image = read_input(alloc, reader)?;
+    let Ok(answer) = find_answer(alloc, &image) else {
+        return Err(RunFault::Memory);
+    };
+    write_answer(writer, &answer)
+}

@@ -1,0 +1,61 @@
+//! Numbers among the words of the command line.
+
+ghost use Rattle.std.specs.Prelude.{◌≡◌, ◌≤◌, length, if◌then◌else◌, Some, None};
+ghost use Rattle.std.specs.List.{list_all};
+ghost use Rattle.std.specs.Char.{is_digit};
+ghost use Rattle.std.specs.Str.Parse.{digits_value};
+ghost use Rattle.acpi_cli.specs.Words.{without_0x, number_word, hex_word, decimal_word};
+
+/// The number that `text` says by 1 to 16 hex digits of either case, with `0x` before them or
+/// without.
+pub fn hex_number(text: &str) -> Option<u64>
+    ensures { result ≡ hex_word 16 text.now }
+{
+    number(without_prefix(text.as_bytes()), 16, 16)
+}
+
+/// The number that `text` says by 1 to `most` decimal digits.
+pub fn decimal_number(text: &str, most: usize) -> Option<u64>
+    requires { most ≤ 16 }
+    ensures { result ≡ decimal_word most text.now }
+{
+    number(text.as_bytes(), 10, most)
+}
+
+fn without_prefix(text: &[u8]) -> &[u8]
+    ensures { result.now ≡ without_0x text.now }
+{
+    match text {
+        [b'0', b'x', digits @ ..] => digits,
+        _ => text,
+    }
+}
+
+/// The number of 1 to `most` digits.
+fn number(digits: &[u8], base: u32, most: usize) -> Option<u64>
+    requires low { 2 ≤ base }
+    requires high { base ≤ 16 }
+    requires short { most ≤ 16 }
+    ensures { result ≡ number_word base most digits.now }
+{
+    if digits.is_empty() || digits.len() > most {
+        return None;
+    }
+    value(digits, base)
+}
+
+/// The value of the digits, the highest first, where all are digits.
+fn value(digits: &[u8], base: u32) -> Option<u64>
+    requires low { 2 ≤ base }
+    requires high { base ≤ 16 }
+    requires short { length digits.now ≤ 16 }
+    ensures { result ≡ (if list_all (λ c. is_digit c base) digits.now
+        then Some (digits_value base digits.now) else None) }
+{
+    let mut value = 0;
+    for byte in digits {
+        let digit = char::from(*byte).to_digit(base)?;
+        value = value * u64::from(base) + u64::from(digit);
+    }
+    Some(value)
+}

@@ -1,0 +1,167 @@
+//! Command lines that are read, and command lines that are refused.
+
+use super::*;
+use crate::command_line::complaint;
+use std::alloc::AllocError;
+
+/// Reads a command line whose words stand a space apart.
+fn read(alloc: Global, line: &str) -> Result<Job, WordFault> {
+    let Ok(words) = words_of(alloc, line) else {
+        return Err(WordFault::Memory);
+    };
+    read_words(alloc, words.as_slice())
+}
+
+fn words_of(alloc: Global, line: &str) -> Result<Vec<String>, AllocError> {
+    let mut words = Vec::new(alloc);
+    for word in line.split(' ') {
+        words.push(String::from_str(alloc, word)?)?;
+    }
+    Ok(words)
+}
+
+#[test]
+fn lines_that_are_read(rt: HostRuntime) {
+    let lines = [
+        ("acpiset check --rsdp e0000", 0xe0000, Stage::Tables),
+        ("acpiset check --rsdp 0xe0000", 0xe0000, Stage::Tables),
+        ("acpiset check --rsdp E0000", 0xe0000, Stage::Tables),
+        ("acpiset check --rsdp=e0000", 0xe0000, Stage::Tables),
+        ("acpiset check --rsdp 0", 0, Stage::Tables),
+        ("a check --rsdp 0", 0, Stage::Tables),
+        (
+            "acpiset check --rsdp ffffffffffffffff",
+            u64::MAX,
+            Stage::Tables,
+        ),
+        (
+            "acpiset check --rsdp 0x0123456789aBcDeF",
+            0x0123_4567_89ab_cdef,
+            Stage::Tables,
+        ),
+        (
+            "acpiset check --rsdp e0000 --through 1",
+            0xe0000,
+            Stage::Rsdp,
+        ),
+        (
+            "acpiset check --through 2 --rsdp e0000",
+            0xe0000,
+            Stage::Root,
+        ),
+        (
+            "acpiset check --rsdp e0000 --through 3",
+            0xe0000,
+            Stage::Tables,
+        ),
+        (
+            "acpiset check --rsdp e0000 --through 03",
+            0xe0000,
+            Stage::Tables,
+        ),
+    ];
+    for (line, address, stage) in lines {
+        let Job::Check { rsdp, policy, last } = read(rt.alloc(), line).expect(&rt, line) else {
+            panic!(rt; "{line}");
+        };
+        assert_eq!(rt; rsdp, Some(address), "{line}");
+        assert_eq!(rt; policy.rsdp(), 0, "{line}");
+        assert_eq!(rt; last, stage, "{line}");
+    }
+}
+
+#[test]
+fn lines_that_are_refused(rt: HostRuntime) {
+    let lines = [
+        "acpiset",
+        "acpiset ",
+        "acpiset --help",
+        "acpiset -h",
+        "acpiset help",
+        "acpiset check --help",
+        "acpiset judge --rsdp e0000",
+        "acpiset Check --rsdp e0000",
+        "acpiset chec --rsdp e0000",
+        "acpiset --rsdp e0000",
+        "acpiset find --rsdp e0000",
+        "acpiset find find",
+        "acpiset check --rsdp",
+        "acpiset check --rsdp ",
+        "acpiset check --rsdp 0x",
+        "acpiset check --rsdp g",
+        "acpiset check --rsdp 0Xe0000",
+        "acpiset check --rsdp 0x0x1",
+        "acpiset check --rsdp +1",
+        "acpiset check --rsdp -1",
+        "acpiset check --rsdp e_0000",
+        "acpiset check --rsdp 10000000000000000",
+        "acpiset check --rsdp 0x00000000000000001",
+        "acpiset check --rsdp e0000 --rsdp e0000",
+        "acpiset check --rsd e0000",
+        "acpiset check -rsdp e0000",
+        "acpiset check e0000",
+        "acpiset check --rsdp e0000 --through",
+        "acpiset check --rsdp e0000 --through ",
+        "acpiset check --rsdp e0000 --through 0",
+        "acpiset check --rsdp e0000 --through 00",
+        "acpiset check --rsdp e0000 --through 4",
+        "acpiset check --rsdp e0000 --through 19",
+        "acpiset check --rsdp e0000 --through 003",
+        "acpiset check --rsdp e0000 --through 0x3",
+        "acpiset check --rsdp e0000 --through a",
+        "acpiset check --rsdp e0000 --through +3",
+        "acpiset check --rsdp e0000 --through 3 --through 3",
+        "acpiset check --rsdp e0000 fec00000=32",
+    ];
+    for line in lines {
+        assert_eq!(rt;
+            read(rt.alloc(), line).err(),
+            Some(WordFault::Words),
+            "{line}"
+        );
+    }
+}
+
+#[test]
+fn lines_that_leave_the_address_out(rt: HostRuntime) {
+    for line in ["acpiset check", "acpiset check --through 3"] {
+        let Job::Check { rsdp, last, .. } = read(rt.alloc(), line).expect(&rt, line) else {
+            panic!(rt; "{line}");
+        };
+        assert_eq!(rt; rsdp, None, "{line}");
+        assert_eq!(rt; last, Stage::Tables, "{line}");
+    }
+}
+
+#[test]
+fn a_line_that_looks_for_the_rsdp(rt: HostRuntime) {
+    let job = read(rt.alloc(), "acpiset find").expect(&rt, "find");
+    assert!(rt; matches!(job, Job::Find));
+}
+
+#[test]
+fn no_words_at_all(rt: HostRuntime) {
+    let words: [String; 0] = [];
+    assert!(rt; read_words(rt.alloc(), words.as_slice()).is_err());
+}
+
+#[test]
+fn what_is_wrong_with_a_line(rt: HostRuntime) {
+    let lines = [
+        ("acpiset judge", "unrecognized subcommand 'judge'"),
+        ("acpiset check --fix", "unexpected argument '--fix' found"),
+    ];
+    for (line, text) in lines {
+        let words = words_of(rt.alloc(), line).expect(&rt, line);
+        let complaint = complaint(rt.alloc(), words.as_slice()).expect(&rt, line);
+        assert_eq!(rt; complaint.as_str(), text);
+    }
+}
+
+#[test]
+fn nothing_but_the_usage_to_say(rt: HostRuntime) {
+    for line in ["acpiset --help", "acpiset check --rsdp g", "acpiset"] {
+        let words = words_of(rt.alloc(), line).expect(&rt, line);
+        assert!(rt; complaint(rt.alloc(), words.as_slice()).is_none(), "{line}");
+    }
+}
