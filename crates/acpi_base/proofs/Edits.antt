@@ -1,8 +1,8 @@
 -- What an edit of the segments makes of their runs.
-use Rattle.std.proofs.Common.{◌≡◌, ℕ, zero, suc, ◌+◌, ◌-◌, ◌<◌, ◌≤◌, ◌≢◌, inl, inr, Bool, true, false, cond, List, [], ◌∷◌, ◌++◌, length, get_or, set, take, drop, map, Result, Ok, Err, OnOk, OnErr, is_ok, refl, sym, ap, subst, ◌∙◌, arith}
+use Rattle.std.proofs.Common.{◌≡◌, ℕ, zero, suc, ◌+◌, ◌-◌, ◌<◌, ◌≢◌, inl, inr, cond, List, [], ◌∷◌, ◌++◌, length, get_or, set, take, drop, Result, Ok, Err, OnOk, OnErr, is_ok, refl, sym, ap, ◌∙◌, arith}
 use Rattle.std.specs.Prelude.{nat_lt}
 use Rattle.std.specs.List.{remove}
-use Rattle.std.proofs.lemmas.List.{map-set, map-append, take-map, drop-map, set-get_or, get_or_default}
+use Rattle.std.proofs.lemmas.List.{map-set, map-append, take-map, drop-map, set-get_or}
 use Rattle.std.proofs.lemmas.List.Edits.{get_or-remove_below, get_or-remove_above}
 use Rattle.std.proofs.lemmas.Bool.{cases_lt}
 use Rattle.std.proofs.lemmas.Bool.Decides.{nat_tests}

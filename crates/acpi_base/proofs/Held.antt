@@ -1,15 +1,14 @@
 -- What a run holds, and what an image holds once bytes are put in.
-use Rattle.std.proofs.Common.{◌≡◌, ℕ, zero, suc, ◌+◌, ◌-◌, ◌<◌, ◌≤◌, ◌⊎◌, inl, inr, Bool, true, false, cond, List, [], ◌∷◌, length, get_or, take, drop, slice_get, slice_index, Option, Some, None, IsSome, is_some, refl, sym, ap, subst, ◌∙◌, arith, zero-add, add-suc, add-zero, drop-cons}
+use Rattle.std.proofs.Common.{◌≡◌, ℕ, zero, suc, ◌+◌, ◌-◌, ◌<◌, ◌≤◌, ◌⊎◌, inl, inr, Bool, true, false, cond, List, [], ◌∷◌, length, get_or, take, drop, slice_get, slice_index, Option, Some, None, IsSome, is_some, refl, sym, ap, ◌∙◌, arith, drop-cons}
 use Rattle.std.specs.Prelude.{nat_lt, ◌==◌}
-use Rattle.std.specs.Option.{option_or, option_map}
+use Rattle.std.specs.Option.{option_or}
 use Rattle.std.specs.Ordering.{nat_cmp, eq_by_cmp}
 use Rattle.std.specs.Cmp.{nat_cmp_total}
 use Rattle.std.specs.FinMap.{get, get-insert, get-empty}
 use Rattle.std.proofs.lemmas.Bool.{cases_lt}
 use Rattle.std.proofs.lemmas.Bool.Decides.{nat_tests}
 use Rattle.std.proofs.lemmas.Option.{slice_get_past, slice_get-get_or}
-use Rattle.std.proofs.lemmas.Grind.{common_steps}
-use Rattle.acpi_base.specs.Memory.{Memory, byte_of, run_of, first_of, with_bytes, cons_both, bytes_at, Has, AreBytes}
+use Rattle.acpi_base.specs.Memory.{Memory, byte_of, run_of, first_of, with_bytes, cons_both, bytes_at}
 use Rattle.acpi_base.specs.Segments.{Run, held, end_of, lookup, memory_of}
 use Rattle.acpi_base.proofs.Runs.{run_of_none, run_of-from_each, run_of-agree, first_of_none, first_of_at}
 

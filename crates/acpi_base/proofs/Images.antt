@@ -1,20 +1,21 @@
 -- The memory that runs make.
-use Rattle.std.proofs.Common.{◌≡◌, ℕ, zero, suc, ◌+◌, ◌-◌, ◌^◌, ◌<◌, ◌≤◌, inl, inr, Bool, true, false, cond, List, [], ◌∷◌, length, get_or, slice_get, Option, Some, None, IsSome, is_some, refl, sym, ap, subst, ◌∙◌, arith}
+use Rattle.std.proofs.Common.{◌≡◌, ℕ, zero, suc, ◌+◌, ◌-◌, ◌^◌, ◌<◌, ◌≤◌, Bool, true, false, cond, List, [], ◌∷◌, length, get_or, slice_get, Option, Some, None, is_some, refl, sym, ap, ◌∙◌, arith}
 use Rattle.std.specs.Prelude.{nat_lt}
 use Rattle.std.specs.Option.{option_or, option_map}
 use Rattle.std.specs.List.{AllByRecursion}
-use Rattle.std.specs.FinMap.{empty, same_map, nat_cmp-IsAntisymmetric}
+use Rattle.std.specs.FinMap.{same_map, nat_cmp-IsAntisymmetric}
 use Rattle.std.specs.Cmp.{nat_cmp_total}
 use Rattle.std.proofs.lemmas.Bool.Decides.{nat_tests}
-use Rattle.acpi_base.specs.Memory.{Memory, byte_of, run_of, first_of, bytes_at, first_held, with_bytes, IsImage}
+use Rattle.acpi_base.specs.Memory.{Memory, byte_of, first_of, bytes_at, first_held, with_bytes, IsImage}
 use Rattle.acpi_base.specs.declared.image.segments.Segment.{Segment}
 use Rattle.acpi_base.specs.declared.image.ImageFault.{ImageFault}
 use Rattle.acpi_base.specs.declared.image.ImageFault.TheVariants.{PastEnd, Twice}
 use Rattle.acpi_base.specs.Adding.{add_refusal}
-use Rattle.acpi_base.specs.Segments.{Run, runs, held, lookup, end_of, run_at, memory_of, window_of, IsWhole, IsTidy, Puts}
+use Rattle.acpi_base.specs.Segments.{Run, runs, held, lookup, run_at, memory_of, window_of, IsWhole, IsTidy, IsFree, Puts}
 use Rattle.acpi_base.proofs.Held.{held_inside, held_from, byte_of-memory_of, byte_of-with_bytes}
 use Rattle.acpi_base.proofs.Runs.{run_of-same, first_of-same}
 use Rattle.acpi_base.proofs.Segments.{window_of-lookup}
+use Rattle.acpi_base.proofs.Places.{free_run}
 
 each_byte : (bs : List ℕ) (i b : ℕ) → AllByRecursion (λ x. x < 256) bs → slice_get bs i ≡ Some b → b < 256
 each_byte [] i b h e = absurd (cc)
@@ -79,3 +80,20 @@ pub no_bytes : (m : Memory) (a : ℕ) (bs : List ℕ) → length bs ≡ 0 → m 
 unfolding with_bytes
 no_bytes m a [] e = refl
 no_bytes m a (b ∷ bs) e = absurd (omega arith)
+
+unmapped : (o : Option ℕ) → option_map (λ x. Twice x) o ≡ None → o ≡ None
+unmapped None e = refl
+unmapped (Some x) e = absurd (cc)
+
+fits_unless : (t : Bool) (o : Option ℕ) → cond t (Some PastEnd) (option_map (λ x. Twice x) o) ≡ None → (t ≡ false) × (o ≡ None)
+fits_unless true o e = absurd (cc)
+fits_unless false o e = (refl, unmapped o e)
+
+-- bytes that are not refused find their addresses free
+pub free_unless : (found ss : List Segment) (a : ℕ) (bs : List ℕ) (refused : Option ImageFault) → found ≡ ss → IsTidy (runs ss) → 0 < length bs → ((k : ℕ) → get_or bs k 0 < 256)
+    → refused ≡ cond (nat_lt (2 ^ 64) (a + length bs)) (Some PastEnd) (option_map (λ x. Twice x) (first_of (lookup (runs found)) a (length bs))) → refused ≡ None → IsFree (run_at a bs) (runs ss)
+free_unless found ss a bs refused f t h s r none =
+    let is = fits_unless (nat_lt (2 ^ 64) (a + length bs)) _ (sym r ∙ none) in
+    let below : nat_lt (2 ^ 64) (a + length bs) ≡ false = is.0 in
+    let fits : a + length bs ≤ 2 ^ 64 = grind (arith, nat_tests) in
+    free_run (runs ss) a bs t h fits s (ap (λ (ts : List Segment). first_of (lookup (runs ts)) a (length bs)) (sym f) ∙ is.1)

@@ -1,14 +1,14 @@
 -- Bytes that are put in: the runs stay tidy, and hold what they held and the new bytes.
-use Rattle.std.proofs.Common.{◌≡◌, ℕ, zero, suc, ◌+◌, ◌-◌, ◌^◌, ◌<◌, ◌≤◌, ◌≢◌, ◌⊎◌, inl, inr, Bool, true, false, cond, List, [], ◌∷◌, ◌++◌, length, get_or, set, take, drop, slice_get, Option, Some, None, IsSome, is_some, refl, sym, ap, subst, ◌∙◌, arith, length-append}
+use Rattle.std.proofs.Common.{◌≡◌, ℕ, zero, suc, ◌+◌, ◌-◌, ◌^◌, ◌<◌, ◌≤◌, ◌≢◌, ◌⊎◌, inl, inr, true, false, cond, List, [], ◌∷◌, ◌++◌, length, get_or, set, take, drop, slice_get, Option, Some, None, is_some, refl, sym, ap, subst, ◌∙◌, arith, length-append}
 use Rattle.std.specs.Prelude.{nat_lt}
 use Rattle.std.specs.Option.{option_or}
 use Rattle.std.specs.List.{remove, AllByRecursion}
 use Rattle.std.proofs.Math.Seq.{split_at}
-use Rattle.std.proofs.lemmas.List.{set_split}
+use Rattle.std.proofs.lemmas.List.{append-nil, set_split}
 use Rattle.std.proofs.lemmas.List.Edits.{length-remove}
 use Rattle.std.proofs.lemmas.Bool.{cases_lt}
 use Rattle.std.proofs.lemmas.Bool.Decides.{nat_tests}
-use Rattle.acpi_base.specs.Segments.{Run, held, lookup, end_of, run_at, run_in, bridged, Apart, ApartFrom, NoneTouch, IsWhole, IsTidy, Puts}
+use Rattle.acpi_base.specs.Segments.{Run, held, lookup, end_of, run_at, run_in, bridged, Apart, ApartFrom, NoneTouch, IsWhole, IsTidy, IsFree, Puts}
 use Rattle.acpi_base.proofs.Held.{held_below, held_from, held_past, held_at, held_some}
 use Rattle.acpi_base.proofs.Edits.{get_or-remove_other}
 
@@ -96,12 +96,6 @@ puts_set : (b n : Run) (old rs : List Run) (k : ℕ) → k < length rs → IsTid
 puts_set b n old rs k h t a w e = rw (set_split rs k n h) (puts_at b n old (take k rs) (drop (suc k) rs) t a w e)
 
 -- ---- the new bytes
-
--- a whole run whose addresses none of the runs holds
-pub record IsFree (b : Run) (rs : List Run) : Type 0 where
-  pub tidy : IsTidy rs
-  pub whole : IsWhole b
-  pub free : (x : ℕ) → b.base ≤ x → x < end_of b → lookup rs x ≡ None
 
 -- the runs share no address
 abbrev Clear : Run → Run → Type 0
@@ -192,13 +186,9 @@ lone_apart b (s ∷ ss) c n m = (
   lone_apart b ss c.1 n.1 m.1,
 )
 
-append-nil_tidy : (rs : List Run) → rs ++ [] ≡ rs
-append-nil_tidy [] = refl
-append-nil_tidy (r ∷ rs) = ap (λ ss. r ∷ ss) (append-nil_tidy rs)
-
 pub puts_alone : (b : Run) (rs : List Run) → IsFree b rs → NoneBefore b rs → NoneAfter b rs → Puts b rs (rs ++ b ∷ [])
 puts_alone b rs f n m =
-    let same = append-nil_tidy rs in
+    let same = append-nil rs in
     let apart = lone_apart b rs (clear_of b rs f) n m in
     puts_at b b rs rs [] (subst IsTidy (sym same) f.tidy) (subst (ApartFrom b) (sym same) apart) f.whole (λ x. ap (λ ss. option_or (held b x) (lookup ss x)) same)
 

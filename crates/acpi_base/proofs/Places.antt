@@ -1,18 +1,18 @@
 -- Where among the segments bytes are put.
-use Rattle.std.proofs.Common.{◌≡◌, ℕ, zero, suc, ◌+◌, ◌-◌, ◌^◌, ◌<◌, ◌≤◌, ◌≢◌, inl, inr, Bool, true, false, cond, List, [], ◌∷◌, length, get_or, map, slice_index, Option, Some, None, is_some, Result, Ok, Err, OnOk, refl, sym, ap, subst, ◌∙◌, arith}
+use Rattle.std.proofs.Common.{◌≡◌, ℕ, zero, suc, ◌+◌, ◌^◌, ◌<◌, ◌≤◌, ◌≢◌, inl, inr, Bool, true, false, cond, List, [], ◌∷◌, length, get_or, Option, Some, None, is_some, Result, Ok, Err, OnOk, refl, sym, ap, subst, ◌∙◌, arith}
 use Rattle.std.specs.Prelude.{nat_lt, ◌==◌}
-use Rattle.std.specs.List.{AllByRecursion, All, position, position_or_len}
+use Rattle.std.specs.List.{AllByRecursion, position, position_or_len}
 use Rattle.std.proofs.lemmas.List.Elements.{All-map, All-from_get_or, recursion_from_All}
 use Rattle.std.proofs.lemmas.List.Quantifiers.{position-Some}
 use Rattle.std.proofs.lemmas.List.Sums.{fails_before_first}
-use Rattle.std.proofs.lemmas.List.{get_or_default}
+use Rattle.std.proofs.lemmas.List.{get_or_default, length-map}
 use Rattle.std.proofs.lemmas.Bool.{cases_lt}
 use Rattle.std.proofs.lemmas.Bool.Decides.{nat_tests}
 use Rattle.acpi_base.specs.declared.image.segments.Segment.{Segment}
 use Rattle.acpi_base.specs.Memory.{first_of}
-use Rattle.acpi_base.specs.Segments.{Run, run, runs, run_at, run_in, end_of, lookup, IsWhole, IsTidy}
+use Rattle.acpi_base.specs.Segments.{Run, run, runs, run_at, run_in, end_of, lookup, IsTidy, IsFree}
 use Rattle.acpi_base.proofs.Edits.{run_in-read}
-use Rattle.acpi_base.proofs.Joins.{IsFree, NoneBefore, NoneAfter}
+use Rattle.acpi_base.proofs.Joins.{NoneBefore, NoneAfter}
 
 -- where nothing is first, there is nothing
 pub nothing_held : (f : ℕ → Option ℕ) (a n x : ℕ) → first_of f a n ≡ None → a ≤ x → x < a + n → f x ≡ None
@@ -48,7 +48,7 @@ one_passes Q p f (s ∷ ss) i e =
     let it : Segment = get_or (s ∷ ss) i s in
     subst Q (sym (run_in-read (s ∷ ss) i it found.0 (get_or_default (s ∷ ss) i s it found.0))) (f it found.1)
 
-pub place_within : (p : Segment → Bool) (ss : List Segment) (i : ℕ) → position p ss ≡ Some i → i < length ss
+place_within : (p : Segment → Bool) (ss : List Segment) (i : ℕ) → position p ss ≡ Some i → i < length ss
 place_within p [] i e = absurd (cc)
 place_within p (s ∷ ss) i e = (position-Some p (s ∷ ss) i s e).0
 
@@ -70,6 +70,13 @@ free_run rs a bs t f h s e = record {
   whole = record { filled = f; fits = h; bytes = recursion_from_All (λ b. b < 256) bs (All-from_get_or (λ b. b < 256) bs 0 (λ k l. s k)) };
   free = λ x l m. nothing_held (lookup rs) a (length bs) x e l m;
 }
+
+-- a search of what a reference showed
+pub found_in : {found ss : List Segment} {r o : Option ℕ} (p : Segment → Bool) → r ≡ position p found → found ≡ ss → r ≡ o → position p ss ≡ o
+found_in p e f g = sym (e ∙ ap (position p) f) ∙ g
+
+pub run_within : (p : Segment → Bool) (ss : List Segment) (i : ℕ) → position p ss ≡ Some i → i < length (runs ss)
+run_within p ss i e = rw (length-map ss run) (place_within p ss i e)
 
 pub ok_then : {T E : Type 0} (result : Result T E) (P Q : Type 0) → (P → Q) → OnOk result P → OnOk result Q
 ok_then (Ok x) P Q f p = f p

@@ -1,16 +1,7 @@
 -- What `run_of` and `first_of` find, and so `bytes_at` and `first_held`.
-use Rattle.std.proofs.Common.{◌≡◌, ℕ, zero, suc, ◌+◌, ◌-◌, ◌<◌, ◌≤◌, ◌⊎◌, inl, inr, Bool, true, false, cond, List, [], ◌∷◌, length, get_or, take, drop, slice_get, slice_index, Option, Some, None, IsSome, is_some, refl, sym, ap, subst, ◌∙◌, arith, zero-add, add-suc, add-zero, drop-cons}
-use Rattle.std.specs.Prelude.{nat_lt, ◌==◌}
-use Rattle.std.specs.Option.{option_or, option_map}
-use Rattle.std.specs.Ordering.{nat_cmp, eq_by_cmp}
-use Rattle.std.specs.Cmp.{nat_cmp_total}
-use Rattle.std.specs.FinMap.{get, get-insert, get-empty}
-use Rattle.std.proofs.lemmas.Bool.{cases_lt}
-use Rattle.std.proofs.lemmas.Bool.Decides.{nat_tests}
-use Rattle.std.proofs.lemmas.Option.{slice_get_past, slice_get-get_or}
-use Rattle.std.proofs.lemmas.Grind.{common_steps}
-use Rattle.acpi_base.specs.Memory.{Memory, byte_of, run_of, first_of, with_bytes, cons_both, bytes_at, Has, AreBytes}
-use Rattle.acpi_base.specs.Segments.{Run, held, end_of, lookup, memory_of}
+use Rattle.std.proofs.Common.{◌≡◌, ℕ, zero, suc, ◌+◌, ◌-◌, ◌<◌, ◌≤◌, true, false, cond, List, [], ◌∷◌, length, take, drop, slice_index, Option, Some, None, IsSome, is_some, refl, sym, ap, subst, ◌∙◌, arith, add-zero}
+use Rattle.std.specs.Option.{option_map}
+use Rattle.acpi_base.specs.Memory.{Memory, byte_of, run_of, first_of, cons_both, bytes_at, Has}
 
 pub run_of-same : (f g : ℕ → Option ℕ) → ((x : ℕ) → f x ≡ g x) → (a n : ℕ) → run_of f a n ≡ run_of g a n
 run_of-same f g e a n = λ i. run_of (λ x. e x i) a n

@@ -1,14 +1,11 @@
 -- What the functions that search segments from the front find.
-use Rattle.std.proofs.Common.{◌≡◌, ℕ, zero, suc, ◌+◌, ◌-◌, ◌<◌, ◌≤◌, ◌⊎◌, inl, inr, min, Bool, true, false, cond, List, [], ◌∷◌, length, get_or, take, drop, map, Option, Some, None, IsSome, is_some, refl, sym, ap, subst, ◌∙◌, arith}
-use Rattle.std.specs.Option.{option_or, option_map}
+use Rattle.std.proofs.Common.{◌≡◌, ℕ, zero, suc, ◌+◌, ◌<◌, ◌≤◌, inl, inr, true, cond, List, [], ◌∷◌, length, get_or, drop, Option, Some, None, IsSome, is_some, refl, sym, ap, subst, ◌∙◌, arith}
+use Rattle.std.specs.Option.{option_or}
 use Rattle.std.specs.List.{AllByRecursion}
 use Rattle.std.proofs.lemmas.List.{drop_more, drop_all}
-use Rattle.std.proofs.lemmas.Bool.{cases_lt}
-use Rattle.std.proofs.lemmas.Bool.Decides.{nat_tests}
-use Rattle.std.proofs.lemmas.Grind.{common_steps}
 use Rattle.acpi_base.specs.declared.image.segments.Segment.{Segment}
 use Rattle.acpi_base.specs.Memory.{run_of, first_of, cons_both}
-use Rattle.acpi_base.specs.Segments.{Run, held, end_of, lookup, window_of, earlier, run, runs, Apart, ApartFrom, NoneTouch, IsWhole, IsTidy}
+use Rattle.acpi_base.specs.Segments.{Run, held, end_of, lookup, window_of, earlier, run, runs, ApartFrom, NoneTouch}
 use Rattle.acpi_base.proofs.Held.{held_below, held_past, held_inside}
 use Rattle.acpi_base.proofs.Runs.{first_of_from, first_of_none}
 

@@ -2,6 +2,7 @@ pub mod Adding
 pub mod Codes
 pub mod Faults
 pub mod Found
+pub mod Header
 pub mod ImageText
 pub mod Laws
 pub mod Memory

@@ -63,13 +63,22 @@ pub record IsSlot (m : Memory) (p k a : ℕ) : Type 0 where
   pub table : IsRootTable m r d whole
   pub slot : HasSlot whole d k a
 
--- a is the first listed table with this signature, in the order of the slots: a header is all that is
--- asked of it
-pub record IsFirstTable (m : Memory) (p : ℕ) (signature : List ℕ) (a : ℕ) : Type 0 where
+-- a is the first address with this signature in the slots, of d bytes each, of a root's bytes, in their
+-- order: a held header is all that is asked there
+pub record IsFirstListed (m : Memory) (whole : List ℕ) (d : ℕ) (signature : List ℕ) (a : ℕ) : Type 0 where
   pub k : ℕ
-  pub slot : IsSlot m p k a
+  pub slot : HasSlot whole d k a
   pub signed : IsSigned m a signature
-  pub none_before : (j b : ℕ) → j < k → IsSlot m p j b → ¬ IsSigned m b signature
+  pub none_before : (j b : ℕ) → j < k → HasSlot whole d j b → ¬ IsSigned m b signature
+
+-- a is the first listed table with this signature of the root that the RSDP at p names
+pub record IsFirstTable (m : Memory) (p : ℕ) (signature : List ℕ) (a : ℕ) : Type 0 where
+  pub r : ℕ
+  pub d : ℕ
+  pub whole : List ℕ
+  pub root : IsRoot m p r d
+  pub table : IsRootTable m r d whole
+  pub first : IsFirstListed m whole d signature a
 
 -- a root with slots of d bytes stands at r whose bytes, these, are a whole number of slots after the
 -- header and sum to 0
@@ -95,6 +104,12 @@ RootTableFault m r d code.RootOut = (header : List ℕ) × (bytes_at m r 36 ≡ 
 RootTableFault m r d code.RootRagged = (header : List ℕ) × (bytes_at m r 36 ≡ Some header) × (36 ≤ length_of header) × ((length_of header - 36) % d ≢ 0)
 RootTableFault m r d code.RootSum = (header : List ℕ) × (whole : List ℕ) × IsTable m r header whole × (byte_sum whole ≢ 0)
 RootTableFault m r d _ = ⊥
+
+-- The faults of the root that an RSDP names, by their code.
+abbrev pub NamedRootFault : Memory → Addresses → Code → Type 0
+NamedRootFault m named fault =
+    ((fault ≡ code.NoRoot) × (chosen_root named ≡ None))
+    ⊎ ((r d : ℕ) × (chosen_root named ≡ Some (record { address = r; width = d })) × RootTableFault m r d fault)
 
 -- The faults of stage 2, by their code and the address that each is told of: the RSDP's where there is no
 -- root, else the root's.

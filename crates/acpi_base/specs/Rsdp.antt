@@ -1,5 +1,5 @@
 -- The RSDP (ACPI 6.5, 5.2.5.3): what it says, and when it is sound. Offsets are from its start.
-use Rattle.std.specs.Prelude.{◌≡◌, ◌≢◌, ℕ, ◌<◌, ◌≤◌, List, Option, Some, None, true, false, nat_lt, if◌then◌else◌}
+use Rattle.std.specs.Prelude.{◌≡◌, ◌≢◌, ℕ, ◌<◌, ◌≤◌, List, take, drop, Option, Some, None, true, false, nat_lt, if◌then◌else◌}
 use Rattle.std.specs.Option.{option_map, option_and_then}
 use Rattle.acpi_base.specs.Memory.{Memory, bytes_at}
 use Rattle.acpi_base.specs.Number.{field, byte_sum}
@@ -33,6 +33,22 @@ addresses_at m p =
     option_and_then
     (λ head. if nat_lt (revision_of head) 2 then Some (short_addresses head) else option_map extended_addresses (bytes_at m p 36))
     (bytes_at m p 20)
+
+-- what an RSDP says: where it stands, its revision, its OEMID and the addresses that it names
+pub record RsdpValue : Type 0 where
+  pub address : ℕ
+  pub revision : ℕ
+  pub oemid : List ℕ
+  pub named : Addresses
+
+-- v is what the RSDP at p says, in the form that its revision means
+pub record IsRsdp (m : Memory) (p : ℕ) (v : RsdpValue) : Type 0 where
+  pub address : v.address ≡ p
+  pub head : List ℕ
+  pub head_held : bytes_at m p 20 ≡ Some head
+  pub oemid : v.oemid ≡ take 6 (drop 9 head)
+  pub revision : v.revision ≡ revision_of head
+  pub named : addresses_at m p ≡ Some v.named
 
 -- head and front are the first 20 and 36 bytes of an RSDP of the extended form at p
 pub record IsExtended (m : Memory) (p : ℕ) (head front : List ℕ) : Type 0 where

@@ -81,6 +81,12 @@ pub record IsTidy (rs : List Run) : Type 0 where
   pub apart : NoneTouch rs
   pub whole : AllByRecursion IsWhole rs
 
+-- a whole run whose addresses none of the runs holds
+pub record IsFree (b : Run) (rs : List Run) : Type 0 where
+  pub tidy : IsTidy rs
+  pub whole : IsWhole b
+  pub free : (x : ℕ) → b.base ≤ x → x < end_of b → lookup rs x ≡ None
+
 -- the new runs hold what the old ones held, and b
 pub record Puts (b : Run) (old new : List Run) : Type 0 where
   pub tidy : IsTidy new

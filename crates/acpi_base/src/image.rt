@@ -9,6 +9,8 @@ ghost use Rattle.acpi_base.specs.Adding.{add_refusal};
 ghost use Rattle.acpi_base.specs.Segments.{lookup, runs, IsWhole};
 
 mod segments;
+#[cfg(test)]
+mod tests;
 
 use segments::Segment;
 use std::alloc::{AllocError, Global};

@@ -20,12 +20,23 @@ use lines::{judge_front, judge_whole};
 use std::alloc::Global;
 use std::io::Read;
 
-/// The image that a text spells, read to the end of its bytes. A read of no bytes ends the text.
+/// Reads a text to its end, and puts its data into an image. A read of no bytes is the end.
 ///
-/// The first line with a fault refuses the text, as soon as the fault stands: `BadLine`, `NoAddress`,
-/// `Twice`, `PastEnd` or `TooLong`. Where the reader fails, the lines that had ended and the lengths so
-/// far are judged, and only where they have no fault the answer is `Read`. `Memory`: no memory was found
-/// for the text or the image. At most 67,108,865 bytes are read.
+/// A line is judged where its LF comes or the text ends, and for `TooLong` already at the first byte too
+/// many. The first line with a fault refuses the text. Lines count from 1. In one line the faults come in
+/// this order:
+/// 1. `TooLong`: the line has more than 65,536 bytes, its LF not counted, or the text through its LF more
+///    than 67,108,864.
+/// 2. `BadLine`: the line says nothing that a line can say.
+/// 3. `NoAddress`: it is data, and no line before it gave an address.
+/// 4. `PastEnd`: its data passes the address 2^64 - 1, also where the data before it has reached that.
+/// 5. `Twice`: an address of its data is held already; the least one.
+///
+/// `Read`: a read failed, and neither the lines that had ended nor the lengths so far have a fault.
+/// `Memory`: no memory was found for the text or the image; it can come in the place of any other answer.
+///
+/// At most 67,108,865 bytes are read, so a reader that never ends is refused. What was read is gone from
+/// the reader, whatever the answer.
 pub fn read_image<R: Read>(alloc: Global, reader: &mut Tally<R>) -> Result<Image, TextFault>
     ensures text { (text : List ℕ)
         × Consumes (R.remaining reader.old.inner) (R.remaining reader.new.inner) text

@@ -3,10 +3,10 @@
 #[cfg(test)]
 mod tests;
 
-ghost use Rattle.std.specs.Prelude.{◌≡◌, ◌<◌, IfOk, OnOk, OnErr, length};
+ghost use Rattle.std.specs.Prelude.{◌≡◌, ◌<◌, IfOk, OnOk, OnErr, IsErr, length};
 ghost use Rattle.std.specs.Io.{ReadsAtMost, WritesAtMost};
 ghost use Rattle.std.specs.Io.KnownBytes.{ReadConsumes, WriteAppends};
-ghost use Rattle.acpi_base.specs.Tally.{CountsFailure};
+ghost use Rattle.acpi_base.specs.Tally.{CountsFailure, last_count};
 
 use std::io::{Read, Write};
 use std::marker::Model;
@@ -68,6 +68,7 @@ impl<T> Tally<T> {
         ensures bytes { ReadConsumes (T.remaining self.old.inner) (T.remaining self.new.inner) result buffer.new }
         ensures ok { OnOk result (self.new.failures ≡ self.old.failures) }
         ensures err { OnErr result (CountsFailure self.old.failures self.new.failures) }
+        ensures last { self.old.failures ≡ last_count → IsErr result × (self.new ≡ self.old) }
     {
         if self.failures == u64::MAX {
             return Err(DeviceFailed);
@@ -92,6 +93,7 @@ impl<T> Tally<T> {
         ensures some { IfOk result (λ count. 0 < length bytes.now → 0 < count) }
         ensures ok { OnOk result (self.new.failures ≡ self.old.failures) }
         ensures err { OnErr result (CountsFailure self.old.failures self.new.failures) }
+        ensures last { self.old.failures ≡ last_count → IsErr result × (self.new ≡ self.old) }
     {
         if self.failures == u64::MAX {
             return Err(DeviceFailed);

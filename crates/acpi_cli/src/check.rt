@@ -7,8 +7,8 @@ ghost use Rattle.acpi_cli.specs.Engine.{HasNoRsdp, IsRsdpAddress, Runs, TellsChe
 
 use crate::devices::{Answer, read_input, write_answer};
 use crate::outcome::{Outcome, RunFault};
-use crate::stages::check_to;
 use acpi_base::{Image, Policy, Stage, Tally, Verdict, find_rsdp, verdict_text};
+use acpi_check::check_to;
 use std::alloc::{AllocError, Global};
 use std::io::{Read, Write};
 
@@ -50,7 +50,7 @@ fn check_answer(
         return Ok(Answer { bytes, outcome });
     };
     policy.set_rsdp(address);
-    let verdict = check_to(image, &policy, last);
+    let verdict = check_to(alloc, image, &policy, last)?;
     let bytes = verdict_text(alloc, &verdict)?;
     let outcome = outcome_of(&verdict);
     Ok(Answer { bytes, outcome })

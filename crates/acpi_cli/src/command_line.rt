@@ -1,6 +1,6 @@
 //! The command line as it is told to `clap`. No other module builds its commands.
 
-ghost use Rattle.std.specs.Prelude.{◌≡◌, IfErr, IfOk, false, map, option_map, true};
+ghost use Rattle.std.specs.Prelude.{◌≡◌, ◌≢◌, IfErr, IfOk, false, map, option_map, true};
 ghost use Rattle.std.specs.String.{string_bytes};
 ghost use Rattle.clap.specs.Words.{app_of, first_of, found_of, kind_of, rows_of, rule_of, subcommand_rows_of};
 ghost use Rattle.clap.specs.declared.builder.command.Command.TheViews.{out-Command};
@@ -47,6 +47,7 @@ pub fn value<'a>(options: &ArgMatches<'a>, id: &str) -> Option<&'a str>
 
 fn fault_of(error: &Error) -> WordFault
     ensures memory { kind_of error.now ≡ ErrorKind.OutOfMemory → result ≡ WordFault.Memory }
+    ensures words { kind_of error.now ≢ ErrorKind.OutOfMemory → result ≡ WordFault.Words }
 {
     if error.kind() == ErrorKind::OutOfMemory {
         WordFault::Memory

@@ -7,7 +7,6 @@ mod devices;
 mod find;
 mod number_words;
 mod outcome;
-mod stages;
 mod words;
 
 ghost use Rattle.acpi_cli.specs.CommandLine.{IsBuilt};

@@ -1,10 +1,13 @@
-//! Runs of bytes that neither overlap nor touch.
+//! The pieces of an image: runs of bytes in no order, which neither overlap nor touch.
+//!
+//! Contracts see a list of segments as its `runs`: after an edit that failed, a `Vec` may have another
+//! capacity, and holds the same bytes.
 
 ghost use Rattle.std.specs.Prelude.{◌≡◌, ◌+◌, ◌-◌, ◌^◌, ◌<◌, ◌≤◌, ◌≢◌, ◌==◌, ◌++◌, IfSome, IfOk, OnOk, OnErr, slice_set, [], ◌∷◌, length, vec_len};
 ghost use Rattle.std.specs.Option.{option_map};
 ghost use Rattle.std.specs.List.{position, remove, AllByRecursion};
 ghost use Rattle.acpi_base.specs.Memory.{run_of, first_of};
-ghost use Rattle.acpi_base.specs.Segments.{held, lookup, window_of, earlier, run, runs, run_at, run_in, bridged, end_of, IsWhole, IsTidy, Puts};
+ghost use Rattle.acpi_base.specs.Segments.{held, lookup, window_of, earlier, run, runs, run_at, run_in, bridged, end_of, IsWhole, IsFree, Puts};
 
 use std::alloc::{AllocError, Global};
 
@@ -70,6 +73,7 @@ pub fn window(segments: &[Segment], address: u64, count: u64) -> Option<&[u8]>
     None
 }
 
+// An empty segment would seem to hold its base.
 fn first_in(segment: &Segment, base: u64, count: u64) -> Option<u64>
     requires filled { 0 < length segment.now.bytes.items }
     requires count { 0 < count }
@@ -155,6 +159,7 @@ fn put_alone(
     Ok(())
 }
 
+// In place: a text that is read line by line is not copied again for each line.
 fn append(segments: &mut Vec<Segment>, before: usize, bytes: &[u8]) -> Result<(), AllocError>
     requires { before < vec_len segments.old }
     ensures ok { OnOk result (let old = run_in (runs segments.old.items) before in runs segments.new.items ≡ slice_set (runs segments.old.items) before (run_at old.base (old.bytes ++ bytes.now))) }
@@ -212,10 +217,7 @@ pub fn put(
     base: u64,
     bytes: &[u8],
 ) -> Result<(), AllocError>
-    requires tidy { IsTidy (runs segments.old.items) }
-    requires filled { 0 < length bytes.now }
-    requires fits { base + length bytes.now ≤ 2 ^ 64 }
-    requires free { first_of (lookup (runs segments.old.items)) base (length bytes.now) ≡ None }
+    requires { IsFree (run_at base bytes.now) (runs segments.old.items) }
     ensures ok { OnOk result (Puts (run_at base bytes.now) (runs segments.old.items) (runs segments.new.items)) }
     ensures err { OnErr result (runs segments.new.items ≡ runs segments.old.items) }
 {

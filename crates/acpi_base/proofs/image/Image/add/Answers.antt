@@ -1,10 +1,8 @@
-use Rattle.std.proofs.Common.{rules, ◌≡◌, ◌+◌, ◌<◌, ◌^◌, ℕ, Option, Some, None, length, refl, sym, ap, subst, ◌∙◌, arith}
+use Rattle.std.proofs.Common.{rules, ◌≡◌, ◌<◌, None, length, refl, sym, ap, subst, ◌∙◌, arith}
 use Rattle.std.proofs.lemmas.Bool.Decides.{nat_tests}
-use Rattle.acpi_base.specs.declared.image.ImageFault.{ImageFault}
-use Rattle.acpi_base.specs.Memory.{Memory, IsImage, with_bytes}
-use Rattle.acpi_base.specs.Adding.{add_refusal}
-use Rattle.acpi_base.specs.Segments.{runs, lookup, memory_of}
-use Rattle.acpi_base.proofs.Images.{refusal_of, no_refusal, no_bytes, image_of, memory_of-put}
+use Rattle.acpi_base.specs.Memory.{IsImage, with_bytes}
+use Rattle.acpi_base.specs.Segments.{runs, lookup}
+use Rattle.acpi_base.proofs.Images.{refusal_of, free_unless, no_refusal, no_bytes, image_of, memory_of-put}
 use Rattle.acpi_base.proofs.image.Image.add.Goals as goal
 
 pub returns-in-Some-clause-refused : goal.returns-in-Some-clause-refused
@@ -48,3 +46,8 @@ returns-clause-ok c =
 
 pub returns-clause-image : goal.returns-clause-image
 returns-clause-image c = image_of (runs c.put.new.segments.items) (c.in_ok-put.ensures.ok).tidy
+
+pub put-requires : goal.put-requires
+put-requires c =
+    let some : 0 < length c.args.bytes.now = grind (arith, nat_tests, c.if-is_empty.ensures) in
+    free_unless _ c.self.inside.segments.items c.args.base c.args.bytes.now c.refusal.result c.deref.ensures.value c.self.invariant some (λ k. (let f = c.type_inv.bytes k in omega arith)) c.refusal.ensures c.in_default.is

@@ -1,4 +1,4 @@
-use Rattle.std.proofs.Common.{◌≡◌, [], sym, ap, subst}
+use Rattle.std.proofs.Common.{[], sym, subst}
 use Rattle.acpi_base.specs.Memory.{IsImage}
 use Rattle.acpi_base.specs.Segments.{runs, memory_of, IsTidy}
 use Rattle.acpi_base.proofs.Images.{image_of}

@@ -1,4 +1,4 @@
-use Rattle.std.proofs.Common.{◌<◌, refl, sym, ap, ◌∙◌, arith}
+use Rattle.std.proofs.Common.{refl, sym, ap, ◌∙◌, arith}
 use Rattle.acpi_base.specs.Memory.{bytes_at, run_of}
 use Rattle.acpi_base.specs.Segments.{window_of, runs}
 use Rattle.acpi_base.proofs.Images.{bytes_at-memory_of}

@@ -1,6 +1,5 @@
 use Rattle.std.proofs.Common.{sym, ap, ◌∙◌}
-use Rattle.acpi_base.specs.Memory.{first_of}
-use Rattle.acpi_base.specs.Segments.{IsWhole, earlier, held, run}
+use Rattle.acpi_base.specs.Segments.{IsWhole, earlier}
 use Rattle.acpi_base.proofs.Segments.{each_run, earlier-assoc, first_of-lookup_more, first_of-lookup_all}
 use Rattle.acpi_base.proofs.image.segments.first_held.Goals as goal
 

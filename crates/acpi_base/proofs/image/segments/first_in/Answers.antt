@@ -1,4 +1,4 @@
-use Rattle.std.proofs.Common.{◌≡◌, sym, length, inl, inr, arith}
+use Rattle.std.proofs.Common.{sym, inl, inr, arith}
 use Rattle.acpi_base.specs.Segments.{run}
 use Rattle.acpi_base.proofs.Held.{first_of-held_above, first_of-held_within, first_of-held_outside}
 use Rattle.acpi_base.proofs.image.segments.first_in.Goals as goal

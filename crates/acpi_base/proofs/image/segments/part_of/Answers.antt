@@ -1,5 +1,5 @@
-use Rattle.std.proofs.Common.{◌≡◌, sym, ap, ◌∙◌, Some, ◌+◌, ◌-◌, ◌<◌, ◌≤◌, length, take, drop, inl, inr, arith}
-use Rattle.acpi_base.specs.Segments.{run, end_of}
+use Rattle.std.proofs.Common.{◌≡◌, sym, ap, ◌∙◌, Some, ◌+◌, ◌-◌, take, drop, inl, inr, arith}
+use Rattle.acpi_base.specs.Segments.{run}
 use Rattle.acpi_base.proofs.Held.{run_of-held, run_of-held_outside}
 use Rattle.acpi_base.proofs.image.segments.part_of.Goals as goal
 use Rattle.acpi_base.proofs.image.segments.part_of.Goals.{then-address-segment-via-then-address-segment, then-address-segment-via-else-address-segment+then-address-segment-2}

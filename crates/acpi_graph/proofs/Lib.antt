@@ -1,0 +1,8 @@
+pub mod ClearOfNeighbours
+pub mod Pigeonholes
+pub mod Chains
+pub mod Rounds
+pub mod ReturnsWithin
+mod FirstMeeting
+mod SortedSpans
+mod Walks

@@ -1,0 +1,41 @@
+use Rattle.std.proofs.Common.{◌≡◌, List, subst, sym, refl, IsPermutation, AllPairs}
+use Rattle.acpi_graph.specs.declared.clash.Clash.{Clash}
+use Rattle.acpi_graph.specs.declared.clash.Clash.TheVariants as clash
+use Rattle.acpi_graph.specs.declared.span.Span.{Span}
+use Rattle.acpi_graph.specs.Spans.{NamesDiffer, ComesBefore, IsClear, IfAt, IsFirstClash}
+use Rattle.acpi_graph.proofs.SortedSpans.{in_order, names_permuted, clear_permuted, first_clash_permuted, point_shared}
+use Rattle.acpi_graph.proofs.clash.first_clash.Goals as goal
+
+-- from the sorted spans back to the spans as they came
+found_permuted : (xs ys : List Span) (found : Clash) → IsPermutation xs ys → IfAt found (IsFirstClash ys) → IfAt found (IsFirstClash xs)
+found_permuted xs ys clash.None moved first = tt
+found_permuted xs ys (clash.At first second point) moved found = first_clash_permuted xs ys first second point moved found
+
+none_where_clear : (xs : List Span) (found : Clash) → IfAt found (IsFirstClash xs) → IsClear xs → found ≡ clash.None
+none_where_clear xs clash.None first clear = refl
+none_where_clear xs (clash.At first second point) found clear = absurd (clear point (point_shared xs first second point found))
+
+pub first_meeting-requires-clause-names : goal.first_meeting-requires-clause-names
+first_meeting-requires-clause-names c = subst NamesDiffer (sym c.deref.ensures.value)
+    (names_permuted c.args.spans.items c.sort_unstable.new.self.items c.sort_unstable.ensures.permutation c.requires)
+
+pub first_meeting-requires-clause-order : goal.first_meeting-requires-clause-order
+first_meeting-requires-clause-order c = subst (AllPairs ComesBefore) (sym c.deref.ensures.value)
+    (in_order c.sort_unstable.new.self.items
+    (names_permuted c.args.spans.items c.sort_unstable.new.self.items c.sort_unstable.ensures.permutation c.requires)
+    c.sort_unstable.ensures.sorted)
+
+pub returns-clause-none : goal.returns-clause-none
+returns-clause-none c =
+    let moved : IsPermutation c.args.spans.items c.deref.result.now =
+    subst (IsPermutation c.args.spans.items) (sym c.deref.ensures.value) c.sort_unstable.ensures.permutation in (
+      (λ none. clear_permuted c.args.spans.items c.deref.result.now moved (c.first_meeting.ensures.none none)),
+      none_where_clear c.args.spans.items c.first_meeting.result.0
+          (found_permuted c.args.spans.items c.deref.result.now c.first_meeting.result.0 moved c.first_meeting.ensures.first),
+    )
+
+pub returns-clause-first : goal.returns-clause-first
+returns-clause-first c =
+    let moved : IsPermutation c.args.spans.items c.deref.result.now =
+    subst (IsPermutation c.args.spans.items) (sym c.deref.ensures.value) c.sort_unstable.ensures.permutation in
+    found_permuted c.args.spans.items c.deref.result.now c.first_meeting.result.0 moved c.first_meeting.ensures.first

@@ -1,0 +1,216 @@
+ghost use Rattle.std.specs.Prelude.{IsTrue};
+ghost use Rattle.acpi_graph.specs.Spans.{NamesDiffer};
+
+use super::{Clash, first_clash};
+use crate::span::Span;
+use std::alloc::{AllocError, Global};
+use std::process::Abort;
+use std::test::Fail;
+
+/// Whether no two spans have one name: each is compared with all before it.
+fn names_differ(spans: &[Span]) -> bool
+    ensures { IsTrue result → NamesDiffer spans.now }
+{
+    for later in 0..spans.len() {
+        for earlier in 0..later {
+            if spans[earlier].name == spans[later].name {
+                return false;
+            }
+        }
+    }
+    true
+}
+
+/// Whether each name is above the one before it, and so no two are one.
+fn names_rise(spans: &[Span]) -> bool
+    ensures { IsTrue result → NamesDiffer spans.now }
+{
+    for later in 1..spans.len() {
+        if spans[later].name <= spans[later - 1].name {
+            return false;
+        }
+    }
+    true
+}
+
+/// A start, an end and a name.
+type Triple = (u128, u128, u32);
+
+/// The spans of the triples that are one.
+fn spans_of(alloc: Global, triples: &[Triple]) -> Result<Vec<Span>, AllocError> {
+    let mut spans = Vec::new(alloc);
+    for triple in triples {
+        if let Some(span) = Span::new(triple.0, triple.1, triple.2) {
+            spans.push(span)?;
+        }
+    }
+    Ok(spans)
+}
+
+fn clash_of(
+    rt: &impl Abort,
+    alloc: Global,
+    triples: &[Triple],
+) -> Result<(Clash, usize), AllocError> {
+    let spans = spans_of(alloc, triples)?;
+    assert_eq!(rt; spans.len(), triples.len());
+    assert!(rt; names_differ(&spans));
+    first_clash(alloc, spans)
+}
+
+#[test]
+fn a_span_has_a_number(rt: HostRuntime) -> Result<(), Fail> {
+    let span = Span::new(5, 6, 7).ok_or("5 lies in it")?;
+    assert_eq!(rt; (span.start, span.end, span.name), (5, 6, 7));
+    assert_eq!(rt; Span::new(5, 5, 7), None);
+    assert_eq!(rt; Span::new(6, 5, 7), None);
+    Ok(())
+}
+
+/// A clash of `first` and `second` at `point`.
+fn at(first: u32, second: u32, point: u128) -> Clash {
+    Clash::At {
+        first,
+        second,
+        point,
+    }
+}
+
+#[test]
+fn first_clashes(rt: HostRuntime) -> Result<(), Fail> {
+    let top = u128::MAX;
+    let table: [(&[Triple], Clash, usize); 7] = [
+        (&[], Clash::None, 0),
+        (&[(3, 4, 1)], Clash::None, 0),
+        (&[(0, 10, 1), (10, 20, 2), (19, 30, 3)], at(2, 3, 19), 2),
+        (&[(5, 9, 4), (5, 6, 2), (5, 7, 3)], at(2, 3, 5), 1),
+        (&[(20, 30, 3), (0, 10, 1), (10, 20, 2)], Clash::None, 2),
+        (&[(0, 100, 9), (90, 91, 5), (40, 50, 7)], at(9, 7, 40), 1),
+        (&[(top - 1, top, 1), (0, top, 2)], at(2, 1, top - 1), 1),
+    ];
+    for (triples, clash, comparisons) in table {
+        assert_eq!(rt;
+            clash_of(&rt, rt.alloc(), triples)?,
+            (clash, comparisons),
+            "{triples:?}"
+        );
+    }
+    Ok(())
+}
+
+/// How far the small spans reach.
+const REACH: u8 = 5;
+
+/// The first span by start and name that holds the number, other than the one of a name.
+fn first_holder(spans: &[Span], number: u128, other_than: Option<u32>) -> Option<Span> {
+    let mut first: Option<Span> = None;
+    for span in spans {
+        let holds = span.start <= number && number < span.end;
+        let sooner = match first {
+            None => true,
+            Some(found) => (span.start, span.name) < (found.start, found.name),
+        };
+        if holds && sooner && other_than != Some(span.name) {
+            first = Some(*span);
+        }
+    }
+    first
+}
+
+/// The first clash, looked for at each number in turn.
+fn plain_clash(spans: &[Span]) -> Clash {
+    for number in 0..REACH {
+        let point = u128::from(number);
+        if let Some(first) = first_holder(spans, point, None) {
+            if let Some(second) = first_holder(spans, point, Some(first.name)) {
+                return at(first.name, second.name, point);
+            }
+        }
+    }
+    Clash::None
+}
+
+fn judge(rt: &impl Abort, alloc: Global, triples: &[Triple]) -> Result<(), AllocError> {
+    let expected = plain_clash(&spans_of(alloc, triples)?);
+    let (clash, comparisons) = clash_of(rt, alloc, triples)?;
+    assert_eq!(rt; clash, expected, "{triples:?}");
+    assert!(rt; comparisons < triples.len(), "{triples:?}");
+    Ok(())
+}
+
+/// The start and the end of each span within the reach.
+fn small_ranges(alloc: Global) -> Result<Vec<(u128, u128)>, AllocError> {
+    let mut ranges = Vec::new(alloc);
+    for end in 0..=REACH {
+        for start in 0..end {
+            ranges.push((u128::from(start), u128::from(end)))?;
+        }
+    }
+    Ok(ranges)
+}
+
+#[test]
+fn agrees_with_the_plain_search(rt: HostRuntime) -> Result<(), Fail> {
+    let alloc = rt.alloc();
+    let ranges = small_ranges(alloc)?;
+    assert_eq!(rt; ranges.len(), 15);
+    let orders = [
+        (1, 2, 3),
+        (1, 3, 2),
+        (2, 1, 3),
+        (2, 3, 1),
+        (3, 1, 2),
+        (3, 2, 1),
+    ];
+    for (a, b) in &ranges {
+        judge(&rt, alloc, &[(*a, *b, 1)])?;
+        for (c, d) in &ranges {
+            judge(&rt, alloc, &[(*a, *b, 1), (*c, *d, 2)])?;
+            judge(&rt, alloc, &[(*a, *b, 2), (*c, *d, 1)])?;
+            for (e, f) in &ranges {
+                for (x, y, z) in orders {
+                    judge(&rt, alloc, &[(*a, *b, x), (*c, *d, y), (*e, *f, z)])?;
+                }
+            }
+        }
+    }
+    Ok(())
+}
+
+// It has no factor in common with 77,777 = 7 * 41 * 271, so each place is met once.
+const PLACES: u32 = 200_000;
+
+/// Touching spans of 16 numbers each. The names rise from 0, and the span of each name stands 77,777
+/// places after the one before it, round and round, so the starts are shuffled.
+fn shuffled(alloc: Global) -> Result<Vec<Span>, AllocError> {
+    let mut spans = Vec::new(alloc);
+    for name in 0..PLACES {
+        let place = u64::from(name) * 77_777 % 200_000;
+        let start = u128::from(16 * place);
+        if let Some(span) = Span::new(start, start + 16, name) {
+            spans.push(span)?;
+        }
+    }
+    Ok(spans)
+}
+
+#[test]
+fn many_shuffled_spans(rt: HostRuntime) -> Result<(), Fail> {
+    let alloc = rt.alloc();
+    let spans = shuffled(alloc)?;
+    assert_eq!(rt; spans.len(), 200_000);
+    assert!(rt; names_rise(&spans));
+    assert_eq!(rt; first_clash(alloc, spans)?, (Clash::None, 199_999));
+
+    // 150,000 * 77,777 leaves 150,000 when divided by 200,000, so the span of that name stands at
+    // that place, from 2,400,000 on. The pairs up to it and the span within it are compared.
+    let mut spans = shuffled(alloc)?;
+    let within = Span::new(2_400_007, 2_400_009, PLACES).ok_or("two numbers lie in it")?;
+    spans.push(within)?;
+    assert!(rt; names_rise(&spans));
+    assert_eq!(rt;
+        first_clash(alloc, spans)?,
+        (at(150_000, 200_000, 2_400_007), 150_001)
+    );
+    Ok(())
+}

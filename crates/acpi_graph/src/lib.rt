@@ -1,0 +1,27 @@
+//! Two searches that a checker of tables needs, each answered with the first case in a fixed order,
+//! so that the answer does not depend on how the tables list their entries.
+//!
+//! - `first_clash`: of spans of numbers, such as memory ranges, the least number that lies in two,
+//!   and the first two spans that hold it.
+//! - `first_stray`: of nodes that name their parents, the first whose chain of parents goes round
+//!   and never ends, and where its round begins.
+//!
+//! ```rust
+//! let spans = vec![in alloc; low, high]?; // of 0 to 9 under the name 1, and of 8 to 11 under 2
+//! let (clash, comparisons) = first_clash(alloc, spans)?;
+//! // clash is Clash::At { first: 1, second: 2, point: 8 }, found by one comparison
+//!
+//! let (stray, steps) = first_stray(alloc, &[None, Some(0), Some(3), Some(3)])?;
+//! // stray is Stray::Round { node: 2, lead: 1, round: 1 }, found in 4 steps
+//! ```
+//!
+//! Both answer how many of their steps they took. The steps inside the sort are not counted.
+#![tactic(auto)]
+
+mod clash;
+mod span;
+mod stray;
+
+pub use clash::{Clash, first_clash};
+pub use span::Span;
+pub use stray::{Stray, first_stray};

@@ -1,0 +1,113 @@
+ghost use Rattle.std.specs.Prelude.{◌≡◌, ◌+◌, ◌<◌, ◌≤◌, ◌↔◌, [], IsOk, IfOk, length, replicate};
+ghost use Rattle.acpi_graph.specs.Parents.{AreNodes, parent_of, Ends, AllEnd, IsRound, IsFirstStray, IfRound};
+ghost use Rattle.acpi_graph.specs.Walks.{AreSettled};
+
+use std::alloc::{AllocError, Global};
+
+/// Whether a chain of parents goes on for good.
+#[derive(Clone, Copy, Debug, PartialEq, Eq, Hash)]
+pub enum Stray {
+    /// Every chain ends, at a node with no parent.
+    None,
+    /// `node` is the least whose chain does not end. `lead` is the least number of steps after
+    /// which a node stands that comes again, and `round` the least number of steps until it does.
+    Round {
+        node: usize,
+        lead: usize,
+        round: usize,
+    },
+}
+
+/// The least node whose chain of parents does not end, with its round, and how many steps from a
+/// node to its parent were taken to find it.
+///
+/// `parents` has at each node's index the index of its parent, or None where it has none. It costs
+/// at most one step a node, and memory for one number a node.
+pub fn first_stray(alloc: Global, parents: &[Option<usize>]) -> Result<(Stray, usize), AllocError>
+    requires { AreNodes parents.now }
+
+    // Of no nodes it takes no memory, so it is never refused any.
+    ensures nothing { parents.now ≡ [] → IsOk result }
+    ensures none { IfOk result (λ answer. (answer.0 ≡ Stray.None) ↔ AllEnd parents.now) }
+    ensures first { IfOk result (λ answer. IfRound answer.0 (IsFirstStray parents.now)) }
+
+    // The round is over within as many steps as there are nodes, and so is the whole search.
+    ensures within { IfOk result (λ answer.
+        IfRound answer.0 (λ node lead round. lead + round ≤ length parents.now)) }
+    ensures steps { IfOk result (λ answer. answer.1 ≤ length parents.now) }
+{
+    if parents.is_empty() {
+        return Ok((Stray::None, 0));
+    }
+    let mut marks = vec![in alloc; 0; parents.len()]?;
+    Ok(walk_all(parents, &mut marks))
+}
+
+/// Walks from each node in turn, until a chain goes round.
+fn walk_all(parents: &[Option<usize>], marks: &mut [usize]) -> (Stray, usize)
+    requires nodes { AreNodes parents.now }
+    requires fresh { marks.old ≡ replicate (length parents.now) 0 }
+    ensures none { result.0 ≡ Stray.None → AllEnd parents.now }
+    ensures first { IfRound result.0 (IsFirstStray parents.now) }
+    ensures within { IfRound result.0 (λ node lead round. lead + round ≤ length parents.now) }
+    ensures steps { result.1 ≤ length parents.now }
+{
+    let mut steps = 0;
+    for start in 0..parents.len() {
+        match walk(parents, marks, &mut steps, start) {
+            Stray::None => {}
+            round => return (round, steps),
+        }
+    }
+    (Stray::None, steps)
+}
+
+/// Walks up from a node, until it comes to a node with no parent or to one that a walk has left.
+///
+/// The mark of a node that no walk has left is 0; any other has the number of the step that left it.
+/// So a mark up to the steps before this walk is of a node whose chain ends, and one above them
+/// tells how far this walk had come there.
+fn walk(parents: &[Option<usize>], marks: &mut [usize], steps: &mut usize, start: usize) -> Stray
+    requires nodes { AreNodes parents.now }
+    requires start { start < length parents.now }
+    requires settled { AreSettled parents.now marks.old steps.old }
+    ensures settled { result ≡ Stray.None → AreSettled parents.now marks.new steps.new }
+    ensures end { result ≡ Stray.None → Ends parents.now start }
+    ensures round { IfRound result (λ node lead round.
+        (node ≡ start) × IsRound parents.now start lead round × (lead + round ≤ length parents.now)) }
+    ensures steps { steps.new ≤ length parents.now }
+{
+    let before = *steps;
+    let mut node = start;
+    while marks[node] == 0 {
+        marks[node] = *steps + 1;
+        match step(parents, node, steps) {
+            Some(parent) => node = parent,
+            None => return Stray::None,
+        }
+    }
+    let mark = marks[node];
+    if mark <= before {
+        Stray::None
+    } else {
+        Stray::Round {
+            node: start,
+            lead: mark - before - 1,
+            round: *steps + 1 - mark,
+        }
+    }
+}
+
+/// The parent of a node. Each step to a parent is taken here, and counted.
+fn step(parents: &[Option<usize>], node: usize, steps: &mut usize) -> Option<usize>
+    requires node { node < length parents.now }
+    requires room { steps.old < usize.MAX }
+    ensures parent { result ≡ parent_of parents.now node }
+    ensures counted { steps.new ≡ steps.old + 1 }
+{
+    *steps += 1;
+    parents[node]
+}
+
+#[cfg(test)]
+mod tests;

@@ -1,0 +1,20 @@
+-- What a view of a root stands for.
+use Rattle.std.specs.Prelude.{◌≡◌, ℕ, ◌-◌, ◌/◌, List, length, Some}
+use Rattle.acpi_base.specs.Memory.{Memory}
+use Rattle.acpi_base.specs.Rsdp.{Addresses}
+use Rattle.acpi_base.specs.Root.{chosen_root, IsSoundRootTable}
+
+-- a root: its address, the width of its slots in bytes, and all its bytes
+pub record RootValue : Type 0 where
+  pub address : ℕ
+  pub width : ℕ
+  pub bytes : List ℕ
+
+-- how many slots lie wholly within a root's bytes
+abbrev pub slots_of : RootValue → ℕ
+slots_of root = (length root.bytes - 36) / root.width
+
+-- of the addresses named, this root is the one to use, and it is sound
+pub record IsSoundNamedRoot (m : Memory) (named : Addresses) (root : RootValue) : Type 0 where
+  pub chosen : chosen_root named ≡ Some (record { address = root.address; width = root.width })
+  pub sound : IsSoundRootTable m root.address root.width root.bytes

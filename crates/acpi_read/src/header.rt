@@ -1,0 +1,88 @@
+//! The header of a system description table.
+
+ghost use Rattle.std.specs.Prelude.{◌≡◌, ◌≤◌, ◌↔◌, length, Some, IsSome, IfSome};
+ghost use Rattle.acpi_base.specs.Header.{header_of, header_bytes, IsHeader};
+ghost use Rattle.acpi_read.specs.Headers.{header_value, one_header};
+ghost use Rattle.acpi_read.specs.declared.header.Header.{Header};
+
+use crate::field::{bytes_at, put_bytes, put_u8, put_u32, u8_at, u32_at};
+use crate::layout::Layout;
+
+/// The 36 bytes that every system description table begins with (ACPI 6.5, 5.2.6). It has no reserved
+/// bytes, and any 36 bytes are one: a signature or a maker's name may be any bytes.
+#[derive(Clone, Copy, Debug, PartialEq, Eq)]
+pub struct Header {
+    /// At 0: what kind of table it is.
+    pub signature: [u8; 4],
+    /// At 4: the whole table's length in bytes, header and all.
+    pub length: u32,
+    /// At 8: the revision of the table's layout.
+    pub revision: u8,
+    /// At 9: the byte that makes the whole table sum to 0.
+    pub checksum: u8,
+    /// At 10: six characters that name the maker.
+    pub oemid: [u8; 6],
+    /// At 16: eight characters that name the table among the maker's.
+    pub oem_table_id: [u8; 8],
+    /// At 24: the maker's revision of the table.
+    pub oem_revision: u32,
+    /// At 28: which tool made the table.
+    pub creator_id: u32,
+    /// At 32: the tool's revision.
+    pub creator_revision: u32,
+}
+
+/// The header at the front of a table's bytes.
+#[tactic(auto, unfolding(acpi_base::specs::Header::header_of))]
+pub(crate) fn header_at(bytes: &[u8]) -> Header
+    requires { 36 ≤ length bytes.now }
+    ensures { header_value result ≡ header_of bytes.now }
+{
+    Header {
+        signature: bytes_at(bytes, 0),
+        length: u32_at(bytes, 4),
+        revision: u8_at(bytes, 8),
+        checksum: u8_at(bytes, 9),
+        oemid: bytes_at(bytes, 10),
+        oem_table_id: bytes_at(bytes, 16),
+        oem_revision: u32_at(bytes, 24),
+        creator_id: u32_at(bytes, 28),
+        creator_revision: u32_at(bytes, 32),
+    }
+}
+
+impl Layout for Header {
+    ghost LEN = { 36 };
+
+    const LEN: usize = 36;
+
+    ghost is_layout = { λ bytes header. IsHeader bytes (header_value header) };
+
+    ghost bytes_of = { λ header. header_bytes (header_value header) };
+
+    ghost one_value = { one_header };
+
+    fn read(bytes: &[u8]) -> Option<Header>
+        ensures value { IfSome result (λ header. IsHeader bytes.now (header_value header)) }
+        ensures any { (header : Header) → IsHeader bytes.now (header_value header) → result ≡ Some header }
+        ensures count { IsSome result ↔ (length bytes.now ≡ 36) }
+    {
+        if bytes.len() != Header::LEN {
+            return None;
+        }
+        Some(header_at(bytes))
+    }
+
+    fn write(&self, out: &mut [u8]) {
+        let header = *self;
+        put_bytes(out, 0, &header.signature);
+        put_u32(out, 4, header.length);
+        put_u8(out, 8, header.revision);
+        put_u8(out, 9, header.checksum);
+        put_bytes(out, 10, &header.oemid);
+        put_bytes(out, 16, &header.oem_table_id);
+        put_u32(out, 24, header.oem_revision);
+        put_u32(out, 28, header.creator_id);
+        put_u32(out, 32, header.creator_revision);
+    }
+}

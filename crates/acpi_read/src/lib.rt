@@ -1,0 +1,37 @@
+//! Views of the ACPI tables in a memory image: the RSDP, the root, a listed table, and the header that
+//! the last two begin with.
+//!
+//! A view is read at an address. It borrows its bytes from the image and takes no memory. Reading answers
+//! the view exactly where all that it asks for holds, else the code of the first thing that does not, in
+//! the order of the codes' numbers:
+//!
+//! ```text
+//! Rsdp::read(image, address)     RsdpOut .. RsdpExtendedSum     20 bytes, or the Length that it says
+//! Root::read(image, rsdp)        NoRoot .. RootSum              the XSDT, else the RSDT
+//! Table::read(image, address)    TableHeaderOut .. TableSum     any table that a slot lists
+//! first(image, root, signature)  an address or none             asks a held header alone
+//! ```
+//!
+//! What a view trusts: nothing but the bytes that it was read from. A view may be handed another that was
+//! read from another image: its contract speaks of the passed view's own value and of the image, and asks
+//! for no tie between them. Offsets are in bytes from a structure's start, numbers are little-endian, and
+//! an address of 0 means none.
+#![tactic(auto)]
+
+mod field;
+mod header;
+mod layout;
+mod listed;
+mod root;
+mod rsdp;
+mod table;
+
+pub use header::Header;
+pub use layout::{Layout, read_back};
+pub use listed::first;
+pub use root::Root;
+pub use rsdp::Rsdp;
+pub use table::Table;
+
+#[cfg(test)]
+mod tests;

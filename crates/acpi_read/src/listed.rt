@@ -1,0 +1,51 @@
+//! The tables that a root lists.
+
+ghost use Rattle.std.specs.Prelude.{◌<◌, ◌↔◌, IsTrue, IsNone, IfSome, ℕ};
+ghost use Rattle.acpi_base.specs.Root.{HasSlot, IsFirstListed};
+ghost use Rattle.acpi_base.specs.Tables.{IsSigned};
+ghost use Rattle.acpi_read.specs.Roots.{slots_of};
+
+use crate::field::is_signed;
+use crate::root::Root;
+use acpi_base::Image;
+
+/// Whether a header with the signature is held at an address.
+fn has_header(image: &Image, address: u64, signature: &[u8]) -> bool
+    ensures { IsTrue result ↔ IsSigned image.now address signature.now }
+{
+    match image.window(address, 36) {
+        Some(header) => is_signed(header, signature),
+        None => false,
+    }
+}
+
+/// The address in slot k, where a table with the signature is listed there.
+fn signed_at(image: &Image, root: &Root<'_>, k: u32, signature: &[u8]) -> Option<u64>
+    requires { k < slots_of root.now }
+    ensures found { IfSome result (λ a. HasSlot root.now.bytes root.now.width k a × IsSigned image.now a signature.now) }
+    ensures none { IsNone result → (a : ℕ) → HasSlot root.now.bytes root.now.width k a → ¬ IsSigned image.now a signature.now }
+{
+    let address = root.slot(k);
+    if address != 0 && has_header(image, address, signature) {
+        return Some(address);
+    }
+    None
+}
+
+/// The address in the first slot of the root at which a table with the signature stands, or none where no
+/// slot has one.
+///
+/// A table stands where its header's 36 bytes are held and begin with the signature: neither its Length nor
+/// its sum is looked at. That the first one counts, and later ones with the same signature do not, is this
+/// project's choice. Slots that hold 0 are skipped. The image may be another than the root's own.
+pub fn first(image: &Image, root: &Root<'_>, signature: [u8; 4]) -> Option<u64>
+    ensures found { IfSome result (IsFirstListed image.now root.now.bytes root.now.width signature) }
+    ensures none { IsNone result → (k a : ℕ) → HasSlot root.now.bytes root.now.width k a → ¬ IsSigned image.now a signature }
+{
+    for k in 0..root.slots() {
+        if let Some(address) = signed_at(image, root, k, &signature) {
+            return Some(address);
+        }
+    }
+    None
+}

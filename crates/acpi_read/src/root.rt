@@ -1,0 +1,185 @@
+//! The root of the tables.
+
+ghost use Rattle.std.specs.Prelude.{◌≡◌, ◌≤◌, ◌<◌, ◌+◌, ◌*◌, ◌^◌, ◌↔◌, List, ℕ, length, Some, IsTrue, IsOk, IfOk, IfErr, IfSome};
+ghost use Rattle.std.specs.Option.{option_map};
+ghost use Rattle.acpi_base.specs.Codes.{code_number};
+ghost use Rattle.acpi_base.specs.Header.{header_of};
+ghost use Rattle.acpi_base.specs.Number.{field};
+ghost use Rattle.acpi_base.specs.Rsdp.{RsdpValue};
+ghost use Rattle.acpi_base.specs.Root.{chosen_root, IsSlotWidth, IsSoundRootTable, RootTableFault, NamedRootFault};
+ghost use Rattle.acpi_base.specs.declared.code.Code.{Code};
+ghost use Rattle.acpi_read.specs.Headers.{header_value};
+ghost use Rattle.acpi_read.specs.Roots.{RootValue, slots_of, IsSoundNamedRoot};
+
+use crate::field::{is_signed, u32_at, u64_at};
+use crate::header::{Header, header_at};
+use crate::rsdp::Rsdp;
+use acpi_base::{Code, Image, sum};
+use std::marker::Model;
+
+/// The root of the tables (ACPI 6.5, 5.2.7 and 5.2.8): the XSDT or the RSDT, whose slots behind its header
+/// hold the addresses of all other tables.
+///
+/// Its bytes summed to 0 when it was read, and were a whole number of slots. Nothing says that a table
+/// stands where a slot points. Contracts see its address, the width of its slots in bytes and its bytes.
+#[derive(Debug, Drop)]
+pub struct Root<'a> {
+    address: u64,
+    /// Of a slot, in bytes: 8 in an XSDT, 4 in an RSDT.
+    width: u32,
+    bytes: &'a [u8],
+}
+
+impl<'a> Model for Root<'a> {
+    ghost use Rattle.std.specs.Prelude.{◌≤◌, ◌<◌, ◌^◌, length};
+    ghost use Rattle.acpi_base.specs.Root.{IsSlotWidth};
+    ghost use Rattle.acpi_read.specs.Roots.{RootValue};
+
+    ghost Value = { RootValue };
+
+    ghost view = { λ root. record { address = root.address; width = root.width; bytes = root.bytes.now } };
+
+    ghost invariant = { λ root. IsSlotWidth root.width × (36 ≤ length root.bytes.now) × (length root.bytes.now < 2 ^ 32) };
+}
+
+/// Where the root is, and how wide its slots are.
+#[derive(Clone, Copy, Debug)]
+struct Place {
+    address: u64,
+    /// In bytes: 8 in an XSDT, 4 in an RSDT.
+    width: u32,
+}
+
+/// The XSDT where one is named, else the RSDT where one is named.
+#[tactic(auto, unfolding(acpi_base::specs::Root::chosen_root))]
+fn place_of(rsdp: &Rsdp) -> Option<Place>
+    ensures root { option_map (λ root. record { address = root.address; width = root.width }) result ≡ chosen_root rsdp.now.named }
+    ensures width { IfSome result (λ root. IsSlotWidth root.width) }
+{
+    if rsdp.xsdt() != 0 {
+        return Some(Place {
+            address: rsdp.xsdt(),
+            width: 8,
+        });
+    }
+    if rsdp.rsdt() != 0 {
+        return Some(Place {
+            address: u64::from(rsdp.rsdt()),
+            width: 4,
+        });
+    }
+    None
+}
+
+/// The root at a place.
+fn read_at(image: &Image, place: Place) -> Result<Root<'_>, Code>
+    requires { IsSlotWidth place.width }
+    ensures ok { IfOk result (λ root. (root.address ≡ place.address) × (root.width ≡ place.width) × IsSoundRootTable image.now place.address place.width root.bytes) }
+    ensures sound { (whole : List ℕ) → IsSoundRootTable image.now place.address place.width whole → IsOk result }
+    ensures fault { IfErr result (RootTableFault image.now place.address place.width) }
+    ensures least { IfErr result (λ code. (other : Code) → RootTableFault image.now place.address place.width other → code_number code ≤ code_number other) }
+{
+    let Place { address, width } = place;
+    let Some(header) = image.window(address, 36) else {
+        return Err(Code::RootHeaderOut);
+    };
+    let signature = if width == 8 { b"XSDT" } else { b"RSDT" };
+    if !is_signed(header, signature) {
+        return Err(Code::RootSignature);
+    }
+    let length = u32_at(header, 4);
+    if length < 36 {
+        return Err(Code::RootLength);
+    }
+    let Some(bytes) = image.window(address, u64::from(length)) else {
+        return Err(Code::RootOut);
+    };
+    if (length - 36) % width != 0 {
+        return Err(Code::RootRagged);
+    }
+    if sum(bytes) != 0 {
+        return Err(Code::RootSum);
+    }
+    Ok(Root {
+        address,
+        width,
+        bytes,
+    })
+}
+
+impl<'a> Root<'a> {
+    /// The root that an RSDP names: the XSDT where it names one, else the RSDT. With an XSDT the RSDT stays
+    /// unread. The RSDP may come from another image: the addresses that it names are all that counts.
+    ///
+    /// Refuses, in this order:
+    /// `NoRoot`, where it names neither;
+    /// `RootHeaderOut`, where the header's 36 bytes are not all held;
+    /// `RootSignature`, where they do not begin with `XSDT`, or `RSDT` for an RSDT;
+    /// `RootLength`, where its Length is below 36;
+    /// `RootOut`, where its Length bytes are not all held;
+    /// `RootRagged`, where its Length leaves a part of a slot over;
+    /// `RootSum`, where its bytes do not sum to 0.
+    pub fn read(image: &'a Image, rsdp: &Rsdp) -> Result<Root<'a>, Code>
+        ensures ok { IfOk result (IsSoundNamedRoot image.now rsdp.now.named) }
+        ensures sound { (root : RootValue) → IsSoundNamedRoot image.now rsdp.now.named root → IsOk result }
+        ensures fault { IfErr result (NamedRootFault image.now rsdp.now.named) }
+        ensures least { IfErr result (λ code. (other : Code) → NamedRootFault image.now rsdp.now.named other → code_number code ≤ code_number other) }
+    {
+        let Some(place) = place_of(rsdp) else {
+            return Err(Code::NoRoot);
+        };
+        read_at(image, place)
+    }
+
+    /// How many slots lie wholly within its bytes, those that hold 0 too.
+    pub fn slots(&self) -> u32
+        ensures slots { result ≡ slots_of self.now }
+        ensures inside { (k : ℕ) → (k < result) ↔ (36 + self.now.width * (k + 1) ≤ length self.now.bytes) }
+    {
+        (self.bytes.len() as u32 - 36) / self.width
+    }
+
+    /// The number in slot k, which lies below `slots`. Slots count from 0, and begin at offset 36. A slot
+    /// that holds 0 lists no table, and is answered as it stands.
+    pub fn slot(&self, k: u32) -> u64
+        requires { k < slots_of self.now }
+        ensures { result ≡ field self.now.bytes (36 + self.now.width * k) self.now.width }
+    {
+        let offset = (36 + self.width * k) as usize;
+        if self.width == 8 {
+            u64_at(self.bytes, offset)
+        } else {
+            u64::from(u32_at(self.bytes, offset))
+        }
+    }
+
+    /// All its bytes, header and all: at least 36, and fewer than 2^32.
+    pub fn bytes(&self) -> &'a [u8]
+        ensures bytes { result.now ≡ self.now.bytes }
+        ensures count { (36 ≤ length self.now.bytes) × (length self.now.bytes < 2 ^ 32) }
+    {
+        self.bytes
+    }
+
+    /// The fields of its first 36 bytes.
+    pub fn header(&self) -> Header
+        ensures { header_value result ≡ header_of self.now.bytes }
+    {
+        header_at(self.bytes)
+    }
+
+    /// The address that it was read at.
+    pub fn address(&self) -> u64
+        ensures { result ≡ self.now.address }
+    {
+        self.address
+    }
+
+    /// Whether it is an XSDT, with slots of 8 bytes; else it is an RSDT, with slots of 4.
+    pub fn wide(&self) -> bool
+        ensures width { IsSlotWidth self.now.width }
+        ensures wide { IsTrue result ↔ (self.now.width ≡ 8) }
+    {
+        self.width == 8
+    }
+}

@@ -1,0 +1,139 @@
+//! The root system description pointer.
+
+ghost use Rattle.std.specs.Prelude.{◌≡◌, ◌≤◌, ◌↔◌, length, take, drop, IsOk, IfOk, IfErr};
+ghost use Rattle.acpi_base.specs.Codes.{code_number};
+ghost use Rattle.acpi_base.specs.Rsdp.{revision_of, short_addresses, IsRsdp, IsSoundRsdp, RsdpFault};
+ghost use Rattle.acpi_base.specs.declared.code.Code.{Code};
+
+use crate::field::{bytes_at, is_signed, u8_at, u32_at, u64_at};
+use acpi_base::{Code, Image, sum};
+use std::marker::Model;
+
+/// The root system description pointer (ACPI 6.5, 5.2.5.3), which names the RSDT and the XSDT.
+///
+/// A revision of 0 or 1 means the short form of 20 bytes, which names no XSDT; 2 or more means the
+/// extended form. The sums were right when it was read. The four fields are kept as they stood there:
+/// nothing says that a table stands where they point. The extended form's three reserved bytes are
+/// ignored, and so are bytes past its 36, beyond their part in the sum.
+#[derive(Clone, Copy, Debug, PartialEq, Eq)]
+pub struct Rsdp {
+    address: u64,
+    revision: u8,
+    oemid: [u8; 6],
+    /// 0 for none.
+    rsdt: u32,
+    /// 0 for none, and in the short form.
+    xsdt: u64,
+}
+
+impl Model for Rsdp {
+    ghost use Rattle.acpi_base.specs.Rsdp.{RsdpValue};
+
+    ghost Value = { RsdpValue };
+
+    ghost view = { λ r. record { address = r.address; revision = r.revision; oemid = r.oemid; named = record { rsdt = r.rsdt; xsdt = r.xsdt } } };
+
+    ghost inverse = { λ v. record { address = v.address; revision = v.revision; oemid = v.oemid; rsdt = v.named.rsdt; xsdt = v.named.xsdt } };
+}
+
+/// What the first 20 bytes say, which is all that the short form has.
+fn short_form(address: u64, head: &[u8]) -> Rsdp
+    requires { 20 ≤ length head.now }
+    ensures { result ≡ record { address = address; revision = revision_of head.now; oemid = take 6 (drop 9 head.now); named = short_addresses head.now } }
+{
+    Rsdp {
+        address,
+        revision: u8_at(head, 15),
+        oemid: bytes_at(head, 9),
+        rsdt: u32_at(head, 16),
+        xsdt: 0,
+    }
+}
+
+impl Rsdp {
+    /// The RSDP at an address. Nothing is asked of the address itself.
+    ///
+    /// Refuses, in this order:
+    /// `RsdpOut`, where its 20 bytes are not all held;
+    /// `RsdpSignature`, where they do not begin with `RSD PTR `;
+    /// `RsdpSum`, where they do not sum to 0;
+    /// and of a revision of 2 or more
+    /// `RsdpTailOut`, where its 36 bytes are not all held;
+    /// `RsdpLength`, where its Length is below 36;
+    /// `RsdpLongOut`, where its Length bytes are not all held;
+    /// `RsdpExtendedSum`, where they do not sum to 0.
+    #[tactic(auto, unfolding(acpi_base::specs::Rsdp::addresses_at))]
+    pub fn read(image: &Image, address: u64) -> Result<Rsdp, Code>
+        ensures ok { IsOk result ↔ IsSoundRsdp image.now address }
+        ensures value { IfOk result (IsRsdp image.now address) }
+        ensures fault { IfErr result (RsdpFault image.now address) }
+        ensures least { IfErr result (λ code. (other : Code) → RsdpFault image.now address other → code_number code ≤ code_number other) }
+    {
+        let Some(head) = image.window(address, 20) else {
+            return Err(Code::RsdpOut);
+        };
+        if !is_signed(head, b"RSD PTR ") {
+            return Err(Code::RsdpSignature);
+        }
+        if sum(head) != 0 {
+            return Err(Code::RsdpSum);
+        }
+        let rsdp = short_form(address, head);
+        if rsdp.revision < 2 {
+            return Ok(rsdp);
+        }
+        let Some(front) = image.window(address, 36) else {
+            return Err(Code::RsdpTailOut);
+        };
+        let length = u32_at(front, 20);
+        if length < 36 {
+            return Err(Code::RsdpLength);
+        }
+        let Some(whole) = image.window(address, u64::from(length)) else {
+            return Err(Code::RsdpLongOut);
+        };
+        if sum(whole) != 0 {
+            return Err(Code::RsdpExtendedSum);
+        }
+        Ok(Rsdp {
+            rsdt: u32_at(front, 16),
+            xsdt: u64_at(front, 24),
+            ..rsdp
+        })
+    }
+
+    /// The address that it was read at.
+    pub fn address(&self) -> u64
+        ensures { result ≡ self.now.address }
+    {
+        self.address
+    }
+
+    /// The revision, at offset 15: 0 or 1 in the short form, 2 or more in the extended one.
+    pub fn revision(&self) -> u8
+        ensures { result ≡ self.now.revision }
+    {
+        self.revision
+    }
+
+    /// The six characters at offset 9 that name the maker. They may be any bytes.
+    pub fn oemid(&self) -> [u8; 6]
+        ensures { result ≡ self.now.oemid }
+    {
+        self.oemid
+    }
+
+    /// The RSDT's address, at offset 16; 0 for none.
+    pub fn rsdt(&self) -> u32
+        ensures { result ≡ self.now.named.rsdt }
+    {
+        self.rsdt
+    }
+
+    /// The XSDT's address, at offset 24; 0 for none, and in the short form, which has no such field.
+    pub fn xsdt(&self) -> u64
+        ensures { result ≡ self.now.named.xsdt }
+    {
+        self.xsdt
+    }
+}

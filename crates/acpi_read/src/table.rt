@@ -1,0 +1,76 @@
+//! System description tables.
+
+ghost use Rattle.std.specs.Prelude.{◌≡◌, ◌≤◌, ◌<◌, ◌^◌, ◌↔◌, List, ℕ, length, IsOk, IfOk, IfErr};
+ghost use Rattle.acpi_base.specs.Codes.{code_number};
+ghost use Rattle.acpi_base.specs.Header.{header_of};
+ghost use Rattle.acpi_base.specs.Tables.{IsTable, IsSoundTable, TableFault};
+ghost use Rattle.acpi_base.specs.declared.code.Code.{Code};
+ghost use Rattle.acpi_read.specs.Headers.{header_value};
+
+use crate::field::u32_at;
+use crate::header::{Header, header_at};
+use acpi_base::{Code, Image, sum};
+use std::marker::Model;
+
+/// A system description table of any kind (ACPI 6.5, 5.2.6): as many bytes as its Length says, from 36 to
+/// 2^32 - 1, which summed to 0 when it was read. Contracts see the bytes.
+///
+/// The signature, the revision and what stands behind the header are not looked at.
+#[derive(Debug, Drop)]
+pub struct Table<'a> {
+    bytes: &'a [u8],
+}
+
+impl<'a> Model for Table<'a> {
+    ghost Value = { List ℕ };
+
+    ghost view = { λ table. table.bytes.now };
+
+    ghost invariant = { λ table. (36 ≤ length table.bytes.now) × (length table.bytes.now < 2 ^ 32) };
+}
+
+impl<'a> Table<'a> {
+    /// The table at an address. Nothing is asked of the address itself, nor that a root lists it.
+    ///
+    /// Refuses, in this order:
+    /// `TableHeaderOut`, where its header's 36 bytes are not all held;
+    /// `TableLength`, where its Length is below 36;
+    /// `TableOut`, where its Length bytes are not all held;
+    /// `TableSum`, where they do not sum to 0.
+    pub fn read(image: &'a Image, address: u64) -> Result<Table<'a>, Code>
+        ensures ok { IsOk result ↔ IsSoundTable image.now address }
+        ensures value { IfOk result (λ bytes. (header : List ℕ) × IsTable image.now address header bytes) }
+        ensures fault { IfErr result (TableFault image.now address) }
+        ensures least { IfErr result (λ code. (other : Code) → TableFault image.now address other → code_number code ≤ code_number other) }
+    {
+        let Some(header) = image.window(address, 36) else {
+            return Err(Code::TableHeaderOut);
+        };
+        let length = u32_at(header, 4);
+        if length < 36 {
+            return Err(Code::TableLength);
+        }
+        let Some(bytes) = image.window(address, u64::from(length)) else {
+            return Err(Code::TableOut);
+        };
+        if sum(bytes) != 0 {
+            return Err(Code::TableSum);
+        }
+        Ok(Table { bytes })
+    }
+
+    /// All its bytes, header and all: at least 36, and fewer than 2^32.
+    pub fn bytes(&self) -> &'a [u8]
+        ensures bytes { result.now ≡ self.now }
+        ensures count { (36 ≤ length self.now) × (length self.now < 2 ^ 32) }
+    {
+        self.bytes
+    }
+
+    /// The fields of its first 36 bytes. Its length is the number of the table's bytes.
+    pub fn header(&self) -> Header
+        ensures { header_value result ≡ header_of self.now }
+    {
+        header_at(self.bytes)
+    }
+}
