@@ -48,6 +48,7 @@ runs "the smallest set" 0 'yes\n' '' "$smallest" check --rsdp e0000 --through 3
 runs "the smallest set, 0x before the address" 0 'yes\n' '' "$smallest" check --rsdp 0xE0000 --through 3
 sed 's/20 4b 41/20 4a 41/' "$smallest" >"$scratch/sum"
 runs "an RSDP whose sum is wrong" 1 'no 1 RsdpSum 0xe0000 0x0 0x0\n' '' "$scratch/sum" check --rsdp e0000 --through 3
+runs "the smallest set, all stages: it has no FADT" 1 'no 4 NoFadt 0x0 0x0 0x0\n' '' "$smallest" check --rsdp e0000
 runs "an empty text" 1 'no 1 RsdpOut 0xe0000 0x0 0x0\n' '' /dev/null check --rsdp e0000 --through 3
 runs "no RSDP at the address" 1 'no 1 RsdpOut 0xfffffffffffffff0 0x0 0x0\n' '' "$smallest" check --rsdp fffffffffffffff0 --through 3
 tr 'a-f' 'A-F' <"$smallest" | sed 's/$/\r/' >"$scratch/upper"
@@ -55,7 +56,7 @@ runs "digits in upper case, and lines that end in CR LF" 0 'yes\n' '' "$scratch/
 
 # Each image, where its RSDP lies, and what a search says: an RSDP above the BIOS's memory is not found.
 while read -r image rsdp status found; do
-  runs "firmware $image" 0 'yes\n' '' "images/$image.img.txt" check --rsdp "$rsdp" --through 3
+  runs "firmware $image" 0 'yes\n' '' "images/$image.img.txt" check --rsdp "$rsdp" --through 5
   runs "firmware $image, found" "$status" "rsdp $found\n" '' "images/$image.img.txt" find
 done <<'LIST'
 sb-q35-default f59e0 0 0xf59e0
@@ -67,7 +68,8 @@ q10-efi-virt-smp4 4f0b0018 1 none
 q11-efi-virt-caches 47fe0000 1 none
 LIST
 gzip -dc images/sb-q35-default.region.img.txt.gz >"$scratch/region"
-runs "firmware sb-q35-default, its whole region" 0 'yes\n' '' "$scratch/region" check --rsdp f59e0 --through 3
+runs "firmware sb-q35-default, its whole region" 0 'yes\n' '' "$scratch/region" check --rsdp f59e0
+runs "firmware sb-q35-default, its whole region, its RSDP found" 0 'yes\n' '' "$scratch/region" check
 
 # ---- the search for the RSDP
 runs "the smallest set, found" 0 "rsdp 0xe0000\n" "" "$smallest" find
@@ -94,7 +96,7 @@ rm "$scratch/text"
 
 # ---- words that are refused
 for words in '' '--help' 'check --help' 'help' 'chek --rsdp e0000' 'check --rsdp' 'check --rsdp g' 'check --rsdp 00000000000000000' 'check --rsdp 0x' \
-  'check --rsdp e0000 --through 0' 'check --rsdp e0000 --through 4' 'check --rsdp e0000 --through 19' 'check --rsdp e0000 --through 003' 'check --rsdp e0000 --through' \
+  'check --rsdp e0000 --through 0' 'check --rsdp e0000 --through 6' 'check --rsdp e0000 --through 19' 'check --rsdp e0000 --through 003' 'check --rsdp e0000 --through' \
   'check --rsdp e0000 --rsdp e0000' 'check --rsdp e0000 fec00000=24'; do
   # shellcheck disable=SC2086
   runs "words '$words'" 2 '' 'acpiset: *' "$smallest" $words

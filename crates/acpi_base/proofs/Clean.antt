@@ -5,6 +5,8 @@ use Rattle.acpi_base.specs.Memory.{Memory}
 use Rattle.acpi_base.specs.Policy.{PolicyValue}
 use Rattle.acpi_base.specs.Rsdp.{IsSoundRsdp}
 use Rattle.acpi_base.specs.Root.{IsSoundRoot}
+use Rattle.acpi_base.specs.Fadt.{IsSoundFadt}
+use Rattle.acpi_base.specs.Facs.{IsSoundFacs}
 use Rattle.acpi_base.specs.Codes.{stage_number}
 use Rattle.acpi_base.specs.Statements.{Holds, CleanTo, AreSoundTables}
 use Rattle.acpi_base.specs.declared.stage.Stage.{Stage}
@@ -32,3 +34,9 @@ clean_to_root m q clean sound = clean_more m q stage.Root (λ t before. clean t 
 
 pub clean_to_tables : (m : Memory) (q : PolicyValue) → CleanTo stage.Root m q → AreSoundTables m q.rsdp → CleanTo stage.Tables m q
 clean_to_tables m q clean sound = clean_more m q stage.Tables (λ t before. clean t (omega arith)) sound
+
+pub clean_to_fadt : (m : Memory) (q : PolicyValue) → CleanTo stage.Tables m q → IsSoundFadt m q.rsdp → CleanTo stage.Fadt m q
+clean_to_fadt m q clean sound = clean_more m q stage.Fadt (λ t before. clean t (omega arith)) sound
+
+pub clean_to_facs : (m : Memory) (q : PolicyValue) → CleanTo stage.Fadt m q → IsSoundFacs m q.rsdp → CleanTo stage.Facs m q
+clean_to_facs m q clean sound = clean_more m q stage.Facs (λ t before. clean t (omega arith)) sound

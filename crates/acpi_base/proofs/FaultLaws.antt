@@ -15,11 +15,13 @@ use Rattle.acpi_base.specs.declared.verdict.Verdict.TheVariants.{Yes, No}
 use Rattle.acpi_base.proofs.CodeNumbers.{same_stage}
 use Rattle.acpi_base.proofs.RootRead.{sound_read, root_width}
 use Rattle.acpi_base.proofs.Roots.{slot_of_root}
-use Rattle.acpi_base.proofs.Clean.{clean_to_rsdp, clean_to_root, clean_to_tables}
+use Rattle.acpi_base.proofs.Clean.{clean_to_rsdp, clean_to_root, clean_to_tables, clean_to_fadt, clean_to_facs}
 use Rattle.acpi_base.proofs.RsdpFaults.{stage_of_rsdp, rsdp_first}
 use Rattle.acpi_base.proofs.RootFaults.{root_first}
 use Rattle.acpi_base.proofs.Slots.{tables_first}
-use Rattle.acpi_base.proofs.Firsts.{first_root_fault, first_table_fault, root_fault_within, table_fault_within}
+use Rattle.acpi_base.proofs.FadtFaults.{fadt_first}
+use Rattle.acpi_base.proofs.FacsFaults.{facs_first}
+use Rattle.acpi_base.proofs.Firsts.{first_root_fault, first_table_fault, first_fadt_fault, first_facs_fault, root_fault_within, table_fault_within, fadt_fault_within, facs_fault_within}
 use Rattle.acpi_base.proofs.FirstFaults.{stage_fault_excludes, stage_fault_fits, same_witness, first_rsdp_fault}
 
 pub fault_excludes_clean : FaultsExcludeClean
@@ -80,10 +82,47 @@ settled_tables m q =
           ]
     ]
 
+settled_fadt : (m : Memory) (q : PolicyValue) → CleanTo stage.Fadt m q ⊎ HasFirst stage.Fadt m q
+settled_fadt m q =
+    elim (settled_tables m q) [
+      | inr first ↦ inr (later m q stage.Tables stage.Fadt (omega arith) first)
+      | inl clean ↦
+          let rsdp = clean stage.Rsdp (omega arith) in
+          let root = clean stage.Root (omega arith) in
+          let tables = clean stage.Tables (omega arith) in
+          elim (fadt_first m q.rsdp root tables) [
+            | inl sound ↦ inl (clean_to_fadt m q clean sound)
+            | inr (at, c, first) ↦
+                let w : Witness = record { code = c; at = at; other = 0; point = 0 } in
+                inr
+                (w, first_fadt_fault m q w rsdp root tables first.holds refl refl first.least, fadt_fault_within m q.rsdp at 4 c first.holds (omega arith))
+          ]
+    ]
+
+settled_facs : (m : Memory) (q : PolicyValue) → CleanTo stage.Facs m q ⊎ HasFirst stage.Facs m q
+settled_facs m q =
+    elim (settled_fadt m q) [
+      | inr first ↦ inr (later m q stage.Fadt stage.Facs (omega arith) first)
+      | inl clean ↦
+          let rsdp = clean stage.Rsdp (omega arith) in
+          let root = clean stage.Root (omega arith) in
+          let tables = clean stage.Tables (omega arith) in
+          let fadt = clean stage.Fadt (omega arith) in
+          elim (facs_first m q.rsdp fadt) [
+            | inl sound ↦ inl (clean_to_facs m q clean sound)
+            | inr (at, c, first) ↦
+                let w : Witness = record { code = c; at = at; other = 0; point = 0 } in
+                inr
+                (w, first_facs_fault m q w rsdp root tables fadt first.holds refl refl first.least, facs_fault_within m q.rsdp at 5 c first.holds (omega arith))
+          ]
+    ]
+
 pub clean_or_first_fault : CleanOrFirstFault
 clean_or_first_fault m q stage.Rsdp _ = settled_rsdp m q
 clean_or_first_fault m q stage.Root _ = settled_root m q
 clean_or_first_fault m q stage.Tables _ = settled_tables m q
+clean_or_first_fault m q stage.Fadt _ = settled_fadt m q
+clean_or_first_fault m q stage.Facs _ = settled_facs m q
 clean_or_first_fault m q _ up_to = absurd (omega arith)
 
 pub clean_or_fault : CleanOrFaulty

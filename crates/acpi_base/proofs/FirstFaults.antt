@@ -1,4 +1,4 @@
--- Faults of the first three stages: what they exclude, that their numbers fit, and that the first is one.
+-- Faults of the stages that are built: what they exclude, that their numbers fit, and that the first is one.
 use Rattle.std.proofs.Common.{◌≡◌, ◌<◌, ◌^◌, ℕ, refl, sym, subst, inl, inr, arith}
 use Rattle.acpi_base.specs.Memory.{Memory, IsImage}
 use Rattle.acpi_base.specs.Policy.{PolicyValue, IsPolicy}
@@ -18,6 +18,8 @@ use Rattle.acpi_base.proofs.Search.{IsFirstCode}
 use Rattle.acpi_base.proofs.RsdpFaults.{stage_of_rsdp, rsdp_fault_excludes_sound}
 use Rattle.acpi_base.proofs.RootFaults.{sound_root_has_no_fault}
 use Rattle.acpi_base.proofs.Slots.{slot_fits}
+use Rattle.acpi_base.proofs.FadtFaults.{sound_fadt_has_no_fault, fadt_place}
+use Rattle.acpi_base.proofs.FacsFaults.{sound_facs_has_no_fault, facs_place_fits}
 use Rattle.acpi_base.proofs.Clean.{none_before_rsdp}
 use Rattle.acpi_base.proofs.Firsts.{sound_table_has_no_fault, first_of_stage, not_after_by_code}
 
@@ -27,6 +29,8 @@ stage_fault_excludes m q w stage.Rsdp fault = rsdp_fault_excludes_sound m q.rsdp
 stage_fault_excludes m q w stage.Root fault = λ sound. sound_root_has_no_fault m q.rsdp w.at w.code sound fault.0
 stage_fault_excludes m q w stage.Tables fault =
     λ sound. sound_table_has_no_fault m w.other w.code (sound w.at w.other fault.0) fault.1
+stage_fault_excludes m q w stage.Fadt fault = λ sound. sound_fadt_has_no_fault m q.rsdp w.code w.at sound fault.0
+stage_fault_excludes m q w stage.Facs fault = λ sound. sound_facs_has_no_fault m q.rsdp w.code w.at sound fault.0
 stage_fault_excludes m q w _ fault = absurd fault
 
 -- the address that a fault of the root is told of fits
@@ -44,6 +48,11 @@ stage_fault_fits m q w image policy stage.Root fault =
 stage_fault_fits m q w image policy stage.Tables fault =
     let fit = slot_fits image fault.0 in
     (fit.0, fit.1, omega (arith, fault.2))
+stage_fault_fits m q w image policy stage.Fadt fault =
+    let place = fadt_place m q.rsdp w.code w.at fault.0 in
+    (omega (arith, place), omega (arith, fault.1), omega (arith, fault.2))
+stage_fault_fits m q w image policy stage.Facs fault =
+    (facs_place_fits image w.code w.at fault.0, omega (arith, fault.1), omega (arith, fault.2))
 stage_fault_fits m q w image policy _ fault = absurd fault
 
 -- two faults of which neither stands after the other are one

@@ -6,16 +6,18 @@ use Rattle.acpi_base.specs.Memory.{Memory}
 use Rattle.acpi_base.specs.Policy.{PolicyValue}
 use Rattle.acpi_base.specs.Codes.{stage_number, code_number, stage_of}
 use Rattle.acpi_base.specs.Rsdp.{IsSoundRsdp}
-use Rattle.acpi_base.specs.Root.{IsRoot, IsSoundRootTable, HasSlot, RootFault, RootTableFault}
+use Rattle.acpi_base.specs.Root.{IsRoot, IsSoundRoot, IsSoundRootTable, HasSlot, RootFault, RootTableFault}
 use Rattle.acpi_base.specs.Tables.{IsSoundTable, TableFault}
-use Rattle.acpi_base.specs.Statements.{Holds}
+use Rattle.acpi_base.specs.Fadt.{IsSoundFadt, FadtTableFault, FadtFault}
+use Rattle.acpi_base.specs.Facs.{NamedFacsFault, FacsFault}
+use Rattle.acpi_base.specs.Statements.{Holds, AreSoundTables}
 use Rattle.acpi_base.specs.Faults.{FaultOfStage, NotAfter, IsFirstOfStage, IsFirstFault}
 use Rattle.acpi_base.specs.declared.code.Code.{Code}
 use Rattle.acpi_base.specs.declared.code.Code.TheVariants as code
 use Rattle.acpi_base.specs.declared.stage.Stage.{Stage}
 use Rattle.acpi_base.specs.declared.stage.Stage.TheVariants as stage
 use Rattle.acpi_base.specs.declared.witness.Witness.{Witness}
-use Rattle.acpi_base.proofs.Clean.{clean_to_rsdp, clean_to_root}
+use Rattle.acpi_base.proofs.Clean.{clean_to_rsdp, clean_to_root, clean_to_tables, clean_to_fadt}
 use Rattle.acpi_base.proofs.Roots.{one_slot, slot_of_root}
 use Rattle.acpi_base.proofs.TableFaults.{not-TableHeaderOut, not-TableLength, not-TableOut, not-TableSum}
 
@@ -42,6 +44,35 @@ table_fault_stage m a code.TableOut h = refl
 table_fault_stage m a code.TableSum h = refl
 table_fault_stage m a _ h = absurd h
 
+-- the faults of a FADT's bytes have codes of stage 4
+pub fadt_table_fault_stage : (whole : List ℕ) (at : ℕ) (fault : Code) → FadtTableFault whole fault at → stage_of fault ≡ stage.Fadt
+fadt_table_fault_stage whole at code.FadtShort h = refl
+fadt_table_fault_stage whole at code.PmEventLength h = refl
+fadt_table_fault_stage whole at code.PmControlLength h = refl
+fadt_table_fault_stage whole at code.PmTimerLength h = refl
+fadt_table_fault_stage whole at code.GpeLength h = refl
+fadt_table_fault_stage whole at code.ResetRegister h = refl
+fadt_table_fault_stage whole at _ h = absurd h
+
+-- the FADT's faults have the codes of stage 4
+pub fadt_fault_stage : (m : Memory) (p at : ℕ) (fault : Code) → FadtFault m p fault at → stage_of fault ≡ stage.Fadt
+fadt_fault_stage m p at fault (inl h) = ap stage_of h.1
+fadt_fault_stage m p at fault (inr h) = fadt_table_fault_stage h.0 at fault h.2
+
+-- the faults of the FACS that a FADT names have the codes of stage 5
+pub named_facs_fault_stage : (m : Memory) (fadt : List ℕ) (at : ℕ) (fault : Code) → NamedFacsFault m fadt fault at → stage_of fault ≡ stage.Facs
+named_facs_fault_stage m fadt at code.NoFacs h = refl
+named_facs_fault_stage m fadt at code.FacsAlign h = refl
+named_facs_fault_stage m fadt at code.FacsHeaderOut h = refl
+named_facs_fault_stage m fadt at code.FacsSignature h = refl
+named_facs_fault_stage m fadt at code.FacsLength h = refl
+named_facs_fault_stage m fadt at code.FacsOut h = refl
+named_facs_fault_stage m fadt at _ h = absurd h
+
+-- the FACS's faults have the codes of stage 5
+pub facs_fault_stage : (m : Memory) (p at : ℕ) (fault : Code) → FacsFault m p fault at → stage_of fault ≡ stage.Facs
+facs_fault_stage m p at fault h = named_facs_fault_stage m h.0 at fault h.3
+
 -- the first fault of a stage is the first fault of a set whose earlier stages hold
 pub first_of_stage : (s : Stage) (m : Memory) (q : PolicyValue) (w : Witness) → stage_of w.code ≡ s → ((t : Stage) → stage_number t < stage_number s → Holds t m q) → IsFirstOfStage s m q w → IsFirstFault m q w
 first_of_stage s m q w e earlier first =
@@ -59,10 +90,23 @@ root_fault_within m p at n fault h lt = rw (root_fault_stage m p at fault h) (om
 pub table_fault_within : (m : Memory) (a n : ℕ) (fault : Code) → TableFault m a fault → 2 < n → stage_number (stage_of fault) ≤ n
 table_fault_within m a n fault h lt = rw (table_fault_stage m a fault h) (omega arith)
 
+-- a fault of stage 4 is of a stage up to a later one
+pub fadt_fault_within : (m : Memory) (p at n : ℕ) (fault : Code) → FadtFault m p fault at → 3 < n → stage_number (stage_of fault) ≤ n
+fadt_fault_within m p at n fault h lt = rw (fadt_fault_stage m p at fault h) (omega arith)
+
+-- a fault of stage 5 is of a stage up to a later one
+pub facs_fault_within : (m : Memory) (p at n : ℕ) (fault : Code) → FacsFault m p fault at → 4 < n → stage_number (stage_of fault) ≤ n
+facs_fault_within m p at n fault h lt = rw (facs_fault_stage m p at fault h) (omega arith)
+
 -- two faults that differ in their code alone go by the code's number
 pub not_after_by_code : (w v : Witness) → w.at ≡ v.at → code_number w.code ≤ code_number v.code → w.other ≡ v.other → w.point ≡ v.point → NotAfter w v
 not_after_by_code w v at number other point =
     inr (at, ⊎_elim (λ (same : code_number w.code ≡ code_number v.code). inr (same, inr (other, omega arith))) inl (eq-or-lt_of_le number))
+
+-- two faults that differ in their place and code alone go by the place, and then by the code's number
+pub not_after_by_place : (w v : Witness) → (w.at < v.at) ⊎ ((w.at ≡ v.at) × (code_number w.code ≤ code_number v.code)) → w.other ≡ v.other → w.point ≡ v.point → NotAfter w v
+not_after_by_place w v (inl before) other point = inl before
+not_after_by_place w v (inr same) other point = not_after_by_code w v same.0 same.1 other point
 
 -- a root's fault with the least number is the first fault of a set whose RSDP is sound
 pub first_root_fault : (m : Memory) (q : PolicyValue) (w : Witness) → IsSoundRsdp m q.rsdp → RootFault m q.rsdp w.code w.at → w.other ≡ 0 → w.point ≡ 0
@@ -103,6 +147,26 @@ first_table_fault m q r d whole w rsdp root sound slot stands point before least
         (⊎_elim inl (λ (earlier : v.at < w.at). absurd (sound_table_has_no_fault m v.other v.code (before v.at v.other earlier there) fault)))
         (cases_order w.at v.at)
 
+-- the FADT's first fault is the first fault of a set whose RSDP, root and tables are sound
+pub first_fadt_fault : (m : Memory) (q : PolicyValue) (w : Witness) → IsSoundRsdp m q.rsdp → IsSoundRoot m q.rsdp → AreSoundTables m q.rsdp → FadtFault m q.rsdp w.code w.at → w.other ≡ 0 → w.point ≡ 0
+    → ((fault : Code) (at : ℕ) → FadtFault m q.rsdp fault at → (w.at < at) ⊎ ((w.at ≡ at) × (code_number w.code ≤ code_number fault))) → IsFirstFault m q w
+first_fadt_fault m q w rsdp root tables stands other point least =
+    let clean = clean_to_tables m q (clean_to_root m q (clean_to_rsdp m q rsdp) root) tables in
+    first_of_stage stage.Fadt m q w (fadt_fault_stage m q.rsdp w.at w.code stands) (λ t before. clean t (omega arith)) (record {
+      fault = (stands, other, point);
+      least = λ v h. not_after_by_place w v (least v.code v.at h.0) (other ∙ sym h.1) (point ∙ sym h.2);
+    })
+
+-- the FACS's first fault is the first fault of a set whose RSDP, root, tables and FADT are sound
+pub first_facs_fault : (m : Memory) (q : PolicyValue) (w : Witness) → IsSoundRsdp m q.rsdp → IsSoundRoot m q.rsdp → AreSoundTables m q.rsdp → IsSoundFadt m q.rsdp → FacsFault m q.rsdp w.code w.at → w.other ≡ 0 → w.point ≡ 0
+    → ((fault : Code) (at : ℕ) → FacsFault m q.rsdp fault at → (w.at < at) ⊎ ((w.at ≡ at) × (code_number w.code ≤ code_number fault))) → IsFirstFault m q w
+first_facs_fault m q w rsdp root tables fadt stands other point least =
+    let clean = clean_to_fadt m q (clean_to_tables m q (clean_to_root m q (clean_to_rsdp m q rsdp) root) tables) fadt in
+    first_of_stage stage.Facs m q w (facs_fault_stage m q.rsdp w.at w.code stands) (λ t before. clean t (omega arith)) (record {
+      fault = (stands, other, point);
+      least = λ v h. not_after_by_place w v (least v.code v.at h.0) (other ∙ sym h.1) (point ∙ sym h.2);
+    })
+
 -- a first fault is one where the RSDP's address goes by another name
 at_same_address : (m : Memory) (q : PolicyValue) (p : ℕ) (w : Witness) → p ≡ q.rsdp → IsFirstFault m (record { rsdp = p; default_inputs = q.default_inputs; inputs = q.inputs }) w → IsFirstFault m q w
 at_same_address m q p w e first =
@@ -121,3 +185,15 @@ pub first_table_fault_at : (m : Memory) (q : PolicyValue) (p r d : ℕ) (whole :
 first_table_fault_at m q p r d whole w e rsdp root sound slot stands point before least =
     let q' : PolicyValue = record { rsdp = p; default_inputs = q.default_inputs; inputs = q.inputs } in
     at_same_address m q p w e (first_table_fault m q' r d whole w rsdp root sound slot stands point before least)
+
+pub first_fadt_fault_at : (m : Memory) (q : PolicyValue) (p : ℕ) (w : Witness) → p ≡ q.rsdp → IsSoundRsdp m p → IsSoundRoot m p → AreSoundTables m p → FadtFault m p w.code w.at → w.other ≡ 0 → w.point ≡ 0
+    → ((fault : Code) (at : ℕ) → FadtFault m p fault at → (w.at < at) ⊎ ((w.at ≡ at) × (code_number w.code ≤ code_number fault))) → IsFirstFault m q w
+first_fadt_fault_at m q p w e rsdp root tables stands other point least =
+    let q' : PolicyValue = record { rsdp = p; default_inputs = q.default_inputs; inputs = q.inputs } in
+    at_same_address m q p w e (first_fadt_fault m q' w rsdp root tables stands other point least)
+
+pub first_facs_fault_at : (m : Memory) (q : PolicyValue) (p : ℕ) (w : Witness) → p ≡ q.rsdp → IsSoundRsdp m p → IsSoundRoot m p → AreSoundTables m p → IsSoundFadt m p → FacsFault m p w.code w.at → w.other ≡ 0 → w.point ≡ 0
+    → ((fault : Code) (at : ℕ) → FacsFault m p fault at → (w.at < at) ⊎ ((w.at ≡ at) × (code_number w.code ≤ code_number fault))) → IsFirstFault m q w
+first_facs_fault_at m q p w e rsdp root tables fadt stands other point least =
+    let q' : PolicyValue = record { rsdp = p; default_inputs = q.default_inputs; inputs = q.inputs } in
+    at_same_address m q p w e (first_facs_fault m q' w rsdp root tables fadt stands other point least)

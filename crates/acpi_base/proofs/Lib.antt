@@ -1,6 +1,8 @@
 pub mod Clean
 pub mod CodeNumbers
 pub mod Edits
+pub mod FacsFaults
+pub mod FadtFaults
 pub mod FaultLaws
 pub mod FirstFaults
 pub mod Firsts
@@ -9,6 +11,7 @@ pub mod Held
 pub mod Images
 pub mod Joins
 mod LineLemmas
+pub mod Listed
 mod MachineLemmas
 pub mod Places
 pub mod Policies

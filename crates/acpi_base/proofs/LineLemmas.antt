@@ -1,12 +1,12 @@
 -- Facts on what one line of an image text says, and on where it ends.
-use Rattle.std.proofs.Common.{◌≡◌, ◌≢◌, ℕ, ◌+◌, ◌-◌, ◌*◌, ◌^◌, ◌<◌, ◌≤◌, List, [], ◌∷◌, ◌++◌, length, get_or, take, drop, refl, sym, ap, ◌∙◌, arith, eqb, if◌then◌else◌, Bool, true, false, rules, lit<, length-append}
+use Rattle.std.proofs.Common.{◌≡◌, ◌≢◌, ℕ, ◌+◌, ◌-◌, ◌*◌, ◌^◌, ◌<◌, ◌≤◌, List, [], ◌∷◌, ◌++◌, length, get_or, drop, refl, sym, ap, arith, eqb, if◌then◌else◌, true, false, lit<, length-append}
 use Rattle.std.proofs.lemmas.List.{length-drop, get_or-drop, take_all, take_more, drop_more}
 use Rattle.std.proofs.lemmas.Bool.Decides.{nat_tests}
 use Rattle.std.proofs.Math.Nat.{pow-le-pow_right}
 use Rattle.std.specs.Prelude.{slice_range, None, Some, Option, take_while, nat_le, ◌&&◌}
 use Rattle.std.specs.List.{list_all}
 use Rattle.std.specs.Option.{option_map_or}
-use Rattle.acpi_base.specs.ImageText.{Line, Blank, Address, Data, Bad, digit_of, is_blank, is_hex_digit, skip_blanks, without_cr, without_comment, form_of, line_of, address_of, hex_number, data_from, ended_from, last_from}
+use Rattle.acpi_base.specs.ImageText.{Blank, Address, Data, Bad, digit_of, is_blank, is_hex_digit, skip_blanks, without_cr, without_comment, form_of, line_of, address_of, hex_number, data_from, ended_from, last_from}
 
 -- a slice and the element after it
 slice_range_more : (xs : List ℕ) (a i : ℕ) → a ≤ i → i < length xs → slice_range xs a (i + 1) ≡ slice_range xs a i ++ get_or xs i 0 ∷ []

@@ -1,10 +1,9 @@
 -- Reading a text byte by byte is reading it by lines.
-use Rattle.std.proofs.Common.{◌≡◌, ◌⊎◌, inl, inr, ℕ, zero, suc, ◌+◌, ◌<◌, ◌≤◌, List, [], ◌∷◌, ◌++◌, length, refl, sym, ap, subst, ◌∙◌, arith, eqb, ltb, if◌then◌else◌, Bool, true, false, length-append}
+use Rattle.std.proofs.Common.{◌≡◌, ℕ, ◌+◌, ◌≤◌, List, [], ◌∷◌, ◌++◌, length, refl, sym, ap, ◌∙◌, arith, eqb, if◌then◌else◌, true, false, length-append}
 use Rattle.std.proofs.lemmas.Bool.Decides.{nat_tests}
-use Rattle.std.proofs.lemmas.Bool.{ltb-false, le-ltb}
-use Rattle.std.specs.Prelude.{Option, None, Some, Result, Ok, Err, ◌↔◌, ◌==◌}
+use Rattle.std.specs.Prelude.{Option, None, Some, Result, Ok, Err, ◌↔◌}
 use Rattle.std.specs.Option.{option_map_or}
-use Rattle.acpi_base.specs.ImageText.{Line, Blank, Address, Data, Bad, Reading, start, on_ok, max_text, is_too_long, put_data, take_line, line_of, read_line, read_lines, ended_from, last_from, read_text, read_front, IsRefused, IsRefusedFront, data_fault}
+use Rattle.acpi_base.specs.ImageText.{Line, Blank, Address, Data, Bad, Reading, start, on_ok, is_too_long, put_data, take_line, line_of, read_line, read_lines, ended_from, last_from, read_text, read_front, IsRefused, IsRefusedFront, data_fault}
 use Rattle.acpi_base.specs.Adding.{add_refusal}
 use Rattle.acpi_base.specs.Memory.{with_bytes}
 use Rattle.acpi_base.specs.TextMachine.{Standing, Going, Stopped, beginning, line_ended, step, run, end_text, standing_of}

@@ -1,5 +1,5 @@
 -- The least number, and the least code, of which something holds.
-use Rattle.std.proofs.Common.{ℕ, zero, suc, ◌<◌, ◌≤◌, subst, inl, inr, arith}
+use Rattle.std.proofs.Common.{◌≡◌, ℕ, zero, suc, ◌<◌, ◌≤◌, subst, inl, inr, arith}
 use Rattle.std.specs.Prelude.{◌⊎◌}
 use Rattle.std.proofs.lemmas.Bool.{cases_eq, cases_lt}
 use Rattle.acpi_base.proofs.CodeNumbers.{same_code}
@@ -30,6 +30,11 @@ least_below P decide (suc n) = more P n (least_below P decide n) (decide n)
 pub record IsFirstCode (P : Code → Type 0) (c : Code) : Type 0 where
   pub holds : P c
   pub least : (d : Code) → P d → code_number c ≤ code_number d
+
+-- P holds of the code c at a place, of no code at a lower place, and there of none with a lower number
+pub record IsFirstPlaced (P : Code → ℕ → Type 0) (c : Code) (at : ℕ) : Type 0 where
+  pub holds : P c at
+  pub least : (d : Code) (b : ℕ) → P d b → (at < b) ⊎ ((at ≡ b) × (code_number c ≤ code_number d))
 
 -- the numbers of codes begin at 1
 pub starts_at_one : (P : Code → Type 0) (d : Code) → P d → 1 ≤ code_number d

@@ -1,11 +1,13 @@
 -- The faults of an image, and the first of them.
-use Rattle.std.specs.Prelude.{◌≡◌, ℕ, ◌<◌, ◌≤◌, ◌⊎◌}
+use Rattle.std.specs.Prelude.{◌≡◌, ◌<◌, ◌≤◌, ◌⊎◌}
 use Rattle.acpi_base.specs.Memory.{Memory}
 use Rattle.acpi_base.specs.Policy.{PolicyValue}
 use Rattle.acpi_base.specs.Codes.{stage_number, code_number, stage_of}
 use Rattle.acpi_base.specs.Rsdp.{RsdpFault}
 use Rattle.acpi_base.specs.Root.{RootFault, IsSlot}
 use Rattle.acpi_base.specs.Tables.{TableFault}
+use Rattle.acpi_base.specs.Fadt.{FadtFault}
+use Rattle.acpi_base.specs.Facs.{FacsFault}
 use Rattle.acpi_base.specs.Statements.{Holds, CleanTo}
 use Rattle.acpi_base.specs.declared.stage.Stage.{Stage}
 use Rattle.acpi_base.specs.declared.stage.Stage.TheVariants as stage
@@ -17,10 +19,14 @@ use Rattle.acpi_base.specs.declared.verdict.Verdict.TheVariants.{Yes, No}
 --   RSDP: at is the RSDP's address.
 --   root: at is the RSDP's address or the root's.
 --   tables: at is the slot's number, other the table's address.
+--   FADT: at is an offset from its start, or 0.
+--   FACS: at is its address, or 0.
 abbrev pub FaultOfStage : Stage → Memory → PolicyValue → Witness → Type 0
 FaultOfStage stage.Rsdp m q w = RsdpFault m q.rsdp w.code × (w.at ≡ q.rsdp) × (w.other ≡ 0) × (w.point ≡ 0)
 FaultOfStage stage.Root m q w = RootFault m q.rsdp w.code w.at × (w.other ≡ 0) × (w.point ≡ 0)
 FaultOfStage stage.Tables m q w = IsSlot m q.rsdp w.at w.other × TableFault m w.other w.code × (w.point ≡ 0)
+FaultOfStage stage.Fadt m q w = FadtFault m q.rsdp w.code w.at × (w.other ≡ 0) × (w.point ≡ 0)
+FaultOfStage stage.Facs m q w = FacsFault m q.rsdp w.code w.at × (w.other ≡ 0) × (w.point ≡ 0)
 FaultOfStage _ m q w = ⊥
 
 -- w is a fault of the image. Whether earlier stages hold does not matter.

@@ -1,5 +1,7 @@
 pub mod Adding
 pub mod Codes
+pub mod Facs
+pub mod Fadt
 pub mod Faults
 pub mod Found
 pub mod Header

@@ -1,5 +1,5 @@
 -- How a policy's fields stand for its value.
-use Rattle.std.specs.Prelude.{ℕ, map}
+use Rattle.std.specs.Prelude.{map}
 use Rattle.std.specs.FinMap.{from_entries}
 use Rattle.acpi_base.specs.Policy.{PolicyValue, IsPolicy}
 use Rattle.acpi_base.specs.declared.policy.Inputs.{Inputs}

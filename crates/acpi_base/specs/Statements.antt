@@ -6,6 +6,8 @@ use Rattle.acpi_base.specs.Codes.{stage_number}
 use Rattle.acpi_base.specs.Rsdp.{IsSoundRsdp}
 use Rattle.acpi_base.specs.Root.{IsSoundRoot, IsSlot}
 use Rattle.acpi_base.specs.Tables.{IsSoundTable}
+use Rattle.acpi_base.specs.Fadt.{IsSoundFadt}
+use Rattle.acpi_base.specs.Facs.{IsSoundFacs}
 use Rattle.acpi_base.specs.declared.stage.Stage.{Stage}
 use Rattle.acpi_base.specs.declared.stage.Stage.TheVariants as stage
 
@@ -18,6 +20,8 @@ abbrev pub Holds : Stage → Memory → PolicyValue → Type 0
 Holds stage.Rsdp m q = IsSoundRsdp m q.rsdp
 Holds stage.Root m q = IsSoundRoot m q.rsdp
 Holds stage.Tables m q = AreSoundTables m q.rsdp
+Holds stage.Fadt m q = IsSoundFadt m q.rsdp
+Holds stage.Facs m q = IsSoundFacs m q.rsdp
 Holds _ m q = ⊥
 
 -- every stage up to `last` holds

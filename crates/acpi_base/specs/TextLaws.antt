@@ -1,5 +1,5 @@
 -- What the laws of image text say.
-use Rattle.std.specs.Prelude.{◌≡◌, ◌↔◌, ℕ, List, ◌++◌, Err}
+use Rattle.std.specs.Prelude.{◌≡◌, ◌↔◌, ℕ, List, ◌++◌}
 use Rattle.acpi_base.specs.ImageText.{read_text, read_front, IsRefused, IsRefusedFront}
 use Rattle.acpi_base.specs.TextMachine.{Standing, Stopped, beginning, run, end_text, standing_of}
 use Rattle.acpi_base.specs.declared.text.TextFault.{TextFault}

@@ -1,7 +1,7 @@
 -- Reading a text byte by byte: what a reader of text in pieces keeps. `acpi_base::machine_reads_lines`
 -- says that it agrees with reading by lines.
 use Rattle.std.specs.Prelude.{ℕ, ◌+◌, List, [], ◌∷◌, ◌++◌, length, Result, Ok, Err, ◌==◌, if◌then◌else◌}
-use Rattle.acpi_base.specs.ImageText.{Reading, start, read_line, is_too_long, on_ok}
+use Rattle.acpi_base.specs.ImageText.{Reading, start, read_line, is_too_long}
 use Rattle.acpi_base.specs.declared.text.TextFault.{TextFault}
 use Rattle.acpi_base.specs.declared.text.TextFault.TheVariants as text
 

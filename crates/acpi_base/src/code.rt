@@ -57,7 +57,7 @@ pub enum Code {
     PmTimerLength,
     /// A GPE block's length is odd.
     GpeLength,
-    /// The reset register is not one that 5.2.9 allows.
+    /// The reset register is not one that 4.8.3.6 allows.
     ResetRegister,
     /// There is no FACS, and the hardware is not reduced.
     NoFacs,

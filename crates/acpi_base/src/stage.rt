@@ -4,7 +4,7 @@ ghost use Rattle.std.specs.Prelude.{◌≡◌, ◌≤◌, ◌↔◌, IsSome, IfS
 ghost use Rattle.acpi_base.specs.Codes.{stage_number};
 
 /// The number of the last stage that is built.
-pub const BUILT: u8 = 3;
+pub const BUILT: u8 = 5;
 
 /// A part of the check. Each stage is looked at only where all earlier ones hold. Sections are those
 /// of ACPI 6.5.

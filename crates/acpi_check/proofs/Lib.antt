@@ -1,1 +1,2 @@
+mod Fadts
 mod NamedRoots

@@ -6,6 +6,8 @@ ghost use Rattle.acpi_base.specs.Statements.{CleanTo};
 ghost use Rattle.acpi_base.specs.Faults.{IsFirstFault, IsVerdict};
 ghost use Rattle.acpi_base.specs.declared.stage.TheConstants.{BUILT};
 
+use crate::facs::sound_facs;
+use crate::fadt::sound_fadt;
 use crate::root::sound_root;
 use crate::rsdp::sound_rsdp;
 use crate::tables::sound_tables;
@@ -47,5 +49,13 @@ fn stages_to(image: &Image, policy: &Policy, last: Stage) -> Result<(), Witness>
     if last.number() <= Stage::Root.number() {
         return Ok(());
     }
-    sound_tables(image, policy, &root)
+    sound_tables(image, policy, &root)?;
+    if last.number() <= Stage::Tables.number() {
+        return Ok(());
+    }
+    let fadt = sound_fadt(image, policy, &root)?;
+    if last.number() <= Stage::Fadt.number() {
+        return Ok(());
+    }
+    sound_facs(image, policy, &fadt)
 }

@@ -5,6 +5,8 @@
 #![tactic(auto)]
 
 mod check;
+mod facs;
+mod fadt;
 mod root;
 mod rsdp;
 mod tables;

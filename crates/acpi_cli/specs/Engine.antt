@@ -1,10 +1,10 @@
 -- What an engine reads, writes and answers.
-use Rattle.std.specs.Prelude.{◌≡◌, ◌⊎◌, ◌++◌, ℕ, List, take, codes, Option, Some, None, Result, Ok, Err}
+use Rattle.std.specs.Prelude.{◌≡◌, ◌⊎◌, ◌++◌, ℕ, List, take, codes, Option, Some, None, Result, Ok, Err, true}
 use Rattle.std.specs.Io.KnownBytes.{Appends, Consumes, IsAtEnd, Keeps}
 use Rattle.acpi_base.specs.Memory.{Memory}
 use Rattle.acpi_base.specs.Policy.{PolicyValue}
 use Rattle.acpi_base.specs.ImageText.{IsText}
-use Rattle.acpi_base.specs.TextReading.{IsRefusal}
+use Rattle.acpi_base.specs.TextReading.{IsRefusal, is_of_text}
 use Rattle.acpi_base.specs.Tally.{CountsFailure}
 use Rattle.acpi_base.specs.Found.{IsFound, IsNowhere}
 use Rattle.acpi_base.specs.Faults.{IsVerdict}
@@ -38,11 +38,13 @@ pub record ReadsImage (input : Device) (m : Memory) : Type 0 where
   pub whole : IsAtEnd input.bytes_after
   pub spells : IsText text m
 
--- the text that was read is refused with this fault
+-- the text that was read is refused with this fault, which is one of a text's own: no failed read, and no
+-- want of memory
 pub record ReadsRefused (input : Device) (fault : TextFault) : Type 0 where
   pub text : List ℕ
   pub consumed : Consumes input.bytes_before input.bytes_after text
   pub refused : IsRefusal text input.bytes_after fault
+  pub own : is_of_text fault ≡ true
 
 -- What was read: a whole text of the image, or a text that is refused, or a failed read.
 abbrev pub ReadsInput : Device → Result Memory RunFault → Type 0

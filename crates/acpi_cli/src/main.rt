@@ -7,6 +7,8 @@ mod devices;
 mod find;
 mod number_words;
 mod outcome;
+#[cfg(test)]
+mod tests;
 mod words;
 
 ghost use Rattle.acpi_cli.specs.CommandLine.{IsBuilt};

@@ -32,13 +32,14 @@ fault.
   --rsdp HEX   the address of the RSDP: 1 to 16 hex digits, with 0x before
                them or without; if absent, the one that find finds, and where
                there is none check writes `no rsdp`
-  --through N  the last stage to check, 1 to 3, and 3 if absent: 1 the RSDP,
-               2 the RSDT or XSDT, 3 each table that it lists
+  --through N  the last stage to check, 1 to 5, and 5 if absent: 1 the RSDP,
+               2 the RSDT or XSDT, 3 each table that it lists, 4 the FADT,
+               5 the FACS
 
 find looks for the RSDP at the multiples of 16 from e0000 to ffff0, and writes
 `rsdp` and its address, or `rsdp none`.
 
-For example: acpiset check --rsdp e0000 --through 3 < image.txt
+For example: acpiset check --rsdp f59e0 < image.txt
 
 Exit statuses: 0 yes or found, 1 no or not found, 2 the words are refused,
 3 the text is no image, 4 out of memory, or a read or a write failed.";

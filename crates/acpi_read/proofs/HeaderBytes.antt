@@ -1,5 +1,5 @@
 -- What a header's bytes say is what they were made of.
-use Rattle.std.proofs.Common.{◌≡◌, ℕ, ◌+◌, ◌^◌, ◌<◌, List, ◌++◌, length, take, drop, refl, sym, ap, ◌∙◌, arith, append_assoc, []}
+use Rattle.std.proofs.Common.{◌≡◌, ℕ, ◌+◌, ◌^◌, ◌<◌, List, ◌++◌, length, take, drop, refl, sym, ap, ◌∙◌, append_assoc, []}
 use Rattle.std.proofs.Math.Seq.{drop-append-add}
 use Rattle.std.proofs.lemmas.List.{take_at}
 use Rattle.byteorder.specs.Endian.{little_bytes, little_number}
@@ -39,7 +39,7 @@ unfolding header_bytes
 in_parts v = simp append_assoc
 
 -- a number that stands where the bytes go on so
-number_there : (bytes rest : List ℕ) (n x m : ℕ) → drop m bytes ≡ little_bytes n x ++ rest → x < 256 ^ n → field bytes m n ≡ x
+pub number_there : (bytes rest : List ℕ) (n x m : ℕ) → drop m bytes ≡ little_bytes n x ++ rest → x < 256 ^ n → field bytes m n ≡ x
 unfolding field
 number_there bytes rest n x m there fits = ap (λ (l : List ℕ). little_number n l) there ∙ little_number-reads_back n x rest fits
 

@@ -1,1 +1,2 @@
+pub mod GasBytes
 pub mod HeaderBytes

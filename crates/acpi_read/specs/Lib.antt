@@ -1,2 +1,4 @@
+pub mod Fadts
+pub mod Gases
 pub mod Headers
 pub mod Roots

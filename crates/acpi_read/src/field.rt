@@ -34,6 +34,16 @@ pub(crate) fn u64_at(bytes: &[u8], offset: usize) -> u64
     LittleEndian::read_u64(&bytes[offset..])
 }
 
+/// The little-endian number in `width` bytes, of which there are 1 to 8.
+#[tactic(auto, unfolding(acpi_base::specs::Number::field))]
+pub(crate) fn number_at(bytes: &[u8], offset: usize, width: usize) -> u64
+    requires width { (1 ≤ width) × (width ≤ 8) }
+    requires room { offset + width ≤ length bytes.now }
+    ensures { result ≡ field bytes.now offset width }
+{
+    LittleEndian::read_uint(&bytes[offset..], width)
+}
+
 /// As many bytes as the array has.
 pub(crate) fn bytes_at<const N: usize>(bytes: &[u8], offset: usize) -> [u8; N]
     requires { offset + N ≤ length bytes.now }
@@ -71,6 +81,16 @@ pub(crate) fn put_u32(out: &mut [u8], offset: usize, number: u32)
     ensures fits { number < 256 ^ 4 }
 {
     LittleEndian::write_u32(&mut out[offset..], number);
+}
+
+/// Puts the 8 bytes of a number behind those before the offset.
+pub(crate) fn put_u64(out: &mut [u8], offset: usize, number: u64)
+    requires { offset + 8 ≤ length out.old }
+    ensures count { length out.new ≡ length out.old }
+    ensures front { take (offset + 8) out.new ≡ take offset out.old ++ little_bytes 8 number }
+    ensures fits { number < 256 ^ 8 }
+{
+    put_bytes(out, offset, &number.to_le_bytes());
 }
 
 /// Whether the bytes begin with the signature.

@@ -60,6 +60,8 @@ impl Layout for Header {
 
     ghost bytes_of = { λ header. header_bytes (header_value header) };
 
+    ghost counted = { λ _ _ says. says.count };
+
     ghost one_value = { one_header };
 
     fn read(bytes: &[u8]) -> Option<Header>

@@ -28,7 +28,10 @@ pub trait Layout: Sized {
         ensures bytes { out.new ≡ bytes_of self.now }
         ensures layout { is_layout out.new self.now };
 
-    /// Bytes say one value at most.
+    /// There are `LEN` of them.
+    ghost counted: { (bytes : List ℕ) (value : Self) → is_layout bytes value → length bytes ≡ LEN };
+
+    /// They say one value at most.
     ghost one_value: { (bytes : List ℕ) (one other : Self) → is_layout bytes one → is_layout bytes other → one ≡ other };
 }
 

@@ -18,7 +18,10 @@
 //! an address of 0 means none.
 #![tactic(auto)]
 
+mod facs;
+mod fadt;
 mod field;
+mod gas;
 mod header;
 mod layout;
 mod listed;
@@ -26,6 +29,9 @@ mod root;
 mod rsdp;
 mod table;
 
+pub use facs::Facs;
+pub use fadt::{Block, Fadt};
+pub use gas::Gas;
 pub use header::Header;
 pub use layout::{Layout, read_back};
 pub use listed::first;

@@ -12,9 +12,9 @@ use std::marker::Model;
 /// The root system description pointer (ACPI 6.5, 5.2.5.3), which names the RSDT and the XSDT.
 ///
 /// A revision of 0 or 1 means the short form of 20 bytes, which names no XSDT; 2 or more means the
-/// extended form. The sums were right when it was read. The four fields are kept as they stood there:
-/// nothing says that a table stands where they point. The extended form's three reserved bytes are
-/// ignored, and so are bytes past its 36, beyond their part in the sum.
+/// extended form of at least 36. Its sums were right when it was read; nothing says that a table stands
+/// where it points. The three reserved bytes at offset 33 and the bytes past 36 are ignored, save that
+/// they count in the sum.
 #[derive(Clone, Copy, Debug, PartialEq, Eq)]
 pub struct Rsdp {
     address: u64,

@@ -23,21 +23,21 @@ fn words_of(alloc: Global, line: &str) -> Result<Vec<String>, AllocError> {
 #[test]
 fn lines_that_are_read(rt: HostRuntime) {
     let lines = [
-        ("acpiset check --rsdp e0000", 0xe0000, Stage::Tables),
-        ("acpiset check --rsdp 0xe0000", 0xe0000, Stage::Tables),
-        ("acpiset check --rsdp E0000", 0xe0000, Stage::Tables),
-        ("acpiset check --rsdp=e0000", 0xe0000, Stage::Tables),
-        ("acpiset check --rsdp 0", 0, Stage::Tables),
-        ("a check --rsdp 0", 0, Stage::Tables),
+        ("acpiset check --rsdp e0000", 0xe0000, Stage::Facs),
+        ("acpiset check --rsdp 0xe0000", 0xe0000, Stage::Facs),
+        ("acpiset check --rsdp E0000", 0xe0000, Stage::Facs),
+        ("acpiset check --rsdp=e0000", 0xe0000, Stage::Facs),
+        ("acpiset check --rsdp 0", 0, Stage::Facs),
+        ("a check --rsdp 0", 0, Stage::Facs),
         (
             "acpiset check --rsdp ffffffffffffffff",
             u64::MAX,
-            Stage::Tables,
+            Stage::Facs,
         ),
         (
             "acpiset check --rsdp 0x0123456789aBcDeF",
             0x0123_4567_89ab_cdef,
-            Stage::Tables,
+            Stage::Facs,
         ),
         (
             "acpiset check --rsdp e0000 --through 1",
@@ -104,7 +104,7 @@ fn lines_that_are_refused(rt: HostRuntime) {
         "acpiset check --rsdp e0000 --through ",
         "acpiset check --rsdp e0000 --through 0",
         "acpiset check --rsdp e0000 --through 00",
-        "acpiset check --rsdp e0000 --through 4",
+        "acpiset check --rsdp e0000 --through 6",
         "acpiset check --rsdp e0000 --through 19",
         "acpiset check --rsdp e0000 --through 003",
         "acpiset check --rsdp e0000 --through 0x3",
@@ -124,12 +124,15 @@ fn lines_that_are_refused(rt: HostRuntime) {
 
 #[test]
 fn lines_that_leave_the_address_out(rt: HostRuntime) {
-    for line in ["acpiset check", "acpiset check --through 3"] {
+    for (line, stage) in [
+        ("acpiset check", Stage::Facs),
+        ("acpiset check --through 3", Stage::Tables),
+    ] {
         let Job::Check { rsdp, last, .. } = read(rt.alloc(), line).expect(&rt, line) else {
             panic!(rt; "{line}");
         };
         assert_eq!(rt; rsdp, None, "{line}");
-        assert_eq!(rt; last, Stage::Tables, "{line}");
+        assert_eq!(rt; last, stage, "{line}");
     }
 }
 

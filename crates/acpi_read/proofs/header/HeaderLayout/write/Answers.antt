@@ -1,6 +1,6 @@
-use Rattle.std.proofs.Common.{rules, ◌≡◌, ℕ, ◌++◌, length, take, sym, ap, ◌∙◌, arith, append_assoc}
+use Rattle.std.proofs.Common.{rules, ◌≡◌, take, ap, ◌∙◌, arith}
 use Rattle.std.proofs.lemmas.List.{take_all}
-use Rattle.acpi_base.specs.Header.{header_of, header_bytes, IsHeader}
+use Rattle.acpi_base.specs.Header.{header_of, header_bytes}
 use Rattle.acpi_read.specs.Headers.{header_value}
 use Rattle.acpi_read.proofs.HeaderBytes.{FitsHeader, header_of-header_bytes}
 use Rattle.acpi_read.proofs.header.HeaderLayout.write.Goals as goal

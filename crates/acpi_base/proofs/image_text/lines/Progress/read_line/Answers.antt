@@ -1,4 +1,4 @@
-use Rattle.std.proofs.Common.{sym, ap, ◌∙◌, length, ◌<◌}
+use Rattle.std.proofs.Common.{sym, ap, ◌∙◌}
 use Rattle.acpi_base.specs.TextReading.{line_with}
 use Rattle.acpi_base.proofs.LineLemmas.{data_some}
 use Rattle.acpi_base.proofs.image_text.lines.Progress.read_line.Goals as goal

@@ -1,0 +1,96 @@
+//! The firmware ACPI control structure.
+
+ghost use Rattle.std.specs.Prelude.{◌≡◌, ◌≢◌, ◌≤◌, ◌<◌, ◌^◌, ◌%◌, ◌↔◌, ℕ, length, Some, None, IsOk, IfOk, IfErr, IfSome, true};
+ghost use Rattle.acpi_base.specs.Codes.{code_number};
+ghost use Rattle.acpi_base.specs.Fadt.{facs_address, is_reduced};
+ghost use Rattle.acpi_base.specs.Facs.{IsFacs, HasSoundFacs, NamedFacsFault};
+ghost use Rattle.acpi_base.specs.declared.code.Code.{Code};
+
+use crate::fadt::Fadt;
+use crate::field::{is_signed, u32_at};
+use acpi_base::{Code, Image};
+use std::marker::Model;
+
+/// The firmware ACPI control structure (ACPI 6.5, 5.2.10): as many bytes as its Length says, from 64 to
+/// 2^32 - 1, at an address that is a multiple of 64. It has no checksum. Contracts see its address and its
+/// bytes.
+///
+/// What stands behind its Length field is not looked at.
+#[derive(Debug, Drop)]
+pub struct Facs<'a> {
+    address: u64,
+    bytes: &'a [u8],
+}
+
+impl<'a> Model for Facs<'a> {
+    ghost use Rattle.std.specs.Prelude.{◌≡◌, ◌≢◌, ◌≤◌, ◌<◌, ◌^◌, ◌%◌, length};
+    ghost use Rattle.acpi_read.specs.Fadts.{FacsValue};
+
+    ghost Value = { FacsValue };
+
+    ghost view = { λ facs. record { address = facs.address; bytes = facs.bytes.now } };
+
+    ghost invariant = { λ facs. (facs.address % 64 ≡ 0) × (facs.address ≢ 0) × (64 ≤ length facs.bytes.now) × (length facs.bytes.now < 2 ^ 32) };
+}
+
+impl<'a> Facs<'a> {
+    /// The FACS that a FADT names, or none where the hardware is reduced and the FADT names none. One that
+    /// is named is read also where the hardware is reduced. The FADT may come from another image: its bytes
+    /// are all that counts.
+    ///
+    /// Refuses, in this order:
+    /// `NoFacs`, where the FADT names none and the hardware is not reduced;
+    /// `FacsAlign`, where the address that it names is no multiple of 64;
+    /// `FacsHeaderOut`, where the 8 bytes there are not all held;
+    /// `FacsSignature`, where they do not begin with `FACS`;
+    /// `FacsLength`, where its Length is below 64;
+    /// `FacsOut`, where its Length bytes are not all held.
+    pub fn read(image: &'a Image, fadt: &Fadt<'_>) -> Result<Option<Facs<'a>>, Code>
+        ensures ok { IsOk result ↔ HasSoundFacs image.now fadt.now }
+        ensures none { (result ≡ Ok None) ↔ ((is_reduced fadt.now ≡ true) × (facs_address fadt.now ≡ 0)) }
+        ensures some { IfOk result (λ found. IfSome found (λ facs. (facs.address ≡ facs_address fadt.now) × (facs.address ≢ 0) × IsFacs image.now facs.address facs.bytes)) }
+        ensures fault { IfErr result (λ code. NamedFacsFault image.now fadt.now code (facs_address fadt.now)) }
+        ensures least { IfErr result (λ code. (other : Code) (at : ℕ) → NamedFacsFault image.now fadt.now other at → code_number code ≤ code_number other) }
+    {
+        let address = fadt.facs_address();
+        if address == 0 {
+            if fadt.reduced() {
+                return Ok(None);
+            }
+            return Err(Code::NoFacs);
+        }
+        if address % 64 != 0 {
+            return Err(Code::FacsAlign);
+        }
+        let Some(front) = image.window(address, 8) else {
+            return Err(Code::FacsHeaderOut);
+        };
+        if !is_signed(front, b"FACS") {
+            return Err(Code::FacsSignature);
+        }
+        let length = u32_at(front, 4);
+        if length < 64 {
+            return Err(Code::FacsLength);
+        }
+        let Some(bytes) = image.window(address, u64::from(length)) else {
+            return Err(Code::FacsOut);
+        };
+        Ok(Some(Facs { address, bytes }))
+    }
+
+    /// The address that it was read at, which is a multiple of 64 and not 0.
+    pub fn address(&self) -> u64
+        ensures address { result ≡ self.now.address }
+        ensures aligned { (self.now.address % 64 ≡ 0) × (self.now.address ≢ 0) }
+    {
+        self.address
+    }
+
+    /// All its bytes: at least 64, and fewer than 2^32.
+    pub fn bytes(&self) -> &'a [u8]
+        ensures bytes { result.now ≡ self.now.bytes }
+        ensures count { (64 ≤ length self.now.bytes) × (length self.now.bytes < 2 ^ 32) }
+    {
+        self.bytes
+    }
+}

@@ -1,0 +1,460 @@
+//! The fixed ACPI description table.
+
+ghost use Rattle.std.specs.Prelude.{◌≡◌, ◌≤◌, ◌<◌, ◌+◌, ◌^◌, ◌⊎◌, ◌↔◌, ℕ, length, slice_get, Some, IsTrue, IsOk, IsNone, IfOk, IfErr, IfSome, false};
+ghost use Rattle.acpi_base.specs.Codes.{code_number};
+ghost use Rattle.acpi_base.specs.Header.{header_of};
+ghost use Rattle.acpi_base.specs.Fadt.{fadt_places, field_number, has_flag, is_reduced, has_reset, wide_address, address_of, facs_address, dsdt_address, gas_at, block_value, HasBlockLengths, IsResetRegister, IsSoundFadtTable, FadtTableFault};
+ghost use Rattle.acpi_base.specs.Number.{field};
+ghost use Rattle.acpi_base.specs.declared.code.Code.{Code};
+ghost use Rattle.acpi_read.specs.Fadts.{place_value, block_said};
+ghost use Rattle.acpi_read.specs.Gases.{gas_value};
+ghost use Rattle.acpi_read.specs.Headers.{header_value};
+
+use crate::field::{number_at, u8_at, u32_at, u64_at};
+use crate::gas::{Gas, gas_in};
+use crate::header::{Header, header_at};
+use crate::table::Table;
+use acpi_base::{Code, Witness};
+use std::marker::Model;
+
+/// Where a field begins, and how many bytes it has.
+#[derive(Clone, Copy, Debug)]
+struct Place {
+    offset: u8,
+    width: u8,
+}
+
+/// The fields that are whole numbers, in the standard's order (ACPI 6.5, table 5.9).
+const PLACES: [Place; 41] = [
+    Place {
+        offset: 36,
+        width: 4,
+    }, // 0 FIRMWARE_CTRL
+    Place {
+        offset: 40,
+        width: 4,
+    }, // 1 DSDT
+    Place {
+        offset: 44,
+        width: 1,
+    }, // 2 reserved
+    Place {
+        offset: 45,
+        width: 1,
+    }, // 3 Preferred_PM_Profile
+    Place {
+        offset: 46,
+        width: 2,
+    }, // 4 SCI_INT
+    Place {
+        offset: 48,
+        width: 4,
+    }, // 5 SMI_CMD
+    Place {
+        offset: 52,
+        width: 1,
+    }, // 6 ACPI_ENABLE
+    Place {
+        offset: 53,
+        width: 1,
+    }, // 7 ACPI_DISABLE
+    Place {
+        offset: 54,
+        width: 1,
+    }, // 8 S4BIOS_REQ
+    Place {
+        offset: 55,
+        width: 1,
+    }, // 9 PSTATE_CNT
+    Place {
+        offset: 56,
+        width: 4,
+    }, // 10 PM1a_EVT_BLK
+    Place {
+        offset: 60,
+        width: 4,
+    }, // 11 PM1b_EVT_BLK
+    Place {
+        offset: 64,
+        width: 4,
+    }, // 12 PM1a_CNT_BLK
+    Place {
+        offset: 68,
+        width: 4,
+    }, // 13 PM1b_CNT_BLK
+    Place {
+        offset: 72,
+        width: 4,
+    }, // 14 PM2_CNT_BLK
+    Place {
+        offset: 76,
+        width: 4,
+    }, // 15 PM_TMR_BLK
+    Place {
+        offset: 80,
+        width: 4,
+    }, // 16 GPE0_BLK
+    Place {
+        offset: 84,
+        width: 4,
+    }, // 17 GPE1_BLK
+    Place {
+        offset: 88,
+        width: 1,
+    }, // 18 PM1_EVT_LEN
+    Place {
+        offset: 89,
+        width: 1,
+    }, // 19 PM1_CNT_LEN
+    Place {
+        offset: 90,
+        width: 1,
+    }, // 20 PM2_CNT_LEN
+    Place {
+        offset: 91,
+        width: 1,
+    }, // 21 PM_TMR_LEN
+    Place {
+        offset: 92,
+        width: 1,
+    }, // 22 GPE0_BLK_LEN
+    Place {
+        offset: 93,
+        width: 1,
+    }, // 23 GPE1_BLK_LEN
+    Place {
+        offset: 94,
+        width: 1,
+    }, // 24 GPE1_BASE
+    Place {
+        offset: 95,
+        width: 1,
+    }, // 25 CST_CNT
+    Place {
+        offset: 96,
+        width: 2,
+    }, // 26 P_LVL2_LAT
+    Place {
+        offset: 98,
+        width: 2,
+    }, // 27 P_LVL3_LAT
+    Place {
+        offset: 100,
+        width: 2,
+    }, // 28 FLUSH_SIZE
+    Place {
+        offset: 102,
+        width: 2,
+    }, // 29 FLUSH_STRIDE
+    Place {
+        offset: 104,
+        width: 1,
+    }, // 30 DUTY_OFFSET
+    Place {
+        offset: 105,
+        width: 1,
+    }, // 31 DUTY_WIDTH
+    Place {
+        offset: 106,
+        width: 1,
+    }, // 32 DAY_ALRM
+    Place {
+        offset: 107,
+        width: 1,
+    }, // 33 MON_ALRM
+    Place {
+        offset: 108,
+        width: 1,
+    }, // 34 CENTURY
+    Place {
+        offset: 109,
+        width: 2,
+    }, // 35 IAPC_BOOT_ARCH
+    Place {
+        offset: 111,
+        width: 1,
+    }, // 36 reserved
+    Place {
+        offset: 112,
+        width: 4,
+    }, // 37 Flags
+    Place {
+        offset: 128,
+        width: 1,
+    }, // 38 RESET_VALUE
+    Place {
+        offset: 129,
+        width: 2,
+    }, // 39 ARM_BOOT_ARCH
+    Place {
+        offset: 131,
+        width: 1,
+    }, // 40 minor version
+];
+
+/// The offsets of the blocks' length bytes.
+const BLOCK_LENGTHS: [u8; 8] = [88, 88, 89, 89, 90, 91, 92, 93];
+
+/// Where a field is.
+fn field_place(index: u8) -> Place
+    requires { index < 41 }
+    ensures place { slice_get fadt_places index ≡ Some (place_value result) }
+    ensures width { (1 ≤ result.width) × (result.width ≤ 8) }
+{
+    PLACES[index as usize]
+}
+
+/// Whether a bit of Flags is set.
+#[tactic(auto, unfolding(acpi_base::specs::Fadt::has_flag))]
+fn has_flag(bytes: &[u8], bit: u32) -> bool
+    requires bit { bit < 32 }
+    requires room { 116 ≤ length bytes.now }
+    ensures { result ≡ has_flag bytes.now bit }
+{
+    (u32_at(bytes, 112) >> bit) % 2 == 1
+}
+
+/// The address of 8 bytes at an offset, of a field that ends at `end`, where the table has that field and
+/// the address is not 0.
+#[tactic(auto, unfolding(acpi_base::specs::Fadt::wide_address))]
+fn wide_address(bytes: &[u8], end: usize, offset: usize) -> Option<u64>
+    requires { offset + 8 ≤ end }
+    ensures address { result ≡ wide_address bytes.now end offset }
+    ensures inside { IfSome result (λ address. end ≤ length bytes.now) }
+{
+    if end > bytes.len() {
+        return None;
+    }
+    let address = u64_at(bytes, offset);
+    if address == 0 {
+        return None;
+    }
+    Some(address)
+}
+
+/// The address of 8 bytes where it is there and is not 0, else the one of 4 bytes at `narrow`.
+fn address_of(bytes: &[u8], end: usize, offset: usize, narrow: usize) -> u64
+    requires wide { offset + 8 ≤ end }
+    requires narrow { narrow + 4 ≤ length bytes.now }
+    ensures { result ≡ address_of bytes.now end offset narrow }
+{
+    match wide_address(bytes, end, offset) {
+        Some(address) => address,
+        None => u64::from(u32_at(bytes, narrow)),
+    }
+}
+
+/// A fault that is told of an offset.
+fn fault_at(code: Code, at: u64) -> Witness
+    ensures { result ≡ record { code = code; at = at; other = 0; point = 0 } }
+{
+    Witness {
+        code,
+        at,
+        other: 0,
+        point: 0,
+    }
+}
+
+/// The first of the blocks' lengths that is wrong where the hardware is not reduced.
+fn length_fault(bytes: &[u8]) -> Option<Witness>
+    requires { 116 ≤ length bytes.now }
+    ensures none { IsNone result ↔ HasBlockLengths bytes.now }
+    ensures fault { IfSome result (λ w. is_reduced bytes.now ≡ false → FadtTableFault bytes.now w.code w.at) }
+    ensures zeros { IfSome result (λ w. (w.other ≡ 0) × (w.point ≡ 0)) }
+    ensures least { IfSome result (λ w. (other : Code) (at : ℕ) → FadtTableFault bytes.now other at → (w.at < at) ⊎ ((w.at ≡ at) × (code_number w.code ≤ code_number other))) }
+{
+    if u8_at(bytes, 88) < 4 {
+        return Some(fault_at(Code::PmEventLength, 88));
+    }
+    if u8_at(bytes, 89) < 2 {
+        return Some(fault_at(Code::PmControlLength, 89));
+    }
+    let timer = u8_at(bytes, 91);
+    if timer != 0 && timer != 4 {
+        return Some(fault_at(Code::PmTimerLength, 91));
+    }
+    if u8_at(bytes, 92) % 2 != 0 {
+        return Some(fault_at(Code::GpeLength, 92));
+    }
+    if u8_at(bytes, 93) % 2 != 0 {
+        return Some(fault_at(Code::GpeLength, 93));
+    }
+    None
+}
+
+/// Whether a reset register is one that the standard allows.
+fn is_reset_register(gas: Gas) -> bool
+    ensures { IsTrue result ↔ IsResetRegister (gas_value gas) }
+{
+    gas.space <= 2 && gas.bit_width == 8 && gas.bit_offset == 0
+}
+
+/// What a FADT says of a register block.
+#[derive(Clone, Copy, Debug, PartialEq, Eq)]
+pub enum Block {
+    /// Nothing: neither field names an address.
+    None,
+    /// The X_ structure, whose address is not 0.
+    Gas(Gas),
+    /// A system I/O port.
+    Port {
+        /// The field of 4 bytes, which is not 0.
+        address: u32,
+        /// The block's length byte: how many bytes it has.
+        bytes: u8,
+    },
+}
+
+/// The fixed ACPI description table (ACPI 6.5, 5.2.9): at least 116 bytes, and fewer than 2^32. Contracts
+/// see the bytes.
+///
+/// A field is there where it lies wholly within the bytes, whatever the revision. The signature, the
+/// revision, reserved bytes and bytes past 276 are not looked at, and nothing says that anything stands
+/// where an address points. An X_ address that is there and is not 0 wins over the field of 4 bytes.
+#[derive(Debug, Drop)]
+pub struct Fadt<'a> {
+    bytes: &'a [u8],
+}
+
+impl<'a> Model for Fadt<'a> {
+    ghost use Rattle.std.specs.Prelude.{◌≤◌, ◌<◌, ◌^◌, ℕ, List, length};
+
+    ghost Value = { List ℕ };
+
+    ghost view = { λ fadt. fadt.bytes.now };
+
+    ghost invariant = { λ fadt. (116 ≤ length fadt.bytes.now) × (length fadt.bytes.now < 2 ^ 32) };
+}
+
+impl<'a> Fadt<'a> {
+    /// A table's bytes as a FADT's. Its signature is not looked at.
+    ///
+    /// Refuses `FadtShort`, where it has fewer than 116 bytes.
+    pub fn new(table: Table<'a>) -> Result<Fadt<'a>, Code>
+        ensures ok { IsOk result ↔ (116 ≤ length table.entry) }
+        ensures same { IfOk result (λ bytes. bytes ≡ table.entry) }
+        ensures fault { IfErr result (λ code. (code ≡ Code.FadtShort) × FadtTableFault table.entry code 0) }
+    {
+        let bytes = table.bytes();
+        if bytes.len() < 116 {
+            return Err(Code::FadtShort);
+        }
+        Ok(Fadt { bytes })
+    }
+
+    /// The first fault by its offset, or none where the table is sound. Its offset is `at`, in bytes from
+    /// the table's start, and the other two numbers are 0.
+    ///
+    /// Where HW_REDUCED_ACPI, bit 20 of Flags, is clear (5.2.9, 4.8.3):
+    /// `PmEventLength` at 88, where PM1_EVT_LEN is below 4;
+    /// `PmControlLength` at 89, where PM1_CNT_LEN is below 2;
+    /// `PmTimerLength` at 91, where PM_TMR_LEN is neither 0 nor 4;
+    /// `GpeLength` at 92 or 93, where GPE0_BLK_LEN or GPE1_BLK_LEN is odd.
+    /// Where RESET_REG_SUP, bit 10 of Flags, is set and the table has at least 129 bytes (4.8.3.6):
+    /// `ResetRegister` at 116, where RESET_REG's space is above 2, its width is not 8 bits or its bit
+    /// offset is not 0.
+    pub fn fault(&self) -> Option<Witness>
+        ensures none { IsNone result ↔ IsSoundFadtTable self.now }
+        ensures fault { IfSome result (λ w. FadtTableFault self.now w.code w.at × (w.other ≡ 0) × (w.point ≡ 0)) }
+        ensures least { IfSome result (λ w. (other : Code) (at : ℕ) → FadtTableFault self.now other at → (w.at < at) ⊎ ((w.at ≡ at) × (code_number w.code ≤ code_number other))) }
+    {
+        let bytes = self.bytes;
+        if !self.reduced()
+            && let Some(w) = length_fault(bytes)
+        {
+            return Some(w);
+        }
+        if has_flag(bytes, 10) && bytes.len() >= 129 && !is_reset_register(gas_in(bytes, 116)) {
+            return Some(fault_at(Code::ResetRegister, 116));
+        }
+        None
+    }
+
+    /// Whether HW_REDUCED_ACPI, bit 20 of Flags, is set: the hardware lacks what the ACPI registers drive.
+    pub fn reduced(&self) -> bool
+        ensures { result ≡ is_reduced self.now }
+    {
+        has_flag(self.bytes, 20)
+    }
+
+    /// The field with this number, which is below 41, or none where the table is too short to have it.
+    ///
+    /// Fields are the whole numbers of 1, 2 and 4 bytes in the standard's order (table 5.9): 0 is
+    /// FIRMWARE_CTRL, 1 DSDT, 2 a reserved byte, 3 Preferred_PM_Profile, 4 SCI_INT, 5 SMI_CMD,
+    /// 6 ACPI_ENABLE, 7 ACPI_DISABLE, 8 S4BIOS_REQ, 9 PSTATE_CNT; 10 to 17 are PM1a_EVT_BLK, PM1b_EVT_BLK,
+    /// PM1a_CNT_BLK, PM1b_CNT_BLK, PM2_CNT_BLK, PM_TMR_BLK, GPE0_BLK and GPE1_BLK; 18 to 23 PM1_EVT_LEN,
+    /// PM1_CNT_LEN, PM2_CNT_LEN, PM_TMR_LEN, GPE0_BLK_LEN and GPE1_BLK_LEN; 24 GPE1_BASE, 25 CST_CNT,
+    /// 26 P_LVL2_LAT, 27 P_LVL3_LAT, 28 FLUSH_SIZE, 29 FLUSH_STRIDE, 30 DUTY_OFFSET, 31 DUTY_WIDTH,
+    /// 32 DAY_ALRM, 33 MON_ALRM, 34 CENTURY, 35 IAPC_BOOT_ARCH, 36 a reserved byte, 37 Flags,
+    /// 38 RESET_VALUE, 39 ARM_BOOT_ARCH and 40 the minor version.
+    #[tactic(auto, unfolding(acpi_base::specs::Fadt::field_number))]
+    pub fn field(&self, index: u8) -> Option<u64>
+        requires { index < 41 }
+        ensures { result ≡ field_number self.now index }
+    {
+        let place = field_place(index);
+        let offset = place.offset as usize;
+        let width = place.width as usize;
+        if offset + width > self.bytes.len() {
+            return None;
+        }
+        Some(number_at(self.bytes, offset, width))
+    }
+
+    /// The FACS's address, from X_FIRMWARE_CTRL at 132 or FIRMWARE_CTRL at 36; 0 for none.
+    pub fn facs_address(&self) -> u64
+        ensures { result ≡ facs_address self.now }
+    {
+        address_of(self.bytes, 140, 132, 36)
+    }
+
+    /// The DSDT's address, from X_DSDT at 140 or DSDT at 40; 0 for none.
+    pub fn dsdt_address(&self) -> u64
+        ensures { result ≡ dsdt_address self.now }
+    {
+        address_of(self.bytes, 148, 140, 40)
+    }
+
+    /// Register block k, which is below 8: PM1a_EVT, PM1b_EVT, PM1a_CNT, PM1b_CNT, PM2_CNT, PM_TMR, GPE0
+    /// and GPE1.
+    ///
+    /// The X_ structure at 148 + 12k, where the table has it and its address is not 0; else a system I/O
+    /// port at the address of 4 bytes at 56 + 4k, where that is not 0, whose length is the byte at 88, 88,
+    /// 89, 89, 90, 91, 92 or 93; else none. That the field of 4 bytes means system I/O, and that the two
+    /// need not agree, is this project's choice.
+    #[tactic(auto, unfolding(acpi_base::specs::Fadt::block_value))]
+    pub fn block(&self, k: u8) -> Block
+        requires { k < 8 }
+        ensures { block_said result ≡ block_value self.now k }
+    {
+        let bytes = self.bytes;
+        let step = 12 * k as usize;
+        if wide_address(bytes, 160 + step, 152 + step).is_some() {
+            return Block::Gas(gas_in(bytes, 148 + step));
+        }
+        let address = u32_at(bytes, 56 + 4 * k as usize);
+        if address == 0 {
+            return Block::None;
+        }
+        Block::Port {
+            address,
+            bytes: u8_at(bytes, BLOCK_LENGTHS[k as usize] as usize),
+        }
+    }
+
+    /// All its bytes, header and all: at least 116, and fewer than 2^32.
+    pub fn bytes(&self) -> &'a [u8]
+        ensures bytes { result.now ≡ self.now }
+        ensures count { (116 ≤ length self.now) × (length self.now < 2 ^ 32) }
+    {
+        self.bytes
+    }
+
+    /// The fields of its first 36 bytes.
+    pub fn header(&self) -> Header
+        ensures { header_value result ≡ header_of self.now }
+    {
+        header_at(self.bytes)
+    }
+}

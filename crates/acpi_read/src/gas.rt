@@ -1,0 +1,74 @@
+//! Generic addresses.
+
+ghost use Rattle.std.specs.Prelude.{◌≡◌, ◌≤◌, ◌↔◌, ◌+◌, length, Some, IsSome, IfSome};
+ghost use Rattle.acpi_base.specs.Fadt.{gas_at, gas_bytes, IsGas};
+ghost use Rattle.acpi_read.specs.Gases.{gas_value, one_gas};
+ghost use Rattle.acpi_read.specs.declared.gas.Gas.{Gas};
+
+use crate::field::{put_u8, put_u64, u8_at, u64_at};
+use crate::layout::Layout;
+
+/// The 12 bytes of a generic address structure (ACPI 6.5, 5.2.3.2), which says where a register is. Offsets
+/// are from its own start. It has no reserved bytes, and any 12 bytes are one: nothing is asked of the
+/// address space, nor that the sizes agree.
+#[derive(Clone, Copy, Debug, PartialEq, Eq)]
+pub struct Gas {
+    /// At 0: which address space: 0 is system memory, 1 system I/O, 2 PCI configuration space.
+    pub space: u8,
+    /// At 1: the register's width in bits.
+    pub bit_width: u8,
+    /// At 2: at which bit it begins.
+    pub bit_offset: u8,
+    /// At 3: how many bytes are read or written at a time: 0 for not said, 1 to 4 for 1, 2, 4 and 8 bytes.
+    pub access_size: u8,
+    /// At 4: where it is in its space; 0 for none.
+    pub address: u64,
+}
+
+/// The generic address at an offset.
+pub(crate) fn gas_in(bytes: &[u8], offset: usize) -> Gas
+    requires { offset + 12 ≤ length bytes.now }
+    ensures { gas_value result ≡ gas_at bytes.now offset }
+{
+    Gas {
+        space: u8_at(bytes, offset),
+        bit_width: u8_at(bytes, offset + 1),
+        bit_offset: u8_at(bytes, offset + 2),
+        access_size: u8_at(bytes, offset + 3),
+        address: u64_at(bytes, offset + 4),
+    }
+}
+
+impl Layout for Gas {
+    ghost LEN = { 12 };
+
+    const LEN: usize = 12;
+
+    ghost is_layout = { λ bytes gas. IsGas bytes (gas_value gas) };
+
+    ghost bytes_of = { λ gas. gas_bytes (gas_value gas) };
+
+    ghost counted = { λ _ _ h. h.count };
+
+    ghost one_value = { one_gas };
+
+    fn read(bytes: &[u8]) -> Option<Gas>
+        ensures value { IfSome result (λ gas. IsGas bytes.now (gas_value gas)) }
+        ensures any { (gas : Gas) → IsGas bytes.now (gas_value gas) → result ≡ Some gas }
+        ensures count { IsSome result ↔ (length bytes.now ≡ 12) }
+    {
+        if bytes.len() != Gas::LEN {
+            return None;
+        }
+        Some(gas_in(bytes, 0))
+    }
+
+    fn write(&self, out: &mut [u8]) {
+        let gas = *self;
+        put_u8(out, 0, gas.space);
+        put_u8(out, 1, gas.bit_width);
+        put_u8(out, 2, gas.bit_offset);
+        put_u8(out, 3, gas.access_size);
+        put_u64(out, 4, gas.address);
+    }
+}
