@@ -85,7 +85,7 @@ unmapped : (o : Option ℕ) → option_map (λ x. Twice x) o ≡ None → o ≡ 
 unmapped None e = refl
 unmapped (Some x) e = absurd (cc)
 
-fits_unless : (t : Bool) (o : Option ℕ) → cond t (Some PastEnd) (option_map (λ x. Twice x) o) ≡ None → (t ≡ false) × (o ≡ None)
+pub fits_unless : (t : Bool) (o : Option ℕ) → cond t (Some PastEnd) (option_map (λ x. Twice x) o) ≡ None → (t ≡ false) × (o ≡ None)
 fits_unless true o e = absurd (cc)
 fits_unless false o e = (refl, unmapped o e)
 

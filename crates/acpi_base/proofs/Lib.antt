@@ -24,4 +24,7 @@ pub mod Runs
 pub mod Search
 pub mod Segments
 pub mod Slots
+mod Standing
 pub mod TableFaults
+mod TextLines
+mod TextMeaning

@@ -126,7 +126,7 @@ put_data_keeps r n bytes (Some address) s e =
       | Some fault ↦ λ f. absurd (cc)
     ] e
 
-take_line_keeps : (r : Reading) (n : ℕ) (said : Line) (s : Reading) → take_line r n said ≡ Ok s → s.through ≡ r.through
+pub take_line_keeps : (r : Reading) (n : ℕ) (said : Line) (s : Reading) → take_line r n said ≡ Ok s → s.through ≡ r.through
 take_line_keeps r n Blank s e = let same : r ≡ s = cc in sym (ap (λ x. x.through) same)
 take_line_keeps r n (Address address) s e = let same : record r { next = Some address } ≡ s = cc in sym (ap (λ x. x.through) same)
 take_line_keeps r n (Data bytes) s e = put_data_keeps r n bytes r.next s e

@@ -26,47 +26,47 @@ place offset width = record { offset = offset; width = width }
 -- the fields that are whole numbers, in the standard's order (table 5.9), from 0 on
 abbrev pub fadt_places : List Place
 fadt_places =
-    place 36 4 ∷ -- 0 FIRMWARE_CTRL
-    place 40 4 ∷ -- 1 DSDT
-    place 44 1 ∷ -- 2 reserved
-    place 45 1 ∷ -- 3 Preferred_PM_Profile
-    place 46 2 ∷ -- 4 SCI_INT
-    place 48 4 ∷ -- 5 SMI_CMD
-    place 52 1 ∷ -- 6 ACPI_ENABLE
-    place 53 1 ∷ -- 7 ACPI_DISABLE
-    place 54 1 ∷ -- 8 S4BIOS_REQ
-    place 55 1 ∷ -- 9 PSTATE_CNT
-    place 56 4 ∷ -- 10 PM1a_EVT_BLK
-    place 60 4 ∷ -- 11 PM1b_EVT_BLK
-    place 64 4 ∷ -- 12 PM1a_CNT_BLK
-    place 68 4 ∷ -- 13 PM1b_CNT_BLK
-    place 72 4 ∷ -- 14 PM2_CNT_BLK
-    place 76 4 ∷ -- 15 PM_TMR_BLK
-    place 80 4 ∷ -- 16 GPE0_BLK
-    place 84 4 ∷ -- 17 GPE1_BLK
-    place 88 1 ∷ -- 18 PM1_EVT_LEN
-    place 89 1 ∷ -- 19 PM1_CNT_LEN
-    place 90 1 ∷ -- 20 PM2_CNT_LEN
-    place 91 1 ∷ -- 21 PM_TMR_LEN
-    place 92 1 ∷ -- 22 GPE0_BLK_LEN
-    place 93 1 ∷ -- 23 GPE1_BLK_LEN
-    place 94 1 ∷ -- 24 GPE1_BASE
-    place 95 1 ∷ -- 25 CST_CNT
-    place 96 2 ∷ -- 26 P_LVL2_LAT
-    place 98 2 ∷ -- 27 P_LVL3_LAT
-    place 100 2 ∷ -- 28 FLUSH_SIZE
-    place 102 2 ∷ -- 29 FLUSH_STRIDE
-    place 104 1 ∷ -- 30 DUTY_OFFSET
-    place 105 1 ∷ -- 31 DUTY_WIDTH
-    place 106 1 ∷ -- 32 DAY_ALRM
-    place 107 1 ∷ -- 33 MON_ALRM
-    place 108 1 ∷ -- 34 CENTURY
-    place 109 2 ∷ -- 35 IAPC_BOOT_ARCH
-    place 111 1 ∷ -- 36 reserved
-    place 112 4 ∷ -- 37 Flags
-    place 128 1 ∷ -- 38 RESET_VALUE
-    place 129 2 ∷ -- 39 ARM_BOOT_ARCH
-    place 131 1 ∷ -- 40 minor version
+    place 36 4 ∷  -- 0 FIRMWARE_CTRL
+    place 40 4 ∷  -- 1 DSDT
+    place 44 1 ∷  -- 2 reserved
+    place 45 1 ∷  -- 3 Preferred_PM_Profile
+    place 46 2 ∷  -- 4 SCI_INT
+    place 48 4 ∷  -- 5 SMI_CMD
+    place 52 1 ∷  -- 6 ACPI_ENABLE
+    place 53 1 ∷  -- 7 ACPI_DISABLE
+    place 54 1 ∷  -- 8 S4BIOS_REQ
+    place 55 1 ∷  -- 9 PSTATE_CNT
+    place 56 4 ∷  -- 10 PM1a_EVT_BLK
+    place 60 4 ∷  -- 11 PM1b_EVT_BLK
+    place 64 4 ∷  -- 12 PM1a_CNT_BLK
+    place 68 4 ∷  -- 13 PM1b_CNT_BLK
+    place 72 4 ∷  -- 14 PM2_CNT_BLK
+    place 76 4 ∷  -- 15 PM_TMR_BLK
+    place 80 4 ∷  -- 16 GPE0_BLK
+    place 84 4 ∷  -- 17 GPE1_BLK
+    place 88 1 ∷  -- 18 PM1_EVT_LEN
+    place 89 1 ∷  -- 19 PM1_CNT_LEN
+    place 90 1 ∷  -- 20 PM2_CNT_LEN
+    place 91 1 ∷  -- 21 PM_TMR_LEN
+    place 92 1 ∷  -- 22 GPE0_BLK_LEN
+    place 93 1 ∷  -- 23 GPE1_BLK_LEN
+    place 94 1 ∷  -- 24 GPE1_BASE
+    place 95 1 ∷  -- 25 CST_CNT
+    place 96 2 ∷  -- 26 P_LVL2_LAT
+    place 98 2 ∷  -- 27 P_LVL3_LAT
+    place 100 2 ∷  -- 28 FLUSH_SIZE
+    place 102 2 ∷  -- 29 FLUSH_STRIDE
+    place 104 1 ∷  -- 30 DUTY_OFFSET
+    place 105 1 ∷  -- 31 DUTY_WIDTH
+    place 106 1 ∷  -- 32 DAY_ALRM
+    place 107 1 ∷  -- 33 MON_ALRM
+    place 108 1 ∷  -- 34 CENTURY
+    place 109 2 ∷  -- 35 IAPC_BOOT_ARCH
+    place 111 1 ∷  -- 36 reserved
+    place 112 4 ∷  -- 37 Flags
+    place 128 1 ∷  -- 38 RESET_VALUE
+    place 129 2 ∷  -- 39 ARM_BOOT_ARCH
+    place 131 1 ∷  -- 40 minor version
     []
 
 -- whether a field that ends before this offset lies wholly below the table's Length

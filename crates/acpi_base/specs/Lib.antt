@@ -20,5 +20,6 @@ pub mod Tables
 pub mod Tally
 pub mod TextLaws
 pub mod TextMachine
+pub mod TextMeaning
 pub mod TextReading
 pub mod WitnessText

@@ -1,6 +1,8 @@
 -- What the laws of image text say.
-use Rattle.std.specs.Prelude.{◌≡◌, ◌↔◌, ℕ, List, ◌++◌}
-use Rattle.acpi_base.specs.ImageText.{read_text, read_front, IsRefused, IsRefusedFront}
+use Rattle.std.specs.Prelude.{◌≡◌, ◌↔◌, ◌⊎◌, ℕ, List, ◌++◌}
+use Rattle.acpi_base.specs.ImageText.{read_text, read_front, IsText, IsRefused, IsRefusedFront}
+use Rattle.acpi_base.specs.Memory.{Memory}
+use Rattle.acpi_base.specs.TextMeaning.{text_lines, AreLines, IsGoodText}
 use Rattle.acpi_base.specs.TextMachine.{Standing, Stopped, beginning, run, end_text, standing_of}
 use Rattle.acpi_base.specs.declared.text.TextFault.{TextFault}
 
@@ -23,3 +25,27 @@ RunGoesOn = (s : Standing) (xs ys : List ℕ) → run s (xs ++ ys) ≡ run (run 
 -- a fault in the front of a text is the whole text's, whatever comes after
 abbrev pub FrontDecides : Type 0
 FrontDecides = (bytes more : List ℕ) (fault : TextFault) → IsRefusedFront bytes fault → IsRefused (bytes ++ more) fault
+
+-- what it means that a text has no fault and gives an image
+abbrev pub TextMeans : Type 0
+TextMeans = (bytes : List ℕ) (m : Memory) → IsText bytes m ↔ IsGoodText bytes m
+
+-- a text is good, or is refused with a fault
+abbrev pub TextOrFault : Type 0
+TextOrFault = (bytes : List ℕ) → ((m : Memory) × IsGoodText bytes m) ⊎ ((fault : TextFault) × IsRefused bytes fault)
+
+-- a good text is not refused
+abbrev pub NeverBoth : Type 0
+NeverBoth = (bytes : List ℕ) (m : Memory) (fault : TextFault) → IsGoodText bytes m → ¬ IsRefused bytes fault
+
+-- a good text has one image
+abbrev pub OneImage : Type 0
+OneImage = (bytes : List ℕ) (m n : Memory) → IsGoodText bytes m → IsGoodText bytes n → m ≡ n
+
+-- a text is refused with at most one fault
+abbrev pub OneTextFault : Type 0
+OneTextFault = (bytes : List ℕ) (one other : TextFault) → IsRefused bytes one → IsRefused bytes other → one ≡ other
+
+-- which lists are the lines of a text
+abbrev pub LinesMean : Type 0
+LinesMean = (bytes : List ℕ) (lines : List (List ℕ)) → (text_lines bytes ≡ lines) ↔ AreLines bytes lines

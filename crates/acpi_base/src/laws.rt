@@ -3,7 +3,7 @@
 ghost use Rattle.std.specs.Prelude.{◌≡◌, ℕ, ◌↔◌, List, Some, IsSome};
 ghost use Rattle.acpi_base.specs.Memory.{Memory, bytes_at, Has, AreBytes};
 ghost use Rattle.acpi_base.specs.Laws.{FaultsExcludeClean, FaultsFit, CleanOrFaulty, CleanOrFirstFault, OneFirstFault, OneVerdict};
-ghost use Rattle.acpi_base.specs.TextLaws.{RunReadsText, RunReadsFront, RunStopsAtFaults, RunGoesOn, FrontDecides};
+ghost use Rattle.acpi_base.specs.TextLaws.{RunReadsText, RunReadsFront, RunStopsAtFaults, RunGoesOn, FrontDecides, TextMeans, TextOrFault, NeverBoth, OneImage, OneTextFault, LinesMean};
 
 /// An image with a fault of a stage is not clean to that stage or a later one: a fault that is told is
 /// always a reason to refuse the image.
@@ -49,6 +49,25 @@ pub fn machine_reads_lines()
 /// A fault that stands in the front of an image text is the fault of the whole text.
 pub fn front_decides()
     ensures { FrontDecides }
+{}
+
+/// A text is read without a fault, and to this image, exactly where it is a good text whose data is this
+/// image.
+pub fn text_means()
+    ensures means { TextMeans }
+{}
+
+/// A text is good or is refused with a fault, and never both: it has one image, or one fault.
+pub fn text_or_fault()
+    ensures either { TextOrFault }
+    ensures apart { NeverBoth }
+    ensures image { OneImage }
+    ensures fault { OneTextFault }
+{}
+
+/// The lines of a text are what stands between its LFs.
+pub fn lines_mean()
+    ensures means { LinesMean }
 {}
 
 /// `bytes_at` gives a list exactly where all addresses are held, and then the list of their bytes.

@@ -1,5 +1,5 @@
 -- What a generic address's bytes say is what they were made of.
-use Rattle.std.proofs.Common.{◌≡◌, ℕ, ◌^◌, ◌<◌, [], drop, refl}
+use Rattle.std.proofs.Common.{◌≡◌, ◌^◌, ◌<◌, [], drop, refl}
 use Rattle.acpi_base.specs.Number.{field}
 use Rattle.acpi_base.specs.Fadt.{GasValue, gas_at, gas_bytes}
 use Rattle.acpi_read.proofs.HeaderBytes.{number_there}

@@ -9,7 +9,7 @@ use Rattle.acpi_read.specs.declared.fadt.Block.TheVariants as block
 
 -- where a field begins, and how many bytes it has
 abbrev pub place_value : Place → fadt.Place
-place_value p = record { offset = p.offset; width = p.width }
+place_value p = record { offset = p.0; width = p.1 }
 
 -- what is said of a register block
 abbrev pub block_said : Block → BlockValue

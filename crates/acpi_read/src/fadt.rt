@@ -19,177 +19,51 @@ use std::marker::Model;
 
 /// Where a field begins, and how many bytes it has.
 #[derive(Clone, Copy, Debug)]
-struct Place {
-    offset: u8,
-    width: u8,
-}
+struct Place(u8, u8);
 
 /// The fields that are whole numbers, in the standard's order (ACPI 6.5, table 5.9).
 const PLACES: [Place; 41] = [
-    Place {
-        offset: 36,
-        width: 4,
-    }, // 0 FIRMWARE_CTRL
-    Place {
-        offset: 40,
-        width: 4,
-    }, // 1 DSDT
-    Place {
-        offset: 44,
-        width: 1,
-    }, // 2 reserved
-    Place {
-        offset: 45,
-        width: 1,
-    }, // 3 Preferred_PM_Profile
-    Place {
-        offset: 46,
-        width: 2,
-    }, // 4 SCI_INT
-    Place {
-        offset: 48,
-        width: 4,
-    }, // 5 SMI_CMD
-    Place {
-        offset: 52,
-        width: 1,
-    }, // 6 ACPI_ENABLE
-    Place {
-        offset: 53,
-        width: 1,
-    }, // 7 ACPI_DISABLE
-    Place {
-        offset: 54,
-        width: 1,
-    }, // 8 S4BIOS_REQ
-    Place {
-        offset: 55,
-        width: 1,
-    }, // 9 PSTATE_CNT
-    Place {
-        offset: 56,
-        width: 4,
-    }, // 10 PM1a_EVT_BLK
-    Place {
-        offset: 60,
-        width: 4,
-    }, // 11 PM1b_EVT_BLK
-    Place {
-        offset: 64,
-        width: 4,
-    }, // 12 PM1a_CNT_BLK
-    Place {
-        offset: 68,
-        width: 4,
-    }, // 13 PM1b_CNT_BLK
-    Place {
-        offset: 72,
-        width: 4,
-    }, // 14 PM2_CNT_BLK
-    Place {
-        offset: 76,
-        width: 4,
-    }, // 15 PM_TMR_BLK
-    Place {
-        offset: 80,
-        width: 4,
-    }, // 16 GPE0_BLK
-    Place {
-        offset: 84,
-        width: 4,
-    }, // 17 GPE1_BLK
-    Place {
-        offset: 88,
-        width: 1,
-    }, // 18 PM1_EVT_LEN
-    Place {
-        offset: 89,
-        width: 1,
-    }, // 19 PM1_CNT_LEN
-    Place {
-        offset: 90,
-        width: 1,
-    }, // 20 PM2_CNT_LEN
-    Place {
-        offset: 91,
-        width: 1,
-    }, // 21 PM_TMR_LEN
-    Place {
-        offset: 92,
-        width: 1,
-    }, // 22 GPE0_BLK_LEN
-    Place {
-        offset: 93,
-        width: 1,
-    }, // 23 GPE1_BLK_LEN
-    Place {
-        offset: 94,
-        width: 1,
-    }, // 24 GPE1_BASE
-    Place {
-        offset: 95,
-        width: 1,
-    }, // 25 CST_CNT
-    Place {
-        offset: 96,
-        width: 2,
-    }, // 26 P_LVL2_LAT
-    Place {
-        offset: 98,
-        width: 2,
-    }, // 27 P_LVL3_LAT
-    Place {
-        offset: 100,
-        width: 2,
-    }, // 28 FLUSH_SIZE
-    Place {
-        offset: 102,
-        width: 2,
-    }, // 29 FLUSH_STRIDE
-    Place {
-        offset: 104,
-        width: 1,
-    }, // 30 DUTY_OFFSET
-    Place {
-        offset: 105,
-        width: 1,
-    }, // 31 DUTY_WIDTH
-    Place {
-        offset: 106,
-        width: 1,
-    }, // 32 DAY_ALRM
-    Place {
-        offset: 107,
-        width: 1,
-    }, // 33 MON_ALRM
-    Place {
-        offset: 108,
-        width: 1,
-    }, // 34 CENTURY
-    Place {
-        offset: 109,
-        width: 2,
-    }, // 35 IAPC_BOOT_ARCH
-    Place {
-        offset: 111,
-        width: 1,
-    }, // 36 reserved
-    Place {
-        offset: 112,
-        width: 4,
-    }, // 37 Flags
-    Place {
-        offset: 128,
-        width: 1,
-    }, // 38 RESET_VALUE
-    Place {
-        offset: 129,
-        width: 2,
-    }, // 39 ARM_BOOT_ARCH
-    Place {
-        offset: 131,
-        width: 1,
-    }, // 40 minor version
+    Place(36, 4), // 0 FIRMWARE_CTRL
+    Place(40, 4), // 1 DSDT
+    Place(44, 1), // 2 reserved
+    Place(45, 1), // 3 Preferred_PM_Profile
+    Place(46, 2), // 4 SCI_INT
+    Place(48, 4), // 5 SMI_CMD
+    Place(52, 1), // 6 ACPI_ENABLE
+    Place(53, 1), // 7 ACPI_DISABLE
+    Place(54, 1), // 8 S4BIOS_REQ
+    Place(55, 1), // 9 PSTATE_CNT
+    Place(56, 4), // 10 PM1a_EVT_BLK
+    Place(60, 4), // 11 PM1b_EVT_BLK
+    Place(64, 4), // 12 PM1a_CNT_BLK
+    Place(68, 4), // 13 PM1b_CNT_BLK
+    Place(72, 4), // 14 PM2_CNT_BLK
+    Place(76, 4), // 15 PM_TMR_BLK
+    Place(80, 4), // 16 GPE0_BLK
+    Place(84, 4), // 17 GPE1_BLK
+    Place(88, 1), // 18 PM1_EVT_LEN
+    Place(89, 1), // 19 PM1_CNT_LEN
+    Place(90, 1), // 20 PM2_CNT_LEN
+    Place(91, 1), // 21 PM_TMR_LEN
+    Place(92, 1), // 22 GPE0_BLK_LEN
+    Place(93, 1), // 23 GPE1_BLK_LEN
+    Place(94, 1), // 24 GPE1_BASE
+    Place(95, 1), // 25 CST_CNT
+    Place(96, 2), // 26 P_LVL2_LAT
+    Place(98, 2), // 27 P_LVL3_LAT
+    Place(100, 2), // 28 FLUSH_SIZE
+    Place(102, 2), // 29 FLUSH_STRIDE
+    Place(104, 1), // 30 DUTY_OFFSET
+    Place(105, 1), // 31 DUTY_WIDTH
+    Place(106, 1), // 32 DAY_ALRM
+    Place(107, 1), // 33 MON_ALRM
+    Place(108, 1), // 34 CENTURY
+    Place(109, 2), // 35 IAPC_BOOT_ARCH
+    Place(111, 1), // 36 reserved
+    Place(112, 4), // 37 Flags
+    Place(128, 1), // 38 RESET_VALUE
+    Place(129, 2), // 39 ARM_BOOT_ARCH
+    Place(131, 1), // 40 minor version
 ];
 
 /// The offsets of the blocks' length bytes.
@@ -199,7 +73,7 @@ const BLOCK_LENGTHS: [u8; 8] = [88, 88, 89, 89, 90, 91, 92, 93];
 fn field_place(index: u8) -> Place
     requires { index < 41 }
     ensures place { slice_get fadt_places index ≡ Some (place_value result) }
-    ensures width { (1 ≤ result.width) × (result.width ≤ 8) }
+    ensures width { (1 ≤ result.1) × (result.1 ≤ 8) }
 {
     PLACES[index as usize]
 }
@@ -393,9 +267,9 @@ impl<'a> Fadt<'a> {
         requires { index < 41 }
         ensures { result ≡ field_number self.now index }
     {
-        let place = field_place(index);
-        let offset = place.offset as usize;
-        let width = place.width as usize;
+        let Place(offset, width) = field_place(index);
+        let offset = offset as usize;
+        let width = width as usize;
         if offset + width > self.bytes.len() {
             return None;
         }

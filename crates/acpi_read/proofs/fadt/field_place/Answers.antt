@@ -1,4 +1,4 @@
-use Rattle.std.proofs.Common.{◌≡◌, ◌≤◌, ◌<◌, ℕ, length, map, slice_get, get_or, Some, Bool, true, nat_le, ◌&&◌, refl, sym, ap, ◌∙◌, arith}
+use Rattle.std.proofs.Common.{◌≡◌, map, slice_get, get_or, Bool, true, nat_le, ◌&&◌, refl, sym, ap, ◌∙◌, arith}
 use Rattle.std.specs.List.{list_all}
 use Rattle.std.specs.Option.{option_map}
 use Rattle.std.proofs.lemmas.Bool.Decides.{nat_tests}
@@ -12,7 +12,7 @@ use Rattle.acpi_read.proofs.fadt.field_place.Goals as goal
 
 -- a place that stands for none
 abbrev nowhere : Place
-nowhere = record { offset = 0; width = 0 }
+nowhere = record { 0 = 0; 1 = 0 }
 
 -- the constant's rows are the definition's
 rows : map place_value PLACES ≡ fadt_places
@@ -20,7 +20,7 @@ rows = refl
 
 -- whether a field has a byte at least and a number's 8 at most
 abbrev has_width : Place → Bool
-has_width p = nat_le 1 p.width && nat_le p.width 8
+has_width p = nat_le 1 p.1 && nat_le p.1 8
 
 widths : list_all has_width PLACES ≡ true
 widths = refl

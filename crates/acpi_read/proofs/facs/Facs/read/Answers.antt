@@ -1,6 +1,6 @@
-use Rattle.std.proofs.Common.{rules, ◌≡◌, ◌≢◌, ℕ, List, refl}
-use Rattle.acpi_base.specs.Fadt.{facs_address, is_reduced}
-use Rattle.acpi_base.specs.Facs.{IsFacs, HasSoundFacs}
+use Rattle.std.proofs.Common.{rules, ◌≢◌, refl}
+use Rattle.acpi_base.specs.Fadt.{facs_address}
+use Rattle.acpi_base.specs.Facs.{IsFacs}
 use Rattle.acpi_read.proofs.facs.Facs.read.Goals as goal
 
 pub returns-clause-ok : goal.returns-clause-ok

@@ -1,7 +1,7 @@
-use Rattle.std.proofs.Common.{rules, ◌≡◌, ◌++◌, ap, ◌∙◌, take, length, sym, arith}
+use Rattle.std.proofs.Common.{rules, ◌≡◌, ◌++◌, ap, ◌∙◌, take, sym, arith}
 use Rattle.std.proofs.lemmas.List.{take_all}
 use Rattle.byteorder.specs.Endian.{little_bytes}
-use Rattle.acpi_base.specs.Fadt.{gas_at, gas_bytes, IsGas}
+use Rattle.acpi_base.specs.Fadt.{gas_at, gas_bytes}
 use Rattle.acpi_read.specs.Gases.{gas_value}
 use Rattle.acpi_read.proofs.GasBytes.{FitsGas, gas_at-gas_bytes}
 use Rattle.acpi_read.proofs.gas.GasLayout.write.Goals as goal

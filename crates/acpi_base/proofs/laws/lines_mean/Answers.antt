@@ -1,0 +1,5 @@
+use Rattle.acpi_base.proofs.TextLines.{lines_mean}
+use Rattle.acpi_base.proofs.laws.lines_mean.Goals as goal
+
+pub returns : goal.returns
+returns c = record { means = lines_mean }
