@@ -102,6 +102,22 @@ for words in '' '--help' 'check --help' 'help' 'chek --rsdp e0000' 'check --rsdp
   runs "words '$words'" 2 '' 'acpiset: *' "$smallest" $words
 done
 
+runs "a word that is not UTF-8" 2 '' 'acpiset: a word is not UTF-8; usage:*' "$smallest" check --rsdp $'\xff'
+
+# status NAME STATUS INPUT WORDS..: runs the program where nothing can be told on standard error.
+status() {
+  local name=$1 status=$2 input=$3 wrong=""
+  shift 3
+  "$program" "$@" <"$input" >"$scratch/out" 2>/dev/full
+  local got=$?
+  [ "$got" = "$status" ] || wrong="status $got, not $status"
+  [ ! -s "$scratch/out" ] || wrong="$wrong; standard output $(cat "$scratch/out")"
+  tell "$name" "$wrong"
+}
+status "no words, and standard error is full" 2 "$smallest"
+status "a text that is no image, and standard error is full" 3 "$(text stray 'zz\n')" check --rsdp e0000
+status "an input that is a folder, and standard error is full" 4 /tmp check --rsdp e0000
+
 # ---- devices that fail
 fails() {
   local wrong=""

@@ -23,7 +23,7 @@ pub record Place : Type 0 where
 abbrev pub place : ℕ → ℕ → Place
 place offset width = record { offset = offset; width = width }
 
--- the fields that are whole numbers, in the standard's order (table 5.9), from 0 on
+-- the fields that are whole numbers of 1, 2 or 4 bytes, in the standard's order (table 5.9), from 0 on
 abbrev pub fadt_places : List Place
 fadt_places =
     place 36 4 ∷  -- 0 FIRMWARE_CTRL
@@ -145,7 +145,8 @@ gas_bytes v =
     ++ little_bytes 1 v.access_size
     ++ little_bytes 8 v.address
 
--- what is said of a register block: nothing, a generic address, or a system I/O port and its bytes
+-- what is said of a register block: nothing, a generic address, or a system I/O port and how many bytes it
+-- has
 pub data BlockValue : Type 0 where
   NoBlock : BlockValue
   GasBlock : GasValue → BlockValue

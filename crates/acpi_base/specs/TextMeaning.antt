@@ -32,7 +32,7 @@ abbrev pub all_data : List Line → List ℕ
 all_data lines = flat_map data_of lines
 
 -- Byte n of all the data stands at address a. A line says an address, and right behind it comes a block of
--- lines of which none says another: the data of the block stands from that address on, and byte n of all
+-- lines of which none says an address: the data of the block stands from that address on, and byte n of all
 -- the data is byte k of the block's.
 pub record StandsAt (lines : List Line) (n a : ℕ) : Type 0 where
   pub front : List Line

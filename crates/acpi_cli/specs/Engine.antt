@@ -18,7 +18,8 @@ use Rattle.acpi_cli.specs.declared.outcome.Outcome.TheVariants as outcome
 use Rattle.acpi_cli.specs.declared.outcome.RunFault.{RunFault}
 use Rattle.acpi_cli.specs.declared.outcome.RunFault.TheVariants as run
 
--- What a reader or a writer had and has: its known bytes and its count of failures.
+-- A reader or a writer before and after: the bytes that a reader has left, or that a writer holds, where they
+-- are known, and its count of failures.
 pub record Device : Type 0 where
   pub bytes_before : Option (List ℕ)
   pub bytes_after : Option (List ℕ)

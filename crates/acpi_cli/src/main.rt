@@ -18,7 +18,7 @@ use check::run_check;
 use command_line::complaint;
 use find::run_find;
 use outcome::status_of;
-use std::alloc::Global;
+use std::io::ErrorKind;
 use std::process::ExitCode;
 use words::{Job, USAGE, WordFault, read_words};
 
@@ -28,8 +28,9 @@ const REFUSED_WORDS: u8 = 2;
 /// The exit status where no memory was found.
 const NO_MEMORY: u8 = 4;
 
-/// Runs the job on standard input and output, and tells on standard error why it gave up.
-fn run(rt: &HostRuntime, job: Job) -> std::io::Result<u8>
+/// Runs the job on standard input and output, and tells on standard error why it gave up. What cannot be
+/// told there changes nothing in the exit status.
+fn run(rt: &HostRuntime, job: Job) -> u8
     requires { IsBuilt job }
 {
     let alloc = rt.alloc();
@@ -42,30 +43,49 @@ fn run(rt: &HostRuntime, job: Job) -> std::io::Result<u8>
         Job::Find => run_find(alloc, &mut reader, &mut writer),
     };
     if let Err(fault) = &answer {
-        eprintln!(rt; "acpiset: {fault}")?;
+        let _ = eprintln!(rt; "acpiset: {fault}");
     }
-    Ok(status_of(&answer))
+    status_of(&answer)
 }
 
 /// Tells on standard error what is wrong with the words, and which words there are.
-fn refuse(rt: &HostRuntime, alloc: Global, words: &[String]) -> std::io::Result<u8> {
-    match complaint(alloc, words) {
-        Some(wrong) => eprintln!(rt; "acpiset: {wrong}; {USAGE}")?,
-        None => eprintln!(rt; "acpiset: {USAGE}")?,
+fn refuse(rt: &HostRuntime, wrong: Option<&str>) -> u8 {
+    let _ = match wrong {
+        Some(wrong) => eprintln!(rt; "acpiset: {wrong}; {USAGE}"),
+        None => eprintln!(rt; "acpiset: {USAGE}"),
+    };
+    REFUSED_WORDS
+}
+
+/// Tells on standard error that there is no memory for the words.
+fn refuse_memory(rt: &HostRuntime) -> u8 {
+    let _ = eprintln!(rt; "acpiset: {}", WordFault::Memory);
+    NO_MEMORY
+}
+
+/// The words of the command line, the program's own name first. Refuses `Words` where one is not UTF-8.
+fn words_given(rt: &HostRuntime) -> Result<Vec<String>, WordFault> {
+    match std::env::args(rt) {
+        Ok(words) => words.collect(rt.alloc()).map_err(|_| WordFault::Memory),
+        Err(error) if error.kind() == ErrorKind::InvalidData => Err(WordFault::Words),
+        Err(_) => Err(WordFault::Memory),
     }
-    Ok(REFUSED_WORDS)
+}
+
+/// Does what the words ask for, and answers the exit status.
+fn obey(rt: &HostRuntime, words: &[String]) -> u8 {
+    match read_words(rt.alloc(), words) {
+        Ok(job) => run(rt, job),
+        Err(WordFault::Words) => refuse(rt, complaint(rt.alloc(), words).as_deref()),
+        Err(WordFault::Memory) => refuse_memory(rt),
+    }
 }
 
 fn main(rt: HostRuntime) -> std::io::Result<ExitCode> {
-    let alloc = rt.alloc();
-    let words: Vec<String> = std::env::args(&rt)?.collect(alloc)?;
-    let status = match read_words(alloc, words.as_slice()) {
-        Ok(job) => run(&rt, job)?,
-        Err(WordFault::Words) => refuse(&rt, alloc, words.as_slice())?,
-        Err(WordFault::Memory) => {
-            eprintln!(rt; "acpiset: out of memory")?;
-            NO_MEMORY
-        }
+    let status = match words_given(&rt) {
+        Ok(words) => obey(&rt, words.as_slice()),
+        Err(WordFault::Words) => refuse(&rt, Some("a word is not UTF-8")),
+        Err(WordFault::Memory) => refuse_memory(&rt),
     };
     Ok(ExitCode::from(status))
 }

@@ -1,6 +1,6 @@
 //! The tables that a root lists.
 
-ghost use Rattle.std.specs.Prelude.{◌<◌, ◌↔◌, IsTrue, IsNone, IfSome, ℕ};
+ghost use Rattle.std.specs.Prelude.{◌≡◌, ◌<◌, ◌↔◌, IsTrue, IsNone, IfSome, Some, ℕ};
 ghost use Rattle.acpi_base.specs.Root.{HasSlot, IsFirstListed};
 ghost use Rattle.acpi_base.specs.Tables.{IsSigned};
 ghost use Rattle.acpi_read.specs.Roots.{slots_of};
@@ -41,6 +41,7 @@ fn signed_at(image: &Image, root: &Root<'_>, k: u32, signature: &[u8]) -> Option
 pub fn first(image: &Image, root: &Root<'_>, signature: [u8; 4]) -> Option<u64>
     ensures found { IfSome result (IsFirstListed image.now root.now.bytes root.now.width signature) }
     ensures none { IsNone result → (k a : ℕ) → HasSlot root.now.bytes root.now.width k a → ¬ IsSigned image.now a signature }
+    ensures every { (a : ℕ) → IsFirstListed image.now root.now.bytes root.now.width signature a → result ≡ Some a }
 {
     for k in 0..root.slots() {
         if let Some(address) = signed_at(image, root, k, &signature) {
