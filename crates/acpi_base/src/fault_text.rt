@@ -1,5 +1,8 @@
 //! Faults and verdicts as text.
 
+#[cfg(test)]
+mod tests;
+
 ghost use Rattle.std.specs.Prelude.{◌≡◌, ◌++◌, IfOk, OnOk, codes};
 ghost use Rattle.acpi_base.specs.WitnessText.{hex_text, witness_line, verdict_line};
 

@@ -6,10 +6,10 @@ mod lines;
 #[cfg(test)]
 mod tests;
 
-ghost use Rattle.std.specs.Prelude.{◌≡◌, ℕ, List, IfOk, MatchResult};
+ghost use Rattle.std.specs.Prelude.{◌≡◌, ◌≤◌, ◌+◌, ℕ, List, length, IfOk, MatchResult};
 ghost use Rattle.std.specs.Io.KnownBytes.{Consumes, IsAtEnd};
 ghost use Rattle.acpi_base.specs.Memory.{IsImage};
-ghost use Rattle.acpi_base.specs.ImageText.{IsText};
+ghost use Rattle.acpi_base.specs.ImageText.{IsText, max_text};
 ghost use Rattle.acpi_base.specs.TextReading.{IsRefusal, CountsRead};
 
 use crate::image::Image;
@@ -46,6 +46,7 @@ pub fn read_image<R: Read>(alloc: Global, reader: &mut Tally<R>) -> Result<Image
     ensures image { IfOk result IsImage }
     ensures count { MatchResult result (λ _. reader.new.failures ≡ reader.old.failures)
         (CountsRead reader.old.failures reader.new.failures) }
+    ensures bound { (text : List ℕ) × Consumes (R.remaining reader.old.inner) (R.remaining reader.new.inner) text × (length text ≤ max_text + 1) }
 {
     let mut text = Vec::new(alloc);
     match collect(reader, &mut text) {

@@ -11,7 +11,9 @@ mod outcome;
 mod tests;
 mod words;
 
-ghost use Rattle.acpi_cli.specs.CommandLine.{IsBuilt};
+ghost use Rattle.std.specs.Prelude.{◌≡◌, ◌≢◌, ◌⊎◌, IsNone, IsSome, map};
+ghost use Rattle.std.specs.String.{string_bytes};
+ghost use Rattle.acpi_cli.specs.CommandLine.{IsBuilt, asked};
 
 use acpi_base::Tally;
 use check::run_check;
@@ -32,6 +34,7 @@ const NO_MEMORY: u8 = 4;
 /// told there changes nothing in the exit status.
 fn run(rt: &HostRuntime, job: Job) -> u8
     requires { IsBuilt job }
+    ensures { result ≢ 2 }
 {
     let alloc = rt.alloc();
     let mut reader = Tally::new(rt.stdin());
@@ -49,7 +52,9 @@ fn run(rt: &HostRuntime, job: Job) -> u8
 }
 
 /// Tells on standard error what is wrong with the words, and which words there are.
-fn refuse(rt: &HostRuntime, wrong: Option<&str>) -> u8 {
+fn refuse(rt: &HostRuntime, wrong: Option<&str>) -> u8
+    ensures { result ≡ 2 }
+{
     let _ = match wrong {
         Some(wrong) => eprintln!(rt; "acpiset: {wrong}; {USAGE}"),
         None => eprintln!(rt; "acpiset: {USAGE}"),
@@ -58,7 +63,9 @@ fn refuse(rt: &HostRuntime, wrong: Option<&str>) -> u8 {
 }
 
 /// Tells on standard error that there is no memory for the words.
-fn refuse_memory(rt: &HostRuntime) -> u8 {
+fn refuse_memory(rt: &HostRuntime) -> u8
+    ensures { result ≡ 4 }
+{
     let _ = eprintln!(rt; "acpiset: {}", WordFault::Memory);
     NO_MEMORY
 }
@@ -73,7 +80,10 @@ fn words_given(rt: &HostRuntime) -> Result<Vec<String>, WordFault> {
 }
 
 /// Does what the words ask for, and answers the exit status.
-fn obey(rt: &HostRuntime, words: &[String]) -> u8 {
+fn obey(rt: &HostRuntime, words: &[String]) -> u8
+    ensures refused { IsNone (asked (map string_bytes words.now)) → (result ≡ 2) ⊎ (result ≡ 4) }
+    ensures taken { IsSome (asked (map string_bytes words.now)) → result ≢ 2 }
+{
     match read_words(rt.alloc(), words) {
         Ok(job) => run(rt, job),
         Err(WordFault::Words) => refuse(rt, complaint(rt.alloc(), words).as_deref()),

@@ -1,7 +1,8 @@
 //! Collecting a text from a reader.
 
-ghost use Rattle.std.specs.Prelude.{◌≡◌, ℕ, List, [], IfOk, OnErr};
+ghost use Rattle.std.specs.Prelude.{◌≡◌, ◌≤◌, ◌+◌, ℕ, List, [], length, IfOk, OnErr};
 ghost use Rattle.std.specs.Io.KnownBytes.{Consumes, IsAtEnd};
+ghost use Rattle.acpi_base.specs.ImageText.{max_text};
 ghost use Rattle.acpi_base.specs.TextReading.{HasEnded};
 
 use crate::tally::Tally;
@@ -31,7 +32,8 @@ pub fn collect<R: Read>(reader: &mut Tally<R>, text: &mut Vec<u8>) -> Result<End
     requires { text.old.items ≡ [] }
     ensures ending { IfOk result (λ ending. Consumes (R.remaining reader.old.inner) (R.remaining reader.new.inner) text.new.items
         × HasEnded ending text.new.items (R.remaining reader.new.inner) reader.old.failures reader.new.failures) }
-    ensures err { OnErr result (((lost : List ℕ) × Consumes (R.remaining reader.old.inner) (R.remaining reader.new.inner) lost)
+    ensures bound { IfOk result (λ _. length text.new.items ≤ max_text + 1) }
+    ensures err { OnErr result (((lost : List ℕ) × Consumes (R.remaining reader.old.inner) (R.remaining reader.new.inner) lost × (length lost ≤ max_text + 1))
         × (reader.new.failures ≡ reader.old.failures)) }
 {
     let mut piece = [0; PIECE];
