@@ -13,6 +13,7 @@ pub mod Joins
 mod LineLemmas
 pub mod Listed
 mod MachineLemmas
+mod OwnRefusals
 pub mod Places
 pub mod Policies
 mod ReadingLemmas

@@ -1,5 +1,5 @@
 -- The laws of faults, over the definitions alone.
-use Rattle.std.specs.Prelude.{◌≡◌, ℕ, ◌^◌, ◌<◌, ◌≤◌, ◌⊎◌}
+use Rattle.std.specs.Prelude.{◌≡◌, ◌^◌, ◌<◌, ◌≤◌, ◌⊎◌}
 use Rattle.acpi_base.specs.Memory.{Memory, IsImage}
 use Rattle.acpi_base.specs.Policy.{PolicyValue, IsPolicy}
 use Rattle.acpi_base.specs.Codes.{stage_number, stage_of}

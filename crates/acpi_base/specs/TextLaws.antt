@@ -1,8 +1,9 @@
 -- What the laws of image text say.
-use Rattle.std.specs.Prelude.{◌≡◌, ◌↔◌, ◌⊎◌, ℕ, List, ◌++◌}
+use Rattle.std.specs.Prelude.{◌≡◌, ◌↔◌, ◌⊎◌, ℕ, List, ◌++◌, true}
 use Rattle.acpi_base.specs.ImageText.{read_text, read_front, IsText, IsRefused, IsRefusedFront}
 use Rattle.acpi_base.specs.Memory.{Memory}
 use Rattle.acpi_base.specs.TextMeaning.{text_lines, AreLines, IsGoodText}
+use Rattle.acpi_base.specs.TextReading.{is_of_text}
 use Rattle.acpi_base.specs.TextMachine.{Standing, Stopped, beginning, run, end_text, standing_of}
 use Rattle.acpi_base.specs.declared.text.TextFault.{TextFault}
 
@@ -37,6 +38,10 @@ TextOrFault = (bytes : List ℕ) → ((m : Memory) × IsGoodText bytes m) ⊎ ((
 -- a good text is not refused
 abbrev pub NeverBoth : Type 0
 NeverBoth = (bytes : List ℕ) (m : Memory) (fault : TextFault) → IsGoodText bytes m → ¬ IsRefused bytes fault
+
+-- what a text is refused with is a fault of the text: no failed read, and no want of memory
+abbrev pub RefusalsAreOwn : Type 0
+RefusalsAreOwn = (bytes : List ℕ) (fault : TextFault) → IsRefused bytes fault → is_of_text fault ≡ true
 
 -- a good text has one image
 abbrev pub OneImage : Type 0

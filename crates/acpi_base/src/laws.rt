@@ -3,7 +3,7 @@
 ghost use Rattle.std.specs.Prelude.{◌≡◌, ℕ, ◌↔◌, List, Some, IsSome};
 ghost use Rattle.acpi_base.specs.Memory.{Memory, bytes_at, Has, AreBytes};
 ghost use Rattle.acpi_base.specs.Laws.{FaultsExcludeClean, FaultsFit, CleanOrFaulty, CleanOrFirstFault, OneFirstFault, OneVerdict};
-ghost use Rattle.acpi_base.specs.TextLaws.{RunReadsText, RunReadsFront, RunStopsAtFaults, RunGoesOn, FrontDecides, TextMeans, TextOrFault, NeverBoth, OneImage, OneTextFault, LinesMean};
+ghost use Rattle.acpi_base.specs.TextLaws.{RunReadsText, RunReadsFront, RunStopsAtFaults, RunGoesOn, FrontDecides, TextMeans, TextOrFault, NeverBoth, OneImage, OneTextFault, RefusalsAreOwn, LinesMean};
 
 /// An image with a fault of a stage is not clean to that stage or a later one: a fault that is told is
 /// always a reason to refuse the image.
@@ -57,12 +57,14 @@ pub fn text_means()
     ensures means { TextMeans }
 {}
 
-/// A text is good or is refused with a fault, and never both: it has one image, or one fault.
+/// A text is good or is refused with a fault, and never both: it has one image, or one fault, which is one
+/// of a text's own.
 pub fn text_or_fault()
     ensures either { TextOrFault }
     ensures apart { NeverBoth }
     ensures image { OneImage }
     ensures fault { OneTextFault }
+    ensures own { RefusalsAreOwn }
 {}
 
 /// The lines of a text are what stands between its LFs.

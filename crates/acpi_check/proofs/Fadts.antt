@@ -1,5 +1,5 @@
 -- The FADT that a root lists is the set's, and a fault at its start comes first.
-use Rattle.std.proofs.Common.{◌≡◌, ◌<◌, ℕ, List, length, inl, inr, arith, sym, refl}
+use Rattle.std.proofs.Common.{ℕ, List, arith}
 use Rattle.acpi_base.specs.Memory.{Memory}
 use Rattle.acpi_base.specs.Root.{IsRoot, IsRootTable, HasSlot, IsFirstListed}
 use Rattle.acpi_base.specs.Tables.{IsTable, IsSigned, IsSoundTable}

@@ -1,5 +1,4 @@
 use Rattle.std.proofs.Common.{refl}
-use Rattle.acpi_base.specs.Facs.{NamedFacsFault}
 use Rattle.acpi_base.specs.Fadt.{facs_address, IsSoundFadt}
 use Rattle.acpi_base.proofs.FacsFaults.{facs_sound_of_fadt, first_named_facs_fault_at}
 use Rattle.acpi_check.proofs.facs.sound_facs.Goals as goal

@@ -1,4 +1,4 @@
-use Rattle.std.proofs.Common.{◌≡◌, refl, sym, subst, List, ℕ, true≢false}
+use Rattle.std.proofs.Common.{refl, sym, subst, List, ℕ, true≢false}
 use Rattle.acpi_base.specs.Root.{IsSoundRoot}
 use Rattle.acpi_base.specs.Fadt.{IsFadt}
 use Rattle.acpi_base.proofs.Listed.{no_fadt_and_fadt}

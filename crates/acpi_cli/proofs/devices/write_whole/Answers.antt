@@ -1,4 +1,4 @@
-use Rattle.std.proofs.Common.{◌-◌, length, drop, length-drop, length-take, arith, take, ◌∙◌}
+use Rattle.std.proofs.Common.{length-drop, length-take, arith, ◌∙◌}
 use Rattle.acpi_cli.proofs.Sent.{sent_more}
 use Rattle.acpi_cli.proofs.devices.write_whole.Goals as goal
 

@@ -1,4 +1,4 @@
-use Rattle.std.proofs.Common.{◌≤◌, ◌+◌, ◌-◌, length, take, ◌++◌, ◌∙◌, vec_items, arith, length-append}
+use Rattle.std.proofs.Common.{◌≤◌, ◌-◌, length, take, ◌++◌, ◌∙◌, vec_items, arith, length-append}
 use Rattle.std.proofs.KnownBytes.{Consumes-trans}
 use Rattle.std.proofs.Math.Nat.{min-le_left}
 use Rattle.std.proofs.lemmas.List.{length-take}
