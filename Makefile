@@ -16,9 +16,10 @@ acpiset: $(sources)
 	cd crates/acpi_cli && rt run -- check --rsdp e0000 --through 3 < stdin > /dev/null
 	cp $(program) acpiset
 
-# The gate, which proves everything from nothing, and then the tests on the built program.
+# The gate, which proves everything from nothing, and then the documents and the built program.
 test:
 	rt ci
+	tests/documents.sh
 	tests/program.sh $(program)
 
 # Prints speed and memory beside other programs; not part of the tests.

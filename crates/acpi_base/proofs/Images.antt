@@ -5,7 +5,7 @@ use Rattle.std.specs.Option.{option_or, option_map}
 use Rattle.std.specs.List.{AllByRecursion}
 use Rattle.std.specs.FinMap.{same_map, nat_cmp-IsAntisymmetric}
 use Rattle.std.specs.Cmp.{nat_cmp_total}
-use Rattle.std.proofs.lemmas.Bool.Decides.{nat_tests}
+use Rattle.std.proofs.lemmas.Bool.{le-ltb, ltb-false}
 use Rattle.acpi_base.specs.Memory.{Memory, byte_of, first_of, bytes_at, first_held, with_bytes, IsImage}
 use Rattle.acpi_base.specs.declared.image.segments.Segment.{Segment}
 use Rattle.acpi_base.specs.declared.image.ImageFault.{ImageFault}
@@ -63,7 +63,7 @@ memory_of-put a bs old new p = same_memory (memory_of new) (with_bytes (memory_o
 pub no_refusal : (f : ℕ → Option ℕ) (a n : ℕ) → a < 2 ^ 64 → n ≡ 0 → None ≡ cond (nat_lt (2 ^ 64) (a + n)) (Some PastEnd) (option_map (λ x. Twice x) (first_of f a n))
 unfolding first_of
 no_refusal f a zero l e =
-    let low : nat_lt (2 ^ 64) (a + 0) ≡ false = grind (arith, nat_tests) in
+    let low : nat_lt (2 ^ 64) (a + 0) ≡ false = le-ltb (2 ^ 64) (a + 0) (omega arith) in
     rw low refl
 no_refusal f a (suc n) l e = absurd (omega arith)
 
@@ -93,7 +93,6 @@ fits_unless false o e = (refl, unmapped o e)
 pub free_unless : (found ss : List Segment) (a : ℕ) (bs : List ℕ) (refused : Option ImageFault) → found ≡ ss → IsTidy (runs ss) → 0 < length bs → ((k : ℕ) → get_or bs k 0 < 256)
     → refused ≡ cond (nat_lt (2 ^ 64) (a + length bs)) (Some PastEnd) (option_map (λ x. Twice x) (first_of (lookup (runs found)) a (length bs))) → refused ≡ None → IsFree (run_at a bs) (runs ss)
 free_unless found ss a bs refused f t h s r none =
-    let is = fits_unless (nat_lt (2 ^ 64) (a + length bs)) _ (sym r ∙ none) in
-    let below : nat_lt (2 ^ 64) (a + length bs) ≡ false = is.0 in
-    let fits : a + length bs ≤ 2 ^ 64 = grind (arith, nat_tests) in
+    let is = fits_unless (nat_lt (2 ^ 64) (a + length bs)) (first_of (lookup (runs found)) a (length bs)) (sym r ∙ none) in
+    let fits : a + length bs ≤ 2 ^ 64 = ltb-false (2 ^ 64) (a + length bs) is.0 in
     free_run (runs ss) a bs t h fits s (ap (λ (ts : List Segment). first_of (lookup (runs ts)) a (length bs)) (sym f) ∙ is.1)
