@@ -29,8 +29,8 @@ pub record HasSoundFacs (m : Memory) (fadt : List ℕ) : Type 0 where
   pub none : facs_address fadt ≡ 0 → is_reduced fadt ≡ true
   pub named : facs_address fadt ≢ 0 → (whole : List ℕ) × IsFacs m (facs_address fadt) whole
 
--- Stage 5: the FADT of the set, where there is one, has a sound FACS or needs none. It speaks of a FADT of
--- at least 116 bytes: stage 4 refuses a shorter one.
+-- Stage 5: the FADT of the set, where there is one, has a sound FACS or needs none. Stage 4 refuses a FADT
+-- of fewer than 116 bytes.
 abbrev pub IsSoundFacs : Memory → ℕ → Type 0
 IsSoundFacs m p = (fadt : List ℕ) → IsFadt m p fadt → HasSoundFacs m fadt
 

@@ -1,4 +1,22 @@
-//! The ground that the ACPI table checker stands on.
+//! What every part of the ACPI table checker stands on: images of a machine's memory, the text that they are
+//! read from, the codes of faults, and the definitions of what a sound set of tables is.
+//!
+//! - `Image`: bytes at 64-bit addresses. `read_image` reads one from image text.
+//! - `sum`, `find_rsdp`: a checksum, and the search for the RSDP.
+//! - `Code`, `Stage`, `Witness`, `Verdict`: what can be wrong, in which part of the check, where, and the
+//!   answer of a check. `witness_text` and `verdict_text` write them.
+//! - `Policy`: what a check is told beside the image.
+//! - `Tally`: a reader or writer that counts its failures.
+//! - `laws`: what holds of the definitions, such as that an image has one first fault or none.
+//!
+//! ```rust
+//! let mut reader = Tally::new(b"@1000\n01 02\n03 # the last byte\n".as_slice());
+//! let image = read_image(alloc, &mut reader)?;
+//! assert_eq!(rt; image.window(0x1000, 3), Some([1, 2, 3].as_slice()));
+//! assert_eq!(rt; image.window(0x1000, 4), None);
+//! ```
+//!
+//! `specs/` has the definitions, a file a subject. They name no function of the code.
 #![tactic(auto)]
 
 mod checksum;

@@ -1,7 +1,15 @@
-//! The stages of a check. Each is one function: where the earlier stages hold, it answers the first fault
-//! of its stage, or that the stage holds. `check_to` asks them in their order.
+//! The check: whether the tables of an image are sound, and else the first fault.
 //!
-//! Nothing here takes memory.
+//! Each stage is one function: where the earlier stages hold, it answers the first fault of its stage, or
+//! that the stage holds. `check_to` asks them in their order. Nothing here takes memory.
+//!
+//! ```rust
+//! let policy = Policy::new(alloc, 0xe0000, 24)?;
+//! match check_to(alloc, &image, &policy, Stage::Facs)? {
+//!     Verdict::Yes => {}         // the RSDP, the root, the listed tables, the FADT and the FACS are sound
+//!     Verdict::No(fault) => {}   // the first fault, in a fixed order
+//! }
+//! ```
 #![tactic(auto)]
 
 mod check;

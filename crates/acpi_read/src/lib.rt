@@ -1,5 +1,5 @@
-//! Views of the ACPI tables in a memory image: the RSDP, the root, a listed table, and the header that
-//! the last two begin with.
+//! Views of the ACPI tables in a memory image: the RSDP, the root, any listed table, the FADT and the FACS;
+//! and the fixed layouts in them, headers and generic addresses.
 //!
 //! A view is read at an address. It borrows its bytes from the image and takes no memory. Reading answers
 //! the view exactly where all that it asks for holds, else the code of the first thing that does not, in
@@ -10,6 +10,19 @@
 //! Root::read(image, rsdp)        NoRoot .. RootSum              the XSDT, else the RSDT
 //! Table::read(image, address)    TableHeaderOut .. TableSum     any table that a slot lists
 //! first(image, root, signature)  an address or none             asks a held header alone
+//! Fadt::new(table)               FadtShort                      at least 116 bytes
+//! Facs::read(image, fadt)        NoFacs .. FacsOut              the one that a FADT names, or none
+//! ```
+//!
+//! `Fadt::fault` answers a whole fault, with its place, since a FADT has several that differ by it.
+//!
+//! ```rust
+//! let rsdp = Rsdp::read(&image, 0xe0000)?;
+//! let root = Root::read(&image, &rsdp)?;
+//! if let Some(address) = first(&image, &root, *b"FACP") {
+//!     let fadt = Fadt::new(Table::read(&image, address)?)?;
+//!     let facs = Facs::read(&image, &fadt)?;
+//! }
 //! ```
 //!
 //! What a view trusts: nothing but the bytes that it was read from. A view may be handed another that was
