@@ -1,11 +1,12 @@
 -- Bytes that an image holds, and the numbers in them.
-use Rattle.std.proofs.Common.{◌≡◌, ℕ, zero, suc, ◌+◌, ◌^◌, ◌<◌, List, [], ◌∷◌, length, drop, Option, Some, None, refl, sym, ap, ◌∙◌, subst, inl, inr, arith}
+use Rattle.std.proofs.Common.{◌≡◌, ℕ, zero, suc, ◌+◌, ◌^◌, ◌<◌, List, [], ◌∷◌, length, drop, Option, Some, None, refl, sym, ◌∙◌, subst, inl, inr, arith}
 use Rattle.std.specs.Prelude.{◌⊎◌, slice_index}
 use Rattle.std.proofs.lemmas.List.{get_or-drop}
 use Rattle.std.proofs.lemmas.Option.{none-some, same_Some}
 use Rattle.byteorder.specs.Numbers.{little_from-lt}
-use Rattle.acpi_base.specs.Memory.{Memory, IsImage, byte_of, bytes_at, run_of, cons_both}
+use Rattle.acpi_base.specs.Memory.{Memory, IsImage, byte_of, bytes_at, run_of}
 use Rattle.acpi_base.specs.Number.{field}
+use Rattle.acpi_base.proofs.Runs.{run_of-split, run_of-count}
 
 -- there is a value or none
 pub cases_Option : {X : Type 0} (o : Option X) → ((x : X) × (o ≡ Some x)) ⊎ (o ≡ None)
@@ -20,20 +21,9 @@ none_and_some {x = x} none some = none-some x (sym none ∙ some)
 pub same_value : {X : Type 0} {o : Option X} (x y : X) → o ≡ Some x → o ≡ Some y → x ≡ y
 same_value x y e f = same_Some x y (sym e ∙ f)
 
--- what an element in front of the rest is made of
-pub cons_both_parts : (o : Option ℕ) (rest : Option (List ℕ)) (bytes : List ℕ) → cons_both o rest ≡ Some bytes → (b : ℕ) × (bs : List ℕ) × (o ≡ Some b) × (rest ≡ Some bs) × (b ∷ bs ≡ bytes)
-unfolding cons_both
-cons_both_parts None rest bytes e = absurd (none-some bytes e)
-cons_both_parts (Some b) None bytes e = absurd (none-some bytes e)
-cons_both_parts (Some b) (Some bs) bytes e = (b, bs, refl, refl, same_Some (b ∷ bs) bytes e)
-
 -- the n bytes from an address on are n
 pub length-bytes_at : (m : Memory) (a n : ℕ) (bytes : List ℕ) → bytes_at m a n ≡ Some bytes → length bytes ≡ n
-unfolding run_of
-length-bytes_at m a zero bytes e = ap length (sym (same_Some [] bytes e))
-length-bytes_at m a (suc n) bytes e =
-    let parts = cons_both_parts (byte_of m a) (run_of (byte_of m) (a + 1) n) bytes e in
-    ap length (sym parts.4) ∙ ap suc (length-bytes_at m (a + 1) n parts.1 parts.3)
+length-bytes_at m a n bytes e = run_of-count (byte_of m) a n bytes e
 
 -- each byte of an image is below 256
 pub bytes_below : (m : Memory) → IsImage m → (a n : ℕ) (bytes : List ℕ) → bytes_at m a n ≡ Some bytes → (k : ℕ) → slice_index bytes k < 256
@@ -41,8 +31,8 @@ unfolding run_of
 bytes_below m image a zero bytes e k =
     subst (λ (bs : List ℕ). slice_index bs k < 256) (same_Some [] bytes e) (omega arith)
 bytes_below m image a (suc n) bytes e k =
-    let parts = cons_both_parts (byte_of m a) (run_of (byte_of m) (a + 1) n) bytes e in
-    subst (λ (bs : List ℕ). slice_index bs k < 256) parts.4
+    let parts = run_of-split (byte_of m) a n bytes e in
+    subst (λ (bs : List ℕ). slice_index bs k < 256) (sym parts.4)
     (front_below parts.0 parts.1 (image.bytes a parts.0 parts.2) (bytes_below m image (a + 1) n parts.1 parts.3) k)
   where
     front_below : (b : ℕ) (bs : List ℕ) → b < 256 → ((k : ℕ) → slice_index bs k < 256) → (k : ℕ) → slice_index (b ∷ bs) k < 256
