@@ -11,7 +11,7 @@ use Rattle.acpi_base.specs.Tables.{IsSoundTable, TableFault}
 use Rattle.acpi_base.specs.Fadt.{IsSoundFadt, FadtTableFault, FadtFault}
 use Rattle.acpi_base.specs.Facs.{NamedFacsFault, FacsFault}
 use Rattle.acpi_base.specs.Statements.{Holds, AreSoundTables}
-use Rattle.acpi_base.specs.Faults.{FaultOfStage, NotAfter, IsFirstOfStage, IsFirstFault}
+use Rattle.acpi_base.specs.Faults.{FaultOfStage, NotAfter, IsFirstFault}
 use Rattle.acpi_base.specs.declared.code.Code.{Code}
 use Rattle.acpi_base.specs.declared.code.Code.TheVariants as code
 use Rattle.acpi_base.specs.declared.stage.Stage.{Stage}
@@ -72,6 +72,11 @@ named_facs_fault_stage m fadt at _ h = absurd h
 -- the FACS's faults have the codes of stage 5
 pub facs_fault_stage : (m : Memory) (p at : ℕ) (fault : Code) → FacsFault m p fault at → stage_of fault ≡ stage.Facs
 facs_fault_stage m p at fault h = named_facs_fault_stage m h.0 at fault h.3
+
+-- w is a fault of the stage, and none of its faults stands before it
+pub record IsFirstOfStage (stage : Stage) (m : Memory) (q : PolicyValue) (w : Witness) : Type 0 where
+  pub fault : FaultOfStage stage m q w
+  pub least : (v : Witness) → FaultOfStage stage m q v → NotAfter w v
 
 -- the first fault of a stage is the first fault of a set whose earlier stages hold
 pub first_of_stage : (s : Stage) (m : Memory) (q : PolicyValue) (w : Witness) → stage_of w.code ≡ s → ((t : Stage) → stage_number t < stage_number s → Holds t m q) → IsFirstOfStage s m q w → IsFirstFault m q w

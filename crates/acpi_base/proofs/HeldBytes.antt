@@ -1,12 +1,13 @@
 -- Bytes that an image holds, and the numbers in them.
-use Rattle.std.proofs.Common.{◌≡◌, ℕ, zero, suc, ◌+◌, ◌^◌, ◌<◌, List, [], ◌∷◌, length, drop, Option, Some, None, refl, sym, ◌∙◌, subst, inl, inr, arith}
+use Rattle.std.proofs.Common.{◌≡◌, ℕ, zero, suc, ◌+◌, ◌-◌, ◌^◌, ◌<◌, ◌≤◌, List, [], ◌∷◌, length, take, drop, Option, Some, None, refl, sym, ap, ◌∙◌, subst, inl, inr, arith}
 use Rattle.std.specs.Prelude.{◌⊎◌, slice_index}
-use Rattle.std.proofs.lemmas.List.{get_or-drop}
+use Rattle.std.proofs.lemmas.List.{get_or-drop, drop-take}
 use Rattle.std.proofs.lemmas.Option.{none-some, same_Some}
-use Rattle.byteorder.specs.Numbers.{little_from-lt}
+use Rattle.byteorder.specs.Endian.{little_number}
+use Rattle.byteorder.specs.Numbers.{little_from-lt, little_from-take}
 use Rattle.acpi_base.specs.Memory.{Memory, IsImage, byte_of, bytes_at, run_of}
 use Rattle.acpi_base.specs.Number.{field}
-use Rattle.acpi_base.proofs.Runs.{run_of-split, run_of-count}
+use Rattle.acpi_base.proofs.Runs.{run_of-split, run_of-count, run_of-take}
 
 -- there is a value or none
 pub cases_Option : {X : Type 0} (o : Option X) → ((x : X) × (o ≡ Some x)) ⊎ (o ≡ None)
@@ -48,3 +49,18 @@ field_below bytes below offset width =
 -- a number in so many bytes of an image
 pub held_field_below : (m : Memory) → IsImage m → (a n : ℕ) (bytes : List ℕ) → bytes_at m a n ≡ Some bytes → (offset width : ℕ) → field bytes offset width < 256 ^ width
 held_field_below m image a n bytes held = field_below bytes (bytes_below m image a n bytes held)
+
+-- a number in the front of some bytes is the same in all of them
+pub field-take : (bytes : List ℕ) (n offset width : ℕ) → offset + width ≤ n → field (take n bytes) offset width ≡ field bytes offset width
+unfolding field
+field-take bytes n offset width h =
+    let whole : offset + (n - offset) ≡ n = omega arith in
+    let behind : drop offset (take n bytes) ≡ take (n - offset) (drop offset bytes) = ap (λ k. drop offset (take k bytes)) (sym whole) ∙ drop-take offset (n - offset) bytes in
+    ap (little_number width) behind ∙ little_from-take 0 width (n - offset) (drop offset bytes) (omega arith)
+
+-- bytes that are as many as their front says at 4 say so themselves
+pub says_length : (m : Memory) (a k : ℕ) (front whole : List ℕ) → 8 ≤ k → k ≤ field front 4 4 → bytes_at m a k ≡ Some front
+    → bytes_at m a (field front 4 4) ≡ Some whole → field whole 4 4 ≡ length whole
+says_length m a k front whole wide least front_held held =
+    let same : front ≡ take k whole = same_value front (take k whole) front_held (run_of-take (byte_of m) a (field front 4 4) k whole held least) in
+    sym (field-take whole k 4 4 (omega arith)) ∙ ap (λ bytes. field bytes 4 4) (sym same) ∙ sym (length-bytes_at m a (field front 4 4) whole held)

@@ -43,11 +43,6 @@ NotAfter w v =
     × ((w.other < v.other)
     ⊎ ((w.other ≡ v.other) × (w.point ≤ v.point))))))
 
--- w is a fault of the stage, and none of its faults stands before it
-pub record IsFirstOfStage (stage : Stage) (m : Memory) (q : PolicyValue) (w : Witness) : Type 0 where
-  pub fault : FaultOfStage stage m q w
-  pub least : (v : Witness) → FaultOfStage stage m q v → NotAfter w v
-
 -- w is the first fault: all earlier stages hold, and no fault of its stage stands before it
 pub record IsFirstFault (m : Memory) (q : PolicyValue) (w : Witness) : Type 0 where
   pub fault : Fault m q w

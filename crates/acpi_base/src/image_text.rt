@@ -40,13 +40,13 @@ use std::io::Read;
 pub fn read_image<R: Read>(alloc: Global, reader: &mut Tally<R>) -> Result<Image, TextFault>
     ensures text { (text : List ℕ)
         × Consumes (R.remaining reader.old.inner) (R.remaining reader.new.inner) text
+        × (length text ≤ max_text + 1)
         × MatchResult result
         (λ image. IsAtEnd (R.remaining reader.new.inner) × IsText text image)
         (IsRefusal text (R.remaining reader.new.inner)) }
     ensures image { IfOk result IsImage }
     ensures count { MatchResult result (λ _. reader.new.failures ≡ reader.old.failures)
         (CountsRead reader.old.failures reader.new.failures) }
-    ensures bound { (text : List ℕ) × Consumes (R.remaining reader.old.inner) (R.remaining reader.new.inner) text × (length text ≤ max_text + 1) }
 {
     let mut text = Vec::new(alloc);
     match collect(reader, &mut text) {

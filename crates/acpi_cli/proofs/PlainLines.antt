@@ -7,7 +7,7 @@ use Rattle.clap.specs.declared.builder.value_parser.Reading.TheVariants.{AsWritt
 use Rattle.clap.specs.declared.parser.matches.ValueSource.TheVariants.{CommandLine}
 use Rattle.clap.proofs.OnLiterals.{clap_on_literals}
 use Rattle.acpi_base.specs.declared.stage.TheConstants.{BUILT}
-use Rattle.acpi_cli.specs.CommandLine.{asked, built_stage, check, find, find_line, find_words, check_words, command_asked, check_line, command_line, command_of, is_taken, last_word, short_line, whole_line}
+use Rattle.acpi_cli.specs.CommandLine.{asked, built_stage, check, find, find_line, find_words, check_words, command_asked, check_line, command_line, command_of, is_taken, last_word, short_line, through_line, whole_line}
 use Rattle.acpi_cli.specs.Words.{hex_word}
 
 -- a text that begins with no hyphen
@@ -47,6 +47,11 @@ short_line_gives : (program cs : Text) (c n : ℕ) → (c == 45) ≡ false → h
 unfolding is_taken command_of command_line check_line find_line clap_on_literals
 short_line_gives program cs c n e value = simp (e, value)
 
+through_line_gives : (program cs : Text) (c last : ℕ) → (c == 45) ≡ false → last_word (Some (c ∷ cs)) ≡ Some last
+    → asked (through_line program (c ∷ cs)) ≡ Some (check None last)
+unfolding is_taken command_of command_line check_line find_line clap_on_literals
+through_line_gives program cs c last e stage = simp (e, stage)
+
 abbrev row : Text → Text → Row
 row id value = record { id = id; values = value ∷ []; count = None; source = Some CommandLine; reading = AsWritten }
 
@@ -83,6 +88,11 @@ pub short_line_asked : (program hex : Text) (n : ℕ) → hex_word 16 hex ≡ So
 short_line_asked program hex n e =
     let h = hex_is_plain hex n e in
     ap (λ t. asked (short_line program t)) h.is ∙ short_line_gives program h.rest h.first n h.plain (sym (ap (hex_word 16) h.is) ∙ e)
+
+pub through_line_asked : (program number : Text) (last : ℕ) → last_word (Some number) ≡ Some last → asked (through_line program number) ≡ Some (check None last)
+through_line_asked program number last e =
+    let d = decimal_is_plain number last e in
+    ap (λ t. asked (through_line program t)) d.is ∙ through_line_gives program d.rest d.first last d.plain (sym (ap (λ t. last_word (Some t)) d.is) ∙ e)
 
 pub whole_line_asked : (program hex number : Text) (n last : ℕ) → hex_word 16 hex ≡ Some n → last_word (Some number) ≡ Some last
     → asked (whole_line program hex number) ≡ Some (check (Some n) last)

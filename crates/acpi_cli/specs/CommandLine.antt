@@ -94,6 +94,10 @@ find_words program = program ∷ codes "find" ∷ []
 abbrev pub check_words : Text → List Text
 check_words program = program ∷ codes "check" ∷ []
 
+-- `PROGRAM check --through N`
+abbrev pub through_line : Text → Text → List Text
+through_line program number = program ∷ codes "check" ∷ codes "--through" ∷ number ∷ []
+
 -- `PROGRAM check --rsdp HEX`
 abbrev pub short_line : Text → Text → List Text
 short_line program hex = program ∷ codes "check" ∷ codes "--rsdp" ∷ hex ∷ []

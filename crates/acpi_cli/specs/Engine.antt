@@ -1,10 +1,10 @@
 -- What an engine reads, writes and answers.
-use Rattle.std.specs.Prelude.{◌≡◌, ◌⊎◌, ◌++◌, ℕ, List, take, codes, Option, Some, None, Result, Ok, Err, true}
+use Rattle.std.specs.Prelude.{◌≡◌, ◌≤◌, ◌⊎◌, ◌+◌, ◌++◌, ℕ, List, length, take, codes, Option, Some, None, Result, Ok, Err, true}
 use Rattle.std.specs.Io.KnownBytes.{Appends, Consumes, IsAtEnd, Keeps}
 use Rattle.acpi_base.specs.Memory.{Memory}
 use Rattle.acpi_base.specs.Policy.{PolicyValue}
-use Rattle.acpi_base.specs.ImageText.{IsText}
-use Rattle.acpi_base.specs.TextReading.{IsRefusal, is_of_text}
+use Rattle.acpi_base.specs.ImageText.{IsText, max_text}
+use Rattle.acpi_base.specs.TextReading.{IsFaultlessFront, IsRefusal, is_of_text}
 use Rattle.acpi_base.specs.Tally.{CountsFailure}
 use Rattle.acpi_base.specs.Found.{IsFound, IsNowhere}
 use Rattle.acpi_base.specs.Faults.{IsVerdict}
@@ -30,29 +30,47 @@ pub record Device : Type 0 where
 abbrev pub HasFailed : Device → Type 0
 HasFailed device = CountsFailure device.failures_before device.failures_after
 
+-- no call of the device failed: its count is what it was
+abbrev pub HasNotFailed : Device → Type 0
+HasNotFailed device = device.failures_after ≡ device.failures_before
+
 -- ---- reading
+
+-- this was read: at most one byte more than a text may have
+pub record Reads (input : Device) (text : List ℕ) : Type 0 where
+  pub consumed : Consumes input.bytes_before input.bytes_after text
+  pub bounded : length text ≤ max_text + 1
 
 -- a text of this image was read to its end
 pub record ReadsImage (input : Device) (m : Memory) : Type 0 where
   pub text : List ℕ
-  pub consumed : Consumes input.bytes_before input.bytes_after text
+  pub read : Reads input text
   pub whole : IsAtEnd input.bytes_after
   pub spells : IsText text m
+  pub sound : HasNotFailed input
 
 -- the text that was read is refused with this fault, which is one of a text's own: no failed read, and no
 -- want of memory
 pub record ReadsRefused (input : Device) (fault : TextFault) : Type 0 where
   pub text : List ℕ
-  pub consumed : Consumes input.bytes_before input.bytes_after text
+  pub read : Reads input text
   pub refused : IsRefusal text input.bytes_after fault
   pub own : is_of_text fault ≡ true
 
--- What was read: a whole text of the image, or a text that is refused, or a failed read.
+-- a read failed, and no fault stood in what had come
+pub record ReadsFailed (input : Device) : Type 0 where
+  pub text : List ℕ
+  pub read : Reads input text
+  pub faultless : IsFaultlessFront text
+  pub failed : HasFailed input
+
+-- What was read: a whole text of the image, or a text that is refused, or the front of one, where a read
+-- failed. Where memory was wanting, nothing is said of it but how much.
 abbrev pub ReadsInput : Device → Result Memory RunFault → Type 0
 ReadsInput input (Ok image) = ReadsImage input image
 ReadsInput input (Err (run.Image fault)) = ReadsRefused input fault
-ReadsInput input (Err run.Memory) = Unit {0}
-ReadsInput input (Err run.Device) = HasFailed input
+ReadsInput input (Err run.Memory) = (text : List ℕ) × Reads input text
+ReadsInput input (Err run.Device) = ReadsFailed input
 
 -- ---- writing
 
@@ -60,14 +78,14 @@ ReadsInput input (Err run.Device) = HasFailed input
 abbrev pub Writes : Device → List ℕ → Type 0
 Writes output bytes = Appends output.bytes_before output.bytes_after bytes
 
--- nothing was written
+-- nothing was written, and no write failed
 abbrev pub WritesNothing : Device → Type 0
-WritesNothing output = Keeps output.bytes_before output.bytes_after
+WritesNothing output = Keeps output.bytes_before output.bytes_after × HasNotFailed output
 
 -- What was written: the whole output, with its outcome; or nothing for want of memory; or a front of it
 -- where the device failed.
 abbrev pub WritesOutput : Device → List ℕ → Outcome → Result Outcome RunFault → Type 0
-WritesOutput output bytes answer (Ok given) = (given ≡ answer) × Writes output bytes
+WritesOutput output bytes answer (Ok given) = (given ≡ answer) × Writes output bytes × HasNotFailed output
 WritesOutput output bytes answer (Err (run.Image fault)) = ⊥
 WritesOutput output bytes answer (Err run.Memory) = WritesNothing output
 WritesOutput output bytes answer (Err run.Device) = HasFailed output × ((n : ℕ) × Writes output (take n bytes))

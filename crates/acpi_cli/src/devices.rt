@@ -1,6 +1,6 @@
 //! Reading an engine's input and writing its output.
 
-ghost use Rattle.std.specs.Prelude.{ℕ, OnOk, OnErr, take};
+ghost use Rattle.std.specs.Prelude.{◌≡◌, ℕ, OnOk, OnErr, take};
 ghost use Rattle.std.specs.Io.KnownBytes.{Appends};
 ghost use Rattle.acpi_base.specs.Tally.{CountsFailure};
 ghost use Rattle.acpi_cli.specs.Engine.{ReadsInput, WritesOutput};
@@ -45,6 +45,7 @@ pub fn write_answer<W: Write>(writer: &mut Tally<W>, answer: &Answer) -> Result<
 /// Writes all the bytes, by as many writes as it takes.
 fn write_whole<W: Write>(writer: &mut Tally<W>, bytes: &[u8]) -> Result<(), DeviceFailed>
     ensures ok { OnOk result (Appends (W.contents writer.old.inner) (W.contents writer.new.inner) bytes.now) }
+    ensures sound { OnOk result (writer.new.failures ≡ writer.old.failures) }
     ensures err { OnErr result ((n : ℕ) × Appends (W.contents writer.old.inner) (W.contents writer.new.inner) (take n bytes.now)) }
     ensures counted { OnErr result (CountsFailure writer.old.failures writer.new.failures) }
 {

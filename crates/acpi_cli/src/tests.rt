@@ -7,7 +7,7 @@ use crate::find::run_find;
 use crate::outcome::{Outcome, RunFault, status_of};
 use acpi_base::{Policy, Stage, Tally, TextFault};
 use std::alloc::{AllocError, Global};
-use std::io::{self, Write};
+use std::io::{self, Read, Write};
 use std::test::Fail;
 
 /// An RSDP of the short form at E0000h, which names an RSDT at 1000h.
@@ -235,6 +235,46 @@ fn an_output_that_fails(rt: HostRuntime) -> Result<(), Fail> {
         let Narrow { bytes, .. } = writer.into_inner();
         let out: &[u8] = b"yes\n";
         assert_eq!(rt; Some(bytes.as_slice()), out.get(..room.min(4)), "{room}");
+    }
+    Ok(())
+}
+
+/// Gives its bytes, one a call, and then fails.
+#[derive(Drop)]
+struct Broken {
+    bytes: &'static [u8],
+}
+
+impl Read for Broken {
+    fn read(&mut self, buffer: &mut [u8]) -> io::Result<usize> {
+        if let ([first, rest @ ..], Some(place)) = (self.bytes, buffer.first_mut()) {
+            *place = *first;
+            self.bytes = rest;
+            return Ok(1);
+        }
+        Err(io::ErrorKind::Other.into())
+    }
+}
+
+#[test]
+fn an_input_that_fails(rt: HostRuntime) -> Result<(), Fail> {
+    let texts: [(&[u8], RunFault); 4] = [
+        (b"", RunFault::Device),
+        (b"@0\n01\n", RunFault::Device),
+        // The last line has not ended, so its form is not judged.
+        (b"@0\n01\n@0\n02", RunFault::Device),
+        (
+            b"@0\n01\n@0\n02\n",
+            RunFault::Image(TextFault::Twice { address: 0 }),
+        ),
+    ];
+    for (bytes, fault) in texts {
+        let mut reader = Tally::new(Broken { bytes });
+        let mut writer = Tally::new(Vec::new(rt.alloc()));
+        let answer = run_find(rt.alloc(), &mut reader, &mut writer);
+        assert_eq!(rt; answer, Err(fault));
+        assert_eq!(rt; reader.failures(), 1);
+        assert!(rt; writer.into_inner().is_empty());
     }
     Ok(())
 }

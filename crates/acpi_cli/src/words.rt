@@ -5,7 +5,7 @@ ghost use Rattle.std.specs.String.{string_bytes};
 ghost use Rattle.clap.specs.Words.{found_of, rows_of};
 ghost use Rattle.acpi_base.specs.Codes.{stage_number};
 ghost use Rattle.acpi_cli.specs.CommandLine.{Asked, DoesAsked, IsBuilt, asked, check_asked, last_word, plain_policy, rsdp_word};
-ghost use Rattle.acpi_cli.specs.CommandLine.{check_words, find_words, short_line, whole_line};
+ghost use Rattle.acpi_cli.specs.CommandLine.{check_words, find_words, short_line, through_line, whole_line};
 ghost use Rattle.acpi_cli.specs.Words.{hex_word};
 
 use crate::command_line::{parse, value};
@@ -142,6 +142,8 @@ fn new_policy(alloc: Global) -> Policy
 pub fn plain_lines_are_read()
     ensures find { (program : List ℕ) → asked (find_words program) ≡ Some Asked.find }
     ensures alone { (program : List ℕ) → asked (check_words program) ≡ Some (Asked.check None BUILT) }
+    ensures through { (program number : List ℕ) (last : ℕ) → last_word (Some number) ≡ Some last
+        → asked (through_line program number) ≡ Some (Asked.check None last) }
     ensures short { (program hex : List ℕ) (rsdp : ℕ) → hex_word 16 hex ≡ Some rsdp
         → asked (short_line program hex) ≡ Some (Asked.check (Some rsdp) BUILT) }
     ensures whole { (program hex number : List ℕ) (rsdp last : ℕ) → hex_word 16 hex ≡ Some rsdp

@@ -3,7 +3,7 @@
 ghost use Rattle.std.specs.Prelude.{◌≡◌, ◌≢◌, ◌≤◌, ◌<◌, ◌^◌, ◌%◌, ◌↔◌, ℕ, length, Some, None, IsOk, IfOk, IfErr, IfSome, true};
 ghost use Rattle.acpi_base.specs.Codes.{code_number};
 ghost use Rattle.acpi_base.specs.Fadt.{facs_address, is_reduced};
-ghost use Rattle.acpi_base.specs.Facs.{IsFacs, HasSoundFacs, NamedFacsFault};
+ghost use Rattle.acpi_base.specs.Facs.{facs_length, IsFacs, HasSoundFacs, NamedFacsFault};
 ghost use Rattle.acpi_base.specs.declared.code.Code.{Code};
 
 use crate::fadt::Fadt;
@@ -24,13 +24,14 @@ pub struct Facs<'a> {
 
 impl<'a> Model for Facs<'a> {
     ghost use Rattle.std.specs.Prelude.{◌≡◌, ◌≢◌, ◌≤◌, ◌<◌, ◌^◌, ◌%◌, length};
+    ghost use Rattle.acpi_base.specs.Facs.{facs_length};
     ghost use Rattle.acpi_read.specs.Fadts.{FacsValue};
 
     ghost Value = { FacsValue };
 
     ghost view = { λ facs. record { address = facs.address; bytes = facs.bytes.now } };
 
-    ghost invariant = { λ facs. (facs.address % 64 ≡ 0) × (facs.address ≢ 0) × (64 ≤ length facs.bytes.now) × (length facs.bytes.now < 2 ^ 32) };
+    ghost invariant = { λ facs. (facs.address % 64 ≡ 0) × (facs.address ≢ 0) × (64 ≤ length facs.bytes.now) × (length facs.bytes.now < 2 ^ 32) × (facs_length facs.bytes.now ≡ length facs.bytes.now) };
 }
 
 impl<'a> Facs<'a> {
@@ -45,6 +46,7 @@ impl<'a> Facs<'a> {
     /// `FacsSignature`, where they do not begin with `FACS`;
     /// `FacsLength`, where its Length is below 64;
     /// `FacsOut`, where its Length bytes are not all held.
+    #[tactic(auto, using(acpi_base::proofs::HeldBytes::says_length))]
     pub fn read(image: &'a Image, fadt: &Fadt<'_>) -> Result<Option<Facs<'a>>, Code>
         ensures ok { IsOk result ↔ HasSoundFacs image.now fadt.now }
         ensures none { (result ≡ Ok None) ↔ ((is_reduced fadt.now ≡ true) × (facs_address fadt.now ≡ 0)) }
@@ -86,10 +88,11 @@ impl<'a> Facs<'a> {
         self.address
     }
 
-    /// All its bytes: at least 64, and fewer than 2^32.
+    /// All its bytes: as many as its Length says, at least 64, and fewer than 2^32.
     pub fn bytes(&self) -> &'a [u8]
         ensures bytes { result.now ≡ self.now.bytes }
         ensures count { (64 ≤ length self.now.bytes) × (length self.now.bytes < 2 ^ 32) }
+        ensures said { facs_length self.now.bytes ≡ length self.now.bytes }
     {
         self.bytes
     }

@@ -5,6 +5,7 @@ ghost use Rattle.acpi_base.specs.Codes.{code_number};
 ghost use Rattle.acpi_base.specs.Header.{header_of};
 ghost use Rattle.acpi_base.specs.Fadt.{fadt_places, field_number, has_flag, is_reduced, has_reset, wide_address, address_of, facs_address, dsdt_address, gas_at, block_value, HasBlockLengths, IsResetRegister, IsSoundFadtTable, FadtTableFault};
 ghost use Rattle.acpi_base.specs.Number.{field};
+ghost use Rattle.acpi_base.specs.Tables.{length_of};
 ghost use Rattle.acpi_base.specs.declared.code.Code.{Code};
 ghost use Rattle.acpi_read.specs.Fadts.{place_value, block_said};
 ghost use Rattle.acpi_read.specs.Gases.{gas_value};
@@ -192,13 +193,14 @@ pub struct Fadt<'a> {
 }
 
 impl<'a> Model for Fadt<'a> {
-    ghost use Rattle.std.specs.Prelude.{◌≤◌, ◌<◌, ◌^◌, ℕ, List, length};
+    ghost use Rattle.std.specs.Prelude.{◌≡◌, ◌≤◌, ◌<◌, ◌^◌, ℕ, List, length};
+    ghost use Rattle.acpi_base.specs.Tables.{length_of};
 
     ghost Value = { List ℕ };
 
     ghost view = { λ fadt. fadt.bytes.now };
 
-    ghost invariant = { λ fadt. (116 ≤ length fadt.bytes.now) × (length fadt.bytes.now < 2 ^ 32) };
+    ghost invariant = { λ fadt. (116 ≤ length fadt.bytes.now) × (length fadt.bytes.now < 2 ^ 32) × (length_of fadt.bytes.now ≡ length fadt.bytes.now) };
 }
 
 impl<'a> Fadt<'a> {
@@ -317,17 +319,20 @@ impl<'a> Fadt<'a> {
         }
     }
 
-    /// All its bytes, header and all: at least 116, and fewer than 2^32.
+    /// All its bytes, header and all: as many as its Length says, at least 116, and fewer than 2^32.
     pub fn bytes(&self) -> &'a [u8]
         ensures bytes { result.now ≡ self.now }
         ensures count { (116 ≤ length self.now) × (length self.now < 2 ^ 32) }
+        ensures said { length_of self.now ≡ length self.now }
     {
         self.bytes
     }
 
-    /// The fields of its first 36 bytes.
+    /// The fields of its first 36 bytes. Its length is the number of the table's bytes.
+    #[tactic(auto, unfolding(acpi_base::specs::Header::header_of))]
     pub fn header(&self) -> Header
-        ensures { header_value result ≡ header_of self.now }
+        ensures fields { header_value result ≡ header_of self.now }
+        ensures length { result.length ≡ length self.now }
     {
         header_at(self.bytes)
     }

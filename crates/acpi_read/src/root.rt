@@ -7,6 +7,7 @@ ghost use Rattle.acpi_base.specs.Header.{header_of};
 ghost use Rattle.acpi_base.specs.Number.{field};
 ghost use Rattle.acpi_base.specs.Rsdp.{RsdpValue};
 ghost use Rattle.acpi_base.specs.Root.{chosen_root, IsSlotWidth, IsSoundRootTable, RootTableFault, NamedRootFault};
+ghost use Rattle.acpi_base.specs.Tables.{length_of};
 ghost use Rattle.acpi_base.specs.declared.code.Code.{Code};
 ghost use Rattle.acpi_read.specs.Headers.{header_value};
 ghost use Rattle.acpi_read.specs.Roots.{RootValue, slots_of, IsSoundNamedRoot};
@@ -31,15 +32,16 @@ pub struct Root<'a> {
 }
 
 impl<'a> Model for Root<'a> {
-    ghost use Rattle.std.specs.Prelude.{◌≤◌, ◌<◌, ◌^◌, length};
+    ghost use Rattle.std.specs.Prelude.{◌≡◌, ◌≤◌, ◌<◌, ◌^◌, length};
     ghost use Rattle.acpi_base.specs.Root.{IsSlotWidth};
+    ghost use Rattle.acpi_base.specs.Tables.{length_of};
     ghost use Rattle.acpi_read.specs.Roots.{RootValue};
 
     ghost Value = { RootValue };
 
     ghost view = { λ root. record { address = root.address; width = root.width; bytes = root.bytes.now } };
 
-    ghost invariant = { λ root. IsSlotWidth root.width × (36 ≤ length root.bytes.now) × (length root.bytes.now < 2 ^ 32) };
+    ghost invariant = { λ root. IsSlotWidth root.width × (36 ≤ length root.bytes.now) × (length root.bytes.now < 2 ^ 32) × (length_of root.bytes.now ≡ length root.bytes.now) };
 }
 
 /// Where the root is, and how wide its slots are.
@@ -72,6 +74,7 @@ fn place_of(rsdp: &Rsdp) -> Option<Place>
 }
 
 /// The root at a place.
+#[tactic(auto, using(acpi_base::proofs::HeldBytes::says_length))]
 fn read_at(image: &Image, place: Place) -> Result<Root<'_>, Code>
     requires { IsSlotWidth place.width }
     ensures ok { IfOk result (λ root. (root.address ≡ place.address) × (root.width ≡ place.width) × IsSoundRootTable image.now place.address place.width root.bytes) }
@@ -153,17 +156,20 @@ impl<'a> Root<'a> {
         }
     }
 
-    /// All its bytes, header and all: at least 36, and fewer than 2^32.
+    /// All its bytes, header and all: as many as its Length says, at least 36, and fewer than 2^32.
     pub fn bytes(&self) -> &'a [u8]
         ensures bytes { result.now ≡ self.now.bytes }
         ensures count { (36 ≤ length self.now.bytes) × (length self.now.bytes < 2 ^ 32) }
+        ensures said { length_of self.now.bytes ≡ length self.now.bytes }
     {
         self.bytes
     }
 
-    /// The fields of its first 36 bytes.
+    /// The fields of its first 36 bytes. Its length is the number of the root's bytes.
+    #[tactic(auto, unfolding(acpi_base::specs::Header::header_of))]
     pub fn header(&self) -> Header
-        ensures { header_value result ≡ header_of self.now.bytes }
+        ensures fields { header_value result ≡ header_of self.now.bytes }
+        ensures length { result.length ≡ length self.now.bytes }
     {
         header_at(self.bytes)
     }

@@ -3,7 +3,7 @@
 ghost use Rattle.std.specs.Prelude.{◌≡◌, ◌≤◌, ◌<◌, ◌^◌, ◌↔◌, List, ℕ, length, IsOk, IfOk, IfErr};
 ghost use Rattle.acpi_base.specs.Codes.{code_number};
 ghost use Rattle.acpi_base.specs.Header.{header_of};
-ghost use Rattle.acpi_base.specs.Tables.{IsTable, IsSoundTable, TableFault};
+ghost use Rattle.acpi_base.specs.Tables.{length_of, IsTable, IsSoundTable, TableFault};
 ghost use Rattle.acpi_base.specs.declared.code.Code.{Code};
 ghost use Rattle.acpi_read.specs.Headers.{header_value};
 
@@ -22,11 +22,14 @@ pub struct Table<'a> {
 }
 
 impl<'a> Model for Table<'a> {
+    ghost use Rattle.std.specs.Prelude.{◌≡◌, ◌≤◌, ◌<◌, ◌^◌, ℕ, List, length};
+    ghost use Rattle.acpi_base.specs.Tables.{length_of};
+
     ghost Value = { List ℕ };
 
     ghost view = { λ table. table.bytes.now };
 
-    ghost invariant = { λ table. (36 ≤ length table.bytes.now) × (length table.bytes.now < 2 ^ 32) };
+    ghost invariant = { λ table. (36 ≤ length table.bytes.now) × (length table.bytes.now < 2 ^ 32) × (length_of table.bytes.now ≡ length table.bytes.now) };
 }
 
 impl<'a> Table<'a> {
@@ -37,6 +40,7 @@ impl<'a> Table<'a> {
     /// `TableLength`, where its Length is below 36;
     /// `TableOut`, where its Length bytes are not all held;
     /// `TableSum`, where they do not sum to 0.
+    #[tactic(auto, using(acpi_base::proofs::HeldBytes::says_length))]
     pub fn read(image: &'a Image, address: u64) -> Result<Table<'a>, Code>
         ensures ok { IsOk result ↔ IsSoundTable image.now address }
         ensures value { IfOk result (λ bytes. (header : List ℕ) × IsTable image.now address header bytes) }
@@ -59,17 +63,20 @@ impl<'a> Table<'a> {
         Ok(Table { bytes })
     }
 
-    /// All its bytes, header and all: at least 36, and fewer than 2^32.
+    /// All its bytes, header and all: as many as its Length says, at least 36, and fewer than 2^32.
     pub fn bytes(&self) -> &'a [u8]
         ensures bytes { result.now ≡ self.now }
         ensures count { (36 ≤ length self.now) × (length self.now < 2 ^ 32) }
+        ensures said { length_of self.now ≡ length self.now }
     {
         self.bytes
     }
 
     /// The fields of its first 36 bytes. Its length is the number of the table's bytes.
+    #[tactic(auto, unfolding(acpi_base::specs::Header::header_of))]
     pub fn header(&self) -> Header
-        ensures { header_value result ≡ header_of self.now }
+        ensures fields { header_value result ≡ header_of self.now }
+        ensures length { result.length ≡ length self.now }
     {
         header_at(self.bytes)
     }

@@ -20,47 +20,49 @@ fn words_of(alloc: Global, line: &str) -> Result<Vec<String>, AllocError> {
     Ok(words)
 }
 
+/// Lines that are read, with the address and the last stage that they give.
+const READ: [(&str, u64, Stage); 12] = [
+    ("acpiset check --rsdp e0000", 0xe0000, Stage::Facs),
+    ("acpiset check --rsdp 0xe0000", 0xe0000, Stage::Facs),
+    ("acpiset check --rsdp E0000", 0xe0000, Stage::Facs),
+    ("acpiset check --rsdp=e0000", 0xe0000, Stage::Facs),
+    ("acpiset check --rsdp 0", 0, Stage::Facs),
+    ("a check --rsdp 0", 0, Stage::Facs),
+    (
+        "acpiset check --rsdp ffffffffffffffff",
+        u64::MAX,
+        Stage::Facs,
+    ),
+    (
+        "acpiset check --rsdp 0x0123456789aBcDeF",
+        0x0123_4567_89ab_cdef,
+        Stage::Facs,
+    ),
+    (
+        "acpiset check --rsdp e0000 --through 1",
+        0xe0000,
+        Stage::Rsdp,
+    ),
+    (
+        "acpiset check --through 2 --rsdp e0000",
+        0xe0000,
+        Stage::Root,
+    ),
+    (
+        "acpiset check --rsdp e0000 --through 3",
+        0xe0000,
+        Stage::Tables,
+    ),
+    (
+        "acpiset check --rsdp e0000 --through 03",
+        0xe0000,
+        Stage::Tables,
+    ),
+];
+
 #[test]
 fn lines_that_are_read(rt: HostRuntime) {
-    let lines = [
-        ("acpiset check --rsdp e0000", 0xe0000, Stage::Facs),
-        ("acpiset check --rsdp 0xe0000", 0xe0000, Stage::Facs),
-        ("acpiset check --rsdp E0000", 0xe0000, Stage::Facs),
-        ("acpiset check --rsdp=e0000", 0xe0000, Stage::Facs),
-        ("acpiset check --rsdp 0", 0, Stage::Facs),
-        ("a check --rsdp 0", 0, Stage::Facs),
-        (
-            "acpiset check --rsdp ffffffffffffffff",
-            u64::MAX,
-            Stage::Facs,
-        ),
-        (
-            "acpiset check --rsdp 0x0123456789aBcDeF",
-            0x0123_4567_89ab_cdef,
-            Stage::Facs,
-        ),
-        (
-            "acpiset check --rsdp e0000 --through 1",
-            0xe0000,
-            Stage::Rsdp,
-        ),
-        (
-            "acpiset check --through 2 --rsdp e0000",
-            0xe0000,
-            Stage::Root,
-        ),
-        (
-            "acpiset check --rsdp e0000 --through 3",
-            0xe0000,
-            Stage::Tables,
-        ),
-        (
-            "acpiset check --rsdp e0000 --through 03",
-            0xe0000,
-            Stage::Tables,
-        ),
-    ];
-    for (line, address, stage) in lines {
+    for (line, address, stage) in READ {
         let Job::Check { rsdp, policy, last } = read(rt.alloc(), line).expect(&rt, line) else {
             panic!(rt; "{line}");
         };
@@ -70,50 +72,52 @@ fn lines_that_are_read(rt: HostRuntime) {
     }
 }
 
+/// Lines that are refused.
+const REFUSED: [&str; 39] = [
+    "acpiset",
+    "acpiset ",
+    "acpiset --help",
+    "acpiset -h",
+    "acpiset help",
+    "acpiset check --help",
+    "acpiset judge --rsdp e0000",
+    "acpiset Check --rsdp e0000",
+    "acpiset chec --rsdp e0000",
+    "acpiset --rsdp e0000",
+    "acpiset find --rsdp e0000",
+    "acpiset find find",
+    "acpiset check --rsdp",
+    "acpiset check --rsdp ",
+    "acpiset check --rsdp 0x",
+    "acpiset check --rsdp g",
+    "acpiset check --rsdp 0Xe0000",
+    "acpiset check --rsdp 0x0x1",
+    "acpiset check --rsdp +1",
+    "acpiset check --rsdp -1",
+    "acpiset check --rsdp e_0000",
+    "acpiset check --rsdp 10000000000000000",
+    "acpiset check --rsdp 0x00000000000000001",
+    "acpiset check --rsdp e0000 --rsdp e0000",
+    "acpiset check --rsd e0000",
+    "acpiset check -rsdp e0000",
+    "acpiset check e0000",
+    "acpiset check --rsdp e0000 --through",
+    "acpiset check --rsdp e0000 --through ",
+    "acpiset check --rsdp e0000 --through 0",
+    "acpiset check --rsdp e0000 --through 00",
+    "acpiset check --rsdp e0000 --through 6",
+    "acpiset check --rsdp e0000 --through 19",
+    "acpiset check --rsdp e0000 --through 003",
+    "acpiset check --rsdp e0000 --through 0x3",
+    "acpiset check --rsdp e0000 --through a",
+    "acpiset check --rsdp e0000 --through +3",
+    "acpiset check --rsdp e0000 --through 3 --through 3",
+    "acpiset check --rsdp e0000 fec00000=32",
+];
+
 #[test]
 fn lines_that_are_refused(rt: HostRuntime) {
-    let lines = [
-        "acpiset",
-        "acpiset ",
-        "acpiset --help",
-        "acpiset -h",
-        "acpiset help",
-        "acpiset check --help",
-        "acpiset judge --rsdp e0000",
-        "acpiset Check --rsdp e0000",
-        "acpiset chec --rsdp e0000",
-        "acpiset --rsdp e0000",
-        "acpiset find --rsdp e0000",
-        "acpiset find find",
-        "acpiset check --rsdp",
-        "acpiset check --rsdp ",
-        "acpiset check --rsdp 0x",
-        "acpiset check --rsdp g",
-        "acpiset check --rsdp 0Xe0000",
-        "acpiset check --rsdp 0x0x1",
-        "acpiset check --rsdp +1",
-        "acpiset check --rsdp -1",
-        "acpiset check --rsdp e_0000",
-        "acpiset check --rsdp 10000000000000000",
-        "acpiset check --rsdp 0x00000000000000001",
-        "acpiset check --rsdp e0000 --rsdp e0000",
-        "acpiset check --rsd e0000",
-        "acpiset check -rsdp e0000",
-        "acpiset check e0000",
-        "acpiset check --rsdp e0000 --through",
-        "acpiset check --rsdp e0000 --through ",
-        "acpiset check --rsdp e0000 --through 0",
-        "acpiset check --rsdp e0000 --through 00",
-        "acpiset check --rsdp e0000 --through 6",
-        "acpiset check --rsdp e0000 --through 19",
-        "acpiset check --rsdp e0000 --through 003",
-        "acpiset check --rsdp e0000 --through 0x3",
-        "acpiset check --rsdp e0000 --through a",
-        "acpiset check --rsdp e0000 --through +3",
-        "acpiset check --rsdp e0000 --through 3 --through 3",
-        "acpiset check --rsdp e0000 fec00000=32",
-    ];
-    for line in lines {
+    for line in REFUSED {
         assert_eq!(rt;
             read(rt.alloc(), line).err(),
             Some(WordFault::Words),
