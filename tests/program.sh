@@ -2,7 +2,8 @@
 # Runs the built program on image texts: its output, its status and what it tells a person.
 # usage: tests/program.sh PROGRAM; the last line is 'N passed, M failed'.
 set -u
-program=$(realpath "${1:-acpiset}")
+program=$(realpath "${1:?usage: tests/program.sh PROGRAM}")
+[ -x "$program" ] || { printf '%s: no program\n' "$program" >&2; exit 1; }
 cd "$(dirname "$0")"
 scratch=$(mktemp -d)
 trap 'rm -rf "$scratch"' EXIT
@@ -71,6 +72,92 @@ gzip -dc images/sb-q35-default.region.img.txt.gz >"$scratch/region"
 runs "firmware sb-q35-default, its whole region" 0 'yes\n' '' "$scratch/region" check --rsdp f59e0
 runs "firmware sb-q35-default, its whole region, its RSDP found" 0 'yes\n' '' "$scratch/region" check
 
+# ---- each fault: a sound set with a few bytes changed
+maker='41 41 41 41 41 41 41 41 41 41 41 41 41 41 01 00 00 00 41 41 41 41 01 00 00 00'
+zeros() { printf '00 %.0s' $(seq "$1"); }
+declare -A place=([rsdp]=e0000 [extended]=e0000 [rsdt]=1000 [xsdt]=1100 [fadt]=2000 [short]=3000 [facs]=7000)
+# The RSDT and the XSDT list the FADT. Nothing lists the table at 3000h, which is too short for a FADT.
+declare -A bytes=(
+  [rsdp]='52 53 44 20 50 54 52 20 4b 41 41 41 41 41 41 00 00 10 00 00'
+  [extended]='52 53 44 20 50 54 52 20 49 41 41 41 41 41 41 02 00 10 00 00 24 00 00 00 00 11 00 00 00 00 00 00 cb 00 00 00'
+  [rsdt]="52 53 44 54 28 00 00 00 01 e6 $maker 00 20 00 00"
+  [xsdt]="58 53 44 54 2c 00 00 00 01 dc $maker 00 20 00 00 00 00 00 00"
+  [fadt]="46 41 43 50 74 00 00 00 01 63 $maker 00 70 $(zeros 50) 04 02 00 04 $(zeros 24)"
+  [short]="46 41 43 50 24 00 00 00 01 2d $maker"
+  [facs]="46 41 43 53 40 $(zeros 27) 01 $(zeros 31)"
+)
+
+# changed PART CHANGES SUM: prints the set's image text with bytes of one part changed. CHANGES are
+# OFFSET=BYTE,.. with BYTE in hex, and SUM is CHECKSUM:COUNT, the offset of the byte that makes so many bytes
+# sum to 0; - for none.
+changed() {
+  local parts='rsdp rsdt fadt short facs' part change total=0 i
+  case $1 in extended | xsdt) parts='extended xsdt fadt short facs' ;; esac
+  local -a new
+  read -ra new <<<"${bytes[$1]}"
+  [ "$2" = - ] || for change in ${2//,/ }; do new[${change%=*}]=${change#*=}; done
+  if [ "$3" != - ]; then
+    new[${3%:*}]=00
+    for ((i = 0; i < ${3#*:}; i++)); do total=$((total + 16#${new[i]})); done
+    new[${3%:*}]=$(printf '%02x' $(((256 - total % 256) % 256)))
+  fi
+  for part in $parts; do
+    printf '@%s\n' "${place[$part]}"
+    if [ "$part" = "$1" ]; then printf '%s\n' "${new[*]}"; else printf '%s\n' "${bytes[$part]}"; fi
+  done
+}
+
+while read -r part changes sum line; do
+  changed "$part" "$changes" "$sum" >"$scratch/changed"
+  status=1
+  [ "$line" != yes ] || status=0
+  runs "$part with $changes" "$status" "$line\n" '' "$scratch/changed" check --rsdp e0000
+done <<'LIST'
+rsdp - - yes
+extended - - yes
+rsdp 0=72 8:20 no 1 RsdpSignature 0xe0000 0x0 0x0
+rsdp 0=72 - no 1 RsdpSignature 0xe0000 0x0 0x0
+rsdp 8=4a - no 1 RsdpSum 0xe0000 0x0 0x0
+rsdp 15=01 8:20 yes
+rsdp 15=02 8:20 no 1 RsdpTailOut 0xe0000 0x0 0x0
+extended 15=ff 8:20 yes
+extended 20=23 32:36 no 1 RsdpLength 0xe0000 0x0 0x0
+extended 20=25 32:36 no 1 RsdpLongOut 0xe0000 0x0 0x0
+extended 32=cc - no 1 RsdpExtendedSum 0xe0000 0x0 0x0
+extended 20=28,36=01,37=02,38=03,39=04 32:40 yes
+rsdp 17=00 8:20 no 2 NoRoot 0xe0000 0x0 0x0
+rsdp 17=40 8:20 no 2 RootHeaderOut 0x4000 0x0 0x0
+extended 25=00 32:36 no 2 RootHeaderOut 0x1000 0x0 0x0
+rsdt 0=58 9:40 no 2 RootSignature 0x1000 0x0 0x0
+xsdt 0=52 9:44 no 2 RootSignature 0x1100 0x0 0x0
+rsdt 4=23 9:35 no 2 RootLength 0x1000 0x0 0x0
+rsdt 4=29 - no 2 RootOut 0x1000 0x0 0x0
+rsdt 4=27 9:39 no 2 RootRagged 0x1000 0x0 0x0
+rsdt 9=e7 - no 2 RootSum 0x1000 0x0 0x0
+rsdt 37=40 9:40 no 3 TableHeaderOut 0x0 0x4000 0x0
+fadt 4=23 9:35 no 3 TableLength 0x0 0x2000 0x0
+fadt 4=75 - no 3 TableOut 0x0 0x2000 0x0
+fadt 9=64 - no 3 TableSum 0x0 0x2000 0x0
+rsdt 4=2c,40=00,41=40,42=00,43=00 9:44 no 3 TableHeaderOut 0x1 0x4000 0x0
+fadt 0=66 9:116 no 4 NoFadt 0x0 0x0 0x0
+fadt 4=73 9:115 no 4 FadtShort 0x0 0x0 0x0
+rsdt 4=2c,40=00,41=30,42=00,43=00 9:44 yes
+rsdt 4=2c,37=30,40=00,41=20,42=00,43=00 9:44 no 4 FadtShort 0x0 0x0 0x0
+fadt 88=03 9:116 no 4 PmEventLength 0x58 0x0 0x0
+fadt 89=01 9:116 no 4 PmControlLength 0x59 0x0 0x0
+fadt 91=03 9:116 no 4 PmTimerLength 0x5b 0x0 0x0
+fadt 91=00 9:116 yes
+fadt 92=01,93=01 9:116 no 4 GpeLength 0x5c 0x0 0x0
+fadt 93=01 9:116 no 4 GpeLength 0x5d 0x0 0x0
+fadt 88=00,89=00,91=03,92=01,114=10 9:116 yes
+fadt 37=00 9:116 no 5 NoFacs 0x0 0x0 0x0
+fadt 36=20 9:116 no 5 FacsAlign 0x7020 0x0 0x0
+fadt 37=80 9:116 no 5 FacsHeaderOut 0x8000 0x0 0x0
+facs 0=66 - no 5 FacsSignature 0x7000 0x0 0x0
+facs 4=3f - no 5 FacsLength 0x7000 0x0 0x0
+facs 4=41 - no 5 FacsOut 0x7000 0x0 0x0
+LIST
+
 # ---- the search for the RSDP
 runs "the smallest set, found" 0 "rsdp 0xe0000\n" "" "$smallest" find
 runs "the smallest set, checked where it is found" 0 "yes\n" "" "$smallest" check --through 3
@@ -95,14 +182,39 @@ runs "a text of 67,108,865 bytes" 3 '' 'acpiset: too long\n' "$scratch/text" che
 rm "$scratch/text"
 
 # ---- words that are refused
-for words in '' '--help' 'check --help' 'help' 'chek --rsdp e0000' 'check --rsdp' 'check --rsdp g' 'check --rsdp 00000000000000000' 'check --rsdp 0x' \
-  'check --rsdp e0000 --through 0' 'check --rsdp e0000 --through 6' 'check --rsdp e0000 --through 19' 'check --rsdp e0000 --through 003' 'check --rsdp e0000 --through' \
-  'check --rsdp e0000 --rsdp e0000' 'check --rsdp e0000 fec00000=24'; do
-  # shellcheck disable=SC2086
-  runs "words '$words'" 2 '' 'acpiset: *' "$smallest" $words
+# refuses COMPLAINT WORDS..: the words are refused with this complaint, '' for none, and then the usage.
+refuses() {
+  local complaint=$1 wrong=""
+  shift
+  "$program" "$@" <"$smallest" >"$scratch/out" 2>"$scratch/err"
+  local got=$?
+  [ "$got" = 2 ] || wrong="status $got, not 2"
+  [ ! -s "$scratch/out" ] || wrong="$wrong; standard output $(cat "$scratch/out")"
+  local first="acpiset: usage:"
+  [ -z "$complaint" ] || first="acpiset: $complaint"
+  [ "$(head -n 1 "$scratch/err")" = "$first" ] || wrong="$wrong; standard error $(head -n 1 "$scratch/err")"
+  grep -qxF '  acpiset check [--rsdp HEX] [--through N]' "$scratch/err" || wrong="$wrong; no usage of check"
+  grep -qxF '  acpiset find' "$scratch/err" || wrong="$wrong; no usage of find"
+  tell "words '$*'" "$wrong"
+}
+refuses ''
+refuses '' --help
+refuses '' check --help
+refuses '' help
+refuses "unrecognized subcommand 'chek'" chek --rsdp e0000
+refuses "unexpected argument '--rspd' found" check --rspd e0000
+refuses "unexpected argument 'fec00000=24' found" check --rsdp e0000 fec00000=24
+refuses "a value is required for '--rsdp <HEX>' but none was supplied" check --rsdp
+refuses "a value is required for '--through <N>' but none was supplied" check --rsdp e0000 --through
+refuses "the argument '--rsdp <HEX>' cannot be used multiple times" check --rsdp e0000 --rsdp e0000
+for word in g f59e0h f000:59e0 0x 0XE0000 00000000000000000; do
+  refuses "--rsdp '$word': an address is 1 to 16 hex digits, with 0x before them or without" check --rsdp "$word"
+done
+for word in 0 6 19 003 three; do
+  refuses "--through '$word': the stages are 1 to 5" check --rsdp e0000 --through "$word"
 done
 
-runs "a word that is not UTF-8" 2 '' 'acpiset: a word is not UTF-8; usage:*' "$smallest" check --rsdp $'\xff'
+refuses "a word is not UTF-8" check --rsdp $'\xff'
 
 # status NAME STATUS INPUT WORDS..: runs the program where nothing can be told on standard error.
 status() {
@@ -116,7 +228,7 @@ status() {
 }
 status "no words, and standard error is full" 2 "$smallest"
 status "a text that is no image, and standard error is full" 3 "$(text stray 'zz\n')" check --rsdp e0000
-status "an input that is a folder, and standard error is full" 4 /tmp check --rsdp e0000
+status "an input that is a folder, and standard error is full" 4 "$scratch" check --rsdp e0000
 
 # ---- devices that fail
 fails() {
@@ -137,6 +249,16 @@ exec 8>&-
 runs "an input that is a folder" 4 '' 'acpiset: device\n' "$scratch" check --rsdp e0000
 "$program" check --rsdp e0000 <&- >"$scratch/out" 2>"$scratch/err"
 fails "an input that is closed" $?
+
+# ---- memory that is refused
+{ printf '#'; head -c 60000000 /dev/zero | tr '\0' '\n'; } >"$scratch/text"
+(ulimit -v 60000 && "$program" check --rsdp e0000 <"$scratch/text") >"$scratch/out" 2>"$scratch/err"
+got=$? wrong=""
+[ "$got" = 4 ] || wrong="status $got, not 4"
+[ ! -s "$scratch/out" ] || wrong="$wrong; standard output $(cat "$scratch/out")"
+[ "$(cat "$scratch/err")" = 'acpiset: out of memory' ] || wrong="$wrong; standard error $(cat "$scratch/err")"
+tell "a text of 60 MB in 60 MB of memory" "$wrong"
+rm "$scratch/text"
 
 printf '%d passed, %d failed\n' "$passed" "$failed"
 [ "$failed" = 0 ]

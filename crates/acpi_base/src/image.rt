@@ -37,6 +37,7 @@ impl From<AllocError> for ImageFault {
     }
 }
 
+/// Why `count` bytes cannot be added from an address on.
 fn refusal(segments: &[Segment], base: u64, count: u64) -> Option<ImageFault>
     requires { AllByRecursion IsWhole (runs segments.now) }
     ensures { result ≡ (if nat_lt (2 ^ 64) (base + count) then Some ImageFault.PastEnd else option_map (λ address. ImageFault.Twice address) (first_of (lookup (runs segments.now)) base count)) }
@@ -101,6 +102,7 @@ impl Image {
         ensures err { OnErr result (self.new ≡ self.old) }
         ensures nothing { length bytes.now ≡ 0 → IsOk result }
     {
+        // First the refusal, of no bytes too: with the fields opened, the proof has the invariant at each exit.
         if let Some(fault) = refusal(&self.segments, base, bytes.len() as u64) {
             return Err(fault);
         }

@@ -20,6 +20,9 @@ use lines::{judge_front, judge_whole};
 use std::alloc::Global;
 use std::io::Read;
 
+/// The most bytes of a text.
+const MAX_TEXT: usize = 67_108_864;
+
 /// Reads a text to its end, and puts its data into an image. A read of no bytes is the end.
 ///
 /// A line is judged where its LF comes or the text ends, and for `TooLong` already at the first byte too
@@ -53,6 +56,7 @@ pub fn read_image<R: Read>(alloc: Global, reader: &mut Tally<R>) -> Result<Image
         Ok(Ending::End) => judge_whole(alloc, &text),
         Ok(Ending::Full) => match judge_front(alloc, &text) {
             Err(fault) => Err(fault),
+            // A text that is too long has at least that fault.
             Ok(()) => unreachable!(),
         },
         Ok(Ending::Failed) => match judge_front(alloc, &text) {

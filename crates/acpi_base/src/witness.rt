@@ -1,5 +1,7 @@
 //! Faults, each with the numbers that show where it is.
 
+ghost use Rattle.std.specs.Prelude.{◌≡◌};
+
 use crate::code::Code;
 
 /// A fault, and where it is: what the three numbers mean, its code says. A number that a code does not
@@ -14,4 +16,18 @@ pub struct Witness {
     pub other: u64,
     /// A number that two hold, or how many steps a circle has.
     pub point: u64,
+}
+
+impl Witness {
+    /// A fault that one number tells: the other two are 0.
+    pub fn at(code: Code, at: u64) -> Witness
+        ensures { result ≡ record { code = code; at = at; other = 0; point = 0 } }
+    {
+        Witness {
+            code,
+            at,
+            other: 0,
+            point: 0,
+        }
+    }
 }

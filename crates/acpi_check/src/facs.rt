@@ -27,11 +27,6 @@ pub fn sound_facs(image: &Image, policy: &Policy, fadt: &Fadt<'_>) -> Result<(),
 {
     match Facs::read(image, fadt) {
         Ok(_) => Ok(()),
-        Err(code) => Err(Witness {
-            code,
-            at: fadt.facs_address(),
-            other: 0,
-            point: 0,
-        }),
+        Err(code) => Err(Witness::at(code, fadt.facs_address())),
     }
 }

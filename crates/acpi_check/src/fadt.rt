@@ -34,27 +34,15 @@ pub fn sound_fadt<'a>(
     ensures stage { IfErr result (λ w. stage_of w.code ≡ Stage.Fadt) }
 {
     let Some(table) = listed_fadt(image, root) else {
-        return Err(fault_at_start(Code::NoFadt));
+        return Err(Witness::at(Code::NoFadt, 0));
     };
     let fadt = match Fadt::new(table) {
         Ok(fadt) => fadt,
-        Err(code) => return Err(fault_at_start(code)),
+        Err(code) => return Err(Witness::at(code, 0)),
     };
     match fadt.fault() {
         Some(fault) => Err(fault),
         None => Ok(fadt),
-    }
-}
-
-/// A fault that is told of no offset.
-fn fault_at_start(code: Code) -> Witness
-    ensures { result ≡ record { code = code; at = 0; other = 0; point = 0 } }
-{
-    Witness {
-        code,
-        at: 0,
-        other: 0,
-        point: 0,
     }
 }
 
@@ -68,6 +56,7 @@ fn listed_fadt<'a>(image: &'a Image, root: &Root<'_>) -> Option<Table<'a>>
     let address = first(image, root, SIGNATURE)?;
     match Table::read(image, address) {
         Ok(table) => Some(table),
+        // Stage 3 holds, so each listed table is sound.
         Err(_) => unreachable!(),
     }
 }

@@ -24,12 +24,7 @@ pub fn sound_root<'a>(image: &'a Image, policy: &Policy, rsdp: &Rsdp) -> Result<
 {
     match Root::read(image, rsdp) {
         Ok(root) => Ok(root),
-        Err(code) => Err(Witness {
-            code,
-            at: place_of_fault(rsdp, code),
-            other: 0,
-            point: 0,
-        }),
+        Err(code) => Err(Witness::at(code, place_of_fault(rsdp, code))),
     }
 }
 

@@ -19,11 +19,6 @@ pub fn sound_rsdp(image: &Image, policy: &Policy) -> Result<Rsdp, Witness>
     let at = policy.rsdp();
     match Rsdp::read(image, at) {
         Ok(rsdp) => Ok(rsdp),
-        Err(code) => Err(Witness {
-            code,
-            at,
-            other: 0,
-            point: 0,
-        }),
+        Err(code) => Err(Witness::at(code, at)),
     }
 }

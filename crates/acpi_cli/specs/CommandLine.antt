@@ -15,9 +15,9 @@ use Rattle.acpi_cli.specs.declared.words.Job.TheVariants.{Check, Find}
 
 -- ---- the command line, as `clap` is told it
 
--- `--NAME VALUE`, at most once
+-- `--NAME VALUE`, at most once; complaints call the value by a name of its own
 abbrev pub option_rule : Text → Rule
-option_rule name = record (new_rule name) { long = Some name; action = Some Set }
+option_rule name = record (new_rule name) { long = Some name; action = Some Set; value_names = 1 }
 
 -- `check --rsdp HEX --through N`
 unfoldable pub check_line : App

@@ -5,7 +5,7 @@ use Rattle.acpi_base.specs.Memory.{Memory}
 use Rattle.acpi_base.specs.Policy.{PolicyValue}
 use Rattle.acpi_base.specs.ImageText.{IsText, max_text}
 use Rattle.acpi_base.specs.TextReading.{IsFaultlessFront, IsRefusal, is_of_text}
-use Rattle.acpi_base.specs.Tally.{CountsFailure}
+use Rattle.acpi_base.specs.Tally.{Counted, CountsFailure}
 use Rattle.acpi_base.specs.Found.{IsFound, IsNowhere}
 use Rattle.acpi_base.specs.Faults.{IsVerdict}
 use Rattle.acpi_base.specs.WitnessText.{hex_text, verdict_line}
@@ -25,6 +25,16 @@ pub record Device : Type 0 where
   pub bytes_after : Option (List ℕ)
   pub failures_before : ℕ
   pub failures_after : ℕ
+
+-- a counted one, of which `bytes` tells the bytes
+abbrev pub device : {T : Type 0} → (T → Option (List ℕ)) → Counted T → Counted T → Device
+device bytes before after =
+    record {
+      bytes_before = bytes before.inner;
+      bytes_after = bytes after.inner;
+      failures_before = before.failures;
+      failures_after = after.failures;
+    }
 
 -- a call of the device failed: its count rose, or stood at the highest
 abbrev pub HasFailed : Device → Type 0

@@ -3,7 +3,7 @@
 ghost use Rattle.std.specs.Prelude.{◌≡◌, ◌≤◌, IfOk, IfSome, IsNone};
 ghost use Rattle.acpi_base.specs.Codes.{stage_number};
 ghost use Rattle.acpi_base.specs.declared.stage.TheConstants.{BUILT};
-ghost use Rattle.acpi_cli.specs.Engine.{HasNoRsdp, IsRsdpAddress, Runs, TellsCheck, outcome_of};
+ghost use Rattle.acpi_cli.specs.Engine.{device, HasNoRsdp, IsRsdpAddress, Runs, TellsCheck, outcome_of};
 
 use crate::devices::{Answer, read_input, write_answer};
 use crate::outcome::{Outcome, RunFault};
@@ -74,8 +74,8 @@ pub fn run_check<R: Read, W: Write>(
 ) -> Result<Outcome, RunFault>
     requires { stage_number last ≤ BUILT }
     ensures { Runs (TellsCheck rsdp policy last)
-        (record { bytes_before = R.remaining reader.old.inner; bytes_after = R.remaining reader.new.inner; failures_before = reader.old.failures; failures_after = reader.new.failures })
-        (record { bytes_before = W.contents writer.old.inner; bytes_after = W.contents writer.new.inner; failures_before = writer.old.failures; failures_after = writer.new.failures })
+        (device R.remaining reader.old reader.new)
+        (device W.contents writer.old writer.new)
         result }
 {
     let image = read_input(alloc, reader)?;

@@ -28,9 +28,9 @@ pub fn parse<'a>(alloc: Global, words: &'a [String]) -> Result<ArgMatches<'a>, W
     }
 }
 
-/// The first thing that is wrong with the words, in a line: the word that is not known, that is
-/// repeated or that wants a value. `None` where only a value is wrong, where a word is missing,
-/// where help is asked for, or where there is no memory to say it.
+/// What is wrong with words that are not taken, in a line: the first word that is not known, that is
+/// repeated or that wants a value. `None` where the command is missing, where help is asked for, or where
+/// there is no memory to say it.
 pub fn complaint(alloc: Global, words: &[String]) -> Option<String> {
     let error = acpiset(alloc).ok()?.try_get_matches_from(words).err()?;
     let text = format!(in alloc; "{error}").ok()?;
@@ -69,14 +69,17 @@ fn check<'a>(alloc: Global) -> Result<Command<'a>, AllocError>
     ensures own { IfOk result (λ command. (out-Command command).has_globals ≡ false) }
 {
     Command::new(alloc, "check")
-        .arg(option(alloc, "rsdp"))?
-        .arg(option(alloc, "through"))
+        .arg(option(alloc, "rsdp", "HEX"))?
+        .arg(option(alloc, "through", "N"))
 }
 
-/// `--NAME VALUE`, at most once.
-fn option<'a>(alloc: Global, name: &'a str) -> Arg<'a>
+/// `--NAME VALUE`, at most once. What the value is called shows only in complaints.
+fn option<'a>(alloc: Global, name: &'a str, value: &'a str) -> Arg<'a>
     ensures rule { rule_of result ≡ option_rule name.entry.now }
     ensures own { result.global ≡ false }
 {
-    Arg::new(alloc, name).long(name).action(ArgAction::Set)
+    Arg::new(alloc, name)
+        .long(name)
+        .action(ArgAction::Set)
+        .value_name(value)
 }

@@ -3,7 +3,7 @@
 ghost use Rattle.std.specs.Prelude.{◌≡◌, ℕ, OnOk, OnErr, take};
 ghost use Rattle.std.specs.Io.KnownBytes.{Appends};
 ghost use Rattle.acpi_base.specs.Tally.{CountsFailure};
-ghost use Rattle.acpi_cli.specs.Engine.{ReadsInput, WritesOutput};
+ghost use Rattle.acpi_cli.specs.Engine.{device, ReadsInput, WritesOutput};
 
 use crate::outcome::{Outcome, RunFault};
 use acpi_base::{DeviceFailed, Image, Tally, TextFault, read_image};
@@ -19,8 +19,7 @@ pub struct Answer {
 
 /// The image whose text is on `reader`.
 pub fn read_input<R: Read>(alloc: Global, reader: &mut Tally<R>) -> Result<Image, RunFault>
-    ensures { ReadsInput
-        (record { bytes_before = R.remaining reader.old.inner; bytes_after = R.remaining reader.new.inner; failures_before = reader.old.failures; failures_after = reader.new.failures }) result }
+    ensures { ReadsInput (device R.remaining reader.old reader.new) result }
 {
     match read_image(alloc, reader) {
         Ok(image) => Ok(image),
@@ -32,9 +31,7 @@ pub fn read_input<R: Read>(alloc: Global, reader: &mut Tally<R>) -> Result<Image
 
 /// Writes the answer's bytes, and gives its outcome.
 pub fn write_answer<W: Write>(writer: &mut Tally<W>, answer: &Answer) -> Result<Outcome, RunFault>
-    ensures { WritesOutput
-        (record { bytes_before = W.contents writer.old.inner; bytes_after = W.contents writer.new.inner; failures_before = writer.old.failures; failures_after = writer.new.failures })
-        answer.now.bytes.items answer.now.outcome result }
+    ensures { WritesOutput (device W.contents writer.old writer.new) answer.now.bytes.items answer.now.outcome result }
 {
     match write_whole(writer, &answer.bytes) {
         Ok(()) => Ok(answer.outcome),

@@ -1,7 +1,7 @@
 //! The engine of the command `find`.
 
 ghost use Rattle.std.specs.Prelude.{IfOk};
-ghost use Rattle.acpi_cli.specs.Engine.{Runs, TellsFound};
+ghost use Rattle.acpi_cli.specs.Engine.{device, Runs, TellsFound};
 
 use crate::devices::{Answer, read_input, write_answer};
 use crate::outcome::{Outcome, RunFault};
@@ -37,8 +37,8 @@ pub fn run_find<R: Read, W: Write>(
     writer: &mut Tally<W>,
 ) -> Result<Outcome, RunFault>
     ensures { Runs TellsFound
-        (record { bytes_before = R.remaining reader.old.inner; bytes_after = R.remaining reader.new.inner; failures_before = reader.old.failures; failures_after = reader.new.failures })
-        (record { bytes_before = W.contents writer.old.inner; bytes_after = W.contents writer.new.inner; failures_before = writer.old.failures; failures_after = writer.new.failures })
+        (device R.remaining reader.old reader.new)
+        (device W.contents writer.old writer.new)
         result }
 {
     let image = read_input(alloc, reader)?;

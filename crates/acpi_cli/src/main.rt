@@ -1,4 +1,4 @@
-//! The program: reads its words, and checks the image on standard input.
+//! The program: reads its words, and checks the image on standard input or looks for the RSDP in it.
 #![tactic(auto)]
 
 mod check;
@@ -17,12 +17,11 @@ ghost use Rattle.acpi_cli.specs.CommandLine.{IsBuilt, asked};
 
 use acpi_base::Tally;
 use check::run_check;
-use command_line::complaint;
 use find::run_find;
 use outcome::status_of;
 use std::io::ErrorKind;
 use std::process::ExitCode;
-use words::{Job, USAGE, WordFault, read_words};
+use words::{Job, USAGE, WordFault, read_words, wrong_word};
 
 /// The exit status where the words are refused.
 const REFUSED_WORDS: u8 = 2;
@@ -56,7 +55,7 @@ fn refuse(rt: &HostRuntime, wrong: Option<&str>) -> u8
     ensures { result ≡ 2 }
 {
     let _ = match wrong {
-        Some(wrong) => eprintln!(rt; "acpiset: {wrong}; {USAGE}"),
+        Some(wrong) => eprintln!(rt; "acpiset: {wrong}\n\n{USAGE}"),
         None => eprintln!(rt; "acpiset: {USAGE}"),
     };
     REFUSED_WORDS
@@ -86,7 +85,7 @@ fn obey(rt: &HostRuntime, words: &[String]) -> u8
 {
     match read_words(rt.alloc(), words) {
         Ok(job) => run(rt, job),
-        Err(WordFault::Words) => refuse(rt, complaint(rt.alloc(), words).as_deref()),
+        Err(WordFault::Words) => refuse(rt, wrong_word(rt.alloc(), words).as_deref()),
         Err(WordFault::Memory) => refuse_memory(rt),
     }
 }

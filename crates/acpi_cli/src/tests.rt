@@ -170,8 +170,14 @@ fn an_rsdp_that_is_looked_for(rt: HostRuntime) -> Result<(), Fail> {
         (&[b"@ffff0\n", RSDP_BYTES], b"rsdp 0xffff0\n"),
     ];
     for (parts, wanted) in sets {
-        let (_, line) = found(rt.alloc(), parts)?;
+        let (answer, line) = found(rt.alloc(), parts)?;
+        let outcome = if wanted == b"rsdp none\n".as_slice() {
+            Outcome::No
+        } else {
+            Outcome::Yes
+        };
         assert_eq!(rt; line.as_slice(), wanted);
+        assert_eq!(rt; answer, Ok(outcome));
     }
     Ok(())
 }

@@ -8,7 +8,7 @@ ghost use Rattle.acpi_cli.specs.CommandLine.{Asked, DoesAsked, IsBuilt, asked, c
 ghost use Rattle.acpi_cli.specs.CommandLine.{check_words, find_words, short_line, through_line, whole_line};
 ghost use Rattle.acpi_cli.specs.Words.{hex_word};
 
-use crate::command_line::{parse, value};
+use crate::command_line::{complaint, parse, value};
 use crate::number_words::{decimal_number, hex_number};
 use acpi_base::{BUILT, Policy, Stage};
 use clap::ArgMatches;
@@ -38,6 +38,15 @@ fault.
 
 find looks for the RSDP at the multiples of 16 from e0000 to ffff0, and writes
 `rsdp` and its address, or `rsdp none`.
+
+In the text, a line of `@` and hex digits is the address of what follows, a
+line of pairs of hex digits is bytes, and # begins a comment:
+
+  @e0000
+  52 53 44 20  # and so on
+
+A fault is a line such as `no 3 TableSum 0x1 0x3000 0x0`: the stage, the
+fault's name, where it is, and two more numbers that say what it speaks of.
 
 For example: acpiset check --rsdp f59e0 < image.txt
 
@@ -105,6 +114,32 @@ fn check_job(alloc: Global, options: &ArgMatches) -> Option<Job>
         policy: new_policy(alloc),
         last,
     })
+}
+
+/// What is wrong with words that are refused, in a line that names the word. `None` where the command is
+/// missing, where help is asked for, or where there is no memory to say it.
+pub fn wrong_word(alloc: Global, words: &[String]) -> Option<String> {
+    match parse(alloc, words) {
+        Ok(matches) => wrong_value(alloc, matches.subcommand()?.1),
+        Err(_) => complaint(alloc, words),
+    }
+}
+
+/// The value of an option of `check` that is none, in a line.
+fn wrong_value(alloc: Global, options: &ArgMatches) -> Option<String> {
+    if let Some(hex) = value(options, "rsdp")
+        && hex_number(hex).is_none()
+    {
+        return format!(in alloc;
+            "--rsdp '{hex}': an address is 1 to 16 hex digits, with 0x before them or without"
+        ).ok();
+    }
+    if let Some(number) = value(options, "through")
+        && last_stage(Some(number)).is_none()
+    {
+        return format!(in alloc; "--through '{number}': the stages are 1 to {BUILT}").ok();
+    }
+    None
 }
 
 /// The address that `--rsdp` gives, where it is there. `None` where it is no address.

@@ -67,6 +67,12 @@ const PLACES: [Place; 41] = [
     Place(131, 1), // 40 minor version
 ];
 
+/// RESET_REG_SUP, a bit of Flags: the reset register may be used.
+const RESET_REG_SUP: u32 = 10;
+
+/// HW_REDUCED_ACPI, a bit of Flags: the hardware lacks what the ACPI registers drive.
+const HW_REDUCED_ACPI: u32 = 20;
+
 /// The offsets of the blocks' length bytes.
 const BLOCK_LENGTHS: [u8; 8] = [88, 88, 89, 89, 90, 91, 92, 93];
 
@@ -119,18 +125,6 @@ fn address_of(bytes: &[u8], end: usize, offset: usize, narrow: usize) -> u64
     }
 }
 
-/// A fault that is told of an offset.
-fn fault_at(code: Code, at: u64) -> Witness
-    ensures { result ≡ record { code = code; at = at; other = 0; point = 0 } }
-{
-    Witness {
-        code,
-        at,
-        other: 0,
-        point: 0,
-    }
-}
-
 /// The first of the blocks' lengths that is wrong where the hardware is not reduced.
 fn length_fault(bytes: &[u8]) -> Option<Witness>
     requires { 116 ≤ length bytes.now }
@@ -140,20 +134,20 @@ fn length_fault(bytes: &[u8]) -> Option<Witness>
     ensures least { IfSome result (λ w. (other : Code) (at : ℕ) → FadtTableFault bytes.now other at → (w.at < at) ⊎ ((w.at ≡ at) × (code_number w.code ≤ code_number other))) }
 {
     if u8_at(bytes, 88) < 4 {
-        return Some(fault_at(Code::PmEventLength, 88));
+        return Some(Witness::at(Code::PmEventLength, 88));
     }
     if u8_at(bytes, 89) < 2 {
-        return Some(fault_at(Code::PmControlLength, 89));
+        return Some(Witness::at(Code::PmControlLength, 89));
     }
     let timer = u8_at(bytes, 91);
     if timer != 0 && timer != 4 {
-        return Some(fault_at(Code::PmTimerLength, 91));
+        return Some(Witness::at(Code::PmTimerLength, 91));
     }
     if u8_at(bytes, 92) % 2 != 0 {
-        return Some(fault_at(Code::GpeLength, 92));
+        return Some(Witness::at(Code::GpeLength, 92));
     }
     if u8_at(bytes, 93) % 2 != 0 {
-        return Some(fault_at(Code::GpeLength, 93));
+        return Some(Witness::at(Code::GpeLength, 93));
     }
     None
 }
@@ -241,8 +235,11 @@ impl<'a> Fadt<'a> {
         {
             return Some(w);
         }
-        if has_flag(bytes, 10) && bytes.len() >= 129 && !is_reset_register(gas_in(bytes, 116)) {
-            return Some(fault_at(Code::ResetRegister, 116));
+        if has_flag(bytes, RESET_REG_SUP)
+            && bytes.len() >= 129
+            && !is_reset_register(gas_in(bytes, 116))
+        {
+            return Some(Witness::at(Code::ResetRegister, 116));
         }
         None
     }
@@ -251,7 +248,7 @@ impl<'a> Fadt<'a> {
     pub fn reduced(&self) -> bool
         ensures { result ≡ is_reduced self.now }
     {
-        has_flag(self.bytes, 20)
+        has_flag(self.bytes, HW_REDUCED_ACPI)
     }
 
     /// The field with this number, which is below 41, or none where the table is too short to have it.

@@ -5,12 +5,13 @@ ghost use Rattle.std.specs.Io.KnownBytes.{Consumes, IsAtEnd};
 ghost use Rattle.acpi_base.specs.ImageText.{max_text};
 ghost use Rattle.acpi_base.specs.TextReading.{HasEnded};
 
+use super::MAX_TEXT;
 use crate::tally::Tally;
 use std::alloc::AllocError;
 use std::io::Read;
 
 /// The most bytes that are collected: one more than a text may have.
-const MOST: usize = 67_108_865;
+const MOST: usize = MAX_TEXT + 1;
 
 /// How many bytes one read asks for.
 const PIECE: usize = 16_384;

@@ -5,13 +5,11 @@ ghost use Rattle.acpi_base.specs.Memory.{IsImage};
 ghost use Rattle.acpi_base.specs.ImageText.{start, max_text, data_fault, put_data, take_line, read_line, read_lines, ended_lines, last_line, ended_from, last_from, read_text, read_front, IsText};
 ghost use Rattle.acpi_base.specs.TextReading.{Refuses, IsFaultlessFront, line_with, reading_of};
 
+use super::MAX_TEXT;
 use super::line::{Form, parse_line};
 use crate::image::{Image, ImageFault};
 use crate::text::TextFault;
 use std::alloc::Global;
-
-/// The most bytes of a text.
-const MAX_TEXT: u64 = 67_108_864;
 
 /// The most bytes of a line, its CR counted and its LF not.
 const MAX_LINE: usize = 65_536;
@@ -116,7 +114,7 @@ impl Progress {
             return Err(TextFault::TooLong);
         }
         let through = self.through + line.len() as u64 + ending;
-        if through > MAX_TEXT {
+        if through > MAX_TEXT as u64 {
             return Err(TextFault::TooLong);
         }
         self.lines += 1;
@@ -191,7 +189,7 @@ pub fn judge_front(alloc: Global, text: &[u8]) -> Result<(), TextFault>
     let mut progress = Progress::new(alloc);
     let mut bytes = Vec::new(alloc);
     let begin = read_ended(&mut progress, text, &mut bytes)?;
-    if text.len() - begin > MAX_LINE || text.len() as u64 > MAX_TEXT {
+    if text.len() - begin > MAX_LINE || text.len() > MAX_TEXT {
         return Err(TextFault::TooLong);
     }
     Ok(())

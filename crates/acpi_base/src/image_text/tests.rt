@@ -78,18 +78,28 @@ fn reads_each_byte(rt: HostRuntime) {
 }
 
 #[test]
-fn takes_each_form_of_line(rt: HostRuntime) {
-    for text in [
-        b"".as_slice(),
-        b"\n\r\n \t\n# @0 x\n",
-        b"@0 # from here on\r\n 0aB0\tc1 2d \r\n",
-        b"@0\n01 # a CR may stand in a comment \r\r",
-        b"@FFFFFFFFFFFFFFFF\n01",
-        b"@0123456789abcdef \n",
-    ] {
-        let read = read_image(rt.alloc(), &mut Tally::new(text));
-        assert_eq!(rt; read.err(), None, "{text:?}");
+fn takes_each_form_of_line(rt: HostRuntime) -> Result<(), Fail> {
+    // The text, and where its only bytes stand.
+    let texts: [(&[u8], u64, &[u8]); 7] = [
+        (b"", 0, &[]),
+        (b"\n\r\n \t\n# @0 x\n", 0, &[]),
+        (
+            b"@0 # from here on\r\n 0aB0\tc1 2d \r\n",
+            0,
+            &[0x0a, 0xb0, 0xc1, 0x2d],
+        ),
+        (b"@0\n01 # a CR may stand in a comment \r\r", 0, &[1]),
+        (b"@FFFFFFFFFFFFFFFF\n01", u64::MAX, &[1]),
+        (b"@0123456789abcdef \n", 0x0123_4567_89ab_cdef, &[]),
+        (b"@10\n01\n@8\n@20 \n\n02 03\n04", 0x20, &[2, 3, 4]),
+    ];
+    for (text, address, bytes) in texts {
+        let image = read_image(rt.alloc(), &mut Tally::new(text)).map_err(|_| "a good text")?;
+        let count = bytes.len() as u64;
+        assert_eq!(rt; image.window(address, count), Some(bytes), "{text:?}");
+        assert_eq!(rt; image.window(address, count + 1), None, "{text:?}");
     }
+    Ok(())
 }
 
 #[test]

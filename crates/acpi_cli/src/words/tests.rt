@@ -1,7 +1,6 @@
 //! Command lines that are read, and command lines that are refused.
 
 use super::*;
-use crate::command_line::complaint;
 use std::alloc::AllocError;
 
 /// Reads a command line whose words stand a space apart.
@@ -149,7 +148,8 @@ fn a_line_that_looks_for_the_rsdp(rt: HostRuntime) {
 #[test]
 fn no_words_at_all(rt: HostRuntime) {
     let words: [String; 0] = [];
-    assert!(rt; read_words(rt.alloc(), words.as_slice()).is_err());
+    let answer = read_words(rt.alloc(), words.as_slice());
+    assert_eq!(rt; answer.err(), Some(WordFault::Words));
 }
 
 #[test]
@@ -157,18 +157,29 @@ fn what_is_wrong_with_a_line(rt: HostRuntime) {
     let lines = [
         ("acpiset judge", "unrecognized subcommand 'judge'"),
         ("acpiset check --fix", "unexpected argument '--fix' found"),
+        (
+            "acpiset check --rsdp f59e0h",
+            "--rsdp 'f59e0h': an address is 1 to 16 hex digits, with 0x before them or without",
+        ),
+        (
+            "acpiset check --rsdp e0000 --through 6",
+            "--through '6': the stages are 1 to 5",
+        ),
     ];
     for (line, text) in lines {
         let words = words_of(rt.alloc(), line).expect(&rt, line);
-        let complaint = complaint(rt.alloc(), words.as_slice()).expect(&rt, line);
-        assert_eq!(rt; complaint.as_str(), text);
+        let wrong = wrong_word(rt.alloc(), words.as_slice()).expect(&rt, line);
+        assert_eq!(rt; wrong.as_str(), text);
     }
 }
 
 #[test]
 fn nothing_but_the_usage_to_say(rt: HostRuntime) {
-    for line in ["acpiset --help", "acpiset check --rsdp g", "acpiset"] {
+    for line in ["acpiset --help", "acpiset check --help", "acpiset"] {
         let words = words_of(rt.alloc(), line).expect(&rt, line);
-        assert!(rt; complaint(rt.alloc(), words.as_slice()).is_none(), "{line}");
+        assert!(rt;
+            wrong_word(rt.alloc(), words.as_slice()).is_none(),
+            "{line}"
+        );
     }
 }

@@ -12,6 +12,6 @@ returns-in-Err-clause-first c =
     let p = c.args.policy.now.rsdp in
     let whole = c.args.fadt.now in
     let sound : IsSoundFadt m p = record { whole = whole; fadt = c.requires.fadt; sound = c.requires.table } in
-    rw c.facs_address.ensures
+    rw (c.at.ensures, c.facs_address.ensures)
     (first_named_facs_fault_at m c.args.policy.now p sound c.in-Err.code refl c.requires.rsdp c.requires.root c.requires.tables
     (record { holds = c.in-Err.ensures.fault; least = λ d h. c.in-Err.ensures.least d (facs_address whole) h }))

@@ -25,7 +25,7 @@ returns-in_default-clause-first c =
     let root = c.args.root.now in
     let none = lists_no_fadt m p root.address root.width root.bytes c.requires.named c.requires.table.table (c.in_default.ensures.none refl) in
     let sound : IsSoundRoot m p = record { r = root.address; d = root.width; whole = root.bytes; root = c.requires.named; sound = c.requires.table } in
-    rw c.fault_at_start.ensures (first_no_fadt_at m c.args.policy.now p refl c.requires.rsdp sound c.requires.tables none)
+    rw c.at.ensures (first_no_fadt_at m c.args.policy.now p refl c.requires.rsdp sound c.requires.tables none)
 
 pub returns-in-Err-clause-sound : goal.returns-in-Err-clause-sound
 returns-in-Err-clause-sound c =
@@ -43,7 +43,7 @@ returns-in-Err-clause-first c =
     let whole = c.in-Some.table in
     let fadt = listed_fadt m p root.address root.width root.bytes whole c.requires.named c.requires.table.table c.in-Some.ensures.some in
     let sound : IsSoundRoot m p = record { r = root.address; d = root.width; whole = root.bytes; root = c.requires.named; sound = c.requires.table } in
-    rw c.fault_at_start-in-Err.ensures
+    rw c.at-in-Err.ensures
     (first_fadt_table_fault_at m c.args.policy.now p whole (record { code = c.in-Err.code; at = 0; other = 0; point = 0 }) refl c.requires.rsdp sound c.requires.tables fadt (start_first whole c.in-Err.code c.in-Err.ensures.fault.1) refl refl)
 
 pub returns-in-Some-fault-clause-sound : goal.returns-in-Some-fault-clause-sound
