@@ -3,7 +3,7 @@ PREFIX ?= /usr/local
 program := crates/acpi_cli/out/acpi_cli
 sources := crates.txt $(shell find crates -path '*/out' -prune -o -type f -print)
 
-.PHONY: run build test bench install
+.PHONY: run build test bench install clean
 
 # Proves and builds the program, and checks the smallest set of tables.
 run: build
@@ -28,3 +28,6 @@ bench: build
 
 install: build
 	install -D acpiset $(DESTDIR)$(PREFIX)/bin/acpiset
+
+clean:
+	rm -rf crates/*/out acpiset

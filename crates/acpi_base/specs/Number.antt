@@ -2,7 +2,7 @@
 use Rattle.std.specs.Prelude.{ℕ, ◌%◌, List, drop, sum}
 use Rattle.byteorder.specs.Endian.{little_number}
 
--- the little-endian number in the `width` bytes from `offset` on (5.2)
+-- the little-endian number in the `width` bytes from `offset` on (5.2); bytes past the end count as 0
 unfoldable pub field : List ℕ → ℕ → ℕ → ℕ
 field bytes offset width = little_number width (drop offset bytes)
 

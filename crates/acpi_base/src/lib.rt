@@ -16,7 +16,7 @@
 //! assert_eq!(rt; image.window(0x1000, 4), None);
 //! ```
 //!
-//! `specs/` has the definitions, a file a subject. They name no function of the code.
+//! `specs/` has the definitions, a file a subject. None depends on a function of the code.
 #![tactic(auto)]
 
 mod checksum;

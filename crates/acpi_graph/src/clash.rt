@@ -1,3 +1,5 @@
+//! The first number that two spans hold.
+
 ghost use Rattle.std.specs.Prelude.{◌≡◌, ◌+◌, ◌-◌, ◌<◌, ◌≤◌, ◌↔◌, IsTrue, IsOk, IfOk, AllPairs, length, vec_len};
 ghost use Rattle.acpi_graph.specs.Spans.{NamesDiffer, IsClear, ComesBefore, IfAt, IsFirstClash};
 

@@ -7,7 +7,9 @@
 //!   and never ends, and where its round begins.
 //!
 //! ```rust
-//! let spans = vec![in alloc; low, high]?; // of 0 to 9 under the name 1, and of 8 to 11 under 2
+//! let low = Span::new(0, 10, 1).unwrap(); // 0 to 9, under the name 1
+//! let high = Span::new(8, 12, 2).unwrap(); // 8 to 11, under the name 2
+//! let spans = vec![in alloc; low, high]?;
 //! let (clash, comparisons) = first_clash(alloc, spans)?;
 //! // clash is Clash::At { first: 1, second: 2, point: 8 }, found by one comparison
 //!

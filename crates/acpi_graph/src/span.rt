@@ -1,3 +1,5 @@
+//! Spans of numbers.
+
 ghost use Rattle.std.specs.Prelude.{◌≡◌, ◌<◌, ◌↔◌, IsSome, IfSome};
 
 /// The numbers from `start` on and below `end`: at least one. Answers speak of the span by `name`.

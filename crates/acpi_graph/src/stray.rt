@@ -1,3 +1,5 @@
+//! The first node whose chain of parents never ends.
+
 ghost use Rattle.std.specs.Prelude.{◌≡◌, ◌+◌, ◌<◌, ◌≤◌, ◌↔◌, [], IsOk, IfOk, length, replicate};
 ghost use Rattle.acpi_graph.specs.Parents.{AreNodes, parent_of, Ends, AllEnd, IsRound, IsFirstStray, IfRound};
 ghost use Rattle.acpi_graph.specs.Walks.{AreSettled};

@@ -294,8 +294,7 @@ impl<'a> Fadt<'a> {
     ///
     /// The X_ structure at 148 + 12k, where the table has it and its address is not 0; else a system I/O
     /// port at the address of 4 bytes at 56 + 4k, where that is not 0, whose length is the byte at 88, 88,
-    /// 89, 89, 90, 91, 92 or 93; else none. That the field of 4 bytes means system I/O, and that the two
-    /// need not agree, is this project's choice.
+    /// 89, 89, 90, 91, 92 or 93; else none. That the two need not agree is this project's choice.
     #[tactic(auto, unfolding(acpi_base::specs::Fadt::block_value))]
     pub fn block(&self, k: u8) -> Block
         requires { k < 8 }
