@@ -71,7 +71,7 @@ pub enum Job {
 #[derive(Clone, Copy, Debug, PartialEq, Eq, Error)]
 pub enum WordFault {
     /// The words are none of the program's, or ask for help.
-    #[error("{}", USAGE)]
+    #[error("the words are refused")]
     Words,
     /// No memory was found.
     #[error("out of memory")]
