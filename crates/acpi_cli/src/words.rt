@@ -125,7 +125,7 @@ pub fn wrong_word(alloc: Global, words: &[String]) -> Option<String> {
     }
 }
 
-/// The value of an option of `check` that is none, in a line.
+/// What is wrong with the values of the options of `check`, in a line that names the first wrong one.
 fn wrong_value(alloc: Global, options: &ArgMatches) -> Option<String> {
     if let Some(hex) = value(options, "rsdp")
         && hex_number(hex).is_none()
