@@ -63,3 +63,52 @@ fn passes_bytes_on(rt: HostRuntime) -> Result<(), Fail> {
     assert_eq!(rt; text.as_str(), "device");
     Ok(())
 }
+
+// Fails at its first call, and then gives and takes as much as there is room for.
+#[derive(Drop)]
+struct FailsAtFirst {
+    calls: u32,
+}
+
+impl FailsAtFirst {
+    /// Counts a call, and fails at the first.
+    fn call(&mut self) -> io::Result<()> {
+        self.calls = self.calls.saturating_add(1);
+        if self.calls == 1 {
+            return Err(io::ErrorKind::Interrupted.into());
+        }
+        Ok(())
+    }
+}
+
+impl Read for FailsAtFirst {
+    fn read(&mut self, buffer: &mut [u8]) -> io::Result<usize> {
+        self.call()?;
+        Ok(buffer.len())
+    }
+}
+
+impl Write for FailsAtFirst {
+    fn write(&mut self, bytes: &[u8]) -> io::Result<usize> {
+        self.call()?;
+        Ok(bytes.len())
+    }
+
+    fn flush(&mut self) -> io::Result<()> {
+        Ok(())
+    }
+}
+
+#[test]
+fn makes_one_call_of_what_is_inside(rt: HostRuntime) {
+    let mut reader = Tally::new(FailsAtFirst { calls: 0 });
+    assert_eq!(rt; reader.read(&mut [0; 2]), Err(DeviceFailed));
+    assert_eq!(rt; reader.read(&mut [0; 2]), Ok(2));
+    assert_eq!(rt; reader.failures(), 1);
+    assert_eq!(rt; reader.into_inner().calls, 2);
+    let mut writer = Tally::new(FailsAtFirst { calls: 0 });
+    assert_eq!(rt; writer.write(b"ab"), Err(DeviceFailed));
+    assert_eq!(rt; writer.write(b"ab"), Ok(2));
+    assert_eq!(rt; writer.failures(), 1);
+    assert_eq!(rt; writer.into_inner().calls, 2);
+}
