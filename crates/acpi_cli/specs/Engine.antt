@@ -13,6 +13,8 @@ use Rattle.acpi_base.specs.declared.stage.Stage.{Stage}
 use Rattle.acpi_base.specs.declared.text.TextFault.{TextFault}
 use Rattle.acpi_base.specs.declared.verdict.Verdict.{Verdict}
 use Rattle.acpi_base.specs.declared.verdict.Verdict.TheVariants as verdict
+use Rattle.acpi_cli.specs.declared.words.Job.{Job}
+use Rattle.acpi_cli.specs.declared.words.Job.TheVariants.{Check, Find}
 use Rattle.acpi_cli.specs.declared.outcome.Outcome.{Outcome}
 use Rattle.acpi_cli.specs.declared.outcome.Outcome.TheVariants as outcome
 use Rattle.acpi_cli.specs.declared.outcome.RunFault.{RunFault}
@@ -153,3 +155,8 @@ abbrev pub TellsFound : Memory → List ℕ → Outcome → Type 0
 TellsFound m bytes answer =
     ((p : ℕ) × IsFound m p × (bytes ≡ codes "rsdp " ++ hex_text p ++ codes "\n") × (answer ≡ outcome.Yes))
     ⊎ (IsNowhere m × (bytes ≡ codes "rsdp none\n") × (answer ≡ outcome.No))
+
+-- what a job tells of an image
+abbrev pub TellsJob : Job → Memory → List ℕ → Outcome → Type 0
+TellsJob (Check given policy last) = TellsCheck given policy last
+TellsJob Find = TellsFound

@@ -14,12 +14,14 @@ mod words;
 ghost use Rattle.std.specs.Prelude.{◌≡◌, ◌≢◌, ◌⊎◌, IsNone, IsSome, map};
 ghost use Rattle.std.specs.String.{string_bytes};
 ghost use Rattle.acpi_cli.specs.CommandLine.{IsBuilt, asked};
+ghost use Rattle.acpi_cli.specs.Engine.{device, Runs, TellsJob};
 
 use acpi_base::Tally;
 use check::run_check;
 use find::run_find;
-use outcome::status_of;
-use std::io::ErrorKind;
+use outcome::{Outcome, RunFault, status_of};
+use std::alloc::Global;
+use std::io::{ErrorKind, Read, Write};
 use std::process::ExitCode;
 use words::{Job, USAGE, WordFault, read_words, wrong_word};
 
@@ -28,6 +30,22 @@ const REFUSED_WORDS: u8 = 2;
 
 /// The exit status where no memory was found.
 const NO_MEMORY: u8 = 4;
+
+/// Does the job on a reader and a writer.
+fn do_job<R: Read, W: Write>(
+    alloc: Global,
+    reader: &mut Tally<R>,
+    writer: &mut Tally<W>,
+    job: Job,
+) -> Result<Outcome, RunFault>
+    requires { IsBuilt job }
+    ensures { Runs (TellsJob job) (device R.remaining reader.old reader.new) (device W.contents writer.old writer.new) result }
+{
+    match job {
+        Job::Check { rsdp, policy, last } => run_check(alloc, reader, writer, rsdp, policy, last),
+        Job::Find => run_find(alloc, reader, writer),
+    }
+}
 
 /// Runs the job on standard input and output, and tells on standard error why it gave up. What cannot be
 /// told there changes nothing in the exit status.
@@ -38,12 +56,7 @@ fn run(rt: &HostRuntime, job: Job) -> u8
     let alloc = rt.alloc();
     let mut reader = Tally::new(rt.stdin());
     let mut writer = Tally::new(rt.stdout());
-    let answer = match job {
-        Job::Check { rsdp, policy, last } => {
-            run_check(alloc, &mut reader, &mut writer, rsdp, policy, last)
-        }
-        Job::Find => run_find(alloc, &mut reader, &mut writer),
-    };
+    let answer = do_job(alloc, &mut reader, &mut writer, job);
     if let Err(fault) = &answer {
         let _ = eprintln!(rt; "acpiset: {fault}");
     }

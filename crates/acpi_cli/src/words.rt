@@ -173,8 +173,9 @@ fn new_policy(alloc: Global) -> Policy
     Policy::new(alloc, 0, DEFAULT_INPUTS).unwrap()
 }
 
-/// Each plain command line with good numbers is read, and as one expects.
+/// Each plain command line with good numbers is read, and as one expects. Five stages are built.
 pub fn plain_lines_are_read()
+    ensures built { BUILT ≡ 5 }
     ensures find { (program : List ℕ) → asked (find_words program) ≡ Some Asked.find }
     ensures alone { (program : List ℕ) → asked (check_words program) ≡ Some (Asked.check None BUILT) }
     ensures through { (program number : List ℕ) (last : ℕ) → last_word (Some number) ≡ Some last
