@@ -1,31 +1,22 @@
-pub mod Clean
-pub mod CodeNumbers
 pub mod Edits
-pub mod FacsFaults
-pub mod FadtFaults
-pub mod FaultLaws
-pub mod FirstFaults
-pub mod Firsts
+pub mod Facs
+pub mod Fadt
+pub mod Faults
 pub mod HeldBytes
 pub mod Held
 pub mod Images
 pub mod Joins
 mod LineLemmas
-pub mod Listed
 mod MachineLemmas
 mod OwnRefusals
 pub mod Places
 pub mod Policies
 mod ReadingLemmas
-pub mod RootFaults
-pub mod RootRead
-pub mod Roots
-pub mod RsdpFaults
+pub mod Root
+pub mod Rsdp
 pub mod Runs
-pub mod Search
 pub mod Segments
-pub mod Slots
 mod Standing
-pub mod TableFaults
+pub mod Tables
 mod TextLines
 mod TextMeaning

@@ -13,16 +13,16 @@ facs_signature = codes "FACS"
 
 -- its length in bytes, as its first 8 bytes say
 abbrev pub facs_length : List ℕ → ℕ
-facs_length front = field front 4 4
+facs_length prefix = field prefix 4 4
 
 -- a FACS stands at f: at a multiple of 64, with its signature, a Length of at least 64, and all its bytes
 pub record IsFacs (m : Memory) (f : ℕ) (whole : List ℕ) : Type 0 where
   pub aligned : f % 64 ≡ 0
-  pub front : List ℕ
-  pub front_held : bytes_at m f 8 ≡ Some front
-  pub signed : has_signature front facs_signature ≡ true
-  pub least : 64 ≤ facs_length front
-  pub held : bytes_at m f (facs_length front) ≡ Some whole
+  pub prefix : List ℕ
+  pub prefix_held : bytes_at m f 8 ≡ Some prefix
+  pub signed : has_signature prefix facs_signature ≡ true
+  pub least : 64 ≤ facs_length prefix
+  pub held : bytes_at m f (facs_length prefix) ≡ Some whole
 
 -- the FADT names a FACS, which is sound, or it names none and the hardware is reduced
 pub record HasSoundFacs (m : Memory) (fadt : List ℕ) : Type 0 where
@@ -34,15 +34,15 @@ pub record HasSoundFacs (m : Memory) (fadt : List ℕ) : Type 0 where
 abbrev pub IsSoundFacs : Memory → ℕ → Type 0
 IsSoundFacs m p = (fadt : List ℕ) → IsFadt m p fadt → HasSoundFacs m fadt
 
--- The faults of the FACS that a FADT names, by their code, and the address that each is told of; 0 where
+-- The faults of the FACS that a FADT names, by their code, and the address that each is reported at; 0 where
 -- none is named.
 abbrev pub NamedFacsFault : Memory → List ℕ → Code → ℕ → Type 0
 NamedFacsFault m fadt code.NoFacs at = (is_reduced fadt ≡ false) × (facs_address fadt ≡ 0) × (at ≡ 0)
 NamedFacsFault m fadt code.FacsAlign at = (facs_address fadt ≢ 0) × (at ≡ facs_address fadt) × (at % 64 ≢ 0)
 NamedFacsFault m fadt code.FacsHeaderOut at = (facs_address fadt ≢ 0) × (at ≡ facs_address fadt) × (bytes_at m at 8 ≡ None)
-NamedFacsFault m fadt code.FacsSignature at = (facs_address fadt ≢ 0) × (at ≡ facs_address fadt) × (front : List ℕ) × (bytes_at m at 8 ≡ Some front) × (has_signature front facs_signature ≡ false)
-NamedFacsFault m fadt code.FacsLength at = (facs_address fadt ≢ 0) × (at ≡ facs_address fadt) × (front : List ℕ) × (bytes_at m at 8 ≡ Some front) × (facs_length front < 64)
-NamedFacsFault m fadt code.FacsOut at = (facs_address fadt ≢ 0) × (at ≡ facs_address fadt) × (front : List ℕ) × (bytes_at m at 8 ≡ Some front) × (64 ≤ facs_length front) × (bytes_at m at (facs_length front) ≡ None)
+NamedFacsFault m fadt code.FacsSignature at = (facs_address fadt ≢ 0) × (at ≡ facs_address fadt) × (prefix : List ℕ) × (bytes_at m at 8 ≡ Some prefix) × (has_signature prefix facs_signature ≡ false)
+NamedFacsFault m fadt code.FacsLength at = (facs_address fadt ≢ 0) × (at ≡ facs_address fadt) × (prefix : List ℕ) × (bytes_at m at 8 ≡ Some prefix) × (facs_length prefix < 64)
+NamedFacsFault m fadt code.FacsOut at = (facs_address fadt ≢ 0) × (at ≡ facs_address fadt) × (prefix : List ℕ) × (bytes_at m at 8 ≡ Some prefix) × (64 ≤ facs_length prefix) × (bytes_at m at (facs_length prefix) ≡ None)
 NamedFacsFault m fadt _ at = ⊥
 
 -- The faults of stage 5, by their code: they ask a FADT of at least 116 bytes.

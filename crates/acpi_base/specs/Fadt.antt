@@ -1,17 +1,12 @@
 -- The FADT (ACPI 6.5, 5.2.9): its fields, its blocks, and when it is sound. Offsets are from its start.
-use Rattle.std.specs.Prelude.{◌≡◌, ◌≢◌, ℕ, ◌+◌, ◌*◌, ◌/◌, ◌%◌, ◌^◌, ◌<◌, ◌≤◌, ◌⊎◌, Bool, true, false, not, List, [], ◌∷◌, ◌++◌, length, slice_get, slice_index, codes, Option, Some, None, nat_le, ◌==◌, ◌&&◌, if◌then◌else◌, unwrap_or}
+use Rattle.std.specs.Prelude.{◌≡◌, ◌≢◌, ℕ, ◌+◌, ◌*◌, ◌/◌, ◌%◌, ◌^◌, ◌<◌, ◌≤◌, ◌⊎◌, Bool, true, false, not, List, [], ◌∷◌, ◌++◌, length, slice_get, slice_index, Option, Some, None, nat_le, ◌==◌, ◌&&◌, if◌then◌else◌, unwrap_or}
 use Rattle.std.specs.Option.{option_and_then, option_map_or}
 use Rattle.byteorder.specs.Endian.{little_bytes}
 use Rattle.acpi_base.specs.Memory.{Memory}
 use Rattle.acpi_base.specs.Number.{field}
-use Rattle.acpi_base.specs.Tables.{IsTable, IsSigned}
-use Rattle.acpi_base.specs.Root.{IsRoot, IsRootTable, HasSlot, IsFirstTable}
+use Rattle.acpi_base.specs.Listed.{fadt_signature, IsListedTable, ListsNone}
 use Rattle.acpi_base.specs.declared.code.Code.{Code}
 use Rattle.acpi_base.specs.declared.code.Code.TheVariants as code
-
--- the FADT's signature
-abbrev pub fadt_signature : List ℕ
-fadt_signature = codes "FACP"
 
 -- ---- fields
 
@@ -192,22 +187,13 @@ pub record IsSoundFadtTable (whole : List ℕ) : Type 0 where
   pub blocks : is_reduced whole ≡ false → HasBlockLengths whole
   pub reset : has_reset whole ≡ true → 129 ≤ length whole → IsResetRegister (gas_at whole 116)
 
--- the FADT of the set that the RSDP at p leads to: the first listed table with its signature, which is
--- whole
-pub record IsFadt (m : Memory) (p : ℕ) (whole : List ℕ) : Type 0 where
-  pub a : ℕ
-  pub header : List ℕ
-  pub first : IsFirstTable m p fadt_signature a
-  pub table : IsTable m a header whole
+-- the FADT of the set that the RSDP at p leads to
+abbrev pub IsFadt : Memory → ℕ → List ℕ → Type 0
+IsFadt m p whole = IsListedTable m p fadt_signature whole
 
--- the root is a table, and none of its slots lists a header with the FADT's signature
-pub record HasNoFadt (m : Memory) (p : ℕ) : Type 0 where
-  pub r : ℕ
-  pub d : ℕ
-  pub root_bytes : List ℕ
-  pub root : IsRoot m p r d
-  pub table : IsRootTable m r d root_bytes
-  pub none : (k a : ℕ) → HasSlot root_bytes d k a → ¬ IsSigned m a fadt_signature
+-- the set lists no FADT
+abbrev pub HasNoFadt : Memory → ℕ → Type 0
+HasNoFadt m p = ListsNone m p fadt_signature
 
 -- Stage 4: there is a FADT, and it is sound.
 pub record IsSoundFadt (m : Memory) (p : ℕ) : Type 0 where
@@ -219,7 +205,7 @@ pub record IsSoundFadt (m : Memory) (p : ℕ) : Type 0 where
 abbrev pub IsNoResetRegister : GasValue → Type 0
 IsNoResetRegister gas = (2 < gas.space) ⊎ ((gas.bit_width ≢ 8) ⊎ (gas.bit_offset ≢ 0))
 
--- The faults of a FADT's bytes, by their code, and the offset that each is told of.
+-- The faults of a FADT's bytes, by their code, and the offset that each is reported at.
 abbrev pub FadtTableFault : List ℕ → Code → ℕ → Type 0
 FadtTableFault whole code.FadtShort at = (length whole < 116) × (at ≡ 0)
 FadtTableFault whole code.PmEventLength at = (116 ≤ length whole) × (is_reduced whole ≡ false) × (field whole 88 1 < 4) × (at ≡ 88)
@@ -229,7 +215,7 @@ FadtTableFault whole code.GpeLength at = (116 ≤ length whole) × (is_reduced w
 FadtTableFault whole code.ResetRegister at = (116 ≤ length whole) × (has_reset whole ≡ true) × (129 ≤ length whole) × IsNoResetRegister (gas_at whole 116) × (at ≡ 116)
 FadtTableFault whole _ at = ⊥
 
--- The faults of stage 4, by their code, and the offset that each is told of; 0 where there is no FADT.
+-- The faults of stage 4, by their code, and the offset that each is reported at; 0 where there is no FADT.
 abbrev pub FadtFault : Memory → ℕ → Code → ℕ → Type 0
 FadtFault m p fault at =
     (HasNoFadt m p × (fault ≡ code.NoFadt) × (at ≡ 0))

@@ -8,26 +8,31 @@ use Rattle.acpi_base.specs.Root.{RootFault, IsSlot}
 use Rattle.acpi_base.specs.Tables.{TableFault}
 use Rattle.acpi_base.specs.Fadt.{FadtFault}
 use Rattle.acpi_base.specs.Facs.{FacsFault}
-use Rattle.acpi_base.specs.Statements.{Holds, CleanTo}
+use Rattle.acpi_base.specs.Statements.{CleanTo, CleanBefore}
 use Rattle.acpi_base.specs.declared.stage.Stage.{Stage}
 use Rattle.acpi_base.specs.declared.stage.Stage.TheVariants as stage
 use Rattle.acpi_base.specs.declared.witness.Witness.{Witness}
 use Rattle.acpi_base.specs.declared.verdict.Verdict.{Verdict}
 use Rattle.acpi_base.specs.declared.verdict.Verdict.TheVariants.{Yes, No}
 
--- The faults of a stage. Numbers that a fault does not use are 0.
+-- The conditions of a stage's faults. Numbers that a fault does not use are 0.
 --   RSDP: at is the RSDP's address.
 --   root: at is the RSDP's address or the root's.
 --   tables: at is the slot's number, other the table's address.
 --   FADT: at is an offset from its start, or 0.
 --   FACS: at is its address, or 0.
-abbrev pub FaultOfStage : Stage → Memory → PolicyValue → Witness → Type 0
-FaultOfStage stage.Rsdp m q w = RsdpFault m q.rsdp w.code × (w.at ≡ q.rsdp) × (w.other ≡ 0) × (w.point ≡ 0)
-FaultOfStage stage.Root m q w = RootFault m q.rsdp w.code w.at × (w.other ≡ 0) × (w.point ≡ 0)
-FaultOfStage stage.Tables m q w = IsSlot m q.rsdp w.at w.other × TableFault m w.other w.code × (w.point ≡ 0)
-FaultOfStage stage.Fadt m q w = FadtFault m q.rsdp w.code w.at × (w.other ≡ 0) × (w.point ≡ 0)
-FaultOfStage stage.Facs m q w = FacsFault m q.rsdp w.code w.at × (w.other ≡ 0) × (w.point ≡ 0)
-FaultOfStage _ m q w = ⊥
+abbrev pub FaultCondition : Stage → Memory → PolicyValue → Witness → Type 0
+FaultCondition stage.Rsdp m q w = RsdpFault m q.rsdp w.code × (w.at ≡ q.rsdp) × (w.other ≡ 0) × (w.point ≡ 0)
+FaultCondition stage.Root m q w = RootFault m q.rsdp w.code w.at × (w.other ≡ 0) × (w.point ≡ 0)
+FaultCondition stage.Tables m q w = IsSlot m q.rsdp w.at w.other × TableFault m w.other w.code × (w.point ≡ 0)
+FaultCondition stage.Fadt m q w = FadtFault m q.rsdp w.code w.at × (w.other ≡ 0) × (w.point ≡ 0)
+FaultCondition stage.Facs m q w = FacsFault m q.rsdp w.code w.at × (w.other ≡ 0) × (w.point ≡ 0)
+FaultCondition _ m q w = ⊥
+
+-- w is a fault of the stage: it has one of the stage's codes, whose condition holds
+pub record FaultOfStage (stage : Stage) (m : Memory) (q : PolicyValue) (w : Witness) : Type 0 where
+  pub own : stage_of w.code ≡ stage
+  pub holds : FaultCondition stage m q w
 
 -- w is a fault of the image. Whether earlier stages hold does not matter.
 abbrev pub Fault : Memory → PolicyValue → Witness → Type 0
@@ -43,11 +48,15 @@ NotAfter w v =
     × ((w.other < v.other)
     ⊎ ((w.other ≡ v.other) × (w.point ≤ v.point))))))
 
+-- no fault of the stage stands before w
+abbrev pub IsLeastOfStage : Stage → Memory → PolicyValue → Witness → Type 0
+IsLeastOfStage stage m q w = (v : Witness) → FaultOfStage stage m q v → NotAfter w v
+
 -- w is the first fault: all earlier stages hold, and no fault of its stage stands before it
 pub record IsFirstFault (m : Memory) (q : PolicyValue) (w : Witness) : Type 0 where
   pub fault : Fault m q w
-  pub earlier : (stage : Stage) → stage_number stage < stage_number (stage_of w.code) → Holds stage m q
-  pub least : (v : Witness) → stage_of v.code ≡ stage_of w.code → Fault m q v → NotAfter w v
+  pub earlier : CleanBefore (stage_of w.code) m q
+  pub least : IsLeastOfStage (stage_of w.code) m q w
 
 -- the verdict over the stages up to `last`: yes where they hold, else the first fault, of one of them
 abbrev pub IsVerdict : Stage → Memory → PolicyValue → Verdict → Type 0

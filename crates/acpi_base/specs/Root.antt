@@ -4,7 +4,7 @@ use Rattle.acpi_base.specs.Memory.{Memory, bytes_at}
 use Rattle.acpi_base.specs.Number.{field, byte_sum}
 use Rattle.acpi_base.specs.Signature.{has_signature, rsdt_signature, xsdt_signature}
 use Rattle.acpi_base.specs.Rsdp.{Addresses, addresses_at}
-use Rattle.acpi_base.specs.Tables.{IsTable, IsSigned, length_of}
+use Rattle.acpi_base.specs.Tables.{IsTable, length_of}
 use Rattle.acpi_base.specs.declared.code.Code.{Code}
 use Rattle.acpi_base.specs.declared.code.Code.TheVariants as code
 
@@ -63,23 +63,6 @@ pub record IsSlot (m : Memory) (p k a : ℕ) : Type 0 where
   pub table : IsRootTable m r d whole
   pub slot : HasSlot whole d k a
 
--- a is the first address with this signature in the slots, of d bytes each, of a root's bytes, in their
--- order: a held header is all that is asked there
-pub record IsFirstListed (m : Memory) (whole : List ℕ) (d : ℕ) (signature : List ℕ) (a : ℕ) : Type 0 where
-  pub k : ℕ
-  pub slot : HasSlot whole d k a
-  pub signed : IsSigned m a signature
-  pub none_before : (j b : ℕ) → j < k → HasSlot whole d j b → ¬ IsSigned m b signature
-
--- a is the first listed table with this signature of the root that the RSDP at p names
-pub record IsFirstTable (m : Memory) (p : ℕ) (signature : List ℕ) (a : ℕ) : Type 0 where
-  pub r : ℕ
-  pub d : ℕ
-  pub whole : List ℕ
-  pub root : IsRoot m p r d
-  pub table : IsRootTable m r d whole
-  pub first : IsFirstListed m whole d signature a
-
 -- a root with slots of d bytes stands at r whose bytes, these, are a whole number of slots after the
 -- header and sum to 0
 pub record IsSoundRootTable (m : Memory) (r d : ℕ) (whole : List ℕ) : Type 0 where
@@ -111,8 +94,8 @@ NamedRootFault m named fault =
     ((fault ≡ code.NoRoot) × (chosen_root named ≡ None))
     ⊎ ((r d : ℕ) × (chosen_root named ≡ Some (record { address = r; width = d })) × RootTableFault m r d fault)
 
--- The faults of stage 2, by their code and the address that each is told of: the RSDP's where there is no
--- root, else the root's.
+-- The faults of stage 2, by their code and the address that each is reported at: the RSDP's where there is
+-- no root, else the root's.
 abbrev pub RootFault : Memory → ℕ → Code → ℕ → Type 0
 RootFault m p fault at =
     (HasNoRoot m p × (fault ≡ code.NoRoot) × (at ≡ p))

@@ -13,7 +13,7 @@ revision_of head = field head 15 1
 
 -- the whole structure's length in bytes, in the extended form
 abbrev pub rsdp_length : List ℕ → ℕ
-rsdp_length front = field front 20 4
+rsdp_length prefix = field prefix 20 4
 
 -- the addresses of the RSDT and the XSDT; 0 names none
 pub record Addresses : Type 0 where
@@ -24,7 +24,7 @@ abbrev pub short_addresses : List ℕ → Addresses
 short_addresses head = record { rsdt = field head 16 4; xsdt = 0 }
 
 abbrev pub extended_addresses : List ℕ → Addresses
-extended_addresses front = record { rsdt = field front 16 4; xsdt = field front 24 8 }
+extended_addresses prefix = record { rsdt = field prefix 16 4; xsdt = field prefix 24 8 }
 
 -- what the RSDP at p names, where its 20 bytes are held, and in the extended form its 36; a short one
 -- names no XSDT
@@ -50,19 +50,19 @@ pub record IsRsdp (m : Memory) (p : ℕ) (v : RsdpValue) : Type 0 where
   pub revision : v.revision ≡ revision_of head
   pub named : addresses_at m p ≡ Some v.named
 
--- head and front are the first 20 and 36 bytes of an RSDP of the extended form at p
-pub record IsExtended (m : Memory) (p : ℕ) (head front : List ℕ) : Type 0 where
+-- head and prefix are the first 20 and the first 36 bytes of an RSDP of the extended form at p
+pub record IsExtended (m : Memory) (p : ℕ) (head prefix : List ℕ) : Type 0 where
   pub head_held : bytes_at m p 20 ≡ Some head
   pub extended : 2 ≤ revision_of head
-  pub front_held : bytes_at m p 36 ≡ Some front
+  pub prefix_held : bytes_at m p 36 ≡ Some prefix
 
 -- the extended form's Length is at least 36, and its Length bytes are held and sum to 0
 pub record IsSoundExtended (m : Memory) (p : ℕ) : Type 0 where
-  pub front : List ℕ
-  pub front_held : bytes_at m p 36 ≡ Some front
-  pub least : 36 ≤ rsdp_length front
+  pub prefix : List ℕ
+  pub prefix_held : bytes_at m p 36 ≡ Some prefix
+  pub least : 36 ≤ rsdp_length prefix
   pub whole : List ℕ
-  pub held : bytes_at m p (rsdp_length front) ≡ Some whole
+  pub held : bytes_at m p (rsdp_length prefix) ≡ Some whole
   pub zero_sum : byte_sum whole ≡ 0
 
 -- Stage 1: the 20 bytes at p are held, begin with the signature and sum to 0; the extended form is
@@ -80,7 +80,7 @@ RsdpFault m p code.RsdpOut = bytes_at m p 20 ≡ None
 RsdpFault m p code.RsdpSignature = (head : List ℕ) × (bytes_at m p 20 ≡ Some head) × (has_signature head rsdp_signature ≡ false)
 RsdpFault m p code.RsdpSum = (head : List ℕ) × (bytes_at m p 20 ≡ Some head) × (byte_sum head ≢ 0)
 RsdpFault m p code.RsdpTailOut = (head : List ℕ) × (bytes_at m p 20 ≡ Some head) × (2 ≤ revision_of head) × (bytes_at m p 36 ≡ None)
-RsdpFault m p code.RsdpLength = (head : List ℕ) × (front : List ℕ) × IsExtended m p head front × (rsdp_length front < 36)
-RsdpFault m p code.RsdpLongOut = (head : List ℕ) × (front : List ℕ) × IsExtended m p head front × (36 ≤ rsdp_length front) × (bytes_at m p (rsdp_length front) ≡ None)
-RsdpFault m p code.RsdpExtendedSum = (head : List ℕ) × (front : List ℕ) × (whole : List ℕ) × IsExtended m p head front × (36 ≤ rsdp_length front) × (bytes_at m p (rsdp_length front) ≡ Some whole) × (byte_sum whole ≢ 0)
+RsdpFault m p code.RsdpLength = (head : List ℕ) × (prefix : List ℕ) × IsExtended m p head prefix × (rsdp_length prefix < 36)
+RsdpFault m p code.RsdpLongOut = (head : List ℕ) × (prefix : List ℕ) × IsExtended m p head prefix × (36 ≤ rsdp_length prefix) × (bytes_at m p (rsdp_length prefix) ≡ None)
+RsdpFault m p code.RsdpExtendedSum = (head : List ℕ) × (prefix : List ℕ) × (whole : List ℕ) × IsExtended m p head prefix × (36 ≤ rsdp_length prefix) × (bytes_at m p (rsdp_length prefix) ≡ Some whole) × (byte_sum whole ≢ 0)
 RsdpFault m p _ = ⊥

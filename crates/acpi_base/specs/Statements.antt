@@ -1,5 +1,5 @@
 -- The statements of the stages, and when an image is clean to a stage.
-use Rattle.std.specs.Prelude.{ℕ, ◌≤◌}
+use Rattle.std.specs.Prelude.{ℕ, ◌<◌, ◌≤◌}
 use Rattle.acpi_base.specs.Memory.{Memory}
 use Rattle.acpi_base.specs.Policy.{PolicyValue}
 use Rattle.acpi_base.specs.Codes.{stage_number}
@@ -27,3 +27,7 @@ Holds _ m q = ⊥
 -- every stage up to `last` holds
 abbrev pub CleanTo : Stage → Memory → PolicyValue → Type 0
 CleanTo last m q = (stage : Stage) → stage_number stage ≤ stage_number last → Holds stage m q
+
+-- every stage before this one holds
+abbrev pub CleanBefore : Stage → Memory → PolicyValue → Type 0
+CleanBefore last m q = (stage : Stage) → stage_number stage < stage_number last → Holds stage m q

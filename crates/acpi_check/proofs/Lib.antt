@@ -1,2 +1,2 @@
-mod Fadts
-mod NamedRoots
+mod FirstFaults
+mod Slots

@@ -1,1 +1,4 @@
-pub mod Listed
+-- What the contracts of the checker cite.
+pub mod Set
+pub mod Settled
+pub mod Tables

@@ -1,23 +1,28 @@
 //! A check of all stages up to one.
 
-ghost use Rattle.std.specs.Prelude.{◌≤◌, IsOkAnd, MatchResult};
-ghost use Rattle.acpi_base.specs.Codes.{stage_number, stage_of};
-ghost use Rattle.acpi_base.specs.Statements.{CleanTo};
-ghost use Rattle.acpi_base.specs.Faults.{IsFirstFault, IsVerdict};
+ghost use Rattle.std.specs.Prelude.{◌≡◌, ◌≤◌, ⊤, IfOk, IsOk, OnErr, MatchOption};
+ghost use Rattle.acpi_base.specs.Codes.{stage_number};
+ghost use Rattle.acpi_base.specs.Statements.{CleanBefore, CleanTo};
+ghost use Rattle.acpi_base.specs.Faults.{IsVerdict};
+ghost use Rattle.acpi_base.specs.declared.stage.Stage.{Stage};
 ghost use Rattle.acpi_base.specs.declared.stage.TheConstants.{BUILT};
+ghost use Rattle.acpi_check.specs.Settled.{Settles, SettlesTo};
+ghost use Rattle.acpi_check.specs.Set.{IsSet, IsSetOf};
 
 use crate::facs::sound_facs;
 use crate::fadt::sound_fadt;
+use crate::refusal::Refusal;
 use crate::root::sound_root;
 use crate::rsdp::sound_rsdp;
+use crate::set::Set;
 use crate::tables::sound_tables;
-use acpi_base::{Image, Policy, Stage, Verdict, Witness};
+use acpi_base::{Image, Policy, Stage, Verdict};
 use std::alloc::{AllocError, Global};
 
 /// The verdict on the image's tables over the stages up to `last`: `Yes` where all of them hold, else
 /// `No` with the first fault, which is one of the earliest stage that does not hold.
 ///
-/// Always `Ok`: none of these stages takes memory.
+/// Out of memory only where stages 1 to 6 hold. For `last` up to 6 always `Ok`: those stages take none.
 pub fn check_to(
     alloc: Global,
     image: &Image,
@@ -25,37 +30,65 @@ pub fn check_to(
     last: Stage,
 ) -> Result<Verdict, AllocError>
     requires { stage_number last ≤ BUILT }
-    ensures { IsOkAnd result (IsVerdict last image.now policy.now) }
+    ensures verdict { IfOk result (IsVerdict last image.now policy.now) }
+    ensures early { stage_number last ≤ 6 → IsOk result }
+    ensures memory { OnErr result (CleanTo Stage.Madt image.now policy.now) }
 {
     let _ = alloc;
     match stages_to(image, policy, last) {
         Ok(()) => Ok(Verdict::Yes),
-        Err(fault) => Ok(Verdict::No(fault)),
+        Err(Refusal::Fault(fault)) => Ok(Verdict::No(fault)),
+        Err(Refusal::OutOfMemory) => Err(AllocError),
     }
 }
 
 /// Asks the stages up to `last` in their order.
-fn stages_to(image: &Image, policy: &Policy, last: Stage) -> Result<(), Witness>
+fn stages_to(image: &Image, policy: &Policy, last: Stage) -> Result<(), Refusal>
     requires { stage_number last ≤ BUILT }
-    ensures { MatchResult result
-        (λ _. CleanTo last image.now policy.now)
-        (λ w. IsFirstFault image.now policy.now w × (stage_number (stage_of w.code) ≤ stage_number last)) }
+    ensures { SettlesTo last image.now policy.now (λ _. CleanTo last image.now policy.now) result }
+{
+    let Some(set) = set_to(image, policy, last)? else {
+        return Ok(());
+    };
+    for number in Stage::Facs.number()..last.number() + 1 {
+        if let Some(stage) = Stage::new(number) {
+            ask(&set, stage)?;
+        }
+    }
+    Ok(())
+}
+
+/// Asks the stages up to the FADT, each of which hands on what the next one looks at; none where `last`
+/// comes before the FADT.
+fn set_to<'a>(image: &'a Image, policy: &'a Policy, last: Stage) -> Result<Option<Set<'a>>, Refusal>
+    ensures { SettlesTo last image.now policy.now
+        (λ found. MatchOption found (CleanTo last image.now policy.now) (IsSetOf image.now policy.now)) result }
 {
     let rsdp = sound_rsdp(image, policy)?;
     if last.number() <= Stage::Rsdp.number() {
-        return Ok(());
+        return Ok(None);
     }
     let root = sound_root(image, policy, &rsdp)?;
     if last.number() <= Stage::Root.number() {
-        return Ok(());
+        return Ok(None);
     }
-    sound_tables(image, policy, &root)?;
+    let tables = sound_tables(image, policy, root)?;
     if last.number() <= Stage::Tables.number() {
-        return Ok(());
+        return Ok(None);
     }
-    let fadt = sound_fadt(image, policy, &root)?;
-    if last.number() <= Stage::Fadt.number() {
-        return Ok(());
+    Ok(Some(sound_fadt(image, policy, tables)?))
+}
+
+/// Asks one stage from the FACS on.
+fn ask(set: &Set<'_>, stage: Stage) -> Result<(), Refusal>
+    requires built { stage_number stage ≤ BUILT }
+    requires clean { CleanBefore stage set.now.image.now set.now.policy.now }
+    requires set { IsSet set.now }
+    ensures { Settles stage set.now.image.now set.now.policy.now (λ _. ⊤) result }
+{
+    match stage {
+        Stage::Facs => sound_facs(set),
+        // Those before it hold of every set.
+        _ => Ok(()),
     }
-    sound_facs(image, policy, &fadt)
 }

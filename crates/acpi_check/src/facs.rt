@@ -1,32 +1,25 @@
 //! Stage 5: the FACS.
 
-ghost use Rattle.std.specs.Prelude.{◌≡◌, OnOk, IfErr};
-ghost use Rattle.acpi_base.specs.Codes.{stage_of};
-ghost use Rattle.acpi_base.specs.Rsdp.{IsSoundRsdp};
-ghost use Rattle.acpi_base.specs.Root.{IsSoundRoot};
-ghost use Rattle.acpi_base.specs.Fadt.{IsFadt, IsSoundFadtTable};
-ghost use Rattle.acpi_base.specs.Facs.{IsSoundFacs};
-ghost use Rattle.acpi_base.specs.Statements.{AreSoundTables};
-ghost use Rattle.acpi_base.specs.Faults.{IsFirstFault};
+ghost use Rattle.std.specs.Prelude.{⊤};
+ghost use Rattle.acpi_base.specs.Statements.{CleanBefore};
 ghost use Rattle.acpi_base.specs.declared.stage.Stage.{Stage};
+ghost use Rattle.acpi_check.specs.Settled.{Settles};
+ghost use Rattle.acpi_check.specs.Set.{IsSet};
 
-use acpi_base::{Image, Policy, Witness};
-use acpi_read::{Facs, Fadt};
+use crate::refusal::Refusal;
+use crate::set::Set;
+use acpi_base::Witness;
+use acpi_read::Facs;
 
-/// Whether the FACS that the FADT names is sound, or none is needed; else its first fault: `at` is its
-/// address, and 0 where none is named.
-pub fn sound_facs(image: &Image, policy: &Policy, fadt: &Fadt<'_>) -> Result<(), Witness>
-    requires rsdp { IsSoundRsdp image.now policy.now.rsdp }
-    requires root { IsSoundRoot image.now policy.now.rsdp }
-    requires tables { AreSoundTables image.now policy.now.rsdp }
-    requires fadt { IsFadt image.now policy.now.rsdp fadt.now }
-    requires table { IsSoundFadtTable fadt.now }
-    ensures sound { OnOk result (IsSoundFacs image.now policy.now.rsdp) }
-    ensures first { IfErr result (IsFirstFault image.now policy.now) }
-    ensures stage { IfErr result (λ w. stage_of w.code ≡ Stage.Facs) }
+/// Whether the FACS that the FADT names is sound, or none is needed; its faults are at its address, and at
+/// 0 where none is named.
+pub fn sound_facs(set: &Set<'_>) -> Result<(), Refusal>
+    requires clean { CleanBefore Stage.Facs set.now.image.now set.now.policy.now }
+    requires set { IsSet set.now }
+    ensures { Settles Stage.Facs set.now.image.now set.now.policy.now (λ _. ⊤) result }
 {
-    match Facs::read(image, fadt) {
+    match Facs::read(set.image, &set.fadt) {
         Ok(_) => Ok(()),
-        Err(code) => Err(Witness::at(code, fadt.facs_address())),
+        Err(code) => Err(Refusal::Fault(Witness::at(code, set.fadt.facs_address()))),
     }
 }

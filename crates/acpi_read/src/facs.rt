@@ -1,7 +1,8 @@
 //! The firmware ACPI control structure.
 
 ghost use Rattle.std.specs.Prelude.{◌≡◌, ◌≢◌, ◌≤◌, ◌<◌, ◌^◌, ◌%◌, ◌↔◌, ℕ, length, Some, None, IsOk, IfOk, IfErr, IfSome, true};
-ghost use Rattle.acpi_base.specs.Codes.{code_number};
+ghost use Rattle.acpi_base.specs.Codes.{code_number, stage_of};
+ghost use Rattle.acpi_base.specs.declared.stage.Stage.{Stage};
 ghost use Rattle.acpi_base.specs.Fadt.{facs_address, is_reduced};
 ghost use Rattle.acpi_base.specs.Facs.{facs_length, IsFacs, HasSoundFacs, NamedFacsFault};
 ghost use Rattle.acpi_base.specs.declared.code.Code.{Code};
@@ -52,6 +53,7 @@ impl<'a> Facs<'a> {
         ensures none { (result ≡ Ok None) ↔ ((is_reduced fadt.now ≡ true) × (facs_address fadt.now ≡ 0)) }
         ensures some { IfOk result (λ found. IfSome found (λ facs. (facs.address ≡ facs_address fadt.now) × (facs.address ≢ 0) × IsFacs image.now facs.address facs.bytes)) }
         ensures fault { IfErr result (λ code. NamedFacsFault image.now fadt.now code (facs_address fadt.now)) }
+        ensures stage { IfErr result (λ code. stage_of code ≡ Stage.Facs) }
         ensures least { IfErr result (λ code. (other : Code) (at : ℕ) → NamedFacsFault image.now fadt.now other at → code_number code ≤ code_number other) }
     {
         let address = fadt.facs_address();

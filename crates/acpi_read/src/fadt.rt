@@ -1,7 +1,8 @@
 //! The fixed ACPI description table.
 
 ghost use Rattle.std.specs.Prelude.{◌≡◌, ◌≤◌, ◌<◌, ◌+◌, ◌^◌, ◌⊎◌, ◌↔◌, ℕ, length, slice_get, Some, IsTrue, IsOk, IsNone, IfOk, IfErr, IfSome, false};
-ghost use Rattle.acpi_base.specs.Codes.{code_number};
+ghost use Rattle.acpi_base.specs.Codes.{code_number, stage_of};
+ghost use Rattle.acpi_base.specs.declared.stage.Stage.{Stage};
 ghost use Rattle.acpi_base.specs.Header.{header_of};
 ghost use Rattle.acpi_base.specs.Fadt.{fadt_places, field_number, has_flag, is_reduced, has_reset, wide_address, address_of, facs_address, dsdt_address, gas_at, block_value, HasBlockLengths, IsResetRegister, IsSoundFadtTable, FadtTableFault};
 ghost use Rattle.acpi_base.specs.Number.{field};
@@ -131,6 +132,7 @@ fn length_fault(bytes: &[u8]) -> Option<Witness>
     ensures none { IsNone result ↔ HasBlockLengths bytes.now }
     ensures fault { IfSome result (λ w. is_reduced bytes.now ≡ false → FadtTableFault bytes.now w.code w.at) }
     ensures zeros { IfSome result (λ w. (w.other ≡ 0) × (w.point ≡ 0)) }
+    ensures stage { IfSome result (λ w. stage_of w.code ≡ Stage.Fadt) }
     ensures least { IfSome result (λ w. (other : Code) (at : ℕ) → FadtTableFault bytes.now other at → (w.at < at) ⊎ ((w.at ≡ at) × (code_number w.code ≤ code_number other))) }
 {
     if u8_at(bytes, 88) < 4 {
@@ -204,7 +206,9 @@ impl<'a> Fadt<'a> {
     pub fn new(table: Table<'a>) -> Result<Fadt<'a>, Code>
         ensures ok { IsOk result ↔ (116 ≤ length table.entry) }
         ensures same { IfOk result (λ bytes. bytes ≡ table.entry) }
-        ensures fault { IfErr result (λ code. (code ≡ Code.FadtShort) × FadtTableFault table.entry code 0) }
+        ensures stage { IfErr result (λ code. stage_of code ≡ Stage.Fadt) }
+        ensures fault { IfErr result (λ code. FadtTableFault table.entry code 0) }
+        ensures least { IfErr result (λ code. (other : Code) (at : ℕ) → FadtTableFault table.entry other at → (0 < at) ⊎ ((0 ≡ at) × (code_number code ≤ code_number other))) }
     {
         let bytes = table.bytes();
         if bytes.len() < 116 {
@@ -227,6 +231,7 @@ impl<'a> Fadt<'a> {
     pub fn fault(&self) -> Option<Witness>
         ensures none { IsNone result ↔ IsSoundFadtTable self.now }
         ensures fault { IfSome result (λ w. FadtTableFault self.now w.code w.at × (w.other ≡ 0) × (w.point ≡ 0)) }
+        ensures stage { IfSome result (λ w. stage_of w.code ≡ Stage.Fadt) }
         ensures least { IfSome result (λ w. (other : Code) (at : ℕ) → FadtTableFault self.now other at → (w.at < at) ⊎ ((w.at ≡ at) × (code_number w.code ≤ code_number other))) }
     {
         let bytes = self.bytes;

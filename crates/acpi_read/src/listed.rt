@@ -1,7 +1,8 @@
 //! The tables that a root lists.
 
 ghost use Rattle.std.specs.Prelude.{◌≡◌, ◌<◌, ◌↔◌, IsTrue, IsNone, IfSome, Some, ℕ};
-ghost use Rattle.acpi_base.specs.Root.{HasSlot, IsFirstListed};
+ghost use Rattle.acpi_base.specs.Root.{HasSlot};
+ghost use Rattle.acpi_base.specs.Listed.{IsFirstListed};
 ghost use Rattle.acpi_base.specs.Tables.{IsSigned};
 ghost use Rattle.acpi_read.specs.Roots.{slots_of};
 

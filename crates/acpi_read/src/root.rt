@@ -2,7 +2,8 @@
 
 ghost use Rattle.std.specs.Prelude.{◌≡◌, ◌≤◌, ◌<◌, ◌+◌, ◌*◌, ◌^◌, ◌↔◌, List, ℕ, length, Some, IsTrue, IsOk, IfOk, IfErr, IfSome};
 ghost use Rattle.std.specs.Option.{option_map};
-ghost use Rattle.acpi_base.specs.Codes.{code_number};
+ghost use Rattle.acpi_base.specs.Codes.{code_number, stage_of};
+ghost use Rattle.acpi_base.specs.declared.stage.Stage.{Stage};
 ghost use Rattle.acpi_base.specs.Header.{header_of};
 ghost use Rattle.acpi_base.specs.Number.{field};
 ghost use Rattle.acpi_base.specs.Rsdp.{RsdpValue};
@@ -80,6 +81,7 @@ fn read_at(image: &Image, place: Place) -> Result<Root<'_>, Code>
     ensures ok { IfOk result (λ root. (root.address ≡ place.address) × (root.width ≡ place.width) × IsSoundRootTable image.now place.address place.width root.bytes) }
     ensures sound { (whole : List ℕ) → IsSoundRootTable image.now place.address place.width whole → IsOk result }
     ensures fault { IfErr result (RootTableFault image.now place.address place.width) }
+    ensures stage { IfErr result (λ code. stage_of code ≡ Stage.Root) }
     ensures least { IfErr result (λ code. (other : Code) → RootTableFault image.now place.address place.width other → code_number code ≤ code_number other) }
 {
     let Place { address, width } = place;
@@ -126,6 +128,7 @@ impl<'a> Root<'a> {
         ensures ok { IfOk result (IsSoundNamedRoot image.now rsdp.now.named) }
         ensures sound { (root : RootValue) → IsSoundNamedRoot image.now rsdp.now.named root → IsOk result }
         ensures fault { IfErr result (NamedRootFault image.now rsdp.now.named) }
+        ensures stage { IfErr result (λ code. stage_of code ≡ Stage.Root) }
         ensures least { IfErr result (λ code. (other : Code) → NamedRootFault image.now rsdp.now.named other → code_number code ≤ code_number other) }
     {
         let Some(place) = place_of(rsdp) else {

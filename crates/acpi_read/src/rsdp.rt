@@ -1,7 +1,8 @@
 //! The root system description pointer.
 
 ghost use Rattle.std.specs.Prelude.{◌≡◌, ◌≤◌, ◌↔◌, length, take, drop, IsOk, IfOk, IfErr};
-ghost use Rattle.acpi_base.specs.Codes.{code_number};
+ghost use Rattle.acpi_base.specs.Codes.{code_number, stage_of};
+ghost use Rattle.acpi_base.specs.declared.stage.Stage.{Stage};
 ghost use Rattle.acpi_base.specs.Rsdp.{revision_of, short_addresses, IsRsdp, IsSoundRsdp, RsdpFault};
 ghost use Rattle.acpi_base.specs.declared.code.Code.{Code};
 
@@ -67,6 +68,7 @@ impl Rsdp {
         ensures ok { IsOk result ↔ IsSoundRsdp image.now address }
         ensures value { IfOk result (IsRsdp image.now address) }
         ensures fault { IfErr result (RsdpFault image.now address) }
+        ensures stage { IfErr result (λ code. stage_of code ≡ Stage.Rsdp) }
         ensures least { IfErr result (λ code. (other : Code) → RsdpFault image.now address other → code_number code ≤ code_number other) }
     {
         let Some(head) = image.window(address, 20) else {

@@ -1,7 +1,8 @@
 //! System description tables.
 
 ghost use Rattle.std.specs.Prelude.{◌≡◌, ◌≤◌, ◌<◌, ◌^◌, ◌↔◌, List, ℕ, length, IsOk, IfOk, IfErr};
-ghost use Rattle.acpi_base.specs.Codes.{code_number};
+ghost use Rattle.acpi_base.specs.Codes.{code_number, stage_of};
+ghost use Rattle.acpi_base.specs.declared.stage.Stage.{Stage};
 ghost use Rattle.acpi_base.specs.Header.{header_of};
 ghost use Rattle.acpi_base.specs.Tables.{length_of, IsTable, IsSoundTable, TableFault};
 ghost use Rattle.acpi_base.specs.declared.code.Code.{Code};
@@ -45,6 +46,7 @@ impl<'a> Table<'a> {
         ensures ok { IsOk result ↔ IsSoundTable image.now address }
         ensures value { IfOk result (λ bytes. (header : List ℕ) × IsTable image.now address header bytes) }
         ensures fault { IfErr result (TableFault image.now address) }
+        ensures stage { IfErr result (λ code. stage_of code ≡ Stage.Tables) }
         ensures least { IfErr result (λ code. (other : Code) → TableFault image.now address other → code_number code ≤ code_number other) }
     {
         let Some(header) = image.window(address, 36) else {

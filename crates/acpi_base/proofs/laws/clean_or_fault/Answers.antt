@@ -1,4 +1,4 @@
-use Rattle.acpi_base.proofs.FaultLaws.{clean_or_fault}
+use Rattle.acpi_base.proofs.Faults.Laws.{clean_or_fault}
 use Rattle.acpi_base.proofs.laws.clean_or_fault.Goals as goal
 
 pub returns : goal.returns

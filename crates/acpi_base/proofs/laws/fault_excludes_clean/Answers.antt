@@ -1,4 +1,4 @@
-use Rattle.acpi_base.proofs.FaultLaws.{fault_excludes_clean}
+use Rattle.acpi_base.proofs.Faults.Laws.{fault_excludes_clean}
 use Rattle.acpi_base.proofs.laws.fault_excludes_clean.Goals as goal
 
 pub returns : goal.returns

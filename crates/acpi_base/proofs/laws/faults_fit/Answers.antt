@@ -1,4 +1,4 @@
-use Rattle.acpi_base.proofs.FaultLaws.{faults_fit}
+use Rattle.acpi_base.proofs.Faults.Laws.{faults_fit}
 use Rattle.acpi_base.proofs.laws.faults_fit.Goals as goal
 
 pub returns : goal.returns

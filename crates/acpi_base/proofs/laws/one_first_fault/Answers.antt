@@ -1,4 +1,4 @@
-use Rattle.acpi_base.proofs.FaultLaws.{one_first_fault}
+use Rattle.acpi_base.proofs.Faults.Laws.{one_first_fault}
 use Rattle.acpi_base.proofs.laws.one_first_fault.Goals as goal
 
 pub returns : goal.returns

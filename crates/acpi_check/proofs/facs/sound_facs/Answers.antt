@@ -1,17 +1,22 @@
-use Rattle.std.proofs.Common.{refl}
-use Rattle.acpi_base.specs.Fadt.{facs_address, IsSoundFadt}
-use Rattle.acpi_base.proofs.FacsFaults.{facs_sound_of_fadt, first_named_facs_fault_at}
+use Rattle.std.proofs.Common.{refl, arith}
+use Rattle.acpi_base.specs.declared.stage.Stage.TheVariants as stage
+use Rattle.acpi_base.specs.Listed.{fadt_signature}
+use Rattle.acpi_base.specs.Fadt.{IsSoundFadt}
+use Rattle.acpi_base.proofs.Tables.Listed.{one_listed}
+use Rattle.acpi_check.proofs.FirstFaults.{facs_first, facs_sound}
 use Rattle.acpi_check.proofs.facs.sound_facs.Goals as goal
 
-pub returns-in-Ok-clause-sound : goal.returns-in-Ok-clause-sound
-returns-in-Ok-clause-sound c = facs_sound_of_fadt c.args.image.now c.args.policy.now.rsdp c.args.fadt.now c.requires.fadt (c.in-Ok.ensures.ok.0 refl)
+pub returns-in-Ok : goal.returns-in-Ok
+returns-in-Ok c =
+    let set = c.args.set.now in
+    (facs_sound set.image.now set.policy.now.rsdp set.fadt c.requires.set.fadt (c.in-Ok.ensures.ok.0 refl), tt)
 
-pub returns-in-Err-clause-first : goal.returns-in-Err-clause-first
-returns-in-Err-clause-first c =
-    let m = c.args.image.now in
-    let p = c.args.policy.now.rsdp in
-    let whole = c.args.fadt.now in
-    let sound : IsSoundFadt m p = record { whole = whole; fadt = c.requires.fadt; sound = c.requires.table } in
-    rw (c.at.ensures, c.facs_address.ensures)
-    (first_named_facs_fault_at m c.args.policy.now p sound c.in-Err.code refl c.requires.rsdp c.requires.root c.requires.tables
-    (record { holds = c.in-Err.ensures.fault; least = λ d h. c.in-Err.ensures.least d (facs_address whole) h }))
+pub returns-in-Err : goal.returns-in-Err
+returns-in-Err c =
+    let set = c.args.set.now in
+    let sound = c.requires.clean stage.Fadt (omega arith) in
+    let one = one_listed set.image.now set.policy.now.rsdp fadt_signature set.fadt sound.whole c.requires.set.fadt sound.fadt in
+    let fadt : IsSoundFadt set.image.now set.policy.now.rsdp = record { whole = set.fadt; fadt = c.requires.set.fadt; sound = rw one sound.sound } in
+    let read = c.in-Err.ensures in
+    let first = facs_first set.image.now set.policy.now fadt c.in-Err.code c.requires.clean read.stage read.fault read.least in
+    rw (c.at.ensures, c.facs_address.ensures) (first, read.stage)

@@ -1,8 +1,9 @@
 use Rattle.std.proofs.Common.{◌≡◌, ℕ, ◌<◌, Some, refl, subst, arith}
 use borrow.Author.Count.{below_more}
-use Rattle.acpi_base.specs.Root.{HasSlot, IsFirstListed}
+use Rattle.acpi_base.specs.Root.{HasSlot}
+use Rattle.acpi_base.specs.Listed.{IsFirstListed}
 use Rattle.acpi_base.specs.Tables.{IsSigned}
-use Rattle.acpi_base.proofs.Listed.{one_first_listed, none_and_first_listed}
+use Rattle.acpi_base.proofs.Tables.Listed.{one_first_listed, none_and_first_listed}
 use Rattle.acpi_read.proofs.listed.first.Goals as goal
 
 pub loop-k-preserved : goal.loop-k-preserved

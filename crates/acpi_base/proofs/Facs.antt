@@ -1,0 +1,2 @@
+-- The FACS.
+pub mod Faults

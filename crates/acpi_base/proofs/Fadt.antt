@@ -1,0 +1,2 @@
+-- The FADT.
+pub mod Faults

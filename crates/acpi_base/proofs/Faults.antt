@@ -1,0 +1,7 @@
+-- Faults, whatever they are faults of: what can be decided has a first fault or none, and the laws.
+pub mod Deciding
+pub mod Laws
+pub mod Least
+pub mod Numbers
+pub mod Order
+pub mod Stages

@@ -1,0 +1,86 @@
+-- A number tells which code, and which stage, it is the number of.
+use Rattle.std.proofs.Common.{◌≡◌, ◌<◌, ℕ, List, [], ◌∷◌, Some, refl, sym, ap, ◌∙◌, inl, inr, arith}
+use Rattle.std.specs.Prelude.{◌⊎◌}
+use Rattle.std.specs.List.{slice_get}
+use Rattle.std.proofs.lemmas.Bool.{cases_eq}
+use Rattle.std.proofs.lemmas.Option.{same_Some}
+use Rattle.acpi_base.specs.Codes.{code_number, stage_number}
+use Rattle.acpi_base.specs.declared.code.Code.{Code}
+use Rattle.acpi_base.specs.declared.code.Code.TheVariants as code
+use Rattle.acpi_base.specs.declared.stage.Stage.{Stage}
+use Rattle.acpi_base.specs.declared.stage.Stage.TheVariants as stage
+use Rattle.acpi_base.proofs.HeldBytes.{cases_Option, none_and_some}
+
+-- the codes by their numbers; the first also stands at 0, which is no code's number
+abbrev pub codes_by_number : List Code
+codes_by_number =
+    code.RsdpOut ∷
+    code.RsdpOut ∷ code.RsdpSignature ∷ code.RsdpSum ∷ code.RsdpTailOut ∷ code.RsdpLength ∷
+    code.RsdpLongOut ∷ code.RsdpExtendedSum ∷ code.NoRoot ∷ code.RootHeaderOut ∷
+    code.RootSignature ∷ code.RootLength ∷ code.RootOut ∷ code.RootRagged ∷ code.RootSum ∷
+    code.TableHeaderOut ∷ code.TableLength ∷ code.TableOut ∷ code.TableSum ∷ code.NoFadt ∷
+    code.FadtShort ∷ code.PmEventLength ∷ code.PmControlLength ∷ code.PmTimerLength ∷
+    code.GpeLength ∷ code.ResetRegister ∷ code.NoFacs ∷ code.FacsAlign ∷ code.FacsHeaderOut ∷
+    code.FacsSignature ∷ code.FacsLength ∷ code.FacsOut ∷ code.MadtShort ∷ code.MadtEntryCut ∷
+    code.MadtEntryLength ∷ code.OverrideBus ∷ code.ReservedInti ∷ code.SecondAddressOverride ∷
+    code.GsiPastEnd ∷ code.GsiClash ∷ code.OverrideClash ∷ code.SratShort ∷ code.SratEntryCut ∷
+    code.SratEntryLength ∷ code.RangePastEnd ∷ code.Overlap ∷ code.SlitShort ∷ code.SlitSize ∷
+    code.SlitDiagonal ∷ code.SlitLow ∷ code.PpttEntryCut ∷ code.PpttEntryLength ∷
+    code.DanglingParent ∷ code.DanglingResource ∷ code.DanglingCache ∷ code.ParentCycle ∷
+    code.CacheCycle ∷ code.TwoDomains ∷ code.GsiNowhere ∷ code.LeafUnknown ∷ []
+
+-- the stages by their numbers; the first also stands at 0, which is no stage's number
+abbrev pub stages_by_number : List Stage
+stages_by_number =
+    stage.Rsdp ∷
+    stage.Rsdp ∷ stage.Root ∷ stage.Tables ∷ stage.Fadt ∷ stage.Facs ∷ stage.Madt ∷
+    stage.Interrupts ∷ stage.Overrides ∷ stage.Srat ∷ stage.Ranges ∷ stage.Slit ∷ stage.Pptt ∷
+    stage.References ∷ stage.Parents ∷ stage.Caches ∷ stage.Domains ∷ stage.Served ∷ stage.Leaves ∷ []
+
+-- a code stands at its number
+pub code_at_number : (c : Code) → slice_get codes_by_number (code_number c) ≡ Some c
+code_at_number code.RsdpOut = refl
+code_at_number _ = refl
+
+-- a stage stands at its number
+pub stage_at_number : (s : Stage) → slice_get stages_by_number (stage_number s) ≡ Some s
+stage_at_number stage.Rsdp = refl
+stage_at_number _ = refl
+
+-- two codes with one number are one
+pub same_code : (c d : Code) → code_number c ≡ code_number d → c ≡ d
+same_code c d e = same_Some c d (sym (code_at_number c) ∙ ap (slice_get codes_by_number) e ∙ code_at_number d)
+
+-- two stages with one number are one
+pub same_stage : (s t : Stage) → stage_number s ≡ stage_number t → s ≡ t
+same_stage s t e = same_Some s t (sym (stage_at_number s) ∙ ap (slice_get stages_by_number) e ∙ stage_at_number t)
+
+-- the numbers of codes end at 59
+pub code_below : (c : Code) → code_number c < 60
+code_below code.RsdpOut = omega arith
+code_below _ = omega arith
+
+-- those of stages begin at 1
+pub stage_from_1 : (s : Stage) → 0 < stage_number s
+stage_from_1 stage.Rsdp = omega arith
+stage_from_1 _ = omega arith
+
+-- what stands in a list at its own number has a number or has not
+with_number : {X : Type 0} (number : X → ℕ) (rows : List X) → ((x : X) → slice_get rows (number x) ≡ Some x) → (n : ℕ) → ((x : X) × (number x ≡ n)) ⊎ ((x : X) → number x ≡ n → ⊥)
+with_number number rows at n =
+    elim (cases_Option (slice_get rows n)) [
+      | inr none ↦ inr (λ x is. none_and_some (ap (slice_get rows) is ∙ none) (at x))
+      | inl (x, there) ↦
+          elim (cases_eq (number x) n) [
+            | inl is ↦ inl (x, is)
+            | inr other ↦ inr (λ y is. other (ap number (same_Some x y (sym there ∙ ap (slice_get rows) (sym is) ∙ at y)) ∙ is))
+          ]
+    ]
+
+-- a code has this number or none has
+pub code_with_number : (n : ℕ) → ((c : Code) × (code_number c ≡ n)) ⊎ ((c : Code) → code_number c ≡ n → ⊥)
+code_with_number = with_number code_number codes_by_number code_at_number
+
+-- a stage has this number or none has
+pub stage_with_number : (n : ℕ) → ((s : Stage) × (stage_number s ≡ n)) ⊎ ((s : Stage) → stage_number s ≡ n → ⊥)
+stage_with_number = with_number stage_number stages_by_number stage_at_number

@@ -1,0 +1,4 @@
+-- The root and its slots.
+pub mod Faults
+pub mod Named
+pub mod Slots

@@ -1,0 +1,66 @@
+-- The slots of a root: each holds one address or none, and their numbers fit.
+use Rattle.std.proofs.Common.{◌≡◌, ◌<◌, ◌≤◌, ◌+◌, ◌*◌, ◌^◌, ℕ, List, length, refl, sym, ◌∙◌, inl, inr, arith}
+use Rattle.std.specs.Prelude.{◌⊎◌}
+use Rattle.std.proofs.lemmas.Bool.{cases_lt, cases_eq}
+use Rattle.acpi_base.specs.Memory.{Memory, IsImage}
+use Rattle.acpi_base.specs.Number.{field}
+use Rattle.acpi_base.specs.Root.{IsSlotWidth, IsRoot, IsRootTable, HasSlot, IsSlot}
+use Rattle.acpi_base.specs.Tables.{length_of}
+use Rattle.acpi_base.proofs.HeldBytes.{held_field_below}
+use Rattle.acpi_base.proofs.Root.Named.{of_root, root_width}
+use Rattle.acpi_base.proofs.Tables.Whole.{length-table}
+
+-- a slot stands below the end of the root's bytes, whatever its width
+pub slot_below : (whole : List ℕ) (d k a : ℕ) → IsSlotWidth d → HasSlot whole d k a → k < length whole
+slot_below whole d k a (inl four) slot =
+    let inside : 36 + 4 * (k + 1) ≤ length whole = rw four at slot.inside in
+    omega arith
+slot_below whole d k a (inr eight) slot =
+    let inside : 36 + 8 * (k + 1) ≤ length whole = rw eight at slot.inside in
+    omega arith
+
+-- the address that a slot of an image holds fits
+address_fits : (whole : List ℕ) (d k a : ℕ) → ((offset width : ℕ) → field whole offset width < 256 ^ width) → IsSlotWidth d → HasSlot whole d k a → a < 2 ^ 64
+address_fits whole d k a number_below (inl four) slot =
+    let address : field whole (36 + 4 * k) 4 ≡ a = rw four at slot.address in
+    let fits : field whole (36 + 4 * k) 4 < 2 ^ 32 = number_below (36 + 4 * k) 4 in
+    omega arith
+address_fits whole d k a number_below (inr eight) slot =
+    let address : field whole (36 + 8 * k) 8 ≡ a = rw eight at slot.address in
+    let fits : field whole (36 + 8 * k) 8 < 2 ^ 64 = number_below (36 + 8 * k) 8 in
+    omega arith
+
+-- a slot's number and its address fit
+pub slot_fits : {m : Memory} {p k a : ℕ} → IsImage m → IsSlot m p k a → (k < 2 ^ 64) × (a < 2 ^ 64)
+slot_fits {m = m} {k = k} {a = a} image slot =
+    let table = slot.table.table in
+    let header = slot.table.header in
+    let length_fits : length_of header < 2 ^ 32 = held_field_below m image slot.r 36 header table.header_held 4 4 in
+    let length_is = length-table m slot.r header slot.whole table in
+    let below = slot_below slot.whole slot.d k a (root_width slot.root) slot.slot in
+    let number_below = held_field_below m image slot.r (length_of header) slot.whole table.held in
+    (omega (arith, length_fits, length_is, below), address_fits slot.whole slot.d k a number_below (root_width slot.root) slot.slot)
+
+-- a slot holds an address or is none
+pub slot_or_none : (whole : List ℕ) (d k : ℕ) → ((a : ℕ) × HasSlot whole d k a) ⊎ ((a : ℕ) → ¬ HasSlot whole d k a)
+slot_or_none whole d k =
+    elim (cases_lt (length whole) (36 + d * (k + 1))) [
+      | inl past ↦ inr (λ a slot. let inside = slot.inside in omega arith)
+      | inr inside ↦
+          elim (cases_eq (field whole (36 + d * k) d) 0) [
+            | inl zero ↦ inr (λ a slot. slot.listed (sym slot.address ∙ zero))
+            | inr listed ↦ inl (field whole (36 + d * k) d, record { inside = inside; address = refl; listed = listed })
+          ]
+    ]
+
+-- one address stands in a slot
+pub one_slot : (whole : List ℕ) (d k a b : ℕ) → HasSlot whole d k a → HasSlot whole d k b → a ≡ b
+one_slot whole d k a b one other = sym one.address ∙ other.address
+
+-- the slots of a set are those of its root's bytes
+pub slot_of_root : (m : Memory) (p r d k a : ℕ) (whole : List ℕ) → IsRoot m p r d → IsRootTable m r d whole → IsSlot m p k a → HasSlot whole d k a
+slot_of_root m p r d k a whole root table slot = of_root (λ x bytes. HasSlot bytes x k a) slot.root root slot.table table slot.slot
+
+-- and those of its root's bytes are the set's
+pub root_slot : {m : Memory} {p r d k a : ℕ} {whole : List ℕ} → IsRoot m p r d → IsRootTable m r d whole → HasSlot whole d k a → IsSlot m p k a
+root_slot {r = r} {d = d} {whole = whole} root table slot = record { r = r; d = d; whole = whole; root = root; table = table; slot = slot }

@@ -1,0 +1,3 @@
+-- The RSDP.
+pub mod Faults
+pub mod Naming

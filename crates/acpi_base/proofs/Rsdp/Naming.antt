@@ -1,0 +1,54 @@
+-- What an RSDP names: it is read in one of two forms, and its numbers fit.
+use Rattle.std.proofs.Common.{◌≡◌, ℕ, ◌^◌, ◌<◌, List, Some, None, sym, subst, inl, inr, arith}
+use Rattle.std.specs.Prelude.{◌⊎◌}
+use Rattle.std.proofs.lemmas.Bool.{cases_lt, lt-ltb, le-ltb}
+use Rattle.std.proofs.lemmas.Option.{same_Some}
+use Rattle.acpi_base.specs.Memory.{Memory, IsImage, bytes_at}
+use Rattle.acpi_base.specs.Rsdp.{Addresses, addresses_at, revision_of, short_addresses, extended_addresses, IsSoundRsdp}
+use Rattle.acpi_base.proofs.HeldBytes.{cases_Option, held_field_below}
+
+-- an RSDP is read in the short form or in the extended one
+pub how_read : (m : Memory) (p : ℕ) (named : Addresses) → addresses_at m p ≡ Some named
+    → ((head : List ℕ) × (bytes_at m p 20 ≡ Some head) × (named ≡ short_addresses head)) ⊎ ((prefix : List ℕ) × (bytes_at m p 36 ≡ Some prefix) × (named ≡ extended_addresses prefix))
+unfolding addresses_at
+how_read m p named read =
+    elim (cases_Option (bytes_at m p 20)) [
+      | inr out ↦ absurd (let none : None ≡ Some named = rw out at read in cc)
+      | inl (head, held) ↦
+          elim (cases_lt (revision_of head) 2) [
+            | inl short ↦
+                let form = lt-ltb (revision_of head) 2 short in
+                let is : Some (short_addresses head) ≡ Some named = rw (held, form) at read in
+                inl (head, held, sym (same_Some (short_addresses head) named is))
+            | inr more ↦
+                let form = le-ltb (revision_of head) 2 more in
+                elim (cases_Option (bytes_at m p 36)) [
+                  | inr out ↦ absurd (let none : None ≡ Some named = rw (held, form, out) at read in cc)
+                  | inl (prefix, prefix_held) ↦
+                      let is : Some (extended_addresses prefix) ≡ Some named = rw (held, form, prefix_held) at read in
+                      inr (prefix, prefix_held, sym (same_Some (extended_addresses prefix) named is))
+                ]
+          ]
+    ]
+
+-- a sound RSDP is readable
+pub sound_read : (m : Memory) (p : ℕ) → IsSoundRsdp m p → (named : Addresses) × (addresses_at m p ≡ Some named)
+unfolding addresses_at
+sound_read m p sound =
+    elim (cases_lt (revision_of sound.head) 2) [
+      | inl short ↦ (short_addresses sound.head, rw (sound.head_held, lt-ltb (revision_of sound.head) 2 short))
+      | inr more ↦
+          let whole = sound.extended more in
+          (extended_addresses whole.prefix, rw (sound.head_held, le-ltb (revision_of sound.head) 2 more, whole.prefix_held))
+    ]
+
+-- the addresses that an RSDP of an image names fit their fields
+pub named_fit : (m : Memory) → IsImage m → (p : ℕ) (named : Addresses) → addresses_at m p ≡ Some named → (named.rsdt < 2 ^ 32) × (named.xsdt < 2 ^ 64)
+named_fit m image p named read =
+    elim (how_read m p named read) [
+      | inl (head, held, is) ↦ subst Fit (sym is) (held_field_below m image p 20 head held 16 4, omega arith)
+      | inr (prefix, held, is) ↦ subst Fit (sym is) (held_field_below m image p 36 prefix held 16 4, held_field_below m image p 36 prefix held 24 8)
+    ]
+  where
+    Fit : Addresses → Type 0
+    Fit n = (n.rsdt < 2 ^ 32) × (n.xsdt < 2 ^ 64)

@@ -1,0 +1,4 @@
+-- System description tables.
+pub mod Faults
+pub mod Listed
+pub mod Whole

@@ -1,0 +1,24 @@
+-- The set of tables that the stages from the FACS on look at.
+use Rattle.std.specs.Prelude.{◌≡◌}
+use Rattle.acpi_base.specs.Memory.{Memory}
+use Rattle.acpi_base.specs.Policy.{PolicyValue}
+use Rattle.acpi_base.specs.Listed.{madt_signature, srat_signature, slit_signature, pptt_signature, IsListed}
+use Rattle.acpi_base.specs.Fadt.{IsFadt}
+use Rattle.acpi_base.specs.Statements.{CleanTo}
+use Rattle.acpi_base.specs.declared.stage.Stage.TheVariants as stage
+use Rattle.acpi_check.specs.declared.set.Set.{Set}
+
+-- the stages up to the FADT hold of the image and the policy, and these are its tables
+pub record IsSetOf (m : Memory) (q : PolicyValue) (set : Set) : Type 0 where
+  pub image : set.image.now ≡ m
+  pub policy : set.policy.now ≡ q
+  pub clean : CleanTo stage.Fadt m q
+  pub fadt : IsFadt m q.rsdp set.fadt
+  pub madt : IsListed m q.rsdp madt_signature set.madt
+  pub srat : IsListed m q.rsdp srat_signature set.srat
+  pub slit : IsListed m q.rsdp slit_signature set.slit
+  pub pptt : IsListed m q.rsdp pptt_signature set.pptt
+
+-- the same of its own image and policy
+abbrev pub IsSet : Set → Type 0
+IsSet set = IsSetOf set.image.now set.policy.now set
