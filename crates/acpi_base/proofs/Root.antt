@@ -1,4 +1,5 @@
 -- The root and its slots.
 pub mod Faults
+pub mod Lists
 pub mod Named
 pub mod Slots

@@ -1,8 +1,11 @@
--- The laws of faults, over the definitions alone.
-use Rattle.std.specs.Prelude.{◌≡◌, ◌^◌, ◌<◌, ◌≤◌, ◌⊎◌}
+-- The laws of faults and of listed tables, over the definitions alone.
+use Rattle.std.specs.Prelude.{◌≡◌, ◌^◌, ◌<◌, ◌≤◌, ◌⊎◌, ◌↔◌, ℕ, List}
+use Rattle.std.specs.List.{Contains}
 use Rattle.acpi_base.specs.Memory.{Memory, IsImage}
 use Rattle.acpi_base.specs.Policy.{PolicyValue, IsPolicy}
 use Rattle.acpi_base.specs.Codes.{stage_number, stage_of}
+use Rattle.acpi_base.specs.Root.{IsSlotWidth, HasSlot}
+use Rattle.acpi_base.specs.Listed.{listed}
 use Rattle.acpi_base.specs.Statements.{CleanTo}
 use Rattle.acpi_base.specs.Faults.{Fault, IsFirstFault, IsVerdict}
 use Rattle.acpi_base.specs.declared.stage.Stage.{Stage}
@@ -41,3 +44,8 @@ OneFirstFault = (m : Memory) (q : PolicyValue) (w v : Witness) → IsFirstFault 
 abbrev pub OneVerdict : Type 0
 OneVerdict =
     (last : Stage) (m : Memory) (q : PolicyValue) (one other : Verdict) → IsVerdict last m q one → IsVerdict last m q other → one ≡ other
+
+-- the addresses that a root's bytes list are those that stand in its slots
+abbrev pub RootsListSlots : Type 0
+RootsListSlots =
+    (whole : List ℕ) (d a : ℕ) → IsSlotWidth d → Contains (listed whole d) a ↔ ((k : ℕ) × HasSlot whole d k a)

@@ -2,7 +2,7 @@
 
 ghost use Rattle.std.specs.Prelude.{◌≡◌, ℕ, ◌↔◌, List, Some, IsSome};
 ghost use Rattle.acpi_base.specs.Memory.{Memory, bytes_at, Has, AreBytes};
-ghost use Rattle.acpi_base.specs.Laws.{FaultsExcludeClean, FaultsFit, CleanOrFaulty, CleanOrFirstFault, OneFirstFault, OneVerdict};
+ghost use Rattle.acpi_base.specs.Laws.{FaultsExcludeClean, FaultsFit, CleanOrFaulty, CleanOrFirstFault, OneFirstFault, OneVerdict, RootsListSlots};
 ghost use Rattle.acpi_base.specs.TextLaws.{RunReadsText, RunReadsFront, RunStopsAtFaults, RunGoesOn, FrontDecides, TextMeans, TextOrFault, NeverBoth, OneImage, OneTextFault, RefusalsAreOwn, LinesMean};
 
 /// An image with a fault of a stage is not clean to that stage or a later one: a fault that is told is
@@ -36,6 +36,11 @@ pub fn one_first_fault()
 /// Two verdicts that are right for the same stages of an image are one.
 pub fn one_verdict()
     ensures one { OneVerdict }
+{}
+
+/// The addresses that a root lists, as a function of its bytes, are those that stand in its slots.
+pub fn roots_list_slots()
+    ensures slots { RootsListSlots }
 {}
 
 /// Reading an image text byte by byte is reading it by lines, in any pieces.

@@ -1,0 +1,82 @@
+-- The addresses that a root's bytes list are those in its slots.
+use Rattle.std.proofs.Common.{◌≡◌, ◌<◌, ◌≤◌, ◌+◌, ◌-◌, ◌*◌, ℕ, zero, suc, List, ◌∷◌, length, map, true, false, cond, refl, sym, ◌∙◌, ap, subst, inl, inr, arith}
+use Rattle.std.specs.Prelude.{◌≢◌, ◌⊎◌, ◌/◌, ◌==◌, not, Bool, filter}
+use Rattle.std.specs.List.{Contains, range_with_len}
+use Rattle.std.proofs.lemmas.Bool.{cases_eq, cases_lt, eq-eqb, ne_eqb}
+use Rattle.acpi_base.specs.Number.{field}
+use Rattle.acpi_base.specs.Root.{IsSlotWidth, HasSlot}
+use Rattle.acpi_base.specs.Listed.{listed}
+use Rattle.acpi_base.specs.Laws.{RootsListSlots}
+
+-- what is not 0
+abbrev some : ℕ → Bool
+some a = not (a == 0)
+
+-- a number that a function has at n numbers from one on
+record IsAmong (f : ℕ → ℕ) (start n a : ℕ) : Type 0 where
+  k : ℕ
+  least : start ≤ k
+  most : k < start + n
+  is : f k ≡ a
+  listed : a ≢ 0
+
+among_more : (f : ℕ → ℕ) (start n a : ℕ) → IsAmong f (start + 1) n a → IsAmong f start (suc n) a
+among_more f start n a here = (let least = here.least in let most = here.most in record { k = here.k; least = omega arith; most = omega arith; is = here.is; listed = here.listed })
+
+-- an element of a list is its first or one of the rest
+first_or_rest : (b a : ℕ) (rest : List ℕ) → Contains (b ∷ rest) a → (b ≡ a) ⊎ Contains rest a
+first_or_rest b a rest (zero, below, is) = inl is
+first_or_rest b a rest (suc k, below, is) = inr (k, omega arith, is)
+
+among : (f : ℕ → ℕ) (start n a : ℕ) → Contains (filter some (map f (range_with_len start n))) a → IsAmong f start n a
+among f start zero a (k, below, is) = absurd (omega arith)
+among f start (suc n) a here =
+    elim (cases_eq (f start) 0) [
+      | inl none ↦
+          let past : some (f start) ≡ false = rw none refl in
+          among_more f start n a (among f (start + 1) n a (rw past at here))
+      | inr listed ↦
+          let kept : some (f start) ≡ true = rw (ne_eqb (f start) 0 listed) refl in
+          let found : Contains (f start ∷ filter some (map f (range_with_len (start + 1) n))) a = rw kept at here in
+          elim (first_or_rest (f start) a (filter some (map f (range_with_len (start + 1) n))) found) [
+            | inl is ↦ record { k = start; least = omega arith; most = omega arith; is = is; listed = λ zero. listed (is ∙ zero) }
+            | inr rest ↦ among_more f start n a (among f (start + 1) n a rest)
+          ]
+    ]
+
+contained : (f : ℕ → ℕ) (start n a : ℕ) → IsAmong f start n a → Contains (filter some (map f (range_with_len start n))) a
+contained f start zero a here = (let least = here.least in let most = here.most in absurd (omega arith))
+contained f start (suc n) a here =
+    elim (cases_eq here.k start) [
+      | inl same ↦
+          let first : f start ≡ a = ap f (sym same) ∙ here.is in
+          let kept : some (f start) ≡ true = rw (ne_eqb (f start) 0 (λ zero. here.listed (sym first ∙ zero))) refl in
+          rw kept (zero, omega arith, first)
+      | inr other ↦
+          let least = here.least in
+          let most = here.most in
+          let rest = contained f (start + 1) n a (record { k = here.k; least = omega arith; most = omega arith; is = here.is; listed = here.listed }) in
+          elim (some (f start)) as (λ b. Contains (cond b (f start ∷ filter some (map f (range_with_len (start + 1) n))) (filter some (map f (range_with_len (start + 1) n)))) a) [
+            | true ↦ (suc rest.0, omega (arith, rest.1), rest.2)
+            | false ↦ rest
+          ]
+    ]
+
+-- the slots that lie wholly within a root's bytes are as many as their width says
+inside : (whole : List ℕ) (d k : ℕ) → IsSlotWidth d → k < (length whole - 36) / d → 36 + d * (k + 1) ≤ length whole
+inside whole d k (inl four) below = (let less : k < (length whole - 36) / 4 = rw four at below in rw four (omega arith))
+inside whole d k (inr eight) below = (let less : k < (length whole - 36) / 8 = rw eight at below in rw eight (omega arith))
+
+below_count : (whole : List ℕ) (d k : ℕ) → IsSlotWidth d → 36 + d * (k + 1) ≤ length whole → k < (length whole - 36) / d
+below_count whole d k (inl four) fits = (let within : 36 + 4 * (k + 1) ≤ length whole = rw four at fits in rw four (omega arith))
+below_count whole d k (inr eight) fits = (let within : 36 + 8 * (k + 1) ≤ length whole = rw eight at fits in rw eight (omega arith))
+
+pub roots_list_slots : RootsListSlots
+unfolding listed
+roots_list_slots whole d a width =
+    (
+      λ here. let found = among (λ k. field whole (36 + d * k) d) 0 ((length whole - 36) / d) a here in let most = found.most in
+        (found.k, record { inside = inside whole d found.k width (omega arith); address = found.is; listed = found.listed }),
+      λ slot. let below = below_count whole d slot.0 width slot.1.inside in
+        contained (λ k. field whole (36 + d * k) d) 0 ((length whole - 36) / d) a (record { k = slot.0; least = omega arith; most = omega arith; is = slot.1.address; listed = slot.1.listed }),
+    )
