@@ -12,6 +12,7 @@ pub fn fault_excludes_clean()
 {}
 
 /// The three numbers of a fault of an image are numbers of 64 bits: each fault can be told by a `Witness`.
+#[tactic(auto, using(crate::proofs::Faults::Laws::faults_fit))]
 pub fn faults_fit()
     ensures fit { FaultsFit }
 {}
@@ -29,11 +30,13 @@ pub fn first_fault_exists()
 {}
 
 /// Two first faults of an image are one: which fault is told does not depend on how it was looked for.
+#[tactic(auto, using(crate::proofs::Faults::Laws::one_first_fault))]
 pub fn one_first_fault()
     ensures one { OneFirstFault }
 {}
 
 /// Two verdicts that are right for the same stages of an image are one.
+#[tactic(auto, using(crate::proofs::Faults::Laws::one_verdict))]
 pub fn one_verdict()
     ensures one { OneVerdict }
 {}
