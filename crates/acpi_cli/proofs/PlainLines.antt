@@ -1,4 +1,4 @@
--- Command lines whose words stand a space apart, and whose values begin with no hyphen.
+-- Command lines whose arguments stand a space apart, and whose values begin with no hyphen.
 use Rattle.std.proofs.Common.{◌≡◌, ◌==◌, ◌&&◌, ◌∙◌, ℕ, Bool, List, [], ◌∷◌, Option, Some, None, true, false, cond, codes, refl, ap, sym, inl, inr}
 use Rattle.std.proofs.lemmas.Bool.Decides.{eqb_tells}
 use Rattle.std.specs.Prelude.{option_and_then}

@@ -58,11 +58,11 @@ fn run(rt: &HostRuntime, job: Job) -> u8
     let alloc = rt.alloc();
     let mut reader = Tally::new(rt.stdin());
     let mut writer = Tally::new(rt.stdout());
-    let answer = do_job(alloc, &mut reader, &mut writer, job);
-    if let Err(fault) = &answer {
+    let result = do_job(alloc, &mut reader, &mut writer, job);
+    if let Err(fault) = &result {
         let _ = eprintln!(rt; "acpiset: {fault}");
     }
-    status_of(&answer)
+    status_of(&result)
 }
 
 /// Reports on standard error what is wrong with the arguments, where it can be said, and the usage.
