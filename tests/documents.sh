@@ -77,8 +77,8 @@ last=$(sed -n 's/^pub const BUILT: u8 = \([0-9]*\);$/\1/p' crates/acpi_base/src/
 stages=$(sed -n 's/^stage_number stage\.\([A-Za-z]*\) = \([0-9]*\)$/\1 \2/p' crates/acpi_base/specs/Codes.antt | awk -v last="$last" '$2 <= last { print $1 }')
 codes=$(while read -r stage; do sed -n "s/^stage_of code\.\([A-Za-z]*\) = stage\.$stage\$/\1/p" crates/acpi_base/specs/Codes.antt; done <<<"$stages")
 numbered=$(while read -r code; do sed -n "s/^code_number code\.\($code\) = \([0-9]*\)\$/\2 \1/p" crates/acpi_base/specs/Codes.antt; done <<<"$codes")
-told=$(sed -n 's/^### \([0-9]* [A-Za-z]*\)$/\1/p' docs/FAULTS.md)
-same 'codes of built stages (<) and parts of FAULTS.md (>)' "$numbered" "$told"
+described=$(sed -n 's/^### \([0-9]* [A-Za-z]*\)$/\1/p' docs/FAULTS.md)
+same 'codes of built stages (<) and parts of FAULTS.md (>)' "$numbered" "$described"
 built=$(sed -n 's/^Stages 1 to \([0-9]*\) of 18 are built.*/\1/p' README.md)
 same 'the last stage that is built (<) and the one in README.md (>)' "$last" "$built"
 listed=$(sed -n 's/^| \([0-9]*\) | .* | yes |$/\1/p' docs/FAULTS.md)

@@ -31,7 +31,7 @@ pub fn parse<'a>(alloc: Global, words: &'a [String]) -> Result<ArgMatches<'a>, W
 /// `clap`'s error message on arguments that it refuses, in a line: the first argument that is not known,
 /// that is repeated or that has no value. `None` where the command is missing, where help is asked for,
 /// or where the program is out of memory.
-pub fn error_message(alloc: Global, words: &[String]) -> Option<String> {
+pub fn clap_message(alloc: Global, words: &[String]) -> Option<String> {
     let error = acpiset(alloc).ok()?.try_get_matches_from(words).err()?;
     if fault_of(&error) == WordFault::Memory {
         return None;

@@ -25,7 +25,7 @@ use std::alloc::Global;
 use std::io::{ErrorKind, Read, Write};
 use std::process::ExitCode;
 use usage::Usage;
-use words::{Job, WordFault, read_words, wrong_word};
+use words::{Job, WordFault, error_message, read_words};
 
 /// The exit status where the arguments are refused.
 const REFUSED: u8 = 2;
@@ -66,11 +66,11 @@ fn run(rt: &HostRuntime, job: Job) -> u8
 }
 
 /// Reports on standard error what is wrong with the arguments, where it can be said, and the usage.
-fn refuse(rt: &HostRuntime, wrong: Option<&str>) -> u8
+fn refuse(rt: &HostRuntime, message: Option<&str>) -> u8
     ensures { result ≡ 2 }
 {
-    let _ = match wrong {
-        Some(wrong) => eprintln!(rt; "acpiset: {wrong}\n\n{Usage}"),
+    let _ = match message {
+        Some(message) => eprintln!(rt; "acpiset: {message}\n\n{Usage}"),
         None => eprintln!(rt; "acpiset: {Usage}"),
     };
     REFUSED
@@ -85,7 +85,7 @@ fn refuse_memory(rt: &HostRuntime) -> u8
 }
 
 /// The arguments of the command line, the program's own name first. Refuses `Words` where one is not UTF-8.
-fn words_given(rt: &HostRuntime) -> Result<Vec<String>, WordFault> {
+fn arguments(rt: &HostRuntime) -> Result<Vec<String>, WordFault> {
     match std::env::args(rt) {
         Ok(words) => words.collect(rt.alloc()).map_err(|_| WordFault::Memory),
         Err(error) if error.kind() == ErrorKind::InvalidData => Err(WordFault::Words),
@@ -100,13 +100,13 @@ fn obey(rt: &HostRuntime, words: &[String]) -> u8
 {
     match read_words(rt.alloc(), words) {
         Ok(job) => run(rt, job),
-        Err(WordFault::Words) => refuse(rt, wrong_word(rt.alloc(), words).as_deref()),
+        Err(WordFault::Words) => refuse(rt, error_message(rt.alloc(), words).as_deref()),
         Err(WordFault::Memory) => refuse_memory(rt),
     }
 }
 
 fn main(rt: HostRuntime) -> std::io::Result<ExitCode> {
-    let status = match words_given(&rt) {
+    let status = match arguments(&rt) {
         Ok(words) => obey(&rt, words.as_slice()),
         Err(WordFault::Words) => refuse(&rt, Some("an argument is not UTF-8")),
         Err(WordFault::Memory) => refuse_memory(&rt),

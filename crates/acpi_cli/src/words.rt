@@ -8,7 +8,7 @@ ghost use Rattle.acpi_cli.specs.CommandLine.{Asked, DoesAsked, IsBuilt, asked, b
 ghost use Rattle.acpi_cli.specs.CommandLine.{check_words, find_words, short_line, through_line, whole_line};
 ghost use Rattle.acpi_cli.specs.Words.{hex_word};
 
-use crate::command_line::{error_message, parse, value};
+use crate::command_line::{clap_message, parse, value};
 use crate::number_words::{decimal_number, hex_number};
 use acpi_base::{BUILT, Policy, Stage};
 use clap::ArgMatches;
@@ -83,15 +83,15 @@ fn check_job(alloc: Global, options: &ArgMatches) -> Option<Job>
 
 /// An error message on arguments that are refused, in a line that names the wrong one. `None` where the
 /// command is missing, where help is asked for, or where the program is out of memory.
-pub fn wrong_word(alloc: Global, words: &[String]) -> Option<String> {
+pub fn error_message(alloc: Global, words: &[String]) -> Option<String> {
     match parse(alloc, words) {
-        Ok(matches) => wrong_value(alloc, matches.subcommand()?.1),
-        Err(_) => error_message(alloc, words),
+        Ok(matches) => value_message(alloc, matches.subcommand()?.1),
+        Err(_) => clap_message(alloc, words),
     }
 }
 
 /// An error message on the values of the options of `check`, in a line that names the first wrong one.
-fn wrong_value(alloc: Global, options: &ArgMatches) -> Option<String> {
+fn value_message(alloc: Global, options: &ArgMatches) -> Option<String> {
     if let Some(hex) = value(options, "rsdp")
         && hex_number(hex).is_none()
     {

@@ -139,7 +139,7 @@ fn a_stage_above_the_last_one(rt: HostRuntime) -> Result<(), Fail> {
         read_words(rt.alloc(), words.as_slice()).err(),
         Some(WordFault::Words)
     );
-    assert_eq!(rt; wrong_word(rt.alloc(), words.as_slice()), Some(text));
+    assert_eq!(rt; error_message(rt.alloc(), words.as_slice()), Some(text));
     Ok(())
 }
 
@@ -155,8 +155,8 @@ fn what_is_wrong_with_a_line(rt: HostRuntime) {
     ];
     for (line, text) in lines {
         let words = words_of(rt.alloc(), line).expect(&rt, line);
-        let wrong = wrong_word(rt.alloc(), words.as_slice()).expect(&rt, line);
-        assert_eq!(rt; wrong.as_str(), text);
+        let message = error_message(rt.alloc(), words.as_slice()).expect(&rt, line);
+        assert_eq!(rt; message.as_str(), text);
     }
 }
 
@@ -165,7 +165,7 @@ fn nothing_but_the_usage_to_say(rt: HostRuntime) {
     for line in ["acpiset --help", "acpiset check --help", "acpiset"] {
         let words = words_of(rt.alloc(), line).expect(&rt, line);
         assert!(rt;
-            wrong_word(rt.alloc(), words.as_slice()).is_none(),
+            error_message(rt.alloc(), words.as_slice()).is_none(),
             "{line}"
         );
     }
