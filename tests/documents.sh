@@ -61,8 +61,8 @@ functions() {
   ' $(find "crates/$1/src" -name '*.rt' ! -name laws.rt ! -path '*/tests*')
 }
 
-# Exported functions that need no edit, as CRATE FUNCTION REASON a line. For functions whose text only people read.
-aside=''
+# Exported functions that need no edit: CRATE FUNCTION, and the reason. Texts that only people read belong here too.
+aside='acpi_base Image_numbers_fit states a law, and its body does nothing'
 
 for crate in $(sed -n 's/^\([a-z_]*\):.*/\1/p' crates.txt); do
   all=$(functions "$crate")

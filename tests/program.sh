@@ -267,7 +267,7 @@ count "a text of 60 MB in 60 MB of memory" "$wrong"
 rm "$scratch/text"
 
 # starved STATUS STDOUT ARGUMENTS..: refuses each request for memory in turn. Each run ends with this status and
-# standard output and no word of memory, or it is out of memory.
+# standard output and no mention of memory, or it is out of memory.
 starved() {
   local status=$1 out=$2 number=1 got wrong="" line outcome
   shift 2

@@ -41,7 +41,7 @@ decimal_is_plain (c ∷ cs) n e = elim (eqb_tells c 45) [
   | inr other ↦ record { first = c; rest = cs; is = refl; plain = other.0 }
 ]
 
--- what `clap` hands on, where each value begins with no hyphen
+-- what `clap` returns, where each value begins with no hyphen
 short_line_gives : (program cs : Text) (c n : ℕ) → (c == 45) ≡ false → hex_word 16 (c ∷ cs) ≡ Some n
     → asked (short_line program (c ∷ cs)) ≡ Some (check (Some n) BUILT)
 unfolding is_taken command_of command_line check_line find_line clap_on_literals

@@ -18,7 +18,7 @@ use thiserror::Error;
 /// The number of inputs of each I/O APIC.
 const DEFAULT_INPUTS: u16 = 24;
 
-/// A command, with what its engine is handed.
+/// A command, with what its engine is called with.
 #[derive(Debug, Drop)]
 pub enum Job {
     /// Check the tables that the RSDP leads to, up to the stage `last`: the RSDP at `rsdp`, or the one

@@ -1,4 +1,11 @@
 //! Builds tables, and the image texts of sets of tables.
+//!
+//! ```rust
+//! let reduced = fadt(alloc, 116, REDUCED)?;
+//! let madt = table(alloc, b"APIC", 5, &joined(alloc, &[&[0; 8], &[0, 8, 0, 0, 1, 0, 0, 0]])?)?;
+//! let text = set(alloc, &[&reduced, &madt])?;
+//! expect_check(&rt, alloc, text.as_bytes(), Stage::Facs, 0, "yes\n")?;
+//! ```
 
 use std::alloc::{AllocError, Global};
 use std::test::Fail;
