@@ -6,31 +6,79 @@ cd "$(dirname "$0")/.."
 passed=0
 failed=0
 
-# same WHAT FIRST SECOND: counts a case; two lists of names are one, or the differing names are printed.
-same() {
-  local differ
-  differ=$(diff <(sort -u <<<"$2") <(sort -u <<<"$3") | grep '^[<>]')
-  if [ -z "$differ" ]; then
+# count WHAT LINES: counts a case; no lines means passed.
+count() {
+  if [ -z "$2" ]; then
     passed=$((passed + 1))
   else
     failed=$((failed + 1))
-    printf '%s:\n%s\n' "$1" "$differ"
+    printf '%s:\n%s\n' "$1" "$2"
   fi
 }
 
-# backticked: the names between backticks of the lines on standard input.
-backticked() { grep -o '`[^`]*`' | tr -d '`'; }
+# same WHAT FIRST SECOND: both lists have the same names.
+same() { count "$1" "$(diff <(sort -u <<<"$2") <(sort -u <<<"$3") | grep '^[<>]')"; }
 
-edits=$(for edit in crates/*/must-fail/*.edit; do basename "$edit" .edit; done)
-named=$(sed -n '/^## Wrong bodies that are refused/,/^## By test alone/p' docs/PROMISES.md | sed -n 's/^|[^|]*|//p' | backticked)
-same 'wrong bodies in must-fail (<) and in PROMISES.md (>)' "$edits" "$named"
+# within WHAT FIRST SECOND: each name of the first list is in the second.
+within() { count "$1" "$(comm -23 <(sort -u <<<"$2") <(sort -u <<<"$3"))"; }
 
+# ---- edits: each exported function has wrong bodies that the prover must refuse
+
+# exports CRATE: the names that a library exports: those in `pub use` of src/lib.rt.
+exports() { sed -n '/^pub use /,/;/p' "crates/$1"/src/lib.rt | sed 's/^pub use [a-z_:]*:://' | tr -cs 'A-Za-z0-9_' ' '; }
+
+# functions CRATE: its functions outside tests, a method as Type_method. One that must have an edit comes once more
+# with a + before it: an exported one whose contract has an `ensures`, and an exported type's method of an exported
+# trait, whose contract stands with the trait. A program exports nothing: there it is those in `program`.
+program='^(do_job|obey|read_words|run_[a-z]+|status_of)$'
+functions() {
+  local names=""
+  [ ! -e "crates/$1/src/lib.rt" ] || names=$(exports "$1")
+  awk -v names="$names" -v program="$program" '
+    BEGIN { split(names, list); for (i in list) is_exported[list[i]] = 1 }
+    /^impl/ {
+      sub(/^impl(<[^>]*>)? /, "")
+      trait = / for / ? $1 : ""
+      sub(/.* for /, "")
+      sub(/[^A-Za-z0-9].*/, "")
+      type = $0
+      next
+    }
+    /^}/ { type = "" }
+    /^ *(pub )?fn / {
+      is_pub = $1 == "pub"
+      has_contract = !/\{$/
+      sub(/.*fn /, "")
+      sub(/[^a-z0-9_].*/, "")
+      name = type == "" ? $0 : type "_" $0
+      is_open = is_pub && (type == "" ? $0 : type) in is_exported || names == "" && name ~ program
+      print name
+      if (type in is_exported && trait in is_exported) print "+" name
+      next
+    }
+    /^ *\{$/ || /^ *\).*\{$/ { has_contract = 0 }
+    is_open && has_contract && /^ *ensures / { print "+" name; has_contract = 0 }
+  ' $(find "crates/$1/src" -name '*.rt' ! -name laws.rt ! -path '*/tests*')
+}
+
+# Exported functions that need no edit: CRATE FUNCTION, and the reason. Texts that only people read belong here too.
+aside='acpi_base Image_numbers_fit states a law, and its body does nothing'
+
+for crate in $(sed -n 's/^\([a-z_]*\):.*/\1/p' crates.txt); do
+  all=$(functions "$crate")
+  edited=$(for edit in "crates/$crate"/must-fail/*.edit; do basename "$edit" .edit; done | sed 's/-.*//')
+  exported=$(sed -n 's/^+//p' <<<"$all" | grep -vxF "$(sed -n "s/^$crate \([A-Za-z0-9_]*\) .*/\1/p" <<<"$aside")")
+  within "$crate: functions that no edit is named for" "$exported" "$edited"
+  within "$crate: edits that are named for no function" "$edited" "$all"
+done
+
+# ---- the documents
 last=$(sed -n 's/^pub const BUILT: u8 = \([0-9]*\);$/\1/p' crates/acpi_base/src/stage.rt)
 stages=$(sed -n 's/^stage_number stage\.\([A-Za-z]*\) = \([0-9]*\)$/\1 \2/p' crates/acpi_base/specs/Codes.antt | awk -v last="$last" '$2 <= last { print $1 }')
 codes=$(while read -r stage; do sed -n "s/^stage_of code\.\([A-Za-z]*\) = stage\.$stage\$/\1/p" crates/acpi_base/specs/Codes.antt; done <<<"$stages")
 numbered=$(while read -r code; do sed -n "s/^code_number code\.\($code\) = \([0-9]*\)\$/\2 \1/p" crates/acpi_base/specs/Codes.antt; done <<<"$codes")
-told=$(sed -n 's/^### \([0-9]* [A-Za-z]*\)$/\1/p' docs/FAULTS.md)
-same 'codes of built stages (<) and parts of FAULTS.md (>)' "$numbered" "$told"
+described=$(sed -n 's/^### \([0-9]* [A-Za-z]*\)$/\1/p' docs/FAULTS.md)
+same 'codes of built stages (<) and parts of FAULTS.md (>)' "$numbered" "$described"
 built=$(sed -n 's/^Stages 1 to \([0-9]*\) of 18 are built.*/\1/p' README.md)
 same 'the last stage that is built (<) and the one in README.md (>)' "$last" "$built"
 listed=$(sed -n 's/^| \([0-9]*\) | .* | yes |$/\1/p' docs/FAULTS.md)

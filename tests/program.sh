@@ -1,5 +1,5 @@
 #!/usr/bin/env bash
-# Runs the built program on image texts: its output, its status and what it tells a person.
+# Runs the built program on image texts: its output, its status and its error messages.
 # usage: tests/program.sh PROGRAM; the last line is 'N passed, M failed'.
 set -u
 program=$(realpath "${1:?usage: tests/program.sh PROGRAM}")
@@ -10,8 +10,8 @@ trap 'rm -rf "$scratch"' EXIT
 passed=0
 failed=0
 
-# tell NAME WHAT_IS_WRONG: counts a case; nothing wrong means passed.
-tell() {
+# count NAME WHAT_IS_WRONG: counts a case; nothing wrong means passed.
+count() {
   if [ -z "$2" ]; then
     passed=$((passed + 1))
   else
@@ -20,8 +20,8 @@ tell() {
   fi
 }
 
-# runs NAME STATUS STDOUT STDERR INPUT WORDS..: runs the program on the file INPUT. STDOUT and STDERR are
-# what it must write; a STDERR that ends in * is only the beginning of it.
+# runs NAME STATUS STDOUT STDERR INPUT ARGUMENTS..: runs the program on the file INPUT. STDOUT and STDERR are
+# what it must write.
 runs() {
   local name=$1 status=$2 out=$3 err=$4 input=$5
   shift 5
@@ -29,11 +29,8 @@ runs() {
   local got=$? wrong=""
   [ "$got" = "$status" ] || wrong="status $got, not $status"
   [ "$(cat "$scratch/out"; printf x)" = "$(printf '%b' "$out"; printf x)" ] || wrong="$wrong; standard output $(cat "$scratch/out")"
-  case "$err" in
-    *'*') case "$(cat "$scratch/err")" in "${err%'*'}"*) ;; *) wrong="$wrong; standard error $(cat "$scratch/err")" ;; esac ;;
-    *) [ "$(cat "$scratch/err"; printf x)" = "$(printf '%b' "$err"; printf x)" ] || wrong="$wrong; standard error $(cat "$scratch/err")" ;;
-  esac
-  tell "$name" "$wrong"
+  [ "$(cat "$scratch/err"; printf x)" = "$(printf '%b' "$err"; printf x)" ] || wrong="$wrong; standard error $(cat "$scratch/err")"
+  count "$name" "$wrong"
 }
 
 # text NAME CONTENT: an image text of the scratch folder; prints its path.
@@ -43,6 +40,8 @@ text() {
 }
 
 smallest=../crates/acpi_cli/stdin
+# The number of the last stage that is built.
+last=$(sed -n 's/^pub const BUILT: u8 = \([0-9]*\);$/\1/p' ../crates/acpi_base/src/stage.rt)
 
 # ---- verdicts
 runs "the smallest set" 0 'yes\n' '' "$smallest" check --rsdp e0000 --through 3
@@ -55,9 +54,10 @@ runs "no RSDP at the address" 1 'no 1 RsdpOut 0xfffffffffffffff0 0x0 0x0\n' '' "
 tr 'a-f' 'A-F' <"$smallest" | sed 's/$/\r/' >"$scratch/upper"
 runs "digits in upper case, and lines that end in CR LF" 0 'yes\n' '' "$scratch/upper" check --rsdp e0000 --through 3
 
-# Each image, where its RSDP lies, and what a search says: an RSDP above the BIOS's memory is not found.
+# Each image, where its RSDP lies, and the status and the address of a search: an RSDP above the BIOS's memory is
+# not found.
 while read -r image rsdp status found; do
-  runs "firmware $image" 0 'yes\n' '' "images/$image.img.txt" check --rsdp "$rsdp" --through 5
+  runs "firmware $image" 0 'yes\n' '' "images/$image.img.txt" check --rsdp "$rsdp" --through "$last"
   runs "firmware $image, found" "$status" "rsdp $found\n" '' "images/$image.img.txt" find
 done <<'LIST'
 sb-q35-default f59e0 0 0xf59e0
@@ -172,6 +172,7 @@ runs "no RSDP with a right sum to check" 1 "no rsdp\n" "" "$scratch/sum" check
 runs "half a pair" 3 '' 'acpiset: line 2: bad line\n' "$(text half '@0\n1')" check --rsdp e0000
 runs "data before an address" 3 '' 'acpiset: line 1: no address\n' "$(text none '01')" check --rsdp e0000
 runs "an address twice" 3 '' 'acpiset: address 0x0 twice\n' "$(text twice '@0\n01\n@0\n02')" check --rsdp e0000
+runs "an address with letters twice" 3 '' 'acpiset: address 0xfec0abcd twice\n' "$(text letters '@fec0abcd\n01\n@fec0abcd\n02')" check --rsdp e0000
 runs "a line past the end" 3 '' 'acpiset: line 2: past the end\n' "$(text past '@ffffffffffffffff\n01 02')" check --rsdp e0000
 runs "a line after the last address" 3 '' 'acpiset: line 3: past the end\n' "$(text after '@ffffffffffffffff\n01\n02')" check --rsdp e0000
 { printf '#'; head -c 65535 /dev/zero | tr '\0' x; printf '\n'; cat "$smallest"; } >"$scratch/line"
@@ -184,21 +185,23 @@ printf '\n' >>"$scratch/text"
 runs "a text of 67,108,865 bytes" 3 '' 'acpiset: too long\n' "$scratch/text" check --rsdp e0000
 rm "$scratch/text"
 
-# ---- words that are refused
-# refuses COMPLAINT WORDS..: the words are refused with this complaint, '' for none, and then the usage.
+# ---- arguments that are refused
+# refuses MESSAGE ARGUMENTS..: the arguments are refused with this error message, '' for none, and the usage.
 refuses() {
-  local complaint=$1 wrong=""
+  local message=$1 wrong=""
   shift
   "$program" "$@" <"$smallest" >"$scratch/out" 2>"$scratch/err"
   local got=$?
   [ "$got" = 2 ] || wrong="status $got, not 2"
   [ ! -s "$scratch/out" ] || wrong="$wrong; standard output $(cat "$scratch/out")"
   local first="acpiset: usage:"
-  [ -z "$complaint" ] || first="acpiset: $complaint"
+  [ -z "$message" ] || first="acpiset: $message"
   [ "$(head -n 1 "$scratch/err")" = "$first" ] || wrong="$wrong; standard error $(head -n 1 "$scratch/err")"
   grep -qxF '  acpiset check [--rsdp HEX] [--through N]' "$scratch/err" || wrong="$wrong; no usage of check"
   grep -qxF '  acpiset find' "$scratch/err" || wrong="$wrong; no usage of find"
-  tell "words '$*'" "$wrong"
+  grep -qxF "  --through N  the last stage to check, 1 to $last, and $last if absent:" "$scratch/err" || wrong="$wrong; no last stage"
+  [ "$(sed -n 's/^ \{15,\}\([0-9][0-9]*\) .*/\1/p' "$scratch/err" | tr '\n' ' ')" = "$(seq -s ' ' "$last") " ] || wrong="$wrong; no list of the stages"
+  count "arguments '$*'" "$wrong"
 }
 refuses ''
 refuses '' --help
@@ -213,13 +216,12 @@ refuses "the argument '--rsdp <HEX>' cannot be used multiple times" check --rsdp
 for word in g f59e0h f000:59e0 0x 0XE0000 00000000000000000; do
   refuses "--rsdp '$word': an address is 1 to 16 hex digits, with 0x before them or without" check --rsdp "$word"
 done
-for word in 0 6 19 003 three; do
-  refuses "--through '$word': the stages are 1 to 5" check --rsdp e0000 --through "$word"
+for word in 0 $((last + 1)) 19 003 three; do
+  refuses "--through '$word': the stages are 1 to $last" check --rsdp e0000 --through "$word"
 done
+refuses "an argument is not UTF-8" check --rsdp $'\xff'
 
-refuses "a word is not UTF-8" check --rsdp $'\xff'
-
-# status NAME STATUS INPUT WORDS..: runs the program where nothing can be told on standard error.
+# status NAME STATUS INPUT ARGUMENTS..: runs the program where standard error is full.
 status() {
   local name=$1 status=$2 input=$3 wrong=""
   shift 3
@@ -227,18 +229,19 @@ status() {
   local got=$?
   [ "$got" = "$status" ] || wrong="status $got, not $status"
   [ ! -s "$scratch/out" ] || wrong="$wrong; standard output $(cat "$scratch/out")"
-  tell "$name" "$wrong"
+  count "$name" "$wrong"
 }
-status "no words, and standard error is full" 2 "$smallest"
+status "no arguments, and standard error is full" 2 "$smallest"
 status "a text that is no image, and standard error is full" 3 "$(text stray 'zz\n')" check --rsdp e0000
 status "an input that is a folder, and standard error is full" 4 "$scratch" check --rsdp e0000
 
 # ---- devices that fail
+# fails NAME STATUS: a run that ended with this status reported the device.
 fails() {
   local wrong=""
   [ "$2" = 4 ] || wrong="status $2, not 4"
   [ "$(cat "$scratch/err")" = 'acpiset: device' ] || wrong="$wrong; standard error $(cat "$scratch/err")"
-  tell "$1" "$wrong"
+  count "$1" "$wrong"
 }
 "$program" check --rsdp e0000 --through 3 <"$smallest" >/dev/full 2>"$scratch/err"
 fails "an output that is full" $?
@@ -260,8 +263,53 @@ got=$? wrong=""
 [ "$got" = 4 ] || wrong="status $got, not 4"
 [ ! -s "$scratch/out" ] || wrong="$wrong; standard output $(cat "$scratch/out")"
 [ "$(cat "$scratch/err")" = 'acpiset: out of memory' ] || wrong="$wrong; standard error $(cat "$scratch/err")"
-tell "a text of 60 MB in 60 MB of memory" "$wrong"
+count "a text of 60 MB in 60 MB of memory" "$wrong"
 rm "$scratch/text"
+
+# starved STATUS STDOUT ARGUMENTS..: refuses each request for memory in turn. Each run ends with this status and
+# standard output and no mention of memory, or it is out of memory.
+starved() {
+  local status=$1 out=$2 number=1 got wrong="" line outcome
+  shift 2
+  while
+    rm -f "$scratch/refused"
+    LD_PRELOAD="$scratch/refuse_memory.so" REFUSE_AT=$number REFUSED="$scratch/refused" \
+      "$program" "$@" <"$smallest" >"$scratch/out" 2>"$scratch/err"
+    got=$?
+    [ -e "$scratch/refused" ]
+  do
+    line=""
+    read -r line <"$scratch/err"
+    outcome="$got $line $(<"$scratch/out")"
+    case "$outcome" in
+      '4 acpiset: out of memory ') [ "$(wc -l <"$scratch/err")" = 1 ] || wrong="request $number: more than a line" ;;
+      *memory*) wrong="request $number: $outcome" ;;
+      "$status "*" $out") ;;
+      *) wrong="request $number: $outcome" ;;
+    esac
+    number=$((number + 1))
+  done
+  [ "$number" -gt 1 ] || wrong="no request was refused"
+  count "'$*', each request for memory refused in turn" "$wrong"
+}
+# A system without a compiler has that of the toolchain, which has no C library to link.
+compiler=$(command -v cc || command -v gcc || command -v clang || realpath "$(dirname "$(realpath "$(command -v rt)")")/../toolchain/bin/clang")
+flags='-shared -fPIC -nostdlib'
+[[ $compiler != */toolchain/bin/clang ]] || flags="$flags -fuse-ld=lld"
+if "$compiler" $flags -o "$scratch/refuse_memory.so" refuse_memory.c; then
+  starved 2 '' chek
+  starved 2 '' check --rspd e0000
+  starved 2 '' check --rsdp
+  starved 2 '' check --rsdp xyz
+  starved 2 '' check --through 0
+  starved 2 '' check --rsdp $'\xff'
+  starved 2 '' --help
+  starved 2 ''
+  starved 0 yes check --rsdp e0000 --through 3
+  starved 0 'rsdp 0xe0000' find
+else
+  count "requests for memory that are refused" "no C compiler to build tests/refuse_memory.c"
+fi
 
 printf '%d passed, %d failed\n' "$passed" "$failed"
 [ "$failed" = 0 ]

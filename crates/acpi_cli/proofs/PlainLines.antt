@@ -1,4 +1,4 @@
--- Command lines whose words stand a space apart, and whose values begin with no hyphen.
+-- Command lines whose arguments stand a space apart, and whose values begin with no hyphen.
 use Rattle.std.proofs.Common.{◌≡◌, ◌==◌, ◌&&◌, ◌∙◌, ℕ, Bool, List, [], ◌∷◌, Option, Some, None, true, false, cond, codes, refl, ap, sym, inl, inr}
 use Rattle.std.proofs.lemmas.Bool.Decides.{eqb_tells}
 use Rattle.std.specs.Prelude.{option_and_then}
@@ -41,7 +41,7 @@ decimal_is_plain (c ∷ cs) n e = elim (eqb_tells c 45) [
   | inr other ↦ record { first = c; rest = cs; is = refl; plain = other.0 }
 ]
 
--- what `clap` hands on, where each value begins with no hyphen
+-- what `clap` returns, where each value begins with no hyphen
 short_line_gives : (program cs : Text) (c n : ℕ) → (c == 45) ≡ false → hex_word 16 (c ∷ cs) ≡ Some n
     → asked (short_line program (c ∷ cs)) ≡ Some (check (Some n) BUILT)
 unfolding is_taken command_of command_line check_line find_line clap_on_literals

@@ -1,4 +1,4 @@
--- The command line as it is told to `clap`, and what its words ask for.
+-- The command line as it is declared to `clap`, and what its arguments ask for.
 use Rattle.std.specs.Prelude.{◌≡◌, ◌≤◌, ℕ, ◌&&◌, Bool, true, false, List, [], ◌∷◌, Option, Some, None}
 use Rattle.std.specs.Prelude.{if◌then◌else◌, codes, nat_le, option_and_then, option_map}
 use Rattle.std.specs.Str.{bytes_eq}
@@ -13,9 +13,9 @@ use Rattle.acpi_cli.specs.Words.{decimal_word, hex_word}
 use Rattle.acpi_cli.specs.declared.words.Job.{Job}
 use Rattle.acpi_cli.specs.declared.words.Job.TheVariants.{Check, Find}
 
--- ---- the command line, as `clap` is told it
+-- ---- the command line, as it is declared to `clap`
 
--- `--NAME VALUE`, at most once; complaints call the value by a name of its own
+-- `--NAME VALUE`, at most once; error messages call the value by a name of its own
 abbrev pub option_rule : Text → Rule
 option_rule name = record (new_rule name) { long = Some name; action = Some Set; value_names = 1 }
 
@@ -37,15 +37,15 @@ abbrev pub are_none : Kinds → Bool
 are_none [] = true
 are_none (kind ∷ kinds) = false
 
--- `clap` finds no fault with the words, of which the first is the program's name
+-- `clap` finds no fault with the arguments, of which the first is the program's name
 unfoldable pub is_taken : List Text → Bool
 is_taken words = are_none (fault_of command_line words)
 
--- the command that the words name, and the values of its options
+-- the command that the arguments name, and the values of its options
 unfoldable pub command_of : List Text → Option (Text × List Row)
 command_of = subcommand_of command_line
 
--- ---- what the words ask for
+-- ---- what the arguments ask for
 
 pub data Asked : Type 0 where
   -- the RSDP's address, where it is given, and the number of the last stage

@@ -1,4 +1,4 @@
--- What an engine reads, writes and answers.
+-- What an engine reads, writes and returns.
 use Rattle.std.specs.Prelude.{◌≡◌, ◌≤◌, ◌⊎◌, ◌+◌, ◌++◌, ℕ, List, length, take, codes, Option, Some, None, Result, Ok, Err, true}
 use Rattle.std.specs.Io.KnownBytes.{Appends, Consumes, IsAtEnd, Keeps}
 use Rattle.acpi_base.specs.Memory.{Memory}
@@ -28,7 +28,7 @@ pub record Device : Type 0 where
   pub failures_before : ℕ
   pub failures_after : ℕ
 
--- a counted one, of which `bytes` tells the bytes
+-- a counted one, whose bytes `bytes` gives
 abbrev pub device : {T : Type 0} → (T → Option (List ℕ)) → Counted T → Counted T → Device
 device bytes before after =
     record {
@@ -61,8 +61,8 @@ pub record ReadsImage (input : Device) (m : Memory) : Type 0 where
   pub spells : IsText text m
   pub sound : HasNotFailed input
 
--- the text that was read is refused with this fault, which is one of a text's own: no failed read, and no
--- want of memory
+-- the text that was read is refused with this fault, which is one of a text's own: no failed read, and not
+-- out of memory
 pub record ReadsRefused (input : Device) (fault : TextFault) : Type 0 where
   pub text : List ℕ
   pub read : Reads input text
@@ -76,8 +76,8 @@ pub record ReadsFailed (input : Device) : Type 0 where
   pub faultless : IsFaultlessFront text
   pub failed : HasFailed input
 
--- What was read: a whole text of the image, or a text that is refused, or the front of one, where a read
--- failed. Where memory was wanting, nothing is said of it but how much.
+-- What was read: a whole text of the image, or a text that is refused, or the prefix of one, where a read
+-- failed. Out of memory, nothing is said of it but how much.
 abbrev pub ReadsInput : Device → Result Memory RunFault → Type 0
 ReadsInput input (Ok image) = ReadsImage input image
 ReadsInput input (Err (run.Image fault)) = ReadsRefused input fault
@@ -94,22 +94,22 @@ Writes output bytes = Appends output.bytes_before output.bytes_after bytes
 abbrev pub WritesNothing : Device → Type 0
 WritesNothing output = Keeps output.bytes_before output.bytes_after × HasNotFailed output
 
--- What was written: the whole output, with its outcome; or nothing for want of memory; or a front of it
--- where the device failed.
+-- What was written: the whole output, with its outcome; or nothing, out of memory; or a prefix of it where
+-- the device failed.
 abbrev pub WritesOutput : Device → List ℕ → Outcome → Result Outcome RunFault → Type 0
-WritesOutput output bytes answer (Ok given) = (given ≡ answer) × Writes output bytes × HasNotFailed output
-WritesOutput output bytes answer (Err (run.Image fault)) = ⊥
-WritesOutput output bytes answer (Err run.Memory) = WritesNothing output
-WritesOutput output bytes answer (Err run.Device) = HasFailed output × ((n : ℕ) × Writes output (take n bytes))
+WritesOutput output bytes wanted (Ok returned) = (returned ≡ wanted) × Writes output bytes × HasNotFailed output
+WritesOutput output bytes wanted (Err (run.Image fault)) = ⊥
+WritesOutput output bytes wanted (Err run.Memory) = WritesNothing output
+WritesOutput output bytes wanted (Err run.Device) = HasFailed output × ((n : ℕ) × Writes output (take n bytes))
 
 -- ---- engines
 
--- What an engine does that tells something of an image. It reads a text of an image and writes what is to
--- be told of it, as far as memory and the writer go; or it writes nothing, where the text is refused, a
--- read failed or memory was wanting.
+-- What an engine does that reports on an image. It reads a text of an image and writes its report, as far as
+-- memory and the writer go; or it writes nothing, where the text is refused, a read failed or the program is
+-- out of memory.
 abbrev pub Runs : (Memory → List ℕ → Outcome → Type 0) → Device → Device → Result Outcome RunFault → Type 0
 Runs Tells input output result =
-    ((m : Memory) × (bytes : List ℕ) × (answer : Outcome) × ReadsImage input m × Tells m bytes answer × WritesOutput output bytes answer result)
+    ((m : Memory) × (bytes : List ℕ) × (returned : Outcome) × ReadsImage input m × Tells m bytes returned × WritesOutput output bytes returned result)
     ⊎ ((fault : RunFault) × (result ≡ Err fault) × ReadsInput input (Err fault) × WritesNothing output)
 
 -- the RSDP's address: the one that is given, else the one that is found
@@ -131,32 +131,32 @@ abbrev pub outcome_of : Verdict → Outcome
 outcome_of verdict.Yes = outcome.Yes
 outcome_of (verdict.No w) = outcome.No
 
--- a check tells the line of the verdict over the stages up to `last`, with its outcome
-pub record TellsVerdict (given : Option ℕ) (q : PolicyValue) (last : Stage) (m : Memory) (bytes : List ℕ) (answer : Outcome) : Type 0 where
+-- a check reports the line of the verdict over the stages up to `last`, with its outcome
+pub record TellsVerdict (given : Option ℕ) (q : PolicyValue) (last : Stage) (m : Memory) (bytes : List ℕ) (returned : Outcome) : Type 0 where
   pub address : ℕ
   pub rsdp : IsRsdpAddress given m address
-  pub told : Verdict
-  pub judged : IsVerdict last m (with_rsdp q address) told
-  pub line : bytes ≡ verdict_line told
-  pub outcome : answer ≡ outcome_of told
+  pub reported : Verdict
+  pub judged : IsVerdict last m (with_rsdp q address) reported
+  pub line : bytes ≡ verdict_line reported
+  pub outcome : returned ≡ outcome_of reported
 
 -- there is no RSDP to start from
-pub record TellsNoRsdp (given : Option ℕ) (m : Memory) (bytes : List ℕ) (answer : Outcome) : Type 0 where
+pub record TellsNoRsdp (given : Option ℕ) (m : Memory) (bytes : List ℕ) (returned : Outcome) : Type 0 where
   pub none : HasNoRsdp given m
   pub line : bytes ≡ codes "no rsdp\n"
-  pub outcome : answer ≡ outcome.No
+  pub outcome : returned ≡ outcome.No
 
--- what a check tells of an image
+-- what a check reports on an image
 abbrev pub TellsCheck : Option ℕ → PolicyValue → Stage → Memory → List ℕ → Outcome → Type 0
-TellsCheck given q last m bytes answer = TellsVerdict given q last m bytes answer ⊎ TellsNoRsdp given m bytes answer
+TellsCheck given q last m bytes returned = TellsVerdict given q last m bytes returned ⊎ TellsNoRsdp given m bytes returned
 
--- what a search tells of an image: where it finds the RSDP, or that it finds none
+-- what a search reports on an image: where it finds the RSDP, or that it finds none
 abbrev pub TellsFound : Memory → List ℕ → Outcome → Type 0
-TellsFound m bytes answer =
-    ((p : ℕ) × IsFound m p × (bytes ≡ codes "rsdp " ++ hex_text p ++ codes "\n") × (answer ≡ outcome.Yes))
-    ⊎ (IsNowhere m × (bytes ≡ codes "rsdp none\n") × (answer ≡ outcome.No))
+TellsFound m bytes returned =
+    ((p : ℕ) × IsFound m p × (bytes ≡ codes "rsdp " ++ hex_text p ++ codes "\n") × (returned ≡ outcome.Yes))
+    ⊎ (IsNowhere m × (bytes ≡ codes "rsdp none\n") × (returned ≡ outcome.No))
 
--- what a job tells of an image
+-- what a job reports on an image
 abbrev pub TellsJob : Job → Memory → List ℕ → Outcome → Type 0
 TellsJob (Check given policy last) = TellsCheck given policy last
 TellsJob Find = TellsFound

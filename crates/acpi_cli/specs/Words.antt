@@ -1,4 +1,4 @@
--- What the words of the command line say.
+-- Numbers among the arguments of the command line.
 use Rattle.std.specs.Prelude.{ℕ, Bool, ◌&&◌, List, Option, Some, None, if◌then◌else◌}
 use Rattle.std.specs.Prelude.{codes, drop, length, nat_eq, nat_le, nat_lt}
 use Rattle.std.specs.List.{list_all, starts_with}
@@ -12,7 +12,7 @@ abbrev pub is_numeral : ℕ → ℕ → List ℕ → Bool
 is_numeral base most text =
     nat_lt 0 (length text) && (nat_le (length text) most && list_all (λ c. is_digit c base) text)
 
--- the number that so many digits say
+-- the number that so many digits spell
 abbrev pub number_word : ℕ → ℕ → List ℕ → Option ℕ
 number_word base most text =
     if is_numeral base most text then Some (digits_value base text) else None

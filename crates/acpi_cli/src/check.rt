@@ -5,7 +5,7 @@ ghost use Rattle.acpi_base.specs.Codes.{stage_number};
 ghost use Rattle.acpi_base.specs.declared.stage.TheConstants.{BUILT};
 ghost use Rattle.acpi_cli.specs.Engine.{device, HasNoRsdp, IsRsdpAddress, Runs, TellsCheck, outcome_of};
 
-use crate::devices::{Answer, read_input, write_answer};
+use crate::devices::{Output, read_input, write_output};
 use crate::outcome::{Outcome, RunFault};
 use acpi_base::{Image, Policy, Stage, Tally, Verdict, find_rsdp, verdict_text};
 use acpi_check::check_to;
@@ -33,37 +33,37 @@ fn rsdp_address(image: &Image, given: Option<u64>) -> Option<u64>
     }
 }
 
-/// What a check tells of the image.
-fn check_answer(
+/// What a check reports on the image.
+fn check_output(
     alloc: Global,
     image: &Image,
     given: Option<u64>,
     mut policy: Policy,
     last: Stage,
-) -> Result<Answer, AllocError>
+) -> Result<Output, AllocError>
     requires { stage_number last ≤ BUILT }
-    ensures { IfOk result (λ answer. TellsCheck given policy last image.now answer.bytes.items answer.outcome) }
+    ensures { IfOk result (λ output. TellsCheck given policy last image.now output.bytes.items output.outcome) }
 {
     let Some(address) = rsdp_address(image, given) else {
         let bytes = Vec::from_slice(alloc, b"no rsdp\n")?;
         let outcome = Outcome::No;
-        return Ok(Answer { bytes, outcome });
+        return Ok(Output { bytes, outcome });
     };
     policy.set_rsdp(address);
     let verdict = check_to(alloc, image, &policy, last)?;
     let bytes = verdict_text(alloc, &verdict)?;
     let outcome = outcome_of(&verdict);
-    Ok(Answer { bytes, outcome })
+    Ok(Output { bytes, outcome })
 }
 
 /// Checks the tables of the image whose text is on `reader`, from the RSDP at the address `rsdp`, or
 /// where it is `None` from the one that is found, up to the stage `last`. The policy's own address is
 /// not looked at.
 ///
-/// Writes the verdict's line: `yes`, and answers `Yes`, or `no` with the first fault, and answers `No`.
-/// Where no address is given and none is found it writes `no rsdp` and answers `No`. Nothing is written
+/// Writes the verdict's line: `yes`, and returns `Yes`, or `no` with the first fault, and returns `No`.
+/// Where no address is given and none is found it writes `no rsdp` and returns `No`. Nothing is written
 /// before the image is read and judged. Refuses `Image` where the text is none, `Memory`, and `Device`
-/// where a read or a write failed; what went out then is a front of the line.
+/// where a read or a write failed; what was written then is a prefix of the line.
 pub fn run_check<R: Read, W: Write>(
     alloc: Global,
     reader: &mut Tally<R>,
@@ -79,8 +79,8 @@ pub fn run_check<R: Read, W: Write>(
         result }
 {
     let image = read_input(alloc, reader)?;
-    let Ok(answer) = check_answer(alloc, &image, rsdp, policy, last) else {
+    let Ok(output) = check_output(alloc, &image, rsdp, policy, last) else {
         return Err(RunFault::Memory);
     };
-    write_answer(writer, &answer)
+    write_output(writer, &output)
 }

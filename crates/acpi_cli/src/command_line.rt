@@ -1,4 +1,4 @@
-//! The command line as it is told to `clap`. No other module builds its commands.
+//! The command line as it is declared to `clap`. No other module builds its commands.
 
 ghost use Rattle.std.specs.Prelude.{◌≡◌, ◌≢◌, IfErr, IfOk, false, map, option_map, true};
 ghost use Rattle.std.specs.String.{string_bytes};
@@ -11,7 +11,7 @@ use clap::error::ErrorKind;
 use clap::{Arg, ArgAction, ArgMatches, Command, Error};
 use std::alloc::{AllocError, Global};
 
-/// Reads the words by the program's command line.
+/// Reads the arguments by the program's command line.
 pub fn parse<'a>(alloc: Global, words: &'a [String]) -> Result<ArgMatches<'a>, WordFault>
     ensures taken { IfOk result (λ matches. is_taken (map string_bytes words.now) ≡ true) }
     ensures command { IfOk result (λ matches.
@@ -28,11 +28,14 @@ pub fn parse<'a>(alloc: Global, words: &'a [String]) -> Result<ArgMatches<'a>, W
     }
 }
 
-/// What is wrong with words that are not taken, in a line: the first word that is not known, that is
-/// repeated or that wants a value. `None` where the command is missing, where help is asked for, or where
-/// there is no memory to say it.
-pub fn complaint(alloc: Global, words: &[String]) -> Option<String> {
+/// `clap`'s error message on arguments that it refuses, in a line: the first argument that is not known,
+/// that is repeated or that has no value. `None` where the command is missing, where help is asked for,
+/// or where the program is out of memory.
+pub fn clap_message(alloc: Global, words: &[String]) -> Option<String> {
     let error = acpiset(alloc).ok()?.try_get_matches_from(words).err()?;
+    if fault_of(&error) == WordFault::Memory {
+        return None;
+    }
     let text = format!(in alloc; "{error}").ok()?;
     let line = text.lines().next()?;
     String::from_str(alloc, line.strip_prefix("error: ")?).ok()
@@ -73,7 +76,7 @@ fn check<'a>(alloc: Global) -> Result<Command<'a>, AllocError>
         .arg(option(alloc, "through", "N"))
 }
 
-/// `--NAME VALUE`, at most once. What the value is called shows only in complaints.
+/// `--NAME VALUE`, at most once. What the value is called shows only in error messages.
 fn option<'a>(alloc: Global, name: &'a str, value: &'a str) -> Arg<'a>
     ensures rule { rule_of result ≡ option_rule name.entry.now }
     ensures own { result.global ≡ false }

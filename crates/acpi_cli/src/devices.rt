@@ -10,14 +10,15 @@ use acpi_base::{DeviceFailed, Image, Tally, TextFault, read_image};
 use std::alloc::Global;
 use std::io::{Read, Write};
 
-/// What an engine is to write, and what it then answers.
+/// What an engine is to write, and the outcome that it then returns.
 #[derive(Debug, Drop)]
-pub struct Answer {
+pub struct Output {
     pub bytes: Vec<u8>,
     pub outcome: Outcome,
 }
 
-/// The image whose text is on `reader`.
+/// The image whose text is on `reader`. Refuses `Image` where the text is none, `Memory`, and `Device`
+/// where a read failed.
 pub fn read_input<R: Read>(alloc: Global, reader: &mut Tally<R>) -> Result<Image, RunFault>
     ensures { ReadsInput (device R.remaining reader.old reader.new) result }
 {
@@ -29,12 +30,12 @@ pub fn read_input<R: Read>(alloc: Global, reader: &mut Tally<R>) -> Result<Image
     }
 }
 
-/// Writes the answer's bytes, and gives its outcome.
-pub fn write_answer<W: Write>(writer: &mut Tally<W>, answer: &Answer) -> Result<Outcome, RunFault>
-    ensures { WritesOutput (device W.contents writer.old writer.new) answer.now.bytes.items answer.now.outcome result }
+/// Writes the output's bytes, and returns its outcome. Refuses `Device` where a write failed.
+pub fn write_output<W: Write>(writer: &mut Tally<W>, output: &Output) -> Result<Outcome, RunFault>
+    ensures { WritesOutput (device W.contents writer.old writer.new) output.now.bytes.items output.now.outcome result }
 {
-    match write_whole(writer, &answer.bytes) {
-        Ok(()) => Ok(answer.outcome),
+    match write_whole(writer, &output.bytes) {
+        Ok(()) => Ok(output.outcome),
         Err(DeviceFailed) => Err(RunFault::Device),
     }
 }

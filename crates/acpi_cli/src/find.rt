@@ -3,34 +3,34 @@
 ghost use Rattle.std.specs.Prelude.{IfOk};
 ghost use Rattle.acpi_cli.specs.Engine.{device, Runs, TellsFound};
 
-use crate::devices::{Answer, read_input, write_answer};
+use crate::devices::{Output, read_input, write_output};
 use crate::outcome::{Outcome, RunFault};
 use acpi_base::{Image, Tally, find_rsdp};
 use std::alloc::{AllocError, Global};
 use std::io::{Read, Write};
 
-/// What a search tells of the image.
+/// What a search reports on the image.
 #[tactic(auto, unfolding(acpi_base::specs::WitnessText::hex_text))]
-fn find_answer(alloc: Global, image: &Image) -> Result<Answer, AllocError>
-    ensures { IfOk result (λ answer. TellsFound image.now answer.bytes.items answer.outcome) }
+fn find_output(alloc: Global, image: &Image) -> Result<Output, AllocError>
+    ensures { IfOk result (λ output. TellsFound image.now output.bytes.items output.outcome) }
 {
     let Some(address) = find_rsdp(image) else {
         let bytes = Vec::from_slice(alloc, b"rsdp none\n")?;
         let outcome = Outcome::No;
-        return Ok(Answer { bytes, outcome });
+        return Ok(Output { bytes, outcome });
     };
     let bytes = format!(in alloc; "rsdp 0x{address:x}\n")?.into_bytes();
     let outcome = Outcome::Yes;
-    Ok(Answer { bytes, outcome })
+    Ok(Output { bytes, outcome })
 }
 
 /// Looks for the RSDP in the image whose text is on `reader`, at the multiples of 16 from E0000h to
-/// FFFF0h.
+/// FFFF0h (ACPI 6.5, 5.2.5.1).
 ///
-/// Writes `rsdp` and the least address at which it is found, in hex, and answers `Yes`; or `rsdp none`,
-/// and answers `No`. Nothing is written before the image is read. Refuses `Image` where the text is
-/// none, `Memory`, and `Device` where a read or a write failed; what went out then is a front of the
-/// line.
+/// Writes `rsdp` and the least address at which it is found, in hex, and returns `Yes`; or `rsdp none`,
+/// and returns `No`. Nothing is written before the image is read. Refuses `Image` where the text is
+/// none, `Memory`, and `Device` where a read or a write failed; what was written then is a prefix of
+/// the line.
 pub fn run_find<R: Read, W: Write>(
     alloc: Global,
     reader: &mut Tally<R>,
@@ -42,8 +42,8 @@ pub fn run_find<R: Read, W: Write>(
         result }
 {
     let image = read_input(alloc, reader)?;
-    let Ok(answer) = find_answer(alloc, &image) else {
+    let Ok(output) = find_output(alloc, &image) else {
         return Err(RunFault::Memory);
     };
-    write_answer(writer, &answer)
+    write_output(writer, &output)
 }

@@ -1,4 +1,4 @@
-//! The program: reads its words, and checks the image on standard input or looks for the RSDP in it.
+//! The program: reads its arguments, and checks the image on standard input or looks for the RSDP in it.
 #![tactic(auto)]
 
 mod check;
@@ -9,6 +9,7 @@ mod number_words;
 mod outcome;
 #[cfg(test)]
 mod tests;
+mod usage;
 mod words;
 
 ghost use Rattle.std.specs.Prelude.{◌≡◌, ◌≢◌, ◌⊎◌, IsNone, IsSome, map};
@@ -23,13 +24,14 @@ use outcome::{Outcome, RunFault, status_of};
 use std::alloc::Global;
 use std::io::{ErrorKind, Read, Write};
 use std::process::ExitCode;
-use words::{Job, USAGE, WordFault, read_words, wrong_word};
+use usage::Usage;
+use words::{Job, WordFault, error_message, read_words};
 
-/// The exit status where the words are refused.
-const REFUSED_WORDS: u8 = 2;
+/// The exit status where the arguments are refused.
+const REFUSED: u8 = 2;
 
-/// The exit status where no memory was found.
-const NO_MEMORY: u8 = 4;
+/// The exit status where the program is out of memory.
+const OUT_OF_MEMORY: u8 = 4;
 
 /// Does the job on a reader and a writer.
 fn do_job<R: Read, W: Write>(
@@ -47,8 +49,8 @@ fn do_job<R: Read, W: Write>(
     }
 }
 
-/// Runs the job on standard input and output, and tells on standard error why it gave up. What cannot be
-/// told there changes nothing in the exit status.
+/// Runs the job on standard input and output, and reports on standard error why it gave up. A failed write
+/// there does not change the exit status.
 fn run(rt: &HostRuntime, job: Job) -> u8
     requires { IsBuilt job }
     ensures { result ≢ 2 }
@@ -56,34 +58,34 @@ fn run(rt: &HostRuntime, job: Job) -> u8
     let alloc = rt.alloc();
     let mut reader = Tally::new(rt.stdin());
     let mut writer = Tally::new(rt.stdout());
-    let answer = do_job(alloc, &mut reader, &mut writer, job);
-    if let Err(fault) = &answer {
+    let result = do_job(alloc, &mut reader, &mut writer, job);
+    if let Err(fault) = &result {
         let _ = eprintln!(rt; "acpiset: {fault}");
     }
-    status_of(&answer)
+    status_of(&result)
 }
 
-/// Tells on standard error what is wrong with the words, and which words there are.
-fn refuse(rt: &HostRuntime, wrong: Option<&str>) -> u8
+/// Reports on standard error what is wrong with the arguments, where it can be said, and the usage.
+fn refuse(rt: &HostRuntime, message: Option<&str>) -> u8
     ensures { result ≡ 2 }
 {
-    let _ = match wrong {
-        Some(wrong) => eprintln!(rt; "acpiset: {wrong}\n\n{USAGE}"),
-        None => eprintln!(rt; "acpiset: {USAGE}"),
+    let _ = match message {
+        Some(message) => eprintln!(rt; "acpiset: {message}\n\n{Usage}"),
+        None => eprintln!(rt; "acpiset: {Usage}"),
     };
-    REFUSED_WORDS
+    REFUSED
 }
 
-/// Tells on standard error that there is no memory for the words.
+/// Reports on standard error that the program is out of memory.
 fn refuse_memory(rt: &HostRuntime) -> u8
     ensures { result ≡ 4 }
 {
     let _ = eprintln!(rt; "acpiset: {}", WordFault::Memory);
-    NO_MEMORY
+    OUT_OF_MEMORY
 }
 
-/// The words of the command line, the program's own name first. Refuses `Words` where one is not UTF-8.
-fn words_given(rt: &HostRuntime) -> Result<Vec<String>, WordFault> {
+/// The arguments of the command line, the program's own name first. Refuses `Words` where one is not UTF-8.
+fn arguments(rt: &HostRuntime) -> Result<Vec<String>, WordFault> {
     match std::env::args(rt) {
         Ok(words) => words.collect(rt.alloc()).map_err(|_| WordFault::Memory),
         Err(error) if error.kind() == ErrorKind::InvalidData => Err(WordFault::Words),
@@ -91,22 +93,22 @@ fn words_given(rt: &HostRuntime) -> Result<Vec<String>, WordFault> {
     }
 }
 
-/// Does what the words ask for, and answers the exit status.
+/// Does what the arguments ask for, and returns the exit status.
 fn obey(rt: &HostRuntime, words: &[String]) -> u8
     ensures refused { IsNone (asked (map string_bytes words.now)) → (result ≡ 2) ⊎ (result ≡ 4) }
     ensures taken { IsSome (asked (map string_bytes words.now)) → result ≢ 2 }
 {
     match read_words(rt.alloc(), words) {
         Ok(job) => run(rt, job),
-        Err(WordFault::Words) => refuse(rt, wrong_word(rt.alloc(), words).as_deref()),
+        Err(WordFault::Words) => refuse(rt, error_message(rt.alloc(), words).as_deref()),
         Err(WordFault::Memory) => refuse_memory(rt),
     }
 }
 
 fn main(rt: HostRuntime) -> std::io::Result<ExitCode> {
-    let status = match words_given(&rt) {
+    let status = match arguments(&rt) {
         Ok(words) => obey(&rt, words.as_slice()),
-        Err(WordFault::Words) => refuse(&rt, Some("a word is not UTF-8")),
+        Err(WordFault::Words) => refuse(&rt, Some("an argument is not UTF-8")),
         Err(WordFault::Memory) => refuse_memory(&rt),
     };
     Ok(ExitCode::from(status))

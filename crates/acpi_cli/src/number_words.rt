@@ -1,4 +1,4 @@
-//! Numbers among the words of the command line.
+//! Numbers among the arguments of the command line.
 
 ghost use Rattle.std.specs.Prelude.{◌≡◌, ◌≤◌, length, if◌then◌else◌, Some, None};
 ghost use Rattle.std.specs.List.{list_all};
@@ -6,15 +6,15 @@ ghost use Rattle.std.specs.Char.{is_digit};
 ghost use Rattle.std.specs.Str.Parse.{digits_value};
 ghost use Rattle.acpi_cli.specs.Words.{without_0x, number_word, hex_word, decimal_word};
 
-/// The number that `text` says by 1 to 16 hex digits of either case, with `0x` before them or
-/// without.
+/// The number that `text` spells in 1 to 16 hex digits of either case, with `0x` before them or
+/// without. `None` where it is anything else.
 pub fn hex_number(text: &str) -> Option<u64>
     ensures { result ≡ hex_word 16 text.now }
 {
     number(without_prefix(text.as_bytes()), 16, 16)
 }
 
-/// The number that `text` says by 1 to `most` decimal digits.
+/// The number that `text` spells in 1 to `most` decimal digits. `None` where it is anything else.
 pub fn decimal_number(text: &str, most: usize) -> Option<u64>
     requires { most ≤ 16 }
     ensures { result ≡ decimal_word most text.now }
@@ -31,7 +31,7 @@ fn without_prefix(text: &[u8]) -> &[u8]
     }
 }
 
-/// The number of 1 to `most` digits.
+/// The number that 1 to `most` digits spell.
 fn number(digits: &[u8], base: u32, most: usize) -> Option<u64>
     requires low { 2 ≤ base }
     requires high { base ≤ 16 }

@@ -1,4 +1,4 @@
-//! What an engine answers, and the exit status that goes with it.
+//! What an engine returns, and the exit status that goes with it.
 
 ghost use Rattle.std.specs.Prelude.{◌≡◌};
 ghost use Rattle.acpi_cli.specs.Outcome.{exit_status};
@@ -6,7 +6,7 @@ ghost use Rattle.acpi_cli.specs.Outcome.{exit_status};
 use acpi_base::TextFault;
 use thiserror::Error;
 
-/// What an engine answers where all went well.
+/// What an engine returns where all went well.
 #[derive(Clone, Copy, Debug, PartialEq, Eq)]
 pub enum Outcome {
     /// What was asked holds.
@@ -21,7 +21,7 @@ pub enum RunFault {
     /// The text that was read is no image text: one of its own faults, never `Read` or `Memory`.
     #[error("{0}")]
     Image(TextFault),
-    /// No memory was found.
+    /// Out of memory.
     #[error("out of memory")]
     Memory,
     /// A read or a write failed.
@@ -30,11 +30,11 @@ pub enum RunFault {
 }
 
 /// The program's exit status: 0 for `Yes`, 1 for `No`, 3 where the text is refused, and 4 where memory
-/// or a device failed. Words that are refused have status 2, before any engine runs.
-pub fn status_of(answer: &Result<Outcome, RunFault>) -> u8
-    ensures { result ≡ exit_status answer.now }
+/// or a device failed. Arguments that are refused have status 2, before any engine runs.
+pub fn status_of(run: &Result<Outcome, RunFault>) -> u8
+    ensures { result ≡ exit_status run.now }
 {
-    match answer {
+    match run {
         Ok(Outcome::Yes) => 0,
         Ok(Outcome::No) => 1,
         Err(RunFault::Image(_)) => 3,

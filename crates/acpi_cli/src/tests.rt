@@ -1,142 +1,141 @@
 //! The engines, over texts and outputs in memory.
 
+mod builder;
 mod fadts;
+
+ghost use Rattle.std.specs.Prelude.{◌≤◌};
+ghost use Rattle.acpi_base.specs.Codes.{stage_number};
+ghost use Rattle.acpi_base.specs.declared.stage.TheConstants.{BUILT};
 
 use crate::check::run_check;
 use crate::find::run_find;
 use crate::outcome::{Outcome, RunFault, status_of};
 use acpi_base::{Policy, Stage, Tally, TextFault};
-use std::alloc::{AllocError, Global};
+use builder::{Piece, RSDP, header, image_text, rsdt, set, table};
+use std::alloc::Global;
 use std::io::{self, Read, Write};
+use std::process::Abort;
 use std::test::Fail;
 
-/// An RSDP of the short form at E0000h, which names an RSDT at 1000h.
-const RSDP: &[u8] = b"@e0000
-52 53 44 20 50 54 52 20 4b 41 41 41 41 41 41 00
-00 10 00 00
-";
-
-/// The same bytes with no address before them.
-const RSDP_BYTES: &[u8] = b"52 53 44 20 50 54 52 20 4b 41 41 41 41 41 41 00
-00 10 00 00
-";
-
-/// An RSDT with no slot.
-const RSDT: &[u8] = b"@1000
-52 53 44 54 24 00 00 00 01 0a 41 41 41 41 41 41
-41 41 41 41 41 41 41 41 01 00 00 00 41 41 41 41
-01 00 00 00
-";
-
-/// An RSDT that lists a table at 2000h.
-const RSDT_OF_ONE: &[u8] = b"@1000
-52 53 44 54 28 00 00 00 01 e6 41 41 41 41 41 41
-41 41 41 41 41 41 41 41 01 00 00 00 41 41 41 41
-01 00 00 00 00 20 00 00
-";
-
 /// An RSDP of the extended form at E0000h, which names an RSDT at 1000h and an XSDT at 1100h.
-const EXTENDED: &[u8] = b"@e0000
-52 53 44 20 50 54 52 20 49 41 41 41 41 41 41 02
-00 10 00 00 24 00 00 00 00 11 00 00 00 00 00 00
-cb 00 00 00
-";
+const EXTENDED_RSDP: Piece<'static> = (
+    0xe0000,
+    b"RSD PTR \x49AAAAAA\x02\x00\x10\x00\x00\x24\x00\x00\x00\x00\x11\x00\x00\x00\x00\x00\x00\xcb\x00\x00\x00",
+);
 
-/// An XSDT with no slot.
-const XSDT: &[u8] = b"@1100
-58 53 44 54 24 00 00 00 01 04 41 41 41 41 41 41
-41 41 41 41 41 41 41 41 01 00 00 00 41 41 41 41
-01 00 00 00
-";
-
-fn joined(alloc: Global, parts: &[&[u8]]) -> Result<Vec<u8>, AllocError> {
-    let mut text = Vec::new(alloc);
-    for part in parts {
-        text.extend_from_slice(part)?;
-    }
-    Ok(text)
-}
-
-/// What a check of the text through stage 3 answers and writes.
+/// What a check of the text through the stage `last` returns and writes.
 fn checked(
     alloc: Global,
-    parts: &[&[u8]],
+    text: &[u8],
     rsdp: Option<u64>,
-) -> Result<(Result<Outcome, RunFault>, Vec<u8>), Fail> {
-    let text = joined(alloc, parts)?;
+    last: Stage,
+) -> Result<(Result<Outcome, RunFault>, Vec<u8>), Fail>
+    requires { stage_number last ≤ BUILT }
+{
     let policy = Policy::new(alloc, 0, 24).map_err(|_| "a policy")?;
-    let mut reader = Tally::new(text.as_slice());
+    let mut reader = Tally::new(text);
     let mut writer = Tally::new(Vec::new(alloc));
-    let answer = run_check(alloc, &mut reader, &mut writer, rsdp, policy, Stage::Tables);
-    Ok((answer, writer.into_inner()))
+    let result = run_check(alloc, &mut reader, &mut writer, rsdp, policy, last);
+    Ok((result, writer.into_inner()))
 }
 
-/// What a search in the text answers and writes.
-fn found(alloc: Global, parts: &[&[u8]]) -> Result<(Result<Outcome, RunFault>, Vec<u8>), Fail> {
-    let text = joined(alloc, parts)?;
-    let mut reader = Tally::new(text.as_slice());
+/// A check of the text, from the RSDP at E0000h through the stage `last`, has this status and writes this line.
+fn expect_check(
+    rt: &impl Abort,
+    alloc: Global,
+    text: &[u8],
+    last: Stage,
+    status: u8,
+    line: &str,
+) -> Result<(), Fail>
+    requires { stage_number last ≤ BUILT }
+{
+    let (result, written) = checked(alloc, text, Some(0xe0000), last)?;
+    assert_eq!(rt; written.as_slice(), line.as_bytes(), "{line}");
+    assert_eq!(rt; status_of(&result), status, "{line}");
+    Ok(())
+}
+
+/// A check of the pieces through stage 3 has this status and writes this line.
+fn expect_tables(
+    rt: &impl Abort,
+    alloc: Global,
+    pieces: &[Piece],
+    status: u8,
+    line: &str,
+) -> Result<(), Fail> {
+    let text = image_text(alloc, pieces)?;
+    expect_check(rt, alloc, text.as_bytes(), Stage::Tables, status, line)
+}
+
+/// A search in the pieces returns this and writes this line.
+fn expect_found(
+    rt: &impl Abort,
+    alloc: Global,
+    pieces: &[Piece],
+    outcome: Outcome,
+    line: &str,
+) -> Result<(), Fail> {
+    let text = image_text(alloc, pieces)?;
+    let mut reader = Tally::new(text.as_bytes());
     let mut writer = Tally::new(Vec::new(alloc));
-    let answer = run_find(alloc, &mut reader, &mut writer);
-    Ok((answer, writer.into_inner()))
+    let result = run_find(alloc, &mut reader, &mut writer);
+    assert_eq!(rt; writer.into_inner().as_slice(), line.as_bytes(), "{line}");
+    assert_eq!(rt; result, Ok(outcome), "{line}");
+    Ok(())
 }
 
 #[test]
 fn sets_that_are_clean(rt: HostRuntime) -> Result<(), Fail> {
+    let alloc = rt.alloc();
+    let root = rsdt(alloc, &[])?;
+    expect_tables(&rt, alloc, &[RSDP, (0x1000, &root)], 0, "yes\n")?;
+    let xsdt = table(alloc, b"XSDT", 1, &[])?;
+    expect_tables(&rt, alloc, &[EXTENDED_RSDP, (0x1100, &xsdt)], 0, "yes\n")?;
     // The RSDT in two pieces that touch, the later one first.
-    let back: &[u8] = b"@1014
-41 41 41 41 01 00 00 00 41 41 41 41 01 00 00 00
-";
-    let front: &[u8] = b"@1000
-52 53 44 54 24 00 00 00 01 0a 41 41 41 41 41 41
-41 41 41 41
-";
-    let sets: [&[&[u8]]; 3] = [&[RSDP, RSDT], &[RSDP, back, front], &[EXTENDED, XSDT]];
-    for parts in sets {
-        let (answer, line) = checked(rt.alloc(), parts, Some(0xe0000))?;
-        assert_eq!(rt; answer, Ok(Outcome::Yes));
-        assert_eq!(rt; line.as_slice(), b"yes\n".as_slice());
-        assert_eq!(rt; status_of(&answer), 0);
-    }
-    Ok(())
+    let (first, rest) = root.split_at_checked(20).ok_or("an RSDT of 36 bytes")?;
+    expect_tables(
+        &rt,
+        alloc,
+        &[RSDP, (0x1014, rest), (0x1000, first)],
+        0,
+        "yes\n",
+    )
 }
 
 #[test]
 fn sets_with_a_fault(rt: HostRuntime) -> Result<(), Fail> {
-    let wrong_sum: &[u8] = b"@e0000
-52 53 44 20 50 54 52 20 4a 41 41 41 41 41 41 00
-00 10 00 00
-";
-    let ragged: &[u8] = b"@1000
-52 53 44 54 26 00 00 00 01 08 41 41 41 41 41 41
-41 41 41 41 41 41 41 41 01 00 00 00 41 41 41 41
-01 00 00 00 00 00
-";
-    let cut: &[u8] = b"@1000
-52 53 44 54 24 00 00 00 01 0a 41 41 41 41 41 41
-41 41 41 41
-";
-    let huge: &[u8] = b"@2000
-46 41 43 50 ff ff ff ff 01 00 41 41 41 41 41 41
-41 41 41 41 41 41 41 41 01 00 00 00 41 41 41 41
-01 00 00 00
-";
-    let sets: [(&[&[u8]], &[u8]); 5] = [
-        (&[], b"no 1 RsdpOut 0xe0000 0x0 0x0\n"),
-        (&[wrong_sum, RSDT], b"no 1 RsdpSum 0xe0000 0x0 0x0\n"),
-        (&[RSDP, cut], b"no 2 RootHeaderOut 0x1000 0x0 0x0\n"),
-        (&[RSDP, ragged], b"no 2 RootRagged 0x1000 0x0 0x0\n"),
-        (
-            &[RSDP, RSDT_OF_ONE, huge],
-            b"no 3 TableOut 0x0 0x2000 0x0\n",
-        ),
-    ];
-    for (parts, wanted) in sets {
-        let (answer, line) = checked(rt.alloc(), parts, Some(0xe0000))?;
-        assert_eq!(rt; answer, Ok(Outcome::No));
-        assert_eq!(rt; line.as_slice(), wanted);
-        assert_eq!(rt; status_of(&answer), 1);
-    }
-    Ok(())
+    let alloc = rt.alloc();
+    expect_tables(&rt, alloc, &[], 1, "no 1 RsdpOut 0xe0000 0x0 0x0\n")?;
+    let wrong_sum: Piece = (0xe0000, b"RSD PTR \x4aAAAAAA\x00\x00\x10\x00\x00");
+    let root = rsdt(alloc, &[])?;
+    expect_tables(
+        &rt,
+        alloc,
+        &[wrong_sum, (0x1000, &root)],
+        1,
+        "no 1 RsdpSum 0xe0000 0x0 0x0\n",
+    )?;
+    let (cut, _) = root.split_at_checked(20).ok_or("an RSDT of 36 bytes")?;
+    expect_tables(
+        &rt,
+        alloc,
+        &[RSDP, (0x1000, cut)],
+        1,
+        "no 2 RootHeaderOut 0x1000 0x0 0x0\n",
+    )?;
+    let ragged = table(alloc, b"RSDT", 1, &[0, 0])?;
+    expect_tables(
+        &rt,
+        alloc,
+        &[RSDP, (0x1000, &ragged)],
+        1,
+        "no 2 RootRagged 0x1000 0x0 0x0\n",
+    )?;
+    let of_one = rsdt(alloc, &[0x2000])?;
+    let huge = header(alloc, b"FACP", u32::MAX, 1)?;
+    let pieces = [RSDP, (0x1000, &of_one), (0x2000, &huge)];
+    expect_tables(&rt, alloc, &pieces, 1, "no 3 TableOut 0x0 0x2000 0x0\n")
 }
 
 #[test]
@@ -149,47 +148,54 @@ fn texts_that_are_refused(rt: HostRuntime) -> Result<(), Fail> {
         (b"@ffffffffffffffff\n01\n02", TextFault::PastEnd { line: 3 }),
     ];
     for (text, fault) in texts {
-        let (answer, line) = checked(rt.alloc(), &[text], Some(0xe0000))?;
-        assert_eq!(rt; answer, Err(RunFault::Image(fault)));
-        assert!(rt; line.is_empty());
-        assert_eq!(rt; status_of(&answer), 3);
+        let (result, written) = checked(rt.alloc(), text, Some(0xe0000), Stage::Tables)?;
+        assert_eq!(rt; result, Err(RunFault::Image(fault)));
+        assert!(rt; written.is_empty());
+        assert_eq!(rt; status_of(&result), 3);
     }
     Ok(())
 }
 
 #[test]
 fn an_rsdp_that_is_looked_for(rt: HostRuntime) -> Result<(), Fail> {
-    let sets: [(&[&[u8]], &[u8]); 5] = [
-        (&[RSDP, RSDT], b"rsdp 0xe0000\n"),
-        (&[], b"rsdp none\n"),
-        (&[b"@e0008\n", RSDP_BYTES], b"rsdp none\n"),
-        (
-            &[b"@f0000\n", RSDP_BYTES, b"@e0010\n", RSDP_BYTES],
-            b"rsdp 0xe0010\n",
-        ),
-        (&[b"@ffff0\n", RSDP_BYTES], b"rsdp 0xffff0\n"),
-    ];
-    for (parts, wanted) in sets {
-        let (answer, line) = found(rt.alloc(), parts)?;
-        let outcome = if wanted == b"rsdp none\n".as_slice() {
-            Outcome::No
-        } else {
-            Outcome::Yes
-        };
-        assert_eq!(rt; line.as_slice(), wanted);
-        assert_eq!(rt; answer, Ok(outcome));
-    }
-    Ok(())
+    let alloc = rt.alloc();
+    let root = rsdt(alloc, &[])?;
+    let (_, rsdp) = RSDP;
+    expect_found(
+        &rt,
+        alloc,
+        &[RSDP, (0x1000, &root)],
+        Outcome::Yes,
+        "rsdp 0xe0000\n",
+    )?;
+    expect_found(&rt, alloc, &[], Outcome::No, "rsdp none\n")?;
+    expect_found(&rt, alloc, &[(0xe0008, rsdp)], Outcome::No, "rsdp none\n")?;
+    expect_found(
+        &rt,
+        alloc,
+        &[(0xf0000, rsdp), (0xe0010, rsdp)],
+        Outcome::Yes,
+        "rsdp 0xe0010\n",
+    )?;
+    expect_found(
+        &rt,
+        alloc,
+        &[(0xffff0, rsdp)],
+        Outcome::Yes,
+        "rsdp 0xffff0\n",
+    )
 }
 
 #[test]
 fn a_check_with_no_address_given(rt: HostRuntime) -> Result<(), Fail> {
-    let (answer, line) = checked(rt.alloc(), &[RSDP, RSDT], None)?;
-    assert_eq!(rt; answer, Ok(Outcome::Yes));
-    assert_eq!(rt; line.as_slice(), b"yes\n".as_slice());
-    let (answer, line) = checked(rt.alloc(), &[RSDT], None)?;
-    assert_eq!(rt; answer, Ok(Outcome::No));
-    assert_eq!(rt; line.as_slice(), b"no rsdp\n".as_slice());
+    let text = set(rt.alloc(), &[])?;
+    let (result, written) = checked(rt.alloc(), text.as_bytes(), None, Stage::Tables)?;
+    assert_eq!(rt; result, Ok(Outcome::Yes));
+    assert_eq!(rt; written.as_slice(), b"yes\n".as_slice());
+    let text = image_text(rt.alloc(), &[(0x1000, &rsdt(rt.alloc(), &[])?)])?;
+    let (result, written) = checked(rt.alloc(), text.as_bytes(), None, Stage::Tables)?;
+    assert_eq!(rt; result, Ok(Outcome::No));
+    assert_eq!(rt; written.as_slice(), b"no rsdp\n".as_slice());
     Ok(())
 }
 
@@ -221,13 +227,13 @@ impl Write for Narrow {
 
 #[test]
 fn an_output_that_fails(rt: HostRuntime) -> Result<(), Fail> {
-    let text = joined(rt.alloc(), &[RSDP, RSDT])?;
+    let text = set(rt.alloc(), &[])?;
     for room in 0..5usize {
         let policy = Policy::new(rt.alloc(), 0, 24).map_err(|_| "a policy")?;
-        let mut reader = Tally::new(text.as_slice());
+        let mut reader = Tally::new(text.as_bytes());
         let bytes = Vec::new(rt.alloc());
         let mut writer = Tally::new(Narrow { room, bytes });
-        let answer = run_check(
+        let result = run_check(
             rt.alloc(),
             &mut reader,
             &mut writer,
@@ -236,7 +242,7 @@ fn an_output_that_fails(rt: HostRuntime) -> Result<(), Fail> {
             Stage::Tables,
         );
         let fails = room < 4;
-        assert_eq!(rt; answer.is_err(), fails, "{room}");
+        assert_eq!(rt; result.is_err(), fails, "{room}");
         assert_eq!(rt; writer.failures(), u64::from(fails), "{room}");
         let Narrow { bytes, .. } = writer.into_inner();
         let out: &[u8] = b"yes\n";
@@ -277,8 +283,8 @@ fn an_input_that_fails(rt: HostRuntime) -> Result<(), Fail> {
     for (bytes, fault) in texts {
         let mut reader = Tally::new(Broken { bytes });
         let mut writer = Tally::new(Vec::new(rt.alloc()));
-        let answer = run_find(rt.alloc(), &mut reader, &mut writer);
-        assert_eq!(rt; answer, Err(fault));
+        let result = run_find(rt.alloc(), &mut reader, &mut writer);
+        assert_eq!(rt; result, Err(fault));
         assert_eq!(rt; reader.failures(), 1);
         assert!(rt; writer.into_inner().is_empty());
     }

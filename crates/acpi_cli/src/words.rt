@@ -1,59 +1,24 @@
-//! What the words of the command line ask for.
+//! What the arguments of the command line ask for.
 
 ghost use Rattle.std.specs.Prelude.{◌≡◌, ◌≤◌, ℕ, List, IfErr, IfNone, IfOk, IfSome, IsSome, None, Some, map, option_map};
 ghost use Rattle.std.specs.String.{string_bytes};
 ghost use Rattle.clap.specs.Words.{found_of, rows_of};
 ghost use Rattle.acpi_base.specs.Codes.{stage_number};
-ghost use Rattle.acpi_cli.specs.CommandLine.{Asked, DoesAsked, IsBuilt, asked, check_asked, last_word, plain_policy, rsdp_word};
+ghost use Rattle.acpi_cli.specs.CommandLine.{Asked, DoesAsked, IsBuilt, asked, built_stage, check_asked, last_word, plain_policy, rsdp_word};
 ghost use Rattle.acpi_cli.specs.CommandLine.{check_words, find_words, short_line, through_line, whole_line};
 ghost use Rattle.acpi_cli.specs.Words.{hex_word};
 
-use crate::command_line::{complaint, parse, value};
+use crate::command_line::{clap_message, parse, value};
 use crate::number_words::{decimal_number, hex_number};
 use acpi_base::{BUILT, Policy, Stage};
 use clap::ArgMatches;
 use std::alloc::Global;
 use thiserror::Error;
 
-/// How many inputs an I/O APIC has where no word says.
+/// The number of inputs of each I/O APIC.
 const DEFAULT_INPUTS: u16 = 24;
 
-/// What to tell a user whose words are refused, or who asks for help.
-pub const USAGE: &str = "usage:
-
-  acpiset check [--rsdp HEX] [--through N]
-  acpiset find
-
-Both read the image of a machine's memory from standard input, as text.
-
-check judges the ACPI tables in it, and writes `yes`, or `no` and the first
-fault.
-
-  --rsdp HEX   the address of the RSDP: 1 to 16 hex digits, with 0x before
-               them or without; if absent, the one that find finds, and where
-               there is none check writes `no rsdp`
-  --through N  the last stage to check, 1 to 5, and 5 if absent: 1 the RSDP,
-               2 the RSDT or XSDT, 3 each table that it lists, 4 the FADT,
-               5 the FACS
-
-find looks for the RSDP at the multiples of 16 from e0000 to ffff0, and writes
-`rsdp` and its address, or `rsdp none`.
-
-In the text, a line of `@` and hex digits is the address of what follows, a
-line of pairs of hex digits is bytes, and # begins a comment:
-
-  @e0000
-  52 53 44 20  # and so on
-
-A fault is a line such as `no 3 TableSum 0x1 0x3000 0x0`: the stage, the
-fault's name, where it is, and two more numbers that say what it speaks of.
-
-For example: acpiset check --rsdp f59e0 < image.txt
-
-Exit statuses: 0 yes or found, 1 no or not found, 2 the words are refused,
-3 the text is no image, 4 out of memory, or a read or a write failed.";
-
-/// A command, with what its engine is handed.
+/// A command, with what its engine is called with.
 #[derive(Debug, Drop)]
 pub enum Job {
     /// Check the tables that the RSDP leads to, up to the stage `last`: the RSDP at `rsdp`, or the one
@@ -70,22 +35,22 @@ pub enum Job {
 /// Why no job was read.
 #[derive(Clone, Copy, Debug, PartialEq, Eq, Error)]
 pub enum WordFault {
-    /// The words are none of the program's, or ask for help.
-    #[error("the words are refused")]
+    /// The arguments are none of the program's, or ask for help.
+    #[error("the arguments are refused")]
     Words,
-    /// No memory was found.
+    /// Out of memory.
     #[error("out of memory")]
     Memory,
 }
 
-/// The job that `words` ask for, of which the first is the program's name.
+/// The job that the arguments `words` ask for, of which the first is the program's name.
 ///
-/// The commands are `check [--rsdp HEX] [--through N]` and `find`. HEX is 1 to 16 hex digits, with `0x`
-/// before them or without. N is one or two decimal digits, from 1 to `BUILT`, which it also is if
-/// absent.
+/// The commands are `check [--rsdp HEX] [--through N]` and `find`. HEX is an address of 1 to 16 hex
+/// digits, with `0x` before them or without. N is a stage of one or two decimal digits, from 1 to
+/// `BUILT`, which it also is if absent.
 ///
-/// Refuses `Words` where the words are anything else, `--help` among them; `Memory` may stand in
-/// place of any answer.
+/// Refuses `Words` where the arguments are anything else, `--help` among them; `Memory` may be
+/// returned in place of a job or of `Words`.
 pub fn read_words(alloc: Global, words: &[String]) -> Result<Job, WordFault>
     ensures job { IfOk result (DoesAsked (asked (map string_bytes words.now))) }
     ensures refused { IfErr result (λ fault.
@@ -116,17 +81,17 @@ fn check_job(alloc: Global, options: &ArgMatches) -> Option<Job>
     })
 }
 
-/// What is wrong with words that are refused, in a line that names the word. `None` where the command is
-/// missing, where help is asked for, or where there is no memory to say it.
-pub fn wrong_word(alloc: Global, words: &[String]) -> Option<String> {
+/// An error message on arguments that are refused, in a line that names the wrong one. `None` where the
+/// command is missing, where help is asked for, or where the program is out of memory.
+pub fn error_message(alloc: Global, words: &[String]) -> Option<String> {
     match parse(alloc, words) {
-        Ok(matches) => wrong_value(alloc, matches.subcommand()?.1),
-        Err(_) => complaint(alloc, words),
+        Ok(matches) => value_message(alloc, matches.subcommand()?.1),
+        Err(_) => clap_message(alloc, words),
     }
 }
 
-/// What is wrong with the values of the options of `check`, in a line that names the first wrong one.
-fn wrong_value(alloc: Global, options: &ArgMatches) -> Option<String> {
+/// An error message on the values of the options of `check`, in a line that names the first wrong one.
+fn value_message(alloc: Global, options: &ArgMatches) -> Option<String> {
     if let Some(hex) = value(options, "rsdp")
         && hex_number(hex).is_none()
     {
@@ -142,7 +107,7 @@ fn wrong_value(alloc: Global, options: &ArgMatches) -> Option<String> {
     None
 }
 
-/// The address that `--rsdp` gives, where it is there. `None` where it is no address.
+/// The address that `--rsdp` gives, if it is there. `None` where its value is no address.
 fn given_address(word: Option<&str>) -> Option<Option<u64>>
     ensures { result ≡ rsdp_word (option_map (λ text. text.now) word.entry) }
 {
@@ -152,7 +117,8 @@ fn given_address(word: Option<&str>) -> Option<Option<u64>>
     }
 }
 
-/// The stage that `--through` names, or the last that is built.
+/// The stage that `--through` names, else the last that is built. `None` where its value is no stage that
+/// is built.
 fn last_stage(word: Option<&str>) -> Option<Stage>
     ensures named { option_map stage_number result ≡ last_word (option_map (λ text. text.now) word.entry) }
     ensures built { IfSome result (λ stage. stage_number stage ≤ BUILT) }
@@ -173,9 +139,10 @@ fn new_policy(alloc: Global) -> Policy
     Policy::new(alloc, 0, DEFAULT_INPUTS).unwrap()
 }
 
-/// Each plain command line with good numbers is read, and as one expects. Five stages are built.
+/// Each plain command line with good numbers is read, and as one expects. The stage that a line without
+/// `--through` asks for is one that a line can name.
 pub fn plain_lines_are_read()
-    ensures built { BUILT ≡ 5 }
+    ensures built { built_stage BUILT ≡ Some BUILT }
     ensures find { (program : List ℕ) → asked (find_words program) ≡ Some Asked.find }
     ensures alone { (program : List ℕ) → asked (check_words program) ≡ Some (Asked.check None BUILT) }
     ensures through { (program number : List ℕ) (last : ℕ) → last_word (Some number) ≡ Some last

@@ -5,7 +5,7 @@ use Rattle.std.proofs.lemmas.Bool.{cases_lt}
 use Rattle.acpi_graph.specs.Parents.{parent_of, after, Ends, Returns, IsRound}
 use Rattle.acpi_graph.proofs.Chains.{went_on}
 
--- from the lead on each place of a chain has the node of a place before the lead and the round are over
+-- from the lead on each place of a chain has the node of a place before the end of the first pass of the cycle
 pub record FoldsBack (parents : List (Option ℕ)) (node lead round steps : ℕ) : Type 0 where
   pub place : ℕ
   pub from_lead : lead ≤ place

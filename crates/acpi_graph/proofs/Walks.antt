@@ -199,7 +199,7 @@ round_found parents marks start base steps node lead round t at lead_is round_is
     })
     (λ i j before below. left_once parents marks start base steps t i j before (omega arith))
 
--- a round of the walk at hand is the first, where the chains of all nodes before it end
+-- a cycle of this walk is the first, where the chains of all nodes before it end
 pub first_stray_found : (parents : List (Option ℕ)) (start : ℕ) (found : Stray) → start < length parents
     → ((node : ℕ) → node < start → Ends parents node)
     → IfRound found (λ node lead round. (node ≡ start) × IsRound parents start lead round × (lead + round ≤ length parents))

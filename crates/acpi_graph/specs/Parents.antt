@@ -25,7 +25,7 @@ Ends parents node = (steps : ℕ) × (after parents node steps ≡ None)
 abbrev pub AllEnd : List (Option ℕ) → Type 0
 AllEnd parents = (node : ℕ) → node < length parents → Ends parents node
 
--- after lead steps, and a round of at least one step later, one and the same node stands
+-- after lead steps, and again a round of at least one step later, one and the same node stands
 pub record Returns (parents : List (Option ℕ)) (node lead round : ℕ) : Type 0 where
   pub moves : 1 ≤ round
   pub there : ℕ
@@ -38,14 +38,14 @@ pub record IsRound (parents : List (Option ℕ)) (node lead round : ℕ) : Type 
   pub least_lead : (steps more : ℕ) → Returns parents node steps more → lead ≤ steps
   pub least_round : (more : ℕ) → Returns parents node lead more → round ≤ more
 
--- node is the least whose chain doesn't end, with its round
+-- node is the least whose chain does not end, with its cycle
 pub record IsFirstStray (parents : List (Option ℕ)) (node lead round : ℕ) : Type 0 where
   pub is_node : node < length parents
   pub goes_on : ¬ Ends parents node
   pub earlier_end : (other : ℕ) → other < node → Ends parents other
   pub is_round : IsRound parents node lead round
 
--- what holds of a round, where there is one
+-- what holds of a cycle, where there is one
 abbrev pub IfRound : Stray → (ℕ → ℕ → ℕ → Type 0) → Type 0
 IfRound stray.None P = Unit {0}
 IfRound (stray.Round node lead round) P = P node lead round

@@ -51,7 +51,7 @@ pub record IsFirstClash (spans : List Span) (first second point : ℕ) : Type 0 
   pub two : AreFirstTwo spans point first second
   pub least : (number : ℕ) → LiesInTwo spans number → point ≤ number
 
--- what holds of a clash, where there is one
+-- what holds of an overlap, where there is one
 abbrev pub IfAt : Clash → (ℕ → ℕ → ℕ → Type 0) → Type 0
 IfAt clash.None P = Unit {0}
 IfAt (clash.At first second point) P = P first second point

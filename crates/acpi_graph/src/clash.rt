@@ -1,4 +1,4 @@
-//! The first number that two spans hold.
+//! The first overlap of spans.
 
 ghost use Rattle.std.specs.Prelude.{◌≡◌, ◌+◌, ◌-◌, ◌<◌, ◌≤◌, ◌↔◌, IsTrue, IsOk, IfOk, AllPairs, length, vec_len};
 ghost use Rattle.acpi_graph.specs.Spans.{NamesDiffer, IsClear, ComesBefore, IfAt, IsFirstClash};
@@ -6,7 +6,7 @@ ghost use Rattle.acpi_graph.specs.Spans.{NamesDiffer, IsClear, ComesBefore, IfAt
 use crate::span::Span;
 use std::alloc::{AllocError, Global};
 
-/// Whether two spans of a list have a number in common.
+/// Whether two spans of a list overlap.
 #[derive(Clone, Copy, Debug, PartialEq, Eq, Hash)]
 pub enum Clash {
     /// No number lies in two spans.
@@ -20,7 +20,8 @@ pub enum Clash {
     },
 }
 
-/// The least number that lies in two of the spans, and how many neighbours were compared to find it.
+/// The first overlap of the spans, which is at the least number that lies in two of them, and how many
+/// neighbours were compared to find it.
 ///
 /// The names of the spans differ; their order does not matter. It costs one sort by start and name,
 /// in place, and at most one comparison less than there are spans.
@@ -29,19 +30,19 @@ pub fn first_clash(alloc: Global, mut spans: Vec<Span>) -> Result<(Clash, usize)
 
     // It takes no memory from `alloc`, so it is never refused any.
     ensures always { IsOk result }
-    ensures none { IfOk result (λ answer. (answer.0 ≡ Clash.None) ↔ IsClear spans.items) }
-    ensures first { IfOk result (λ answer. IfAt answer.0 (IsFirstClash spans.items)) }
-    ensures comparisons { IfOk result (λ answer. answer.1 ≤ vec_len spans - 1) }
+    ensures none { IfOk result (λ found. (found.0 ≡ Clash.None) ↔ IsClear spans.items) }
+    ensures first { IfOk result (λ found. IfAt found.0 (IsFirstClash spans.items)) }
+    ensures comparisons { IfOk result (λ found. found.1 ≤ vec_len spans - 1) }
 {
     spans.sort_unstable();
-    Ok(first_meeting(&spans))
+    Ok(first_overlap(&spans))
 }
 
-/// Where the first span runs into the next, and how many neighbours were compared.
+/// The first span that overlaps the next, and how many neighbours were compared.
 ///
 /// All spans before it end by the start of the next, and so by the start of each that follows: no
 /// lower number lies in two spans.
-fn first_meeting(spans: &[Span]) -> (Clash, usize)
+fn first_overlap(spans: &[Span]) -> (Clash, usize)
     requires names { NamesDiffer spans.now }
     requires order { AllPairs ComesBefore spans.now }
     ensures none { result.0 ≡ Clash.None → IsClear spans.now }
@@ -52,7 +53,7 @@ fn first_meeting(spans: &[Span]) -> (Clash, usize)
     for next in 1..spans.len() {
         let before = &spans[next - 1];
         let after = &spans[next];
-        if runs_into(before, after, &mut comparisons) {
+        if overlaps(before, after, &mut comparisons) {
             let found = Clash::At {
                 first: before.name,
                 second: after.name,
@@ -64,11 +65,11 @@ fn first_meeting(spans: &[Span]) -> (Clash, usize)
     (Clash::None, comparisons)
 }
 
-/// Whether a span holds the start of the next one. Each comparison of neighbours is made here, and
-/// counted.
-fn runs_into(span: &Span, next: &Span, comparisons: &mut usize) -> bool
+/// Whether a span overlaps the next one: it holds the start of that one. Each comparison of neighbours
+/// is made here, and counted.
+fn overlaps(span: &Span, next: &Span, comparisons: &mut usize) -> bool
     requires { comparisons.old < usize.MAX }
-    ensures answer { IsTrue result ↔ (next.now.start < span.now.end) }
+    ensures overlap { IsTrue result ↔ (next.now.start < span.now.end) }
     ensures counted { comparisons.new ≡ comparisons.old + 1 }
 {
     *comparisons += 1;

@@ -1,10 +1,10 @@
-//! Two searches that a checker of tables needs, each answered with the first case in a fixed order,
-//! so that the answer does not depend on how the tables list their entries.
+//! Two searches that a checker of tables needs. Each returns the first case in a fixed order, so that the
+//! result does not depend on how the tables list their entries.
 //!
-//! - `first_clash`: of spans of numbers, such as memory ranges, the least number that lies in two,
-//!   and the first two spans that hold it.
-//! - `first_stray`: of nodes that name their parents, the first whose chain of parents goes round
-//!   and never ends, and where its round begins.
+//! - `first_clash`: of spans of numbers, such as memory ranges, the first overlap: the least number that
+//!   lies in two, and the first two spans that hold it.
+//! - `first_stray`: of nodes that name their parents, the first whose chain of parents leads into a cycle
+//!   and never ends, and where its cycle begins.
 //!
 //! ```rust
 //! let low = Span::new(0, 10, 1).unwrap(); // 0 to 9, under the name 1
@@ -17,7 +17,7 @@
 //! // stray is Stray::Round { node: 2, lead: 1, round: 1 }, found in 4 steps
 //! ```
 //!
-//! Both answer how many of their steps they took. The steps inside the sort are not counted.
+//! Both return how many of their steps they took. The steps inside the sort are not counted.
 #![tactic(auto)]
 
 mod clash;

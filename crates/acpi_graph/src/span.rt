@@ -2,7 +2,7 @@
 
 ghost use Rattle.std.specs.Prelude.{◌≡◌, ◌<◌, ◌↔◌, IsSome, IfSome};
 
-/// The numbers from `start` on and below `end`: at least one. Answers speak of the span by `name`.
+/// The numbers from `start` on and below `end`: at least one. Results name the span by `name`.
 ///
 /// Spans compare by `start`, then by `name`.
 #[derive(Clone, Copy, Debug, PartialEq, Eq, Hash, PartialOrd, Ord)]

@@ -6,13 +6,13 @@ ghost use Rattle.acpi_graph.specs.Walks.{AreSettled};
 
 use std::alloc::{AllocError, Global};
 
-/// Whether a chain of parents goes on for good.
+/// Whether a chain of parents leads into a cycle.
 #[derive(Clone, Copy, Debug, PartialEq, Eq, Hash)]
 pub enum Stray {
     /// Every chain ends, at a node with no parent.
     None,
-    /// `node` is the least whose chain does not end. `lead` is the least number of steps after
-    /// which a node stands that comes again, and `round` the least number of steps until it does.
+    /// `node` is the least whose chain does not end. `lead` is the least number of steps into its cycle,
+    /// and `round` is the length of the cycle in steps, at least 1.
     Round {
         node: usize,
         lead: usize,
@@ -20,23 +20,23 @@ pub enum Stray {
     },
 }
 
-/// The least node whose chain of parents does not end, with its round, and how many steps from a
+/// The least node whose chain of parents does not end, with its cycle, and how many steps from a
 /// node to its parent were taken to find it.
 ///
-/// `parents` has at each node's index the index of its parent, or None where it has none. It costs
-/// at most one step a node, and memory for one number a node.
+/// `parents` has at each node's index the index of its parent, or `None` where it has none. It costs
+/// at most one step a node, and memory for one number a node: refuses `AllocError` out of memory.
 pub fn first_stray(alloc: Global, parents: &[Option<usize>]) -> Result<(Stray, usize), AllocError>
     requires { AreNodes parents.now }
 
     // Of no nodes it takes no memory, so it is never refused any.
     ensures nothing { parents.now ≡ [] → IsOk result }
-    ensures none { IfOk result (λ answer. (answer.0 ≡ Stray.None) ↔ AllEnd parents.now) }
-    ensures first { IfOk result (λ answer. IfRound answer.0 (IsFirstStray parents.now)) }
+    ensures none { IfOk result (λ found. (found.0 ≡ Stray.None) ↔ AllEnd parents.now) }
+    ensures first { IfOk result (λ found. IfRound found.0 (IsFirstStray parents.now)) }
 
-    // The round is over within as many steps as there are nodes, and so is the whole search.
-    ensures within { IfOk result (λ answer.
-        IfRound answer.0 (λ node lead round. lead + round ≤ length parents.now)) }
-    ensures steps { IfOk result (λ answer. answer.1 ≤ length parents.now) }
+    // The cycle is closed within as many steps as there are nodes, and so is the whole search done.
+    ensures within { IfOk result (λ found.
+        IfRound found.0 (λ node lead round. lead + round ≤ length parents.now)) }
+    ensures steps { IfOk result (λ found. found.1 ≤ length parents.now) }
 {
     if parents.is_empty() {
         return Ok((Stray::None, 0));
@@ -45,7 +45,7 @@ pub fn first_stray(alloc: Global, parents: &[Option<usize>]) -> Result<(Stray, u
     Ok(walk_all(parents, &mut marks))
 }
 
-/// Walks from each node in turn, until a chain goes round.
+/// Walks from each node in turn, until a chain leads into a cycle.
 fn walk_all(parents: &[Option<usize>], marks: &mut [usize]) -> (Stray, usize)
     requires nodes { AreNodes parents.now }
     requires fresh { marks.old ≡ replicate (length parents.now) 0 }
@@ -68,7 +68,7 @@ fn walk_all(parents: &[Option<usize>], marks: &mut [usize]) -> (Stray, usize)
 ///
 /// The mark of a node that no walk has left is 0; any other has the number of the step that left it.
 /// So a mark up to the steps before this walk is of a node whose chain ends, and one above them
-/// tells how far this walk had come there.
+/// says how many steps this walk had taken there.
 fn walk(parents: &[Option<usize>], marks: &mut [usize], steps: &mut usize, start: usize) -> Stray
     requires nodes { AreNodes parents.now }
     requires start { start < length parents.now }

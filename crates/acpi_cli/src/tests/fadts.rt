@@ -1,246 +1,84 @@
-//! Sets with a FADT and a FACS, over texts in memory.
+//! Sets with a FADT and a FACS.
 
-use super::{RSDP, RSDT, RSDT_OF_ONE, joined};
-use crate::check::run_check;
-use crate::outcome::status_of;
-use acpi_base::{Policy, Stage, Tally};
-use std::alloc::Global;
+use super::builder::{
+    BytesAt, PLAIN, REDUCED, RSDP, facs, fadt, image_text, put, rsdt, set, table,
+};
+use super::expect_check;
+use acpi_base::Stage;
 use std::test::Fail;
 
-/// A FADT of 116 bytes with HW_REDUCED_ACPI, and no FACS.
-const REDUCED: &[u8] = b"@2000
-46 41 43 50 74 00 00 00 01 cd 41 41 41 41 41 41
-41 41 41 41 41 41 41 41 01 00 00 00 41 41 41 41
-01 00 00 00 00 00 00 00 00 00 00 00 00 00 00 00
-00 00 00 00 00 00 00 00 00 00 00 00 00 00 00 00
-00 00 00 00 00 00 00 00 00 00 00 00 00 00 00 00
-00 00 00 00 00 00 00 00 00 00 00 00 00 00 00 00
-00 00 00 00 00 00 00 00 00 00 00 00 00 00 00 00
-00 00 10 00
-";
+/// A FADT's length and bytes, the address of a FACS or 0 for none, and the status and the line of a set of both.
+type Row = (usize, &'static [BytesAt<'static>], u64, u8, &'static str);
 
-/// The same of 276 bytes.
-const REDUCED_LONG: &[u8] = b"@2000
-46 41 43 50 14 01 00 00 01 2c 41 41 41 41 41 41
-41 41 41 41 41 41 41 41 01 00 00 00 41 41 41 41
-01 00 00 00 00 00 00 00 00 00 00 00 00 00 00 00
-00 00 00 00 00 00 00 00 00 00 00 00 00 00 00 00
-00 00 00 00 00 00 00 00 00 00 00 00 00 00 00 00
-00 00 00 00 00 00 00 00 00 00 00 00 00 00 00 00
-00 00 00 00 00 00 00 00 00 00 00 00 00 00 00 00
-00 00 10 00 00 00 00 00 00 00 00 00 00 00 00 00
-00 00 00 00 00 00 00 00 00 00 00 00 00 00 00 00
-00 00 00 00 00 00 00 00 00 00 00 00 00 00 00 00
-00 00 00 00 00 00 00 00 00 00 00 00 00 00 00 00
-00 00 00 00 00 00 00 00 00 00 00 00 00 00 00 00
-00 00 00 00 00 00 00 00 00 00 00 00 00 00 00 00
-00 00 00 00 00 00 00 00 00 00 00 00 00 00 00 00
-00 00 00 00 00 00 00 00 00 00 00 00 00 00 00 00
-00 00 00 00 00 00 00 00 00 00 00 00 00 00 00 00
-00 00 00 00 00 00 00 00 00 00 00 00 00 00 00 00
-00 00 00 00
-";
+const ROWS: [Row; 10] = [
+    (116, REDUCED, 0, 0, "yes\n"),
+    (276, REDUCED, 0, 0, "yes\n"),
+    // The bytes where X_FIRMWARE_CTRL would begin are 1.
+    (139, &[(114, &[0x10]), (132, &[1; 7])], 0, 0, "yes\n"),
+    // With RESET_REG_SUP: the register lies past the end of the first, and has 0 bits in the second.
+    (116, &[(113, &[0x04, 0x10])], 0, 0, "yes\n"),
+    (
+        276,
+        &[(113, &[0x04, 0x10])],
+        0,
+        1,
+        "no 4 ResetRegister 0x74 0x0 0x0\n",
+    ),
+    (116, PLAIN, 0x7000, 0, "yes\n"),
+    (244, PLAIN, 0x7000, 0, "yes\n"),
+    // FIRMWARE_CTRL is 7020h, and X_FIRMWARE_CTRL 7000h.
+    (
+        244,
+        &[(36, &[0x20, 0x70]), (88, &[4, 2, 0, 4]), (133, &[0x70])],
+        0x7000,
+        0,
+        "yes\n",
+    ),
+    (
+        116,
+        &[(36, &[0x20, 0x70]), (88, &[4, 2, 0, 4])],
+        0x7020,
+        1,
+        "no 5 FacsAlign 0x7020 0x0 0x0\n",
+    ),
+    (116, PLAIN, 0, 1, "no 5 FacsHeaderOut 0x7000 0x0 0x0\n"),
+];
 
-/// The same of 139 bytes: those where X_FIRMWARE_CTRL would begin are 1.
-const REDUCED_CUT: &[u8] = b"@2000
-46 41 43 50 8b 00 00 00 01 af 41 41 41 41 41 41
-41 41 41 41 41 41 41 41 01 00 00 00 41 41 41 41
-01 00 00 00 00 00 00 00 00 00 00 00 00 00 00 00
-00 00 00 00 00 00 00 00 00 00 00 00 00 00 00 00
-00 00 00 00 00 00 00 00 00 00 00 00 00 00 00 00
-00 00 00 00 00 00 00 00 00 00 00 00 00 00 00 00
-00 00 00 00 00 00 00 00 00 00 00 00 00 00 00 00
-00 00 10 00 00 00 00 00 00 00 00 00 00 00 00 00
-00 00 00 00 01 01 01 01 01 01 01
-";
+#[test]
+fn sets_of_a_fadt_and_a_facs(rt: HostRuntime) -> Result<(), Fail> {
+    let alloc = rt.alloc();
+    for (length, bytes, facs_address, status, line) in ROWS {
+        let mut text = set(alloc, &[&fadt(alloc, length, bytes)?])?;
+        if facs_address != 0 {
+            put(&mut text, facs_address, &facs(alloc)?)?;
+        }
+        expect_check(&rt, alloc, text.as_bytes(), Stage::Facs, status, line)?;
+    }
+    Ok(())
+}
 
-/// The same of 116 bytes with RESET_REG_SUP: the register itself is past its end.
-const REDUCED_RESET: &[u8] = b"@2000
-46 41 43 50 74 00 00 00 01 c9 41 41 41 41 41 41
-41 41 41 41 41 41 41 41 01 00 00 00 41 41 41 41
-01 00 00 00 00 00 00 00 00 00 00 00 00 00 00 00
-00 00 00 00 00 00 00 00 00 00 00 00 00 00 00 00
-00 00 00 00 00 00 00 00 00 00 00 00 00 00 00 00
-00 00 00 00 00 00 00 00 00 00 00 00 00 00 00 00
-00 00 00 00 00 00 00 00 00 00 00 00 00 00 00 00
-00 04 10 00
-";
-
-/// The same of 276 bytes, with a reset register of 0 bits.
-const REDUCED_RESET_LONG: &[u8] = b"@2000
-46 41 43 50 14 01 00 00 01 28 41 41 41 41 41 41
-41 41 41 41 41 41 41 41 01 00 00 00 41 41 41 41
-01 00 00 00 00 00 00 00 00 00 00 00 00 00 00 00
-00 00 00 00 00 00 00 00 00 00 00 00 00 00 00 00
-00 00 00 00 00 00 00 00 00 00 00 00 00 00 00 00
-00 00 00 00 00 00 00 00 00 00 00 00 00 00 00 00
-00 00 00 00 00 00 00 00 00 00 00 00 00 00 00 00
-00 04 10 00 00 00 00 00 00 00 00 00 00 00 00 00
-00 00 00 00 00 00 00 00 00 00 00 00 00 00 00 00
-00 00 00 00 00 00 00 00 00 00 00 00 00 00 00 00
-00 00 00 00 00 00 00 00 00 00 00 00 00 00 00 00
-00 00 00 00 00 00 00 00 00 00 00 00 00 00 00 00
-00 00 00 00 00 00 00 00 00 00 00 00 00 00 00 00
-00 00 00 00 00 00 00 00 00 00 00 00 00 00 00 00
-00 00 00 00 00 00 00 00 00 00 00 00 00 00 00 00
-00 00 00 00 00 00 00 00 00 00 00 00 00 00 00 00
-00 00 00 00 00 00 00 00 00 00 00 00 00 00 00 00
-00 00 00 00
-";
-
-/// A FADT of 116 bytes with block lengths, and a FACS at 7000h.
-const PLAIN: &[u8] = b"@2000
-46 41 43 50 74 00 00 00 01 63 41 41 41 41 41 41
-41 41 41 41 41 41 41 41 01 00 00 00 41 41 41 41
-01 00 00 00 00 70 00 00 00 00 00 00 00 00 00 00
-00 00 00 00 00 00 00 00 00 00 00 00 00 00 00 00
-00 00 00 00 00 00 00 00 00 00 00 00 00 00 00 00
-00 00 00 00 00 00 00 00 04 02 00 04 00 00 00 00
-00 00 00 00 00 00 00 00 00 00 00 00 00 00 00 00
-00 00 00 00
-";
-
-/// The same of 244 bytes.
-const PLAIN_LONG: &[u8] = b"@2000
-46 41 43 50 f4 00 00 00 01 e3 41 41 41 41 41 41
-41 41 41 41 41 41 41 41 01 00 00 00 41 41 41 41
-01 00 00 00 00 70 00 00 00 00 00 00 00 00 00 00
-00 00 00 00 00 00 00 00 00 00 00 00 00 00 00 00
-00 00 00 00 00 00 00 00 00 00 00 00 00 00 00 00
-00 00 00 00 00 00 00 00 04 02 00 04 00 00 00 00
-00 00 00 00 00 00 00 00 00 00 00 00 00 00 00 00
-00 00 00 00 00 00 00 00 00 00 00 00 00 00 00 00
-00 00 00 00 00 00 00 00 00 00 00 00 00 00 00 00
-00 00 00 00 00 00 00 00 00 00 00 00 00 00 00 00
-00 00 00 00 00 00 00 00 00 00 00 00 00 00 00 00
-00 00 00 00 00 00 00 00 00 00 00 00 00 00 00 00
-00 00 00 00 00 00 00 00 00 00 00 00 00 00 00 00
-00 00 00 00 00 00 00 00 00 00 00 00 00 00 00 00
-00 00 00 00 00 00 00 00 00 00 00 00 00 00 00 00
-00 00 00 00
-";
-
-/// The same of 116 bytes, with a FACS at 7020h.
-const FACS_AT_7020: &[u8] = b"@2000
-46 41 43 50 74 00 00 00 01 43 41 41 41 41 41 41
-41 41 41 41 41 41 41 41 01 00 00 00 41 41 41 41
-01 00 00 00 20 70 00 00 00 00 00 00 00 00 00 00
-00 00 00 00 00 00 00 00 00 00 00 00 00 00 00 00
-00 00 00 00 00 00 00 00 00 00 00 00 00 00 00 00
-00 00 00 00 00 00 00 00 04 02 00 04 00 00 00 00
-00 00 00 00 00 00 00 00 00 00 00 00 00 00 00 00
-00 00 00 00
-";
-
-/// The same of 244 bytes, with FIRMWARE_CTRL 7020h and X_FIRMWARE_CTRL 7000h.
-const FACS_BY_X_FIELD: &[u8] = b"@2000
-46 41 43 50 f4 00 00 00 01 53 41 41 41 41 41 41
-41 41 41 41 41 41 41 41 01 00 00 00 41 41 41 41
-01 00 00 00 20 70 00 00 00 00 00 00 00 00 00 00
-00 00 00 00 00 00 00 00 00 00 00 00 00 00 00 00
-00 00 00 00 00 00 00 00 00 00 00 00 00 00 00 00
-00 00 00 00 00 00 00 00 04 02 00 04 00 00 00 00
-00 00 00 00 00 00 00 00 00 00 00 00 00 00 00 00
-00 00 00 00 00 00 00 00 00 00 00 00 00 00 00 00
-00 00 00 00 00 70 00 00 00 00 00 00 00 00 00 00
-00 00 00 00 00 00 00 00 00 00 00 00 00 00 00 00
-00 00 00 00 00 00 00 00 00 00 00 00 00 00 00 00
-00 00 00 00 00 00 00 00 00 00 00 00 00 00 00 00
-00 00 00 00 00 00 00 00 00 00 00 00 00 00 00 00
-00 00 00 00 00 00 00 00 00 00 00 00 00 00 00 00
-00 00 00 00 00 00 00 00 00 00 00 00 00 00 00 00
-00 00 00 00
-";
-
-/// A FACS of 64 bytes, whose sum is not 0, without its address.
-const FACS: &[u8] = b"46 41 43 53 40 00 00 00 00 00 00 00 00 00 00 00
-00 00 00 00 00 00 00 00 00 00 00 00 00 00 00 00
-01 00 00 00 00 00 00 00 00 00 00 00 00 00 00 00
-00 00 00 00 00 00 00 00 00 00 00 00 00 00 00 00
-";
-
-/// An HPET table, of which only the header is looked at.
-const HPET: &[u8] = b"@3000
-48 50 45 54 38 00 00 00 01 02 41 41 41 41 41 41
-41 41 41 41 41 41 41 41 01 00 00 00 41 41 41 41
-01 00 00 00 00 00 00 00 00 00 00 00 00 00 00 00
-00 00 00 00 00 00 00 00
-";
-
-/// An RSDT that lists 2000h, nothing, and 3000h.
-const RSDT_WITH_A_GAP: &[u8] = b"@1000
-52 53 44 54 30 00 00 00 01 ae 41 41 41 41 41 41
-41 41 41 41 41 41 41 41 01 00 00 00 41 41 41 41
-01 00 00 00 00 20 00 00 00 00 00 00 00 30 00 00
-";
-
-/// What a check of all stages that are built writes, and the status that goes with it.
-fn checked(alloc: Global, parts: &[&[u8]]) -> Result<(Vec<u8>, u8), Fail> {
-    let text = joined(alloc, parts)?;
-    let policy = Policy::new(alloc, 0, 24).map_err(|_| "a policy")?;
-    let mut reader = Tally::new(text.as_slice());
-    let mut writer = Tally::new(Vec::new(alloc));
-    let answer = run_check(
+#[test]
+fn a_set_without_a_fadt(rt: HostRuntime) -> Result<(), Fail> {
+    let alloc = rt.alloc();
+    let text = set(alloc, &[])?;
+    expect_check(
+        &rt,
         alloc,
-        &mut reader,
-        &mut writer,
-        Some(0xe0000),
-        policy,
+        text.as_bytes(),
         Stage::Facs,
-    );
-    Ok((writer.into_inner(), status_of(&answer)))
+        1,
+        "no 4 NoFadt 0x0 0x0 0x0\n",
+    )
 }
 
 #[test]
-fn sets_that_are_clean(rt: HostRuntime) -> Result<(), Fail> {
-    let sets: [&[&[u8]]; 7] = [
-        &[RSDP, RSDT_OF_ONE, REDUCED],
-        &[RSDP, RSDT_WITH_A_GAP, REDUCED, HPET],
-        &[RSDP, RSDT_OF_ONE, REDUCED_LONG],
-        &[RSDP, RSDT_OF_ONE, REDUCED_CUT],
-        &[RSDP, RSDT_OF_ONE, REDUCED_RESET],
-        &[RSDP, RSDT_OF_ONE, PLAIN, b"@7000\n", FACS],
-        &[RSDP, RSDT_OF_ONE, PLAIN_LONG, b"@7000\n", FACS],
-    ];
-    for parts in sets {
-        let (line, status) = checked(rt.alloc(), parts)?;
-        assert_eq!(rt; line.as_slice(), b"yes\n".as_slice());
-        assert_eq!(rt; status, 0);
-    }
-    Ok(())
-}
-
-#[test]
-fn the_wide_address_of_a_facs(rt: HostRuntime) -> Result<(), Fail> {
-    let (line, _) = checked(
-        rt.alloc(),
-        &[RSDP, RSDT_OF_ONE, FACS_BY_X_FIELD, b"@7000\n", FACS],
-    )?;
-    assert_eq!(rt; line.as_slice(), b"yes\n".as_slice());
-    Ok(())
-}
-
-#[test]
-fn sets_with_a_fault(rt: HostRuntime) -> Result<(), Fail> {
-    let sets: [(&[&[u8]], &[u8]); 4] = [
-        (&[RSDP, RSDT], b"no 4 NoFadt 0x0 0x0 0x0\n"),
-        (
-            &[RSDP, RSDT_OF_ONE, REDUCED_RESET_LONG],
-            b"no 4 ResetRegister 0x74 0x0 0x0\n",
-        ),
-        (
-            &[RSDP, RSDT_OF_ONE, FACS_AT_7020, b"@7020\n", FACS],
-            b"no 5 FacsAlign 0x7020 0x0 0x0\n",
-        ),
-        (
-            &[RSDP, RSDT_OF_ONE, PLAIN],
-            b"no 5 FacsHeaderOut 0x7000 0x0 0x0\n",
-        ),
-    ];
-    for (parts, wanted) in sets {
-        let (line, status) = checked(rt.alloc(), parts)?;
-        assert_eq!(rt; line.as_slice(), wanted);
-        assert_eq!(rt; status, 1);
-    }
-    Ok(())
+fn a_slot_that_is_0(rt: HostRuntime) -> Result<(), Fail> {
+    let alloc = rt.alloc();
+    let root = rsdt(alloc, &[0x2000, 0, 0x3000])?;
+    let reduced = fadt(alloc, 116, REDUCED)?;
+    // Of an HPET table only the header is looked at.
+    let hpet = table(alloc, b"HPET", 1, &[0; 20])?;
+    let pieces = [RSDP, (0x1000, &root), (0x2000, &reduced), (0x3000, &hpet)];
+    let text = image_text(alloc, &pieces)?;
+    expect_check(&rt, alloc, text.as_bytes(), Stage::Facs, 0, "yes\n")
 }

@@ -2,8 +2,9 @@
 
 use super::*;
 use std::alloc::AllocError;
+use std::test::Fail;
 
-/// Reads a command line whose words stand a space apart.
+/// Reads a command line whose arguments stand a space apart.
 fn read(alloc: Global, line: &str) -> Result<Job, WordFault> {
     let Ok(words) = words_of(alloc, line) else {
         return Err(WordFault::Memory);
@@ -19,60 +20,40 @@ fn words_of(alloc: Global, line: &str) -> Result<Vec<String>, AllocError> {
     Ok(words)
 }
 
-/// Lines that are read, with the address and the last stage that they give.
-const READ: [(&str, u64, Stage); 12] = [
-    ("acpiset check --rsdp e0000", 0xe0000, Stage::Facs),
-    ("acpiset check --rsdp 0xe0000", 0xe0000, Stage::Facs),
-    ("acpiset check --rsdp E0000", 0xe0000, Stage::Facs),
-    ("acpiset check --rsdp=e0000", 0xe0000, Stage::Facs),
-    ("acpiset check --rsdp 0", 0, Stage::Facs),
-    ("a check --rsdp 0", 0, Stage::Facs),
-    (
-        "acpiset check --rsdp ffffffffffffffff",
-        u64::MAX,
-        Stage::Facs,
-    ),
+/// Lines that are read, with the address and the number of the last stage that they give.
+const READ: [(&str, u64, u8); 12] = [
+    ("acpiset check --rsdp e0000", 0xe0000, BUILT),
+    ("acpiset check --rsdp 0xe0000", 0xe0000, BUILT),
+    ("acpiset check --rsdp E0000", 0xe0000, BUILT),
+    ("acpiset check --rsdp=e0000", 0xe0000, BUILT),
+    ("acpiset check --rsdp 0", 0, BUILT),
+    ("a check --rsdp 0", 0, BUILT),
+    ("acpiset check --rsdp ffffffffffffffff", u64::MAX, BUILT),
     (
         "acpiset check --rsdp 0x0123456789aBcDeF",
         0x0123_4567_89ab_cdef,
-        Stage::Facs,
+        BUILT,
     ),
-    (
-        "acpiset check --rsdp e0000 --through 1",
-        0xe0000,
-        Stage::Rsdp,
-    ),
-    (
-        "acpiset check --through 2 --rsdp e0000",
-        0xe0000,
-        Stage::Root,
-    ),
-    (
-        "acpiset check --rsdp e0000 --through 3",
-        0xe0000,
-        Stage::Tables,
-    ),
-    (
-        "acpiset check --rsdp e0000 --through 03",
-        0xe0000,
-        Stage::Tables,
-    ),
+    ("acpiset check --rsdp e0000 --through 1", 0xe0000, 1),
+    ("acpiset check --through 2 --rsdp e0000", 0xe0000, 2),
+    ("acpiset check --rsdp e0000 --through 3", 0xe0000, 3),
+    ("acpiset check --rsdp e0000 --through 03", 0xe0000, 3),
 ];
 
 #[test]
 fn lines_that_are_read(rt: HostRuntime) {
-    for (line, address, stage) in READ {
+    for (line, address, number) in READ {
         let Job::Check { rsdp, policy, last } = read(rt.alloc(), line).expect(&rt, line) else {
             panic!(rt; "{line}");
         };
         assert_eq!(rt; rsdp, Some(address), "{line}");
         assert_eq!(rt; policy.rsdp(), 0, "{line}");
-        assert_eq!(rt; last, stage, "{line}");
+        assert_eq!(rt; last.number(), number, "{line}");
     }
 }
 
 /// Lines that are refused.
-const REFUSED: [&str; 39] = [
+const REFUSED: [&str; 38] = [
     "acpiset",
     "acpiset ",
     "acpiset --help",
@@ -104,7 +85,6 @@ const REFUSED: [&str; 39] = [
     "acpiset check --rsdp e0000 --through ",
     "acpiset check --rsdp e0000 --through 0",
     "acpiset check --rsdp e0000 --through 00",
-    "acpiset check --rsdp e0000 --through 6",
     "acpiset check --rsdp e0000 --through 19",
     "acpiset check --rsdp e0000 --through 003",
     "acpiset check --rsdp e0000 --through 0x3",
@@ -127,15 +107,12 @@ fn lines_that_are_refused(rt: HostRuntime) {
 
 #[test]
 fn lines_that_leave_the_address_out(rt: HostRuntime) {
-    for (line, stage) in [
-        ("acpiset check", Stage::Facs),
-        ("acpiset check --through 3", Stage::Tables),
-    ] {
+    for (line, number) in [("acpiset check", BUILT), ("acpiset check --through 3", 3)] {
         let Job::Check { rsdp, last, .. } = read(rt.alloc(), line).expect(&rt, line) else {
             panic!(rt; "{line}");
         };
         assert_eq!(rt; rsdp, None, "{line}");
-        assert_eq!(rt; last, stage, "{line}");
+        assert_eq!(rt; last.number(), number, "{line}");
     }
 }
 
@@ -146,10 +123,24 @@ fn a_line_that_looks_for_the_rsdp(rt: HostRuntime) {
 }
 
 #[test]
-fn no_words_at_all(rt: HostRuntime) {
+fn no_arguments_at_all(rt: HostRuntime) {
     let words: [String; 0] = [];
-    let answer = read_words(rt.alloc(), words.as_slice());
-    assert_eq!(rt; answer.err(), Some(WordFault::Words));
+    let job = read_words(rt.alloc(), words.as_slice());
+    assert_eq!(rt; job.err(), Some(WordFault::Words));
+}
+
+#[test]
+fn a_stage_above_the_last_one(rt: HostRuntime) -> Result<(), Fail> {
+    let above = BUILT + 1;
+    let line = format!(in rt.alloc(); "acpiset check --rsdp e0000 --through {above}")?;
+    let text = format!(in rt.alloc(); "--through '{above}': the stages are 1 to {BUILT}")?;
+    let words = words_of(rt.alloc(), line.as_str())?;
+    assert_eq!(rt;
+        read_words(rt.alloc(), words.as_slice()).err(),
+        Some(WordFault::Words)
+    );
+    assert_eq!(rt; error_message(rt.alloc(), words.as_slice()), Some(text));
+    Ok(())
 }
 
 #[test]
@@ -161,15 +152,11 @@ fn what_is_wrong_with_a_line(rt: HostRuntime) {
             "acpiset check --rsdp f59e0h",
             "--rsdp 'f59e0h': an address is 1 to 16 hex digits, with 0x before them or without",
         ),
-        (
-            "acpiset check --rsdp e0000 --through 6",
-            "--through '6': the stages are 1 to 5",
-        ),
     ];
     for (line, text) in lines {
         let words = words_of(rt.alloc(), line).expect(&rt, line);
-        let wrong = wrong_word(rt.alloc(), words.as_slice()).expect(&rt, line);
-        assert_eq!(rt; wrong.as_str(), text);
+        let message = error_message(rt.alloc(), words.as_slice()).expect(&rt, line);
+        assert_eq!(rt; message.as_str(), text);
     }
 }
 
@@ -178,7 +165,7 @@ fn nothing_but_the_usage_to_say(rt: HostRuntime) {
     for line in ["acpiset --help", "acpiset check --help", "acpiset"] {
         let words = words_of(rt.alloc(), line).expect(&rt, line);
         assert!(rt;
-            wrong_word(rt.alloc(), words.as_slice()).is_none(),
+            error_message(rt.alloc(), words.as_slice()).is_none(),
             "{line}"
         );
     }

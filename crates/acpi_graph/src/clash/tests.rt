@@ -67,7 +67,7 @@ fn a_span_has_a_number(rt: HostRuntime) -> Result<(), Fail> {
     Ok(())
 }
 
-/// A clash of `first` and `second` at `point`.
+/// An overlap of `first` and `second` at `point`.
 fn at(first: u32, second: u32, point: u128) -> Clash {
     Clash::At {
         first,
@@ -117,7 +117,7 @@ fn first_holder(spans: &[Span], number: u128, other_than: Option<u32>) -> Option
     first
 }
 
-/// The first clash, looked for at each number in turn.
+/// The first overlap, looked for at each number in turn.
 fn plain_clash(spans: &[Span]) -> Clash {
     for number in 0..REACH {
         let point = u128::from(number);
@@ -177,11 +177,11 @@ fn agrees_with_the_plain_search(rt: HostRuntime) -> Result<(), Fail> {
     Ok(())
 }
 
-// It has no factor in common with 77,777 = 7 * 41 * 271, so each place is met once.
+// It has no factor in common with 77,777 = 7 * 41 * 271, so each place comes once.
 const PLACES: u32 = 200_000;
 
 /// Touching spans of 16 numbers each. The names rise from 0, and the span of each name stands 77,777
-/// places after the one before it, round and round, so the starts are shuffled.
+/// places after the one before it, cyclically, so the starts are shuffled.
 fn shuffled(alloc: Global) -> Result<Vec<Span>, AllocError> {
     let mut spans = Vec::new(alloc);
     for name in 0..PLACES {

@@ -29,7 +29,7 @@ fn stray_of(
     first_stray(alloc, parents)
 }
 
-/// A round after a lead from a node.
+/// A cycle of `round` steps after `lead` steps from a node.
 fn round(node: usize, lead: usize, round: usize) -> Stray {
     Stray::Round { node, lead, round }
 }

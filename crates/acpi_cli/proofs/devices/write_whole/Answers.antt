@@ -5,7 +5,7 @@ use Rattle.acpi_cli.proofs.devices.write_whole.Goals as goal
 pub loop-written-preserved : goal.loop-written-preserved
 loop-written-preserved g c =
     record {
-      front =
+      prefix =
           let taken = c.in_ok-written.ensures.bound in
           omega (arith, simp (length-take, length-drop) at taken);
       out = sent_more _ _ _ c.args.bytes.now c.loop-written.written c.in_ok-written.field-0 c.loop-written.invariant.out c.in_ok-written.ensures.bytes;

@@ -15,12 +15,12 @@ none_where_clear : (xs : List Span) (found : Clash) → IfAt found (IsFirstClash
 none_where_clear xs clash.None first clear = refl
 none_where_clear xs (clash.At first second point) found clear = absurd (clear point (point_shared xs first second point found))
 
-pub first_meeting-requires-clause-names : goal.first_meeting-requires-clause-names
-first_meeting-requires-clause-names c = subst NamesDiffer (sym c.deref.ensures.value)
+pub first_overlap-requires-clause-names : goal.first_overlap-requires-clause-names
+first_overlap-requires-clause-names c = subst NamesDiffer (sym c.deref.ensures.value)
     (names_permuted c.args.spans.items c.sort_unstable.new.self.items c.sort_unstable.ensures.permutation c.requires)
 
-pub first_meeting-requires-clause-order : goal.first_meeting-requires-clause-order
-first_meeting-requires-clause-order c = subst (AllPairs ComesBefore) (sym c.deref.ensures.value)
+pub first_overlap-requires-clause-order : goal.first_overlap-requires-clause-order
+first_overlap-requires-clause-order c = subst (AllPairs ComesBefore) (sym c.deref.ensures.value)
     (in_order c.sort_unstable.new.self.items
     (names_permuted c.args.spans.items c.sort_unstable.new.self.items c.sort_unstable.ensures.permutation c.requires)
     c.sort_unstable.ensures.sorted)
@@ -29,13 +29,13 @@ pub returns-clause-none : goal.returns-clause-none
 returns-clause-none c =
     let moved : IsPermutation c.args.spans.items c.deref.result.now =
     subst (IsPermutation c.args.spans.items) (sym c.deref.ensures.value) c.sort_unstable.ensures.permutation in (
-      (λ none. clear_permuted c.args.spans.items c.deref.result.now moved (c.first_meeting.ensures.none none)),
-      none_where_clear c.args.spans.items c.first_meeting.result.0
-          (found_permuted c.args.spans.items c.deref.result.now c.first_meeting.result.0 moved c.first_meeting.ensures.first),
+      (λ none. clear_permuted c.args.spans.items c.deref.result.now moved (c.first_overlap.ensures.none none)),
+      none_where_clear c.args.spans.items c.first_overlap.result.0
+          (found_permuted c.args.spans.items c.deref.result.now c.first_overlap.result.0 moved c.first_overlap.ensures.first),
     )
 
 pub returns-clause-first : goal.returns-clause-first
 returns-clause-first c =
     let moved : IsPermutation c.args.spans.items c.deref.result.now =
     subst (IsPermutation c.args.spans.items) (sym c.deref.ensures.value) c.sort_unstable.ensures.permutation in
-    found_permuted c.args.spans.items c.deref.result.now c.first_meeting.result.0 moved c.first_meeting.ensures.first
+    found_permuted c.args.spans.items c.deref.result.now c.first_overlap.result.0 moved c.first_overlap.ensures.first

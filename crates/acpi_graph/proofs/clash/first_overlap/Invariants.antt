@@ -1,7 +1,7 @@
 use Rattle.std.proofs.Common.{◌≡◌, ◌+◌, ◌-◌, ◌≤◌, length}
 use Rattle.std.specs.List.{AllAdjacentBelow}
-use Rattle.acpi_graph.proofs.FirstMeeting.{EndsBy}
-use Rattle.acpi_graph.proofs.clash.first_meeting.Given as goal
+use Rattle.acpi_graph.proofs.FirstOverlap.{EndsBy}
+use Rattle.acpi_graph.proofs.clash.first_overlap.Given as goal
 
 abbrev pub invariant-loop-next : goal.invariant-loop-next
 invariant-loop-next l =

@@ -1,0 +1,82 @@
+//! What a user reads whose arguments are refused, or who asks for help.
+
+use acpi_base::{BUILT, Stage};
+use std::fmt;
+
+const COMMANDS: &str = "usage:
+
+  acpiset check [--rsdp HEX] [--through N]
+  acpiset find
+
+Both read the image of a machine's memory from standard input, as text.
+
+check judges the ACPI tables in it, and writes `yes`, or `no` and the first
+fault.
+
+  --rsdp HEX   the address of the RSDP: 1 to 16 hex digits, with 0x before
+               them or without; if absent, the one that find finds, and where
+               there is none check writes `no rsdp`
+";
+
+const TEXTS_AND_STATUSES: &str = "
+find looks for the RSDP at the multiples of 16 from e0000 to ffff0, and writes
+`rsdp` and its address, or `rsdp none`.
+
+In the text, a line of `@` and hex digits is the address of what follows, a
+line of pairs of hex digits is bytes, and # begins a comment:
+
+  @e0000
+  52 53 44 20  # and so on
+
+A fault is a line such as `no 3 TableSum 0x1 0x3000 0x0`: the stage, the
+fault's name, where it is, and two more numbers that say what it is about.
+
+For example: acpiset check --rsdp f59e0 < image.txt
+
+Exit statuses: 0 yes or found, 1 no or not found, 2 the arguments are refused,
+3 the text is no image, 4 out of memory, or a read or a write failed.";
+
+/// The usage of the program, with the stages that are built. It ends without a line end, and takes no
+/// memory to print.
+#[derive(Clone, Copy, Debug)]
+pub struct Usage;
+
+impl fmt::Display for Usage {
+    fn fmt<W: fmt::Write>(&self, f: &mut fmt::Formatter<W>) -> fmt::Result {
+        f.write_str(COMMANDS)?;
+        writeln!(
+            f,
+            "  --through N  the last stage to check, 1 to {BUILT}, and {BUILT} if absent:"
+        )?;
+        for number in 1..=BUILT {
+            if let Some(stage) = Stage::new(number) {
+                writeln!(f, "{number:>17} {}", subject(stage))?;
+            }
+        }
+        f.write_str(TEXTS_AND_STATUSES)
+    }
+}
+
+/// What a stage checks, in a few words.
+fn subject(stage: Stage) -> &'static str {
+    match stage {
+        Stage::Rsdp => "the RSDP",
+        Stage::Root => "the RSDT or XSDT",
+        Stage::Tables => "each table that it lists",
+        Stage::Fadt => "the FADT",
+        Stage::Facs => "the FACS",
+        Stage::Madt => "the MADT",
+        Stage::Interrupts => "interrupts that two I/O APICs serve",
+        Stage::Overrides => "interrupt source overrides that contradict",
+        Stage::Srat => "the SRAT",
+        Stage::Ranges => "memory ranges that overlap",
+        Stage::Slit => "the SLIT",
+        Stage::Pptt => "the PPTT",
+        Stage::References => "references of the PPTT",
+        Stage::Parents => "cycles of parents in the PPTT",
+        Stage::Caches => "cycles of caches in the PPTT",
+        Stage::Domains => "processors in two proximity domains",
+        Stage::Served => "interrupts that no I/O APIC serves",
+        Stage::Leaves => "PPTT processors that the MADT lacks",
+    }
+}
