@@ -1,4 +1,4 @@
--- What a check is told beside the image.
+-- What a check is given beside the image.
 use Rattle.std.specs.Prelude.{◌≡◌, ℕ, ◌^◌, ◌<◌, ◌≤◌, Some, refl}
 use Rattle.std.specs.Ordering.{nat_cmp}
 use Rattle.std.specs.Coded.{Coded, code_by, coded×, coded_ℕ}
@@ -16,7 +16,7 @@ pub record IsPolicy (q : PolicyValue) : Type 0 where
   pub default_fits : (1 ≤ q.default_inputs) × (q.default_inputs ≤ 256)
   pub inputs_fit : (address count : ℕ) → get q.inputs address ≡ Some count → (address < 2 ^ 32) × (1 ≤ count) × (count ≤ 256)
 
--- how a model's value is told apart: as its three parts
+-- how two values are distinguished: as its three parts
 abbrev pub policy_code : Coded PolicyValue
 policy_code =
     code_by

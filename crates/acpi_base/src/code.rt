@@ -6,7 +6,7 @@ ghost use Rattle.acpi_base.specs.Codes.{code_number, code_name, stage_of};
 use crate::stage::Stage;
 
 /// What is wrong with a set of tables. `docs/FAULTS.md` says what each fault means for an operating
-/// system and what a firmware author mends.
+/// system and what a firmware author fixes.
 #[derive(Clone, Copy, Debug, PartialEq, Eq)]
 pub enum Code {
     /// The 20 bytes of the RSDP are not all held.
@@ -117,9 +117,9 @@ pub enum Code {
     DanglingResource,
     /// A cache's Next Level is neither 0 nor a cache.
     DanglingCache,
-    /// A node's parents lead round in a circle.
+    /// A node's parents form a cycle.
     ParentCycle,
-    /// A cache's next levels lead round in a circle.
+    /// A cache's next levels form a cycle.
     CacheCycle,
     /// An enabled processor has two proximity domains.
     TwoDomains,

@@ -1,4 +1,4 @@
-//! What a check is told beside the image.
+//! What a check is given beside the image.
 
 ghost use Rattle.std.specs.Prelude.{◌≡◌, ◌≤◌, ◌<◌, ◌^◌, ◌↔◌, IfOk, IfErr, OkIff};
 ghost use Rattle.std.specs.FinMap.{empty};
@@ -13,12 +13,12 @@ pub enum PolicyFault {
     /// A count of inputs lies outside 1 to 256.
     #[error("an I/O APIC has 1 to 256 inputs")]
     BadCount,
-    /// No memory was found for the count.
+    /// Out of memory for the count.
     #[error("out of memory")]
     Memory,
 }
 
-/// What a check is told beside the image: the RSDP's address, and how many inputs an I/O APIC has,
+/// What a check is given beside the image: the RSDP's address, and how many inputs an I/O APIC has,
 /// which no table says. Contracts see the address, the default count and a map of counts by address.
 #[derive(Debug, Drop)]
 pub struct Policy {

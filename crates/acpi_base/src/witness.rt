@@ -12,14 +12,14 @@ pub struct Witness {
     pub code: Code,
     /// An address, a slot's number or an offset.
     pub at: u64,
-    /// A second address or offset, or how many steps lead to a circle.
+    /// A second address or offset, or how many steps lead to a cycle.
     pub other: u64,
-    /// A number that two hold, or how many steps a circle has.
+    /// A number that two hold, or how many steps a cycle has.
     pub point: u64,
 }
 
 impl Witness {
-    /// A fault that one number tells: the other two are 0.
+    /// A fault that one number describes: the other two are 0.
     pub fn at(code: Code, at: u64) -> Witness
         ensures { result ≡ record { code = code; at = at; other = 0; point = 0 } }
     {

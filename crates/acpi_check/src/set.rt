@@ -9,7 +9,7 @@ use acpi_read::{Fadt, Table};
 pub struct Set<'a> {
     /// The image that holds the set.
     pub image: &'a Image,
-    /// What the check is told beside it.
+    /// What the check is given beside it.
     pub policy: &'a Policy,
     /// `FACP`.
     pub fadt: Fadt<'a>,
