@@ -53,10 +53,10 @@ form_of_none [] none = refl
 form_of_none (b ∷ rest) none = absurd (omega arith)
 
 -- what is left, by its first byte
-pub form_of_front : (line : List ℕ) → 0 < length line → form_of line ≡ (if eqb (get_or line 0 0) 64 then address_of (drop 1 line) else data_from [] None line)
+pub form_of_first : (line : List ℕ) → 0 < length line → form_of line ≡ (if eqb (get_or line 0 0) 64 then address_of (drop 1 line) else data_from [] None line)
 unfolding form_of
-form_of_front [] some = absurd (omega arith)
-form_of_front (b ∷ rest) some = refl
+form_of_first [] some = absurd (omega arith)
+form_of_first (b ∷ rest) some = refl
 
 -- the first digit of a pair
 pub data_from_first : (bytes line : List ℕ) (i digit : ℕ) → i < length line → digit_of (get_or line i 0) ≡ Some digit

@@ -77,9 +77,9 @@ place_inside address (Bad ∷ block) back k none h = place_inside address block 
 place_from_stands : (lines : List Line) (n a : ℕ) → StandsAt lines n a → place_of None lines n ≡ Some a
 place_from_stands lines n a s =
     ap (λ (x : List Line). place_of None x n) s.split
-    ∙ ap (place_of None (s.front ++ Address s.address ∷ (s.block ++ s.back))) s.byte
-    ∙ place_behind None s.front s.address (s.block ++ s.back) s.k
-    ∙ place_inside s.address s.block s.back s.k s.no_other s.within
+    ∙ ap (place_of None (s.before ++ Address s.address ∷ (s.block ++ s.after))) s.byte
+    ∙ place_behind None s.before s.address (s.block ++ s.after) s.k
+    ∙ place_inside s.address s.block s.after s.k s.no_other s.within
     ∙ ap Some (sym s.place)
 
 -- ---- and back
@@ -88,9 +88,9 @@ place_from_stands lines n a s =
 record StandsFirst (next : Option ℕ) (lines : List Line) (n a : ℕ) : Type 0 where
   address : ℕ
   block : List Line
-  back : List Line
+  after : List Line
   is_next : next ≡ Some address
-  split : lines ≡ block ++ back
+  split : lines ≡ block ++ after
   no_other : NoAddress block
   within : n < length (all_data block)
   place : a ≡ address + n
@@ -112,7 +112,7 @@ more_first line next later lines n k a other q step s =
     record {
       address = before.0;
       block = line ∷ s.block;
-      back = s.back;
+      after = s.after;
       is_next = before.1;
       split = ap (λ x. line ∷ x) s.split;
       no_other = no_address_more line s.block other s.no_other;
@@ -122,17 +122,17 @@ more_first line next later lines n k a other q step s =
 
 more_front : (line : Line) (lines : List Line) (n k a : ℕ) → n ≡ length (data_of line) + k → StandsAt lines k a → StandsAt (line ∷ lines) n a
 more_front line lines n k a q s =
-    let byte : k ≡ length (all_data s.front) + s.k = s.byte in
+    let byte : k ≡ length (all_data s.before) + s.k = s.byte in
     record {
-      front = line ∷ s.front;
+      before = line ∷ s.before;
       address = s.address;
       block = s.block;
-      back = s.back;
+      after = s.after;
       k = s.k;
       split = ap (λ x. line ∷ x) s.split;
       no_other = s.no_other;
       within = s.within;
-      byte = omega (arith, length-append (data_of line) (all_data s.front));
+      byte = omega (arith, length-append (data_of line) (all_data s.before));
       place = s.place;
     }
 
@@ -142,10 +142,10 @@ first_behind address lines n a s =
     let same : address ≡ s.address = cc (s.is_next) in
     let place : a ≡ s.address + n = s.place in
     record {
-      front = [];
+      before = [];
       address = address;
       block = s.block;
-      back = s.back;
+      after = s.after;
       k = n;
       split = ap (λ x. Address address ∷ x) s.split;
       no_other = s.no_other;
@@ -187,7 +187,7 @@ stands_from_place next (Data bytes ∷ rest) n a e =
           inl (record {
             address = at.0;
             block = Data bytes ∷ [];
-            back = rest;
+            after = rest;
             is_next = at.1;
             split = refl;
             no_other = no_address_more (Data bytes) [] (λ other f. cc) (λ other c. absurd (omega (arith, c.1)));

@@ -77,7 +77,7 @@ fn cut_blanks(line: &[u8]) -> &[u8]
     &[]
 }
 
-/// How many hex digits stand at the front.
+/// How many hex digits the text begins with.
 fn digit_count(text: &[u8]) -> usize
     ensures { result ≡ length (take_while is_hex_digit text.now) }
 {
@@ -143,7 +143,7 @@ fn parse_data(line: &[u8], bytes: &mut Vec<u8>) -> Result<bool, AllocError>
 }
 
 /// What a line says, its LF left off. The bytes of a data line go into the vector, in place of what it had.
-#[tactic(auto, unfolding(crate::specs::ImageText::line_of), using(crate::proofs::LineLemmas::form_of_front))]
+#[tactic(auto, unfolding(crate::specs::ImageText::line_of), using(crate::proofs::LineLemmas::form_of_first))]
 pub fn parse_line(line: &[u8], bytes: &mut Vec<u8>) -> Result<Form, AllocError>
     ensures { IfOk result (λ form. line_with form bytes.new.items ≡ line_of line.now) }
 {
