@@ -113,6 +113,16 @@ impl Image {
         Ok(())
     }
 
+    /// States that each address of the image is below 2^64 and each of its bytes below 256. A caller that is lent an
+    /// image calls this where its proof needs these bounds: they are ensured where an image is made, and a reference
+    /// to it does not carry them. Does nothing when it runs, and takes no memory.
+    pub fn numbers_fit(&self)
+        ensures fit { IsImage self.now }
+    {
+        // Reading a field opens the image's invariant to the proof.
+        let _pieces = self.segments.len();
+    }
+
     /// Returns the byte at an address, or `None` where the address is not held. Takes no memory.
     pub fn byte_at(&self, address: u64) -> Option<u8>
         ensures { result ≡ byte_of self.now address }

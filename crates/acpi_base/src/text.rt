@@ -1,5 +1,8 @@
 //! Why an image text could not be read.
 
+#[cfg(test)]
+mod tests;
+
 use thiserror::Error;
 
 /// Why an image text could not be read. Lines count from 1.
