@@ -1,13 +1,12 @@
 -- Facts on the reading of a text by lines, and on the answers of `read_image`.
-use Rattle.std.proofs.Common.{◌≡◌, ◌⊎◌, inl, inr, ℕ, ◌+◌, ◌-◌, ◌≤◌, List, length, drop, refl, ap, ◌∙◌, arith, true, false, ltb}
+use Rattle.std.proofs.Common.{◌≡◌, inl, inr, ℕ, ◌+◌, ◌-◌, ◌≤◌, List, length, drop, refl, ap, ◌∙◌, arith, true, false, ltb}
 use Rattle.std.proofs.lemmas.List.{length-drop}
 use Rattle.std.proofs.lemmas.Bool.{le-ltb}
 use Rattle.std.specs.Prelude.{Option, Result, Ok, Err, OnErr, IfOk, IfErr, MatchResult}
 use Rattle.std.specs.Io.KnownBytes.{IsAtEnd}
 use Rattle.acpi_base.specs.Memory.{Memory}
-use Rattle.acpi_base.specs.ImageText.{Reading, start, read_line, read_lines, ended_lines, last_line, read_text, read_prefix, IsText}
-use Rattle.acpi_base.specs.TextReading.{IsFaultlessPrefix, IsRefusal, Refuses, is_of_text, CountsRead}
-use Rattle.acpi_base.specs.Tally.{CountsFailure}
+use Rattle.acpi_base.specs.ImageText.{Reading, start, read_line, read_lines, ended_lines, last_line, read_text, IsText}
+use Rattle.acpi_base.specs.TextReading.{IsFaultlessPrefix, IsRefusal, Refuses, is_of_text}
 use Rattle.acpi_base.specs.declared.text.TextFault.{TextFault}
 use Rattle.acpi_base.specs.declared.text.TextFault.TheVariants as text
 
@@ -49,28 +48,9 @@ whole_refused bytes left text.TooLong end h = inr (end, of_text _ _ refl h)
 whole_refused bytes left text.Read end h = absurd (not_read _ h)
 whole_refused bytes left text.Memory end h = tt
 
-pub prefix_refused : (bytes : List ℕ) (left : Option (List ℕ)) (fault : TextFault) → Refuses (read_prefix bytes) fault → IsRefusal bytes left fault
-prefix_refused bytes left (text.BadLine line) h = inl (of_text _ _ refl h)
-prefix_refused bytes left (text.NoAddress line) h = inl (of_text _ _ refl h)
-prefix_refused bytes left (text.Twice address) h = inl (of_text _ _ refl h)
-prefix_refused bytes left (text.PastEnd line) h = inl (of_text _ _ refl h)
-prefix_refused bytes left text.TooLong h = inl (of_text _ _ refl h)
-prefix_refused bytes left text.Read h = absurd (not_read _ h)
-prefix_refused bytes left text.Memory h = tt
-
 -- what is answered of a text that was read to its end
 pub whole_answer : (bytes : List ℕ) (left : Option (List ℕ)) (answer : Result Memory TextFault) → IsAtEnd left
     → IfOk answer (IsText bytes) → IfErr answer (Refuses (read_text bytes))
     → MatchResult answer (λ image. IsAtEnd left × IsText bytes image) (IsRefusal bytes left)
 whole_answer bytes left (Ok image) end ok err = (end, ok)
 whole_answer bytes left (Err fault) end ok err = whole_refused bytes left fault end err
-
--- the count, where no read failed or another fault was found first
-pub count_answer : (old new : ℕ) (read : Result Reading TextFault) (fault : TextFault) → Refuses read fault → (new ≡ old) ⊎ CountsFailure old new → CountsRead old new fault
-count_answer old new read (text.BadLine line) h either = either
-count_answer old new read (text.NoAddress line) h either = either
-count_answer old new read (text.Twice address) h either = either
-count_answer old new read (text.PastEnd line) h either = either
-count_answer old new read text.TooLong h either = either
-count_answer old new read text.Read h either = absurd (not_read _ h)
-count_answer old new read text.Memory h either = either

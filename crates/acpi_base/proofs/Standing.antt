@@ -27,11 +27,7 @@ first_later next count later n = let q : count + n - count ≡ n = omega arith i
 
 pub first_cases : (next : Option ℕ) (count : ℕ) (later : ℕ → Option ℕ) (n x : ℕ) → first_then next count later n ≡ Some x
     → ((n < count) × (option_map (λ a. a + n) next ≡ Some x)) ⊎ ((k : ℕ) × (n ≡ count + k) × (later k ≡ Some x))
-first_cases next count later n x e =
-    elim (cases_lt n count) [
-      | inl l ↦ inl (l, sym (first_here next count later n l) ∙ e)
-      | inr l ↦ (let q : n ≡ count + (n - count) = omega arith in inr (n - count, q, sym (first_later next count later (n - count)) ∙ ap (first_then next count later) (sym q) ∙ e))
-    ]
+first_cases next count later n x e = grind (arith, cases_lt, first_here, first_later)
 
 -- ---- from the parts of a text to the place
 
@@ -40,12 +36,7 @@ place_behind : (next : Option ℕ) (front : List Line) (address : ℕ) (more : L
 place_behind next [] address more k = let q : 0 + k ≡ k = omega arith in rw q refl
 place_behind next (Blank ∷ front) address more k = place_behind next front address more k
 place_behind next (Address other ∷ front) address more k = place_behind (Some other) front address more k
-place_behind next (Data bytes ∷ front) address more k =
-    let q : length (bytes ++ all_data front) + k ≡ length bytes + (length (all_data front) + k) = omega (arith, length-append bytes (all_data front)) in
-    let later = place_of (option_map (λ a. a + length bytes) next) (front ++ Address address ∷ more) in
-    ap (first_then next (length bytes) later) q
-    ∙ first_later next (length bytes) later (length (all_data front) + k)
-    ∙ place_behind (option_map (λ a. a + length bytes) next) front address more k
+place_behind next (Data bytes ∷ front) address more k = grind (arith, length-append, first_later, place_behind (option_map (λ a. a + length bytes) next) front address more k)
 place_behind next (Bad ∷ front) address more k = place_behind next front address more k
 
 abbrev NoAddress : List Line → Type 0
@@ -75,12 +66,7 @@ place_inside address (Data bytes ∷ block) back k none h =
 place_inside address (Bad ∷ block) back k none h = place_inside address block back k (no_address_rest Bad block none) h
 
 place_from_stands : (lines : List Line) (n a : ℕ) → StandsAt lines n a → place_of None lines n ≡ Some a
-place_from_stands lines n a s =
-    ap (λ (x : List Line). place_of None x n) s.split
-    ∙ ap (place_of None (s.before ++ Address s.address ∷ (s.block ++ s.after))) s.byte
-    ∙ place_behind None s.before s.address (s.block ++ s.after) s.k
-    ∙ place_inside s.address s.block s.after s.k s.no_other s.within
-    ∙ ap Some (sym s.place)
+place_from_stands lines n a s = grind (arith, place_behind, place_inside)
 
 -- ---- and back
 
@@ -173,11 +159,7 @@ more_stands line next later lines n k a other q step (inr s) = inr (more_front l
 stands_from_place : (next : Option ℕ) (lines : List Line) (n a : ℕ) → place_of next lines n ≡ Some a → Stands next lines n a
 stands_from_place next [] n a e = absurd (cc)
 stands_from_place next (Blank ∷ rest) n a e = more_stands Blank next next rest n n a (λ other f. cc) (omega arith) (same_next next) (stands_from_place next rest n a e)
-stands_from_place next (Address address ∷ rest) n a e =
-    elim (stands_from_place (Some address) rest n a e) [
-      | inl s ↦ inr (first_behind address rest n a s)
-      | inr s ↦ inr (more_front (Address address) rest n n a (omega arith) s)
-    ]
+stands_from_place next (Address address ∷ rest) n a e = grind (arith, first_behind, more_front, stands_from_place (Some address) rest n a e)
 stands_from_place next (Data bytes ∷ rest) n a e =
     let later = option_map (λ x. x + length bytes) next in
     elim (first_cases next (length bytes) (place_of later rest) n a e) [

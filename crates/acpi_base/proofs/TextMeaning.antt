@@ -1,18 +1,17 @@
 -- Reading a text by lines gives what the text means.
-use Rattle.std.proofs.Common.{◌≡◌, ◌⊎◌, inl, inr, ℕ, zero, suc, ◌+◌, ◌-◌, ◌^◌, ◌<◌, ◌≤◌, List, [], ◌∷◌, ◌++◌, length, refl, sym, ap, subst, ◌∙◌, arith, true, false, eqb, ltb, if◌then◌else◌, length-append, slice_index}
+use Rattle.std.proofs.Common.{◌≡◌, ◌⊎◌, inl, inr, ℕ, zero, suc, ◌+◌, ◌-◌, ◌^◌, ◌<◌, ◌≤◌, List, [], ◌∷◌, ◌++◌, length, refl, sym, ap, subst, ◌∙◌, arith, true, false, eqb, if◌then◌else◌, length-append, slice_index, rules}
 use Rattle.std.proofs.lemmas.Bool.{cases_lt, le-ltb, ltb-false, or_parts, or_from}
 use Rattle.std.proofs.lemmas.Option.{slice_get-get_or}
-use Rattle.std.proofs.lemmas.List.Elements.{All-cons, All-nil, All-head, All-tail}
+use Rattle.std.proofs.lemmas.List.Elements.{All-cons, All-head, All-tail}
 use Rattle.std.specs.Prelude.{Option, None, Some, IsSome, is_some, Result, Ok, Err, nat_lt, map, ◌↔◌}
 use Rattle.std.specs.Option.{option_map_or}
 use Rattle.std.specs.List.{All, Contains, slice_get}
 use Rattle.std.specs.FinMap.{empty, get-empty}
 use Rattle.std.specs.Ordering.{nat_cmp}
-use Rattle.acpi_base.specs.Memory.{Memory, byte_of, first_of, first_held, with_bytes}
+use Rattle.acpi_base.specs.Memory.{Memory, byte_of, first_held, with_bytes}
 use Rattle.acpi_base.specs.Adding.{add_refusal}
 use Rattle.acpi_base.specs.ImageText.{Line, Blank, Address, Data, Bad, Reading, start, on_ok, max_line, max_text, is_too_long, data_fault, put_data, take_line, line_of, read_line, read_lines, ended_from, last_from, ended_lines, last_line, read_text, IsText, IsRefused}
 use Rattle.acpi_base.specs.declared.text.TextFault.{TextFault}
-use Rattle.acpi_base.specs.declared.text.TextFault.TheVariants as text
 use Rattle.acpi_base.specs.TextMeaning.{text_lines, said, all_data, IsGoodText}
 use Rattle.acpi_base.proofs.Images.{same_memory, fits_unless}
 use Rattle.acpi_base.proofs.Places.{nothing_held}
@@ -58,13 +57,7 @@ none_given m a b (inl e) = e
 none_given m a b (inr (n, p, d)) = absurd (cc)
 
 nothing_makes : (m f : Memory) → m ≡ f → Makes (λ n. None) [] m f
-nothing_makes m f e = record {
-  stands = λ n h. absurd (omega arith);
-  below = λ n a p. absurd (cc);
-  once = λ n k a p q. absurd (cc);
-  free = λ n a p. absurd (cc);
-  image = λ a b. (λ p. inl (ap (λ x. byte_of x a) e ∙ p), λ g. ap (λ x. byte_of x a) (sym e) ∙ none_given m a b g);
-}
+nothing_makes m f e = grind (arith, none_given)
 
 made_of_nothing : (m f : Memory) → Makes (λ n. None) [] m f → m ≡ f
 made_of_nothing m f made = same_memory m f (λ x. same_options (byte_of m x) (byte_of f x) (λ b. (λ p. (made.image x b).1 (inl p), λ p. none_given m x b ((made.image x b).0 p))))
@@ -125,21 +118,11 @@ taken m a bytes e =
     (ltb-false (2 ^ 64) (a + length bytes) both.0, λ x l h. nothing_held (byte_of m) a (length bytes) x both.1 l h)
 
 not_refused : (m : Memory) (a : ℕ) (bytes : List ℕ) → a + length bytes ≤ 2 ^ 64 → IsRoom m a (length bytes) → add_refusal m a bytes ≡ None
-not_refused m a bytes fits room =
-    let below : ltb (2 ^ 64) (a + length bytes) ≡ false = le-ltb (2 ^ 64) (a + length bytes) fits in
-    let none : first_of (byte_of m) a (length bytes) ≡ None = first_of_none (byte_of m) a (length bytes) (λ k h. room (a + k) (omega arith) (omega arith)) in
-    rw (below, none) refl
+not_refused m a bytes fits room = grind (arith, le-ltb, first_of_none)
 
 -- an address that the image with bytes in it has not
 still_free : (m : Memory) (a : ℕ) (bytes : List ℕ) (x : ℕ) → byte_of (with_bytes m a bytes) x ≡ None → (byte_of m x ≡ None) × ((x < a) ⊎ (a + length bytes ≤ x))
-still_free m a bytes x e =
-    elim (cases_lt x a) [
-      | inl l ↦ (sym (byte_of-with_bytes_outside m a bytes x (inl l)) ∙ e, inl l)
-      | inr l ↦ elim (cases_lt x (a + length bytes)) [
-        | inl h ↦ absurd (none_some (byte_of (with_bytes m a bytes) x) _ e (byte_of-with_bytes_within m a bytes x l h))
-        | inr h ↦ (sym (byte_of-with_bytes_outside m a bytes x (inr h)) ∙ e, inr h)
-      ]
-    ]
+still_free m a bytes x e = grind (arith, cases_lt, byte_of-with_bytes_outside, none_some, byte_of-with_bytes_within)
 
 -- bytes that are taken, and then the rest
 make_more : (a : ℕ) (bytes : List ℕ) (later : ℕ → Option ℕ) (rest : List ℕ) (m f : Memory) → add_refusal m a bytes ≡ None → Makes later rest (with_bytes m a bytes) f
@@ -264,8 +247,7 @@ goes_makes next m [] f g = nothing_makes m f g
 goes_makes next m (Blank ∷ rest) f g = goes_makes next m rest f g
 goes_makes next m (Address address ∷ rest) f g = goes_makes (Some address) m rest f g
 goes_makes None m (Data bytes ∷ rest) f g = absurd g
-goes_makes (Some a) m (Data bytes ∷ rest) f g =
-    make_more a bytes (place_of (Some (a + length bytes)) rest) (all_data rest) m f g.0 (goes_makes (Some (a + length bytes)) (with_bytes m a bytes) rest f g.1)
+goes_makes (Some a) m (Data bytes ∷ rest) f g = search (rules, make_more, place_of, goes_makes (Some (a + length bytes)) (with_bytes m a bytes) rest f g.1)
 goes_makes next m (Bad ∷ rest) f g = absurd g
 
 goes_none_bad : (next : Option ℕ) (m : Memory) (lines : List Line) (f : Memory) → Goes next m lines f → ¬ Contains lines Bad
@@ -289,8 +271,7 @@ rest_contains line lines x c = (suc c.0, omega (arith, c.1), c.2)
 makes_goes : (next : Option ℕ) (m : Memory) (lines : List Line) (f : Memory) → HasBytes lines → ¬ Contains lines Bad → LinesMake next lines m f → Goes next m lines f
 makes_goes next m [] f some good made = made_of_nothing m f made
 makes_goes next m (Blank ∷ rest) f some good made = makes_goes next m rest f (λ bytes c. some bytes (rest_contains Blank rest _ c)) (λ c. good (rest_contains Blank rest _ c)) made
-makes_goes next m (Address address ∷ rest) f some good made =
-    makes_goes (Some address) m rest f (λ bytes c. some bytes (rest_contains (Address address) rest _ c)) (λ c. good (rest_contains (Address address) rest _ c)) made
+makes_goes next m (Address address ∷ rest) f some good made = grind (arith, rest_contains, makes_goes (Some address) m rest f (λ bytes c. some bytes (rest_contains (Address address) rest _ c)) (λ c. good (rest_contains (Address address) rest _ c)) made)
 makes_goes None m (Data bytes ∷ rest) f some good made =
     let one : 0 < length bytes = some bytes (0, omega arith, refl) in
     let is : is_some (first_then None (length bytes) (place_of None rest) 0) ≡ true = made.stands 0 (omega (arith, length-append bytes (all_data rest))) in
@@ -305,12 +286,7 @@ makes_goes next m (Bad ∷ rest) f some good made = absurd (good (0, omega arith
 put_goes : (r : Reading) (n : ℕ) (bytes : List ℕ) (next : Option ℕ) (s : Reading) → put_data r n bytes next ≡ Ok s
     → (rest : List Line) (f : Memory) → Goes s.next s.image rest f → Goes next r.image (Data bytes ∷ rest) f
 put_goes r n bytes None s e rest f g = absurd (cc)
-put_goes r n bytes (Some a) s e rest f g =
-    let after : Reading = record r { next = Some (a + length bytes); image = with_bytes r.image a bytes } in
-    elim (add_refusal r.image a bytes) as (λ refusal. add_refusal r.image a bytes ≡ refusal → option_map_or (λ fault. Err (data_fault n fault)) refusal (Ok after) ≡ Ok s → Goes (Some a) r.image (Data bytes ∷ rest) f) [
-      | None ↦ λ p q. (let same : after ≡ s = cc in (p, subst (λ (x : Reading). Goes x.next x.image rest f) (sym same) g))
-      | Some fault ↦ λ p q. absurd (cc)
-    ] refl e
+put_goes r n bytes (Some a) s e rest f g = grind (arith)
 
 take_goes : (r : Reading) (n : ℕ) (line : Line) (s : Reading) → take_line r n line ≡ Ok s
     → (rest : List Line) (f : Memory) → Goes s.next s.image rest f → Goes r.next r.image (line ∷ rest) f
@@ -336,18 +312,7 @@ goes_take r n Bad rest f g = absurd g
 read_line_parts : (r : Reading) (line : List ℕ) (ending : ℕ) (s : Reading) → read_line r line ending ≡ Ok s
     → (length line ≤ max_line) × (s.through ≡ r.through + length line + ending) × (s.through ≤ max_text) × ((rest : List Line) (f : Memory) → Goes s.next s.image rest f → Goes r.next r.image (line_of line ∷ rest) f)
 unfolding read_line
-read_line_parts r line ending s e =
-    let through : ℕ = r.through + length line + ending in
-    let before : Reading = record r { lines = r.lines + 1; through = through } in
-    elim (is_too_long (length line) through)
-    as (λ t. is_too_long (length line) through ≡ t → (if t then Err text.TooLong else take_line before (r.lines + 1) (line_of line)) ≡ Ok s
-    → (length line ≤ max_line) × (s.through ≡ r.through + length line + ending) × (s.through ≤ max_text) × ((rest : List Line) (f : Memory) → Goes s.next s.image rest f → Goes r.next r.image (line_of line ∷ rest) f)) [
-      | true ↦ λ long f. absurd (cc)
-      | false ↦ λ short f.
-          let parts = or_parts (nat_lt max_line (length line)) (nat_lt max_text through) short in
-          let same : s.through ≡ through = take_line_keeps before (r.lines + 1) (line_of line) s f in
-          (ltb-false max_line (length line) parts.0, same, subst (λ x. x ≤ max_text) (sym same) (ltb-false max_text through parts.1), take_goes before (r.lines + 1) (line_of line) s f)
-    ] refl e
+read_line_parts r line ending s e = grind (arith, or_parts, take_line_keeps, ltb-false, take_goes)
 
 read_line_from : (r : Reading) (line : List ℕ) (ending : ℕ) (rest : List Line) (f : Memory) → length line ≤ max_line → r.through + length line + ending ≤ max_text → Goes r.next r.image (line_of line ∷ rest) f
     → (s : Reading) × (read_line r line ending ≡ Ok s) × (s.through ≡ r.through + length line + ending) × Goes s.next s.image rest f
@@ -373,11 +338,7 @@ IsShort line = length line ≤ max_line
 rest_parts : (r : Reading) (ended : List (List ℕ)) (last : List ℕ) (s : Reading) → read_rest r ended last ≡ Ok s
     → All IsShort (ended ++ last ∷ []) × (r.through + total ended + length last ≤ max_text) × Goes r.next r.image (map line_of (ended ++ last ∷ [])) s.image
 unfolding read_lines
-rest_parts r [] last s e =
-    let one = read_line_parts r last 0 s e in
-    let same = one.1 in
-    let fits = one.2 in
-    (All-cons IsShort last [] one.0 (All-nil IsShort), omega arith, one.3 [] s.image refl)
+rest_parts r [] last s e = grind (arith, read_line_parts)
 rest_parts r (line ∷ ended) last s e =
     elim (read_line r line 1)
     as (λ x. read_line r line 1 ≡ x → on_ok (on_ok x (λ t. read_lines t ended)) (λ t. read_line t last 0) ≡ Ok s
