@@ -10,6 +10,7 @@ pub mod HeldBytes
 pub mod Held
 pub mod Images
 pub mod Joins
+mod DataImages
 mod LineLemmas
 pub mod Listed
 mod MachineLemmas

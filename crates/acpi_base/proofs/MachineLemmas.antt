@@ -10,10 +10,10 @@ use Rattle.acpi_base.specs.TextMachine.{Standing, Going, Stopped, beginning, lin
 use Rattle.acpi_base.specs.declared.text.TextFault.{TextFault}
 use Rattle.acpi_base.specs.declared.text.TextFault.TheVariants as text
 
-pub run-append : (s : Standing) (xs ys : List ℕ) → run s (xs ++ ys) ≡ run (run s xs) ys
+pub run_append : (s : Standing) (xs ys : List ℕ) → run s (xs ++ ys) ≡ run (run s xs) ys
 unfolding run
-run-append s [] ys = refl
-run-append s (b ∷ xs) ys = run-append (step s b) xs ys
+run_append s [] ys = refl
+run_append s (b ∷ xs) ys = run_append (step s b) xs ys
 
 run-stopped : (fault : TextFault) (bytes : List ℕ) → run (Stopped fault) bytes ≡ Stopped fault
 unfolding run
@@ -197,4 +197,4 @@ run_stops bytes fault = (
 pub prefix_is_decided : (bytes more : List ℕ) (fault : TextFault) → IsRefusedPrefix bytes fault → IsRefused (bytes ++ more) fault
 prefix_is_decided bytes more fault refused =
     let stops : run beginning bytes ≡ Stopped fault = stopped_by (run beginning bytes) fault (run_reads_prefix bytes ∙ refused) in
-    sym (run_reads_text (bytes ++ more)) ∙ ap end_text (run-append beginning bytes more ∙ ap (λ s. run s more) stops ∙ run-stopped fault more)
+    sym (run_reads_text (bytes ++ more)) ∙ ap end_text (run_append beginning bytes more ∙ ap (λ s. run s more) stops ∙ run-stopped fault more)

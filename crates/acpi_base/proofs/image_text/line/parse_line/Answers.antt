@@ -4,13 +4,6 @@ use Rattle.acpi_base.specs.ImageText.{without_comment, skip_blanks, form_of, add
 use Rattle.acpi_base.proofs.LineLemmas.{slice_rest, line_of_rest, form_of_none, form_of_first}
 use Rattle.acpi_base.proofs.image_text.line.parse_line.Goals as goal
 
-pub returns-then-is_empty : goal.returns-then-is_empty
-returns-then-is_empty c =
-    let rest = c.cut_blanks-rest.result.now in
-    let is = c.cut_blanks-rest.ensures ∙ ap skip_blanks (c.cut_comment.ensures ∙ ap without_comment c.cut_cr.ensures) in
-    let none : length rest ≡ 0 = grind (arith, nat_tests) in
-    sym (line_of_rest c.args.line.now rest is ∙ form_of_none rest none)
-
 pub returns-then-rest-eq64 : goal.returns-then-rest-eq64
 returns-then-rest-eq64 c =
     let rest = c.cut_blanks-rest.result.now in
