@@ -1,4 +1,5 @@
 -- What a run holds, and what an image holds once bytes are put in.
+use Rattle.std.proofs.lemmas.Grind.{common_steps}
 use Rattle.std.proofs.Common.{◌≡◌, ℕ, zero, suc, ◌+◌, ◌-◌, ◌<◌, ◌≤◌, ◌⊎◌, inl, inr, Bool, true, false, cond, List, [], ◌∷◌, length, get_or, take, drop, slice_get, slice_index, Option, Some, None, IsSome, is_some, refl, sym, ap, ◌∙◌, arith, drop-cons}
 use Rattle.std.specs.Prelude.{nat_lt, ◌==◌}
 use Rattle.std.specs.Option.{option_or}
@@ -8,9 +9,9 @@ use Rattle.std.specs.FinMap.{get, get-insert, get-empty}
 use Rattle.std.proofs.lemmas.Bool.{cases_lt}
 use Rattle.std.proofs.lemmas.Bool.Decides.{nat_tests}
 use Rattle.std.proofs.lemmas.Option.{slice_get_past, slice_get-get_or}
-use Rattle.acpi_base.specs.Memory.{Memory, byte_of, run_of, first_of, with_bytes, cons_both, bytes_at}
+use Rattle.acpi_base.specs.Memory.{Memory, byte_of, run_of, first_of, with_bytes, cons_both}
 use Rattle.acpi_base.specs.Segments.{Run, held, end_of, lookup, memory_of}
-use Rattle.acpi_base.proofs.Runs.{run_of_none, run_of-from_each, run_of-agree, first_of_none, first_of_at}
+use Rattle.acpi_base.proofs.Runs.{run_of_none, first_of_none, first_of_at}
 
 pub held_below : (r : Run) (a : ℕ) → a < r.base → held r a ≡ None
 held_below r a h = grind (arith, nat_tests)
@@ -28,25 +29,11 @@ pub held_some : (r : Run) (a : ℕ) → r.base ≤ a → a < end_of r → IsSome
 held_some r a l h = ap is_some (held_at r a l h)
 
 pub held_inside : (r : Run) (a : ℕ) → IsSome (held r a) → (r.base ≤ a) × (a < end_of r)
-held_inside r a s =
-    elim (cases_lt a r.base) [
-      | inl l ↦ absurd (let e : held r a ≡ None = held_below r a l in let f : is_some (held r a) ≡ false = ap is_some e in cc)
-      | inr l ↦ elim (cases_lt a (end_of r)) [
-        | inl m ↦ (l, m)
-        | inr m ↦ absurd (let e : held r a ≡ None = held_past r a m in let f : is_some (held r a) ≡ false = ap is_some e in cc)
-      ]
-    ]
+held_inside r a s = grind (arith, cases_lt, held_below, held_past)
 
 -- a run that starts with b is b, and then the rest
 held-cons : (a b : ℕ) (bs : List ℕ) (x : ℕ) → held (record { base = a; bytes = b ∷ bs }) x ≡ cond (x == a) (Some b) (held (record { base = a + 1; bytes = bs }) x)
-held-cons a b bs x =
-    elim (cases_lt x a) [
-      | inl l ↦ grind (arith, nat_tests)
-      | inr l ↦ elim (cases_lt a x) [
-        | inr m ↦ (let e : x - a ≡ 0 = omega arith in let f : slice_get (b ∷ bs) (x - a) ≡ Some b = rw e refl in grind (arith, nat_tests))
-        | inl m ↦ (let e : x - a ≡ suc (x - (a + 1)) = omega arith in let f : slice_get (b ∷ bs) (x - a) ≡ slice_get bs (x - (a + 1)) = rw e refl in grind (arith, nat_tests))
-      ]
-    ]
+held-cons a b bs x = grind (arith, cases_lt)
 
 held-either : (b : Bool) → ◌≡◌ {A = Option ℕ} (cond b None None) None
 held-either true = refl
@@ -73,44 +60,39 @@ byte_of-with_bytes m a (b ∷ bs) x =
     ∙ or-cond (x == a) b (held (record { base = a + 1; bytes = bs }) x) (byte_of m x)
     ∙ ap (λ o. option_or o (byte_of m x)) (sym (held-cons a b bs x))
 
-pub byte_of-memory_of : (rs : List Run) (x : ℕ) → byte_of (memory_of rs) x ≡ lookup rs x
-byte_of-memory_of [] x = get-empty nat_cmp x
-byte_of-memory_of (r ∷ rs) x = byte_of-with_bytes (memory_of rs) r.base r.bytes x ∙ ap (option_or (held r x)) (byte_of-memory_of rs x)
+pub byte_of_memory_of : (rs : List Run) (x : ℕ) → byte_of (memory_of rs) x ≡ lookup rs x
+byte_of_memory_of [] x = get-empty nat_cmp x
+byte_of_memory_of (r ∷ rs) x = byte_of-with_bytes (memory_of rs) r.base r.bytes x ∙ ap (option_or (held r x)) (byte_of_memory_of rs x)
 
 -- the bytes of a run from an address on
-pub run_of-held : (r : Run) (a n : ℕ) → r.base ≤ a → a + n ≤ end_of r → run_of (held r) a n ≡ Some (take n (drop (a - r.base) r.bytes))
+pub run_of_held : (r : Run) (a n : ℕ) → r.base ≤ a → a + n ≤ end_of r → run_of (held r) a n ≡ Some (take n (drop (a - r.base) r.bytes))
 unfolding run_of cons_both
-run_of-held r a zero l h = refl
-run_of-held r a (suc n) l h =
-    let here : held r a ≡ Some (get_or r.bytes (a - r.base) 0) = held_at r a l (omega arith) in
-    let rest = run_of-held r (a + 1) n (omega arith) (omega arith) in
-    let next : suc (a - r.base) ≡ a + 1 - r.base = omega arith in
-    let front = drop-cons r.bytes (a - r.base) 0 (omega arith) in
-    rw (here, rest, front, next) refl
+run_of_held r a zero l h = refl
+run_of_held r a (suc n) l h = grind (arith, common_steps, held_at, drop-cons, run_of_held r (a + 1) n (omega arith) (omega arith))
 
 pub held_none : (r : Run) (a : ℕ) → (a < r.base) ⊎ (end_of r ≤ a) → held r a ≡ None
 held_none r a (inl l) = held_below r a l
 held_none r a (inr l) = held_past r a l
 
 -- the first address of a run among n addresses from a on
-pub first_of-held_above : (r : Run) (a n : ℕ) → a < r.base → r.base < a + n → 0 < length r.bytes → first_of (held r) a n ≡ Some r.base
-first_of-held_above r a n l m f =
+pub first_of_held_above : (r : Run) (a n : ℕ) → a < r.base → r.base < a + n → 0 < length r.bytes → first_of (held r) a n ≡ Some r.base
+first_of_held_above r a n l m f =
     let q : a + (r.base - a) ≡ r.base = omega arith in
     first_of_at (held r) a n (r.base - a) (omega arith) (held_some r (a + (r.base - a)) (omega arith) (omega arith)) (λ j h. held_below r (a + j) (omega arith)) ∙ ap Some q
 
-pub first_of-held_within : (r : Run) (a n : ℕ) → r.base ≤ a → a < end_of r → 0 < n → first_of (held r) a n ≡ Some a
-first_of-held_within r a n l m h =
+pub first_of_held_within : (r : Run) (a n : ℕ) → r.base ≤ a → a < end_of r → 0 < n → first_of (held r) a n ≡ Some a
+first_of_held_within r a n l m h =
     let q : a + 0 ≡ a = omega arith in
     first_of_at (held r) a n 0 h (held_some r (a + 0) (omega arith) (omega arith)) (λ j i. absurd (omega arith)) ∙ ap Some q
 
-pub first_of-held_outside : (r : Run) (a n : ℕ) → (a + n ≤ r.base) ⊎ (end_of r ≤ a) → first_of (held r) a n ≡ None
-first_of-held_outside r a n (inl l) = first_of_none (held r) a n (λ k h. held_below r (a + k) (omega arith))
-first_of-held_outside r a n (inr l) = first_of_none (held r) a n (λ k h. held_past r (a + k) (omega arith))
+pub first_of_held_outside : (r : Run) (a n : ℕ) → (a + n ≤ r.base) ⊎ (end_of r ≤ a) → first_of (held r) a n ≡ None
+first_of_held_outside r a n (inl l) = first_of_none (held r) a n (λ k h. held_below r (a + k) (omega arith))
+first_of_held_outside r a n (inr l) = first_of_none (held r) a n (λ k h. held_past r (a + k) (omega arith))
 
 -- where a run does not hold all n addresses from a on
-pub run_of-held_outside : (r : Run) (a n : ℕ) → 0 < n → ((a < r.base) ⊎ (end_of r < a + n)) → run_of (held r) a n ≡ None
-run_of-held_outside r a n h (inl l) = run_of_none (held r) a n 0 h (held_below r (a + 0) (omega arith))
-run_of-held_outside r a n h (inr l) =
+pub run_of_held_outside : (r : Run) (a n : ℕ) → 0 < n → ((a < r.base) ⊎ (end_of r < a + n)) → run_of (held r) a n ≡ None
+run_of_held_outside r a n h (inl l) = run_of_none (held r) a n 0 h (held_below r (a + 0) (omega arith))
+run_of_held_outside r a n h (inr l) =
     elim (cases_lt a (end_of r)) [
       | inl m ↦ run_of_none (held r) a n (end_of r - a) (omega arith) (held_past r (a + (end_of r - a)) (omega arith))
       | inr m ↦ run_of_none (held r) a n 0 h (held_past r (a + 0) (omega arith))
@@ -123,11 +105,3 @@ byte_of-with_bytes_within m a bs x l h = byte_of-with_bytes m a bs x ∙ rw (hel
 
 pub byte_of-with_bytes_outside : (m : Memory) (a : ℕ) (bs : List ℕ) (x : ℕ) → (x < a) ⊎ (a + length bs ≤ x) → byte_of (with_bytes m a bs) x ≡ byte_of m x
 byte_of-with_bytes_outside m a bs x h = byte_of-with_bytes m a bs x ∙ rw (held_none (record { base = a; bytes = bs }) x h) refl
-
-pub bytes_at-with_bytes : (m : Memory) (a : ℕ) (bs : List ℕ) → bytes_at (with_bytes m a bs) a (length bs) ≡ Some bs
-bytes_at-with_bytes m a bs = run_of-from_each (byte_of (with_bytes m a bs)) a (length bs) bs refl (λ k h.
-    byte_of-with_bytes_within m a bs (a + k) (omega arith) (omega arith) ∙ (let q : a + k - a ≡ k = omega arith in ap (λ i. Some (slice_index bs i)) q))
-
-pub bytes_at-with_bytes_outside : (m : Memory) (a : ℕ) (bs : List ℕ) (x n : ℕ) → (x + n ≤ a) ⊎ (a + length bs ≤ x) → bytes_at (with_bytes m a bs) x n ≡ bytes_at m x n
-bytes_at-with_bytes_outside m a bs x n (inl l) = run_of-agree (byte_of (with_bytes m a bs)) (byte_of m) x n (λ k h. byte_of-with_bytes_outside m a bs (x + k) (inl (omega arith)))
-bytes_at-with_bytes_outside m a bs x n (inr l) = run_of-agree (byte_of (with_bytes m a bs)) (byte_of m) x n (λ k h. byte_of-with_bytes_outside m a bs (x + k) (inr (omega arith)))

@@ -1,5 +1,5 @@
 -- The memory that runs make.
-use Rattle.std.proofs.Common.{◌≡◌, ℕ, zero, suc, ◌+◌, ◌-◌, ◌^◌, ◌<◌, ◌≤◌, Bool, true, false, cond, List, [], ◌∷◌, length, get_or, slice_get, Option, Some, None, is_some, refl, sym, ap, ◌∙◌, arith}
+use Rattle.std.proofs.Common.{◌≡◌, ℕ, zero, suc, ◌+◌, ◌-◌, ◌^◌, ◌<◌, Bool, true, false, cond, List, [], ◌∷◌, length, get_or, slice_get, Option, Some, None, is_some, refl, sym, ap, ◌∙◌, arith}
 use Rattle.std.specs.Prelude.{nat_lt}
 use Rattle.std.specs.Option.{option_or, option_map}
 use Rattle.std.specs.List.{AllByRecursion}
@@ -12,7 +12,7 @@ use Rattle.acpi_base.specs.declared.image.ImageFault.{ImageFault}
 use Rattle.acpi_base.specs.declared.image.ImageFault.TheVariants.{PastEnd, Twice}
 use Rattle.acpi_base.specs.Adding.{add_refusal}
 use Rattle.acpi_base.specs.Segments.{Run, runs, held, lookup, run_at, memory_of, window_of, IsWhole, IsTidy, IsFree, Puts}
-use Rattle.acpi_base.proofs.Held.{held_inside, held_from, byte_of-memory_of, byte_of-with_bytes}
+use Rattle.acpi_base.proofs.Held.{held_inside, held_from, byte_of_memory_of, byte_of-with_bytes}
 use Rattle.acpi_base.proofs.Runs.{run_of-same, first_of-same}
 use Rattle.acpi_base.proofs.Segments.{window_of-lookup}
 use Rattle.acpi_base.proofs.Places.{free_run}
@@ -37,44 +37,31 @@ lookup_byte (r ∷ rs) a b w e =
     ] refl e
 
 pub image_of : (rs : List Run) → IsTidy rs → IsImage (memory_of rs)
-image_of rs t = record {
-  addresses = λ a b e. (lookup_byte rs a b t.whole (sym (byte_of-memory_of rs a) ∙ e)).0;
-  bytes = λ a b e. (lookup_byte rs a b t.whole (sym (byte_of-memory_of rs a) ∙ e)).1;
-}
+image_of rs t = grind (arith, lookup_byte, byte_of_memory_of)
 
-pub bytes_at-memory_of : (rs : List Run) (a n : ℕ) → 0 < n → IsTidy rs → bytes_at (memory_of rs) a n ≡ window_of rs a n
-bytes_at-memory_of rs a n h t = run_of-same (byte_of (memory_of rs)) (lookup rs) (byte_of-memory_of rs) a n ∙ sym (window_of-lookup rs a n h t.apart)
+pub bytes_at_memory_of : (rs : List Run) (a n : ℕ) → 0 < n → IsTidy rs → bytes_at (memory_of rs) a n ≡ window_of rs a n
+bytes_at_memory_of rs a n h t = run_of-same (byte_of (memory_of rs)) (lookup rs) (byte_of_memory_of rs) a n ∙ sym (window_of-lookup rs a n h t.apart)
 
-pub first_held-memory_of : (rs : List Run) (a n : ℕ) → first_held (memory_of rs) a n ≡ first_of (lookup rs) a n
-first_held-memory_of rs a n = first_of-same (byte_of (memory_of rs)) (lookup rs) (byte_of-memory_of rs) a n
+pub first_held_memory_of : (rs : List Run) (a n : ℕ) → first_held (memory_of rs) a n ≡ first_of (lookup rs) a n
+first_held_memory_of rs a n = first_of-same (byte_of (memory_of rs)) (lookup rs) (byte_of_memory_of rs) a n
 
 -- images with the same byte at each address are the same
 pub same_memory : (m n : Memory) → ((x : ℕ) → byte_of m x ≡ byte_of n x) → m ≡ n
 same_memory m n h = same_map nat_cmp_total nat_cmp-IsAntisymmetric m n h
 
-pub memory_of-put : (a : ℕ) (bs : List ℕ) (old new : List Run) → Puts (run_at a bs) old new → memory_of new ≡ with_bytes (memory_of old) a bs
-memory_of-put a bs old new p = same_memory (memory_of new) (with_bytes (memory_of old) a bs) (λ x.
-    byte_of-memory_of new x
-    ∙ p.lookup_is x
-    ∙ ap (option_or (held (run_at a bs) x)) (sym (byte_of-memory_of old x))
-    ∙ sym (byte_of-with_bytes (memory_of old) a bs x))
+pub memory_of_put : (a : ℕ) (bs : List ℕ) (old new : List Run) → Puts (run_at a bs) old new → memory_of new ≡ with_bytes (memory_of old) a bs
+memory_of_put a bs old new p = grind (arith, same_memory, byte_of_memory_of, byte_of-with_bytes)
 
 -- no bytes are never refused
 pub no_refusal : (f : ℕ → Option ℕ) (a n : ℕ) → a < 2 ^ 64 → n ≡ 0 → None ≡ cond (nat_lt (2 ^ 64) (a + n)) (Some PastEnd) (option_map (λ x. Twice x) (first_of f a n))
 unfolding first_of
-no_refusal f a zero l e =
-    let low : nat_lt (2 ^ 64) (a + 0) ≡ false = le-ltb (2 ^ 64) (a + 0) (omega arith) in
-    rw low refl
+no_refusal f a zero l e = grind (arith, le-ltb)
 no_refusal f a (suc n) l e = absurd (omega arith)
 
 -- what the segments refuse, the memory refuses
 pub refusal_of : (found ss : List Segment) (m : Memory) (a : ℕ) (bs : List ℕ) (refused : Option ImageFault) → found ≡ ss → memory_of (runs ss) ≡ m
     → refused ≡ cond (nat_lt (2 ^ 64) (a + length bs)) (Some PastEnd) (option_map (λ x. Twice x) (first_of (lookup (runs found)) a (length bs))) → refused ≡ add_refusal m a bs
-refusal_of found ss m a bs refused f e r =
-    r
-    ∙ ap (λ (ts : List Segment). cond (nat_lt (2 ^ 64) (a + length bs)) (Some PastEnd) (option_map (λ x. Twice x) (first_of (lookup (runs ts)) a (length bs)))) f
-    ∙ ap (λ o. cond (nat_lt (2 ^ 64) (a + length bs)) (Some PastEnd) (option_map (λ x. Twice x) o)) (sym (first_held-memory_of (runs ss) a (length bs)))
-    ∙ ap (λ n. add_refusal n a bs) e
+refusal_of found ss m a bs refused f e r = grind (arith, first_held_memory_of)
 
 pub no_bytes : (m : Memory) (a : ℕ) (bs : List ℕ) → length bs ≡ 0 → m ≡ with_bytes m a bs
 unfolding with_bytes
@@ -92,7 +79,4 @@ fits_unless false o e = (refl, unmapped o e)
 -- bytes that are not refused find their addresses free
 pub free_unless : (found ss : List Segment) (a : ℕ) (bs : List ℕ) (refused : Option ImageFault) → found ≡ ss → IsTidy (runs ss) → 0 < length bs → ((k : ℕ) → get_or bs k 0 < 256)
     → refused ≡ cond (nat_lt (2 ^ 64) (a + length bs)) (Some PastEnd) (option_map (λ x. Twice x) (first_of (lookup (runs found)) a (length bs))) → refused ≡ None → IsFree (run_at a bs) (runs ss)
-free_unless found ss a bs refused f t h s r none =
-    let is = fits_unless (nat_lt (2 ^ 64) (a + length bs)) (first_of (lookup (runs found)) a (length bs)) (sym r ∙ none) in
-    let fits : a + length bs ≤ 2 ^ 64 = ltb-false (2 ^ 64) (a + length bs) is.0 in
-    free_run (runs ss) a bs t h fits s (ap (λ (ts : List Segment). first_of (lookup (runs ts)) a (length bs)) (sym f) ∙ is.1)
+free_unless found ss a bs refused f t h s r none = grind (arith, fits_unless, ltb-false, free_run)

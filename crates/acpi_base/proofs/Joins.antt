@@ -1,5 +1,5 @@
 -- Bytes that are put in: the runs stay tidy, and hold what they held and the new bytes.
-use Rattle.std.proofs.Common.{◌≡◌, ℕ, zero, suc, ◌+◌, ◌-◌, ◌^◌, ◌<◌, ◌≤◌, ◌≢◌, ◌⊎◌, inl, inr, true, false, cond, List, [], ◌∷◌, ◌++◌, length, get_or, set, take, drop, slice_get, Option, Some, None, is_some, refl, sym, ap, subst, ◌∙◌, arith, length-append}
+use Rattle.std.proofs.Common.{◌≡◌, ℕ, zero, suc, ◌+◌, ◌-◌, ◌^◌, ◌<◌, ◌≤◌, ◌≢◌, ◌⊎◌, inl, inr, true, false, cond, List, [], ◌∷◌, ◌++◌, length, get_or, set, take, drop, slice_get, Option, Some, None, is_some, refl, sym, ap, subst, ◌∙◌, arith, length-append, rules}
 use Rattle.std.specs.Prelude.{nat_lt}
 use Rattle.std.specs.Option.{option_or}
 use Rattle.std.specs.List.{remove, AllByRecursion}
@@ -7,7 +7,6 @@ use Rattle.std.proofs.Math.Seq.{split_at}
 use Rattle.std.proofs.lemmas.List.{append-nil, set_split}
 use Rattle.std.proofs.lemmas.List.Edits.{length-remove}
 use Rattle.std.proofs.lemmas.Bool.{cases_lt}
-use Rattle.std.proofs.lemmas.Bool.Decides.{nat_tests}
 use Rattle.acpi_base.specs.Segments.{Run, held, lookup, end_of, run_at, run_in, bridged, Apart, ApartFrom, NoneTouch, IsWhole, IsTidy, IsFree, Puts}
 use Rattle.acpi_base.proofs.Held.{held_below, held_from, held_past, held_at, held_some}
 use Rattle.acpi_base.proofs.Edits.{get_or-remove_other}
@@ -21,10 +20,6 @@ all_in P (r ∷ rs) back n p a = (a.0, all_in P rs back n p a.1)
 pub all_out : (P : Run → Type 0) (front back : List Run) (n : Run) → AllByRecursion P (front ++ n ∷ back) → P n × AllByRecursion P (front ++ back)
 all_out P [] back n a = (a.0, a.1)
 all_out P (r ∷ rs) back n a = let rest = all_out P rs back n a.1 in (rest.0, (a.0, rest.1))
-
-pub all_both : (P Q R : Run → Type 0) → ((s : Run) → P s → Q s → R s) → (rs : List Run) → AllByRecursion P rs → AllByRecursion Q rs → AllByRecursion R rs
-all_both P Q R f [] a b = tt
-all_both P Q R f (s ∷ ss) a b = (f s a.0 b.0, all_both P Q R f ss a.1 b.1)
 
 apart_swap : (r s : Run) → Apart r s → Apart s r
 apart_swap r s (inl l) = inr l
@@ -61,9 +56,7 @@ apart_clear r s (inr l) = inr (omega arith)
 
 pub lookup-put : (front back : List Run) (n : Run) (x : ℕ) → ApartFrom n (front ++ back) → lookup (front ++ n ∷ back) x ≡ option_or (held n x) (lookup (front ++ back) x)
 lookup-put [] back n x a = refl
-lookup-put (r ∷ rs) back n x a =
-    ap (option_or (held r x)) (lookup-put rs back n x a.1)
-    ∙ sym (or_swap (held n x) (held r x) (lookup (rs ++ back) x) (not_both n r x (apart_clear n r a.0)))
+lookup-put (r ∷ rs) back n x a = grind (arith, or_swap, not_both, apart_clear, lookup-put rs back n x a.1)
 
 -- one run, and the others
 pub record Splits (rs : List Run) (r : Run) (others : List Run) : Type 0 where
@@ -73,10 +66,7 @@ pub record Splits (rs : List Run) (r : Run) (others : List Run) : Type 0 where
   pub lookup_is : (x : ℕ) → lookup rs x ≡ option_or (held r x) (lookup others x)
 
 splits_at : (front back : List Run) (r : Run) → IsTidy (front ++ r ∷ back) → Splits (front ++ r ∷ back) r (front ++ back)
-splits_at front back r t =
-    let away = apart_out front back r t.apart in
-    let each = all_out IsWhole front back r t.whole in
-    record { apart = away.0; whole = each.0; tidy = record { apart = away.1; whole = each.1 }; lookup_is = λ x. lookup-put front back r x away.0 }
+splits_at front back r t = grind (arith, apart_out, all_out, lookup-put)
 
 pub splits : (rs : List Run) (k : ℕ) → k < length rs → IsTidy rs → Splits rs (run_in rs k) (remove rs k)
 splits rs k h t =
@@ -86,10 +76,7 @@ splits rs k h t =
 -- n, which holds the new bytes and what is missing in others, stands among others
 puts_at : (b n : Run) (old front back : List Run) → IsTidy (front ++ back) → ApartFrom n (front ++ back) → IsWhole n
     → ((x : ℕ) → option_or (held n x) (lookup (front ++ back) x) ≡ option_or (held b x) (lookup old x)) → Puts b old (front ++ n ∷ back)
-puts_at b n old front back t a w e = record {
-  tidy = record { apart = apart_in front back n a t.apart; whole = all_in IsWhole front back n w t.whole };
-  lookup_is = λ x. lookup-put front back n x a ∙ e x;
-}
+puts_at b n old front back t a w e = search (rules, apart_in, all_in, lookup-put)
 
 puts_set : (b n : Run) (old rs : List Run) (k : ℕ) → k < length rs → IsTidy (remove rs k) → ApartFrom n (remove rs k) → IsWhole n
     → ((x : ℕ) → option_or (held n x) (lookup (remove rs k) x) ≡ option_or (held b x) (lookup old x)) → Puts b old (set rs k n)
@@ -120,10 +107,7 @@ clear_run b s fb fs h =
 
 clear_runs : (b : Run) (rs : List Run) → 0 < length b.bytes → AllByRecursion IsWhole rs → ((x : ℕ) → b.base ≤ x → x < end_of b → lookup rs x ≡ None) → AllByRecursion (Clear b) rs
 clear_runs b [] f w h = tt
-clear_runs b (s ∷ ss) f w h = (
-  clear_run b s f w.0.filled (λ x l m. (none_first (held s x) (lookup ss x) (h x l m)).0),
-  clear_runs b ss f w.1 (λ x l m. (none_first (held s x) (lookup ss x) (h x l m)).1),
-)
+clear_runs b (s ∷ ss) f w h = grind (arith, clear_run, none_first, clear_runs b ss f w.1 (λ x l m. (none_first (held s x) (lookup ss x) (h x l m)).1))
 
 pub clear_of : (b : Run) (rs : List Run) → IsFree b rs → AllByRecursion (Clear b) rs
 clear_of b rs f = clear_runs b rs f.whole.filled f.tidy.whole f.free
@@ -136,9 +120,7 @@ sub_zero i = omega arith
 slice_get-append : (xs ys : List ℕ) (i : ℕ) → slice_get (xs ++ ys) i ≡ option_or (slice_get xs i) (slice_get ys (i - length xs))
 slice_get-append [] ys i = ap (slice_get ys) (sub_zero i)
 slice_get-append (x ∷ xs) ys zero = refl
-slice_get-append (x ∷ xs) ys (suc i) =
-    let e : i - length xs ≡ suc i - suc (length xs) = omega arith in
-    slice_get-append xs ys i ∙ ap (λ k. option_or (slice_get xs i) (slice_get ys k)) e
+slice_get-append (x ∷ xs) ys (suc i) = grind (arith, slice_get-append xs ys i)
 
 pub held-append : (a : ℕ) (xs ys : List ℕ) (x : ℕ) → held (run_at a (xs ++ ys)) x ≡ option_or (held (run_at a xs) x) (held (run_at (a + length xs) ys) x)
 held-append a xs ys x =
@@ -163,9 +145,7 @@ all_append P [] ys a b = b
 all_append P (x ∷ xs) ys a b = (a.0, all_append P xs ys a.1 b)
 
 pub whole_append : (a : ℕ) (r s : Run) → IsWhole r → IsWhole s → a + (length r.bytes + length s.bytes) ≤ 2 ^ 64 → IsWhole (run_at a (r.bytes ++ s.bytes))
-whole_append a r s w v h =
-    let long = length-append r.bytes s.bytes in
-    record { filled = let f = w.filled in omega arith; fits = omega arith; bytes = all_append (λ b. b < 256) r.bytes s.bytes w.bytes v.bytes }
+whole_append a r s w v h = grind (arith, length-append, all_append)
 
 all_without : (P : Run → Type 0) (rs : List Run) (k : ℕ) → k < length rs → AllByRecursion P rs → P (run_in rs k) × AllByRecursion P (remove rs k)
 all_without P rs k h a = all_out P (take k rs) (drop (suc k) rs) (run_in rs k) (subst (AllByRecursion P) (split_at rs k (run_at 0 []) h) a)
@@ -181,27 +161,14 @@ NoneAfter b rs = AllByRecursion (λ s. s.base ≢ end_of b) rs
 
 lone_apart : (b : Run) (rs : List Run) → AllByRecursion (Clear b) rs → NoneBefore b rs → NoneAfter b rs → ApartFrom b rs
 lone_apart b [] c n m = tt
-lone_apart b (s ∷ ss) c n m = (
-  elim c.0 [ inl l ↦ (let ne = m.0 in inl (omega arith)) | inr l ↦ (let ne = n.0 in inr (omega arith)) ],
-  lone_apart b ss c.1 n.1 m.1,
-)
+lone_apart b (s ∷ ss) c n m = grind (arith, lone_apart b ss c.1 n.1 m.1)
 
 pub puts_alone : (b : Run) (rs : List Run) → IsFree b rs → NoneBefore b rs → NoneAfter b rs → Puts b rs (rs ++ b ∷ [])
-puts_alone b rs f n m =
-    let same = append-nil rs in
-    let apart = lone_apart b rs (clear_of b rs f) n m in
-    puts_at b b rs rs [] (subst IsTidy (sym same) f.tidy) (subst (ApartFrom b) (sym same) apart) f.whole (λ x. ap (λ ss. option_or (held b x) (lookup ss x)) same)
+puts_alone b rs f n m = grind (arith, append-nil, lone_apart, clear_of, puts_at)
 
 longer_apart : (b r n : Run) (rs : List Run) → end_of r ≡ b.base → n.base ≡ r.base → end_of n ≡ end_of b → 0 < length b.bytes → ApartFrom r rs → AllByRecursion (Clear b) rs → AllByRecursion IsWhole rs → NoneAfter b rs → ApartFrom n rs
 longer_apart b r n [] e f g h a c w m = tt
-longer_apart b r n (s ∷ ss) e f g h a c w m = (
-  (let filled = w.0.filled in let ne = m.0 in
-      elim a.0 [
-        | inl l ↦ elim c.0 [ inl k ↦ inl (omega arith) | inr k ↦ absurd (omega arith) ]
-        | inr l ↦ inr (omega arith)
-      ]),
-  longer_apart b r n ss e f g h a.1 c.1 w.1 m.1,
-)
+longer_apart b r n (s ∷ ss) e f g h a c w m = grind (arith, longer_apart b r n ss e f g h a.1 c.1 w.1 m.1)
 
 pub puts_append : (b : Run) (rs : List Run) (k : ℕ) → IsFree b rs → k < length rs → end_of (run_in rs k) ≡ b.base → NoneAfter b rs → Puts b rs (set rs k (run_at (run_in rs k).base ((run_in rs k).bytes ++ b.bytes)))
 puts_append b rs k f h e m =
@@ -221,14 +188,7 @@ puts_append b rs k f h e m =
 
 earlier_apart : (b r n : Run) (rs : List Run) → r.base ≡ end_of b → n.base ≡ b.base → end_of n ≡ end_of r → 0 < length b.bytes → ApartFrom r rs → AllByRecursion (Clear b) rs → AllByRecursion IsWhole rs → NoneBefore b rs → ApartFrom n rs
 earlier_apart b r n [] e f g h a c w m = tt
-earlier_apart b r n (s ∷ ss) e f g h a c w m = (
-  (let filled = w.0.filled in let ne = m.0 in
-      elim a.0 [
-        | inl l ↦ inl (omega arith)
-        | inr l ↦ elim c.0 [ inl k ↦ absurd (omega arith) | inr k ↦ inr (omega arith) ]
-      ]),
-  earlier_apart b r n ss e f g h a.1 c.1 w.1 m.1,
-)
+earlier_apart b r n (s ∷ ss) e f g h a c w m = grind (arith, earlier_apart b r n ss e f g h a.1 c.1 w.1 m.1)
 
 pub puts_prepend : (b : Run) (rs : List Run) (k : ℕ) → IsFree b rs → k < length rs → (run_in rs k).base ≡ end_of b → NoneBefore b rs → Puts b rs (set rs k (run_at b.base (b.bytes ++ (run_in rs k).bytes)))
 puts_prepend b rs k f h e m =
@@ -247,32 +207,17 @@ puts_prepend b rs k f h e m =
 
 between_apart : (b r t n : Run) (rs : List Run) → end_of r ≡ b.base → t.base ≡ end_of b → n.base ≡ r.base → end_of n ≡ end_of t → 0 < length b.bytes → ApartFrom r rs → ApartFrom t rs → AllByRecursion (Clear b) rs → AllByRecursion IsWhole rs → ApartFrom n rs
 between_apart b r t n [] e e' f g h a a' c w = tt
-between_apart b r t n (s ∷ ss) e e' f g h a a' c w = (
-  (let filled = w.0.filled in
-      elim c.0 [
-        | inl k ↦ elim a'.0 [ inl l ↦ inl (omega arith) | inr l ↦ absurd (omega arith) ]
-        | inr k ↦ elim a.0 [ inl l ↦ absurd (omega arith) | inr l ↦ inr (omega arith) ]
-      ]),
-  between_apart b r t n ss e e' f g h a.1 a'.1 c.1 w.1,
-)
+between_apart b r t n (s ∷ ss) e e' f g h a a' c w = grind (arith, between_apart b r t n ss e e' f g h a.1 a'.1 c.1 w.1)
 
 -- past the run at j, the run at i stands here
 abbrev shifted : ℕ → ℕ → ℕ
 shifted i j = cond (nat_lt j i) (i - 1) i
 
 shifted_within : (rs : List Run) (i j : ℕ) → i ≢ j → i < length rs → j < length rs → shifted i j < length (remove rs j)
-shifted_within rs i j ne h l =
-    let size : length (remove rs j) + 1 ≡ length rs = length-remove rs j l in
-    elim (cases_lt j i) [
-      | inl o ↦ (let e : shifted i j ≡ i - 1 = grind (arith, nat_tests) in omega arith)
-      | inr o ↦ (let e : shifted i j ≡ i = grind (arith, nat_tests) in omega arith)
-    ]
+shifted_within rs i j ne h l = grind (arith, length-remove, cases_lt)
 
 pub same_place : (b r t : Run) → end_of r ≡ b.base → t.base ≡ end_of b → 0 < length b.bytes → (rs : List Run) (i j : ℕ) → r ≡ run_in rs i → t ≡ run_in rs j → i ≢ j
-same_place b r t e f h rs i j p q same =
-    let one : r ≡ t = p ∙ ap (run_in rs) same ∙ sym q in
-    let base : r.base ≡ t.base = ap (λ (s : Run). s.base) one in
-    omega arith
+same_place b r t e f h rs i j p q same = grind (arith)
 
 pub puts_bridge : (b : Run) (rs : List Run) (i j : ℕ) → IsFree b rs → i < length rs → j < length rs → end_of (run_in rs i) ≡ b.base → (run_in rs j).base ≡ end_of b → Puts b rs (bridged rs i b.bytes j)
 puts_bridge b rs i j f hi hj e e' =

@@ -6,6 +6,7 @@ pub mod HeldBytes
 pub mod Held
 pub mod Images
 pub mod Joins
+mod DataImages
 mod LineLemmas
 mod MachineLemmas
 mod OwnRefusals

@@ -1,12 +1,10 @@
 -- Facts on what one line of an image text says, and on where it ends.
 use Rattle.std.proofs.Common.{◌≡◌, ◌≢◌, ℕ, ◌+◌, ◌-◌, ◌*◌, ◌^◌, ◌<◌, ◌≤◌, List, [], ◌∷◌, ◌++◌, length, get_or, drop, refl, sym, ap, arith, eqb, if◌then◌else◌, true, false, lit<, length-append}
 use Rattle.std.proofs.lemmas.List.{length-drop, get_or-drop, take_all, take_more, drop_more}
-use Rattle.std.proofs.lemmas.Bool.Decides.{nat_tests}
 use Rattle.std.proofs.Math.Nat.{pow-le-pow_right}
-use Rattle.std.specs.Prelude.{slice_range, None, Some, Option, take_while, nat_le, ◌&&◌}
-use Rattle.std.specs.List.{list_all}
+use Rattle.std.specs.Prelude.{slice_range, None, Some, Option}
 use Rattle.std.specs.Option.{option_map_or}
-use Rattle.acpi_base.specs.ImageText.{Blank, Address, Data, Bad, digit_of, is_blank, is_hex_digit, skip_blanks, without_cr, without_comment, form_of, line_of, address_of, hex_number, data_from, ended_from, last_from}
+use Rattle.acpi_base.specs.ImageText.{Blank, Data, Bad, digit_of, is_blank, skip_blanks, without_cr, without_comment, form_of, line_of, address_of, data_from, ended_from, last_from}
 
 -- a slice and the element after it
 slice_range_more : (xs : List ℕ) (a i : ℕ) → a ≤ i → i < length xs → slice_range xs a (i + 1) ≡ slice_range xs a i ++ get_or xs i 0 ∷ []
@@ -24,22 +22,16 @@ slice_rest xs a = take_all (length xs - a) (drop a xs) (simp length-drop (omega 
 pub ended_from_more : (xs : List ℕ) (a i : ℕ) → a ≤ i → i < length xs → get_or xs i 0 ≢ 10
     → ended_from (slice_range xs a i) (drop i xs) ≡ ended_from (slice_range xs a (i + 1)) (drop (i + 1) xs)
 unfolding ended_from
-ended_from_more xs a i low high other =
-    let test : eqb (get_or xs i 0) 10 ≡ false = grind (arith, nat_tests) in
-    rw (drop_more xs i 0 high, test, slice_range_more xs a i low high) refl
+ended_from_more xs a i low high other = grind (arith, drop_more, slice_range_more)
 
 pub last_from_more : (xs : List ℕ) (a i : ℕ) → a ≤ i → i < length xs → get_or xs i 0 ≢ 10
     → last_from (slice_range xs a i) (drop i xs) ≡ last_from (slice_range xs a (i + 1)) (drop (i + 1) xs)
 unfolding last_from
-last_from_more xs a i low high other =
-    let test : eqb (get_or xs i 0) 10 ≡ false = grind (arith, nat_tests) in
-    rw (drop_more xs i 0 high, test, slice_range_more xs a i low high) refl
+last_from_more xs a i low high other = grind (arith, drop_more, slice_range_more)
 
 -- a number of i hex digits leaves room for one more digit, where i is below 16
 pub digits_fit : (value i : ℕ) → value < 16 ^ i → i < 16 → 16 * value + 15 < 2 ^ 64
-digits_fit value i small few =
-    let most : 16 ^ i ≤ 16 ^ 15 = pow-le-pow_right {n = 16} (lit< tt) {i = i} {j = 15} (omega arith) in
-    omega (arith, most)
+digits_fit value i small few = grind (arith, pow-le-pow_right, lit<)
 
 -- what a line says goes by what is left of it
 pub line_of_rest : (line rest : List ℕ) → rest ≡ skip_blanks (without_comment (without_cr line)) → line_of line ≡ form_of rest
@@ -53,10 +45,10 @@ form_of_none [] none = refl
 form_of_none (b ∷ rest) none = absurd (omega arith)
 
 -- what is left, by its first byte
-pub form_of_front : (line : List ℕ) → 0 < length line → form_of line ≡ (if eqb (get_or line 0 0) 64 then address_of (drop 1 line) else data_from [] None line)
+pub form_of_first : (line : List ℕ) → 0 < length line → form_of line ≡ (if eqb (get_or line 0 0) 64 then address_of (drop 1 line) else data_from [] None line)
 unfolding form_of
-form_of_front [] some = absurd (omega arith)
-form_of_front (b ∷ rest) some = refl
+form_of_first [] some = absurd (omega arith)
+form_of_first (b ∷ rest) some = refl
 
 -- the first digit of a pair
 pub data_from_first : (bytes line : List ℕ) (i digit : ℕ) → i < length line → digit_of (get_or line i 0) ≡ Some digit
@@ -118,10 +110,7 @@ skip_blanks_stops (a ∷ line) b rest e =
 -- an address is no data
 address_is_no_data : (rest all : List ℕ) → address_of rest ≡ Data all → 0 < length all
 unfolding address_of
-address_is_no_data rest all e =
-    let digits = take_while is_hex_digit rest in
-    elim (nat_le 1 (length digits) && nat_le (length digits) 16 && list_all is_blank (drop (length digits) rest))
-    as (λ t. (if t then Address (hex_number 0 digits) else Bad) ≡ Data all → 0 < length all) [ true ↦ λ f. absurd (cc) | false ↦ λ f. absurd (cc) ] e
+address_is_no_data rest all e = grind (arith)
 
 form_of_some : (rest all : List ℕ) → ((b : ℕ) (more : List ℕ) → rest ≡ b ∷ more → is_blank b ≡ false) → form_of rest ≡ Data all → 0 < length all
 unfolding form_of data_from

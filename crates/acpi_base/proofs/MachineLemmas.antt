@@ -3,17 +3,17 @@ use Rattle.std.proofs.Common.{◌≡◌, ℕ, ◌+◌, ◌≤◌, List, [], ◌�
 use Rattle.std.proofs.lemmas.Bool.Decides.{nat_tests}
 use Rattle.std.specs.Prelude.{Option, None, Some, Result, Ok, Err, ◌↔◌}
 use Rattle.std.specs.Option.{option_map_or}
-use Rattle.acpi_base.specs.ImageText.{Line, Blank, Address, Data, Bad, Reading, start, on_ok, is_too_long, put_data, take_line, line_of, read_line, read_lines, ended_from, last_from, read_text, read_front, IsRefused, IsRefusedFront, data_fault}
+use Rattle.acpi_base.specs.ImageText.{Line, Blank, Address, Data, Bad, Reading, start, on_ok, is_too_long, put_data, take_line, line_of, read_line, read_lines, ended_from, last_from, read_text, read_prefix, IsRefused, IsRefusedPrefix, data_fault}
 use Rattle.acpi_base.specs.Adding.{add_refusal}
 use Rattle.acpi_base.specs.Memory.{with_bytes}
 use Rattle.acpi_base.specs.TextMachine.{Standing, Going, Stopped, beginning, line_ended, step, run, end_text, standing_of}
 use Rattle.acpi_base.specs.declared.text.TextFault.{TextFault}
 use Rattle.acpi_base.specs.declared.text.TextFault.TheVariants as text
 
-pub run-append : (s : Standing) (xs ys : List ℕ) → run s (xs ++ ys) ≡ run (run s xs) ys
+pub run_append : (s : Standing) (xs ys : List ℕ) → run s (xs ++ ys) ≡ run (run s xs) ys
 unfolding run
-run-append s [] ys = refl
-run-append s (b ∷ xs) ys = run-append (step s b) xs ys
+run_append s [] ys = refl
+run_append s (b ∷ xs) ys = run_append (step s b) xs ys
 
 run-stopped : (fault : TextFault) (bytes : List ℕ) → run (Stopped fault) bytes ≡ Stopped fault
 unfolding run
@@ -180,21 +180,21 @@ unfolding front_end
 ended-front (Going r line) within = rw within refl
 ended-front (Stopped fault) within = refl
 
-pub run_reads_front : (bytes : List ℕ) → standing_of (run beginning bytes) ≡ read_front bytes
+pub run_reads_prefix : (bytes : List ℕ) → standing_of (run beginning bytes) ≡ read_prefix bytes
 unfolding front_end
-run_reads_front bytes = ended-front (run beginning bytes) (run-within beginning bytes refl) ∙ run_ended front_end front_end_minds start [] bytes
+run_reads_prefix bytes = ended-front (run beginning bytes) (run-within beginning bytes refl) ∙ run_ended front_end front_end_minds start [] bytes
 
 stopped_by : (s : Standing) (fault : TextFault) → standing_of s ≡ Err fault → s ≡ Stopped fault
 stopped_by (Going r line) fault e = absurd (cc)
 stopped_by (Stopped other) fault e = let same : other ≡ fault = cc in ap Stopped same
 
-pub run_stops : (bytes : List ℕ) (fault : TextFault) → (run beginning bytes ≡ Stopped fault) ↔ IsRefusedFront bytes fault
+pub run_stops : (bytes : List ℕ) (fault : TextFault) → (run beginning bytes ≡ Stopped fault) ↔ IsRefusedPrefix bytes fault
 run_stops bytes fault = (
-  (λ (stops : run beginning bytes ≡ Stopped fault). sym (run_reads_front bytes) ∙ ap standing_of stops),
-  (λ (refused : IsRefusedFront bytes fault). stopped_by (run beginning bytes) fault (run_reads_front bytes ∙ refused)),
+  (λ (stops : run beginning bytes ≡ Stopped fault). sym (run_reads_prefix bytes) ∙ ap standing_of stops),
+  (λ (refused : IsRefusedPrefix bytes fault). stopped_by (run beginning bytes) fault (run_reads_prefix bytes ∙ refused)),
 )
 
-pub front_is_decided : (bytes more : List ℕ) (fault : TextFault) → IsRefusedFront bytes fault → IsRefused (bytes ++ more) fault
-front_is_decided bytes more fault refused =
-    let stops : run beginning bytes ≡ Stopped fault = stopped_by (run beginning bytes) fault (run_reads_front bytes ∙ refused) in
-    sym (run_reads_text (bytes ++ more)) ∙ ap end_text (run-append beginning bytes more ∙ ap (λ s. run s more) stops ∙ run-stopped fault more)
+pub prefix_is_decided : (bytes more : List ℕ) (fault : TextFault) → IsRefusedPrefix bytes fault → IsRefused (bytes ++ more) fault
+prefix_is_decided bytes more fault refused =
+    let stops : run beginning bytes ≡ Stopped fault = stopped_by (run beginning bytes) fault (run_reads_prefix bytes ∙ refused) in
+    sym (run_reads_text (bytes ++ more)) ∙ ap end_text (run_append beginning bytes more ∙ ap (λ s. run s more) stops ∙ run-stopped fault more)

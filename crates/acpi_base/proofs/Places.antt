@@ -1,6 +1,6 @@
 -- Where among the segments bytes are put.
 use Rattle.std.proofs.Common.{◌≡◌, ℕ, zero, suc, ◌+◌, ◌^◌, ◌<◌, ◌≤◌, ◌≢◌, inl, inr, Bool, true, false, cond, List, [], ◌∷◌, length, get_or, Option, Some, None, is_some, Result, Ok, Err, OnOk, refl, sym, ap, subst, ◌∙◌, arith}
-use Rattle.std.specs.Prelude.{nat_lt, ◌==◌}
+use Rattle.std.specs.Prelude.{◌==◌}
 use Rattle.std.specs.List.{AllByRecursion, position, position_or_len}
 use Rattle.std.proofs.lemmas.List.Elements.{All-map, All-from_get_or, recursion_from_All}
 use Rattle.std.proofs.lemmas.List.Quantifiers.{position-Some}
@@ -28,11 +28,7 @@ nothing_held f a (suc n) x e l h =
     ] refl e
 
 no_place : (p : Segment → Bool) (ss : List Segment) → position p ss ≡ None → length ss ≤ position_or_len p ss
-no_place p ss e =
-    elim (cases_lt (position_or_len p ss) (length ss)) [
-      | inl l ↦ absurd (let t : nat_lt (position_or_len p ss) (length ss) ≡ true = grind (arith, nat_tests) in let q : position p ss ≡ Some (position_or_len p ss) = rw t refl in cc)
-      | inr l ↦ l
-    ]
+no_place p ss e = grind (arith, cases_lt)
 
 -- where no segment passes a test, each run has what follows
 pub none_passes : (Q : Run → Type 0) (p : Segment → Bool) → ((s : Segment) → p s ≡ false → Q (run s)) → (ss : List Segment) → position p ss ≡ None → AllByRecursion Q (runs ss)

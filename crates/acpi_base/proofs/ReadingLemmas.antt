@@ -1,13 +1,12 @@
 -- Facts on the reading of a text by lines, and on the answers of `read_image`.
-use Rattle.std.proofs.Common.{◌≡◌, ◌⊎◌, inl, inr, ℕ, ◌+◌, ◌-◌, ◌≤◌, List, length, drop, refl, ap, ◌∙◌, arith, true, false, ltb}
+use Rattle.std.proofs.Common.{◌≡◌, inl, inr, ℕ, ◌+◌, ◌-◌, ◌≤◌, List, length, drop, refl, ap, ◌∙◌, arith, true, false, ltb}
 use Rattle.std.proofs.lemmas.List.{length-drop}
 use Rattle.std.proofs.lemmas.Bool.{le-ltb}
 use Rattle.std.specs.Prelude.{Option, Result, Ok, Err, OnErr, IfOk, IfErr, MatchResult}
 use Rattle.std.specs.Io.KnownBytes.{IsAtEnd}
 use Rattle.acpi_base.specs.Memory.{Memory}
-use Rattle.acpi_base.specs.ImageText.{Reading, start, read_line, read_lines, ended_lines, last_line, read_text, read_front, IsText}
-use Rattle.acpi_base.specs.TextReading.{IsFaultlessFront, IsRefusal, Refuses, is_of_text, CountsRead}
-use Rattle.acpi_base.specs.Tally.{CountsFailure}
+use Rattle.acpi_base.specs.ImageText.{Reading, start, read_line, read_lines, ended_lines, last_line, read_text, IsText}
+use Rattle.acpi_base.specs.TextReading.{IsFaultlessPrefix, IsRefusal, Refuses, is_of_text}
 use Rattle.acpi_base.specs.declared.text.TextFault.{TextFault}
 use Rattle.acpi_base.specs.declared.text.TextFault.TheVariants as text
 
@@ -17,9 +16,9 @@ OnErr-any (Ok x) P p = tt
 OnErr-any (Err e) P p = p
 
 -- the front has no fault, where the ended lines have none and the lengths so far are within the limits
-pub front_ok : (bytes : List ℕ) (r : Reading) (at : ℕ) → read_lines start (ended_lines bytes) ≡ Ok r → last_line bytes ≡ drop at bytes
-    → at ≤ length bytes → r.through ≡ at → length bytes - at ≤ 65536 → length bytes ≤ 67108864 → IsFaultlessFront bytes
-front_ok bytes r at ended last within through line_fits text_fits =
+pub prefix_ok : (bytes : List ℕ) (r : Reading) (at : ℕ) → read_lines start (ended_lines bytes) ≡ Ok r → last_line bytes ≡ drop at bytes
+    → at ≤ length bytes → r.through ≡ at → length bytes - at ≤ 65536 → length bytes ≤ 67108864 → IsFaultlessPrefix bytes
+prefix_ok bytes r at ended last within through line_fits text_fits =
     let rest : length (last_line bytes) ≡ length bytes - at = ap length last ∙ length-drop at bytes in
     let line_test : ltb 65536 (length bytes - at) ≡ false = le-ltb _ _ line_fits in
     let text_test : ltb 67108864 (r.through + (length bytes - at)) ≡ false = le-ltb _ _ (omega arith) in
@@ -49,28 +48,9 @@ whole_refused bytes left text.TooLong end h = inr (end, of_text _ _ refl h)
 whole_refused bytes left text.Read end h = absurd (not_read _ h)
 whole_refused bytes left text.Memory end h = tt
 
-pub front_refused : (bytes : List ℕ) (left : Option (List ℕ)) (fault : TextFault) → Refuses (read_front bytes) fault → IsRefusal bytes left fault
-front_refused bytes left (text.BadLine line) h = inl (of_text _ _ refl h)
-front_refused bytes left (text.NoAddress line) h = inl (of_text _ _ refl h)
-front_refused bytes left (text.Twice address) h = inl (of_text _ _ refl h)
-front_refused bytes left (text.PastEnd line) h = inl (of_text _ _ refl h)
-front_refused bytes left text.TooLong h = inl (of_text _ _ refl h)
-front_refused bytes left text.Read h = absurd (not_read _ h)
-front_refused bytes left text.Memory h = tt
-
 -- what is answered of a text that was read to its end
 pub whole_answer : (bytes : List ℕ) (left : Option (List ℕ)) (answer : Result Memory TextFault) → IsAtEnd left
     → IfOk answer (IsText bytes) → IfErr answer (Refuses (read_text bytes))
     → MatchResult answer (λ image. IsAtEnd left × IsText bytes image) (IsRefusal bytes left)
 whole_answer bytes left (Ok image) end ok err = (end, ok)
 whole_answer bytes left (Err fault) end ok err = whole_refused bytes left fault end err
-
--- the count, where no read failed or another fault was found first
-pub count_answer : (old new : ℕ) (read : Result Reading TextFault) (fault : TextFault) → Refuses read fault → (new ≡ old) ⊎ CountsFailure old new → CountsRead old new fault
-count_answer old new read (text.BadLine line) h either = either
-count_answer old new read (text.NoAddress line) h either = either
-count_answer old new read (text.Twice address) h either = either
-count_answer old new read (text.PastEnd line) h either = either
-count_answer old new read text.TooLong h either = either
-count_answer old new read text.Read h either = absurd (not_read _ h)
-count_answer old new read text.Memory h either = either

@@ -31,9 +31,7 @@ first_of_none f a (suc n) h =
 pub first_of_at : (f : ℕ → Option ℕ) (a n k : ℕ) → k < n → IsSome (f (a + k)) → ((j : ℕ) → j < k → f (a + j) ≡ None) → first_of f a n ≡ Some (a + k)
 unfolding first_of
 first_of_at f a zero k h s before = absurd (omega arith)
-first_of_at f a (suc n) zero h s before =
-    let here : is_some (f a) ≡ true = ap (λ x. is_some (f x)) (sym (add-zero a)) ∙ s in
-    rw here (ap Some (sym (add-zero a)))
+first_of_at f a (suc n) zero h s before = grind (arith, add-zero)
 first_of_at f a (suc n) (suc k) h s before =
     let q : a + 1 + k ≡ a + suc k = omega arith in
     let here : f a ≡ None = ap f (sym (add-zero a)) ∙ before 0 (omega arith) in
@@ -67,11 +65,7 @@ some_rest (Some rest) b l e = (rest, refl, cc)
 -- the first byte, and the rest
 pub run_of-split : (f : ℕ → Option ℕ) (a n : ℕ) (l : List ℕ) → run_of f a (suc n) ≡ Some l → (b : ℕ) × (rest : List ℕ) × (f a ≡ Some b) × (run_of f (a + 1) n ≡ Some rest) × (l ≡ b ∷ rest)
 unfolding run_of cons_both
-run_of-split f a n l e =
-    elim (f a) as (λ v. f a ≡ v → cons_both v (run_of f (a + 1) n) ≡ Some l → (b : ℕ) × (rest : List ℕ) × (f a ≡ Some b) × (run_of f (a + 1) n ≡ Some rest) × (l ≡ b ∷ rest)) [
-      | None ↦ λ p q. absurd (cc)
-      | Some b ↦ λ p q. (let r = some_rest (run_of f (a + 1) n) b l q in (b, r.0, p, r.1, r.2))
-    ] refl e
+run_of-split f a n l e = grind (arith, some_rest)
 
 pub run_of-count : (f : ℕ → Option ℕ) (a n : ℕ) (l : List ℕ) → run_of f a n ≡ Some l → length l ≡ n
 unfolding run_of

@@ -1,5 +1,5 @@
 -- What the functions that search segments from the front find.
-use Rattle.std.proofs.Common.{◌≡◌, ℕ, zero, suc, ◌+◌, ◌<◌, ◌≤◌, inl, inr, true, cond, List, [], ◌∷◌, length, get_or, drop, Option, Some, None, IsSome, is_some, refl, sym, ap, subst, ◌∙◌, arith}
+use Rattle.std.proofs.Common.{◌≡◌, ℕ, zero, suc, ◌+◌, ◌<◌, ◌≤◌, inl, inr, true, List, [], ◌∷◌, length, get_or, drop, Option, Some, None, IsSome, is_some, refl, sym, ap, subst, ◌∙◌, arith}
 use Rattle.std.specs.Option.{option_or}
 use Rattle.std.specs.List.{AllByRecursion}
 use Rattle.std.proofs.lemmas.List.{drop_more, drop_all}
@@ -22,32 +22,13 @@ cons-or b (Some bs) = refl
 
 pub run_of-or : (f g : ℕ → Option ℕ) → IsParted f g → (a n : ℕ) → run_of (λ x. option_or (f x) (g x)) a (suc n) ≡ option_or (run_of f a (suc n)) (run_of g a (suc n))
 unfolding run_of cons_both
-run_of-or f g p a zero =
-    elim (f a) as (λ v. cons_both (option_or v (g a)) (Some []) ≡ option_or (cons_both v (Some [])) (cons_both (g a) (Some []))) [
-      | None ↦ refl
-      | Some b ↦ refl
-    ]
-run_of-or f g p a (suc n) =
-    let rest = run_of-or f g p (a + 1) n in
-    let F : Option (List ℕ) = run_of f (a + 1) (suc n) in
-    let G : Option (List ℕ) = run_of g (a + 1) (suc n) in
-    rw rest (
-    elim (f a) as (λ v. f a ≡ v → cons_both (option_or v (g a)) (option_or F G) ≡ option_or (cons_both v F) (cons_both (g a) G)) [
-      | None ↦ λ e. elim (g a) as (λ w. g a ≡ w → cons_both w (option_or F G) ≡ cons_both w G) [
-        | None ↦ λ e. refl
-        | Some c ↦ λ e. (let none : F ≡ None = rw (p.below a (ap is_some e)) refl in rw none refl)
-      ] refl
-      | Some b ↦ λ e.
-          let none : G ≡ None = rw (p.above a (ap is_some e)) refl in
-          rw (none, p.here a (ap is_some e)) (cons-or b F)
-    ] refl)
+run_of-or f g p a zero = grind (arith)
+run_of-or f g p a (suc n) = grind (arith, cons-or, run_of-or f g p (a + 1) n)
 
 -- the runs apart from r hold nothing in r, nor just behind it
 pub lookup_apart : (r : Run) (rs : List Run) (x : ℕ) → ApartFrom r rs → r.base ≤ x → x ≤ end_of r → lookup rs x ≡ None
 lookup_apart r [] x h l m = refl
-lookup_apart r (s ∷ ss) x h l m =
-    let none : held s x ≡ None = elim h.0 [ inl a ↦ held_below s x (omega arith) | inr a ↦ held_past s x (omega arith) ] in
-    rw none (lookup_apart r ss x h.1 l m)
+lookup_apart r (s ∷ ss) x h l m = grind (arith, held_below, held_past, lookup_apart r ss x h.1 l m)
 
 pub held_apart : (r : Run) (rs : List Run) (x : ℕ) → ApartFrom r rs → IsSome (lookup rs x) → held r (x + 1) ≡ None
 held_apart r [] x h s = absurd (cc)
@@ -60,11 +41,7 @@ held_apart r (s ∷ ss) x h i =
     ] refl i
 
 pub run_is_parted : (r : Run) (rs : List Run) → ApartFrom r rs → IsParted (held r) (lookup rs)
-run_is_parted r rs h = record {
-  here = λ x s. (let w = held_inside r x s in lookup_apart r rs x h w.0 (omega arith));
-  above = λ x s. (let w = held_inside r x s in lookup_apart r rs (x + 1) h (omega arith) (omega arith));
-  below = λ x s. held_apart r rs x h s;
-}
+run_is_parted r rs h = grind (arith, held_inside, lookup_apart, held_apart)
 
 nothing-run_of : (a n : ℕ) → None ≡ run_of (λ x. None) a (suc n)
 unfolding run_of cons_both
@@ -79,11 +56,11 @@ window_of-lookup rs a (suc n) l h = windows rs a n h
     windows [] a n h = nothing-run_of a n
     windows (r ∷ rs) a n h = rw (windows rs a n h.1) (sym (run_of-or (held r) (lookup rs) (run_is_parted r rs h.0) a n))
 
-pub earlier-assoc : (x y z : Option ℕ) → earlier (earlier x y) z ≡ earlier x (earlier y z)
-earlier-assoc None y z = refl
-earlier-assoc (Some a) None z = refl
-earlier-assoc (Some a) (Some b) None = refl
-earlier-assoc (Some a) (Some b) (Some c) = ap Some (omega arith)
+pub earlier_assoc : (x y z : Option ℕ) → earlier (earlier x y) z ≡ earlier x (earlier y z)
+earlier_assoc None y z = refl
+earlier_assoc (Some a) None z = refl
+earlier_assoc (Some a) (Some b) None = refl
+earlier_assoc (Some a) (Some b) (Some c) = ap Some (omega arith)
 
 earlier-least : (a : ℕ) (y : Option ℕ) → ((x : ℕ) → y ≡ Some x → a ≤ x) → (earlier (Some a) y ≡ Some a) × (earlier y (Some a) ≡ Some a)
 earlier-least a None h = (refl, refl)
@@ -92,17 +69,7 @@ earlier-least a (Some x) h = (let l : a ≤ x = h x refl in ap Some (omega arith
 pub first_of-or : (f g : ℕ → Option ℕ) (a n : ℕ) → first_of (λ x. option_or (f x) (g x)) a n ≡ earlier (first_of f a n) (first_of g a n)
 unfolding first_of
 first_of-or f g a zero = refl
-first_of-or f g a (suc n) =
-    let rest = first_of-or f g (a + 1) n in
-    let F : Option ℕ = first_of f (a + 1) n in
-    let G : Option ℕ = first_of g (a + 1) n in
-    elim (f a) as (λ v. cond (is_some (option_or v (g a))) (Some a) (first_of (λ x. option_or (f x) (g x)) (a + 1) n) ≡ earlier (cond (is_some v) (Some a) F) (cond (is_some (g a)) (Some a) G)) [
-      | None ↦ elim (g a) as (λ w. cond (is_some w) (Some a) (first_of (λ x. option_or (f x) (g x)) (a + 1) n) ≡ earlier F (cond (is_some w) (Some a) G)) [
-        | None ↦ rest
-        | Some c ↦ sym (earlier-least a F (λ x e. (let l : a + 1 ≤ x = first_of_from f (a + 1) n x e in omega arith))).1
-      ]
-      | Some b ↦ sym (earlier-least a _ (λ x e. first_of_from g a (suc n) x e)).0
-    ]
+first_of-or f g a (suc n) = grind (arith, earlier-least, first_of_from, first_of-or f g (a + 1) n)
 
 pub runs_more : (ss : List Segment) (i : ℕ) (s : Segment) → i < length ss → s ≡ get_or ss i s → runs (drop i ss) ≡ run s ∷ runs (drop (i + 1) ss)
 runs_more ss i s h e = ap runs (drop_more ss i s h) ∙ ap (λ x. run x ∷ runs (drop (i + 1) ss)) (sym e)
@@ -113,14 +80,12 @@ each_run P [] i s h e a = absurd (omega arith)
 each_run P (t ∷ ts) zero s h e a = subst (λ u. P (run u)) (sym e) a.0
 each_run P (t ∷ ts) (suc i) s h e a = each_run P ts i s (omega arith) e a.1
 
-pub first_of-lookup_more : (ss : List Segment) (i : ℕ) (s : Segment) (b n : ℕ) → i < length ss → s ≡ get_or ss i s → first_of (lookup (runs (drop i ss))) b n ≡ earlier (first_of (held (run s)) b n) (first_of (lookup (runs (drop (i + 1) ss))) b n)
-first_of-lookup_more ss i s b n h e = ap (λ rs. first_of (lookup rs) b n) (runs_more ss i s h e) ∙ first_of-or (held (run s)) (lookup (runs (drop (i + 1) ss))) b n
+pub first_of_lookup_more : (ss : List Segment) (i : ℕ) (s : Segment) (b n : ℕ) → i < length ss → s ≡ get_or ss i s → first_of (lookup (runs (drop i ss))) b n ≡ earlier (first_of (held (run s)) b n) (first_of (lookup (runs (drop (i + 1) ss))) b n)
+first_of_lookup_more ss i s b n h e = ap (λ rs. first_of (lookup rs) b n) (runs_more ss i s h e) ∙ first_of-or (held (run s)) (lookup (runs (drop (i + 1) ss))) b n
 
 earlier-none : (x : Option ℕ) → earlier x None ≡ x
 earlier-none None = refl
 earlier-none (Some a) = refl
 
-pub first_of-lookup_all : (ss : List Segment) (i b n : ℕ) (x : Option ℕ) → length ss ≤ i → earlier x (first_of (lookup (runs (drop i ss))) b n) ≡ x
-first_of-lookup_all ss i b n x h =
-    let e : first_of (lookup (runs (drop i ss))) b n ≡ None = ap (λ r. first_of (lookup (runs r)) b n) (drop_all i ss h) ∙ first_of_none (lookup []) b n (λ k l. refl) in
-    rw e (earlier-none x)
+pub first_of_lookup_all : (ss : List Segment) (i b n : ℕ) (x : Option ℕ) → length ss ≤ i → earlier x (first_of (lookup (runs (drop i ss))) b n) ≡ x
+first_of_lookup_all ss i b n x h = grind (arith, drop_all, first_of_none, earlier-none)

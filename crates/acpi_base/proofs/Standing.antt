@@ -1,5 +1,5 @@
 -- The address at which a byte of a text's data stands, found line by line.
-use Rattle.std.proofs.Common.{◌≡◌, ◌⊎◌, inl, inr, ℕ, zero, suc, ◌+◌, ◌-◌, ◌<◌, List, [], ◌∷◌, ◌++◌, length, refl, sym, ap, ◌∙◌, arith, if◌then◌else◌, length-append}
+use Rattle.std.proofs.Common.{◌≡◌, ◌⊎◌, inl, inr, ℕ, zero, suc, ◌+◌, ◌-◌, ◌<◌, List, [], ◌∷◌, ◌++◌, length, refl, sym, ap, ◌∙◌, subst, arith, if◌then◌else◌, length-append}
 use Rattle.std.proofs.lemmas.Bool.{cases_lt, lt-ltb, le-ltb}
 use Rattle.std.specs.Prelude.{Option, None, Some, nat_lt, ◌↔◌}
 use Rattle.std.specs.Option.{option_map}
@@ -27,11 +27,7 @@ first_later next count later n = let q : count + n - count ≡ n = omega arith i
 
 pub first_cases : (next : Option ℕ) (count : ℕ) (later : ℕ → Option ℕ) (n x : ℕ) → first_then next count later n ≡ Some x
     → ((n < count) × (option_map (λ a. a + n) next ≡ Some x)) ⊎ ((k : ℕ) × (n ≡ count + k) × (later k ≡ Some x))
-first_cases next count later n x e =
-    elim (cases_lt n count) [
-      | inl l ↦ inl (l, sym (first_here next count later n l) ∙ e)
-      | inr l ↦ (let q : n ≡ count + (n - count) = omega arith in inr (n - count, q, sym (first_later next count later (n - count)) ∙ ap (first_then next count later) (sym q) ∙ e))
-    ]
+first_cases next count later n x e = grind (arith, cases_lt, first_here, first_later)
 
 -- ---- from the parts of a text to the place
 
@@ -40,12 +36,7 @@ place_behind : (next : Option ℕ) (front : List Line) (address : ℕ) (more : L
 place_behind next [] address more k = let q : 0 + k ≡ k = omega arith in rw q refl
 place_behind next (Blank ∷ front) address more k = place_behind next front address more k
 place_behind next (Address other ∷ front) address more k = place_behind (Some other) front address more k
-place_behind next (Data bytes ∷ front) address more k =
-    let q : length (bytes ++ all_data front) + k ≡ length bytes + (length (all_data front) + k) = omega (arith, length-append bytes (all_data front)) in
-    let later = place_of (option_map (λ a. a + length bytes) next) (front ++ Address address ∷ more) in
-    ap (first_then next (length bytes) later) q
-    ∙ first_later next (length bytes) later (length (all_data front) + k)
-    ∙ place_behind (option_map (λ a. a + length bytes) next) front address more k
+place_behind next (Data bytes ∷ front) address more k = grind (arith, length-append, first_later, place_behind (option_map (λ a. a + length bytes) next) front address more k)
 place_behind next (Bad ∷ front) address more k = place_behind next front address more k
 
 abbrev NoAddress : List Line → Type 0
@@ -60,147 +51,92 @@ place_inside address [] back k none h = absurd (omega arith)
 place_inside address (Blank ∷ block) back k none h = place_inside address block back k (no_address_rest Blank block none) h
 place_inside address (Address other ∷ block) back k none h = absurd (none other (0, omega arith, refl))
 place_inside address (Data bytes ∷ block) back k none h =
-    let later = place_of (Some (address + length bytes)) (block ++ back) in
-    elim (cases_lt k (length bytes)) [
-      | inl l ↦ first_here (Some address) (length bytes) later k l
-      | inr l ↦
-          let q : k ≡ length bytes + (k - length bytes) = omega arith in
-          let room : k - length bytes < length (all_data block) = omega (arith, length-append bytes (all_data block)) in
-          let sum : address + length bytes + (k - length bytes) ≡ address + k = omega arith in
-          ap (first_then (Some address) (length bytes) later) q
-          ∙ first_later (Some address) (length bytes) later (k - length bytes)
-          ∙ place_inside (address + length bytes) block back (k - length bytes) (no_address_rest (Data bytes) block none) room
-          ∙ ap Some sum
-    ]
+    let rest = place_inside (address + length bytes) block back (k - length bytes) (no_address_rest (Data bytes) block none) in
+    grind (arith, cases_lt k (length bytes), length-append, first_here, first_later (Some address) (length bytes) (place_of (Some (address + length bytes)) (block ++ back)) (k - length bytes), rest)
 place_inside address (Bad ∷ block) back k none h = place_inside address block back k (no_address_rest Bad block none) h
 
 place_from_stands : (lines : List Line) (n a : ℕ) → StandsAt lines n a → place_of None lines n ≡ Some a
-place_from_stands lines n a s =
-    ap (λ (x : List Line). place_of None x n) s.split
-    ∙ ap (place_of None (s.front ++ Address s.address ∷ (s.block ++ s.back))) s.byte
-    ∙ place_behind None s.front s.address (s.block ++ s.back) s.k
-    ∙ place_inside s.address s.block s.back s.k s.no_other s.within
-    ∙ ap Some (sym s.place)
+place_from_stands lines n a s = grind (arith, place_behind, place_inside)
 
 -- ---- and back
 
--- byte n stands in the block right behind an address that was said before the lines
-record StandsFirst (next : Option ℕ) (lines : List Line) (n a : ℕ) : Type 0 where
-  address : ℕ
-  block : List Line
-  back : List Line
-  is_next : next ≡ Some address
-  split : lines ≡ block ++ back
-  no_other : NoAddress block
-  within : n < length (all_data block)
-  place : a ≡ address + n
+-- the lines with the next address said before them
+abbrev said_next : Option ℕ → List Line → List Line
+said_next None lines = lines
+said_next (Some address) lines = Address address ∷ lines
 
--- a line that is no address goes in front of a block
-no_address_more : (line : Line) (lines : List Line) → ((other : ℕ) → line ≡ Address other → ⊥) → NoAddress lines → NoAddress (line ∷ lines)
-no_address_more line lines here rest other (zero, h, e) = here other e
-no_address_more line lines here rest other (suc k, h, e) = rest other (k, omega arith, e)
+-- a line that says no address comes before a block
+block_more : (line : Line) (block : List Line) → ((other : ℕ) → line ≡ Address other → ⊥) → NoAddress block → NoAddress (line ∷ block)
+block_more line block here rest other (zero, h, e) = here other e
+block_more line block here rest other (suc k, h, e) = rest other (k, omega arith, e)
 
--- one more line in front
-more_first : (line : Line) (next later : Option ℕ) (lines : List Line) (n k a : ℕ) → ((other : ℕ) → line ≡ Address other → ⊥) → n ≡ length (data_of line) + k
-    → ((address : ℕ) → later ≡ Some address → (before : ℕ) × (next ≡ Some before) × (address ≡ before + length (data_of line)))
-    → StandsFirst later lines k a → StandsFirst next (line ∷ lines) n a
-more_first line next later lines n k a other q step s =
-    let before = step s.address s.is_next in
-    let at : s.address ≡ before.0 + length (data_of line) = before.2 in
-    let place : a ≡ s.address + k = s.place in
-    let within : k < length (all_data s.block) = s.within in
-    record {
-      address = before.0;
-      block = line ∷ s.block;
-      back = s.back;
-      is_next = before.1;
-      split = ap (λ x. line ∷ x) s.split;
-      no_other = no_address_more line s.block other s.no_other;
-      within = omega (arith, length-append (data_of line) (all_data s.block));
-      place = omega arith;
-    }
+stands_at : (lines before block after : List Line) (n a address k : ℕ) → lines ≡ before ++ Address address ∷ (block ++ after) → NoAddress block → k < length (all_data block)
+    → n ≡ length (all_data before) + k → a ≡ address + k → StandsAt lines n a
+stands_at lines before block after n a address k split none within byte place = record {
+  before = before;
+  address = address;
+  block = block;
+  after = after;
+  k = k;
+  split = split;
+  no_other = none;
+  within = within;
+  byte = byte;
+  place = place;
+}
 
-more_front : (line : Line) (lines : List Line) (n k a : ℕ) → n ≡ length (data_of line) + k → StandsAt lines k a → StandsAt (line ∷ lines) n a
-more_front line lines n k a q s =
-    let byte : k ≡ length (all_data s.front) + s.k = s.byte in
-    record {
-      front = line ∷ s.front;
-      address = s.address;
-      block = s.block;
-      back = s.back;
-      k = s.k;
-      split = ap (λ x. line ∷ x) s.split;
-      no_other = s.no_other;
-      within = s.within;
-      byte = omega (arith, length-append (data_of line) (all_data s.front));
-      place = s.place;
-    }
+-- one more line before all others
+line_before : (line : Line) (lines : List Line) (n k a : ℕ) → n ≡ length (data_of line) + k → StandsAt lines k a → StandsAt (line ∷ lines) n a
+line_before line lines n k a q s =
+    let byte : n ≡ length (all_data (line ∷ s.before)) + s.k = grind (arith, length-append (data_of line) (all_data s.before), s.byte) in
+    stands_at _ (line ∷ s.before) s.block s.after n a s.address s.k (ap (λ x. line ∷ x) s.split) s.no_other s.within byte s.place
 
--- the block right behind an address line
-first_behind : (address : ℕ) (lines : List Line) (n a : ℕ) → StandsFirst (Some address) lines n a → StandsAt (Address address ∷ lines) n a
-first_behind address lines n a s =
-    let same : address ≡ s.address = cc (s.is_next) in
-    let place : a ≡ s.address + n = s.place in
-    record {
-      front = [];
-      address = address;
-      block = s.block;
-      back = s.back;
-      k = n;
-      split = ap (λ x. Address address ∷ x) s.split;
-      no_other = s.no_other;
-      within = s.within;
-      byte = omega arith;
-      place = omega arith;
-    }
+-- one more line right behind the address that is said first
+line_behind : (line : Line) (address later : ℕ) (lines : List Line) (n k a : ℕ) → ((other : ℕ) → line ≡ Address other → ⊥) → n ≡ length (data_of line) + k → later ≡ address + length (data_of line)
+    → StandsAt (Address later ∷ lines) k a → StandsAt (Address address ∷ line ∷ lines) n a
+line_behind line address later lines n k a other q at s = by_before s.before s.split s.byte
+  where
+    by_before : (before : List Line) → Address later ∷ lines ≡ before ++ Address s.address ∷ (s.block ++ s.after) → k ≡ length (all_data before) + s.k → StandsAt (Address address ∷ line ∷ lines) n a
+    by_before [] split byte =
+        let same : lines ≡ s.block ++ s.after = cc in
+        let start : later ≡ s.address = cc in
+        let within : length (data_of line) + s.k < length (all_data (line ∷ s.block)) = (let h = s.within in omega (arith, length-append (data_of line) (all_data s.block))) in
+        stands_at _ [] (line ∷ s.block) s.after n a address (length (data_of line) + s.k) (ap (λ x. Address address ∷ line ∷ x) same) (block_more line s.block other s.no_other) within (omega arith) (let h = s.place in omega arith)
+    by_before (first ∷ before) split byte =
+        let same : lines ≡ before ++ Address s.address ∷ (s.block ++ s.after) = cc in
+        let none : Address later ≡ first = cc in
+        let rest : k ≡ length (all_data before) + s.k = rw (sym none) at byte in
+        let more : n ≡ length (all_data (Address address ∷ line ∷ before)) + s.k = omega (arith, length-append (data_of line) (all_data before)) in
+        stands_at _ (Address address ∷ line ∷ before) s.block s.after n a s.address s.k (ap (λ x. Address address ∷ line ∷ x) same) s.no_other s.within more s.place
 
-same_next : (next : Option ℕ) (address : ℕ) → next ≡ Some address → (before : ℕ) × (next ≡ Some before) × (address ≡ before + 0)
-same_next next address e = (address, e, omega arith)
+stands_more : (line : Line) (next : Option ℕ) (lines : List Line) (n k a : ℕ) → ((other : ℕ) → line ≡ Address other → ⊥) → n ≡ length (data_of line) + k
+    → StandsAt (said_next (option_map (λ x. x + length (data_of line)) next) lines) k a → StandsAt (said_next next (line ∷ lines)) n a
+stands_more line None lines n k a other q s = line_before line lines n k a q s
+stands_more line (Some address) lines n k a other q s = line_behind line address (address + length (data_of line)) lines n k a other q refl s
 
-moved_next : (next : Option ℕ) (count address : ℕ) → option_map (λ a. a + count) next ≡ Some address → (before : ℕ) × (next ≡ Some before) × (address ≡ before + count)
-moved_next None count address e = absurd (cc)
-moved_next (Some a) count address e = let same : a + count ≡ address = cc in (a, refl, sym same)
+no_step : (next : Option ℕ) → next ≡ option_map (λ x. x + 0) next
+no_step None = refl
+no_step (Some a) = ap Some (omega arith)
 
-abbrev Stands : Option ℕ → List Line → ℕ → ℕ → Type 0
-Stands next lines n a = StandsFirst next lines n a ⊎ StandsAt lines n a
+first_stands : (bytes : List ℕ) (next : Option ℕ) (rest : List Line) (n a : ℕ) → n < length bytes → option_map (λ x. x + n) next ≡ Some a → StandsAt (said_next next (Data bytes ∷ rest)) n a
+first_stands bytes None rest n a within e = absurd (cc)
+first_stands bytes (Some address) rest n a within e =
+    let same : address + n ≡ a = cc in
+    let inside : n < length (all_data (Data bytes ∷ [])) = omega (arith, length-append bytes []) in
+    stands_at _ [] (Data bytes ∷ []) rest n a address n refl (block_more (Data bytes) [] (λ other f. cc) (λ other c. absurd (omega (arith, c.1)))) inside (omega arith) (sym same)
 
-more_stands : (line : Line) (next later : Option ℕ) (lines : List Line) (n k a : ℕ) → ((other : ℕ) → line ≡ Address other → ⊥) → n ≡ length (data_of line) + k
-    → ((address : ℕ) → later ≡ Some address → (before : ℕ) × (next ≡ Some before) × (address ≡ before + length (data_of line)))
-    → Stands later lines k a → Stands next (line ∷ lines) n a
-more_stands line next later lines n k a other q step (inl s) = inl (more_first line next later lines n k a other q step s)
-more_stands line next later lines n k a other q step (inr s) = inr (more_front line lines n k a q s)
-
-stands_from_place : (next : Option ℕ) (lines : List Line) (n a : ℕ) → place_of next lines n ≡ Some a → Stands next lines n a
+stands_from_place : (next : Option ℕ) (lines : List Line) (n a : ℕ) → place_of next lines n ≡ Some a → StandsAt (said_next next lines) n a
 stands_from_place next [] n a e = absurd (cc)
-stands_from_place next (Blank ∷ rest) n a e = more_stands Blank next next rest n n a (λ other f. cc) (omega arith) (same_next next) (stands_from_place next rest n a e)
-stands_from_place next (Address address ∷ rest) n a e =
-    elim (stands_from_place (Some address) rest n a e) [
-      | inl s ↦ inr (first_behind address rest n a s)
-      | inr s ↦ inr (more_front (Address address) rest n n a (omega arith) s)
-    ]
+stands_from_place next (Blank ∷ rest) n a e = stands_more Blank next rest n n a (λ other f. cc) (omega arith) (subst (λ x. StandsAt (said_next x rest) n a) (no_step next) (stands_from_place next rest n a e))
+stands_from_place None (Address address ∷ rest) n a e = stands_from_place (Some address) rest n a e
+stands_from_place (Some other) (Address address ∷ rest) n a e = line_before (Address other) (Address address ∷ rest) n n a (omega arith) (stands_from_place (Some address) rest n a e)
 stands_from_place next (Data bytes ∷ rest) n a e =
     let later = option_map (λ x. x + length bytes) next in
     elim (first_cases next (length bytes) (place_of later rest) n a e) [
-      | inl h ↦
-          let at = moved_next next n a h.1 in
-          let within : n < length bytes = h.0 in
-          inl (record {
-            address = at.0;
-            block = Data bytes ∷ [];
-            back = rest;
-            is_next = at.1;
-            split = refl;
-            no_other = no_address_more (Data bytes) [] (λ other f. cc) (λ other c. absurd (omega (arith, c.1)));
-            within = omega (arith, length-append bytes []);
-            place = at.2;
-          })
-      | inr h ↦ more_stands (Data bytes) next later rest n h.0 a (λ other f. cc) h.1 (moved_next next (length bytes)) (stands_from_place later rest h.0 a h.2)
+      | inl h ↦ first_stands bytes next rest n a h.0 h.1
+      | inr h ↦ stands_more (Data bytes) next rest n h.0 a (λ other f. cc) h.1 (stands_from_place later rest h.0 a h.2)
     ]
-stands_from_place next (Bad ∷ rest) n a e = more_stands Bad next next rest n n a (λ other f. cc) (omega arith) (same_next next) (stands_from_place next rest n a e)
-
-stands_at_first : (lines : List Line) (n a : ℕ) → Stands None lines n a → StandsAt lines n a
-stands_at_first lines n a (inl s) = let none : None ≡ Some s.address = s.is_next in absurd (cc)
-stands_at_first lines n a (inr s) = s
+stands_from_place next (Bad ∷ rest) n a e = stands_more Bad next rest n n a (λ other f. cc) (omega arith) (subst (λ x. StandsAt (said_next x rest) n a) (no_step next) (stands_from_place next rest n a e))
 
 pub stands_is_place : (lines : List Line) (n a : ℕ) → StandsAt lines n a ↔ (place_of None lines n ≡ Some a)
-stands_is_place lines n a = (place_from_stands lines n a, λ e. stands_at_first lines n a (stands_from_place None lines n a e))
+stands_is_place lines n a = (place_from_stands lines n a, stands_from_place None lines n a)

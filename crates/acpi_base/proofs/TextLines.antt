@@ -1,4 +1,5 @@
 -- The lines of a text are what stands between its LFs.
+use Rattle.std.proofs.lemmas.Grind.{common_steps}
 use Rattle.std.proofs.Common.{◌≡◌, ℕ, suc, ◌<◌, List, [], ◌∷◌, ◌++◌, length, inl, inr, refl, sym, ap, subst, ◌∙◌, arith, append_assoc}
 use Rattle.std.proofs.lemmas.Bool.{cases_eq, ne_eqb}
 use Rattle.std.proofs.lemmas.List.{append-nil}
@@ -28,11 +29,7 @@ join-more line [] h = absurd (omega arith)
 join-more line (next ∷ lines) h = refl
 
 some_lines : (line bytes : List ℕ) → 0 < length (lines_from line bytes)
-some_lines line bytes = after (ended_from line bytes)
-  where
-    after : (ended : List (List ℕ)) → 0 < length (ended ++ last_from line bytes ∷ [])
-    after [] = omega arith
-    after (x ∷ xs) = omega arith
+some_lines line bytes = grind (arith, common_steps)
 
 join-lines : (line bytes : List ℕ) → join_with_byte 10 (lines_from line bytes) ≡ line ++ bytes
 unfolding ended_from last_from

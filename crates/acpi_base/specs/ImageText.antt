@@ -79,7 +79,7 @@ data_from bytes None (b ∷ rest) =
     option_map_or (λ digit. data_from bytes (Some digit) rest) (digit_of b) (if is_blank b then data_from bytes None rest else Bad)
 data_from bytes (Some high) (b ∷ rest) = option_map_or (λ low. data_from (bytes ++ (16 * high + low) ∷ []) None rest) (digit_of b) Bad
 
--- after the blanks in front: nothing, `@` and directly an address, or data
+-- after leading blanks: nothing, `@` and directly an address, or data
 unfoldable pub form_of : List ℕ → Line
 form_of [] = Blank
 form_of (b ∷ rest) = if b == 64 then address_of rest else data_from [] None (b ∷ rest)
@@ -140,12 +140,12 @@ unfoldable pub read_lines : Reading → List (List ℕ) → Result Reading TextF
 read_lines r [] = Ok r
 read_lines r (line ∷ rest) = on_ok (read_line r line 1) (λ s. read_lines s rest)
 
--- the lines of the text that an LF ends, where `line` is the front of the first
+-- the lines of the text that an LF ends, where `line` is a prefix of the first
 unfoldable pub ended_from : List ℕ → List ℕ → List (List ℕ)
 ended_from line [] = []
 ended_from line (b ∷ rest) = if b == 10 then line ∷ ended_from [] rest else ended_from (line ++ b ∷ []) rest
 
--- what stands after the last LF, where `line` stands in front of the text
+-- what stands after the last LF, where `line` stands before the text
 unfoldable pub last_from : List ℕ → List ℕ → List ℕ
 last_from line [] = line
 last_from line (b ∷ rest) = if b == 10 then last_from [] rest else last_from (line ++ b ∷ []) rest
@@ -160,9 +160,9 @@ last_line bytes = last_from [] bytes
 abbrev pub read_text : List ℕ → Result Reading TextFault
 read_text bytes = on_ok (read_lines start (ended_lines bytes)) (λ r. read_line r (last_line bytes) 0)
 
--- the front of a text is read: of a line that has not ended only the length is judged
-abbrev pub read_front : List ℕ → Result Reading TextFault
-read_front bytes =
+-- a prefix of a text is read: of a line that has not ended only the length is judged
+abbrev pub read_prefix : List ℕ → Result Reading TextFault
+read_prefix bytes =
     on_ok
     (read_lines start (ended_lines bytes))
     (λ r. if is_too_long (length (last_line bytes)) (r.through + length (last_line bytes)) then Err text.TooLong else Ok r)
@@ -175,6 +175,6 @@ IsText bytes m = (r : Reading) × (read_text bytes ≡ Ok r) × (r.image ≡ m)
 abbrev pub IsRefused : List ℕ → TextFault → Type 0
 IsRefused bytes fault = read_text bytes ≡ Err fault
 
--- the front of a text has a line with a fault, whatever comes after it, and the first has this one
-abbrev pub IsRefusedFront : List ℕ → TextFault → Type 0
-IsRefusedFront bytes fault = read_front bytes ≡ Err fault
+-- a prefix of a text has a line with a fault, whatever comes after it, and the first has this one
+abbrev pub IsRefusedPrefix : List ℕ → TextFault → Type 0
+IsRefusedPrefix bytes fault = read_prefix bytes ≡ Err fault

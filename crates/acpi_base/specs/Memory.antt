@@ -26,7 +26,7 @@ pub record AreBytes (m : Memory) (a n : ℕ) (bytes : List ℕ) : Type 0 where
   pub count : length bytes ≡ n
   pub each : (k : ℕ) → k < n → byte_of m (a + k) ≡ Some (slice_index bytes k)
 
--- an element in front of the rest, where both are there
+-- an element before the rest, where both are there
 unfoldable pub cons_both : Option ℕ → Option (List ℕ) → Option (List ℕ)
 cons_both None rest = None
 cons_both (Some b) rest = option_map (λ bs. b ∷ bs) rest
@@ -36,7 +36,7 @@ unfoldable pub run_of : (ℕ → Option ℕ) → ℕ → ℕ → Option (List �
 run_of f a zero = Some []
 run_of f a (suc n) = cons_both (f a) (run_of f (a + 1) n)
 
--- the n bytes from a on, where all are held: the form that proofs compute with. `acpi_base::held_bytes`
+-- the n bytes from a on, where all are held: the form that proofs compute with. `acpi_base::laws::held_bytes`
 -- ties it to `Has` and `AreBytes`.
 abbrev pub bytes_at : Memory → ℕ → ℕ → Option (List ℕ)
 bytes_at m a n = run_of (byte_of m) a n

@@ -1,6 +1,6 @@
 -- What the laws of image text say.
 use Rattle.std.specs.Prelude.{◌≡◌, ◌↔◌, ◌⊎◌, ℕ, List, ◌++◌, true}
-use Rattle.acpi_base.specs.ImageText.{read_text, read_front, IsText, IsRefused, IsRefusedFront}
+use Rattle.acpi_base.specs.ImageText.{read_text, read_prefix, IsText, IsRefused, IsRefusedPrefix}
 use Rattle.acpi_base.specs.Memory.{Memory}
 use Rattle.acpi_base.specs.TextMeaning.{text_lines, AreLines, IsGoodText}
 use Rattle.acpi_base.specs.TextReading.{is_of_text}
@@ -11,21 +11,21 @@ use Rattle.acpi_base.specs.declared.text.TextFault.{TextFault}
 abbrev pub RunReadsText : Type 0
 RunReadsText = (bytes : List ℕ) → end_text (run beginning bytes) ≡ read_text bytes
 
--- the front of a text, byte by byte and by lines
-abbrev pub RunReadsFront : Type 0
-RunReadsFront = (bytes : List ℕ) → standing_of (run beginning bytes) ≡ read_front bytes
+-- a prefix of a text, byte by byte and by lines
+abbrev pub RunReadsPrefix : Type 0
+RunReadsPrefix = (bytes : List ℕ) → standing_of (run beginning bytes) ≡ read_prefix bytes
 
--- the run stops where a fault stands in the front, and with that fault
+-- the run stops where a prefix has a fault, and with that fault
 abbrev pub RunStopsAtFaults : Type 0
-RunStopsAtFaults = (bytes : List ℕ) (fault : TextFault) → (run beginning bytes ≡ Stopped fault) ↔ IsRefusedFront bytes fault
+RunStopsAtFaults = (bytes : List ℕ) (fault : TextFault) → (run beginning bytes ≡ Stopped fault) ↔ IsRefusedPrefix bytes fault
 
 -- it doesn't matter how the bytes are cut into pieces
 abbrev pub RunGoesOn : Type 0
 RunGoesOn = (s : Standing) (xs ys : List ℕ) → run s (xs ++ ys) ≡ run (run s xs) ys
 
--- a fault in the front of a text is the whole text's, whatever comes after
-abbrev pub FrontDecides : Type 0
-FrontDecides = (bytes more : List ℕ) (fault : TextFault) → IsRefusedFront bytes fault → IsRefused (bytes ++ more) fault
+-- a fault in a prefix of a text is the whole text's, whatever comes after
+abbrev pub PrefixDecides : Type 0
+PrefixDecides = (bytes more : List ℕ) (fault : TextFault) → IsRefusedPrefix bytes fault → IsRefused (bytes ++ more) fault
 
 -- what it means that a text has no fault and gives an image
 abbrev pub TextMeans : Type 0
@@ -39,7 +39,7 @@ TextOrFault = (bytes : List ℕ) → ((m : Memory) × IsGoodText bytes m) ⊎ ((
 abbrev pub NeverBoth : Type 0
 NeverBoth = (bytes : List ℕ) (m : Memory) (fault : TextFault) → IsGoodText bytes m → ¬ IsRefused bytes fault
 
--- what a text is refused with is a fault of the text: no failed read, and no want of memory
+-- what a text is refused with is a fault of the text: no failed read, and not being out of memory
 abbrev pub RefusalsAreOwn : Type 0
 RefusalsAreOwn = (bytes : List ℕ) (fault : TextFault) → IsRefused bytes fault → is_of_text fault ≡ true
 

@@ -1,4 +1,4 @@
--- Reading a text byte by byte: what a reader of text in pieces keeps. `acpi_base::machine_reads_lines`
+-- Reading a text byte by byte: what a reader of text in pieces keeps. `acpi_base::laws::machine_reads_lines`
 -- says that it agrees with reading by lines.
 use Rattle.std.specs.Prelude.{ℕ, ◌+◌, List, [], ◌∷◌, ◌++◌, length, Result, Ok, Err, ◌==◌, if◌then◌else◌}
 use Rattle.acpi_base.specs.ImageText.{Reading, start, read_line, is_too_long}
@@ -37,7 +37,7 @@ abbrev pub end_text : Standing → Result Reading TextFault
 end_text (Going r line) = read_line r line 0
 end_text (Stopped fault) = Err fault
 
--- what the front of a text stands for
+-- what a prefix of a text stands for
 abbrev pub standing_of : Standing → Result Reading TextFault
 standing_of (Going r line) = Ok r
 standing_of (Stopped fault) = Err fault

@@ -10,7 +10,7 @@ abbrev pub text_lines : List ℕ → List (List ℕ)
 text_lines bytes = ended_lines bytes ++ last_line bytes ∷ []
 
 -- These are the lines of a text: joined by LFs they make the text, and none of them has an LF. There is
--- always one, which may be empty. `acpi_base::lines_mean` ties this to `text_lines`.
+-- always one, which may be empty. `acpi_base::laws::lines_mean` ties this to `text_lines`.
 pub record AreLines (bytes : List ℕ) (lines : List (List ℕ)) : Type 0 where
   pub some : 0 < length lines
   pub joined : join_with_byte 10 lines ≡ bytes
@@ -35,15 +35,15 @@ all_data lines = flat_map data_of lines
 -- lines of which none says an address: the data of the block stands from that address on, and byte n of all
 -- the data is byte k of the block's.
 pub record StandsAt (lines : List Line) (n a : ℕ) : Type 0 where
-  pub front : List Line
+  pub before : List Line
   pub address : ℕ
   pub block : List Line
-  pub back : List Line
+  pub after : List Line
   pub k : ℕ
-  pub split : lines ≡ front ++ Address address ∷ (block ++ back)
+  pub split : lines ≡ before ++ Address address ∷ (block ++ after)
   pub no_other : (other : ℕ) → ¬ Contains block (Address other)
   pub within : k < length (all_data block)
-  pub byte : n ≡ length (all_data front) + k
+  pub byte : n ≡ length (all_data before) + k
   pub place : a ≡ address + k
 
 -- The text and each of its lines are short enough, and no line is bad. Each byte of the data stands at an

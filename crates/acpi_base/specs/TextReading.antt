@@ -1,7 +1,7 @@
--- What `read_image` answers, and what its parts answer, in the words of image text.
+-- What `read_image` and its parts return, in the words of image text.
 use Rattle.std.specs.Prelude.{◌≡◌, ◌⊎◌, ℕ, ◌+◌, List, length, Option, Bool, true, false, Result, Ok, Err}
 use Rattle.std.specs.Io.KnownBytes.{IsAtEnd}
-use Rattle.acpi_base.specs.ImageText.{Line, Blank, Address, Data, Bad, Reading, max_text, read_front, IsRefused, IsRefusedFront}
+use Rattle.acpi_base.specs.ImageText.{Line, Blank, Address, Data, Bad, Reading, max_text, read_prefix, IsRefused, IsRefusedPrefix}
 use Rattle.acpi_base.specs.Tally.{CountsFailure}
 use Rattle.acpi_base.specs.declared.text.TextFault.{TextFault}
 use Rattle.acpi_base.specs.declared.text.TextFault.TheVariants as text
@@ -12,16 +12,16 @@ use Rattle.acpi_base.specs.declared.image_text.line.Form.TheVariants as form
 use Rattle.acpi_base.specs.declared.image_text.lines.Progress.{Progress}
 
 -- the lines that had ended have no fault, nor have the lengths so far
-abbrev pub IsFaultlessFront : List ℕ → Type 0
-IsFaultlessFront bytes = (r : Reading) × (read_front bytes ≡ Ok r)
+abbrev pub IsFaultlessPrefix : List ℕ → Type 0
+IsFaultlessPrefix bytes = (r : Reading) × (read_prefix bytes ≡ Ok r)
 
 -- The text is refused with this fault; `left` is what the reader has left. A fault of the text stands in
--- what was read, whatever comes after it, or in all that there is. A failed read is answered where no
--- fault stood. Want of memory says nothing of the text.
+-- what was read, whatever comes after it, or in all that there is. A failed read is reported where no
+-- fault stood. Being out of memory says nothing of the text.
 abbrev pub IsRefusal : List ℕ → Option (List ℕ) → TextFault → Type 0
-IsRefusal bytes left text.Read = IsFaultlessFront bytes
+IsRefusal bytes left text.Read = IsFaultlessPrefix bytes
 IsRefusal bytes left text.Memory = Unit {0}
-IsRefusal bytes left fault = IsRefusedFront bytes fault ⊎ (IsAtEnd left × IsRefused bytes fault)
+IsRefusal bytes left fault = IsRefusedPrefix bytes fault ⊎ (IsAtEnd left × IsRefused bytes fault)
 
 -- The reader's count of failures, before and after: a failure is counted where the fault is one. Another
 -- fault may have been found in what had come before a failure.

@@ -21,9 +21,9 @@ use std::marker::Model;
 pub enum ImageFault {
     /// The bytes pass the address 2^64 - 1.
     PastEnd,
-    /// An address is held already: the least one.
+    /// An address is held already; this is the least such address.
     Twice { address: u64 },
-    /// No memory was found for them.
+    /// Out of memory.
     Memory,
 }
 
@@ -38,6 +38,7 @@ impl From<AllocError> for ImageFault {
 }
 
 /// Why `count` bytes cannot be added from an address on.
+#[tactic(auto, using(crate::proofs::Images::no_refusal))]
 fn refusal(segments: &[Segment], base: u64, count: u64) -> Option<ImageFault>
     requires { AllByRecursion IsWhole (runs segments.now) }
     ensures { result ≡ (if nat_lt (2 ^ 64) (base + count) then Some ImageFault.PastEnd else option_map (λ address. ImageFault.Twice address) (first_of (lookup (runs segments.now)) base count)) }
@@ -52,9 +53,9 @@ fn refusal(segments: &[Segment], base: u64, count: u64) -> Option<ImageFault>
     segments::first_held(segments, base, count).map(|address| ImageFault::Twice { address })
 }
 
-/// Bytes at 64-bit addresses, in pieces that may lie anywhere.
+/// A memory image: bytes at 64-bit addresses, in pieces that may lie anywhere.
 ///
-/// Every search goes over the pieces from the first on, so it costs by their number. Pieces that touch are one.
+/// Pieces that touch are joined into one. Every search goes over all pieces, so its time grows with their number.
 #[derive(Debug, Drop)]
 pub struct Image {
     segments: Vec<Segment>,
@@ -78,7 +79,8 @@ impl Model for Image {
 }
 
 impl Image {
-    /// The image that holds nothing. Takes no memory.
+    /// An image that holds no byte. Takes no memory.
+    #[tactic(auto, using(crate::proofs::Images::image_of))]
     pub fn new(alloc: Global) -> Image
         ensures nothing { result ≡ empty }
         ensures image { IsImage result }
@@ -89,12 +91,13 @@ impl Image {
         }
     }
 
-    /// Puts the bytes in from the address `base` on.
+    /// Adds the bytes, which take the addresses from `base` on.
     ///
     /// Refuses, in this order, and then leaves the image as it was:
     /// `PastEnd`, where the last byte would lie past the address 2^64 - 1;
     /// `Twice`, where an address is held already, with the least such address;
-    /// `Memory`, where no memory is found. No bytes are always Ok, and take no memory.
+    /// `Memory`, where the allocator is out of memory. Adding no bytes always returns `Ok`, and takes no memory.
+    #[tactic(auto, using(crate::proofs::Images::refusal_of, crate::proofs::Images::no_refusal, crate::proofs::Images::no_bytes, crate::proofs::Images::image_of, crate::proofs::Images::memory_of_put, crate::proofs::Images::free_unless))]
     pub fn add(&mut self, base: u64, bytes: &[u8]) -> Result<(), ImageFault>
         ensures refused { MatchOption (add_refusal self.old base bytes.now) (IsOkUnless result ImageFault.Memory) (λ fault. result ≡ Err fault) }
         ensures ok { OnOk result (self.new ≡ with_bytes self.old base bytes.now) }
@@ -102,7 +105,7 @@ impl Image {
         ensures err { OnErr result (self.new ≡ self.old) }
         ensures nothing { length bytes.now ≡ 0 → IsOk result }
     {
-        // First the refusal, of no bytes too: with the fields opened, the proof has the invariant at each exit.
+        // The refusal comes first, also for no bytes: once the fields are read, the proof has the invariant at each exit.
         if let Some(fault) = refusal(&self.segments, base, bytes.len() as u64) {
             return Err(fault);
         }
@@ -113,15 +116,28 @@ impl Image {
         Ok(())
     }
 
-    /// The byte at an address, where it is held. Takes no memory.
+    /// States that each address of the image is below 2^64 and each of its bytes below 256. A caller that is lent an
+    /// image calls this where its proof needs these bounds: they are ensured where an image is made, and a reference
+    /// to it does not carry them. Does nothing when it runs, and takes no memory.
+    #[tactic(auto, using(crate::proofs::Images::image_of))]
+    pub fn numbers_fit(&self)
+        ensures fit { IsImage self.now }
+    {
+        // Reading a field opens the image's invariant to the proof.
+        let _pieces = self.segments.len();
+    }
+
+    /// Returns the byte at an address, or `None` where the address is not held. Takes no memory.
+    #[tactic(auto, using(crate::proofs::Held::byte_of_memory_of))]
     pub fn byte_at(&self, address: u64) -> Option<u8>
         ensures { result ≡ byte_of self.now address }
     {
         segments::byte_at(&self.segments, address)
     }
 
-    /// The `count` bytes from an address on, where all are held, also where they were added apart.
-    /// No bytes are held at every address. Takes no memory.
+    /// Returns the `count` bytes from an address on, or `None` where one of these addresses is not held. The bytes
+    /// may have been added in several calls. For a count of 0 it returns no bytes, at every address. Takes no memory.
+    #[tactic(auto, using(crate::proofs::Images::bytes_at_memory_of), unfolding(crate::specs::Memory::run_of))]
     pub fn window(&self, address: u64, count: u64) -> Option<&[u8]>
         ensures bytes { option_map (λ bytes. bytes.now) result ≡ bytes_at self.now address count }
         ensures count { IfSome result (λ bytes. length bytes.now ≡ count) }

@@ -16,14 +16,14 @@ use crate::image::Image;
 use crate::tally::Tally;
 use crate::text::TextFault;
 use collect::{Ending, collect};
-use lines::{judge_front, judge_whole};
+use lines::{judge_prefix, judge_whole};
 use std::alloc::Global;
 use std::io::Read;
 
 /// The most bytes of a text.
 const MAX_TEXT: usize = 67_108_864;
 
-/// Reads a text to its end, and puts its data into an image. A read of no bytes is the end.
+/// Reads a text to its end, and returns the image of its data. A read of no bytes is the end.
 ///
 /// A line is judged where its LF comes or the text ends, and for `TooLong` already at the first byte too
 /// many. The first line with a fault refuses the text. Lines count from 1. In one line the faults come in
@@ -36,10 +36,10 @@ const MAX_TEXT: usize = 67_108_864;
 /// 5. `Twice`: an address of its data is held already; the least one.
 ///
 /// `Read`: a read failed, and neither the lines that had ended nor the lengths so far have a fault.
-/// `Memory`: no memory was found for the text or the image; it can come in the place of any other answer.
+/// `Memory`: out of memory for the text or the image. It can be returned in place of any other result.
 ///
 /// At most 67,108,865 bytes are read, so a reader that never ends is refused. What was read is gone from
-/// the reader, whatever the answer.
+/// the reader, whatever is returned.
 pub fn read_image<R: Read>(alloc: Global, reader: &mut Tally<R>) -> Result<Image, TextFault>
     ensures text { (text : List ℕ)
         × Consumes (R.remaining reader.old.inner) (R.remaining reader.new.inner) text
@@ -54,12 +54,12 @@ pub fn read_image<R: Read>(alloc: Global, reader: &mut Tally<R>) -> Result<Image
     let mut text = Vec::new(alloc);
     match collect(reader, &mut text) {
         Ok(Ending::End) => judge_whole(alloc, &text),
-        Ok(Ending::Full) => match judge_front(alloc, &text) {
+        Ok(Ending::Full) => match judge_prefix(alloc, &text) {
             Err(fault) => Err(fault),
             // A text that is too long has at least that fault.
             Ok(()) => unreachable!(),
         },
-        Ok(Ending::Failed) => match judge_front(alloc, &text) {
+        Ok(Ending::Failed) => match judge_prefix(alloc, &text) {
             Err(fault) => Err(fault),
             Ok(()) => Err(TextFault::Read),
         },

@@ -3,7 +3,7 @@
 ghost use Rattle.std.specs.Prelude.{◌≡◌, ℕ, ◌↔◌, List, Some, IsSome};
 ghost use Rattle.acpi_base.specs.Memory.{Memory, bytes_at, Has, AreBytes};
 ghost use Rattle.acpi_base.specs.Laws.{FaultsExcludeClean, FaultsFit, CleanOrFaulty, CleanOrFirstFault, OneFirstFault, OneVerdict, RootsListSlots};
-ghost use Rattle.acpi_base.specs.TextLaws.{RunReadsText, RunReadsFront, RunStopsAtFaults, RunGoesOn, FrontDecides, TextMeans, TextOrFault, NeverBoth, OneImage, OneTextFault, RefusalsAreOwn, LinesMean};
+ghost use Rattle.acpi_base.specs.TextLaws.{RunReadsText, RunReadsPrefix, RunStopsAtFaults, RunGoesOn, PrefixDecides, TextMeans, TextOrFault, NeverBoth, OneImage, OneTextFault, RefusalsAreOwn, LinesMean};
 
 /// An image with a fault of a stage is not clean to that stage or a later one: a fault that is told is
 /// always a reason to refuse the image.
@@ -49,14 +49,15 @@ pub fn roots_list_slots()
 /// Reading an image text byte by byte is reading it by lines, in any pieces.
 pub fn machine_reads_lines()
     ensures text { RunReadsText }
-    ensures front { RunReadsFront }
+    ensures prefix { RunReadsPrefix }
     ensures faults { RunStopsAtFaults }
     ensures pieces { RunGoesOn }
 {}
 
-/// A fault that stands in the front of an image text is the fault of the whole text.
-pub fn front_decides()
-    ensures { FrontDecides }
+/// A fault in a prefix of an image text is the fault of the whole text.
+#[tactic(auto, using(crate::proofs::MachineLemmas::prefix_is_decided))]
+pub fn prefix_decides()
+    ensures { PrefixDecides }
 {}
 
 /// A text is read without a fault, and to this image, exactly where it is a good text whose data is this

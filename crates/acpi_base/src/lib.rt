@@ -4,8 +4,8 @@
 //! - `Image`: bytes at 64-bit addresses. `read_image` reads one from image text.
 //! - `sum`, `find_rsdp`: a checksum, and the search for the RSDP.
 //! - `Code`, `Stage`, `Witness`, `Verdict`: what can be wrong, in which part of the check, where, and the
-//!   answer of a check. `witness_text` and `verdict_text` write them.
-//! - `Policy`: what a check is told beside the image.
+//!   result of a check. `witness_text` and `verdict_text` write them.
+//! - `Policy`: the settings of a check.
 //! - `Tally`: a reader or writer that counts its failures.
 //! - `laws`: what holds of the definitions, such as that an image has one first fault or none.
 //!

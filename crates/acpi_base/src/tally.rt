@@ -58,9 +58,9 @@ impl<T> Tally<T> {
         self.inner
     }
 
-    /// One read into the front of the buffer: how many bytes it gave. `DeviceFailed` where it failed in
-    /// any way, which adds one to the count. At a count of 2^64 - 1 nothing is read: `DeviceFailed`, and
-    /// the count stays.
+    /// Reads once, into a prefix of the buffer, and returns how many bytes were read. Returns `DeviceFailed` where the
+    /// read failed in any way, which adds one to the count. At a count of 2^64 - 1 nothing is read: it returns
+    /// `DeviceFailed`, and the count stays.
     pub fn read(&mut self, buffer: &mut [u8]) -> Result<usize, DeviceFailed>
     where
         T: Read,
@@ -82,9 +82,9 @@ impl<T> Tally<T> {
         }
     }
 
-    /// One write from the front of the bytes: how many it took, of at least one byte at least one.
-    /// `DeviceFailed` where it failed in any way, or took none of at least one byte, which adds one to
-    /// the count. At a count of 2^64 - 1 nothing is written: `DeviceFailed`, and the count stays.
+    /// Writes once, a prefix of the bytes, and returns how many were written: at least one, unless there are none.
+    /// Returns `DeviceFailed` where the write failed in any way, or wrote nothing of at least one byte, which adds
+    /// one to the count. At a count of 2^64 - 1 nothing is written: it returns `DeviceFailed`, and the count stays.
     pub fn write(&mut self, bytes: &[u8]) -> Result<usize, DeviceFailed>
     where
         T: Write,

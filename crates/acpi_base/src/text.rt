@@ -1,5 +1,8 @@
 //! Why an image text could not be read.
 
+#[cfg(test)]
+mod tests;
+
 use thiserror::Error;
 
 /// Why an image text could not be read. Lines count from 1.
@@ -11,7 +14,7 @@ pub enum TextFault {
     /// Data stands before the first address.
     #[error("line {line}: no address")]
     NoAddress { line: u64 },
-    /// An address is given a second byte.
+    /// An address is given a second byte; this is the least such address of the line.
     #[error("address {address:#x} twice")]
     Twice { address: u64 },
     /// The line's data passes the address 2^64 - 1.
@@ -23,7 +26,7 @@ pub enum TextFault {
     /// The reader failed.
     #[error("device")]
     Read,
-    /// No memory was found for the text or the image.
+    /// Out of memory for the text or the image.
     #[error("out of memory")]
     Memory,
 }

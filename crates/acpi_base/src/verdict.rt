@@ -2,7 +2,7 @@
 
 use crate::witness::Witness;
 
-/// What a check answers.
+/// The result of a check.
 #[derive(Clone, Copy, Debug, PartialEq, Eq)]
 pub enum Verdict {
     /// Every stage that was asked for holds.

@@ -4,7 +4,7 @@ use Rattle.std.specs.Io.KnownBytes.{Appends, Consumes, IsAtEnd, Keeps}
 use Rattle.acpi_base.specs.Memory.{Memory}
 use Rattle.acpi_base.specs.Policy.{PolicyValue}
 use Rattle.acpi_base.specs.ImageText.{IsText, max_text}
-use Rattle.acpi_base.specs.TextReading.{IsFaultlessFront, IsRefusal, is_of_text}
+use Rattle.acpi_base.specs.TextReading.{IsFaultlessPrefix, IsRefusal, is_of_text}
 use Rattle.acpi_base.specs.Tally.{Counted, CountsFailure}
 use Rattle.acpi_base.specs.Found.{IsFound, IsNowhere}
 use Rattle.acpi_base.specs.Faults.{IsVerdict}
@@ -73,7 +73,7 @@ pub record ReadsRefused (input : Device) (fault : TextFault) : Type 0 where
 pub record ReadsFailed (input : Device) : Type 0 where
   pub text : List ℕ
   pub read : Reads input text
-  pub faultless : IsFaultlessFront text
+  pub faultless : IsFaultlessPrefix text
   pub failed : HasFailed input
 
 -- What was read: a whole text of the image, or a text that is refused, or the prefix of one, where a read

@@ -42,6 +42,7 @@ pub fn byte_at(segments: &[Segment], address: u64) -> Option<u8>
     None
 }
 
+#[tactic(auto, using(crate::proofs::Held::run_of_held, crate::proofs::Held::run_of_held_outside))]
 fn part_of(segment: &Segment, address: u64, count: u64) -> Option<&[u8]>
     requires { 0 < count }
     ensures bytes { option_map (λ bytes. bytes.now) result ≡ run_of (held (run segment.now)) address count }
@@ -74,6 +75,7 @@ pub fn window(segments: &[Segment], address: u64, count: u64) -> Option<&[u8]>
 }
 
 // An empty segment would seem to hold its base.
+#[tactic(auto, using(crate::proofs::Held::first_of_held_above, crate::proofs::Held::first_of_held_within, crate::proofs::Held::first_of_held_outside))]
 fn first_in(segment: &Segment, base: u64, count: u64) -> Option<u64>
     requires filled { 0 < length segment.now.bytes.items }
     requires count { 0 < count }
@@ -101,7 +103,8 @@ fn earlier_of(first: Option<u64>, second: Option<u64>) -> Option<u64>
     }
 }
 
-/// The least of the addresses from `base` on that is held already.
+/// The least of the `count` addresses from `base` on that is held already.
+#[tactic(auto, using(crate::proofs::Segments::earlier_assoc, crate::proofs::Segments::first_of_lookup_more, crate::proofs::Segments::first_of_lookup_all))]
 pub fn first_held(segments: &[Segment], base: u64, count: u64) -> Option<u64>
     requires whole { AllByRecursion IsWhole (runs segments.now) }
     requires count { 0 < count }
@@ -120,7 +123,7 @@ fn ends_at(segment: &Segment, address: u64) -> bool
     segment.base <= address && address - segment.base == segment.bytes.len() as u64
 }
 
-/// The segment that ends right in front of an address.
+/// The segment that ends right before an address.
 pub fn ending_at(segments: &[Segment], address: u64) -> Option<usize>
     ensures { result ≡ position (λ segment. end_of (run segment) == address) segments.now }
 {
@@ -136,12 +139,12 @@ pub fn starting_at(segments: &[Segment], base: u64, count: u64) -> Option<usize>
     segments.iter().position(|segment| base <= segment.base && segment.base - base == count)
 }
 
-fn joined(alloc: Global, front: &[u8], middle: &[u8], back: &[u8]) -> Result<Vec<u8>, AllocError>
-    ensures { IfOk result (λ bytes. bytes.items ≡ front.now ++ middle.now ++ back.now) }
+fn joined(alloc: Global, first: &[u8], second: &[u8], third: &[u8]) -> Result<Vec<u8>, AllocError>
+    ensures { IfOk result (λ bytes. bytes.items ≡ first.now ++ second.now ++ third.now) }
 {
-    let mut bytes = Vec::from_slice(alloc, front)?;
-    bytes.extend_from_slice(middle)?;
-    bytes.extend_from_slice(back)?;
+    let mut bytes = Vec::from_slice(alloc, first)?;
+    bytes.extend_from_slice(second)?;
+    bytes.extend_from_slice(third)?;
     Ok(bytes)
 }
 
@@ -159,7 +162,8 @@ fn put_alone(
     Ok(())
 }
 
-// In place: a text that is read line by line is not copied again for each line.
+// In place, so that reading a text line by line does not copy all earlier bytes for each line.
+#[tactic(auto, using(crate::proofs::Edits::appended, crate::proofs::Edits::not_appended))]
 fn append(segments: &mut Vec<Segment>, before: usize, bytes: &[u8]) -> Result<(), AllocError>
     requires { before < vec_len segments.old }
     ensures ok { OnOk result (let old = run_in (runs segments.old.items) before in runs segments.new.items ≡ slice_set (runs segments.old.items) before (run_at old.base (old.bytes ++ bytes.now))) }
@@ -184,6 +188,7 @@ fn prepend(
     Ok(())
 }
 
+#[tactic(auto, using(crate::proofs::Edits::bridged_is))]
 fn bridge(
     alloc: Global,
     segments: &mut Vec<Segment>,
@@ -203,14 +208,14 @@ fn bridge(
         bytes,
         &segments[after].bytes,
     )?;
-    // The one behind leaves, and those after it in the list move down by one.
+    // Removing the later segment moves those after it in the list down by one.
     segments.remove(after);
     let before = if after < before { before - 1 } else { before };
     segments[before].bytes = bytes;
     Ok(())
 }
 
-/// Puts bytes in at addresses of which none is held. The segments that they touch become one with them.
+/// Adds bytes at addresses of which none is held. They are joined with the segments that they touch.
 pub fn put(
     alloc: Global,
     segments: &mut Vec<Segment>,

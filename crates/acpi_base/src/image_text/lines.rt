@@ -2,8 +2,8 @@
 
 ghost use Rattle.std.specs.Prelude.{◌≡◌, ◌≤◌, ◌<◌, ◌+◌, [], ◌∷◌, length, drop, slice_range, OnOk, IfOk, IfErr};
 ghost use Rattle.acpi_base.specs.Memory.{IsImage};
-ghost use Rattle.acpi_base.specs.ImageText.{start, max_text, data_fault, put_data, take_line, read_line, read_lines, ended_lines, last_line, ended_from, last_from, read_text, read_front, IsText};
-ghost use Rattle.acpi_base.specs.TextReading.{Refuses, IsFaultlessFront, line_with, reading_of};
+ghost use Rattle.acpi_base.specs.ImageText.{start, max_text, data_fault, put_data, take_line, read_line, read_lines, ended_lines, last_line, ended_from, last_from, read_text, read_prefix, IsText};
+ghost use Rattle.acpi_base.specs.TextReading.{Refuses, IsFaultlessPrefix, line_with, reading_of};
 
 use super::MAX_TEXT;
 use super::line::{Form, parse_line};
@@ -97,7 +97,7 @@ impl Progress {
 
     /// Reads the next line: `ending` is 1 where an LF ends it, and 0 where the text does. The vector is a
     /// place for its bytes.
-    #[tactic(auto, unfolding(crate::specs::ImageText::read_line))]
+    #[tactic(auto, unfolding(crate::specs::ImageText::read_line), using(crate::proofs::LineLemmas::data_some))]
     fn read_line(&mut self, line: &[u8], ending: u64, bytes: &mut Vec<u8>) -> Result<(), TextFault>
         requires image { IsImage self.old.image }
         requires lines { self.old.lines ≤ self.old.through }
@@ -127,7 +127,7 @@ impl Progress {
 }
 
 /// Where the line that begins at `start` ends: at its LF, or at the text's end.
-#[tactic(auto, unfolding(crate::specs::ImageText::ended_from, crate::specs::ImageText::last_from))]
+#[tactic(auto, unfolding(crate::specs::ImageText::ended_from, crate::specs::ImageText::last_from), using(crate::proofs::LineLemmas::ended_from_more, crate::proofs::LineLemmas::last_from_more))]
 fn line_end(text: &[u8], start: usize) -> usize
     requires { start ≤ length text.now }
     ensures within { (start ≤ result) × (result ≤ length text.now) }
@@ -144,7 +144,7 @@ fn line_end(text: &[u8], start: usize) -> usize
     text.len()
 }
 
-/// Reads the lines that an LF ends. Answers where the last line begins.
+/// Reads the lines that an LF ends. Returns where the last line begins.
 #[tactic(auto, unfolding(crate::specs::ImageText::read_lines))]
 fn read_ended(progress: &mut Progress, text: &[u8], bytes: &mut Vec<u8>) -> Result<usize, TextFault>
     requires start { reading_of progress.old ≡ start }
@@ -180,10 +180,10 @@ pub fn judge_whole(alloc: Global, text: &[u8]) -> Result<Image, TextFault>
     Ok(image)
 }
 
-/// Judges the front of a text: the lines that have ended, and the lengths so far.
-pub fn judge_front(alloc: Global, text: &[u8]) -> Result<(), TextFault>
-    ensures ok { OnOk result (IsFaultlessFront text.now) }
-    ensures err { IfErr result (Refuses (read_front text.now)) }
+/// Judges a prefix of a text: the lines that have ended, and the lengths so far.
+pub fn judge_prefix(alloc: Global, text: &[u8]) -> Result<(), TextFault>
+    ensures ok { OnOk result (IsFaultlessPrefix text.now) }
+    ensures err { IfErr result (Refuses (read_prefix text.now)) }
     ensures short { OnOk result (length text.now ≤ max_text) }
 {
     let mut progress = Progress::new(alloc);

@@ -103,7 +103,7 @@ fn takes_each_form_of_line(rt: HostRuntime) -> Result<(), Fail> {
 }
 
 #[test]
-fn answers_the_first_fault(rt: HostRuntime) {
+fn reports_the_first_fault(rt: HostRuntime) {
     for (text, fault) in [
         (b"@0\n1".as_slice(), TextFault::BadLine { line: 2 }),
         (b"01", TextFault::NoAddress { line: 1 }),
@@ -156,4 +156,15 @@ fn judges_what_came_before_a_failure(rt: HostRuntime) {
         assert_eq!(rt; read.err(), Some(fault), "{bytes:?}");
         assert_eq!(rt; reader.failures(), 1);
     }
+}
+
+// The example at the head of the crate's root file.
+#[test]
+fn reads_the_example_of_the_crate(rt: HostRuntime) -> Result<(), Fail> {
+    let alloc = rt.alloc();
+    let mut reader = Tally::new(b"@1000\n01 02\n03 # the last byte\n".as_slice());
+    let image = read_image(alloc, &mut reader)?;
+    assert_eq!(rt; image.window(0x1000, 3), Some([1, 2, 3].as_slice()));
+    assert_eq!(rt; image.window(0x1000, 4), None);
+    Ok(())
 }

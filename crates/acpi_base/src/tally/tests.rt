@@ -64,31 +64,32 @@ fn passes_bytes_on(rt: HostRuntime) -> Result<(), Fail> {
     Ok(())
 }
 
-// Fails at its first call, and then gives and takes as much as there is room for.
+// Its first call fails with an error of this kind. Each later one reads or writes as much as there is room for.
 #[derive(Drop)]
-struct FailsAtFirst {
+struct FailsFirst {
+    kind: io::ErrorKind,
     calls: u32,
 }
 
-impl FailsAtFirst {
-    /// Counts a call, and fails at the first.
+impl FailsFirst {
+    /// Counts a call, and fails at the first one.
     fn call(&mut self) -> io::Result<()> {
         self.calls = self.calls.saturating_add(1);
         if self.calls == 1 {
-            return Err(io::ErrorKind::Interrupted.into());
+            return Err(self.kind.into());
         }
         Ok(())
     }
 }
 
-impl Read for FailsAtFirst {
+impl Read for FailsFirst {
     fn read(&mut self, buffer: &mut [u8]) -> io::Result<usize> {
         self.call()?;
         Ok(buffer.len())
     }
 }
 
-impl Write for FailsAtFirst {
+impl Write for FailsFirst {
     fn write(&mut self, bytes: &[u8]) -> io::Result<usize> {
         self.call()?;
         Ok(bytes.len())
@@ -99,16 +100,44 @@ impl Write for FailsAtFirst {
     }
 }
 
+const KINDS: [io::ErrorKind; 4] = [
+    io::ErrorKind::Interrupted,
+    io::ErrorKind::WouldBlock,
+    io::ErrorKind::BrokenPipe,
+    io::ErrorKind::Other,
+];
+
 #[test]
-fn makes_one_call_of_what_is_inside(rt: HostRuntime) {
-    let mut reader = Tally::new(FailsAtFirst { calls: 0 });
-    assert_eq!(rt; reader.read(&mut [0; 2]), Err(DeviceFailed));
+fn a_failed_read_is_not_tried_again(rt: HostRuntime) {
+    for kind in KINDS {
+        let mut tally = Tally::new(FailsFirst { kind, calls: 0 });
+        assert_eq!(rt; tally.read(&mut [0; 2]), Err(DeviceFailed), "{kind:?}");
+        assert_eq!(rt; tally.failures(), 1, "{kind:?}");
+        assert_eq!(rt; tally.into_inner().calls, 1, "{kind:?}");
+    }
+}
+
+#[test]
+fn a_failed_write_is_not_tried_again(rt: HostRuntime) {
+    for kind in KINDS {
+        let mut tally = Tally::new(FailsFirst { kind, calls: 0 });
+        assert_eq!(rt; tally.write(b"ab"), Err(DeviceFailed), "{kind:?}");
+        assert_eq!(rt; tally.failures(), 1, "{kind:?}");
+        assert_eq!(rt; tally.into_inner().calls, 1, "{kind:?}");
+    }
+}
+
+#[test]
+fn each_call_makes_one_call_of_what_is_inside(rt: HostRuntime) {
+    let kind = io::ErrorKind::Other;
+    let mut reader = Tally::new(FailsFirst { kind, calls: 1 });
     assert_eq!(rt; reader.read(&mut [0; 2]), Ok(2));
-    assert_eq!(rt; reader.failures(), 1);
-    assert_eq!(rt; reader.into_inner().calls, 2);
-    let mut writer = Tally::new(FailsAtFirst { calls: 0 });
-    assert_eq!(rt; writer.write(b"ab"), Err(DeviceFailed));
+    assert_eq!(rt; reader.read(&mut []), Ok(0));
+    assert_eq!(rt; reader.failures(), 0);
+    assert_eq!(rt; reader.into_inner().calls, 3);
+    let mut writer = Tally::new(FailsFirst { kind, calls: 1 });
     assert_eq!(rt; writer.write(b"ab"), Ok(2));
-    assert_eq!(rt; writer.failures(), 1);
-    assert_eq!(rt; writer.into_inner().calls, 2);
+    assert_eq!(rt; writer.write(b""), Ok(0));
+    assert_eq!(rt; writer.failures(), 0);
+    assert_eq!(rt; writer.into_inner().calls, 3);
 }
