@@ -7,7 +7,7 @@ ghost use Rattle.acpi_base.specs.Facs.{facs_length, IsFacs, HasSoundFacs, NamedF
 ghost use Rattle.acpi_base.specs.declared.code.Code.{Code};
 
 use crate::fadt::Fadt;
-use crate::field::{is_signed, u32_at};
+use acpi_base::field::{is_signed, u32_at};
 use acpi_base::{Code, Image};
 use std::marker::Model;
 

@@ -11,7 +11,7 @@ ghost use Rattle.acpi_read.specs.Fadts.{place_value, block_said};
 ghost use Rattle.acpi_read.specs.Gases.{gas_value};
 ghost use Rattle.acpi_read.specs.Headers.{header_value};
 
-use crate::field::{number_at, u8_at, u32_at, u64_at};
+use acpi_base::field::{number_at, u8_at, u32_at, u64_at};
 use crate::gas::{Gas, gas_in};
 use crate::header::{Header, header_at};
 use crate::table::Table;

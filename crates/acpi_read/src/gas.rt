@@ -5,7 +5,7 @@ ghost use Rattle.acpi_base.specs.Fadt.{gas_at, gas_bytes, IsGas};
 ghost use Rattle.acpi_read.specs.Gases.{gas_value, one_gas};
 ghost use Rattle.acpi_read.specs.declared.gas.Gas.{Gas};
 
-use crate::field::{put_u8, put_u64, u8_at, u64_at};
+use acpi_base::field::{put_u8, put_u64, u8_at, u64_at};
 use crate::layout::Layout;
 
 /// The 12 bytes of a generic address structure (ACPI 6.5, 5.2.3.2), which says where a register is. Offsets

@@ -5,7 +5,7 @@ ghost use Rattle.acpi_base.specs.Header.{header_of, header_bytes, IsHeader};
 ghost use Rattle.acpi_read.specs.Headers.{header_value, one_header};
 ghost use Rattle.acpi_read.specs.declared.header.Header.{Header};
 
-use crate::field::{bytes_at, put_bytes, put_u8, put_u32, u8_at, u32_at};
+use acpi_base::field::{bytes_at, put_bytes, put_u8, put_u32, u8_at, u32_at};
 use crate::layout::Layout;
 
 /// The 36 bytes that every system description table begins with (ACPI 6.5, 5.2.6). It has no reserved

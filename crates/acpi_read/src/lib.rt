@@ -33,7 +33,6 @@
 
 mod facs;
 mod fadt;
-mod field;
 mod gas;
 mod header;
 mod layout;

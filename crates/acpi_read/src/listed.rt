@@ -5,7 +5,7 @@ ghost use Rattle.acpi_base.specs.Root.{HasSlot, IsFirstListed};
 ghost use Rattle.acpi_base.specs.Tables.{IsSigned};
 ghost use Rattle.acpi_read.specs.Roots.{slots_of};
 
-use crate::field::is_signed;
+use acpi_base::field::is_signed;
 use crate::root::Root;
 use acpi_base::Image;
 

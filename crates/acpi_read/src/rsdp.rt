@@ -5,7 +5,7 @@ ghost use Rattle.acpi_base.specs.Codes.{code_number};
 ghost use Rattle.acpi_base.specs.Rsdp.{revision_of, short_addresses, IsRsdp, IsSoundRsdp, RsdpFault};
 ghost use Rattle.acpi_base.specs.declared.code.Code.{Code};
 
-use crate::field::{bytes_at, is_signed, u8_at, u32_at, u64_at};
+use acpi_base::field::{bytes_at, is_signed, u8_at, u32_at, u64_at};
 use acpi_base::{Code, Image, sum};
 use std::marker::Model;
 

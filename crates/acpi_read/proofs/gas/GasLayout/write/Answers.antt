@@ -12,11 +12,11 @@ returns-clause-bytes c =
     let g = c.args.self.now in
     let out = c.put_u64.new.out in
     let all : take 12 out ≡ out = take_all 12 out (omega arith) in
-    let to_1 : take 1 c.put_u8.new.out ≡ little_bytes 1 g.space = c.put_u8.ensures.front in
-    let to_2 : take 2 c.put_u8-2.new.out ≡ little_bytes 1 g.space ++ little_bytes 1 g.bit_width = c.put_u8-2.ensures.front ∙ ap (λ f. f ++ little_bytes 1 g.bit_width) to_1 in
-    let to_3 : take 3 c.put_u8-3.new.out ≡ little_bytes 1 g.space ++ little_bytes 1 g.bit_width ++ little_bytes 1 g.bit_offset = c.put_u8-3.ensures.front ∙ ap (λ f. f ++ little_bytes 1 g.bit_offset) to_2 in
-    let to_4 : take 4 c.put_u8-4.new.out ≡ little_bytes 1 g.space ++ little_bytes 1 g.bit_width ++ little_bytes 1 g.bit_offset ++ little_bytes 1 g.access_size = c.put_u8-4.ensures.front ∙ ap (λ f. f ++ little_bytes 1 g.access_size) to_3 in
-    sym all ∙ c.put_u64.ensures.front ∙ ap (λ f. f ++ little_bytes 8 g.address) to_4
+    let to_1 : take 1 c.put_u8.new.out ≡ little_bytes 1 g.space = c.put_u8.ensures.written in
+    let to_2 : take 2 c.put_u8-2.new.out ≡ little_bytes 1 g.space ++ little_bytes 1 g.bit_width = c.put_u8-2.ensures.written ∙ ap (λ f. f ++ little_bytes 1 g.bit_width) to_1 in
+    let to_3 : take 3 c.put_u8-3.new.out ≡ little_bytes 1 g.space ++ little_bytes 1 g.bit_width ++ little_bytes 1 g.bit_offset = c.put_u8-3.ensures.written ∙ ap (λ f. f ++ little_bytes 1 g.bit_offset) to_2 in
+    let to_4 : take 4 c.put_u8-4.new.out ≡ little_bytes 1 g.space ++ little_bytes 1 g.bit_width ++ little_bytes 1 g.bit_offset ++ little_bytes 1 g.access_size = c.put_u8-4.ensures.written ∙ ap (λ f. f ++ little_bytes 1 g.access_size) to_3 in
+    sym all ∙ c.put_u64.ensures.written ∙ ap (λ f. f ++ little_bytes 8 g.address) to_4
 
 pub returns-clause-layout : goal.returns-clause-layout
 returns-clause-layout c =
