@@ -11,6 +11,7 @@ pub mod Held
 pub mod Images
 pub mod Joins
 mod LineLemmas
+pub mod Layouts
 pub mod Listed
 mod MachineLemmas
 mod OwnRefusals

@@ -11,10 +11,10 @@ ghost use Rattle.acpi_read.specs.Fadts.{place_value, block_said};
 ghost use Rattle.acpi_read.specs.Gases.{gas_value};
 ghost use Rattle.acpi_read.specs.Headers.{header_value};
 
-use acpi_base::field::{number_at, u8_at, u32_at, u64_at};
 use crate::gas::{Gas, gas_in};
 use crate::header::{Header, header_at};
 use crate::table::Table;
+use acpi_base::field::{number_at, u8_at, u32_at, u64_at};
 use acpi_base::{Code, Witness};
 use std::marker::Model;
 

@@ -1,12 +1,13 @@
 //! Generic addresses.
 
-ghost use Rattle.std.specs.Prelude.{◌≡◌, ◌≤◌, ◌↔◌, ◌+◌, length, Some, IsSome, IfSome};
-ghost use Rattle.acpi_base.specs.Fadt.{gas_at, gas_bytes, IsGas};
-ghost use Rattle.acpi_read.specs.Gases.{gas_value, one_gas};
+ghost use Rattle.std.specs.Prelude.{◌≡◌, ◌≤◌, ◌+◌, length, refl};
+ghost use Rattle.std.proofs.Common.{rules};
+ghost use Rattle.acpi_base.specs.Fadt.{gas_at, gas_parts, gas_values};
+ghost use Rattle.acpi_read.specs.Gases.{gas_value};
 ghost use Rattle.acpi_read.specs.declared.gas.Gas.{Gas};
 
-use acpi_base::field::{put_u8, put_u64, u8_at, u64_at};
 use crate::layout::Layout;
+use acpi_base::field::{put_u8, put_u64, u8_at, u64_at};
 
 /// The 12 bytes of a generic address structure (ACPI 6.5, 5.2.3.2), which says where a register is. Offsets
 /// are from its own start. It has no reserved bytes, and any 12 bytes are one: nothing is asked of the
@@ -44,19 +45,15 @@ impl Layout for Gas {
 
     const LEN: usize = 12;
 
-    ghost is_layout = { λ bytes gas. IsGas bytes (gas_value gas) };
+    ghost parts = { gas_parts };
 
-    ghost bytes_of = { λ gas. gas_bytes (gas_value gas) };
+    ghost values = { λ gas. gas_values (gas_value gas) };
 
-    ghost counted = { λ _ _ h. h.count };
+    ghost counted = { refl };
 
-    ghost one_value = { one_gas };
+    ghost one_value = { λ _ _ same. Prim.search rules };
 
-    fn read(bytes: &[u8]) -> Option<Gas>
-        ensures value { IfSome result (λ gas. IsGas bytes.now (gas_value gas)) }
-        ensures any { (gas : Gas) → IsGas bytes.now (gas_value gas) → result ≡ Some gas }
-        ensures count { IsSome result ↔ (length bytes.now ≡ 12) }
-    {
+    fn read(bytes: &[u8]) -> Option<Gas> {
         if bytes.len() != Gas::LEN {
             return None;
         }

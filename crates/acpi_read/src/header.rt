@@ -1,12 +1,13 @@
 //! The header of a system description table.
 
-ghost use Rattle.std.specs.Prelude.{◌≡◌, ◌≤◌, ◌↔◌, length, Some, IsSome, IfSome};
-ghost use Rattle.acpi_base.specs.Header.{header_of, header_bytes, IsHeader};
-ghost use Rattle.acpi_read.specs.Headers.{header_value, one_header};
+ghost use Rattle.std.specs.Prelude.{◌≡◌, ◌≤◌, length, refl};
+ghost use Rattle.std.proofs.Common.{rules};
+ghost use Rattle.acpi_base.specs.Header.{header_of, header_parts, header_values};
+ghost use Rattle.acpi_read.specs.Headers.{header_value};
 ghost use Rattle.acpi_read.specs.declared.header.Header.{Header};
 
-use acpi_base::field::{bytes_at, put_bytes, put_u8, put_u32, u8_at, u32_at};
 use crate::layout::Layout;
+use acpi_base::field::{bytes_at, put_bytes, put_u8, put_u32, u8_at, u32_at};
 
 /// The 36 bytes that every system description table begins with (ACPI 6.5, 5.2.6). It has no reserved
 /// bytes, and any 36 bytes are one: a signature or a maker's name may be any bytes.
@@ -56,19 +57,16 @@ impl Layout for Header {
 
     const LEN: usize = 36;
 
-    ghost is_layout = { λ bytes header. IsHeader bytes (header_value header) };
+    ghost parts = { header_parts };
 
-    ghost bytes_of = { λ header. header_bytes (header_value header) };
+    ghost values = { λ header. header_values (header_value header) };
 
-    ghost counted = { λ _ _ says. says.count };
+    ghost counted = { refl };
 
-    ghost one_value = { one_header };
+    ghost one_value = { λ _ _ same. Prim.search rules };
 
-    fn read(bytes: &[u8]) -> Option<Header>
-        ensures value { IfSome result (λ header. IsHeader bytes.now (header_value header)) }
-        ensures any { (header : Header) → IsHeader bytes.now (header_value header) → result ≡ Some header }
-        ensures count { IsSome result ↔ (length bytes.now ≡ 36) }
-    {
+    #[tactic(auto, unfolding(acpi_base::specs::Header::header_of))]
+    fn read(bytes: &[u8]) -> Option<Header> {
         if bytes.len() != Header::LEN {
             return None;
         }

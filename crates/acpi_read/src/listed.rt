@@ -5,9 +5,9 @@ ghost use Rattle.acpi_base.specs.Root.{HasSlot, IsFirstListed};
 ghost use Rattle.acpi_base.specs.Tables.{IsSigned};
 ghost use Rattle.acpi_read.specs.Roots.{slots_of};
 
-use acpi_base::field::is_signed;
 use crate::root::Root;
 use acpi_base::Image;
+use acpi_base::field::is_signed;
 
 /// Whether a header with the signature is held at an address.
 fn has_header(image: &Image, address: u64, signature: &[u8]) -> bool

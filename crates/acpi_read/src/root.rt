@@ -12,9 +12,9 @@ ghost use Rattle.acpi_base.specs.declared.code.Code.{Code};
 ghost use Rattle.acpi_read.specs.Headers.{header_value};
 ghost use Rattle.acpi_read.specs.Roots.{RootValue, slots_of, IsSoundNamedRoot};
 
-use acpi_base::field::{is_signed, u32_at, u64_at};
 use crate::header::{Header, header_at};
 use crate::rsdp::Rsdp;
+use acpi_base::field::{is_signed, u32_at, u64_at};
 use acpi_base::{Code, Image, sum};
 use std::marker::Model;
 

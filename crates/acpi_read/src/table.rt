@@ -7,8 +7,8 @@ ghost use Rattle.acpi_base.specs.Tables.{length_of, IsTable, IsSoundTable, Table
 ghost use Rattle.acpi_base.specs.declared.code.Code.{Code};
 ghost use Rattle.acpi_read.specs.Headers.{header_value};
 
-use acpi_base::field::u32_at;
 use crate::header::{Header, header_at};
+use acpi_base::field::u32_at;
 use acpi_base::{Code, Image, sum};
 use std::marker::Model;
 
