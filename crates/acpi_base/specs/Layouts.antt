@@ -1,7 +1,6 @@
 -- Structures of a fixed layout: the list of their parts, and the values that these hold.
-use Rattle.std.specs.Prelude.{◌≡◌, ℕ, ◌+◌, ◌^◌, ◌<◌, List, [], ◌∷◌, ◌++◌, length, take, drop}
-use Rattle.byteorder.specs.Endian.{little_bytes}
-use Rattle.acpi_base.specs.Number.{field}
+use Rattle.std.specs.Prelude.{◌≡◌, ℕ, ◌+◌, ◌^◌, ◌<◌, List, [], ◌∷◌, ◌++◌, length, take, drop, replicate}
+use Rattle.acpi_base.specs.Number.{field, number_bytes}
 
 -- a part: a little-endian number of so many bytes; so many bytes as they stand, such as a name; a byte that
 -- is the same in all structures of the kind, such as its type; so many bytes that the standard reserves,
@@ -57,10 +56,10 @@ pub record HoldsValues (parts : List Part) (bytes : List ℕ) (values : List Par
 
 -- the bytes of a structure that holds these values; those that are reserved are 0
 abbrev pub layout_bytes : List Part → List PartValue → List ℕ
-layout_bytes (Number n ∷ parts) (Num x ∷ values) = little_bytes n x ++ layout_bytes parts values
+layout_bytes (Number n ∷ parts) (Num x ∷ values) = number_bytes n x ++ layout_bytes parts values
 layout_bytes (Bytes n ∷ parts) (Str text ∷ values) = text ++ layout_bytes parts values
 layout_bytes (Fixed byte ∷ parts) values = byte ∷ layout_bytes parts values
-layout_bytes (Reserved n ∷ parts) values = little_bytes n 0 ++ layout_bytes parts values
+layout_bytes (Reserved n ∷ parts) values = replicate n 0 ++ layout_bytes parts values
 layout_bytes _ _ = []
 
 -- there is a value for each part that has one, and it has the part's size

@@ -4,8 +4,7 @@
 //! (ACPI 6.5, 5.2). Callers see to it that a field lies wholly within the slice.
 
 ghost use Rattle.std.specs.Prelude.{◌≡◌, ◌≤◌, ◌<◌, ◌+◌, ◌^◌, ◌++◌, length, take, drop};
-ghost use Rattle.byteorder.specs.Endian.{little_bytes};
-ghost use Rattle.acpi_base.specs.Number.{field};
+ghost use Rattle.acpi_base.specs.Number.{field, number_bytes};
 ghost use Rattle.acpi_base.specs.Signature.{has_signature};
 
 use byteorder::{ByteOrder, LittleEndian};
@@ -77,40 +76,44 @@ pub fn put_bytes<const N: usize>(out: &mut [u8], offset: usize, bytes: &[u8; N])
 }
 
 /// Writes a byte at an offset. The bytes before it stay as they are.
+#[tactic(auto, unfolding(crate::specs::Number::number_bytes))]
 pub fn put_u8(out: &mut [u8], offset: usize, number: u8)
     requires { offset + 1 ≤ length out.old }
     ensures count { length out.new ≡ length out.old }
-    ensures written { take (offset + 1) out.new ≡ take offset out.old ++ little_bytes 1 number }
+    ensures written { take (offset + 1) out.new ≡ take offset out.old ++ number_bytes 1 number }
     ensures fits { number < 256 ^ 1 }
 {
     put_bytes(out, offset, &[number]);
 }
 
 /// Writes a number into the 2 bytes at an offset. The bytes before them stay as they are.
+#[tactic(auto, unfolding(crate::specs::Number::number_bytes))]
 pub fn put_u16(out: &mut [u8], offset: usize, number: u16)
     requires { offset + 2 ≤ length out.old }
     ensures count { length out.new ≡ length out.old }
-    ensures written { take (offset + 2) out.new ≡ take offset out.old ++ little_bytes 2 number }
+    ensures written { take (offset + 2) out.new ≡ take offset out.old ++ number_bytes 2 number }
     ensures fits { number < 256 ^ 2 }
 {
     put_bytes(out, offset, &number.to_le_bytes());
 }
 
 /// Writes a number into the 4 bytes at an offset. The bytes before them stay as they are.
+#[tactic(auto, unfolding(crate::specs::Number::number_bytes))]
 pub fn put_u32(out: &mut [u8], offset: usize, number: u32)
     requires { offset + 4 ≤ length out.old }
     ensures count { length out.new ≡ length out.old }
-    ensures written { take (offset + 4) out.new ≡ take offset out.old ++ little_bytes 4 number }
+    ensures written { take (offset + 4) out.new ≡ take offset out.old ++ number_bytes 4 number }
     ensures fits { number < 256 ^ 4 }
 {
     put_bytes(out, offset, &number.to_le_bytes());
 }
 
 /// Writes a number into the 8 bytes at an offset. The bytes before them stay as they are.
+#[tactic(auto, unfolding(crate::specs::Number::number_bytes))]
 pub fn put_u64(out: &mut [u8], offset: usize, number: u64)
     requires { offset + 8 ≤ length out.old }
     ensures count { length out.new ≡ length out.old }
-    ensures written { take (offset + 8) out.new ≡ take offset out.old ++ little_bytes 8 number }
+    ensures written { take (offset + 8) out.new ≡ take offset out.old ++ number_bytes 8 number }
     ensures fits { number < 256 ^ 8 }
 {
     put_bytes(out, offset, &number.to_le_bytes());
