@@ -1,7 +1,7 @@
 -- The FADT (ACPI 6.5, 5.2.9): its fields, its blocks, and when it is sound. Offsets are from its start.
 use Rattle.std.specs.Prelude.{◌≡◌, ◌≢◌, ℕ, ◌+◌, ◌*◌, ◌/◌, ◌%◌, ◌^◌, ◌<◌, ◌≤◌, ◌⊎◌, Bool, true, false, not, List, [], ◌∷◌, length, slice_get, slice_index, codes, Option, Some, None, nat_le, ◌==◌, ◌&&◌, if◌then◌else◌, unwrap_or}
 use Rattle.std.specs.Option.{option_and_then, option_map_or}
-use Rattle.acpi_base.specs.Layouts.{Part, Number, PartValue, Num, layout_bytes}
+use Rattle.acpi_base.specs.Layouts.{Part, NumberOf, PartValue, Number}
 use Rattle.acpi_base.specs.Memory.{Memory}
 use Rattle.acpi_base.specs.Number.{field}
 use Rattle.acpi_base.specs.Tables.{IsTable, IsSigned}
@@ -135,15 +135,11 @@ gas_at whole offset =
 
 -- its parts: space, bit_width, bit_offset, access_size, address
 abbrev pub gas_parts : List Part
-gas_parts = Number 1 ∷ Number 1 ∷ Number 1 ∷ Number 1 ∷ Number 8 ∷ []
+gas_parts = NumberOf 1 ∷ NumberOf 1 ∷ NumberOf 1 ∷ NumberOf 1 ∷ NumberOf 8 ∷ []
 
 -- their values
 abbrev pub gas_values : GasValue → List PartValue
-gas_values v = Num v.space ∷ Num v.bit_width ∷ Num v.bit_offset ∷ Num v.access_size ∷ Num v.address ∷ []
-
--- the bytes of one that says v: its fields, one after another
-unfoldable pub gas_bytes : GasValue → List ℕ
-gas_bytes v = layout_bytes gas_parts (gas_values v)
+gas_values v = Number v.space ∷ Number v.bit_width ∷ Number v.bit_offset ∷ Number v.access_size ∷ Number v.address ∷ []
 
 -- what is said of a register block: nothing, a generic address, or a system I/O port and how many bytes it
 -- has

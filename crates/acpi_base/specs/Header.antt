@@ -2,7 +2,7 @@
 -- bytes. Offsets are from the table's start.
 use Rattle.std.specs.Prelude.{◌≡◌, ℕ, ◌^◌, ◌<◌, List, [], ◌∷◌, length, take, drop}
 use Rattle.acpi_base.specs.Number.{field}
-use Rattle.acpi_base.specs.Layouts.{Part, Number, Bytes, PartValue, Num, Str, layout_bytes}
+use Rattle.acpi_base.specs.Layouts.{Part, NumberOf, BytesOf, PartValue, Number, Bytes, layout_bytes}
 
 -- what a header says
 pub record HeaderValue : Type 0 where
@@ -35,15 +35,15 @@ header_of bytes =
 -- creator_revision
 abbrev pub header_parts : List Part
 header_parts =
-    Bytes 4 ∷ Number 4 ∷ Number 1 ∷ Number 1 ∷ Bytes 6 ∷ Bytes 8 ∷ Number 4 ∷ Number 4 ∷ Number 4 ∷ []
+    BytesOf 4 ∷ NumberOf 4 ∷ NumberOf 1 ∷ NumberOf 1 ∷ BytesOf 6 ∷ BytesOf 8 ∷ NumberOf 4 ∷ NumberOf 4 ∷ NumberOf 4 ∷ []
 
 -- their values
 abbrev pub header_values : HeaderValue → List PartValue
 header_values v =
-    Str v.signature ∷ Num v.length ∷ Num v.revision ∷ Num v.checksum ∷ Str v.oemid ∷ Str v.oem_table_id
-    ∷ Num v.oem_revision
-    ∷ Num v.creator_id
-    ∷ Num v.creator_revision
+    Bytes v.signature ∷ Number v.length ∷ Number v.revision ∷ Number v.checksum ∷ Bytes v.oemid ∷ Bytes v.oem_table_id
+    ∷ Number v.oem_revision
+    ∷ Number v.creator_id
+    ∷ Number v.creator_revision
     ∷ []
 
 -- the bytes of a header that says v: its fields, one after another

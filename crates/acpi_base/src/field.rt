@@ -4,6 +4,7 @@
 //! (ACPI 6.5, 5.2). Callers see to it that a field lies wholly within the slice.
 
 ghost use Rattle.std.specs.Prelude.{◌≡◌, ◌≤◌, ◌<◌, ◌+◌, ◌^◌, ◌++◌, length, take, drop};
+ghost use Rattle.acpi_base.specs.Layouts.{FitValues, FitsValue, value_bytes, value_size, values_bytes, values_size};
 ghost use Rattle.acpi_base.specs.Number.{field, number_bytes};
 ghost use Rattle.acpi_base.specs.Signature.{has_signature};
 
@@ -117,6 +118,69 @@ pub fn put_u64(out: &mut [u8], offset: usize, number: u64)
     ensures fits { number < 256 ^ 8 }
 {
     put_bytes(out, offset, &number.to_le_bytes());
+}
+
+/// What is written into a part of a structure.
+#[derive(Clone, Copy, Debug)]
+pub enum Value<'a> {
+    U8(u8),
+    U16(u16),
+    U32(u32),
+    U64(u64),
+    /// The bytes as they stand.
+    Bytes(&'a [u8]),
+    /// So many bytes that are 0.
+    Zeros(usize),
+}
+
+/// Writes a value at an offset. The bytes before it stay as they are. Returns the offset behind it.
+fn put_value(out: &mut [u8], offset: usize, value: &Value<'_>) -> usize
+    requires { offset + value_size value.now ≤ length out.old }
+    ensures end { result ≡ offset + value_size value.now }
+    ensures count { length out.new ≡ length out.old }
+    ensures written { take result out.new ≡ take offset out.old ++ value_bytes value.now }
+    ensures fits { FitsValue value.now }
+{
+    match *value {
+        Value::U8(number) => {
+            put_u8(out, offset, number);
+            offset + 1
+        }
+        Value::U16(number) => {
+            put_u16(out, offset, number);
+            offset + 2
+        }
+        Value::U32(number) => {
+            put_u32(out, offset, number);
+            offset + 4
+        }
+        Value::U64(number) => {
+            put_u64(out, offset, number);
+            offset + 8
+        }
+        Value::Bytes(bytes) => {
+            let end = offset + bytes.len();
+            out[offset..end].copy_from_slice(bytes);
+            end
+        }
+        Value::Zeros(count) => {
+            let end = offset + count;
+            out[offset..end].fill(0);
+            end
+        }
+    }
+}
+
+/// Writes values one after another, which have as many bytes as `out` has.
+pub fn put_values(out: &mut [u8], values: &[Value<'_>])
+    requires { length out.old ≡ values_size values.now }
+    ensures bytes { out.new ≡ values_bytes values.now }
+    ensures fits { FitValues values.now }
+{
+    let mut offset = 0;
+    for value in values {
+        offset = put_value(out, offset, value);
+    }
 }
 
 /// Whether the bytes begin with the whole signature.

@@ -12,7 +12,7 @@ ghost use Rattle.acpi_read.specs.Gases.{gas_value};
 ghost use Rattle.acpi_read.specs.Headers.{header_value};
 
 use crate::gas::{Gas, gas_in};
-use crate::header::{Header, header_at};
+use crate::header::Header;
 use crate::table::Table;
 use acpi_base::field::{number_at, u8_at, u32_at, u64_at};
 use acpi_base::{Code, Witness};
@@ -183,18 +183,17 @@ pub enum Block {
 /// where an address points. An X_ address that is there and is not 0 wins over the field of 4 bytes.
 #[derive(Debug, Drop)]
 pub struct Fadt<'a> {
-    bytes: &'a [u8],
+    table: Table<'a>,
 }
 
 impl<'a> Model for Fadt<'a> {
-    ghost use Rattle.std.specs.Prelude.{◌≡◌, ◌≤◌, ◌<◌, ◌^◌, ℕ, List, length};
-    ghost use Rattle.acpi_base.specs.Tables.{length_of};
+    ghost use Rattle.std.specs.Prelude.{◌≤◌, ℕ, List, length};
 
     ghost Value = { List ℕ };
 
-    ghost view = { λ fadt. fadt.bytes.now };
+    ghost view = { λ fadt. fadt.table };
 
-    ghost invariant = { λ fadt. (116 ≤ length fadt.bytes.now) × (length fadt.bytes.now < 2 ^ 32) × (length_of fadt.bytes.now ≡ length fadt.bytes.now) };
+    ghost invariant = { λ fadt. 116 ≤ length fadt.table };
 }
 
 impl<'a> Fadt<'a> {
@@ -206,11 +205,10 @@ impl<'a> Fadt<'a> {
         ensures same { IfOk result (λ bytes. bytes ≡ table.entry) }
         ensures fault { IfErr result (λ code. (code ≡ Code.FadtShort) × FadtTableFault table.entry code 0) }
     {
-        let bytes = table.bytes();
-        if bytes.len() < 116 {
+        if table.bytes().len() < 116 {
             return Err(Code::FadtShort);
         }
-        Ok(Fadt { bytes })
+        Ok(Fadt { table })
     }
 
     /// The first fault by its offset, or none where the table is sound. Its offset is `at`, in bytes from
@@ -229,7 +227,7 @@ impl<'a> Fadt<'a> {
         ensures fault { IfSome result (λ w. FadtTableFault self.now w.code w.at × (w.other ≡ 0) × (w.point ≡ 0)) }
         ensures least { IfSome result (λ w. (other : Code) (at : ℕ) → FadtTableFault self.now other at → (w.at < at) ⊎ ((w.at ≡ at) × (code_number w.code ≤ code_number other))) }
     {
-        let bytes = self.bytes;
+        let bytes = self.bytes();
         if !self.reduced()
             && let Some(w) = length_fault(bytes)
         {
@@ -248,7 +246,7 @@ impl<'a> Fadt<'a> {
     pub fn reduced(&self) -> bool
         ensures { result ≡ is_reduced self.now }
     {
-        has_flag(self.bytes, HW_REDUCED_ACPI)
+        has_flag(self.bytes(), HW_REDUCED_ACPI)
     }
 
     /// The field with this number, which is below 41, or none where the table is too short to have it.
@@ -267,26 +265,27 @@ impl<'a> Fadt<'a> {
         ensures { result ≡ field_number self.now index }
     {
         let Place(offset, width) = field_place(index);
+        let bytes = self.bytes();
         let offset = offset as usize;
         let width = width as usize;
-        if offset + width > self.bytes.len() {
+        if offset + width > bytes.len() {
             return None;
         }
-        Some(number_at(self.bytes, offset, width))
+        Some(number_at(bytes, offset, width))
     }
 
     /// The FACS's address, from X_FIRMWARE_CTRL at 132 or FIRMWARE_CTRL at 36; 0 for none.
     pub fn facs_address(&self) -> u64
         ensures { result ≡ facs_address self.now }
     {
-        address_of(self.bytes, 140, 132, 36)
+        address_of(self.bytes(), 140, 132, 36)
     }
 
     /// The DSDT's address, from X_DSDT at 140 or DSDT at 40; 0 for none.
     pub fn dsdt_address(&self) -> u64
         ensures { result ≡ dsdt_address self.now }
     {
-        address_of(self.bytes, 148, 140, 40)
+        address_of(self.bytes(), 148, 140, 40)
     }
 
     /// Register block k, which is below 8: PM1a_EVT, PM1b_EVT, PM1a_CNT, PM1b_CNT, PM2_CNT, PM_TMR, GPE0
@@ -300,7 +299,7 @@ impl<'a> Fadt<'a> {
         requires { k < 8 }
         ensures { block_said result ≡ block_value self.now k }
     {
-        let bytes = self.bytes;
+        let bytes = self.bytes();
         let step = 12 * k as usize;
         if wide_address(bytes, 160 + step, 152 + step).is_some() {
             return Block::Gas(gas_in(bytes, 148 + step));
@@ -321,15 +320,14 @@ impl<'a> Fadt<'a> {
         ensures count { (116 ≤ length self.now) × (length self.now < 2 ^ 32) }
         ensures said { length_of self.now ≡ length self.now }
     {
-        self.bytes
+        self.table.bytes()
     }
 
     /// The fields of its first 36 bytes. Its length is the number of the table's bytes.
-    #[tactic(auto, unfolding(acpi_base::specs::Header::header_of))]
     pub fn header(&self) -> Header
         ensures fields { header_value result ≡ header_of self.now }
         ensures length { result.length ≡ length self.now }
     {
-        header_at(self.bytes)
+        self.table.header()
     }
 }

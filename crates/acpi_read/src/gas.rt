@@ -7,7 +7,7 @@ ghost use Rattle.acpi_read.specs.Gases.{gas_value};
 ghost use Rattle.acpi_read.specs.declared.gas.Gas.{Gas};
 
 use crate::layout::Layout;
-use acpi_base::field::{put_u8, put_u64, u8_at, u64_at};
+use acpi_base::field::{Value, put_values, u8_at, u64_at};
 
 /// The 12 bytes of a generic address structure (ACPI 6.5, 5.2.3.2), which says where a register is. Offsets
 /// are from its own start. It has no reserved bytes, and any 12 bytes are one: nothing is asked of the
@@ -61,11 +61,15 @@ impl Layout for Gas {
     }
 
     fn write(&self, out: &mut [u8]) {
-        let gas = *self;
-        put_u8(out, 0, gas.space);
-        put_u8(out, 1, gas.bit_width);
-        put_u8(out, 2, gas.bit_offset);
-        put_u8(out, 3, gas.access_size);
-        put_u64(out, 4, gas.address);
+        put_values(
+            out,
+            &[
+                Value::U8(self.space),
+                Value::U8(self.bit_width),
+                Value::U8(self.bit_offset),
+                Value::U8(self.access_size),
+                Value::U64(self.address),
+            ],
+        );
     }
 }

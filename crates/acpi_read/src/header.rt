@@ -7,7 +7,7 @@ ghost use Rattle.acpi_read.specs.Headers.{header_value};
 ghost use Rattle.acpi_read.specs.declared.header.Header.{Header};
 
 use crate::layout::Layout;
-use acpi_base::field::{bytes_at, put_bytes, put_u8, put_u32, u8_at, u32_at};
+use acpi_base::field::{Value, bytes_at, put_values, u8_at, u32_at};
 
 /// The 36 bytes that every system description table begins with (ACPI 6.5, 5.2.6). It has no reserved
 /// bytes, and any 36 bytes are one: a signature or a maker's name may be any bytes.
@@ -74,15 +74,19 @@ impl Layout for Header {
     }
 
     fn write(&self, out: &mut [u8]) {
-        let header = *self;
-        put_bytes(out, 0, &header.signature);
-        put_u32(out, 4, header.length);
-        put_u8(out, 8, header.revision);
-        put_u8(out, 9, header.checksum);
-        put_bytes(out, 10, &header.oemid);
-        put_bytes(out, 16, &header.oem_table_id);
-        put_u32(out, 24, header.oem_revision);
-        put_u32(out, 28, header.creator_id);
-        put_u32(out, 32, header.creator_revision);
+        put_values(
+            out,
+            &[
+                Value::Bytes(&self.signature),
+                Value::U32(self.length),
+                Value::U8(self.revision),
+                Value::U8(self.checksum),
+                Value::Bytes(&self.oemid),
+                Value::Bytes(&self.oem_table_id),
+                Value::U32(self.oem_revision),
+                Value::U32(self.creator_id),
+                Value::U32(self.creator_revision),
+            ],
+        );
     }
 }

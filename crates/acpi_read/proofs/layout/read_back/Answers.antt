@@ -1,6 +1,6 @@
 use Rattle.std.proofs.Common.{arith, ◌≡◌, Option, Some, None, IsSome, IfSome, ap, sym, subst, ◌∙◌}
 use Rattle.acpi_base.specs.Layouts.{IsOfLayout, values_at}
-use Rattle.acpi_base.proofs.Layouts.RoundTrip.{HoldsValues-layout_bytes}
+use Rattle.acpi_base.proofs.Layouts.RoundTrip.{HasValues-layout_bytes}
 use Rattle.acpi_read.proofs.layout.read_back.Goals as goal
 
 -- a value that is there, and that all facts say is x, is x
@@ -12,7 +12,7 @@ pub returns-clause-value : goal.returns-clause-value
 returns-clause-value g c =
     let layout = g.L.Layout in
     let value = c.args.value.now in
-    let holds = HoldsValues-layout_bytes layout.parts (layout.values value) c.write.ensures.fits in
+    let holds = HasValues-layout_bytes layout.parts (layout.values value) c.write.ensures.fits in
     let of_layout = subst (IsOfLayout layout.parts) (sym c.write.ensures.bytes) holds.layout in
     let same = ap (values_at 0 layout.parts) c.write.ensures.bytes ∙ holds.same in
     found c.read.result value (λ y. values_at 0 layout.parts c.write.new.out ≡ layout.values y) (c.read.ensures.some.1 of_layout) c.read.ensures.value
