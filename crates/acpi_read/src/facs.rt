@@ -97,3 +97,6 @@ impl<'a> Facs<'a> {
         self.bytes
     }
 }
+
+#[cfg(test)]
+mod tests;

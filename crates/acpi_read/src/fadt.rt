@@ -331,3 +331,6 @@ impl<'a> Fadt<'a> {
         self.table.header()
     }
 }
+
+#[cfg(test)]
+mod tests;

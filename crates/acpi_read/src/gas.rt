@@ -49,10 +49,6 @@ impl Layout for Gas {
 
     ghost values = { λ gas. gas_values (gas_value gas) };
 
-    ghost counted = { refl };
-
-    ghost one_value = { λ _ _ same. Prim.search rules };
-
     fn read(bytes: &[u8]) -> Option<Gas> {
         if bytes.len() != Gas::LEN {
             return None;
@@ -72,4 +68,11 @@ impl Layout for Gas {
             ],
         );
     }
+
+    ghost counted = { refl };
+
+    ghost one_value = { λ _ _ same. Prim.search rules };
 }
+
+#[cfg(test)]
+mod tests;

@@ -61,10 +61,6 @@ impl Layout for Header {
 
     ghost values = { λ header. header_values (header_value header) };
 
-    ghost counted = { refl };
-
-    ghost one_value = { λ _ _ same. Prim.search rules };
-
     #[tactic(auto, unfolding(acpi_base::specs::Header::header_of))]
     fn read(bytes: &[u8]) -> Option<Header> {
         if bytes.len() != Header::LEN {
@@ -89,4 +85,11 @@ impl Layout for Header {
             ],
         );
     }
+
+    ghost counted = { refl };
+
+    ghost one_value = { λ _ _ same. Prim.search rules };
 }
+
+#[cfg(test)]
+mod tests;

@@ -17,7 +17,7 @@
 //! `Fadt::fault` answers a whole fault, with its place, since a FADT has several that differ by it.
 //!
 //! ```rust
-//! let rsdp = Rsdp::read(&image, 0xe0000)?;
+//! let rsdp = Rsdp::read(&image, 0xf59e0)?;
 //! let root = Root::read(&image, &rsdp)?;
 //! if let Some(address) = first(&image, &root, *b"FACP") {
 //!     let fadt = Fadt::new(Table::read(&image, address)?)?;
@@ -51,5 +51,7 @@ pub use root::Root;
 pub use rsdp::Rsdp;
 pub use table::Table;
 
+#[cfg(test)]
+mod samples;
 #[cfg(test)]
 mod tests;

@@ -50,3 +50,6 @@ pub fn first(image: &Image, root: &Root<'_>, signature: [u8; 4]) -> Option<u64>
     }
     None
 }
+
+#[cfg(test)]
+mod tests;

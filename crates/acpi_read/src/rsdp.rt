@@ -137,3 +137,6 @@ impl Rsdp {
         self.xsdt
     }
 }
+
+#[cfg(test)]
+mod tests;

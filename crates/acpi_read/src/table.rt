@@ -81,3 +81,6 @@ impl<'a> Table<'a> {
         header_at(self.bytes)
     }
 }
+
+#[cfg(test)]
+mod tests;
