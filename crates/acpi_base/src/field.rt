@@ -95,7 +95,7 @@ pub fn put_u16(out: &mut [u8], offset: usize, number: u16)
     ensures written { take (offset + 2) out.new ≡ take offset out.old ++ number_bytes 2 number }
     ensures fits { number < 256 ^ 2 }
 {
-    put_bytes(out, offset, &number.to_le_bytes());
+    LittleEndian::write_u16(&mut out[offset..], number);
 }
 
 /// Writes a number into the 4 bytes at an offset. The bytes before them stay as they are.
@@ -106,7 +106,7 @@ pub fn put_u32(out: &mut [u8], offset: usize, number: u32)
     ensures written { take (offset + 4) out.new ≡ take offset out.old ++ number_bytes 4 number }
     ensures fits { number < 256 ^ 4 }
 {
-    put_bytes(out, offset, &number.to_le_bytes());
+    LittleEndian::write_u32(&mut out[offset..], number);
 }
 
 /// Writes a number into the 8 bytes at an offset. The bytes before them stay as they are.
