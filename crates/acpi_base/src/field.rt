@@ -1,7 +1,7 @@
 //! Fields of tables: numbers and bytes, read and written at an offset.
 //!
 //! Offsets are in bytes from the start of the slice that is passed. Numbers are unsigned and little-endian
-//! (ACPI 6.5, 5.2). Callers see to it that a field lies wholly within the slice.
+//! (ACPI 6.5, 5.2). A field lies wholly within the slice, which callers ensure.
 
 ghost use Rattle.std.specs.Prelude.{◌≡◌, ◌≤◌, ◌<◌, ◌+◌, ◌^◌, ◌++◌, length, take, drop};
 ghost use Rattle.acpi_base.specs.Layouts.{FitValues, FitsValue, value_bytes, value_size, values_bytes, values_size};
@@ -123,11 +123,15 @@ pub fn put_u64(out: &mut [u8], offset: usize, number: u64)
 /// What is written into a part of a structure.
 #[derive(Clone, Copy, Debug)]
 pub enum Value<'a> {
+    /// A byte.
     U8(u8),
+    /// A number in 2 bytes.
     U16(u16),
+    /// A number in 4 bytes.
     U32(u32),
+    /// A number in 8 bytes.
     U64(u64),
-    /// The bytes as they stand.
+    /// The bytes as they are.
     Bytes(&'a [u8]),
     /// So many bytes that are 0.
     Zeros(usize),
@@ -171,7 +175,7 @@ fn put_value(out: &mut [u8], offset: usize, value: &Value<'_>) -> usize
     }
 }
 
-/// Writes values one after another, which have as many bytes as `out` has.
+/// Writes values one after another from the start of `out`. Together they have as many bytes as `out`.
 pub fn put_values(out: &mut [u8], values: &[Value<'_>])
     requires { length out.old ≡ values_size values.now }
     ensures bytes { out.new ≡ values_bytes values.now }

@@ -178,9 +178,9 @@ pub enum Block {
 /// The fixed ACPI description table (ACPI 6.5, 5.2.9): at least 116 bytes, and fewer than 2^32. Contracts
 /// see the bytes.
 ///
-/// A field is there where it lies wholly within the bytes, whatever the revision. The signature, the
-/// revision, reserved bytes and bytes past 276 are not looked at, and nothing says that anything stands
-/// where an address points. An X_ address that is there and is not 0 wins over the field of 4 bytes.
+/// A field is present where it lies wholly within the bytes, whatever the revision. The signature, the
+/// revision, reserved bytes and bytes past 276 are not checked, nor is what an address points to. An X_
+/// address that is present and is not 0 takes precedence over the field of 4 bytes.
 #[derive(Debug, Drop)]
 pub struct Fadt<'a> {
     table: Table<'a>,
@@ -197,7 +197,7 @@ impl<'a> Model for Fadt<'a> {
 }
 
 impl<'a> Fadt<'a> {
-    /// A table's bytes as a FADT's. Its signature is not looked at.
+    /// A table's bytes as a FADT's. Its signature is not checked.
     ///
     /// Refuses `FadtShort`, where it has fewer than 116 bytes.
     pub fn new(table: Table<'a>) -> Result<Fadt<'a>, Code>
@@ -211,8 +211,8 @@ impl<'a> Fadt<'a> {
         Ok(Fadt { table })
     }
 
-    /// The first fault by its offset, or none where the table is sound. Its offset is `at`, in bytes from
-    /// the table's start, and the other two numbers are 0.
+    /// The first fault by its offset, or none where the table is sound. The offset is reported as `at`, in
+    /// bytes from the table's start, and the other two numbers are 0.
     ///
     /// Where HW_REDUCED_ACPI, bit 20 of Flags, is clear (5.2.9, 4.8.3):
     /// `PmEventLength` at 88, where PM1_EVT_LEN is below 4;
@@ -293,7 +293,7 @@ impl<'a> Fadt<'a> {
     ///
     /// The X_ structure at 148 + 12k, where the table has it and its address is not 0; else a system I/O
     /// port at the address of 4 bytes at 56 + 4k, where that is not 0, whose length is the byte at 88, 88,
-    /// 89, 89, 90, 91, 92 or 93; else none. That the two need not agree is this project's choice.
+    /// 89, 89, 90, 91, 92 or 93; else none. The two need not agree, which is this project's choice.
     #[tactic(auto, unfolding(acpi_base::specs::Fadt::block_value))]
     pub fn block(&self, k: u8) -> Block
         requires { k < 8 }

@@ -10,8 +10,8 @@ use crate::layout::Layout;
 use acpi_base::field::{Value, put_values, u8_at, u64_at};
 
 /// The 12 bytes of a generic address structure (ACPI 6.5, 5.2.3.2), which says where a register is. Offsets
-/// are from its own start. It has no reserved bytes, and any 12 bytes are one: nothing is asked of the
-/// address space, nor that the sizes agree.
+/// are from its own start. It has no reserved bytes, and any 12 bytes are one: neither the address
+/// space nor the sizes are checked.
 #[derive(Clone, Copy, Debug, PartialEq, Eq)]
 pub struct Gas {
     /// At 0: which address space: 0 is system memory, 1 system I/O, 2 PCI configuration space.
@@ -20,7 +20,7 @@ pub struct Gas {
     pub bit_width: u8,
     /// At 2: at which bit it begins.
     pub bit_offset: u8,
-    /// At 3: how many bytes are read or written at a time: 0 for not said, 1 to 4 for 1, 2, 4 and 8 bytes.
+    /// At 3: how many bytes are read or written at a time: 0 for undefined, 1 to 4 for 1, 2, 4 and 8 bytes.
     pub access_size: u8,
     /// At 4: where it is in its space; 0 for none.
     pub address: u64,

@@ -10,7 +10,7 @@ use crate::layout::Layout;
 use acpi_base::field::{Value, bytes_at, put_values, u8_at, u32_at};
 
 /// The 36 bytes that every system description table begins with (ACPI 6.5, 5.2.6). It has no reserved
-/// bytes, and any 36 bytes are one: a signature or a maker's name may be any bytes.
+/// bytes, and any 36 bytes are one: a signature or an OEM's name may be any bytes.
 #[derive(Clone, Copy, Debug, PartialEq, Eq)]
 pub struct Header {
     /// At 0: what kind of table it is.
@@ -21,11 +21,11 @@ pub struct Header {
     pub revision: u8,
     /// At 9: the byte that makes the whole table sum to 0.
     pub checksum: u8,
-    /// At 10: six characters that name the maker.
+    /// At 10: six characters that identify the OEM.
     pub oemid: [u8; 6],
-    /// At 16: eight characters that name the table among the maker's.
+    /// At 16: eight characters that identify the table among the OEM's.
     pub oem_table_id: [u8; 8],
-    /// At 24: the maker's revision of the table.
+    /// At 24: the OEM's revision of the table.
     pub oem_revision: u32,
     /// At 28: which tool made the table.
     pub creator_id: u32,
@@ -33,7 +33,7 @@ pub struct Header {
     pub creator_revision: u32,
 }
 
-/// The header at the front of a table's bytes.
+/// The header that a table's bytes begin with.
 #[tactic(auto, unfolding(acpi_base::specs::Header::header_of))]
 pub(crate) fn header_at(bytes: &[u8]) -> Header
     requires { 36 ≤ length bytes.now }

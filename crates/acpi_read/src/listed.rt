@@ -35,9 +35,9 @@ fn signed_at(image: &Image, root: &Root<'_>, k: u32, signature: &[u8]) -> Option
 /// The address in the first slot of the root at which a table with the signature stands, or none where no
 /// slot has one.
 ///
-/// A table stands where its header's 36 bytes are held and begin with the signature: neither its Length nor
-/// its sum is looked at. That the first one counts, and later ones with the same signature do not, is this
-/// project's choice. Slots that hold 0 are skipped. The image may be another than the root's own.
+/// A table stands where its header's 36 bytes are held and begin with the signature: neither its Length
+/// nor its sum is checked. Later tables with the same signature are ignored, which is this project's
+/// choice. Slots that hold 0 are skipped. The image may be another than the root's own.
 pub fn first(image: &Image, root: &Root<'_>, signature: [u8; 4]) -> Option<u64>
     ensures found { IfSome result (IsFirstListed image.now root.now.bytes root.now.width signature) }
     ensures none { IsNone result → (k a : ℕ) → HasSlot root.now.bytes root.now.width k a → ¬ IsSigned image.now a signature }

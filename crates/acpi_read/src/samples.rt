@@ -1,5 +1,5 @@
-//! Tables for the tests: those of the machine `q35` of QEMU 7.2, as its firmware SeaBIOS left them, and tables
-//! that are built here.
+//! Tables for the tests: those of the machine `q35` of QEMU 7.2, as its firmware SeaBIOS left them, and
+//! tables that are built here.
 
 ghost use Rattle.std.specs.Prelude.{◌≤◌, length};
 

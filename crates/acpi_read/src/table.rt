@@ -15,7 +15,7 @@ use std::marker::Model;
 /// A system description table of any kind (ACPI 6.5, 5.2.6): as many bytes as its Length says, from 36 to
 /// 2^32 - 1, which summed to 0 when it was read. Contracts see the bytes.
 ///
-/// The signature, the revision and what stands behind the header are not looked at.
+/// The signature, the revision and the bytes behind the header are not checked.
 #[derive(Debug, Drop)]
 pub struct Table<'a> {
     bytes: &'a [u8],
@@ -33,7 +33,7 @@ impl<'a> Model for Table<'a> {
 }
 
 impl<'a> Table<'a> {
-    /// The table at an address. Nothing is asked of the address itself, nor that a root lists it.
+    /// The table at an address. Any address is allowed, also one that no root lists.
     ///
     /// Refuses, in this order:
     /// `TableHeaderOut`, where its header's 36 bytes are not all held;

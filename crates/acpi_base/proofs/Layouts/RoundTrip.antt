@@ -1,7 +1,7 @@
 -- Structures of a fixed layout: what was written is read back, whatever stands behind it.
 use Rattle.std.proofs.Common.{◌≡◌, ℕ, ◌+◌, ◌^◌, ◌<◌, List, [], ◌∷◌, ◌++◌, length, take, drop, replicate, refl, sym, ap, ◌∙◌, append_assoc, append-nil, length-append, arith}
 use Rattle.std.proofs.Math.Seq.{drop-drop}
-use Rattle.std.proofs.lemmas.List.{drop_at, length-replicate, take_all, take_at}
+use Rattle.std.proofs.lemmas.List.{drop_at, length-replicate, take_at}
 use Rattle.byteorder.specs.Endian.{little_number}
 use Rattle.byteorder.specs.Numbers.{little_number-reads_back, length-bytes_low_first}
 use Rattle.acpi_base.specs.Number.{field, number_bytes}
