@@ -8,6 +8,7 @@ pub mod Images
 pub mod Joins
 mod DataImages
 mod LineLemmas
+pub mod Layouts
 mod MachineLemmas
 mod OwnRefusals
 pub mod Places

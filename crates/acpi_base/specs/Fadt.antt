@@ -1,7 +1,7 @@
 -- The FADT (ACPI 6.5, 5.2.9): its fields, its blocks, and when it is sound. Offsets are from its start.
-use Rattle.std.specs.Prelude.{◌≡◌, ◌≢◌, ℕ, ◌+◌, ◌*◌, ◌/◌, ◌%◌, ◌^◌, ◌<◌, ◌≤◌, ◌⊎◌, Bool, true, false, not, List, [], ◌∷◌, ◌++◌, length, slice_get, slice_index, Option, Some, None, nat_le, ◌==◌, ◌&&◌, if◌then◌else◌, unwrap_or}
+use Rattle.std.specs.Prelude.{◌≡◌, ◌≢◌, ℕ, ◌+◌, ◌*◌, ◌/◌, ◌%◌, ◌^◌, ◌<◌, ◌≤◌, ◌⊎◌, Bool, true, false, not, List, [], ◌∷◌, length, slice_get, slice_index, Option, Some, None, nat_le, ◌==◌, ◌&&◌, if◌then◌else◌, unwrap_or}
 use Rattle.std.specs.Option.{option_and_then, option_map_or}
-use Rattle.byteorder.specs.Endian.{little_bytes}
+use Rattle.acpi_base.specs.Layouts.{Part, NumberOf, PartValue, Number}
 use Rattle.acpi_base.specs.Memory.{Memory}
 use Rattle.acpi_base.specs.Number.{field}
 use Rattle.acpi_base.specs.Listed.{fadt_signature, IsListedTable, ListsNone}
@@ -128,17 +128,13 @@ gas_at whole offset =
       address = field whole (offset + 4) 8;
     }
 
--- these are the 12 bytes of one that says v
-pub record IsGas (bytes : List ℕ) (v : GasValue) : Type 0 where
-  pub count : length bytes ≡ 12
-  pub value : gas_at bytes 0 ≡ v
+-- its parts: space, bit_width, bit_offset, access_size, address
+abbrev pub gas_parts : List Part
+gas_parts = NumberOf 1 ∷ NumberOf 1 ∷ NumberOf 1 ∷ NumberOf 1 ∷ NumberOf 8 ∷ []
 
--- the bytes of one that says v: its fields, one after another
-unfoldable pub gas_bytes : GasValue → List ℕ
-gas_bytes v =
-    little_bytes 1 v.space ++ little_bytes 1 v.bit_width ++ little_bytes 1 v.bit_offset
-    ++ little_bytes 1 v.access_size
-    ++ little_bytes 8 v.address
+-- their values
+abbrev pub gas_values : GasValue → List PartValue
+gas_values v = Number v.space ∷ Number v.bit_width ∷ Number v.bit_offset ∷ Number v.access_size ∷ Number v.address ∷ []
 
 -- what is said of a register block: nothing, a generic address, or a system I/O port and how many bytes it
 -- has

@@ -7,6 +7,7 @@ pub mod Found
 pub mod Header
 pub mod ImageText
 pub mod Laws
+pub mod Layouts
 pub mod Listed
 pub mod Memory
 pub mod Number

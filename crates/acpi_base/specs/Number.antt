@@ -1,10 +1,14 @@
 -- Numbers and sums of bytes.
 use Rattle.std.specs.Prelude.{ℕ, ◌%◌, List, drop, sum}
-use Rattle.byteorder.specs.Endian.{little_number}
+use Rattle.byteorder.specs.Endian.{little_bytes, little_number}
 
 -- the little-endian number in the `width` bytes from `offset` on (5.2); bytes past the end count as 0
 unfoldable pub field : List ℕ → ℕ → ℕ → ℕ
 field bytes offset width = little_number width (drop offset bytes)
+
+-- the `width` bytes of a number, little-endian (5.2)
+unfoldable pub number_bytes : ℕ → ℕ → List ℕ
+number_bytes width number = little_bytes width number
 
 -- the sum of the bytes modulo 256, which is 0 where a checksum is right (5.2.5.3, 5.2.6)
 unfoldable pub byte_sum : List ℕ → ℕ

@@ -22,6 +22,7 @@
 mod checksum;
 mod code;
 mod fault_text;
+pub mod field;
 mod find;
 mod image;
 mod image_text;

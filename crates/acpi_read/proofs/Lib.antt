@@ -1,2 +1,0 @@
-pub mod GasBytes
-pub mod HeaderBytes

@@ -1,4 +1,4 @@
--- What the views of a FADT and a FACS answer, as the plain values that definitions speak of.
+-- What the views of a FADT and a FACS return, as the plain values that definitions speak of.
 use Rattle.std.specs.Prelude.{ℕ, List}
 use Rattle.acpi_base.specs.Fadt.{BlockValue, NoBlock, GasBlock, PortBlock}
 use Rattle.acpi_base.specs.Fadt as fadt

@@ -8,7 +8,7 @@ ghost use Rattle.acpi_base.specs.Facs.{facs_length, IsFacs, HasSoundFacs, NamedF
 ghost use Rattle.acpi_base.specs.declared.code.Code.{Code};
 
 use crate::fadt::Fadt;
-use crate::field::{is_signed, u32_at};
+use acpi_base::field::{is_signed, u32_at};
 use acpi_base::{Code, Image};
 use std::marker::Model;
 
@@ -16,7 +16,7 @@ use std::marker::Model;
 /// 2^32 - 1, at an address that is a multiple of 64. It has no checksum. Contracts see its address and its
 /// bytes.
 ///
-/// What stands behind its Length field is not looked at.
+/// The bytes behind its Length field are not checked.
 #[derive(Debug, Drop)]
 pub struct Facs<'a> {
     address: u64,
@@ -37,8 +37,8 @@ impl<'a> Model for Facs<'a> {
 
 impl<'a> Facs<'a> {
     /// The FACS that a FADT names, or none where the hardware is reduced and the FADT names none. One that
-    /// is named is read also where the hardware is reduced. The FADT may come from another image: its bytes
-    /// are all that counts.
+    /// is named is read also where the hardware is reduced. The FADT may come from another image: only its
+    /// bytes are used.
     ///
     /// Refuses, in this order:
     /// `NoFacs`, where the FADT names none and the hardware is not reduced;
@@ -66,13 +66,13 @@ impl<'a> Facs<'a> {
         if address % 64 != 0 {
             return Err(Code::FacsAlign);
         }
-        let Some(front) = image.window(address, 8) else {
+        let Some(prefix) = image.window(address, 8) else {
             return Err(Code::FacsHeaderOut);
         };
-        if !is_signed(front, b"FACS") {
+        if !is_signed(prefix, b"FACS") {
             return Err(Code::FacsSignature);
         }
-        let length = u32_at(front, 4);
+        let length = u32_at(prefix, 4);
         if length < 64 {
             return Err(Code::FacsLength);
         }
@@ -99,3 +99,6 @@ impl<'a> Facs<'a> {
         self.bytes
     }
 }
+
+#[cfg(test)]
+mod tests;

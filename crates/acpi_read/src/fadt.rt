@@ -12,10 +12,10 @@ ghost use Rattle.acpi_read.specs.Fadts.{place_value, block_said};
 ghost use Rattle.acpi_read.specs.Gases.{gas_value};
 ghost use Rattle.acpi_read.specs.Headers.{header_value};
 
-use crate::field::{number_at, u8_at, u32_at, u64_at};
 use crate::gas::{Gas, gas_in};
-use crate::header::{Header, header_at};
+use crate::header::Header;
 use crate::table::Table;
+use acpi_base::field::{number_at, u8_at, u32_at, u64_at};
 use acpi_base::{Code, Witness};
 use std::marker::Model;
 
@@ -180,27 +180,26 @@ pub enum Block {
 /// The fixed ACPI description table (ACPI 6.5, 5.2.9): at least 116 bytes, and fewer than 2^32. Contracts
 /// see the bytes.
 ///
-/// A field is there where it lies wholly within the bytes, whatever the revision. The signature, the
-/// revision, reserved bytes and bytes past 276 are not looked at, and nothing says that anything stands
-/// where an address points. An X_ address that is there and is not 0 wins over the field of 4 bytes.
+/// A field is present where it lies wholly within the bytes, whatever the revision. The signature, the
+/// revision, reserved bytes and bytes past 276 are not checked, nor is what an address points to. An X_
+/// address that is present and is not 0 takes precedence over the field of 4 bytes.
 #[derive(Debug, Drop)]
 pub struct Fadt<'a> {
-    bytes: &'a [u8],
+    table: Table<'a>,
 }
 
 impl<'a> Model for Fadt<'a> {
-    ghost use Rattle.std.specs.Prelude.{◌≡◌, ◌≤◌, ◌<◌, ◌^◌, ℕ, List, length};
-    ghost use Rattle.acpi_base.specs.Tables.{length_of};
+    ghost use Rattle.std.specs.Prelude.{◌≤◌, ℕ, List, length};
 
     ghost Value = { List ℕ };
 
-    ghost view = { λ fadt. fadt.bytes.now };
+    ghost view = { λ fadt. fadt.table };
 
-    ghost invariant = { λ fadt. (116 ≤ length fadt.bytes.now) × (length fadt.bytes.now < 2 ^ 32) × (length_of fadt.bytes.now ≡ length fadt.bytes.now) };
+    ghost invariant = { λ fadt. 116 ≤ length fadt.table };
 }
 
 impl<'a> Fadt<'a> {
-    /// A table's bytes as a FADT's. Its signature is not looked at.
+    /// A table's bytes as a FADT's. Its signature is not checked.
     ///
     /// Refuses `FadtShort`, where it has fewer than 116 bytes.
     pub fn new(table: Table<'a>) -> Result<Fadt<'a>, Code>
@@ -210,15 +209,14 @@ impl<'a> Fadt<'a> {
         ensures fault { IfErr result (λ code. FadtTableFault table.entry code 0) }
         ensures least { IfErr result (λ code. (other : Code) (at : ℕ) → FadtTableFault table.entry other at → (0 < at) ⊎ ((0 ≡ at) × (code_number code ≤ code_number other))) }
     {
-        let bytes = table.bytes();
-        if bytes.len() < 116 {
+        if table.bytes().len() < 116 {
             return Err(Code::FadtShort);
         }
-        Ok(Fadt { bytes })
+        Ok(Fadt { table })
     }
 
-    /// The first fault by its offset, or none where the table is sound. Its offset is `at`, in bytes from
-    /// the table's start, and the other two numbers are 0.
+    /// The first fault by its offset, or none where the table is sound. The offset is reported as `at`, in
+    /// bytes from the table's start, and the other two numbers are 0.
     ///
     /// Where HW_REDUCED_ACPI, bit 20 of Flags, is clear (5.2.9, 4.8.3):
     /// `PmEventLength` at 88, where PM1_EVT_LEN is below 4;
@@ -234,7 +232,7 @@ impl<'a> Fadt<'a> {
         ensures stage { IfSome result (λ w. stage_of w.code ≡ Stage.Fadt) }
         ensures least { IfSome result (λ w. (other : Code) (at : ℕ) → FadtTableFault self.now other at → (w.at < at) ⊎ ((w.at ≡ at) × (code_number w.code ≤ code_number other))) }
     {
-        let bytes = self.bytes;
+        let bytes = self.bytes();
         if !self.reduced()
             && let Some(w) = length_fault(bytes)
         {
@@ -253,7 +251,7 @@ impl<'a> Fadt<'a> {
     pub fn reduced(&self) -> bool
         ensures { result ≡ is_reduced self.now }
     {
-        has_flag(self.bytes, HW_REDUCED_ACPI)
+        has_flag(self.bytes(), HW_REDUCED_ACPI)
     }
 
     /// The field with this number, which is below 41, or none where the table is too short to have it.
@@ -272,26 +270,27 @@ impl<'a> Fadt<'a> {
         ensures { result ≡ field_number self.now index }
     {
         let Place(offset, width) = field_place(index);
+        let bytes = self.bytes();
         let offset = offset as usize;
         let width = width as usize;
-        if offset + width > self.bytes.len() {
+        if offset + width > bytes.len() {
             return None;
         }
-        Some(number_at(self.bytes, offset, width))
+        Some(number_at(bytes, offset, width))
     }
 
     /// The FACS's address, from X_FIRMWARE_CTRL at 132 or FIRMWARE_CTRL at 36; 0 for none.
     pub fn facs_address(&self) -> u64
         ensures { result ≡ facs_address self.now }
     {
-        address_of(self.bytes, 140, 132, 36)
+        address_of(self.bytes(), 140, 132, 36)
     }
 
     /// The DSDT's address, from X_DSDT at 140 or DSDT at 40; 0 for none.
     pub fn dsdt_address(&self) -> u64
         ensures { result ≡ dsdt_address self.now }
     {
-        address_of(self.bytes, 148, 140, 40)
+        address_of(self.bytes(), 148, 140, 40)
     }
 
     /// Register block k, which is below 8: PM1a_EVT, PM1b_EVT, PM1a_CNT, PM1b_CNT, PM2_CNT, PM_TMR, GPE0
@@ -299,13 +298,13 @@ impl<'a> Fadt<'a> {
     ///
     /// The X_ structure at 148 + 12k, where the table has it and its address is not 0; else a system I/O
     /// port at the address of 4 bytes at 56 + 4k, where that is not 0, whose length is the byte at 88, 88,
-    /// 89, 89, 90, 91, 92 or 93; else none. That the two need not agree is this project's choice.
+    /// 89, 89, 90, 91, 92 or 93; else none. The two need not agree, which is this project's choice.
     #[tactic(auto, unfolding(acpi_base::specs::Fadt::block_value))]
     pub fn block(&self, k: u8) -> Block
         requires { k < 8 }
         ensures { block_said result ≡ block_value self.now k }
     {
-        let bytes = self.bytes;
+        let bytes = self.bytes();
         let step = 12 * k as usize;
         if wide_address(bytes, 160 + step, 152 + step).is_some() {
             return Block::Gas(gas_in(bytes, 148 + step));
@@ -326,15 +325,17 @@ impl<'a> Fadt<'a> {
         ensures count { (116 ≤ length self.now) × (length self.now < 2 ^ 32) }
         ensures said { length_of self.now ≡ length self.now }
     {
-        self.bytes
+        self.table.bytes()
     }
 
     /// The fields of its first 36 bytes. Its length is the number of the table's bytes.
-    #[tactic(auto, unfolding(acpi_base::specs::Header::header_of))]
     pub fn header(&self) -> Header
         ensures fields { header_value result ≡ header_of self.now }
         ensures length { result.length ≡ length self.now }
     {
-        header_at(self.bytes)
+        self.table.header()
     }
 }
+
+#[cfg(test)]
+mod tests;

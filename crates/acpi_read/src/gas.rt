@@ -1,16 +1,17 @@
 //! Generic addresses.
 
-ghost use Rattle.std.specs.Prelude.{◌≡◌, ◌≤◌, ◌↔◌, ◌+◌, length, Some, IsSome, IfSome};
-ghost use Rattle.acpi_base.specs.Fadt.{gas_at, gas_bytes, IsGas};
-ghost use Rattle.acpi_read.specs.Gases.{gas_value, one_gas};
+ghost use Rattle.std.specs.Prelude.{◌≡◌, ◌≤◌, ◌+◌, length, refl};
+ghost use Rattle.std.proofs.Common.{rules};
+ghost use Rattle.acpi_base.specs.Fadt.{gas_at, gas_parts, gas_values};
+ghost use Rattle.acpi_read.specs.Gases.{gas_value};
 ghost use Rattle.acpi_read.specs.declared.gas.Gas.{Gas};
 
-use crate::field::{put_u8, put_u64, u8_at, u64_at};
 use crate::layout::Layout;
+use acpi_base::field::{Value, put_values, u8_at, u64_at};
 
 /// The 12 bytes of a generic address structure (ACPI 6.5, 5.2.3.2), which says where a register is. Offsets
-/// are from its own start. It has no reserved bytes, and any 12 bytes are one: nothing is asked of the
-/// address space, nor that the sizes agree.
+/// are from its own start. It has no reserved bytes, and any 12 bytes are one: neither the address
+/// space nor the sizes are checked.
 #[derive(Clone, Copy, Debug, PartialEq, Eq)]
 pub struct Gas {
     /// At 0: which address space: 0 is system memory, 1 system I/O, 2 PCI configuration space.
@@ -19,7 +20,7 @@ pub struct Gas {
     pub bit_width: u8,
     /// At 2: at which bit it begins.
     pub bit_offset: u8,
-    /// At 3: how many bytes are read or written at a time: 0 for not said, 1 to 4 for 1, 2, 4 and 8 bytes.
+    /// At 3: how many bytes are read or written at a time: 0 for undefined, 1 to 4 for 1, 2, 4 and 8 bytes.
     pub access_size: u8,
     /// At 4: where it is in its space; 0 for none.
     pub address: u64,
@@ -44,19 +45,11 @@ impl Layout for Gas {
 
     const LEN: usize = 12;
 
-    ghost is_layout = { λ bytes gas. IsGas bytes (gas_value gas) };
+    ghost parts = { gas_parts };
 
-    ghost bytes_of = { λ gas. gas_bytes (gas_value gas) };
+    ghost values = { λ gas. gas_values (gas_value gas) };
 
-    ghost counted = { λ _ _ h. h.count };
-
-    ghost one_value = { one_gas };
-
-    fn read(bytes: &[u8]) -> Option<Gas>
-        ensures value { IfSome result (λ gas. IsGas bytes.now (gas_value gas)) }
-        ensures any { (gas : Gas) → IsGas bytes.now (gas_value gas) → result ≡ Some gas }
-        ensures count { IsSome result ↔ (length bytes.now ≡ 12) }
-    {
+    fn read(bytes: &[u8]) -> Option<Gas> {
         if bytes.len() != Gas::LEN {
             return None;
         }
@@ -64,11 +57,22 @@ impl Layout for Gas {
     }
 
     fn write(&self, out: &mut [u8]) {
-        let gas = *self;
-        put_u8(out, 0, gas.space);
-        put_u8(out, 1, gas.bit_width);
-        put_u8(out, 2, gas.bit_offset);
-        put_u8(out, 3, gas.access_size);
-        put_u64(out, 4, gas.address);
+        put_values(
+            out,
+            &[
+                Value::U8(self.space),
+                Value::U8(self.bit_width),
+                Value::U8(self.bit_offset),
+                Value::U8(self.access_size),
+                Value::U64(self.address),
+            ],
+        );
     }
+
+    ghost counted = { refl };
+
+    ghost one_value = { λ _ _ same. Prim.search rules };
 }
+
+#[cfg(test)]
+mod tests;

@@ -1,15 +1,16 @@
 //! The header of a system description table.
 
-ghost use Rattle.std.specs.Prelude.{◌≡◌, ◌≤◌, ◌↔◌, length, Some, IsSome, IfSome};
-ghost use Rattle.acpi_base.specs.Header.{header_of, header_bytes, IsHeader};
-ghost use Rattle.acpi_read.specs.Headers.{header_value, one_header};
+ghost use Rattle.std.specs.Prelude.{◌≡◌, ◌≤◌, length, refl};
+ghost use Rattle.std.proofs.Common.{rules};
+ghost use Rattle.acpi_base.specs.Header.{header_of, header_parts, header_values};
+ghost use Rattle.acpi_read.specs.Headers.{header_value};
 ghost use Rattle.acpi_read.specs.declared.header.Header.{Header};
 
-use crate::field::{bytes_at, put_bytes, put_u8, put_u32, u8_at, u32_at};
 use crate::layout::Layout;
+use acpi_base::field::{Value, bytes_at, put_values, u8_at, u32_at};
 
 /// The 36 bytes that every system description table begins with (ACPI 6.5, 5.2.6). It has no reserved
-/// bytes, and any 36 bytes are one: a signature or a maker's name may be any bytes.
+/// bytes, and any 36 bytes are one: a signature or an OEM's name may be any bytes.
 #[derive(Clone, Copy, Debug, PartialEq, Eq)]
 pub struct Header {
     /// At 0: what kind of table it is.
@@ -20,11 +21,11 @@ pub struct Header {
     pub revision: u8,
     /// At 9: the byte that makes the whole table sum to 0.
     pub checksum: u8,
-    /// At 10: six characters that name the maker.
+    /// At 10: six characters that identify the OEM.
     pub oemid: [u8; 6],
-    /// At 16: eight characters that name the table among the maker's.
+    /// At 16: eight characters that identify the table among the OEM's.
     pub oem_table_id: [u8; 8],
-    /// At 24: the maker's revision of the table.
+    /// At 24: the OEM's revision of the table.
     pub oem_revision: u32,
     /// At 28: which tool made the table.
     pub creator_id: u32,
@@ -32,7 +33,7 @@ pub struct Header {
     pub creator_revision: u32,
 }
 
-/// The header at the front of a table's bytes.
+/// The header that a table's bytes begin with.
 #[tactic(auto, unfolding(acpi_base::specs::Header::header_of))]
 pub(crate) fn header_at(bytes: &[u8]) -> Header
     requires { 36 ≤ length bytes.now }
@@ -56,19 +57,12 @@ impl Layout for Header {
 
     const LEN: usize = 36;
 
-    ghost is_layout = { λ bytes header. IsHeader bytes (header_value header) };
+    ghost parts = { header_parts };
 
-    ghost bytes_of = { λ header. header_bytes (header_value header) };
+    ghost values = { λ header. header_values (header_value header) };
 
-    ghost counted = { λ _ _ says. says.count };
-
-    ghost one_value = { one_header };
-
-    fn read(bytes: &[u8]) -> Option<Header>
-        ensures value { IfSome result (λ header. IsHeader bytes.now (header_value header)) }
-        ensures any { (header : Header) → IsHeader bytes.now (header_value header) → result ≡ Some header }
-        ensures count { IsSome result ↔ (length bytes.now ≡ 36) }
-    {
+    #[tactic(auto, unfolding(acpi_base::specs::Header::header_of))]
+    fn read(bytes: &[u8]) -> Option<Header> {
         if bytes.len() != Header::LEN {
             return None;
         }
@@ -76,15 +70,26 @@ impl Layout for Header {
     }
 
     fn write(&self, out: &mut [u8]) {
-        let header = *self;
-        put_bytes(out, 0, &header.signature);
-        put_u32(out, 4, header.length);
-        put_u8(out, 8, header.revision);
-        put_u8(out, 9, header.checksum);
-        put_bytes(out, 10, &header.oemid);
-        put_bytes(out, 16, &header.oem_table_id);
-        put_u32(out, 24, header.oem_revision);
-        put_u32(out, 28, header.creator_id);
-        put_u32(out, 32, header.creator_revision);
+        put_values(
+            out,
+            &[
+                Value::Bytes(&self.signature),
+                Value::U32(self.length),
+                Value::U8(self.revision),
+                Value::U8(self.checksum),
+                Value::Bytes(&self.oemid),
+                Value::Bytes(&self.oem_table_id),
+                Value::U32(self.oem_revision),
+                Value::U32(self.creator_id),
+                Value::U32(self.creator_revision),
+            ],
+        );
     }
+
+    ghost counted = { refl };
+
+    ghost one_value = { λ _ _ same. Prim.search rules };
 }
+
+#[cfg(test)]
+mod tests;

@@ -1,6 +1,7 @@
 //! Structures of a fixed layout.
 
-ghost use Rattle.std.specs.Prelude.{◌≡◌, ℕ, List, length, IfSome, Some};
+ghost use Rattle.std.specs.Prelude.{◌≡◌, ◌↔◌, ℕ, List, length, Some, IsSome, IfSome};
+ghost use Rattle.acpi_base.specs.Layouts.{Part, PartValue, layout_size, values_at, layout_bytes, IsOfLayout, FitLayout};
 
 /// A structure whose fields stand at fixed offsets in a fixed number of bytes.
 ///
@@ -11,36 +12,40 @@ pub trait Layout: Sized {
     /// How many bytes it has.
     const LEN: usize;
 
-    /// The bytes say the value. Bytes that the standard reserves may be any.
-    ghost is_layout: { List ℕ → Self → Type 0 };
+    /// Its parts, from its first byte on.
+    ghost parts: { List Part };
 
-    /// The bytes of the value, those that the standard reserves 0.
-    ghost bytes_of: { Self → List ℕ };
+    /// The values of those parts that have one.
+    ghost values: { Self → List PartValue };
 
-    /// The value that the bytes say, all of them: none where they are not `LEN` bytes, or not of this kind.
+    /// The structure that the bytes are, all of them: none where they are not `LEN` bytes, or where a byte
+    /// that is fixed for the kind is another. Bytes that the standard reserves may be any.
     fn read(bytes: &[u8]) -> Option<Self>
-        ensures value { IfSome result (is_layout bytes.now) }
-        ensures any { (value : Self) → is_layout bytes.now value → result ≡ Some value };
+        ensures some { IsSome result ↔ IsOfLayout parts bytes.now }
+        ensures value { IfSome result (λ value. values_at 0 parts bytes.now ≡ values value) };
 
-    /// Writes the value's bytes, and 0 to bytes that the standard reserves. `out` has `LEN` bytes.
+    /// Writes the structure's bytes, and 0 to bytes that the standard reserves. `out` has `LEN` bytes.
     fn write(&self, out: &mut [u8])
         requires { length out.old ≡ LEN }
-        ensures bytes { out.new ≡ bytes_of self.now }
-        ensures layout { is_layout out.new self.now };
+        ensures bytes { out.new ≡ layout_bytes parts (values self.now) }
+        ensures fits { FitLayout parts (values self.now) };
 
-    /// There are `LEN` of them.
-    ghost counted: { (bytes : List ℕ) (value : Self) → is_layout bytes value → length bytes ≡ LEN };
+    /// The parts have `LEN` bytes.
+    ghost counted: { layout_size parts ≡ LEN };
 
-    /// They say one value at most.
-    ghost one_value: { (bytes : List ℕ) (one other : Self) → is_layout bytes one → is_layout bytes other → one ≡ other };
+    /// Structures with the same values are the same.
+    ghost one_value: { (one other : Self) → values one ≡ values other → one ≡ other };
 }
 
-/// Writes a value and reads it back, which always answers the value. `out` has `LEN` bytes.
+/// Writes a value and reads it back, which always returns the value. `out` has `LEN` bytes.
 pub fn read_back<L: Layout>(value: &L, out: &mut [u8]) -> Option<L>
     requires { length out.old ≡ L.LEN }
     ensures value { result ≡ Some value.now }
-    ensures bytes { out.new ≡ L.bytes_of value.now }
+    ensures bytes { out.new ≡ layout_bytes L.parts (L.values value.now) }
 {
     value.write(out);
     L::read(out)
 }
+
+#[cfg(test)]
+mod tests;

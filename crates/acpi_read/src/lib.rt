@@ -1,23 +1,23 @@
 //! Views of the ACPI tables in a memory image: the RSDP, the root, any listed table, the FADT and the FACS;
 //! and the fixed layouts in them, headers and generic addresses.
 //!
-//! A view is read at an address. It borrows its bytes from the image and takes no memory. Reading answers
-//! the view exactly where all that it asks for holds, else the code of the first thing that does not, in
+//! A view is read at an address. It borrows its bytes from the image and allocates no memory. Reading
+//! returns the view exactly where all its requirements hold, else the code of the first that does not, in
 //! the order of the codes' numbers:
 //!
 //! ```text
 //! Rsdp::read(image, address)     RsdpOut .. RsdpExtendedSum     20 bytes, or the Length that it says
 //! Root::read(image, rsdp)        NoRoot .. RootSum              the XSDT, else the RSDT
 //! Table::read(image, address)    TableHeaderOut .. TableSum     any table that a slot lists
-//! first(image, root, signature)  an address or none             asks a held header alone
+//! first(image, root, signature)  an address or none             only the header must be held
 //! Fadt::new(table)               FadtShort                      at least 116 bytes
 //! Facs::read(image, fadt)        NoFacs .. FacsOut              the one that a FADT names, or none
 //! ```
 //!
-//! `Fadt::fault` answers a whole fault, with its place, since a FADT has several that differ by it.
+//! `Fadt::fault` returns a whole fault, with its offset, since a FADT has several that differ by it.
 //!
 //! ```rust
-//! let rsdp = Rsdp::read(&image, 0xe0000)?;
+//! let rsdp = Rsdp::read(&image, 0xf59e0)?;
 //! let root = Root::read(&image, &rsdp)?;
 //! if let Some(address) = first(&image, &root, *b"FACP") {
 //!     let fadt = Fadt::new(Table::read(&image, address)?)?;
@@ -25,15 +25,14 @@
 //! }
 //! ```
 //!
-//! What a view trusts: nothing but the bytes that it was read from. A view may be handed another that was
-//! read from another image: its contract speaks of the passed view's own value and of the image, and asks
-//! for no tie between them. Offsets are in bytes from a structure's start, numbers are little-endian, and
-//! an address of 0 means none.
+//! A view relies on nothing but the bytes that it was read from. A view that is passed to a function may
+//! come from another image: the contract speaks of the view's own value and of the image, and does not
+//! require that they belong together. Offsets are in bytes from a structure's start, numbers are
+//! little-endian, and an address of 0 means none.
 #![tactic(auto)]
 
 mod facs;
 mod fadt;
-mod field;
 mod gas;
 mod header;
 mod layout;
@@ -52,5 +51,7 @@ pub use root::Root;
 pub use rsdp::Rsdp;
 pub use table::Table;
 
+#[cfg(test)]
+mod samples;
 #[cfg(test)]
 mod tests;

@@ -6,9 +6,9 @@ ghost use Rattle.acpi_base.specs.Listed.{IsFirstListed};
 ghost use Rattle.acpi_base.specs.Tables.{IsSigned};
 ghost use Rattle.acpi_read.specs.Roots.{slots_of};
 
-use crate::field::is_signed;
 use crate::root::Root;
 use acpi_base::Image;
+use acpi_base::field::is_signed;
 
 /// Whether a header with the signature is held at an address.
 fn has_header(image: &Image, address: u64, signature: &[u8]) -> bool
@@ -36,9 +36,9 @@ fn signed_at(image: &Image, root: &Root<'_>, k: u32, signature: &[u8]) -> Option
 /// The address in the first slot of the root at which a table with the signature stands, or none where no
 /// slot has one.
 ///
-/// A table stands where its header's 36 bytes are held and begin with the signature: neither its Length nor
-/// its sum is looked at. That the first one counts, and later ones with the same signature do not, is this
-/// project's choice. Slots that hold 0 are skipped. The image may be another than the root's own.
+/// A table stands where its header's 36 bytes are held and begin with the signature: neither its Length
+/// nor its sum is checked. Later tables with the same signature are ignored, which is this project's
+/// choice. Slots that hold 0 are skipped. The image may be another than the root's own.
 pub fn first(image: &Image, root: &Root<'_>, signature: [u8; 4]) -> Option<u64>
     ensures found { IfSome result (IsFirstListed image.now root.now.bytes root.now.width signature) }
     ensures none { IsNone result → (k a : ℕ) → HasSlot root.now.bytes root.now.width k a → ¬ IsSigned image.now a signature }
@@ -51,3 +51,6 @@ pub fn first(image: &Image, root: &Root<'_>, signature: [u8; 4]) -> Option<u64>
     }
     None
 }
+
+#[cfg(test)]
+mod tests;

@@ -13,17 +13,18 @@ ghost use Rattle.acpi_base.specs.declared.code.Code.{Code};
 ghost use Rattle.acpi_read.specs.Headers.{header_value};
 ghost use Rattle.acpi_read.specs.Roots.{RootValue, slots_of, IsSoundNamedRoot};
 
-use crate::field::{is_signed, u32_at, u64_at};
 use crate::header::{Header, header_at};
 use crate::rsdp::Rsdp;
+use acpi_base::field::{is_signed, u32_at, u64_at};
 use acpi_base::{Code, Image, sum};
 use std::marker::Model;
 
 /// The root of the tables (ACPI 6.5, 5.2.7 and 5.2.8): the XSDT or the RSDT, whose slots behind its header
 /// hold the addresses of all other tables.
 ///
-/// Its bytes summed to 0 when it was read, and were a whole number of slots. Nothing says that a table
-/// stands where a slot points. Contracts see its address, the width of its slots in bytes and its bytes.
+/// Its bytes summed to 0 when it was read, and were a whole number of slots. Whether tables stand at the
+/// addresses in its slots is not checked. Contracts see its address, the width of its slots in bytes and
+/// its bytes.
 #[derive(Debug, Drop)]
 pub struct Root<'a> {
     address: u64,
@@ -113,8 +114,8 @@ fn read_at(image: &Image, place: Place) -> Result<Root<'_>, Code>
 }
 
 impl<'a> Root<'a> {
-    /// The root that an RSDP names: the XSDT where it names one, else the RSDT. With an XSDT the RSDT stays
-    /// unread. The RSDP may come from another image: the addresses that it names are all that counts.
+    /// The root that an RSDP names: the XSDT where it names one, else the RSDT. The RSDT is
+    /// not read where an XSDT is named. The RSDP may come from another image: only its addresses are used.
     ///
     /// Refuses, in this order:
     /// `NoRoot`, where it names neither;
@@ -146,7 +147,7 @@ impl<'a> Root<'a> {
     }
 
     /// The number in slot k, which lies below `slots`. Slots count from 0, and begin at offset 36. A slot
-    /// that holds 0 lists no table, and is answered as it stands.
+    /// that holds 0 lists no table, and is returned as it is.
     pub fn slot(&self, k: u32) -> u64
         requires { k < slots_of self.now }
         ensures { result ≡ field self.now.bytes (36 + self.now.width * k) self.now.width }
@@ -192,3 +193,6 @@ impl<'a> Root<'a> {
         self.width == 8
     }
 }
+
+#[cfg(test)]
+mod tests;

@@ -6,16 +6,16 @@ ghost use Rattle.acpi_base.specs.declared.stage.Stage.{Stage};
 ghost use Rattle.acpi_base.specs.Rsdp.{revision_of, short_addresses, IsRsdp, IsSoundRsdp, RsdpFault};
 ghost use Rattle.acpi_base.specs.declared.code.Code.{Code};
 
-use crate::field::{bytes_at, is_signed, u8_at, u32_at, u64_at};
+use acpi_base::field::{bytes_at, is_signed, u8_at, u32_at, u64_at};
 use acpi_base::{Code, Image, sum};
 use std::marker::Model;
 
 /// The root system description pointer (ACPI 6.5, 5.2.5.3), which names the RSDT and the XSDT.
 ///
 /// A revision of 0 or 1 means the short form of 20 bytes, which names no XSDT; 2 or more means the
-/// extended form of at least 36. Its sums were right when it was read; nothing says that a table stands
-/// where it points. The three reserved bytes at offset 33 and the bytes past 36 are ignored, save that
-/// they count in the sum.
+/// extended form of at least 36. Its sums were right when it was read; whether tables stand at its
+/// addresses is not checked. The three reserved bytes at offset 33 and the bytes past 36 are ignored,
+/// save that they count in the sum.
 #[derive(Clone, Copy, Debug, PartialEq, Eq)]
 pub struct Rsdp {
     address: u64,
@@ -52,7 +52,7 @@ fn short_form(address: u64, head: &[u8]) -> Rsdp
 }
 
 impl Rsdp {
-    /// The RSDP at an address. Nothing is asked of the address itself.
+    /// The RSDP at an address. Any address is allowed.
     ///
     /// Refuses, in this order:
     /// `RsdpOut`, where its 20 bytes are not all held;
@@ -84,10 +84,10 @@ impl Rsdp {
         if rsdp.revision < 2 {
             return Ok(rsdp);
         }
-        let Some(front) = image.window(address, 36) else {
+        let Some(extended) = image.window(address, 36) else {
             return Err(Code::RsdpTailOut);
         };
-        let length = u32_at(front, 20);
+        let length = u32_at(extended, 20);
         if length < 36 {
             return Err(Code::RsdpLength);
         }
@@ -98,8 +98,8 @@ impl Rsdp {
             return Err(Code::RsdpExtendedSum);
         }
         Ok(Rsdp {
-            rsdt: u32_at(front, 16),
-            xsdt: u64_at(front, 24),
+            rsdt: u32_at(extended, 16),
+            xsdt: u64_at(extended, 24),
             ..rsdp
         })
     }
@@ -118,7 +118,7 @@ impl Rsdp {
         self.revision
     }
 
-    /// The six characters at offset 9 that name the maker. They may be any bytes.
+    /// The six characters at offset 9 that identify the OEM. They may be any bytes.
     pub fn oemid(&self) -> [u8; 6]
         ensures { result ≡ self.now.oemid }
     {
@@ -139,3 +139,6 @@ impl Rsdp {
         self.xsdt
     }
 }
+
+#[cfg(test)]
+mod tests;

@@ -8,15 +8,15 @@ ghost use Rattle.acpi_base.specs.Tables.{length_of, IsTable, IsSoundTable, Table
 ghost use Rattle.acpi_base.specs.declared.code.Code.{Code};
 ghost use Rattle.acpi_read.specs.Headers.{header_value};
 
-use crate::field::u32_at;
 use crate::header::{Header, header_at};
+use acpi_base::field::u32_at;
 use acpi_base::{Code, Image, sum};
 use std::marker::Model;
 
 /// A system description table of any kind (ACPI 6.5, 5.2.6): as many bytes as its Length says, from 36 to
 /// 2^32 - 1, which summed to 0 when it was read. Contracts see the bytes.
 ///
-/// The signature, the revision and what stands behind the header are not looked at.
+/// The signature, the revision and the bytes behind the header are not checked.
 #[derive(Debug, Drop)]
 pub struct Table<'a> {
     bytes: &'a [u8],
@@ -34,7 +34,7 @@ impl<'a> Model for Table<'a> {
 }
 
 impl<'a> Table<'a> {
-    /// The table at an address. Nothing is asked of the address itself, nor that a root lists it.
+    /// The table at an address. Any address is allowed, also one that no root lists.
     ///
     /// Refuses, in this order:
     /// `TableHeaderOut`, where its header's 36 bytes are not all held;
@@ -83,3 +83,6 @@ impl<'a> Table<'a> {
         header_at(self.bytes)
     }
 }
+
+#[cfg(test)]
+mod tests;

@@ -1,0 +1,3 @@
+pub mod Gases
+pub mod Headers
+pub mod RoundTrip

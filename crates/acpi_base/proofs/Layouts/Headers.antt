@@ -1,0 +1,48 @@
+-- Headers: what was written is read back, whatever stands behind it.
+use Rattle.std.proofs.Common.{rules, ◌≡◌, ℕ, ◌+◌, List, ◌++◌, length, drop, refl, sym, ◌∙◌, length-append, arith}
+use Rattle.acpi_base.specs.Header.{HeaderValue, header_of, header_parts, header_values, header_bytes, FitsHeader, HeadValue, head_of, header_with}
+use Rattle.acpi_base.specs.Layouts.{values_at, FitLayout}
+use Rattle.acpi_base.proofs.Layouts.RoundTrip.{values_at-layout_bytes, drop-layout_bytes, length-layout_bytes}
+
+-- the fields by offset are the values of the parts
+pub values_at-header_of : (bytes : List ℕ) → values_at 0 header_parts bytes ≡ header_values (header_of bytes)
+unfolding header_of
+values_at-header_of bytes = refl
+
+-- each part's value has the part's size
+FitLayout-header : (v : HeaderValue) → FitsHeader v → FitLayout header_parts (header_values v)
+FitLayout-header v fits = search rules
+
+-- the values of the parts say one header
+pub one_header_values : (one other : HeaderValue) → header_values one ≡ header_values other → one ≡ other
+one_header_values one other same = search rules
+
+-- what was written is read back
+pub header_of-header_bytes : (v : HeaderValue) (rest : List ℕ) → FitsHeader v → header_of (header_bytes v ++ rest) ≡ v
+unfolding header_bytes
+header_of-header_bytes v rest fits =
+    one_header_values (header_of (header_bytes v ++ rest)) v
+    (sym (values_at-header_of (header_bytes v ++ rest)) ∙ values_at-layout_bytes header_parts (header_values v) rest (FitLayout-header v fits))
+
+-- what a table says beside signature, length and checksum is what it was made of
+pub head_of-header_bytes : (signature : List ℕ) (size checksum : ℕ) (head : HeadValue) (rest : List ℕ) → FitsHeader (header_with signature size checksum head) → head_of (header_bytes (header_with signature size checksum head) ++ rest) ≡ head
+head_of-header_bytes signature size checksum head rest fits = rw (header_of-header_bytes (header_with signature size checksum head) rest fits) refl
+
+-- a header is made of what it says
+pub header_with-head_of : (bytes : List ℕ) → let v = header_of bytes in header_with v.signature v.length v.checksum (head_of bytes) ≡ v
+header_with-head_of bytes = refl
+
+pub length-header_bytes : (v : HeaderValue) → FitsHeader v → length (header_bytes v) ≡ 36
+unfolding header_bytes
+length-header_bytes v fits = length-layout_bytes header_parts (header_values v) (FitLayout-header v fits)
+
+-- behind the header comes the body
+pub drop-header_bytes : (v : HeaderValue) (rest : List ℕ) → FitsHeader v → drop 36 (header_bytes v ++ rest) ≡ rest
+unfolding header_bytes
+drop-header_bytes v rest fits = drop-layout_bytes header_parts (header_values v) rest (FitLayout-header v fits)
+
+pub length-header_and_body : (v : HeaderValue) (rest : List ℕ) → FitsHeader v → length (header_bytes v ++ rest) ≡ 36 + length rest
+length-header_and_body v rest fits =
+    let both = length-append (header_bytes v) rest in
+    let header = length-header_bytes v fits in
+    omega (arith, both, header)
