@@ -10,6 +10,7 @@ ghost use Rattle.acpi_check.specs.Tables.{AreTablesOf, IsRootOf};
 ghost use Rattle.acpi_check.specs.declared.refusal.Refusal.{Refusal};
 
 use crate::refusal::Refusal;
+use acpi_base::field;
 use acpi_base::{Code, Image, Policy, Witness};
 use acpi_read::{Root, Table};
 
@@ -40,11 +41,10 @@ fn keep_first<'a>(place: &mut Option<Table<'a>>, table: Table<'a>)
 }
 
 /// Whether a table has the signature.
-#[tactic(auto, unfolding(acpi_base::specs::Signature::has_signature))]
 fn is_signed(table: &Table<'_>, signature: &[u8; 4]) -> bool
     ensures { result ≡ has_signature table.now signature.now }
 {
-    table.bytes().starts_with(signature)
+    field::is_signed(table.bytes(), signature)
 }
 
 impl<'a> Tables<'a> {
