@@ -1,4 +1,16 @@
 //! The check: whether the tables of an image are sound, and else the first fault.
+//!
+//! Each stage is one function. Where the earlier stages hold, it returns what it has read, for the stages
+//! behind it, or reports the first fault of its own. `check_to` asks them in their order; no stage that is
+//! built allocates memory.
+//!
+//! ```rust
+//! let policy = Policy::new(alloc, 0xe0000, 24).unwrap(); // the RSDP's address, and the inputs of an I/O APIC
+//! match check_to(alloc, &image, &policy, Stage::Facs)? {
+//!     Verdict::Yes => {}         // the RSDP, the root, the listed tables, the FADT and the FACS are sound
+//!     Verdict::No(fault) => {}   // the first fault, in a fixed order
+//! }
+//! ```
 #![tactic(auto)]
 
 mod check;
@@ -9,5 +21,7 @@ mod root;
 mod rsdp;
 mod set;
 mod tables;
+#[cfg(test)]
+mod tests;
 
 pub use check::check_to;
