@@ -23,6 +23,8 @@
 mod clash;
 mod span;
 mod stray;
+#[cfg(test)]
+mod tests;
 
 pub use clash::{Clash, first_clash};
 pub use span::Span;
