@@ -1,6 +1,6 @@
 -- The faults of the FACS: each can be decided, excludes that it is sound, and where there is none it is sound.
-use Rattle.std.proofs.Common.{◌≡◌, ◌^◌, ◌<◌, ℕ, List, Some, true, refl, sym, ◌∙◌, ap, subst, inl, inr, arith}
-use Rattle.std.specs.Prelude.{◌≢◌, ◌%◌, ◌&&◌, ◌==◌, not}
+use Rattle.std.proofs.Common.{◌≡◌, ◌^◌, ◌<◌, ℕ, List, Some, true, refl, sym, ◌∙◌, ap, subst, inr, arith}
+use Rattle.std.specs.Prelude.{◌≢◌, ◌%◌}
 use Rattle.std.proofs.lemmas.Bool.{both_ways}
 use Rattle.std.proofs.lemmas.Option.{cond_some}
 use Rattle.acpi_base.specs.Memory.{Memory, IsImage, bytes_at}
@@ -8,7 +8,7 @@ use Rattle.acpi_base.specs.Number.{field}
 use Rattle.acpi_base.specs.Signature.{has_signature}
 use Rattle.acpi_base.specs.Tables.{length_of}
 use Rattle.acpi_base.specs.Listed.{fadt_signature}
-use Rattle.acpi_base.specs.Fadt.{has_field, is_reduced, wide_address, facs_address, IsFadt, IsSoundFadt}
+use Rattle.acpi_base.specs.Fadt.{is_reduced, wide_address, facs_address, IsFadt, IsSoundFadt}
 use Rattle.acpi_base.specs.Facs.{facs_signature, facs_length, IsFacs, HasSoundFacs, IsSoundFacs, NamedFacsFault, FacsFault}
 use Rattle.acpi_base.specs.Codes.{stage_of}
 use Rattle.acpi_base.specs.declared.code.Code.{Code}
@@ -23,19 +23,13 @@ use Rattle.acpi_base.proofs.Tables.Listed.{one_listed}
 -- a wide address is the number in its 8 bytes
 pub wide_is : (whole : List ℕ) (end offset address : ℕ) → wide_address whole end offset ≡ Some address → field whole offset 8 ≡ address
 unfolding wide_address
-wide_is whole end offset address e =
-    (cond_some (has_field whole end && not (field whole offset 8 == 0)) (field whole offset 8) address e).1
+wide_is whole end offset address e = grind (arith, cond_some)
 
 -- the address of the FACS that a FADT of an image names fits
 address_fits : {m : Memory} {p : ℕ} {fadt : List ℕ} → IsImage m → IsFadt m p fadt → facs_address fadt < 2 ^ 64
 address_fits {m = m} {fadt = fadt} image is =
-    elim (cases_Option (wide_address fadt 140 132)) [
-      | inl (x, wide) ↦ (let fits : field fadt 132 8 < 2 ^ 64 = below_width 132 8 in rw wide (omega (arith, wide_is fadt 140 132 x wide)))
-      | inr narrow ↦ (let fits : field fadt 36 4 < 2 ^ 32 = below_width 36 4 in rw narrow (omega arith))
-    ]
-  where
-    below_width : (offset width : ℕ) → field fadt offset width < 256 ^ width
-    below_width = held_field_below m image is.a (length_of is.header) fadt is.table.held
+    let below_width = held_field_below m image is.a (length_of is.header) fadt is.table.held in
+    grind (arith, cases_Option (wide_address fadt 140 132), wide_is fadt 140 132, below_width 132 8, below_width 36 4)
 
 -- a fault of the FACS that a FADT names is at the address that is named, which is 0 for none
 named_place : (m : Memory) (fadt : List ℕ) (c : Code) (at : ℕ) → NamedFacsFault m fadt c at → at ≡ facs_address fadt
@@ -101,14 +95,9 @@ named_excludes m fadt c at fault sound = by_code c (subst (λ (x : ℕ). NamedFa
     by_code code.NoFacs (full, zero, is) = both_ways (is_reduced fadt) full (sound.none zero)
     by_code code.FacsAlign (named, is, loose) = loose (sound.named named).1.aligned
     by_code code.FacsHeaderOut (named, is, out) = none_and_some out (sound.named named).1.prefix_held
-    by_code code.FacsSignature (named, is, prefix, held, unsigned) =
-        both_ways (has_signature prefix facs_signature) unsigned (rw (same_prefix named prefix held) (sound.named named).1.signed)
-    by_code code.FacsLength (named, is, prefix, held, short) =
-        let same = ap facs_length (same_prefix named prefix held) in
-        let least = (sound.named named).1.least in
-        omega arith
-    by_code code.FacsOut (named, is, prefix, held, least, out) =
-        none_and_some (rw (same_prefix named prefix held) at out) (sound.named named).1.held
+    by_code code.FacsSignature (named, is, prefix, held, unsigned) = grind (arith, same_prefix named prefix held, (sound.named named).1.signed)
+    by_code code.FacsLength (named, is, prefix, held, short) = grind (arith, same_prefix named prefix held, (sound.named named).1.least)
+    by_code code.FacsOut (named, is, prefix, held, least, out) = grind (arith, none_and_some, same_prefix named prefix held, (sound.named named).1.held)
     by_code _ fault = fault
 
 -- ---- of a set's FACS

@@ -1,5 +1,5 @@
 -- The order of faults.
-use Rattle.std.proofs.Common.{◌≡◌, ◌<◌, ◌≤◌, inl, inr, arith}
+use Rattle.std.proofs.Common.{◌≡◌, ◌<◌, ◌≤◌, arith}
 use Rattle.std.specs.Prelude.{◌⊎◌}
 use Rattle.std.proofs.Math.Nat.{eq-or-lt_of_le}
 use Rattle.acpi_base.specs.Codes.{code_number}
@@ -10,15 +10,8 @@ use Rattle.acpi_base.proofs.Faults.Numbers.{same_code}
 
 -- two witnesses of which neither stands after the other are one
 pub same_witness : (w v : Witness) → NotAfter w v → NotAfter v w → w ≡ v
-same_witness w v one other =
-    let at : w.at ≡ v.at = omega arith in
-    let code : code_number w.code ≡ code_number v.code = omega arith in
-    let second : w.other ≡ v.other = omega arith in
-    let point : w.point ≡ v.point = omega arith in
-    same_parts (same_code w.code v.code code) at second point
+same_witness w v one other = grind (arith, same_parts, same_code w.code v.code)
 
 -- two that have the same last numbers go by their place and then by their code's number
 pub not_after : (w v : Witness) → (w.at < v.at) ⊎ ((w.at ≡ v.at) × (code_number w.code ≤ code_number v.code)) → w.other ≡ v.other → w.point ≡ v.point → NotAfter w v
-not_after w v (inl before) other point = inl before
-not_after w v (inr (at, number)) other point =
-    inr (at, elim (eq-or-lt_of_le number) [ inl same ↦ inr (same, inr (other, omega arith)) | inr less ↦ inl less ])
+not_after w v where_it_is other point = grind (arith, eq-or-lt_of_le)

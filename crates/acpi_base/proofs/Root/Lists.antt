@@ -1,10 +1,10 @@
 -- The addresses that a root's bytes list are those in its slots.
-use Rattle.std.proofs.Common.{◌≡◌, ◌<◌, ◌≤◌, ◌+◌, ◌-◌, ◌*◌, ℕ, zero, suc, List, ◌∷◌, length, map, true, false, cond, refl, sym, ◌∙◌, ap, subst, inl, inr, arith}
+use Rattle.std.proofs.Common.{◌≡◌, ◌<◌, ◌≤◌, ◌+◌, ◌-◌, ◌*◌, ℕ, zero, suc, List, ◌∷◌, length, map, true, false, cond, refl, sym, ◌∙◌, ap, inl, inr, arith}
 use Rattle.std.specs.Prelude.{◌≢◌, ◌⊎◌, ◌/◌, ◌==◌, not, Bool, filter}
 use Rattle.std.specs.List.{Contains, range_with_len}
-use Rattle.std.proofs.lemmas.Bool.{cases_eq, cases_lt, eq-eqb, ne_eqb}
+use Rattle.std.proofs.lemmas.Bool.{cases_eq, ne_eqb}
 use Rattle.acpi_base.specs.Number.{field}
-use Rattle.acpi_base.specs.Root.{IsSlotWidth, HasSlot}
+use Rattle.acpi_base.specs.Root.{IsSlotWidth}
 use Rattle.acpi_base.specs.Listed.{listed}
 use Rattle.acpi_base.specs.Laws.{RootsListSlots}
 
@@ -73,10 +73,9 @@ below_count whole d k (inr eight) fits = (let within : 36 + 8 * (k + 1) ≤ leng
 
 pub roots_list_slots : RootsListSlots
 unfolding listed
-roots_list_slots whole d a width =
-    (
-      λ here. let found = among (λ k. field whole (36 + d * k) d) 0 ((length whole - 36) / d) a here in let most = found.most in
-        (found.k, record { inside = inside whole d found.k width (omega arith); address = found.is; listed = found.listed }),
-      λ slot. let below = below_count whole d slot.0 width slot.1.inside in
-        contained (λ k. field whole (36 + d * k) d) 0 ((length whole - 36) / d) a (record { k = slot.0; least = omega arith; most = omega arith; is = slot.1.address; listed = slot.1.listed }),
-    )
+roots_list_slots whole d a width = (
+  λ here. let found = among (λ k. field whole (36 + d * k) d) 0 ((length whole - 36) / d) a here in let most = found.most in
+      (found.k, record { inside = inside whole d found.k width (omega arith); address = found.is; listed = found.listed }),
+  λ slot. let below = below_count whole d slot.0 width slot.1.inside in
+      contained (λ k. field whole (36 + d * k) d) 0 ((length whole - 36) / d) a (record { k = slot.0; least = omega arith; most = omega arith; is = slot.1.address; listed = slot.1.listed }),
+)

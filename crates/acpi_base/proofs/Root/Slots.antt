@@ -1,5 +1,5 @@
 -- The slots of a root: each holds one address or none, and their numbers fit.
-use Rattle.std.proofs.Common.{◌≡◌, ◌<◌, ◌≤◌, ◌+◌, ◌*◌, ◌^◌, ℕ, List, length, refl, sym, ◌∙◌, inl, inr, arith}
+use Rattle.std.proofs.Common.{◌≡◌, ◌<◌, ◌+◌, ◌*◌, ◌^◌, ℕ, List, length, refl, sym, ◌∙◌, inl, inr, arith}
 use Rattle.std.specs.Prelude.{◌⊎◌}
 use Rattle.std.proofs.lemmas.Bool.{cases_lt, cases_eq}
 use Rattle.acpi_base.specs.Memory.{Memory, IsImage}
@@ -12,23 +12,11 @@ use Rattle.acpi_base.proofs.Tables.Whole.{length-table}
 
 -- a slot stands below the end of the root's bytes, whatever its width
 pub slot_below : (whole : List ℕ) (d k a : ℕ) → IsSlotWidth d → HasSlot whole d k a → k < length whole
-slot_below whole d k a (inl four) slot =
-    let inside : 36 + 4 * (k + 1) ≤ length whole = rw four at slot.inside in
-    omega arith
-slot_below whole d k a (inr eight) slot =
-    let inside : 36 + 8 * (k + 1) ≤ length whole = rw eight at slot.inside in
-    omega arith
+slot_below whole d k a width slot = grind (arith, slot.inside)
 
 -- the address that a slot of an image holds fits
 address_fits : (whole : List ℕ) (d k a : ℕ) → ((offset width : ℕ) → field whole offset width < 256 ^ width) → IsSlotWidth d → HasSlot whole d k a → a < 2 ^ 64
-address_fits whole d k a number_below (inl four) slot =
-    let address : field whole (36 + 4 * k) 4 ≡ a = rw four at slot.address in
-    let fits : field whole (36 + 4 * k) 4 < 2 ^ 32 = number_below (36 + 4 * k) 4 in
-    omega arith
-address_fits whole d k a number_below (inr eight) slot =
-    let address : field whole (36 + 8 * k) 8 ≡ a = rw eight at slot.address in
-    let fits : field whole (36 + 8 * k) 8 < 2 ^ 64 = number_below (36 + 8 * k) 8 in
-    omega arith
+address_fits whole d k a number_below width slot = grind (arith, slot.address, number_below (36 + 4 * k) 4, number_below (36 + 8 * k) 8)
 
 -- a slot's number and its address fit
 pub slot_fits : {m : Memory} {p k a : ℕ} → IsImage m → IsSlot m p k a → (k < 2 ^ 64) × (a < 2 ^ 64)

@@ -1,6 +1,5 @@
 -- The faults of the RSDP: each can be decided, excludes that it is sound, and where there is none it is sound.
-use Rattle.std.proofs.Common.{◌≡◌, ◌≤◌, ℕ, List, Some, refl, ap, inr, arith}
-use Rattle.std.proofs.lemmas.Bool.{both_ways}
+use Rattle.std.proofs.Common.{◌≡◌, ◌≤◌, ℕ, List, Some, refl, inr, arith}
 use Rattle.acpi_base.specs.Memory.{Memory, bytes_at}
 use Rattle.acpi_base.specs.Number.{byte_sum}
 use Rattle.acpi_base.specs.Signature.{has_signature, rsdp_signature}
@@ -69,25 +68,19 @@ sound_without_fault m p none =
 extended_part : (m : Memory) (p : ℕ) (head : List ℕ) → IsSoundRsdp m p → bytes_at m p 20 ≡ Some head → 2 ≤ revision_of head → IsSoundExtended m p
 extended_part m p head sound held more = sound.extended (rw (same_value head sound.head held sound.head_held) at more)
 
-same_length : (m : Memory) (p : ℕ) (head prefix : List ℕ) → IsExtended m p head prefix → (sound : IsSoundExtended m p) → rsdp_length prefix ≡ rsdp_length sound.prefix
-same_length m p head prefix is sound = ap rsdp_length (same_value prefix sound.prefix is.prefix_held sound.prefix_held)
-
 -- a fault excludes that the RSDP is sound
 pub excludes : (m : Memory) (p : ℕ) (c : Code) → RsdpFault m p c → ¬ IsSoundRsdp m p
 excludes m p code.RsdpOut out sound = none_and_some out sound.head_held
-excludes m p code.RsdpSignature (head, held, unsigned) sound =
-    both_ways (has_signature head rsdp_signature) unsigned (rw (same_value head sound.head held sound.head_held) sound.signed)
-excludes m p code.RsdpSum (head, held, sum) sound = sum (rw (same_value head sound.head held sound.head_held) sound.zero_sum)
+excludes m p code.RsdpSignature (head, held, unsigned) sound = grind (arith, same_value, sound.head_held, sound.signed)
+excludes m p code.RsdpSum (head, held, sum) sound = grind (arith, same_value, sum, sound.head_held, sound.zero_sum)
 excludes m p code.RsdpTailOut (head, held, more, out) sound = none_and_some out (extended_part m p head sound held more).prefix_held
 excludes m p code.RsdpLength (head, prefix, is, short) sound =
-    let whole = extended_part m p head sound is.head_held is.extended in
-    let same = same_length m p head prefix is whole in
-    let least = whole.least in
-    omega arith
+    let long = extended_part m p head sound is.head_held is.extended in
+    grind (arith, same_value, is.prefix_held, long.prefix_held, long.least)
 excludes m p code.RsdpLongOut (head, prefix, is, least, out) sound =
-    let whole = extended_part m p head sound is.head_held is.extended in
-    none_and_some (rw (same_length m p head prefix is whole) at out) whole.held
+    let long = extended_part m p head sound is.head_held is.extended in
+    grind (arith, same_value, none_and_some, is.prefix_held, long.prefix_held, long.held)
 excludes m p code.RsdpExtendedSum (head, prefix, bytes, is, least, held, sum) sound =
-    let whole = extended_part m p head sound is.head_held is.extended in
-    sum (rw (same_value bytes whole.whole (rw (same_length m p head prefix is whole) at held) whole.held) whole.zero_sum)
+    let long = extended_part m p head sound is.head_held is.extended in
+    grind (arith, same_value, sum, is.prefix_held, long.prefix_held, long.held, long.zero_sum)
 excludes m p _ fault sound = absurd fault

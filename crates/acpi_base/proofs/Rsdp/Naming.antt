@@ -1,5 +1,5 @@
 -- What an RSDP names: it is read in one of two forms, and its numbers fit.
-use Rattle.std.proofs.Common.{◌≡◌, ℕ, ◌^◌, ◌<◌, List, Some, None, sym, subst, inl, inr, arith}
+use Rattle.std.proofs.Common.{◌≡◌, ℕ, ◌^◌, ◌<◌, List, Some, inl, inr, arith}
 use Rattle.std.specs.Prelude.{◌⊎◌}
 use Rattle.std.proofs.lemmas.Bool.{cases_lt, lt-ltb, le-ltb}
 use Rattle.std.proofs.lemmas.Option.{same_Some}
@@ -11,25 +11,7 @@ use Rattle.acpi_base.proofs.HeldBytes.{cases_Option, held_field_below}
 pub how_read : (m : Memory) (p : ℕ) (named : Addresses) → addresses_at m p ≡ Some named
     → ((head : List ℕ) × (bytes_at m p 20 ≡ Some head) × (named ≡ short_addresses head)) ⊎ ((prefix : List ℕ) × (bytes_at m p 36 ≡ Some prefix) × (named ≡ extended_addresses prefix))
 unfolding addresses_at
-how_read m p named read =
-    elim (cases_Option (bytes_at m p 20)) [
-      | inr out ↦ absurd (let none : None ≡ Some named = rw out at read in cc)
-      | inl (head, held) ↦
-          elim (cases_lt (revision_of head) 2) [
-            | inl short ↦
-                let form = lt-ltb (revision_of head) 2 short in
-                let is : Some (short_addresses head) ≡ Some named = rw (held, form) at read in
-                inl (head, held, sym (same_Some (short_addresses head) named is))
-            | inr more ↦
-                let form = le-ltb (revision_of head) 2 more in
-                elim (cases_Option (bytes_at m p 36)) [
-                  | inr out ↦ absurd (let none : None ≡ Some named = rw (held, form, out) at read in cc)
-                  | inl (prefix, prefix_held) ↦
-                      let is : Some (extended_addresses prefix) ≡ Some named = rw (held, form, prefix_held) at read in
-                      inr (prefix, prefix_held, sym (same_Some (extended_addresses prefix) named is))
-                ]
-          ]
-    ]
+how_read m p named read = grind (arith, cases_Option (bytes_at m p 20), cases_Option (bytes_at m p 36), same_Some)
 
 -- a sound RSDP is readable
 pub sound_read : (m : Memory) (p : ℕ) → IsSoundRsdp m p → (named : Addresses) × (addresses_at m p ≡ Some named)
@@ -44,11 +26,4 @@ sound_read m p sound =
 
 -- the addresses that an RSDP of an image names fit their fields
 pub named_fit : (m : Memory) → IsImage m → (p : ℕ) (named : Addresses) → addresses_at m p ≡ Some named → (named.rsdt < 2 ^ 32) × (named.xsdt < 2 ^ 64)
-named_fit m image p named read =
-    elim (how_read m p named read) [
-      | inl (head, held, is) ↦ subst Fit (sym is) (held_field_below m image p 20 head held 16 4, omega arith)
-      | inr (prefix, held, is) ↦ subst Fit (sym is) (held_field_below m image p 36 prefix held 16 4, held_field_below m image p 36 prefix held 24 8)
-    ]
-  where
-    Fit : Addresses → Type 0
-    Fit n = (n.rsdt < 2 ^ 32) × (n.xsdt < 2 ^ 64)
+named_fit m image p named read = grind (arith, how_read m p named read, held_field_below m image p 20, held_field_below m image p 36)

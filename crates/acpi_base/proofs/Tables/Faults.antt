@@ -1,5 +1,5 @@
 -- The faults of a listed table: each can be decided, excludes that it is sound, and where there is none it is sound.
-use Rattle.std.proofs.Common.{refl, ◌≡◌, ℕ, List, ap, inr, arith}
+use Rattle.std.proofs.Common.{refl, ◌≡◌, ℕ, List, inr, arith}
 use Rattle.acpi_base.specs.Memory.{Memory, bytes_at}
 use Rattle.acpi_base.specs.Number.{byte_sum}
 use Rattle.acpi_base.specs.Tables.{length_of, IsTable, IsSoundTable, TableFault}
@@ -40,13 +40,7 @@ sound_without_fault m a none =
 -- a fault excludes that the table is sound
 pub excludes : (m : Memory) (a : ℕ) (c : Code) → TableFault m a c → ¬ IsSoundTable m a
 excludes m a code.TableHeaderOut out sound = none_and_some out sound.table.header_held
-excludes m a code.TableLength (header, held, short) sound =
-    let same = ap length_of (same_value header sound.header held sound.table.header_held) in
-    let least = sound.table.least in
-    omega arith
-excludes m a code.TableOut (header, held, least, out) sound =
-    none_and_some (rw (same_value header sound.header held sound.table.header_held) at out) sound.table.held
-excludes m a code.TableSum (header, whole, table, sum) sound =
-    let same = same_value header sound.header table.header_held sound.table.header_held in
-    sum (rw (same_value whole sound.whole (rw same at table.held) sound.table.held) sound.zero_sum)
+excludes m a code.TableLength (header, held, short) sound = grind (arith, same_value, sound.table.least, sound.table.header_held)
+excludes m a code.TableOut (header, held, least, out) sound = grind (arith, same_value, none_and_some, sound.table.header_held, sound.table.held)
+excludes m a code.TableSum (header, whole, table, sum) sound = grind (arith, same_value, sum, table.header_held, table.held, sound.table.header_held, sound.table.held, sound.zero_sum)
 excludes m a _ fault sound = absurd fault

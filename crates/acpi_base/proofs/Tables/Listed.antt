@@ -1,5 +1,5 @@
 -- The first listed table with a signature: there is one or none, and it is one.
-use Rattle.std.proofs.Common.{◌≡◌, ◌<◌, ℕ, List, length, Some, None, Option, subst, inl, inr}
+use Rattle.std.proofs.Common.{◌≡◌, ◌<◌, ℕ, List, length, Some, None, Option, subst, inl, inr, arith}
 use Rattle.std.specs.Prelude.{◌⊎◌}
 use Rattle.std.proofs.lemmas.Bool.{cases_order}
 use Rattle.acpi_base.specs.Memory.{Memory, bytes_at}
@@ -53,7 +53,7 @@ first_listed_or_none m whole d signature width =
 pub one_first_listed : (m : Memory) (whole : List ℕ) (d : ℕ) (signature : List ℕ) (a b : ℕ) → IsFirstListed m whole d signature a → IsFirstListed m whole d signature b → a ≡ b
 one_first_listed m whole d signature a b one other =
     elim (cases_order one.k other.k) [
-      | inl same ↦ one_slot whole d other.k a b (subst (λ (k : ℕ). HasSlot whole d k a) same one.slot) other.slot
+      | inl same ↦ grind (arith, one_slot, one.slot, other.slot)
       | inr (inl less) ↦ absurd (other.none_before one.k a less one.slot one.signed)
       | inr (inr more) ↦ absurd (one.none_before other.k b more other.slot other.signed)
     ]

@@ -1,5 +1,5 @@
 -- Whole tables: one stands at an address, and has as many bytes as its header says, which are its first.
-use Rattle.std.proofs.Common.{◌≡◌, ℕ, List, length, take, true, false, refl, sym, ap, ◌∙◌, arith}
+use Rattle.std.proofs.Common.{◌≡◌, ℕ, List, length, take, true, false, sym, ap, ◌∙◌, arith}
 use Rattle.std.specs.Prelude.{nat_eq}
 use Rattle.std.specs.Cmp.Lexicographic.{same_text}
 use Rattle.std.specs.List.{starts_with}
@@ -29,8 +29,7 @@ header_is m a header whole table =
 pub signed_table : (m : Memory) (a : ℕ) (header whole signature : List ℕ) → IsTable m a header whole → length signature ≡ 4 → has_signature whole signature ≡ has_signature header signature
 unfolding has_signature
 signed_table m a header whole signature table four =
-    let first : take (length signature) header ≡ take (length signature) whole = ap (take (length signature)) (header_is m a header whole table) ∙ take-take (length signature) 36 whole (omega arith) in
-    rw first refl
+    grind (arith, header_is m a header whole table, take-take)
 
 -- bytes with a signature have no other of its length
 pub other_signature : (bytes one other : List ℕ) → length one ≡ length other → starts_with nat_eq one other ≡ false → has_signature bytes one ≡ true → has_signature bytes other ≡ false
