@@ -128,9 +128,15 @@ gas_at whole offset =
       address = field whole (offset + 4) 8;
     }
 
--- its parts: space, bit_width, bit_offset, access_size, address
+-- its parts in order
 abbrev pub gas_parts : List Part
-gas_parts = NumberOf 1 ∷ NumberOf 1 ∷ NumberOf 1 ∷ NumberOf 1 ∷ NumberOf 8 ∷ []
+gas_parts =
+    NumberOf 1 ∷  -- space
+    NumberOf 1 ∷  -- bit_width
+    NumberOf 1 ∷  -- bit_offset
+    NumberOf 1 ∷  -- access_size
+    NumberOf 8 ∷  -- address
+    []
 
 -- their values
 abbrev pub gas_values : GasValue → List PartValue

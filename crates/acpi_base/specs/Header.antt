@@ -31,11 +31,19 @@ header_of bytes =
       creator_revision = field bytes 32 4;
     }
 
--- its parts: signature, length, revision, checksum, oemid, oem_table_id, oem_revision, creator_id,
--- creator_revision
+-- its parts in order
 abbrev pub header_parts : List Part
 header_parts =
-    BytesOf 4 ∷ NumberOf 4 ∷ NumberOf 1 ∷ NumberOf 1 ∷ BytesOf 6 ∷ BytesOf 8 ∷ NumberOf 4 ∷ NumberOf 4 ∷ NumberOf 4 ∷ []
+    BytesOf 4 ∷  -- signature
+    NumberOf 4 ∷  -- length
+    NumberOf 1 ∷  -- revision
+    NumberOf 1 ∷  -- checksum
+    BytesOf 6 ∷  -- oemid
+    BytesOf 8 ∷  -- oem_table_id
+    NumberOf 4 ∷  -- oem_revision
+    NumberOf 4 ∷  -- creator_id
+    NumberOf 4 ∷  -- creator_revision
+    []
 
 -- their values
 abbrev pub header_values : HeaderValue → List PartValue
