@@ -3,6 +3,7 @@
 //!
 //! - `Image`: bytes at 64-bit addresses. `read_image` reads one from image text.
 //! - `sum`, `find_rsdp`: a checksum, and the search for the RSDP.
+//! - `field`: numbers and bytes at an offset in a table, read and written.
 //! - `Code`, `Stage`, `Witness`, `Verdict`: what can be wrong, in which part of the check, where, and the
 //!   result of a check. `witness_text` and `verdict_text` write them.
 //! - `Policy`: the settings of a check.
