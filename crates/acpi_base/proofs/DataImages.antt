@@ -1,21 +1,17 @@
 -- What data makes of an image, byte by byte: where each byte stands, and that the image has it there.
-use Rattle.std.proofs.Common.{◌≡◌, ◌⊎◌, inl, inr, ℕ, zero, suc, ◌+◌, ◌-◌, ◌^◌, ◌<◌, ◌≤◌, ◌≢◌, List, [], ◌∷◌, ◌++◌, length, refl, sym, ap, subst, ◌∙◌, arith, true, false, cond, eqb, ltb, length-append, slice_index, rules}
-use Rattle.std.proofs.lemmas.Grind.{common_steps}
-use Rattle.std.proofs.lemmas.Bool.{cases_lt, cases_eq, le-ltb, ltb-false, or_parts, or_from}
+use Rattle.std.proofs.Common.{◌≡◌, ◌⊎◌, inl, inr, ℕ, zero, suc, ◌+◌, ◌-◌, ◌^◌, ◌<◌, ◌≢◌, List, [], ◌∷◌, ◌++◌, length, refl, sym, ap, subst, ◌∙◌, arith}
+use Rattle.std.proofs.lemmas.Bool.{cases_eq, le-ltb, ltb-false}
 use Rattle.std.proofs.lemmas.Bool.Decides.{nat_tests}
-use Rattle.std.proofs.lemmas.Option.{slice_get-get_or}
-use Rattle.std.specs.Prelude.{Option, None, Some, IsSome, is_some, Result, Ok, Err, nat_lt, map, ◌↔◌, ◌==◌}
-use Rattle.std.specs.List.{All, Contains, slice_get}
-use Rattle.std.specs.FinMap.{empty, get-empty, get, get-insert, insert}
-use Rattle.std.specs.Cmp.{nat_cmp_total}
-use Rattle.std.specs.Ordering.{nat_cmp, eq_by_cmp}
-use Rattle.acpi_base.specs.Memory.{Memory, byte_of, first_of, first_held, with_bytes}
+use Rattle.std.specs.Prelude.{Option, None, Some, IsSome, nat_lt, ◌↔◌}
+use Rattle.std.specs.List.{slice_get}
+use Rattle.std.specs.FinMap.{insert}
+use Rattle.acpi_base.specs.Memory.{Memory, byte_of, first_held, with_bytes}
 use Rattle.acpi_base.specs.Adding.{add_refusal}
 use Rattle.acpi_base.proofs.Images.{same_memory, fits_unless}
 use Rattle.acpi_base.proofs.Places.{nothing_held}
 use Rattle.acpi_base.proofs.Runs.{first_of_none}
-use Rattle.acpi_base.proofs.Held.{byte_of-with_bytes, byte_of-with_bytes_outside}
-use Rattle.acpi_base.proofs.Standing.{place_of, first_then, first_here, first_later, first_cases, stands_is_place}
+use Rattle.acpi_base.proofs.Held.{byte_of-insert, byte_of-with_bytes, byte_of-with_bytes_outside}
+use Rattle.acpi_base.proofs.Standing.{first_then, first_here}
 
 -- ---- what bytes that stand somewhere make of an image
 
@@ -32,12 +28,6 @@ pub record Makes (place : ℕ → Option ℕ) (bytes : List ℕ) (m f : Memory) 
   pub image : (a b : ℕ) → (byte_of f a ≡ Some b) ↔ Given place bytes m a b
 
 -- ---- one byte more, which stands at a
-
-same_number : (x a : ℕ) → eq_by_cmp nat_cmp x a ≡ (x == a)
-same_number x a = grind (arith, nat_tests)
-
-byte_of-insert : (m : Memory) (a b x : ℕ) → byte_of (insert m a b) x ≡ cond (x == a) (Some b) (byte_of m x)
-byte_of-insert m a b x = get-insert nat_cmp_total m a b x ∙ ap (λ t. cond t (Some b) (get m x)) (same_number x a)
 
 here : (m : Memory) (a b : ℕ) → byte_of (insert m a b) a ≡ Some b
 here m a b = grind (arith, nat_tests, byte_of-insert m a b a)

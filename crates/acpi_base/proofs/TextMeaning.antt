@@ -1,25 +1,21 @@
 -- Reading a text by lines gives what the text means.
-use Rattle.std.proofs.Common.{◌≡◌, ◌≢◌, ◌⊎◌, inl, inr, ℕ, zero, suc, ◌+◌, ◌-◌, ◌^◌, ◌<◌, ◌≤◌, List, [], ◌∷◌, ◌++◌, length, refl, sym, ap, subst, ◌∙◌, arith, true, false, eqb, if◌then◌else◌, length-append, slice_index, rules}
-use Rattle.std.proofs.lemmas.Bool.{cases_lt, le-ltb, ltb-false, or_parts, or_from}
-use Rattle.std.proofs.lemmas.Option.{slice_get-get_or}
+use Rattle.std.proofs.Common.{◌≡◌, ◌≢◌, ◌⊎◌, inl, inr, ℕ, zero, suc, ◌+◌, ◌<◌, ◌≤◌, List, [], ◌∷◌, ◌++◌, length, refl, sym, ap, subst, arith, true, false, eqb, if◌then◌else◌, length-append}
+use Rattle.std.proofs.lemmas.Bool.{ltb-false, or_parts}
 use Rattle.std.proofs.lemmas.List.Elements.{All-cons, All-head, All-tail}
-use Rattle.std.specs.Prelude.{Option, None, Some, IsSome, is_some, Result, Ok, Err, nat_lt, map, ◌↔◌}
+use Rattle.std.specs.Prelude.{Option, None, Some, IsSome, is_some, Result, Ok, Err, map, ◌↔◌}
 use Rattle.std.specs.Option.{option_map_or}
 use Rattle.std.specs.List.{All, AllByRecursion, Contains, slice_get}
 use Rattle.std.specs.FinMap.{empty, get-empty}
 use Rattle.std.specs.Ordering.{nat_cmp}
-use Rattle.acpi_base.specs.Memory.{Memory, byte_of, first_held, with_bytes}
+use Rattle.acpi_base.specs.Memory.{Memory, byte_of, with_bytes}
 use Rattle.acpi_base.specs.Adding.{add_refusal}
 use Rattle.acpi_base.specs.ImageText.{Line, Blank, Address, Data, Bad, Reading, start, on_ok, max_line, max_text, is_too_long, data_fault, put_data, take_line, line_of, read_line, read_lines, ended_from, last_from, ended_lines, last_line, read_text, IsText, IsRefused}
 use Rattle.acpi_base.specs.declared.text.TextFault.{TextFault}
 use Rattle.acpi_base.specs.TextMeaning.{text_lines, said, all_data, IsGoodText}
-use Rattle.acpi_base.proofs.Images.{same_memory, fits_unless}
-use Rattle.acpi_base.proofs.Places.{nothing_held}
-use Rattle.acpi_base.proofs.Runs.{first_of_none}
-use Rattle.acpi_base.proofs.Held.{byte_of-with_bytes_within, byte_of-with_bytes_outside}
+use Rattle.acpi_base.proofs.Images.{same_memory}
 use Rattle.acpi_base.proofs.LineLemmas.{data_some}
 use Rattle.acpi_base.proofs.MachineLemmas.{take_line_keeps}
-use Rattle.acpi_base.proofs.Standing.{place_of, first_then, first_here, first_later, first_cases, stands_is_place}
+use Rattle.acpi_base.proofs.Standing.{place_of, first_here, stands_is_place}
 use Rattle.std.proofs.lemmas.Bool.Decides.{nat_tests}
 use Rattle.acpi_base.proofs.DataImages.{Given, Makes, data_more, data_less, taken, not_refused}
 
