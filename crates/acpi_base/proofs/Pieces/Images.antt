@@ -12,10 +12,10 @@ use Rattle.acpi_base.specs.declared.image.ImageFault.{ImageFault}
 use Rattle.acpi_base.specs.declared.image.ImageFault.TheVariants.{PastEnd, Twice}
 use Rattle.acpi_base.specs.Adding.{add_refusal}
 use Rattle.acpi_base.specs.Segments.{Run, runs, held, lookup, run_at, memory_of, window_of, IsWhole, IsTidy, IsFree, Puts}
-use Rattle.acpi_base.proofs.Held.{held_inside, held_from, byte_of_memory_of, byte_of-with_bytes}
+use Rattle.acpi_base.proofs.Pieces.RunBytes.{held_inside, held_from, byte_of_memory_of, byte_of-with_bytes}
 use Rattle.acpi_base.proofs.Runs.{run_of-same, first_of-same}
-use Rattle.acpi_base.proofs.Segments.{window_of-lookup}
-use Rattle.acpi_base.proofs.Places.{free_run}
+use Rattle.acpi_base.proofs.Pieces.Searches.{window_of-lookup}
+use Rattle.acpi_base.proofs.Pieces.Neighbours.{free_run}
 
 each_byte : (bs : List ℕ) (i b : ℕ) → AllByRecursion (λ x. x < 256) bs → slice_get bs i ≡ Some b → b < 256
 each_byte [] i b h e = absurd (cc)
@@ -68,3 +68,6 @@ fits_unless t o e = grind arith
 pub free_unless : (found ss : List Segment) (a : ℕ) (bs : List ℕ) (refused : Option ImageFault) → found ≡ ss → IsTidy (runs ss) → 0 < length bs → ((k : ℕ) → get_or bs k 0 < 256)
     → refused ≡ cond (nat_lt (2 ^ 64) (a + length bs)) (Some PastEnd) (option_map (λ x. Twice x) (first_of (lookup (runs found)) a (length bs))) → refused ≡ None → IsFree (run_at a bs) (runs ss)
 free_unless found ss a bs refused f t h s r none = grind (arith, fits_unless, ltb-false, free_run)
+
+-- what proves that bytes are added as they should be
+pub ruleset adding = (refusal_of, no_refusal, no_bytes, image_of, memory_of_put, free_unless)

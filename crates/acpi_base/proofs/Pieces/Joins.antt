@@ -10,8 +10,8 @@ use Rattle.std.proofs.lemmas.Bool.{cases_lt}
 use Rattle.std.proofs.lemmas.Bool.Decides.{nat_tests}
 use Rattle.std.proofs.lemmas.Option.{slice_get_past, slice_get-get_or}
 use Rattle.acpi_base.specs.Segments.{Run, held, lookup, end_of, run_at, run_in, bridged, Apart, ApartFrom, NoneTouch, IsWhole, IsTidy, IsFree, Puts}
-use Rattle.acpi_base.proofs.Held.{held_below, held_past, held_some}
-use Rattle.acpi_base.proofs.Edits.{get_or-remove_other}
+use Rattle.acpi_base.proofs.Pieces.RunBytes.{held_below, held_past, held_some}
+use Rattle.acpi_base.proofs.Pieces.Edits.{get_or-remove_other}
 
 -- ---- what holds of each run
 
