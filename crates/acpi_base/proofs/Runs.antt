@@ -1,5 +1,5 @@
 -- What `run_of` and `first_of` find, and so `bytes_at` and `first_held`.
-use Rattle.std.proofs.Common.{◌≡◌, ℕ, zero, suc, ◌+◌, ◌-◌, ◌<◌, ◌≤◌, true, false, cond, List, [], ◌∷◌, length, take, drop, slice_index, Option, Some, None, IsSome, is_some, refl, sym, ap, subst, ◌∙◌, arith, add-zero}
+use Rattle.std.proofs.Common.{◌≡◌, ℕ, zero, suc, ◌+◌, ◌-◌, ◌<◌, ◌≤◌, true, List, [], ◌∷◌, length, take, drop, slice_index, Option, Some, None, IsSome, is_some, refl, sym, ap, subst, ◌∙◌, arith, add-zero}
 use Rattle.std.specs.Option.{option_map}
 use Rattle.acpi_base.specs.Memory.{Memory, byte_of, run_of, first_of, cons_both, bytes_at, Has}
 
@@ -14,10 +14,7 @@ pub run_of_none : (f : ℕ → Option ℕ) (a n k : ℕ) → k < n → f (a + k)
 unfolding run_of cons_both
 run_of_none f a zero k h e = absurd (omega arith)
 run_of_none f a (suc n) zero h e = let g : f a ≡ None = ap f (sym (add-zero a)) ∙ e in rw g refl
-run_of_none f a (suc n) (suc k) h e =
-    let e' : f (a + 1 + k) ≡ None = let q : a + 1 + k ≡ a + suc k = omega arith in ap f q ∙ e in
-    let r : run_of f (a + 1) n ≡ None = run_of_none f (a + 1) n k (omega arith) e' in
-    elim (f a) as (λ v. cons_both v (run_of f (a + 1) n) ≡ None) [ None ↦ refl | Some b ↦ rw r refl ]
+run_of_none f a (suc n) (suc k) h e = grind (arith, run_of_none f (a + 1) n k)
 
 pub first_of_none : (f : ℕ → Option ℕ) (a n : ℕ) → ((k : ℕ) → k < n → f (a + k) ≡ None) → first_of f a n ≡ None
 unfolding first_of
@@ -41,11 +38,7 @@ first_of_at f a (suc n) (suc k) h s before =
 pub first_of_from : (f : ℕ → Option ℕ) (a n x : ℕ) → first_of f a n ≡ Some x → a ≤ x
 unfolding first_of
 first_of_from f a zero x e = absurd (cc)
-first_of_from f a (suc n) x e =
-    elim (is_some (f a)) as (λ b. cond b (Some a) (first_of f (a + 1) n) ≡ Some x → a ≤ x) [
-      | true ↦ λ s. (let same : a ≡ x = cc in omega arith)
-      | false ↦ λ s. (let later : a + 1 ≤ x = first_of_from f (a + 1) n x s in omega arith)
-    ] e
+first_of_from f a (suc n) x e = grind (arith, first_of_from f (a + 1) n x)
 
 -- f and g agree at the n numbers from a on
 pub run_of-agree : (f g : ℕ → Option ℕ) (a n : ℕ) → ((k : ℕ) → k < n → f (a + k) ≡ g (a + k)) → run_of f a n ≡ run_of g a n
@@ -75,10 +68,7 @@ run_of-count f a (suc n) l e = (let s = run_of-split f a n l e in ap length s.4 
 pub run_of-each : (f : ℕ → Option ℕ) (a n : ℕ) (l : List ℕ) → run_of f a n ≡ Some l → (k : ℕ) → k < n → f (a + k) ≡ Some (slice_index l k)
 run_of-each f a zero l e k h = absurd (omega arith)
 run_of-each f a (suc n) l e zero h = (let s = run_of-split f a n l e in ap f (add-zero a) ∙ s.2 ∙ ap (λ xs. Some (slice_index xs 0)) (sym s.4))
-run_of-each f a (suc n) l e (suc k) h =
-    let s = run_of-split f a n l e in
-    let q : a + suc k ≡ a + 1 + k = omega arith in
-    ap f q ∙ run_of-each f (a + 1) n s.1 s.3 k (omega arith) ∙ ap (λ xs. Some (slice_index xs (suc k))) (sym s.4)
+run_of-each f a (suc n) l e (suc k) h = grind (arith, run_of-split, run_of-each f (a + 1) n)
 
 pub run_of-from_each : (f : ℕ → Option ℕ) (a n : ℕ) (l : List ℕ) → length l ≡ n → ((k : ℕ) → k < n → f (a + k) ≡ Some (slice_index l k)) → run_of f a n ≡ Some l
 unfolding run_of cons_both
@@ -106,22 +96,13 @@ pub run_of-take : (f : ℕ → Option ℕ) (a n k : ℕ) (l : List ℕ) → run_
 unfolding run_of cons_both
 run_of-take f a n zero l e h = refl
 run_of-take f a zero (suc k) l e h = absurd (omega arith)
-run_of-take f a (suc n) (suc k) l e h =
-    let s = run_of-split f a n l e in
-    let rest = run_of-take f (a + 1) n k s.1 s.3 (omega arith) in
-    let front : take (suc k) l ≡ s.0 ∷ take k s.1 = ap (take (suc k)) s.4 in
-    rw (s.2, rest, front) refl
+run_of-take f a (suc n) (suc k) l e h = grind (arith, run_of-split, run_of-take f (a + 1) n k)
 
 -- those behind the first k
 pub run_of-drop : (f : ℕ → Option ℕ) (a n k : ℕ) (l : List ℕ) → run_of f a n ≡ Some l → k ≤ n → run_of f (a + k) (n - k) ≡ Some (drop k l)
 run_of-drop f a n zero l e h = (let p : a + 0 ≡ a = omega arith in let q : n - 0 ≡ n = omega arith in rw (p, q) e)
 run_of-drop f a zero (suc k) l e h = absurd (omega arith)
-run_of-drop f a (suc n) (suc k) l e h =
-    let s = run_of-split f a n l e in
-    let p : a + suc k ≡ a + 1 + k = omega arith in
-    let q : suc n - suc k ≡ n - k = omega arith in
-    let back : drop (suc k) l ≡ drop k s.1 = ap (drop (suc k)) s.4 in
-    rw (p, q, back) (run_of-drop f (a + 1) n k s.1 s.3 (omega arith))
+run_of-drop f a (suc n) (suc k) l e h = grind (arith, run_of-split, run_of-drop f (a + 1) n k)
 
 pub Has-bytes_at : (m : Memory) (a n : ℕ) → IsSome (bytes_at m a n) → Has m a n
 Has-bytes_at m a n s k h =

@@ -55,7 +55,7 @@ pub fn machine_reads_lines()
 {}
 
 /// A fault in a prefix of an image text is the fault of the whole text.
-#[tactic(auto, using(crate::proofs::MachineLemmas::prefix_is_decided))]
+#[tactic(auto, using(crate::proofs::Texts::ByteMachine::prefix_is_decided))]
 pub fn prefix_decides()
     ensures { PrefixDecides }
 {}

@@ -122,7 +122,7 @@ fn parse_address(rest: &[u8]) -> Form
 
 /// Whether the line is pairs of hex digits, with any blanks between pairs and after the last. If so, the
 /// vector has their bytes.
-#[tactic(auto, unfolding(crate::specs::ImageText::data_from), using(crate::proofs::LineLemmas::data_from_first, crate::proofs::LineLemmas::data_from_second, crate::proofs::LineLemmas::data_from_blank))]
+#[tactic(auto, unfolding(crate::specs::ImageText::data_from))]
 fn parse_data(line: &[u8], bytes: &mut Vec<u8>) -> Result<bool, AllocError>
     ensures { IfOk result (λ is_data. data_line is_data bytes.new.items ≡ data_from [] None line.now) }
 {
@@ -143,7 +143,7 @@ fn parse_data(line: &[u8], bytes: &mut Vec<u8>) -> Result<bool, AllocError>
 }
 
 /// What a line says, its LF left off. The bytes of a data line go into the vector, in place of what it had.
-#[tactic(auto, unfolding(crate::specs::ImageText::line_of), using(crate::proofs::LineLemmas::form_of_first, crate::proofs::LineLemmas::line_of_rest, crate::proofs::LineLemmas::form_of_none))]
+#[tactic(auto, unfolding(crate::specs::ImageText::line_of), using(crate::proofs::Texts::LineParsing::form_of_first, crate::proofs::Texts::LineParsing::line_of_rest, crate::proofs::Texts::LineParsing::form_of_none))]
 pub fn parse_line(line: &[u8], bytes: &mut Vec<u8>) -> Result<Form, AllocError>
     ensures { IfOk result (λ form. line_with form bytes.new.items ≡ line_of line.now) }
 {

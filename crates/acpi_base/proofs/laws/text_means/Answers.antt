@@ -1,4 +1,4 @@
-use Rattle.acpi_base.proofs.TextMeaning.{text_is_good, good_is_text}
+use Rattle.acpi_base.proofs.Texts.GoodTexts.{text_is_good, good_is_text}
 use Rattle.acpi_base.proofs.laws.text_means.Goals as goal
 
 pub returns : goal.returns

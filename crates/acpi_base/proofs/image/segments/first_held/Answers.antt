@@ -1,5 +1,5 @@
 use Rattle.acpi_base.specs.Segments.{IsWhole}
-use Rattle.acpi_base.proofs.Segments.{each_run}
+use Rattle.acpi_base.proofs.Pieces.Searches.{each_run}
 use Rattle.acpi_base.proofs.image.segments.first_held.Goals as goal
 
 pub first_in-requires-clause-filled : goal.first_in-requires-clause-filled

@@ -1,5 +1,5 @@
 use Rattle.std.proofs.Common.{◌<◌, ◌++◌, length, ap, ◌∙◌, arith}
-use Rattle.acpi_base.proofs.Edits.{prepended}
+use Rattle.acpi_base.proofs.Pieces.Edits.{prepended}
 use Rattle.acpi_base.proofs.image.segments.prepend.Goals as goal
 
 pub returns-clause-ok : goal.returns-clause-ok

@@ -1,8 +1,8 @@
 use Rattle.std.proofs.Common.{◌+◌, length, refl, sym, subst}
 use Rattle.std.specs.Prelude.{◌==◌}
 use Rattle.acpi_base.specs.Segments.{run, runs, run_at, run_in, end_of, Puts}
-use Rattle.acpi_base.proofs.Joins.{puts_alone, puts_append, puts_prepend, puts_bridge, same_place}
-use Rattle.acpi_base.proofs.Places.{none_before, none_after, one_before, one_after, found_in, run_within, ok_then}
+use Rattle.acpi_base.proofs.Pieces.Joins.{puts_alone, puts_append, puts_prepend, puts_bridge, same_place}
+use Rattle.acpi_base.proofs.Pieces.Neighbours.{none_before, none_after, one_before, one_after, found_in, run_within, ok_then}
 use Rattle.acpi_base.proofs.image.segments.put.Goals as goal
 
 pub bridge-requires-clause-two : goal.bridge-requires-clause-two

@@ -1,19 +1,17 @@
 -- What data makes of an image, byte by byte: where each byte stands, and that the image has it there.
-use Rattle.std.proofs.Common.{◌≡◌, ◌⊎◌, inl, inr, ℕ, zero, suc, ◌+◌, ◌-◌, ◌^◌, ◌<◌, ◌≢◌, List, [], ◌∷◌, ◌++◌, length, refl, sym, ap, subst, ◌∙◌, arith, cond}
+use Rattle.std.proofs.Common.{◌≡◌, ◌⊎◌, inl, inr, ℕ, zero, suc, ◌+◌, ◌-◌, ◌^◌, ◌<◌, ◌≢◌, List, [], ◌∷◌, ◌++◌, length, refl, sym, ap, subst, ◌∙◌, arith}
 use Rattle.std.proofs.lemmas.Bool.{cases_eq, le-ltb, ltb-false}
 use Rattle.std.proofs.lemmas.Bool.Decides.{nat_tests}
-use Rattle.std.specs.Prelude.{Option, None, Some, IsSome, nat_lt, ◌↔◌, ◌==◌}
+use Rattle.std.specs.Prelude.{Option, None, Some, IsSome, nat_lt, ◌↔◌}
 use Rattle.std.specs.List.{slice_get}
-use Rattle.std.specs.FinMap.{get, get-insert, insert}
-use Rattle.std.specs.Cmp.{nat_cmp_total}
-use Rattle.std.specs.Ordering.{nat_cmp, eq_by_cmp}
+use Rattle.std.specs.FinMap.{insert}
 use Rattle.acpi_base.specs.Memory.{Memory, byte_of, first_held, with_bytes}
 use Rattle.acpi_base.specs.Adding.{add_refusal}
-use Rattle.acpi_base.proofs.Images.{same_memory, fits_unless}
-use Rattle.acpi_base.proofs.Places.{nothing_held}
+use Rattle.acpi_base.proofs.Pieces.Images.{same_memory, fits_unless}
+use Rattle.acpi_base.proofs.Pieces.Neighbours.{nothing_held}
 use Rattle.acpi_base.proofs.Runs.{first_of_none}
-use Rattle.acpi_base.proofs.Held.{byte_of-with_bytes, byte_of-with_bytes_outside}
-use Rattle.acpi_base.proofs.Standing.{first_then, first_here}
+use Rattle.acpi_base.proofs.Pieces.RunBytes.{byte_of-insert, byte_of-with_bytes, byte_of-with_bytes_outside}
+use Rattle.acpi_base.proofs.Texts.DataPlaces.{first_then, first_here}
 
 -- ---- what bytes that stand somewhere make of an image
 
@@ -30,12 +28,6 @@ pub record Makes (place : ℕ → Option ℕ) (bytes : List ℕ) (m f : Memory) 
   pub image : (a b : ℕ) → (byte_of f a ≡ Some b) ↔ Given place bytes m a b
 
 -- ---- one byte more, which stands at a
-
-same_number : (x a : ℕ) → eq_by_cmp nat_cmp x a ≡ (x == a)
-same_number x a = grind (arith, nat_tests)
-
-byte_of-insert : (m : Memory) (a b x : ℕ) → byte_of (insert m a b) x ≡ cond (x == a) (Some b) (byte_of m x)
-byte_of-insert m a b x = get-insert nat_cmp_total m a b x ∙ ap (λ t. cond t (Some b) (get m x)) (same_number x a)
 
 here : (m : Memory) (a b : ℕ) → byte_of (insert m a b) a ≡ Some b
 here m a b = grind (arith, nat_tests, byte_of-insert m a b a)

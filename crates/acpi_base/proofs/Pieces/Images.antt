@@ -1,7 +1,7 @@
 -- The memory that runs make.
-use Rattle.std.proofs.Common.{◌≡◌, ℕ, zero, suc, ◌+◌, ◌-◌, ◌^◌, ◌<◌, Bool, true, false, cond, List, [], ◌∷◌, length, get_or, slice_get, Option, Some, None, is_some, refl, sym, ap, ◌∙◌, arith}
+use Rattle.std.proofs.Common.{◌≡◌, ℕ, zero, suc, ◌+◌, ◌-◌, ◌^◌, ◌<◌, Bool, false, cond, List, [], ◌∷◌, length, get_or, slice_get, Option, Some, None, refl, sym, ◌∙◌, arith}
 use Rattle.std.specs.Prelude.{nat_lt}
-use Rattle.std.specs.Option.{option_or, option_map}
+use Rattle.std.specs.Option.{option_map}
 use Rattle.std.specs.List.{AllByRecursion}
 use Rattle.std.specs.FinMap.{same_map, nat_cmp-IsAntisymmetric}
 use Rattle.std.specs.Cmp.{nat_cmp_total}
@@ -12,10 +12,10 @@ use Rattle.acpi_base.specs.declared.image.ImageFault.{ImageFault}
 use Rattle.acpi_base.specs.declared.image.ImageFault.TheVariants.{PastEnd, Twice}
 use Rattle.acpi_base.specs.Adding.{add_refusal}
 use Rattle.acpi_base.specs.Segments.{Run, runs, held, lookup, run_at, memory_of, window_of, IsWhole, IsTidy, IsFree, Puts}
-use Rattle.acpi_base.proofs.Held.{held_inside, held_from, byte_of_memory_of, byte_of-with_bytes}
+use Rattle.acpi_base.proofs.Pieces.RunBytes.{held_inside, held_from, byte_of_memory_of, byte_of-with_bytes}
 use Rattle.acpi_base.proofs.Runs.{run_of-same, first_of-same}
-use Rattle.acpi_base.proofs.Segments.{window_of-lookup}
-use Rattle.acpi_base.proofs.Places.{free_run}
+use Rattle.acpi_base.proofs.Pieces.Searches.{window_of-lookup}
+use Rattle.acpi_base.proofs.Pieces.Neighbours.{free_run}
 
 each_byte : (bs : List ℕ) (i b : ℕ) → AllByRecursion (λ x. x < 256) bs → slice_get bs i ≡ Some b → b < 256
 each_byte [] i b h e = absurd (cc)
@@ -23,18 +23,11 @@ each_byte (x ∷ xs) zero b h e = let same : x ≡ b = cc in let low = h.0 in om
 each_byte (x ∷ xs) (suc i) b h e = each_byte xs i b h.1 e
 
 held_byte : (r : Run) (a b : ℕ) → IsWhole r → held r a ≡ Some b → (a < 2 ^ 64) × (b < 256)
-held_byte r a b w e =
-    let inside = held_inside r a (ap is_some e) in
-    let top = w.fits in
-    (omega arith, each_byte r.bytes (a - r.base) b w.bytes (sym (held_from r a inside.0) ∙ e))
+held_byte r a b w e = grind (arith, held_inside r a, each_byte r.bytes (a - r.base) b w.bytes, held_from r a)
 
 lookup_byte : (rs : List Run) (a b : ℕ) → AllByRecursion IsWhole rs → lookup rs a ≡ Some b → (a < 2 ^ 64) × (b < 256)
 lookup_byte [] a b w e = absurd (cc)
-lookup_byte (r ∷ rs) a b w e =
-    elim (held r a) as (λ v. held r a ≡ v → option_or v (lookup rs a) ≡ Some b → (a < 2 ^ 64) × (b < 256)) [
-      | None ↦ λ p q. lookup_byte rs a b w.1 q
-      | Some x ↦ λ p q. held_byte r a b w.0 (p ∙ q)
-    ] refl e
+lookup_byte (r ∷ rs) a b w e = grind (arith, lookup_byte rs a b w.1, held_byte r a b w.0)
 
 pub image_of : (rs : List Run) → IsTidy rs → IsImage (memory_of rs)
 image_of rs t = grind (arith, lookup_byte, byte_of_memory_of)
@@ -68,15 +61,13 @@ unfolding with_bytes
 no_bytes m a [] e = refl
 no_bytes m a (b ∷ bs) e = absurd (omega arith)
 
-unmapped : (o : Option ℕ) → option_map (λ x. Twice x) o ≡ None → o ≡ None
-unmapped None e = refl
-unmapped (Some x) e = absurd (cc)
-
 pub fits_unless : (t : Bool) (o : Option ℕ) → cond t (Some PastEnd) (option_map (λ x. Twice x) o) ≡ None → (t ≡ false) × (o ≡ None)
-fits_unless true o e = absurd (cc)
-fits_unless false o e = (refl, unmapped o e)
+fits_unless t o e = grind arith
 
 -- bytes that are not refused find their addresses free
 pub free_unless : (found ss : List Segment) (a : ℕ) (bs : List ℕ) (refused : Option ImageFault) → found ≡ ss → IsTidy (runs ss) → 0 < length bs → ((k : ℕ) → get_or bs k 0 < 256)
     → refused ≡ cond (nat_lt (2 ^ 64) (a + length bs)) (Some PastEnd) (option_map (λ x. Twice x) (first_of (lookup (runs found)) a (length bs))) → refused ≡ None → IsFree (run_at a bs) (runs ss)
 free_unless found ss a bs refused f t h s r none = grind (arith, fits_unless, ltb-false, free_run)
+
+-- what proves that bytes are added as they should be
+pub ruleset adding = (refusal_of, no_refusal, no_bytes, image_of, memory_of_put, free_unless)

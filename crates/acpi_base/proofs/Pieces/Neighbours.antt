@@ -1,5 +1,5 @@
 -- Where among the segments bytes are put.
-use Rattle.std.proofs.Common.{◌≡◌, ℕ, zero, suc, ◌+◌, ◌^◌, ◌<◌, ◌≤◌, ◌≢◌, inl, inr, Bool, true, false, cond, List, [], ◌∷◌, length, get_or, Option, Some, None, is_some, Result, Ok, Err, OnOk, refl, sym, ap, subst, ◌∙◌, arith}
+use Rattle.std.proofs.Common.{◌≡◌, ℕ, zero, suc, ◌+◌, ◌^◌, ◌<◌, ◌≤◌, ◌≢◌, Bool, true, false, List, [], ◌∷◌, length, get_or, Option, Some, None, Result, Ok, Err, OnOk, sym, ap, ◌∙◌, arith}
 use Rattle.std.specs.Prelude.{◌==◌}
 use Rattle.std.specs.List.{AllByRecursion, position, position_or_len}
 use Rattle.std.proofs.lemmas.List.Elements.{All-map, All-from_get_or, recursion_from_All}
@@ -11,21 +11,14 @@ use Rattle.std.proofs.lemmas.Bool.Decides.{nat_tests}
 use Rattle.acpi_base.specs.declared.image.segments.Segment.{Segment}
 use Rattle.acpi_base.specs.Memory.{first_of}
 use Rattle.acpi_base.specs.Segments.{Run, run, runs, run_at, run_in, end_of, lookup, IsTidy, IsFree}
-use Rattle.acpi_base.proofs.Edits.{run_in-read}
-use Rattle.acpi_base.proofs.Joins.{NoneBefore, NoneAfter}
+use Rattle.acpi_base.proofs.Pieces.Edits.{run_in-read}
+use Rattle.acpi_base.proofs.Pieces.Joins.{NoneBefore, NoneAfter}
 
 -- where nothing is first, there is nothing
 pub nothing_held : (f : ℕ → Option ℕ) (a n x : ℕ) → first_of f a n ≡ None → a ≤ x → x < a + n → f x ≡ None
 unfolding first_of
 nothing_held f a zero x e l h = absurd (omega arith)
-nothing_held f a (suc n) x e l h =
-    elim (f a) as (λ v. f a ≡ v → cond (is_some v) (Some a) (first_of f (a + 1) n) ≡ None → f x ≡ None) [
-      | Some b ↦ λ p q. absurd (cc)
-      | None ↦ λ p q. elim (cases_lt a x) [
-        | inl m ↦ nothing_held f (a + 1) n x q (omega arith) (omega arith)
-        | inr m ↦ (let same : x ≡ a = omega arith in ap f same ∙ p)
-      ]
-    ] refl e
+nothing_held f a (suc n) x e l h = grind (arith, cases_lt a x, nothing_held f (a + 1) n x)
 
 no_place : (p : Segment → Bool) (ss : List Segment) → position p ss ≡ None → length ss ≤ position_or_len p ss
 no_place p ss e = grind (arith, cases_lt)
@@ -39,10 +32,7 @@ none_passes Q p f ss e =
 -- where one passes, it has it
 pub one_passes : (Q : Run → Type 0) (p : Segment → Bool) → ((s : Segment) → p s ≡ true → Q (run s)) → (ss : List Segment) (i : ℕ) → position p ss ≡ Some i → Q (run_in (runs ss) i)
 one_passes Q p f [] i e = absurd (cc)
-one_passes Q p f (s ∷ ss) i e =
-    let found = position-Some p (s ∷ ss) i s e in
-    let it : Segment = get_or (s ∷ ss) i s in
-    subst Q (sym (run_in-read (s ∷ ss) i it found.0 (get_or_default (s ∷ ss) i s it found.0))) (f it found.1)
+one_passes Q p f (s ∷ ss) i e = grind (arith, position-Some p (s ∷ ss) i s e, run_in-read (s ∷ ss) i (get_or (s ∷ ss) i s), get_or_default (s ∷ ss) i s, f (get_or (s ∷ ss) i s))
 
 place_within : (p : Segment → Bool) (ss : List Segment) (i : ℕ) → position p ss ≡ Some i → i < length ss
 place_within p [] i e = absurd (cc)

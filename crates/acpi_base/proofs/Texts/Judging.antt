@@ -40,13 +40,9 @@ not_read read (inl e) = cc
 not_read read (inr p) = let test : false ≡ true = p.1 in cc
 
 pub whole_refused : (bytes : List ℕ) (left : Option (List ℕ)) (fault : TextFault) → IsAtEnd left → Refuses (read_text bytes) fault → IsRefusal bytes left fault
-whole_refused bytes left (text.BadLine line) end h = inr (end, of_text _ _ refl h)
-whole_refused bytes left (text.NoAddress line) end h = inr (end, of_text _ _ refl h)
-whole_refused bytes left (text.Twice address) end h = inr (end, of_text _ _ refl h)
-whole_refused bytes left (text.PastEnd line) end h = inr (end, of_text _ _ refl h)
-whole_refused bytes left text.TooLong end h = inr (end, of_text _ _ refl h)
 whole_refused bytes left text.Read end h = absurd (not_read _ h)
 whole_refused bytes left text.Memory end h = tt
+whole_refused bytes left fault end h = inr (end, of_text _ _ refl h)
 
 -- what is answered of a text that was read to its end
 pub whole_answer : (bytes : List ℕ) (left : Option (List ℕ)) (answer : Result Memory TextFault) → IsAtEnd left

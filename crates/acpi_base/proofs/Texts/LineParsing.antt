@@ -101,11 +101,7 @@ data_from_some (b ∷ rest) high all e =
 skip_blanks_stops : (line : List ℕ) (b : ℕ) (rest : List ℕ) → skip_blanks line ≡ b ∷ rest → is_blank b ≡ false
 unfolding skip_blanks
 skip_blanks_stops [] b rest e = absurd (cc)
-skip_blanks_stops (a ∷ line) b rest e =
-    elim (is_blank a) as (λ t. is_blank a ≡ t → (if t then skip_blanks line else a ∷ line) ≡ b ∷ rest → is_blank b ≡ false) [
-      | true ↦ λ t f. skip_blanks_stops line b rest f
-      | false ↦ λ t f. let same : a ≡ b = cc in rw (← same) t
-    ] refl e
+skip_blanks_stops (a ∷ line) b rest e = grind (arith, skip_blanks_stops line b rest)
 
 -- an address is no data
 address_is_no_data : (rest all : List ℕ) → address_of rest ≡ Data all → 0 < length all

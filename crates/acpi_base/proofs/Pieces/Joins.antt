@@ -1,5 +1,5 @@
 -- Bytes that are put in: the runs stay tidy, and hold what they held and the new bytes.
-use Rattle.std.proofs.Common.{◌≡◌, ℕ, zero, suc, ◌+◌, ◌-◌, ◌^◌, ◌<◌, ◌≤◌, ◌≢◌, ◌⊎◌, inl, inr, true, false, cond, List, [], ◌∷◌, ◌++◌, length, get_or, set, take, drop, slice_get, Option, Some, None, is_some, refl, sym, ap, subst, ◌∙◌, arith, length-append, rules}
+use Rattle.std.proofs.Common.{◌≡◌, ℕ, zero, suc, ◌+◌, ◌-◌, ◌^◌, ◌<◌, ◌≤◌, ◌≢◌, ◌⊎◌, inl, inr, cond, List, [], ◌∷◌, ◌++◌, length, set, take, drop, slice_get, Option, Some, None, refl, sym, ap, subst, ◌∙◌, arith, length-append, rules}
 use Rattle.std.specs.Prelude.{nat_lt}
 use Rattle.std.specs.Option.{option_or}
 use Rattle.std.specs.List.{remove, AllByRecursion}
@@ -7,9 +7,11 @@ use Rattle.std.proofs.Math.Seq.{split_at}
 use Rattle.std.proofs.lemmas.List.{append-nil, set_split}
 use Rattle.std.proofs.lemmas.List.Edits.{length-remove}
 use Rattle.std.proofs.lemmas.Bool.{cases_lt}
+use Rattle.std.proofs.lemmas.Bool.Decides.{nat_tests}
+use Rattle.std.proofs.lemmas.Option.{slice_get_past, slice_get-get_or}
 use Rattle.acpi_base.specs.Segments.{Run, held, lookup, end_of, run_at, run_in, bridged, Apart, ApartFrom, NoneTouch, IsWhole, IsTidy, IsFree, Puts}
-use Rattle.acpi_base.proofs.Held.{held_below, held_from, held_past, held_at, held_some}
-use Rattle.acpi_base.proofs.Edits.{get_or-remove_other}
+use Rattle.acpi_base.proofs.Pieces.RunBytes.{held_below, held_past, held_some}
+use Rattle.acpi_base.proofs.Pieces.Edits.{get_or-remove_other}
 
 -- ---- what holds of each run
 
@@ -93,17 +95,7 @@ none_first None y e = (refl, e)
 none_first (Some b) y e = absurd (cc)
 
 clear_run : (b s : Run) → 0 < length b.bytes → 0 < length s.bytes → ((x : ℕ) → b.base ≤ x → x < end_of b → held s x ≡ None) → Clear b s
-clear_run b s fb fs h =
-    elim (cases_lt s.base (end_of b)) [
-      | inr l ↦ inl l
-      | inl l ↦ elim (cases_lt b.base (end_of s)) [
-        | inr m ↦ inr m
-        | inl m ↦ absurd (elim (cases_lt s.base b.base) [
-          | inl o ↦ (let no : held s b.base ≡ None = h b.base (omega arith) (omega arith) in let yes : is_some (held s b.base) ≡ true = held_some s b.base (omega arith) (omega arith) in let is : is_some (held s b.base) ≡ false = ap is_some no in cc)
-          | inr o ↦ (let no : held s s.base ≡ None = h s.base (omega arith) (omega arith) in let yes : is_some (held s s.base) ≡ true = held_some s s.base (omega arith) (omega arith) in let is : is_some (held s s.base) ≡ false = ap is_some no in cc)
-        ])
-      ]
-    ]
+clear_run b s fb fs h = grind (arith, held_some s b.base, held_some s s.base, h b.base, h s.base)
 
 clear_runs : (b : Run) (rs : List Run) → 0 < length b.bytes → AllByRecursion IsWhole rs → ((x : ℕ) → b.base ≤ x → x < end_of b → lookup rs x ≡ None) → AllByRecursion (Clear b) rs
 clear_runs b [] f w h = tt
@@ -114,31 +106,13 @@ clear_of b rs f = clear_runs b rs f.whole.filled f.tidy.whole f.free
 
 -- ---- two runs in one
 
-sub_zero : (i : ℕ) → i ≡ i - 0
-sub_zero i = omega arith
-
 slice_get-append : (xs ys : List ℕ) (i : ℕ) → slice_get (xs ++ ys) i ≡ option_or (slice_get xs i) (slice_get ys (i - length xs))
-slice_get-append [] ys i = ap (slice_get ys) (sub_zero i)
+slice_get-append [] ys i = grind arith
 slice_get-append (x ∷ xs) ys zero = refl
 slice_get-append (x ∷ xs) ys (suc i) = grind (arith, slice_get-append xs ys i)
 
 pub held-append : (a : ℕ) (xs ys : List ℕ) (x : ℕ) → held (run_at a (xs ++ ys)) x ≡ option_or (held (run_at a xs) x) (held (run_at (a + length xs) ys) x)
-held-append a xs ys x =
-    let long = length-append xs ys in
-    elim (cases_lt x a) [
-      | inl l ↦ rw (held_below (run_at a (xs ++ ys)) x l, held_below (run_at a xs) x l, held_below (run_at (a + length xs) ys) x (omega arith)) refl
-      | inr l ↦ elim (cases_lt x (a + length xs)) [
-        | inl m ↦
-            let some : held (run_at a xs) x ≡ Some (get_or xs (x - a) 0) = held_at (run_at a xs) x l m in
-            let here : slice_get xs (x - a) ≡ Some (get_or xs (x - a) 0) = sym (held_from (run_at a xs) x l) ∙ some in
-            held_from (run_at a (xs ++ ys)) x l ∙ slice_get-append xs ys (x - a) ∙ rw (some, here) refl
-        | inr m ↦
-            let none : held (run_at a xs) x ≡ None = held_past (run_at a xs) x m in
-            let past : slice_get xs (x - a) ≡ None = sym (held_from (run_at a xs) x l) ∙ none in
-            let e : x - a - length xs ≡ x - (a + length xs) = omega arith in
-            held_from (run_at a (xs ++ ys)) x l ∙ slice_get-append xs ys (x - a) ∙ rw (none, past) (ap (slice_get ys) e ∙ sym (held_from (run_at (a + length xs) ys) x m))
-      ]
-    ]
+held-append a xs ys x = grind (arith, nat_tests, length-append xs ys, slice_get-append xs ys (x - a), slice_get_past xs (x - a), slice_get-get_or xs (x - a) 0)
 
 all_append : (P : ℕ → Type 0) (xs ys : List ℕ) → AllByRecursion P xs → AllByRecursion P ys → AllByRecursion P (xs ++ ys)
 all_append P [] ys a b = b
@@ -181,10 +155,7 @@ puts_append b rs k f h e m =
     longer_apart b r n (remove rs k) e refl (omega arith) f.whole.filled s.apart (all_without (Clear b) rs k h (clear_of b rs f)).1 s.tidy.whole (all_without (λ s. s.base ≢ end_of b) rs k h m).1 in
     let holds : (x : ℕ) → held n x ≡ option_or (held r x) (held b x) = λ x. held-append r.base r.bytes b.bytes x ∙ ap (λ a. option_or (held r x) (held (run_at a b.bytes) x)) e in
     puts_set b n rs rs k h s.tidy apart (whole_append r.base r b s.whole f.whole (omega arith)) (λ x.
-    ap (λ o. option_or o (lookup (remove rs k) x)) (holds x)
-    ∙ or-assoc (held r x) (held b x) (lookup (remove rs k) x)
-    ∙ or_swap (held r x) (held b x) (lookup (remove rs k) x) (not_both r b x (inl (omega arith)))
-    ∙ ap (option_or (held b x)) (sym (s.lookup_is x)))
+    grind (arith, holds x, or-assoc (held r x) (held b x) (lookup (remove rs k) x), or_swap (held r x) (held b x) (lookup (remove rs k) x), not_both r b x, s.lookup_is x))
 
 earlier_apart : (b r n : Run) (rs : List Run) → r.base ≡ end_of b → n.base ≡ b.base → end_of n ≡ end_of r → 0 < length b.bytes → ApartFrom r rs → AllByRecursion (Clear b) rs → AllByRecursion IsWhole rs → NoneBefore b rs → ApartFrom n rs
 earlier_apart b r n [] e f g h a c w m = tt
@@ -201,9 +172,7 @@ puts_prepend b rs k f h e m =
     earlier_apart b r n (remove rs k) e refl (omega arith) f.whole.filled s.apart (all_without (Clear b) rs k h (clear_of b rs f)).1 s.tidy.whole (all_without (λ s. end_of s ≢ b.base) rs k h m).1 in
     let holds : (x : ℕ) → held n x ≡ option_or (held b x) (held r x) = λ x. held-append b.base b.bytes r.bytes x ∙ ap (λ a. option_or (held b x) (held (run_at a r.bytes) x)) (sym e) in
     puts_set b n rs rs k h s.tidy apart (whole_append b.base b r f.whole s.whole (omega arith)) (λ x.
-    ap (λ o. option_or o (lookup (remove rs k) x)) (holds x)
-    ∙ or-assoc (held b x) (held r x) (lookup (remove rs k) x)
-    ∙ ap (option_or (held b x)) (sym (s.lookup_is x)))
+    grind (arith, holds x, or-assoc (held b x) (held r x) (lookup (remove rs k) x), s.lookup_is x))
 
 between_apart : (b r t n : Run) (rs : List Run) → end_of r ≡ b.base → t.base ≡ end_of b → n.base ≡ r.base → end_of n ≡ end_of t → 0 < length b.bytes → ApartFrom r rs → ApartFrom t rs → AllByRecursion (Clear b) rs → AllByRecursion IsWhole rs → ApartFrom n rs
 between_apart b r t n [] e e' f g h a a' c w = tt
@@ -247,10 +216,4 @@ puts_bridge b rs i j f hi hj e e' =
     ∙ ap (λ o. option_or o (held (run_at (r.base + length (r.bytes ++ b.bytes)) t.bytes) x)) (held-append r.base r.bytes b.bytes x ∙ ap (λ a. option_or (held r x) (held (run_at a b.bytes) x)) e)
     ∙ ap (λ a. option_or (option_or (held r x) (held b x)) (held (run_at a t.bytes) x)) ends in
     puts_set b n rs rest k hk s'.tidy apart whole (λ x.
-    ap (λ o. option_or o (Z x)) (holds x)
-    ∙ or-assoc (option_or (held r x) (held b x)) (held t x) (Z x)
-    ∙ or-assoc (held r x) (held b x) (option_or (held t x) (Z x))
-    ∙ or_swap (held r x) (held b x) (option_or (held t x) (Z x)) (not_both r b x (inl (omega arith)))
-    ∙ ap (option_or (held b x)) (or_swap (held r x) (held t x) (Z x) (not_both r t x (inl (omega arith))))
-    ∙ ap (λ o. option_or (held b x) (option_or (held t x) o)) (sym (s'.lookup_is x))
-    ∙ ap (option_or (held b x)) (sym (s.lookup_is x)))
+    grind (arith, holds x, or-assoc, or_swap (held r x) (held b x) (option_or (held t x) (Z x)), or_swap (held r x) (held t x) (Z x), not_both r b x, not_both r t x, s'.lookup_is x, s.lookup_is x))

@@ -2,11 +2,8 @@
 use Rattle.std.proofs.Common.{◌≡◌, ℕ, ◌+◌, ◌≤◌, List, [], ◌∷◌, ◌++◌, length, refl, sym, ap, ◌∙◌, arith, eqb, if◌then◌else◌, true, false, length-append}
 use Rattle.std.proofs.lemmas.Bool.Decides.{nat_tests}
 use Rattle.std.specs.Prelude.{Option, None, Some, Result, Ok, Err, ◌↔◌}
-use Rattle.std.specs.Option.{option_map_or}
-use Rattle.acpi_base.specs.ImageText.{Line, Blank, Address, Data, Bad, Reading, start, on_ok, is_too_long, put_data, take_line, line_of, read_line, read_lines, ended_from, last_from, read_text, read_prefix, IsRefused, IsRefusedPrefix, data_fault}
-use Rattle.acpi_base.specs.Adding.{add_refusal}
-use Rattle.acpi_base.specs.Memory.{with_bytes}
-use Rattle.acpi_base.specs.TextMachine.{Standing, Going, Stopped, beginning, line_ended, step, run, end_text, standing_of}
+use Rattle.acpi_base.specs.ImageText.{Line, Data, Reading, start, on_ok, is_too_long, put_data, take_line, read_line, read_lines, ended_from, last_from, read_text, read_prefix, IsRefused, IsRefusedPrefix}
+use Rattle.acpi_base.specs.TextMachine.{Standing, Going, Stopped, beginning, step, run, end_text, standing_of}
 use Rattle.acpi_base.specs.declared.text.TextFault.{TextFault}
 use Rattle.acpi_base.specs.declared.text.TextFault.TheVariants as text
 
@@ -68,37 +65,14 @@ lines_from-long : (end : Ending) → MindsLength end → (r : Reading) (line byt
 unfolding read_lines ended_from last_from
 lines_from-long end minds r line [] long = minds r line long
 lines_from-long end minds r line (b ∷ rest) long =
-    elim (eqb b 10) as (λ t. eqb b 10 ≡ t → lines_from end r line (b ∷ rest) ≡ Err text.TooLong) [
-      | true ↦ λ lf.
-          let more : is_too_long (length line) (r.through + length line + 1) ≡ true = longer (length line) (r.through + length line) (length line) (r.through + length line + 1) (omega arith) (omega arith) long in
-          lines_from-lf end r line b rest lf ∙ ap (λ x. on_ok x (λ s. lines_from end s [] rest)) (read_line_long r line 1 more)
-      | false ↦ λ other.
-          let one = one_longer line b in
-          let more : is_too_long (length (line ++ b ∷ [])) (r.through + length (line ++ b ∷ [])) ≡ true = longer (length line) (r.through + length line) (length (line ++ b ∷ [])) (r.through + length (line ++ b ∷ [])) (omega (arith, one)) (omega (arith, one)) long in
-          lines_from-other end r line b rest other ∙ lines_from-long end minds r (line ++ b ∷ []) rest more
-    ] refl
+    grind (arith, longer (length line) (r.through + length line), one_longer line b, lines_from-lf end r line b rest, read_line_long r line 1, lines_from-other end r line b rest, lines_from-long end minds r (line ++ b ∷ []) rest)
 
 -- the run, ended so, is the lines, ended so
 run_ended : (end : Ending) → MindsLength end → (r : Reading) (line bytes : List ℕ) → ended end (run (Going r line) bytes) ≡ lines_from end r line bytes
 unfolding run read_lines ended_from last_from
 run_ended end minds r line [] = refl
 run_ended end minds r line (b ∷ rest) =
-    elim (eqb b 10) as (λ t. eqb b 10 ≡ t → ended end (run (if t then line_ended (read_line r line 1) else (if is_too_long (length line + 1) (r.through + (length line + 1)) then Stopped text.TooLong else Going r (line ++ b ∷ []))) rest) ≡ lines_from end r line (b ∷ rest)) [
-      | true ↦ λ lf.
-          let after : ended end (run (line_ended (read_line r line 1)) rest) ≡ on_ok (read_line r line 1) (λ s. lines_from end s [] rest) =
-          elim (read_line r line 1) as (λ x. ended end (run (line_ended x) rest) ≡ on_ok x (λ s. lines_from end s [] rest)) [
-            | Ok s ↦ run_ended end minds s [] rest
-            | Err fault ↦ ap (ended end) (run-stopped fault rest)
-          ] in
-          after ∙ sym (lines_from-lf end r line b rest lf)
-      | false ↦ λ other.
-          let after : ended end (run (if is_too_long (length line + 1) (r.through + (length line + 1)) then Stopped text.TooLong else Going r (line ++ b ∷ [])) rest) ≡ lines_from end r (line ++ b ∷ []) rest =
-          elim (is_too_long (length line + 1) (r.through + (length line + 1))) as (λ t. is_too_long (length line + 1) (r.through + (length line + 1)) ≡ t → ended end (run (if t then Stopped text.TooLong else Going r (line ++ b ∷ [])) rest) ≡ lines_from end r (line ++ b ∷ []) rest) [
-            | true ↦ λ long. ap (ended end) (run-stopped text.TooLong rest) ∙ sym (lines_from-long end minds r (line ++ b ∷ []) rest (rw (one_longer line b) long))
-            | false ↦ λ short. run_ended end minds r (line ++ b ∷ []) rest
-          ] refl in
-          after ∙ sym (lines_from-other end r line b rest other)
-    ] refl
+    grind (arith, lines_from-lf end r line b rest, lines_from-other end r line b rest, run-stopped, one_longer line b, lines_from-long end minds r (line ++ b ∷ []) rest, run_ended end minds r (line ++ b ∷ []) rest, λ (s : Reading). run_ended end minds s [] rest)
 
 -- the end of a text
 text_end : Ending
@@ -120,28 +94,16 @@ run_reads_text bytes = ended-text (run beginning bytes) ∙ run_ended text_end t
 -- what a line says moves no count of bytes
 put_data_keeps : (r : Reading) (n : ℕ) (bytes : List ℕ) (next : Option ℕ) (s : Reading) → put_data r n bytes next ≡ Ok s → s.through ≡ r.through
 put_data_keeps r n bytes None s e = absurd (cc)
-put_data_keeps r n bytes (Some address) s e =
-    elim (add_refusal r.image address bytes) as (λ refusal. option_map_or (λ fault. Err (data_fault n fault)) refusal (Ok (record r { next = Some (address + length bytes); image = with_bytes r.image address bytes })) ≡ Ok s → s.through ≡ r.through) [
-      | None ↦ λ f. let same : record r { next = Some (address + length bytes); image = with_bytes r.image address bytes } ≡ s = cc in sym (ap (λ x. x.through) same)
-      | Some fault ↦ λ f. absurd (cc)
-    ] e
+put_data_keeps r n bytes (Some address) s e = grind (arith)
 
 pub take_line_keeps : (r : Reading) (n : ℕ) (said : Line) (s : Reading) → take_line r n said ≡ Ok s → s.through ≡ r.through
-take_line_keeps r n Blank s e = let same : r ≡ s = cc in sym (ap (λ x. x.through) same)
-take_line_keeps r n (Address address) s e = let same : record r { next = Some address } ≡ s = cc in sym (ap (λ x. x.through) same)
 take_line_keeps r n (Data bytes) s e = put_data_keeps r n bytes r.next s e
-take_line_keeps r n Bad s e = absurd (cc)
+take_line_keeps r n said s e = grind arith
 
 -- after a line the text is not too long so far
 read_line_fits : (r : Reading) (line : List ℕ) (ending : ℕ) (s : Reading) → read_line r line ending ≡ Ok s → is_too_long 0 (s.through + 0) ≡ false
 unfolding read_line
-read_line_fits r line ending s e =
-    let through = r.through + length line + ending in
-    elim (is_too_long (length line) through)
-    as (λ t. is_too_long (length line) through ≡ t → (if t then Err text.TooLong else take_line (record r { lines = r.lines + 1; through = through }) (r.lines + 1) (line_of line)) ≡ Ok s → is_too_long 0 (s.through + 0) ≡ false) [
-      | true ↦ λ long f. absurd (cc)
-      | false ↦ λ short f. let same : s.through ≡ through = take_line_keeps (record r { lines = r.lines + 1; through = through }) (r.lines + 1) (line_of line) s f in grind (arith, nat_tests)
-    ] refl e
+read_line_fits r line ending s e = grind (arith, take_line_keeps)
 
 -- the line so far, and the text so far, are within the limits
 abbrev IsWithin : Standing → Type 0
@@ -149,17 +111,7 @@ IsWithin (Going r line) = is_too_long (length line) (r.through + length line) �
 IsWithin (Stopped fault) = Unit {0}
 
 step-within : (s : Standing) (b : ℕ) → IsWithin (step s b)
-step-within (Going r line) b =
-    elim (eqb b 10) as (λ t. IsWithin (if t then line_ended (read_line r line 1) else (if is_too_long (length line + 1) (r.through + (length line + 1)) then Stopped text.TooLong else Going r (line ++ b ∷ [])))) [
-      | true ↦ elim (read_line r line 1) as (λ x. read_line r line 1 ≡ x → IsWithin (line_ended x)) [
-        | Ok s ↦ λ e. read_line_fits r line 1 s e
-        | Err fault ↦ λ e. tt
-      ] refl
-      | false ↦ elim (is_too_long (length line + 1) (r.through + (length line + 1))) as (λ t. is_too_long (length line + 1) (r.through + (length line + 1)) ≡ t → IsWithin (if t then Stopped text.TooLong else Going r (line ++ b ∷ []))) [
-        | true ↦ λ long. tt
-        | false ↦ λ short. rw (one_longer line b) short
-      ] refl
-    ]
+step-within (Going r line) b = grind (arith, read_line_fits, one_longer)
 step-within (Stopped fault) b = tt
 
 run-within : (s : Standing) (bytes : List ℕ) → IsWithin s → IsWithin (run s bytes)

@@ -1,11 +1,11 @@
 -- What a run holds, and what an image holds once bytes are put in.
 use Rattle.std.proofs.lemmas.Grind.{common_steps}
-use Rattle.std.proofs.Common.{◌≡◌, ℕ, zero, suc, ◌+◌, ◌-◌, ◌<◌, ◌≤◌, ◌⊎◌, inl, inr, Bool, true, false, cond, List, [], ◌∷◌, length, get_or, take, drop, slice_get, slice_index, Option, Some, None, IsSome, is_some, refl, sym, ap, ◌∙◌, arith, drop-cons}
-use Rattle.std.specs.Prelude.{nat_lt, ◌==◌}
+use Rattle.std.proofs.Common.{◌≡◌, ℕ, zero, suc, ◌+◌, ◌-◌, ◌<◌, ◌≤◌, ◌⊎◌, inl, inr, cond, List, [], ◌∷◌, length, get_or, take, drop, slice_get, Some, None, IsSome, is_some, refl, ap, ◌∙◌, arith, drop-cons}
+use Rattle.std.specs.Prelude.{◌==◌}
 use Rattle.std.specs.Option.{option_or}
 use Rattle.std.specs.Ordering.{nat_cmp, eq_by_cmp}
 use Rattle.std.specs.Cmp.{nat_cmp_total}
-use Rattle.std.specs.FinMap.{get, get-insert, get-empty}
+use Rattle.std.specs.FinMap.{get, get-insert, get-empty, insert}
 use Rattle.std.proofs.lemmas.Bool.{cases_lt}
 use Rattle.std.proofs.lemmas.Bool.Decides.{nat_tests}
 use Rattle.std.proofs.lemmas.Option.{slice_get_past, slice_get-get_or}
@@ -35,30 +35,21 @@ held_inside r a s = grind (arith, cases_lt, held_below, held_past)
 held-cons : (a b : ℕ) (bs : List ℕ) (x : ℕ) → held (record { base = a; bytes = b ∷ bs }) x ≡ cond (x == a) (Some b) (held (record { base = a + 1; bytes = bs }) x)
 held-cons a b bs x = grind (arith, cases_lt)
 
-held-either : (b : Bool) → ◌≡◌ {A = Option ℕ} (cond b None None) None
-held-either true = refl
-held-either false = refl
-
 held-nil : (a x : ℕ) → held (record { base = a; bytes = [] }) x ≡ None
-held-nil a x = held-either (nat_lt x a)
+held-nil a x = grind arith
 
 same_number : (x a : ℕ) → eq_by_cmp nat_cmp x a ≡ (x == a)
 same_number x a = grind (arith, nat_tests)
 
-or-cond : (b : Bool) (v : ℕ) (x y : Option ℕ) → cond b (Some v) (option_or x y) ≡ option_or (cond b (Some v) x) y
-or-cond true v x y = refl
-or-cond false v x y = refl
+-- what an image with one byte put in at a has at an address
+pub byte_of-insert : (m : Memory) (a b x : ℕ) → byte_of (insert m a b) x ≡ cond (x == a) (Some b) (byte_of m x)
+byte_of-insert m a b x = get-insert nat_cmp_total m a b x ∙ ap (λ t. cond t (Some b) (get m x)) (same_number x a)
 
 -- what an image with bytes put in from a on has at an address
 pub byte_of-with_bytes : (m : Memory) (a : ℕ) (bs : List ℕ) (x : ℕ) → byte_of (with_bytes m a bs) x ≡ option_or (held (record { base = a; bytes = bs }) x) (byte_of m x)
 unfolding with_bytes
 byte_of-with_bytes m a [] x = rw (held-nil a x) refl
-byte_of-with_bytes m a (b ∷ bs) x =
-    get-insert nat_cmp_total (with_bytes m (a + 1) bs) a b x
-    ∙ ap (λ t. cond t (Some b) (get (with_bytes m (a + 1) bs) x)) (same_number x a)
-    ∙ ap (cond (x == a) (Some b)) (byte_of-with_bytes m (a + 1) bs x)
-    ∙ or-cond (x == a) b (held (record { base = a + 1; bytes = bs }) x) (byte_of m x)
-    ∙ ap (λ o. option_or o (byte_of m x)) (sym (held-cons a b bs x))
+byte_of-with_bytes m a (b ∷ bs) x = grind (arith, byte_of-insert (with_bytes m (a + 1) bs) a b x, byte_of-with_bytes m (a + 1) bs x, held-cons a b bs x)
 
 pub byte_of_memory_of : (rs : List Run) (x : ℕ) → byte_of (memory_of rs) x ≡ lookup rs x
 byte_of_memory_of [] x = get-empty nat_cmp x
@@ -77,8 +68,7 @@ held_none r a (inr l) = held_past r a l
 -- the first address of a run among n addresses from a on
 pub first_of_held_above : (r : Run) (a n : ℕ) → a < r.base → r.base < a + n → 0 < length r.bytes → first_of (held r) a n ≡ Some r.base
 first_of_held_above r a n l m f =
-    let q : a + (r.base - a) ≡ r.base = omega arith in
-    first_of_at (held r) a n (r.base - a) (omega arith) (held_some r (a + (r.base - a)) (omega arith) (omega arith)) (λ j h. held_below r (a + j) (omega arith)) ∙ ap Some q
+    grind (arith, first_of_at (held r) a n (r.base - a), held_some r (a + (r.base - a)), λ (j : ℕ). held_below r (a + j))
 
 pub first_of_held_within : (r : Run) (a n : ℕ) → r.base ≤ a → a < end_of r → 0 < n → first_of (held r) a n ≡ Some a
 first_of_held_within r a n l m h =
@@ -97,11 +87,6 @@ run_of_held_outside r a n h (inr l) =
       | inl m ↦ run_of_none (held r) a n (end_of r - a) (omega arith) (held_past r (a + (end_of r - a)) (omega arith))
       | inr m ↦ run_of_none (held r) a n 0 h (held_past r (a + 0) (omega arith))
     ]
-
--- ---- after bytes were put in
-
-pub byte_of-with_bytes_within : (m : Memory) (a : ℕ) (bs : List ℕ) (x : ℕ) → a ≤ x → x < a + length bs → byte_of (with_bytes m a bs) x ≡ Some (slice_index bs (x - a))
-byte_of-with_bytes_within m a bs x l h = byte_of-with_bytes m a bs x ∙ rw (held_at (record { base = a; bytes = bs }) x l h) refl
 
 pub byte_of-with_bytes_outside : (m : Memory) (a : ℕ) (bs : List ℕ) (x : ℕ) → (x < a) ⊎ (a + length bs ≤ x) → byte_of (with_bytes m a bs) x ≡ byte_of m x
 byte_of-with_bytes_outside m a bs x h = byte_of-with_bytes m a bs x ∙ rw (held_none (record { base = a; bytes = bs }) x h) refl

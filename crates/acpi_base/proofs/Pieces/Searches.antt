@@ -1,12 +1,12 @@
 -- What the functions that search segments from the front find.
-use Rattle.std.proofs.Common.{◌≡◌, ℕ, zero, suc, ◌+◌, ◌<◌, ◌≤◌, inl, inr, true, List, [], ◌∷◌, length, get_or, drop, Option, Some, None, IsSome, is_some, refl, sym, ap, subst, ◌∙◌, arith}
+use Rattle.std.proofs.Common.{◌≡◌, ℕ, zero, suc, ◌+◌, ◌<◌, ◌≤◌, List, [], ◌∷◌, length, get_or, drop, Option, Some, None, IsSome, refl, sym, ap, subst, ◌∙◌, arith}
 use Rattle.std.specs.Option.{option_or}
 use Rattle.std.specs.List.{AllByRecursion}
 use Rattle.std.proofs.lemmas.List.{drop_more, drop_all}
 use Rattle.acpi_base.specs.declared.image.segments.Segment.{Segment}
 use Rattle.acpi_base.specs.Memory.{run_of, first_of, cons_both}
 use Rattle.acpi_base.specs.Segments.{Run, held, end_of, lookup, window_of, earlier, run, runs, ApartFrom, NoneTouch}
-use Rattle.acpi_base.proofs.Held.{held_below, held_past, held_inside}
+use Rattle.acpi_base.proofs.Pieces.RunBytes.{held_below, held_past, held_inside}
 use Rattle.acpi_base.proofs.Runs.{first_of_from, first_of_none}
 
 -- where f has something, g has nothing, nor at the next number; and the other way round at the next number
@@ -32,13 +32,7 @@ lookup_apart r (s ∷ ss) x h l m = grind (arith, held_below, held_past, lookup_
 
 pub held_apart : (r : Run) (rs : List Run) (x : ℕ) → ApartFrom r rs → IsSome (lookup rs x) → held r (x + 1) ≡ None
 held_apart r [] x h s = absurd (cc)
-held_apart r (s ∷ ss) x h i =
-    elim (held s x) as (λ v. held s x ≡ v → is_some (option_or v (lookup ss x)) ≡ true → held r (x + 1) ≡ None) [
-      | None ↦ λ e j. held_apart r ss x h.1 j
-      | Some b ↦ λ e j.
-          let w = held_inside s x (ap is_some e) in
-          elim h.0 [ inl a ↦ held_past r (x + 1) (omega arith) | inr a ↦ held_below r (x + 1) (omega arith) ]
-    ] refl i
+held_apart r (s ∷ ss) x h i = grind (arith, held_inside, held_past, held_below, held_apart r ss x h.1)
 
 pub run_is_parted : (r : Run) (rs : List Run) → ApartFrom r rs → IsParted (held r) (lookup rs)
 run_is_parted r rs h = grind (arith, held_inside, lookup_apart, held_apart)

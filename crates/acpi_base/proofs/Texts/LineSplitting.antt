@@ -34,15 +34,7 @@ some_lines line bytes = grind (arith, common_steps)
 join-lines : (line bytes : List ℕ) → join_with_byte 10 (lines_from line bytes) ≡ line ++ bytes
 unfolding ended_from last_from
 join-lines line [] = sym (append-nil line)
-join-lines line (b ∷ rest) =
-    elim (cases_eq b 10) [
-      | inl lf ↦
-          ap (join_with_byte 10) (lines_from-lf line b rest lf)
-          ∙ join-more line (lines_from [] rest) (some_lines [] rest)
-          ∙ ap (λ x. line ++ 10 ∷ x) (join-lines [] rest)
-          ∙ ap (λ x. line ++ x ∷ rest) (sym lf)
-      | inr other ↦ ap (join_with_byte 10) (lines_from-other line b rest other) ∙ join-lines (line ++ b ∷ []) rest ∙ append_assoc line (b ∷ []) rest
-    ]
+join-lines line (b ∷ rest) = grind (arith, cases_eq, lines_from-lf, join-more, some_lines, lines_from-other, append_assoc, join-lines [] rest, join-lines (line ++ b ∷ []) rest)
 
 line_more : (line : List ℕ) (b : ℕ) → IsLine line → (b ≡ 10 → ⊥) → IsLine (line ++ b ∷ [])
 line_more line b whole other c = elim (Contains-push_cases line b 10 c) [ inl d ↦ whole d | inr e ↦ other e ]
@@ -62,23 +54,17 @@ line_rest b line whole = (λ e. whole (0, omega arith, e), λ c. whole (suc c.0,
 last_alone : (front line : List ℕ) → IsLine line → lines_from front line ≡ (front ++ line) ∷ []
 unfolding ended_from last_from
 last_alone front [] whole = ap (λ x. x ∷ []) (sym (append-nil front))
-last_alone front (b ∷ line) whole =
-    let both = line_rest b line whole in
-    lines_from-other front b line both.0 ∙ last_alone (front ++ b ∷ []) line both.1 ∙ ap (λ x. x ∷ []) (append_assoc front (b ∷ []) line)
+last_alone front (b ∷ line) whole = grind (arith, line_rest b line whole, lines_from-other front b line, append_assoc front (b ∷ []) line, last_alone (front ++ b ∷ []) line)
 
 first_line : (front line rest : List ℕ) → IsLine line → lines_from front (line ++ 10 ∷ rest) ≡ (front ++ line) ∷ lines_from [] rest
 unfolding ended_from last_from
 first_line front [] rest whole = lines_from-lf front 10 rest refl ∙ ap (λ x. x ∷ lines_from [] rest) (sym (append-nil front))
-first_line front (b ∷ line) rest whole =
-    let both = line_rest b line whole in
-    lines_from-other front b (line ++ 10 ∷ rest) both.0 ∙ first_line (front ++ b ∷ []) line rest both.1 ∙ ap (λ x. x ∷ lines_from [] rest) (append_assoc front (b ∷ []) line)
+first_line front (b ∷ line) rest whole = grind (arith, line_rest b line whole, lines_from-other front b (line ++ 10 ∷ rest), append_assoc front (b ∷ []) line, first_line (front ++ b ∷ []) line rest)
 
 lines_of_join : (lines : List (List ℕ)) → 0 < length lines → All IsLine lines → lines_from [] (join_with_byte 10 lines) ≡ lines
 lines_of_join [] some whole = absurd (omega arith)
 lines_of_join (line ∷ []) some whole = last_alone [] line (All-head IsLine line [] whole)
-lines_of_join (line ∷ next ∷ lines) some whole =
-    first_line [] line (join_with_byte 10 (next ∷ lines)) (All-head IsLine line (next ∷ lines) whole)
-    ∙ ap (λ x. line ∷ x) (lines_of_join (next ∷ lines) (omega arith) (All-tail IsLine line (next ∷ lines) whole))
+lines_of_join (line ∷ next ∷ lines) some whole = grind (arith, first_line [] line (join_with_byte 10 (next ∷ lines)), All-head IsLine line (next ∷ lines) whole, All-tail IsLine line (next ∷ lines) whole, lines_of_join (next ∷ lines))
 
 pub lines_mean : (bytes : List ℕ) (lines : List (List ℕ)) → (text_lines bytes ≡ lines) ↔ AreLines bytes lines
 lines_mean bytes lines = (

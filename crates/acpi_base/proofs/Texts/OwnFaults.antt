@@ -1,10 +1,8 @@
 -- What a text is refused with is a fault of the text: no failed read, and no want of memory.
-use Rattle.std.proofs.Common.{◌≡◌, ℕ, ◌+◌, List, [], ◌∷◌, length, refl, subst, true, false}
+use Rattle.std.proofs.Common.{◌≡◌, ℕ, ◌+◌, List, [], ◌∷◌, length, refl, subst, true, false, arith}
 use Rattle.std.specs.Prelude.{Bool, Option, None, Some, Result, Ok, Err, IfErr, if◌then◌else◌}
-use Rattle.std.specs.Option.{option_map, option_map_or}
-use Rattle.acpi_base.specs.ImageText.{Line, Blank, Address, Data, Bad, Reading, start, on_ok, is_too_long, data_fault, put_data, take_line, line_of, read_line, read_lines, ended_lines, last_line, read_text, IsRefused}
+use Rattle.acpi_base.specs.ImageText.{Line, Data, Reading, start, on_ok, is_too_long, put_data, take_line, line_of, read_line, read_lines, ended_lines, last_line, read_text, IsRefused}
 use Rattle.acpi_base.specs.TextReading.{is_of_text}
-use Rattle.acpi_base.specs.declared.image.ImageFault.TheVariants as add
 use Rattle.acpi_base.specs.declared.text.TextFault.{TextFault}
 use Rattle.acpi_base.specs.declared.text.TextFault.TheVariants as text
 
@@ -12,21 +10,13 @@ use Rattle.acpi_base.specs.declared.text.TextFault.TheVariants as text
 abbrev IsOwn : Result Reading TextFault → Type 0
 IsOwn read = IfErr read (λ fault. is_of_text fault ≡ true)
 
-own_adding : (n : ℕ) (past : Bool) (held : Option ℕ) (after : Reading)
-    → IsOwn (option_map_or (λ fault. Err (data_fault n fault)) (if past then Some add.PastEnd else option_map (λ address. add.Twice address) held) (Ok after))
-own_adding n true held after = refl
-own_adding n false None after = tt
-own_adding n false (Some address) after = refl
-
 own_data : (r : Reading) (n : ℕ) (bytes : List ℕ) (next : Option ℕ) → IsOwn (put_data r n bytes next)
 own_data r n bytes None = refl
-own_data r n bytes (Some address) = own_adding n _ _ _
+own_data r n bytes (Some address) = grind arith
 
 own_said : (r : Reading) (n : ℕ) (line : Line) → IsOwn (take_line r n line)
-own_said r n Blank = tt
-own_said r n (Address address) = tt
 own_said r n (Data bytes) = own_data r n bytes r.next
-own_said r n Bad = refl
+own_said r n line = grind arith
 
 own_length : (long : Bool) (read : Result Reading TextFault) → IsOwn read → IsOwn (if long then Err text.TooLong else read)
 own_length true read own = refl

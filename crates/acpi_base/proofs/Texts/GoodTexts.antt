@@ -1,5 +1,5 @@
 -- Reading a text by lines gives what the text means.
-use Rattle.std.proofs.Common.{◌≡◌, ◌≢◌, ◌⊎◌, inl, inr, ℕ, zero, suc, ◌+◌, ◌<◌, ◌≤◌, List, [], ◌∷◌, ◌++◌, length, refl, sym, ap, subst, arith, true, false, eqb, if◌then◌else◌, length-append}
+use Rattle.std.proofs.Common.{◌≡◌, ◌≢◌, ◌⊎◌, inl, inr, ℕ, zero, suc, ◌+◌, ◌<◌, ◌≤◌, List, [], ◌∷◌, ◌++◌, length, refl, sym, ap, subst, arith, false, length-append}
 use Rattle.std.proofs.lemmas.Bool.{ltb-false, or_parts}
 use Rattle.std.proofs.lemmas.List.Elements.{All-cons, All-head, All-tail}
 use Rattle.std.specs.Prelude.{Option, None, Some, IsSome, is_some, Result, Ok, Err, map, ◌↔◌}
@@ -12,12 +12,12 @@ use Rattle.acpi_base.specs.Adding.{add_refusal}
 use Rattle.acpi_base.specs.ImageText.{Line, Blank, Address, Data, Bad, Reading, start, on_ok, max_line, max_text, is_too_long, data_fault, put_data, take_line, line_of, read_line, read_lines, ended_from, last_from, ended_lines, last_line, read_text, IsText, IsRefused}
 use Rattle.acpi_base.specs.declared.text.TextFault.{TextFault}
 use Rattle.acpi_base.specs.TextMeaning.{text_lines, said, all_data, IsGoodText}
-use Rattle.acpi_base.proofs.Images.{same_memory}
-use Rattle.acpi_base.proofs.LineLemmas.{data_some}
-use Rattle.acpi_base.proofs.MachineLemmas.{take_line_keeps}
-use Rattle.acpi_base.proofs.Standing.{place_of, first_here, stands_is_place}
+use Rattle.acpi_base.proofs.Pieces.Images.{same_memory}
+use Rattle.acpi_base.proofs.Texts.LineParsing.{data_some}
+use Rattle.acpi_base.proofs.Texts.ByteMachine.{take_line_keeps}
+use Rattle.acpi_base.proofs.Texts.DataPlaces.{place_of, first_here, stands_is_place}
 use Rattle.std.proofs.lemmas.Bool.Decides.{nat_tests}
-use Rattle.acpi_base.proofs.DataImages.{Given, Makes, data_more, data_less, taken, not_refused}
+use Rattle.acpi_base.proofs.Texts.DataImages.{Given, Makes, data_more, data_less, taken, not_refused}
 
 same_options : (o p : Option ℕ) → ((b : ℕ) → (o ≡ Some b) ↔ (p ≡ Some b)) → o ≡ p
 same_options None None h = refl
@@ -141,18 +141,7 @@ rest_parts : (r : Reading) (ended : List (List ℕ)) (last : List ℕ) (s : Read
     → All IsShort (ended ++ last ∷ []) × (r.through + total ended + length last ≤ max_text) × Goes r.next r.image (map line_of (ended ++ last ∷ [])) s.image
 unfolding read_lines
 rest_parts r [] last s e = grind (arith, read_line_parts)
-rest_parts r (line ∷ ended) last s e =
-    elim (read_line r line 1)
-    as (λ x. read_line r line 1 ≡ x → on_ok (on_ok x (λ t. read_lines t ended)) (λ t. read_line t last 0) ≡ Ok s
-    → All IsShort (line ∷ (ended ++ last ∷ [])) × (r.through + (length line + 1 + total ended) + length last ≤ max_text) × Goes r.next r.image (line_of line ∷ map line_of (ended ++ last ∷ [])) s.image) [
-      | Ok t ↦ λ p q.
-          let one = read_line_parts r line 1 t p in
-          let more = rest_parts t ended last s q in
-          let same = one.1 in
-          let fits = more.1 in
-          (All-cons IsShort line (ended ++ last ∷ []) one.0 more.0, omega arith, one.3 (map line_of (ended ++ last ∷ [])) s.image more.2)
-      | Err fault ↦ λ p q. absurd (cc)
-    ] refl e
+rest_parts r (line ∷ ended) last s e = grind (arith, read_line_parts r line 1, λ (t : Reading). rest_parts t ended last s, All-cons IsShort line (ended ++ last ∷ []))
 
 rest_from : (r : Reading) (ended : List (List ℕ)) (last : List ℕ) (f : Memory) → All IsShort (ended ++ last ∷ []) → r.through + total ended + length last ≤ max_text
     → Goes r.next r.image (map line_of (ended ++ last ∷ [])) f → (s : Reading) × (read_rest r ended last ≡ Ok s) × (s.image ≡ f)
@@ -170,12 +159,7 @@ rest_from r (line ∷ ended) last f short fits g =
 total_length : (line bytes : List ℕ) → total (ended_from line bytes) + length (last_from line bytes) ≡ length line + length bytes
 unfolding ended_from last_from
 total_length line [] = omega arith
-total_length line (b ∷ rest) =
-    elim (eqb b 10)
-    as (λ t. total (if t then line ∷ ended_from [] rest else ended_from (line ++ b ∷ []) rest) + length (if t then last_from [] rest else last_from (line ++ b ∷ []) rest) ≡ length line + suc (length rest)) [
-      | true ↦ omega (arith, total_length [] rest)
-      | false ↦ omega (arith, total_length (line ++ b ∷ []) rest, length-append line (b ∷ []))
-    ]
+total_length line (b ∷ rest) = grind (arith, length-append, total_length [] rest, total_length (line ++ b ∷ []) rest)
 
 sound_line : (line : List ℕ) (said : Line) → line_of line ≡ said → said ≢ Bad → IsSound said
 sound_line line Blank e good = tt

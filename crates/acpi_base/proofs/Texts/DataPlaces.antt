@@ -34,10 +34,9 @@ first_cases next count later n x e = grind (arith, cases_lt, first_here, first_l
 place_behind : (next : Option ℕ) (front : List Line) (address : ℕ) (more : List Line) (k : ℕ)
     → place_of next (front ++ Address address ∷ more) (length (all_data front) + k) ≡ place_of (Some address) more k
 place_behind next [] address more k = let q : 0 + k ≡ k = omega arith in rw q refl
-place_behind next (Blank ∷ front) address more k = place_behind next front address more k
 place_behind next (Address other ∷ front) address more k = place_behind (Some other) front address more k
 place_behind next (Data bytes ∷ front) address more k = grind (arith, length-append, first_later, place_behind (option_map (λ a. a + length bytes) next) front address more k)
-place_behind next (Bad ∷ front) address more k = place_behind next front address more k
+place_behind next (line ∷ front) address more k = place_behind next front address more k
 
 abbrev NoAddress : List Line → Type 0
 NoAddress lines = (other : ℕ) → ¬ Contains lines (Address other)
@@ -48,12 +47,11 @@ no_address_rest line lines none other c = none other (suc c.0, omega (arith, c.1
 place_inside : (address : ℕ) (block back : List Line) (k : ℕ) → NoAddress block → k < length (all_data block)
     → place_of (Some address) (block ++ back) k ≡ Some (address + k)
 place_inside address [] back k none h = absurd (omega arith)
-place_inside address (Blank ∷ block) back k none h = place_inside address block back k (no_address_rest Blank block none) h
 place_inside address (Address other ∷ block) back k none h = absurd (none other (0, omega arith, refl))
 place_inside address (Data bytes ∷ block) back k none h =
     let rest = place_inside (address + length bytes) block back (k - length bytes) (no_address_rest (Data bytes) block none) in
     grind (arith, cases_lt k (length bytes), length-append, first_here, first_later (Some address) (length bytes) (place_of (Some (address + length bytes)) (block ++ back)) (k - length bytes), rest)
-place_inside address (Bad ∷ block) back k none h = place_inside address block back k (no_address_rest Bad block none) h
+place_inside address (line ∷ block) back k none h = place_inside address block back k (no_address_rest line block none) h
 
 place_from_stands : (lines : List Line) (n a : ℕ) → StandsAt lines n a → place_of None lines n ≡ Some a
 place_from_stands lines n a s = grind (arith, place_behind, place_inside)
@@ -72,18 +70,7 @@ block_more line block here rest other (suc k, h, e) = rest other (k, omega arith
 
 stands_at : (lines before block after : List Line) (n a address k : ℕ) → lines ≡ before ++ Address address ∷ (block ++ after) → NoAddress block → k < length (all_data block)
     → n ≡ length (all_data before) + k → a ≡ address + k → StandsAt lines n a
-stands_at lines before block after n a address k split none within byte place = record {
-  before = before;
-  address = address;
-  block = block;
-  after = after;
-  k = k;
-  split = split;
-  no_other = none;
-  within = within;
-  byte = byte;
-  place = place;
-}
+stands_at lines before block after n a address k split none within byte place = grind (arith)
 
 -- one more line before all others
 line_before : (line : Line) (lines : List Line) (n k a : ℕ) → n ≡ length (data_of line) + k → StandsAt lines k a → StandsAt (line ∷ lines) n a
