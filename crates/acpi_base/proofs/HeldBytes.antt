@@ -1,9 +1,8 @@
 -- Bytes that an image holds, and the numbers in them.
-use Rattle.std.proofs.Common.{◌≡◌, ℕ, zero, suc, ◌+◌, ◌-◌, ◌^◌, ◌<◌, ◌≤◌, List, [], ◌∷◌, length, take, drop, Option, Some, None, refl, sym, ap, ◌∙◌, subst, inl, inr, arith}
+use Rattle.std.proofs.Common.{◌≡◌, ℕ, zero, suc, ◌+◌, ◌-◌, ◌^◌, ◌<◌, ◌≤◌, List, [], length, take, drop, Option, Some, None, refl, sym, ◌∙◌, subst, inl, inr, arith}
 use Rattle.std.specs.Prelude.{◌⊎◌, slice_index}
 use Rattle.std.proofs.lemmas.List.{get_or-drop, drop-take}
 use Rattle.std.proofs.lemmas.Option.{none-some, same_Some}
-use Rattle.byteorder.specs.Endian.{little_number}
 use Rattle.byteorder.specs.Numbers.{little_from-lt, little_from-take}
 use Rattle.acpi_base.specs.Memory.{Memory, IsImage, byte_of, bytes_at, run_of}
 use Rattle.acpi_base.specs.Number.{field}
@@ -31,20 +30,15 @@ pub bytes_below : (m : Memory) → IsImage m → (a n : ℕ) (bytes : List ℕ) 
 unfolding run_of
 bytes_below m image a zero bytes e k =
     subst (λ (bs : List ℕ). slice_index bs k < 256) (same_Some [] bytes e) (omega arith)
-bytes_below m image a (suc n) bytes e k =
+bytes_below m image a (suc n) bytes e zero = grind (arith, run_of-split (byte_of m) a n bytes e, image.bytes a)
+bytes_below m image a (suc n) bytes e (suc k) =
     let parts = run_of-split (byte_of m) a n bytes e in
-    subst (λ (bs : List ℕ). slice_index bs k < 256) (sym parts.4)
-    (front_below parts.0 parts.1 (image.bytes a parts.0 parts.2) (bytes_below m image (a + 1) n parts.1 parts.3) k)
-  where
-    front_below : (b : ℕ) (bs : List ℕ) → b < 256 → ((k : ℕ) → slice_index bs k < 256) → (k : ℕ) → slice_index (b ∷ bs) k < 256
-    front_below b bs here rest zero = here
-    front_below b bs here rest (suc k) = rest k
+    grind (arith, parts.4, bytes_below m image (a + 1) n parts.1 parts.3 k)
 
 -- a number in so many bytes below 256
 pub field_below : (bytes : List ℕ) → ((k : ℕ) → slice_index bytes k < 256) → (offset width : ℕ) → field bytes offset width < 256 ^ width
 unfolding field
-field_below bytes below offset width =
-    little_from-lt 0 width (drop offset bytes) (λ k. subst (λ (x : ℕ). x < 256) (sym (get_or-drop offset bytes k 0)) (below (offset + k)))
+field_below bytes below offset width = little_from-lt 0 width (drop offset bytes) (λ k. grind (arith, get_or-drop offset bytes k 0, below (offset + k)))
 
 -- a number in so many bytes of an image
 pub held_field_below : (m : Memory) → IsImage m → (a n : ℕ) (bytes : List ℕ) → bytes_at m a n ≡ Some bytes → (offset width : ℕ) → field bytes offset width < 256 ^ width
@@ -53,14 +47,10 @@ held_field_below m image a n bytes held = field_below bytes (bytes_below m image
 -- a number in the front of some bytes is the same in all of them
 pub field-take : (bytes : List ℕ) (n offset width : ℕ) → offset + width ≤ n → field (take n bytes) offset width ≡ field bytes offset width
 unfolding field
-field-take bytes n offset width h =
-    let whole : offset + (n - offset) ≡ n = omega arith in
-    let behind : drop offset (take n bytes) ≡ take (n - offset) (drop offset bytes) = ap (λ k. drop offset (take k bytes)) (sym whole) ∙ drop-take offset (n - offset) bytes in
-    ap (little_number width) behind ∙ little_from-take 0 width (n - offset) (drop offset bytes) (omega arith)
+field-take bytes n offset width h = grind (arith, drop-take offset (n - offset) bytes, little_from-take 0 width (n - offset) (drop offset bytes) (omega arith))
 
 -- bytes that are as many as their front says at 4 say so themselves
 pub says_length : (m : Memory) (a k : ℕ) (front whole : List ℕ) → 8 ≤ k → k ≤ field front 4 4 → bytes_at m a k ≡ Some front
     → bytes_at m a (field front 4 4) ≡ Some whole → field whole 4 4 ≡ length whole
 says_length m a k front whole wide least front_held held =
-    let same : front ≡ take k whole = same_value front (take k whole) front_held (run_of-take (byte_of m) a (field front 4 4) k whole held least) in
-    sym (field-take whole k 4 4 (omega arith)) ∙ ap (λ bytes. field bytes 4 4) (sym same) ∙ sym (length-bytes_at m a (field front 4 4) whole held)
+    grind (arith, same_value, run_of-take (byte_of m) a (field front 4 4) k whole held least, field-take whole k 4 4 wide, length-bytes_at m a (field front 4 4) whole held)

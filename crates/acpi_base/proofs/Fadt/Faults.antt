@@ -4,7 +4,7 @@ use Rattle.std.specs.Prelude.{◌⊎◌, ◌%◌}
 use Rattle.std.proofs.lemmas.Bool.{cases_eq}
 use Rattle.acpi_base.specs.Memory.{Memory}
 use Rattle.acpi_base.specs.Number.{field}
-use Rattle.acpi_base.specs.Fadt.{is_reduced, has_reset, GasValue, gas_at, HasBlockLengths, IsResetRegister, IsNoResetRegister, IsSoundFadtTable, IsSoundFadt, FadtTableFault, FadtFault}
+use Rattle.acpi_base.specs.Fadt.{is_reduced, has_reset, gas_at, HasBlockLengths, IsResetRegister, IsSoundFadtTable, IsSoundFadt, FadtTableFault, FadtFault}
 use Rattle.acpi_base.specs.Listed.{fadt_signature}
 use Rattle.acpi_base.specs.Codes.{code_number, stage_of}
 use Rattle.acpi_base.specs.declared.code.Code.{Code}
@@ -78,16 +78,11 @@ table_excludes : (whole : List ℕ) (c : Code) (at : ℕ) → FadtTableFault who
 table_excludes whole code.FadtShort at (short, place) sound = omega (arith, sound.long)
 table_excludes whole code.PmEventLength at (long, full, short, place) sound = omega (arith, (sound.blocks full).event)
 table_excludes whole code.PmControlLength at (long, full, short, place) sound = omega (arith, (sound.blocks full).control)
-table_excludes whole code.PmTimerLength at (long, full, some, wrong, place) sound =
-    elim ((sound.blocks full).timer) [ inl zero ↦ some zero | inr four ↦ wrong four ]
-table_excludes whole code.GpeLength at (long, full, place, odd) sound =
-    elim place [ inl first ↦ odd (rw first (sound.blocks full).gpe0) | inr second ↦ odd (rw second (sound.blocks full).gpe1) ]
-table_excludes whole code.ResetRegister at (long, with, more, wrong, place) sound = by_part (gas_at whole 116) (sound.reset with more) wrong
-  where
-    by_part : (gas : GasValue) → IsResetRegister gas → ¬ IsNoResetRegister gas
-    by_part gas is (inl space) = omega (arith, is.space)
-    by_part gas is (inr (inl width)) = width is.width
-    by_part gas is (inr (inr offset)) = offset is.offset
+table_excludes whole code.PmTimerLength at (long, full, some, wrong, place) sound = grind (arith, (sound.blocks full).timer)
+table_excludes whole code.GpeLength at (long, full, place, odd) sound = grind (arith, (sound.blocks full).gpe0, (sound.blocks full).gpe1)
+table_excludes whole code.ResetRegister at (long, with, more, wrong, place) sound =
+    let is = sound.reset with more in
+    grind (arith, is.space, is.width, is.offset)
 table_excludes whole _ at fault sound = absurd fault
 
 -- ---- of a set's FADT

@@ -75,12 +75,7 @@ first_by {X} f Later P n below each =
     somewhere k = elim (each k) [ inl none ↦ inr (λ h. none h.0 h.1) | inr (x, first) ↦ inl (x, first.holds) ]
 
     after : (k : ℕ) (x : X) → IsFirstOf Later (At f P k) x → (y : X) → (f y < k → ¬ ((z : X) × At f P (f y) z)) → P y → ByNumber f Later x y
-    after k x first y none here =
-        elim (cases_order (f x) (f y)) [
-          | inl same ↦ inr (same, first.least y (here, sym same ∙ first.holds.1))
-          | inr (inl less) ↦ inl less
-          | inr (inr more) ↦ absurd (none (omega (arith, first.holds.1)) (y, (here, refl)))
-        ]
+    after k x first y none here = grind (arith, cases_order (f x) (f y), first.holds.1, first.least y, none)
 
 -- and by the last number alone
 pub first_at : {X : Type 0} (f : X → ℕ) (P : X → Type 0) (n : ℕ) → ((x : X) → P x → f x < n) → ((k : ℕ) → Decided ((x : X) × At f P k x)) → NoneOrFirst (λ x y. f x ≤ f y) P

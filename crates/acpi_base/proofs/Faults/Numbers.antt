@@ -49,7 +49,7 @@ stage_at_number _ = refl
 
 -- two codes with one number are one
 pub same_code : (c d : Code) → code_number c ≡ code_number d → c ≡ d
-same_code c d e = same_Some c d (sym (code_at_number c) ∙ ap (slice_get codes_by_number) e ∙ code_at_number d)
+same_code c d e = grind (arith, same_Some, code_at_number c, code_at_number d)
 
 -- two stages with one number are one
 pub same_stage : (s t : Stage) → stage_number s ≡ stage_number t → s ≡ t

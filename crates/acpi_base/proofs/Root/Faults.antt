@@ -1,7 +1,6 @@
 -- The faults of the root: each can be decided, excludes that it is sound, and where there is none it is sound.
 use Rattle.std.proofs.Common.{◌≡◌, ◌<◌, ◌^◌, ◌+◌, ℕ, List, Some, refl, sym, ap, subst, inl, inr, arith}
 use Rattle.std.specs.Prelude.{◌-◌, ◌%◌}
-use Rattle.std.proofs.lemmas.Bool.{both_ways}
 use Rattle.acpi_base.specs.Memory.{Memory, IsImage, bytes_at}
 use Rattle.acpi_base.specs.Signature.{has_signature}
 use Rattle.acpi_base.specs.Rsdp.{Addresses, addresses_at}
@@ -69,12 +68,10 @@ table_excludes m r d whole c fault sound = by_code c fault
 
     by_code : (c : Code) → RootTableFault m r d c → ⊥
     by_code code.RootHeaderOut fault = table.excludes m r code.TableHeaderOut fault as_table
-    by_code code.RootSignature (other, held, unsigned) =
-        both_ways (has_signature header (root_signature d)) (rw (same_header other held) at unsigned) sound.table.signed
+    by_code code.RootSignature (other, held, unsigned) = grind (arith, same_header other held, sound.table.signed)
     by_code code.RootLength fault = table.excludes m r code.TableLength fault as_table
     by_code code.RootOut fault = table.excludes m r code.TableOut fault as_table
-    by_code code.RootRagged (other, held, least, ragged) =
-        ragged (rw (same_header other held, ← (length-table m r header whole sound.table.table)) sound.slots)
+    by_code code.RootRagged (other, held, least, ragged) = grind (arith, same_header other held, length-table m r header whole sound.table.table, sound.slots)
     by_code code.RootSum fault = table.excludes m r code.TableSum fault as_table
     by_code _ fault = fault
 

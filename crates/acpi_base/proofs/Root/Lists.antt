@@ -64,12 +64,10 @@ contained f start (suc n) a here =
 
 -- the slots that lie wholly within a root's bytes are as many as their width says
 inside : (whole : List ℕ) (d k : ℕ) → IsSlotWidth d → k < (length whole - 36) / d → 36 + d * (k + 1) ≤ length whole
-inside whole d k (inl four) below = (let less : k < (length whole - 36) / 4 = rw four at below in rw four (omega arith))
-inside whole d k (inr eight) below = (let less : k < (length whole - 36) / 8 = rw eight at below in rw eight (omega arith))
+inside whole d k width below = grind (arith, width)
 
 below_count : (whole : List ℕ) (d k : ℕ) → IsSlotWidth d → 36 + d * (k + 1) ≤ length whole → k < (length whole - 36) / d
-below_count whole d k (inl four) fits = (let within : 36 + 4 * (k + 1) ≤ length whole = rw four at fits in rw four (omega arith))
-below_count whole d k (inr eight) fits = (let within : 36 + 8 * (k + 1) ≤ length whole = rw eight at fits in rw eight (omega arith))
+below_count whole d k width fits = grind (arith, width)
 
 pub roots_list_slots : RootsListSlots
 unfolding listed

@@ -22,12 +22,10 @@ address_fits whole d k a number_below width slot = grind (arith, slot.address, n
 pub slot_fits : {m : Memory} {p k a : ℕ} → IsImage m → IsSlot m p k a → (k < 2 ^ 64) × (a < 2 ^ 64)
 slot_fits {m = m} {k = k} {a = a} image slot =
     let table = slot.table.table in
-    let header = slot.table.header in
-    let length_fits : length_of header < 2 ^ 32 = held_field_below m image slot.r 36 header table.header_held 4 4 in
-    let length_is = length-table m slot.r header slot.whole table in
+    let length_fits = held_field_below m image slot.r 36 slot.table.header table.header_held 4 4 in
     let below = slot_below slot.whole slot.d k a (root_width slot.root) slot.slot in
-    let number_below = held_field_below m image slot.r (length_of header) slot.whole table.held in
-    (omega (arith, length_fits, length_is, below), address_fits slot.whole slot.d k a number_below (root_width slot.root) slot.slot)
+    let number_below = held_field_below m image slot.r (length_of slot.table.header) slot.whole table.held in
+    (grind (arith, length_fits, length-table m slot.r slot.table.header slot.whole table, below), address_fits slot.whole slot.d k a number_below (root_width slot.root) slot.slot)
 
 -- a slot holds an address or is none
 pub slot_or_none : (whole : List ℕ) (d k : ℕ) → ((a : ℕ) × HasSlot whole d k a) ⊎ ((a : ℕ) → ¬ HasSlot whole d k a)

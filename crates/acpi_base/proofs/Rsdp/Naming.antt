@@ -1,7 +1,7 @@
 -- What an RSDP names: it is read in one of two forms, and its numbers fit.
 use Rattle.std.proofs.Common.{◌≡◌, ℕ, ◌^◌, ◌<◌, List, Some, inl, inr, arith}
 use Rattle.std.specs.Prelude.{◌⊎◌}
-use Rattle.std.proofs.lemmas.Bool.{cases_lt, lt-ltb, le-ltb}
+use Rattle.std.proofs.lemmas.Bool.{cases_lt}
 use Rattle.std.proofs.lemmas.Option.{same_Some}
 use Rattle.acpi_base.specs.Memory.{Memory, IsImage, bytes_at}
 use Rattle.acpi_base.specs.Rsdp.{Addresses, addresses_at, revision_of, short_addresses, extended_addresses, IsSoundRsdp}
@@ -18,10 +18,8 @@ pub sound_read : (m : Memory) (p : ℕ) → IsSoundRsdp m p → (named : Address
 unfolding addresses_at
 sound_read m p sound =
     elim (cases_lt (revision_of sound.head) 2) [
-      | inl short ↦ (short_addresses sound.head, rw (sound.head_held, lt-ltb (revision_of sound.head) 2 short))
-      | inr more ↦
-          let whole = sound.extended more in
-          (extended_addresses whole.prefix, rw (sound.head_held, le-ltb (revision_of sound.head) 2 more, whole.prefix_held))
+      | inl short ↦ (short_addresses sound.head, grind (arith, sound.head_held))
+      | inr more ↦ (extended_addresses (sound.extended more).prefix, grind (arith, sound.head_held, (sound.extended more).prefix_held))
     ]
 
 -- the addresses that an RSDP of an image names fit their fields
