@@ -22,11 +22,8 @@ least_below P decide (suc n) = more P n (least_below P decide n) (decide n)
     more : (P : ℕ → Type 0) (n : ℕ) → ((k : ℕ) → k < n → ¬ P k) ⊎ ((k : ℕ) × (k < n) × IsLeast P k) → Decided (P n) → ((k : ℕ) → k < suc n → ¬ P k) ⊎ ((k : ℕ) × (k < suc n) × IsLeast P k)
     more P n (inr (k, below, least)) _ = inr (k, omega arith, least)
     more P n (inl none) (inl here) = inr (n, omega arith, record { holds = here; none_below = none })
-    more P n (inl none) (inr not_here) = inl (λ k below. step k (cases_lt k n) below)
-      where
-        step : (k : ℕ) → (k < n) ⊎ (n ≤ k) → k < suc n → ¬ P k
-        step k (inl less) _ = none k less
-        step k (inr more) below = subst (λ x. ¬ P x) (omega arith) not_here
+    more P n (inl none) (inr not_here) =
+        inl (λ k below. elim (cases_lt k n) [ inl less ↦ none k less | inr last ↦ subst (λ x. ¬ P x) (omega arith) not_here ])
 
 -- there is a number above those that a function has below n
 pub bounded : (f : ℕ → ℕ) (n : ℕ) → (most : ℕ) × ((k : ℕ) → k < n → f k < most)
@@ -34,13 +31,7 @@ bounded f zero = (0, λ k below. absurd (omega arith))
 bounded f (suc n) = more f n (bounded f n)
   where
     more : (f : ℕ → ℕ) (n : ℕ) → (most : ℕ) × ((k : ℕ) → k < n → f k < most) → (most : ℕ) × ((k : ℕ) → k < suc n → f k < most)
-    more f n rest = (
-      rest.0 + f n + 1,
-      λ k below. elim (cases_lt k n) [
-        | inl less ↦ omega (arith, rest.1 k less)
-        | inr last_one ↦ (let last : f k ≡ f n = ap f (omega arith) in omega arith)
-      ],
-    )
+    more f n rest = (rest.0 + f n + 1, λ k below. grind (arith, cases_lt k n, rest.1 k))
 
 -- P holds of x, and x stands after nothing of which it holds
 pub record IsFirstOf {X : Type 0} (Order : X → X → Type 0) (P : X → Type 0) (x : X) : Type 0 where

@@ -53,7 +53,7 @@ same_code c d e = grind (arith, same_Some, code_at_number c, code_at_number d)
 
 -- two stages with one number are one
 pub same_stage : (s t : Stage) → stage_number s ≡ stage_number t → s ≡ t
-same_stage s t e = same_Some s t (sym (stage_at_number s) ∙ ap (slice_get stages_by_number) e ∙ stage_at_number t)
+same_stage s t e = grind (arith, same_Some, stage_at_number s, stage_at_number t)
 
 -- the numbers of codes end at 59
 pub code_below : (c : Code) → code_number c < 60

@@ -42,7 +42,4 @@ unfolding header_bytes
 drop-header_bytes v rest fits = drop-layout_bytes header_parts (header_values v) rest (FitLayout-header v fits)
 
 pub length-header_and_body : (v : HeaderValue) (rest : List ℕ) → FitsHeader v → length (header_bytes v ++ rest) ≡ 36 + length rest
-length-header_and_body v rest fits =
-    let both = length-append (header_bytes v) rest in
-    let header = length-header_bytes v fits in
-    omega (arith, both, header)
+length-header_and_body v rest fits = grind (arith, length-append, length-header_bytes v fits)

@@ -15,25 +15,10 @@ length-number_bytes n x = length-bytes_low_first 0 n x
 -- a structure has its layout's size
 pub length-layout_bytes : (parts : List Part) (values : List PartValue) → FitLayout parts values → length (layout_bytes parts values) ≡ layout_size parts
 length-layout_bytes [] [] fit = refl
-length-layout_bytes (NumberOf n ∷ parts) (Number x ∷ values) fit =
-    let rest = length-layout_bytes parts values fit.1 in
-    let here = length-number_bytes n x in
-    let both = length-append (number_bytes n x) (layout_bytes parts values) in
-    omega (arith, rest, here, both)
-length-layout_bytes (BytesOf n ∷ parts) (Bytes text ∷ values) fit =
-    let rest = length-layout_bytes parts values fit.1 in
-    let both = length-append text (layout_bytes parts values) in
-    omega (arith, rest, fit.0, both)
-length-layout_bytes (Fixed byte ∷ parts) values fit =
-    let rest = length-layout_bytes parts values fit.1 in
-    let here = length-number_bytes 1 byte in
-    let both = length-append (number_bytes 1 byte) (layout_bytes parts values) in
-    omega (arith, rest, here, both)
-length-layout_bytes (Reserved n ∷ parts) values fit =
-    let rest = length-layout_bytes parts values fit in
-    let here = length-replicate {A = ℕ} n 0 in
-    let both = length-append (replicate n 0) (layout_bytes parts values) in
-    omega (arith, rest, here, both)
+length-layout_bytes (NumberOf n ∷ parts) (Number x ∷ values) fit = grind (arith, length-append, length-number_bytes, length-layout_bytes parts values fit.1)
+length-layout_bytes (BytesOf n ∷ parts) (Bytes text ∷ values) fit = grind (arith, length-append, fit.0, length-layout_bytes parts values fit.1)
+length-layout_bytes (Fixed byte ∷ parts) values fit = grind (arith, length-append, length-number_bytes, length-layout_bytes parts values fit.1)
+length-layout_bytes (Reserved n ∷ parts) values fit = grind (arith, length-append, length-replicate {A = ℕ} n 0, length-layout_bytes parts values fit)
 length-layout_bytes _ _ fit = absurd fit
 
 -- what stands behind a part of n bytes
@@ -55,24 +40,21 @@ read_there offset [] [] bytes rest fit stands = (refl, tt)
 read_there offset (NumberOf n ∷ parts) (Number x ∷ values) bytes rest fit stands =
     let behind = layout_bytes parts values ++ rest in
     let here : drop offset bytes ≡ number_bytes n x ++ behind = stands ∙ append_assoc (number_bytes n x) (layout_bytes parts values) rest in
-    let number = number_there offset n x bytes behind here fit.0 in
     let others = read_there (offset + n) parts values bytes rest fit.1 (past offset n bytes (number_bytes n x) behind here (length-number_bytes n x)) in
-    (rw (number, others.0) refl, others.1)
+    (rw (number_there offset n x bytes behind here fit.0, others.0) refl, others.1)
 read_there offset (BytesOf n ∷ parts) (Bytes text ∷ values) bytes rest fit stands =
     let behind = layout_bytes parts values ++ rest in
     let here : drop offset bytes ≡ text ++ behind = stands ∙ append_assoc text (layout_bytes parts values) rest in
-    let same : take n (drop offset bytes) ≡ text = ap (take n) here ∙ take_at text behind n fit.0 in
     let others = read_there (offset + n) parts values bytes rest fit.1 (past offset n bytes text behind here fit.0) in
-    (rw (same, others.0) refl, others.1)
+    (rw (here, take_at text behind n fit.0, others.0) refl, others.1)
 read_there offset (Fixed byte ∷ parts) values bytes rest fit stands =
     let behind = layout_bytes parts values ++ rest in
     let here : drop offset bytes ≡ number_bytes 1 byte ++ behind = stands ∙ append_assoc (number_bytes 1 byte) (layout_bytes parts values) rest in
     let others = read_there (offset + 1) parts values bytes rest fit.1 (past offset 1 bytes (number_bytes 1 byte) behind here (length-number_bytes 1 byte)) in
     (others.0, (number_there offset 1 byte bytes behind here fit.0, others.1))
 read_there offset (Reserved n ∷ parts) values bytes rest fit stands =
-    let behind = layout_bytes parts values ++ rest in
-    let here : drop offset bytes ≡ replicate n 0 ++ behind = stands ∙ append_assoc (replicate n 0) (layout_bytes parts values) rest in
-    read_there (offset + n) parts values bytes rest fit (past offset n bytes (replicate n 0) behind here (length-replicate {A = ℕ} n 0))
+    let here = stands ∙ append_assoc (replicate n 0) (layout_bytes parts values) rest in
+    read_there (offset + n) parts values bytes rest fit (past offset n bytes (replicate n 0) (layout_bytes parts values ++ rest) here (length-replicate {A = ℕ} n 0))
 read_there offset _ _ bytes rest fit stands = absurd fit
 
 -- the values that were written are read back, whatever stands behind them

@@ -21,7 +21,7 @@ record IsAmong (f : ℕ → ℕ) (start n a : ℕ) : Type 0 where
   listed : a ≢ 0
 
 among_more : (f : ℕ → ℕ) (start n a : ℕ) → IsAmong f (start + 1) n a → IsAmong f start (suc n) a
-among_more f start n a here = (let least = here.least in let most = here.most in record { k = here.k; least = omega arith; most = omega arith; is = here.is; listed = here.listed })
+among_more f start n a here = record { k = here.k; least = omega (arith, here.least); most = omega (arith, here.most); is = here.is; listed = here.listed }
 
 -- an element of a list is its first or one of the rest
 first_or_rest : (b a : ℕ) (rest : List ℕ) → Contains (b ∷ rest) a → (b ≡ a) ⊎ Contains rest a
@@ -32,30 +32,25 @@ among : (f : ℕ → ℕ) (start n a : ℕ) → Contains (filter some (map f (ra
 among f start zero a (k, below, is) = absurd (omega arith)
 among f start (suc n) a here =
     elim (cases_eq (f start) 0) [
-      | inl none ↦
-          let past : some (f start) ≡ false = rw none refl in
-          among_more f start n a (among f (start + 1) n a (rw past at here))
+      | inl none ↦ among_more f start n a (among f (start + 1) n a (let past : some (f start) ≡ false = rw none refl in rw past at here))
       | inr listed ↦
           let kept : some (f start) ≡ true = rw (ne_eqb (f start) 0 listed) refl in
-          let found : Contains (f start ∷ filter some (map f (range_with_len (start + 1) n))) a = rw kept at here in
-          elim (first_or_rest (f start) a (filter some (map f (range_with_len (start + 1) n))) found) [
+          elim (first_or_rest (f start) a (filter some (map f (range_with_len (start + 1) n))) (rw kept at here)) [
             | inl is ↦ record { k = start; least = omega arith; most = omega arith; is = is; listed = λ zero. listed (is ∙ zero) }
             | inr rest ↦ among_more f start n a (among f (start + 1) n a rest)
           ]
     ]
 
 contained : (f : ℕ → ℕ) (start n a : ℕ) → IsAmong f start n a → Contains (filter some (map f (range_with_len start n))) a
-contained f start zero a here = (let least = here.least in let most = here.most in absurd (omega arith))
+contained f start zero a here = absurd (omega (arith, here.least, here.most))
 contained f start (suc n) a here =
     elim (cases_eq here.k start) [
       | inl same ↦
           let first : f start ≡ a = ap f (sym same) ∙ here.is in
-          let kept : some (f start) ≡ true = rw (ne_eqb (f start) 0 (λ zero. here.listed (sym first ∙ zero))) refl in
+          let kept : some (f start) ≡ true = grind (arith, ne_eqb, here.listed) in
           rw kept (zero, omega arith, first)
       | inr other ↦
-          let least = here.least in
-          let most = here.most in
-          let rest = contained f (start + 1) n a (record { k = here.k; least = omega arith; most = omega arith; is = here.is; listed = here.listed }) in
+          let rest = contained f (start + 1) n a (record { k = here.k; least = omega (arith, here.least); most = omega (arith, here.most); is = here.is; listed = here.listed }) in
           elim (some (f start)) as (λ b. Contains (cond b (f start ∷ filter some (map f (range_with_len (start + 1) n))) (filter some (map f (range_with_len (start + 1) n)))) a) [
             | true ↦ (suc rest.0, omega (arith, rest.1), rest.2)
             | false ↦ rest
