@@ -40,15 +40,6 @@ unfolding first_of
 first_of_from f a zero x e = absurd (cc)
 first_of_from f a (suc n) x e = grind (arith, first_of_from f (a + 1) n x)
 
--- f and g agree at the n numbers from a on
-pub run_of-agree : (f g : ℕ → Option ℕ) (a n : ℕ) → ((k : ℕ) → k < n → f (a + k) ≡ g (a + k)) → run_of f a n ≡ run_of g a n
-unfolding run_of
-run_of-agree f g a zero h = refl
-run_of-agree f g a (suc n) h =
-    let here : f a ≡ g a = ap f (sym (add-zero a)) ∙ h 0 (omega arith) ∙ ap g (add-zero a) in
-    let rest : run_of f (a + 1) n ≡ run_of g (a + 1) n = run_of-agree f g (a + 1) n (λ k l. (let q : a + 1 + k ≡ a + suc k = omega arith in ap f q ∙ h (suc k) (omega arith) ∙ ap g (sym q))) in
-    λ i. cons_both (here i) (rest i)
-
 -- ---- what a list of bytes says
 
 some_rest : (o : Option (List ℕ)) (b : ℕ) (l : List ℕ) → option_map (λ bs. b ∷ bs) o ≡ Some l → (rest : List ℕ) × (o ≡ Some rest) × (l ≡ b ∷ rest)

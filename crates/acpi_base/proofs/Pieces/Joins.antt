@@ -151,11 +151,10 @@ puts_append b rs k f h e m =
     let long = length-append r.bytes b.bytes in
     let s = splits rs k h f.tidy in
     let top = f.whole.fits in
-    let apart : ApartFrom n (remove rs k) =
-    longer_apart b r n (remove rs k) e refl (omega arith) f.whole.filled s.apart (all_without (Clear b) rs k h (clear_of b rs f)).1 s.tidy.whole (all_without (λ s. s.base ≢ end_of b) rs k h m).1 in
-    let holds : (x : ℕ) → held n x ≡ option_or (held r x) (held b x) = λ x. held-append r.base r.bytes b.bytes x ∙ ap (λ a. option_or (held r x) (held (run_at a b.bytes) x)) e in
+    let clear = (all_without (Clear b) rs k h (clear_of b rs f)).1 in
+    let apart = longer_apart b r n (remove rs k) e refl (omega arith) f.whole.filled s.apart clear s.tidy.whole (all_without (λ s. s.base ≢ end_of b) rs k h m).1 in
     puts_set b n rs rs k h s.tidy apart (whole_append r.base r b s.whole f.whole (omega arith)) (λ x.
-    grind (arith, holds x, or-assoc (held r x) (held b x) (lookup (remove rs k) x), or_swap (held r x) (held b x) (lookup (remove rs k) x), not_both r b x, s.lookup_is x))
+    grind (arith, held-append r.base r.bytes b.bytes x, or-assoc (held r x) (held b x) (lookup (remove rs k) x), or_swap (held r x) (held b x) (lookup (remove rs k) x), not_both r b x, s.lookup_is x))
 
 earlier_apart : (b r n : Run) (rs : List Run) → r.base ≡ end_of b → n.base ≡ b.base → end_of n ≡ end_of r → 0 < length b.bytes → ApartFrom r rs → AllByRecursion (Clear b) rs → AllByRecursion IsWhole rs → NoneBefore b rs → ApartFrom n rs
 earlier_apart b r n [] e f g h a c w m = tt
@@ -168,11 +167,10 @@ puts_prepend b rs k f h e m =
     let long = length-append b.bytes r.bytes in
     let s = splits rs k h f.tidy in
     let top = s.whole.fits in
-    let apart : ApartFrom n (remove rs k) =
-    earlier_apart b r n (remove rs k) e refl (omega arith) f.whole.filled s.apart (all_without (Clear b) rs k h (clear_of b rs f)).1 s.tidy.whole (all_without (λ s. end_of s ≢ b.base) rs k h m).1 in
-    let holds : (x : ℕ) → held n x ≡ option_or (held b x) (held r x) = λ x. held-append b.base b.bytes r.bytes x ∙ ap (λ a. option_or (held b x) (held (run_at a r.bytes) x)) (sym e) in
+    let clear = (all_without (Clear b) rs k h (clear_of b rs f)).1 in
+    let apart = earlier_apart b r n (remove rs k) e refl (omega arith) f.whole.filled s.apart clear s.tidy.whole (all_without (λ s. end_of s ≢ b.base) rs k h m).1 in
     puts_set b n rs rs k h s.tidy apart (whole_append b.base b r f.whole s.whole (omega arith)) (λ x.
-    grind (arith, holds x, or-assoc (held b x) (held r x) (lookup (remove rs k) x), s.lookup_is x))
+    grind (arith, held-append b.base b.bytes r.bytes x, or-assoc (held b x) (held r x) (lookup (remove rs k) x), s.lookup_is x))
 
 between_apart : (b r t n : Run) (rs : List Run) → end_of r ≡ b.base → t.base ≡ end_of b → n.base ≡ r.base → end_of n ≡ end_of t → 0 < length b.bytes → ApartFrom r rs → ApartFrom t rs → AllByRecursion (Clear b) rs → AllByRecursion IsWhole rs → ApartFrom n rs
 between_apart b r t n [] e e' f g h a a' c w = tt

@@ -38,17 +38,26 @@ place_within : (p : Segment → Bool) (ss : List Segment) (i : ℕ) → position
 place_within p [] i e = absurd (cc)
 place_within p (s ∷ ss) i e = (position-Some p (s ∷ ss) i s e).0
 
-pub none_before : (ss : List Segment) (a : ℕ) (bs : List ℕ) → position (λ s. end_of (run s) == a) ss ≡ None → NoneBefore (run_at a bs) (runs ss)
-none_before ss a bs e = none_passes (λ r. end_of r ≢ a) (λ s. end_of (run s) == a) (λ s h. grind (arith, nat_tests)) ss e
+-- a search of what a reference showed
+pub found_in : {found ss : List Segment} {r o : Option ℕ} (p : Segment → Bool) → r ≡ position p found → found ≡ ss → r ≡ o → position p ss ≡ o
+found_in p e f g = sym (e ∙ ap (position p) f) ∙ g
 
-pub none_after : (ss : List Segment) (a : ℕ) (bs : List ℕ) → position (λ s. s.base == a + length bs) ss ≡ None → NoneAfter (run_at a bs) (runs ss)
-none_after ss a bs e = none_passes (λ r. r.base ≢ a + length bs) (λ s. s.base == a + length bs) (λ s h. grind (arith, nat_tests)) ss e
+pub none_before : {found ss : List Segment} {r : Option ℕ} (a : ℕ) (bs : List ℕ) → r ≡ position (λ s. end_of (run s) == a) found → found ≡ ss → r ≡ None → NoneBefore (run_at a bs) (runs ss)
+none_before {ss = ss} a bs e f g = none_passes (λ r. end_of r ≢ a) (λ s. end_of (run s) == a) (λ s h. grind (arith, nat_tests)) ss (found_in (λ s. end_of (run s) == a) e f g)
 
-pub one_before : (ss : List Segment) (a i : ℕ) → position (λ s. end_of (run s) == a) ss ≡ Some i → end_of (run_in (runs ss) i) ≡ a
-one_before ss a i e = one_passes (λ r. end_of r ≡ a) (λ s. end_of (run s) == a) (λ s h. grind (arith, nat_tests)) ss i e
+pub none_after : {found ss : List Segment} {r : Option ℕ} (a : ℕ) (bs : List ℕ) → r ≡ position (λ s. s.base == a + length bs) found → found ≡ ss → r ≡ None → NoneAfter (run_at a bs) (runs ss)
+none_after {ss = ss} a bs e f g = none_passes (λ r. r.base ≢ a + length bs) (λ s. s.base == a + length bs) (λ s h. grind (arith, nat_tests)) ss (found_in (λ s. s.base == a + length bs) e f g)
 
-pub one_after : (ss : List Segment) (a i : ℕ) (bs : List ℕ) → position (λ s. s.base == a + length bs) ss ≡ Some i → (run_in (runs ss) i).base ≡ a + length bs
-one_after ss a i bs e = one_passes (λ r. r.base ≡ a + length bs) (λ s. s.base == a + length bs) (λ s h. grind (arith, nat_tests)) ss i e
+-- where the run is, and that it ends or starts there
+pub one_before : {found ss : List Segment} {r : Option ℕ} {i : ℕ} (a : ℕ) → r ≡ position (λ s. end_of (run s) == a) found → found ≡ ss → r ≡ Some i → (i < length (runs ss)) × (end_of (run_in (runs ss) i) ≡ a)
+one_before {ss = ss} {i = i} a e f g =
+    let at = found_in (λ s. end_of (run s) == a) e f g in
+    (rw (length-map ss run) (place_within _ ss i at), one_passes (λ r. end_of r ≡ a) (λ s. end_of (run s) == a) (λ s h. grind (arith, nat_tests)) ss i at)
+
+pub one_after : {found ss : List Segment} {r : Option ℕ} {i : ℕ} (a : ℕ) (bs : List ℕ) → r ≡ position (λ s. s.base == a + length bs) found → found ≡ ss → r ≡ Some i → (i < length (runs ss)) × ((run_in (runs ss) i).base ≡ a + length bs)
+one_after {ss = ss} {i = i} a bs e f g =
+    let at = found_in (λ s. s.base == a + length bs) e f g in
+    (rw (length-map ss run) (place_within _ ss i at), one_passes (λ r. r.base ≡ a + length bs) (λ s. s.base == a + length bs) (λ s h. grind (arith, nat_tests)) ss i at)
 
 pub free_run : (rs : List Run) (a : ℕ) (bs : List ℕ) → IsTidy rs → 0 < length bs → a + length bs ≤ 2 ^ 64 → ((k : ℕ) → get_or bs k 0 < 256) → first_of (lookup rs) a (length bs) ≡ None → IsFree (run_at a bs) rs
 free_run rs a bs t f h s e = record {
@@ -56,13 +65,6 @@ free_run rs a bs t f h s e = record {
   whole = record { filled = f; fits = h; bytes = recursion_from_All (λ b. b < 256) bs (All-from_get_or (λ b. b < 256) bs 0 (λ k l. s k)) };
   free = λ x l m. nothing_held (lookup rs) a (length bs) x e l m;
 }
-
--- a search of what a reference showed
-pub found_in : {found ss : List Segment} {r o : Option ℕ} (p : Segment → Bool) → r ≡ position p found → found ≡ ss → r ≡ o → position p ss ≡ o
-found_in p e f g = sym (e ∙ ap (position p) f) ∙ g
-
-pub run_within : (p : Segment → Bool) (ss : List Segment) (i : ℕ) → position p ss ≡ Some i → i < length (runs ss)
-run_within p ss i e = rw (length-map ss run) (place_within p ss i e)
 
 pub ok_then : {T E : Type 0} (result : Result T E) (P Q : Type 0) → (P → Q) → OnOk result P → OnOk result Q
 ok_then (Ok x) P Q f p = f p

@@ -83,10 +83,7 @@ first_of_held_outside r a n (inr l) = first_of_none (held r) a n (λ k h. held_p
 pub run_of_held_outside : (r : Run) (a n : ℕ) → 0 < n → ((a < r.base) ⊎ (end_of r < a + n)) → run_of (held r) a n ≡ None
 run_of_held_outside r a n h (inl l) = run_of_none (held r) a n 0 h (held_below r (a + 0) (omega arith))
 run_of_held_outside r a n h (inr l) =
-    elim (cases_lt a (end_of r)) [
-      | inl m ↦ run_of_none (held r) a n (end_of r - a) (omega arith) (held_past r (a + (end_of r - a)) (omega arith))
-      | inr m ↦ run_of_none (held r) a n 0 h (held_past r (a + 0) (omega arith))
-    ]
+    grind (arith, cases_lt a (end_of r), run_of_none (held r) a n (end_of r - a), held_past r (a + (end_of r - a)), run_of_none (held r) a n 0 h, held_past r (a + 0))
 
 pub byte_of-with_bytes_outside : (m : Memory) (a : ℕ) (bs : List ℕ) (x : ℕ) → (x < a) ⊎ (a + length bs ≤ x) → byte_of (with_bytes m a bs) x ≡ byte_of m x
 byte_of-with_bytes_outside m a bs x h = byte_of-with_bytes m a bs x ∙ rw (held_none (record { base = a; bytes = bs }) x h) refl

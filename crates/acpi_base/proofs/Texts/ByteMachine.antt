@@ -42,7 +42,7 @@ abbrev ended : Ending → Standing → Result Reading TextFault
 ended end (Going r line) = end r line
 ended end (Stopped fault) = Err fault
 
--- the lines that are left, ended so; `line` is the front of the first
+-- the lines that are left, ended so; `line` is a prefix of the first
 abbrev lines_from : Ending → Reading → List ℕ → List ℕ → Result Reading TextFault
 lines_from end r line bytes = on_ok (read_lines r (ended_from line bytes)) (λ s. end s (last_from line bytes))
 
@@ -119,22 +119,22 @@ unfolding run
 run-within s [] within = within
 run-within s (b ∷ rest) within = run-within (step s b) rest (step-within s b)
 
--- the end of a front
-front_end : Ending
-front_end r line = if is_too_long (length line) (r.through + length line) then Err text.TooLong else Ok r
+-- the end of a prefix
+prefix_end : Ending
+prefix_end r line = if is_too_long (length line) (r.through + length line) then Err text.TooLong else Ok r
 
-front_end_minds : MindsLength front_end
-unfolding front_end
-front_end_minds r line long = rw long refl
+prefix_end_minds : MindsLength prefix_end
+unfolding prefix_end
+prefix_end_minds r line long = rw long refl
 
-ended-front : (s : Standing) → IsWithin s → standing_of s ≡ ended front_end s
-unfolding front_end
-ended-front (Going r line) within = rw within refl
-ended-front (Stopped fault) within = refl
+ended-prefix : (s : Standing) → IsWithin s → standing_of s ≡ ended prefix_end s
+unfolding prefix_end
+ended-prefix (Going r line) within = rw within refl
+ended-prefix (Stopped fault) within = refl
 
 pub run_reads_prefix : (bytes : List ℕ) → standing_of (run beginning bytes) ≡ read_prefix bytes
-unfolding front_end
-run_reads_prefix bytes = ended-front (run beginning bytes) (run-within beginning bytes refl) ∙ run_ended front_end front_end_minds start [] bytes
+unfolding prefix_end
+run_reads_prefix bytes = ended-prefix (run beginning bytes) (run-within beginning bytes refl) ∙ run_ended prefix_end prefix_end_minds start [] bytes
 
 stopped_by : (s : Standing) (fault : TextFault) → standing_of s ≡ Err fault → s ≡ Stopped fault
 stopped_by (Going r line) fault e = absurd (cc)

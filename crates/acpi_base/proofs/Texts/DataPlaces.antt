@@ -31,12 +31,12 @@ first_cases next count later n x e = grind (arith, cases_lt, first_here, first_l
 
 -- ---- from the parts of a text to the place
 
-place_behind : (next : Option ℕ) (front : List Line) (address : ℕ) (more : List Line) (k : ℕ)
-    → place_of next (front ++ Address address ∷ more) (length (all_data front) + k) ≡ place_of (Some address) more k
+place_behind : (next : Option ℕ) (before : List Line) (address : ℕ) (more : List Line) (k : ℕ)
+    → place_of next (before ++ Address address ∷ more) (length (all_data before) + k) ≡ place_of (Some address) more k
 place_behind next [] address more k = let q : 0 + k ≡ k = omega arith in rw q refl
-place_behind next (Address other ∷ front) address more k = place_behind (Some other) front address more k
-place_behind next (Data bytes ∷ front) address more k = grind (arith, length-append, first_later, place_behind (option_map (λ a. a + length bytes) next) front address more k)
-place_behind next (line ∷ front) address more k = place_behind next front address more k
+place_behind next (Address other ∷ before) address more k = place_behind (Some other) before address more k
+place_behind next (Data bytes ∷ before) address more k = grind (arith, length-append, first_later, place_behind (option_map (λ a. a + length bytes) next) before address more k)
+place_behind next (line ∷ before) address more k = place_behind next before address more k
 
 abbrev NoAddress : List Line → Type 0
 NoAddress lines = (other : ℕ) → ¬ Contains lines (Address other)

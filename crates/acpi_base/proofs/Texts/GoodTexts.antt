@@ -57,22 +57,19 @@ goes_makes (Some a) m (Data bytes ∷ rest) f g = data_more a bytes (place_of (S
 goes_makes next m (Bad ∷ rest) f g = absurd g
 
 goes_none_bad : (next : Option ℕ) (m : Memory) (lines : List Line) (f : Memory) → Goes next m lines f → ¬ Contains lines Bad
-goes_none_bad next m [] f g (k, h, e) = absurd (omega arith)
-goes_none_bad next m (Blank ∷ rest) f g (zero, h, e) = absurd (cc)
-goes_none_bad next m (Blank ∷ rest) f g (suc k, h, e) = goes_none_bad next m rest f g (k, omega arith, e)
-goes_none_bad next m (Address address ∷ rest) f g (zero, h, e) = absurd (cc)
-goes_none_bad next m (Address address ∷ rest) f g (suc k, h, e) = goes_none_bad (Some address) m rest f g (k, omega arith, e)
+goes_none_bad next m [] f g c = absurd (omega (arith, c.1))
 goes_none_bad None m (Data bytes ∷ rest) f g c = absurd g
-goes_none_bad (Some a) m (Data bytes ∷ rest) f g (zero, h, e) = absurd (cc)
-goes_none_bad (Some a) m (Data bytes ∷ rest) f g (suc k, h, e) = goes_none_bad (Some (a + length bytes)) (with_bytes m a bytes) rest f g.1 (k, omega arith, e)
 goes_none_bad next m (Bad ∷ rest) f g c = absurd g
+goes_none_bad next m (line ∷ rest) f g (zero, h, e) = absurd (cc)
+goes_none_bad next m (Address address ∷ rest) f g (suc k, h, e) = goes_none_bad (Some address) m rest f g (k, omega arith, e)
+goes_none_bad (Some a) m (Data bytes ∷ rest) f g (suc k, h, e) = goes_none_bad (Some (a + length bytes)) (with_bytes m a bytes) rest f g.1 (k, omega arith, e)
+goes_none_bad next m (Blank ∷ rest) f g (suc k, h, e) = goes_none_bad next m rest f g (k, omega arith, e)
 
 -- a line that is not bad, and a data line has a byte
 abbrev IsSound : Line → Type 0
-IsSound Blank = Unit {0}
-IsSound (Address address) = Unit {0}
 IsSound (Data bytes) = 0 < length bytes
 IsSound Bad = ⊥
+IsSound line = Unit {0}
 
 makes_goes : (next : Option ℕ) (m : Memory) (lines : List Line) (f : Memory) → AllByRecursion IsSound lines → LinesMake next lines m f → Goes next m lines f
 makes_goes next m [] f sound made = made_of_nothing m f made
@@ -162,10 +159,9 @@ total_length line [] = omega arith
 total_length line (b ∷ rest) = grind (arith, length-append, total_length [] rest, total_length (line ++ b ∷ []) rest)
 
 sound_line : (line : List ℕ) (said : Line) → line_of line ≡ said → said ≢ Bad → IsSound said
-sound_line line Blank e good = tt
-sound_line line (Address address) e good = tt
 sound_line line (Data bytes) e good = data_some line bytes e
 sound_line line Bad e good = good refl
+sound_line line said e good = tt
 
 sound_lines : (lines : List (List ℕ)) → ¬ Contains (map line_of lines) Bad → AllByRecursion IsSound (map line_of lines)
 sound_lines [] good = tt
@@ -220,14 +216,13 @@ good_is_text bytes m good =
     let goes = makes_goes None nothing lines m (sound_lines (text_lines bytes) good.none_bad) made in
     rest_from start (ended_lines bytes) (last_line bytes) m good.lines_fit (let fits = good.text_fits in omega (arith, total_length [] bytes)) goes
 
--- ---- one answer for each text
+-- ---- one result for each text
 
 pub good_or_refused : (bytes : List ℕ) → ((m : Memory) × IsGoodText bytes m) ⊎ ((fault : TextFault) × IsRefused bytes fault)
-good_or_refused bytes =
-    elim (read_text bytes) as (λ x. read_text bytes ≡ x → ((m : Memory) × IsGoodText bytes m) ⊎ ((fault : TextFault) × IsRefused bytes fault)) [
-      | Ok r ↦ λ e. inl (r.image, text_is_good bytes r.image (r, e, refl))
-      | Err fault ↦ λ e. inr (fault, e)
-    ] refl
+good_or_refused bytes = elim (read_text bytes) as (λ x. read_text bytes ≡ x → ((m : Memory) × IsGoodText bytes m) ⊎ ((fault : TextFault) × IsRefused bytes fault)) [
+  | Ok r ↦ λ e. inl (r.image, text_is_good bytes r.image (r, e, refl))
+  | Err fault ↦ λ e. inr (fault, e)
+] refl
 
 pub good_not_refused : (bytes : List ℕ) (m : Memory) (fault : TextFault) → IsGoodText bytes m → ¬ IsRefused bytes fault
 good_not_refused bytes m fault good refused = grind (arith, good_is_text bytes m good)

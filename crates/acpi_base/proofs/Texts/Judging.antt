@@ -1,4 +1,4 @@
--- Facts on the reading of a text by lines, and on the answers of `read_image`.
+-- Facts on the reading of a text by lines, and on what `read_image` returns.
 use Rattle.std.proofs.Common.{◌≡◌, inl, inr, ℕ, ◌+◌, ◌-◌, ◌≤◌, List, length, drop, refl, ap, ◌∙◌, arith, true, false, ltb}
 use Rattle.std.proofs.lemmas.List.{length-drop}
 use Rattle.std.proofs.lemmas.Bool.{le-ltb}
@@ -15,7 +15,7 @@ pub OnErr-any : {T E : Type 0} (r : Result T E) (P : Type 0) → P → OnErr r P
 OnErr-any (Ok x) P p = tt
 OnErr-any (Err e) P p = p
 
--- the front has no fault, where the ended lines have none and the lengths so far are within the limits
+-- the prefix has no fault, where the ended lines have none and the lengths so far are within the limits
 pub prefix_ok : (bytes : List ℕ) (r : Reading) (at : ℕ) → read_lines start (ended_lines bytes) ≡ Ok r → last_line bytes ≡ drop at bytes
     → at ≤ length bytes → r.through ≡ at → length bytes - at ≤ 65536 → length bytes ≤ 67108864 → IsFaultlessPrefix bytes
 prefix_ok bytes r at ended last within through line_fits text_fits =
@@ -44,9 +44,9 @@ whole_refused bytes left text.Read end h = absurd (not_read _ h)
 whole_refused bytes left text.Memory end h = tt
 whole_refused bytes left fault end h = inr (end, of_text _ _ refl h)
 
--- what is answered of a text that was read to its end
-pub whole_answer : (bytes : List ℕ) (left : Option (List ℕ)) (answer : Result Memory TextFault) → IsAtEnd left
-    → IfOk answer (IsText bytes) → IfErr answer (Refuses (read_text bytes))
-    → MatchResult answer (λ image. IsAtEnd left × IsText bytes image) (IsRefusal bytes left)
-whole_answer bytes left (Ok image) end ok err = (end, ok)
-whole_answer bytes left (Err fault) end ok err = whole_refused bytes left fault end err
+-- what is returned for a text that was read to its end
+pub whole_result : (bytes : List ℕ) (left : Option (List ℕ)) (result : Result Memory TextFault) → IsAtEnd left
+    → IfOk result (IsText bytes) → IfErr result (Refuses (read_text bytes))
+    → MatchResult result (λ image. IsAtEnd left × IsText bytes image) (IsRefusal bytes left)
+whole_result bytes left (Ok image) end ok err = (end, ok)
+whole_result bytes left (Err fault) end ok err = whole_refused bytes left fault end err

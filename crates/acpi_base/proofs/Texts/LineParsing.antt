@@ -68,34 +68,18 @@ pub data_from_blank : (bytes line : List ℕ) (i : ℕ) → i < length line → 
 unfolding data_from
 data_from_blank bytes line i within is blank = rw (drop_more line i 0 within, is, blank) refl
 
--- the bytes of a data line begin with those so far
-data_from_grows : (line bytes : List ℕ) (high : Option ℕ) (all : List ℕ) → data_from bytes high line ≡ Data all → length bytes ≤ length all
+-- a digit that begins a pair stands for one more byte
+abbrev begun : Option ℕ → ℕ
+begun None = 0
+begun (Some high) = 1
+
+-- the bytes of a data line begin with those so far, and from within a pair one more comes
+data_from_grows : (line bytes : List ℕ) (high : Option ℕ) (all : List ℕ) → data_from bytes high line ≡ Data all → length bytes + begun high ≤ length all
 unfolding data_from
 data_from_grows [] bytes None all e = let same : bytes ≡ all = cc in omega (arith, ap length same)
 data_from_grows [] bytes (Some high) all e = absurd (cc)
-data_from_grows (b ∷ rest) bytes None all e =
-    elim (digit_of b) as (λ d. option_map_or (λ digit. data_from bytes (Some digit) rest) d (if is_blank b then data_from bytes None rest else Bad) ≡ Data all → length bytes ≤ length all) [
-      | None ↦ elim (is_blank b) as (λ t. (if t then data_from bytes None rest else Bad) ≡ Data all → length bytes ≤ length all) [
-        | true ↦ λ f. data_from_grows rest bytes None all f
-        | false ↦ λ f. absurd (cc)
-      ]
-      | Some digit ↦ λ f. data_from_grows rest bytes (Some digit) all f
-    ] e
-data_from_grows (b ∷ rest) bytes (Some high) all e =
-    elim (digit_of b) as (λ d. option_map_or (λ low. data_from (bytes ++ (16 * high + low) ∷ []) None rest) d Bad ≡ Data all → length bytes ≤ length all) [
-      | None ↦ λ f. absurd (cc)
-      | Some low ↦ λ f. omega (arith, data_from_grows rest (bytes ++ (16 * high + low) ∷ []) None all f, length-append bytes ((16 * high + low) ∷ []))
-    ] e
-
--- from within a pair at least one byte comes
-data_from_some : (line : List ℕ) (high : ℕ) (all : List ℕ) → data_from [] (Some high) line ≡ Data all → 0 < length all
-unfolding data_from
-data_from_some [] high all e = absurd (cc)
-data_from_some (b ∷ rest) high all e =
-    elim (digit_of b) as (λ d. option_map_or (λ low. data_from ([] ++ (16 * high + low) ∷ []) None rest) d Bad ≡ Data all → 0 < length all) [
-      | None ↦ λ f. absurd (cc)
-      | Some low ↦ λ f. omega (arith, data_from_grows rest ((16 * high + low) ∷ []) None all f)
-    ] e
+data_from_grows (b ∷ rest) bytes None all e = grind (arith, data_from_grows rest bytes None all, λ (d : ℕ). data_from_grows rest bytes (Some d) all)
+data_from_grows (b ∷ rest) bytes (Some high) all e = grind (arith, length-append, λ (low : ℕ). data_from_grows rest (bytes ++ (16 * high + low) ∷ []) None all)
 
 -- what is left begins with no blank
 skip_blanks_stops : (line : List ℕ) (b : ℕ) (rest : List ℕ) → skip_blanks line ≡ b ∷ rest → is_blank b ≡ false
@@ -116,7 +100,7 @@ form_of_some (b ∷ rest) all head e =
       | true ↦ λ f. address_is_no_data rest all f
       | false ↦ λ f. elim (digit_of b) as (λ d. option_map_or (λ digit. data_from [] (Some digit) rest) d (if is_blank b then data_from [] None rest else Bad) ≡ Data all → 0 < length all) [
         | None ↦ λ g. let blank = head b rest refl in let none : Bad ≡ Data all = rw blank at g in absurd (cc)
-        | Some digit ↦ λ g. data_from_some rest digit all g
+        | Some digit ↦ λ g. data_from_grows rest [] (Some digit) all g
       ] f
     ] e
 

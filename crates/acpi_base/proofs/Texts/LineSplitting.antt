@@ -9,7 +9,7 @@ use Rattle.std.specs.List.{All, Contains, join_with_byte}
 use Rattle.acpi_base.specs.ImageText.{ended_from, last_from}
 use Rattle.acpi_base.specs.TextMeaning.{text_lines, AreLines}
 
--- the lines from the front of the first on
+-- the lines of the text, whose first one begins with `line`
 abbrev lines_from : List ℕ → List ℕ → List (List ℕ)
 lines_from line bytes = ended_from line bytes ++ last_from line bytes ∷ []
 
@@ -51,15 +51,15 @@ whole_lines line (b ∷ rest) whole =
 line_rest : (b : ℕ) (line : List ℕ) → IsLine (b ∷ line) → (b ≡ 10 → ⊥) × IsLine line
 line_rest b line whole = (λ e. whole (0, omega arith, e), λ c. whole (suc c.0, omega (arith, c.1), c.2))
 
-last_alone : (front line : List ℕ) → IsLine line → lines_from front line ≡ (front ++ line) ∷ []
+last_alone : (begun line : List ℕ) → IsLine line → lines_from begun line ≡ (begun ++ line) ∷ []
 unfolding ended_from last_from
-last_alone front [] whole = ap (λ x. x ∷ []) (sym (append-nil front))
-last_alone front (b ∷ line) whole = grind (arith, line_rest b line whole, lines_from-other front b line, append_assoc front (b ∷ []) line, last_alone (front ++ b ∷ []) line)
+last_alone begun [] whole = ap (λ x. x ∷ []) (sym (append-nil begun))
+last_alone begun (b ∷ line) whole = grind (arith, line_rest b line whole, lines_from-other begun b line, append_assoc begun (b ∷ []) line, last_alone (begun ++ b ∷ []) line)
 
-first_line : (front line rest : List ℕ) → IsLine line → lines_from front (line ++ 10 ∷ rest) ≡ (front ++ line) ∷ lines_from [] rest
+first_line : (begun line rest : List ℕ) → IsLine line → lines_from begun (line ++ 10 ∷ rest) ≡ (begun ++ line) ∷ lines_from [] rest
 unfolding ended_from last_from
-first_line front [] rest whole = lines_from-lf front 10 rest refl ∙ ap (λ x. x ∷ lines_from [] rest) (sym (append-nil front))
-first_line front (b ∷ line) rest whole = grind (arith, line_rest b line whole, lines_from-other front b (line ++ 10 ∷ rest), append_assoc front (b ∷ []) line, first_line (front ++ b ∷ []) line rest)
+first_line begun [] rest whole = lines_from-lf begun 10 rest refl ∙ ap (λ x. x ∷ lines_from [] rest) (sym (append-nil begun))
+first_line begun (b ∷ line) rest whole = grind (arith, line_rest b line whole, lines_from-other begun b (line ++ 10 ∷ rest), append_assoc begun (b ∷ []) line, first_line (begun ++ b ∷ []) line rest)
 
 lines_of_join : (lines : List (List ℕ)) → 0 < length lines → All IsLine lines → lines_from [] (join_with_byte 10 lines) ≡ lines
 lines_of_join [] some whole = absurd (omega arith)

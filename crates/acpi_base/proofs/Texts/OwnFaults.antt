@@ -1,4 +1,4 @@
--- What a text is refused with is a fault of the text: no failed read, and no want of memory.
+-- What a text is refused with is a fault of the text: no failed read, and not being out of memory.
 use Rattle.std.proofs.Common.{◌≡◌, ℕ, ◌+◌, List, [], ◌∷◌, length, refl, subst, true, false, arith}
 use Rattle.std.specs.Prelude.{Bool, Option, None, Some, Result, Ok, Err, IfErr, if◌then◌else◌}
 use Rattle.acpi_base.specs.ImageText.{Line, Data, Reading, start, on_ok, is_too_long, put_data, take_line, line_of, read_line, read_lines, ended_lines, last_line, read_text, IsRefused}
