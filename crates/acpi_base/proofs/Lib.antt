@@ -10,13 +10,9 @@ pub mod HeldBytes
 pub mod Held
 pub mod Images
 pub mod Joins
-mod LineLemmas
 pub mod Listed
-mod MachineLemmas
-mod OwnRefusals
 pub mod Places
 pub mod Policies
-mod ReadingLemmas
 pub mod RootFaults
 pub mod RootRead
 pub mod Roots
@@ -27,5 +23,5 @@ pub mod Segments
 pub mod Slots
 mod Standing
 pub mod TableFaults
-mod TextLines
 mod TextMeaning
+mod Texts

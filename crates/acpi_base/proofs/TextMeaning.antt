@@ -17,8 +17,8 @@ use Rattle.acpi_base.proofs.Images.{same_memory, fits_unless}
 use Rattle.acpi_base.proofs.Places.{nothing_held}
 use Rattle.acpi_base.proofs.Runs.{first_of_none}
 use Rattle.acpi_base.proofs.Held.{byte_of-with_bytes_within, byte_of-with_bytes_outside}
-use Rattle.acpi_base.proofs.LineLemmas.{data_some}
-use Rattle.acpi_base.proofs.MachineLemmas.{take_line_keeps}
+use Rattle.acpi_base.proofs.Texts.Lines.{data_some}
+use Rattle.acpi_base.proofs.Texts.Machine.{take_line_keeps}
 use Rattle.acpi_base.proofs.Standing.{place_of, first_then, first_here, first_later, first_cases, stands_is_place}
 
 slice_get-front : (xs ys : List ℕ) (n : ℕ) → n < length xs → slice_get (xs ++ ys) n ≡ slice_get xs n

@@ -1,5 +1,5 @@
 use Rattle.std.proofs.Common.{vec_items}
-use Rattle.acpi_base.proofs.ReadingLemmas.{whole_answer}
+use Rattle.acpi_base.proofs.Texts.Reading.{whole_answer}
 use Rattle.acpi_base.proofs.image_text.read_image.Goals as goal
 
 pub returns-in-Ok-End-clause-text : goal.returns-in-Ok-End-clause-text

@@ -1,4 +1,4 @@
-use Rattle.acpi_base.proofs.TextLines.{lines_mean}
+use Rattle.acpi_base.proofs.Texts.Parts.{lines_mean}
 use Rattle.acpi_base.proofs.laws.lines_mean.Goals as goal
 
 pub returns : goal.returns

@@ -1,4 +1,4 @@
-use Rattle.acpi_base.proofs.MachineLemmas.{run_reads_text, run_reads_prefix, run_stops, run-append}
+use Rattle.acpi_base.proofs.Texts.Machine.{run_reads_text, run_reads_prefix, run_stops, run-append}
 use Rattle.acpi_base.proofs.laws.machine_reads_lines.Goals as goal
 
 pub returns : goal.returns

@@ -1,4 +1,4 @@
-use Rattle.acpi_base.proofs.MachineLemmas.{prefix_is_decided}
+use Rattle.acpi_base.proofs.Texts.Machine.{prefix_is_decided}
 use Rattle.acpi_base.proofs.laws.prefix_decides.Goals as goal
 
 pub returns : goal.returns

@@ -1,5 +1,5 @@
 use Rattle.acpi_base.proofs.TextMeaning.{good_or_refused, good_not_refused, one_image, one_refusal}
-use Rattle.acpi_base.proofs.OwnRefusals.{refusals_are_own}
+use Rattle.acpi_base.proofs.Texts.Refusals.{refusals_are_own}
 use Rattle.acpi_base.proofs.laws.text_or_fault.Goals as goal
 
 pub returns : goal.returns

@@ -2,7 +2,7 @@ use Rattle.std.proofs.Common.{◌≤◌, ◌-◌, length, take, ◌++◌, ◌∙
 use Rattle.std.proofs.KnownBytes.{Consumes-trans}
 use Rattle.std.proofs.Math.Nat.{min-le_left}
 use Rattle.std.proofs.lemmas.List.{length-take}
-use Rattle.acpi_base.proofs.ReadingLemmas.{OnErr-any}
+use Rattle.acpi_base.proofs.Texts.Reading.{OnErr-any}
 use Rattle.acpi_base.proofs.image_text.collect.collect.Goals as goal
 
 pub returns-in_err-extend_from_slice-in-Ok-clause-err : goal.returns-in_err-extend_from_slice-in-Ok-clause-err

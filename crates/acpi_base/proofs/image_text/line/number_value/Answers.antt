@@ -1,6 +1,6 @@
 use Rattle.std.proofs.Common.{◌<◌, ℕ, arith}
 use Rattle.std.specs.Prelude.{Option, None, Some, IfSome, unwrap_or}
-use Rattle.acpi_base.proofs.LineLemmas.{digits_fit}
+use Rattle.acpi_base.proofs.Texts.Lines.{digits_fit}
 use Rattle.acpi_base.proofs.image_text.line.number_value.Goals as goal
 
 or_zero_small : (digit : Option ℕ) → IfSome digit (λ d. d < 16) → unwrap_or digit 0 < 16

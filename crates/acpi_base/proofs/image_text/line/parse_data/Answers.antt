@@ -1,5 +1,5 @@
 use Rattle.std.proofs.Common.{arith, sym, ◌∙◌, vec_items, ◌<◌, length}
-use Rattle.acpi_base.proofs.LineLemmas.{data_from_first, data_from_second, data_from_blank}
+use Rattle.acpi_base.proofs.Texts.Lines.{data_from_first, data_from_second, data_from_blank}
 use Rattle.acpi_base.proofs.image_text.line.parse_data.Goals as goal
 use Rattle.acpi_base.proofs.image_text.line.parse_data.Goals.{in-None-Some, in-None-None, in-Some-Some+in_ok-push-in-Some-Some}
 

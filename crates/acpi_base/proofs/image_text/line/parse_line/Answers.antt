@@ -1,7 +1,7 @@
 use Rattle.std.proofs.Common.{◌≡◌, ◌<◌, length, drop, get_or, eqb, true, arith, sym, ap, ◌∙◌}
 use Rattle.std.proofs.lemmas.Bool.Decides.{nat_tests}
 use Rattle.acpi_base.specs.ImageText.{without_comment, skip_blanks, form_of, address_of}
-use Rattle.acpi_base.proofs.LineLemmas.{slice_rest, line_of_rest, form_of_none, form_of_first}
+use Rattle.acpi_base.proofs.Texts.Lines.{slice_rest, line_of_rest, form_of_none, form_of_first}
 use Rattle.acpi_base.proofs.image_text.line.parse_line.Goals as goal
 
 pub returns-then-is_empty : goal.returns-then-is_empty

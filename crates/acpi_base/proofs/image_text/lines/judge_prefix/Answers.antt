@@ -1,6 +1,6 @@
 use Rattle.std.proofs.Common.{arith}
 use Rattle.acpi_base.specs.TextReading.{reading_of}
-use Rattle.acpi_base.proofs.ReadingLemmas.{prefix_ok}
+use Rattle.acpi_base.proofs.Texts.Reading.{prefix_ok}
 use Rattle.acpi_base.proofs.image_text.lines.judge_prefix.Goals as goal
 
 pub returns-clause-ok : goal.returns-clause-ok

@@ -1,6 +1,6 @@
 use Rattle.acpi_base.specs.TextReading.{reading_of}
-use Rattle.acpi_base.proofs.LineLemmas.{slice_rest}
-use Rattle.acpi_base.proofs.ReadingLemmas.{whole_ok}
+use Rattle.acpi_base.proofs.Texts.Lines.{slice_rest}
+use Rattle.acpi_base.proofs.Texts.Reading.{whole_ok}
 use Rattle.acpi_base.proofs.image_text.lines.judge_whole.Goals as goal
 
 pub returns-clause-ok : goal.returns-clause-ok

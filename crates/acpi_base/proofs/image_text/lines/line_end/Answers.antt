@@ -1,5 +1,5 @@
 use Rattle.std.proofs.Common.{arith, ◌∙◌}
-use Rattle.acpi_base.proofs.LineLemmas.{ended_from_more, last_from_more}
+use Rattle.acpi_base.proofs.Texts.Lines.{ended_from_more, last_from_more}
 use Rattle.acpi_base.proofs.image_text.lines.line_end.Goals as goal
 
 pub loop-i-preserved : goal.loop-i-preserved

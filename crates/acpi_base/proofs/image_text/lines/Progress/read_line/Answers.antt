@@ -1,6 +1,6 @@
 use Rattle.std.proofs.Common.{sym, ap, ◌∙◌}
 use Rattle.acpi_base.specs.TextReading.{line_with}
-use Rattle.acpi_base.proofs.LineLemmas.{data_some}
+use Rattle.acpi_base.proofs.Texts.Lines.{data_some}
 use Rattle.acpi_base.proofs.image_text.lines.Progress.read_line.Goals as goal
 
 pub take_line-requires-clause-some : goal.take_line-requires-clause-some
