@@ -2,7 +2,7 @@
 use Rattle.std.proofs.Common.{◌≡◌, ◌≢◌, ℕ, ◌+◌, ◌-◌, ◌*◌, ◌^◌, ◌<◌, ◌≤◌, List, [], ◌∷◌, ◌++◌, length, get_or, drop, refl, sym, ap, arith, eqb, if◌then◌else◌, true, false, lit<, length-append}
 use Rattle.std.proofs.lemmas.List.{length-drop, get_or-drop, take_all, take_more, drop_more}
 use Rattle.std.proofs.Math.Nat.{pow-le-pow_right}
-use Rattle.std.specs.Prelude.{slice_range, None, Some, Option}
+use Rattle.std.specs.Prelude.{slice_range, None, Some, Option, Bool}
 use Rattle.std.specs.Option.{option_map_or}
 use Rattle.acpi_base.specs.ImageText.{Blank, Data, Bad, digit_of, is_blank, skip_blanks, without_cr, without_comment, form_of, line_of, address_of, data_from, ended_from, last_from}
 
@@ -68,63 +68,34 @@ pub data_from_blank : (bytes line : List ℕ) (i : ℕ) → i < length line → 
 unfolding data_from
 data_from_blank bytes line i within is blank = rw (drop_more line i 0 within, is, blank) refl
 
--- the bytes of a data line begin with those so far
-data_from_grows : (line bytes : List ℕ) (high : Option ℕ) (all : List ℕ) → data_from bytes high line ≡ Data all → length bytes ≤ length all
+-- the bytes of a data line begin with those so far, and have one more where a pair has begun
+data_from_grows : (line bytes : List ℕ) (high : Option ℕ) (all : List ℕ) → data_from bytes high line ≡ Data all → length bytes + option_map_or (λ h. 1) high 0 ≤ length all
 unfolding data_from
-data_from_grows [] bytes None all e = let same : bytes ≡ all = cc in omega (arith, ap length same)
-data_from_grows [] bytes (Some high) all e = absurd (cc)
-data_from_grows (b ∷ rest) bytes None all e =
-    elim (digit_of b) as (λ d. option_map_or (λ digit. data_from bytes (Some digit) rest) d (if is_blank b then data_from bytes None rest else Bad) ≡ Data all → length bytes ≤ length all) [
-      | None ↦ elim (is_blank b) as (λ t. (if t then data_from bytes None rest else Bad) ≡ Data all → length bytes ≤ length all) [
-        | true ↦ λ f. data_from_grows rest bytes None all f
-        | false ↦ λ f. absurd (cc)
-      ]
-      | Some digit ↦ λ f. data_from_grows rest bytes (Some digit) all f
-    ] e
-data_from_grows (b ∷ rest) bytes (Some high) all e =
-    elim (digit_of b) as (λ d. option_map_or (λ low. data_from (bytes ++ (16 * high + low) ∷ []) None rest) d Bad ≡ Data all → length bytes ≤ length all) [
-      | None ↦ λ f. absurd (cc)
-      | Some low ↦ λ f. omega (arith, data_from_grows rest (bytes ++ (16 * high + low) ∷ []) None all f, length-append bytes ((16 * high + low) ∷ []))
-    ] e
-
--- from within a pair at least one byte comes
-data_from_some : (line : List ℕ) (high : ℕ) (all : List ℕ) → data_from [] (Some high) line ≡ Data all → 0 < length all
-unfolding data_from
-data_from_some [] high all e = absurd (cc)
-data_from_some (b ∷ rest) high all e =
-    elim (digit_of b) as (λ d. option_map_or (λ low. data_from ([] ++ (16 * high + low) ∷ []) None rest) d Bad ≡ Data all → 0 < length all) [
-      | None ↦ λ f. absurd (cc)
-      | Some low ↦ λ f. omega (arith, data_from_grows rest ((16 * high + low) ∷ []) None all f)
-    ] e
-
--- what is left begins with no blank
-skip_blanks_stops : (line : List ℕ) (b : ℕ) (rest : List ℕ) → skip_blanks line ≡ b ∷ rest → is_blank b ≡ false
-unfolding skip_blanks
-skip_blanks_stops [] b rest e = absurd (cc)
-skip_blanks_stops (a ∷ line) b rest e =
-    elim (is_blank a) as (λ t. is_blank a ≡ t → (if t then skip_blanks line else a ∷ line) ≡ b ∷ rest → is_blank b ≡ false) [
-      | true ↦ λ t f. skip_blanks_stops line b rest f
-      | false ↦ λ t f. let same : a ≡ b = cc in rw (← same) t
-    ] refl e
+data_from_grows [] bytes high all e = grind (arith)
+data_from_grows (b ∷ rest) bytes None all e = grind (arith, data_from_grows rest bytes None all, λ (h : ℕ). data_from_grows rest bytes (Some h) all)
+data_from_grows (b ∷ rest) bytes (Some high) all e = grind (arith, length-append, λ (c : ℕ). data_from_grows rest (bytes ++ c ∷ []) None all)
 
 -- an address is no data
-address_is_no_data : (rest all : List ℕ) → address_of rest ≡ Data all → 0 < length all
+address_is_no_data : (rest all : List ℕ) → address_of rest ≡ Data all → ⊥
 unfolding address_of
 address_is_no_data rest all e = grind (arith)
 
-form_of_some : (rest all : List ℕ) → ((b : ℕ) (more : List ℕ) → rest ≡ b ∷ more → is_blank b ≡ false) → form_of rest ≡ Data all → 0 < length all
-unfolding form_of data_from
-form_of_some [] all head e = absurd (cc)
-form_of_some (b ∷ rest) all head e =
-    elim (eqb b 64) as (λ t. (if t then address_of rest else data_from [] None (b ∷ rest)) ≡ Data all → 0 < length all) [
-      | true ↦ λ f. address_is_no_data rest all f
-      | false ↦ λ f. elim (digit_of b) as (λ d. option_map_or (λ digit. data_from [] (Some digit) rest) d (if is_blank b then data_from [] None rest else Bad) ≡ Data all → 0 < length all) [
-        | None ↦ λ g. let blank = head b rest refl in let none : Bad ≡ Data all = rw blank at g in absurd (cc)
-        | Some digit ↦ λ g. data_from_some rest digit all g
-      ] f
-    ] e
+-- what begins with no blank has data of at least one byte
+full_some : (at : Bool) (digit : Option ℕ) (rest all : List ℕ)
+    → (if at then address_of rest else option_map_or (λ high. data_from [] (Some high) rest) digit Bad) ≡ Data all → 0 < length all
+full_some at digit rest all e = grind (arith, address_is_no_data rest all, λ (h : ℕ). data_from_grows rest [] (Some h) all)
+
+-- what is left of a data line has at least one byte
+rest_some : (line all : List ℕ) → form_of (skip_blanks line) ≡ Data all → 0 < length all
+unfolding form_of skip_blanks data_from
+rest_some [] all e = absurd (cc)
+rest_some (b ∷ rest) all e =
+    elim (is_blank b) as (λ t. is_blank b ≡ t → form_of (if t then skip_blanks rest else b ∷ rest) ≡ Data all → 0 < length all) [
+      | true ↦ λ blank f. rest_some rest all f
+      | false ↦ λ full f. full_some (eqb b 64) (digit_of b) rest all (rw full at f)
+    ] refl e
 
 -- a data line has at least one byte
 pub data_some : (line all : List ℕ) → line_of line ≡ Data all → 0 < length all
 unfolding line_of
-data_some line all e = form_of_some (skip_blanks (without_comment (without_cr line))) all (λ b more is. skip_blanks_stops (without_comment (without_cr line)) b more is) e
+data_some line all e = rest_some (without_comment (without_cr line)) all e
