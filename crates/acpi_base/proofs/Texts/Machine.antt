@@ -54,12 +54,14 @@ run_reads_prefix bytes = grind (arith, run_after (Ok start) [] bytes)
 stands_stopped : (s : Standing) (fault : TextFault) → standing_of s ≡ Err fault → s ≡ Stopped fault
 stands_stopped s fault e = grind (arith)
 
-pub run_stops : (bytes : List ℕ) (fault : TextFault) → (run beginning bytes ≡ Stopped fault) ↔ IsRefusedPrefix bytes fault
-run_stops bytes fault = (
-  λ stops. sym (run_reads_prefix bytes) ∙ ap standing_of stops,
-  λ refused. stands_stopped (run beginning bytes) fault (run_reads_prefix bytes ∙ refused),
-)
+-- the machine stops where the prefix is refused, and with that fault
+pub refused_where_stopped : (bytes : List ℕ) (fault : TextFault) → run beginning bytes ≡ Stopped fault → IsRefusedPrefix bytes fault
+refused_where_stopped bytes fault stops = sym (run_reads_prefix bytes) ∙ ap standing_of stops
+
+pub stopped_where_refused : (bytes : List ℕ) (fault : TextFault) → IsRefusedPrefix bytes fault → run beginning bytes ≡ Stopped fault
+stopped_where_refused bytes fault refused = stands_stopped (run beginning bytes) fault (run_reads_prefix bytes ∙ refused)
 
 -- a fault in a prefix of a text is the whole text's
 pub prefix_is_decided : (bytes more : List ℕ) (fault : TextFault) → IsRefusedPrefix bytes fault → IsRefused (bytes ++ more) fault
-prefix_is_decided bytes more fault refused = sym (run_reads_text (bytes ++ more)) ∙ (rw (run_append beginning bytes more, (run_stops bytes fault).1 refused, run_stopped) refl)
+prefix_is_decided bytes more fault refused =
+    sym (run_reads_text (bytes ++ more)) ∙ (rw (run_append beginning bytes more, stopped_where_refused bytes fault refused, run_stopped) refl)
