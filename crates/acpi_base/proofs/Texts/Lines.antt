@@ -7,7 +7,7 @@ use Rattle.std.specs.Option.{option_map_or}
 use Rattle.acpi_base.specs.ImageText.{Blank, Data, Bad, digit_of, is_blank, skip_blanks, without_cr, without_comment, form_of, line_of, address_of, data_from, ended_from, last_from}
 
 -- a slice and the element after it
-slice_range_more : (xs : List ℕ) (a i : ℕ) → a ≤ i → i < length xs → slice_range xs a (i + 1) ≡ slice_range xs a i ++ get_or xs i 0 ∷ []
+pub slice_range_more : (xs : List ℕ) (a i : ℕ) → a ≤ i → i < length xs → slice_range xs a (i + 1) ≡ slice_range xs a i ++ get_or xs i 0 ∷ []
 slice_range_more xs a i low high =
     let count : i + 1 - a ≡ i - a + 1 = omega arith in
     let place : a + (i - a) ≡ i = omega arith in
@@ -18,25 +18,13 @@ slice_range_more xs a i low high =
 pub slice_rest : (xs : List ℕ) (a : ℕ) → slice_range xs a (length xs) ≡ drop a xs
 slice_rest xs a = take_all (length xs - a) (drop a xs) (simp length-drop (omega arith))
 
--- a byte that is no LF goes onto its line
-pub ended_from_more : (xs : List ℕ) (a i : ℕ) → a ≤ i → i < length xs → get_or xs i 0 ≢ 10
-    → ended_from (slice_range xs a i) (drop i xs) ≡ ended_from (slice_range xs a (i + 1)) (drop (i + 1) xs)
-unfolding ended_from
-ended_from_more xs a i low high other = grind (arith, drop_more, slice_range_more)
+-- the first of the elements that are left
+pub drop_here : (xs : List ℕ) (i : ℕ) → i < length xs → drop i xs ≡ get_or xs i 0 ∷ drop (i + 1) xs
+drop_here xs i within = drop_more xs i 0 within
 
-pub last_from_more : (xs : List ℕ) (a i : ℕ) → a ≤ i → i < length xs → get_or xs i 0 ≢ 10
-    → last_from (slice_range xs a i) (drop i xs) ≡ last_from (slice_range xs a (i + 1)) (drop (i + 1) xs)
-unfolding last_from
-last_from_more xs a i low high other = grind (arith, drop_more, slice_range_more)
-
--- a number of i hex digits leaves room for one more digit, where i is below 16
-pub digits_fit : (value i : ℕ) → value < 16 ^ i → i < 16 → 16 * value + 15 < 2 ^ 64
-digits_fit value i small few = grind (arith, pow-le-pow_right, lit<)
-
--- what a line says goes by what is left of it
-pub line_of_rest : (line rest : List ℕ) → rest ≡ skip_blanks (without_comment (without_cr line)) → line_of line ≡ form_of rest
-unfolding line_of
-line_of_rest line rest is = ap form_of (sym is)
+-- fewer than 16 hex digits leave room for one more
+pub power_fits : (i : ℕ) → i < 16 → 16 ^ i * 16 ≤ 2 ^ 64
+power_fits i few = let most : 16 ^ i ≤ 16 ^ 15 = pow-le-pow_right {n = 16} (omega arith) {i = i} {j = 15} (omega arith) in omega arith
 
 -- what is left, where it is nothing
 pub form_of_none : (rest : List ℕ) → length rest ≡ 0 → form_of rest ≡ Blank
@@ -49,24 +37,6 @@ pub form_of_first : (line : List ℕ) → 0 < length line → form_of line ≡ (
 unfolding form_of
 form_of_first [] some = absurd (omega arith)
 form_of_first (b ∷ rest) some = refl
-
--- the first digit of a pair
-pub data_from_first : (bytes line : List ℕ) (i digit : ℕ) → i < length line → digit_of (get_or line i 0) ≡ Some digit
-    → data_from bytes None (drop i line) ≡ data_from bytes (Some digit) (drop (i + 1) line)
-unfolding data_from
-data_from_first bytes line i digit within is = rw (drop_more line i 0 within, is) refl
-
--- the second digit of a pair
-pub data_from_second : (bytes line : List ℕ) (i high low : ℕ) → i < length line → digit_of (get_or line i 0) ≡ Some low
-    → data_from bytes (Some high) (drop i line) ≡ data_from (bytes ++ (16 * high + low) ∷ []) None (drop (i + 1) line)
-unfolding data_from
-data_from_second bytes line i high low within is = rw (drop_more line i 0 within, is) refl
-
--- a blank between pairs
-pub data_from_blank : (bytes line : List ℕ) (i : ℕ) → i < length line → digit_of (get_or line i 0) ≡ None → is_blank (get_or line i 0) ≡ true
-    → data_from bytes None (drop i line) ≡ data_from bytes None (drop (i + 1) line)
-unfolding data_from
-data_from_blank bytes line i within is blank = rw (drop_more line i 0 within, is, blank) refl
 
 -- the bytes of a data line begin with those so far, and have one more where a pair has begun
 data_from_grows : (line bytes : List ℕ) (high : Option ℕ) (all : List ℕ) → data_from bytes high line ≡ Data all → length bytes + option_map_or (λ h. 1) high 0 ≤ length all

@@ -97,7 +97,7 @@ impl Progress {
 
     /// Reads the next line: `ending` is 1 where an LF ends it, and 0 where the text does. The vector is a
     /// place for its bytes.
-    #[tactic(auto, unfolding(crate::specs::ImageText::read_line))]
+    #[tactic(auto, unfolding(crate::specs::ImageText::read_line), using(crate::proofs::Texts::Lines::data_some))]
     fn read_line(&mut self, line: &[u8], ending: u64, bytes: &mut Vec<u8>) -> Result<(), TextFault>
         requires image { IsImage self.old.image }
         requires lines { self.old.lines ≤ self.old.through }
@@ -127,7 +127,7 @@ impl Progress {
 }
 
 /// Where the line that begins at `start` ends: at its LF, or at the text's end.
-#[tactic(auto, unfolding(crate::specs::ImageText::ended_from, crate::specs::ImageText::last_from))]
+#[tactic(auto, unfolding(crate::specs::ImageText::ended_from, crate::specs::ImageText::last_from), using(crate::proofs::Texts::Lines::slice_range_more, crate::proofs::Texts::Lines::drop_here))]
 fn line_end(text: &[u8], start: usize) -> usize
     requires { start ≤ length text.now }
     ensures within { (start ≤ result) × (result ≤ length text.now) }
