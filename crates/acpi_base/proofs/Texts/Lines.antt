@@ -1,6 +1,7 @@
 -- Facts on what one line of an image text says, and on where it ends.
 use Rattle.std.proofs.Common.{◌≡◌, ◌≢◌, ℕ, ◌+◌, ◌-◌, ◌*◌, ◌^◌, ◌<◌, ◌≤◌, List, [], ◌∷◌, ◌++◌, length, get_or, drop, refl, sym, ap, arith, eqb, if◌then◌else◌, true, false, lit<, length-append}
-use Rattle.std.proofs.lemmas.List.{length-drop, get_or-drop, take_all, take_more, drop_more}
+use Rattle.std.proofs.lemmas.List.{drop_more}
+use Rattle.std.proofs.lemmas.List.Edits.{between_more}
 use Rattle.std.proofs.Math.Nat.{pow-le-pow_right}
 use Rattle.std.specs.Prelude.{slice_range, None, Some, Option, Bool}
 use Rattle.std.specs.Option.{option_map_or}
@@ -8,15 +9,7 @@ use Rattle.acpi_base.specs.ImageText.{Blank, Data, Bad, digit_of, is_blank, skip
 
 -- a slice and the element after it
 pub slice_range_more : (xs : List ℕ) (a i : ℕ) → a ≤ i → i < length xs → slice_range xs a (i + 1) ≡ slice_range xs a i ++ get_or xs i 0 ∷ []
-slice_range_more xs a i low high =
-    let count : i + 1 - a ≡ i - a + 1 = omega arith in
-    let place : a + (i - a) ≡ i = omega arith in
-    let room : i - a < length (drop a xs) = simp length-drop (omega arith) in
-    rw (count, take_more (drop a xs) (i - a) 0 room, get_or-drop a xs (i - a) 0, place) refl
-
--- a slice that goes to the end
-pub slice_rest : (xs : List ℕ) (a : ℕ) → slice_range xs a (length xs) ≡ drop a xs
-slice_rest xs a = take_all (length xs - a) (drop a xs) (simp length-drop (omega arith))
+slice_range_more xs a i low high = between_more xs a i 0 low high
 
 -- the first of the elements that are left
 pub drop_here : (xs : List ℕ) (i : ℕ) → i < length xs → drop i xs ≡ get_or xs i 0 ∷ drop (i + 1) xs
@@ -26,18 +19,6 @@ drop_here xs i within = drop_more xs i 0 within
 pub power_fits : (i : ℕ) → i < 16 → 16 ^ i * 16 ≤ 2 ^ 64
 power_fits i few = let most : 16 ^ i ≤ 16 ^ 15 = pow-le-pow_right {n = 16} (omega arith) {i = i} {j = 15} (omega arith) in omega arith
 
--- what is left, where it is nothing
-pub form_of_none : (rest : List ℕ) → length rest ≡ 0 → form_of rest ≡ Blank
-unfolding form_of
-form_of_none [] none = refl
-form_of_none (b ∷ rest) none = absurd (omega arith)
-
--- what is left, by its first byte
-pub form_of_first : (line : List ℕ) → 0 < length line → form_of line ≡ (if eqb (get_or line 0 0) 64 then address_of (drop 1 line) else data_from [] None line)
-unfolding form_of
-form_of_first [] some = absurd (omega arith)
-form_of_first (b ∷ rest) some = refl
-
 -- the bytes of a data line begin with those so far, and have one more where a pair has begun
 data_from_grows : (line bytes : List ℕ) (high : Option ℕ) (all : List ℕ) → data_from bytes high line ≡ Data all → length bytes + option_map_or (λ h. 1) high 0 ≤ length all
 unfolding data_from
@@ -45,15 +26,11 @@ data_from_grows [] bytes high all e = grind (arith)
 data_from_grows (b ∷ rest) bytes None all e = grind (arith, data_from_grows rest bytes None all, λ (h : ℕ). data_from_grows rest bytes (Some h) all)
 data_from_grows (b ∷ rest) bytes (Some high) all e = grind (arith, length-append, λ (c : ℕ). data_from_grows rest (bytes ++ c ∷ []) None all)
 
--- an address is no data
-address_is_no_data : (rest all : List ℕ) → address_of rest ≡ Data all → ⊥
-unfolding address_of
-address_is_no_data rest all e = grind (arith)
-
 -- what begins with no blank has data of at least one byte
 full_some : (at : Bool) (digit : Option ℕ) (rest all : List ℕ)
     → (if at then address_of rest else option_map_or (λ high. data_from [] (Some high) rest) digit Bad) ≡ Data all → 0 < length all
-full_some at digit rest all e = grind (arith, address_is_no_data rest all, λ (h : ℕ). data_from_grows rest [] (Some h) all)
+unfolding address_of
+full_some at digit rest all e = grind (arith, λ (h : ℕ). data_from_grows rest [] (Some h) all)
 
 -- what is left of a data line has at least one byte
 rest_some : (line all : List ℕ) → form_of (skip_blanks line) ≡ Data all → 0 < length all

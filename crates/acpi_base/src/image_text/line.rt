@@ -143,7 +143,7 @@ fn parse_data(line: &[u8], bytes: &mut Vec<u8>) -> Result<bool, AllocError>
 }
 
 /// What a line says, its LF left off. The bytes of a data line go into the vector, in place of what it had.
-#[tactic(auto, unfolding(crate::specs::ImageText::line_of), using(crate::proofs::Texts::Lines::form_of_first, crate::proofs::Texts::Lines::form_of_none))]
+#[tactic(auto, unfolding(crate::specs::ImageText::line_of, crate::specs::ImageText::form_of))]
 pub fn parse_line(line: &[u8], bytes: &mut Vec<u8>) -> Result<Form, AllocError>
     ensures { IfOk result (λ form. line_with form bytes.new.items ≡ line_of line.now) }
 {
