@@ -23,8 +23,8 @@ power_fits i few = let most : 16 ^ i ≤ 16 ^ 15 = pow-le-pow_right {n = 16} (om
 data_from_grows : (line bytes : List ℕ) (high : Option ℕ) (all : List ℕ) → data_from bytes high line ≡ Data all → length bytes + option_map_or (λ h. 1) high 0 ≤ length all
 unfolding data_from
 data_from_grows [] bytes high all e = grind (arith)
-data_from_grows (b ∷ rest) bytes None all e = grind (arith, data_from_grows rest bytes None all, λ (h : ℕ). data_from_grows rest bytes (Some h) all)
-data_from_grows (b ∷ rest) bytes (Some high) all e = grind (arith, length-append, λ (c : ℕ). data_from_grows rest (bytes ++ c ∷ []) None all)
+data_from_grows (b ∷ rest) bytes high all e =
+    grind (arith, length-append, data_from_grows rest bytes None all, λ (h : ℕ). data_from_grows rest bytes (Some h) all, λ (c : ℕ). data_from_grows rest (bytes ++ c ∷ []) None all)
 
 -- what begins with no blank has data of at least one byte
 full_some : (at : Bool) (digit : Option ℕ) (rest all : List ℕ)

@@ -1,5 +1,4 @@
 -- The lines of a text are what stands between its LFs.
-use Rattle.std.proofs.lemmas.Grind.{common_steps}
 use Rattle.std.proofs.Common.{◌≡◌, ℕ, ◌<◌, List, [], ◌∷◌, ◌++◌, length, get_or, refl, sym, ap, subst, ◌∙◌, arith, append_assoc, eqb, false, inl, inr}
 use Rattle.std.proofs.lemmas.Bool.{cases_eq, ne_eqb}
 use Rattle.std.proofs.lemmas.Bool.Decides.{nat_tests}
@@ -40,7 +39,7 @@ parts_of_join (line ∷ next ∷ lines) some whole =
 
 -- a list without LF, said in two ways
 has_no_lf : (line : List ℕ) → IsLine line → ¬ Contains line 10
-has_no_lf line whole c = let wrong : eqb 10 10 ≡ false = All-contains (λ b. eqb b 10 ≡ false) line 10 whole c in cc
+has_no_lf line whole = grind (arith, nat_tests)
 
 is_line : (line : List ℕ) → (¬ Contains line 10) → IsLine line
 is_line line free = All-from_get_or (λ b. eqb b 10 ≡ false) line 0 (λ i h. ne_eqb (get_or line i 0) 10 (λ e. free (subst (Contains line) e (Contains-get_or line i 0 h))))
