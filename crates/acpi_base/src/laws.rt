@@ -39,7 +39,7 @@ pub fn one_verdict()
 {}
 
 /// Reading an image text byte by byte is reading it by lines, in any pieces.
-#[tactic(auto, using(crate::proofs::Texts::Machine::run_reads_text, crate::proofs::Texts::Machine::run_reads_prefix, crate::proofs::Texts::Machine::refused_where_stopped, crate::proofs::Texts::Machine::stopped_where_refused, crate::proofs::Texts::Machine::run_append))]
+#[tactic(auto, using(crate::proofs::Texts::Machine::machine_laws))]
 pub fn machine_reads_lines()
     ensures text { RunReadsText }
     ensures prefix { RunReadsPrefix }

@@ -15,16 +15,22 @@ slice_range_more xs a i low high = between_more xs a i 0 low high
 pub drop_here : (xs : List ℕ) (i : ℕ) → i < length xs → drop i xs ≡ get_or xs i 0 ∷ drop (i + 1) xs
 drop_here xs i within = drop_more xs i 0 within
 
+-- one element more was passed
+pub ruleset one_more = (slice_range_more, drop_here)
+
 -- fewer than 16 hex digits leave room for one more
 pub power_fits : (i : ℕ) → i < 16 → 16 ^ i * 16 ≤ 2 ^ 64
 power_fits i few = let most : 16 ^ i ≤ 16 ^ 15 = pow-le-pow_right {n = 16} (omega arith) {i = i} {j = 15} (omega arith) in omega arith
 
 -- the bytes of a data line begin with those so far, and have one more where a pair has begun
-data_from_grows : (line bytes : List ℕ) (high : Option ℕ) (all : List ℕ) → data_from bytes high line ≡ Data all → length bytes + option_map_or (λ h. 1) high 0 ≤ length all
+data_from_grows : (line bytes : List ℕ) (high : Option ℕ) (all : List ℕ) → data_from bytes high line ≡ Data all
+    → length bytes + option_map_or (λ h. 1) high 0 ≤ length all
 unfolding data_from
 data_from_grows [] bytes high all e = grind (arith)
 data_from_grows (b ∷ rest) bytes high all e =
-    grind (arith, length-append, data_from_grows rest bytes None all, λ (h : ℕ). data_from_grows rest bytes (Some h) all, λ (c : ℕ). data_from_grows rest (bytes ++ c ∷ []) None all)
+    let first = λ (h : ℕ). data_from_grows rest bytes (Some h) all in
+    let second = λ (c : ℕ). data_from_grows rest (bytes ++ c ∷ []) None all in
+    grind (arith, length-append, data_from_grows rest bytes None all, first, second)
 
 -- what begins with no blank has data of at least one byte
 full_some : (at : Bool) (digit : Option ℕ) (rest all : List ℕ)

@@ -31,7 +31,8 @@ after (Ok r) line = if is_too_long (length line) (r.through + length line) then 
 after (Err fault) line = Stopped fault
 
 -- a byte ends the line or goes onto it
-step_after : (r : Reading) (line : List ℕ) (b : ℕ) → step (after (Ok r) line) b ≡ (if eqb b 10 then after (read_line r line 1) [] else after (Ok r) (line ++ b ∷ []))
+step_after : (r : Reading) (line : List ℕ) (b : ℕ)
+    → step (after (Ok r) line) b ≡ (if eqb b 10 then after (read_line r line 1) [] else after (Ok r) (line ++ b ∷ []))
 unfolding read_line
 step_after r line b = grind (arith, nat_tests, length-append, take_line_keeps)
 
@@ -65,3 +66,6 @@ stopped_where_refused bytes fault refused = stands_stopped (run beginning bytes)
 pub prefix_is_decided : (bytes more : List ℕ) (fault : TextFault) → IsRefusedPrefix bytes fault → IsRefused (bytes ++ more) fault
 prefix_is_decided bytes more fault refused =
     sym (run_reads_text (bytes ++ more)) ∙ (rw (run_append beginning bytes more, stopped_where_refused bytes fault refused, run_stopped) refl)
+
+-- what the law `machine_reads_lines` says
+pub ruleset machine_laws = (run_reads_text, run_reads_prefix, refused_where_stopped, stopped_where_refused, run_append)

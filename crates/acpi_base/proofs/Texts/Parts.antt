@@ -16,7 +16,8 @@ IsLine line = All (λ b. eqb b 10 ≡ false) line
 
 -- the lines from a prefix of the first on are what stands between LFs, and have none
 lines_are_parts : (line bytes : List ℕ) → IsLine line
-    → (ended_from line bytes ++ last_from line bytes ∷ [] ≡ slice_split (λ b. eqb b 10) (line ++ bytes)) × All IsLine (ended_from line bytes ++ last_from line bytes ∷ [])
+    → (ended_from line bytes ++ last_from line bytes ∷ [] ≡ slice_split (λ b. eqb b 10) (line ++ bytes))
+    × All IsLine (ended_from line bytes ++ last_from line bytes ∷ [])
 unfolding ended_from last_from
 lines_are_parts line [] whole = rw append-nil (sym (slice_split_none _ line whole), All-cons IsLine line [] whole (All-nil _))
 lines_are_parts line (b ∷ rest) whole =
@@ -42,7 +43,8 @@ has_no_lf : (line : List ℕ) → IsLine line → ¬ Contains line 10
 has_no_lf line whole = grind (arith, nat_tests)
 
 is_line : (line : List ℕ) → (¬ Contains line 10) → IsLine line
-is_line line free = All-from_get_or (λ b. eqb b 10 ≡ false) line 0 (λ i h. ne_eqb (get_or line i 0) 10 (λ e. free (subst (Contains line) e (Contains-get_or line i 0 h))))
+is_line line free = All-from_get_or (λ b. eqb b 10 ≡ false) line 0 (λ i h.
+    ne_eqb (get_or line i 0) 10 (λ e. free (subst (Contains line) e (Contains-get_or line i 0 h))))
 
 pub lines_mean : (bytes : List ℕ) (lines : List (List ℕ)) → (text_lines bytes ≡ lines) ↔ AreLines bytes lines
 lines_mean bytes lines =

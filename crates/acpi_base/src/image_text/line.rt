@@ -122,7 +122,7 @@ fn parse_address(rest: &[u8]) -> Form
 
 /// Whether the line is pairs of hex digits, with any blanks between pairs and after the last. If so, the
 /// vector has their bytes.
-#[tactic(auto, unfolding(crate::specs::ImageText::data_from), using(crate::proofs::Texts::Lines::drop_here))]
+#[tactic(auto, unfolding(crate::specs::ImageText::data_from), using(crate::proofs::Texts::Lines::one_more))]
 fn parse_data(line: &[u8], bytes: &mut Vec<u8>) -> Result<bool, AllocError>
     ensures { IfOk result (λ is_data. data_line is_data bytes.new.items ≡ data_from [] None line.now) }
 {
