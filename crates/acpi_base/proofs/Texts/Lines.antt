@@ -1,11 +1,11 @@
 -- Facts on what one line of an image text says, and on where it ends.
-use Rattle.std.proofs.Common.{◌≡◌, ◌≢◌, ℕ, ◌+◌, ◌-◌, ◌*◌, ◌^◌, ◌<◌, ◌≤◌, List, [], ◌∷◌, ◌++◌, length, get_or, drop, refl, sym, ap, arith, eqb, if◌then◌else◌, true, false, lit<, length-append}
+use Rattle.std.proofs.Common.{◌≡◌, ℕ, ◌+◌, ◌*◌, ◌^◌, ◌<◌, ◌≤◌, List, [], ◌∷◌, ◌++◌, length, get_or, drop, refl, arith, eqb, if◌then◌else◌, true, false, length-append}
 use Rattle.std.proofs.lemmas.List.{drop_more}
 use Rattle.std.proofs.lemmas.List.Edits.{between_more}
 use Rattle.std.proofs.Math.Nat.{pow-le-pow_right}
 use Rattle.std.specs.Prelude.{slice_range, None, Some, Option, Bool}
 use Rattle.std.specs.Option.{option_map_or}
-use Rattle.acpi_base.specs.ImageText.{Blank, Data, Bad, digit_of, is_blank, skip_blanks, without_cr, without_comment, form_of, line_of, address_of, data_from, ended_from, last_from}
+use Rattle.acpi_base.specs.ImageText.{Data, Bad, digit_of, is_blank, skip_blanks, without_cr, without_comment, form_of, line_of, address_of, data_from}
 
 -- a slice and the element after it
 pub slice_range_more : (xs : List ℕ) (a i : ℕ) → a ≤ i → i < length xs → slice_range xs a (i + 1) ≡ slice_range xs a i ++ get_or xs i 0 ∷ []

@@ -1,21 +1,19 @@
 -- Reading a text byte by byte is reading it by lines.
-use Rattle.std.proofs.Common.{◌≡◌, ℕ, ◌+◌, List, [], ◌∷◌, ◌++◌, length, refl, sym, ap, ◌∙◌, arith, eqb, if◌then◌else◌, true, false, length-append}
+use Rattle.std.proofs.Common.{◌≡◌, ℕ, ◌+◌, List, [], ◌∷◌, ◌++◌, length, refl, sym, ap, ◌∙◌, arith, eqb, if◌then◌else◌, length-append}
 use Rattle.std.proofs.lemmas.Bool.Decides.{nat_tests}
-use Rattle.std.specs.Prelude.{Option, None, Some, Result, Ok, Err, ◌↔◌}
-use Rattle.std.specs.Option.{option_map_or}
-use Rattle.acpi_base.specs.ImageText.{Line, Blank, Address, Data, Bad, Reading, on_ok, is_too_long, put_data, take_line, line_of, read_line, read_lines, ended_from, last_from, start, ended_lines, last_line, read_text, read_prefix, IsRefused, IsRefusedPrefix}
-use Rattle.acpi_base.specs.Adding.{add_refusal}
+use Rattle.std.specs.Prelude.{Result, Ok, Err}
+use Rattle.acpi_base.specs.ImageText.{Line, Reading, on_ok, is_too_long, take_line, read_line, read_lines, ended_from, last_from, start, read_text, read_prefix, IsRefused, IsRefusedPrefix}
 use Rattle.acpi_base.specs.TextMachine.{Standing, Going, Stopped, beginning, step, run, end_text, standing_of}
 use Rattle.acpi_base.specs.declared.text.TextFault.{TextFault}
 use Rattle.acpi_base.specs.declared.text.TextFault.TheVariants as text
 
--- a machine may be run in pieces
+-- a text may come in pieces
 pub run_append : (s : Standing) (xs ys : List ℕ) → run s (xs ++ ys) ≡ run (run s xs) ys
 unfolding run
 run_append s [] ys = refl
 run_append s (b ∷ xs) ys = run_append (step s b) xs ys
 
--- a stopped machine stays so
+-- a machine that has stopped stays so
 run_stopped : (fault : TextFault) (bytes : List ℕ) → run (Stopped fault) bytes ≡ Stopped fault
 unfolding run
 run_stopped fault [] = refl
@@ -44,10 +42,12 @@ run_after (Err fault) line bytes = run_stopped fault bytes
 run_after (Ok r) line [] = refl
 run_after (Ok r) line (b ∷ rest) = grind (arith, step_after, run_after (read_line r line 1) [] rest, run_after (Ok r) (line ++ b ∷ []) rest)
 
+-- a whole text
 pub run_reads_text : (bytes : List ℕ) → end_text (run beginning bytes) ≡ read_text bytes
 unfolding read_line
 run_reads_text bytes = grind (arith, nat_tests, run_after (Ok start) [] bytes)
 
+-- a prefix of a text
 pub run_reads_prefix : (bytes : List ℕ) → standing_of (run beginning bytes) ≡ read_prefix bytes
 run_reads_prefix bytes = grind (arith, run_after (Ok start) [] bytes)
 
@@ -55,10 +55,11 @@ run_reads_prefix bytes = grind (arith, run_after (Ok start) [] bytes)
 stands_stopped : (s : Standing) (fault : TextFault) → standing_of s ≡ Err fault → s ≡ Stopped fault
 stands_stopped s fault e = grind (arith)
 
--- the machine stops where the prefix is refused, and with that fault
+-- a prefix at which the machine has stopped is refused with the same fault
 pub refused_where_stopped : (bytes : List ℕ) (fault : TextFault) → run beginning bytes ≡ Stopped fault → IsRefusedPrefix bytes fault
 refused_where_stopped bytes fault stops = sym (run_reads_prefix bytes) ∙ ap standing_of stops
 
+-- the machine has stopped at a prefix that is refused
 pub stopped_where_refused : (bytes : List ℕ) (fault : TextFault) → IsRefusedPrefix bytes fault → run beginning bytes ≡ Stopped fault
 stopped_where_refused bytes fault refused = stands_stopped (run beginning bytes) fault (run_reads_prefix bytes ∙ refused)
 

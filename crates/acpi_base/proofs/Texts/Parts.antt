@@ -3,7 +3,7 @@ use Rattle.std.proofs.Common.{◌≡◌, ℕ, ◌<◌, List, [], ◌∷◌, ◌+
 use Rattle.std.proofs.lemmas.Bool.{cases_eq, ne_eqb}
 use Rattle.std.proofs.lemmas.Bool.Decides.{nat_tests}
 use Rattle.std.proofs.lemmas.List.{append-nil}
-use Rattle.std.proofs.lemmas.List.Elements.{All-cons, All-nil, All-head, All-tail, All-push, All-contains, All-weaker, All-from_get_or, Contains-get_or}
+use Rattle.std.proofs.lemmas.List.Elements.{All-cons, All-nil, All-head, All-tail, All-push, All-weaker, All-from_get_or, Contains-get_or}
 use Rattle.std.proofs.lemmas.List.Splits.{slice_split_none, slice_split_at, length-slice_split, join_with_byte-slice_split}
 use Rattle.std.specs.List.{All, Contains, join_with_byte, slice_split}
 use Rattle.std.specs.Prelude.{◌↔◌}
@@ -38,14 +38,16 @@ parts_of_join (line ∷ next ∷ lines) some whole =
     slice_split_at _ line 10 _ (All-head IsLine line (next ∷ lines) whole) refl
     ∙ ap (λ parts. line ∷ parts) (parts_of_join (next ∷ lines) (omega arith) (All-tail IsLine line (next ∷ lines) whole))
 
--- a list without LF, said in two ways
+-- what is a line has no LF
 has_no_lf : (line : List ℕ) → IsLine line → ¬ Contains line 10
 has_no_lf line whole = grind (arith, nat_tests)
 
+-- what has no LF is a line
 is_line : (line : List ℕ) → (¬ Contains line 10) → IsLine line
 is_line line free = All-from_get_or (λ b. eqb b 10 ≡ false) line 0 (λ i h.
     ne_eqb (get_or line i 0) 10 (λ e. free (subst (Contains line) e (Contains-get_or line i 0 h))))
 
+-- the lines of a text are what stands between its LFs, and nothing else is
 pub lines_mean : (bytes : List ℕ) (lines : List (List ℕ)) → (text_lines bytes ≡ lines) ↔ AreLines bytes lines
 lines_mean bytes lines =
     let cut = lines_are_parts [] bytes (All-nil _) in (

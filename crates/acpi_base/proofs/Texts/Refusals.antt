@@ -1,7 +1,7 @@
 -- What a text is refused with is a fault of the text: no failed read, and not being out of memory.
 use Rattle.std.proofs.Common.{◌≡◌, ℕ, List, [], ◌∷◌, true, arith}
-use Rattle.std.specs.Prelude.{Result, Ok, Err}
-use Rattle.acpi_base.specs.ImageText.{Line, Reading, on_ok, take_line, line_of, read_line, read_lines, IsRefused}
+use Rattle.std.specs.Prelude.{Err}
+use Rattle.acpi_base.specs.ImageText.{Line, Reading, take_line, read_line, read_lines, IsRefused}
 use Rattle.acpi_base.specs.TextReading.{is_of_text}
 use Rattle.acpi_base.specs.declared.text.TextFault.{TextFault}
 
@@ -20,5 +20,6 @@ unfolding read_lines
 own_lines r [] fault e = absurd (cc)
 own_lines r (line ∷ rest) fault e = grind (arith, own_line, λ (s : Reading). own_lines s rest fault)
 
+-- the fault of a text
 pub refusals_are_own : (bytes : List ℕ) (fault : TextFault) → IsRefused bytes fault → is_of_text fault ≡ true
 refusals_are_own bytes fault refused = grind (arith, own_line, own_lines)
