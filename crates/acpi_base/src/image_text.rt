@@ -40,6 +40,7 @@ const MAX_TEXT: usize = 67_108_864;
 ///
 /// At most 67,108,865 bytes are read, so a reader that never ends is refused. What was read is gone from
 /// the reader, whatever is returned.
+#[tactic(auto, using(crate::proofs::Texts::Judging::whole_result))]
 pub fn read_image<R: Read>(alloc: Global, reader: &mut Tally<R>) -> Result<Image, TextFault>
     ensures text { (text : List ℕ)
         × Consumes (R.remaining reader.old.inner) (R.remaining reader.new.inner) text

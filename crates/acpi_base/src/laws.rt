@@ -47,6 +47,7 @@ pub fn roots_list_slots()
 {}
 
 /// Reading an image text byte by byte is reading it by lines, in any pieces.
+#[tactic(auto, using(crate::proofs::Texts::ByteMachine::machine_laws))]
 pub fn machine_reads_lines()
     ensures text { RunReadsText }
     ensures prefix { RunReadsPrefix }

@@ -58,6 +58,7 @@ impl Policy {
     /// A policy with no count of its own for any I/O APIC. Takes no memory.
     ///
     /// Refuses `BadCount` where `default_inputs` lies outside 1 to 256.
+    #[tactic(auto, using(crate::proofs::Policies::map_reads))]
     pub fn new(alloc: Global, rsdp: u64, default_inputs: u16) -> Result<Policy, PolicyFault>
         ensures value { OkIff result ((1 ≤ default_inputs) × (default_inputs ≤ 256)) (record { rsdp = rsdp; default_inputs = default_inputs; inputs = empty }) }
         ensures policy { IfOk result IsPolicy }

@@ -1,152 +1,72 @@
 -- Reading a text byte by byte is reading it by lines.
-use Rattle.std.proofs.Common.{◌≡◌, ℕ, ◌+◌, ◌≤◌, List, [], ◌∷◌, ◌++◌, length, refl, sym, ap, ◌∙◌, arith, eqb, if◌then◌else◌, true, false, length-append}
+use Rattle.std.proofs.Common.{◌≡◌, ℕ, ◌+◌, List, [], ◌∷◌, ◌++◌, length, refl, sym, ap, ◌∙◌, arith, eqb, if◌then◌else◌, length-append}
 use Rattle.std.proofs.lemmas.Bool.Decides.{nat_tests}
-use Rattle.std.specs.Prelude.{Option, None, Some, Result, Ok, Err, ◌↔◌}
-use Rattle.acpi_base.specs.ImageText.{Line, Data, Reading, start, on_ok, is_too_long, put_data, take_line, read_line, read_lines, ended_from, last_from, read_text, read_prefix, IsRefused, IsRefusedPrefix}
+use Rattle.std.specs.Prelude.{Result, Ok, Err}
+use Rattle.acpi_base.specs.ImageText.{Line, Reading, on_ok, is_too_long, take_line, read_line, read_lines, ended_from, last_from, start, read_text, read_prefix, IsRefused, IsRefusedPrefix}
 use Rattle.acpi_base.specs.TextMachine.{Standing, Going, Stopped, beginning, step, run, end_text, standing_of}
 use Rattle.acpi_base.specs.declared.text.TextFault.{TextFault}
 use Rattle.acpi_base.specs.declared.text.TextFault.TheVariants as text
 
+-- a text may come in pieces
 pub run_append : (s : Standing) (xs ys : List ℕ) → run s (xs ++ ys) ≡ run (run s xs) ys
 unfolding run
 run_append s [] ys = refl
 run_append s (b ∷ xs) ys = run_append (step s b) xs ys
 
-run-stopped : (fault : TextFault) (bytes : List ℕ) → run (Stopped fault) bytes ≡ Stopped fault
+-- a machine that has stopped stays so
+run_stopped : (fault : TextFault) (bytes : List ℕ) → run (Stopped fault) bytes ≡ Stopped fault
 unfolding run
-run-stopped fault [] = refl
-run-stopped fault (b ∷ rest) = run-stopped fault rest
-
-on_ok-assoc : {A B C E : Type 0} (x : Result A E) (f : A → Result B E) (g : B → Result C E) → on_ok (on_ok x f) g ≡ on_ok x (λ a. on_ok (f a) g)
-on_ok-assoc (Ok x) f g = refl
-on_ok-assoc (Err e) f g = refl
-
--- what is too long stays so
-longer : (a b c d : ℕ) → a ≤ c → b ≤ d → is_too_long a b ≡ true → is_too_long c d ≡ true
-longer a b c d p q h = grind (arith, nat_tests)
-
--- a line that is too long, or makes the text so
-read_line_long : (r : Reading) (line : List ℕ) (ending : ℕ) → is_too_long (length line) (r.through + length line + ending) ≡ true → read_line r line ending ≡ Err text.TooLong
-unfolding read_line
-read_line_long r line ending long = rw long refl
-
--- How a text ends, from a reading and what stands after the last LF. It is too long where that is.
-abbrev Ending : Type 0
-Ending = Reading → List ℕ → Result Reading TextFault
-
-abbrev MindsLength : Ending → Type 0
-MindsLength end = (r : Reading) (line : List ℕ) → is_too_long (length line) (r.through + length line) ≡ true → end r line ≡ Err text.TooLong
-
--- the standing, ended so
-abbrev ended : Ending → Standing → Result Reading TextFault
-ended end (Going r line) = end r line
-ended end (Stopped fault) = Err fault
-
--- the lines that are left, ended so; `line` is a prefix of the first
-abbrev lines_from : Ending → Reading → List ℕ → List ℕ → Result Reading TextFault
-lines_from end r line bytes = on_ok (read_lines r (ended_from line bytes)) (λ s. end s (last_from line bytes))
-
-lines_from-lf : (end : Ending) (r : Reading) (line : List ℕ) (b : ℕ) (rest : List ℕ) → eqb b 10 ≡ true
-    → lines_from end r line (b ∷ rest) ≡ on_ok (read_line r line 1) (λ s. lines_from end s [] rest)
-unfolding read_lines ended_from last_from
-lines_from-lf end r line b rest lf = rw lf (on_ok-assoc (read_line r line 1) (λ s. read_lines s (ended_from [] rest)) (λ s. end s (last_from [] rest)))
-
-lines_from-other : (end : Ending) (r : Reading) (line : List ℕ) (b : ℕ) (rest : List ℕ) → eqb b 10 ≡ false
-    → lines_from end r line (b ∷ rest) ≡ lines_from end r (line ++ b ∷ []) rest
-unfolding ended_from last_from
-lines_from-other end r line b rest other = rw other refl
-
-one_longer : (line : List ℕ) (b : ℕ) → length (line ++ b ∷ []) ≡ length line + 1
-one_longer line b = length-append line (b ∷ [])
-
--- a line that is too long already is so where it ends
-lines_from-long : (end : Ending) → MindsLength end → (r : Reading) (line bytes : List ℕ) → is_too_long (length line) (r.through + length line) ≡ true
-    → lines_from end r line bytes ≡ Err text.TooLong
-unfolding read_lines ended_from last_from
-lines_from-long end minds r line [] long = minds r line long
-lines_from-long end minds r line (b ∷ rest) long =
-    grind (arith, longer (length line) (r.through + length line), one_longer line b, lines_from-lf end r line b rest, read_line_long r line 1, lines_from-other end r line b rest, lines_from-long end minds r (line ++ b ∷ []) rest)
-
--- the run, ended so, is the lines, ended so
-run_ended : (end : Ending) → MindsLength end → (r : Reading) (line bytes : List ℕ) → ended end (run (Going r line) bytes) ≡ lines_from end r line bytes
-unfolding run read_lines ended_from last_from
-run_ended end minds r line [] = refl
-run_ended end minds r line (b ∷ rest) =
-    grind (arith, lines_from-lf end r line b rest, lines_from-other end r line b rest, run-stopped, one_longer line b, lines_from-long end minds r (line ++ b ∷ []) rest, run_ended end minds r (line ++ b ∷ []) rest, λ (s : Reading). run_ended end minds s [] rest)
-
--- the end of a text
-text_end : Ending
-text_end r line = read_line r line 0
-
-text_end_minds : MindsLength text_end
-unfolding text_end
-text_end_minds r line long = read_line_long r line 0 (longer (length line) (r.through + length line) (length line) (r.through + length line + 0) (omega arith) (omega arith) long)
-
-ended-text : (s : Standing) → end_text s ≡ ended text_end s
-unfolding text_end
-ended-text (Going r line) = refl
-ended-text (Stopped fault) = refl
-
-pub run_reads_text : (bytes : List ℕ) → end_text (run beginning bytes) ≡ read_text bytes
-unfolding text_end
-run_reads_text bytes = ended-text (run beginning bytes) ∙ run_ended text_end text_end_minds start [] bytes
+run_stopped fault [] = refl
+run_stopped fault (b ∷ rest) = run_stopped fault rest
 
 -- what a line says moves no count of bytes
-put_data_keeps : (r : Reading) (n : ℕ) (bytes : List ℕ) (next : Option ℕ) (s : Reading) → put_data r n bytes next ≡ Ok s → s.through ≡ r.through
-put_data_keeps r n bytes None s e = absurd (cc)
-put_data_keeps r n bytes (Some address) s e = grind (arith)
-
 pub take_line_keeps : (r : Reading) (n : ℕ) (said : Line) (s : Reading) → take_line r n said ≡ Ok s → s.through ≡ r.through
-take_line_keeps r n (Data bytes) s e = put_data_keeps r n bytes r.next s e
-take_line_keeps r n said s e = grind arith
+take_line_keeps r n said s e = grind (arith)
 
--- after a line the text is not too long so far
-read_line_fits : (r : Reading) (line : List ℕ) (ending : ℕ) (s : Reading) → read_line r line ending ≡ Ok s → is_too_long 0 (s.through + 0) ≡ false
+-- where reading stands within a line, of which these bytes have come
+abbrev after : Result Reading TextFault → List ℕ → Standing
+after (Ok r) line = if is_too_long (length line) (r.through + length line) then Stopped text.TooLong else Going r line
+after (Err fault) line = Stopped fault
+
+-- a byte ends the line or goes onto it
+step_after : (r : Reading) (line : List ℕ) (b : ℕ)
+    → step (after (Ok r) line) b ≡ (if eqb b 10 then after (read_line r line 1) [] else after (Ok r) (line ++ b ∷ []))
 unfolding read_line
-read_line_fits r line ending s e = grind (arith, take_line_keeps)
+step_after r line b = grind (arith, nat_tests, length-append, take_line_keeps)
 
--- the line so far, and the text so far, are within the limits
-abbrev IsWithin : Standing → Type 0
-IsWithin (Going r line) = is_too_long (length line) (r.through + length line) ≡ false
-IsWithin (Stopped fault) = Unit {0}
+-- the machine stands where reading by lines does
+run_after : (x : Result Reading TextFault) (line bytes : List ℕ)
+    → run (after x line) bytes ≡ after (on_ok x (λ r. read_lines r (ended_from line bytes))) (last_from line bytes)
+unfolding run read_lines ended_from last_from
+run_after (Err fault) line bytes = run_stopped fault bytes
+run_after (Ok r) line [] = refl
+run_after (Ok r) line (b ∷ rest) = grind (arith, step_after, run_after (read_line r line 1) [] rest, run_after (Ok r) (line ++ b ∷ []) rest)
 
-step-within : (s : Standing) (b : ℕ) → IsWithin (step s b)
-step-within (Going r line) b = grind (arith, read_line_fits, one_longer)
-step-within (Stopped fault) b = tt
+-- a whole text
+pub run_reads_text : (bytes : List ℕ) → end_text (run beginning bytes) ≡ read_text bytes
+unfolding read_line
+run_reads_text bytes = grind (arith, nat_tests, run_after (Ok start) [] bytes)
 
-run-within : (s : Standing) (bytes : List ℕ) → IsWithin s → IsWithin (run s bytes)
-unfolding run
-run-within s [] within = within
-run-within s (b ∷ rest) within = run-within (step s b) rest (step-within s b)
-
--- the end of a prefix
-prefix_end : Ending
-prefix_end r line = if is_too_long (length line) (r.through + length line) then Err text.TooLong else Ok r
-
-prefix_end_minds : MindsLength prefix_end
-unfolding prefix_end
-prefix_end_minds r line long = rw long refl
-
-ended-prefix : (s : Standing) → IsWithin s → standing_of s ≡ ended prefix_end s
-unfolding prefix_end
-ended-prefix (Going r line) within = rw within refl
-ended-prefix (Stopped fault) within = refl
-
+-- a prefix of a text
 pub run_reads_prefix : (bytes : List ℕ) → standing_of (run beginning bytes) ≡ read_prefix bytes
-unfolding prefix_end
-run_reads_prefix bytes = ended-prefix (run beginning bytes) (run-within beginning bytes refl) ∙ run_ended prefix_end prefix_end_minds start [] bytes
+run_reads_prefix bytes = grind (arith, run_after (Ok start) [] bytes)
 
-stopped_by : (s : Standing) (fault : TextFault) → standing_of s ≡ Err fault → s ≡ Stopped fault
-stopped_by (Going r line) fault e = absurd (cc)
-stopped_by (Stopped other) fault e = let same : other ≡ fault = cc in ap Stopped same
+-- only the stopped machine stands for a fault
+stands_stopped : (s : Standing) (fault : TextFault) → standing_of s ≡ Err fault → s ≡ Stopped fault
+stands_stopped s fault e = grind (arith)
 
-pub run_stops : (bytes : List ℕ) (fault : TextFault) → (run beginning bytes ≡ Stopped fault) ↔ IsRefusedPrefix bytes fault
-run_stops bytes fault = (
-  (λ (stops : run beginning bytes ≡ Stopped fault). sym (run_reads_prefix bytes) ∙ ap standing_of stops),
-  (λ (refused : IsRefusedPrefix bytes fault). stopped_by (run beginning bytes) fault (run_reads_prefix bytes ∙ refused)),
-)
+-- a prefix at which the machine has stopped is refused with the same fault
+pub refused_where_stopped : (bytes : List ℕ) (fault : TextFault) → run beginning bytes ≡ Stopped fault → IsRefusedPrefix bytes fault
+refused_where_stopped bytes fault stops = sym (run_reads_prefix bytes) ∙ ap standing_of stops
 
+-- the machine has stopped at a prefix that is refused
+pub stopped_where_refused : (bytes : List ℕ) (fault : TextFault) → IsRefusedPrefix bytes fault → run beginning bytes ≡ Stopped fault
+stopped_where_refused bytes fault refused = stands_stopped (run beginning bytes) fault (run_reads_prefix bytes ∙ refused)
+
+-- a fault in a prefix of a text is the whole text's
 pub prefix_is_decided : (bytes more : List ℕ) (fault : TextFault) → IsRefusedPrefix bytes fault → IsRefused (bytes ++ more) fault
 prefix_is_decided bytes more fault refused =
-    let stops : run beginning bytes ≡ Stopped fault = stopped_by (run beginning bytes) fault (run_reads_prefix bytes ∙ refused) in
-    sym (run_reads_text (bytes ++ more)) ∙ ap end_text (run_append beginning bytes more ∙ ap (λ s. run s more) stops ∙ run-stopped fault more)
+    sym (run_reads_text (bytes ++ more)) ∙ (rw (run_append beginning bytes more, stopped_where_refused bytes fault refused, run_stopped) refl)
+
+-- what the law `machine_reads_lines` says
+pub ruleset machine_laws = (run_reads_text, run_reads_prefix, refused_where_stopped, stopped_where_refused, run_append)

@@ -1,73 +1,60 @@
 -- The lines of a text are what stands between its LFs.
-use Rattle.std.proofs.lemmas.Grind.{common_steps}
-use Rattle.std.proofs.Common.{◌≡◌, ℕ, suc, ◌<◌, List, [], ◌∷◌, ◌++◌, length, inl, inr, refl, sym, ap, subst, ◌∙◌, arith, append_assoc}
+use Rattle.std.proofs.Common.{◌≡◌, ℕ, ◌<◌, List, [], ◌∷◌, ◌++◌, length, get_or, refl, sym, ap, subst, ◌∙◌, arith, append_assoc, eqb, false, inl, inr}
 use Rattle.std.proofs.lemmas.Bool.{cases_eq, ne_eqb}
+use Rattle.std.proofs.lemmas.Bool.Decides.{nat_tests}
 use Rattle.std.proofs.lemmas.List.{append-nil}
-use Rattle.std.proofs.lemmas.List.Elements.{All-cons, All-nil, All-head, All-tail, Contains-push_cases}
+use Rattle.std.proofs.lemmas.List.Elements.{All-cons, All-nil, All-head, All-tail, All-push, All-weaker, All-from_get_or, Contains-get_or}
+use Rattle.std.proofs.lemmas.List.Splits.{slice_split_none, slice_split_at, length-slice_split, join_with_byte-slice_split}
+use Rattle.std.specs.List.{All, Contains, join_with_byte, slice_split}
 use Rattle.std.specs.Prelude.{◌↔◌}
-use Rattle.std.specs.List.{All, Contains, join_with_byte}
 use Rattle.acpi_base.specs.ImageText.{ended_from, last_from}
 use Rattle.acpi_base.specs.TextMeaning.{text_lines, AreLines}
 
--- the lines of the text, whose first one begins with `line`
-abbrev lines_from : List ℕ → List ℕ → List (List ℕ)
-lines_from line bytes = ended_from line bytes ++ last_from line bytes ∷ []
-
+-- no byte is an LF
 abbrev IsLine : List ℕ → Type 0
-IsLine line = ¬ Contains line 10
+IsLine line = All (λ b. eqb b 10 ≡ false) line
 
-lines_from-lf : (line : List ℕ) (b : ℕ) (rest : List ℕ) → b ≡ 10 → lines_from line (b ∷ rest) ≡ line ∷ lines_from [] rest
+-- the lines from a prefix of the first on are what stands between LFs, and have none
+lines_are_parts : (line bytes : List ℕ) → IsLine line
+    → (ended_from line bytes ++ last_from line bytes ∷ [] ≡ slice_split (λ b. eqb b 10) (line ++ bytes))
+    × All IsLine (ended_from line bytes ++ last_from line bytes ∷ [])
 unfolding ended_from last_from
-lines_from-lf line b rest lf = rw lf refl
-
-lines_from-other : (line : List ℕ) (b : ℕ) (rest : List ℕ) → (b ≡ 10 → ⊥) → lines_from line (b ∷ rest) ≡ lines_from (line ++ b ∷ []) rest
-unfolding ended_from last_from
-lines_from-other line b rest other = rw (ne_eqb b 10 other) refl
-
-join-more : (line : List ℕ) (lines : List (List ℕ)) → 0 < length lines → join_with_byte 10 (line ∷ lines) ≡ line ++ 10 ∷ join_with_byte 10 lines
-join-more line [] h = absurd (omega arith)
-join-more line (next ∷ lines) h = refl
-
-some_lines : (line bytes : List ℕ) → 0 < length (lines_from line bytes)
-some_lines line bytes = grind (arith, common_steps)
-
-join-lines : (line bytes : List ℕ) → join_with_byte 10 (lines_from line bytes) ≡ line ++ bytes
-unfolding ended_from last_from
-join-lines line [] = sym (append-nil line)
-join-lines line (b ∷ rest) = grind (arith, cases_eq, lines_from-lf, join-more, some_lines, lines_from-other, append_assoc, join-lines [] rest, join-lines (line ++ b ∷ []) rest)
-
-line_more : (line : List ℕ) (b : ℕ) → IsLine line → (b ≡ 10 → ⊥) → IsLine (line ++ b ∷ [])
-line_more line b whole other c = elim (Contains-push_cases line b 10 c) [ inl d ↦ whole d | inr e ↦ other e ]
-
-whole_lines : (line bytes : List ℕ) → IsLine line → All IsLine (lines_from line bytes)
-unfolding ended_from last_from
-whole_lines line [] whole = All-cons IsLine line [] whole (All-nil IsLine)
-whole_lines line (b ∷ rest) whole =
+lines_are_parts line [] whole = rw append-nil (sym (slice_split_none _ line whole), All-cons IsLine line [] whole (All-nil _))
+lines_are_parts line (b ∷ rest) whole =
     elim (cases_eq b 10) [
-      | inl lf ↦ subst (All IsLine) (sym (lines_from-lf line b rest lf)) (All-cons IsLine line (lines_from [] rest) whole (whole_lines [] rest (λ c. absurd (omega (arith, c.1)))))
-      | inr other ↦ subst (All IsLine) (sym (lines_from-other line b rest other)) (whole_lines (line ++ b ∷ []) rest (line_more line b whole other))
+      | inl lf ↦
+          let later = lines_are_parts [] rest (All-nil _) in
+          rw lf (ap (λ lines. line ∷ lines) later.0 ∙ sym (slice_split_at _ line 10 rest whole refl), All-cons IsLine line _ whole later.1)
+      | inr other ↦
+          let test = ne_eqb b 10 other in
+          rw (test, ← append_assoc line (b ∷ []) rest) (lines_are_parts (line ++ b ∷ []) rest (All-push (λ b. eqb b 10 ≡ false) line b whole test))
     ]
 
-line_rest : (b : ℕ) (line : List ℕ) → IsLine (b ∷ line) → (b ≡ 10 → ⊥) × IsLine line
-line_rest b line whole = (λ e. whole (0, omega arith, e), λ c. whole (suc c.0, omega (arith, c.1), c.2))
+-- lines that are joined by LFs stand between them
+parts_of_join : (lines : List (List ℕ)) → 0 < length lines → All IsLine lines → slice_split (λ b. eqb b 10) (join_with_byte 10 lines) ≡ lines
+parts_of_join [] some whole = absurd (omega arith)
+parts_of_join (line ∷ []) some whole = slice_split_none _ line (All-head IsLine line [] whole)
+parts_of_join (line ∷ next ∷ lines) some whole =
+    slice_split_at _ line 10 _ (All-head IsLine line (next ∷ lines) whole) refl
+    ∙ ap (λ parts. line ∷ parts) (parts_of_join (next ∷ lines) (omega arith) (All-tail IsLine line (next ∷ lines) whole))
 
-last_alone : (begun line : List ℕ) → IsLine line → lines_from begun line ≡ (begun ++ line) ∷ []
-unfolding ended_from last_from
-last_alone begun [] whole = ap (λ x. x ∷ []) (sym (append-nil begun))
-last_alone begun (b ∷ line) whole = grind (arith, line_rest b line whole, lines_from-other begun b line, append_assoc begun (b ∷ []) line, last_alone (begun ++ b ∷ []) line)
+-- what is a line has no LF
+has_no_lf : (line : List ℕ) → IsLine line → ¬ Contains line 10
+has_no_lf line whole = grind (arith, nat_tests)
 
-first_line : (begun line rest : List ℕ) → IsLine line → lines_from begun (line ++ 10 ∷ rest) ≡ (begun ++ line) ∷ lines_from [] rest
-unfolding ended_from last_from
-first_line begun [] rest whole = lines_from-lf begun 10 rest refl ∙ ap (λ x. x ∷ lines_from [] rest) (sym (append-nil begun))
-first_line begun (b ∷ line) rest whole = grind (arith, line_rest b line whole, lines_from-other begun b (line ++ 10 ∷ rest), append_assoc begun (b ∷ []) line, first_line (begun ++ b ∷ []) line rest)
+-- what has no LF is a line
+is_line : (line : List ℕ) → (¬ Contains line 10) → IsLine line
+is_line line free = All-from_get_or (λ b. eqb b 10 ≡ false) line 0 (λ i h.
+    ne_eqb (get_or line i 0) 10 (λ e. free (subst (Contains line) e (Contains-get_or line i 0 h))))
 
-lines_of_join : (lines : List (List ℕ)) → 0 < length lines → All IsLine lines → lines_from [] (join_with_byte 10 lines) ≡ lines
-lines_of_join [] some whole = absurd (omega arith)
-lines_of_join (line ∷ []) some whole = last_alone [] line (All-head IsLine line [] whole)
-lines_of_join (line ∷ next ∷ lines) some whole = grind (arith, first_line [] line (join_with_byte 10 (next ∷ lines)), All-head IsLine line (next ∷ lines) whole, All-tail IsLine line (next ∷ lines) whole, lines_of_join (next ∷ lines))
-
+-- the lines of a text are what stands between its LFs, and nothing else is
 pub lines_mean : (bytes : List ℕ) (lines : List (List ℕ)) → (text_lines bytes ≡ lines) ↔ AreLines bytes lines
-lines_mean bytes lines = (
-  λ e. subst (AreLines bytes) e (record { some = some_lines [] bytes; joined = join-lines [] bytes; whole = whole_lines [] bytes (λ c. absurd (omega (arith, c.1))) }),
-  λ are. ap (lines_from []) (sym are.joined) ∙ lines_of_join lines are.some are.whole,
-)
+lines_mean bytes lines =
+    let cut = lines_are_parts [] bytes (All-nil _) in (
+      λ e. record {
+        some = omega (arith, ap length (sym e ∙ cut.0), length-slice_split (λ b. eqb b 10) bytes);
+        joined = ap (join_with_byte 10) (sym e ∙ cut.0) ∙ join_with_byte-slice_split 10 bytes;
+        whole = subst (All (λ line. ¬ Contains line 10)) e (All-weaker IsLine _ has_no_lf _ cut.1);
+      },
+      λ are. cut.0 ∙ ap (slice_split _) (sym are.joined) ∙ parts_of_join lines are.some (All-weaker _ IsLine is_line lines are.whole),
+    )

@@ -96,7 +96,7 @@ fn is_all_blank(text: &[u8]) -> bool
 }
 
 /// The number that up to 16 hex digits spell, the highest first.
-#[tactic(auto, unfolding(crate::specs::ImageText::hex_number))]
+#[tactic(auto, unfolding(crate::specs::ImageText::hex_number), using(crate::proofs::Texts::LineParsing::power_fits))]
 fn number_value(digits: &[u8]) -> u64
     requires { length digits.now ≤ 16 }
     ensures { result ≡ hex_number 0 digits.now }
@@ -122,7 +122,7 @@ fn parse_address(rest: &[u8]) -> Form
 
 /// Whether the line is pairs of hex digits, with any blanks between pairs and after the last. If so, the
 /// vector has their bytes.
-#[tactic(auto, unfolding(crate::specs::ImageText::data_from))]
+#[tactic(auto, unfolding(crate::specs::ImageText::data_from), using(crate::proofs::Texts::LineParsing::one_more))]
 fn parse_data(line: &[u8], bytes: &mut Vec<u8>) -> Result<bool, AllocError>
     ensures { IfOk result (λ is_data. data_line is_data bytes.new.items ≡ data_from [] None line.now) }
 {
@@ -143,7 +143,7 @@ fn parse_data(line: &[u8], bytes: &mut Vec<u8>) -> Result<bool, AllocError>
 }
 
 /// What a line says, its LF left off. The bytes of a data line go into the vector, in place of what it had.
-#[tactic(auto, unfolding(crate::specs::ImageText::line_of), using(crate::proofs::Texts::LineParsing::form_of_first, crate::proofs::Texts::LineParsing::line_of_rest, crate::proofs::Texts::LineParsing::form_of_none))]
+#[tactic(auto, unfolding(crate::specs::ImageText::line_of, crate::specs::ImageText::form_of))]
 pub fn parse_line(line: &[u8], bytes: &mut Vec<u8>) -> Result<Form, AllocError>
     ensures { IfOk result (λ form. line_with form bytes.new.items ≡ line_of line.now) }
 {

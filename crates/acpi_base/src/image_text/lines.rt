@@ -127,7 +127,7 @@ impl Progress {
 }
 
 /// Where the line that begins at `start` ends: at its LF, or at the text's end.
-#[tactic(auto, unfolding(crate::specs::ImageText::ended_from, crate::specs::ImageText::last_from), using(crate::proofs::Texts::LineParsing::ended_from_more, crate::proofs::Texts::LineParsing::last_from_more))]
+#[tactic(auto, unfolding(crate::specs::ImageText::ended_from, crate::specs::ImageText::last_from), using(crate::proofs::Texts::LineParsing::one_more))]
 fn line_end(text: &[u8], start: usize) -> usize
     requires { start ≤ length text.now }
     ensures within { (start ≤ result) × (result ≤ length text.now) }

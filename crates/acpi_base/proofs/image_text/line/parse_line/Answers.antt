@@ -1,14 +1,9 @@
-use Rattle.std.proofs.Common.{◌≡◌, ◌<◌, length, drop, get_or, eqb, true, arith, sym, ap, ◌∙◌}
+use Rattle.std.proofs.Common.{arith}
 use Rattle.std.proofs.lemmas.Bool.Decides.{nat_tests}
-use Rattle.acpi_base.specs.ImageText.{without_comment, skip_blanks, form_of, address_of}
-use Rattle.acpi_base.proofs.Texts.LineParsing.{slice_rest, line_of_rest, form_of_first}
+use Rattle.acpi_base.specs.ImageText.{line_of, form_of}
+use Rattle.std.proofs.lemmas.Slice.{between_to_end}
 use Rattle.acpi_base.proofs.image_text.line.parse_line.Goals as goal
 
 pub returns-then-rest-eq64 : goal.returns-then-rest-eq64
-returns-then-rest-eq64 c =
-    let rest = c.cut_blanks-rest.result.now in
-    let is = c.cut_blanks-rest.ensures ∙ ap skip_blanks (c.cut_comment.ensures ∙ ap without_comment c.cut_cr.ensures) in
-    let some : 0 < length rest = grind (arith, nat_tests) in
-    let test : eqb (get_or rest 0 0) 64 ≡ true = grind (arith, nat_tests) in
-    let front : form_of rest ≡ address_of (drop 1 rest) = rw test at (form_of_first rest some) in
-    (rw (slice_rest rest 1) at (c.parse_address.ensures c.args.bytes.now.items)) ∙ sym (line_of_rest c.args.line.now rest is ∙ front)
+unfolding line_of form_of
+returns-then-rest-eq64 c = grind (arith, nat_tests, between_to_end c.cut_blanks-rest.result.now 1, c.parse_address.ensures c.args.bytes.now.items)
