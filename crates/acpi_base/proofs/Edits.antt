@@ -30,8 +30,8 @@ not_appended (Ok x) ss k s t bs e b f = tt
 not_appended (Err x) ss k s t bs e b f =
     runs-set ss k t s.base s.bytes.items b f ∙ sym (map-set run ss k s) ∙ ap (λ u. runs (set ss k u)) e ∙ ap runs (set-get_or ss k s)
 
-pub prepended : (ss : List Segment) (k : ℕ) (s t : Segment) (bs : List ℕ) → k < length ss → s ≡ get_or ss k s → t.bytes.items ≡ bs ++ s.bytes.items → runs (set ss k t) ≡ set (runs ss) k (run_at t.base (bs ++ (run_in (runs ss) k).bytes))
-prepended ss k s t bs h e f = grind (arith, runs-set, run_in-read)
+pub prepended : (ss : List Segment) (k : ℕ) (s t : Segment) (a : ℕ) (bs : List ℕ) → k < length ss → s ≡ get_or ss k s → t.base ≡ a → t.bytes.items ≡ bs ++ s.bytes.items → runs (set ss k t) ≡ set (runs ss) k (run_at a (bs ++ (run_in (runs ss) k).bytes))
+prepended ss k s t a bs h e b f = grind (arith, runs-set, run_in-read)
 
 pub runs-remove : (ss : List Segment) (k : ℕ) → runs (remove ss k) ≡ remove (runs ss) k
 runs-remove ss k = map-append run (take k ss) (drop (suc k) ss) ∙ ap (λ rs. rs ++ runs (drop (suc k) ss)) (sym (take-map run k ss)) ∙ ap (λ rs. take k (runs ss) ++ rs) (sym (drop-map run (suc k) ss))

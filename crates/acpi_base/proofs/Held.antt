@@ -60,39 +60,39 @@ byte_of-with_bytes m a (b ∷ bs) x =
     ∙ or-cond (x == a) b (held (record { base = a + 1; bytes = bs }) x) (byte_of m x)
     ∙ ap (λ o. option_or o (byte_of m x)) (sym (held-cons a b bs x))
 
-pub byte_of-memory_of : (rs : List Run) (x : ℕ) → byte_of (memory_of rs) x ≡ lookup rs x
-byte_of-memory_of [] x = get-empty nat_cmp x
-byte_of-memory_of (r ∷ rs) x = byte_of-with_bytes (memory_of rs) r.base r.bytes x ∙ ap (option_or (held r x)) (byte_of-memory_of rs x)
+pub byte_of_memory_of : (rs : List Run) (x : ℕ) → byte_of (memory_of rs) x ≡ lookup rs x
+byte_of_memory_of [] x = get-empty nat_cmp x
+byte_of_memory_of (r ∷ rs) x = byte_of-with_bytes (memory_of rs) r.base r.bytes x ∙ ap (option_or (held r x)) (byte_of_memory_of rs x)
 
 -- the bytes of a run from an address on
-pub run_of-held : (r : Run) (a n : ℕ) → r.base ≤ a → a + n ≤ end_of r → run_of (held r) a n ≡ Some (take n (drop (a - r.base) r.bytes))
+pub run_of_held : (r : Run) (a n : ℕ) → r.base ≤ a → a + n ≤ end_of r → run_of (held r) a n ≡ Some (take n (drop (a - r.base) r.bytes))
 unfolding run_of cons_both
-run_of-held r a zero l h = refl
-run_of-held r a (suc n) l h = grind (arith, common_steps, held_at, drop-cons, run_of-held r (a + 1) n (omega arith) (omega arith))
+run_of_held r a zero l h = refl
+run_of_held r a (suc n) l h = grind (arith, common_steps, held_at, drop-cons, run_of_held r (a + 1) n (omega arith) (omega arith))
 
 pub held_none : (r : Run) (a : ℕ) → (a < r.base) ⊎ (end_of r ≤ a) → held r a ≡ None
 held_none r a (inl l) = held_below r a l
 held_none r a (inr l) = held_past r a l
 
 -- the first address of a run among n addresses from a on
-pub first_of-held_above : (r : Run) (a n : ℕ) → a < r.base → r.base < a + n → 0 < length r.bytes → first_of (held r) a n ≡ Some r.base
-first_of-held_above r a n l m f =
+pub first_of_held_above : (r : Run) (a n : ℕ) → a < r.base → r.base < a + n → 0 < length r.bytes → first_of (held r) a n ≡ Some r.base
+first_of_held_above r a n l m f =
     let q : a + (r.base - a) ≡ r.base = omega arith in
     first_of_at (held r) a n (r.base - a) (omega arith) (held_some r (a + (r.base - a)) (omega arith) (omega arith)) (λ j h. held_below r (a + j) (omega arith)) ∙ ap Some q
 
-pub first_of-held_within : (r : Run) (a n : ℕ) → r.base ≤ a → a < end_of r → 0 < n → first_of (held r) a n ≡ Some a
-first_of-held_within r a n l m h =
+pub first_of_held_within : (r : Run) (a n : ℕ) → r.base ≤ a → a < end_of r → 0 < n → first_of (held r) a n ≡ Some a
+first_of_held_within r a n l m h =
     let q : a + 0 ≡ a = omega arith in
     first_of_at (held r) a n 0 h (held_some r (a + 0) (omega arith) (omega arith)) (λ j i. absurd (omega arith)) ∙ ap Some q
 
-pub first_of-held_outside : (r : Run) (a n : ℕ) → (a + n ≤ r.base) ⊎ (end_of r ≤ a) → first_of (held r) a n ≡ None
-first_of-held_outside r a n (inl l) = first_of_none (held r) a n (λ k h. held_below r (a + k) (omega arith))
-first_of-held_outside r a n (inr l) = first_of_none (held r) a n (λ k h. held_past r (a + k) (omega arith))
+pub first_of_held_outside : (r : Run) (a n : ℕ) → (a + n ≤ r.base) ⊎ (end_of r ≤ a) → first_of (held r) a n ≡ None
+first_of_held_outside r a n (inl l) = first_of_none (held r) a n (λ k h. held_below r (a + k) (omega arith))
+first_of_held_outside r a n (inr l) = first_of_none (held r) a n (λ k h. held_past r (a + k) (omega arith))
 
 -- where a run does not hold all n addresses from a on
-pub run_of-held_outside : (r : Run) (a n : ℕ) → 0 < n → ((a < r.base) ⊎ (end_of r < a + n)) → run_of (held r) a n ≡ None
-run_of-held_outside r a n h (inl l) = run_of_none (held r) a n 0 h (held_below r (a + 0) (omega arith))
-run_of-held_outside r a n h (inr l) =
+pub run_of_held_outside : (r : Run) (a n : ℕ) → 0 < n → ((a < r.base) ⊎ (end_of r < a + n)) → run_of (held r) a n ≡ None
+run_of_held_outside r a n h (inl l) = run_of_none (held r) a n 0 h (held_below r (a + 0) (omega arith))
+run_of_held_outside r a n h (inr l) =
     elim (cases_lt a (end_of r)) [
       | inl m ↦ run_of_none (held r) a n (end_of r - a) (omega arith) (held_past r (a + (end_of r - a)) (omega arith))
       | inr m ↦ run_of_none (held r) a n 0 h (held_past r (a + 0) (omega arith))

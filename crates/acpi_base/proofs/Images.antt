@@ -12,7 +12,7 @@ use Rattle.acpi_base.specs.declared.image.ImageFault.{ImageFault}
 use Rattle.acpi_base.specs.declared.image.ImageFault.TheVariants.{PastEnd, Twice}
 use Rattle.acpi_base.specs.Adding.{add_refusal}
 use Rattle.acpi_base.specs.Segments.{Run, runs, held, lookup, run_at, memory_of, window_of, IsWhole, IsTidy, IsFree, Puts}
-use Rattle.acpi_base.proofs.Held.{held_inside, held_from, byte_of-memory_of, byte_of-with_bytes}
+use Rattle.acpi_base.proofs.Held.{held_inside, held_from, byte_of_memory_of, byte_of-with_bytes}
 use Rattle.acpi_base.proofs.Runs.{run_of-same, first_of-same}
 use Rattle.acpi_base.proofs.Segments.{window_of-lookup}
 use Rattle.acpi_base.proofs.Places.{free_run}
@@ -37,20 +37,20 @@ lookup_byte (r ∷ rs) a b w e =
     ] refl e
 
 pub image_of : (rs : List Run) → IsTidy rs → IsImage (memory_of rs)
-image_of rs t = grind (arith, lookup_byte, byte_of-memory_of)
+image_of rs t = grind (arith, lookup_byte, byte_of_memory_of)
 
-pub bytes_at-memory_of : (rs : List Run) (a n : ℕ) → 0 < n → IsTidy rs → bytes_at (memory_of rs) a n ≡ window_of rs a n
-bytes_at-memory_of rs a n h t = run_of-same (byte_of (memory_of rs)) (lookup rs) (byte_of-memory_of rs) a n ∙ sym (window_of-lookup rs a n h t.apart)
+pub bytes_at_memory_of : (rs : List Run) (a n : ℕ) → 0 < n → IsTidy rs → bytes_at (memory_of rs) a n ≡ window_of rs a n
+bytes_at_memory_of rs a n h t = run_of-same (byte_of (memory_of rs)) (lookup rs) (byte_of_memory_of rs) a n ∙ sym (window_of-lookup rs a n h t.apart)
 
 pub first_held-memory_of : (rs : List Run) (a n : ℕ) → first_held (memory_of rs) a n ≡ first_of (lookup rs) a n
-first_held-memory_of rs a n = first_of-same (byte_of (memory_of rs)) (lookup rs) (byte_of-memory_of rs) a n
+first_held-memory_of rs a n = first_of-same (byte_of (memory_of rs)) (lookup rs) (byte_of_memory_of rs) a n
 
 -- images with the same byte at each address are the same
 pub same_memory : (m n : Memory) → ((x : ℕ) → byte_of m x ≡ byte_of n x) → m ≡ n
 same_memory m n h = same_map nat_cmp_total nat_cmp-IsAntisymmetric m n h
 
-pub memory_of-put : (a : ℕ) (bs : List ℕ) (old new : List Run) → Puts (run_at a bs) old new → memory_of new ≡ with_bytes (memory_of old) a bs
-memory_of-put a bs old new p = grind (arith, same_memory, byte_of-memory_of, byte_of-with_bytes)
+pub memory_of_put : (a : ℕ) (bs : List ℕ) (old new : List Run) → Puts (run_at a bs) old new → memory_of new ≡ with_bytes (memory_of old) a bs
+memory_of_put a bs old new p = grind (arith, same_memory, byte_of_memory_of, byte_of-with_bytes)
 
 -- no bytes are never refused
 pub no_refusal : (f : ℕ → Option ℕ) (a n : ℕ) → a < 2 ^ 64 → n ≡ 0 → None ≡ cond (nat_lt (2 ^ 64) (a + n)) (Some PastEnd) (option_map (λ x. Twice x) (first_of f a n))

@@ -56,11 +56,11 @@ window_of-lookup rs a (suc n) l h = windows rs a n h
     windows [] a n h = nothing-run_of a n
     windows (r ∷ rs) a n h = rw (windows rs a n h.1) (sym (run_of-or (held r) (lookup rs) (run_is_parted r rs h.0) a n))
 
-pub earlier-assoc : (x y z : Option ℕ) → earlier (earlier x y) z ≡ earlier x (earlier y z)
-earlier-assoc None y z = refl
-earlier-assoc (Some a) None z = refl
-earlier-assoc (Some a) (Some b) None = refl
-earlier-assoc (Some a) (Some b) (Some c) = ap Some (omega arith)
+pub earlier_assoc : (x y z : Option ℕ) → earlier (earlier x y) z ≡ earlier x (earlier y z)
+earlier_assoc None y z = refl
+earlier_assoc (Some a) None z = refl
+earlier_assoc (Some a) (Some b) None = refl
+earlier_assoc (Some a) (Some b) (Some c) = ap Some (omega arith)
 
 earlier-least : (a : ℕ) (y : Option ℕ) → ((x : ℕ) → y ≡ Some x → a ≤ x) → (earlier (Some a) y ≡ Some a) × (earlier y (Some a) ≡ Some a)
 earlier-least a None h = (refl, refl)
@@ -80,12 +80,12 @@ each_run P [] i s h e a = absurd (omega arith)
 each_run P (t ∷ ts) zero s h e a = subst (λ u. P (run u)) (sym e) a.0
 each_run P (t ∷ ts) (suc i) s h e a = each_run P ts i s (omega arith) e a.1
 
-pub first_of-lookup_more : (ss : List Segment) (i : ℕ) (s : Segment) (b n : ℕ) → i < length ss → s ≡ get_or ss i s → first_of (lookup (runs (drop i ss))) b n ≡ earlier (first_of (held (run s)) b n) (first_of (lookup (runs (drop (i + 1) ss))) b n)
-first_of-lookup_more ss i s b n h e = ap (λ rs. first_of (lookup rs) b n) (runs_more ss i s h e) ∙ first_of-or (held (run s)) (lookup (runs (drop (i + 1) ss))) b n
+pub first_of_lookup_more : (ss : List Segment) (i : ℕ) (s : Segment) (b n : ℕ) → i < length ss → s ≡ get_or ss i s → first_of (lookup (runs (drop i ss))) b n ≡ earlier (first_of (held (run s)) b n) (first_of (lookup (runs (drop (i + 1) ss))) b n)
+first_of_lookup_more ss i s b n h e = ap (λ rs. first_of (lookup rs) b n) (runs_more ss i s h e) ∙ first_of-or (held (run s)) (lookup (runs (drop (i + 1) ss))) b n
 
 earlier-none : (x : Option ℕ) → earlier x None ≡ x
 earlier-none None = refl
 earlier-none (Some a) = refl
 
-pub first_of-lookup_all : (ss : List Segment) (i b n : ℕ) (x : Option ℕ) → length ss ≤ i → earlier x (first_of (lookup (runs (drop i ss))) b n) ≡ x
-first_of-lookup_all ss i b n x h = grind (arith, drop_all, first_of_none, earlier-none)
+pub first_of_lookup_all : (ss : List Segment) (i b n : ℕ) (x : Option ℕ) → length ss ≤ i → earlier x (first_of (lookup (runs (drop i ss))) b n) ≡ x
+first_of_lookup_all ss i b n x h = grind (arith, drop_all, first_of_none, earlier-none)
