@@ -32,20 +32,20 @@ pub held_inside : (r : Run) (a : ℕ) → IsSome (held r a) → (r.base ≤ a) �
 held_inside r a s = grind (arith, cases_lt, held_below, held_past)
 
 -- a run that starts with b is b, and then the rest
-held-cons : (a b : ℕ) (bs : List ℕ) (x : ℕ) → held (record { base = a; bytes = b ∷ bs }) x ≡ cond (x == a) (Some b) (held (record { base = a + 1; bytes = bs }) x)
+pub held-cons : (a b : ℕ) (bs : List ℕ) (x : ℕ) → held (record { base = a; bytes = b ∷ bs }) x ≡ cond (x == a) (Some b) (held (record { base = a + 1; bytes = bs }) x)
 held-cons a b bs x = grind (arith, cases_lt)
 
 held-either : (b : Bool) → ◌≡◌ {A = Option ℕ} (cond b None None) None
 held-either true = refl
 held-either false = refl
 
-held-nil : (a x : ℕ) → held (record { base = a; bytes = [] }) x ≡ None
+pub held-nil : (a x : ℕ) → held (record { base = a; bytes = [] }) x ≡ None
 held-nil a x = held-either (nat_lt x a)
 
 same_number : (x a : ℕ) → eq_by_cmp nat_cmp x a ≡ (x == a)
 same_number x a = grind (arith, nat_tests)
 
-or-cond : (b : Bool) (v : ℕ) (x y : Option ℕ) → cond b (Some v) (option_or x y) ≡ option_or (cond b (Some v) x) y
+pub or-cond : (b : Bool) (v : ℕ) (x y : Option ℕ) → cond b (Some v) (option_or x y) ≡ option_or (cond b (Some v) x) y
 or-cond true v x y = refl
 or-cond false v x y = refl
 

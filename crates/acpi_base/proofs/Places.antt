@@ -1,5 +1,5 @@
 -- Where among the segments bytes are put.
-use Rattle.std.proofs.Common.{◌≡◌, ℕ, zero, suc, ◌+◌, ◌^◌, ◌<◌, ◌≤◌, ◌≢◌, inl, inr, Bool, true, false, cond, List, [], ◌∷◌, length, get_or, Option, Some, None, is_some, Result, Ok, Err, OnOk, refl, sym, ap, subst, ◌∙◌, arith}
+use Rattle.std.proofs.Common.{◌≡◌, ℕ, zero, suc, ◌+◌, ◌^◌, ◌<◌, ◌≤◌, ◌≢◌, inl, inr, Bool, true, false, cond, List, [], ◌∷◌, ◌++◌, set, length, get_or, Option, Some, None, is_some, Result, Ok, Err, OnOk, refl, sym, ap, subst, ◌∙◌, arith}
 use Rattle.std.specs.Prelude.{◌==◌}
 use Rattle.std.specs.List.{AllByRecursion, position, position_or_len}
 use Rattle.std.proofs.lemmas.List.Elements.{All-map, All-from_get_or, recursion_from_All}
@@ -10,9 +10,8 @@ use Rattle.std.proofs.lemmas.Bool.{cases_lt}
 use Rattle.std.proofs.lemmas.Bool.Decides.{nat_tests}
 use Rattle.acpi_base.specs.declared.image.segments.Segment.{Segment}
 use Rattle.acpi_base.specs.Memory.{first_of}
-use Rattle.acpi_base.specs.Segments.{Run, run, runs, run_at, run_in, end_of, lookup, IsTidy, IsFree}
+use Rattle.acpi_base.specs.Segments.{Run, run, runs, run_at, run_in, end_of, lookup, place_ending, place_starting, IsTidy, IsFree, Puts, bridged}
 use Rattle.acpi_base.proofs.Edits.{run_in-read}
-use Rattle.acpi_base.proofs.Joins.{NoneBefore, NoneAfter}
 
 -- where nothing is first, there is nothing
 pub nothing_held : (f : ℕ → Option ℕ) (a n x : ℕ) → first_of f a n ≡ None → a ≤ x → x < a + n → f x ≡ None
@@ -27,38 +26,38 @@ nothing_held f a (suc n) x e l h =
       ]
     ] refl e
 
-no_place : (p : Segment → Bool) (ss : List Segment) → position p ss ≡ None → length ss ≤ position_or_len p ss
-no_place p ss e = grind (arith, cases_lt)
-
 -- where no segment passes a test, each run has what follows
-pub none_passes : (Q : Run → Type 0) (p : Segment → Bool) → ((s : Segment) → p s ≡ false → Q (run s)) → (ss : List Segment) → position p ss ≡ None → AllByRecursion Q (runs ss)
+none_passes : (Q : Run → Type 0) (p : Segment → Bool) → ((s : Segment) → p s ≡ false → Q (run s)) → (ss : List Segment) → position p ss ≡ None → AllByRecursion Q (runs ss)
 none_passes Q p f ss e =
-    let far = no_place p ss e in
+    let far : length ss ≤ position_or_len p ss = no_place p ss e in
     recursion_from_All Q (runs ss) (All-map Q run ss (λ k d h. f (get_or ss k d) (fails_before_first p ss k d (omega arith))))
+  where
+    no_place : (p : Segment → Bool) (ss : List Segment) → position p ss ≡ None → length ss ≤ position_or_len p ss
+    no_place p ss e = grind (arith, cases_lt)
 
 -- where one passes, it has it
-pub one_passes : (Q : Run → Type 0) (p : Segment → Bool) → ((s : Segment) → p s ≡ true → Q (run s)) → (ss : List Segment) (i : ℕ) → position p ss ≡ Some i → Q (run_in (runs ss) i)
+one_passes : (Q : Run → Type 0) (p : Segment → Bool) → ((s : Segment) → p s ≡ true → Q (run s)) → (ss : List Segment) (i : ℕ) → position p ss ≡ Some i → (i < length (runs ss)) × Q (run_in (runs ss) i)
 one_passes Q p f [] i e = absurd (cc)
 one_passes Q p f (s ∷ ss) i e =
     let found = position-Some p (s ∷ ss) i s e in
     let it : Segment = get_or (s ∷ ss) i s in
-    subst Q (sym (run_in-read (s ∷ ss) i it found.0 (get_or_default (s ∷ ss) i s it found.0))) (f it found.1)
+    (rw (length-map (s ∷ ss) run) found.0, subst Q (sym (run_in-read (s ∷ ss) i it found.0 (get_or_default (s ∷ ss) i s it found.0))) (f it found.1))
 
-place_within : (p : Segment → Bool) (ss : List Segment) (i : ℕ) → position p ss ≡ Some i → i < length ss
-place_within p [] i e = absurd (cc)
-place_within p (s ∷ ss) i e = (position-Some p (s ∷ ss) i s e).0
+pub none_ends : (ss : List Segment) (a : ℕ) → place_ending a ss ≡ None → AllByRecursion (λ r. end_of r ≢ a) (runs ss)
+unfolding place_ending
+none_ends ss a e = none_passes (λ r. end_of r ≢ a) (λ s. end_of (run s) == a) (λ s h. grind (arith, nat_tests)) ss e
 
-pub none_before : (ss : List Segment) (a : ℕ) (bs : List ℕ) → position (λ s. end_of (run s) == a) ss ≡ None → NoneBefore (run_at a bs) (runs ss)
-none_before ss a bs e = none_passes (λ r. end_of r ≢ a) (λ s. end_of (run s) == a) (λ s h. grind (arith, nat_tests)) ss e
+pub none_starts : (ss : List Segment) (a : ℕ) → place_starting a ss ≡ None → AllByRecursion (λ r. r.base ≢ a) (runs ss)
+unfolding place_starting
+none_starts ss a e = none_passes (λ r. r.base ≢ a) (λ s. s.base == a) (λ s h. grind (arith, nat_tests)) ss e
 
-pub none_after : (ss : List Segment) (a : ℕ) (bs : List ℕ) → position (λ s. s.base == a + length bs) ss ≡ None → NoneAfter (run_at a bs) (runs ss)
-none_after ss a bs e = none_passes (λ r. r.base ≢ a + length bs) (λ s. s.base == a + length bs) (λ s h. grind (arith, nat_tests)) ss e
+pub one_ends : (ss : List Segment) (a i : ℕ) → place_ending a ss ≡ Some i → (i < length (runs ss)) × (end_of (run_in (runs ss) i) ≡ a)
+unfolding place_ending
+one_ends ss a i e = one_passes (λ r. end_of r ≡ a) (λ s. end_of (run s) == a) (λ s h. grind (arith, nat_tests)) ss i e
 
-pub one_before : (ss : List Segment) (a i : ℕ) → position (λ s. end_of (run s) == a) ss ≡ Some i → end_of (run_in (runs ss) i) ≡ a
-one_before ss a i e = one_passes (λ r. end_of r ≡ a) (λ s. end_of (run s) == a) (λ s h. grind (arith, nat_tests)) ss i e
-
-pub one_after : (ss : List Segment) (a i : ℕ) (bs : List ℕ) → position (λ s. s.base == a + length bs) ss ≡ Some i → (run_in (runs ss) i).base ≡ a + length bs
-one_after ss a i bs e = one_passes (λ r. r.base ≡ a + length bs) (λ s. s.base == a + length bs) (λ s h. grind (arith, nat_tests)) ss i e
+pub one_starts : (ss : List Segment) (a i : ℕ) → place_starting a ss ≡ Some i → (i < length (runs ss)) × ((run_in (runs ss) i).base ≡ a)
+unfolding place_starting
+one_starts ss a i e = one_passes (λ r. r.base ≡ a) (λ s. s.base == a) (λ s h. grind (arith, nat_tests)) ss i e
 
 pub free_run : (rs : List Run) (a : ℕ) (bs : List ℕ) → IsTidy rs → 0 < length bs → a + length bs ≤ 2 ^ 64 → ((k : ℕ) → get_or bs k 0 < 256) → first_of (lookup rs) a (length bs) ≡ None → IsFree (run_at a bs) rs
 free_run rs a bs t f h s e = record {
@@ -67,13 +66,3 @@ free_run rs a bs t f h s e = record {
   free = λ x l m. nothing_held (lookup rs) a (length bs) x e l m;
 }
 
--- a search of what a reference showed
-pub found_in : {found ss : List Segment} {r o : Option ℕ} (p : Segment → Bool) → r ≡ position p found → found ≡ ss → r ≡ o → position p ss ≡ o
-found_in p e f g = sym (e ∙ ap (position p) f) ∙ g
-
-pub run_within : (p : Segment → Bool) (ss : List Segment) (i : ℕ) → position p ss ≡ Some i → i < length (runs ss)
-run_within p ss i e = rw (length-map ss run) (place_within p ss i e)
-
-pub ok_then : {T E : Type 0} (result : Result T E) (P Q : Type 0) → (P → Q) → OnOk result P → OnOk result Q
-ok_then (Ok x) P Q f p = f p
-ok_then (Err x) P Q f p = tt

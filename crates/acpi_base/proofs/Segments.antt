@@ -5,7 +5,7 @@ use Rattle.std.specs.List.{AllByRecursion}
 use Rattle.std.proofs.lemmas.List.{drop_more, drop_all}
 use Rattle.acpi_base.specs.declared.image.segments.Segment.{Segment}
 use Rattle.acpi_base.specs.Memory.{run_of, first_of, cons_both}
-use Rattle.acpi_base.specs.Segments.{Run, held, end_of, lookup, window_of, earlier, run, runs, ApartFrom, NoneTouch}
+use Rattle.acpi_base.specs.Segments.{Run, held, end_of, lookup, window_of, earlier, run, runs, IsWhole, ApartFrom, NoneTouch}
 use Rattle.acpi_base.proofs.Held.{held_below, held_past, held_inside}
 use Rattle.acpi_base.proofs.Runs.{first_of_from, first_of_none}
 
@@ -74,11 +74,11 @@ first_of-or f g a (suc n) = grind (arith, earlier-least, first_of_from, first_of
 pub runs_more : (ss : List Segment) (i : ℕ) (s : Segment) → i < length ss → s ≡ get_or ss i s → runs (drop i ss) ≡ run s ∷ runs (drop (i + 1) ss)
 runs_more ss i s h e = ap runs (drop_more ss i s h) ∙ ap (λ x. run x ∷ runs (drop (i + 1) ss)) (sym e)
 
--- what holds of each run holds of the one that was read
-pub each_run : (P : Run → Type 0) (ss : List Segment) (i : ℕ) (s : Segment) → i < length ss → s ≡ get_or ss i s → AllByRecursion P (runs ss) → P (run s)
-each_run P [] i s h e a = absurd (omega arith)
-each_run P (t ∷ ts) zero s h e a = subst (λ u. P (run u)) (sym e) a.0
-each_run P (t ∷ ts) (suc i) s h e a = each_run P ts i s (omega arith) e a.1
+-- the segment that was read is not empty
+pub filled_at : (ss : List Segment) (i : ℕ) (s : Segment) → i < length ss → s ≡ get_or ss i s → AllByRecursion IsWhole (runs ss) → 0 < length s.bytes.items
+filled_at [] i s h e a = absurd (omega arith)
+filled_at (t ∷ ts) zero s h e a = subst (λ u. 0 < length u.bytes.items) (sym e) a.0.filled
+filled_at (t ∷ ts) (suc i) s h e a = filled_at ts i s (omega arith) e a.1
 
 pub first_of_lookup_more : (ss : List Segment) (i : ℕ) (s : Segment) (b n : ℕ) → i < length ss → s ≡ get_or ss i s → first_of (lookup (runs (drop i ss))) b n ≡ earlier (first_of (held (run s)) b n) (first_of (lookup (runs (drop (i + 1) ss))) b n)
 first_of_lookup_more ss i s b n h e = ap (λ rs. first_of (lookup rs) b n) (runs_more ss i s h e) ∙ first_of-or (held (run s)) (lookup (runs (drop (i + 1) ss))) b n

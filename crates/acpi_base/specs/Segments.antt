@@ -1,7 +1,7 @@
 -- The segments of an image, as runs of bytes.
-use Rattle.std.specs.Prelude.{◌≡◌, ◌⊎◌, ℕ, ◌+◌, ◌-◌, ◌^◌, ◌<◌, ◌≤◌, min, List, [], ◌∷◌, ◌++◌, length, map, slice_get, slice_index_or, slice_set, Option, Some, None, nat_lt, if◌then◌else◌}
+use Rattle.std.specs.Prelude.{◌≡◌, ◌⊎◌, ◌==◌, ℕ, ◌+◌, ◌-◌, ◌^◌, ◌<◌, ◌≤◌, min, List, [], ◌∷◌, ◌++◌, length, map, slice_get, slice_index_or, slice_set, Option, Some, None, nat_lt, if◌then◌else◌}
 use Rattle.std.specs.Option.{option_or}
-use Rattle.std.specs.List.{remove, AllByRecursion}
+use Rattle.std.specs.List.{position, remove, AllByRecursion}
 use Rattle.std.specs.FinMap.{empty}
 use Rattle.acpi_base.specs.declared.image.segments.Segment.{Segment}
 use Rattle.acpi_base.specs.Memory.{Memory, with_bytes, run_of}
@@ -57,6 +57,14 @@ run s = record { base = s.base; bytes = s.bytes.items }
 
 abbrev pub runs : List Segment → List Run
 runs ss = map run ss
+
+-- the place of the first segment that ends at an address
+unfoldable pub place_ending : ℕ → List Segment → Option ℕ
+place_ending a ss = position (λ s. end_of (run s) == a) ss
+
+-- the place of the first segment that starts at an address
+unfoldable pub place_starting : ℕ → List Segment → Option ℕ
+place_starting a ss = position (λ s. s.base == a) ss
 
 -- an address lies between them that neither holds
 abbrev pub Apart : Run → Run → Type 0

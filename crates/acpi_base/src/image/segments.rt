@@ -5,9 +5,9 @@
 
 ghost use Rattle.std.specs.Prelude.{◌≡◌, ◌+◌, ◌-◌, ◌^◌, ◌<◌, ◌≤◌, ◌≢◌, ◌==◌, ◌++◌, IfSome, IfOk, OnOk, OnErr, slice_set, [], ◌∷◌, length, vec_len};
 ghost use Rattle.std.specs.Option.{option_map};
-ghost use Rattle.std.specs.List.{position, remove, AllByRecursion};
+ghost use Rattle.std.specs.List.{remove, AllByRecursion};
 ghost use Rattle.acpi_base.specs.Memory.{run_of, first_of};
-ghost use Rattle.acpi_base.specs.Segments.{held, lookup, window_of, earlier, run, runs, run_at, run_in, bridged, end_of, IsWhole, IsFree, Puts};
+ghost use Rattle.acpi_base.specs.Segments.{held, lookup, window_of, earlier, run, runs, run_at, run_in, bridged, place_ending, place_starting, end_of, IsWhole, IsFree, Puts};
 
 use std::alloc::{AllocError, Global};
 
@@ -104,7 +104,7 @@ fn earlier_of(first: Option<u64>, second: Option<u64>) -> Option<u64>
 }
 
 /// The least of the `count` addresses from `base` on that is held already.
-#[tactic(auto, using(crate::proofs::Segments::each_run, crate::proofs::Segments::earlier_assoc, crate::proofs::Segments::first_of_lookup_more, crate::proofs::Segments::first_of_lookup_all))]
+#[tactic(auto, using(crate::proofs::Segments::filled_at, crate::proofs::Segments::earlier_assoc, crate::proofs::Segments::first_of_lookup_more, crate::proofs::Segments::first_of_lookup_all))]
 pub fn first_held(segments: &[Segment], base: u64, count: u64) -> Option<u64>
     requires whole { AllByRecursion IsWhole (runs segments.now) }
     requires count { 0 < count }
@@ -124,8 +124,10 @@ fn ends_at(segment: &Segment, address: u64) -> bool
 }
 
 /// The segment that ends right before an address.
+#[tactic(auto, unfolding(crate::specs::Segments::place_ending))]
 pub fn ending_at(segments: &[Segment], address: u64) -> Option<usize>
-    ensures { result ≡ position (λ segment. end_of (run segment) == address) segments.now }
+    ensures place { result ≡ place_ending address segments.now }
+    ensures within { IfSome result (λ place. place < length segments.now) }
 {
     segments
         .iter()
@@ -133,8 +135,10 @@ pub fn ending_at(segments: &[Segment], address: u64) -> Option<usize>
 }
 
 /// The segment that starts right behind `count` addresses from `base` on.
+#[tactic(auto, unfolding(crate::specs::Segments::place_starting))]
 pub fn starting_at(segments: &[Segment], base: u64, count: u64) -> Option<usize>
-    ensures { result ≡ position (λ segment. segment.base == base + count) segments.now }
+    ensures place { result ≡ place_starting (base + count) segments.now }
+    ensures within { IfSome result (λ place. place < length segments.now) }
 {
     segments.iter().position(|segment| base <= segment.base && segment.base - base == count)
 }
@@ -217,7 +221,7 @@ fn bridge(
 }
 
 /// Adds bytes at addresses of which none is held. They are joined with the segments that they touch.
-#[tactic(auto, using(crate::proofs::Joins::puts_alone, crate::proofs::Joins::puts_append, crate::proofs::Joins::puts_prepend, crate::proofs::Joins::puts_bridge, crate::proofs::Joins::same_place, crate::proofs::Places::none_before, crate::proofs::Places::none_after, crate::proofs::Places::one_before, crate::proofs::Places::one_after, crate::proofs::Places::run_within))]
+#[tactic(auto, using(crate::proofs::Joins::puts, crate::proofs::Joins::two_places))]
 pub fn put(
     alloc: Global,
     segments: &mut Vec<Segment>,
