@@ -6,14 +6,13 @@ use Rattle.std.specs.List.{AllByRecursion}
 use Rattle.std.specs.FinMap.{same_map, nat_cmp-IsAntisymmetric}
 use Rattle.std.specs.Cmp.{nat_cmp_total}
 use Rattle.std.proofs.lemmas.Bool.{le-ltb, ltb-false}
-use Rattle.acpi_base.specs.Memory.{Memory, byte_of, first_of, bytes_at, first_held, with_bytes, IsImage}
+use Rattle.acpi_base.specs.Memory.{Memory, byte_of, first_of, run_of, bytes_at, first_held, with_bytes, IsImage}
 use Rattle.acpi_base.specs.declared.image.segments.Segment.{Segment}
 use Rattle.acpi_base.specs.declared.image.ImageFault.{ImageFault}
 use Rattle.acpi_base.specs.declared.image.ImageFault.TheVariants.{PastEnd, Twice}
 use Rattle.acpi_base.specs.Adding.{add_refusal}
 use Rattle.acpi_base.specs.Segments.{Run, runs, held, lookup, run_at, memory_of, window_of, IsWhole, IsTidy, IsFree, Puts}
 use Rattle.acpi_base.proofs.Held.{held_inside, held_from, byte_of_memory_of, byte_of-with_bytes}
-use Rattle.acpi_base.proofs.Runs.{run_of-same, first_of-same}
 use Rattle.acpi_base.proofs.Segments.{window_of-lookup}
 use Rattle.acpi_base.proofs.Places.{free_run}
 
@@ -40,10 +39,10 @@ pub image_of : (rs : List Run) → IsTidy rs → IsImage (memory_of rs)
 image_of rs t = grind (arith, lookup_byte, byte_of_memory_of)
 
 pub bytes_at_memory_of : (rs : List Run) (a n : ℕ) → 0 < n → IsTidy rs → bytes_at (memory_of rs) a n ≡ window_of rs a n
-bytes_at_memory_of rs a n h t = run_of-same (byte_of (memory_of rs)) (lookup rs) (byte_of_memory_of rs) a n ∙ sym (window_of-lookup rs a n h t.apart)
+bytes_at_memory_of rs a n h t = (λ i. run_of (λ x. byte_of_memory_of rs x i) a n) ∙ sym (window_of-lookup rs a n h t.apart)
 
 pub first_held-memory_of : (rs : List Run) (a n : ℕ) → first_held (memory_of rs) a n ≡ first_of (lookup rs) a n
-first_held-memory_of rs a n = first_of-same (byte_of (memory_of rs)) (lookup rs) (byte_of_memory_of rs) a n
+first_held-memory_of rs a n = λ i. first_of (λ x. byte_of_memory_of rs x i) a n
 
 -- images with the same byte at each address are the same
 pub same_memory : (m n : Memory) → ((x : ℕ) → byte_of m x ≡ byte_of n x) → m ≡ n

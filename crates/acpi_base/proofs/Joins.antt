@@ -9,7 +9,7 @@ use Rattle.std.proofs.lemmas.List.Edits.{length-remove}
 use Rattle.std.proofs.lemmas.Bool.{cases_lt}
 use Rattle.std.proofs.lemmas.Bool.Decides.{nat_tests}
 use Rattle.acpi_base.specs.Segments.{Run, runs, place_ending, place_starting, held, lookup, end_of, run_at, run_in, bridged, Apart, ApartFrom, NoneTouch, IsWhole, IsTidy, IsFree, Puts}
-use Rattle.acpi_base.proofs.Held.{held_below, held_past, held_some, held-nil, held-cons, or-cond}
+use Rattle.acpi_base.proofs.Held.{held_none, held_some, held-nil, held-cons}
 use Rattle.acpi_base.proofs.Places.{none_ends, none_starts, one_ends, one_starts}
 use Rattle.acpi_base.specs.declared.image.segments.Segment.{Segment}
 use Rattle.acpi_base.proofs.Edits.{get_or-remove_other}
@@ -37,7 +37,7 @@ apart_out [] back n h = (h.0, h.1)
 apart_out (r ∷ rs) back n h = grind (arith, all_out (Apart r) rs back n h.0, apart_out rs back n h.1, apart_swap)
 
 not_both : (r s : Run) (x : ℕ) → (end_of r ≤ s.base) ⊎ (end_of s ≤ r.base) → (held r x ≡ None) ⊎ (held s x ≡ None)
-not_both r s x e = grind (arith, cases_lt, held_below, held_past)
+not_both r s x e = grind (arith, cases_lt, held_none)
 
 lookup-put : (front back : List Run) (n : Run) (x : ℕ) → ApartFrom n (front ++ back) → lookup (front ++ n ∷ back) x ≡ option_or (held n x) (lookup (front ++ back) x)
 lookup-put [] back n x a = refl
@@ -63,7 +63,7 @@ takes_run rs k h t =
 
 held-append : (a : ℕ) (xs ys : List ℕ) (x : ℕ) → held (run_at a (xs ++ ys)) x ≡ option_or (held (run_at a xs) x) (held (run_at (a + length xs) ys) x)
 held-append a [] ys x = grind (arith, nat_tests)
-held-append a (b ∷ xs) ys x = grind (arith, held-cons, or-cond, held-append (a + 1) xs ys x)
+held-append a (b ∷ xs) ys x = grind (arith, held-cons, held-append (a + 1) xs ys x)
 
 or_three : (l b r z : Option ℕ) → (l ≡ None) ⊎ (b ≡ None) → (l ≡ None) ⊎ (r ≡ None) → option_or (option_or (option_or l b) r) z ≡ option_or b (option_or r (option_or l z))
 or_three None None r z p q = refl

@@ -6,7 +6,7 @@ use Rattle.std.proofs.lemmas.List.{drop_more, drop_all}
 use Rattle.acpi_base.specs.declared.image.segments.Segment.{Segment}
 use Rattle.acpi_base.specs.Memory.{run_of, first_of, cons_both}
 use Rattle.acpi_base.specs.Segments.{Run, held, end_of, lookup, window_of, earlier, run, runs, IsWhole, ApartFrom, NoneTouch}
-use Rattle.acpi_base.proofs.Held.{held_below, held_past, held_inside}
+use Rattle.acpi_base.proofs.Held.{held_none, held_inside}
 use Rattle.acpi_base.proofs.Runs.{first_of_from, first_of_none}
 
 -- where f has something, g has nothing, nor at the next number; and the other way round at the next number
@@ -28,7 +28,7 @@ run_of-or f g p a (suc n) = grind (arith, cons-or, run_of-or f g p (a + 1) n)
 -- the runs apart from r hold nothing in r, nor just behind it
 pub lookup_apart : (r : Run) (rs : List Run) (x : ℕ) → ApartFrom r rs → r.base ≤ x → x ≤ end_of r → lookup rs x ≡ None
 lookup_apart r [] x h l m = refl
-lookup_apart r (s ∷ ss) x h l m = grind (arith, held_below, held_past, lookup_apart r ss x h.1 l m)
+lookup_apart r (s ∷ ss) x h l m = grind (arith, held_none, lookup_apart r ss x h.1 l m)
 
 pub held_apart : (r : Run) (rs : List Run) (x : ℕ) → ApartFrom r rs → IsSome (lookup rs x) → held r (x + 1) ≡ None
 held_apart r [] x h s = absurd (cc)
@@ -37,7 +37,7 @@ held_apart r (s ∷ ss) x h i =
       | None ↦ λ e j. held_apart r ss x h.1 j
       | Some b ↦ λ e j.
           let w = held_inside s x (ap is_some e) in
-          elim h.0 [ inl a ↦ held_past r (x + 1) (omega arith) | inr a ↦ held_below r (x + 1) (omega arith) ]
+          elim h.0 [ inl a ↦ held_none r (x + 1) (inr (omega arith)) | inr a ↦ held_none r (x + 1) (inl (omega arith)) ]
     ] refl i
 
 pub run_is_parted : (r : Run) (rs : List Run) → ApartFrom r rs → IsParted (held r) (lookup rs)
