@@ -18,31 +18,19 @@ use Rattle.acpi_base.proofs.Places.{free_run}
 
 each_byte : (bs : List ℕ) (i b : ℕ) → AllByRecursion (λ x. x < 256) bs → slice_get bs i ≡ Some b → b < 256
 each_byte [] i b h e = absurd (cc)
-each_byte (x ∷ xs) zero b h e = let same : x ≡ b = cc in let low = h.0 in omega arith
+each_byte (x ∷ xs) zero b h e = grind (arith, h.0)
 each_byte (x ∷ xs) (suc i) b h e = each_byte xs i b h.1 e
 
-held_byte : (r : Run) (a b : ℕ) → IsWhole r → held r a ≡ Some b → (a < 2 ^ 64) × (b < 256)
-held_byte r a b w e =
-    let inside = held_inside r a (ap is_some e) in
-    let top = w.fits in
-    (omega arith, each_byte r.bytes (a - r.base) b w.bytes (sym (held_from r a inside.0) ∙ e))
-
+-- what whole runs hold is a byte, at an address of 64 bits
 lookup_byte : (rs : List Run) (a b : ℕ) → AllByRecursion IsWhole rs → lookup rs a ≡ Some b → (a < 2 ^ 64) × (b < 256)
 lookup_byte [] a b w e = absurd (cc)
-lookup_byte (r ∷ rs) a b w e =
-    elim (held r a) as (λ v. held r a ≡ v → option_or v (lookup rs a) ≡ Some b → (a < 2 ^ 64) × (b < 256)) [
-      | None ↦ λ p q. lookup_byte rs a b w.1 q
-      | Some x ↦ λ p q. held_byte r a b w.0 (p ∙ q)
-    ] refl e
+lookup_byte (r ∷ rs) a b w e = grind (arith, held_inside, held_from, each_byte r.bytes (a - r.base) b w.0.bytes, lookup_byte rs a b w.1)
 
 pub image_of : (rs : List Run) → IsTidy rs → IsImage (memory_of rs)
 image_of rs t = grind (arith, lookup_byte, byte_of_memory_of)
 
 pub bytes_at_memory_of : (rs : List Run) (a n : ℕ) → 0 < n → IsTidy rs → bytes_at (memory_of rs) a n ≡ window_of rs a n
 bytes_at_memory_of rs a n h t = (λ i. run_of (λ x. byte_of_memory_of rs x i) a n) ∙ sym (window_of-lookup rs a n h t.apart)
-
-pub first_held-memory_of : (rs : List Run) (a n : ℕ) → first_held (memory_of rs) a n ≡ first_of (lookup rs) a n
-first_held-memory_of rs a n = λ i. first_of (λ x. byte_of_memory_of rs x i) a n
 
 -- images with the same byte at each address are the same
 pub same_memory : (m n : Memory) → ((x : ℕ) → byte_of m x ≡ byte_of n x) → m ≡ n
@@ -51,29 +39,26 @@ same_memory m n h = same_map nat_cmp_total nat_cmp-IsAntisymmetric m n h
 pub memory_of_put : (a : ℕ) (bs : List ℕ) (old new : List Run) → Puts (run_at a bs) old new → memory_of new ≡ with_bytes (memory_of old) a bs
 memory_of_put a bs old new p = grind (arith, same_memory, byte_of_memory_of, byte_of-with_bytes)
 
--- no bytes are never refused
+-- no bytes are never refused, and change nothing
 pub no_refusal : (f : ℕ → Option ℕ) (a n : ℕ) → a < 2 ^ 64 → n ≡ 0 → None ≡ cond (nat_lt (2 ^ 64) (a + n)) (Some PastEnd) (option_map (λ x. Twice x) (first_of f a n))
 unfolding first_of
 no_refusal f a zero l e = grind (arith, le-ltb)
 no_refusal f a (suc n) l e = absurd (omega arith)
-
--- what the segments refuse, the memory refuses
-pub refusal_of : (found ss : List Segment) (m : Memory) (a : ℕ) (bs : List ℕ) (refused : Option ImageFault) → found ≡ ss → memory_of (runs ss) ≡ m
-    → refused ≡ cond (nat_lt (2 ^ 64) (a + length bs)) (Some PastEnd) (option_map (λ x. Twice x) (first_of (lookup (runs found)) a (length bs))) → refused ≡ add_refusal m a bs
-refusal_of found ss m a bs refused f e r = grind (arith, first_held-memory_of)
 
 pub no_bytes : (m : Memory) (a : ℕ) (bs : List ℕ) → length bs ≡ 0 → m ≡ with_bytes m a bs
 unfolding with_bytes
 no_bytes m a [] e = refl
 no_bytes m a (b ∷ bs) e = absurd (omega arith)
 
-unmapped : (o : Option ℕ) → option_map (λ x. Twice x) o ≡ None → o ≡ None
-unmapped None e = refl
-unmapped (Some x) e = absurd (cc)
+-- what the segments refuse, the memory refuses
+pub refusal_of : (found ss : List Segment) (m : Memory) (a : ℕ) (bs : List ℕ) (refused : Option ImageFault) → found ≡ ss → memory_of (runs ss) ≡ m
+    → refused ≡ cond (nat_lt (2 ^ 64) (a + length bs)) (Some PastEnd) (option_map (λ x. Twice x) (first_of (lookup (runs found)) a (length bs))) → refused ≡ add_refusal m a bs
+refusal_of found ss m a bs refused f e r =
+    let same : first_held (memory_of (runs ss)) a (length bs) ≡ first_of (lookup (runs ss)) a (length bs) = λ i. first_of (λ x. byte_of_memory_of (runs ss) x i) a (length bs) in
+    grind (arith, same)
 
 pub fits_unless : (t : Bool) (o : Option ℕ) → cond t (Some PastEnd) (option_map (λ x. Twice x) o) ≡ None → (t ≡ false) × (o ≡ None)
-fits_unless true o e = absurd (cc)
-fits_unless false o e = (refl, unmapped o e)
+fits_unless t o e = grind arith
 
 -- bytes that are not refused find their addresses free
 pub free_unless : (found ss : List Segment) (a : ℕ) (bs : List ℕ) (refused : Option ImageFault) → found ≡ ss → IsTidy (runs ss) → 0 < length bs → ((k : ℕ) → get_or bs k 0 < 256)
