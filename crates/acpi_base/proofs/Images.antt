@@ -24,7 +24,7 @@ each_byte (x ∷ xs) (suc i) b h e = each_byte xs i b h.1 e
 -- what whole runs hold is a byte, at an address of 64 bits
 lookup_byte : (rs : List Run) (a b : ℕ) → AllByRecursion IsWhole rs → lookup rs a ≡ Some b → (a < 2 ^ 64) × (b < 256)
 lookup_byte [] a b w e = absurd (cc)
-lookup_byte (r ∷ rs) a b w e = grind (arith, held_inside, held_from, each_byte r.bytes (a - r.base) b w.0.bytes, lookup_byte rs a b w.1)
+lookup_byte (r ∷ rs) a b w e = grind (arith, w.0.fits, held_inside r a, held_from r a, each_byte r.bytes (a - r.base) b w.0.bytes, lookup_byte rs a b w.1)
 
 pub image_of : (rs : List Run) → IsTidy rs → IsImage (memory_of rs)
 image_of rs t = grind (arith, lookup_byte, byte_of_memory_of)
@@ -50,17 +50,9 @@ unfolding with_bytes
 no_bytes m a [] e = refl
 no_bytes m a (b ∷ bs) e = absurd (omega arith)
 
--- what the segments refuse, the memory refuses
-pub refusal_of : (found ss : List Segment) (m : Memory) (a : ℕ) (bs : List ℕ) (refused : Option ImageFault) → found ≡ ss → memory_of (runs ss) ≡ m
-    → refused ≡ cond (nat_lt (2 ^ 64) (a + length bs)) (Some PastEnd) (option_map (λ x. Twice x) (first_of (lookup (runs found)) a (length bs))) → refused ≡ add_refusal m a bs
-refusal_of found ss m a bs refused f e r =
-    let same : first_held (memory_of (runs ss)) a (length bs) ≡ first_of (lookup (runs ss)) a (length bs) = λ i. first_of (λ x. byte_of_memory_of (runs ss) x i) a (length bs) in
-    grind (arith, same)
+pub first_held_memory_of : (rs : List Run) (a n : ℕ) → first_held (memory_of rs) a n ≡ first_of (lookup rs) a n
+first_held_memory_of rs a n = λ i. first_of (λ x. byte_of_memory_of rs x i) a n
 
 pub fits_unless : (t : Bool) (o : Option ℕ) → cond t (Some PastEnd) (option_map (λ x. Twice x) o) ≡ None → (t ≡ false) × (o ≡ None)
 fits_unless t o e = grind arith
 
--- bytes that are not refused find their addresses free
-pub free_unless : (found ss : List Segment) (a : ℕ) (bs : List ℕ) (refused : Option ImageFault) → found ≡ ss → IsTidy (runs ss) → 0 < length bs → ((k : ℕ) → get_or bs k 0 < 256)
-    → refused ≡ cond (nat_lt (2 ^ 64) (a + length bs)) (Some PastEnd) (option_map (λ x. Twice x) (first_of (lookup (runs found)) a (length bs))) → refused ≡ None → IsFree (run_at a bs) (runs ss)
-free_unless found ss a bs refused f t h s r none = grind (arith, fits_unless, ltb-false, free_run)
