@@ -12,7 +12,7 @@ use Rattle.acpi_base.specs.Segments.{Run, runs, place_ending, place_starting, he
 use Rattle.acpi_base.proofs.Held.{held_none, held_some, held-nil, held-cons}
 use Rattle.acpi_base.proofs.Places.{none_ends, none_starts, one_ends, one_starts}
 use Rattle.acpi_base.specs.declared.image.segments.Segment.{Segment}
-use Rattle.acpi_base.proofs.Edits.{get_or-remove_other}
+use Rattle.acpi_base.proofs.Edits.{get_or_remove_other}
 
 -- ---- a run among others
 
@@ -191,7 +191,7 @@ puts_joined b ss (Some i) (Some j) p q f =
     let rest : List Run = remove rs j in
     let k : ℕ = shifted i j in
     let hk : k < length rest = shifted_within rs i j ne hi hj in
-    let same : run_in rest k ≡ run_in rs i = get_or-remove_other rs i j (run_at 0 []) ne hj in
+    let same : run_in rest k ≡ run_in rs i = get_or_remove_other rs i j (run_at 0 []) ne hj in
     let t = takes_run rs j hj f.tidy in
     let u : Takes rest (run_in rs i) (remove rest k) = subst (λ l. Takes rest l (remove rest k)) same (takes_run rest k hk t.tidy) in
     puts_set b (run_in rs i) (run_in rs j) rs rest rest k _ hk f t u (without _ rest k hk t.apart) e g refl

@@ -11,7 +11,7 @@ use Rattle.std.proofs.lemmas.Bool.Decides.{nat_tests}
 use Rattle.acpi_base.specs.declared.image.segments.Segment.{Segment}
 use Rattle.acpi_base.specs.Memory.{first_of}
 use Rattle.acpi_base.specs.Segments.{Run, run, runs, run_at, run_in, end_of, lookup, place_ending, place_starting, IsTidy, IsFree, Puts, bridged}
-use Rattle.acpi_base.proofs.Edits.{run_in-read}
+use Rattle.acpi_base.proofs.Edits.{run_in_read}
 
 -- where nothing is first, there is nothing
 pub nothing_held : (f : ℕ → Option ℕ) (a n x : ℕ) → first_of f a n ≡ None → a ≤ x → x < a + n → f x ≡ None
@@ -41,7 +41,7 @@ one_passes Q p f [] i e = absurd (cc)
 one_passes Q p f (s ∷ ss) i e =
     let found = position-Some p (s ∷ ss) i s e in
     let it : Segment = get_or (s ∷ ss) i s in
-    (rw (length-map (s ∷ ss) run) found.0, subst Q (sym (run_in-read (s ∷ ss) i it found.0 (get_or_default (s ∷ ss) i s it found.0))) (f it found.1))
+    (rw (length-map (s ∷ ss) run) found.0, subst Q (sym (run_in_read (s ∷ ss) i it found.0 (get_or_default (s ∷ ss) i s it found.0))) (f it found.1))
 
 pub none_ends : (ss : List Segment) (a : ℕ) → place_ending a ss ≡ None → AllByRecursion (λ r. end_of r ≢ a) (runs ss)
 unfolding place_ending

@@ -167,7 +167,7 @@ fn put_alone(
 }
 
 // In place, so that reading a text line by line does not copy all earlier bytes for each line.
-#[tactic(auto, using(crate::proofs::Edits::appended, crate::proofs::Edits::not_appended))]
+#[tactic(auto, using(crate::proofs::Edits::runs_set, crate::proofs::Edits::run_in_read, crate::proofs::Edits::runs_unset))]
 fn append(segments: &mut Vec<Segment>, before: usize, bytes: &[u8]) -> Result<(), AllocError>
     requires { before < vec_len segments.old }
     ensures ok { OnOk result (let old = run_in (runs segments.old.items) before in runs segments.new.items ≡ slice_set (runs segments.old.items) before (run_at old.base (old.bytes ++ bytes.now))) }
@@ -176,7 +176,7 @@ fn append(segments: &mut Vec<Segment>, before: usize, bytes: &[u8]) -> Result<()
     segments[before].bytes.extend_from_slice(bytes)
 }
 
-#[tactic(auto, using(crate::proofs::Edits::prepended))]
+#[tactic(auto, using(crate::proofs::Edits::runs_set, crate::proofs::Edits::run_in_read))]
 fn prepend(
     alloc: Global,
     segments: &mut Vec<Segment>,
@@ -193,7 +193,7 @@ fn prepend(
     Ok(())
 }
 
-#[tactic(auto, using(crate::proofs::Edits::bridged_is))]
+#[tactic(auto, using(crate::proofs::Edits::get_or_remove_other, crate::proofs::Edits::runs_set, crate::proofs::Edits::run_in_read, crate::proofs::Edits::runs_remove))]
 fn bridge(
     alloc: Global,
     segments: &mut Vec<Segment>,
