@@ -8,15 +8,15 @@ use Rattle.std.proofs.lemmas.List.{append-nil, set_split}
 use Rattle.std.proofs.lemmas.List.Edits.{length-remove}
 use Rattle.std.proofs.lemmas.Bool.{cases_lt}
 use Rattle.std.proofs.lemmas.Bool.Decides.{nat_tests}
-use Rattle.acpi_base.specs.Segments.{Run, runs, place_ending, place_starting, held, lookup, end_of, run_at, run_in, bridged, Apart, ApartFrom, NoneTouch, IsWhole, IsTidy, IsFree, Puts}
+use Rattle.acpi_base.specs.Segments.{Run, runs, place_where, held, lookup, end_of, run_at, run_in, bridged, Apart, ApartFrom, NoneTouch, IsWhole, IsTidy, IsFree, Puts}
 use Rattle.acpi_base.proofs.Held.{held_none, held_some, held-nil, held-cons}
-use Rattle.acpi_base.proofs.Places.{none_ends, none_starts, one_ends, one_starts}
+use Rattle.acpi_base.proofs.Places.{none_at, one_at}
 use Rattle.acpi_base.specs.declared.image.segments.Segment.{Segment}
 use Rattle.acpi_base.proofs.Edits.{get_or_remove_other}
 
 -- ---- a run among others
 
-all_in : (P : Run → Type 0) (front back : List Run) (n : Run) → P n → AllByRecursion P (front ++ back) → AllByRecursion P (front ++ n ∷ back)
+all_in : {X : Type 0} (P : X → Type 0) (front back : List X) (n : X) → P n → AllByRecursion P (front ++ back) → AllByRecursion P (front ++ n ∷ back)
 all_in P [] back n p a = (p, a)
 all_in P (r ∷ rs) back n p a = (a.0, all_in P rs back n p a.1)
 
@@ -24,24 +24,20 @@ all_out : (P : Run → Type 0) (front back : List Run) (n : Run) → AllByRecurs
 all_out P [] back n a = (a.0, a.1)
 all_out P (r ∷ rs) back n a = let rest = all_out P rs back n a.1 in (rest.0, (a.0, rest.1))
 
-apart_swap : (r s : Run) → Apart r s → Apart s r
-apart_swap r s (inl l) = inr l
-apart_swap r s (inr l) = inl l
-
 apart_in : (front back : List Run) (n : Run) → ApartFrom n (front ++ back) → NoneTouch (front ++ back) → NoneTouch (front ++ n ∷ back)
 apart_in [] back n a h = (a, h)
-apart_in (r ∷ rs) back n a h = (all_in (Apart r) rs back n (apart_swap n r a.0) h.0, apart_in rs back n a.1 h.1)
+apart_in (r ∷ rs) back n a h = grind (arith, all_in (Apart r) rs back n, apart_in rs back n)
 
 apart_out : (front back : List Run) (n : Run) → NoneTouch (front ++ n ∷ back) → ApartFrom n (front ++ back) × NoneTouch (front ++ back)
 apart_out [] back n h = (h.0, h.1)
-apart_out (r ∷ rs) back n h = grind (arith, all_out (Apart r) rs back n h.0, apart_out rs back n h.1, apart_swap)
+apart_out (r ∷ rs) back n h = grind (arith, all_out (Apart r) rs back n h.0, apart_out rs back n h.1)
 
 not_both : (r s : Run) (x : ℕ) → (end_of r ≤ s.base) ⊎ (end_of s ≤ r.base) → (held r x ≡ None) ⊎ (held s x ≡ None)
 not_both r s x e = grind (arith, cases_lt, held_none)
 
-lookup-put : (front back : List Run) (n : Run) (x : ℕ) → ApartFrom n (front ++ back) → lookup (front ++ n ∷ back) x ≡ option_or (held n x) (lookup (front ++ back) x)
-lookup-put [] back n x a = refl
-lookup-put (r ∷ rs) back n x a = grind (arith, not_both, lookup-put rs back n x a.1)
+lookup_in : (front back : List Run) (n : Run) (x : ℕ) → ApartFrom n (front ++ back) → lookup (front ++ n ∷ back) x ≡ option_or (held n x) (lookup (front ++ back) x)
+lookup_in [] back n x a = refl
+lookup_in (r ∷ rs) back n x a = grind (arith, not_both, lookup_in rs back n x a.1)
 
 -- the runs hold what the run r, which may be empty, and the others hold
 record Takes (rs : List Run) (r : Run) (others : List Run) : Type 0 where
@@ -52,12 +48,37 @@ record Takes (rs : List Run) (r : Run) (others : List Run) : Type 0 where
   pub lookup_is : (x : ℕ) → lookup rs x ≡ option_or (held r x) (lookup others x)
 
 takes_at : (front back : List Run) (r : Run) → IsTidy (front ++ r ∷ back) → Takes (front ++ r ∷ back) r (front ++ back)
-takes_at front back r t = grind (arith, apart_out, all_out, lookup-put)
+takes_at front back r t = grind (arith, apart_out, all_out, lookup_in)
 
 takes_run : (rs : List Run) (k : ℕ) → k < length rs → IsTidy rs → Takes rs (run_in rs k) (remove rs k)
 takes_run rs k h t =
     let e = split_at rs k (run_at 0 []) h in
     subst (λ u. Takes u (run_in rs k) (remove rs k)) (sym e) (takes_at (take k rs) (drop (suc k) rs) (run_in rs k) (subst IsTidy e t))
+
+-- an empty run at a, which is not the f of any run, beside an address in b
+takes_empty : (f : Run → ℕ) (b : Run) (rs : List Run) (a x : ℕ) → ((s : Run) → held s x ≡ None → f s ≢ a → Apart (run_at a []) s) → IsFree b rs → AllByRecursion (λ s. f s ≢ a) rs
+    → b.base ≤ x → x < end_of b → a ≤ end_of b → Takes rs (run_at a []) rs
+takes_empty f b rs a x apart free n l h top = record {
+  fits = (let fits = free.whole.fits in omega arith);
+  bytes = tt;
+  apart = all rs (free.free x l h) n;
+  tidy = free.tidy;
+  lookup_is = λ x. grind (arith, held-nil);
+}
+  where
+    all : (ss : List Run) → lookup ss x ≡ None → AllByRecursion (λ s. f s ≢ a) ss → ApartFrom (run_at a []) ss
+    all [] e n = tt
+    all (s ∷ ss) e n = grind (arith, apart s, all ss, n.0, n.1)
+
+takes_before : (b : Run) (rs : List Run) → IsFree b rs → AllByRecursion (λ s. end_of s ≢ b.base) rs → Takes rs (run_at b.base []) rs
+takes_before b rs f n = (let some = f.whole.filled in takes_empty end_of b rs b.base b.base (λ s e n. grind (arith, held_some s b.base)) f n (omega arith) (omega arith) (omega arith))
+
+takes_after : (b : Run) (rs : List Run) → IsFree b rs → AllByRecursion (λ s. s.base ≢ end_of b) rs → Takes rs (run_at (end_of b) []) rs
+takes_after b rs f n =
+    (let some = f.whole.filled in takes_empty (λ r. r.base) b rs (end_of b) (end_of b - 1) (λ s e n. grind (arith, held_some s (end_of b - 1))) f n (omega arith) (omega arith) (omega arith))
+
+still_free : (b r : Run) (old others : List Run) → IsFree b old → Takes old r others → IsFree b others
+still_free b r old others f t = record { tidy = t.tidy; whole = f.whole; free = λ x i j. grind (arith, f.free x i j, t.lookup_is x) }
 
 -- ---- three runs in one
 
@@ -66,29 +87,20 @@ held-append a [] ys x = grind (arith, nat_tests)
 held-append a (b ∷ xs) ys x = grind (arith, held-cons, held-append (a + 1) xs ys x)
 
 or_three : (l b r z : Option ℕ) → (l ≡ None) ⊎ (b ≡ None) → (l ≡ None) ⊎ (r ≡ None) → option_or (option_or (option_or l b) r) z ≡ option_or b (option_or r (option_or l z))
-or_three None None r z p q = refl
-or_three None (Some b) r z p q = refl
-or_three (Some l) b r z p q = grind (arith)
+or_three l b r z p q = grind (arith)
 
 all_append : (P : ℕ → Type 0) (xs ys : List ℕ) → AllByRecursion P xs → AllByRecursion P ys → AllByRecursion P (xs ++ ys)
 all_append P [] ys a b = b
 all_append P (x ∷ xs) ys a b = (a.0, all_append P xs ys a.1 b)
-
-none_first : (x y : Option ℕ) → option_or x y ≡ None → (x ≡ None) × (y ≡ None)
-none_first None y e = (refl, e)
-none_first (Some b) y e = absurd (cc)
 
 -- what lies apart from the runs beside b, and holds nothing of b, lies apart from the three
 apart_joined : (b l r n : Run) (rs : List Run) → end_of l ≡ b.base → r.base ≡ end_of b → n.base ≡ l.base → end_of n ≡ end_of r → ApartFrom l rs → ApartFrom r rs → AllByRecursion IsWhole rs
     → ((x : ℕ) → b.base ≤ x → x < end_of b → lookup rs x ≡ None) → ApartFrom n rs
 apart_joined b l r n [] e f g h u v w o = tt
 apart_joined b l r n (s ∷ ss) e f g h u v w o =
-    grind (arith, held_some s s.base, o s.base, none_first, apart_joined b l r n ss e f g h u.1 v.1 w.1 (λ x i j. (none_first (held s x) (lookup ss x) (o x i j)).1))
+    grind (arith, held_some s s.base, o s.base, apart_joined b l r n ss e f g h u.1 v.1 w.1 (λ x i j. grind (arith, o x i j)))
 
-still_free : (b r : Run) (old others : List Run) → IsFree b old → Takes old r others → IsFree b others
-still_free b r old others f t = record { tidy = t.tidy; whole = f.whole; free = λ x i j. grind (arith, f.free x i j, t.lookup_is x, none_first) }
-
--- b and the runs beside it, each of which may be empty, stand as one in front of back
+-- b and the runs beside it, each of which may be empty, stand as one before back
 puts_at : (b l r : Run) (old mid front back : List Run) → IsFree b old → Takes old r mid → Takes mid l (front ++ back) → ApartFrom r (front ++ back) → end_of l ≡ b.base → r.base ≡ end_of b
     → Puts b old (front ++ run_at l.base (l.bytes ++ b.bytes ++ r.bytes) ∷ back)
 puts_at b l r old mid front back f t u a e g =
@@ -105,7 +117,7 @@ puts_at b l r old mid front back f t u a e g =
       tidy = record { apart = apart_in front back n apart u.tidy.apart; whole = all_in IsWhole front back n whole u.tidy.whole };
       lookup_is = λ x.
           let held_is : held n x ≡ option_or (option_or (held l x) (held b x)) (held r x) = grind (arith, held-append) in
-          grind (arith, held_is, lookup-put front back n x apart, t.lookup_is x, u.lookup_is x, not_both l b x, not_both l r x, or_three);
+          grind (arith, held_is, lookup_in front back n x apart, t.lookup_is x, u.lookup_is x, not_both l b x, not_both l r x, or_three);
     }
 
 puts_set : (b l r : Run) (old mid into : List Run) (k : ℕ) (bs : List ℕ) → k < length into → IsFree b old → Takes old r mid → Takes mid l (remove into k) → ApartFrom r (remove into k)
@@ -118,45 +130,11 @@ without P rs k h a = (all_out P (take k rs) (drop (suc k) rs) (run_in rs k) (sub
 
 -- ---- the four ways to put bytes in
 
--- an empty run where nothing ends or starts, beside an address that no run holds
-empty_before : (a : ℕ) (rs : List Run) → lookup rs a ≡ None → AllByRecursion (λ s. end_of s ≢ a) rs → ApartFrom (run_at a []) rs
-empty_before a [] e n = tt
-empty_before a (s ∷ ss) e n = grind (arith, none_first, held_some s a, empty_before a ss, n.0, n.1)
-
-empty_after : (a : ℕ) (rs : List Run) → lookup rs a ≡ None → AllByRecursion (λ s. s.base ≢ a + 1) rs → ApartFrom (run_at (a + 1) []) rs
-empty_after a [] e n = tt
-empty_after a (s ∷ ss) e n = grind (arith, none_first, held_some s a, empty_after a ss, n.0, n.1)
-
-takes_before : (b : Run) (rs : List Run) → IsFree b rs → AllByRecursion (λ s. end_of s ≢ b.base) rs → Takes rs (run_at b.base []) rs
-takes_before b rs f n = record {
-  fits = (let top = f.whole.fits in omega arith);
-  bytes = tt;
-  apart = (let some = f.whole.filled in empty_before b.base rs (f.free b.base (omega arith) (omega arith)) n);
-  tidy = f.tidy;
-  lookup_is = λ x. grind (arith, held-nil);
-}
-
-takes_after : (b : Run) (rs : List Run) → IsFree b rs → AllByRecursion (λ s. s.base ≢ end_of b) rs → Takes rs (run_at (end_of b) []) rs
-takes_after b rs f n =
-  let some = f.whole.filled in
-  let last : end_of b - 1 + 1 ≡ end_of b = omega arith in
-  record {
-  fits = (let top = f.whole.fits in omega arith);
-  bytes = tt;
-  apart = subst (λ a. ApartFrom (run_at a []) rs) last (empty_after (end_of b - 1) rs (f.free (end_of b - 1) (omega arith) (omega arith)) (subst (λ a. AllByRecursion (λ s. s.base ≢ a) rs) (sym last) n));
-  tidy = f.tidy;
-  lookup_is = λ x. grind (arith, held-nil);
-}
-
--- past the run at j, the run at i stands here
-abbrev shifted : ℕ → ℕ → ℕ
-shifted i j = cond (nat_lt j i) (i - 1) i
-
-shifted_within : (rs : List Run) (i j : ℕ) → i ≢ j → i < length rs → j < length rs → shifted i j < length (remove rs j)
+shifted_within : (rs : List Run) (i j : ℕ) → i ≢ j → i < length rs → j < length rs → cond (nat_lt j i) (i - 1) i < length (remove rs j)
 shifted_within rs i j ne h l = grind (arith, length-remove, cases_lt)
 
-pub two_places : (ss : List Segment) (a n i j : ℕ) → place_ending a ss ≡ Some i → place_starting (a + n) ss ≡ Some j → 0 < n → i ≢ j
-two_places ss a n i j p q h = grind (arith, one_ends ss a i p, one_starts ss (a + n) j q)
+pub two_places : (ss : List Segment) (a n i j : ℕ) → place_where end_of a ss ≡ Some i → place_where (λ r. r.base) (a + n) ss ≡ Some j → 0 < n → i ≢ j
+two_places ss a n i j p q h = grind (arith, one_at end_of ss a i p, one_at (λ r. r.base) ss (a + n) j q)
 
 -- the runs once b is joined with the run that ends where it starts, and with the one that starts where it ends
 abbrev joined : List Run → Run → Option ℕ → Option ℕ → List Run
@@ -165,38 +143,38 @@ joined rs b (Some i) None = set rs i (run_at (run_in rs i).base ((run_in rs i).b
 joined rs b None (Some j) = set rs j (run_at b.base (b.bytes ++ (run_in rs j).bytes))
 joined rs b (Some i) (Some j) = bridged rs i b.bytes j
 
-puts_joined : (b : Run) (ss : List Segment) (before after : Option ℕ) → place_ending b.base ss ≡ before → place_starting (end_of b) ss ≡ after → IsFree b (runs ss) → Puts b (runs ss) (joined (runs ss) b before after)
+puts_joined : (b : Run) (ss : List Segment) (before after : Option ℕ) → place_where end_of b.base ss ≡ before → place_where (λ r. r.base) (end_of b) ss ≡ after → IsFree b (runs ss) → Puts b (runs ss) (joined (runs ss) b before after)
 puts_joined b ss None None p q f =
     let rs = runs ss in
-    let t = takes_after b rs f (none_starts ss _ q) in
-    let u = takes_before b rs f (none_ends ss _ p) in
+    let t = takes_after b rs f (none_at (λ r. r.base) ss _ q) in
+    let u = takes_before b rs f (none_at end_of ss _ p) in
     let same = append-nil rs in
     rw append-nil at (puts_at b (run_at b.base []) (run_at (end_of b) []) rs rs rs [] f t (rw same u) (rw same t.apart) (omega arith) refl)
 puts_joined b ss (Some i) None p q f =
     let rs = runs ss in
-    let (h, e) = one_ends ss _ i p in
-    let t = takes_after b rs f (none_starts ss _ q) in
+    let (h, e) = one_at end_of ss _ i p in
+    let t = takes_after b rs f (none_at (λ r. r.base) ss _ q) in
     puts_set b (run_in rs i) (run_at (end_of b) []) rs rs rs i _ h f t (takes_run rs i h f.tidy) (without _ rs i h t.apart) e refl (sym (append-nil ((run_in rs i).bytes ++ b.bytes)))
 puts_joined b ss None (Some j) p q f =
     let rs = runs ss in
-    let (h, e) = one_starts ss _ j q in
+    let (h, e) = one_at (λ r. r.base) ss _ j q in
     let t = takes_run rs j h f.tidy in
-    let u = takes_before b (remove rs j) (still_free b (run_in rs j) rs (remove rs j) f t) (without _ rs j h (none_ends ss _ p)) in
+    let u = takes_before b (remove rs j) (still_free b (run_in rs j) rs (remove rs j) f t) (without _ rs j h (none_at end_of ss _ p)) in
     puts_set b (run_at b.base []) (run_in rs j) rs (remove rs j) rs j _ h f t u t.apart (omega arith) e refl
 puts_joined b ss (Some i) (Some j) p q f =
     let rs = runs ss in
-    let (hi, e) = one_ends ss _ i p in
-    let (hj, g) = one_starts ss _ j q in
+    let (hi, e) = one_at end_of ss _ i p in
+    let (hj, g) = one_at (λ r. r.base) ss _ j q in
     let ne : i ≢ j = two_places ss _ _ i j p q f.whole.filled in
     let rest : List Run = remove rs j in
-    let k : ℕ = shifted i j in
-    let hk : k < length rest = shifted_within rs i j ne hi hj in
-    let same : run_in rest k ≡ run_in rs i = get_or_remove_other rs i j (run_at 0 []) ne hj in
+    let k : ℕ = cond (nat_lt j i) (i - 1) i in
+    let hk = shifted_within rs i j ne hi hj in
+    let same = get_or_remove_other rs i j (run_at 0 []) ne hj in
     let t = takes_run rs j hj f.tidy in
-    let u : Takes rest (run_in rs i) (remove rest k) = subst (λ l. Takes rest l (remove rest k)) same (takes_run rest k hk t.tidy) in
+    let u = subst (λ l. Takes rest l (remove rest k)) same (takes_run rest k hk t.tidy) in
     puts_set b (run_in rs i) (run_in rs j) rs rest rest k _ hk f t u (without _ rest k hk t.apart) e g refl
 
 pub puts : {T E : Type 0} (result : Result T E) (b : Run) (ss : List Segment) (new : List Run) → IsFree b (runs ss)
-    → OnOk result (new ≡ joined (runs ss) b (place_ending b.base ss) (place_starting (end_of b) ss)) → OnOk result (Puts b (runs ss) new)
+    → OnOk result (new ≡ joined (runs ss) b (place_where end_of b.base ss) (place_where (λ r. r.base) (end_of b) ss)) → OnOk result (Puts b (runs ss) new)
 puts (Ok x) b ss new f e = rw e (puts_joined b ss _ _ refl refl f)
 puts (Err x) b ss new f e = tt

@@ -10,54 +10,31 @@ use Rattle.std.proofs.lemmas.Bool.{cases_lt}
 use Rattle.std.proofs.lemmas.Bool.Decides.{nat_tests}
 use Rattle.acpi_base.specs.declared.image.segments.Segment.{Segment}
 use Rattle.acpi_base.specs.Memory.{first_of}
-use Rattle.acpi_base.specs.Segments.{Run, run, runs, run_at, run_in, end_of, lookup, place_ending, place_starting, IsTidy, IsFree, Puts, bridged}
+use Rattle.acpi_base.specs.Segments.{Run, run, runs, run_at, run_in, end_of, lookup, place_where, IsTidy, IsFree, Puts, bridged}
 use Rattle.acpi_base.proofs.Edits.{run_in_read}
 
 -- where nothing is first, there is nothing
 pub nothing_held : (f : ℕ → Option ℕ) (a n x : ℕ) → first_of f a n ≡ None → a ≤ x → x < a + n → f x ≡ None
 unfolding first_of
 nothing_held f a zero x e l h = absurd (omega arith)
-nothing_held f a (suc n) x e l h =
-    elim (f a) as (λ v. f a ≡ v → cond (is_some v) (Some a) (first_of f (a + 1) n) ≡ None → f x ≡ None) [
-      | Some b ↦ λ p q. absurd (cc)
-      | None ↦ λ p q. elim (cases_lt a x) [
-        | inl m ↦ nothing_held f (a + 1) n x q (omega arith) (omega arith)
-        | inr m ↦ (let same : x ≡ a = omega arith in ap f same ∙ p)
-      ]
-    ] refl e
+nothing_held f a (suc n) x e l h = grind (arith, cases_lt a x, nothing_held f (a + 1) n x)
 
--- where no segment passes a test, each run has what follows
-none_passes : (Q : Run → Type 0) (p : Segment → Bool) → ((s : Segment) → p s ≡ false → Q (run s)) → (ss : List Segment) → position p ss ≡ None → AllByRecursion Q (runs ss)
-none_passes Q p f ss e =
-    let far : length ss ≤ position_or_len p ss = no_place p ss e in
-    recursion_from_All Q (runs ss) (All-map Q run ss (λ k d h. f (get_or ss k d) (fails_before_first p ss k d (omega arith))))
-  where
-    no_place : (p : Segment → Bool) (ss : List Segment) → position p ss ≡ None → length ss ≤ position_or_len p ss
-    no_place p ss e = grind (arith, cases_lt)
+-- where no segment is found, the number is that of no run
+pub none_at : (f : Run → ℕ) (ss : List Segment) (a : ℕ) → place_where f a ss ≡ None → AllByRecursion (λ r. f r ≢ a) (runs ss)
+unfolding place_where
+none_at f ss a e =
+    let p : Segment → Bool = λ s. f (run s) == a in
+    let far : length ss ≤ position_or_len p ss = grind (arith, cases_lt) in
+    recursion_from_All (λ r. f r ≢ a) (runs ss) (All-map (λ r. f r ≢ a) run ss (λ k d h. (let no = fails_before_first p ss k d (omega arith) in grind (arith, nat_tests))))
 
--- where one passes, it has it
-one_passes : (Q : Run → Type 0) (p : Segment → Bool) → ((s : Segment) → p s ≡ true → Q (run s)) → (ss : List Segment) (i : ℕ) → position p ss ≡ Some i → (i < length (runs ss)) × Q (run_in (runs ss) i)
-one_passes Q p f [] i e = absurd (cc)
-one_passes Q p f (s ∷ ss) i e =
-    let found = position-Some p (s ∷ ss) i s e in
-    let it : Segment = get_or (s ∷ ss) i s in
-    (rw (length-map (s ∷ ss) run) found.0, subst Q (sym (run_in_read (s ∷ ss) i it found.0 (get_or_default (s ∷ ss) i s it found.0))) (f it found.1))
-
-pub none_ends : (ss : List Segment) (a : ℕ) → place_ending a ss ≡ None → AllByRecursion (λ r. end_of r ≢ a) (runs ss)
-unfolding place_ending
-none_ends ss a e = none_passes (λ r. end_of r ≢ a) (λ s. end_of (run s) == a) (λ s h. grind (arith, nat_tests)) ss e
-
-pub none_starts : (ss : List Segment) (a : ℕ) → place_starting a ss ≡ None → AllByRecursion (λ r. r.base ≢ a) (runs ss)
-unfolding place_starting
-none_starts ss a e = none_passes (λ r. r.base ≢ a) (λ s. s.base == a) (λ s h. grind (arith, nat_tests)) ss e
-
-pub one_ends : (ss : List Segment) (a i : ℕ) → place_ending a ss ≡ Some i → (i < length (runs ss)) × (end_of (run_in (runs ss) i) ≡ a)
-unfolding place_ending
-one_ends ss a i e = one_passes (λ r. end_of r ≡ a) (λ s. end_of (run s) == a) (λ s h. grind (arith, nat_tests)) ss i e
-
-pub one_starts : (ss : List Segment) (a i : ℕ) → place_starting a ss ≡ Some i → (i < length (runs ss)) × ((run_in (runs ss) i).base ≡ a)
-unfolding place_starting
-one_starts ss a i e = one_passes (λ r. r.base ≡ a) (λ s. s.base == a) (λ s h. grind (arith, nat_tests)) ss i e
+-- where one is found, it is that of its run
+pub one_at : (f : Run → ℕ) (ss : List Segment) (a i : ℕ) → place_where f a ss ≡ Some i → (i < length (runs ss)) × (f (run_in (runs ss) i) ≡ a)
+unfolding place_where
+one_at f [] a i e = absurd (cc)
+one_at f (s ∷ ss) a i e =
+    let found = position-Some (λ t. f (run t) == a) (s ∷ ss) i s e in
+    let there : run_in (runs (s ∷ ss)) i ≡ run (get_or (s ∷ ss) i s) = run_in_read (s ∷ ss) i _ found.0 (get_or_default (s ∷ ss) i s _ found.0) in
+    (rw (length-map (s ∷ ss) run) found.0, grind (arith, nat_tests))
 
 pub free_run : (rs : List Run) (a : ℕ) (bs : List ℕ) → IsTidy rs → 0 < length bs → a + length bs ≤ 2 ^ 64 → ((k : ℕ) → get_or bs k 0 < 256) → first_of (lookup rs) a (length bs) ≡ None → IsFree (run_at a bs) rs
 free_run rs a bs t f h s e = record {

@@ -58,13 +58,9 @@ run s = record { base = s.base; bytes = s.bytes.items }
 abbrev pub runs : List Segment → List Run
 runs ss = map run ss
 
--- the place of the first segment that ends at an address
-unfoldable pub place_ending : ℕ → List Segment → Option ℕ
-place_ending a ss = position (λ s. end_of (run s) == a) ss
-
--- the place of the first segment that starts at an address
-unfoldable pub place_starting : ℕ → List Segment → Option ℕ
-place_starting a ss = position (λ s. s.base == a) ss
+-- the place of the first segment whose run has this number as its f
+unfoldable pub place_where : (Run → ℕ) → ℕ → List Segment → Option ℕ
+place_where f a ss = position (λ s. f (run s) == a) ss
 
 -- an address lies between them that neither holds
 abbrev pub Apart : Run → Run → Type 0

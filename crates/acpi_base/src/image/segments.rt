@@ -7,7 +7,7 @@ ghost use Rattle.std.specs.Prelude.{◌≡◌, ◌+◌, ◌-◌, ◌^◌, ◌<�
 ghost use Rattle.std.specs.Option.{option_map};
 ghost use Rattle.std.specs.List.{remove, AllByRecursion};
 ghost use Rattle.acpi_base.specs.Memory.{run_of, first_of};
-ghost use Rattle.acpi_base.specs.Segments.{held, lookup, window_of, earlier, run, runs, run_at, run_in, bridged, place_ending, place_starting, end_of, IsWhole, IsFree, Puts};
+ghost use Rattle.acpi_base.specs.Segments.{held, lookup, window_of, earlier, run, runs, run_at, run_in, bridged, place_where, end_of, IsWhole, IsFree, Puts};
 
 use std::alloc::{AllocError, Global};
 
@@ -124,9 +124,9 @@ fn ends_at(segment: &Segment, address: u64) -> bool
 }
 
 /// The segment that ends right before an address.
-#[tactic(auto, unfolding(crate::specs::Segments::place_ending))]
+#[tactic(auto, unfolding(crate::specs::Segments::place_where))]
 pub fn ending_at(segments: &[Segment], address: u64) -> Option<usize>
-    ensures place { result ≡ place_ending address segments.now }
+    ensures place { result ≡ place_where end_of address segments.now }
     ensures within { IfSome result (λ place. place < length segments.now) }
 {
     segments
@@ -135,9 +135,9 @@ pub fn ending_at(segments: &[Segment], address: u64) -> Option<usize>
 }
 
 /// The segment that starts right behind `count` addresses from `base` on.
-#[tactic(auto, unfolding(crate::specs::Segments::place_starting))]
+#[tactic(auto, unfolding(crate::specs::Segments::place_where))]
 pub fn starting_at(segments: &[Segment], base: u64, count: u64) -> Option<usize>
-    ensures place { result ≡ place_starting (base + count) segments.now }
+    ensures place { result ≡ place_where (λ run. run.base) (base + count) segments.now }
     ensures within { IfSome result (λ place. place < length segments.now) }
 {
     segments.iter().position(|segment| base <= segment.base && segment.base - base == count)
