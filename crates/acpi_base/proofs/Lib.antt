@@ -1,20 +1,16 @@
 pub mod Clean
 pub mod CodeNumbers
-pub mod Edits
 pub mod FacsFaults
 pub mod FadtFaults
 pub mod FaultLaws
 pub mod FirstFaults
 pub mod Firsts
 pub mod HeldBytes
-pub mod Held
-pub mod Images
-pub mod Joins
 mod LineLemmas
 pub mod Listed
 mod MachineLemmas
 mod OwnRefusals
-pub mod Places
+pub mod Pieces
 pub mod Policies
 mod ReadingLemmas
 pub mod RootFaults
@@ -23,7 +19,6 @@ pub mod Roots
 pub mod RsdpFaults
 pub mod Runs
 pub mod Search
-pub mod Segments
 pub mod Slots
 mod Standing
 pub mod TableFaults

@@ -13,10 +13,10 @@ use Rattle.acpi_base.specs.Adding.{add_refusal}
 use Rattle.acpi_base.specs.ImageText.{Line, Blank, Address, Data, Bad, Reading, start, on_ok, max_line, max_text, is_too_long, data_fault, put_data, take_line, line_of, read_line, read_lines, ended_from, last_from, ended_lines, last_line, read_text, IsText, IsRefused}
 use Rattle.acpi_base.specs.declared.text.TextFault.{TextFault}
 use Rattle.acpi_base.specs.TextMeaning.{text_lines, said, all_data, IsGoodText}
-use Rattle.acpi_base.proofs.Images.{same_memory, fits_unless}
-use Rattle.acpi_base.proofs.Places.{nothing_held}
+use Rattle.acpi_base.proofs.Pieces.Images.{same_memory, fits_unless}
+use Rattle.acpi_base.proofs.Pieces.Places.{nothing_held}
 use Rattle.acpi_base.proofs.Runs.{first_of_none}
-use Rattle.acpi_base.proofs.Held.{byte_of-with_bytes_within, byte_of-with_bytes_outside}
+use Rattle.acpi_base.proofs.Pieces.Held.{byte_of-with_bytes_within, byte_of-with_bytes_outside}
 use Rattle.acpi_base.proofs.LineLemmas.{data_some}
 use Rattle.acpi_base.proofs.MachineLemmas.{take_line_keeps}
 use Rattle.acpi_base.proofs.Standing.{place_of, first_then, first_here, first_later, first_cases, stands_is_place}

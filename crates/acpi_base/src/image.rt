@@ -38,7 +38,7 @@ impl From<AllocError> for ImageFault {
 }
 
 /// Why `count` bytes cannot be added from an address on.
-#[tactic(auto, using(crate::proofs::Images::no_refusal))]
+#[tactic(auto, using(crate::proofs::Pieces::Images::no_refusal))]
 fn refusal(segments: &[Segment], base: u64, count: u64) -> Option<ImageFault>
     requires { AllByRecursion IsWhole (runs segments.now) }
     ensures { result ≡ (if nat_lt (2 ^ 64) (base + count) then Some ImageFault.PastEnd else option_map (λ address. ImageFault.Twice address) (first_of (lookup (runs segments.now)) base count)) }
@@ -80,7 +80,7 @@ impl Model for Image {
 
 impl Image {
     /// An image that holds no byte. Takes no memory.
-    #[tactic(auto, using(crate::proofs::Images::image_of))]
+    #[tactic(auto, using(crate::proofs::Pieces::Images::image_of))]
     pub fn new(alloc: Global) -> Image
         ensures nothing { result ≡ empty }
         ensures image { IsImage result }
@@ -97,7 +97,7 @@ impl Image {
     /// `PastEnd`, where the last byte would lie past the address 2^64 - 1;
     /// `Twice`, where an address is held already, with the least such address;
     /// `Memory`, where the allocator is out of memory. Adding no bytes always returns `Ok`, and takes no memory.
-    #[tactic(auto, using(crate::proofs::Images::first_held_memory_of, crate::proofs::Images::fits_unless, crate::proofs::Places::free_run, std::proofs::lemmas::Bool::Decides::nat_tests, crate::proofs::Images::no_refusal, crate::proofs::Images::no_bytes, crate::proofs::Images::image_of, crate::proofs::Images::memory_of_put))]
+    #[tactic(auto, using(crate::proofs::Pieces::Images::first_held_memory_of, crate::proofs::Pieces::Images::fits_unless, crate::proofs::Pieces::Places::free_run, std::proofs::lemmas::Bool::Decides::nat_tests, crate::proofs::Pieces::Images::no_refusal, crate::proofs::Pieces::Images::no_bytes, crate::proofs::Pieces::Images::image_of, crate::proofs::Pieces::Images::memory_of_put))]
     pub fn add(&mut self, base: u64, bytes: &[u8]) -> Result<(), ImageFault>
         ensures refused { MatchOption (add_refusal self.old base bytes.now) (IsOkUnless result ImageFault.Memory) (λ fault. result ≡ Err fault) }
         ensures ok { OnOk result (self.new ≡ with_bytes self.old base bytes.now) }
@@ -119,7 +119,7 @@ impl Image {
     /// States that each address of the image is below 2^64 and each of its bytes below 256. A caller that is lent an
     /// image calls this where its proof needs these bounds: they are ensured where an image is made, and a reference
     /// to it does not carry them. Does nothing when it runs, and takes no memory.
-    #[tactic(auto, using(crate::proofs::Images::image_of))]
+    #[tactic(auto, using(crate::proofs::Pieces::Images::image_of))]
     pub fn numbers_fit(&self)
         ensures fit { IsImage self.now }
     {
@@ -128,7 +128,7 @@ impl Image {
     }
 
     /// Returns the byte at an address, or `None` where the address is not held. Takes no memory.
-    #[tactic(auto, using(crate::proofs::Held::byte_of_memory_of))]
+    #[tactic(auto, using(crate::proofs::Pieces::Held::byte_of_memory_of))]
     pub fn byte_at(&self, address: u64) -> Option<u8>
         ensures { result ≡ byte_of self.now address }
     {
@@ -137,7 +137,7 @@ impl Image {
 
     /// Returns the `count` bytes from an address on, or `None` where one of these addresses is not held. The bytes
     /// may have been added in several calls. For a count of 0 it returns no bytes, at every address. Takes no memory.
-    #[tactic(auto, using(crate::proofs::Images::bytes_at_memory_of), unfolding(crate::specs::Memory::run_of))]
+    #[tactic(auto, using(crate::proofs::Pieces::Images::bytes_at_memory_of), unfolding(crate::specs::Memory::run_of))]
     pub fn window(&self, address: u64, count: u64) -> Option<&[u8]>
         ensures bytes { option_map (λ bytes. bytes.now) result ≡ bytes_at self.now address count }
         ensures count { IfSome result (λ bytes. length bytes.now ≡ count) }

@@ -11,7 +11,7 @@ use Rattle.std.proofs.lemmas.Bool.Decides.{nat_tests}
 use Rattle.acpi_base.specs.declared.image.segments.Segment.{Segment}
 use Rattle.acpi_base.specs.Memory.{first_of}
 use Rattle.acpi_base.specs.Segments.{Run, run, runs, run_at, run_in, end_of, lookup, place_where, IsTidy, IsFree, Puts, bridged}
-use Rattle.acpi_base.proofs.Edits.{run_in_read}
+use Rattle.acpi_base.proofs.Pieces.Edits.{run_in_read}
 
 -- where nothing is first, there is nothing
 pub nothing_held : (f : ℕ → Option ℕ) (a n x : ℕ) → first_of f a n ≡ None → a ≤ x → x < a + n → f x ≡ None

@@ -7,7 +7,7 @@ use Rattle.std.proofs.lemmas.Bool.{cases_lt}
 use Rattle.acpi_base.specs.declared.image.segments.Segment.{Segment}
 use Rattle.acpi_base.specs.Memory.{run_of, first_of, cons_both}
 use Rattle.acpi_base.specs.Segments.{Run, held, end_of, lookup, window_of, earlier, run, runs, IsWhole, ApartFrom, NoneTouch}
-use Rattle.acpi_base.proofs.Held.{held_none, held_inside}
+use Rattle.acpi_base.proofs.Pieces.Held.{held_none, held_inside}
 use Rattle.acpi_base.proofs.Runs.{first_of_from, first_of_none}
 
 -- where f has something, g has nothing, nor at the next number; and the other way round at the next number

@@ -12,9 +12,9 @@ use Rattle.acpi_base.specs.declared.image.ImageFault.{ImageFault}
 use Rattle.acpi_base.specs.declared.image.ImageFault.TheVariants.{PastEnd, Twice}
 use Rattle.acpi_base.specs.Adding.{add_refusal}
 use Rattle.acpi_base.specs.Segments.{Run, runs, held, lookup, run_at, memory_of, window_of, IsWhole, IsTidy, IsFree, Puts}
-use Rattle.acpi_base.proofs.Held.{held_inside, held_from, byte_of_memory_of, byte_of-with_bytes}
-use Rattle.acpi_base.proofs.Segments.{window_of-lookup}
-use Rattle.acpi_base.proofs.Places.{free_run}
+use Rattle.acpi_base.proofs.Pieces.Held.{held_inside, held_from, byte_of_memory_of, byte_of-with_bytes}
+use Rattle.acpi_base.proofs.Pieces.Segments.{window_of-lookup}
+use Rattle.acpi_base.proofs.Pieces.Places.{free_run}
 
 each_byte : (bs : List ℕ) (i b : ℕ) → AllByRecursion (λ x. x < 256) bs → slice_get bs i ≡ Some b → b < 256
 each_byte [] i b h e = absurd (cc)

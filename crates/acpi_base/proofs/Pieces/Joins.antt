@@ -9,10 +9,10 @@ use Rattle.std.proofs.lemmas.List.Edits.{length-remove}
 use Rattle.std.proofs.lemmas.Bool.{cases_lt}
 use Rattle.std.proofs.lemmas.Bool.Decides.{nat_tests}
 use Rattle.acpi_base.specs.Segments.{Run, runs, place_where, held, lookup, end_of, run_at, run_in, bridged, Apart, ApartFrom, NoneTouch, IsWhole, IsTidy, IsFree, Puts}
-use Rattle.acpi_base.proofs.Held.{held_none, held_some, held-nil, held-cons}
-use Rattle.acpi_base.proofs.Places.{none_at, one_at}
+use Rattle.acpi_base.proofs.Pieces.Held.{held_none, held_some, held-nil, held-cons}
+use Rattle.acpi_base.proofs.Pieces.Places.{none_at, one_at}
 use Rattle.acpi_base.specs.declared.image.segments.Segment.{Segment}
-use Rattle.acpi_base.proofs.Edits.{get_or_remove_other}
+use Rattle.acpi_base.proofs.Pieces.Edits.{get_or_remove_other}
 
 -- ---- a run among others
 
