@@ -1,6 +1,5 @@
 -- What `run_of` and `first_of` find, and so `bytes_at` and `first_held`.
-use Rattle.std.proofs.Common.{◌≡◌, ℕ, zero, suc, ◌+◌, ◌-◌, ◌<◌, ◌≤◌, true, false, cond, List, [], ◌∷◌, length, take, drop, slice_index, Option, Some, None, IsSome, is_some, refl, sym, ap, subst, ◌∙◌, arith, add-zero}
-use Rattle.std.specs.Option.{option_map}
+use Rattle.std.proofs.Common.{◌≡◌, ℕ, zero, suc, ◌+◌, ◌<◌, ◌≤◌, true, List, [], ◌∷◌, length, take, slice_index, Option, Some, None, IsSome, is_some, refl, ap, subst, ◌∙◌, arith, add-zero}
 use Rattle.acpi_base.specs.Memory.{Memory, byte_of, run_of, first_of, cons_both, bytes_at, Has}
 
 -- one missing number is enough

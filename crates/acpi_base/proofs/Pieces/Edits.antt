@@ -1,12 +1,12 @@
 -- What an edit of the segments makes of their runs.
-use Rattle.std.proofs.Common.{◌≡◌, ℕ, zero, suc, ◌-◌, ◌<◌, ◌≢◌, cond, List, [], ◌∷◌, ◌++◌, length, get_or, set, take, drop, Result, Ok, Err, OnOk, OnErr, is_ok, sym, ap, ◌∙◌, arith}
+use Rattle.std.proofs.Common.{◌≡◌, ℕ, zero, suc, ◌-◌, ◌<◌, ◌≢◌, cond, List, [], ◌∷◌, ◌++◌, length, get_or, set, take, drop, sym, ap, ◌∙◌, arith}
 use Rattle.std.specs.Prelude.{nat_lt}
 use Rattle.std.specs.List.{remove}
 use Rattle.std.proofs.lemmas.List.{map-set, map-append, take-map, drop-map, set-get_or}
 use Rattle.std.proofs.lemmas.List.Edits.{get_or-remove_below, get_or-remove_above}
 use Rattle.std.proofs.lemmas.Bool.{cases_lt}
 use Rattle.acpi_base.specs.declared.image.segments.Segment.{Segment}
-use Rattle.acpi_base.specs.Segments.{run, runs, run_at, run_in, bridged}
+use Rattle.acpi_base.specs.Segments.{run, runs, run_in}
 
 pub run_in_read : (ss : List Segment) (k : ℕ) (s : Segment) → k < length ss → s ≡ get_or ss k s → run_in (runs ss) k ≡ run s
 run_in_read [] k s h e = absurd (omega arith)

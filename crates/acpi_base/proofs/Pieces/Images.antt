@@ -1,20 +1,16 @@
 -- The memory that runs make.
-use Rattle.std.proofs.Common.{◌≡◌, ℕ, zero, suc, ◌+◌, ◌-◌, ◌^◌, ◌<◌, Bool, true, false, cond, List, [], ◌∷◌, length, get_or, slice_get, Option, Some, None, is_some, refl, sym, ap, ◌∙◌, arith}
+use Rattle.std.proofs.Common.{◌≡◌, ℕ, zero, suc, ◌+◌, ◌-◌, ◌^◌, ◌<◌, Bool, false, cond, List, [], ◌∷◌, length, slice_get, Option, Some, None, refl, sym, ◌∙◌, arith}
 use Rattle.std.specs.Prelude.{nat_lt}
-use Rattle.std.specs.Option.{option_or, option_map}
+use Rattle.std.specs.Option.{option_map}
 use Rattle.std.specs.List.{AllByRecursion}
 use Rattle.std.specs.FinMap.{same_map, nat_cmp-IsAntisymmetric}
 use Rattle.std.specs.Cmp.{nat_cmp_total}
-use Rattle.std.proofs.lemmas.Bool.{le-ltb, ltb-false}
+use Rattle.std.proofs.lemmas.Bool.{le-ltb}
 use Rattle.acpi_base.specs.Memory.{Memory, byte_of, first_of, run_of, bytes_at, first_held, with_bytes, IsImage}
-use Rattle.acpi_base.specs.declared.image.segments.Segment.{Segment}
-use Rattle.acpi_base.specs.declared.image.ImageFault.{ImageFault}
 use Rattle.acpi_base.specs.declared.image.ImageFault.TheVariants.{PastEnd, Twice}
-use Rattle.acpi_base.specs.Adding.{add_refusal}
-use Rattle.acpi_base.specs.Segments.{Run, runs, held, lookup, run_at, memory_of, window_of, IsWhole, IsTidy, IsFree, Puts}
+use Rattle.acpi_base.specs.Segments.{Run, lookup, run_at, memory_of, window_of, IsWhole, IsTidy, Puts}
 use Rattle.acpi_base.proofs.Pieces.Held.{held_inside, held_from, byte_of_memory_of, byte_of-with_bytes}
 use Rattle.acpi_base.proofs.Pieces.Segments.{window_of-lookup}
-use Rattle.acpi_base.proofs.Pieces.Places.{free_run}
 
 each_byte : (bs : List ℕ) (i b : ℕ) → AllByRecursion (λ x. x < 256) bs → slice_get bs i ≡ Some b → b < 256
 each_byte [] i b h e = absurd (cc)

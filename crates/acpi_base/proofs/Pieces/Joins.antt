@@ -1,5 +1,5 @@
 -- Bytes that are put in: the runs stay tidy, and hold what they held and the new bytes.
-use Rattle.std.proofs.Common.{◌≡◌, ℕ, zero, suc, ◌+◌, ◌-◌, ◌^◌, ◌<◌, ◌≤◌, ◌≢◌, ◌⊎◌, inl, inr, true, false, cond, List, [], Result, Ok, Err, OnOk, ◌∷◌, ◌++◌, length, get_or, set, take, drop, slice_get, Option, Some, None, is_some, refl, sym, ap, subst, ◌∙◌, arith, length-append, rules}
+use Rattle.std.proofs.Common.{◌≡◌, ℕ, suc, ◌+◌, ◌-◌, ◌^◌, ◌<◌, ◌≤◌, ◌≢◌, ◌⊎◌, cond, List, [], Result, Ok, Err, OnOk, ◌∷◌, ◌++◌, length, set, take, drop, Option, Some, None, refl, sym, subst, arith, length-append}
 use Rattle.std.specs.Prelude.{nat_lt}
 use Rattle.std.specs.Option.{option_or}
 use Rattle.std.specs.List.{remove, AllByRecursion}
