@@ -97,7 +97,7 @@ impl Image {
     /// `PastEnd`, where the last byte would lie past the address 2^64 - 1;
     /// `Twice`, where an address is held already, with the least such address;
     /// `Memory`, where the allocator is out of memory. Adding no bytes always returns `Ok`, and takes no memory.
-    #[tactic(auto, using(crate::proofs::Pieces::Images::first_held_memory_of, crate::proofs::Pieces::Images::fits_unless, crate::proofs::Pieces::Places::free_run, std::proofs::lemmas::Bool::Decides::nat_tests, crate::proofs::Pieces::Images::no_refusal, crate::proofs::Pieces::Images::no_bytes, crate::proofs::Pieces::Images::image_of, crate::proofs::Pieces::Images::memory_of_put))]
+    #[tactic(auto, using(crate::proofs::Pieces::Images::adding))]
     pub fn add(&mut self, base: u64, bytes: &[u8]) -> Result<(), ImageFault>
         ensures refused { MatchOption (add_refusal self.old base bytes.now) (IsOkUnless result ImageFault.Memory) (λ fault. result ≡ Err fault) }
         ensures ok { OnOk result (self.new ≡ with_bytes self.old base bytes.now) }

@@ -16,12 +16,18 @@ run_in_read (t ∷ ts) (suc k) s h e = run_in_read ts k s (omega arith) e
 pub runs_set : (ss : List Segment) (k : ℕ) (s : Segment) → runs (set ss k s) ≡ set (runs ss) k (run s)
 runs_set ss k s = map-set run ss k s
 
-pub runs_unset : (ss : List Segment) (k : ℕ) (s t : Segment) → s ≡ get_or ss k s → t.base ≡ s.base → t.bytes.items ≡ s.bytes.items → runs (set ss k t) ≡ runs ss
-runs_unset ss k s t e b f = (let same : run t ≡ run s = λ i. record { base = b i; bytes = f i } in grind (arith, same, map-set run ss k t, map-set run ss k s, set-get_or ss k s))
+pub runs_unset : (ss : List Segment) (k : ℕ) (s t : Segment) → s ≡ get_or ss k s → t.base ≡ s.base → t.bytes.items ≡ s.bytes.items
+    → runs (set ss k t) ≡ runs ss
+runs_unset ss k s t e b f =
+    let same : run t ≡ run s = λ i. record { base = b i; bytes = f i } in
+    grind (arith, same, map-set run ss k t, map-set run ss k s, set-get_or ss k s)
 
 pub runs_remove : (ss : List Segment) (k : ℕ) → runs (remove ss k) ≡ remove (runs ss) k
-runs_remove ss k = map-append run (take k ss) (drop (suc k) ss) ∙ ap (λ rs. rs ++ runs (drop (suc k) ss)) (sym (take-map run k ss)) ∙ ap (λ rs. take k (runs ss) ++ rs) (sym (drop-map run (suc k) ss))
+runs_remove ss k = grind (arith, map-append run (take k ss) (drop (suc k) ss), take-map run k ss, drop-map run (suc k) ss)
 
 -- where an element stands after another one has left the list
-pub get_or_remove_other : {X : Type 0} (ss : List X) (i j : ℕ) (d : X) → i ≢ j → j < length ss → get_or (remove ss j) (cond (nat_lt j i) (i - 1) i) d ≡ get_or ss i d
+pub get_or_remove_other : {X : Type 0} (ss : List X) (i j : ℕ) (d : X) → i ≢ j → j < length ss
+    → get_or (remove ss j) (cond (nat_lt j i) (i - 1) i) d ≡ get_or ss i d
 get_or_remove_other ss i j d ne h = grind (arith, cases_lt, get_or-remove_above, get_or-remove_below)
+
+pub ruleset edits = (runs_set, runs_unset, runs_remove, run_in_read, get_or_remove_other)

@@ -42,7 +42,8 @@ same_number x a = grind (arith, nat_tests)
 pub byte_of-with_bytes : (m : Memory) (a : ℕ) (bs : List ℕ) (x : ℕ) → byte_of (with_bytes m a bs) x ≡ option_or (held (run_at a bs) x) (byte_of m x)
 unfolding with_bytes
 byte_of-with_bytes m a [] x = rw (held-nil a x) refl
-byte_of-with_bytes m a (b ∷ bs) x = grind (arith, get-insert nat_cmp_total (with_bytes m (a + 1) bs) a b x, same_number x a, byte_of-with_bytes m (a + 1) bs x, held-cons)
+byte_of-with_bytes m a (b ∷ bs) x =
+    grind (arith, get-insert nat_cmp_total (with_bytes m (a + 1) bs) a b x, same_number x a, byte_of-with_bytes m (a + 1) bs x, held-cons)
 
 pub byte_of_memory_of : (rs : List Run) (x : ℕ) → byte_of (memory_of rs) x ≡ lookup rs x
 byte_of_memory_of [] x = get-empty nat_cmp x
@@ -68,10 +69,14 @@ first_of_held_within r a n l m h = grind (arith, held_some, first_of_at (held r)
 pub first_of_held_outside : (r : Run) (a n : ℕ) → (a + n ≤ r.base) ⊎ (end_of r ≤ a) → first_of (held r) a n ≡ None
 first_of_held_outside r a n l = first_of_none (held r) a n (λ k h. held_none r (a + k) (grind arith))
 
+pub ruleset first_of_held = (first_of_held_above, first_of_held_within, first_of_held_outside)
+
 -- ---- after bytes were put in
 
-pub byte_of-with_bytes_within : (m : Memory) (a : ℕ) (bs : List ℕ) (x : ℕ) → a ≤ x → x < a + length bs → byte_of (with_bytes m a bs) x ≡ Some (slice_index bs (x - a))
+pub byte_of-with_bytes_within : (m : Memory) (a : ℕ) (bs : List ℕ) (x : ℕ) → a ≤ x → x < a + length bs
+    → byte_of (with_bytes m a bs) x ≡ Some (slice_index bs (x - a))
 byte_of-with_bytes_within m a bs x l h = byte_of-with_bytes m a bs x ∙ rw (held_at (run_at a bs) x l h) refl
 
-pub byte_of-with_bytes_outside : (m : Memory) (a : ℕ) (bs : List ℕ) (x : ℕ) → (x < a) ⊎ (a + length bs ≤ x) → byte_of (with_bytes m a bs) x ≡ byte_of m x
+pub byte_of-with_bytes_outside : (m : Memory) (a : ℕ) (bs : List ℕ) (x : ℕ) → (x < a) ⊎ (a + length bs ≤ x)
+    → byte_of (with_bytes m a bs) x ≡ byte_of m x
 byte_of-with_bytes_outside m a bs x h = byte_of-with_bytes m a bs x ∙ rw (held_none (run_at a bs) x h) refl

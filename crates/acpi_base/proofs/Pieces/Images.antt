@@ -11,6 +11,8 @@ use Rattle.acpi_base.specs.declared.image.ImageFault.TheVariants.{PastEnd, Twice
 use Rattle.acpi_base.specs.Segments.{Run, lookup, run_at, memory_of, window_of, IsWhole, IsTidy, Puts}
 use Rattle.acpi_base.proofs.Pieces.Held.{held_inside, held_from, byte_of_memory_of, byte_of-with_bytes}
 use Rattle.acpi_base.proofs.Pieces.Segments.{window_of-lookup}
+use Rattle.acpi_base.proofs.Pieces.Places.{free_run}
+use Rattle.std.proofs.lemmas.Bool.Decides.{nat_tests}
 
 each_byte : (bs : List ℕ) (i b : ℕ) → AllByRecursion (λ x. x < 256) bs → slice_get bs i ≡ Some b → b < 256
 each_byte [] i b h e = absurd (cc)
@@ -20,7 +22,8 @@ each_byte (x ∷ xs) (suc i) b h e = each_byte xs i b h.1 e
 -- what whole runs hold is a byte, at an address of 64 bits
 lookup_byte : (rs : List Run) (a b : ℕ) → AllByRecursion IsWhole rs → lookup rs a ≡ Some b → (a < 2 ^ 64) × (b < 256)
 lookup_byte [] a b w e = absurd (cc)
-lookup_byte (r ∷ rs) a b w e = grind (arith, w.0.fits, held_inside r a, held_from r a, each_byte r.bytes (a - r.base) b w.0.bytes, lookup_byte rs a b w.1)
+lookup_byte (r ∷ rs) a b w e =
+    grind (arith, w.0.fits, held_inside r a, held_from r a, each_byte r.bytes (a - r.base) b w.0.bytes, lookup_byte rs a b w.1)
 
 pub image_of : (rs : List Run) → IsTidy rs → IsImage (memory_of rs)
 image_of rs t = grind (arith, lookup_byte, byte_of_memory_of)
@@ -36,7 +39,8 @@ pub memory_of_put : (a : ℕ) (bs : List ℕ) (old new : List Run) → Puts (run
 memory_of_put a bs old new p = grind (arith, same_memory, byte_of_memory_of, byte_of-with_bytes)
 
 -- no bytes are never refused, and change nothing
-pub no_refusal : (f : ℕ → Option ℕ) (a n : ℕ) → a < 2 ^ 64 → n ≡ 0 → None ≡ cond (nat_lt (2 ^ 64) (a + n)) (Some PastEnd) (option_map (λ x. Twice x) (first_of f a n))
+pub no_refusal : (f : ℕ → Option ℕ) (a n : ℕ) → a < 2 ^ 64 → n ≡ 0
+    → None ≡ cond (nat_lt (2 ^ 64) (a + n)) (Some PastEnd) (option_map (λ x. Twice x) (first_of f a n))
 unfolding first_of
 no_refusal f a zero l e = grind (arith, le-ltb)
 no_refusal f a (suc n) l e = absurd (omega arith)
@@ -52,3 +56,4 @@ first_held_memory_of rs a n = λ i. first_of (λ x. byte_of_memory_of rs x i) a 
 pub fits_unless : (t : Bool) (o : Option ℕ) → cond t (Some PastEnd) (option_map (λ x. Twice x) o) ≡ None → (t ≡ false) × (o ≡ None)
 fits_unless t o e = grind arith
 
+pub ruleset adding = (first_held_memory_of, fits_unless, free_run, nat_tests, no_refusal, no_bytes, image_of, memory_of_put)

@@ -35,7 +35,8 @@ apart_out (r ∷ rs) back n h = grind (arith, all_out (Apart r) rs back n h.0, a
 not_both : (r s : Run) (x : ℕ) → (end_of r ≤ s.base) ⊎ (end_of s ≤ r.base) → (held r x ≡ None) ⊎ (held s x ≡ None)
 not_both r s x e = grind (arith, cases_lt, held_none)
 
-lookup_in : (front back : List Run) (n : Run) (x : ℕ) → ApartFrom n (front ++ back) → lookup (front ++ n ∷ back) x ≡ option_or (held n x) (lookup (front ++ back) x)
+lookup_in : (front back : List Run) (n : Run) (x : ℕ) → ApartFrom n (front ++ back)
+    → lookup (front ++ n ∷ back) x ≡ option_or (held n x) (lookup (front ++ back) x)
 lookup_in [] back n x a = refl
 lookup_in (r ∷ rs) back n x a = grind (arith, not_both, lookup_in rs back n x a.1)
 
@@ -56,7 +57,8 @@ takes_run rs k h t =
     subst (λ u. Takes u (run_in rs k) (remove rs k)) (sym e) (takes_at (take k rs) (drop (suc k) rs) (run_in rs k) (subst IsTidy e t))
 
 -- an empty run at a, which is not the f of any run, beside an address in b
-takes_empty : (f : Run → ℕ) (b : Run) (rs : List Run) (a x : ℕ) → ((s : Run) → held s x ≡ None → f s ≢ a → Apart (run_at a []) s) → IsFree b rs → AllByRecursion (λ s. f s ≢ a) rs
+takes_empty : (f : Run → ℕ) (b : Run) (rs : List Run) (a x : ℕ) → ((s : Run) → held s x ≡ None → f s ≢ a → Apart (run_at a []) s) → IsFree b rs
+    → AllByRecursion (λ s. f s ≢ a) rs
     → b.base ≤ x → x < end_of b → a ≤ end_of b → Takes rs (run_at a []) rs
 takes_empty f b rs a x apart free n l h top = record {
   fits = (let fits = free.whole.fits in omega arith);
@@ -71,11 +73,15 @@ takes_empty f b rs a x apart free n l h top = record {
     all (s ∷ ss) e n = grind (arith, apart s, all ss, n.0, n.1)
 
 takes_before : (b : Run) (rs : List Run) → IsFree b rs → AllByRecursion (λ s. end_of s ≢ b.base) rs → Takes rs (run_at b.base []) rs
-takes_before b rs f n = (let some = f.whole.filled in takes_empty end_of b rs b.base b.base (λ s e n. grind (arith, held_some s b.base)) f n (omega arith) (omega arith) (omega arith))
+takes_before b rs f n =
+    let some = f.whole.filled in
+    takes_empty end_of b rs b.base b.base (λ s e n. grind (arith, held_some s b.base)) f n (omega arith) (omega arith) (omega arith)
 
 takes_after : (b : Run) (rs : List Run) → IsFree b rs → AllByRecursion (λ s. s.base ≢ end_of b) rs → Takes rs (run_at (end_of b) []) rs
 takes_after b rs f n =
-    (let some = f.whole.filled in takes_empty (λ r. r.base) b rs (end_of b) (end_of b - 1) (λ s e n. grind (arith, held_some s (end_of b - 1))) f n (omega arith) (omega arith) (omega arith))
+    let some = f.whole.filled in
+    let last : ℕ = end_of b - 1 in
+    takes_empty (λ r. r.base) b rs (end_of b) last (λ s e n. grind (arith, held_some s last)) f n (omega arith) (omega arith) (omega arith)
 
 still_free : (b r : Run) (old others : List Run) → IsFree b old → Takes old r others → IsFree b others
 still_free b r old others f t = record { tidy = t.tidy; whole = f.whole; free = λ x i j. grind (arith, f.free x i j, t.lookup_is x) }
@@ -86,7 +92,8 @@ held-append : (a : ℕ) (xs ys : List ℕ) (x : ℕ) → held (run_at a (xs ++ y
 held-append a [] ys x = grind (arith, nat_tests)
 held-append a (b ∷ xs) ys x = grind (arith, held-cons, held-append (a + 1) xs ys x)
 
-or_three : (l b r z : Option ℕ) → (l ≡ None) ⊎ (b ≡ None) → (l ≡ None) ⊎ (r ≡ None) → option_or (option_or (option_or l b) r) z ≡ option_or b (option_or r (option_or l z))
+or_three : (l b r z : Option ℕ) → (l ≡ None) ⊎ (b ≡ None) → (l ≡ None) ⊎ (r ≡ None)
+    → option_or (option_or (option_or l b) r) z ≡ option_or b (option_or r (option_or l z))
 or_three l b r z p q = grind (arith)
 
 all_append : (P : ℕ → Type 0) (xs ys : List ℕ) → AllByRecursion P xs → AllByRecursion P ys → AllByRecursion P (xs ++ ys)
@@ -94,14 +101,16 @@ all_append P [] ys a b = b
 all_append P (x ∷ xs) ys a b = (a.0, all_append P xs ys a.1 b)
 
 -- what lies apart from the runs beside b, and holds nothing of b, lies apart from the three
-apart_joined : (b l r n : Run) (rs : List Run) → end_of l ≡ b.base → r.base ≡ end_of b → n.base ≡ l.base → end_of n ≡ end_of r → ApartFrom l rs → ApartFrom r rs → AllByRecursion IsWhole rs
+apart_joined : (b l r n : Run) (rs : List Run) → end_of l ≡ b.base → r.base ≡ end_of b → n.base ≡ l.base → end_of n ≡ end_of r → ApartFrom l rs
+    → ApartFrom r rs → AllByRecursion IsWhole rs
     → ((x : ℕ) → b.base ≤ x → x < end_of b → lookup rs x ≡ None) → ApartFrom n rs
 apart_joined b l r n [] e f g h u v w o = tt
 apart_joined b l r n (s ∷ ss) e f g h u v w o =
     grind (arith, held_some s s.base, o s.base, apart_joined b l r n ss e f g h u.1 v.1 w.1 (λ x i j. grind (arith, o x i j)))
 
 -- b and the runs beside it, each of which may be empty, stand as one before back
-puts_at : (b l r : Run) (old mid front back : List Run) → IsFree b old → Takes old r mid → Takes mid l (front ++ back) → ApartFrom r (front ++ back) → end_of l ≡ b.base → r.base ≡ end_of b
+puts_at : (b l r : Run) (old mid front back : List Run) → IsFree b old → Takes old r mid → Takes mid l (front ++ back)
+    → ApartFrom r (front ++ back) → end_of l ≡ b.base → r.base ≡ end_of b
     → Puts b old (front ++ run_at l.base (l.bytes ++ b.bytes ++ r.bytes) ∷ back)
 puts_at b l r old mid front back f t u a e g =
     let n : Run = run_at l.base (l.bytes ++ b.bytes ++ r.bytes) in
@@ -111,7 +120,7 @@ puts_at b l r old mid front back f t u a e g =
     let fits = t.fits in
     let free = (still_free b l mid (front ++ back) (still_free b r old mid f t) u).free in
     let apart : ApartFrom n (front ++ back) = apart_joined b l r n (front ++ back) e g refl (omega arith) u.apart a u.tidy.whole free in
-    let bytes : AllByRecursion (λ b. b < 256) n.bytes = all_append _ (l.bytes ++ b.bytes) r.bytes (all_append _ l.bytes b.bytes u.bytes f.whole.bytes) t.bytes in
+    let bytes = all_append _ (l.bytes ++ b.bytes) r.bytes (all_append _ l.bytes b.bytes u.bytes f.whole.bytes) t.bytes in
     let whole : IsWhole n = record { filled = omega arith; fits = omega arith; bytes = bytes } in
     record {
       tidy = record { apart = apart_in front back n apart u.tidy.apart; whole = all_in IsWhole front back n whole u.tidy.whole };
@@ -120,7 +129,8 @@ puts_at b l r old mid front back f t u a e g =
           grind (arith, held_is, lookup_in front back n x apart, t.lookup_is x, u.lookup_is x, not_both l b x, not_both l r x, or_three);
     }
 
-puts_set : (b l r : Run) (old mid into : List Run) (k : ℕ) (bs : List ℕ) → k < length into → IsFree b old → Takes old r mid → Takes mid l (remove into k) → ApartFrom r (remove into k)
+puts_set : (b l r : Run) (old mid into : List Run) (k : ℕ) (bs : List ℕ) → k < length into → IsFree b old → Takes old r mid
+    → Takes mid l (remove into k) → ApartFrom r (remove into k)
     → end_of l ≡ b.base → r.base ≡ end_of b → bs ≡ l.bytes ++ b.bytes ++ r.bytes → Puts b old (set into k (run_at l.base bs))
 puts_set b l r old mid into k bs h f t u a e g same =
     rw (set_split into k (run_at l.base bs) h, same) (puts_at b l r old mid (take k into) (drop (suc k) into) f t u a e g)
@@ -143,7 +153,8 @@ joined rs b (Some i) None = set rs i (run_at (run_in rs i).base ((run_in rs i).b
 joined rs b None (Some j) = set rs j (run_at b.base (b.bytes ++ (run_in rs j).bytes))
 joined rs b (Some i) (Some j) = bridged rs i b.bytes j
 
-puts_joined : (b : Run) (ss : List Segment) (before after : Option ℕ) → place_where end_of b.base ss ≡ before → place_where (λ r. r.base) (end_of b) ss ≡ after → IsFree b (runs ss) → Puts b (runs ss) (joined (runs ss) b before after)
+puts_joined : (b : Run) (ss : List Segment) (before after : Option ℕ) → place_where end_of b.base ss ≡ before
+    → place_where (λ r. r.base) (end_of b) ss ≡ after → IsFree b (runs ss) → Puts b (runs ss) (joined (runs ss) b before after)
 puts_joined b ss None None p q f =
     let rs = runs ss in
     let t = takes_after b rs f (none_at (λ r. r.base) ss _ q) in
@@ -154,7 +165,8 @@ puts_joined b ss (Some i) None p q f =
     let rs = runs ss in
     let (h, e) = one_at end_of ss _ i p in
     let t = takes_after b rs f (none_at (λ r. r.base) ss _ q) in
-    puts_set b (run_in rs i) (run_at (end_of b) []) rs rs rs i _ h f t (takes_run rs i h f.tidy) (without _ rs i h t.apart) e refl (sym (append-nil ((run_in rs i).bytes ++ b.bytes)))
+    let u = takes_run rs i h f.tidy in
+    puts_set b (run_in rs i) (run_at (end_of b) []) rs rs rs i _ h f t u (without _ rs i h t.apart) e refl (sym (append-nil _))
 puts_joined b ss None (Some j) p q f =
     let rs = runs ss in
     let (h, e) = one_at (λ r. r.base) ss _ j q in
@@ -175,6 +187,7 @@ puts_joined b ss (Some i) (Some j) p q f =
     puts_set b (run_in rs i) (run_in rs j) rs rest rest k _ hk f t u (without _ rest k hk t.apart) e g refl
 
 pub puts : {T E : Type 0} (result : Result T E) (b : Run) (ss : List Segment) (new : List Run) → IsFree b (runs ss)
-    → OnOk result (new ≡ joined (runs ss) b (place_where end_of b.base ss) (place_where (λ r. r.base) (end_of b) ss)) → OnOk result (Puts b (runs ss) new)
+    → OnOk result (new ≡ joined (runs ss) b (place_where end_of b.base ss) (place_where (λ r. r.base) (end_of b) ss))
+    → OnOk result (Puts b (runs ss) new)
 puts (Ok x) b ss new f e = rw e (puts_joined b ss _ _ refl refl f)
 puts (Err x) b ss new f e = tt

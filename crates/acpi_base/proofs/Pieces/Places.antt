@@ -25,7 +25,8 @@ unfolding place_where
 none_at f ss a e =
     let p : Segment → Bool = λ s. f (run s) == a in
     let far : length ss ≤ position_or_len p ss = grind (arith, cases_lt) in
-    recursion_from_All (λ r. f r ≢ a) (runs ss) (All-map (λ r. f r ≢ a) run ss (λ k d h. (let no = fails_before_first p ss k d (omega arith) in grind (arith, nat_tests))))
+    let each : (k : ℕ) (d : Segment) → k < length ss → f (run (get_or ss k d)) ≢ a = λ k d h. (let no = fails_before_first p ss k d (omega arith) in grind (arith, nat_tests)) in
+    recursion_from_All (λ r. f r ≢ a) (runs ss) (All-map (λ r. f r ≢ a) run ss each)
 
 -- where one is found, it is that of its run
 pub one_at : (f : Run → ℕ) (ss : List Segment) (a i : ℕ) → place_where f a ss ≡ Some i → (i < length (runs ss)) × (f (run_in (runs ss) i) ≡ a)
@@ -36,10 +37,10 @@ one_at f (s ∷ ss) a i e =
     let there : run_in (runs (s ∷ ss)) i ≡ run (get_or (s ∷ ss) i s) = run_in_read (s ∷ ss) i _ found.0 (get_or_default (s ∷ ss) i s _ found.0) in
     (rw (length-map (s ∷ ss) run) found.0, grind (arith, nat_tests))
 
-pub free_run : (rs : List Run) (a : ℕ) (bs : List ℕ) → IsTidy rs → 0 < length bs → a + length bs ≤ 2 ^ 64 → ((k : ℕ) → get_or bs k 0 < 256) → first_of (lookup rs) a (length bs) ≡ None → IsFree (run_at a bs) rs
+pub free_run : (rs : List Run) (a : ℕ) (bs : List ℕ) → IsTidy rs → 0 < length bs → a + length bs ≤ 2 ^ 64 → ((k : ℕ) → get_or bs k 0 < 256)
+    → first_of (lookup rs) a (length bs) ≡ None → IsFree (run_at a bs) rs
 free_run rs a bs t f h s e = record {
   tidy = t;
   whole = record { filled = f; fits = h; bytes = recursion_from_All (λ b. b < 256) bs (All-from_get_or (λ b. b < 256) bs 0 (λ k l. s k)) };
   free = λ x l m. nothing_held (lookup rs) a (length bs) x e l m;
 }
-

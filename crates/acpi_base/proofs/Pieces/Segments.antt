@@ -16,7 +16,8 @@ pub record IsParted (f g : ℕ → Option ℕ) : Type 0 where
   pub above : (x : ℕ) → IsSome (f x) → g (x + 1) ≡ None
   pub below : (x : ℕ) → IsSome (g x) → f (x + 1) ≡ None
 
-pub run_of-or : (f g : ℕ → Option ℕ) → IsParted f g → (a n : ℕ) → run_of (λ x. option_or (f x) (g x)) a (suc n) ≡ option_or (run_of f a (suc n)) (run_of g a (suc n))
+pub run_of-or : (f g : ℕ → Option ℕ) → IsParted f g → (a n : ℕ)
+    → run_of (λ x. option_or (f x) (g x)) a (suc n) ≡ option_or (run_of f a (suc n)) (run_of g a (suc n))
 unfolding run_of cons_both
 run_of-or f g p a zero = grind (arith)
 run_of-or f g p a (suc n) = grind (arith, run_of-or f g p (a + 1) n)
@@ -48,15 +49,20 @@ first_of-or f g a zero = refl
 first_of-or f g a (suc n) = grind (arith, first_of_from f (a + 1) n, first_of_from g (a + 1) n, first_of-or f g (a + 1) n)
 
 -- the segment that was read is not empty
-pub filled_at : (ss : List Segment) (i : ℕ) (s : Segment) → i < length ss → s ≡ get_or ss i s → AllByRecursion IsWhole (runs ss) → 0 < length s.bytes.items
+pub filled_at : (ss : List Segment) (i : ℕ) (s : Segment) → i < length ss → s ≡ get_or ss i s → AllByRecursion IsWhole (runs ss)
+    → 0 < length s.bytes.items
 filled_at [] i s h e a = absurd (omega arith)
 filled_at (t ∷ ts) zero s h e a = (let whole = a.0.filled in grind arith)
 filled_at (t ∷ ts) (suc i) s h e a = filled_at ts i s (omega arith) e a.1
 
 -- one step of the search for the first address that is held, and its end
-pub first_of_lookup_more : (ss : List Segment) (i : ℕ) (s : Segment) (b n : ℕ) → i < length ss → s ≡ get_or ss i s → first_of (lookup (runs (drop i ss))) b n ≡ earlier (first_of (held (run s)) b n) (first_of (lookup (runs (drop (i + 1) ss))) b n)
+pub first_of_lookup_more : (ss : List Segment) (i : ℕ) (s : Segment) (b n : ℕ) → i < length ss → s ≡ get_or ss i s
+    → first_of (lookup (runs (drop i ss))) b n ≡ earlier (first_of (held (run s)) b n) (first_of (lookup (runs (drop (i + 1) ss))) b n)
 first_of_lookup_more ss i s b n h e =
-    ap (λ ts. first_of (lookup (runs ts)) b n) (drop_more ss i s h ∙ ap (λ t. t ∷ drop (i + 1) ss) (sym e)) ∙ first_of-or (held (run s)) (lookup (runs (drop (i + 1) ss))) b n
+    ap (λ ts. first_of (lookup (runs ts)) b n) (drop_more ss i s h ∙ ap (λ t. t ∷ drop (i + 1) ss) (sym e))
+    ∙ first_of-or (held (run s)) (lookup (runs (drop (i + 1) ss))) b n
 
 pub first_of_lookup_all : (ss : List Segment) (i b n : ℕ) (x : Option ℕ) → length ss ≤ i → earlier x (first_of (lookup (runs (drop i ss))) b n) ≡ x
 first_of_lookup_all ss i b n x h = grind (arith, drop_all, first_of_none)
+
+pub ruleset first_held = (filled_at, earlier_assoc, first_of_lookup_more, first_of_lookup_all)

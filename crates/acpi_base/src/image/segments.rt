@@ -75,7 +75,7 @@ pub fn window(segments: &[Segment], address: u64, count: u64) -> Option<&[u8]>
 }
 
 // An empty segment would seem to hold its base.
-#[tactic(auto, using(crate::proofs::Pieces::Held::first_of_held_above, crate::proofs::Pieces::Held::first_of_held_within, crate::proofs::Pieces::Held::first_of_held_outside))]
+#[tactic(auto, using(crate::proofs::Pieces::Held::first_of_held))]
 fn first_in(segment: &Segment, base: u64, count: u64) -> Option<u64>
     requires filled { 0 < length segment.now.bytes.items }
     requires count { 0 < count }
@@ -104,7 +104,7 @@ fn earlier_of(first: Option<u64>, second: Option<u64>) -> Option<u64>
 }
 
 /// The least of the `count` addresses from `base` on that is held already.
-#[tactic(auto, using(crate::proofs::Pieces::Segments::filled_at, crate::proofs::Pieces::Segments::earlier_assoc, crate::proofs::Pieces::Segments::first_of_lookup_more, crate::proofs::Pieces::Segments::first_of_lookup_all))]
+#[tactic(auto, using(crate::proofs::Pieces::Segments::first_held))]
 pub fn first_held(segments: &[Segment], base: u64, count: u64) -> Option<u64>
     requires whole { AllByRecursion IsWhole (runs segments.now) }
     requires count { 0 < count }
@@ -167,7 +167,7 @@ fn put_alone(
 }
 
 // In place, so that reading a text line by line does not copy all earlier bytes for each line.
-#[tactic(auto, using(crate::proofs::Pieces::Edits::runs_set, crate::proofs::Pieces::Edits::run_in_read, crate::proofs::Pieces::Edits::runs_unset))]
+#[tactic(auto, using(crate::proofs::Pieces::Edits::edits))]
 fn append(segments: &mut Vec<Segment>, before: usize, bytes: &[u8]) -> Result<(), AllocError>
     requires { before < vec_len segments.old }
     ensures ok { OnOk result (let old = run_in (runs segments.old.items) before in runs segments.new.items ≡ slice_set (runs segments.old.items) before (run_at old.base (old.bytes ++ bytes.now))) }
@@ -176,7 +176,7 @@ fn append(segments: &mut Vec<Segment>, before: usize, bytes: &[u8]) -> Result<()
     segments[before].bytes.extend_from_slice(bytes)
 }
 
-#[tactic(auto, using(crate::proofs::Pieces::Edits::runs_set, crate::proofs::Pieces::Edits::run_in_read))]
+#[tactic(auto, using(crate::proofs::Pieces::Edits::edits))]
 fn prepend(
     alloc: Global,
     segments: &mut Vec<Segment>,
@@ -193,7 +193,7 @@ fn prepend(
     Ok(())
 }
 
-#[tactic(auto, using(crate::proofs::Pieces::Edits::get_or_remove_other, crate::proofs::Pieces::Edits::runs_set, crate::proofs::Pieces::Edits::run_in_read, crate::proofs::Pieces::Edits::runs_remove))]
+#[tactic(auto, using(crate::proofs::Pieces::Edits::edits))]
 fn bridge(
     alloc: Global,
     segments: &mut Vec<Segment>,
