@@ -13,6 +13,7 @@ run_of_none f a zero k h e = absurd (omega arith)
 run_of_none f a (suc n) zero h e = grind (arith, add-zero)
 run_of_none f a (suc n) (suc k) h e = (let q : a + suc k ≡ a + 1 + k = omega arith in grind (arith, run_of_none f (a + 1) n k))
 
+-- where there is nothing at each, there is no first
 pub first_of_none : (f : ℕ → Option ℕ) (a n : ℕ) → ((k : ℕ) → k < n → f (a + k) ≡ None) → first_of f a n ≡ None
 unfolding first_of
 first_of_none f a zero h = refl
@@ -27,6 +28,7 @@ first_of_at f a (suc n) (suc k) h s before =
     let q : a + 1 + k ≡ a + suc k = omega arith in
     grind (arith, add-zero, before 0, first_of_at f (a + 1) n k (omega arith) (ap (λ x. is_some (f x)) q ∙ s) (next (λ x j. f x ≡ None) a k before))
 
+-- the first is not below a
 pub first_of_from : (f : ℕ → Option ℕ) (a n x : ℕ) → first_of f a n ≡ Some x → a ≤ x
 unfolding first_of
 first_of_from f a zero x e = absurd (cc)
@@ -40,17 +42,20 @@ pub run_of-split : (f : ℕ → Option ℕ) (a n : ℕ) (l : List ℕ) → run_o
 unfolding run_of cons_both
 run_of-split f a n l e = grind (arith)
 
+-- there are n of them
 pub run_of-count : (f : ℕ → Option ℕ) (a n : ℕ) (l : List ℕ) → run_of f a n ≡ Some l → length l ≡ n
 unfolding run_of
 run_of-count f a zero l e = (let none : l ≡ [] = cc in ap length none)
 run_of-count f a (suc n) l e = grind (arith, run_of-split f a n l e, run_of-count f (a + 1) n)
 
+-- the k-th is that at a + k
 pub run_of-each : (f : ℕ → Option ℕ) (a n : ℕ) (l : List ℕ) → run_of f a n ≡ Some l → (k : ℕ) → k < n → f (a + k) ≡ Some (slice_index l k)
 run_of-each f a zero l e k h = absurd (omega arith)
 run_of-each f a (suc n) l e zero h = grind (arith, add-zero, run_of-split f a n l e)
 run_of-each f a (suc n) l e (suc k) h = 
     (let q : a + suc k ≡ a + 1 + k = omega arith in grind (arith, run_of-split f a n l e, run_of-each f (a + 1) n))
 
+-- and so they are what is there
 pub run_of-from_each : (f : ℕ → Option ℕ) (a n : ℕ) (l : List ℕ) → length l ≡ n → ((k : ℕ) → k < n → f (a + k) ≡ Some (slice_index l k))
     → run_of f a n ≡ Some l
 unfolding run_of cons_both
@@ -60,6 +65,7 @@ run_of-from_each f a (suc n) [] c h = absurd (omega arith)
 run_of-from_each f a (suc n) (b ∷ bs) c h =
     grind (arith, add-zero, h 0, run_of-from_each f (a + 1) n bs (omega arith) (next (λ x k. f x ≡ Some (slice_index (b ∷ bs) k)) a n h))
 
+-- where there is something at each, there is a list
 pub run_of-some : (f : ℕ → Option ℕ) (a n : ℕ) → ((k : ℕ) → k < n → IsSome (f (a + k))) → IsSome (run_of f a n)
 unfolding run_of cons_both
 run_of-some f a zero h = refl
@@ -72,6 +78,7 @@ run_of-take f a n zero l e h = refl
 run_of-take f a zero (suc k) l e h = absurd (omega arith)
 run_of-take f a (suc n) (suc k) l e h = grind (arith, run_of-split f a n l e, run_of-take f (a + 1) n k)
 
+-- where there are the bytes, each address is held
 pub Has-bytes_at : (m : Memory) (a n : ℕ) → IsSome (bytes_at m a n) → Has m a n
 Has-bytes_at m a n s k h =
     elim (bytes_at m a n) as (λ v. bytes_at m a n ≡ v → is_some v ≡ true → IsSome (byte_of m (a + k))) [

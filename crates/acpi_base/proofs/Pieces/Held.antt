@@ -13,18 +13,23 @@ use Rattle.acpi_base.specs.Memory.{Memory, byte_of, run_of, first_of, with_bytes
 use Rattle.acpi_base.specs.Segments.{Run, held, end_of, lookup, memory_of, run_at}
 use Rattle.acpi_base.proofs.Runs.{run_of_none, first_of_none, first_of_at}
 
+-- from its base on, a run holds its bytes
 pub held_from : (r : Run) (a : ℕ) → r.base ≤ a → held r a ≡ slice_get r.bytes (a - r.base)
 held_from r a h = grind (arith, nat_tests)
 
+-- below its base and from its end on, a run holds nothing
 pub held_none : (r : Run) (a : ℕ) → (a < r.base) ⊎ (end_of r ≤ a) → held r a ≡ None
 held_none r a h = grind (arith, cases_lt, nat_tests, slice_get_past)
 
+-- between these it holds a byte
 pub held_at : (r : Run) (a : ℕ) → r.base ≤ a → a < end_of r → held r a ≡ Some (get_or r.bytes (a - r.base) 0)
 held_at r a l h = held_from r a l ∙ slice_get-get_or r.bytes (a - r.base) 0 (omega arith)
 
+-- which is some byte
 pub held_some : (r : Run) (a : ℕ) → r.base ≤ a → a < end_of r → IsSome (held r a)
 held_some r a l h = ap is_some (held_at r a l h)
 
+-- where a run holds something, the address is in it
 pub held_inside : (r : Run) (a : ℕ) → IsSome (held r a) → (r.base ≤ a) × (a < end_of r)
 held_inside r a s = grind (arith, cases_lt, held_none)
 
@@ -32,9 +37,11 @@ held_inside r a s = grind (arith, cases_lt, held_none)
 pub held-cons : (a b : ℕ) (bs : List ℕ) (x : ℕ) → held (run_at a (b ∷ bs)) x ≡ cond (x == a) (Some b) (held (run_at (a + 1) bs) x)
 held-cons a b bs x = grind (arith, cases_lt)
 
+-- an empty run holds nothing
 pub held-nil : (a x : ℕ) → held (run_at a []) x ≡ None
 held-nil a x = grind arith
 
+-- the two tests for the same number
 same_number : (x a : ℕ) → eq_by_cmp nat_cmp x a ≡ (x == a)
 same_number x a = grind (arith, nat_tests)
 
@@ -45,6 +52,7 @@ byte_of-with_bytes m a [] x = rw (held-nil a x) refl
 byte_of-with_bytes m a (b ∷ bs) x =
     grind (arith, get-insert nat_cmp_total (with_bytes m (a + 1) bs) a b x, same_number x a, byte_of-with_bytes m (a + 1) bs x, held-cons)
 
+-- the memory of runs holds what they hold
 pub byte_of_memory_of : (rs : List Run) (x : ℕ) → byte_of (memory_of rs) x ≡ lookup rs x
 byte_of_memory_of [] x = get-empty nat_cmp x
 byte_of_memory_of (r ∷ rs) x = byte_of-with_bytes (memory_of rs) r.base r.bytes x ∙ ap (option_or (held r x)) (byte_of_memory_of rs x)
@@ -69,14 +77,17 @@ first_of_held_within r a n l m h = grind (arith, held_some, first_of_at (held r)
 pub first_of_held_outside : (r : Run) (a n : ℕ) → (a + n ≤ r.base) ⊎ (end_of r ≤ a) → first_of (held r) a n ≡ None
 first_of_held_outside r a n l = first_of_none (held r) a n (λ k h. held_none r (a + k) (grind arith))
 
+-- the three cases
 pub ruleset first_of_held = (first_of_held_above, first_of_held_within, first_of_held_outside)
 
 -- ---- after bytes were put in
 
+-- at their addresses, the bytes that were put in
 pub byte_of-with_bytes_within : (m : Memory) (a : ℕ) (bs : List ℕ) (x : ℕ) → a ≤ x → x < a + length bs
     → byte_of (with_bytes m a bs) x ≡ Some (slice_index bs (x - a))
 byte_of-with_bytes_within m a bs x l h = byte_of-with_bytes m a bs x ∙ rw (held_at (run_at a bs) x l h) refl
 
+-- at all others, what was there
 pub byte_of-with_bytes_outside : (m : Memory) (a : ℕ) (bs : List ℕ) (x : ℕ) → (x < a) ⊎ (a + length bs ≤ x)
     → byte_of (with_bytes m a bs) x ≡ byte_of m x
 byte_of-with_bytes_outside m a bs x h = byte_of-with_bytes m a bs x ∙ rw (held_none (run_at a bs) x h) refl

@@ -14,6 +14,7 @@ use Rattle.acpi_base.proofs.Pieces.Segments.{window_of-lookup}
 use Rattle.acpi_base.proofs.Pieces.Places.{free_run}
 use Rattle.std.proofs.lemmas.Bool.Decides.{nat_tests}
 
+-- each of the bytes is below 256
 each_byte : (bs : List ℕ) (i b : ℕ) → AllByRecursion (λ x. x < 256) bs → slice_get bs i ≡ Some b → b < 256
 each_byte [] i b h e = absurd (cc)
 each_byte (x ∷ xs) zero b h e = grind (arith, h.0)
@@ -25,9 +26,11 @@ lookup_byte [] a b w e = absurd (cc)
 lookup_byte (r ∷ rs) a b w e =
     grind (arith, w.0.fits, held_inside r a, held_from r a, each_byte r.bytes (a - r.base) b w.0.bytes, lookup_byte rs a b w.1)
 
+-- tidy runs make an image
 pub image_of : (rs : List Run) → IsTidy rs → IsImage (memory_of rs)
 image_of rs t = grind (arith, lookup_byte, byte_of_memory_of)
 
+-- a window on an image is one on its runs
 pub bytes_at_memory_of : (rs : List Run) (a n : ℕ) → 0 < n → IsTidy rs → bytes_at (memory_of rs) a n ≡ window_of rs a n
 bytes_at_memory_of rs a n h t = (λ i. run_of (λ x. byte_of_memory_of rs x i) a n) ∙ sym (window_of-lookup rs a n h t.apart)
 
@@ -35,6 +38,7 @@ bytes_at_memory_of rs a n h t = (λ i. run_of (λ x. byte_of_memory_of rs x i) a
 pub same_memory : (m n : Memory) → ((x : ℕ) → byte_of m x ≡ byte_of n x) → m ≡ n
 same_memory m n h = same_map nat_cmp_total nat_cmp-IsAntisymmetric m n h
 
+-- bytes put among the runs are put in the memory
 pub memory_of_put : (a : ℕ) (bs : List ℕ) (old new : List Run) → Puts (run_at a bs) old new → memory_of new ≡ with_bytes (memory_of old) a bs
 memory_of_put a bs old new p = grind (arith, same_memory, byte_of_memory_of, byte_of-with_bytes)
 
@@ -50,10 +54,13 @@ unfolding with_bytes
 no_bytes m a [] e = refl
 no_bytes m a (b ∷ bs) e = absurd (omega arith)
 
+-- the least held address of an image is that of its runs
 pub first_held_memory_of : (rs : List Run) (a n : ℕ) → first_held (memory_of rs) a n ≡ first_of (lookup rs) a n
 first_held_memory_of rs a n = λ i. first_of (λ x. byte_of_memory_of rs x i) a n
 
+-- bytes that are not refused fit, and find no address held
 pub fits_unless : (t : Bool) (o : Option ℕ) → cond t (Some PastEnd) (option_map (λ x. Twice x) o) ≡ None → (t ≡ false) × (o ≡ None)
 fits_unless t o e = grind arith
 
+-- what adding bytes to an image needs
 pub ruleset adding = (first_held_memory_of, fits_unless, free_run, nat_tests, no_refusal, no_bytes, image_of, memory_of_put)

@@ -16,29 +16,35 @@ use Rattle.acpi_base.proofs.Pieces.Edits.{get_or_remove_other}
 
 -- ---- a run among others
 
-all_in : {X : Type 0} (P : X → Type 0) (front back : List X) (n : X) → P n → AllByRecursion P (front ++ back) → AllByRecursion P (front ++ n ∷ back)
-all_in P [] back n p a = (p, a)
-all_in P (r ∷ rs) back n p a = (a.0, all_in P rs back n p a.1)
+-- what holds of a run and of the others holds of all
+all_in : {X : Type 0} (P : X → Type 0) (prefix suffix : List X) (n : X) → P n → AllByRecursion P (prefix ++ suffix) → AllByRecursion P (prefix ++ n ∷ suffix)
+all_in P [] suffix n p a = (p, a)
+all_in P (r ∷ rs) suffix n p a = (a.0, all_in P rs suffix n p a.1)
 
-all_out : (P : Run → Type 0) (front back : List Run) (n : Run) → AllByRecursion P (front ++ n ∷ back) → P n × AllByRecursion P (front ++ back)
-all_out P [] back n a = (a.0, a.1)
-all_out P (r ∷ rs) back n a = let rest = all_out P rs back n a.1 in (rest.0, (a.0, rest.1))
+-- and the other way round
+all_out : (P : Run → Type 0) (prefix suffix : List Run) (n : Run) → AllByRecursion P (prefix ++ n ∷ suffix) → P n × AllByRecursion P (prefix ++ suffix)
+all_out P [] suffix n a = (a.0, a.1)
+all_out P (r ∷ rs) suffix n a = let rest = all_out P rs suffix n a.1 in (rest.0, (a.0, rest.1))
 
-apart_in : (front back : List Run) (n : Run) → ApartFrom n (front ++ back) → NoneTouch (front ++ back) → NoneTouch (front ++ n ∷ back)
-apart_in [] back n a h = (a, h)
-apart_in (r ∷ rs) back n a h = grind (arith, all_in (Apart r) rs back n, apart_in rs back n)
+-- a run apart from others that do not touch stands among them
+apart_in : (prefix suffix : List Run) (n : Run) → ApartFrom n (prefix ++ suffix) → NoneTouch (prefix ++ suffix) → NoneTouch (prefix ++ n ∷ suffix)
+apart_in [] suffix n a h = (a, h)
+apart_in (r ∷ rs) suffix n a h = grind (arith, all_in (Apart r) rs suffix n, apart_in rs suffix n)
 
-apart_out : (front back : List Run) (n : Run) → NoneTouch (front ++ n ∷ back) → ApartFrom n (front ++ back) × NoneTouch (front ++ back)
-apart_out [] back n h = (h.0, h.1)
-apart_out (r ∷ rs) back n h = grind (arith, all_out (Apart r) rs back n h.0, apart_out rs back n h.1)
+-- and the other way round
+apart_out : (prefix suffix : List Run) (n : Run) → NoneTouch (prefix ++ n ∷ suffix) → ApartFrom n (prefix ++ suffix) × NoneTouch (prefix ++ suffix)
+apart_out [] suffix n h = (h.0, h.1)
+apart_out (r ∷ rs) suffix n h = grind (arith, all_out (Apart r) rs suffix n h.0, apart_out rs suffix n h.1)
 
+-- runs that do not overlap do not hold the same address
 not_both : (r s : Run) (x : ℕ) → (end_of r ≤ s.base) ⊎ (end_of s ≤ r.base) → (held r x ≡ None) ⊎ (held s x ≡ None)
 not_both r s x e = grind (arith, cases_lt, held_none)
 
-lookup_in : (front back : List Run) (n : Run) (x : ℕ) → ApartFrom n (front ++ back)
-    → lookup (front ++ n ∷ back) x ≡ option_or (held n x) (lookup (front ++ back) x)
-lookup_in [] back n x a = refl
-lookup_in (r ∷ rs) back n x a = grind (arith, not_both, lookup_in rs back n x a.1)
+-- a run among others is looked up like one before them
+lookup_in : (prefix suffix : List Run) (n : Run) (x : ℕ) → ApartFrom n (prefix ++ suffix)
+    → lookup (prefix ++ n ∷ suffix) x ≡ option_or (held n x) (lookup (prefix ++ suffix) x)
+lookup_in [] suffix n x a = refl
+lookup_in (r ∷ rs) suffix n x a = grind (arith, not_both, lookup_in rs suffix n x a.1)
 
 -- the runs hold what the run r, which may be empty, and the others hold
 record Takes (rs : List Run) (r : Run) (others : List Run) : Type 0 where
@@ -48,9 +54,11 @@ record Takes (rs : List Run) (r : Run) (others : List Run) : Type 0 where
   pub tidy : IsTidy others
   pub lookup_is : (x : ℕ) → lookup rs x ≡ option_or (held r x) (lookup others x)
 
-takes_at : (front back : List Run) (r : Run) → IsTidy (front ++ r ∷ back) → Takes (front ++ r ∷ back) r (front ++ back)
-takes_at front back r t = grind (arith, apart_out, all_out, lookup_in)
+-- a run among tidy ones takes its part
+takes_at : (prefix suffix : List Run) (r : Run) → IsTidy (prefix ++ r ∷ suffix) → Takes (prefix ++ r ∷ suffix) r (prefix ++ suffix)
+takes_at prefix suffix r t = grind (arith, apart_out, all_out, lookup_in)
 
+-- so does the run at a place
 takes_run : (rs : List Run) (k : ℕ) → k < length rs → IsTidy rs → Takes rs (run_in rs k) (remove rs k)
 takes_run rs k h t =
     let e = split_at rs k (run_at 0 []) h in
@@ -72,30 +80,36 @@ takes_empty f b rs a x apart free n l h top = record {
     all [] e n = tt
     all (s ∷ ss) e n = grind (arith, apart s, all ss, n.0, n.1)
 
+-- where no run ends, an empty run stands before b
 takes_before : (b : Run) (rs : List Run) → IsFree b rs → AllByRecursion (λ s. end_of s ≢ b.base) rs → Takes rs (run_at b.base []) rs
 takes_before b rs f n =
     let some = f.whole.filled in
     takes_empty end_of b rs b.base b.base (λ s e n. grind (arith, held_some s b.base)) f n (omega arith) (omega arith) (omega arith)
 
+-- where no run starts, one stands behind it
 takes_after : (b : Run) (rs : List Run) → IsFree b rs → AllByRecursion (λ s. s.base ≢ end_of b) rs → Takes rs (run_at (end_of b) []) rs
 takes_after b rs f n =
     let some = f.whole.filled in
     let last : ℕ = end_of b - 1 in
     takes_empty (λ r. r.base) b rs (end_of b) last (λ s e n. grind (arith, held_some s last)) f n (omega arith) (omega arith) (omega arith)
 
+-- what is free in all is free in the others
 still_free : (b r : Run) (old others : List Run) → IsFree b old → Takes old r others → IsFree b others
 still_free b r old others f t = record { tidy = t.tidy; whole = f.whole; free = λ x i j. grind (arith, f.free x i j, t.lookup_is x) }
 
 -- ---- three runs in one
 
+-- a run of two parts holds what the parts hold
 held-append : (a : ℕ) (xs ys : List ℕ) (x : ℕ) → held (run_at a (xs ++ ys)) x ≡ option_or (held (run_at a xs) x) (held (run_at (a + length xs) ys) x)
 held-append a [] ys x = grind (arith, nat_tests)
 held-append a (b ∷ xs) ys x = grind (arith, held-cons, held-append (a + 1) xs ys x)
 
+-- the middle one of three may come first where no two are there
 or_three : (l b r z : Option ℕ) → (l ≡ None) ⊎ (b ≡ None) → (l ≡ None) ⊎ (r ≡ None)
     → option_or (option_or (option_or l b) r) z ≡ option_or b (option_or r (option_or l z))
 or_three l b r z p q = grind (arith)
 
+-- what holds of the bytes of both holds of all
 all_append : (P : ℕ → Type 0) (xs ys : List ℕ) → AllByRecursion P xs → AllByRecursion P ys → AllByRecursion P (xs ++ ys)
 all_append P [] ys a b = b
 all_append P (x ∷ xs) ys a b = (a.0, all_append P xs ys a.1 b)
@@ -108,41 +122,45 @@ apart_joined b l r n [] e f g h u v w o = tt
 apart_joined b l r n (s ∷ ss) e f g h u v w o =
     grind (arith, held_some s s.base, o s.base, apart_joined b l r n ss e f g h u.1 v.1 w.1 (λ x i j. grind (arith, o x i j)))
 
--- b and the runs beside it, each of which may be empty, stand as one before back
-puts_at : (b l r : Run) (old mid front back : List Run) → IsFree b old → Takes old r mid → Takes mid l (front ++ back)
-    → ApartFrom r (front ++ back) → end_of l ≡ b.base → r.base ≡ end_of b
-    → Puts b old (front ++ run_at l.base (l.bytes ++ b.bytes ++ r.bytes) ∷ back)
-puts_at b l r old mid front back f t u a e g =
+-- b and the runs beside it, each of which may be empty, stand as one before suffix
+puts_at : (b l r : Run) (old mid prefix suffix : List Run) → IsFree b old → Takes old r mid → Takes mid l (prefix ++ suffix)
+    → ApartFrom r (prefix ++ suffix) → end_of l ≡ b.base → r.base ≡ end_of b
+    → Puts b old (prefix ++ run_at l.base (l.bytes ++ b.bytes ++ r.bytes) ∷ suffix)
+puts_at b l r old mid prefix suffix f t u a e g =
     let n : Run = run_at l.base (l.bytes ++ b.bytes ++ r.bytes) in
     let long = length-append l.bytes b.bytes in
     let longer = length-append (l.bytes ++ b.bytes) r.bytes in
     let filled = f.whole.filled in
     let fits = t.fits in
-    let free = (still_free b l mid (front ++ back) (still_free b r old mid f t) u).free in
-    let apart : ApartFrom n (front ++ back) = apart_joined b l r n (front ++ back) e g refl (omega arith) u.apart a u.tidy.whole free in
+    let free = (still_free b l mid (prefix ++ suffix) (still_free b r old mid f t) u).free in
+    let apart : ApartFrom n (prefix ++ suffix) = apart_joined b l r n (prefix ++ suffix) e g refl (omega arith) u.apart a u.tidy.whole free in
     let bytes = all_append _ (l.bytes ++ b.bytes) r.bytes (all_append _ l.bytes b.bytes u.bytes f.whole.bytes) t.bytes in
     let whole : IsWhole n = record { filled = omega arith; fits = omega arith; bytes = bytes } in
     record {
-      tidy = record { apart = apart_in front back n apart u.tidy.apart; whole = all_in IsWhole front back n whole u.tidy.whole };
+      tidy = record { apart = apart_in prefix suffix n apart u.tidy.apart; whole = all_in IsWhole prefix suffix n whole u.tidy.whole };
       lookup_is = λ x.
           let held_is : held n x ≡ option_or (option_or (held l x) (held b x)) (held r x) = grind (arith, held-append) in
-          grind (arith, held_is, lookup_in front back n x apart, t.lookup_is x, u.lookup_is x, not_both l b x, not_both l r x, or_three);
+          grind (arith, held_is, lookup_in prefix suffix n x apart, t.lookup_is x, u.lookup_is x, not_both l b x, not_both l r x, or_three);
     }
 
+-- the same, in the place of a run
 puts_set : (b l r : Run) (old mid into : List Run) (k : ℕ) (bs : List ℕ) → k < length into → IsFree b old → Takes old r mid
     → Takes mid l (remove into k) → ApartFrom r (remove into k)
     → end_of l ≡ b.base → r.base ≡ end_of b → bs ≡ l.bytes ++ b.bytes ++ r.bytes → Puts b old (set into k (run_at l.base bs))
 puts_set b l r old mid into k bs h f t u a e g same =
     rw (set_split into k (run_at l.base bs) h, same) (puts_at b l r old mid (take k into) (drop (suc k) into) f t u a e g)
 
+-- what holds of all holds of the others
 without : (P : Run → Type 0) (rs : List Run) (k : ℕ) → k < length rs → AllByRecursion P rs → AllByRecursion P (remove rs k)
 without P rs k h a = (all_out P (take k rs) (drop (suc k) rs) (run_in rs k) (subst (AllByRecursion P) (split_at rs k (run_at 0 []) h) a)).1
 
 -- ---- the four ways to put bytes in
 
+-- past the run at j, the run at i stands one place lower
 shifted_within : (rs : List Run) (i j : ℕ) → i ≢ j → i < length rs → j < length rs → cond (nat_lt j i) (i - 1) i < length (remove rs j)
 shifted_within rs i j ne h l = grind (arith, length-remove, cases_lt)
 
+-- no run both ends where some bytes start and starts where they end
 pub two_places : (ss : List Segment) (a n i j : ℕ) → place_where end_of a ss ≡ Some i → place_where (λ r. r.base) (a + n) ss ≡ Some j → 0 < n → i ≢ j
 two_places ss a n i j p q h = grind (arith, one_at end_of ss a i p, one_at (λ r. r.base) ss (a + n) j q)
 
@@ -153,6 +171,7 @@ joined rs b (Some i) None = set rs i (run_at (run_in rs i).base ((run_in rs i).b
 joined rs b None (Some j) = set rs j (run_at b.base (b.bytes ++ (run_in rs j).bytes))
 joined rs b (Some i) (Some j) = bridged rs i b.bytes j
 
+-- so joined, the runs hold what they held, and b
 puts_joined : (b : Run) (ss : List Segment) (before after : Option ℕ) → place_where end_of b.base ss ≡ before
     → place_where (λ r. r.base) (end_of b) ss ≡ after → IsFree b (runs ss) → Puts b (runs ss) (joined (runs ss) b before after)
 puts_joined b ss None None p q f =
@@ -186,6 +205,7 @@ puts_joined b ss (Some i) (Some j) p q f =
     let u = subst (λ l. Takes rest l (remove rest k)) same (takes_run rest k hk t.tidy) in
     puts_set b (run_in rs i) (run_in rs j) rs rest rest k _ hk f t u (without _ rest k hk t.apart) e g refl
 
+-- and so where memory was there
 pub puts : {T E : Type 0} (result : Result T E) (b : Run) (ss : List Segment) (new : List Run) → IsFree b (runs ss)
     → OnOk result (new ≡ joined (runs ss) b (place_where end_of b.base ss) (place_where (λ r. r.base) (end_of b) ss))
     → OnOk result (Puts b (runs ss) new)

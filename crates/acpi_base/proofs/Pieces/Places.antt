@@ -37,6 +37,7 @@ one_at f (s ∷ ss) a i e =
     let there : run_in (runs (s ∷ ss)) i ≡ run (get_or (s ∷ ss) i s) = run_in_read (s ∷ ss) i _ found.0 (get_or_default (s ∷ ss) i s _ found.0) in
     (rw (length-map (s ∷ ss) run) found.0, grind (arith, nat_tests))
 
+-- bytes below 256 and 2^64 that find no address held are free
 pub free_run : (rs : List Run) (a : ℕ) (bs : List ℕ) → IsTidy rs → 0 < length bs → a + length bs ≤ 2 ^ 64 → ((k : ℕ) → get_or bs k 0 < 256)
     → first_of (lookup rs) a (length bs) ≡ None → IsFree (run_at a bs) rs
 free_run rs a bs t f h s e = record {

@@ -1,4 +1,4 @@
--- What the functions that search segments from the front find.
+-- What a search of the segments finds, which goes from the first to the last.
 use Rattle.std.proofs.Common.{◌≡◌, ℕ, zero, suc, ◌+◌, ◌<◌, ◌≤◌, List, [], ◌∷◌, length, get_or, drop, Option, None, IsSome, refl, sym, ap, ◌∙◌, arith}
 use Rattle.std.specs.Option.{option_or}
 use Rattle.std.specs.List.{AllByRecursion}
@@ -16,6 +16,7 @@ pub record IsParted (f g : ℕ → Option ℕ) : Type 0 where
   pub above : (x : ℕ) → IsSome (f x) → g (x + 1) ≡ None
   pub below : (x : ℕ) → IsSome (g x) → f (x + 1) ≡ None
 
+-- in a row, such f and g are never mixed
 pub run_of-or : (f g : ℕ → Option ℕ) → IsParted f g → (a n : ℕ)
     → run_of (λ x. option_or (f x) (g x)) a (suc n) ≡ option_or (run_of f a (suc n)) (run_of g a (suc n))
 unfolding run_of cons_both
@@ -27,6 +28,7 @@ lookup_apart : (r : Run) (rs : List Run) (x : ℕ) → ApartFrom r rs → r.base
 lookup_apart r [] x h l m = refl
 lookup_apart r (s ∷ ss) x h l m = grind (arith, held_none, lookup_apart r ss x h.1 l m)
 
+-- nor does r hold what follows on something of theirs
 held_apart : (r : Run) (rs : List Run) (x : ℕ) → ApartFrom r rs → IsSome (lookup rs x) → held r (x + 1) ≡ None
 held_apart r [] x h s = absurd (cc)
 held_apart r (s ∷ ss) x h i = grind (arith, cases_lt, held_none, held_inside, held_apart r ss x h.1)
@@ -40,9 +42,11 @@ window_of-lookup (r ∷ rs) a (suc n) l h =
     let parted : IsParted (held r) (lookup rs) = grind (arith, held_inside, lookup_apart, held_apart) in
     rw (window_of-lookup rs a (suc n) l h.1) (sym (run_of-or (held r) (lookup rs) parted a n))
 
+-- the least of three
 pub earlier_assoc : (x y z : Option ℕ) → earlier (earlier x y) z ≡ earlier x (earlier y z)
 earlier_assoc x y z = grind arith
 
+-- the first at which f or g has something
 pub first_of-or : (f g : ℕ → Option ℕ) (a n : ℕ) → first_of (λ x. option_or (f x) (g x)) a n ≡ earlier (first_of f a n) (first_of g a n)
 unfolding first_of
 first_of-or f g a zero = refl
@@ -65,4 +69,5 @@ first_of_lookup_more ss i s b n h e =
 pub first_of_lookup_all : (ss : List Segment) (i b n : ℕ) (x : Option ℕ) → length ss ≤ i → earlier x (first_of (lookup (runs (drop i ss))) b n) ≡ x
 first_of_lookup_all ss i b n x h = grind (arith, drop_all, first_of_none)
 
+-- what the search for the first held address needs
 pub ruleset first_held = (filled_at, earlier_assoc, first_of_lookup_more, first_of_lookup_all)
