@@ -52,7 +52,7 @@ run_of-count f a (suc n) l e = grind (arith, run_of-split f a n l e, run_of-coun
 pub run_of-each : (f : ℕ → Option ℕ) (a n : ℕ) (l : List ℕ) → run_of f a n ≡ Some l → (k : ℕ) → k < n → f (a + k) ≡ Some (slice_index l k)
 run_of-each f a zero l e k h = absurd (omega arith)
 run_of-each f a (suc n) l e zero h = grind (arith, add-zero, run_of-split f a n l e)
-run_of-each f a (suc n) l e (suc k) h = 
+run_of-each f a (suc n) l e (suc k) h =
     (let q : a + suc k ≡ a + 1 + k = omega arith in grind (arith, run_of-split f a n l e, run_of-each f (a + 1) n))
 
 -- and so they are what is there

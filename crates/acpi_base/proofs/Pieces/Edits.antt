@@ -1,8 +1,8 @@
 -- What an edit of the segments makes of their runs.
-use Rattle.std.proofs.Common.{◌≡◌, ℕ, zero, suc, ◌-◌, ◌<◌, ◌≢◌, cond, List, [], ◌∷◌, ◌++◌, length, get_or, set, take, drop, sym, ap, ◌∙◌, arith}
+use Rattle.std.proofs.Common.{◌≡◌, ℕ, suc, ◌-◌, ◌<◌, ◌≢◌, cond, List, length, get_or, set, take, drop, arith}
 use Rattle.std.specs.Prelude.{nat_lt}
 use Rattle.std.specs.List.{remove}
-use Rattle.std.proofs.lemmas.List.{map-set, map-append, take-map, drop-map, set-get_or}
+use Rattle.std.proofs.lemmas.List.{get_or-map, get_or_default, length-map, map-set, map-append, take-map, drop-map, set-get_or}
 use Rattle.std.proofs.lemmas.List.Edits.{get_or-remove_below, get_or-remove_above}
 use Rattle.std.proofs.lemmas.Bool.{cases_lt}
 use Rattle.acpi_base.specs.declared.image.segments.Segment.{Segment}
@@ -10,9 +10,7 @@ use Rattle.acpi_base.specs.Segments.{run, runs, run_in}
 
 -- the run at the place where a segment was read
 pub run_in_read : (ss : List Segment) (k : ℕ) (s : Segment) → k < length ss → s ≡ get_or ss k s → run_in (runs ss) k ≡ run s
-run_in_read [] k s h e = absurd (omega arith)
-run_in_read (t ∷ ts) zero s h e = ap run (sym e)
-run_in_read (t ∷ ts) (suc k) s h e = run_in_read ts k s (omega arith) e
+run_in_read ss k s h e = grind (arith, get_or-map run ss k s, length-map ss run, get_or_default)
 
 -- the runs once a segment is set
 pub runs_set : (ss : List Segment) (k : ℕ) (s : Segment) → runs (set ss k s) ≡ set (runs ss) k (run s)

@@ -17,7 +17,7 @@ use Rattle.acpi_base.proofs.Pieces.Edits.{get_or_remove_other}
 -- ---- a run among others
 
 -- what holds of a run and of the others holds of all
-all_in : {X : Type 0} (P : X → Type 0) (prefix suffix : List X) (n : X) → P n → AllByRecursion P (prefix ++ suffix) → AllByRecursion P (prefix ++ n ∷ suffix)
+all_in : (P : Run → Type 0) (prefix suffix : List Run) (n : Run) → P n → AllByRecursion P (prefix ++ suffix) → AllByRecursion P (prefix ++ n ∷ suffix)
 all_in P [] suffix n p a = (p, a)
 all_in P (r ∷ rs) suffix n p a = (a.0, all_in P rs suffix n p a.1)
 
@@ -104,11 +104,6 @@ held-append : (a : ℕ) (xs ys : List ℕ) (x : ℕ) → held (run_at a (xs ++ y
 held-append a [] ys x = grind (arith, nat_tests)
 held-append a (b ∷ xs) ys x = grind (arith, held-cons, held-append (a + 1) xs ys x)
 
--- the middle one of three may come first where no two are there
-or_three : (l b r z : Option ℕ) → (l ≡ None) ⊎ (b ≡ None) → (l ≡ None) ⊎ (r ≡ None)
-    → option_or (option_or (option_or l b) r) z ≡ option_or b (option_or r (option_or l z))
-or_three l b r z p q = grind (arith)
-
 -- what holds of the bytes of both holds of all
 all_append : (P : ℕ → Type 0) (xs ys : List ℕ) → AllByRecursion P xs → AllByRecursion P ys → AllByRecursion P (xs ++ ys)
 all_append P [] ys a b = b
@@ -122,7 +117,7 @@ apart_joined b l r n [] e f g h u v w o = tt
 apart_joined b l r n (s ∷ ss) e f g h u v w o =
     grind (arith, held_some s s.base, o s.base, apart_joined b l r n ss e f g h u.1 v.1 w.1 (λ x i j. grind (arith, o x i j)))
 
--- b and the runs beside it, each of which may be empty, stand as one before suffix
+-- b and the runs beside it, each of which may be empty, stand as one between prefix and suffix
 puts_at : (b l r : Run) (old mid prefix suffix : List Run) → IsFree b old → Takes old r mid → Takes mid l (prefix ++ suffix)
     → ApartFrom r (prefix ++ suffix) → end_of l ≡ b.base → r.base ≡ end_of b
     → Puts b old (prefix ++ run_at l.base (l.bytes ++ b.bytes ++ r.bytes) ∷ suffix)
@@ -140,7 +135,7 @@ puts_at b l r old mid prefix suffix f t u a e g =
       tidy = record { apart = apart_in prefix suffix n apart u.tidy.apart; whole = all_in IsWhole prefix suffix n whole u.tidy.whole };
       lookup_is = λ x.
           let held_is : held n x ≡ option_or (option_or (held l x) (held b x)) (held r x) = grind (arith, held-append) in
-          grind (arith, held_is, lookup_in prefix suffix n x apart, t.lookup_is x, u.lookup_is x, not_both l b x, not_both l r x, or_three);
+          grind (arith, held_is, lookup_in prefix suffix n x apart, t.lookup_is x, u.lookup_is x, not_both l b x, not_both l r x);
     }
 
 -- the same, in the place of a run

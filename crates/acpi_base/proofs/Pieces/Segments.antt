@@ -10,18 +10,12 @@ use Rattle.acpi_base.specs.Segments.{Run, held, end_of, lookup, window_of, earli
 use Rattle.acpi_base.proofs.Pieces.Held.{held_none, held_inside}
 use Rattle.acpi_base.proofs.Runs.{first_of_from, first_of_none}
 
--- where f has something, g has nothing, nor at the next number; and the other way round at the next number
-pub record IsParted (f g : ℕ → Option ℕ) : Type 0 where
-  pub here : (x : ℕ) → IsSome (f x) → g x ≡ None
-  pub above : (x : ℕ) → IsSome (f x) → g (x + 1) ≡ None
-  pub below : (x : ℕ) → IsSome (g x) → f (x + 1) ≡ None
-
--- in a row, such f and g are never mixed
-pub run_of-or : (f g : ℕ → Option ℕ) → IsParted f g → (a n : ℕ)
+-- where f has something, g has nothing, nor at the next number, and the other way round at the next number: in a row, they are never mixed
+run_of-or : (f g : ℕ → Option ℕ) → ((x : ℕ) → IsSome (f x) → (g x ≡ None) × (g (x + 1) ≡ None)) → ((x : ℕ) → IsSome (g x) → f (x + 1) ≡ None) → (a n : ℕ)
     → run_of (λ x. option_or (f x) (g x)) a (suc n) ≡ option_or (run_of f a (suc n)) (run_of g a (suc n))
 unfolding run_of cons_both
-run_of-or f g p a zero = grind (arith)
-run_of-or f g p a (suc n) = grind (arith, run_of-or f g p (a + 1) n)
+run_of-or f g p q a zero = grind (arith)
+run_of-or f g p q a (suc n) = grind (arith, run_of-or f g p q (a + 1) n)
 
 -- the runs apart from r hold nothing in r, nor just behind it
 lookup_apart : (r : Run) (rs : List Run) (x : ℕ) → ApartFrom r rs → r.base ≤ x → x ≤ end_of r → lookup rs x ≡ None
@@ -39,8 +33,7 @@ unfolding run_of cons_both
 window_of-lookup rs a zero l h = absurd (omega arith)
 window_of-lookup [] a (suc n) l h = refl
 window_of-lookup (r ∷ rs) a (suc n) l h =
-    let parted : IsParted (held r) (lookup rs) = grind (arith, held_inside, lookup_apart, held_apart) in
-    rw (window_of-lookup rs a (suc n) l h.1) (sym (run_of-or (held r) (lookup rs) parted a n))
+    rw (window_of-lookup rs a (suc n) l h.1) (sym (run_of-or (held r) (lookup rs) (λ x s. grind (arith, held_inside, lookup_apart)) (λ x s. held_apart r rs x h.0 s) a n))
 
 -- the least of three
 pub earlier_assoc : (x y z : Option ℕ) → earlier (earlier x y) z ≡ earlier x (earlier y z)
