@@ -44,13 +44,13 @@ field_below bytes below offset width = little_from-lt 0 width (drop offset bytes
 pub held_field_below : (m : Memory) → IsImage m → (a n : ℕ) (bytes : List ℕ) → bytes_at m a n ≡ Some bytes → (offset width : ℕ) → field bytes offset width < 256 ^ width
 held_field_below m image a n bytes held = field_below bytes (bytes_below m image a n bytes held)
 
--- a number in the front of some bytes is the same in all of them
+-- a number in a prefix of some bytes is the same in all of them
 pub field-take : (bytes : List ℕ) (n offset width : ℕ) → offset + width ≤ n → field (take n bytes) offset width ≡ field bytes offset width
 unfolding field
 field-take bytes n offset width h = grind (arith, drop-take offset (n - offset) bytes, little_from-take 0 width (n - offset) (drop offset bytes) (omega arith))
 
--- bytes that are as many as their front says at 4 say so themselves
-pub says_length : (m : Memory) (a k : ℕ) (front whole : List ℕ) → 8 ≤ k → k ≤ field front 4 4 → bytes_at m a k ≡ Some front
-    → bytes_at m a (field front 4 4) ≡ Some whole → field whole 4 4 ≡ length whole
-says_length m a k front whole wide least front_held held =
-    grind (arith, same_value, run_of-take (byte_of m) a (field front 4 4) k whole held least, field-take whole k 4 4 wide, length-bytes_at m a (field front 4 4) whole held)
+-- bytes that are as many as their prefix says at 4 say so themselves
+pub says_length : (m : Memory) (a k : ℕ) (prefix whole : List ℕ) → 8 ≤ k → k ≤ field prefix 4 4 → bytes_at m a k ≡ Some prefix
+    → bytes_at m a (field prefix 4 4) ≡ Some whole → field whole 4 4 ≡ length whole
+says_length m a k prefix whole wide least prefix_held held =
+    grind (arith, same_value, run_of-take (byte_of m) a (field prefix 4 4) k whole held least, field-take whole k 4 4 wide, length-bytes_at m a (field prefix 4 4) whole held)

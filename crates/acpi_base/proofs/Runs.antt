@@ -1,28 +1,23 @@
 -- What `run_of` and `first_of` find, and so `bytes_at` and `first_held`.
-use Rattle.std.proofs.Common.{◌≡◌, ℕ, zero, suc, ◌+◌, ◌-◌, ◌<◌, ◌≤◌, true, List, [], ◌∷◌, length, take, drop, slice_index, Option, Some, None, IsSome, is_some, refl, sym, ap, subst, ◌∙◌, arith, add-zero}
-use Rattle.std.specs.Option.{option_map}
+use Rattle.std.proofs.Common.{◌≡◌, ℕ, zero, suc, ◌+◌, ◌<◌, ◌≤◌, true, List, [], ◌∷◌, length, take, slice_index, Option, Some, None, IsSome, is_some, refl, ap, subst, ◌∙◌, arith, add-zero}
 use Rattle.acpi_base.specs.Memory.{Memory, byte_of, run_of, first_of, cons_both, bytes_at, Has}
 
-pub run_of-same : (f g : ℕ → Option ℕ) → ((x : ℕ) → f x ≡ g x) → (a n : ℕ) → run_of f a n ≡ run_of g a n
-run_of-same f g e a n = λ i. run_of (λ x. e x i) a n
-
-pub first_of-same : (f g : ℕ → Option ℕ) → ((x : ℕ) → f x ≡ g x) → (a n : ℕ) → first_of f a n ≡ first_of g a n
-first_of-same f g e a n = λ i. first_of (λ x. e x i) a n
+-- what holds at each of the numbers from a on holds at those from a + 1 on
+next : (P : ℕ → ℕ → Type 0) (a n : ℕ) → ((k : ℕ) → k < suc n → P (a + k) k) → (k : ℕ) → k < n → P (a + 1 + k) (suc k)
+next P a n h k l = (let q : a + suc k ≡ a + 1 + k = omega arith in subst (λ x. P x (suc k)) q (h (suc k) (omega arith)))
 
 -- one missing number is enough
 pub run_of_none : (f : ℕ → Option ℕ) (a n k : ℕ) → k < n → f (a + k) ≡ None → run_of f a n ≡ None
 unfolding run_of cons_both
 run_of_none f a zero k h e = absurd (omega arith)
-run_of_none f a (suc n) zero h e = let g : f a ≡ None = ap f (sym (add-zero a)) ∙ e in rw g refl
-run_of_none f a (suc n) (suc k) h e = grind (arith, run_of_none f (a + 1) n k)
+run_of_none f a (suc n) zero h e = grind (arith, add-zero)
+run_of_none f a (suc n) (suc k) h e = (let q : a + suc k ≡ a + 1 + k = omega arith in grind (arith, run_of_none f (a + 1) n k))
 
+-- where there is nothing at each, there is no first
 pub first_of_none : (f : ℕ → Option ℕ) (a n : ℕ) → ((k : ℕ) → k < n → f (a + k) ≡ None) → first_of f a n ≡ None
 unfolding first_of
 first_of_none f a zero h = refl
-first_of_none f a (suc n) h =
-    let here : f a ≡ None = ap f (sym (add-zero a)) ∙ h 0 (omega arith) in
-    let rest : (k : ℕ) → k < n → f (a + 1 + k) ≡ None = λ k l. (let q : a + 1 + k ≡ a + suc k = omega arith in ap f q ∙ h (suc k) (omega arith)) in
-    rw here (first_of_none f (a + 1) n rest)
+first_of_none f a (suc n) h = grind (arith, add-zero, h 0, first_of_none f (a + 1) n (next (λ x k. f x ≡ None) a n h))
 
 -- the first number at which there is something
 pub first_of_at : (f : ℕ → Option ℕ) (a n k : ℕ) → k < n → IsSome (f (a + k)) → ((j : ℕ) → j < k → f (a + j) ≡ None) → first_of f a n ≡ Some (a + k)
@@ -31,10 +26,9 @@ first_of_at f a zero k h s before = absurd (omega arith)
 first_of_at f a (suc n) zero h s before = grind (arith, add-zero)
 first_of_at f a (suc n) (suc k) h s before =
     let q : a + 1 + k ≡ a + suc k = omega arith in
-    let here : f a ≡ None = ap f (sym (add-zero a)) ∙ before 0 (omega arith) in
-    let rest : (j : ℕ) → j < k → f (a + 1 + j) ≡ None = λ j l. (let e : a + 1 + j ≡ a + suc j = omega arith in ap f e ∙ before (suc j) (omega arith)) in
-    rw here (first_of_at f (a + 1) n k (omega arith) (ap (λ x. is_some (f x)) q ∙ s) rest ∙ ap Some q)
+    grind (arith, add-zero, before 0, first_of_at f (a + 1) n k (omega arith) (ap (λ x. is_some (f x)) q ∙ s) (next (λ x j. f x ≡ None) a k before))
 
+-- the first is not below a
 pub first_of_from : (f : ℕ → Option ℕ) (a n x : ℕ) → first_of f a n ≡ Some x → a ≤ x
 unfolding first_of
 first_of_from f a zero x e = absurd (cc)
@@ -42,59 +36,49 @@ first_of_from f a (suc n) x e = grind (arith, first_of_from f (a + 1) n x)
 
 -- ---- what a list of bytes says
 
-some_rest : (o : Option (List ℕ)) (b : ℕ) (l : List ℕ) → option_map (λ bs. b ∷ bs) o ≡ Some l → (rest : List ℕ) × (o ≡ Some rest) × (l ≡ b ∷ rest)
-some_rest None b l e = absurd (cc)
-some_rest (Some rest) b l e = (rest, refl, cc)
-
 -- the first byte, and the rest
-pub run_of-split : (f : ℕ → Option ℕ) (a n : ℕ) (l : List ℕ) → run_of f a (suc n) ≡ Some l → (b : ℕ) × (rest : List ℕ) × (f a ≡ Some b) × (run_of f (a + 1) n ≡ Some rest) × (l ≡ b ∷ rest)
+pub run_of-split : (f : ℕ → Option ℕ) (a n : ℕ) (l : List ℕ) → run_of f a (suc n) ≡ Some l
+    → (b : ℕ) × (rest : List ℕ) × (f a ≡ Some b) × (run_of f (a + 1) n ≡ Some rest) × (l ≡ b ∷ rest)
 unfolding run_of cons_both
-run_of-split f a n l e = grind (arith, some_rest)
+run_of-split f a n l e = grind (arith)
 
+-- there are n of them
 pub run_of-count : (f : ℕ → Option ℕ) (a n : ℕ) (l : List ℕ) → run_of f a n ≡ Some l → length l ≡ n
 unfolding run_of
 run_of-count f a zero l e = (let none : l ≡ [] = cc in ap length none)
-run_of-count f a (suc n) l e = (let s = run_of-split f a n l e in ap length s.4 ∙ ap suc (run_of-count f (a + 1) n s.1 s.3))
+run_of-count f a (suc n) l e = grind (arith, run_of-split f a n l e, run_of-count f (a + 1) n)
 
+-- the k-th is that at a + k
 pub run_of-each : (f : ℕ → Option ℕ) (a n : ℕ) (l : List ℕ) → run_of f a n ≡ Some l → (k : ℕ) → k < n → f (a + k) ≡ Some (slice_index l k)
 run_of-each f a zero l e k h = absurd (omega arith)
-run_of-each f a (suc n) l e zero h = (let s = run_of-split f a n l e in ap f (add-zero a) ∙ s.2 ∙ ap (λ xs. Some (slice_index xs 0)) (sym s.4))
-run_of-each f a (suc n) l e (suc k) h = grind (arith, run_of-split, run_of-each f (a + 1) n)
+run_of-each f a (suc n) l e zero h = grind (arith, add-zero, run_of-split f a n l e)
+run_of-each f a (suc n) l e (suc k) h =
+    (let q : a + suc k ≡ a + 1 + k = omega arith in grind (arith, run_of-split f a n l e, run_of-each f (a + 1) n))
 
-pub run_of-from_each : (f : ℕ → Option ℕ) (a n : ℕ) (l : List ℕ) → length l ≡ n → ((k : ℕ) → k < n → f (a + k) ≡ Some (slice_index l k)) → run_of f a n ≡ Some l
+-- and so they are what is there
+pub run_of-from_each : (f : ℕ → Option ℕ) (a n : ℕ) (l : List ℕ) → length l ≡ n → ((k : ℕ) → k < n → f (a + k) ≡ Some (slice_index l k))
+    → run_of f a n ≡ Some l
 unfolding run_of cons_both
 run_of-from_each f a zero [] c h = refl
 run_of-from_each f a zero (b ∷ bs) c h = absurd (omega arith)
 run_of-from_each f a (suc n) [] c h = absurd (omega arith)
 run_of-from_each f a (suc n) (b ∷ bs) c h =
-    let here : f a ≡ Some b = ap f (sym (add-zero a)) ∙ h 0 (omega arith) in
-    let rest : run_of f (a + 1) n ≡ Some bs = run_of-from_each f (a + 1) n bs (omega arith) (λ k l. (let q : a + 1 + k ≡ a + suc k = omega arith in ap f q ∙ h (suc k) (omega arith))) in
-    rw (here, rest) refl
+    grind (arith, add-zero, h 0, run_of-from_each f (a + 1) n bs (omega arith) (next (λ x k. f x ≡ Some (slice_index (b ∷ bs) k)) a n h))
 
+-- where there is something at each, there is a list
 pub run_of-some : (f : ℕ → Option ℕ) (a n : ℕ) → ((k : ℕ) → k < n → IsSome (f (a + k))) → IsSome (run_of f a n)
 unfolding run_of cons_both
 run_of-some f a zero h = refl
-run_of-some f a (suc n) h =
-    let here : IsSome (f a) = subst (λ x. IsSome (f x)) (add-zero a) (h 0 (omega arith)) in
-    let rest : IsSome (run_of f (a + 1) n) = run_of-some f (a + 1) n (λ k l. (let q : a + suc k ≡ a + 1 + k = omega arith in subst (λ x. IsSome (f x)) q (h (suc k) (omega arith)))) in
-    elim (f a) as (λ v. IsSome v → IsSome (cons_both v (run_of f (a + 1) n))) [
-      | None ↦ λ s. absurd (cc)
-      | Some b ↦ λ s. elim (run_of f (a + 1) n) as (λ w. IsSome w → IsSome (option_map (λ bs. b ∷ bs) w)) [ None ↦ λ t. t | Some bs ↦ λ t. refl ] rest
-    ] here
+run_of-some f a (suc n) h = grind (arith, add-zero, h 0, run_of-some f (a + 1) n (next (λ x k. IsSome (f x)) a n h))
 
 -- the first k of them
 pub run_of-take : (f : ℕ → Option ℕ) (a n k : ℕ) (l : List ℕ) → run_of f a n ≡ Some l → k ≤ n → run_of f a k ≡ Some (take k l)
 unfolding run_of cons_both
 run_of-take f a n zero l e h = refl
 run_of-take f a zero (suc k) l e h = absurd (omega arith)
-run_of-take f a (suc n) (suc k) l e h = grind (arith, run_of-split, run_of-take f (a + 1) n k)
+run_of-take f a (suc n) (suc k) l e h = grind (arith, run_of-split f a n l e, run_of-take f (a + 1) n k)
 
--- those behind the first k
-pub run_of-drop : (f : ℕ → Option ℕ) (a n k : ℕ) (l : List ℕ) → run_of f a n ≡ Some l → k ≤ n → run_of f (a + k) (n - k) ≡ Some (drop k l)
-run_of-drop f a n zero l e h = (let p : a + 0 ≡ a = omega arith in let q : n - 0 ≡ n = omega arith in rw (p, q) e)
-run_of-drop f a zero (suc k) l e h = absurd (omega arith)
-run_of-drop f a (suc n) (suc k) l e h = grind (arith, run_of-split, run_of-drop f (a + 1) n k)
-
+-- where there are the bytes, each address is held
 pub Has-bytes_at : (m : Memory) (a n : ℕ) → IsSome (bytes_at m a n) → Has m a n
 Has-bytes_at m a n s k h =
     elim (bytes_at m a n) as (λ v. bytes_at m a n ≡ v → is_some v ≡ true → IsSome (byte_of m (a + k))) [

@@ -1,7 +1,7 @@
 -- The segments of an image, as runs of bytes.
-use Rattle.std.specs.Prelude.{◌≡◌, ◌⊎◌, ℕ, ◌+◌, ◌-◌, ◌^◌, ◌<◌, ◌≤◌, min, List, [], ◌∷◌, ◌++◌, length, map, slice_get, slice_index_or, slice_set, Option, Some, None, nat_lt, if◌then◌else◌}
+use Rattle.std.specs.Prelude.{◌≡◌, ◌⊎◌, ◌==◌, ℕ, ◌+◌, ◌-◌, ◌^◌, ◌<◌, ◌≤◌, min, List, [], ◌∷◌, ◌++◌, length, map, slice_get, slice_index_or, slice_set, Option, Some, None, nat_lt, if◌then◌else◌}
 use Rattle.std.specs.Option.{option_or}
-use Rattle.std.specs.List.{remove, AllByRecursion}
+use Rattle.std.specs.List.{position, remove, AllByRecursion}
 use Rattle.std.specs.FinMap.{empty}
 use Rattle.acpi_base.specs.declared.image.segments.Segment.{Segment}
 use Rattle.acpi_base.specs.Memory.{Memory, with_bytes, run_of}
@@ -57,6 +57,10 @@ run s = record { base = s.base; bytes = s.bytes.items }
 
 abbrev pub runs : List Segment → List Run
 runs ss = map run ss
+
+-- the place of the first segment whose run has this number as its f
+unfoldable pub place_where : (Run → ℕ) → ℕ → List Segment → Option ℕ
+place_where f a ss = position (λ s. f (run s) == a) ss
 
 -- an address lies between them that neither holds
 abbrev pub Apart : Run → Run → Type 0

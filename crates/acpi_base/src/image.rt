@@ -38,6 +38,7 @@ impl From<AllocError> for ImageFault {
 }
 
 /// Why `count` bytes cannot be added from an address on.
+#[tactic(auto, using(crate::proofs::Pieces::Images::no_refusal))]
 fn refusal(segments: &[Segment], base: u64, count: u64) -> Option<ImageFault>
     requires { AllByRecursion IsWhole (runs segments.now) }
     ensures { result ≡ (if nat_lt (2 ^ 64) (base + count) then Some ImageFault.PastEnd else option_map (λ address. ImageFault.Twice address) (first_of (lookup (runs segments.now)) base count)) }

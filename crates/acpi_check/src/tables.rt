@@ -10,8 +10,7 @@ ghost use Rattle.acpi_check.specs.Tables.{AreTablesOf, IsRootOf};
 ghost use Rattle.acpi_check.specs.declared.refusal.Refusal.{Refusal};
 
 use crate::refusal::Refusal;
-use acpi_base::field;
-use acpi_base::{Code, Image, Policy, Witness};
+use acpi_base::{Code, Image, Policy, Witness, field};
 use acpi_read::{Root, Table};
 
 /// What the later stages look at: the root, and the first table that it lists with each of five signatures.

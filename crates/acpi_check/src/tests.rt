@@ -23,7 +23,10 @@ fn example_checks_the_smallest_set(rt: HostRuntime) -> Result<(), Fail> {
     image.add(0xe0000, &RSDP).map_err(|_| "no image")?;
     image.add(0x1000, &RSDT).map_err(|_| "no image")?;
     let policy = Policy::new(alloc, 0xe0000, 24).unwrap();
-    assert_eq!(rt; check_to(alloc, &image, &policy, Stage::Tables)?, Verdict::Yes);
+    assert_eq!(rt;
+        check_to(alloc, &image, &policy, Stage::Tables)?,
+        Verdict::Yes
+    );
     match check_to(alloc, &image, &policy, Stage::Facs)? {
         Verdict::Yes => assert!(rt; false),
         Verdict::No(fault) => assert_eq!(rt; fault, Witness::at(Code::NoFadt, 0)),

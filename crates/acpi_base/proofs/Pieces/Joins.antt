@@ -1,5 +1,5 @@
 -- Bytes that are put in: the runs stay tidy, and hold what they held and the new bytes.
-use Rattle.std.proofs.Common.{◌≡◌, ℕ, zero, suc, ◌+◌, ◌-◌, ◌^◌, ◌<◌, ◌≤◌, ◌≢◌, ◌⊎◌, inl, inr, cond, List, [], ◌∷◌, ◌++◌, length, set, take, drop, slice_get, Option, Some, None, refl, sym, ap, subst, ◌∙◌, arith, length-append, rules}
+use Rattle.std.proofs.Common.{◌≡◌, ℕ, suc, ◌+◌, ◌-◌, ◌^◌, ◌<◌, ◌≤◌, ◌≢◌, ◌⊎◌, cond, List, [], Result, Ok, Err, OnOk, ◌∷◌, ◌++◌, length, set, take, drop, Option, Some, None, refl, sym, subst, arith, length-append}
 use Rattle.std.specs.Prelude.{nat_lt}
 use Rattle.std.specs.Option.{option_or}
 use Rattle.std.specs.List.{remove, AllByRecursion}
@@ -8,210 +8,201 @@ use Rattle.std.proofs.lemmas.List.{append-nil, set_split}
 use Rattle.std.proofs.lemmas.List.Edits.{length-remove}
 use Rattle.std.proofs.lemmas.Bool.{cases_lt}
 use Rattle.std.proofs.lemmas.Bool.Decides.{nat_tests}
-use Rattle.std.proofs.lemmas.Option.{slice_get_past, slice_get-get_or}
-use Rattle.acpi_base.specs.Segments.{Run, held, lookup, end_of, run_at, run_in, bridged, Apart, ApartFrom, NoneTouch, IsWhole, IsTidy, IsFree, Puts}
-use Rattle.acpi_base.proofs.Pieces.RunBytes.{held_below, held_past, held_some}
-use Rattle.acpi_base.proofs.Pieces.Edits.{get_or-remove_other}
+use Rattle.acpi_base.specs.Segments.{Run, runs, place_where, held, lookup, end_of, run_at, run_in, bridged, Apart, ApartFrom, NoneTouch, IsWhole, IsTidy, IsFree, Puts}
+use Rattle.acpi_base.proofs.Pieces.RunBytes.{held_none, held_some, held-nil, held-cons}
+use Rattle.acpi_base.proofs.Pieces.Neighbours.{none_at, one_at}
+use Rattle.acpi_base.specs.declared.image.segments.Segment.{Segment}
+use Rattle.acpi_base.proofs.Pieces.Edits.{get_or_remove_other}
 
--- ---- what holds of each run
+-- ---- a run among others
 
-pub all_in : (P : Run → Type 0) (front back : List Run) (n : Run) → P n → AllByRecursion P (front ++ back) → AllByRecursion P (front ++ n ∷ back)
-all_in P [] back n p a = (p, a)
-all_in P (r ∷ rs) back n p a = (a.0, all_in P rs back n p a.1)
+-- what holds of a run and of the others holds of all
+all_in : (P : Run → Type 0) (prefix suffix : List Run) (n : Run) → P n → AllByRecursion P (prefix ++ suffix) → AllByRecursion P (prefix ++ n ∷ suffix)
+all_in P [] suffix n p a = (p, a)
+all_in P (r ∷ rs) suffix n p a = (a.0, all_in P rs suffix n p a.1)
 
-pub all_out : (P : Run → Type 0) (front back : List Run) (n : Run) → AllByRecursion P (front ++ n ∷ back) → P n × AllByRecursion P (front ++ back)
-all_out P [] back n a = (a.0, a.1)
-all_out P (r ∷ rs) back n a = let rest = all_out P rs back n a.1 in (rest.0, (a.0, rest.1))
+-- and the other way round
+all_out : (P : Run → Type 0) (prefix suffix : List Run) (n : Run) → AllByRecursion P (prefix ++ n ∷ suffix) → P n × AllByRecursion P (prefix ++ suffix)
+all_out P [] suffix n a = (a.0, a.1)
+all_out P (r ∷ rs) suffix n a = let rest = all_out P rs suffix n a.1 in (rest.0, (a.0, rest.1))
 
-apart_swap : (r s : Run) → Apart r s → Apart s r
-apart_swap r s (inl l) = inr l
-apart_swap r s (inr l) = inl l
+-- a run apart from others that do not touch stands among them
+apart_in : (prefix suffix : List Run) (n : Run) → ApartFrom n (prefix ++ suffix) → NoneTouch (prefix ++ suffix) → NoneTouch (prefix ++ n ∷ suffix)
+apart_in [] suffix n a h = (a, h)
+apart_in (r ∷ rs) suffix n a h = grind (arith, all_in (Apart r) rs suffix n, apart_in rs suffix n)
 
-pub apart_in : (front back : List Run) (n : Run) → ApartFrom n (front ++ back) → NoneTouch (front ++ back) → NoneTouch (front ++ n ∷ back)
-apart_in [] back n a h = (a, h)
-apart_in (r ∷ rs) back n a h = (all_in (Apart r) rs back n (apart_swap n r a.0) h.0, apart_in rs back n a.1 h.1)
+-- and the other way round
+apart_out : (prefix suffix : List Run) (n : Run) → NoneTouch (prefix ++ n ∷ suffix) → ApartFrom n (prefix ++ suffix) × NoneTouch (prefix ++ suffix)
+apart_out [] suffix n h = (h.0, h.1)
+apart_out (r ∷ rs) suffix n h = grind (arith, all_out (Apart r) rs suffix n h.0, apart_out rs suffix n h.1)
 
-pub apart_out : (front back : List Run) (n : Run) → NoneTouch (front ++ n ∷ back) → ApartFrom n (front ++ back) × NoneTouch (front ++ back)
-apart_out [] back n h = (h.0, h.1)
-apart_out (r ∷ rs) back n h =
-    let others = all_out (Apart r) rs back n h.0 in
-    let rest = apart_out rs back n h.1 in
-    ((apart_swap r n others.0, rest.0), (others.1, rest.1))
-
--- ---- what they hold
-
-or_swap : (x y z : Option ℕ) → (x ≡ None) ⊎ (y ≡ None) → option_or x (option_or y z) ≡ option_or y (option_or x z)
-or_swap x y z (inl e) = rw e refl
-or_swap x y z (inr e) = rw e refl
-
-or-assoc : (x y z : Option ℕ) → option_or (option_or x y) z ≡ option_or x (option_or y z)
-or-assoc None y z = refl
-or-assoc (Some b) y z = refl
-
+-- runs that do not overlap do not hold the same address
 not_both : (r s : Run) (x : ℕ) → (end_of r ≤ s.base) ⊎ (end_of s ≤ r.base) → (held r x ≡ None) ⊎ (held s x ≡ None)
-not_both r s x (inl l) = elim (cases_lt x (end_of r)) [ inl m ↦ inr (held_below s x (omega arith)) | inr m ↦ inl (held_past r x m) ]
-not_both r s x (inr l) = elim (cases_lt x (end_of s)) [ inl m ↦ inl (held_below r x (omega arith)) | inr m ↦ inr (held_past s x m) ]
+not_both r s x e = grind (arith, cases_lt, held_none)
 
-apart_clear : (r s : Run) → Apart r s → (end_of r ≤ s.base) ⊎ (end_of s ≤ r.base)
-apart_clear r s (inl l) = inl (omega arith)
-apart_clear r s (inr l) = inr (omega arith)
+-- a run among others is looked up like one before them
+lookup_in : (prefix suffix : List Run) (n : Run) (x : ℕ) → ApartFrom n (prefix ++ suffix)
+    → lookup (prefix ++ n ∷ suffix) x ≡ option_or (held n x) (lookup (prefix ++ suffix) x)
+lookup_in [] suffix n x a = refl
+lookup_in (r ∷ rs) suffix n x a = grind (arith, not_both, lookup_in rs suffix n x a.1)
 
-pub lookup-put : (front back : List Run) (n : Run) (x : ℕ) → ApartFrom n (front ++ back) → lookup (front ++ n ∷ back) x ≡ option_or (held n x) (lookup (front ++ back) x)
-lookup-put [] back n x a = refl
-lookup-put (r ∷ rs) back n x a = grind (arith, or_swap, not_both, apart_clear, lookup-put rs back n x a.1)
-
--- one run, and the others
-pub record Splits (rs : List Run) (r : Run) (others : List Run) : Type 0 where
+-- the runs hold what the run r, which may be empty, and the others hold
+record Takes (rs : List Run) (r : Run) (others : List Run) : Type 0 where
+  pub fits : end_of r ≤ 2 ^ 64
+  pub bytes : AllByRecursion (λ b. b < 256) r.bytes
   pub apart : ApartFrom r others
-  pub whole : IsWhole r
   pub tidy : IsTidy others
   pub lookup_is : (x : ℕ) → lookup rs x ≡ option_or (held r x) (lookup others x)
 
-splits_at : (front back : List Run) (r : Run) → IsTidy (front ++ r ∷ back) → Splits (front ++ r ∷ back) r (front ++ back)
-splits_at front back r t = grind (arith, apart_out, all_out, lookup-put)
+-- a run among tidy ones takes its part
+takes_at : (prefix suffix : List Run) (r : Run) → IsTidy (prefix ++ r ∷ suffix) → Takes (prefix ++ r ∷ suffix) r (prefix ++ suffix)
+takes_at prefix suffix r t = grind (arith, apart_out, all_out, lookup_in)
 
-pub splits : (rs : List Run) (k : ℕ) → k < length rs → IsTidy rs → Splits rs (run_in rs k) (remove rs k)
-splits rs k h t =
+-- so does the run at a place
+takes_run : (rs : List Run) (k : ℕ) → k < length rs → IsTidy rs → Takes rs (run_in rs k) (remove rs k)
+takes_run rs k h t =
     let e = split_at rs k (run_at 0 []) h in
-    subst (λ u. Splits u (run_in rs k) (remove rs k)) (sym e) (splits_at (take k rs) (drop (suc k) rs) (run_in rs k) (subst IsTidy e t))
+    subst (λ u. Takes u (run_in rs k) (remove rs k)) (sym e) (takes_at (take k rs) (drop (suc k) rs) (run_in rs k) (subst IsTidy e t))
 
--- n, which holds the new bytes and what is missing in others, stands among others
-puts_at : (b n : Run) (old front back : List Run) → IsTidy (front ++ back) → ApartFrom n (front ++ back) → IsWhole n
-    → ((x : ℕ) → option_or (held n x) (lookup (front ++ back) x) ≡ option_or (held b x) (lookup old x)) → Puts b old (front ++ n ∷ back)
-puts_at b n old front back t a w e = search (rules, apart_in, all_in, lookup-put)
+-- an empty run at a, which is not the f of any run, beside an address in b
+takes_empty : (f : Run → ℕ) (b : Run) (rs : List Run) (a x : ℕ) → ((s : Run) → held s x ≡ None → f s ≢ a → Apart (run_at a []) s) → IsFree b rs
+    → AllByRecursion (λ s. f s ≢ a) rs
+    → b.base ≤ x → x < end_of b → a ≤ end_of b → Takes rs (run_at a []) rs
+takes_empty f b rs a x apart free n l h top = record {
+  fits = (let fits = free.whole.fits in omega arith);
+  bytes = tt;
+  apart = all rs (free.free x l h) n;
+  tidy = free.tidy;
+  lookup_is = λ x. grind (arith, held-nil);
+}
+  where
+    all : (ss : List Run) → lookup ss x ≡ None → AllByRecursion (λ s. f s ≢ a) ss → ApartFrom (run_at a []) ss
+    all [] e n = tt
+    all (s ∷ ss) e n = grind (arith, apart s, all ss, n.0, n.1)
 
-puts_set : (b n : Run) (old rs : List Run) (k : ℕ) → k < length rs → IsTidy (remove rs k) → ApartFrom n (remove rs k) → IsWhole n
-    → ((x : ℕ) → option_or (held n x) (lookup (remove rs k) x) ≡ option_or (held b x) (lookup old x)) → Puts b old (set rs k n)
-puts_set b n old rs k h t a w e = rw (set_split rs k n h) (puts_at b n old (take k rs) (drop (suc k) rs) t a w e)
+-- where no run ends, an empty run stands before b
+takes_before : (b : Run) (rs : List Run) → IsFree b rs → AllByRecursion (λ s. end_of s ≢ b.base) rs → Takes rs (run_at b.base []) rs
+takes_before b rs f n =
+    let some = f.whole.filled in
+    takes_empty end_of b rs b.base b.base (λ s e n. grind (arith, held_some s b.base)) f n (omega arith) (omega arith) (omega arith)
 
--- ---- the new bytes
+-- where no run starts, one stands behind it
+takes_after : (b : Run) (rs : List Run) → IsFree b rs → AllByRecursion (λ s. s.base ≢ end_of b) rs → Takes rs (run_at (end_of b) []) rs
+takes_after b rs f n =
+    let some = f.whole.filled in
+    let last : ℕ = end_of b - 1 in
+    takes_empty (λ r. r.base) b rs (end_of b) last (λ s e n. grind (arith, held_some s last)) f n (omega arith) (omega arith) (omega arith)
 
--- the runs share no address
-abbrev Clear : Run → Run → Type 0
-Clear b s = (end_of b ≤ s.base) ⊎ (end_of s ≤ b.base)
+-- what is free in all is free in the others
+still_free : (b r : Run) (old others : List Run) → IsFree b old → Takes old r others → IsFree b others
+still_free b r old others f t = record { tidy = t.tidy; whole = f.whole; free = λ x i j. grind (arith, f.free x i j, t.lookup_is x) }
 
-none_first : (x y : Option ℕ) → option_or x y ≡ None → (x ≡ None) × (y ≡ None)
-none_first None y e = (refl, e)
-none_first (Some b) y e = absurd (cc)
+-- ---- three runs in one
 
-clear_run : (b s : Run) → 0 < length b.bytes → 0 < length s.bytes → ((x : ℕ) → b.base ≤ x → x < end_of b → held s x ≡ None) → Clear b s
-clear_run b s fb fs h = grind (arith, held_some s b.base, held_some s s.base, h b.base, h s.base)
+-- a run of two parts holds what the parts hold
+held-append : (a : ℕ) (xs ys : List ℕ) (x : ℕ) → held (run_at a (xs ++ ys)) x ≡ option_or (held (run_at a xs) x) (held (run_at (a + length xs) ys) x)
+held-append a [] ys x = grind (arith, nat_tests)
+held-append a (b ∷ xs) ys x = grind (arith, held-cons, held-append (a + 1) xs ys x)
 
-clear_runs : (b : Run) (rs : List Run) → 0 < length b.bytes → AllByRecursion IsWhole rs → ((x : ℕ) → b.base ≤ x → x < end_of b → lookup rs x ≡ None) → AllByRecursion (Clear b) rs
-clear_runs b [] f w h = tt
-clear_runs b (s ∷ ss) f w h = grind (arith, clear_run, none_first, clear_runs b ss f w.1 (λ x l m. (none_first (held s x) (lookup ss x) (h x l m)).1))
-
-pub clear_of : (b : Run) (rs : List Run) → IsFree b rs → AllByRecursion (Clear b) rs
-clear_of b rs f = clear_runs b rs f.whole.filled f.tidy.whole f.free
-
--- ---- two runs in one
-
-slice_get-append : (xs ys : List ℕ) (i : ℕ) → slice_get (xs ++ ys) i ≡ option_or (slice_get xs i) (slice_get ys (i - length xs))
-slice_get-append [] ys i = grind arith
-slice_get-append (x ∷ xs) ys zero = refl
-slice_get-append (x ∷ xs) ys (suc i) = grind (arith, slice_get-append xs ys i)
-
-pub held-append : (a : ℕ) (xs ys : List ℕ) (x : ℕ) → held (run_at a (xs ++ ys)) x ≡ option_or (held (run_at a xs) x) (held (run_at (a + length xs) ys) x)
-held-append a xs ys x = grind (arith, nat_tests, length-append xs ys, slice_get-append xs ys (x - a), slice_get_past xs (x - a), slice_get-get_or xs (x - a) 0)
-
+-- what holds of the bytes of both holds of all
 all_append : (P : ℕ → Type 0) (xs ys : List ℕ) → AllByRecursion P xs → AllByRecursion P ys → AllByRecursion P (xs ++ ys)
 all_append P [] ys a b = b
 all_append P (x ∷ xs) ys a b = (a.0, all_append P xs ys a.1 b)
 
-pub whole_append : (a : ℕ) (r s : Run) → IsWhole r → IsWhole s → a + (length r.bytes + length s.bytes) ≤ 2 ^ 64 → IsWhole (run_at a (r.bytes ++ s.bytes))
-whole_append a r s w v h = grind (arith, length-append, all_append)
+-- what lies apart from the runs beside b, and holds nothing of b, lies apart from the three
+apart_joined : (b l r n : Run) (rs : List Run) → end_of l ≡ b.base → r.base ≡ end_of b → n.base ≡ l.base → end_of n ≡ end_of r → ApartFrom l rs
+    → ApartFrom r rs → AllByRecursion IsWhole rs
+    → ((x : ℕ) → b.base ≤ x → x < end_of b → lookup rs x ≡ None) → ApartFrom n rs
+apart_joined b l r n [] e f g h u v w o = tt
+apart_joined b l r n (s ∷ ss) e f g h u v w o =
+    grind (arith, held_some s s.base, o s.base, apart_joined b l r n ss e f g h u.1 v.1 w.1 (λ x i j. grind (arith, o x i j)))
 
-all_without : (P : Run → Type 0) (rs : List Run) (k : ℕ) → k < length rs → AllByRecursion P rs → P (run_in rs k) × AllByRecursion P (remove rs k)
-all_without P rs k h a = all_out P (take k rs) (drop (suc k) rs) (run_in rs k) (subst (AllByRecursion P) (split_at rs k (run_at 0 []) h) a)
+-- b and the runs beside it, each of which may be empty, stand as one between prefix and suffix
+puts_at : (b l r : Run) (old mid prefix suffix : List Run) → IsFree b old → Takes old r mid → Takes mid l (prefix ++ suffix)
+    → ApartFrom r (prefix ++ suffix) → end_of l ≡ b.base → r.base ≡ end_of b
+    → Puts b old (prefix ++ run_at l.base (l.bytes ++ b.bytes ++ r.bytes) ∷ suffix)
+puts_at b l r old mid prefix suffix f t u a e g =
+    let n : Run = run_at l.base (l.bytes ++ b.bytes ++ r.bytes) in
+    let long = length-append l.bytes b.bytes in
+    let longer = length-append (l.bytes ++ b.bytes) r.bytes in
+    let filled = f.whole.filled in
+    let fits = t.fits in
+    let free = (still_free b l mid (prefix ++ suffix) (still_free b r old mid f t) u).free in
+    let apart : ApartFrom n (prefix ++ suffix) = apart_joined b l r n (prefix ++ suffix) e g refl (omega arith) u.apart a u.tidy.whole free in
+    let bytes = all_append _ (l.bytes ++ b.bytes) r.bytes (all_append _ l.bytes b.bytes u.bytes f.whole.bytes) t.bytes in
+    let whole : IsWhole n = record { filled = omega arith; fits = omega arith; bytes = bytes } in
+    record {
+      tidy = record { apart = apart_in prefix suffix n apart u.tidy.apart; whole = all_in IsWhole prefix suffix n whole u.tidy.whole };
+      lookup_is = λ x.
+          let held_is : held n x ≡ option_or (option_or (held l x) (held b x)) (held r x) = grind (arith, held-append) in
+          grind (arith, held_is, lookup_in prefix suffix n x apart, t.lookup_is x, u.lookup_is x, not_both l b x, not_both l r x);
+    }
+
+-- the same, in the place of a run
+puts_set : (b l r : Run) (old mid into : List Run) (k : ℕ) (bs : List ℕ) → k < length into → IsFree b old → Takes old r mid
+    → Takes mid l (remove into k) → ApartFrom r (remove into k)
+    → end_of l ≡ b.base → r.base ≡ end_of b → bs ≡ l.bytes ++ b.bytes ++ r.bytes → Puts b old (set into k (run_at l.base bs))
+puts_set b l r old mid into k bs h f t u a e g same =
+    rw (set_split into k (run_at l.base bs) h, same) (puts_at b l r old mid (take k into) (drop (suc k) into) f t u a e g)
+
+-- what holds of all holds of the others
+without : (P : Run → Type 0) (rs : List Run) (k : ℕ) → k < length rs → AllByRecursion P rs → AllByRecursion P (remove rs k)
+without P rs k h a = (all_out P (take k rs) (drop (suc k) rs) (run_in rs k) (subst (AllByRecursion P) (split_at rs k (run_at 0 []) h) a)).1
 
 -- ---- the four ways to put bytes in
 
--- no run ends where b starts; no run starts where b ends
-abbrev pub NoneBefore : Run → List Run → Type 0
-NoneBefore b rs = AllByRecursion (λ s. end_of s ≢ b.base) rs
-
-abbrev pub NoneAfter : Run → List Run → Type 0
-NoneAfter b rs = AllByRecursion (λ s. s.base ≢ end_of b) rs
-
-lone_apart : (b : Run) (rs : List Run) → AllByRecursion (Clear b) rs → NoneBefore b rs → NoneAfter b rs → ApartFrom b rs
-lone_apart b [] c n m = tt
-lone_apart b (s ∷ ss) c n m = grind (arith, lone_apart b ss c.1 n.1 m.1)
-
-pub puts_alone : (b : Run) (rs : List Run) → IsFree b rs → NoneBefore b rs → NoneAfter b rs → Puts b rs (rs ++ b ∷ [])
-puts_alone b rs f n m = grind (arith, append-nil, lone_apart, clear_of, puts_at)
-
-longer_apart : (b r n : Run) (rs : List Run) → end_of r ≡ b.base → n.base ≡ r.base → end_of n ≡ end_of b → 0 < length b.bytes → ApartFrom r rs → AllByRecursion (Clear b) rs → AllByRecursion IsWhole rs → NoneAfter b rs → ApartFrom n rs
-longer_apart b r n [] e f g h a c w m = tt
-longer_apart b r n (s ∷ ss) e f g h a c w m = grind (arith, longer_apart b r n ss e f g h a.1 c.1 w.1 m.1)
-
-pub puts_append : (b : Run) (rs : List Run) (k : ℕ) → IsFree b rs → k < length rs → end_of (run_in rs k) ≡ b.base → NoneAfter b rs → Puts b rs (set rs k (run_at (run_in rs k).base ((run_in rs k).bytes ++ b.bytes)))
-puts_append b rs k f h e m =
-    let r : Run = run_in rs k in
-    let n : Run = run_at r.base (r.bytes ++ b.bytes) in
-    let long = length-append r.bytes b.bytes in
-    let s = splits rs k h f.tidy in
-    let top = f.whole.fits in
-    let clear = (all_without (Clear b) rs k h (clear_of b rs f)).1 in
-    let apart = longer_apart b r n (remove rs k) e refl (omega arith) f.whole.filled s.apart clear s.tidy.whole (all_without (λ s. s.base ≢ end_of b) rs k h m).1 in
-    puts_set b n rs rs k h s.tidy apart (whole_append r.base r b s.whole f.whole (omega arith)) (λ x.
-    grind (arith, held-append r.base r.bytes b.bytes x, or-assoc (held r x) (held b x) (lookup (remove rs k) x), or_swap (held r x) (held b x) (lookup (remove rs k) x), not_both r b x, s.lookup_is x))
-
-earlier_apart : (b r n : Run) (rs : List Run) → r.base ≡ end_of b → n.base ≡ b.base → end_of n ≡ end_of r → 0 < length b.bytes → ApartFrom r rs → AllByRecursion (Clear b) rs → AllByRecursion IsWhole rs → NoneBefore b rs → ApartFrom n rs
-earlier_apart b r n [] e f g h a c w m = tt
-earlier_apart b r n (s ∷ ss) e f g h a c w m = grind (arith, earlier_apart b r n ss e f g h a.1 c.1 w.1 m.1)
-
-pub puts_prepend : (b : Run) (rs : List Run) (k : ℕ) → IsFree b rs → k < length rs → (run_in rs k).base ≡ end_of b → NoneBefore b rs → Puts b rs (set rs k (run_at b.base (b.bytes ++ (run_in rs k).bytes)))
-puts_prepend b rs k f h e m =
-    let r : Run = run_in rs k in
-    let n : Run = run_at b.base (b.bytes ++ r.bytes) in
-    let long = length-append b.bytes r.bytes in
-    let s = splits rs k h f.tidy in
-    let top = s.whole.fits in
-    let clear = (all_without (Clear b) rs k h (clear_of b rs f)).1 in
-    let apart = earlier_apart b r n (remove rs k) e refl (omega arith) f.whole.filled s.apart clear s.tidy.whole (all_without (λ s. end_of s ≢ b.base) rs k h m).1 in
-    puts_set b n rs rs k h s.tidy apart (whole_append b.base b r f.whole s.whole (omega arith)) (λ x.
-    grind (arith, held-append b.base b.bytes r.bytes x, or-assoc (held b x) (held r x) (lookup (remove rs k) x), s.lookup_is x))
-
-between_apart : (b r t n : Run) (rs : List Run) → end_of r ≡ b.base → t.base ≡ end_of b → n.base ≡ r.base → end_of n ≡ end_of t → 0 < length b.bytes → ApartFrom r rs → ApartFrom t rs → AllByRecursion (Clear b) rs → AllByRecursion IsWhole rs → ApartFrom n rs
-between_apart b r t n [] e e' f g h a a' c w = tt
-between_apart b r t n (s ∷ ss) e e' f g h a a' c w = grind (arith, between_apart b r t n ss e e' f g h a.1 a'.1 c.1 w.1)
-
--- past the run at j, the run at i stands here
-abbrev shifted : ℕ → ℕ → ℕ
-shifted i j = cond (nat_lt j i) (i - 1) i
-
-shifted_within : (rs : List Run) (i j : ℕ) → i ≢ j → i < length rs → j < length rs → shifted i j < length (remove rs j)
+-- past the run at j, the run at i stands one place lower
+shifted_within : (rs : List Run) (i j : ℕ) → i ≢ j → i < length rs → j < length rs → cond (nat_lt j i) (i - 1) i < length (remove rs j)
 shifted_within rs i j ne h l = grind (arith, length-remove, cases_lt)
 
-pub same_place : (b r t : Run) → end_of r ≡ b.base → t.base ≡ end_of b → 0 < length b.bytes → (rs : List Run) (i j : ℕ) → r ≡ run_in rs i → t ≡ run_in rs j → i ≢ j
-same_place b r t e f h rs i j p q same = grind (arith)
+-- no run both ends where some bytes start and starts where they end
+pub two_places : (ss : List Segment) (a n i j : ℕ) → place_where end_of a ss ≡ Some i → place_where (λ r. r.base) (a + n) ss ≡ Some j → 0 < n → i ≢ j
+two_places ss a n i j p q h = grind (arith, one_at end_of ss a i p, one_at (λ r. r.base) ss (a + n) j q)
 
-pub puts_bridge : (b : Run) (rs : List Run) (i j : ℕ) → IsFree b rs → i < length rs → j < length rs → end_of (run_in rs i) ≡ b.base → (run_in rs j).base ≡ end_of b → Puts b rs (bridged rs i b.bytes j)
-puts_bridge b rs i j f hi hj e e' =
-    let r : Run = run_in rs i in
-    let t : Run = run_in rs j in
-    let ne : i ≢ j = same_place b r t e e' f.whole.filled rs i j refl refl in
-    let k : ℕ = shifted i j in
+-- the runs once b is joined with the run that ends where it starts, and with the one that starts where it ends
+abbrev joined : List Run → Run → Option ℕ → Option ℕ → List Run
+joined rs b None None = rs ++ b ∷ []
+joined rs b (Some i) None = set rs i (run_at (run_in rs i).base ((run_in rs i).bytes ++ b.bytes))
+joined rs b None (Some j) = set rs j (run_at b.base (b.bytes ++ (run_in rs j).bytes))
+joined rs b (Some i) (Some j) = bridged rs i b.bytes j
+
+-- so joined, the runs hold what they held, and b
+puts_joined : (b : Run) (ss : List Segment) (before after : Option ℕ) → place_where end_of b.base ss ≡ before
+    → place_where (λ r. r.base) (end_of b) ss ≡ after → IsFree b (runs ss) → Puts b (runs ss) (joined (runs ss) b before after)
+puts_joined b ss None None p q f =
+    let rs = runs ss in
+    let t = takes_after b rs f (none_at (λ r. r.base) ss _ q) in
+    let u = takes_before b rs f (none_at end_of ss _ p) in
+    let same = append-nil rs in
+    rw append-nil at (puts_at b (run_at b.base []) (run_at (end_of b) []) rs rs rs [] f t (rw same u) (rw same t.apart) (omega arith) refl)
+puts_joined b ss (Some i) None p q f =
+    let rs = runs ss in
+    let (h, e) = one_at end_of ss _ i p in
+    let t = takes_after b rs f (none_at (λ r. r.base) ss _ q) in
+    let u = takes_run rs i h f.tidy in
+    puts_set b (run_in rs i) (run_at (end_of b) []) rs rs rs i _ h f t u (without _ rs i h t.apart) e refl (sym (append-nil _))
+puts_joined b ss None (Some j) p q f =
+    let rs = runs ss in
+    let (h, e) = one_at (λ r. r.base) ss _ j q in
+    let t = takes_run rs j h f.tidy in
+    let u = takes_before b (remove rs j) (still_free b (run_in rs j) rs (remove rs j) f t) (without _ rs j h (none_at end_of ss _ p)) in
+    puts_set b (run_at b.base []) (run_in rs j) rs (remove rs j) rs j _ h f t u t.apart (omega arith) e refl
+puts_joined b ss (Some i) (Some j) p q f =
+    let rs = runs ss in
+    let (hi, e) = one_at end_of ss _ i p in
+    let (hj, g) = one_at (λ r. r.base) ss _ j q in
+    let ne : i ≢ j = two_places ss _ _ i j p q f.whole.filled in
     let rest : List Run = remove rs j in
-    let s = splits rs j hj f.tidy in
-    let hk : k < length rest = shifted_within rs i j ne hi hj in
-    let same : run_in rest k ≡ r = get_or-remove_other rs i j (run_at 0 []) ne hj in
-    let s' : Splits rest r (remove rest k) = subst (λ u. Splits rest u (remove rest k)) same (splits rest k hk s.tidy) in
-    let n : Run = run_at r.base (r.bytes ++ b.bytes ++ t.bytes) in
-    let long = length-append r.bytes b.bytes in
-    let longer = length-append (r.bytes ++ b.bytes) t.bytes in
-    let top = f.whole.fits in
-    let top' = s.whole.fits in
-    let clear : AllByRecursion (Clear b) (remove rest k) = (all_without (Clear b) rest k hk (all_without (Clear b) rs j hj (clear_of b rs f)).1).1 in
-    let away : ApartFrom t (remove rest k) = (all_without (Apart t) rest k hk s.apart).1 in
-    let apart : ApartFrom n (remove rest k) = between_apart b r t n (remove rest k) e e' refl (omega arith) f.whole.filled s'.apart away clear s'.tidy.whole in
-    let half : IsWhole (run_at r.base (r.bytes ++ b.bytes)) = whole_append r.base r b s'.whole f.whole (omega arith) in
-    let whole : IsWhole n = whole_append r.base (run_at r.base (r.bytes ++ b.bytes)) t half s.whole (omega arith) in
-    let Z : ℕ → Option ℕ = lookup (remove rest k) in
-    let ends : r.base + length (r.bytes ++ b.bytes) ≡ t.base = omega arith in
-    let holds : (x : ℕ) → held n x ≡ option_or (option_or (held r x) (held b x)) (held t x) = λ x.
-    held-append r.base (r.bytes ++ b.bytes) t.bytes x
-    ∙ ap (λ o. option_or o (held (run_at (r.base + length (r.bytes ++ b.bytes)) t.bytes) x)) (held-append r.base r.bytes b.bytes x ∙ ap (λ a. option_or (held r x) (held (run_at a b.bytes) x)) e)
-    ∙ ap (λ a. option_or (option_or (held r x) (held b x)) (held (run_at a t.bytes) x)) ends in
-    puts_set b n rs rest k hk s'.tidy apart whole (λ x.
-    grind (arith, holds x, or-assoc, or_swap (held r x) (held b x) (option_or (held t x) (Z x)), or_swap (held r x) (held t x) (Z x), not_both r b x, not_both r t x, s'.lookup_is x, s.lookup_is x))
+    let k : ℕ = cond (nat_lt j i) (i - 1) i in
+    let hk = shifted_within rs i j ne hi hj in
+    let same = get_or_remove_other rs i j (run_at 0 []) ne hj in
+    let t = takes_run rs j hj f.tidy in
+    let u = subst (λ l. Takes rest l (remove rest k)) same (takes_run rest k hk t.tidy) in
+    puts_set b (run_in rs i) (run_in rs j) rs rest rest k _ hk f t u (without _ rest k hk t.apart) e g refl
+
+-- and so where memory was there
+pub puts : {T E : Type 0} (result : Result T E) (b : Run) (ss : List Segment) (new : List Run) → IsFree b (runs ss)
+    → OnOk result (new ≡ joined (runs ss) b (place_where end_of b.base ss) (place_where (λ r. r.base) (end_of b) ss))
+    → OnOk result (Puts b (runs ss) new)
+puts (Ok x) b ss new f e = rw e (puts_joined b ss _ _ refl refl f)
+puts (Err x) b ss new f e = tt

@@ -1,56 +1,62 @@
 -- What a run holds, and what an image holds once bytes are put in.
 use Rattle.std.proofs.lemmas.Grind.{common_steps}
-use Rattle.std.proofs.Common.{◌≡◌, ℕ, zero, suc, ◌+◌, ◌-◌, ◌<◌, ◌≤◌, ◌⊎◌, inl, inr, cond, List, [], ◌∷◌, length, get_or, take, drop, slice_get, Some, None, IsSome, is_some, refl, ap, ◌∙◌, arith, drop-cons}
+use Rattle.std.proofs.Common.{◌≡◌, ℕ, zero, suc, ◌+◌, ◌-◌, ◌<◌, ◌≤◌, ◌⊎◌, cond, List, [], ◌∷◌, length, get_or, take, drop, slice_get, slice_index, Some, None, IsSome, is_some, refl, ap, ◌∙◌, arith, drop-cons}
 use Rattle.std.specs.Prelude.{◌==◌}
 use Rattle.std.specs.Option.{option_or}
 use Rattle.std.specs.Ordering.{nat_cmp, eq_by_cmp}
 use Rattle.std.specs.Cmp.{nat_cmp_total}
-use Rattle.std.specs.FinMap.{get, get-insert, get-empty, insert}
+use Rattle.std.specs.FinMap.{insert, get-insert, get-empty}
 use Rattle.std.proofs.lemmas.Bool.{cases_lt}
 use Rattle.std.proofs.lemmas.Bool.Decides.{nat_tests}
 use Rattle.std.proofs.lemmas.Option.{slice_get_past, slice_get-get_or}
 use Rattle.acpi_base.specs.Memory.{Memory, byte_of, run_of, first_of, with_bytes, cons_both}
-use Rattle.acpi_base.specs.Segments.{Run, held, end_of, lookup, memory_of}
+use Rattle.acpi_base.specs.Segments.{Run, held, end_of, lookup, memory_of, run_at}
 use Rattle.acpi_base.proofs.Runs.{run_of_none, first_of_none, first_of_at}
 
-pub held_below : (r : Run) (a : ℕ) → a < r.base → held r a ≡ None
-held_below r a h = grind (arith, nat_tests)
-
+-- from its base on, a run holds its bytes
 pub held_from : (r : Run) (a : ℕ) → r.base ≤ a → held r a ≡ slice_get r.bytes (a - r.base)
 held_from r a h = grind (arith, nat_tests)
 
-pub held_past : (r : Run) (a : ℕ) → end_of r ≤ a → held r a ≡ None
-held_past r a h = held_from r a (omega arith) ∙ slice_get_past r.bytes (a - r.base) (omega arith)
+-- below its base and from its end on, a run holds nothing
+pub held_none : (r : Run) (a : ℕ) → (a < r.base) ⊎ (end_of r ≤ a) → held r a ≡ None
+held_none r a h = grind (arith, cases_lt, nat_tests, slice_get_past)
 
+-- between these it holds a byte
 pub held_at : (r : Run) (a : ℕ) → r.base ≤ a → a < end_of r → held r a ≡ Some (get_or r.bytes (a - r.base) 0)
 held_at r a l h = held_from r a l ∙ slice_get-get_or r.bytes (a - r.base) 0 (omega arith)
 
+-- which is some byte
 pub held_some : (r : Run) (a : ℕ) → r.base ≤ a → a < end_of r → IsSome (held r a)
 held_some r a l h = ap is_some (held_at r a l h)
 
+-- where a run holds something, the address is in it
 pub held_inside : (r : Run) (a : ℕ) → IsSome (held r a) → (r.base ≤ a) × (a < end_of r)
-held_inside r a s = grind (arith, cases_lt, held_below, held_past)
+held_inside r a s = grind (arith, cases_lt, held_none)
 
 -- a run that starts with b is b, and then the rest
-held-cons : (a b : ℕ) (bs : List ℕ) (x : ℕ) → held (record { base = a; bytes = b ∷ bs }) x ≡ cond (x == a) (Some b) (held (record { base = a + 1; bytes = bs }) x)
+pub held-cons : (a b : ℕ) (bs : List ℕ) (x : ℕ) → held (run_at a (b ∷ bs)) x ≡ cond (x == a) (Some b) (held (run_at (a + 1) bs) x)
 held-cons a b bs x = grind (arith, cases_lt)
 
-held-nil : (a x : ℕ) → held (record { base = a; bytes = [] }) x ≡ None
+-- an empty run holds nothing
+pub held-nil : (a x : ℕ) → held (run_at a []) x ≡ None
 held-nil a x = grind arith
 
+-- the two tests for the same number
 same_number : (x a : ℕ) → eq_by_cmp nat_cmp x a ≡ (x == a)
 same_number x a = grind (arith, nat_tests)
 
 -- what an image with one byte put in at a has at an address
 pub byte_of-insert : (m : Memory) (a b x : ℕ) → byte_of (insert m a b) x ≡ cond (x == a) (Some b) (byte_of m x)
-byte_of-insert m a b x = get-insert nat_cmp_total m a b x ∙ ap (λ t. cond t (Some b) (get m x)) (same_number x a)
+byte_of-insert m a b x = get-insert nat_cmp_total m a b x ∙ ap (λ t. cond t (Some b) (byte_of m x)) (same_number x a)
 
 -- what an image with bytes put in from a on has at an address
-pub byte_of-with_bytes : (m : Memory) (a : ℕ) (bs : List ℕ) (x : ℕ) → byte_of (with_bytes m a bs) x ≡ option_or (held (record { base = a; bytes = bs }) x) (byte_of m x)
+pub byte_of-with_bytes : (m : Memory) (a : ℕ) (bs : List ℕ) (x : ℕ) → byte_of (with_bytes m a bs) x ≡ option_or (held (run_at a bs) x) (byte_of m x)
 unfolding with_bytes
 byte_of-with_bytes m a [] x = rw (held-nil a x) refl
-byte_of-with_bytes m a (b ∷ bs) x = grind (arith, byte_of-insert (with_bytes m (a + 1) bs) a b x, byte_of-with_bytes m (a + 1) bs x, held-cons a b bs x)
+byte_of-with_bytes m a (b ∷ bs) x =
+    grind (arith, byte_of-insert (with_bytes m (a + 1) bs) a b x, byte_of-with_bytes m (a + 1) bs x, held-cons)
 
+-- the memory of runs holds what they hold
 pub byte_of_memory_of : (rs : List Run) (x : ℕ) → byte_of (memory_of rs) x ≡ lookup rs x
 byte_of_memory_of [] x = get-empty nat_cmp x
 byte_of_memory_of (r ∷ rs) x = byte_of-with_bytes (memory_of rs) r.base r.bytes x ∙ ap (option_or (held r x)) (byte_of_memory_of rs x)
@@ -61,29 +67,31 @@ unfolding run_of cons_both
 run_of_held r a zero l h = refl
 run_of_held r a (suc n) l h = grind (arith, common_steps, held_at, drop-cons, run_of_held r (a + 1) n (omega arith) (omega arith))
 
-pub held_none : (r : Run) (a : ℕ) → (a < r.base) ⊎ (end_of r ≤ a) → held r a ≡ None
-held_none r a (inl l) = held_below r a l
-held_none r a (inr l) = held_past r a l
+-- where a run does not hold all n addresses from a on
+pub run_of_held_outside : (r : Run) (a n : ℕ) → 0 < n → ((a < r.base) ⊎ (end_of r < a + n)) → run_of (held r) a n ≡ None
+run_of_held_outside r a n h l = grind (arith, cases_lt, held_none, run_of_none (held r) a n 0, run_of_none (held r) a n (end_of r - a))
 
 -- the first address of a run among n addresses from a on
 pub first_of_held_above : (r : Run) (a n : ℕ) → a < r.base → r.base < a + n → 0 < length r.bytes → first_of (held r) a n ≡ Some r.base
-first_of_held_above r a n l m f =
-    grind (arith, first_of_at (held r) a n (r.base - a), held_some r (a + (r.base - a)), λ (j : ℕ). held_below r (a + j))
+first_of_held_above r a n l m f = grind (arith, held_some, held_none, first_of_at (held r) a n (r.base - a))
 
 pub first_of_held_within : (r : Run) (a n : ℕ) → r.base ≤ a → a < end_of r → 0 < n → first_of (held r) a n ≡ Some a
-first_of_held_within r a n l m h =
-    let q : a + 0 ≡ a = omega arith in
-    first_of_at (held r) a n 0 h (held_some r (a + 0) (omega arith) (omega arith)) (λ j i. absurd (omega arith)) ∙ ap Some q
+first_of_held_within r a n l m h = grind (arith, held_some, first_of_at (held r) a n 0)
 
 pub first_of_held_outside : (r : Run) (a n : ℕ) → (a + n ≤ r.base) ⊎ (end_of r ≤ a) → first_of (held r) a n ≡ None
-first_of_held_outside r a n (inl l) = first_of_none (held r) a n (λ k h. held_below r (a + k) (omega arith))
-first_of_held_outside r a n (inr l) = first_of_none (held r) a n (λ k h. held_past r (a + k) (omega arith))
+first_of_held_outside r a n l = first_of_none (held r) a n (λ k h. held_none r (a + k) (grind arith))
 
--- where a run does not hold all n addresses from a on
-pub run_of_held_outside : (r : Run) (a n : ℕ) → 0 < n → ((a < r.base) ⊎ (end_of r < a + n)) → run_of (held r) a n ≡ None
-run_of_held_outside r a n h (inl l) = run_of_none (held r) a n 0 h (held_below r (a + 0) (omega arith))
-run_of_held_outside r a n h (inr l) =
-    grind (arith, cases_lt a (end_of r), run_of_none (held r) a n (end_of r - a), held_past r (a + (end_of r - a)), run_of_none (held r) a n 0 h, held_past r (a + 0))
+-- the three cases
+pub ruleset first_of_held = (first_of_held_above, first_of_held_within, first_of_held_outside)
 
-pub byte_of-with_bytes_outside : (m : Memory) (a : ℕ) (bs : List ℕ) (x : ℕ) → (x < a) ⊎ (a + length bs ≤ x) → byte_of (with_bytes m a bs) x ≡ byte_of m x
-byte_of-with_bytes_outside m a bs x h = byte_of-with_bytes m a bs x ∙ rw (held_none (record { base = a; bytes = bs }) x h) refl
+-- ---- after bytes were put in
+
+-- at their addresses, the bytes that were put in
+pub byte_of-with_bytes_within : (m : Memory) (a : ℕ) (bs : List ℕ) (x : ℕ) → a ≤ x → x < a + length bs
+    → byte_of (with_bytes m a bs) x ≡ Some (slice_index bs (x - a))
+byte_of-with_bytes_within m a bs x l h = byte_of-with_bytes m a bs x ∙ rw (held_at (run_at a bs) x l h) refl
+
+-- at all others, what was there
+pub byte_of-with_bytes_outside : (m : Memory) (a : ℕ) (bs : List ℕ) (x : ℕ) → (x < a) ⊎ (a + length bs ≤ x)
+    → byte_of (with_bytes m a bs) x ≡ byte_of m x
+byte_of-with_bytes_outside m a bs x h = byte_of-with_bytes m a bs x ∙ rw (held_none (run_at a bs) x h) refl

@@ -5,9 +5,9 @@
 
 ghost use Rattle.std.specs.Prelude.{◌≡◌, ◌+◌, ◌-◌, ◌^◌, ◌<◌, ◌≤◌, ◌≢◌, ◌==◌, ◌++◌, IfSome, IfOk, OnOk, OnErr, slice_set, [], ◌∷◌, length, vec_len};
 ghost use Rattle.std.specs.Option.{option_map};
-ghost use Rattle.std.specs.List.{position, remove, AllByRecursion};
+ghost use Rattle.std.specs.List.{remove, AllByRecursion};
 ghost use Rattle.acpi_base.specs.Memory.{run_of, first_of};
-ghost use Rattle.acpi_base.specs.Segments.{held, lookup, window_of, earlier, run, runs, run_at, run_in, bridged, end_of, IsWhole, IsFree, Puts};
+ghost use Rattle.acpi_base.specs.Segments.{held, lookup, window_of, earlier, run, runs, run_at, run_in, bridged, place_where, end_of, IsWhole, IsFree, Puts};
 
 use std::alloc::{AllocError, Global};
 
@@ -75,7 +75,7 @@ pub fn window(segments: &[Segment], address: u64, count: u64) -> Option<&[u8]>
 }
 
 // An empty segment would seem to hold its base.
-#[tactic(auto, using(crate::proofs::Pieces::RunBytes::first_of_held_above, crate::proofs::Pieces::RunBytes::first_of_held_within, crate::proofs::Pieces::RunBytes::first_of_held_outside))]
+#[tactic(auto, using(crate::proofs::Pieces::RunBytes::first_of_held))]
 fn first_in(segment: &Segment, base: u64, count: u64) -> Option<u64>
     requires filled { 0 < length segment.now.bytes.items }
     requires count { 0 < count }
@@ -104,7 +104,7 @@ fn earlier_of(first: Option<u64>, second: Option<u64>) -> Option<u64>
 }
 
 /// The least of the `count` addresses from `base` on that is held already.
-#[tactic(auto, using(crate::proofs::Pieces::Searches::earlier_assoc, crate::proofs::Pieces::Searches::first_of_lookup_more, crate::proofs::Pieces::Searches::first_of_lookup_all))]
+#[tactic(auto, using(crate::proofs::Pieces::Searches::first_held))]
 pub fn first_held(segments: &[Segment], base: u64, count: u64) -> Option<u64>
     requires whole { AllByRecursion IsWhole (runs segments.now) }
     requires count { 0 < count }
@@ -124,8 +124,10 @@ fn ends_at(segment: &Segment, address: u64) -> bool
 }
 
 /// The segment that ends right before an address.
+#[tactic(auto, unfolding(crate::specs::Segments::place_where))]
 pub fn ending_at(segments: &[Segment], address: u64) -> Option<usize>
-    ensures { result ≡ position (λ segment. end_of (run segment) == address) segments.now }
+    ensures place { result ≡ place_where end_of address segments.now }
+    ensures within { IfSome result (λ place. place < length segments.now) }
 {
     segments
         .iter()
@@ -133,8 +135,10 @@ pub fn ending_at(segments: &[Segment], address: u64) -> Option<usize>
 }
 
 /// The segment that starts right behind `count` addresses from `base` on.
+#[tactic(auto, unfolding(crate::specs::Segments::place_where))]
 pub fn starting_at(segments: &[Segment], base: u64, count: u64) -> Option<usize>
-    ensures { result ≡ position (λ segment. segment.base == base + count) segments.now }
+    ensures place { result ≡ place_where (λ run. run.base) (base + count) segments.now }
+    ensures within { IfSome result (λ place. place < length segments.now) }
 {
     segments.iter().position(|segment| base <= segment.base && segment.base - base == count)
 }
@@ -163,7 +167,7 @@ fn put_alone(
 }
 
 // In place, so that reading a text line by line does not copy all earlier bytes for each line.
-#[tactic(auto, using(crate::proofs::Pieces::Edits::appended, crate::proofs::Pieces::Edits::not_appended))]
+#[tactic(auto, using(crate::proofs::Pieces::Edits::edits))]
 fn append(segments: &mut Vec<Segment>, before: usize, bytes: &[u8]) -> Result<(), AllocError>
     requires { before < vec_len segments.old }
     ensures ok { OnOk result (let old = run_in (runs segments.old.items) before in runs segments.new.items ≡ slice_set (runs segments.old.items) before (run_at old.base (old.bytes ++ bytes.now))) }
@@ -172,6 +176,7 @@ fn append(segments: &mut Vec<Segment>, before: usize, bytes: &[u8]) -> Result<()
     segments[before].bytes.extend_from_slice(bytes)
 }
 
+#[tactic(auto, using(crate::proofs::Pieces::Edits::edits))]
 fn prepend(
     alloc: Global,
     segments: &mut Vec<Segment>,
@@ -188,7 +193,7 @@ fn prepend(
     Ok(())
 }
 
-#[tactic(auto, using(crate::proofs::Pieces::Edits::bridged_is))]
+#[tactic(auto, using(crate::proofs::Pieces::Edits::edits))]
 fn bridge(
     alloc: Global,
     segments: &mut Vec<Segment>,
@@ -216,6 +221,7 @@ fn bridge(
 }
 
 /// Adds bytes at addresses of which none is held. They are joined with the segments that they touch.
+#[tactic(auto, using(crate::proofs::Pieces::Joins::puts, crate::proofs::Pieces::Joins::two_places))]
 pub fn put(
     alloc: Global,
     segments: &mut Vec<Segment>,
