@@ -5,20 +5,20 @@ ghost use Rattle.acpi_base.specs.Memory.{Memory, bytes_at, Has, AreBytes};
 ghost use Rattle.acpi_base.specs.Laws.{FaultsExcludeClean, FaultsFit, CleanOrFaulty, CleanOrFirstFault, OneFirstFault, OneVerdict, RootsListSlots};
 ghost use Rattle.acpi_base.specs.TextLaws.{RunReadsText, RunReadsPrefix, RunStopsAtFaults, RunGoesOn, PrefixDecides, TextMeans, TextOrFault, NeverBoth, OneImage, OneTextFault, RefusalsAreOwn, LinesMean};
 
-/// An image with a fault of a stage is not clean to that stage or a later one: a fault that is told is
+/// An image with a fault of a stage is not clean to that stage or a later one: a fault that is reported is
 /// always a reason to refuse the image.
 pub fn fault_excludes_clean()
     ensures excluded { FaultsExcludeClean }
 {}
 
-/// The three numbers of a fault of an image are numbers of 64 bits: each fault can be told by a `Witness`.
+/// The three numbers of a fault of an image are numbers of 64 bits: each fault fits into a `Witness`.
 #[tactic(auto, using(crate::proofs::Faults::Laws::faults_fit))]
 pub fn faults_fit()
     ensures fit { FaultsFit }
 {}
 
 /// An image is clean to a stage that is built, or has a fault of a stage up to it whose numbers fit a
-/// `Witness`: there is always something to tell of an image that is refused.
+/// `Witness`: a refused image always has a fault to report.
 pub fn clean_or_fault()
     ensures either { CleanOrFaulty }
 {}
@@ -29,7 +29,7 @@ pub fn first_fault_exists()
     ensures either { CleanOrFirstFault }
 {}
 
-/// Two first faults of an image are one: which fault is told does not depend on how it was looked for.
+/// Two first faults of an image are one: which fault is reported does not depend on how it was looked for.
 #[tactic(auto, using(crate::proofs::Faults::Laws::one_first_fault))]
 pub fn one_first_fault()
     ensures one { OneFirstFault }

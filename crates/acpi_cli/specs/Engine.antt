@@ -108,8 +108,8 @@ WritesOutput output bytes wanted (Err run.Device) = HasFailed output × ((n : �
 -- memory and the writer go; or it writes nothing, where the text is refused, a read failed or the program is
 -- out of memory.
 abbrev pub Runs : (Memory → List ℕ → Outcome → Type 0) → Device → Device → Result Outcome RunFault → Type 0
-Runs Tells input output result =
-    ((m : Memory) × (bytes : List ℕ) × (returned : Outcome) × ReadsImage input m × Tells m bytes returned × WritesOutput output bytes returned result)
+Runs Reports input output result =
+    ((m : Memory) × (bytes : List ℕ) × (returned : Outcome) × ReadsImage input m × Reports m bytes returned × WritesOutput output bytes returned result)
     ⊎ ((fault : RunFault) × (result ≡ Err fault) × ReadsInput input (Err fault) × WritesNothing output)
 
 -- the RSDP's address: the one that is given, else the one that is found
@@ -132,7 +132,7 @@ outcome_of verdict.Yes = outcome.Yes
 outcome_of (verdict.No w) = outcome.No
 
 -- a check reports the line of the verdict over the stages up to `last`, with its outcome
-pub record TellsVerdict (given : Option ℕ) (q : PolicyValue) (last : Stage) (m : Memory) (bytes : List ℕ) (returned : Outcome) : Type 0 where
+pub record ReportsVerdict (given : Option ℕ) (q : PolicyValue) (last : Stage) (m : Memory) (bytes : List ℕ) (returned : Outcome) : Type 0 where
   pub address : ℕ
   pub rsdp : IsRsdpAddress given m address
   pub reported : Verdict
@@ -141,22 +141,22 @@ pub record TellsVerdict (given : Option ℕ) (q : PolicyValue) (last : Stage) (m
   pub outcome : returned ≡ outcome_of reported
 
 -- there is no RSDP to start from
-pub record TellsNoRsdp (given : Option ℕ) (m : Memory) (bytes : List ℕ) (returned : Outcome) : Type 0 where
+pub record ReportsNoRsdp (given : Option ℕ) (m : Memory) (bytes : List ℕ) (returned : Outcome) : Type 0 where
   pub none : HasNoRsdp given m
   pub line : bytes ≡ codes "no rsdp\n"
   pub outcome : returned ≡ outcome.No
 
 -- what a check reports on an image
-abbrev pub TellsCheck : Option ℕ → PolicyValue → Stage → Memory → List ℕ → Outcome → Type 0
-TellsCheck given q last m bytes returned = TellsVerdict given q last m bytes returned ⊎ TellsNoRsdp given m bytes returned
+abbrev pub ReportsCheck : Option ℕ → PolicyValue → Stage → Memory → List ℕ → Outcome → Type 0
+ReportsCheck given q last m bytes returned = ReportsVerdict given q last m bytes returned ⊎ ReportsNoRsdp given m bytes returned
 
 -- what a search reports on an image: where it finds the RSDP, or that it finds none
-abbrev pub TellsFound : Memory → List ℕ → Outcome → Type 0
-TellsFound m bytes returned =
+abbrev pub ReportsFound : Memory → List ℕ → Outcome → Type 0
+ReportsFound m bytes returned =
     ((p : ℕ) × IsFound m p × (bytes ≡ codes "rsdp " ++ hex_text p ++ codes "\n") × (returned ≡ outcome.Yes))
     ⊎ (IsNowhere m × (bytes ≡ codes "rsdp none\n") × (returned ≡ outcome.No))
 
 -- what a job reports on an image
-abbrev pub TellsJob : Job → Memory → List ℕ → Outcome → Type 0
-TellsJob (Check given policy last) = TellsCheck given policy last
-TellsJob Find = TellsFound
+abbrev pub ReportsJob : Job → Memory → List ℕ → Outcome → Type 0
+ReportsJob (Check given policy last) = ReportsCheck given policy last
+ReportsJob Find = ReportsFound

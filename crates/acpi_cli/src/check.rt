@@ -3,7 +3,7 @@
 ghost use Rattle.std.specs.Prelude.{◌≡◌, ◌≤◌, IfOk, IfSome, IsNone};
 ghost use Rattle.acpi_base.specs.Codes.{stage_number};
 ghost use Rattle.acpi_base.specs.declared.stage.TheConstants.{BUILT};
-ghost use Rattle.acpi_cli.specs.Engine.{device, HasNoRsdp, IsRsdpAddress, Runs, TellsCheck, outcome_of};
+ghost use Rattle.acpi_cli.specs.Engine.{device, HasNoRsdp, IsRsdpAddress, Runs, ReportsCheck, outcome_of};
 
 use crate::devices::{Output, read_input, write_output};
 use crate::outcome::{Outcome, RunFault};
@@ -42,7 +42,7 @@ fn check_output(
     last: Stage,
 ) -> Result<Output, AllocError>
     requires { stage_number last ≤ BUILT }
-    ensures { IfOk result (λ output. TellsCheck given policy last image.now output.bytes.items output.outcome) }
+    ensures { IfOk result (λ output. ReportsCheck given policy last image.now output.bytes.items output.outcome) }
 {
     let Some(address) = rsdp_address(image, given) else {
         let bytes = Vec::from_slice(alloc, b"no rsdp\n")?;
@@ -73,7 +73,7 @@ pub fn run_check<R: Read, W: Write>(
     last: Stage,
 ) -> Result<Outcome, RunFault>
     requires { stage_number last ≤ BUILT }
-    ensures { Runs (TellsCheck rsdp policy last)
+    ensures { Runs (ReportsCheck rsdp policy last)
         (device R.remaining reader.old reader.new)
         (device W.contents writer.old writer.new)
         result }

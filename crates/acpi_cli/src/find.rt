@@ -1,7 +1,7 @@
 //! The engine of the command `find`.
 
 ghost use Rattle.std.specs.Prelude.{IfOk};
-ghost use Rattle.acpi_cli.specs.Engine.{device, Runs, TellsFound};
+ghost use Rattle.acpi_cli.specs.Engine.{device, Runs, ReportsFound};
 
 use crate::devices::{Output, read_input, write_output};
 use crate::outcome::{Outcome, RunFault};
@@ -12,7 +12,7 @@ use std::io::{Read, Write};
 /// What a search reports on the image.
 #[tactic(auto, unfolding(acpi_base::specs::WitnessText::hex_text))]
 fn find_output(alloc: Global, image: &Image) -> Result<Output, AllocError>
-    ensures { IfOk result (λ output. TellsFound image.now output.bytes.items output.outcome) }
+    ensures { IfOk result (λ output. ReportsFound image.now output.bytes.items output.outcome) }
 {
     let Some(address) = find_rsdp(image) else {
         let bytes = Vec::from_slice(alloc, b"rsdp none\n")?;
@@ -36,7 +36,7 @@ pub fn run_find<R: Read, W: Write>(
     reader: &mut Tally<R>,
     writer: &mut Tally<W>,
 ) -> Result<Outcome, RunFault>
-    ensures { Runs TellsFound
+    ensures { Runs ReportsFound
         (device R.remaining reader.old reader.new)
         (device W.contents writer.old writer.new)
         result }

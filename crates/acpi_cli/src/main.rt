@@ -15,7 +15,7 @@ mod words;
 ghost use Rattle.std.specs.Prelude.{◌≡◌, ◌≢◌, ◌⊎◌, IsNone, IsSome, map};
 ghost use Rattle.std.specs.String.{string_bytes};
 ghost use Rattle.acpi_cli.specs.CommandLine.{IsBuilt, asked};
-ghost use Rattle.acpi_cli.specs.Engine.{device, Runs, TellsJob};
+ghost use Rattle.acpi_cli.specs.Engine.{device, Runs, ReportsJob};
 
 use acpi_base::Tally;
 use check::run_check;
@@ -41,7 +41,7 @@ fn do_job<R: Read, W: Write>(
     job: Job,
 ) -> Result<Outcome, RunFault>
     requires { IsBuilt job }
-    ensures { Runs (TellsJob job) (device R.remaining reader.old reader.new) (device W.contents writer.old writer.new) result }
+    ensures { Runs (ReportsJob job) (device R.remaining reader.old reader.new) (device W.contents writer.old writer.new) result }
 {
     match job {
         Job::Check { rsdp, policy, last } => run_check(alloc, reader, writer, rsdp, policy, last),
