@@ -58,7 +58,7 @@ run s = record { base = s.base; bytes = s.bytes.items }
 abbrev pub runs : List Segment → List Run
 runs ss = map run ss
 
--- the place of the first segment whose run has this number as its f
+-- the place of the first segment at whose run f is a
 unfoldable pub place_where : (Run → ℕ) → ℕ → List Segment → Option ℕ
 place_where f a ss = position (λ s. f (run s) == a) ss
 

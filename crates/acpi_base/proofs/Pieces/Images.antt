@@ -42,13 +42,14 @@ same_memory m n h = same_map nat_cmp_total nat_cmp-IsAntisymmetric m n h
 pub memory_of_put : (a : ℕ) (bs : List ℕ) (old new : List Run) → Puts (run_at a bs) old new → memory_of new ≡ with_bytes (memory_of old) a bs
 memory_of_put a bs old new p = grind (arith, same_memory, byte_of_memory_of, byte_of-with_bytes)
 
--- no bytes are never refused, and change nothing
+-- no bytes are never refused
 pub no_refusal : (f : ℕ → Option ℕ) (a n : ℕ) → a < 2 ^ 64 → n ≡ 0
     → None ≡ cond (nat_lt (2 ^ 64) (a + n)) (Some PastEnd) (option_map (λ x. Twice x) (first_of f a n))
 unfolding first_of
 no_refusal f a zero l e = grind (arith, le-ltb)
 no_refusal f a (suc n) l e = absurd (omega arith)
 
+-- no bytes change nothing
 pub no_bytes : (m : Memory) (a : ℕ) (bs : List ℕ) → length bs ≡ 0 → m ≡ with_bytes m a bs
 unfolding with_bytes
 no_bytes m a [] e = refl
@@ -59,6 +60,7 @@ pub first_held_memory_of : (rs : List Run) (a n : ℕ) → first_held (memory_of
 first_held_memory_of rs a n = λ i. first_of (λ x. byte_of_memory_of rs x i) a n
 
 -- bytes that are not refused fit, and find no address held
+-- what is not refused fits, and finds nothing held
 pub fits_unless : (t : Bool) (o : Option ℕ) → cond t (Some PastEnd) (option_map (λ x. Twice x) o) ≡ None → (t ≡ false) × (o ≡ None)
 fits_unless t o e = grind arith
 

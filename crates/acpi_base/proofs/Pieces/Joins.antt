@@ -64,10 +64,9 @@ takes_run rs k h t =
     let e = split_at rs k (run_at 0 []) h in
     subst (λ u. Takes u (run_in rs k) (remove rs k)) (sym e) (takes_at (take k rs) (drop (suc k) rs) (run_in rs k) (subst IsTidy e t))
 
--- an empty run at a, which is not the f of any run, beside an address in b
+-- an empty run at a, where f is a at no run, beside an address x of b
 takes_empty : (f : Run → ℕ) (b : Run) (rs : List Run) (a x : ℕ) → ((s : Run) → held s x ≡ None → f s ≢ a → Apart (run_at a []) s) → IsFree b rs
-    → AllByRecursion (λ s. f s ≢ a) rs
-    → b.base ≤ x → x < end_of b → a ≤ end_of b → Takes rs (run_at a []) rs
+    → AllByRecursion (λ s. f s ≢ a) rs → b.base ≤ x → x < end_of b → a ≤ end_of b → Takes rs (run_at a []) rs
 takes_empty f b rs a x apart free n l h top = record {
   fits = (let fits = free.whole.fits in omega arith);
   bytes = tt;
@@ -111,16 +110,14 @@ all_append P (x ∷ xs) ys a b = (a.0, all_append P xs ys a.1 b)
 
 -- what lies apart from the runs beside b, and holds nothing of b, lies apart from the three
 apart_joined : (b l r n : Run) (rs : List Run) → end_of l ≡ b.base → r.base ≡ end_of b → n.base ≡ l.base → end_of n ≡ end_of r → ApartFrom l rs
-    → ApartFrom r rs → AllByRecursion IsWhole rs
-    → ((x : ℕ) → b.base ≤ x → x < end_of b → lookup rs x ≡ None) → ApartFrom n rs
+    → ApartFrom r rs → AllByRecursion IsWhole rs → ((x : ℕ) → b.base ≤ x → x < end_of b → lookup rs x ≡ None) → ApartFrom n rs
 apart_joined b l r n [] e f g h u v w o = tt
 apart_joined b l r n (s ∷ ss) e f g h u v w o =
     grind (arith, held_some s s.base, o s.base, apart_joined b l r n ss e f g h u.1 v.1 w.1 (λ x i j. grind (arith, o x i j)))
 
 -- b and the runs beside it, each of which may be empty, stand as one between prefix and suffix
 puts_at : (b l r : Run) (old mid prefix suffix : List Run) → IsFree b old → Takes old r mid → Takes mid l (prefix ++ suffix)
-    → ApartFrom r (prefix ++ suffix) → end_of l ≡ b.base → r.base ≡ end_of b
-    → Puts b old (prefix ++ run_at l.base (l.bytes ++ b.bytes ++ r.bytes) ∷ suffix)
+    → ApartFrom r (prefix ++ suffix) → end_of l ≡ b.base → r.base ≡ end_of b → Puts b old (prefix ++ run_at l.base (l.bytes ++ b.bytes ++ r.bytes) ∷ suffix)
 puts_at b l r old mid prefix suffix f t u a e g =
     let n : Run = run_at l.base (l.bytes ++ b.bytes ++ r.bytes) in
     let long = length-append l.bytes b.bytes in
@@ -166,7 +163,7 @@ joined rs b (Some i) None = set rs i (run_at (run_in rs i).base ((run_in rs i).b
 joined rs b None (Some j) = set rs j (run_at b.base (b.bytes ++ (run_in rs j).bytes))
 joined rs b (Some i) (Some j) = bridged rs i b.bytes j
 
--- so joined, the runs hold what they held, and b
+-- joined in this way, the runs hold what they held, and b
 puts_joined : (b : Run) (ss : List Segment) (before after : Option ℕ) → place_where end_of b.base ss ≡ before
     → place_where (λ r. r.base) (end_of b) ss ≡ after → IsFree b (runs ss) → Puts b (runs ss) (joined (runs ss) b before after)
 puts_joined b ss None None p q f =
@@ -200,7 +197,7 @@ puts_joined b ss (Some i) (Some j) p q f =
     let u = subst (λ l. Takes rest l (remove rest k)) same (takes_run rest k hk t.tidy) in
     puts_set b (run_in rs i) (run_in rs j) rs rest rest k _ hk f t u (without _ rest k hk t.apart) e g refl
 
--- and so where memory was there
+-- the same of an edit that may be out of memory
 pub puts : {T E : Type 0} (result : Result T E) (b : Run) (ss : List Segment) (new : List Run) → IsFree b (runs ss)
     → OnOk result (new ≡ joined (runs ss) b (place_where end_of b.base ss) (place_where (λ r. r.base) (end_of b) ss))
     → OnOk result (Puts b (runs ss) new)

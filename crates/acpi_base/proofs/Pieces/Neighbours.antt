@@ -25,7 +25,8 @@ unfolding place_where
 none_at f ss a e =
     let p : Segment → Bool = λ s. f (run s) == a in
     let far : length ss ≤ position_or_len p ss = grind (arith, cases_lt) in
-    let each : (k : ℕ) (d : Segment) → k < length ss → f (run (get_or ss k d)) ≢ a = λ k d h. (let no = fails_before_first p ss k d (omega arith) in grind (arith, nat_tests)) in
+    let each : (k : ℕ) (d : Segment) → k < length ss → f (run (get_or ss k d)) ≢ a =
+    λ k d h. (let no = fails_before_first p ss k d (omega arith) in grind (arith, nat_tests)) in
     recursion_from_All (λ r. f r ≢ a) (runs ss) (All-map (λ r. f r ≢ a) run ss each)
 
 -- where one is found, it is that of its run

@@ -25,7 +25,7 @@ held_none r a h = grind (arith, cases_lt, nat_tests, slice_get_past)
 pub held_at : (r : Run) (a : ℕ) → r.base ≤ a → a < end_of r → held r a ≡ Some (get_or r.bytes (a - r.base) 0)
 held_at r a l h = held_from r a l ∙ slice_get-get_or r.bytes (a - r.base) 0 (omega arith)
 
--- which is some byte
+-- and so something
 pub held_some : (r : Run) (a : ℕ) → r.base ≤ a → a < end_of r → IsSome (held r a)
 held_some r a l h = ap is_some (held_at r a l h)
 
@@ -75,13 +75,15 @@ run_of_held_outside r a n h l = grind (arith, cases_lt, held_none, run_of_none (
 pub first_of_held_above : (r : Run) (a n : ℕ) → a < r.base → r.base < a + n → 0 < length r.bytes → first_of (held r) a n ≡ Some r.base
 first_of_held_above r a n l m f = grind (arith, held_some, held_none, first_of_at (held r) a n (r.base - a))
 
+-- where the run holds a, this is the first
 pub first_of_held_within : (r : Run) (a n : ℕ) → r.base ≤ a → a < end_of r → 0 < n → first_of (held r) a n ≡ Some a
 first_of_held_within r a n l m h = grind (arith, held_some, first_of_at (held r) a n 0)
 
+-- where the run holds none of them, there is no first
 pub first_of_held_outside : (r : Run) (a n : ℕ) → (a + n ≤ r.base) ⊎ (end_of r ≤ a) → first_of (held r) a n ≡ None
 first_of_held_outside r a n l = first_of_none (held r) a n (λ k h. held_none r (a + k) (grind arith))
 
--- the three cases
+-- the first held address of a run, in each of these cases
 pub ruleset first_of_held = (first_of_held_above, first_of_held_within, first_of_held_outside)
 
 -- ---- after bytes were put in

@@ -33,7 +33,8 @@ unfolding run_of cons_both
 window_of-lookup rs a zero l h = absurd (omega arith)
 window_of-lookup [] a (suc n) l h = refl
 window_of-lookup (r ∷ rs) a (suc n) l h =
-    rw (window_of-lookup rs a (suc n) l h.1) (sym (run_of-or (held r) (lookup rs) (λ x s. grind (arith, held_inside, lookup_apart)) (λ x s. held_apart r rs x h.0 s) a n))
+    let parted = run_of-or (held r) (lookup rs) (λ x s. grind (arith, held_inside, lookup_apart)) (λ x s. held_apart r rs x h.0 s) a n in
+    rw (window_of-lookup rs a (suc n) l h.1) (sym parted)
 
 -- the least of three
 pub earlier_assoc : (x y z : Option ℕ) → earlier (earlier x y) z ≡ earlier x (earlier y z)
@@ -52,13 +53,14 @@ filled_at [] i s h e a = absurd (omega arith)
 filled_at (t ∷ ts) zero s h e a = (let whole = a.0.filled in grind arith)
 filled_at (t ∷ ts) (suc i) s h e a = filled_at ts i s (omega arith) e a.1
 
--- one step of the search for the first address that is held, and its end
+-- one step of the search for the first address that is held
 pub first_of_lookup_more : (ss : List Segment) (i : ℕ) (s : Segment) (b n : ℕ) → i < length ss → s ≡ get_or ss i s
     → first_of (lookup (runs (drop i ss))) b n ≡ earlier (first_of (held (run s)) b n) (first_of (lookup (runs (drop (i + 1) ss))) b n)
 first_of_lookup_more ss i s b n h e =
     ap (λ ts. first_of (lookup (runs ts)) b n) (drop_more ss i s h ∙ ap (λ t. t ∷ drop (i + 1) ss) (sym e))
     ∙ first_of-or (held (run s)) (lookup (runs (drop (i + 1) ss))) b n
 
+-- past the last segment, nothing is added
 pub first_of_lookup_all : (ss : List Segment) (i b n : ℕ) (x : Option ℕ) → length ss ≤ i → earlier x (first_of (lookup (runs (drop i ss))) b n) ≡ x
 first_of_lookup_all ss i b n x h = grind (arith, drop_all, first_of_none)
 
