@@ -62,7 +62,8 @@ functions() {
 }
 
 # Exported functions that need no edit: CRATE FUNCTION, and the reason. Texts that only people read belong here too.
-aside='acpi_base Image_numbers_fit states a law, and its body does nothing'
+aside='acpi_base Image_numbers_fit states a law, and its body does nothing
+acpi_base built_stages states a law, and its body does nothing'
 
 for crate in $(sed -n 's/^\([a-z_]*\):.*/\1/p' crates.txt); do
   all=$(functions "$crate")
