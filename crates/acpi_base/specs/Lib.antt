@@ -1,5 +1,6 @@
 pub mod Adding
 pub mod Codes
+pub mod Entries
 pub mod Facs
 pub mod Fadt
 pub mod Faults
