@@ -1,3 +1,4 @@
+pub mod Entries
 pub mod Facs
 pub mod Fadt
 pub mod Faults

@@ -1,6 +1,6 @@
 -- Tables that are cut into entries: the MADT, the SRAT and the PPTT. An entry's byte 0 is its type and its byte
 -- 1 its length. Offsets are from the table's start; `first` is the first entry's place.
-use Rattle.std.specs.Prelude.{◌≡◌, ℕ, zero, suc, ◌+◌, ◌<◌, ◌≤◌, Bool, List, [], ◌∷◌, length, take, drop, map, slice_index, slice_range, Option, Some, None, nat_lt, nat_le, ◌==◌, ◌&&◌, if◌then◌else◌, ◌↔◌, All, Contains, sum_by, flat_map}
+use Rattle.std.specs.Prelude.{◌≡◌, ℕ, zero, suc, ◌+◌, ◌<◌, ◌≤◌, Bool, List, [], ◌∷◌, length, take, drop, map, slice_index, slice_range, Option, Some, None, nat_lt, nat_le, ◌==◌, ◌&&◌, if◌then◌else◌, ◌⊎◌, ◌↔◌, All, Contains, sum_by, flat_map}
 use Rattle.std.specs.Option.{option_map_or}
 
 -- an entry's bytes: at least two, the second of which is their count
@@ -54,6 +54,10 @@ said_by read entries = map (λ s. record { offset = s.offset; entry = read s.ent
 abbrev pub Stands : {E : Type 0} → List (Standing E) → ℕ → E → Type 0
 Stands entries o e = Contains entries (record { offset = o; entry = e })
 
+-- P of an entry that stands at the offset o
+abbrev pub StandsWith : {E : Type 0} → List (Standing E) → ℕ → (E → Type 0) → Type 0
+StandsWith {E} entries o P = (e : E) × Stands entries o e × P e
+
 -- whether an entry's bytes have this type and this length
 unfoldable pub has_form : List ℕ → ℕ → ℕ → Bool
 has_form e type size = (slice_index e 0 == type) && (length e == size)
@@ -64,6 +68,31 @@ pub record IsEntryOf {V : Type 0} (type size : ℕ) (read : List ℕ → V) (e :
   pub typed : slice_index e 0 ≡ type
   pub said : slice_index e 1 ≡ size
   pub value : read e ≡ v
+
+-- numbers that a fault does not use are 0
+abbrev pub AreUnused : ℕ → ℕ → Type 0
+AreUnused other point = (other ≡ 0) × (point ≡ 0)
+
+-- ---- kinds of entries
+
+-- a kind of entry: its type, its length in bytes, and what an entry of the kind says
+pub record Kind (E : Type 0) : Type 0 where
+  pub type : ℕ
+  pub size : ℕ
+  pub read : List ℕ → E
+
+abbrev pub kind : {E : Type 0} → ℕ → ℕ → (List ℕ → E) → Kind E
+kind type size read = record { type = type; size = size; read = read }
+
+-- what an entry says: as the kind with its type and length does, and where there is none as `opaque` does
+abbrev pub read_by : {E : Type 0} → List (Kind E) → (List ℕ → E) → List ℕ → E
+read_by [] opaque e = opaque e
+read_by (k ∷ kinds) opaque e = if has_form e k.type k.size then k.read e else read_by kinds opaque e
+
+-- one of the kinds has this type
+abbrev pub IsTypeOf : {E : Type 0} → List (Kind E) → ℕ → Type 0
+IsTypeOf [] type = ⊥
+IsTypeOf (k ∷ kinds) type = (type ≡ k.type) ⊎ IsTypeOf kinds type
 
 -- ---- the same as relations, and the laws that tie the two together
 

@@ -1,4 +1,5 @@
 pub mod Adding
+pub mod Clashes
 pub mod Codes
 pub mod Entries
 pub mod Facs
@@ -10,6 +11,7 @@ pub mod ImageText
 pub mod Laws
 pub mod Layouts
 pub mod Listed
+pub mod Madt
 pub mod Memory
 pub mod Number
 pub mod Policy
@@ -18,6 +20,7 @@ pub mod Root
 pub mod Rsdp
 pub mod Segments
 pub mod Signature
+pub mod Srat
 pub mod Statements
 pub mod Tables
 pub mod Tally
