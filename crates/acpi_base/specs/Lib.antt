@@ -2,6 +2,7 @@ pub mod Adding
 pub mod Clashes
 pub mod Codes
 pub mod Entries
+pub mod Examples
 pub mod Facs
 pub mod Fadt
 pub mod Faults

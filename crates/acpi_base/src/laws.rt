@@ -2,7 +2,9 @@
 
 ghost use Rattle.std.specs.Prelude.{◌≡◌, ℕ, ◌↔◌, List, Some, IsSome};
 ghost use Rattle.acpi_base.specs.Memory.{Memory, bytes_at, Has, AreBytes};
+ghost use Rattle.acpi_base.specs.Policy.{PolicyValue};
 ghost use Rattle.acpi_base.specs.Entries.{OneCut, EntriesStand, CutIsStart, NoCutFault, CutsWhereAllStand};
+ghost use Rattle.acpi_base.specs.Examples.{AreMadtContents, AreSratContents, AreMadtFaults, AreSratFaults, HasNoMadtFault, HasNoSratFault};
 ghost use Rattle.acpi_base.specs.Laws.{FaultsExcludeClean, FaultsFit, CleanOrFaulty, CleanOrFirstFault, OneFirstFault, OneVerdict, RootsListSlots};
 ghost use Rattle.acpi_base.specs.TextLaws.{RunReadsText, RunReadsPrefix, RunStopsAtFaults, RunGoesOn, PrefixDecides, TextMeans, TextOrFault, NeverBoth, OneImage, OneTextFault, RefusalsAreOwn, LinesMean};
 
@@ -97,4 +99,15 @@ pub fn entries_stand()
     ensures cut { CutIsStart }
     ensures filled { NoCutFault }
     ensures all { CutsWhereAllStand }
+{}
+
+/// Examples of the MADT and the SRAT: what the bytes of small tables say, a fault of each kind, and none of a sound
+/// table.
+pub fn madt_and_srat_examples()
+    ensures madt { AreMadtContents }
+    ensures srat { AreSratContents }
+    ensures madt_faults { (q : PolicyValue) → AreMadtFaults q }
+    ensures srat_faults { AreSratFaults }
+    ensures sound_madt { (q : PolicyValue) → HasNoMadtFault q }
+    ensures sound_srat { HasNoSratFault }
 {}
