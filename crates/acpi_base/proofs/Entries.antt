@@ -29,12 +29,12 @@ first_says : (left e : List ℕ) → first_entry left ≡ Some e → IsFirst lef
 unfolding first_entry
 first_says left e is =
     let parts = cond_some _ _ _ is in
-    let count : slice_index left 1 ≤ length left → length e ≡ slice_index left 1 = λ most. sym (ap length parts.1) ∙ length-take-le (slice_index left 1) left most in
-    let said : 2 ≤ slice_index left 1 → slice_index e 1 ≡ slice_index left 1 = λ least. ap (λ (l : List ℕ). slice_index l 1) (sym parts.1) ∙ get_or-take (slice_index left 1) left 1 0 (omega arith) in
+    let count = length-take-le (slice_index left 1) left in
+    let said = get_or-take (slice_index left 1) left 1 0 in
     record {
-      entry = record { least = grind (arith, nat_tests); said = grind (arith, nat_tests) };
-      fits = grind (arith, nat_tests);
-      run = grind (arith, nat_tests);
+      entry = record { least = grind (arith, nat_tests, count); said = grind (arith, nat_tests, count, said) };
+      fits = grind (arith, nat_tests, count);
+      run = grind (arith, nat_tests, count);
     }
 
 nothing_at_end : first_entry [] ≡ None
@@ -55,12 +55,11 @@ Path (e ∷ es) left more = (first_entry left ≡ Some e) × Path es (drop (leng
 path_of : (es : List (List ℕ)) (left more : List ℕ) → AllByRecursion IsEntry es → joined es ++ more ≡ left → Path es left more
 path_of [] left more each is = sym is
 path_of (e ∷ es) left more each is =
-    let rest : List ℕ = joined es ++ more in
-    let begins : e ++ rest ≡ left = sym (append_assoc e (joined es) more) ∙ is in
-    let run : take (length e) left ≡ e = ap (take (length e)) (sym begins) ∙ take_at e rest (length e) refl in
-    let behind : drop (length e) left ≡ rest = ap (drop (length e)) (sym begins) ∙ drop_at e rest (length e) refl in
-    let count : length e + length rest ≡ length left = sym (length-append e rest) ∙ ap length begins in
-    (first_is left e (record { entry = each.0; fits = omega arith; run = run }), path_of es (drop (length e) left) more each.1 (sym behind))
+    let begins : e ++ (joined es ++ more) ≡ left = sym (append_assoc e (joined es) more) ∙ is in
+    let run : take (length e) left ≡ e = grind (arith, begins, take_at e (joined es ++ more) (length e) refl) in
+    let behind : joined es ++ more ≡ drop (length e) left = grind (arith, begins, drop_at e (joined es ++ more) (length e) refl) in
+    let fits : length e ≤ length left = grind (arith, begins, length-append) in
+    (first_is left e (record { entry = each.0; fits = fits; run = run }), path_of es (drop (length e) left) more each.1 behind)
 
 -- and the other way round
 record IsJoined (es : List (List ℕ)) (left more : List ℕ) : Type 0 where
@@ -74,11 +73,15 @@ joined_of (e ∷ es) left more path =
     let rest = joined_of es (drop (length e) left) more path.1 in
     record {
       each = (first.entry, rest.each);
-      is = append_assoc e (joined es) more ∙ ap (λ (l : List ℕ). e ++ l) rest.is ∙ ap (λ (l : List ℕ). l ++ drop (length e) left) (sym first.run) ∙ take-append-drop (length e) left;
+      is = grind (arith, append_assoc e (joined es) more, rest.is, first.run, take-append-drop (length e) left);
     }
 
 path_length : (es : List (List ℕ)) (left more : List ℕ) → Path es left more → length (joined es) + length more ≡ length left
-path_length es left more path = sym (length-append (joined es) more) ∙ ap length (joined_of es left more path).is
+path_length es left more path = grind (arith, length-append, (joined_of es left more path).is)
+
+-- a cut is a path to the end
+cut_path : (body : List ℕ) (es : List (List ℕ)) → IsCut body es → Path es body []
+cut_path body es cut = path_of es body [] (recursion_from_All IsEntry es cut.each) (append-nil (joined es) ∙ cut.joined)
 
 -- two paths behind which no entry stands are one
 one_path : (es ds : List (List ℕ)) (left more rest : List ℕ) → Path es left more → Path ds left rest → first_entry more ≡ None → first_entry rest ≡ None → es ≡ ds
@@ -169,14 +172,14 @@ last_of (suc n) offset left enough =
 
 size_of : (xs : List (Standing (List ℕ))) → sum_by (λ s. length s.entry) xs ≡ length (joined (bytes_of xs))
 size_of [] = refl
-size_of (x ∷ xs) = sum_by-cons (λ (s : Standing (List ℕ)). length s.entry) x xs ∙ ap (λ (k : ℕ). length x.entry + k) (size_of xs) ∙ sym (length-append x.entry (joined (bytes_of xs)))
+size_of (x ∷ xs) = grind (arith, sum_by-cons (λ (s : Standing (List ℕ)). length s.entry) x xs, length-append, size_of xs)
 
 -- ---- starts
 
 -- what stands behind a path stands in the table
 behind_is : (first : ℕ) (whole : List ℕ) (es : List (List ℕ)) (more : List ℕ) → Path es (drop first whole) more → drop (first + length (joined es)) whole ≡ more
 behind_is first whole es more path =
-    sym (drop-drop (length (joined es)) first whole) ∙ ap (drop (length (joined es))) (sym (joined_of es (drop first whole) more path).is) ∙ drop_at (joined es) more (length (joined es)) refl
+    grind (arith, drop-drop (length (joined es)) first whole, (joined_of es (drop first whole) more path).is, drop_at (joined es) more (length (joined es)) refl)
 
 -- a path leads to each start
 record IsReached (first : ℕ) (whole : List ℕ) (o : ℕ) (es : List (List ℕ)) : Type 0 where
@@ -187,33 +190,33 @@ reached : (first : ℕ) (whole : List ℕ) (o : ℕ) (s : IsStart first whole o)
 reached first whole o s =
     let from = s.from in
     let below = s.below in
-    let place : first + (o - first) ≡ o = omega arith in
-    let behind : drop (o - first) (drop first whole) ≡ drop o whole = drop-drop (o - first) first whole ∙ ap (λ (k : ℕ). drop k whole) place in
-    let is : joined s.es ++ drop o whole ≡ drop first whole = ap (λ (l : List ℕ). l ++ drop o whole) s.cut.joined ∙ ap (λ (l : List ℕ). take (o - first) (drop first whole) ++ l) (sym behind) ∙ take-append-drop (o - first) (drop first whole) in
-    let count : length (joined s.es) ≡ o - first = ap length s.cut.joined ∙ length-take-le (o - first) (drop first whole) (omega (arith, length-drop first whole)) in
-    record { path = path_of s.es (drop first whole) (drop o whole) (recursion_from_All IsEntry s.es s.cut.each) is; place = omega arith }
+    let is : joined s.es ++ drop o whole ≡ drop first whole = grind (arith, s.cut.joined, drop-drop (o - first) first whole, take-append-drop (o - first) (drop first whole)) in
+    let path = path_of s.es (drop first whole) (drop o whole) (recursion_from_All IsEntry s.es s.cut.each) is in
+    record { path = path; place = omega (arith, path_length s.es (drop first whole) (drop o whole) path, length-drop o whole, length-drop first whole) }
 
 -- and where a path leads to something, there is a start
 start_at : (first : ℕ) (whole : List ℕ) (es : List (List ℕ)) (more : List ℕ) → Path es (drop first whole) more → 0 < length more → IsStart first whole (first + length (joined es))
 start_at first whole es more path some =
     let is = joined_of es (drop first whole) more path in
     let count = path_length es (drop first whole) more path in
-    let size : (first + length (joined es)) - first ≡ length (joined es) = omega arith in
-    let run : take ((first + length (joined es)) - first) (drop first whole) ≡ joined es = ap (λ (k : ℕ). take k (drop first whole)) size ∙ ap (take (length (joined es))) (sym is.is) ∙ take_at (joined es) more (length (joined es)) refl in
+    let run : take ((first + length (joined es)) - first) (drop first whole) ≡ joined es = grind (arith, is.is, take_at (joined es) more (length (joined es)) refl) in
     record { from = omega arith; below = omega (arith, length-drop first whole); es = es; cut = record { each = All-from_recursion IsEntry es is.each; joined = sym run } }
 
 -- an entry stands at a start exactly where it is the first there
 stands_first : (first : ℕ) (whole : List ℕ) (o : ℕ) (e : List ℕ) → StandsAt first whole o e → first_entry (drop o whole) ≡ Some e
 stands_first first whole o e s =
-    let size : (o + length e) - o ≡ length e = omega arith in
-    let run : take (length e) (drop o whole) ≡ e = ap (λ (k : ℕ). take k (drop o whole)) (sym size) ∙ s.run in
+    let run : take (length e) (drop o whole) ≡ e = grind (arith, s.run) in
     first_is (drop o whole) e (record { entry = s.entry; fits = omega (arith, length-take (length e) (drop o whole), ap length run); run = run })
 
 first_stands : (first : ℕ) (whole : List ℕ) (o : ℕ) (e : List ℕ) → IsStart first whole o → first_entry (drop o whole) ≡ Some e → StandsAt first whole o e
 first_stands first whole o e start is =
     let here = first_says (drop o whole) e is in
-    let size : (o + length e) - o ≡ length e = omega arith in
-    record { start = start; entry = here.entry; run = ap (λ (k : ℕ). take k (drop o whole)) size ∙ here.run }
+    record { start = start; entry = here.entry; run = grind (arith, here.run) }
+
+-- at a start an entry stands, or none
+stands_or_none : (first : ℕ) (whole : List ℕ) (o : ℕ) → IsStart first whole o → ((e : List ℕ) × StandsAt first whole o e) ⊎ (first_entry (drop o whole) ≡ None)
+stands_or_none first whole o start =
+    elim (cases_Option (first_entry (drop o whole))) [ inl (e, is) ↦ inl (e, first_stands first whole o e start is) | inr none ↦ inr none ]
 
 -- ---- how the entries end
 
@@ -225,7 +228,7 @@ cut_cases : (first : ℕ) (whole : List ℕ)
     → ((end_of_entries first whole < length whole) → cut_of first whole ≡ Some (end_of_entries first whole))
     × ((length whole ≤ end_of_entries first whole) → cut_of first whole ≡ None)
 unfolding cut_of
-cut_cases first whole = (λ less. cond-true _ _ _ (lt-ltb _ _ less), λ most. cond-false _ _ _ (le-ltb _ _ most))
+cut_cases first whole = (λ less. grind (arith, nat_tests), λ most. grind (arith, nat_tests))
 
 -- behind all entries there is a start at which none stands, or nothing
 ends : (first : ℕ) (whole : List ℕ)
@@ -246,7 +249,7 @@ ends first whole =
           inl (start, ap first_entry behind ∙ last.none, (cut_cases first whole).0 start.below)
       | inr nothing ↦
           let nil : last.more ≡ [] = nil_from_length last.more (omega arith) in
-          let filled : joined es ≡ drop first whole = sym (append-nil (joined es)) ∙ ap (λ (l : List ℕ). joined es ++ l) (sym nil) ∙ is.is in
+          let filled : joined es ≡ drop first whole = grind (arith, nil, is.is, append-nil (joined es)) in
           let most : length whole ≤ end = omega (arith, length-drop first whole) in
           inr (record { each = All-from_recursion IsEntry es is.each; joined = filled }, (cut_cases first whole).1 most)
     ]
@@ -256,94 +259,63 @@ one_end : (first : ℕ) (whole : List ℕ) (o p : ℕ) → IsStart first whole o
 one_end first whole o p s none t nothing =
     let one = reached first whole o s in
     let other = reached first whole p t in
-    let same = one_path s.es t.es (drop first whole) (drop o whole) (drop p whole) one.path other.path none nothing in
-    one.place ∙ ap (λ (es : List (List ℕ)). first + length (joined es)) same ∙ sym other.place
+    grind (arith, one.place, other.place, one_path s.es t.es (drop first whole) (drop o whole) (drop p whole) one.path other.path none nothing)
 
 -- and at none where the body has a cut
 cut_ends : (first : ℕ) (whole : List ℕ) (es : List (List ℕ)) (o : ℕ) → IsCut (drop first whole) es → IsStart first whole o → first_entry (drop o whole) ≡ None → ⊥
 cut_ends first whole es o cut s none =
     let start = reached first whole o s in
-    let path = path_of es (drop first whole) [] (recursion_from_All IsEntry es cut.each) (append-nil (joined es) ∙ cut.joined) in
-    let same : length (joined s.es) ≡ length (joined es) = ap (λ (ds : List (List ℕ)). length (joined ds)) (one_path s.es es (drop first whole) (drop o whole) [] start.path path none nothing_at_end) in
-    let count = path_length es (drop first whole) [] path in
-    let place = start.place in
-    let below = s.below in
-    omega (arith, length-drop first whole)
+    let path = cut_path (drop first whole) es cut in
+    let same = one_path s.es es (drop first whole) (drop o whole) [] start.path path none nothing_at_end in
+    grind (arith, same, start.place, s.below, path_length es (drop first whole) [] path, length-drop first whole)
 
 -- ---- the laws
 
 pub one_cut : OneCut
-one_cut body es others cut other = one_path es others body [] [] (of es cut) (of others other) nothing_at_end nothing_at_end
-  where
-    of : (ds : List (List ℕ)) → IsCut body ds → Path ds body []
-    of ds c = path_of ds body [] (recursion_from_All IsEntry ds c.each) (append-nil (joined ds) ∙ c.joined)
+one_cut body es others cut other = one_path es others body [] [] (cut_path body es cut) (cut_path body others other) nothing_at_end nothing_at_end
 
 pub entries_stand : EntriesStand
 unfolding entries_of
-entries_stand first whole o e = (there, back)
-  where
-    there : StandsAt first whole o e → Stands (entries_from (length whole) first (drop first whole)) o e
-    there s =
-        let start = reached first whole o s.start in
-        listed s.start.es (length whole) first (drop first whole) (drop o whole) o e start.path (stands_first first whole o e s) (omega (arith, length-drop first whole)) start.place
-
-    back : Stands (entries_from (length whole) first (drop first whole)) o e → StandsAt first whole o e
-    back stands =
-        let found = behind_path (length whole) first (drop first whole) o e stands in
-        let here = first_says found.more e found.here in
-        let least = here.entry.least in
-        let fits = here.fits in
-        let start = start_at first whole found.es found.more found.path (omega arith) in
-        let behind = behind_is first whole found.es found.more found.path in
-        subst (λ (k : ℕ). StandsAt first whole k e) (sym found.place) (first_stands first whole _ e start (ap first_entry behind ∙ found.here))
+entries_stand first whole o e = (
+  λ s. let start = reached first whole o s.start in
+      listed s.start.es (length whole) first (drop first whole) (drop o whole) o e start.path (stands_first first whole o e s) (omega (arith, length-drop first whole)) start.place,
+  λ stands. let found = behind_path (length whole) first (drop first whole) o e stands in
+      let here = first_says found.more e found.here in
+      let start = start_at first whole found.es found.more found.path (omega (arith, here.entry.least, here.fits)) in
+      let behind = behind_is first whole found.es found.more found.path in
+      subst (λ (k : ℕ). StandsAt first whole k e) (sym found.place) (first_stands first whole _ e start (ap first_entry behind ∙ found.here)),
+)
 
 pub cut_is_start : CutIsStart
-cut_is_start first whole o = (there, back)
-  where
-    there : cut_of first whole ≡ Some o → IsStart first whole o × ((e : List ℕ) → ¬ StandsAt first whole o e)
-    there is =
+cut_is_start first whole o = (
+  λ is. elim (ends first whole) [
+    | inr (_, none) ↦ absurd (none_and_some none is)
+    | inl (start, ended, cut) ↦
+        let same : end_of_entries first whole ≡ o = same_value _ _ cut is in
+        let none : first_entry (drop o whole) ≡ None = ap (λ (k : ℕ). first_entry (drop k whole)) (sym same) ∙ ended in
+        (subst (IsStart first whole) same start, λ e s. none_and_some none (stands_first first whole o e s))
+  ],
+  λ here. elim (stands_or_none first whole o here.0) [
+    | inl (e, s) ↦ absurd (here.1 e s)
+    | inr none ↦
         elim (ends first whole) [
-          | inr (_, none) ↦ absurd (none_and_some none is)
-          | inl (start, none, cut) ↦
-              let same : end_of_entries first whole ≡ o = same_value _ _ cut is in
-              let nothing : first_entry (drop o whole) ≡ None = ap (λ (k : ℕ). first_entry (drop k whole)) (sym same) ∙ none in
-              (subst (IsStart first whole) same start, λ e s. none_and_some nothing (stands_first first whole o e s))
+          | inl (start, ended, cut) ↦ cut ∙ ap Some (one_end first whole _ o start ended here.0 none)
+          | inr (cut, _) ↦ absurd (cut_ends first whole _ o cut here.0 none)
         ]
-
-    back : IsStart first whole o × ((e : List ℕ) → ¬ StandsAt first whole o e) → cut_of first whole ≡ Some o
-    back (s, nothing) =
-        let none : first_entry (drop o whole) ≡ None = not_there s nothing in
-        elim (ends first whole) [
-          | inl (start, ended, cut) ↦ cut ∙ ap Some (one_end first whole _ o start ended s none)
-          | inr (cut, _) ↦ absurd (cut_ends first whole _ o cut s none)
-        ]
-      where
-        not_there : IsStart first whole o → ((e : List ℕ) → ¬ StandsAt first whole o e) → first_entry (drop o whole) ≡ None
-        not_there s nothing =
-            elim (cases_Option (first_entry (drop o whole))) [ inl (e, is) ↦ absurd (nothing e (first_stands first whole o e s is)) | inr none ↦ none ]
+  ],
+)
 
 pub no_cut_fault : NoCutFault
-no_cut_fault first whole = (there, back)
-  where
-    there : cut_of first whole ≡ None → (es : List (List ℕ)) × IsCut (drop first whole) es
-    there is = elim (ends first whole) [ inl (_, _, some) ↦ absurd (none_and_some is some) | inr (cut, _) ↦ (es_of first whole, cut) ]
-
-    back : (es : List (List ℕ)) × IsCut (drop first whole) es → cut_of first whole ≡ None
-    back (es, cut) = elim (ends first whole) [ inl (start, ended, _) ↦ absurd (cut_ends first whole es _ cut start ended) | inr (_, none) ↦ none ]
+no_cut_fault first whole = (
+  λ is. elim (ends first whole) [ inl (_, _, some) ↦ absurd (none_and_some is some) | inr (cut, _) ↦ (es_of first whole, cut) ],
+  λ cut. elim (ends first whole) [ inl (start, ended, _) ↦ absurd (cut_ends first whole cut.0 _ cut.1 start ended) | inr (_, none) ↦ none ],
+)
 
 pub cuts_where_all_stand : CutsWhereAllStand
-cuts_where_all_stand first whole = (there, back)
-  where
-    there : (es : List (List ℕ)) × IsCut (drop first whole) es → (o : ℕ) → IsStart first whole o → (e : List ℕ) × StandsAt first whole o e
-    there (es, cut) o s =
-        elim (cases_Option (first_entry (drop o whole))) [
-          | inl (e, is) ↦ (e, first_stands first whole o e s is)
-          | inr none ↦ absurd (cut_ends first whole es o cut s none)
-        ]
-
-    back : ((o : ℕ) → IsStart first whole o → (e : List ℕ) × StandsAt first whole o e) → (es : List (List ℕ)) × IsCut (drop first whole) es
-    back stand =
-        elim (ends first whole) [
-          | inr (cut, _) ↦ (es_of first whole, cut)
-          | inl (start, ended, _) ↦ (let here = stand _ start in absurd (none_and_some ended (stands_first first whole _ here.0 here.1)))
-        ]
+cuts_where_all_stand first whole = (
+  λ cut o s. elim (stands_or_none first whole o s) [ inl stands ↦ stands | inr none ↦ absurd (cut_ends first whole cut.0 o cut.1 s none) ],
+  λ stand. elim (ends first whole) [
+    | inr (cut, _) ↦ (es_of first whole, cut)
+    | inl (start, ended, _) ↦ (let here = stand _ start in absurd (none_and_some ended (stands_first first whole _ here.0 here.1)))
+  ],
+)
