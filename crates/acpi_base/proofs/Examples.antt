@@ -5,26 +5,26 @@ use Rattle.std.specs.List.{AllByRecursion}
 use Rattle.std.proofs.lemmas.List.Elements.{All-from_recursion, All-contains}
 use Rattle.std.proofs.lemmas.Option.{none-some}
 use Rattle.std.proofs.lemmas.Bool.{both_ways}
-use Rattle.acpi_base.specs.Number.{field, has_bit}
+use Rattle.acpi_base.specs.Number.{field, byte_sum, has_bit}
 use Rattle.acpi_base.specs.Policy.{PolicyValue, inputs_of}
 use Rattle.acpi_base.specs.Listed.{madt_signature, srat_signature}
 use Rattle.acpi_base.specs.Entries.{Standing, StandsWith, first_entry, entries_from, entries_of, end_of_entries, cut_of, has_form}
 use Rattle.acpi_base.specs.Madt.{MadtEntry, MadtContents, madt_entry, madt_contents, MadtFault, MadtEntryFault, IsAddressOverride, InterruptFault, OverrideFault}
 use Rattle.acpi_base.specs.Clashes.{IsClash}
 use Rattle.acpi_base.specs.Srat.{SratEntry, MemoryValue, CoversFrom, Covers, IsAny, IsHotPluggable, IsNotHotPluggable, SratContents, srat_entry, srat_contents, SratFault, SratEntryFault, RangeFault}
-use Rattle.acpi_base.specs.Examples.{AreMadtContents, AreSratContents, AreMadtFaults, AreSratFaults, HasNoMadtFault, HasNoSratFault, table, kinds_bytes, io_apics_bytes, cut_bytes, overrides_bytes, faulty_bytes, processors_bytes, ranges_bytes, three_bytes, hot_bytes, wrong_bytes, kinds, io_apics, cut_madt, overrides, faulty, processors, ranges, three, hot, wrong}
+use Rattle.acpi_base.specs.Examples.{AreMadtContents, AreSratContents, AreMadtFaults, AreSratFaults, IsSoundExample, example_madts, example_srats, HasNoMadtFault, HasNoSratFault, table, all_kinds_bytes, two_io_apics_bytes, cut_bytes, two_overrides_bytes, faulty_madt_bytes, two_processors_bytes, four_ranges_bytes, overlapping_bytes, hot_ranges_bytes, faulty_srat_bytes, all_kinds, two_io_apics, cut_madt, two_overrides, faulty_madt, two_processors, four_ranges, overlapping, hot_ranges, faulty_srat}
 use Rattle.acpi_base.specs.declared.policy.HotPlug.{HotPlug}
 use Rattle.acpi_base.specs.declared.policy.HotPlug.TheVariants.{Counted, Apart}
 use Rattle.acpi_base.specs.declared.code.Code.{Code}
 use Rattle.acpi_base.specs.declared.code.Code.TheVariants as code
 
 pub madt_said : AreMadtContents
-unfolding first_entry entries_from entries_of end_of_entries cut_of has_form field madt_entry madt_contents
-madt_said = record { kinds_say = refl; io_apics_say = refl; cut_says = refl; overrides_say = refl; faulty_says = refl }
+unfolding first_entry entries_from entries_of end_of_entries cut_of has_form field byte_sum madt_entry madt_contents
+madt_said = record { sound = All-from_recursion IsSoundExample example_madts ((refl, refl), ((refl, refl), ((refl, refl), ((refl, refl), ((refl, refl), tt))))); kinds_say = refl; io_apics_say = refl; cut_says = refl; overrides_say = refl; faulty_says = refl }
 
 pub srat_said : AreSratContents
-unfolding first_entry entries_from entries_of end_of_entries cut_of has_form field srat_entry srat_contents
-srat_said = record { processors_say = refl; ranges_say = refl; three_say = refl; hot_say = refl; wrong_says = refl }
+unfolding first_entry entries_from entries_of end_of_entries cut_of has_form field byte_sum srat_entry srat_contents
+srat_said = record { sound = All-from_recursion IsSoundExample example_srats ((refl, refl), ((refl, refl), ((refl, refl), ((refl, refl), ((refl, refl), tt))))); processors_say = refl; ranges_say = refl; overlapping_say = refl; hot_ranges_say = refl; faulty_says = refl }
 
 short_madt : (q : PolicyValue) → MadtFault q (madt_contents (table madt_signature 40 72 (0 ∷ 0 ∷ 0xe0 ∷ 0xfe ∷ []))) code.MadtShort 0 0 0
 unfolding madt_contents
@@ -51,11 +51,11 @@ madt_faults q = record {
         other_holds = (_, (1, omega arith, refl), (refl, omega arith, omega arith));
         two = λ same. omega arith;
       });
-  overrides = subst (λ (c : MadtContents). OverrideFault c code.OverrideClash 0x36 0x2c 9) (sym madt_said.overrides_say)
+  sources = subst (λ (c : MadtContents). OverrideFault c code.OverrideClash 0x36 0x2c 9) (sym madt_said.overrides_say)
       (20, 9, (_, (1, omega arith, refl), (refl, refl)), (_, (0, omega arith, refl), (refl, refl)), omega arith, λ same. omega arith);
 }
   where
-    of_faulty : (fault : Code) (at other : ℕ) → MadtFault q faulty fault at other 0 → MadtFault q (madt_contents faulty_bytes) fault at other 0
+    of_faulty : (fault : Code) (at other : ℕ) → MadtFault q faulty_madt fault at other 0 → MadtFault q (madt_contents faulty_madt_bytes) fault at other 0
     of_faulty fault at other = subst (λ (c : MadtContents). MadtFault q c fault at other 0) (sym madt_said.faulty_says)
 
 -- ---- overlaps
@@ -66,30 +66,30 @@ clash c s t one other two = record { s = s; t = t; one_holds = one; other_holds 
 exchanged : (P : MemoryValue → Type 0) (c : SratContents) {at other point : ℕ} → IsClash (Covers P c) at other point → IsClash (Covers P c) other at point
 exchanged P c it = clash {P = P} c it.t it.s it.other_holds it.one_holds (λ same. it.two (sym same))
 
-any_overlap : IsClash (Covers IsAny ranges) 0x80 0xa8 0x3fffffff
+any_overlap : IsClash (Covers IsAny four_ranges) 0x80 0xa8 0x3fffffff
 unfolding has_bit
 any_overlap =
-    clash ranges 0x100000 0x3fffffff (_, (2, omega arith, refl), (refl, tt, refl, omega arith, omega arith)) (_, (3, omega arith, refl), (refl, tt, refl, omega arith, omega arith)) (λ same. omega arith)
+    clash four_ranges 0x100000 0x3fffffff (_, (2, omega arith, refl), (refl, tt, refl, omega arith, omega arith)) (_, (3, omega arith, refl), (refl, tt, refl, omega arith, omega arith)) (λ same. omega arith)
 
-plain_overlap : IsClash (Covers IsNotHotPluggable ranges) 0x80 0xa8 0x3fffffff
+plain_overlap : IsClash (Covers IsNotHotPluggable four_ranges) 0x80 0xa8 0x3fffffff
 unfolding has_bit
 plain_overlap =
-    clash ranges 0x100000 0x3fffffff (_, (2, omega arith, refl), (refl, refl, refl, omega arith, omega arith)) (_, (3, omega arith, refl), (refl, refl, refl, omega arith, omega arith)) (λ same. omega arith)
+    clash four_ranges 0x100000 0x3fffffff (_, (2, omega arith, refl), (refl, refl, refl, omega arith, omega arith)) (_, (3, omega arith, refl), (refl, refl, refl, omega arith, omega arith)) (λ same. omega arith)
 
-three_overlap : RangeFault Counted three code.Overlap 0x58 0x30 0x1000
+first_overlap : RangeFault Counted overlapping code.Overlap 0x58 0x30 0x1000
 unfolding has_bit
-three_overlap =
-    (omega arith, clash three 0 0x1000 (_, (1, omega arith, refl), (refl, tt, refl, omega arith, omega arith)) (_, (0, omega arith, refl), (refl, tt, refl, omega arith, omega arith)) (λ same. omega arith))
+first_overlap =
+    (omega arith, clash overlapping 0 0x1000 (_, (1, omega arith, refl), (refl, tt, refl, omega arith, omega arith)) (_, (0, omega arith, refl), (refl, tt, refl, omega arith, omega arith)) (λ same. omega arith))
 
-counted_overlap : RangeFault Counted hot code.Overlap 0x30 0x80 0
+counted_overlap : RangeFault Counted hot_ranges code.Overlap 0x30 0x80 0
 unfolding has_bit
 counted_overlap =
-    (omega arith, clash hot 0 0 (_, (0, omega arith, refl), (refl, tt, refl, omega arith, omega arith)) (_, (2, omega arith, refl), (refl, tt, refl, omega arith, omega arith)) (λ same. omega arith))
+    (omega arith, clash hot_ranges 0 0 (_, (0, omega arith, refl), (refl, tt, refl, omega arith, omega arith)) (_, (2, omega arith, refl), (refl, tt, refl, omega arith, omega arith)) (λ same. omega arith))
 
-apart_overlap : RangeFault Apart hot code.Overlap 0x80 0xa8 0
+apart_overlap : RangeFault Apart hot_ranges code.Overlap 0x80 0xa8 0
 unfolding has_bit
 apart_overlap =
-    (omega arith, inl (clash hot 0 0 (_, (2, omega arith, refl), (refl, refl, refl, omega arith, omega arith)) (_, (3, omega arith, refl), (refl, refl, refl, omega arith, omega arith)) (λ same. omega arith)))
+    (omega arith, inl (clash hot_ranges 0 0 (_, (2, omega arith, refl), (refl, refl, refl, omega arith, omega arith)) (_, (3, omega arith, refl), (refl, refl, refl, omega arith, omega arith)) (λ same. omega arith)))
 
 -- ---- what none of some entries is
 
@@ -99,44 +99,44 @@ none_stands {E} entries o P none (e, stands, holds) = All-contains (λ (s : Stan
 never : {A : Type 0} → ⊥ → A
 never h = absurd h
 
-mixed_overlap : ¬ RangeFault Apart hot code.Overlap 0x30 0x80 0
+mixed_overlap : ¬ RangeFault Apart hot_ranges code.Overlap 0x30 0x80 0
 unfolding has_bit
-mixed_overlap (fits, inl it) = none_stands hot.entries 0x30 (λ o e. (o ≡ 0x30) × CoversFrom IsNotHotPluggable it.s 0 e) (λ h. both_ways _ h.1.1 refl, (λ h. both_ways _ h.1.1 refl, (λ h. omega (arith, h.0), (λ h. omega (arith, h.0), tt)))) (it.one_holds.0, it.one_holds.1, (refl, it.one_holds.2))
-mixed_overlap (fits, inr it) = none_stands hot.entries 0x80 (λ o e. (o ≡ 0x80) × CoversFrom IsHotPluggable it.t 0 e) (λ h. omega (arith, h.0), (λ h. omega (arith, h.0), (λ h. both_ways _ refl h.1.1, (λ h. both_ways _ refl h.1.1, tt)))) (it.other_holds.0, it.other_holds.1, (refl, it.other_holds.2))
+mixed_overlap (fits, inl it) = none_stands hot_ranges.entries 0x30 (λ o e. (o ≡ 0x30) × CoversFrom IsNotHotPluggable it.s 0 e) (λ h. both_ways _ h.1.1 refl, (λ h. both_ways _ h.1.1 refl, (λ h. omega (arith, h.0), (λ h. omega (arith, h.0), tt)))) (it.one_holds.0, it.one_holds.1, (refl, it.one_holds.2))
+mixed_overlap (fits, inr it) = none_stands hot_ranges.entries 0x80 (λ o e. (o ≡ 0x80) × CoversFrom IsHotPluggable it.t 0 e) (λ h. omega (arith, h.0), (λ h. omega (arith, h.0), (λ h. both_ways _ refl h.1.1, (λ h. both_ways _ refl h.1.1, tt)))) (it.other_holds.0, it.other_holds.1, (refl, it.other_holds.2))
 
-past_end : SratFault wrong code.RangePastEnd 0x40 0 0
+past_end : SratFault faulty_srat code.RangePastEnd 0x40 0 0
 unfolding has_bit
 past_end = ((_, (1, omega arith, refl), (refl, omega arith)), (refl, refl))
 
-overlaps : (h : HotPlug) → RangeFault h ranges code.Overlap 0x80 0xa8 0x3fffffff
+overlaps : (h : HotPlug) → RangeFault h four_ranges code.Overlap 0x80 0xa8 0x3fffffff
 overlaps Counted = (omega arith, any_overlap)
 overlaps Apart = (omega arith, inl plain_overlap)
 
-overlaps_too : (h : HotPlug) → RangeFault h ranges code.Overlap 0xa8 0x80 0x3fffffff
-overlaps_too Counted = (omega arith, exchanged IsAny ranges any_overlap)
-overlaps_too Apart = (omega arith, inl (exchanged IsNotHotPluggable ranges plain_overlap))
+overlaps_too : (h : HotPlug) → RangeFault h four_ranges code.Overlap 0xa8 0x80 0x3fffffff
+overlaps_too Counted = (omega arith, exchanged IsAny four_ranges any_overlap)
+overlaps_too Apart = (omega arith, inl (exchanged IsNotHotPluggable four_ranges plain_overlap))
 
 pub srat_faults : AreSratFaults
 srat_faults = record {
   short = short_srat;
-  cut = of_wrong code.SratEntryCut 0x68 (refl, (refl, refl));
-  size = of_wrong code.SratEntryLength 0x30 ((_, (0, omega arith, refl), inr (inl refl)), (refl, refl));
-  past_end = of_wrong code.RangePastEnd 0x40 past_end;
+  cut = of_faulty code.SratEntryCut 0x68 (refl, (refl, refl));
+  size = of_faulty code.SratEntryLength 0x30 ((_, (0, omega arith, refl), inr (inl refl)), (refl, refl));
+  past_end = of_faulty code.RangePastEnd 0x40 past_end;
   overlap = by_setting;
   exchanged = by_setting_too;
-  least = subst (λ (c : SratContents). RangeFault Counted c code.Overlap 0x58 0x30 0x1000) (sym srat_said.three_say) three_overlap;
-  counted = subst (λ (c : SratContents). RangeFault Counted c code.Overlap 0x30 0x80 0) (sym srat_said.hot_say) counted_overlap;
-  apart = subst (λ (c : SratContents). RangeFault Apart c code.Overlap 0x80 0xa8 0) (sym srat_said.hot_say) apart_overlap;
-  not_mixed = subst (λ (c : SratContents). ¬ RangeFault Apart c code.Overlap 0x30 0x80 0) (sym srat_said.hot_say) mixed_overlap;
+  least = subst (λ (c : SratContents). RangeFault Counted c code.Overlap 0x58 0x30 0x1000) (sym srat_said.overlapping_say) first_overlap;
+  counted = subst (λ (c : SratContents). RangeFault Counted c code.Overlap 0x30 0x80 0) (sym srat_said.hot_ranges_say) counted_overlap;
+  apart = subst (λ (c : SratContents). RangeFault Apart c code.Overlap 0x80 0xa8 0) (sym srat_said.hot_ranges_say) apart_overlap;
+  not_mixed = subst (λ (c : SratContents). ¬ RangeFault Apart c code.Overlap 0x30 0x80 0) (sym srat_said.hot_ranges_say) mixed_overlap;
 }
   where
-    of_wrong : (fault : Code) (at : ℕ) → SratFault wrong fault at 0 0 → SratFault (srat_contents wrong_bytes) fault at 0 0
-    of_wrong fault at = subst (λ (c : SratContents). SratFault c fault at 0 0) (sym srat_said.wrong_says)
+    of_faulty : (fault : Code) (at : ℕ) → SratFault faulty_srat fault at 0 0 → SratFault (srat_contents faulty_srat_bytes) fault at 0 0
+    of_faulty fault at = subst (λ (c : SratContents). SratFault c fault at 0 0) (sym srat_said.faulty_says)
 
-    by_setting : (h : HotPlug) → RangeFault h (srat_contents ranges_bytes) code.Overlap 0x80 0xa8 0x3fffffff
+    by_setting : (h : HotPlug) → RangeFault h (srat_contents four_ranges_bytes) code.Overlap 0x80 0xa8 0x3fffffff
     by_setting h = subst (λ (c : SratContents). RangeFault h c code.Overlap 0x80 0xa8 0x3fffffff) (sym srat_said.ranges_say) (overlaps h)
 
-    by_setting_too : (h : HotPlug) → RangeFault h (srat_contents ranges_bytes) code.Overlap 0xa8 0x80 0x3fffffff
+    by_setting_too : (h : HotPlug) → RangeFault h (srat_contents four_ranges_bytes) code.Overlap 0xa8 0x80 0x3fffffff
     by_setting_too h = subst (λ (c : SratContents). RangeFault h c code.Overlap 0xa8 0x80 0x3fffffff) (sym srat_said.ranges_say) (overlaps_too h)
 
 -- ---- tables without a fault
@@ -144,25 +144,25 @@ srat_faults = record {
 pub no_madt_fault : (q : PolicyValue) → HasNoMadtFault q
 no_madt_fault q few fault at other point = subst (λ (c : MadtContents). ¬ MadtFault q c fault at other point) (sym madt_said.kinds_say) (none fault at other point)
   where
-    only : (o : ℕ) → StandsWith kinds.entries o IsAddressOverride → o ≢ 88 → ⊥
-    only o here other = none_stands kinds.entries o (λ o e. (o ≢ 88) × IsAddressOverride e) (λ h. h.1, (λ h. h.1, (λ h. h.1, (λ h. h.1, (λ h. h.1, (λ h. h.0 refl, (λ h. h.1, (λ h. h.1, (λ h. h.1, tt))))))))) (here.0, here.1, (other, here.2))
+    only : (o : ℕ) → StandsWith all_kinds.entries o IsAddressOverride → o ≢ 88 → ⊥
+    only o here other = none_stands all_kinds.entries o (λ o e. (o ≢ 88) × IsAddressOverride e) (λ h. h.1, (λ h. h.1, (λ h. h.1, (λ h. h.1, (λ h. h.1, (λ h. h.0 refl, (λ h. h.1, (λ h. h.1, (λ h. h.1, tt))))))))) (here.0, here.1, (other, here.2))
 
-    none : (fault : Code) (at other point : ℕ) → ¬ MadtFault q kinds fault at other point
+    none : (fault : Code) (at other point : ℕ) → ¬ MadtFault q all_kinds fault at other point
     none code.MadtShort at other point (short, _, _) = omega arith
     none code.MadtEntryCut at other point (cut, _) = none-some at cut
     none code.SecondAddressOverride at other point (one, two, less, _) = only at one (λ here. only other two (λ there. omega arith))
-    none code.MadtEntryLength at other point (here, _) = none_stands kinds.entries at (λ o e. MadtEntryFault q code.MadtEntryLength e) (never, (never, (never, (never, (never, (never, (never, (never, ((λ is. omega arith), tt))))))))) here
-    none code.OverrideBus at other point (here, _) = none_stands kinds.entries at (λ o e. MadtEntryFault q code.OverrideBus e) (never, (never, ((λ is. is refl), (never, (never, (never, (never, (never, (never, tt))))))))) here
-    none code.ReservedInti at other point (here, _) = none_stands kinds.entries at (λ o e. MadtEntryFault q code.ReservedInti e) (never, (never, ((λ is. omega arith), ((λ is. omega arith), ((λ is. omega arith), (never, (never, ((λ is. omega arith), (never, tt))))))))) here
-    none code.GsiPastEnd at other point (here, _) = none_stands kinds.entries at (λ o e. MadtEntryFault q code.GsiPastEnd e) (never, ((λ most. omega arith), (never, (never, (never, (never, (never, (never, (never, tt))))))))) here
+    none code.MadtEntryLength at other point (here, _) = none_stands all_kinds.entries at (λ o e. MadtEntryFault q code.MadtEntryLength e) (never, (never, (never, (never, (never, (never, (never, (never, ((λ is. omega arith), tt))))))))) here
+    none code.OverrideBus at other point (here, _) = none_stands all_kinds.entries at (λ o e. MadtEntryFault q code.OverrideBus e) (never, (never, ((λ is. is refl), (never, (never, (never, (never, (never, (never, tt))))))))) here
+    none code.ReservedInti at other point (here, _) = none_stands all_kinds.entries at (λ o e. MadtEntryFault q code.ReservedInti e) (never, (never, ((λ is. omega arith), ((λ is. omega arith), ((λ is. omega arith), (never, (never, ((λ is. omega arith), (never, tt))))))))) here
+    none code.GsiPastEnd at other point (here, _) = none_stands all_kinds.entries at (λ o e. MadtEntryFault q code.GsiPastEnd e) (never, ((λ most. omega arith), (never, (never, (never, (never, (never, (never, (never, tt))))))))) here
     none _ at other point fault = fault.0.2
 
 pub no_srat_fault : HasNoSratFault
 no_srat_fault fault at other point = subst (λ (c : SratContents). ¬ SratFault c fault at other point) (sym srat_said.processors_say) (none fault at other point)
   where
-    none : (fault : Code) (at other point : ℕ) → ¬ SratFault processors fault at other point
+    none : (fault : Code) (at other point : ℕ) → ¬ SratFault two_processors fault at other point
     none code.SratShort at other point (short, _, _) = omega arith
     none code.SratEntryCut at other point (cut, _) = none-some at cut
-    none code.SratEntryLength at other point (here, _) = none_stands processors.entries at (λ o e. SratEntryFault code.SratEntryLength e) (never, (never, tt)) here
-    none code.RangePastEnd at other point (here, _) = none_stands processors.entries at (λ o e. SratEntryFault code.RangePastEnd e) (never, (never, tt)) here
+    none code.SratEntryLength at other point (here, _) = none_stands two_processors.entries at (λ o e. SratEntryFault code.SratEntryLength e) (never, (never, tt)) here
+    none code.RangePastEnd at other point (here, _) = none_stands two_processors.entries at (λ o e. SratEntryFault code.RangePastEnd e) (never, (never, tt)) here
     none _ at other point fault = fault.0.2
