@@ -1,18 +1,18 @@
 -- The examples of the MADT and the SRAT, by computing.
-use Rattle.std.proofs.Common.{◌≡◌, ℕ, zero, suc, ◌+◌, ◌<◌, ◌≤◌, ◌^◌, List, [], ◌∷◌, length, refl, sym, subst, inl, inr, arith}
-use Rattle.std.specs.Prelude.{◌≢◌, Some, None, codes}
+use Rattle.std.proofs.Common.{◌≡◌, ℕ, ◌<◌, List, [], ◌∷◌, refl, sym, ◌∙◌, subst, inl, inr, arith}
+use Rattle.std.specs.Prelude.{◌≢◌}
 use Rattle.std.specs.List.{AllByRecursion}
 use Rattle.std.proofs.lemmas.List.Elements.{All-from_recursion, All-contains}
 use Rattle.std.proofs.lemmas.Option.{none-some}
-use Rattle.std.proofs.lemmas.Bool.{both_ways}
+use Rattle.std.proofs.lemmas.Bool.{both_ways, cases_lt}
 use Rattle.acpi_base.specs.Number.{field, byte_sum, has_bit}
 use Rattle.acpi_base.specs.Policy.{PolicyValue, inputs_of}
 use Rattle.acpi_base.specs.Listed.{madt_signature, srat_signature}
-use Rattle.acpi_base.specs.Entries.{Standing, StandsWith, first_entry, entries_from, entries_of, end_of_entries, cut_of, has_form}
-use Rattle.acpi_base.specs.Madt.{MadtEntry, MadtContents, madt_entry, madt_contents, MadtFault, MadtEntryFault, IsAddressOverride, InterruptFault, OverrideFault}
-use Rattle.acpi_base.specs.Clashes.{IsClash}
-use Rattle.acpi_base.specs.Srat.{SratEntry, MemoryValue, CoversFrom, Covers, IsAny, IsHotPluggable, IsNotHotPluggable, SratContents, srat_entry, srat_contents, SratFault, SratEntryFault, RangeFault}
-use Rattle.acpi_base.specs.Examples.{AreMadtContents, AreSratContents, AreMadtFaults, AreSratFaults, IsSoundExample, example_madts, example_srats, HasNoMadtFault, HasNoSratFault, table, all_kinds_bytes, two_io_apics_bytes, cut_bytes, two_overrides_bytes, faulty_madt_bytes, two_processors_bytes, four_ranges_bytes, overlapping_bytes, hot_ranges_bytes, faulty_srat_bytes, all_kinds, two_io_apics, cut_madt, two_overrides, faulty_madt, two_processors, four_ranges, overlapping, hot_ranges, faulty_srat}
+use Rattle.acpi_base.specs.Entries.{Standing, Stands, StandsWith, first_entry, entries_from, entries_of, end_of_entries, cut_of, has_form}
+use Rattle.acpi_base.specs.Madt.{MadtContents, madt_entry, madt_contents, MadtFault, MadtEntryFault, IsAddressOverride, ServesFrom, Serves, InterruptFault, IsFirstGsiClash, OverrideFault}
+use Rattle.acpi_base.specs.Clashes.{IsClash, ComesBefore}
+use Rattle.acpi_base.specs.Srat.{MemoryValue, CoversFrom, Covers, IsAny, IsHotPluggable, IsNotHotPluggable, SratContents, srat_entry, srat_contents, SratFault, SratEntryFault, RangeFault, IsFirstOverlap}
+use Rattle.acpi_base.specs.Examples.{AreMadtContents, AreSratContents, AreMadtFaults, AreSratFaults, AreFirstOverlaps, IsSoundExample, example_madts, example_srats, HasNoMadtFault, HasNoSratFault, table, faulty_madt_bytes, four_ranges_bytes, faulty_srat_bytes, all_kinds, two_io_apics, faulty_madt, two_processors, four_ranges, overlapping, hot_ranges, faulty_srat}
 use Rattle.acpi_base.specs.declared.policy.HotPlug.{HotPlug}
 use Rattle.acpi_base.specs.declared.policy.HotPlug.TheVariants.{Counted, Apart}
 use Rattle.acpi_base.specs.declared.code.Code.{Code}
@@ -60,7 +60,7 @@ madt_faults q = record {
 
 -- ---- overlaps
 
-clash : {P : MemoryValue → Type 0} (c : SratContents) {at other point : ℕ} (s t : ℕ) → Covers P c at s point → Covers P c other t point → at ≢ other → IsClash (Covers P c) at other point
+abbrev clash : {P : MemoryValue → Type 0} (c : SratContents) {at other point : ℕ} (s t : ℕ) → Covers P c at s point → Covers P c other t point → at ≢ other → IsClash (Covers P c) at other point
 clash c s t one other two = record { s = s; t = t; one_holds = one; other_holds = other; two = two }
 
 exchanged : (P : MemoryValue → Type 0) (c : SratContents) {at other point : ℕ} → IsClash (Covers P c) at other point → IsClash (Covers P c) other at point
@@ -91,10 +91,14 @@ unfolding has_bit
 apart_overlap =
     (omega arith, inl (clash hot_ranges 0 0 (_, (2, omega arith, refl), (refl, refl, refl, omega arith, omega arith)) (_, (3, omega arith, refl), (refl, refl, refl, omega arith, omega arith)) (λ same. omega arith)))
 
--- ---- what none of some entries is
+-- ---- what holds of each entry, or of none
+
+-- what holds of each entry of a list holds of one that stands there
+each_entry : {E : Type 0} (entries : List (Standing E)) (Q : ℕ → E → Type 0) → AllByRecursion (λ s. Q s.offset s.entry) entries → (o : ℕ) (e : E) → Stands entries o e → Q o e
+each_entry {E} entries Q each o e stands = All-contains (λ (s : Standing E). Q s.offset s.entry) entries (record { offset = o; entry = e }) (All-from_recursion (λ (s : Standing E). Q s.offset s.entry) entries each) stands
 
 none_stands : {E : Type 0} (entries : List (Standing E)) (o : ℕ) (P : ℕ → E → Type 0) → AllByRecursion (λ s. ¬ P s.offset s.entry) entries → ¬ StandsWith entries o (P o)
-none_stands {E} entries o P none (e, stands, holds) = All-contains (λ (s : Standing E). ¬ P s.offset s.entry) entries (record { offset = o; entry = e }) (All-from_recursion (λ (s : Standing E). ¬ P s.offset s.entry) entries none) stands holds
+none_stands entries o P none (e, stands, holds) = each_entry entries (λ o e. ¬ P o e) none o e stands holds
 
 never : {A : Type 0} → ⊥ → A
 never h = absurd h
@@ -138,6 +142,59 @@ srat_faults = record {
 
     by_setting_too : (h : HotPlug) → RangeFault h (srat_contents four_ranges_bytes) code.Overlap 0xa8 0x80 0x3fffffff
     by_setting_too h = subst (λ (c : SratContents). RangeFault h c code.Overlap 0xa8 0x80 0x3fffffff) (sym srat_said.ranges_say) (overlaps_too h)
+
+-- ---- which overlap is reported
+
+first_addresses : IsFirstOverlap Counted overlapping 0x58 0x30 0x1000
+unfolding first_overlap
+first_addresses = record {
+  clash = first_overlap.1;
+  in_order = inl (omega arith);
+  others_after = λ p u here not_at not_other. each_entry overlapping.entries (λ p e. p ≢ 0x58 → p ≢ 0x30 → CoversFrom IsAny u 0x1000 e → ComesBefore 0x1000 0x30 u p)
+      ((λ _ not_other _. absurd (not_other refl)), ((λ not_at _ _. absurd (not_at refl)), ((λ _ _ covers. inr (covers.2, omega arith)), tt))) p here.0 here.1 not_at not_other here.2;
+  least = λ o p x it. elim (cases_lt x 0x1000) [ inr most ↦ most | inl less ↦ absurd (it.two (only x less o it.s it.one_holds ∙ sym (only x less p it.t it.other_holds))) ];
+}
+  where
+    only : (x : ℕ) → x < 0x1000 → (o s : ℕ) → Covers IsAny overlapping o s x → o ≡ 0x58
+    only x less o s here = each_entry overlapping.entries (λ o e. CoversFrom IsAny s x e → o ≡ 0x58) ((λ covers. absurd (omega (arith, covers.2, covers.3))), ((λ _. refl), ((λ covers. absurd (omega (arith, covers.2, covers.3))), tt))) o here.0 here.1 here.2
+
+first_counted : IsFirstOverlap Counted hot_ranges 0x30 0x58 0
+unfolding has_bit
+first_counted = record {
+  clash = clash hot_ranges 0 0 (_, (0, omega arith, refl), (refl, tt, refl, omega arith, omega arith)) (_, (1, omega arith, refl), (refl, tt, refl, omega arith, omega arith)) (λ same. omega arith);
+  in_order = inr (refl, omega arith);
+  others_after = λ p u here not_at not_other. each_entry hot_ranges.entries (λ p e. p ≢ 0x30 → p ≢ 0x58 → CoversFrom IsAny u 0 e → ComesBefore 0 0x58 u p)
+      ((λ not_at _ _. absurd (not_at refl)), ((λ _ not_other _. absurd (not_other refl)), ((λ _ _ covers. inr (covers.2, omega arith)), ((λ _ _ covers. inr (covers.2, omega arith)), tt)))) p here.0 here.1 not_at not_other here.2;
+  least = λ o p x it. omega arith;
+}
+
+first_apart : IsFirstOverlap Apart hot_ranges 0x80 0xa8 0
+unfolding has_bit
+first_apart = inl (
+  record {
+    clash = clash hot_ranges 0 0 (_, (2, omega arith, refl), (refl, refl, refl, omega arith, omega arith)) (_, (3, omega arith, refl), (refl, refl, refl, omega arith, omega arith)) (λ same. omega arith);
+    in_order = inr (refl, omega arith);
+    others_after = λ p u here not_at not_other. each_entry hot_ranges.entries (λ p e. p ≢ 0x80 → p ≢ 0xa8 → CoversFrom IsNotHotPluggable u 0 e → ComesBefore 0 0xa8 u p)
+        ((λ _ _ covers. absurd (both_ways _ covers.1 refl)), ((λ _ _ covers. absurd (both_ways _ covers.1 refl)), ((λ not_at _ _. absurd (not_at refl)), ((λ _ not_other _. absurd (not_other refl)), tt)))) p here.0 here.1 not_at not_other here.2;
+    least = λ o p x it. omega arith;
+  },
+  λ o p x it. omega arith,
+)
+
+first_interrupts : (q : PolicyValue) → inputs_of q 0xfec00000 ≡ 32 → inputs_of q 0xfec01000 ≡ 24 → IsFirstGsiClash q two_io_apics 0x2c 0x38 0x18
+first_interrupts q thirty_two twenty_four = record {
+  clash = record { s = 0; t = 24; one_holds = (_, (0, omega arith, refl), (refl, omega arith, omega arith)); other_holds = (_, (1, omega arith, refl), (refl, omega arith, omega arith)); two = λ same. omega arith };
+  in_order = inl (omega arith);
+  others_after = λ p u here not_at not_other. each_entry two_io_apics.entries (λ p e. p ≢ 0x2c → p ≢ 0x38 → ServesFrom q u 0x18 e → ComesBefore 24 0x38 u p)
+      ((λ not_at _ _. absurd (not_at refl)), ((λ _ not_other _. absurd (not_other refl)), tt)) p here.0 here.1 not_at not_other here.2;
+  least = λ o p x it. elim (cases_lt x 0x18) [ inr most ↦ most | inl less ↦ absurd (it.two (only x less o it.s it.one_holds ∙ sym (only x less p it.t it.other_holds))) ];
+}
+  where
+    only : (x : ℕ) → x < 0x18 → (o s : ℕ) → Serves q two_io_apics o s x → o ≡ 0x2c
+    only x less o s here = each_entry two_io_apics.entries (λ o e. ServesFrom q s x e → o ≡ 0x2c) ((λ _. refl), ((λ serves. absurd (omega (arith, serves.0, serves.1))), tt)) o here.0 here.1 here.2
+
+pub first_overlaps : AreFirstOverlaps
+first_overlaps = record { interrupts = first_interrupts; addresses = first_addresses; counted = first_counted; apart = first_apart }
 
 -- ---- tables without a fault
 

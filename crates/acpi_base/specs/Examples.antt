@@ -1,13 +1,13 @@
 -- Examples of the MADT and the SRAT: bytes of small tables, what they say, and their faults, worked out by hand from the
 -- rules.
-use Rattle.std.specs.Prelude.{◌≡◌, ℕ, ◌<◌, ◌≤◌, List, [], ◌∷◌, ◌++◌, length, replicate, All, Some, None}
+use Rattle.std.specs.Prelude.{◌≡◌, ℕ, ◌≤◌, List, [], ◌∷◌, ◌++◌, length, replicate, All, Some, None}
 use Rattle.acpi_base.specs.Number.{field, byte_sum}
 use Rattle.acpi_base.specs.Policy.{PolicyValue, inputs_of}
 use Rattle.acpi_base.specs.Listed.{madt_signature, srat_signature}
 use Rattle.acpi_base.specs.Entries.{Standing}
-use Rattle.acpi_base.specs.Madt.{MadtEntry, LocalApic, IoApic, Override, NmiSource, LocalNmi, AddressOverride, X2apic, X2apicNmi, MadtContents, madt_contents, IsSoundMadt, MadtFault, AreInterruptsApart, InterruptFault, DoOverridesAgree, OverrideFault}
+use Rattle.acpi_base.specs.Madt.{MadtEntry, LocalApic, IoApic, Override, NmiSource, LocalNmi, AddressOverride, X2apic, X2apicNmi, MadtContents, madt_contents, MadtFault, InterruptFault, IsFirstGsiClash, OverrideFault}
 use Rattle.acpi_base.specs.Madt as madt
-use Rattle.acpi_base.specs.Srat.{SratEntry, ApicDomain, MemoryRange, X2apicDomain, SratContents, srat_contents, IsSoundSrat, SratFault, AreRangesApart, RangeFault}
+use Rattle.acpi_base.specs.Srat.{SratEntry, ApicDomain, MemoryRange, X2apicDomain, SratContents, srat_contents, SratFault, RangeFault, IsFirstOverlap}
 use Rattle.acpi_base.specs.Srat as srat
 use Rattle.acpi_base.specs.declared.policy.HotPlug.{HotPlug}
 use Rattle.acpi_base.specs.declared.policy.HotPlug.TheVariants.{Counted, Apart}
@@ -290,6 +290,13 @@ pub record AreSratFaults : Type 0 where
   pub counted : RangeFault Counted (srat_contents hot_ranges_bytes) code.Overlap 0x30 0x80 0
   pub apart : RangeFault Apart (srat_contents hot_ranges_bytes) code.Overlap 0x80 0xa8 0
   pub not_mixed : ¬ RangeFault Apart (srat_contents hot_ranges_bytes) code.Overlap 0x30 0x80 0
+
+-- which overlap is reported
+pub record AreFirstOverlaps : Type 0 where
+  pub interrupts : (q : PolicyValue) → inputs_of q 0xfec00000 ≡ 32 → inputs_of q 0xfec01000 ≡ 24 → IsFirstGsiClash q two_io_apics 0x2c 0x38 0x18
+  pub addresses : IsFirstOverlap Counted overlapping 0x58 0x30 0x1000
+  pub counted : IsFirstOverlap Counted hot_ranges 0x30 0x58 0
+  pub apart : IsFirstOverlap Apart hot_ranges 0x80 0xa8 0
 
 -- the MADT with an entry of each kind has no fault of stage 6, whatever the policy
 abbrev pub HasNoMadtFault : PolicyValue → Type 0

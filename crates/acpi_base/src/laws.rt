@@ -4,7 +4,7 @@ ghost use Rattle.std.specs.Prelude.{◌≡◌, ℕ, ◌↔◌, List, Some, IsSom
 ghost use Rattle.acpi_base.specs.Memory.{Memory, bytes_at, Has, AreBytes};
 ghost use Rattle.acpi_base.specs.Policy.{PolicyValue};
 ghost use Rattle.acpi_base.specs.Entries.{OneCut, EntriesStand, CutIsStart, NoCutFault, CutsWhereAllStand};
-ghost use Rattle.acpi_base.specs.Examples.{AreMadtContents, AreSratContents, AreMadtFaults, AreSratFaults, HasNoMadtFault, HasNoSratFault};
+ghost use Rattle.acpi_base.specs.Examples.{AreMadtContents, AreSratContents, AreMadtFaults, AreSratFaults, AreFirstOverlaps, HasNoMadtFault, HasNoSratFault};
 ghost use Rattle.acpi_base.specs.Laws.{FaultsExcludeClean, FaultsFit, CleanOrFaulty, CleanOrFirstFault, OneFirstFault, OneVerdict, RootsListSlots};
 ghost use Rattle.acpi_base.specs.TextLaws.{RunReadsText, RunReadsPrefix, RunStopsAtFaults, RunGoesOn, PrefixDecides, TextMeans, TextOrFault, NeverBoth, OneImage, OneTextFault, RefusalsAreOwn, LinesMean};
 
@@ -101,13 +101,14 @@ pub fn entries_stand()
     ensures all { CutsWhereAllStand }
 {}
 
-/// Examples of the MADT and the SRAT: what the bytes of small tables say, a fault of each kind, and none of a sound
-/// table.
+/// Examples of the MADT and the SRAT: what the bytes of small tables say, a fault of each code, which overlap is
+/// reported, and that sound tables have no fault.
 pub fn madt_and_srat_examples()
     ensures madt { AreMadtContents }
     ensures srat { AreSratContents }
     ensures madt_faults { (q : PolicyValue) → AreMadtFaults q }
     ensures srat_faults { AreSratFaults }
+    ensures first { AreFirstOverlaps }
     ensures sound_madt { (q : PolicyValue) → HasNoMadtFault q }
     ensures sound_srat { HasNoSratFault }
 {}
