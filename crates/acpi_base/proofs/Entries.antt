@@ -9,7 +9,7 @@ use Rattle.std.proofs.lemmas.List.{length-take, length-take-le, take-append-drop
 use Rattle.std.proofs.lemmas.List.Elements.{All-from_recursion, recursion_from_All}
 use Rattle.std.proofs.lemmas.List.Sums.{sum_by-cons}
 use Rattle.acpi_base.proofs.HeldBytes.{cases_Option, none_and_some, same_value}
-use Rattle.acpi_base.specs.Entries.{IsEntry, Standing, Stands, first_entry, entries_from, entries_of, end_of_entries, cut_of, IsCut, IsStart, StandsAt, OneCut, CutsWhereAllStand, EntriesStand, CutIsStart, NoCutFault}
+use Rattle.acpi_base.specs.Entries.{IsEntry, Standing, Stands, first_entry, entries_from, entries_of, end_of_entries, cut_of, IsCut, IsStart, StandsAt, OneCut, CutsWhereAllStand, EntriesStand, CutIsStart, NoCutFault, NoneInShort}
 
 -- ---- the first entry
 
@@ -318,4 +318,13 @@ cuts_where_all_stand first whole = (
     | inr (cut, _) ↦ (es_of first whole, cut)
     | inl (start, ended, _) ↦ (let here = stand _ start in absurd (none_and_some ended (stands_first first whole _ here.0 here.1)))
   ],
+)
+
+pub none_in_short : NoneInShort
+none_in_short first whole short = (
+  elim (cases_Option (cut_of first whole)) [
+    | inr none ↦ none
+    | inl (o, is) ↦ (let start = ((cut_is_start first whole o).0 is).0 in absurd (omega (arith, start.from, start.below)))
+  ],
+  λ o e stands. let start = ((entries_stand first whole o e).1 stands).start in absurd (omega (arith, start.from, start.below)),
 )

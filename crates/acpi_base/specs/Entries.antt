@@ -136,3 +136,8 @@ CutIsStart =
 -- and it is none exactly where the body has a cut
 abbrev pub NoCutFault : Type 0
 NoCutFault = (first : ℕ) (whole : List ℕ) → (cut_of first whole ≡ None) ↔ ((es : List (List ℕ)) × IsCut (drop first whole) es)
+
+-- a table that ends before its first entry's place has no entries and no cut
+abbrev pub NoneInShort : Type 0
+NoneInShort =
+    (first : ℕ) (whole : List ℕ) → length whole < first → (cut_of first whole ≡ None) × ((o : ℕ) (e : List ℕ) → ¬ Stands (entries_of first whole) o e)

@@ -3,7 +3,7 @@
 ghost use Rattle.std.specs.Prelude.{◌≡◌, ℕ, ◌↔◌, List, Some, IsSome};
 ghost use Rattle.acpi_base.specs.Memory.{Memory, bytes_at, Has, AreBytes};
 ghost use Rattle.acpi_base.specs.Policy.{PolicyValue};
-ghost use Rattle.acpi_base.specs.Entries.{OneCut, EntriesStand, CutIsStart, NoCutFault, CutsWhereAllStand};
+ghost use Rattle.acpi_base.specs.Entries.{OneCut, EntriesStand, CutIsStart, NoCutFault, CutsWhereAllStand, NoneInShort};
 ghost use Rattle.acpi_base.specs.Examples.{AreMadtContents, AreSratContents, AreMadtFaults, AreSratFaults, AreFirstOverlaps, HasNoMadtFault, HasNoSratFault};
 ghost use Rattle.acpi_base.specs.Laws.{FaultsExcludeClean, FaultsFit, CleanOrFaulty, CleanOrFirstFault, OneFirstFault, OneVerdict, RootsListSlots};
 ghost use Rattle.acpi_base.specs.TextLaws.{RunReadsText, RunReadsPrefix, RunStopsAtFaults, RunGoesOn, PrefixDecides, TextMeans, TextOrFault, NeverBoth, OneImage, OneTextFault, RefusalsAreOwn, LinesMean};
@@ -99,6 +99,7 @@ pub fn entries_stand()
     ensures cut { CutIsStart }
     ensures filled { NoCutFault }
     ensures all { CutsWhereAllStand }
+    ensures short { NoneInShort }
 {}
 
 /// Examples of the MADT and the SRAT: what the bytes of small tables say, a fault of each code, which overlap is
