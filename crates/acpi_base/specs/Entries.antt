@@ -81,6 +81,7 @@ pub record Kind (E : Type 0) : Type 0 where
   pub size : ℕ
   pub read : List ℕ → E
 
+-- the kind with these
 abbrev pub kind : {E : Type 0} → ℕ → ℕ → (List ℕ → E) → Kind E
 kind type size read = record { type = type; size = size; read = read }
 

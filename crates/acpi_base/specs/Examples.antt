@@ -32,13 +32,15 @@ abbrev pub srat_table : ℕ → ℕ → List ℕ → List ℕ
 srat_table size checksum entries =
     table srat_signature size checksum (1 ∷ 0 ∷ 0 ∷ 0 ∷ 0 ∷ 0 ∷ 0 ∷ 0 ∷ 0 ∷ 0 ∷ 0 ∷ 0 ∷ entries)
 
+-- an entry that says this stands at the offset
 abbrev pub standing : {E : Type 0} → ℕ → E → Standing E
 standing offset entry = record { offset = offset; entry = entry }
 
--- what the example MADTs say beside their length, entries and cut
+-- what the example MADTs say, unless they have a cut
 abbrev pub said_madt : ℕ → List (Standing MadtEntry) → MadtContents
 said_madt size entries = record { size = size; address = 0xfee00000; flags = 1; entries = entries; cut = None }
 
+-- what the example SRATs say, unless they have a cut
 abbrev pub said_srat : ℕ → List (Standing SratEntry) → SratContents
 said_srat size entries = record { size = size; entries = entries; cut = None }
 
@@ -241,10 +243,11 @@ faulty_srat =
 abbrev pub IsSoundExample : List ℕ → Type 0
 IsSoundExample bytes = (byte_sum bytes ≡ 0) × (field bytes 4 4 ≡ length bytes)
 
--- all of these MADTs and SRATs
+-- these MADTs
 abbrev pub example_madts : List (List ℕ)
 example_madts = all_kinds_bytes ∷ two_io_apics_bytes ∷ cut_bytes ∷ two_overrides_bytes ∷ faulty_madt_bytes ∷ []
 
+-- these SRATs
 abbrev pub example_srats : List (List ℕ)
 example_srats = two_processors_bytes ∷ four_ranges_bytes ∷ overlapping_bytes ∷ hot_ranges_bytes ∷ faulty_srat_bytes ∷ []
 

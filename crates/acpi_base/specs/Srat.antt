@@ -123,13 +123,15 @@ SratFault c fault at other point = StandsWith c.entries at (SratEntryFault fault
 
 -- ---- stage 10: ranges
 
--- all ranges, those that are hot-pluggable, and those that are not
+-- all ranges
 abbrev pub IsAny : MemoryValue → Type 0
 IsAny v = Unit {0}
 
+-- those that are hot-pluggable
 abbrev pub IsHotPluggable : MemoryValue → Type 0
 IsHotPluggable v = is_hot_pluggable v.flags ≡ true
 
+-- those that are not
 abbrev pub IsNotHotPluggable : MemoryValue → Type 0
 IsNotHotPluggable v = is_hot_pluggable v.flags ≡ false
 
