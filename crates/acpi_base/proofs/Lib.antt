@@ -1,3 +1,5 @@
+pub mod Entries
+pub mod Examples
 pub mod Facs
 pub mod Fadt
 pub mod Faults

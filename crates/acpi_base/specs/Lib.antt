@@ -1,5 +1,8 @@
 pub mod Adding
+pub mod Clashes
 pub mod Codes
+pub mod Entries
+pub mod Examples
 pub mod Facs
 pub mod Fadt
 pub mod Faults
@@ -9,6 +12,7 @@ pub mod ImageText
 pub mod Laws
 pub mod Layouts
 pub mod Listed
+pub mod Madt
 pub mod Memory
 pub mod Number
 pub mod Policy
@@ -17,6 +21,7 @@ pub mod Root
 pub mod Rsdp
 pub mod Segments
 pub mod Signature
+pub mod Srat
 pub mod Statements
 pub mod Tables
 pub mod Tally

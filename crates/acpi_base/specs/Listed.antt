@@ -69,6 +69,14 @@ pub record IsListedTable (m : Memory) (p : ℕ) (signature whole : List ℕ) : T
   pub first : IsFirstTable m p signature a
   pub table : IsTable m a header whole
 
+-- P of the bytes of that table, where the set lists it
+abbrev pub ForListed : Memory → ℕ → List ℕ → (List ℕ → Type 0) → Type 0
+ForListed m p signature P = (whole : List ℕ) → IsListedTable m p signature whole → P whole
+
+-- the set lists that table, with P of its bytes
+abbrev pub HasListed : Memory → ℕ → List ℕ → (List ℕ → Type 0) → Type 0
+HasListed m p signature P = (whole : List ℕ) × IsListedTable m p signature whole × P whole
+
 -- the root that the RSDP at p names is a table, and lists no header with this signature
 pub record ListsNone (m : Memory) (p : ℕ) (signature : List ℕ) : Type 0 where
   pub r : ℕ

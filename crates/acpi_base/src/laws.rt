@@ -2,6 +2,9 @@
 
 ghost use Rattle.std.specs.Prelude.{◌≡◌, ℕ, ◌↔◌, List, Some, IsSome};
 ghost use Rattle.acpi_base.specs.Memory.{Memory, bytes_at, Has, AreBytes};
+ghost use Rattle.acpi_base.specs.Policy.{PolicyValue};
+ghost use Rattle.acpi_base.specs.Entries.{OneCut, EntriesStand, CutIsStart, NoCutFault, CutsWhereAllStand, NoneInShort};
+ghost use Rattle.acpi_base.specs.Examples.{AreMadtContents, AreSratContents, AreMadtFaults, AreSratFaults, AreFirstOverlaps, HasNoMadtFault, HasNoSratFault};
 ghost use Rattle.acpi_base.specs.Laws.{FaultsExcludeClean, FaultsFit, CleanOrFaulty, CleanOrFirstFault, OneFirstFault, OneVerdict, RootsListSlots};
 ghost use Rattle.acpi_base.specs.TextLaws.{RunReadsText, RunReadsPrefix, RunStopsAtFaults, RunGoesOn, PrefixDecides, TextMeans, TextOrFault, NeverBoth, OneImage, OneTextFault, RefusalsAreOwn, LinesMean};
 
@@ -86,4 +89,27 @@ pub fn lines_mean()
 pub fn held_bytes()
     ensures held { (m : Memory) (a n : ℕ) → IsSome (bytes_at m a n) ↔ Has m a n }
     ensures bytes { (m : Memory) (a n : ℕ) (l : List ℕ) → (bytes_at m a n ≡ Some l) ↔ AreBytes m a n l }
+{}
+
+/// A table's bytes are cut into entries in one way at most, and in one exactly where an entry stands at each
+/// start. `entries_of` are the entries that stand at starts, and `cut_of` is the one start at which none stands.
+pub fn entries_stand()
+    ensures one { OneCut }
+    ensures stand { EntriesStand }
+    ensures cut { CutIsStart }
+    ensures filled { NoCutFault }
+    ensures all { CutsWhereAllStand }
+    ensures short { NoneInShort }
+{}
+
+/// Examples of the MADT and the SRAT: what the bytes of small tables say, a fault of each code, which overlap is
+/// reported, and that sound tables have no fault.
+pub fn madt_and_srat_examples()
+    ensures madt { AreMadtContents }
+    ensures srat { AreSratContents }
+    ensures madt_faults { (q : PolicyValue) → AreMadtFaults q }
+    ensures srat_faults { AreSratFaults }
+    ensures first { AreFirstOverlaps }
+    ensures sound_madt { (q : PolicyValue) → HasNoMadtFault q }
+    ensures sound_srat { HasNoSratFault }
 {}

@@ -41,7 +41,7 @@ pub use fault_text::{verdict_text, witness_text};
 pub use find::find_rsdp;
 pub use image::{Image, ImageFault};
 pub use image_text::read_image;
-pub use policy::{Policy, PolicyFault};
+pub use policy::{HotPlug, Policy, PolicyFault, Processors};
 pub use stage::{BUILT, Stage, built_stages};
 pub use tally::{DeviceFailed, Tally};
 pub use text::TextFault;

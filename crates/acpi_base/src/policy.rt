@@ -18,6 +18,24 @@ pub enum PolicyFault {
     Memory,
 }
 
+/// Which enabled ranges of memory in the SRAT must not overlap.
+#[derive(Clone, Copy, Debug, PartialEq, Eq)]
+pub enum HotPlug {
+    /// Any two of them: hot-pluggable ranges count as the others.
+    Counted,
+    /// Two that are both hot-pluggable, or both not: hot-pluggable ranges are apart from the others.
+    Apart,
+}
+
+/// Which processors of the MADT count as enabled.
+#[derive(Clone, Copy, Debug, PartialEq, Eq)]
+pub enum Processors {
+    /// Those with the flag Enabled.
+    Enabled,
+    /// Those with the flag Enabled or Online Capable.
+    Usable,
+}
+
 /// What a check is given beside the image: the RSDP's address, and how many inputs an I/O APIC has,
 /// which no table says. Contracts see the address, the default count and a map of counts by address.
 #[derive(Debug, Drop)]

@@ -1,0 +1,254 @@
+-- The MADT (ACPI 6.5, 5.2.12): what its entries and the table say, and when it is sound. Offsets of fields are from the
+-- start of the table or of the entry.
+use Rattle.std.specs.Prelude.{◌≡◌, ◌≢◌, ℕ, ◌+◌, ◌/◌, ◌%◌, ◌^◌, ◌<◌, ◌≤◌, ◌⊎◌, List, [], ◌∷◌, length, slice_index, Option, Some, None, true}
+use Rattle.acpi_base.specs.Number.{field}
+use Rattle.acpi_base.specs.Policy.{PolicyValue, inputs_of, counts_as_enabled}
+use Rattle.acpi_base.specs.Entries.{Standing, Stands, StandsWith, entries_of, cut_of, said_by, Kind, kind, read_by, IsTypeOf, AreUnused}
+use Rattle.acpi_base.specs.Clashes.{IsClash, AreApart, IsFirstClash}
+use Rattle.acpi_base.specs.declared.policy.Processors.{Processors}
+use Rattle.acpi_base.specs.declared.code.Code.{Code}
+use Rattle.acpi_base.specs.declared.code.Code.TheVariants as code
+
+-- ---- kinds of entries
+
+-- Processor Local APIC (5.2.12.2)
+pub record LocalApicValue : Type 0 where
+  pub uid : ℕ
+  pub apic_id : ℕ
+  pub flags : ℕ
+
+abbrev pub local_apic_of : List ℕ → LocalApicValue
+local_apic_of e = record { uid = field e 2 1; apic_id = field e 3 1; flags = field e 4 4 }
+
+-- I/O APIC (5.2.12.3); `gsi_base` is the first interrupt number that it serves
+pub record IoApicValue : Type 0 where
+  pub id : ℕ
+  pub address : ℕ
+  pub gsi_base : ℕ
+
+abbrev pub io_apic_of : List ℕ → IoApicValue
+io_apic_of e = record { id = field e 2 1; address = field e 4 4; gsi_base = field e 8 4 }
+
+-- Interrupt Source Override (5.2.12.5): the interrupt number of an ISA interrupt
+pub record OverrideValue : Type 0 where
+  pub bus : ℕ
+  pub source : ℕ
+  pub gsi : ℕ
+  pub flags : ℕ
+
+abbrev pub override_of : List ℕ → OverrideValue
+override_of e = record { bus = field e 2 1; source = field e 3 1; gsi = field e 4 4; flags = field e 8 2 }
+
+-- NMI Source (5.2.12.6): an interrupt number that is an NMI
+pub record NmiSourceValue : Type 0 where
+  pub flags : ℕ
+  pub gsi : ℕ
+
+abbrev pub nmi_source_of : List ℕ → NmiSourceValue
+nmi_source_of e = record { flags = field e 2 2; gsi = field e 4 4 }
+
+-- Local APIC NMI (5.2.12.7); the UID FFh means all processors
+pub record LocalNmiValue : Type 0 where
+  pub uid : ℕ
+  pub flags : ℕ
+  pub lint : ℕ
+
+abbrev pub local_nmi_of : List ℕ → LocalNmiValue
+local_nmi_of e = record { uid = field e 2 1; flags = field e 3 2; lint = field e 5 1 }
+
+-- Local APIC Address Override (5.2.12.8): the address in 64 bits
+pub record AddressOverrideValue : Type 0 where
+  pub address : ℕ
+
+abbrev pub address_override_of : List ℕ → AddressOverrideValue
+address_override_of e = record { address = field e 4 8 }
+
+-- Processor Local x2APIC (5.2.12.12)
+pub record X2apicValue : Type 0 where
+  pub x2apic_id : ℕ
+  pub flags : ℕ
+  pub uid : ℕ
+
+abbrev pub x2apic_of : List ℕ → X2apicValue
+x2apic_of e = record { x2apic_id = field e 4 4; flags = field e 8 4; uid = field e 12 4 }
+
+-- Local x2APIC NMI (5.2.12.13); the UID FFFFFFFFh means all processors
+pub record X2apicNmiValue : Type 0 where
+  pub flags : ℕ
+  pub uid : ℕ
+  pub lint : ℕ
+
+abbrev pub x2apic_nmi_of : List ℕ → X2apicNmiValue
+x2apic_nmi_of e = record { flags = field e 2 2; uid = field e 4 4; lint = field e 8 1 }
+
+-- ---- entries
+
+-- what an entry says: one of the above, which is called a typed entry, or any other bytes
+pub data MadtEntry : Type 0 where
+  LocalApic : LocalApicValue → MadtEntry
+  IoApic : IoApicValue → MadtEntry
+  Override : OverrideValue → MadtEntry
+  NmiSource : NmiSourceValue → MadtEntry
+  LocalNmi : LocalNmiValue → MadtEntry
+  AddressOverride : AddressOverrideValue → MadtEntry
+  X2apic : X2apicValue → MadtEntry
+  X2apicNmi : X2apicNmiValue → MadtEntry
+  Opaque : List ℕ → MadtEntry
+
+-- their types and lengths
+abbrev pub madt_kinds : List (Kind MadtEntry)
+madt_kinds =
+    kind 0 8 (λ e. LocalApic (local_apic_of e)) ∷
+    kind 1 12 (λ e. IoApic (io_apic_of e)) ∷
+    kind 2 10 (λ e. Override (override_of e)) ∷
+    kind 3 8 (λ e. NmiSource (nmi_source_of e)) ∷
+    kind 4 6 (λ e. LocalNmi (local_nmi_of e)) ∷
+    kind 5 12 (λ e. AddressOverride (address_override_of e)) ∷
+    kind 9 16 (λ e. X2apic (x2apic_of e)) ∷
+    kind 10 12 (λ e. X2apicNmi (x2apic_nmi_of e)) ∷
+    []
+
+-- what the bytes of an entry say
+unfoldable pub madt_entry : List ℕ → MadtEntry
+madt_entry e = read_by madt_kinds Opaque e
+
+-- ---- the table
+
+-- what a MADT says: its length in bytes, the local APICs' address, its flags, its entries as far as they stand, and the
+-- offset at which bytes are left that are none
+pub record MadtContents : Type 0 where
+  pub size : ℕ
+  pub address : ℕ
+  pub flags : ℕ
+  pub entries : List (Standing MadtEntry)
+  pub cut : Option ℕ
+
+-- what the bytes of a MADT say; entries stand from 44 on
+unfoldable pub madt_contents : List ℕ → MadtContents
+madt_contents whole =
+    record {
+      size = length whole;
+      address = field whole 36 4;
+      flags = field whole 40 4;
+      entries = said_by madt_entry (entries_of 44 whole);
+      cut = cut_of 44 whole;
+    }
+
+-- ---- stage 6: each entry by itself
+
+-- the polarity, bits 1:0, or the trigger mode, bits 3:2, is 10b, which is reserved (5.2.12.5)
+abbrev pub IsReservedInti : ℕ → Type 0
+IsReservedInti flags = (flags % 4 ≡ 2) ⊎ (flags / 4 % 4 ≡ 2)
+
+-- an entry is sound: it has the length of its type, which may be a type that is not read; an override is of the ISA bus;
+-- no flags are reserved; and the interrupt numbers of an I/O APIC are below 2^32
+abbrev pub IsSoundMadtEntry : PolicyValue → MadtEntry → Type 0
+IsSoundMadtEntry q (IoApic v) = v.gsi_base + inputs_of q v.address ≤ 2 ^ 32
+IsSoundMadtEntry q (Override v) = (v.bus ≡ 0) × (¬ IsReservedInti v.flags)
+IsSoundMadtEntry q (NmiSource v) = ¬ IsReservedInti v.flags
+IsSoundMadtEntry q (LocalNmi v) = ¬ IsReservedInti v.flags
+IsSoundMadtEntry q (X2apicNmi v) = ¬ IsReservedInti v.flags
+IsSoundMadtEntry q (Opaque e) = ¬ IsTypeOf madt_kinds (slice_index e 0)
+IsSoundMadtEntry q _ = Unit {0}
+
+-- the entry is an address override
+abbrev pub IsAddressOverride : MadtEntry → Type 0
+IsAddressOverride (AddressOverride v) = Unit {0}
+IsAddressOverride _ = ⊥
+
+-- Stage 6: the table is long enough, its entries fill it, each is sound, and at most one is an address override.
+pub record IsSoundMadt (q : PolicyValue) (c : MadtContents) : Type 0 where
+  pub long : 44 ≤ c.size
+  pub filled : c.cut ≡ None
+  pub entries : (o : ℕ) (e : MadtEntry) → Stands c.entries o e → IsSoundMadtEntry q e
+  pub one_address : (o p : ℕ) → StandsWith c.entries o IsAddressOverride → StandsWith c.entries p IsAddressOverride → o ≡ p
+
+-- an entry has flags of an interrupt's polarity and trigger mode, which are reserved
+abbrev pub HasReservedInti : MadtEntry → Type 0
+HasReservedInti (Override v) = IsReservedInti v.flags
+HasReservedInti (NmiSource v) = IsReservedInti v.flags
+HasReservedInti (LocalNmi v) = IsReservedInti v.flags
+HasReservedInti (X2apicNmi v) = IsReservedInti v.flags
+HasReservedInti _ = ⊥
+
+-- The faults that an entry has by itself, by their code.
+abbrev pub MadtEntryFault : PolicyValue → Code → MadtEntry → Type 0
+MadtEntryFault q code.MadtEntryLength (Opaque e) = IsTypeOf madt_kinds (slice_index e 0)
+MadtEntryFault q code.OverrideBus (Override v) = v.bus ≢ 0
+MadtEntryFault q code.ReservedInti e = HasReservedInti e
+MadtEntryFault q code.GsiPastEnd (IoApic v) = 2 ^ 32 < v.gsi_base + inputs_of q v.address
+MadtEntryFault q _ _ = ⊥
+
+-- The faults of stage 6, by their code and numbers: `at` is the offset of an entry or of a cut, `other` that of an
+-- earlier address override. A table of fewer than 44 bytes has no entries and no cut.
+abbrev pub MadtFault : PolicyValue → MadtContents → Code → ℕ → ℕ → ℕ → Type 0
+MadtFault q c code.MadtShort at other point = (c.size < 44) × (at ≡ 0) × AreUnused other point
+MadtFault q c code.MadtEntryCut at other point = (c.cut ≡ Some at) × AreUnused other point
+MadtFault q c code.SecondAddressOverride at other point = StandsWith c.entries at IsAddressOverride × StandsWith c.entries other IsAddressOverride × (other < at) × (point ≡ 0)
+MadtFault q c fault at other point = StandsWith c.entries at (MadtEntryFault q fault) × AreUnused other point
+
+-- ---- stage 7: interrupt numbers
+
+-- the entry is an I/O APIC that serves interrupt numbers from `start` on, as many as it has inputs; g is one of them
+abbrev pub ServesFrom : PolicyValue → ℕ → ℕ → MadtEntry → Type 0
+ServesFrom q start g (IoApic v) = (v.gsi_base ≡ start) × (start ≤ g) × (g < start + inputs_of q v.address)
+ServesFrom q start g _ = ⊥
+
+-- such an entry stands at o
+abbrev pub Serves : PolicyValue → MadtContents → ℕ → ℕ → ℕ → Type 0
+Serves q c o start g = StandsWith c.entries o (ServesFrom q start g)
+
+-- Stage 7: no interrupt number is served by two I/O APICs.
+abbrev pub AreInterruptsApart : PolicyValue → MadtContents → Type 0
+AreInterruptsApart q c = AreApart (Serves q c)
+
+-- The fault of stage 7: the I/O APICs at `at` and `other` both serve the interrupt number `point`.
+abbrev pub InterruptFault : PolicyValue → MadtContents → Code → ℕ → ℕ → ℕ → Type 0
+InterruptFault q c code.GsiClash at other point = IsClash (Serves q c) at other point
+InterruptFault q c _ at other point = ⊥
+
+-- the fault of stage 7 that is reported
+abbrev pub IsFirstGsiClash : PolicyValue → MadtContents → ℕ → ℕ → ℕ → Type 0
+IsFirstGsiClash q c at other point = IsFirstClash (Serves q c) at other point
+
+-- ---- stage 8: overrides
+
+-- the entry is an override that gives the Source the interrupt number g
+abbrev pub Overrides : ℕ → ℕ → MadtEntry → Type 0
+Overrides source g (Override v) = (v.source ≡ source) × (v.gsi ≡ g)
+Overrides source g _ = ⊥
+
+-- Stage 8: no two overrides give one Source two interrupt numbers.
+abbrev pub DoOverridesAgree : MadtContents → Type 0
+DoOverridesAgree c = (o p source g h : ℕ) → StandsWith c.entries o (Overrides source g) → StandsWith c.entries p (Overrides source h) → g ≡ h
+
+-- The fault of stage 8: the overrides at `at` and, before it, at `other` give the Source `point` two interrupt numbers.
+abbrev pub OverrideFault : MadtContents → Code → ℕ → ℕ → ℕ → Type 0
+OverrideFault c code.OverrideClash at other point = (g h : ℕ) × StandsWith c.entries at (Overrides point g) × StandsWith c.entries other (Overrides point h) × (other < at) × (g ≢ h)
+OverrideFault c _ at other point = ⊥
+
+-- ---- for the rules across tables
+
+-- the entry is of a processor with the number i that counts as enabled; APIC IDs and x2APIC IDs are one number space
+abbrev pub IsEnabledProcessor : Processors → ℕ → MadtEntry → Type 0
+IsEnabledProcessor p i (LocalApic v) = (v.apic_id ≡ i) × (counts_as_enabled p v.flags ≡ true)
+IsEnabledProcessor p i (X2apic v) = (v.x2apic_id ≡ i) × (counts_as_enabled p v.flags ≡ true)
+IsEnabledProcessor p i _ = ⊥
+
+-- the entry is of a processor, enabled or not, with this UID
+abbrev pub HasUid : ℕ → MadtEntry → Type 0
+HasUid uid (LocalApic v) = v.uid ≡ uid
+HasUid uid (X2apic v) = v.uid ≡ uid
+HasUid uid _ = ⊥
+
+-- the entry is an override or an NMI source and names the interrupt number g
+abbrev pub NamesGsi : ℕ → MadtEntry → Type 0
+NamesGsi g (Override v) = v.gsi ≡ g
+NamesGsi g (NmiSource v) = v.gsi ≡ g
+NamesGsi g _ = ⊥
+
+-- the table has at least 44 bytes, and typed entries fill the rest of it
+pub record IsWhollyTyped (c : MadtContents) : Type 0 where
+  pub long : 44 ≤ c.size
+  pub filled : c.cut ≡ None
+  pub typed : (o : ℕ) (e : List ℕ) → ¬ Stands c.entries o (Opaque e)

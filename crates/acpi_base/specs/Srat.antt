@@ -1,0 +1,176 @@
+-- The SRAT (ACPI 6.5, 5.2.16): what its entries and the table say, and when it is sound. Offsets of fields are from the
+-- start of the table or of the entry.
+use Rattle.std.specs.Prelude.{◌≡◌, ℕ, suc, ◌+◌, ◌*◌, ◌^◌, ◌<◌, ◌≤◌, ◌⊎◌, Bool, true, false, List, [], ◌∷◌, length, slice_index, Option, Some, None}
+use Rattle.acpi_base.specs.Number.{field, has_bit}
+use Rattle.acpi_base.specs.Entries.{Standing, Stands, StandsWith, entries_of, cut_of, said_by, Kind, kind, read_by, IsTypeOf, AreUnused}
+use Rattle.acpi_base.specs.Clashes.{IsClash, AreApartBelow, IsFirstClash}
+use Rattle.acpi_base.specs.declared.policy.HotPlug.{HotPlug}
+use Rattle.acpi_base.specs.declared.policy.HotPlug.TheVariants.{Counted, Apart}
+use Rattle.acpi_base.specs.declared.code.Code.{Code}
+use Rattle.acpi_base.specs.declared.code.Code.TheVariants as code
+
+-- ---- kinds of entries
+
+-- Processor Local APIC Affinity (5.2.16.1); bits 31:8 of the domain stand apart from bits 7:0
+pub record ApicDomainValue : Type 0 where
+  pub domain : ℕ
+  pub apic_id : ℕ
+  pub flags : ℕ
+  pub eid : ℕ
+  pub clock_domain : ℕ
+
+abbrev pub apic_domain_of : List ℕ → ApicDomainValue
+apic_domain_of e =
+    record {
+      domain = field e 2 1 + 256 * field e 9 3;
+      apic_id = field e 3 1;
+      flags = field e 4 4;
+      eid = field e 8 1;
+      clock_domain = field e 12 4;
+    }
+
+-- Memory Affinity (5.2.16.2): a range of addresses
+pub record MemoryValue : Type 0 where
+  pub domain : ℕ
+  pub base : ℕ
+  pub size : ℕ
+  pub flags : ℕ
+
+abbrev pub memory_of : List ℕ → MemoryValue
+memory_of e = record { domain = field e 2 4; base = field e 8 8; size = field e 16 8; flags = field e 28 4 }
+
+-- Processor Local x2APIC Affinity (5.2.16.3)
+pub record X2apicDomainValue : Type 0 where
+  pub domain : ℕ
+  pub x2apic_id : ℕ
+  pub flags : ℕ
+  pub clock_domain : ℕ
+
+abbrev pub x2apic_domain_of : List ℕ → X2apicDomainValue
+x2apic_domain_of e =
+    record { domain = field e 4 4; x2apic_id = field e 8 4; flags = field e 12 4; clock_domain = field e 16 4 }
+
+-- ---- entries
+
+-- what an entry says: one of the above, which is called a typed entry, or any other bytes
+pub data SratEntry : Type 0 where
+  ApicDomain : ApicDomainValue → SratEntry
+  MemoryRange : MemoryValue → SratEntry
+  X2apicDomain : X2apicDomainValue → SratEntry
+  Opaque : List ℕ → SratEntry
+
+-- their types and lengths
+abbrev pub srat_kinds : List (Kind SratEntry)
+srat_kinds =
+    kind 0 16 (λ e. ApicDomain (apic_domain_of e)) ∷
+    kind 1 40 (λ e. MemoryRange (memory_of e)) ∷
+    kind 2 24 (λ e. X2apicDomain (x2apic_domain_of e)) ∷
+    []
+
+-- what the bytes of an entry say
+unfoldable pub srat_entry : List ℕ → SratEntry
+srat_entry e = read_by srat_kinds Opaque e
+
+-- Enabled is set in the flags of an entry of any of the three types
+abbrev pub is_enabled : ℕ → Bool
+is_enabled flags = has_bit flags 0
+
+-- Hot Pluggable is set in the flags of a range
+abbrev pub is_hot_pluggable : ℕ → Bool
+is_hot_pluggable flags = has_bit flags 1
+
+-- ---- the table
+
+-- what an SRAT says: its length in bytes, its entries as far as they stand, and the offset at which bytes are left that
+-- are none
+pub record SratContents : Type 0 where
+  pub size : ℕ
+  pub entries : List (Standing SratEntry)
+  pub cut : Option ℕ
+
+-- what the bytes of an SRAT say; entries stand from 48 on
+unfoldable pub srat_contents : List ℕ → SratContents
+srat_contents whole =
+    record { size = length whole; entries = said_by srat_entry (entries_of 48 whole); cut = cut_of 48 whole }
+
+-- ---- stage 9: each entry by itself
+
+-- an entry is sound: it has the length of its type, which may be a type that is not read, and an enabled range ends at
+-- 2^64 or before
+abbrev pub IsSoundSratEntry : SratEntry → Type 0
+IsSoundSratEntry (MemoryRange v) = is_enabled v.flags ≡ true → v.base + v.size ≤ 2 ^ 64
+IsSoundSratEntry (Opaque e) = ¬ IsTypeOf srat_kinds (slice_index e 0)
+IsSoundSratEntry _ = Unit {0}
+
+-- Stage 9: the table is long enough, its entries fill it, and each is sound.
+pub record IsSoundSrat (c : SratContents) : Type 0 where
+  pub long : 48 ≤ c.size
+  pub filled : c.cut ≡ None
+  pub entries : (o : ℕ) (e : SratEntry) → Stands c.entries o e → IsSoundSratEntry e
+
+-- The faults that an entry has by itself, by their code.
+abbrev pub SratEntryFault : Code → SratEntry → Type 0
+SratEntryFault code.SratEntryLength (Opaque e) = IsTypeOf srat_kinds (slice_index e 0)
+SratEntryFault code.RangePastEnd (MemoryRange v) = (is_enabled v.flags ≡ true) × (2 ^ 64 < v.base + v.size)
+SratEntryFault _ _ = ⊥
+
+-- The faults of stage 9, by their code and numbers: `at` is the offset of an entry or of a cut. A table of fewer than 48
+-- bytes has no entries and no cut.
+abbrev pub SratFault : SratContents → Code → ℕ → ℕ → ℕ → Type 0
+SratFault c code.SratShort at other point = (c.size < 48) × (at ≡ 0) × AreUnused other point
+SratFault c code.SratEntryCut at other point = (c.cut ≡ Some at) × AreUnused other point
+SratFault c fault at other point = StandsWith c.entries at (SratEntryFault fault) × AreUnused other point
+
+-- ---- stage 10: ranges
+
+-- all ranges
+abbrev pub IsAny : MemoryValue → Type 0
+IsAny v = Unit {0}
+
+-- those that are hot-pluggable
+abbrev pub IsHotPluggable : MemoryValue → Type 0
+IsHotPluggable v = is_hot_pluggable v.flags ≡ true
+
+-- those that are not
+abbrev pub IsNotHotPluggable : MemoryValue → Type 0
+IsNotHotPluggable v = is_hot_pluggable v.flags ≡ false
+
+-- the entry is an enabled range, of those that P holds of, that begins at `start` and covers the address x
+abbrev pub CoversFrom : (MemoryValue → Type 0) → ℕ → ℕ → SratEntry → Type 0
+CoversFrom P start x (MemoryRange v) = (is_enabled v.flags ≡ true) × P v × (v.base ≡ start) × (start ≤ x) × (x < start + v.size)
+CoversFrom P start x _ = ⊥
+
+-- such an entry stands at o
+abbrev pub Covers : (MemoryValue → Type 0) → SratContents → ℕ → ℕ → ℕ → Type 0
+Covers P c o start x = StandsWith c.entries o (CoversFrom P start x)
+
+-- two enabled ranges cover the address x; where hot-pluggable ranges are apart, two that both are or both are not
+abbrev pub IsOverlap : HotPlug → SratContents → ℕ → ℕ → ℕ → Type 0
+IsOverlap Counted c o p x = IsClash (Covers IsAny c) o p x
+IsOverlap Apart c o p x = IsClash (Covers IsNotHotPluggable c) o p x ⊎ IsClash (Covers IsHotPluggable c) o p x
+
+-- Stage 10: no address is covered by two enabled ranges that must be apart.
+abbrev pub AreRangesApart : HotPlug → SratContents → Type 0
+AreRangesApart h c = (o p x : ℕ) → ¬ IsOverlap h c o p x
+
+-- The fault of stage 10: the enabled ranges at `at` and `other` must be apart and cover the address `point`.
+abbrev pub RangeFault : HotPlug → SratContents → Code → ℕ → ℕ → ℕ → Type 0
+RangeFault h c code.Overlap at other point = (point < 2 ^ 64) × IsOverlap h c at other point
+RangeFault h c _ at other point = ⊥
+
+-- The fault of stage 10 that is reported. Where hot-pluggable ranges are apart it is the one with the lesser `point`, and
+-- where both have one `point`, the one of ranges that are not hot-pluggable.
+abbrev pub IsFirstOverlap : HotPlug → SratContents → ℕ → ℕ → ℕ → Type 0
+IsFirstOverlap Counted c at other point = IsFirstClash (Covers IsAny c) at other point
+IsFirstOverlap Apart c at other point =
+    (IsFirstClash (Covers IsNotHotPluggable c) at other point × AreApartBelow (Covers IsHotPluggable c) point)
+    ⊎ (IsFirstClash (Covers IsHotPluggable c) at other point × AreApartBelow (Covers IsNotHotPluggable c) (suc point))
+
+-- ---- for the rules across tables
+
+-- the entry is enabled and puts the processor with the number i in the domain d; APIC IDs and x2APIC IDs are one number
+-- space
+abbrev pub PutsIn : ℕ → ℕ → SratEntry → Type 0
+PutsIn i d (ApicDomain v) = (v.apic_id ≡ i) × (v.domain ≡ d) × (is_enabled v.flags ≡ true)
+PutsIn i d (X2apicDomain v) = (v.x2apic_id ≡ i) × (v.domain ≡ d) × (is_enabled v.flags ≡ true)
+PutsIn i d _ = ⊥
