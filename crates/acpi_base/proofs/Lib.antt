@@ -1,3 +1,4 @@
+pub mod Chains
 pub mod Facs
 pub mod Fadt
 pub mod Faults
@@ -5,8 +6,11 @@ pub mod HeldBytes
 pub mod Layouts
 pub mod Pieces
 pub mod Policies
+pub mod Pptt
 pub mod Root
 pub mod Rsdp
 pub mod Runs
+pub mod Slit
+pub mod Standings
 pub mod Tables
 pub mod Texts

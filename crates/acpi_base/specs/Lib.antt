@@ -1,4 +1,5 @@
 pub mod Adding
+pub mod Chains
 pub mod Codes
 pub mod Entries
 pub mod Facs
@@ -14,10 +15,12 @@ pub mod Memory
 pub mod Number
 pub mod Policy
 pub mod PolicyFields
+pub mod Pptt
 pub mod Root
 pub mod Rsdp
 pub mod Segments
 pub mod Signature
+pub mod Slit
 pub mod Statements
 pub mod Tables
 pub mod Tally

@@ -1,0 +1,4 @@
+-- The PPTT.
+pub mod Chains
+pub mod Faults
+pub mod Places
