@@ -164,10 +164,14 @@ cycle_excludes_end Names naming most o lead (suc round) cycle (rest, chain) =
     never_ends Names naming rest lead round o cycle.there cycle.once cycle.back chain
 
 -- what goes round begins with one of the kind
-pub cycle_begins : (Names : ℕ → ℕ → Type 0) → (most o lead round : ℕ) → IsCycle Names most o lead round → IsAt Names o
+pub cycle_begins : (Names : ℕ → ℕ → Type 0) (most o lead round : ℕ) → IsCycle Names most o lead round → IsAt Names o
 cycle_begins Names most o zero zero cycle = absurd (omega (arith, cycle.some))
 cycle_begins Names most o zero (suc round) cycle = (cycle.back.0, rw cycle.once cycle.back.1.names)
 cycle_begins Names most o (suc lead) round cycle = (cycle.once.0, cycle.once.1.names)
+
+pub cycle_excludes : (Names : ℕ → ℕ → Type 0) → IsNaming Names → (most o lead round : ℕ) → IsCycle Names most o lead round → ¬ AllEnd Names
+cycle_excludes Names naming most o lead round cycle end =
+    cycle_excludes_end Names naming most o lead round cycle (end o (cycle_begins Names most o lead round cycle))
 
 pub ends_or_round : (Names : ℕ → ℕ → Type 0) (most : ℕ) → IsNaming Names → IsNumbered Names most → NoneDangles Names → EndOrGoRound Names most
 ends_or_round Names most naming numbered sound =

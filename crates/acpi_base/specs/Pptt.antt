@@ -77,6 +77,21 @@ pptt_type (Node v) = 0
 pptt_type (Cache v) = 1
 pptt_type (Opaque e) = slice_index e 0
 
+-- a node's Parent
+abbrev pub parent_of : PpttEntry → Option ℕ
+parent_of (Node v) = Some v.parent
+parent_of _ = None
+
+-- a node's private resource j, from 0 on
+abbrev pub resource_of : ℕ → PpttEntry → Option ℕ
+resource_of j (Node v) = slice_get v.resources j
+resource_of j _ = None
+
+-- a cache's Next Level of Cache
+abbrev pub next_level_of : PpttEntry → Option ℕ
+next_level_of (Cache v) = Some v.next_level
+next_level_of _ = None
+
 -- the entry is not typed though its type is one of the above: its length is another
 abbrev pub HasOtherPpttLength : PpttEntry → Type 0
 HasOtherPpttLength (Opaque e) = slice_index e 0 ≤ 1
@@ -101,17 +116,21 @@ pptt_contents whole =
       cut = cut_of 36 whole;
     }
 
+-- at o stands an entry that says p, of what `read` gives of entries
+abbrev pub Says : (PpttEntry → Option ℕ) → PpttContents → ℕ → ℕ → Type 0
+Says read c o p = (e : PpttEntry) × Stands c.entries o e × (read e ≡ Some p)
+
 -- a node stands at o whose Parent is p
 abbrev pub NamesParent : PpttContents → ℕ → ℕ → Type 0
-NamesParent c o p = (v : NodeValue) × Stands c.entries o (Node v) × (v.parent ≡ p)
+NamesParent = Says parent_of
 
--- a node stands at o whose private resource j, from 0 on, is at r
+-- a node stands at o whose private resource j is at r
 abbrev pub NamesResource : PpttContents → ℕ → ℕ → ℕ → Type 0
-NamesResource c o j r = (v : NodeValue) × Stands c.entries o (Node v) × (slice_get v.resources j ≡ Some r)
+NamesResource c o j r = Says (resource_of j) c o r
 
 -- a cache stands at o whose Next Level of Cache is p
 abbrev pub NamesNextLevel : PpttContents → ℕ → ℕ → Type 0
-NamesNextLevel c o p = (v : CacheValue) × Stands c.entries o (Cache v) × (v.next_level ≡ p)
+NamesNextLevel = Says next_level_of
 
 -- a node stands at o
 abbrev pub IsNodeAt : PpttContents → ℕ → Type 0

@@ -59,6 +59,11 @@ pub is_none : {X : Type 0} (o : Option X) → Decided (o ≡ None)
 is_none None = inl refl
 is_none (Some x) = inr (λ none. none_and_some none refl)
 
+-- whether there is a value
+pub is_some : {X : Type 0} (o : Option X) → Decided ((x : X) × (o ≡ Some x))
+is_some (Some x) = inl (x, refl)
+is_some None = inr (λ h. none-some h.0 h.1)
+
 -- whether there is a value and it is this number
 pub is_some_number : (o : Option ℕ) (k : ℕ) → Decided (o ≡ Some k)
 is_some_number None k = inr (λ is. none-some k is)

@@ -3,18 +3,18 @@
 use Rattle.std.proofs.Common.{◌≡◌, ℕ, ◌+◌, ◌<◌, ◌≤◌, List, [], ◌∷◌, zero, suc, length, Some, refl, inl, inr, arith}
 use Rattle.std.specs.Prelude.{slice_index, slice_get, Contains}
 use Rattle.std.proofs.lemmas.Bool.{cases_eq, ltb-true}
-use Rattle.std.proofs.lemmas.Option.{slice_get_within, cond_some}
+use Rattle.std.proofs.lemmas.Option.{slice_get_within, same_Some, cond_some}
 use Rattle.acpi_base.specs.Entries.{Standing, Stands, cut_of}
 use Rattle.acpi_base.specs.Chains.{Dangles, NoneDangles}
 use Rattle.acpi_base.specs.Codes.{stage_of}
-use Rattle.acpi_base.specs.Pptt.{NodeValue, CacheValue, PpttEntry, Node, Cache, Opaque, PpttContents, pptt_contents, HasOtherPpttLength, NamesParent, NamesNextLevel, IsCutPptt, AreReferencesSound, PpttFaultAt, PpttFault, ReferenceFault}
+use Rattle.acpi_base.specs.Pptt.{PpttEntry, Node, Cache, Opaque, PpttContents, pptt_contents, HasOtherPpttLength, parent_of, resource_of, next_level_of, NamesParent, NamesNextLevel, IsCutPptt, AreReferencesSound, PpttFaultAt, PpttFault, ReferenceFault}
 use Rattle.acpi_base.specs.declared.code.Code.{Code}
 use Rattle.acpi_base.specs.declared.code.Code.TheVariants as code
 use Rattle.acpi_base.specs.declared.stage.Stage.TheVariants as stage
 use Rattle.acpi_base.proofs.Chains.{IsNaming, names_decided}
 use Rattle.acpi_base.proofs.Faults.Deciding.{Decided, decided_as, both, all3, same, differs, at_most, negated, is_some_number}
 use Rattle.acpi_base.proofs.HeldBytes.{cases_Option, none_and_some}
-use Rattle.acpi_base.proofs.Pptt.Places.{ones, inside, entry_decided, node_decided, resource_decided, parents_named, next_levels_named}
+use Rattle.acpi_base.proofs.Pptt.Places.{inside, entry_decided, resource_decided, naming}
 use Rattle.acpi_base.proofs.Standings.{bounded}
 
 -- ---- entries
@@ -25,7 +25,7 @@ other_length _ = inr (λ h. h)
 
 cut_decided_at : (whole : List ℕ) (fault : Code) (at : ℕ) → Decided (PpttFaultAt (pptt_contents whole) fault at)
 cut_decided_at whole code.PpttEntryCut at = is_some_number (pptt_contents whole).cut at
-cut_decided_at whole code.PpttEntryLength at = entry_decided (pptt_contents whole) (ones whole) at HasOtherPpttLength other_length
+cut_decided_at whole code.PpttEntryLength at = entry_decided whole at HasOtherPpttLength other_length
 cut_decided_at whole _ at = inr (λ fault. fault)
 
 pub cut_decided : (whole : List ℕ) (fault : Code) (at other point : ℕ) → Decided (PpttFault (pptt_contents whole) fault at other point)
@@ -70,11 +70,10 @@ dangles_excludes : (Names : ℕ → ℕ → Type 0) (o p : ℕ) → Dangles Name
 dangles_excludes Names o p dangles sound = elim (sound o p dangles.names) [ inl none ↦ dangles.some none | inr there ↦ dangles.nowhere there ]
 
 pub references_decided : (whole : List ℕ) (fault : Code) (at other point : ℕ) → Decided (ReferenceFault (pptt_contents whole) fault at other point)
-references_decided whole code.DanglingParent at other point = both (dangles_decided (NamesParent (pptt_contents whole)) (parents_named whole) at other) (same point 0)
+references_decided whole code.DanglingParent at other point = both (dangles_decided (NamesParent (pptt_contents whole)) (naming whole parent_of) at other) (same point 0)
 references_decided whole code.DanglingResource at other point =
-    let c = pptt_contents whole in
-    both (node_decided c (ones whole) at _ (λ v. is_some_number (slice_get v.resources other) point)) (negated (resource_decided c (ones whole) point))
-references_decided whole code.DanglingCache at other point = both (dangles_decided (NamesNextLevel (pptt_contents whole)) (next_levels_named whole) at other) (same point 0)
+    both (names_decided _ (naming whole (resource_of other)) at point) (negated (resource_decided whole point))
+references_decided whole code.DanglingCache at other point = both (dangles_decided (NamesNextLevel (pptt_contents whole)) (naming whole next_level_of) at other) (same point 0)
 references_decided whole _ at other point = inr (λ fault. fault)
 
 -- where no reference dangles they are sound
@@ -82,9 +81,9 @@ pub references_without_fault : (whole : List ℕ) → ((fault : Code) (at other 
 references_without_fault whole none =
     let c = pptt_contents whole in
     record {
-      parents = none_dangles (NamesParent c) (parents_named whole) (λ o p dangles. none code.DanglingParent o p 0 refl (dangles, refl));
-      resources = λ o j r names. elim (resource_decided c (ones whole) r) [ inl there ↦ there | inr nowhere ↦ absurd (none code.DanglingResource o j r refl (names, nowhere)) ];
-      next_levels = none_dangles (NamesNextLevel c) (next_levels_named whole) (λ o p dangles. none code.DanglingCache o p 0 refl (dangles, refl));
+      parents = none_dangles (NamesParent c) (naming whole parent_of) (λ o p dangles. none code.DanglingParent o p 0 refl (dangles, refl));
+      resources = λ o j r names. elim (resource_decided whole r) [ inl there ↦ there | inr nowhere ↦ absurd (none code.DanglingResource o j r refl (names, nowhere)) ];
+      next_levels = none_dangles (NamesNextLevel c) (naming whole next_level_of) (λ o p dangles. none code.DanglingCache o p 0 refl (dangles, refl));
     }
 
 -- a fault excludes that they are sound
@@ -107,36 +106,46 @@ in_total (x ∷ xs) zero r is = grind arith
 in_total (x ∷ xs) (suc j) r is = omega (arith, in_total xs j r is)
 
 -- no number in what an entry names is greater
-names_up_to : PpttEntry → ℕ
-names_up_to (Node v) = v.parent + (length v.resources + total v.resources)
-names_up_to (Cache v) = v.next_level
-names_up_to (Opaque e) = 0
+reach : PpttEntry → ℕ
+reach (Node v) = v.parent + (length v.resources + total v.resources)
+reach (Cache v) = v.next_level
+reach (Opaque e) = 0
+
+parent_in : (e : PpttEntry) (p : ℕ) → parent_of e ≡ Some p → p ≤ reach e
+unfolding reach
+parent_in (Node v) p is = omega (arith, same_Some v.parent p is)
+parent_in _ p is = absurd cc
+
+resource_in : (e : PpttEntry) (j r : ℕ) → resource_of j e ≡ Some r → (j < reach e + 1) × (r ≤ reach e)
+unfolding reach
+resource_in (Node v) j r is = (omega (arith, slice_get_within v.resources j r is), omega (arith, in_total v.resources j r is))
+resource_in _ j r is = absurd cc
+
+next_level_in : (e : PpttEntry) (p : ℕ) → next_level_of e ≡ Some p → p ≤ reach e
+unfolding reach
+next_level_in (Cache v) p is = omega (arith, same_Some v.next_level p is)
+next_level_in _ p is = absurd cc
 
 pub references_bounded : (c : PpttContents) → (most : ℕ) × ((fault : Code) (at other point : ℕ) → ReferenceFault c fault at other point → (at < most) × (other < most) × (point < most))
-unfolding names_up_to
-references_bounded c = (most.0, place)
+references_bounded c = (most.0 + 1, place)
   where
-    most : (most : ℕ) × ((s : Standing PpttEntry) → Contains c.entries s → s.offset + names_up_to s.entry < most)
-    most = bounded (λ s. s.offset + names_up_to s.entry) c.entries
+    most : (most : ℕ) × ((s : Standing PpttEntry) → Contains c.entries s → s.offset + reach s.entry < most)
+    most = bounded (λ s. s.offset + reach s.entry) c.entries
 
-    node : (o : ℕ) (v : NodeValue) → Stands c.entries o (Node v) → o + (v.parent + (length v.resources + total v.resources)) < most.0
-    node o v stands = most.1 (record { offset = o; entry = Node v }) stands
+    here : (o : ℕ) (e : PpttEntry) → Stands c.entries o e → o + reach e < most.0
+    here o e stands = most.1 (record { offset = o; entry = e }) stands
 
-    cache : (o : ℕ) (v : CacheValue) → Stands c.entries o (Cache v) → o + v.next_level < most.0
-    cache o v stands = most.1 (record { offset = o; entry = Cache v }) stands
-
-    place : (fault : Code) (at other point : ℕ) → ReferenceFault c fault at other point → (at < most.0) × (other < most.0) × (point < most.0)
+    place : (fault : Code) (at other point : ℕ) → ReferenceFault c fault at other point → (at < most.0 + 1) × (other < most.0 + 1) × (point < most.0 + 1)
     place code.DanglingParent at other point (dangles, nothing) =
-        let (v, stands, is) = dangles.names in
-        let here = node at v stands in
-        (omega arith, omega arith, omega arith)
-    place code.DanglingResource at other point ((v, stands, is), nowhere) =
-        let here = node at v stands in
-        let inside = slice_get_within v.resources other point is in
-        let reach = in_total v.resources other point is in
-        (omega arith, omega arith, omega arith)
+        let (e, stands, is) = dangles.names in
+        let all = here at e stands in
+        (omega arith, omega (arith, parent_in e other is), omega arith)
+    place code.DanglingResource at other point ((e, stands, is), nowhere) =
+        let all = here at e stands in
+        let own = resource_in e other point is in
+        (omega arith, omega (arith, own.0), omega (arith, own.1))
     place code.DanglingCache at other point (dangles, nothing) =
-        let (v, stands, is) = dangles.names in
-        let here = cache at v stands in
-        (omega arith, omega arith, omega arith)
+        let (e, stands, is) = dangles.names in
+        let all = here at e stands in
+        (omega arith, omega (arith, next_level_in e other is), omega arith)
     place _ at other point fault = absurd fault

@@ -1,11 +1,11 @@
 -- Where entries stand in a PPTT, and what can be decided of those that stand at an offset.
-use Rattle.std.proofs.Common.{◌≡◌, ℕ, ◌+◌, ◌*◌, ◌/◌, ◌<◌, ◌≤◌, true, List, length, refl, subst, inl, inr, arith}
+use Rattle.std.proofs.Common.{◌≡◌, ℕ, ◌+◌, ◌*◌, ◌/◌, ◌<◌, ◌≤◌, true, List, length, refl, subst, Option, Some, inl, inr, arith}
 use Rattle.std.specs.Prelude.{◌⊎◌, ◌≢◌}
 use Rattle.std.proofs.lemmas.Bool.{and_parts, or_cases, eqb-true, cond_both}
 use Rattle.acpi_base.specs.Entries.{Stands, entries_of, has_form}
-use Rattle.acpi_base.specs.Pptt.{NodeValue, CacheValue, PpttEntry, Node, Cache, Opaque, resource_count, has_node_form, has_cache_form, pptt_entry, pptt_type, PpttContents, pptt_contents, NamesParent, NamesNextLevel, IsResourceAt, most_nodes, most_caches}
+use Rattle.acpi_base.specs.Pptt.{PpttEntry, Node, Cache, Opaque, resource_count, has_node_form, has_cache_form, pptt_entry, pptt_type, pptt_contents, parent_of, next_level_of, Says, NamesParent, NamesNextLevel, IsResourceAt, most_nodes, most_caches}
 use Rattle.acpi_base.proofs.Chains.{IsNaming, IsNumbered}
-use Rattle.acpi_base.proofs.Faults.Deciding.{Decided, decided_as, same, differs}
+use Rattle.acpi_base.proofs.Faults.Deciding.{Decided, decided_as, differs, is_some}
 use Rattle.acpi_base.proofs.Standings.{AreOnes, entry_or_none, said_from, one_said, entry_within, entries_apart}
 
 -- ---- how long entries are
@@ -74,66 +74,47 @@ pub size_is : (whole : List ℕ) → (pptt_contents whole).size ≡ length whole
 unfolding pptt_contents
 size_is whole = refl
 
+node_long : (e : PpttEntry) (p : ℕ) → parent_of e ≡ Some p → 20 ≤ least_size e
+node_long (Node v) p is = omega arith
+node_long _ p is = absurd cc
+
 pub nodes_numbered : (whole : List ℕ) → IsNumbered (NamesParent (pptt_contents whole)) (most_nodes (pptt_contents whole))
 nodes_numbered whole =
     record {
       number = λ o. o / 20;
-      below = λ o here. omega (arith, within whole o (Node here.1.0) here.1.1, size_is whole);
-      apart = λ o p one other same. grind (arith, apart whole o p (Node one.1.0) (Node other.1.0) one.1.1 other.1.1);
+      below = λ o here. omega (arith, within whole o here.1.0 here.1.1, node_long here.1.0 here.0 here.1.2, size_is whole);
+      apart = λ o p one other same. grind (arith, apart whole o p one.1.0 other.1.0 one.1.1 other.1.1, node_long one.1.0 one.0 one.1.2, node_long other.1.0 other.0 other.1.2);
     }
+
+cache_long : (e : PpttEntry) (p : ℕ) → next_level_of e ≡ Some p → 24 ≤ least_size e
+cache_long (Cache v) p is = omega arith
+cache_long _ p is = absurd cc
 
 pub caches_numbered : (whole : List ℕ) → IsNumbered (NamesNextLevel (pptt_contents whole)) (most_caches (pptt_contents whole))
 caches_numbered whole =
     record {
       number = λ o. o / 24;
-      below = λ o here. omega (arith, within whole o (Cache here.1.0) here.1.1, size_is whole);
-      apart = λ o p one other same. grind (arith, apart whole o p (Cache one.1.0) (Cache other.1.0) one.1.1 other.1.1);
+      below = λ o here. omega (arith, within whole o here.1.0 here.1.1, cache_long here.1.0 here.0 here.1.2, size_is whole);
+      apart = λ o p one other same. grind (arith, apart whole o p one.1.0 other.1.0 one.1.1 other.1.1, cache_long one.1.0 one.0 one.1.2, cache_long other.1.0 other.0 other.1.2);
     }
 
 -- ---- what can be decided
 
 -- whether an entry stands at an offset of which P holds
-pub entry_decided : (c : PpttContents) → AreOnes c.entries → (o : ℕ) (P : PpttEntry → Type 0) → ((e : PpttEntry) → Decided (P e)) → Decided ((e : PpttEntry) × Stands c.entries o e × P e)
-entry_decided c one o P decide =
-    elim (entry_or_none c.entries o) [
+pub entry_decided : (whole : List ℕ) (o : ℕ) (P : PpttEntry → Type 0) → ((e : PpttEntry) → Decided (P e)) → Decided ((e : PpttEntry) × Stands (pptt_contents whole).entries o e × P e)
+entry_decided whole o P decide =
+    elim (entry_or_none (pptt_contents whole).entries o) [
       | inr none ↦ inr (λ h. none h.0 h.1)
-      | inl (e, stands) ↦ decided_as (λ h. (e, stands, h)) (λ h. subst P (one o h.0 e h.1 stands) h.2) (decide e)
+      | inl (e, stands) ↦ decided_as (λ h. (e, stands, h)) (λ h. subst P (ones whole o h.0 e h.1 stands) h.2) (decide e)
     ]
 
--- the same of a node, and of a cache
-pub node_decided : (c : PpttContents) → AreOnes c.entries → (o : ℕ) (P : NodeValue → Type 0) → ((v : NodeValue) → Decided (P v)) → Decided ((v : NodeValue) × Stands c.entries o (Node v) × P v)
-node_decided c one o P decide =
-    decided_as (λ h. (h.2.0, subst (Stands c.entries o) h.2.1 h.1, h.2.2)) (λ h. (Node h.0, h.1, (h.0, refl, h.2)))
-    (entry_decided c one o (λ e. (v : NodeValue) × (e ≡ Node v) × P v) node)
-  where
-    node : (e : PpttEntry) → Decided ((v : NodeValue) × (e ≡ Node v) × P v)
-    node (Node v) = decided_as (λ h. (v, refl, h)) (λ h. let is : h.0 ≡ v = cc (h.1) in subst P is h.2) (decide v)
-    node _ = inr (λ h. let is = h.1 in absurd cc)
+pub resource_decided : (whole : List ℕ) (o : ℕ) → Decided (IsResourceAt (pptt_contents whole) o)
+resource_decided whole o = entry_decided whole o (λ e. pptt_type e ≢ 0) (λ e. differs (pptt_type e) 0)
 
-pub cache_decided : (c : PpttContents) → AreOnes c.entries → (o : ℕ) (P : CacheValue → Type 0) → ((v : CacheValue) → Decided (P v)) → Decided ((v : CacheValue) × Stands c.entries o (Cache v) × P v)
-cache_decided c one o P decide =
-    decided_as (λ h. (h.2.0, subst (Stands c.entries o) h.2.1 h.1, h.2.2)) (λ h. (Cache h.0, h.1, (h.0, refl, h.2)))
-    (entry_decided c one o (λ e. (v : CacheValue) × (e ≡ Cache v) × P v) cache)
-  where
-    cache : (e : PpttEntry) → Decided ((v : CacheValue) × (e ≡ Cache v) × P v)
-    cache (Cache v) = decided_as (λ h. (v, refl, h)) (λ h. let is : h.0 ≡ v = cc (h.1) in subst P is h.2) (decide v)
-    cache _ = inr (λ h. let is = h.1 in absurd cc)
-
-pub resource_decided : (c : PpttContents) → AreOnes c.entries → (o : ℕ) → Decided (IsResourceAt c o)
-resource_decided c one o = entry_decided c one o (λ e. pptt_type e ≢ 0) (λ e. differs (pptt_type e) 0)
-
-pub parents_named : (whole : List ℕ) → IsNaming (NamesParent (pptt_contents whole))
-parents_named whole =
-    let c = pptt_contents whole in
+-- at most one offset is read of what stands at an offset, and whether one is can be decided
+pub naming : (whole : List ℕ) (read : PpttEntry → Option ℕ) → IsNaming (Says read (pptt_contents whole))
+naming whole read =
     record {
-      one = λ o p q a b. let same : Node a.0 ≡ Node b.0 = ones whole o (Node a.0) (Node b.0) a.1 b.1 in cc (a.2, b.2);
-      decide = λ o. decided_as (λ h. (h.0.parent, (h.0, h.1, refl))) (λ h. (h.1.0, h.1.1, tt)) (node_decided c (ones whole) o (λ _. Unit {0}) (λ _. inl tt));
-    }
-
-pub next_levels_named : (whole : List ℕ) → IsNaming (NamesNextLevel (pptt_contents whole))
-next_levels_named whole =
-    let c = pptt_contents whole in
-    record {
-      one = λ o p q a b. let same : Cache a.0 ≡ Cache b.0 = ones whole o (Cache a.0) (Cache b.0) a.1 b.1 in cc (a.2, b.2);
-      decide = λ o. decided_as (λ h. (h.0.next_level, (h.0, h.1, refl))) (λ h. (h.1.0, h.1.1, tt)) (cache_decided c (ones whole) o (λ _. Unit {0}) (λ _. inl tt));
+      one = λ o p q a b. let same = ones whole o a.0 b.0 a.1 b.1 in cc (a.2, b.2);
+      decide = λ o. decided_as (λ h. (h.2.0, (h.0, h.1, h.2.1))) (λ h. (h.1.0, h.1.1, (h.0, h.1.2))) (entry_decided whole o (λ e. (p : ℕ) × (read e ≡ Some p)) (λ e. is_some (read e)));
     }
