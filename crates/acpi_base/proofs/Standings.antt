@@ -1,8 +1,8 @@
 -- The entries that stand in a table: they lie one behind another within it, so at most one stands at an offset.
 use Rattle.std.proofs.Common.{◌≡◌, ℕ, zero, suc, ◌+◌, ◌<◌, ◌≤◌, List, [], ◌∷◌, length, take, drop, map, Some, refl, sym, ◌∙◌, ap, subst, inl, inr, arith, length-drop}
 use Rattle.std.specs.Prelude.{◌⊎◌, ◌&&◌, Contains, slice_index, nat_le}
-use Rattle.std.proofs.lemmas.Bool.{and_parts, leb-true, cases_eq}
-use Rattle.std.proofs.lemmas.List.{length-take-le}
+use Rattle.std.proofs.lemmas.Bool.{and_parts, leb-true, cases_eq, cases_lt}
+use Rattle.std.proofs.lemmas.List.{length-take-le, length-take, get_or-take, get_or-drop, get_or_past}
 use Rattle.std.proofs.lemmas.Option.{cond_some}
 use Rattle.acpi_base.specs.Entries.{Standing, Stands, first_entry, entries_from, entries_of, said_by}
 use Rattle.acpi_base.proofs.HeldBytes.{cases_Option}
@@ -117,6 +117,32 @@ entries_apart first whole o p e d one other =
       | inl same ↦ inl (ap (λ (s : Standing (List ℕ)). s.offset) same, ap (λ (s : Standing (List ℕ)). s.entry) same)
       | inr apart ↦ inr apart
     ]
+
+-- ---- entries of bytes
+
+take_below : (n : ℕ) (bytes : List ℕ) → ((k : ℕ) → slice_index bytes k < 256) → (k : ℕ) → slice_index (take n bytes) k < 256
+take_below n bytes small k = grind (arith, cases_lt k n, get_or-take n bytes k 0, get_or_past (take n bytes) k 0, length-take n bytes, small k)
+
+entries_below : (n offset : ℕ) (left : List ℕ) → ((k : ℕ) → slice_index left k < 256) → (s : Standing (List ℕ)) → Contains (entries_from n offset left) s → (k : ℕ) → slice_index s.entry k < 256
+unfolding first_entry entries_from
+entries_below zero offset left small s h k = absurd (no_element s h)
+entries_below (suc n) offset left small s h k =
+    elim (cases_Option (first_entry left)) [
+      | inr none ↦ absurd (no_element s (rw none at h))
+      | inl (e, is) ↦
+          elim (first_or_later (record { offset = offset; entry = e }) s _ (rw is at h)) [
+            | inl same ↦
+                let entry : take (slice_index left 1) left ≡ s.entry = (cond_some _ _ _ is).1 ∙ ap (λ (t : Standing (List ℕ)). t.entry) same in
+                rw (← entry) (take_below (slice_index left 1) left small k)
+            | inr later ↦ entries_below n (offset + length e) (drop (length e) left) (λ j. grind (arith, get_or-drop (length e) left j 0, small (length e + j))) s later k
+          ]
+    ]
+
+-- where each byte of a table is below 256, each of an entry is
+pub entry_below : (first : ℕ) (whole : List ℕ) → ((k : ℕ) → slice_index whole k < 256) → (o : ℕ) (e : List ℕ) → Stands (entries_of first whole) o e → (k : ℕ) → slice_index e k < 256
+unfolding entries_of
+entry_below first whole small o e stands =
+    entries_below (length whole) first (drop first whole) (λ j. grind (arith, get_or-drop first whole j 0, small (first + j))) (record { offset = o; entry = e }) stands
 
 -- ---- what entries say
 
