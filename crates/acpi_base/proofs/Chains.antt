@@ -1,7 +1,7 @@
 -- Chains of offsets: each ends or comes to a cycle, none does both, and both can be decided.
 use Rattle.std.proofs.Common.{◌≡◌, ℕ, zero, suc, ◌+◌, ◌-◌, ◌<◌, ◌≤◌, List, [], ◌∷◌, refl, sym, ◌∙◌, ap, subst, inl, inr, arith}
-use Rattle.std.specs.Prelude.{◌⊎◌, ◌≢◌, ◌==◌, if◌then◌else◌}
-use Rattle.std.proofs.lemmas.Bool.{cases_eq, cases_lt, cond-true, cond-false, eq-eqb, ne_eqb}
+use Rattle.std.specs.Prelude.{◌⊎◌, ◌≢◌}
+use Rattle.std.proofs.lemmas.Bool.{cases_eq, cases_lt}
 use Rattle.acpi_base.specs.Chains.{IsAt, IsStep, NoneDangles, IsChain, Ends, AllEnd, LeadsTo, IsCycle, GoesRound, EndOrGoRound}
 use Rattle.acpi_base.proofs.Faults.Deciding.{Decided, decided_as, both, all3, same, differs, at_most}
 use Rattle.acpi_base.proofs.Faults.Least.{least_below}
@@ -19,17 +19,15 @@ pub record IsNumbered (Names : ℕ → ℕ → Type 0) (most : ℕ) : Type 0 whe
 
 -- ---- of n + 1 numbers below n two are one
 
--- f, with the number after the last in the place of n
-moved : (ℕ → ℕ) → ℕ → ℕ → ℕ
-moved f n i = if f i == n then f (suc n) else f i
+-- f at i, with the number after the last in the place of n
+moved : (f : ℕ → ℕ) (n i : ℕ) → Decided (f i ≡ n) → ℕ
+moved f n i (inl is) = f (suc n)
+moved f n i (inr other) = f i
 
-moved_is : (f : ℕ → ℕ) (n i : ℕ) → ((f i ≡ n) × (moved f n i ≡ f (suc n))) ⊎ ((f i ≢ n) × (moved f n i ≡ f i))
+moved_is : (f : ℕ → ℕ) (n i : ℕ) (d : Decided (f i ≡ n)) → ((f i ≡ n) × (moved f n i d ≡ f (suc n))) ⊎ ((f i ≢ n) × (moved f n i d ≡ f i))
 unfolding moved
-moved_is f n i =
-    elim (cases_eq (f i) n) [
-      | inl is ↦ inl (is, cond-true (f i == n) (f (suc n)) (f i) (eq-eqb (f i) n is))
-      | inr other ↦ inr (other, cond-false (f i == n) (f (suc n)) (f i) (ne_eqb (f i) n other))
-    ]
+moved_is f n i (inl is) = inl (is, refl)
+moved_is f n i (inr other) = inr (other, refl)
 
 pub pigeonhole : (n : ℕ) (f : ℕ → ℕ) → ((i : ℕ) → i ≤ n → f i < n) → (i j : ℕ) × (i < j) × (j ≤ n) × (f i ≡ f j)
 pigeonhole zero f below = absurd (omega (arith, below 0 (omega arith)))
@@ -37,8 +35,9 @@ pigeonhole (suc n) f below =
     elim (least_below (λ i. f i ≡ f (suc n)) (λ i. same (f i) (f (suc n))) (suc n)) [
       | inr (i, inside, least) ↦ (i, suc n, inside, omega arith, least.holds)
       | inl new ↦
-          let found = pigeonhole n (moved f n) (λ i within. grind (arith, moved_is f n i, below i, below (suc n), new i)) in
-          (found.0, found.1, found.2, omega (arith, found.3), grind (arith, found.2, found.3, found.4, moved_is f n found.0, moved_is f n found.1, new found.0, new found.1))
+          let is = λ (i : ℕ). moved_is f n i (same (f i) n) in
+          let (i, j, less, within, repeats) = pigeonhole n (λ i. moved f n i (same (f i) n)) (λ i within. grind (arith, is i, below i, below (suc n), new i)) in
+          (i, j, less, omega arith, grind (arith, is i, is j, new i, new j))
     ]
 
 -- ---- a chain ends, or leads on
@@ -105,12 +104,8 @@ ends_or_leads Names naming sound o here (suc n) =
 
 goes_round : (Names : ℕ → ℕ → Type 0) (most : ℕ) → IsNumbered Names most → (at : ℕ → ℕ) → IsAt Names (at 0) → AreSteps Names at most → GoesRound Names most (at 0)
 goes_round Names most numbered at here each =
-    let found = pigeonhole most (λ k. numbered.number (at k)) (λ k within. numbered.below (at k) (stands k within)) in
-    let i = found.0 in
-    let j = found.1 in
-    let less : i < j = found.2 in
-    let within : j ≤ most = found.3 in
-    let is : at j ≡ at i = sym (numbered.apart (at i) (at j) (stands i (omega arith)) (stands j within) found.4) in
+    let (i, j, less, within, repeats) = pigeonhole most (λ k. numbered.number (at k)) (λ k within. numbered.below (at k) (stands k within)) in
+    let is : at j ≡ at i = sym (numbered.apart (at i) (at j) (stands i (omega arith)) (stands j within) repeats) in
     let back = leads_along Names at most each (j - i) i j (omega arith) within in (
       i,
       j - i,
