@@ -123,7 +123,8 @@ goes_round Names most numbered at here each =
     stands (suc k) within = (each k (omega arith)).there
 
 -- where what is named stands, each chain ends or goes round
-pub ends_or_goes_round : (Names : ℕ → ℕ → Type 0) (most : ℕ) → IsNaming Names → IsNumbered Names most → NoneDangles Names → (o : ℕ) → IsAt Names o → Ends Names o ⊎ GoesRound Names most o
+pub ends_or_goes_round : (Names : ℕ → ℕ → Type 0) (most : ℕ) → IsNaming Names → IsNumbered Names most → NoneDangles Names
+    → (o : ℕ) → IsAt Names o → Ends Names o ⊎ GoesRound Names most o
 unfolding after
 ends_or_goes_round Names most naming numbered sound o here =
     elim (ends_or_leads Names naming sound o here most) [
@@ -132,7 +133,8 @@ ends_or_goes_round Names most naming numbered sound o here =
     ]
 
 -- where none goes round, all end
-pub end_without_cycle : (Names : ℕ → ℕ → Type 0) (most : ℕ) → IsNaming Names → IsNumbered Names most → NoneDangles Names → ((o lead round : ℕ) → ¬ IsCycle Names most o lead round) → AllEnd Names
+pub end_without_cycle : (Names : ℕ → ℕ → Type 0) (most : ℕ) → IsNaming Names → IsNumbered Names most → NoneDangles Names
+    → ((o lead round : ℕ) → ¬ IsCycle Names most o lead round) → AllEnd Names
 end_without_cycle Names most naming numbered sound none o here =
     elim (ends_or_goes_round Names most naming numbered sound o here) [
       | inl ends ↦ ends
@@ -141,7 +143,8 @@ end_without_cycle Names most naming numbered sound none o here =
 
 -- ---- a chain that goes round does not end
 
-never_ends : (Names : ℕ → ℕ → Type 0) → IsNaming Names → (rest : List ℕ) (lead round o there : ℕ) → LeadsTo Names lead o there → LeadsTo Names (suc round) there there → ¬ IsChain Names o rest
+never_ends : (Names : ℕ → ℕ → Type 0) → IsNaming Names → (rest : List ℕ) (lead round o there : ℕ)
+    → LeadsTo Names lead o there → LeadsTo Names (suc round) there there → ¬ IsChain Names o rest
 never_ends Names naming [] zero round o there once back last =
     back.1.some (naming.one there back.0 0 back.1.names (rw once at last))
 never_ends Names naming [] (suc lead) round o there once back last =

@@ -84,7 +84,8 @@ lies_within from end (t ∷ rest) spread s h =
 abbrev AreApart : Standing (List ℕ) → Standing (List ℕ) → Type 0
 AreApart s t = (s ≡ t) ⊎ ((s.offset + length s.entry ≤ t.offset) ⊎ (t.offset + length t.entry ≤ s.offset))
 
-are_apart : (from end : ℕ) (es : List (Standing (List ℕ))) → AreSpread from end es → (s t : Standing (List ℕ)) → Contains es s → Contains es t → AreApart s t
+are_apart : (from end : ℕ) (es : List (Standing (List ℕ))) → AreSpread from end es
+    → (s t : Standing (List ℕ)) → Contains es s → Contains es t → AreApart s t
 unfolding AreSpread
 are_apart from end [] spread s t h i = absurd (no_element s h)
 are_apart from end (u ∷ rest) spread s t h i =
@@ -123,7 +124,8 @@ entries_apart first whole o p e d one other =
 take_below : (n : ℕ) (bytes : List ℕ) → ((k : ℕ) → slice_index bytes k < 256) → (k : ℕ) → slice_index (take n bytes) k < 256
 take_below n bytes small k = grind (arith, cases_lt k n, get_or-take n bytes k 0, get_or_past (take n bytes) k 0, length-take n bytes, small k)
 
-entries_below : (n offset : ℕ) (left : List ℕ) → ((k : ℕ) → slice_index left k < 256) → (s : Standing (List ℕ)) → Contains (entries_from n offset left) s → (k : ℕ) → slice_index s.entry k < 256
+entries_below : (n offset : ℕ) (left : List ℕ) → ((k : ℕ) → slice_index left k < 256)
+    → (s : Standing (List ℕ)) → Contains (entries_from n offset left) s → (k : ℕ) → slice_index s.entry k < 256
 unfolding first_entry entries_from
 entries_below zero offset left small s h k = absurd (no_element s h)
 entries_below (suc n) offset left small s h k =
@@ -139,7 +141,8 @@ entries_below (suc n) offset left small s h k =
     ]
 
 -- where each byte of a table is below 256, each of an entry is
-pub entry_below : (first : ℕ) (whole : List ℕ) → ((k : ℕ) → slice_index whole k < 256) → (o : ℕ) (e : List ℕ) → Stands (entries_of first whole) o e → (k : ℕ) → slice_index e k < 256
+pub entry_below : (first : ℕ) (whole : List ℕ) → ((k : ℕ) → slice_index whole k < 256)
+    → (o : ℕ) (e : List ℕ) → Stands (entries_of first whole) o e → (k : ℕ) → slice_index e k < 256
 unfolding entries_of
 entry_below first whole small o e stands =
     entries_below (length whole) first (drop first whole) (λ j. grind (arith, get_or-drop first whole j 0, small (first + j))) (record { offset = o; entry = e }) stands

@@ -28,7 +28,8 @@ parents_decided whole code.ParentCycle at other point = cycle_decided _ (naming 
 parents_decided whole _ at other point = inr (λ fault. fault)
 
 -- where none goes round, all end
-pub parents_end_without_fault : (whole : List ℕ) → AreReferencesSound (pptt_contents whole) → ((fault : Code) (at other point : ℕ) → stage_of fault ≡ stage.Parents → ¬ ParentFault (pptt_contents whole) fault at other point) → DoParentsEnd (pptt_contents whole)
+pub parents_end_without_fault : (whole : List ℕ) → AreReferencesSound (pptt_contents whole)
+    → ((fault : Code) (at other point : ℕ) → stage_of fault ≡ stage.Parents → ¬ ParentFault (pptt_contents whole) fault at other point) → DoParentsEnd (pptt_contents whole)
 parents_end_without_fault whole sound none =
     end_without_cycle _ _ (naming whole parent_of) (nodes_numbered whole) sound.parents (λ o lead round. none code.ParentCycle o lead round refl)
 
@@ -38,7 +39,8 @@ parents_exclude whole code.ParentCycle at other point cycle = cycle_excludes _ (
 parents_exclude whole _ at other point fault = λ _. fault
 
 -- it is at an offset within the table, and its steps are no more than the table has bytes
-pub parents_place : (whole : List ℕ) (fault : Code) (at other point : ℕ) → ParentFault (pptt_contents whole) fault at other point → (at < length whole) × (other ≤ length whole) × (point ≤ length whole)
+pub parents_place : (whole : List ℕ) (fault : Code) (at other point : ℕ) → ParentFault (pptt_contents whole) fault at other point
+    → (at < length whole) × (other ≤ length whole) × (point ≤ length whole)
 parents_place whole code.ParentCycle at other point cycle =
     let begins = cycle_begins (NamesParent (pptt_contents whole)) (most_nodes (pptt_contents whole)) at other point cycle in
     let size = size_is whole in
@@ -52,7 +54,8 @@ caches_decided whole code.CacheCycle at other point = cycle_decided _ (naming wh
 caches_decided whole _ at other point = inr (λ fault. fault)
 
 -- where none goes round, all end
-pub caches_end_without_fault : (whole : List ℕ) → AreReferencesSound (pptt_contents whole) → ((fault : Code) (at other point : ℕ) → stage_of fault ≡ stage.Caches → ¬ CacheFault (pptt_contents whole) fault at other point) → DoCachesEnd (pptt_contents whole)
+pub caches_end_without_fault : (whole : List ℕ) → AreReferencesSound (pptt_contents whole)
+    → ((fault : Code) (at other point : ℕ) → stage_of fault ≡ stage.Caches → ¬ CacheFault (pptt_contents whole) fault at other point) → DoCachesEnd (pptt_contents whole)
 caches_end_without_fault whole sound none =
     end_without_cycle _ _ (naming whole next_level_of) (caches_numbered whole) sound.next_levels (λ o lead round. none code.CacheCycle o lead round refl)
 
@@ -62,7 +65,8 @@ caches_exclude whole code.CacheCycle at other point cycle = cycle_excludes _ (na
 caches_exclude whole _ at other point fault = λ _. fault
 
 -- it is at an offset within the table, and its steps are no more than the table has bytes
-pub caches_place : (whole : List ℕ) (fault : Code) (at other point : ℕ) → CacheFault (pptt_contents whole) fault at other point → (at < length whole) × (other ≤ length whole) × (point ≤ length whole)
+pub caches_place : (whole : List ℕ) (fault : Code) (at other point : ℕ) → CacheFault (pptt_contents whole) fault at other point
+    → (at < length whole) × (other ≤ length whole) × (point ≤ length whole)
 caches_place whole code.CacheCycle at other point cycle =
     let begins = cycle_begins (NamesNextLevel (pptt_contents whole)) (most_caches (pptt_contents whole)) at other point cycle in
     let size = size_is whole in

@@ -77,7 +77,8 @@ references_decided whole code.DanglingCache at other point = both (dangles_decid
 references_decided whole _ at other point = inr (λ fault. fault)
 
 -- where no reference dangles they are sound
-pub references_without_fault : (whole : List ℕ) → ((fault : Code) (at other point : ℕ) → stage_of fault ≡ stage.References → ¬ ReferenceFault (pptt_contents whole) fault at other point) → AreReferencesSound (pptt_contents whole)
+pub references_without_fault : (whole : List ℕ) → ((fault : Code) (at other point : ℕ) → stage_of fault ≡ stage.References → ¬ ReferenceFault (pptt_contents whole) fault at other point)
+    → AreReferencesSound (pptt_contents whole)
 references_without_fault whole none =
     let c = pptt_contents whole in
     record {

@@ -37,47 +37,53 @@ entry_size e least =
 
 -- ---- where they stand
 
--- an entry ends within the table
-pub within : (whole : List ℕ) (o : ℕ) (e : PpttEntry) → Stands (pptt_contents whole).entries o e → o + least_size e ≤ length whole
+-- the bytes of an entry
+bytes_at : (whole : List ℕ) (o : ℕ) (e : PpttEntry) → Stands (pptt_contents whole).entries o e → (bytes : List ℕ) × Stands (entries_of 36 whole) o bytes × (least_size e ≤ length bytes)
 unfolding pptt_contents
-within whole o e stands =
+bytes_at whole o e stands =
     let (bytes, here, is) = said_from pptt_entry (entries_of 36 whole) o e stands in
-    let place = entry_within 36 whole o bytes here in
-    rw (← is) (omega (arith, entry_size bytes place.1, place.2))
+    (bytes, here, subst (λ (x : PpttEntry). least_size x ≤ length bytes) is (entry_size bytes (entry_within 36 whole o bytes here).1))
 
+-- an entry ends within the table
+within : (whole : List ℕ) (o : ℕ) (e : PpttEntry) → Stands (pptt_contents whole).entries o e → o + least_size e ≤ length whole
+within whole o e stands =
+    let (bytes, here, size) = bytes_at whole o e stands in
+    omega (arith, entry_within 36 whole o bytes here)
+
+-- and begins there
 pub inside : (whole : List ℕ) (o : ℕ) (e : PpttEntry) → Stands (pptt_contents whole).entries o e → o < length whole
-inside whole o (Node v) stands = omega (arith, within whole o (Node v) stands)
-inside whole o (Cache v) stands = omega (arith, within whole o (Cache v) stands)
-inside whole o (Opaque b) stands = omega (arith, within whole o (Opaque b) stands)
+inside whole o e stands =
+    let (bytes, here, size) = bytes_at whole o e stands in
+    omega (arith, entry_within 36 whole o bytes here)
 
 -- two entries stand at one offset, or one stands behind the other
-pub apart : (whole : List ℕ) (o p : ℕ) (e d : PpttEntry) → Stands (pptt_contents whole).entries o e → Stands (pptt_contents whole).entries p d
+apart : (whole : List ℕ) (o p : ℕ) (e d : PpttEntry) → Stands (pptt_contents whole).entries o e → Stands (pptt_contents whole).entries p d
     → (o ≡ p) ⊎ ((o + least_size e ≤ p) ⊎ (p + least_size d ≤ o))
-unfolding pptt_contents
 apart whole o p e d one other =
-    let (bytes, here, is) = said_from pptt_entry (entries_of 36 whole) o e one in
-    let (others, there, also) = said_from pptt_entry (entries_of 36 whole) p d other in
-    let size = entry_size bytes (entry_within 36 whole o bytes here).1 in
-    let more = entry_size others (entry_within 36 whole p others there).1 in
-    elim (entries_apart 36 whole o p bytes others here there) [
-      | inl same ↦ inl same.0
-      | inr (inl before) ↦ inr (inl (rw (← is) (omega arith)))
-      | inr (inr behind) ↦ inr (inr (rw (← also) (omega arith)))
-    ]
+    let (bytes, here, size) = bytes_at whole o e one in
+    let (others, there, more) = bytes_at whole p d other in
+    grind (arith, entries_apart 36 whole o p bytes others here there)
 
 -- at most one entry stands at an offset
 pub ones : (whole : List ℕ) → AreOnes (pptt_contents whole).entries
 unfolding pptt_contents
 ones whole = one_said pptt_entry 36 whole
 
+-- its size is its number of bytes
 pub size_is : (whole : List ℕ) → (pptt_contents whole).size ≡ length whole
 unfolding pptt_contents
 size_is whole = refl
 
+-- what has a Parent has at least 20 bytes, and what has a Next Level of Cache at least 24
 node_long : (e : PpttEntry) (p : ℕ) → parent_of e ≡ Some p → 20 ≤ least_size e
 node_long (Node v) p is = omega arith
 node_long _ p is = absurd cc
 
+cache_long : (e : PpttEntry) (p : ℕ) → next_level_of e ≡ Some p → 24 ≤ least_size e
+cache_long (Cache v) p is = omega arith
+cache_long _ p is = absurd cc
+
+-- nodes, and caches, have numbers of their own: their offsets in units of their least size
 pub nodes_numbered : (whole : List ℕ) → IsNumbered (NamesParent (pptt_contents whole)) (most_nodes (pptt_contents whole))
 nodes_numbered whole =
     record {
@@ -85,10 +91,6 @@ nodes_numbered whole =
       below = λ o here. omega (arith, within whole o here.1.0 here.1.1, node_long here.1.0 here.0 here.1.2, size_is whole);
       apart = λ o p one other same. grind (arith, apart whole o p one.1.0 other.1.0 one.1.1 other.1.1, node_long one.1.0 one.0 one.1.2, node_long other.1.0 other.0 other.1.2);
     }
-
-cache_long : (e : PpttEntry) (p : ℕ) → next_level_of e ≡ Some p → 24 ≤ least_size e
-cache_long (Cache v) p is = omega arith
-cache_long _ p is = absurd cc
 
 pub caches_numbered : (whole : List ℕ) → IsNumbered (NamesNextLevel (pptt_contents whole)) (most_caches (pptt_contents whole))
 caches_numbered whole =
@@ -108,6 +110,7 @@ entry_decided whole o P decide =
       | inl (e, stands) ↦ decided_as (λ h. (e, stands, h)) (λ h. subst P (ones whole o h.0 e h.1 stands) h.2) (decide e)
     ]
 
+-- whether something that a node may refer to stands at an offset
 pub resource_decided : (whole : List ℕ) (o : ℕ) → Decided (IsResourceAt (pptt_contents whole) o)
 resource_decided whole o = entry_decided whole o (λ e. pptt_type e ≢ 0) (λ e. differs (pptt_type e) 0)
 
