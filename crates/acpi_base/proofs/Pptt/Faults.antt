@@ -45,12 +45,16 @@ cut_excludes c code.PpttEntryCut at other point (is, _, _) sound = none_and_some
 cut_excludes c code.PpttEntryLength at other point ((e, stands, wrong), _, _) sound = sound.lengths at e stands wrong
 cut_excludes c _ at other point fault sound = fault.0
 
--- it is at an offset within the table
-pub cut_place : (whole : List ℕ) (fault : Code) (at other point : ℕ) → PpttFault (pptt_contents whole) fault at other point → at < length whole
+cut_place_at : (whole : List ℕ) (fault : Code) (at : ℕ) → PpttFaultAt (pptt_contents whole) fault at → at < length whole
 unfolding pptt_contents cut_of
-cut_place whole code.PpttEntryCut at other point (is, _, _) = grind (arith, cond_some, ltb-true)
-cut_place whole code.PpttEntryLength at other point ((e, stands, wrong), _, _) = inside whole at e stands
-cut_place whole _ at other point fault = absurd fault.0
+cut_place_at whole code.PpttEntryCut at is = grind (arith, cond_some, ltb-true)
+cut_place_at whole code.PpttEntryLength at (e, stands, wrong) = inside whole at e stands
+cut_place_at whole _ at fault = absurd fault
+
+-- its numbers are no greater than the table's length
+pub cut_place : (whole : List ℕ) (fault : Code) (at other point : ℕ) → PpttFault (pptt_contents whole) fault at other point
+    → (at ≤ length whole) × (other ≤ length whole) × (point ≤ length whole)
+cut_place whole fault at other point (wrong, no_other, no_point) = (omega (arith, cut_place_at whole fault at wrong), omega arith, omega arith)
 
 -- ---- what they name
 
@@ -88,11 +92,11 @@ references_without_fault whole none =
     }
 
 -- a fault excludes that they are sound
-pub references_exclude : (c : PpttContents) (fault : Code) (at other point : ℕ) → ReferenceFault c fault at other point → ¬ AreReferencesSound c
-references_exclude c code.DanglingParent at other point (dangles, _) sound = dangles_excludes (NamesParent c) at other dangles sound.parents
-references_exclude c code.DanglingResource at other point (names, nowhere) sound = nowhere (sound.resources at other point names)
-references_exclude c code.DanglingCache at other point (dangles, _) sound = dangles_excludes (NamesNextLevel c) at other dangles sound.next_levels
-references_exclude c _ at other point fault sound = fault
+pub references_excludes : (c : PpttContents) (fault : Code) (at other point : ℕ) → ReferenceFault c fault at other point → ¬ AreReferencesSound c
+references_excludes c code.DanglingParent at other point (dangles, _) sound = dangles_excludes (NamesParent c) at other dangles sound.parents
+references_excludes c code.DanglingResource at other point (names, nowhere) sound = nowhere (sound.resources at other point names)
+references_excludes c code.DanglingCache at other point (dangles, _) sound = dangles_excludes (NamesNextLevel c) at other dangles sound.next_levels
+references_excludes c _ at other point fault sound = fault
 
 -- ---- how far their numbers reach
 

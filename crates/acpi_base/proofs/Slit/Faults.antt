@@ -1,7 +1,7 @@
 -- The faults of the SLIT: each can be decided, excludes that it is sound, and where there is none it is sound.
-use Rattle.std.proofs.Common.{◌≡◌, ◌<◌, ◌≤◌, ◌+◌, ◌*◌, ℕ, refl, subst, inr, arith}
+use Rattle.std.proofs.Common.{◌≡◌, ◌<◌, ◌≤◌, ◌+◌, ◌*◌, ℕ, List, length, refl, subst, inr, arith}
 use Rattle.std.proofs.lemmas.Nat.{mul-add-lt}
-use Rattle.acpi_base.specs.Slit.{SlitContents, cell_place, distance, HasSlitSize, IsCell, SomeCell, IsSoundSlit, SlitFaultAt, SlitFault}
+use Rattle.acpi_base.specs.Slit.{SlitContents, slit_contents, cell_place, distance, HasSlitSize, IsCell, SomeCell, IsSoundSlit, SlitFaultAt, SlitFault}
 use Rattle.acpi_base.specs.Codes.{stage_of}
 use Rattle.acpi_base.specs.declared.code.Code.{Code}
 use Rattle.acpi_base.specs.declared.code.Code.TheVariants as code
@@ -56,10 +56,18 @@ excludes c _ at other point fault sound = fault.0
 cell_within : (c : SlitContents) (i j at : ℕ) → HasSlitSize c → IsCell c i j at → at < c.size
 cell_within c i j at size cell = omega (arith, cell.place, mul-add-lt i c.count j c.count cell.row cell.column)
 
--- no fault of a SLIT is at an offset past its end
-pub place : (c : SlitContents) (fault : Code) (at other point : ℕ) → SlitFault c fault at other point → at ≤ c.size
-place c code.SlitShort at other point ((short, is), _, _) = omega arith
-place c code.SlitSize at other point ((long, wrong, is), _, _) = omega arith
-place c code.SlitDiagonal at other point ((size, (i, j, cell, wrong)), _, _) = omega (arith, cell_within c i j at size cell)
-place c code.SlitLow at other point ((size, (i, j, cell, low)), _, _) = omega (arith, cell_within c i j at size cell)
-place c _ at other point fault = absurd fault.0
+place_at : (c : SlitContents) (fault : Code) (at : ℕ) → SlitFaultAt c fault at → at ≤ c.size
+place_at c code.SlitShort at (short, is) = omega arith
+place_at c code.SlitSize at (long, wrong, is) = omega arith
+place_at c code.SlitDiagonal at (size, (i, j, cell, wrong)) = omega (arith, cell_within c i j at size cell)
+place_at c code.SlitLow at (size, (i, j, cell, low)) = omega (arith, cell_within c i j at size cell)
+place_at c _ at fault = absurd fault
+
+-- the numbers of a fault are no greater than the table's length
+pub place : (c : SlitContents) (fault : Code) (at other point : ℕ) → SlitFault c fault at other point → (at ≤ c.size) × (other ≤ c.size) × (point ≤ c.size)
+place c fault at other point (wrong, no_other, no_point) = (place_at c fault at wrong, omega arith, omega arith)
+
+-- which is its number of bytes
+pub size_is : (whole : List ℕ) → (slit_contents whole).size ≡ length whole
+unfolding slit_contents
+size_is whole = refl
