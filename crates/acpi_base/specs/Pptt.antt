@@ -116,7 +116,7 @@ pptt_contents whole =
       cut = cut_of 36 whole;
     }
 
--- at o stands an entry that says p, of what `read` gives of entries
+-- an entry stands at o of which `read` gives p
 abbrev pub Says : (PpttEntry → Option ℕ) → PpttContents → ℕ → ℕ → Type 0
 Says read c o p = (e : PpttEntry) × Stands c.entries o e × (read e ≡ Some p)
 

@@ -13,7 +13,7 @@ pub record SlitContents : Type 0 where
 unfoldable pub slit_contents : List ℕ → SlitContents
 slit_contents whole = record { size = length whole; count = field whole 36 8; cells = drop 44 whole }
 
--- a cell's place among the cells: the row of one locality follows that of another
+-- a cell's place among the cells: row after row
 abbrev pub cell_place : SlitContents → ℕ → ℕ → ℕ
 cell_place c i j = c.count * i + j
 
@@ -35,7 +35,7 @@ pub record IsCell (c : SlitContents) (i j at : ℕ) : Type 0 where
 abbrev pub SomeCell : SlitContents → ℕ → (ℕ → ℕ → Type 0) → Type 0
 SomeCell c at P = (i j : ℕ) × IsCell c i j at × P i j
 
--- Stage 11: the table has its cells; none is below 10, which have no meaning, and those of the diagonal are 10.
+-- Stage 11: the table has its cells; no distance is below 10, as 0 to 9 have no meaning, and the diagonal's are 10.
 pub record IsSoundSlit (c : SlitContents) : Type 0 where
   pub size : HasSlitSize c
   pub least : (i j : ℕ) → i < c.count → j < c.count → 10 ≤ distance c i j
