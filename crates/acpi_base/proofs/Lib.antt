@@ -1,3 +1,4 @@
+pub mod Chains
 pub mod Entries
 pub mod Examples
 pub mod Facs
@@ -7,8 +8,11 @@ pub mod HeldBytes
 pub mod Layouts
 pub mod Pieces
 pub mod Policies
+pub mod Pptt
 pub mod Root
 pub mod Rsdp
 pub mod Runs
+pub mod Slit
+pub mod Standings
 pub mod Tables
 pub mod Texts

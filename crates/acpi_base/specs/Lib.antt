@@ -1,4 +1,6 @@
+pub mod Across
 pub mod Adding
+pub mod Chains
 pub mod Clashes
 pub mod Codes
 pub mod Entries
@@ -17,10 +19,12 @@ pub mod Memory
 pub mod Number
 pub mod Policy
 pub mod PolicyFields
+pub mod Pptt
 pub mod Root
 pub mod Rsdp
 pub mod Segments
 pub mod Signature
+pub mod Slit
 pub mod Srat
 pub mod Statements
 pub mod Tables

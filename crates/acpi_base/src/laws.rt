@@ -6,6 +6,7 @@ ghost use Rattle.acpi_base.specs.Policy.{PolicyValue};
 ghost use Rattle.acpi_base.specs.Entries.{OneCut, EntriesStand, CutIsStart, NoCutFault, CutsWhereAllStand, NoneInShort};
 ghost use Rattle.acpi_base.specs.Examples.{AreMadtContents, AreSratContents, AreMadtFaults, AreSratFaults, AreFirstOverlaps, HasNoMadtFault, HasNoSratFault};
 ghost use Rattle.acpi_base.specs.Laws.{FaultsExcludeClean, FaultsFit, CleanOrFaulty, CleanOrFirstFault, OneFirstFault, OneVerdict, RootsListSlots};
+ghost use Rattle.acpi_base.specs.Pptt.{ParentsEndOrGoRound, CachesEndOrGoRound};
 ghost use Rattle.acpi_base.specs.TextLaws.{RunReadsText, RunReadsPrefix, RunStopsAtFaults, RunGoesOn, PrefixDecides, TextMeans, TextOrFault, NeverBoth, OneImage, OneTextFault, RefusalsAreOwn, LinesMean};
 
 /// An image with a fault of a stage is not clean to that stage or a later one: a fault that is reported is
@@ -47,6 +48,14 @@ pub fn one_verdict()
 /// The addresses that a root lists, as a function of its bytes, are those that stand in its slots.
 pub fn roots_list_slots()
     ensures slots { RootsListSlots }
+{}
+
+/// Where the references of a PPTT are sound, each chain of parents ends or comes to a cycle within as many steps
+/// as nodes fit into the table, and each chain of next levels within as many as caches fit; none does both.
+#[tactic(auto, using(crate::proofs::Pptt::Chains::chain_laws))]
+pub fn chains_end_or_go_round()
+    ensures parents { ParentsEndOrGoRound }
+    ensures caches { CachesEndOrGoRound }
 {}
 
 /// Reading an image text byte by byte is reading it by lines, in any pieces.

@@ -1,5 +1,6 @@
 -- What can be decided, and what its failing says.
-use Rattle.std.proofs.Common.{◌≡◌, ℕ, ◌<◌, ◌≤◌, Option, Some, None, refl, subst, inl, inr, arith}
+use Rattle.std.proofs.Common.{◌≡◌, ℕ, ◌<◌, ◌≤◌, Option, Some, None, refl, ap, subst, inl, inr, arith}
+use Rattle.std.proofs.lemmas.Option.{none-some, same_Some}
 use Rattle.std.specs.Prelude.{◌⊎◌, ◌≢◌, Bool, true, false}
 use Rattle.std.proofs.lemmas.Bool.{cases_lt, cases_eq, cases_Bool, both_ways}
 use Rattle.acpi_base.proofs.HeldBytes.{cases_Option, none_and_some, same_value}
@@ -43,6 +44,10 @@ same a b = cases_eq a b
 pub differs : (a b : ℕ) → Decided (a ≢ b)
 differs a b = elim (cases_eq a b) [ inl is ↦ inr (λ other. other is) | inr other ↦ inl other ]
 
+pub negated : {A : Type 0} → Decided A → Decided (¬ A)
+negated (inl a) = inr (λ fails. fails a)
+negated (inr fails) = inl fails
+
 pub is_true : (b : Bool) → Decided (b ≡ true)
 is_true b = elim (cases_Bool b) [ inl t ↦ inl t | inr f ↦ inr (λ t. both_ways b f t) ]
 
@@ -53,6 +58,16 @@ is_false b = elim (cases_Bool b) [ inl t ↦ inr (λ f. both_ways b f t) | inr f
 pub is_none : {X : Type 0} (o : Option X) → Decided (o ≡ None)
 is_none None = inl refl
 is_none (Some x) = inr (λ none. none_and_some none refl)
+
+-- whether there is a value
+pub is_some : {X : Type 0} (o : Option X) → Decided ((x : X) × (o ≡ Some x))
+is_some (Some x) = inl (x, refl)
+is_some None = inr (λ h. none-some h.0 h.1)
+
+-- whether there is a value and it is this number
+pub is_some_number : (o : Option ℕ) (k : ℕ) → Decided (o ≡ Some k)
+is_some_number None k = inr (λ is. none-some k is)
+is_some_number (Some j) k = decided_as (λ is. ap Some is) (λ is. same_Some j k is) (same j k)
 
 -- whether there is a value with P of it
 pub is_some_with : {X : Type 0} (o : Option X) (P : X → Type 0) → ((x : X) → Decided (P x)) → Decided ((x : X) × (o ≡ Some x) × P x)

@@ -25,6 +25,14 @@ least_below P decide (suc n) = more P n (least_below P decide n) (decide n)
     more P n (inl none) (inr not_here) =
         inl (λ k below. elim (cases_lt k n) [ inl less ↦ none k less | inr last ↦ subst (λ x. ¬ P x) (omega arith) not_here ])
 
+-- whether P holds of some number below n
+pub some_below : (n : ℕ) (P : ℕ → Type 0) → ((k : ℕ) → Decided (P k)) → Decided ((k : ℕ) × (k < n) × P k)
+some_below n P decide =
+    elim (least_below P decide n) [
+      | inl none ↦ inr (λ h. none h.0 h.1 h.2)
+      | inr (k, inside, least) ↦ inl (k, inside, least.holds)
+    ]
+
 -- there is a number above those that a function has below n
 pub bounded : (f : ℕ → ℕ) (n : ℕ) → (most : ℕ) × ((k : ℕ) → k < n → f k < most)
 bounded f zero = (0, λ k below. absurd (omega arith))

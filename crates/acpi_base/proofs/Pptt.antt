@@ -1,0 +1,5 @@
+-- The PPTT.
+pub mod Chains
+pub mod Faults
+pub mod Fits
+pub mod Places

@@ -1,0 +1,2 @@
+-- The SLIT.
+pub mod Faults

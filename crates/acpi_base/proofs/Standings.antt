@@ -1,0 +1,185 @@
+-- The entries that stand in a table: they lie one behind another within it, so at most one stands at an offset.
+use Rattle.std.proofs.Common.{◌≡◌, ℕ, zero, suc, ◌+◌, ◌<◌, ◌≤◌, List, [], ◌∷◌, length, take, drop, map, Some, refl, sym, ◌∙◌, ap, subst, inl, inr, arith, length-drop}
+use Rattle.std.specs.Prelude.{◌⊎◌, ◌&&◌, Contains, slice_index, nat_le}
+use Rattle.std.proofs.lemmas.Bool.{and_parts, leb-true, cases_eq, cases_lt}
+use Rattle.std.proofs.lemmas.List.{length-take-le, length-take, get_or-take, get_or-drop, get_or_past}
+use Rattle.std.proofs.lemmas.Option.{cond_some}
+use Rattle.acpi_base.specs.Entries.{Standing, Stands, first_entry, entries_from, entries_of, said_by}
+use Rattle.acpi_base.proofs.HeldBytes.{cases_Option}
+
+-- ---- elements of a list
+
+pub first_element : {X : Type 0} (x : X) (xs : List X) → Contains (x ∷ xs) x
+first_element x xs = (zero, omega arith, refl)
+
+pub later_element : {X : Type 0} (x y : X) (xs : List X) → Contains xs y → Contains (x ∷ xs) y
+later_element x y xs (k, below, is) = (suc k, omega arith, is)
+
+pub first_or_later : {X : Type 0} (x y : X) (xs : List X) → Contains (x ∷ xs) y → (x ≡ y) ⊎ Contains xs y
+first_or_later x y xs (zero, below, is) = inl is
+first_or_later x y xs (suc k, below, is) = inr (k, omega arith, is)
+
+pub no_element : {X : Type 0} (y : X) → ¬ Contains [] y
+no_element y (k, below, is) = omega arith
+
+pub element_of_map : {X Y : Type 0} (f : X → Y) (xs : List X) (y : Y) → Contains (map f xs) y → (x : X) × Contains xs x × (f x ≡ y)
+element_of_map f [] y h = absurd (no_element y h)
+element_of_map f (x ∷ xs) y h =
+    elim (first_or_later (f x) y (map f xs) h) [
+      | inl is ↦ (x, first_element x xs, is)
+      | inr later ↦ let found = element_of_map f xs y later in (found.0, later_element x found.0 xs found.1, found.2)
+    ]
+
+-- a function is below some number at each element
+pub bounded : {X : Type 0} (f : X → ℕ) (xs : List X) → (most : ℕ) × ((x : X) → Contains xs x → f x < most)
+bounded f [] = (0, λ x h. absurd (no_element x h))
+bounded f (x ∷ xs) =
+    let rest = bounded f xs in
+    (f x + 1 + rest.0, λ y h. elim (first_or_later x y xs h) [ inl is ↦ omega (arith, ap f is) | inr later ↦ omega (arith, rest.1 y later) ])
+
+-- ---- entries lie apart
+
+-- an entry lies between two offsets, and has at least two bytes
+record LiesWithin (from end : ℕ) (s : Standing (List ℕ)) : Type 0 where
+  behind : from ≤ s.offset
+  least : 2 ≤ length s.entry
+  fits : s.offset + length s.entry ≤ end
+
+-- these lie one behind another between two offsets
+AreSpread : ℕ → ℕ → List (Standing (List ℕ)) → Type 0
+AreSpread from end [] = Unit {0}
+AreSpread from end (s ∷ rest) = LiesWithin from end s × AreSpread (s.offset + length s.entry) end rest
+
+-- the entry that some bytes begin with has at least two of them
+first_fits : (left e : List ℕ) → first_entry left ≡ Some e → (2 ≤ length e) × (length e ≤ length left)
+unfolding first_entry
+first_fits left e is =
+    let parts = cond_some (nat_le 2 (length left) && nat_le 2 (slice_index left 1) && nat_le (slice_index left 1) (length left)) (take (slice_index left 1) left) e is in
+    grind (arith, and_parts, leb-true, length-take-le, parts.0, parts.1)
+
+are_spread : (n offset end : ℕ) (left : List ℕ) → offset + length left ≡ end → AreSpread offset end (entries_from n offset left)
+unfolding AreSpread entries_from
+are_spread zero offset end left sum = tt
+are_spread (suc n) offset end left sum =
+    elim (cases_Option (first_entry left)) [
+      | inr none ↦ rw none tt
+      | inl (e, is) ↦
+          let fits = first_fits left e is in
+          rw is (record { behind = omega arith; least = fits.0; fits = omega (arith, fits.1) }, are_spread n (offset + length e) end (drop (length e) left) (omega (arith, fits.1, length-drop (length e) left)))
+    ]
+
+lies_within : (from end : ℕ) (es : List (Standing (List ℕ))) → AreSpread from end es → (s : Standing (List ℕ)) → Contains es s → LiesWithin from end s
+unfolding AreSpread
+lies_within from end [] spread s h = absurd (no_element s h)
+lies_within from end (t ∷ rest) spread s h =
+    elim (first_or_later t s rest h) [
+      | inl is ↦ subst (LiesWithin from end) is spread.0
+      | inr later ↦
+          let behind = lies_within (t.offset + length t.entry) end rest spread.1 s later in
+          let first = spread.0 in
+          record { behind = omega arith; least = behind.least; fits = behind.fits }
+    ]
+
+-- two entries are one, or the one stands behind the other
+abbrev AreApart : Standing (List ℕ) → Standing (List ℕ) → Type 0
+AreApart s t = (s ≡ t) ⊎ ((s.offset + length s.entry ≤ t.offset) ⊎ (t.offset + length t.entry ≤ s.offset))
+
+are_apart : (from end : ℕ) (es : List (Standing (List ℕ))) → AreSpread from end es
+    → (s t : Standing (List ℕ)) → Contains es s → Contains es t → AreApart s t
+unfolding AreSpread
+are_apart from end [] spread s t h i = absurd (no_element s h)
+are_apart from end (u ∷ rest) spread s t h i =
+    cases (are_apart (u.offset + length u.entry) end rest spread.1 s t) (first_or_later u s rest h) (first_or_later u t rest i)
+  where
+    behind : (v : Standing (List ℕ)) → Contains rest v → u.offset + length u.entry ≤ v.offset
+    behind v later = (lies_within (u.offset + length u.entry) end rest spread.1 v later).behind
+
+    cases : (Contains rest s → Contains rest t → AreApart s t) → (u ≡ s) ⊎ Contains rest s → (u ≡ t) ⊎ Contains rest t → AreApart s t
+    cases _ (inl is) (inl also) = inl (sym is ∙ also)
+    cases _ (inl is) (inr later) = inr (inl (rw is at (behind t later)))
+    cases _ (inr later) (inl is) = inr (inr (rw is at (behind s later)))
+    cases later (inr one) (inr other) = later one other
+
+all_spread : (first : ℕ) (whole : List ℕ) → AreSpread first (first + length (drop first whole)) (entries_of first whole)
+unfolding entries_of
+all_spread first whole = are_spread (length whole) first (first + length (drop first whole)) (drop first whole) refl
+
+-- an entry stands behind what is before the entries, has at least two bytes, and ends within the table
+pub entry_within : (first : ℕ) (whole : List ℕ) (o : ℕ) (e : List ℕ) → Stands (entries_of first whole) o e → (first ≤ o) × (2 ≤ length e) × (o + length e ≤ length whole)
+entry_within first whole o e stands =
+    let lies = lies_within first (first + length (drop first whole)) (entries_of first whole) (all_spread first whole) (record { offset = o; entry = e }) stands in
+    (lies.behind, lies.least, omega (arith, lies.behind, lies.least, lies.fits, length-drop first whole))
+
+-- two entries of a table are one, or the one stands behind the other
+pub entries_apart : (first : ℕ) (whole : List ℕ) (o p : ℕ) (e d : List ℕ) → Stands (entries_of first whole) o e → Stands (entries_of first whole) p d
+    → ((o ≡ p) × (e ≡ d)) ⊎ ((o + length e ≤ p) ⊎ (p + length d ≤ o))
+entries_apart first whole o p e d one other =
+    elim (are_apart first (first + length (drop first whole)) (entries_of first whole) (all_spread first whole) (record { offset = o; entry = e }) (record { offset = p; entry = d }) one other) [
+      | inl same ↦ inl (ap (λ (s : Standing (List ℕ)). s.offset) same, ap (λ (s : Standing (List ℕ)). s.entry) same)
+      | inr apart ↦ inr apart
+    ]
+
+-- ---- entries of bytes
+
+take_below : (n : ℕ) (bytes : List ℕ) → ((k : ℕ) → slice_index bytes k < 256) → (k : ℕ) → slice_index (take n bytes) k < 256
+take_below n bytes small k = grind (arith, cases_lt k n, get_or-take n bytes k 0, get_or_past (take n bytes) k 0, length-take n bytes, small k)
+
+entries_below : (n offset : ℕ) (left : List ℕ) → ((k : ℕ) → slice_index left k < 256)
+    → (s : Standing (List ℕ)) → Contains (entries_from n offset left) s → (k : ℕ) → slice_index s.entry k < 256
+unfolding first_entry entries_from
+entries_below zero offset left small s h k = absurd (no_element s h)
+entries_below (suc n) offset left small s h k =
+    elim (cases_Option (first_entry left)) [
+      | inr none ↦ absurd (no_element s (rw none at h))
+      | inl (e, is) ↦
+          elim (first_or_later (record { offset = offset; entry = e }) s _ (rw is at h)) [
+            | inl same ↦
+                let entry : take (slice_index left 1) left ≡ s.entry = (cond_some _ _ _ is).1 ∙ ap (λ (t : Standing (List ℕ)). t.entry) same in
+                rw (← entry) (take_below (slice_index left 1) left small k)
+            | inr later ↦ entries_below n (offset + length e) (drop (length e) left) (λ j. grind (arith, get_or-drop (length e) left j 0, small (length e + j))) s later k
+          ]
+    ]
+
+-- where each byte of a table is below 256, each of an entry is
+pub entry_below : (first : ℕ) (whole : List ℕ) → ((k : ℕ) → slice_index whole k < 256)
+    → (o : ℕ) (e : List ℕ) → Stands (entries_of first whole) o e → (k : ℕ) → slice_index e k < 256
+unfolding entries_of
+entry_below first whole small o e stands =
+    entries_below (length whole) first (drop first whole) (λ j. grind (arith, get_or-drop first whole j 0, small (first + j))) (record { offset = o; entry = e }) stands
+
+-- ---- what entries say
+
+-- the bytes of an entry that says this
+pub said_from : {E : Type 0} (read : List ℕ → E) (entries : List (Standing (List ℕ))) (o : ℕ) (v : E) → Stands (said_by read entries) o v → (e : List ℕ) × Stands entries o e × (read e ≡ v)
+said_from {E} read entries o v stands =
+    let found = element_of_map (λ s. record { offset = s.offset; entry = read s.entry }) entries (record { offset = o; entry = v }) stands in
+    let at : found.0.offset ≡ o = ap (λ (s : Standing E). s.offset) found.2 in
+    (found.0.entry, subst (λ (k : ℕ). Stands entries k found.0.entry) at found.1, ap (λ (s : Standing E). s.entry) found.2)
+
+-- at most one entry stands at an offset
+abbrev pub AreOnes : {E : Type 0} → List (Standing E) → Type 0
+AreOnes {E} entries = (o : ℕ) (e d : E) → Stands entries o e → Stands entries o d → e ≡ d
+
+pub one_said : {E : Type 0} (read : List ℕ → E) (first : ℕ) (whole : List ℕ) → AreOnes (said_by read (entries_of first whole))
+one_said read first whole o v u one other =
+    let e = said_from read (entries_of first whole) o v one in
+    let d = said_from read (entries_of first whole) o u other in
+    elim (entries_apart first whole o o e.0 d.0 e.1 d.1) [
+      | inl same ↦ sym e.2 ∙ ap read same.1 ∙ d.2
+      | inr (inl before) ↦ absurd (omega (arith, entry_within first whole o e.0 e.1))
+      | inr (inr behind) ↦ absurd (omega (arith, entry_within first whole o d.0 d.1))
+    ]
+
+-- an entry stands at an offset, or none does
+pub entry_or_none : {E : Type 0} (entries : List (Standing E)) (o : ℕ) → ((e : E) × Stands entries o e) ⊎ ((e : E) → ¬ Stands entries o e)
+entry_or_none [] o = inr (λ e stands. no_element _ stands)
+entry_or_none {E} (s ∷ rest) o =
+    elim (cases_eq s.offset o) [
+      | inl is ↦ inl (s.entry, subst (λ (k : ℕ). Stands (s ∷ rest) k s.entry) is (first_element s rest))
+      | inr other ↦
+          elim (entry_or_none rest o) [
+            | inl (e, later) ↦ inl (e, later_element s (record { offset = o; entry = e }) rest later)
+            | inr none ↦
+                inr (λ e stands. elim (first_or_later s (record { offset = o; entry = e }) rest stands) [ inl is ↦ other (ap (λ (t : Standing E). t.offset) is) | inr later ↦ none e later ])
+          ]
+    ]
