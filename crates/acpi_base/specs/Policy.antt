@@ -1,17 +1,37 @@
 -- What a check is given beside the image.
-use Rattle.std.specs.Prelude.{◌≡◌, ℕ, ◌^◌, ◌<◌, ◌≤◌, Bool, ◌||◌, Some, refl, unwrap_or}
+use Rattle.std.specs.Prelude.{◌≡◌, ℕ, ◌^◌, ◌<◌, ◌≤◌, Bool, ◌||◌, Some, refl, unwrap_or, if◌then◌else◌}
 use Rattle.std.specs.Ordering.{nat_cmp}
 use Rattle.std.specs.Coded.{Coded, code_by, coded×, coded_ℕ}
-use Rattle.std.specs.FinMap.{FinMap, get, code}
+use Rattle.std.specs.FinMap.{FinMap, empty, get, contains_key, insert, code}
 use Rattle.acpi_base.specs.Number.{has_bit}
+use Rattle.acpi_base.specs.declared.policy.HotPlug.{HotPlug}
+use Rattle.acpi_base.specs.declared.policy.HotPlug.TheVariants.{Counted}
 use Rattle.acpi_base.specs.declared.policy.Processors.{Processors}
 use Rattle.acpi_base.specs.declared.policy.Processors.TheVariants.{Enabled, Usable}
 
--- the RSDP's address, and how many inputs an I/O APIC has: by its address, or else by default
+-- the RSDP's address, how many inputs an I/O APIC has (by its address, or else by default), and the two settings
 pub record PolicyValue : Type 0 where
   pub rsdp : ℕ
   pub default_inputs : ℕ
   pub inputs : FinMap nat_cmp ℕ
+  pub hotplug : HotPlug
+  pub processors : Processors
+
+-- a policy with no count of its own for any I/O APIC, and with the settings Counted and Enabled
+abbrev pub new_policy : ℕ → ℕ → PolicyValue
+new_policy rsdp default_inputs =
+    record {
+      rsdp = rsdp;
+      default_inputs = default_inputs;
+      inputs = empty;
+      hotplug = Counted;
+      processors = Enabled;
+    }
+
+-- the policy once this count was given for the I/O APIC at this address: the first count of an address stands
+abbrev pub with_input : PolicyValue → ℕ → ℕ → PolicyValue
+with_input q address count =
+    if contains_key q.inputs address then q else record q { inputs = insert q.inputs address count }
 
 -- addresses are below 2^64, those of I/O APICs below 2^32, and counts lie from 1 to 256
 pub record IsPolicy (q : PolicyValue) : Type 0 where
@@ -28,12 +48,12 @@ unfoldable pub counts_as_enabled : Processors → ℕ → Bool
 counts_as_enabled Enabled flags = has_bit flags 0
 counts_as_enabled Usable flags = has_bit flags 0 || has_bit flags 1
 
--- how two values are distinguished: as its three parts
-abbrev pub policy_code : Coded PolicyValue
-policy_code =
+-- how two values are distinguished: as its five parts
+abbrev pub policy_code : Coded HotPlug → Coded Processors → Coded PolicyValue
+policy_code hotplug processors =
     code_by
-    (ℕ × (ℕ × FinMap nat_cmp ℕ))
-    (coded× coded_ℕ (coded× coded_ℕ (code coded_ℕ coded_ℕ)))
-    (λ q. (q.rsdp, (q.default_inputs, q.inputs)))
-    (λ p. record { rsdp = p.0; default_inputs = p.1.0; inputs = p.1.1 })
+    (ℕ × (ℕ × (FinMap nat_cmp ℕ × (HotPlug × Processors))))
+    (coded× coded_ℕ (coded× coded_ℕ (coded× (code coded_ℕ coded_ℕ) (coded× hotplug processors))))
+    (λ q. (q.rsdp, (q.default_inputs, (q.inputs, (q.hotplug, q.processors)))))
+    (λ p. record { rsdp = p.0; default_inputs = p.1.0; inputs = p.1.1.0; hotplug = p.1.1.1.0; processors = p.1.1.1.1 })
     (λ _. refl)

@@ -1,9 +1,13 @@
 //! What a check is given beside the image.
 
-ghost use Rattle.std.specs.Prelude.{◌≡◌, ◌≤◌, ◌<◌, ◌^◌, ◌↔◌, IfOk, IfErr, OkIff};
-ghost use Rattle.std.specs.FinMap.{empty};
+#[cfg(test)]
+mod tests;
+
+ghost use Rattle.std.specs.Prelude.{◌≡◌, ◌≤◌, ◌↔◌, IfOk, IfErr, OnOk, OnErr, OkIff, Err, None};
+ghost use Rattle.std.specs.FinMap.{get};
 
 use std::alloc::Global;
+use std::collections::BTreeMap;
 use std::marker::Model;
 use thiserror::Error;
 
@@ -36,20 +40,18 @@ pub enum Processors {
     Usable,
 }
 
-/// What a check is given beside the image: the RSDP's address, and how many inputs an I/O APIC has,
-/// which no table says. Contracts see the address, the default count and a map of counts by address.
+/// What a check is given beside the image: the RSDP's address, how many inputs an I/O APIC has, which no
+/// table says, and two settings. Contracts see the counts of inputs as a map by address.
+///
+/// The counts are kept in a `BTreeMap`: to add one, or to look one up, takes a number of steps that grows
+/// with the logarithm of how many there are. Only `add_input` takes memory.
 #[derive(Debug, Drop)]
 pub struct Policy {
     rsdp: u64,
     default_inputs: u16,
-    inputs: Vec<Inputs>,
-}
-
-/// The I/O APIC at this address has so many inputs.
-#[derive(Clone, Copy, Debug)]
-struct Inputs {
-    address: u32,
-    count: u16,
+    inputs: BTreeMap<u32, u16>,
+    hotplug: HotPlug,
+    processors: Processors,
 }
 
 /// The most inputs that an I/O APIC can have.
@@ -57,10 +59,12 @@ const MOST_INPUTS: u16 = 256;
 
 impl Model for Policy {
     ghost use Rattle.acpi_base.specs.Policy.{PolicyValue, policy_code};
+    ghost use Rattle.acpi_base.specs.contracts.policy.HotPlug.{the_row as hotplug_row};
+    ghost use Rattle.acpi_base.specs.contracts.policy.Processors.{the_row as processors_row};
 
     ghost Value = { PolicyValue };
 
-    ghost coded = { policy_code };
+    ghost coded = { policy_code hotplug_row.coded processors_row.coded };
 
     ghost use Rattle.acpi_base.specs.PolicyFields.{policy_of, AreFields};
 
@@ -70,15 +74,16 @@ impl Model for Policy {
 }
 
 impl Policy {
-    ghost use Rattle.acpi_base.specs.Policy.{IsPolicy};
-    ghost use Rattle.acpi_base.specs.declared.policy.PolicyFault.TheVariants.{BadCount};
+    ghost use Rattle.acpi_base.specs.Policy.{IsPolicy, inputs_of, new_policy, with_input};
+    ghost use Rattle.acpi_base.specs.declared.policy.PolicyFault.TheVariants.{BadCount, Memory};
 
-    /// A policy with no count of its own for any I/O APIC. Takes no memory.
+    /// A policy with no count of its own for any I/O APIC, and the settings `HotPlug::Counted` and
+    /// `Processors::Enabled`. `rsdp` is an address in bytes. Takes no memory.
     ///
     /// Refuses `BadCount` where `default_inputs` lies outside 1 to 256.
     #[tactic(auto, using(crate::proofs::Policies::map_reads))]
     pub fn new(alloc: Global, rsdp: u64, default_inputs: u16) -> Result<Policy, PolicyFault>
-        ensures value { OkIff result ((1 ≤ default_inputs) × (default_inputs ≤ 256)) (record { rsdp = rsdp; default_inputs = default_inputs; inputs = empty }) }
+        ensures value { OkIff result ((1 ≤ default_inputs) × (default_inputs ≤ 256)) (new_policy rsdp default_inputs) }
         ensures policy { IfOk result IsPolicy }
         ensures refused { IfErr result (λ fault. fault ≡ BadCount) }
     {
@@ -88,22 +93,93 @@ impl Policy {
         Ok(Policy {
             rsdp,
             default_inputs,
-            inputs: Vec::new(alloc),
+            inputs: BTreeMap::new(alloc),
+            hotplug: HotPlug::Counted,
+            processors: Processors::Enabled,
         })
     }
 
-    /// Sets the RSDP's address, and nothing else. Takes no memory.
+    /// Sets the RSDP's address, in bytes, and nothing else. Takes no memory.
     pub fn set_rsdp(&mut self, rsdp: u64)
         ensures value { self.new ≡ record self.old { rsdp = rsdp } }
     {
         self.rsdp = rsdp;
     }
 
-    /// The RSDP's address.
+    /// The RSDP's address, in bytes.
     pub fn rsdp(&self) -> u64
         ensures value { result ≡ self.now.rsdp }
         ensures policy { IsPolicy self.now }
     {
         self.rsdp
+    }
+
+    /// Gives the I/O APIC at `address` a count of inputs, in place of the default. The table does not say how
+    /// many inputs an I/O APIC has: software reads it from a register (ACPI 6.5, 5.2.12.3). `address` is the
+    /// one that the table gives, in bytes. The first count of an address stands: a later one for the same
+    /// address returns `Ok` and changes nothing.
+    ///
+    /// Refuses, in this order, and then leaves the policy as it was:
+    /// `BadCount`, where `count` lies outside 1 to 256;
+    /// `Memory`, where the allocator is out of memory. Where the count is bad, or where the address has a count
+    /// already, no memory is taken.
+    #[tactic(auto, using(crate::proofs::Policies::adding))]
+    pub fn add_input(&mut self, address: u32, count: u16) -> Result<(), PolicyFault>
+        ensures value { OnOk result (self.new ≡ with_input self.old address count) }
+        ensures err { OnErr result (self.new ≡ self.old) }
+        ensures bad { (result ≡ Err BadCount) ↔ ¬ ((1 ≤ count) × (count ≤ 256)) }
+        ensures memory { result ≡ Err Memory → get self.old.inputs address ≡ None }
+    {
+        if count == 0 || count > MOST_INPUTS {
+            return Err(PolicyFault::BadCount);
+        }
+        if self.inputs.contains_key(&address) {
+            return Ok(());
+        }
+        match self.inputs.insert(address, count) {
+            Ok(_) => Ok(()),
+            Err(_) => Err(PolicyFault::Memory),
+        }
+    }
+
+    /// How many inputs the I/O APIC at `address` has, 1 to 256: the first count that was given for it, or else
+    /// the default. `address` is the one that the table gives, in bytes (ACPI 6.5, 5.2.12.3). Takes no memory.
+    #[tactic(auto, using(crate::proofs::Policies::looking), unfolding(crate::specs::Policy::inputs_of))]
+    pub fn inputs_of(&self, address: u32) -> u16
+        ensures value { result ≡ inputs_of self.now address }
+        ensures fit { (1 ≤ result) × (result ≤ 256) }
+    {
+        self.inputs
+            .get(&address)
+            .copied()
+            .unwrap_or(self.default_inputs)
+    }
+
+    /// Sets which enabled ranges of memory must not overlap, and nothing else. Takes no memory.
+    pub fn set_hotplug(&mut self, hotplug: HotPlug)
+        ensures value { self.new ≡ record self.old { hotplug = hotplug } }
+    {
+        self.hotplug = hotplug;
+    }
+
+    /// Which enabled ranges of memory must not overlap.
+    pub fn hotplug(&self) -> HotPlug
+        ensures value { result ≡ self.now.hotplug }
+    {
+        self.hotplug
+    }
+
+    /// Sets which processors count as enabled, and nothing else. Takes no memory.
+    pub fn set_processors(&mut self, processors: Processors)
+        ensures value { self.new ≡ record self.old { processors = processors } }
+    {
+        self.processors = processors;
+    }
+
+    /// Which processors count as enabled.
+    pub fn processors(&self) -> Processors
+        ensures value { result ≡ self.now.processors }
+    {
+        self.processors
     }
 }

@@ -2,12 +2,11 @@
 use Rattle.std.specs.Prelude.{◌≡◌, ◌≤◌, ℕ, ◌&&◌, Bool, true, false, List, [], ◌∷◌, Option, Some, None}
 use Rattle.std.specs.Prelude.{if◌then◌else◌, codes, nat_le, option_and_then, option_map}
 use Rattle.std.specs.Str.{bytes_eq}
-use Rattle.std.specs.FinMap.{empty}
 use Rattle.clap.specs.Words.{App, Kinds, Row, Rule, Text, fault_of, first_of, new_app, new_rule}
 use Rattle.clap.specs.Words.{subcommand_of, with_rule, with_subcommand}
 use Rattle.clap.specs.declared.builder.action.ArgAction.TheVariants.{Set}
 use Rattle.acpi_base.specs.Codes.{stage_number}
-use Rattle.acpi_base.specs.Policy.{PolicyValue}
+use Rattle.acpi_base.specs.Policy.{PolicyValue, new_policy}
 use Rattle.acpi_base.specs.declared.stage.TheConstants.{BUILT}
 use Rattle.acpi_cli.specs.Words.{decimal_word, hex_word}
 use Rattle.acpi_cli.specs.declared.words.Job.{Job}
@@ -109,9 +108,9 @@ whole_line program hex number =
 
 -- ---- the job that carries it
 
--- no RSDP is set yet, and each I/O APIC has 24 inputs
+-- no RSDP is set yet, each I/O APIC has 24 inputs, and the settings are those of a new policy
 abbrev pub plain_policy : PolicyValue
-plain_policy = record { rsdp = 0; default_inputs = 24; inputs = empty }
+plain_policy = new_policy 0 24
 
 abbrev pub Does : Asked → Job → Type 0
 Does (check rsdp last) (Check given policy stage) =
