@@ -24,8 +24,14 @@ within() { count "$1" "$(comm -23 <(sort -u <<<"$2") <(sort -u <<<"$3"))"; }
 
 # ---- edits: each exported function has wrong bodies that the prover must refuse
 
-# exports CRATE: the names that a library exports: those in `pub use` of src/lib.rt.
-exports() { sed -n '/^pub use /,/;/p' "crates/$1"/src/lib.rt | sed 's/^pub use [a-z_:]*:://' | tr -cs 'A-Za-z0-9_' ' '; }
+# exports CRATE: the names that a library exports: those in `pub use` of src/lib.rt, and the functions of its public
+# modules. Laws stand apart.
+exports() {
+  sed -n '/^pub use /,/;/p' "crates/$1"/src/lib.rt | sed 's/^pub use [a-z_:]*:://' | tr -cs 'A-Za-z0-9_' ' '
+  for module in $(sed -n 's/^pub mod \([a-z_]*\);$/\1/p' "crates/$1"/src/lib.rt | grep -vx laws); do
+    sed -n 's/^pub fn \([a-z0-9_]*\).*/\1/p' "crates/$1/src/$module.rt" | tr '\n' ' '
+  done
+}
 
 # functions CRATE: its functions outside tests, a method as Type_method. One that must have an edit comes once more
 # with a + before it: an exported one whose contract has an `ensures`, and an exported type's method of an exported
