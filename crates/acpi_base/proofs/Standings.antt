@@ -1,10 +1,11 @@
 -- The entries that stand in a table: they lie one behind another within it, so at most one stands at an offset.
 use Rattle.std.proofs.Common.{◌≡◌, ℕ, zero, suc, ◌+◌, ◌<◌, ◌≤◌, List, [], ◌∷◌, length, take, drop, map, Some, refl, sym, ◌∙◌, ap, subst, inl, inr, arith, length-drop}
 use Rattle.std.specs.Prelude.{◌⊎◌, ◌&&◌, Contains, slice_index, nat_le}
-use Rattle.std.proofs.lemmas.Bool.{and_parts, leb-true, cases_eq, cases_lt}
+use Rattle.std.proofs.lemmas.Bool.{and_parts, leb-true, ltb-true, cases_eq, cases_lt}
 use Rattle.std.proofs.lemmas.List.{length-take-le, length-take, get_or-take, get_or-drop, get_or_past}
 use Rattle.std.proofs.lemmas.Option.{cond_some}
-use Rattle.acpi_base.specs.Entries.{Standing, Stands, first_entry, entries_from, entries_of, said_by}
+use Rattle.acpi_base.specs.Entries.{Standing, Stands, StandsWith, first_entry, entries_from, entries_of, cut_of, said_by}
+use Rattle.acpi_base.proofs.Faults.Deciding.{Decided, decided_as}
 use Rattle.acpi_base.proofs.HeldBytes.{cases_Option}
 
 -- ---- elements of a list
@@ -110,6 +111,11 @@ entry_within first whole o e stands =
     let lies = lies_within first (first + length (drop first whole)) (entries_of first whole) (all_spread first whole) (record { offset = o; entry = e }) stands in
     (lies.behind, lies.least, omega (arith, lies.behind, lies.least, lies.fits, length-drop first whole))
 
+-- bytes that are no entry are left before the table's end
+pub cut_inside : (first : ℕ) (whole : List ℕ) (o : ℕ) → cut_of first whole ≡ Some o → o < length whole
+unfolding cut_of
+cut_inside first whole o is = grind (arith, cond_some, ltb-true)
+
 -- two entries of a table are one, or the one stands behind the other
 pub entries_apart : (first : ℕ) (whole : List ℕ) (o p : ℕ) (e d : List ℕ) → Stands (entries_of first whole) o e → Stands (entries_of first whole) p d
     → ((o ≡ p) × (e ≡ d)) ⊎ ((o + length e ≤ p) ⊎ (p + length d ≤ o))
@@ -156,6 +162,12 @@ said_from {E} read entries o v stands =
     let at : found.0.offset ≡ o = ap (λ (s : Standing E). s.offset) found.2 in
     (found.0.entry, subst (λ (k : ℕ). Stands entries k found.0.entry) at found.1, ap (λ (s : Standing E). s.entry) found.2)
 
+-- an entry that says something begins before the end of the table
+pub said_inside : {E : Type 0} (read : List ℕ → E) (first : ℕ) (whole : List ℕ) (o : ℕ) (v : E) → Stands (said_by read (entries_of first whole)) o v → o < length whole
+said_inside read first whole o v stands =
+    let (e, here, is) = said_from read (entries_of first whole) o v stands in
+    omega (arith, entry_within first whole o e here)
+
 -- at most one entry stands at an offset
 abbrev pub AreOnes : {E : Type 0} → List (Standing E) → Type 0
 AreOnes {E} entries = (o : ℕ) (e d : E) → Stands entries o e → Stands entries o d → e ≡ d
@@ -182,4 +194,12 @@ entry_or_none {E} (s ∷ rest) o =
             | inr none ↦
                 inr (λ e stands. elim (first_or_later s (record { offset = o; entry = e }) rest stands) [ inl is ↦ other (ap (λ (t : Standing E). t.offset) is) | inr later ↦ none e later ])
           ]
+    ]
+
+-- whether an entry stands at an offset of which P holds
+pub stands_with_decided : {E : Type 0} (entries : List (Standing E)) → AreOnes entries → (o : ℕ) (P : E → Type 0) → ((e : E) → Decided (P e)) → Decided (StandsWith entries o P)
+stands_with_decided entries ones o P decide =
+    elim (entry_or_none entries o) [
+      | inr none ↦ inr (λ h. none h.0 h.1)
+      | inl (e, stands) ↦ decided_as (λ h. (e, stands, h)) (λ h. subst P (ones o h.0 e h.1 stands) h.2) (decide e)
     ]

@@ -2,11 +2,11 @@
 use Rattle.std.proofs.Common.{◌≡◌, ℕ, ◌+◌, ◌*◌, ◌/◌, ◌<◌, ◌≤◌, true, List, length, refl, subst, Option, Some, inl, inr, arith}
 use Rattle.std.specs.Prelude.{◌⊎◌, ◌≢◌}
 use Rattle.std.proofs.lemmas.Bool.{and_parts, or_cases, eqb-true, cond_both}
-use Rattle.acpi_base.specs.Entries.{Stands, entries_of, has_form}
+use Rattle.acpi_base.specs.Entries.{Stands, StandsWith, entries_of, has_form}
 use Rattle.acpi_base.specs.Pptt.{PpttEntry, Node, Cache, Opaque, resource_count, has_node_form, has_cache_form, pptt_entry, pptt_type, pptt_contents, parent_of, next_level_of, Says, NamesParent, NamesNextLevel, IsResourceAt, most_nodes, most_caches}
 use Rattle.acpi_base.proofs.Chains.{IsNaming, IsNumbered}
 use Rattle.acpi_base.proofs.Faults.Deciding.{Decided, decided_as, differs, is_some}
-use Rattle.acpi_base.proofs.Standings.{AreOnes, entry_or_none, said_from, one_said, entry_within, entries_apart}
+use Rattle.acpi_base.proofs.Standings.{AreOnes, said_from, said_inside, one_said, entry_within, entries_apart, stands_with_decided}
 
 -- ---- how long entries are
 
@@ -52,9 +52,8 @@ within whole o e stands =
 
 -- and begins there
 pub inside : (whole : List ℕ) (o : ℕ) (e : PpttEntry) → Stands (pptt_contents whole).entries o e → o < length whole
-inside whole o e stands =
-    let (bytes, here, size) = bytes_at whole o e stands in
-    omega (arith, entry_within 36 whole o bytes here)
+unfolding pptt_contents
+inside whole = said_inside pptt_entry 36 whole
 
 -- two entries stand at one offset, or one stands behind the other
 apart : (whole : List ℕ) (o p : ℕ) (e d : PpttEntry) → Stands (pptt_contents whole).entries o e → Stands (pptt_contents whole).entries p d
@@ -103,12 +102,8 @@ caches_numbered whole =
 -- ---- what can be decided
 
 -- whether an entry stands at an offset of which P holds
-pub entry_decided : (whole : List ℕ) (o : ℕ) (P : PpttEntry → Type 0) → ((e : PpttEntry) → Decided (P e)) → Decided ((e : PpttEntry) × Stands (pptt_contents whole).entries o e × P e)
-entry_decided whole o P decide =
-    elim (entry_or_none (pptt_contents whole).entries o) [
-      | inr none ↦ inr (λ h. none h.0 h.1)
-      | inl (e, stands) ↦ decided_as (λ h. (e, stands, h)) (λ h. subst P (ones whole o h.0 e h.1 stands) h.2) (decide e)
-    ]
+pub entry_decided : (whole : List ℕ) (o : ℕ) (P : PpttEntry → Type 0) → ((e : PpttEntry) → Decided (P e)) → Decided (StandsWith (pptt_contents whole).entries o P)
+entry_decided whole = stands_with_decided (pptt_contents whole).entries (ones whole)
 
 -- whether something that a node may refer to stands at an offset
 pub resource_decided : (whole : List ℕ) (o : ℕ) → Decided (IsResourceAt (pptt_contents whole) o)
