@@ -4,8 +4,8 @@ use Rattle.std.specs.Prelude.{◌⊎◌, ◌&&◌, Contains, slice_index, nat_le
 use Rattle.std.proofs.lemmas.Bool.{and_parts, leb-true, ltb-true, cases_eq, cases_lt}
 use Rattle.std.proofs.lemmas.List.{length-take-le, length-take, get_or-take, get_or-drop, get_or_past}
 use Rattle.std.proofs.lemmas.Option.{cond_some}
-use Rattle.acpi_base.specs.Entries.{Standing, Stands, StandsWith, first_entry, entries_from, entries_of, cut_of, said_by}
-use Rattle.acpi_base.proofs.Faults.Deciding.{Decided, decided_as}
+use Rattle.acpi_base.specs.Entries.{Standing, Stands, StandsWith, first_entry, entries_from, entries_of, cut_of, said_by, Kind, IsTypeOf, AreUnused}
+use Rattle.acpi_base.proofs.Faults.Deciding.{Decided, decided_as, both, either, same}
 use Rattle.acpi_base.proofs.HeldBytes.{cases_Option}
 
 -- ---- elements of a list
@@ -196,10 +196,30 @@ entry_or_none {E} (s ∷ rest) o =
           ]
     ]
 
--- whether an entry stands at an offset of which P holds
-pub stands_with_decided : {E : Type 0} (entries : List (Standing E)) → AreOnes entries → (o : ℕ) (P : E → Type 0) → ((e : E) → Decided (P e)) → Decided (StandsWith entries o P)
-stands_with_decided entries ones o P decide =
-    elim (entry_or_none entries o) [
-      | inr none ↦ inr (λ h. none h.0 h.1)
-      | inl (e, stands) ↦ decided_as (λ h. (e, stands, h)) (λ h. subst P (ones o h.0 e h.1 stands) h.2) (decide e)
+-- whether P holds of an element of a list
+pub element_decided : {X : Type 0} (xs : List X) (P : X → Type 0) → ((x : X) → Decided (P x)) → Decided ((x : X) × Contains xs x × P x)
+element_decided [] P decide = inr (λ h. no_element h.0 h.1)
+element_decided (x ∷ xs) P decide =
+    elim (decide x) [
+      | inl here ↦ inl (x, first_element x xs, here)
+      | inr fails ↦
+          elim (element_decided xs P decide) [
+            | inl (y, later, holds) ↦ inl (y, later_element x y xs later, holds)
+            | inr none ↦ inr (λ h. elim (first_or_later x h.0 xs h.1) [ inl is ↦ fails (subst P (sym is) h.2) | inr later ↦ none (h.0, later, h.2) ])
+          ]
     ]
+
+-- whether an entry stands at an offset of which P holds
+pub stands_with_decided : {E : Type 0} (entries : List (Standing E)) (o : ℕ) (P : E → Type 0) → ((e : E) → Decided (P e)) → Decided (StandsWith entries o P)
+stands_with_decided entries o P decide =
+    decided_as (λ h. (h.0.entry, subst (λ (k : ℕ). Stands entries k h.0.entry) h.2.0 h.1, h.2.1)) (λ h. (record { offset = o; entry = h.0 }, h.1, (refl, h.2)))
+    (element_decided entries (λ s. (s.offset ≡ o) × P s.entry) (λ s. both (same s.offset o) (decide s.entry)))
+
+-- whether one of the kinds has a type
+pub type_decided : {E : Type 0} (kinds : List (Kind E)) (type : ℕ) → Decided (IsTypeOf kinds type)
+type_decided [] type = inr (λ h. h)
+type_decided (k ∷ kinds) type = either (same type k.type) (type_decided kinds type)
+
+-- whether the numbers that a fault does not use are 0
+pub unused_decided : (other point : ℕ) → Decided (AreUnused other point)
+unused_decided other point = both (same other 0) (same point 0)

@@ -14,8 +14,8 @@ use Rattle.acpi_base.specs.declared.stage.Stage.TheVariants as stage
 use Rattle.acpi_base.proofs.Chains.{IsNaming, names_decided}
 use Rattle.acpi_base.proofs.Faults.Deciding.{Decided, decided_as, both, all3, same, differs, at_most, negated, is_some_number}
 use Rattle.acpi_base.proofs.HeldBytes.{cases_Option, none_and_some}
-use Rattle.acpi_base.proofs.Pptt.Places.{inside, entry_decided, resource_decided, naming}
-use Rattle.acpi_base.proofs.Standings.{bounded, cut_inside}
+use Rattle.acpi_base.proofs.Pptt.Places.{inside, resource_decided, naming}
+use Rattle.acpi_base.proofs.Standings.{bounded, cut_inside, stands_with_decided}
 
 -- ---- entries
 
@@ -25,7 +25,7 @@ other_length _ = inr (λ h. h)
 
 cut_decided_at : (whole : List ℕ) (fault : Code) (at : ℕ) → Decided (PpttFaultAt (pptt_contents whole) fault at)
 cut_decided_at whole code.PpttEntryCut at = is_some_number (pptt_contents whole).cut at
-cut_decided_at whole code.PpttEntryLength at = entry_decided whole at HasOtherPpttLength other_length
+cut_decided_at whole code.PpttEntryLength at = stands_with_decided (pptt_contents whole).entries at HasOtherPpttLength other_length
 cut_decided_at whole _ at = inr (λ fault. fault)
 
 pub cut_decided : (whole : List ℕ) (fault : Code) (at other point : ℕ) → Decided (PpttFault (pptt_contents whole) fault at other point)

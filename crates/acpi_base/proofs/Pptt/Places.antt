@@ -2,7 +2,7 @@
 use Rattle.std.proofs.Common.{◌≡◌, ℕ, ◌+◌, ◌*◌, ◌/◌, ◌<◌, ◌≤◌, true, List, length, refl, subst, Option, Some, inl, inr, arith}
 use Rattle.std.specs.Prelude.{◌⊎◌, ◌≢◌}
 use Rattle.std.proofs.lemmas.Bool.{and_parts, or_cases, eqb-true, cond_both}
-use Rattle.acpi_base.specs.Entries.{Stands, StandsWith, entries_of, has_form}
+use Rattle.acpi_base.specs.Entries.{Stands, entries_of, has_form}
 use Rattle.acpi_base.specs.Pptt.{PpttEntry, Node, Cache, Opaque, resource_count, has_node_form, has_cache_form, pptt_entry, pptt_type, pptt_contents, parent_of, next_level_of, Says, NamesParent, NamesNextLevel, IsResourceAt, most_nodes, most_caches}
 use Rattle.acpi_base.proofs.Chains.{IsNaming, IsNumbered}
 use Rattle.acpi_base.proofs.Faults.Deciding.{Decided, decided_as, differs, is_some}
@@ -101,18 +101,14 @@ caches_numbered whole =
 
 -- ---- what can be decided
 
--- whether an entry stands at an offset of which P holds
-pub entry_decided : (whole : List ℕ) (o : ℕ) (P : PpttEntry → Type 0) → ((e : PpttEntry) → Decided (P e)) → Decided (StandsWith (pptt_contents whole).entries o P)
-entry_decided whole = stands_with_decided (pptt_contents whole).entries (ones whole)
-
 -- whether something that a node may refer to stands at an offset
 pub resource_decided : (whole : List ℕ) (o : ℕ) → Decided (IsResourceAt (pptt_contents whole) o)
-resource_decided whole o = entry_decided whole o (λ e. pptt_type e ≢ 0) (λ e. differs (pptt_type e) 0)
+resource_decided whole o = stands_with_decided (pptt_contents whole).entries o (λ e. pptt_type e ≢ 0) (λ e. differs (pptt_type e) 0)
 
 -- at most one offset is read of what stands at an offset, and whether one is can be decided
 pub naming : (whole : List ℕ) (read : PpttEntry → Option ℕ) → IsNaming (Says read (pptt_contents whole))
 naming whole read =
     record {
       one = λ o p q a b. let same = ones whole o a.0 b.0 a.1 b.1 in cc (a.2, b.2);
-      decide = λ o. decided_as (λ h. (h.2.0, (h.0, h.1, h.2.1))) (λ h. (h.1.0, h.1.1, (h.0, h.1.2))) (entry_decided whole o (λ e. (p : ℕ) × (read e ≡ Some p)) (λ e. is_some (read e)));
+      decide = λ o. decided_as (λ h. (h.2.0, (h.0, h.1, h.2.1))) (λ h. (h.1.0, h.1.1, (h.0, h.1.2))) (stands_with_decided (pptt_contents whole).entries o (λ e. (p : ℕ) × (read e ≡ Some p)) (λ e. is_some (read e)));
     }
