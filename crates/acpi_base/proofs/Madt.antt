@@ -1,0 +1,2 @@
+-- The MADT.
+pub mod Interrupts
