@@ -1,4 +1,5 @@
 pub mod Chains
+pub mod Clashes
 pub mod Entries
 pub mod Examples
 pub mod Facs

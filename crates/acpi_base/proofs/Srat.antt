@@ -1,2 +1,3 @@
 -- The SRAT.
 pub mod Faults
+pub mod Ranges
