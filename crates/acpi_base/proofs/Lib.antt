@@ -1,3 +1,4 @@
+pub mod Across
 pub mod Chains
 pub mod Entries
 pub mod Examples
