@@ -1,9 +1,9 @@
 -- The fault of processors in two domains: it can be decided, excludes that each has one domain, and where there is none
 -- each has one; how far its numbers reach.
-use Rattle.std.proofs.Common.{◌≡◌, ◌≢◌, ℕ, ◌^◌, ◌<◌, List, length, true, refl, sym, subst, inl, inr, arith}
-use Rattle.std.specs.Prelude.{◌⊎◌, slice_index}
+use Rattle.std.proofs.Common.{◌≡◌, ◌≢◌, ℕ, ◌^◌, ◌<◌, List, length, refl, sym, subst, inl, inr, arith}
+use Rattle.std.specs.Prelude.{slice_index}
 use Rattle.std.proofs.lemmas.Bool.{cases_order}
-use Rattle.acpi_base.specs.Entries.{Stands, StandsWith}
+use Rattle.acpi_base.specs.Entries.{Stands}
 use Rattle.acpi_base.specs.Policy.{counts_as_enabled}
 use Rattle.acpi_base.specs.Madt.{MadtEntry, LocalApic, X2apic, MadtContents, IsEnabledProcessor}
 use Rattle.acpi_base.specs.Srat.{SratEntry, ApicDomain, X2apicDomain, Opaque, SratContents, srat_kinds, srat_entry, srat_contents, is_enabled, PutsIn}

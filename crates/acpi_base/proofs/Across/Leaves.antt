@@ -1,10 +1,10 @@
 -- The fault of leaves of the PPTT that no processor of the MADT has as its UID: it can be decided, excludes that all are
 -- known, and where there is none all are; how far its numbers reach.
-use Rattle.std.proofs.Common.{◌≡◌, ℕ, ◌^◌, ◌<◌, ◌≤◌, List, length, true, None, refl, subst, inl, inr, arith}
+use Rattle.std.proofs.Common.{◌≡◌, ℕ, ◌^◌, ◌<◌, List, length, refl, subst, inl, inr, arith}
 use Rattle.std.specs.Prelude.{slice_index}
 use Rattle.std.proofs.lemmas.Bool.{cond_both}
-use Rattle.acpi_base.specs.Number.{has_bit, field}
-use Rattle.acpi_base.specs.Entries.{Stands, StandsWith}
+use Rattle.acpi_base.specs.Number.{has_bit}
+use Rattle.acpi_base.specs.Entries.{Stands}
 use Rattle.acpi_base.specs.Madt.{MadtEntry, LocalApic, X2apic, Opaque, MadtContents, HasUid, IsWhollyTyped}
 use Rattle.acpi_base.specs.Pptt.{PpttEntry, Node, PpttContents, has_node_form, has_cache_form, pptt_entry, pptt_contents}
 use Rattle.acpi_base.specs.Across.{IsLeaf, IsUid, AreLeavesKnown, LeafFault}

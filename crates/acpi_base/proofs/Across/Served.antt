@@ -1,11 +1,11 @@
 -- The fault of interrupt numbers that no I/O APIC serves: it can be decided, excludes that all are served, and where
 -- there is none all are; how far its numbers reach.
-use Rattle.std.proofs.Common.{◌≡◌, ℕ, ◌+◌, ◌^◌, ◌<◌, ◌≤◌, List, length, refl, inl, inr, arith}
+use Rattle.std.proofs.Common.{◌≡◌, ℕ, ◌+◌, ◌^◌, ◌<◌, List, length, refl, inl, inr, arith}
 use Rattle.std.specs.Prelude.{slice_index}
-use Rattle.acpi_base.specs.Entries.{Stands, StandsWith}
+use Rattle.acpi_base.specs.Entries.{Stands}
 use Rattle.acpi_base.specs.Policy.{PolicyValue, inputs_of}
 use Rattle.acpi_base.specs.Madt.{MadtEntry, IoApic, Override, NmiSource, Opaque, MadtContents, madt_kinds, madt_entry, madt_contents, ServesFrom, NamesGsi}
-use Rattle.acpi_base.specs.Across.{IsIoApic, HasIoApic, IsServed, AreNamedServed, ServedFault}
+use Rattle.acpi_base.specs.Across.{IsIoApic, IsServed, AreNamedServed, ServedFault}
 use Rattle.acpi_base.specs.Codes.{stage_of}
 use Rattle.acpi_base.specs.declared.code.Code.{Code}
 use Rattle.acpi_base.specs.declared.code.Code.TheVariants as code
