@@ -1,3 +1,4 @@
+pub mod Across
 pub mod Chains
 pub mod Clashes
 pub mod Entries
