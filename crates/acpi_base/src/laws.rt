@@ -21,19 +21,19 @@ pub fn faults_fit()
     ensures fit { FaultsFit }
 {}
 
-/// An image is clean to a stage that is built, or has a fault of a stage up to it whose numbers fit a
-/// `Witness`: a refused image always has a fault to report.
+/// An image is clean to a stage, or has a fault of a stage up to it whose numbers fit a `Witness`: a refused
+/// image always has a fault to report.
 pub fn clean_or_fault()
     ensures either { CleanOrFaulty }
 {}
 
-/// An image is clean to a stage that is built, or has a first fault, of a stage up to it: each image has a
-/// verdict.
+/// An image is clean to a stage, or has a first fault, of a stage up to it: each image has a verdict.
 pub fn first_fault_exists()
     ensures either { CleanOrFirstFault }
 {}
 
-/// Two first faults of an image are one: which fault is reported does not depend on how it was looked for.
+/// Two first faults of an image are one, under each setting of the policy: which fault is reported does not
+/// depend on how it was looked for.
 #[tactic(auto, using(crate::proofs::Faults::Laws::one_first_fault))]
 pub fn one_first_fault()
     ensures one { OneFirstFault }
