@@ -1,4 +1,5 @@
--- The entries that stand in a table: they lie one behind another within it, so at most one stands at an offset.
+-- The entries that stand in a table: they lie one behind another within it, so at most one stands at an offset,
+-- and whether one with a property does can be decided.
 use Rattle.std.proofs.Common.{◌≡◌, ℕ, zero, suc, ◌+◌, ◌<◌, ◌≤◌, List, [], ◌∷◌, length, take, drop, map, Some, refl, sym, ◌∙◌, ap, subst, inl, inr, arith, length-drop}
 use Rattle.std.specs.Prelude.{◌⊎◌, ◌&&◌, Contains, slice_index, nat_le}
 use Rattle.std.proofs.lemmas.Bool.{and_parts, leb-true, ltb-true, cases_lt}
@@ -181,6 +182,8 @@ one_said read first whole o v u one other =
       | inr (inl before) ↦ absurd (omega (arith, entry_within first whole o e.0 e.1))
       | inr (inr behind) ↦ absurd (omega (arith, entry_within first whole o d.0 d.1))
     ]
+
+-- ---- what can be decided
 
 -- whether P holds of an element of a list
 pub element_decided : {X : Type 0} (xs : List X) (P : X → Type 0) → ((x : X) → Decided (P x)) → Decided ((x : X) × Contains xs x × P x)
