@@ -1,7 +1,8 @@
--- The entries that stand in a table: they lie one behind another within it, so at most one stands at an offset.
+-- The entries that stand in a table: they lie one behind another within it, so at most one stands at an offset,
+-- and whether one with a property does can be decided.
 use Rattle.std.proofs.Common.{◌≡◌, ℕ, zero, suc, ◌+◌, ◌<◌, ◌≤◌, List, [], ◌∷◌, length, take, drop, map, Some, refl, sym, ◌∙◌, ap, subst, inl, inr, arith, length-drop}
 use Rattle.std.specs.Prelude.{◌⊎◌, ◌&&◌, Contains, slice_index, nat_le}
-use Rattle.std.proofs.lemmas.Bool.{and_parts, leb-true, ltb-true, cases_eq, cases_lt}
+use Rattle.std.proofs.lemmas.Bool.{and_parts, leb-true, ltb-true, cases_lt}
 use Rattle.std.proofs.lemmas.List.{length-take-le, length-take, get_or-take, get_or-drop, get_or_past}
 use Rattle.std.proofs.lemmas.Option.{cond_some}
 use Rattle.acpi_base.specs.Entries.{Standing, Stands, StandsWith, first_entry, entries_from, entries_of, cut_of, said_by, Kind, IsTypeOf, AreUnused}
@@ -182,19 +183,7 @@ one_said read first whole o v u one other =
       | inr (inr behind) ↦ absurd (omega (arith, entry_within first whole o d.0 d.1))
     ]
 
--- an entry stands at an offset, or none does
-pub entry_or_none : {E : Type 0} (entries : List (Standing E)) (o : ℕ) → ((e : E) × Stands entries o e) ⊎ ((e : E) → ¬ Stands entries o e)
-entry_or_none [] o = inr (λ e stands. no_element _ stands)
-entry_or_none {E} (s ∷ rest) o =
-    elim (cases_eq s.offset o) [
-      | inl is ↦ inl (s.entry, subst (λ (k : ℕ). Stands (s ∷ rest) k s.entry) is (first_element s rest))
-      | inr other ↦
-          elim (entry_or_none rest o) [
-            | inl (e, later) ↦ inl (e, later_element s (record { offset = o; entry = e }) rest later)
-            | inr none ↦
-                inr (λ e stands. elim (first_or_later s (record { offset = o; entry = e }) rest stands) [ inl is ↦ other (ap (λ (t : Standing E). t.offset) is) | inr later ↦ none e later ])
-          ]
-    ]
+-- ---- what can be decided
 
 -- whether P holds of an element of a list
 pub element_decided : {X : Type 0} (xs : List X) (P : X → Type 0) → ((x : X) → Decided (P x)) → Decided ((x : X) × Contains xs x × P x)
@@ -214,6 +203,11 @@ pub stands_with_decided : {E : Type 0} (entries : List (Standing E)) (o : ℕ) (
 stands_with_decided entries o P decide =
     decided_as (λ h. (h.0.entry, subst (λ (k : ℕ). Stands entries k h.0.entry) h.2.0 h.1, h.2.1)) (λ h. (record { offset = o; entry = h.0 }, h.1, (refl, h.2)))
     (element_decided entries (λ s. (s.offset ≡ o) × P s.entry) (λ s. both (same s.offset o) (decide s.entry)))
+
+-- an entry stands at an offset, or none does
+pub entry_or_none : {E : Type 0} (entries : List (Standing E)) (o : ℕ) → ((e : E) × Stands entries o e) ⊎ ((e : E) → ¬ Stands entries o e)
+entry_or_none entries o =
+    elim (stands_with_decided entries o (λ _. Unit {0}) (λ _. inl tt)) [ inl (e, stands, _) ↦ inl (e, stands) | inr none ↦ inr (λ e stands. none (e, stands, tt)) ]
 
 -- whether one of the kinds has a type
 pub type_decided : {E : Type 0} (kinds : List (Kind E)) (type : ℕ) → Decided (IsTypeOf kinds type)
