@@ -4,8 +4,8 @@ use Rattle.acpi_base.specs.Memory.{Memory}
 use Rattle.acpi_base.specs.Policy.{PolicyValue}
 use Rattle.acpi_base.specs.Codes.{stage_number, stage_of}
 use Rattle.acpi_base.specs.Listed.{madt_signature, srat_signature, slit_signature, pptt_signature, HasListed}
-use Rattle.acpi_base.specs.Madt.{madt_contents, MadtFault, OverrideFault, AreInterruptsApart, IsFirstGsiClash}
-use Rattle.acpi_base.specs.Srat.{srat_contents, SratFault, AreRangesApart, RangeFault, IsFirstOverlap}
+use Rattle.acpi_base.specs.Madt.{madt_contents, MadtFault, OverrideFault, AreInterruptsApart}
+use Rattle.acpi_base.specs.Srat.{srat_contents, SratFault, AreRangesApart}
 use Rattle.acpi_base.specs.Slit.{slit_contents, SlitFault}
 use Rattle.acpi_base.specs.Pptt.{pptt_contents, PpttFault, ReferenceFault, ParentFault, CacheFault}
 use Rattle.acpi_base.specs.Across.{DomainFault, ServedFault, LeafFault}
