@@ -1,9 +1,7 @@
 -- Entries of a table with a property: whether one stands at an offset or anywhere, and how far their numbers reach.
 use Rattle.std.proofs.Common.{◌≡◌, ℕ, ◌+◌, ◌<◌, List, [], ◌∷◌, length, refl, sym, subst, inl, inr, arith}
 use Rattle.std.specs.Prelude.{Contains, slice_index}
-use Rattle.std.specs.List.{AllByRecursion}
-use Rattle.std.proofs.lemmas.Bool.{cond_both}
-use Rattle.acpi_base.specs.Entries.{Standing, Stands, StandsWith, entries_of, said_by, Kind, has_form, read_by}
+use Rattle.acpi_base.specs.Entries.{Standing, Stands, StandsWith, entries_of, said_by}
 use Rattle.acpi_base.proofs.Faults.Deciding.{Decided, decided_as, both, same}
 use Rattle.acpi_base.proofs.Standings.{first_element, later_element, first_or_later, no_element, bounded, entry_within, entry_below, said_from}
 
@@ -36,7 +34,7 @@ there_decided entries o P decide =
 
 -- ---- how far their numbers reach
 
--- above every offset at which an entry stands, and above a number of each entry
+-- there is a number above every offset at which an entry stands, and above a number of each entry
 pub entries_bounded : {E : Type 0} (entries : List (Standing E)) (number : E → ℕ) → (most : ℕ) × ((o : ℕ) (e : E) → Stands entries o e → (o < most) × (number e < most))
 entries_bounded entries number =
     let all = bounded (λ s. s.offset + number s.entry) entries in
@@ -54,9 +52,3 @@ pub said_with : {E : Type 0} (read : List ℕ → E) (P : E → Type 0) → ((e 
 said_with read P holds first whole small o e stands =
     let (bytes, here, is) = said_from read (entries_of first whole) o e stands in
     subst P is (holds bytes (entry_below first whole small o bytes here))
-
--- what holds of what bytes say as each of some kinds, and as another entry, holds of what they say
-pub read_with : {E : Type 0} (P : E → Type 0) (kinds : List (Kind E)) (opaque : List ℕ → E) (e : List ℕ) → AllByRecursion (λ k. P (k.read e)) kinds → P (opaque e) → P (read_by kinds opaque e)
-read_with P [] opaque e each other = other
-read_with P (k ∷ kinds) opaque e each other =
-    cond_both (has_form e k.type k.size) _ _ P (λ _. each.0) (λ _. read_with P kinds opaque e each.1 other)

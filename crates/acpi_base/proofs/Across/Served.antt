@@ -4,13 +4,13 @@ use Rattle.std.proofs.Common.{◌≡◌, ℕ, ◌+◌, ◌^◌, ◌<◌, List, l
 use Rattle.std.specs.Prelude.{slice_index}
 use Rattle.acpi_base.specs.Entries.{Stands}
 use Rattle.acpi_base.specs.Policy.{PolicyValue, inputs_of}
-use Rattle.acpi_base.specs.Madt.{MadtEntry, IoApic, Override, NmiSource, Opaque, MadtContents, madt_kinds, madt_entry, madt_contents, ServesFrom, NamesGsi}
+use Rattle.acpi_base.specs.Madt.{MadtEntry, IoApic, Override, NmiSource, MadtContents, madt_entry, madt_contents, ServesFrom, NamesGsi}
 use Rattle.acpi_base.specs.Across.{IsIoApic, IsServed, AreNamedServed, ServedFault}
 use Rattle.acpi_base.specs.Codes.{stage_of}
 use Rattle.acpi_base.specs.declared.code.Code.{Code}
 use Rattle.acpi_base.specs.declared.code.Code.TheVariants as code
 use Rattle.acpi_base.specs.declared.stage.Stage.TheVariants as stage
-use Rattle.acpi_base.proofs.Across.Entries.{somewhere_decided, there_decided, entries_bounded, said_inside, said_with, read_with}
+use Rattle.acpi_base.proofs.Across.Entries.{somewhere_decided, there_decided, entries_bounded, said_inside, said_with}
 use Rattle.acpi_base.proofs.Faults.Deciding.{Decided, decided_as, all3, all4, same, below, at_most, negated}
 use Rattle.acpi_base.proofs.HeldBytes.{field_below}
 
@@ -61,6 +61,7 @@ gsi_of (Override v) = v.gsi
 gsi_of (NmiSource v) = v.gsi
 gsi_of _ = 0
 
+-- it is the one that is named
 named_is : (e : MadtEntry) (g : ℕ) → NamesGsi g e → gsi_of e ≡ g
 unfolding gsi_of
 named_is (Override v) g is = is
@@ -82,10 +83,7 @@ bounded q c = (all.0, place)
 -- an interrupt number has 32 bits
 gsi_fits : (e : List ℕ) → ((k : ℕ) → slice_index e k < 256) → gsi_of (madt_entry e) < 256 ^ 4
 unfolding madt_entry gsi_of
-gsi_fits e small =
-    let below = field_below e small 4 4 in
-    let none : 0 < 256 ^ 4 = omega arith in
-    read_with (λ x. gsi_of x < 256 ^ 4) madt_kinds Opaque e (none, (none, (below, (below, (none, (none, (none, (none, tt)))))))) none
+gsi_fits e small = grind (arith, field_below e small 4 4)
 
 -- the offset lies within the MADT, and the interrupt number has 32 bits
 pub fits : (q : PolicyValue) (whole : List ℕ) → ((k : ℕ) → slice_index whole k < 256)
