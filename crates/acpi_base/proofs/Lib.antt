@@ -7,6 +7,7 @@ pub mod Fadt
 pub mod Faults
 pub mod HeldBytes
 pub mod Layouts
+pub mod Madt
 pub mod Pieces
 pub mod Policies
 pub mod Pptt
@@ -14,6 +15,7 @@ pub mod Root
 pub mod Rsdp
 pub mod Runs
 pub mod Slit
+pub mod Srat
 pub mod Standings
 pub mod Tables
 pub mod Texts

@@ -1,0 +1,3 @@
+-- The MADT.
+pub mod Faults
+pub mod Overrides

@@ -1,0 +1,2 @@
+-- The SRAT.
+pub mod Faults
