@@ -13,10 +13,10 @@ use Rattle.acpi_base.specs.declared.policy.Processors.{Processors}
 use Rattle.acpi_base.specs.declared.code.Code.{Code}
 use Rattle.acpi_base.specs.declared.code.Code.TheVariants as code
 use Rattle.acpi_base.specs.declared.stage.Stage.TheVariants as stage
-use Rattle.acpi_base.proofs.Across.Entries.{somewhere_decided, there_decided, entries_bounded, said_inside, said_with}
+use Rattle.acpi_base.proofs.Across.Entries.{somewhere_decided, entries_bounded, said_with}
 use Rattle.acpi_base.proofs.Faults.Deciding.{Decided, decided_as, both, all3, same, below, differs, is_true, not_other}
 use Rattle.acpi_base.proofs.HeldBytes.{field_below}
-use Rattle.acpi_base.proofs.Standings.{AreOnes, one_said}
+use Rattle.acpi_base.proofs.Standings.{AreOnes, one_said, said_inside, stands_with_decided}
 
 -- ---- what an entry of the SRAT says
 
@@ -48,7 +48,7 @@ puts_decided i d _ = inr (λ h. h)
 put_decided : (c : SratContents) (o i : ℕ) (P : ℕ → Type 0) → ((d : ℕ) → Decided (P d)) → Decided ((d : ℕ) × PutsAt c o i d × P d)
 put_decided c o i P decide =
     decided_as (λ h. (domain_of h.0, (h.0, h.1, h.2.0), h.2.1)) (λ h. let e = h.1 in let is = (put_as e.0 i h.0 e.2).1 in (e.0, e.1, (rw is e.2, rw is h.2)))
-    (there_decided c.entries o (λ e. PutsIn i (domain_of e) e × P (domain_of e)) (λ e. both (puts_decided i (domain_of e) e) (decide (domain_of e))))
+    (stands_with_decided c.entries o (λ e. PutsIn i (domain_of e) e × P (domain_of e)) (λ e. both (puts_decided i (domain_of e) e) (decide (domain_of e))))
 
 -- where one entry stands at an offset, it puts a processor in one domain
 one_put : (c : SratContents) → AreOnes c.entries → (o i d f : ℕ) → PutsAt c o i d → PutsAt c o i f → d ≡ f

@@ -11,10 +11,11 @@ use Rattle.acpi_base.specs.Codes.{stage_of}
 use Rattle.acpi_base.specs.declared.code.Code.{Code}
 use Rattle.acpi_base.specs.declared.code.Code.TheVariants as code
 use Rattle.acpi_base.specs.declared.stage.Stage.TheVariants as stage
-use Rattle.acpi_base.proofs.Across.Entries.{somewhere_decided, there_decided, entries_bounded, said_with}
+use Rattle.acpi_base.proofs.Across.Entries.{somewhere_decided, entries_bounded, said_with}
 use Rattle.acpi_base.proofs.Faults.Deciding.{Decided, decided_as, all3, all5, same, at_most, negated, is_true, is_none}
 use Rattle.acpi_base.proofs.HeldBytes.{field_below}
 use Rattle.acpi_base.proofs.Pptt.Places.{inside}
+use Rattle.acpi_base.proofs.Standings.{stands_with_decided}
 
 -- ---- decided, and what the fault excludes
 
@@ -44,7 +45,7 @@ leaf_decided id _ = inr (λ h. h)
 
 pub decided : (madt : MadtContents) (pptt : PpttContents) (fault : Code) (at other point : ℕ) → Decided (LeafFault madt pptt fault at other point)
 decided madt pptt code.LeafUnknown at other point =
-    all5 (at_most 2 pptt.revision) (typed_decided madt) (there_decided pptt.entries at (IsLeaf point) (leaf_decided point)) (negated (uid_decided madt point)) (same other 0)
+    all5 (at_most 2 pptt.revision) (typed_decided madt) (stands_with_decided pptt.entries at (IsLeaf point) (leaf_decided point)) (negated (uid_decided madt point)) (same other 0)
 decided madt pptt _ at other point = inr (λ fault. fault)
 
 -- without a fault each leaf is known
