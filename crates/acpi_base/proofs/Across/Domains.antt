@@ -6,17 +6,17 @@ use Rattle.std.proofs.lemmas.Bool.{cases_order}
 use Rattle.acpi_base.specs.Entries.{Stands}
 use Rattle.acpi_base.specs.Policy.{counts_as_enabled}
 use Rattle.acpi_base.specs.Madt.{MadtEntry, LocalApic, X2apic, MadtContents, IsEnabledProcessor}
-use Rattle.acpi_base.specs.Srat.{SratEntry, ApicDomain, X2apicDomain, Opaque, SratContents, srat_kinds, srat_entry, srat_contents, is_enabled, PutsIn}
+use Rattle.acpi_base.specs.Srat.{SratEntry, ApicDomain, X2apicDomain, SratContents, srat_entry, srat_contents, is_enabled, PutsIn}
 use Rattle.acpi_base.specs.Across.{IsEnabled, PutsAt, HaveOneDomain, DomainFault}
 use Rattle.acpi_base.specs.Codes.{stage_of}
 use Rattle.acpi_base.specs.declared.policy.Processors.{Processors}
 use Rattle.acpi_base.specs.declared.code.Code.{Code}
 use Rattle.acpi_base.specs.declared.code.Code.TheVariants as code
 use Rattle.acpi_base.specs.declared.stage.Stage.TheVariants as stage
-use Rattle.acpi_base.proofs.Across.Entries.{somewhere_decided, there_decided, entries_bounded, said_inside, said_with, read_with}
+use Rattle.acpi_base.proofs.Across.Entries.{somewhere_decided, entries_bounded, said_with}
 use Rattle.acpi_base.proofs.Faults.Deciding.{Decided, decided_as, both, all3, same, below, differs, is_true, not_other}
 use Rattle.acpi_base.proofs.HeldBytes.{field_below}
-use Rattle.acpi_base.proofs.Standings.{AreOnes, one_said}
+use Rattle.acpi_base.proofs.Standings.{AreOnes, one_said, said_inside, stands_with_decided}
 
 -- ---- what an entry of the SRAT says
 
@@ -32,6 +32,7 @@ domain_of (ApicDomain v) = v.domain
 domain_of (X2apicDomain v) = v.domain
 domain_of _ = 0
 
+-- they are the numbers with which it does
 put_as : (e : SratEntry) (i d : ℕ) → PutsIn i d e → (processor_of e ≡ i) × (domain_of e ≡ d)
 unfolding processor_of domain_of
 put_as (ApicDomain v) i d puts = (puts.0, puts.1)
@@ -47,17 +48,12 @@ puts_decided i d _ = inr (λ h. h)
 put_decided : (c : SratContents) (o i : ℕ) (P : ℕ → Type 0) → ((d : ℕ) → Decided (P d)) → Decided ((d : ℕ) × PutsAt c o i d × P d)
 put_decided c o i P decide =
     decided_as (λ h. (domain_of h.0, (h.0, h.1, h.2.0), h.2.1)) (λ h. let e = h.1 in let is = (put_as e.0 i h.0 e.2).1 in (e.0, e.1, (rw is e.2, rw is h.2)))
-    (there_decided c.entries o (λ e. PutsIn i (domain_of e) e × P (domain_of e)) (λ e. both (puts_decided i (domain_of e) e) (decide (domain_of e))))
+    (stands_with_decided c.entries o (λ e. PutsIn i (domain_of e) e × P (domain_of e)) (λ e. both (puts_decided i (domain_of e) e) (decide (domain_of e))))
 
--- at most one entry stands at an offset
-ones : (whole : List ℕ) → AreOnes (srat_contents whole).entries
-unfolding srat_contents
-ones whole = one_said srat_entry 48 whole
-
--- so an entry at an offset puts a processor in one domain
+-- where one entry stands at an offset, it puts a processor in one domain
 one_put : (c : SratContents) → AreOnes c.entries → (o i d f : ℕ) → PutsAt c o i d → PutsAt c o i f → d ≡ f
-one_put c one_there o i d f one other =
-    let is = one_there o one.0 other.0 one.1 other.1 in
+one_put c ones o i d f one other =
+    let is = ones o one.0 other.0 one.1 other.1 in
     cc ((put_as one.0 i d one.2).1, (put_as other.0 i f other.2).1)
 
 -- ---- decided, and what the fault excludes
@@ -81,9 +77,10 @@ decided p madt srat _ at other point = inr (λ fault. fault)
 pub one_domain_without_fault : (p : Processors) (madt : MadtContents) (whole : List ℕ)
     → ((fault : Code) (at other point : ℕ) → stage_of fault ≡ stage.Domains → ¬ DomainFault p madt (srat_contents whole) fault at other point)
     → HaveOneDomain p madt (srat_contents whole)
+unfolding srat_contents
 one_domain_without_fault p madt whole none i enabled o r d f one other =
     not_other d f (λ differ. elim (cases_order o r) [
-      | inl is ↦ differ (one_put (srat_contents whole) (ones whole) r i d f (subst (λ (k : ℕ). PutsAt (srat_contents whole) k i d) is one) other)
+      | inl is ↦ differ (one_put (srat_contents whole) (one_said srat_entry 48 whole) r i d f (subst (λ (k : ℕ). PutsAt (srat_contents whole) k i d) is one) other)
       | inr (inl less) ↦ none code.TwoDomains r o i refl (enabled, f, d, other, one, less, λ is. differ (sym is))
       | inr (inr more) ↦ none code.TwoDomains o r i refl (enabled, d, f, one, other, more, differ)
     ])
@@ -111,9 +108,7 @@ bounded p madt srat = (all.0, place)
 -- the number of a processor has 32 bits
 processor_fits : (e : List ℕ) → ((k : ℕ) → slice_index e k < 256) → processor_of (srat_entry e) < 256 ^ 4
 unfolding srat_entry processor_of
-processor_fits e small =
-    let below = field_below e small in
-    read_with (λ x. processor_of x < 256 ^ 4) srat_kinds Opaque e (omega (arith, below 3 1), (omega arith, (below 8 4, tt))) (omega arith)
+processor_fits e small = grind (arith, field_below e small 3 1, field_below e small 8 4)
 
 -- the offsets lie within the SRAT, and the number of the processor has 32 bits
 pub fits : (p : Processors) (madt : MadtContents) (whole : List ℕ) → ((k : ℕ) → slice_index whole k < 256)

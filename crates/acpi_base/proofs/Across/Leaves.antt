@@ -2,23 +2,24 @@
 -- known, and where there is none all are; how far its numbers reach.
 use Rattle.std.proofs.Common.{◌≡◌, ℕ, ◌^◌, ◌<◌, List, length, refl, subst, inl, inr, arith}
 use Rattle.std.specs.Prelude.{slice_index}
-use Rattle.std.proofs.lemmas.Bool.{cond_both}
 use Rattle.acpi_base.specs.Number.{has_bit}
 use Rattle.acpi_base.specs.Entries.{Stands}
 use Rattle.acpi_base.specs.Madt.{MadtEntry, LocalApic, X2apic, Opaque, MadtContents, HasUid, IsWhollyTyped}
-use Rattle.acpi_base.specs.Pptt.{PpttEntry, Node, PpttContents, has_node_form, has_cache_form, pptt_entry, pptt_contents}
+use Rattle.acpi_base.specs.Pptt.{PpttEntry, Node, PpttContents, pptt_entry, pptt_contents}
 use Rattle.acpi_base.specs.Across.{IsLeaf, IsUid, AreLeavesKnown, LeafFault}
 use Rattle.acpi_base.specs.Codes.{stage_of}
 use Rattle.acpi_base.specs.declared.code.Code.{Code}
 use Rattle.acpi_base.specs.declared.code.Code.TheVariants as code
 use Rattle.acpi_base.specs.declared.stage.Stage.TheVariants as stage
-use Rattle.acpi_base.proofs.Across.Entries.{somewhere_decided, there_decided, entries_bounded, said_with}
+use Rattle.acpi_base.proofs.Across.Entries.{somewhere_decided, entries_bounded, said_with}
 use Rattle.acpi_base.proofs.Faults.Deciding.{Decided, decided_as, all3, all5, same, at_most, negated, is_true, is_none}
 use Rattle.acpi_base.proofs.HeldBytes.{field_below}
 use Rattle.acpi_base.proofs.Pptt.Places.{inside}
+use Rattle.acpi_base.proofs.Standings.{stands_with_decided}
 
 -- ---- decided, and what the fault excludes
 
+-- whether an entry is not typed
 opaque_decided : (e : MadtEntry) → Decided ((bytes : List ℕ) × (e ≡ Opaque bytes))
 opaque_decided (Opaque bytes) = inl (bytes, refl)
 opaque_decided _ = inr (λ h. let is = h.1 in absurd cc)
@@ -30,13 +31,13 @@ typed_decided c =
     (λ h. (h.long, h.filled, λ (o, (e, stands, opaque)). h.typed o opaque.0 (subst (Stands c.entries o) opaque.1 stands)))
     (all3 (at_most 44 c.size) (is_none c.cut) (negated (somewhere_decided c.entries (λ e. (bytes : List ℕ) × (e ≡ Opaque bytes)) opaque_decided)))
 
-has_uid : (uid : ℕ) (e : MadtEntry) → Decided (HasUid uid e)
-has_uid uid (LocalApic v) = same v.uid uid
-has_uid uid (X2apic v) = same v.uid uid
-has_uid uid _ = inr (λ h. h)
+has_uid_decided : (uid : ℕ) (e : MadtEntry) → Decided (HasUid uid e)
+has_uid_decided uid (LocalApic v) = same v.uid uid
+has_uid_decided uid (X2apic v) = same v.uid uid
+has_uid_decided uid _ = inr (λ h. h)
 
 uid_decided : (c : MadtContents) (uid : ℕ) → Decided (IsUid c uid)
-uid_decided c uid = somewhere_decided c.entries (HasUid uid) (has_uid uid)
+uid_decided c uid = somewhere_decided c.entries (HasUid uid) (has_uid_decided uid)
 
 leaf_decided : (id : ℕ) (e : PpttEntry) → Decided (IsLeaf id e)
 leaf_decided id (Node v) = all3 (is_true (has_bit v.flags 1)) (is_true (has_bit v.flags 3)) (same v.id id)
@@ -44,7 +45,7 @@ leaf_decided id _ = inr (λ h. h)
 
 pub decided : (madt : MadtContents) (pptt : PpttContents) (fault : Code) (at other point : ℕ) → Decided (LeafFault madt pptt fault at other point)
 decided madt pptt code.LeafUnknown at other point =
-    all5 (at_most 2 pptt.revision) (typed_decided madt) (there_decided pptt.entries at (IsLeaf point) (leaf_decided point)) (negated (uid_decided madt point)) (same other 0)
+    all5 (at_most 2 pptt.revision) (typed_decided madt) (stands_with_decided pptt.entries at (IsLeaf point) (leaf_decided point)) (negated (uid_decided madt point)) (same other 0)
 decided madt pptt _ at other point = inr (λ fault. fault)
 
 -- without a fault each leaf is known
@@ -65,6 +66,7 @@ id_of : PpttEntry → ℕ
 id_of (Node v) = v.id
 id_of _ = 0
 
+-- it is that of a leaf
 leaf_is : (e : PpttEntry) (id : ℕ) → IsLeaf id e → id_of e ≡ id
 unfolding id_of
 leaf_is (Node v) id leaf = leaf.2
@@ -86,10 +88,7 @@ bounded madt pptt = (all.0, place)
 -- an ID has 32 bits
 id_fits : (e : List ℕ) → ((k : ℕ) → slice_index e k < 256) → id_of (pptt_entry e) < 256 ^ 4
 unfolding pptt_entry id_of
-id_fits e small =
-    let none : 0 < 256 ^ 4 = omega arith in
-    cond_both (has_node_form e) _ _ (λ x. id_of x < 256 ^ 4) (λ _. field_below e small 12 4)
-    (λ _. cond_both (has_cache_form e) _ _ (λ x. id_of x < 256 ^ 4) (λ _. none) (λ _. none))
+id_fits e small = grind (arith, field_below e small 12 4)
 
 -- the offset lies within the PPTT, and the ID has 32 bits
 pub fits : (madt : MadtContents) (whole : List ℕ) → ((k : ℕ) → slice_index whole k < 256)

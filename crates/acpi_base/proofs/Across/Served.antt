@@ -4,15 +4,17 @@ use Rattle.std.proofs.Common.{◌≡◌, ℕ, ◌+◌, ◌^◌, ◌<◌, List, l
 use Rattle.std.specs.Prelude.{slice_index}
 use Rattle.acpi_base.specs.Entries.{Stands}
 use Rattle.acpi_base.specs.Policy.{PolicyValue, inputs_of}
-use Rattle.acpi_base.specs.Madt.{MadtEntry, IoApic, Override, NmiSource, Opaque, MadtContents, madt_kinds, madt_entry, madt_contents, ServesFrom, NamesGsi}
+use Rattle.acpi_base.specs.Madt.{MadtEntry, IoApic, Override, NmiSource, MadtContents, madt_entry, madt_contents, ServesFrom, NamesGsi}
 use Rattle.acpi_base.specs.Across.{IsIoApic, IsServed, AreNamedServed, ServedFault}
 use Rattle.acpi_base.specs.Codes.{stage_of}
 use Rattle.acpi_base.specs.declared.code.Code.{Code}
 use Rattle.acpi_base.specs.declared.code.Code.TheVariants as code
 use Rattle.acpi_base.specs.declared.stage.Stage.TheVariants as stage
-use Rattle.acpi_base.proofs.Across.Entries.{somewhere_decided, there_decided, entries_bounded, said_inside, said_with, read_with}
+use Rattle.acpi_base.proofs.Across.Entries.{somewhere_decided, entries_bounded, said_with}
 use Rattle.acpi_base.proofs.Faults.Deciding.{Decided, decided_as, all3, all4, same, below, at_most, negated}
 use Rattle.acpi_base.proofs.HeldBytes.{field_below}
+use Rattle.acpi_base.proofs.Madt.Faults.{inside}
+use Rattle.acpi_base.proofs.Standings.{stands_with_decided}
 
 -- ---- decided, and what the fault excludes
 
@@ -39,7 +41,7 @@ served_decided q c g =
 
 pub decided : (q : PolicyValue) (c : MadtContents) (fault : Code) (at other point : ℕ) → Decided (ServedFault q c fault at other point)
 decided q c code.GsiNowhere at other point =
-    all4 (somewhere_decided c.entries IsIoApic io_apic_decided) (there_decided c.entries at (NamesGsi point) (names_decided point)) (negated (served_decided q c point)) (same other 0)
+    all4 (somewhere_decided c.entries IsIoApic io_apic_decided) (stands_with_decided c.entries at (NamesGsi point) (names_decided point)) (negated (served_decided q c point)) (same other 0)
 decided q c _ at other point = inr (λ fault. fault)
 
 -- without a fault each interrupt number that is named is served
@@ -61,6 +63,7 @@ gsi_of (Override v) = v.gsi
 gsi_of (NmiSource v) = v.gsi
 gsi_of _ = 0
 
+-- it is the one that is named
 named_is : (e : MadtEntry) (g : ℕ) → NamesGsi g e → gsi_of e ≡ g
 unfolding gsi_of
 named_is (Override v) g is = is
@@ -82,17 +85,14 @@ bounded q c = (all.0, place)
 -- an interrupt number has 32 bits
 gsi_fits : (e : List ℕ) → ((k : ℕ) → slice_index e k < 256) → gsi_of (madt_entry e) < 256 ^ 4
 unfolding madt_entry gsi_of
-gsi_fits e small =
-    let below = field_below e small 4 4 in
-    let none : 0 < 256 ^ 4 = omega arith in
-    read_with (λ x. gsi_of x < 256 ^ 4) madt_kinds Opaque e (none, (none, (below, (below, (none, (none, (none, (none, tt)))))))) none
+gsi_fits e small = grind (arith, field_below e small 4 4)
 
 -- the offset lies within the MADT, and the interrupt number has 32 bits
 pub fits : (q : PolicyValue) (whole : List ℕ) → ((k : ℕ) → slice_index whole k < 256)
     → (fault : Code) (at other point : ℕ) → ServedFault q (madt_contents whole) fault at other point → (at < length whole) × (other < length whole) × (point < 256 ^ 4)
 unfolding madt_contents
 fits q whole small code.GsiNowhere at other point (_, (e, stands, names), _, none) =
-    let inside = said_inside madt_entry 44 whole at e stands in
+    let here = inside whole at e stands in
     let number = said_with madt_entry (λ x. gsi_of x < 256 ^ 4) gsi_fits 44 whole small at e stands in
-    (inside, omega arith, omega (arith, named_is e point names))
+    (here, omega arith, omega (arith, named_is e point names))
 fits q whole small _ at other point fault = absurd fault
