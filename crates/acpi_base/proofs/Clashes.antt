@@ -1,5 +1,5 @@
--- The first overlap of ranges: there is one exactly where two ranges hold some number, and there is only one.
-use Rattle.std.proofs.Common.{◌≡◌, ◌≢◌, ◌⊎◌, ℕ, suc, ◌+◌, ◌<◌, ◌≤◌, refl, sym, ◌∙◌, ap, subst, inl, inr, List, arith}
+-- The first overlap of ranges: there is one where two ranges hold some number, and there is only one.
+use Rattle.std.proofs.Common.{◌≡◌, ◌≢◌, ◌⊎◌, ℕ, suc, ◌+◌, ◌<◌, ◌≤◌, refl, sym, ◌∙◌, subst, inl, inr, List, arith}
 use Rattle.std.specs.Prelude.{Contains}
 use Rattle.std.proofs.lemmas.Bool.{cases_eq}
 use Rattle.acpi_base.specs.Clashes.{IsClash, AreApart, AreApartBelow, ComesBefore, IsFirstClash}
@@ -114,7 +114,7 @@ pub ranges_of_entries : {E : Type 0} (entries : List (Standing E)) (Says : ℕ �
     → AreFiniteRanges (λ o s x. StandsWith entries o (Says s x))
 ranges_of_entries {E} entries Says start end ones says decide =
     record {
-      one_start = λ o s t x one other. (let same = ones o one.0 other.0 one.1 other.1 in sym (says s x one.0 one.2).0 ∙ ap start same ∙ (says t x other.0 other.2).0);
+      one_start = λ o s t x one other. grind (arith, ones o one.0 other.0 one.1 other.1, says s x one.0 one.2, says t x other.0 other.2);
       from_start = λ o s x h. (says s x h.0 h.2).1;
       decide = λ o s x. elim (entry_or_none entries o) [
         | inr none ↦ inr (λ h. none h.0 h.1)
@@ -122,7 +122,7 @@ ranges_of_entries {E} entries Says start end ones says decide =
       ];
       offsets = most.0;
       numbers = most.0;
-      within = λ o s x h. (let below = most.1 (record { offset = o; entry = h.0 }) h.1 in let own = says s x h.0 h.2 in (omega arith, omega arith));
+      within = λ o s x h. grind (arith, most.1 (record { offset = o; entry = h.0 }) h.1, says s x h.0 h.2);
     }
   where
     most : (most : ℕ) × ((r : Standing E) → Contains entries r → r.offset + end r.entry < most)

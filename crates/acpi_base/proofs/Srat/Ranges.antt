@@ -73,15 +73,13 @@ inside whole o e stands =
     let (bytes, here, is) = said_from srat_entry (entries_of 48 whole) o e stands in
     omega (arith, entry_within 48 whole o bytes here)
 
--- and so do the two ranges of a clash
-clash_inside : (P : MemoryValue → Type 0) (whole : List ℕ) (at other point : ℕ) → IsClash (Covers P (srat_contents whole)) at other point → (at < length whole) × (other < length whole)
-clash_inside P whole at other point clash = (inside whole at clash.one_holds.0 clash.one_holds.1, inside whole other clash.other_holds.0 clash.other_holds.1)
-
 -- ---- ranges that must be apart
 
+-- an overlap that is reported
 abbrev FirstOverlap : HotPlug → SratContents → Type 0
 FirstOverlap h c = (at other point : ℕ) × IsFirstOverlap h c at other point
 
+-- the first clash of the ranges of one kind
 abbrev FirstOf : (MemoryValue → Type 0) → SratContents → Type 0
 FirstOf P c = (at other point : ℕ) × IsFirstClash (Covers P c) at other point
 
@@ -148,6 +146,5 @@ code_is h c _ at other point fault = absurd fault
 pub fits : (h : HotPlug) (whole : List ℕ) (fault : Code) (at other point : ℕ) → RangeFault h (srat_contents whole) fault at other point
     → (at < length whole) × (other < length whole) × (point < 2 ^ 64)
 fits h whole code.Overlap at other point (below, overlap) =
-    let within = of_kind h (srat_contents whole) at other point overlap (λ P clash. clash_inside P whole at other point clash) in
-    (within.0, within.1, below)
+    of_kind h (srat_contents whole) at other point overlap (λ P clash. (inside whole at clash.one_holds.0 clash.one_holds.1, inside whole other clash.other_holds.0 clash.other_holds.1, below))
 fits h whole _ at other point fault = absurd fault
