@@ -6,7 +6,7 @@ use Rattle.acpi_base.specs.Clashes.{IsClash, AreApart, AreApartBelow, ComesBefor
 use Rattle.acpi_base.specs.Entries.{Standing, StandsWith}
 use Rattle.acpi_base.proofs.Faults.Deciding.{Decided, decided_as, both, differs, not_below}
 use Rattle.acpi_base.proofs.Faults.Least.{NoneOrFirst, ByNumber, first_by, first_at, least_below}
-use Rattle.acpi_base.proofs.Standings.{AreOnes, entry_or_none, bounded}
+use Rattle.acpi_base.proofs.Standings.{AreOnes, stands_with_decided, bounded}
 
 -- finitely many ranges: those that stand at one offset and hold one number have one start; a range holds no number
 -- before its start; whether it holds a number can be decided; and offsets and numbers are bounded
@@ -116,10 +116,7 @@ ranges_of_entries {E} entries Says start end ones says decide =
     record {
       one_start = λ o s t x one other. grind (arith, ones o one.0 other.0 one.1 other.1, says s x one.0 one.2, says t x other.0 other.2);
       from_start = λ o s x h. (says s x h.0 h.2).1;
-      decide = λ o s x. elim (entry_or_none entries o) [
-        | inr none ↦ inr (λ h. none h.0 h.1)
-        | inl (e, stands) ↦ decided_as (λ h. (e, stands, h)) (λ h. subst (Says s x) (ones o h.0 e h.1 stands) h.2) (decide s x e)
-      ];
+      decide = λ o s x. stands_with_decided entries o (Says s x) (decide s x);
       offsets = most.0;
       numbers = most.0;
       within = λ o s x h. grind (arith, most.1 (record { offset = o; entry = h.0 }) h.1, says s x h.0 h.2);

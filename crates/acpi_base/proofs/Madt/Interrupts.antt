@@ -12,7 +12,8 @@ use Rattle.acpi_base.proofs.Clashes as clashes
 use Rattle.acpi_base.proofs.Clashes.{AreFiniteRanges, ranges_of_entries, apart_or_first}
 use Rattle.acpi_base.proofs.Faults.Deciding.{Decided, all3, same, below, at_most}
 use Rattle.acpi_base.proofs.HeldBytes.{cases_Option, field_below}
-use Rattle.acpi_base.proofs.Standings.{AreOnes, one_said, said_from, entry_within, entry_below}
+use Rattle.acpi_base.proofs.Madt.Faults.{ones, inside}
+use Rattle.acpi_base.proofs.Standings.{said_from, entry_below}
 
 -- the first number that an entry serves, and the one behind the last
 first_gsi : MadtEntry → ℕ
@@ -33,11 +34,6 @@ serves q s x _ h = absurd h
 serves_decided : (q : PolicyValue) (s x : ℕ) (e : MadtEntry) → Decided (ServesFrom q s x e)
 serves_decided q s x (IoApic v) = all3 (same v.gsi_base s) (at_most s x) (below x (s + inputs_of q v.address))
 serves_decided q s x _ = inr (λ h. h)
-
--- at most one entry stands at an offset
-ones : (whole : List ℕ) → AreOnes (madt_contents whole).entries
-unfolding madt_contents
-ones whole = one_said madt_entry 44 whole
 
 -- what I/O APICs serve are finitely many ranges
 ranges : (q : PolicyValue) (whole : List ℕ) → AreFiniteRanges (Serves q (madt_contents whole))
@@ -74,14 +70,13 @@ end_fits : (q : PolicyValue) (e : List ℕ) → field e 8 4 < 256 ^ 4 → inputs
 unfolding end_of_gsis madt_entry
 end_fits q e base inputs = grind (arith, base, inputs)
 
--- an entry begins within the table, and the numbers that it serves end below 2^33
-entry_fits : (q : PolicyValue) (whole : List ℕ) → ((k : ℕ) → slice_index whole k < 256) → IsPolicy q → (o : ℕ) (e : MadtEntry) → Stands (madt_contents whole).entries o e
-    → (o < length whole) × (end_of_gsis q e < 2 ^ 33)
+-- the numbers that an entry serves end below 2^33
+entry_fits : (q : PolicyValue) (whole : List ℕ) → ((k : ℕ) → slice_index whole k < 256) → IsPolicy q → (o : ℕ) (e : MadtEntry) → Stands (madt_contents whole).entries o e → end_of_gsis q e < 2 ^ 33
 unfolding madt_contents
 entry_fits q whole small policy o e stands =
     let (bytes, here, is) = said_from madt_entry (entries_of 44 whole) o e stands in
     let base = field_below bytes (entry_below 44 whole small o bytes here) 8 4 in
-    (omega (arith, entry_within 44 whole o bytes here), rw (← is) (end_fits q bytes base (inputs_fit q policy (field bytes 4 4))))
+    rw (← is) (end_fits q bytes base (inputs_fit q policy (field bytes 4 4)))
 
 -- the offsets of a fault lie within the table, and its interrupt number is below 2^33
 pub fits : (q : PolicyValue) (whole : List ℕ) → ((k : ℕ) → slice_index whole k < 256) → IsPolicy q → (fault : Code) (at other point : ℕ) → InterruptFault q (madt_contents whole) fault at other point
@@ -89,6 +84,5 @@ pub fits : (q : PolicyValue) (whole : List ℕ) → ((k : ℕ) → slice_index w
 fits q whole small policy code.GsiClash at other point clash =
     let (e, stands, holds) = clash.one_holds in
     let (d, also, _) = clash.other_holds in
-    let here = entry_fits q whole small policy at e stands in
-    (here.0, (entry_fits q whole small policy other d also).0, omega (arith, here.1, serves q clash.s point e holds))
+    (inside whole at e stands, inside whole other d also, omega (arith, entry_fits q whole small policy at e stands, serves q clash.s point e holds))
 fits q whole small policy _ at other point fault = absurd fault

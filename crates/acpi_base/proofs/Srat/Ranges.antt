@@ -3,7 +3,7 @@
 use Rattle.std.proofs.Common.{◌≡◌, ◌⊎◌, ℕ, ◌+◌, ◌^◌, ◌<◌, ◌≤◌, List, length, refl, inl, inr, arith}
 use Rattle.std.proofs.lemmas.Bool.{cases_lt}
 use Rattle.acpi_base.specs.Clashes.{IsClash, AreApart, IsFirstClash}
-use Rattle.acpi_base.specs.Entries.{Stands, entries_of}
+use Rattle.acpi_base.specs.Entries.{Stands}
 use Rattle.acpi_base.specs.Srat.{SratEntry, MemoryRange, MemoryValue, SratContents, srat_entry, srat_contents, is_enabled, is_hot_pluggable, IsAny, IsHotPluggable, IsNotHotPluggable, CoversFrom, Covers, IsSoundSrat, IsSoundSratEntry, IsOverlap, AreRangesApart, RangeFault, IsFirstOverlap}
 use Rattle.acpi_base.specs.declared.policy.HotPlug.{HotPlug}
 use Rattle.acpi_base.specs.declared.policy.HotPlug.TheVariants.{Counted, Apart}
@@ -12,7 +12,7 @@ use Rattle.acpi_base.specs.declared.code.Code.TheVariants as code
 use Rattle.acpi_base.proofs.Clashes as clashes
 use Rattle.acpi_base.proofs.Clashes.{AreFiniteRanges, ranges_of_entries, apart_or_first}
 use Rattle.acpi_base.proofs.Faults.Deciding.{Decided, all5, same, below, at_most, is_true, is_false}
-use Rattle.acpi_base.proofs.Standings.{AreOnes, one_said, said_from, entry_within}
+use Rattle.acpi_base.proofs.Standings.{AreOnes, one_said, said_inside}
 
 -- ---- ranges of one kind
 
@@ -69,9 +69,7 @@ clash_below P c sound at other point clash =
 -- an entry begins within the table
 inside : (whole : List ℕ) (o : ℕ) (e : SratEntry) → Stands (srat_contents whole).entries o e → o < length whole
 unfolding srat_contents
-inside whole o e stands =
-    let (bytes, here, is) = said_from srat_entry (entries_of 48 whole) o e stands in
-    omega (arith, entry_within 48 whole o bytes here)
+inside whole = said_inside srat_entry 48 whole
 
 -- ---- ranges that must be apart
 
