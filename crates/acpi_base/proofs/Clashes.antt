@@ -6,7 +6,8 @@ use Rattle.acpi_base.specs.Clashes.{IsClash, AreApart, AreApartBelow, ComesBefor
 use Rattle.acpi_base.specs.Entries.{Standing, StandsWith}
 use Rattle.acpi_base.proofs.Faults.Deciding.{Decided, decided_as, both, differs, not_below}
 use Rattle.acpi_base.proofs.Faults.Least.{NoneOrFirst, ByNumber, first_by, first_at, least_below}
-use Rattle.acpi_base.proofs.Standings.{AreOnes, stands_with_decided, bounded}
+use Rattle.acpi_base.proofs.Elements.{bounded}
+use Rattle.acpi_base.proofs.Standings.{AreOnes, stands_with_decided}
 
 -- finitely many ranges: those that stand at one offset and hold one number have one start; a range holds no number
 -- before its start; whether it holds a number can be decided; and offsets and numbers are bounded

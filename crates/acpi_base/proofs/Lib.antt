@@ -1,6 +1,7 @@
 pub mod Across
 pub mod Chains
 pub mod Clashes
+pub mod Elements
 pub mod Entries
 pub mod Examples
 pub mod Facs

@@ -1,6 +1,6 @@
 -- The entries that stand in a table: they lie one behind another within it, so at most one stands at an offset,
 -- and whether one with a property does can be decided.
-use Rattle.std.proofs.Common.{◌≡◌, ℕ, zero, suc, ◌+◌, ◌<◌, ◌≤◌, List, [], ◌∷◌, length, take, drop, map, Some, refl, sym, ◌∙◌, ap, subst, inl, inr, arith, length-drop}
+use Rattle.std.proofs.Common.{◌≡◌, ℕ, zero, suc, ◌+◌, ◌<◌, ◌≤◌, List, [], ◌∷◌, length, take, drop, Some, refl, sym, ◌∙◌, ap, subst, inl, inr, arith, length-drop}
 use Rattle.std.specs.Prelude.{◌⊎◌, ◌&&◌, Contains, slice_index, nat_le}
 use Rattle.std.proofs.lemmas.Bool.{and_parts, leb-true, ltb-true, cases_lt}
 use Rattle.std.proofs.lemmas.List.{length-take-le, length-take, get_or-take, get_or-drop, get_or_past}
@@ -8,36 +8,7 @@ use Rattle.std.proofs.lemmas.Option.{cond_some}
 use Rattle.acpi_base.specs.Entries.{Standing, Stands, StandsWith, first_entry, entries_from, entries_of, cut_of, said_by, Kind, IsTypeOf, AreUnused}
 use Rattle.acpi_base.proofs.Faults.Deciding.{Decided, decided_as, both, either, same}
 use Rattle.acpi_base.proofs.HeldBytes.{cases_Option}
-
--- ---- elements of a list
-
-pub first_element : {X : Type 0} (x : X) (xs : List X) → Contains (x ∷ xs) x
-first_element x xs = (zero, omega arith, refl)
-
-pub later_element : {X : Type 0} (x y : X) (xs : List X) → Contains xs y → Contains (x ∷ xs) y
-later_element x y xs (k, below, is) = (suc k, omega arith, is)
-
-pub first_or_later : {X : Type 0} (x y : X) (xs : List X) → Contains (x ∷ xs) y → (x ≡ y) ⊎ Contains xs y
-first_or_later x y xs (zero, below, is) = inl is
-first_or_later x y xs (suc k, below, is) = inr (k, omega arith, is)
-
-pub no_element : {X : Type 0} (y : X) → ¬ Contains [] y
-no_element y (k, below, is) = omega arith
-
-pub element_of_map : {X Y : Type 0} (f : X → Y) (xs : List X) (y : Y) → Contains (map f xs) y → (x : X) × Contains xs x × (f x ≡ y)
-element_of_map f [] y h = absurd (no_element y h)
-element_of_map f (x ∷ xs) y h =
-    elim (first_or_later (f x) y (map f xs) h) [
-      | inl is ↦ (x, first_element x xs, is)
-      | inr later ↦ let found = element_of_map f xs y later in (found.0, later_element x found.0 xs found.1, found.2)
-    ]
-
--- a function is below some number at each element
-pub bounded : {X : Type 0} (f : X → ℕ) (xs : List X) → (most : ℕ) × ((x : X) → Contains xs x → f x < most)
-bounded f [] = (0, λ x h. absurd (no_element x h))
-bounded f (x ∷ xs) =
-    let rest = bounded f xs in
-    (f x + 1 + rest.0, λ y h. elim (first_or_later x y xs h) [ inl is ↦ omega (arith, ap f is) | inr later ↦ omega (arith, rest.1 y later) ])
+use Rattle.acpi_base.proofs.Elements.{no_element, first_or_later, element_of_map, element_decided, bounded}
 
 -- ---- entries lie apart
 
@@ -185,29 +156,17 @@ one_said read first whole o v u one other =
 
 -- ---- what can be decided
 
--- whether P holds of an element of a list
-pub element_decided : {X : Type 0} (xs : List X) (P : X → Type 0) → ((x : X) → Decided (P x)) → Decided ((x : X) × Contains xs x × P x)
-element_decided [] P decide = inr (λ h. no_element h.0 h.1)
-element_decided (x ∷ xs) P decide =
-    elim (decide x) [
-      | inl here ↦ inl (x, first_element x xs, here)
-      | inr fails ↦
-          elim (element_decided xs P decide) [
-            | inl (y, later, holds) ↦ inl (y, later_element x y xs later, holds)
-            | inr none ↦ inr (λ h. elim (first_or_later x h.0 xs h.1) [ inl is ↦ fails (subst P (sym is) h.2) | inr later ↦ none (h.0, later, h.2) ])
-          ]
-    ]
-
 -- whether an entry stands at an offset of which P holds
 pub stands_with_decided : {E : Type 0} (entries : List (Standing E)) (o : ℕ) (P : E → Type 0) → ((e : E) → Decided (P e)) → Decided (StandsWith entries o P)
 stands_with_decided entries o P decide =
     decided_as (λ h. (h.0.entry, subst (λ (k : ℕ). Stands entries k h.0.entry) h.2.0 h.1, h.2.1)) (λ h. (record { offset = o; entry = h.0 }, h.1, (refl, h.2)))
     (element_decided entries (λ s. (s.offset ≡ o) × P s.entry) (λ s. both (same s.offset o) (decide s.entry)))
 
--- an entry stands at an offset, or none does
-pub entry_or_none : {E : Type 0} (entries : List (Standing E)) (o : ℕ) → ((e : E) × Stands entries o e) ⊎ ((e : E) → ¬ Stands entries o e)
-entry_or_none entries o =
-    elim (stands_with_decided entries o (λ _. Unit {0}) (λ _. inl tt)) [ inl (e, stands, _) ↦ inl (e, stands) | inr none ↦ inr (λ e stands. none (e, stands, tt)) ]
+-- whether an entry with P stands somewhere
+pub somewhere_decided : {E : Type 0} (entries : List (Standing E)) (P : E → Type 0) → ((e : E) → Decided (P e)) → Decided ((o : ℕ) × StandsWith entries o P)
+somewhere_decided entries P decide =
+    decided_as (λ h. (h.0.offset, (h.0.entry, h.1, h.2))) (λ h. (record { offset = h.0; entry = h.1.0 }, h.1.1, h.1.2))
+    (element_decided entries (λ s. P s.entry) (λ s. decide s.entry))
 
 -- whether one of the kinds has a type
 pub type_decided : {E : Type 0} (kinds : List (Kind E)) (type : ℕ) → Decided (IsTypeOf kinds type)
@@ -217,3 +176,18 @@ type_decided (k ∷ kinds) type = either (same type k.type) (type_decided kinds 
 -- whether the numbers that a fault does not use are 0
 pub unused_decided : (other point : ℕ) → Decided (AreUnused other point)
 unused_decided other point = both (same other 0) (same point 0)
+
+-- ---- of all entries
+
+-- there is a number above every offset at which an entry stands, and above a number of each entry
+pub entries_bounded : {E : Type 0} (entries : List (Standing E)) (number : E → ℕ) → (most : ℕ) × ((o : ℕ) (e : E) → Stands entries o e → (o < most) × (number e < most))
+entries_bounded entries number =
+    let all = bounded (λ s. s.offset + number s.entry) entries in
+    (all.0, λ o e stands. let here = all.1 (record { offset = o; entry = e }) stands in (omega arith, omega arith))
+
+-- what holds of all that bytes below 256 say holds of what the entries of a table of such bytes say
+pub said_with : {E : Type 0} (read : List ℕ → E) (P : E → Type 0) → ((e : List ℕ) → ((k : ℕ) → slice_index e k < 256) → P (read e))
+    → (first : ℕ) (whole : List ℕ) → ((k : ℕ) → slice_index whole k < 256) → (o : ℕ) (e : E) → Stands (said_by read (entries_of first whole)) o e → P e
+said_with read P holds first whole small o e stands =
+    let (bytes, here, is) = said_from read (entries_of first whole) o e stands in
+    subst P is (holds bytes (entry_below first whole small o bytes here))

@@ -2,7 +2,6 @@
 use Rattle.std.proofs.Common.{◌≡◌, ◌⊎◌, ℕ, ◌+◌, ◌^◌, ◌<◌, ◌≤◌, List, length, refl, inr, arith}
 use Rattle.std.specs.Prelude.{slice_index}
 use Rattle.std.specs.FinMap.{get}
-use Rattle.acpi_base.specs.Entries.{Stands, entries_of}
 use Rattle.acpi_base.specs.Number.{field}
 use Rattle.acpi_base.specs.Policy.{PolicyValue, IsPolicy, inputs_of}
 use Rattle.acpi_base.specs.Madt.{MadtEntry, IoApic, MadtContents, madt_entry, madt_contents, ServesFrom, Serves, AreInterruptsApart, InterruptFault, IsFirstGsiClash}
@@ -13,7 +12,7 @@ use Rattle.acpi_base.proofs.Clashes.{AreFiniteRanges, ranges_of_entries, apart_o
 use Rattle.acpi_base.proofs.Faults.Deciding.{Decided, all3, same, below, at_most}
 use Rattle.acpi_base.proofs.HeldBytes.{cases_Option, field_below}
 use Rattle.acpi_base.proofs.Madt.Faults.{ones, inside}
-use Rattle.acpi_base.proofs.Standings.{said_from, entry_below}
+use Rattle.acpi_base.proofs.Standings.{said_with}
 
 -- the first number that an entry serves, and the one behind the last
 first_gsi : MadtEntry → ℕ
@@ -65,24 +64,18 @@ inputs_fit : (q : PolicyValue) → IsPolicy q → (address : ℕ) → inputs_of 
 unfolding inputs_of
 inputs_fit q policy address = grind (arith, cases_Option (get q.inputs address), policy.inputs_fit address, policy.default_fits)
 
--- the numbers that an entry of these bytes serves end below 2^33
-end_fits : (q : PolicyValue) (e : List ℕ) → field e 8 4 < 256 ^ 4 → inputs_of q (field e 4 4) ≤ 256 → end_of_gsis q (madt_entry e) < 2 ^ 33
-unfolding end_of_gsis madt_entry
-end_fits q e base inputs = grind (arith, base, inputs)
-
 -- the numbers that an entry serves end below 2^33
-entry_fits : (q : PolicyValue) (whole : List ℕ) → ((k : ℕ) → slice_index whole k < 256) → IsPolicy q → (o : ℕ) (e : MadtEntry) → Stands (madt_contents whole).entries o e → end_of_gsis q e < 2 ^ 33
-unfolding madt_contents
-entry_fits q whole small policy o e stands =
-    let (bytes, here, is) = said_from madt_entry (entries_of 44 whole) o e stands in
-    let base = field_below bytes (entry_below 44 whole small o bytes here) 8 4 in
-    rw (← is) (end_fits q bytes base (inputs_fit q policy (field bytes 4 4)))
+end_fits : (q : PolicyValue) → IsPolicy q → (e : List ℕ) → ((k : ℕ) → slice_index e k < 256) → end_of_gsis q (madt_entry e) < 2 ^ 33
+unfolding end_of_gsis madt_entry
+end_fits q policy e small = grind (arith, field_below e small 8 4, inputs_fit q policy (field e 4 4))
 
 -- the offsets of a fault lie within the table, and its interrupt number is below 2^33
 pub fits : (q : PolicyValue) (whole : List ℕ) → ((k : ℕ) → slice_index whole k < 256) → IsPolicy q → (fault : Code) (at other point : ℕ) → InterruptFault q (madt_contents whole) fault at other point
     → (at < length whole) × (other < length whole) × (point < 2 ^ 33)
+unfolding madt_contents
 fits q whole small policy code.GsiClash at other point clash =
     let (e, stands, holds) = clash.one_holds in
     let (d, also, _) = clash.other_holds in
-    (inside whole at e stands, inside whole other d also, omega (arith, entry_fits q whole small policy at e stands, serves q clash.s point e holds))
+    let end = said_with madt_entry (λ x. end_of_gsis q x < 2 ^ 33) (end_fits q policy) 44 whole small at e stands in
+    (inside whole at e stands, inside whole other d also, omega (arith, serves q clash.s point e holds))
 fits q whole small policy _ at other point fault = absurd fault

@@ -1,11 +1,10 @@
 -- Overrides that clash in a MADT: each fault can be decided, excludes that overrides agree, and where there is none they
 -- do.
-use Rattle.std.proofs.Common.{◌≡◌, ℕ, ◌+◌, ◌<◌, List, length, refl, sym, ◌∙◌, inl, inr, arith}
-use Rattle.std.specs.Prelude.{◌≢◌, Contains, slice_index}
+use Rattle.std.proofs.Common.{◌≡◌, ℕ, ◌<◌, List, length, refl, sym, ◌∙◌, inl, inr, arith}
+use Rattle.std.specs.Prelude.{◌≢◌, slice_index}
 use Rattle.std.proofs.lemmas.Bool.{cases_order}
 use Rattle.acpi_base.specs.Codes.{stage_of}
-use Rattle.acpi_base.specs.Number.{field}
-use Rattle.acpi_base.specs.Entries.{Standing, Stands, entries_of}
+use Rattle.acpi_base.specs.Entries.{Stands}
 use Rattle.acpi_base.specs.Madt.{MadtEntry, Override, MadtContents, madt_entry, madt_contents, Overrides, DoOverridesAgree, OverrideFault}
 use Rattle.acpi_base.specs.declared.code.Code.{Code}
 use Rattle.acpi_base.specs.declared.code.Code.TheVariants as code
@@ -13,7 +12,7 @@ use Rattle.acpi_base.specs.declared.stage.Stage.TheVariants as stage
 use Rattle.acpi_base.proofs.Faults.Deciding.{Decided, decided_as, both, all3, same, below, differs, not_other}
 use Rattle.acpi_base.proofs.HeldBytes.{field_below}
 use Rattle.acpi_base.proofs.Madt.Faults.{ones, inside}
-use Rattle.acpi_base.proofs.Standings.{bounded as bounded_by, entry_below, said_from, stands_with_decided}
+use Rattle.acpi_base.proofs.Standings.{entries_bounded, said_with, stands_with_decided}
 
 -- two entries give a Source two interrupt numbers
 abbrev Disagree : ℕ → MadtEntry → MadtEntry → Type 0
@@ -65,32 +64,27 @@ source_is _ source g here = absurd here
 
 -- there is a number above those of each fault
 pub bounded : (whole : List ℕ) → (most : ℕ) × ((fault : Code) (at other point : ℕ) → OverrideFault (madt_contents whole) fault at other point → (at < most) × (other < most) × (point < most))
-bounded whole = (length whole + sources.0, place)
+bounded whole = (all.0, place)
   where
-    sources : (most : ℕ) × ((s : Standing MadtEntry) → Contains (madt_contents whole).entries s → source_of s.entry < most)
-    sources = bounded_by (λ s. source_of s.entry) (madt_contents whole).entries
+    all : (most : ℕ) × ((o : ℕ) (e : MadtEntry) → Stands (madt_contents whole).entries o e → (o < most) × (source_of e < most))
+    all = entries_bounded (madt_contents whole).entries source_of
 
-    place : (fault : Code) (at other point : ℕ) → OverrideFault (madt_contents whole) fault at other point
-        → (at < length whole + sources.0) × (other < length whole + sources.0) × (point < length whole + sources.0)
+    place : (fault : Code) (at other point : ℕ) → OverrideFault (madt_contents whole) fault at other point → (at < all.0) × (other < all.0) × (point < all.0)
     place code.OverrideClash at other point (g, h, (e, stands, says), _, before, _) =
-        let here = inside whole at e stands in
-        (omega arith, omega arith, omega (arith, source_is e point g says, sources.1 (record { offset = at; entry = e }) stands))
+        let here = all.1 at e stands in
+        (here.0, omega arith, omega (arith, source_is e point g says))
     place _ at other point fault = absurd fault
 
 -- a Source is one byte
-source_fits : (e : List ℕ) → field e 3 1 < 256 → source_of (madt_entry e) < 256
+source_fits : (e : List ℕ) → ((k : ℕ) → slice_index e k < 256) → source_of (madt_entry e) < 256
 unfolding source_of madt_entry
-source_fits e small = grind (arith, small)
-
-entry_fits : (whole : List ℕ) → ((k : ℕ) → slice_index whole k < 256) → (o : ℕ) (e : MadtEntry) → Stands (madt_contents whole).entries o e → source_of e < 256
-unfolding madt_contents
-entry_fits whole small o e stands =
-    let (bytes, here, is) = said_from madt_entry (entries_of 44 whole) o e stands in
-    rw (← is) (source_fits bytes (field_below bytes (entry_below 44 whole small o bytes here) 3 1))
+source_fits e small = grind (arith, field_below e small 3 1)
 
 -- the offsets of a fault lie within the table, and its Source is below 256
 pub fits : (whole : List ℕ) → ((k : ℕ) → slice_index whole k < 256) → (fault : Code) (at other point : ℕ) → OverrideFault (madt_contents whole) fault at other point
     → (at < length whole) × (other < length whole) × (point < 256)
+unfolding madt_contents
 fits whole small code.OverrideClash at other point (g, h, (e, stands, says), (d, also, _), before, _) =
-    (inside whole at e stands, inside whole other d also, omega (arith, source_is e point g says, entry_fits whole small at e stands))
+    let source = said_with madt_entry (λ x. source_of x < 256) source_fits 44 whole small at e stands in
+    (inside whole at e stands, inside whole other d also, omega (arith, source_is e point g says))
 fits whole small _ at other point fault = absurd fault

@@ -1,10 +1,10 @@
 -- The faults of a PPTT's entries and of what they name: each can be decided, excludes that they are sound, and where
 -- there is none they are sound.
 use Rattle.std.proofs.Common.{◌≡◌, ℕ, ◌+◌, ◌<◌, ◌≤◌, List, [], ◌∷◌, zero, suc, length, Some, refl, inl, inr, arith}
-use Rattle.std.specs.Prelude.{slice_index, slice_get, Contains}
+use Rattle.std.specs.Prelude.{slice_index, slice_get}
 use Rattle.std.proofs.lemmas.Bool.{cases_eq}
 use Rattle.std.proofs.lemmas.Option.{slice_get_within, same_Some}
-use Rattle.acpi_base.specs.Entries.{Standing, Stands}
+use Rattle.acpi_base.specs.Entries.{Stands}
 use Rattle.acpi_base.specs.Chains.{Dangles, NoneDangles}
 use Rattle.acpi_base.specs.Codes.{stage_of}
 use Rattle.acpi_base.specs.Pptt.{PpttEntry, Node, Cache, Opaque, PpttContents, pptt_contents, HasOtherPpttLength, parent_of, resource_of, next_level_of, NamesParent, NamesNextLevel, IsCutPptt, AreReferencesSound, PpttFaultAt, PpttFault, ReferenceFault}
@@ -15,7 +15,7 @@ use Rattle.acpi_base.proofs.Chains.{IsNaming, names_decided}
 use Rattle.acpi_base.proofs.Faults.Deciding.{Decided, decided_as, both, all3, same, differs, at_most, negated, is_some_number}
 use Rattle.acpi_base.proofs.HeldBytes.{cases_Option, none_and_some}
 use Rattle.acpi_base.proofs.Pptt.Places.{inside, resource_decided, naming}
-use Rattle.acpi_base.proofs.Standings.{bounded, cut_inside, stands_with_decided}
+use Rattle.acpi_base.proofs.Standings.{cut_inside, entries_bounded, stands_with_decided}
 
 -- ---- entries
 
@@ -132,25 +132,22 @@ next_level_in (Cache v) p is = omega (arith, same_Some v.next_level p is)
 next_level_in _ p is = absurd cc
 
 pub references_bounded : (c : PpttContents) → (most : ℕ) × ((fault : Code) (at other point : ℕ) → ReferenceFault c fault at other point → (at < most) × (other < most) × (point < most))
-references_bounded c = (most.0 + 1, place)
+references_bounded c = (all.0 + 1, place)
   where
-    most : (most : ℕ) × ((s : Standing PpttEntry) → Contains c.entries s → s.offset + reach s.entry < most)
-    most = bounded (λ s. s.offset + reach s.entry) c.entries
+    all : (most : ℕ) × ((o : ℕ) (e : PpttEntry) → Stands c.entries o e → (o < most) × (reach e < most))
+    all = entries_bounded c.entries reach
 
-    here : (o : ℕ) (e : PpttEntry) → Stands c.entries o e → o + reach e < most.0
-    here o e stands = most.1 (record { offset = o; entry = e }) stands
-
-    place : (fault : Code) (at other point : ℕ) → ReferenceFault c fault at other point → (at < most.0 + 1) × (other < most.0 + 1) × (point < most.0 + 1)
+    place : (fault : Code) (at other point : ℕ) → ReferenceFault c fault at other point → (at < all.0 + 1) × (other < all.0 + 1) × (point < all.0 + 1)
     place code.DanglingParent at other point (dangles, nothing) =
         let (e, stands, is) = dangles.names in
-        let all = here at e stands in
+        let (here, far) = all.1 at e stands in
         (omega arith, omega (arith, parent_in e other is), omega arith)
     place code.DanglingResource at other point ((e, stands, is), nowhere) =
-        let all = here at e stands in
+        let (here, far) = all.1 at e stands in
         let own = resource_in e other point is in
         (omega arith, omega (arith, own.0), omega (arith, own.1))
     place code.DanglingCache at other point (dangles, nothing) =
         let (e, stands, is) = dangles.names in
-        let all = here at e stands in
+        let (here, far) = all.1 at e stands in
         (omega arith, omega (arith, next_level_in e other is), omega arith)
     place _ at other point fault = absurd fault
