@@ -4,7 +4,8 @@ ghost use Rattle.std.specs.Prelude.{◌≡◌, ℕ, ◌↔◌, List, Some, IsSom
 ghost use Rattle.acpi_base.specs.Memory.{Memory, bytes_at, Has, AreBytes};
 ghost use Rattle.acpi_base.specs.Policy.{PolicyValue};
 ghost use Rattle.acpi_base.specs.Entries.{OneCut, EntriesStand, CutIsStart, NoCutFault, CutsWhereAllStand, NoneInShort};
-ghost use Rattle.acpi_base.specs.Examples.{AreMadtContents, AreSratContents, AreMadtFaults, AreSratFaults, AreFirstOverlaps, HasNoMadtFault, HasNoSratFault};
+ghost use Rattle.acpi_base.specs.Examples.Madts.{AreMadtContents, AreMadtFaults, IsFirstInterrupt, HasNoMadtFault};
+ghost use Rattle.acpi_base.specs.Examples.Srats.{AreSratContents, AreSratFaults, AreFirstOverlaps, HasNoSratFault};
 ghost use Rattle.acpi_base.specs.Laws.{FaultsExcludeClean, FaultsFit, CleanOrFaulty, CleanOrFirstFault, OneFirstFault, OneVerdict, RootsListSlots};
 ghost use Rattle.acpi_base.specs.Pptt.{ParentsEndOrGoRound, CachesEndOrGoRound};
 ghost use Rattle.acpi_base.specs.TextLaws.{RunReadsText, RunReadsPrefix, RunStopsAtFaults, RunGoesOn, PrefixDecides, TextMeans, TextOrFault, NeverBoth, OneImage, OneTextFault, RefusalsAreOwn, LinesMean};
@@ -118,7 +119,8 @@ pub fn madt_and_srat_examples()
     ensures srat { AreSratContents }
     ensures madt_faults { (q : PolicyValue) → AreMadtFaults q }
     ensures srat_faults { AreSratFaults }
-    ensures first { AreFirstOverlaps }
+    ensures first_interrupt { (q : PolicyValue) → IsFirstInterrupt q }
+    ensures first_overlaps { AreFirstOverlaps }
     ensures sound_madt { (q : PolicyValue) → HasNoMadtFault q }
     ensures sound_srat { HasNoSratFault }
 {}
