@@ -1,8 +1,10 @@
 -- What holds of each entry of an example, and what of none.
 pub mod Madts
+pub mod Pptts
+pub mod Slits
 pub mod Srats
 use Rattle.std.specs.List.{AllByRecursion}
-use Rattle.std.proofs.Common.{ℕ, List}
+use Rattle.std.proofs.Common.{◌≡◌, ℕ, List, refl}
 use Rattle.std.proofs.lemmas.List.Elements.{All-from_recursion, All-contains}
 use Rattle.acpi_base.specs.Entries.{Standing, Stands, StandsWith}
 
@@ -14,6 +16,10 @@ each_entry {E} entries Q each o e stands = All-contains (λ (s : Standing E). Q 
 pub none_stands : {E : Type 0} (entries : List (Standing E)) (o : ℕ) (P : ℕ → E → Type 0) → AllByRecursion (λ s. ¬ P s.offset s.entry) entries → ¬ StandsWith entries o (P o)
 none_stands entries o P none (e, stands, holds) = each_entry entries (λ o e. ¬ P o e) none o e stands holds
 
--- what can not be holds of nothing
+-- where none at the offset has P, none stands there that has it
+pub none_at : {E : Type 0} (entries : List (Standing E)) (o : ℕ) (P : E → Type 0) → AllByRecursion (λ s. ¬ ((s.offset ≡ o) × P s.entry)) entries → ¬ StandsWith entries o P
+none_at entries o P none (e, stands, holds) = each_entry entries (λ p e. ¬ ((p ≡ o) × P e)) none o e stands (refl, holds)
+
+-- from a contradiction anything follows
 pub never : {A : Type 0} → ⊥ → A
 never h = absurd h

@@ -15,7 +15,7 @@ use Rattle.acpi_base.specs.declared.policy.HotPlug.{HotPlug}
 use Rattle.acpi_base.specs.declared.policy.HotPlug.TheVariants.{Counted, Apart}
 use Rattle.acpi_base.specs.declared.code.Code.{Code}
 use Rattle.acpi_base.specs.declared.code.Code.TheVariants as code
-use Rattle.acpi_base.proofs.Examples.{each_entry, none_stands, never}
+use Rattle.acpi_base.proofs.Examples.{each_entry, none_at, none_stands, never}
 
 pub srat_said : AreSratContents
 unfolding first_entry entries_from entries_of end_of_entries cut_of has_form field byte_sum srat_entry srat_contents
@@ -60,8 +60,8 @@ apart_overlap =
 
 mixed_overlap : ¬ RangeFault Apart hot_ranges code.Overlap 0x30 0x80 0
 unfolding has_bit
-mixed_overlap (fits, inl it) = none_stands hot_ranges.entries 0x30 (λ o e. (o ≡ 0x30) × CoversFrom IsNotHotPluggable it.s 0 e) (λ h. both_ways _ h.1.1 refl, (λ h. both_ways _ h.1.1 refl, (λ h. omega (arith, h.0), (λ h. omega (arith, h.0), tt)))) (it.one_holds.0, it.one_holds.1, (refl, it.one_holds.2))
-mixed_overlap (fits, inr it) = none_stands hot_ranges.entries 0x80 (λ o e. (o ≡ 0x80) × CoversFrom IsHotPluggable it.t 0 e) (λ h. omega (arith, h.0), (λ h. omega (arith, h.0), (λ h. both_ways _ refl h.1.1, (λ h. both_ways _ refl h.1.1, tt)))) (it.other_holds.0, it.other_holds.1, (refl, it.other_holds.2))
+mixed_overlap (fits, inl it) = none_at hot_ranges.entries 0x30 (CoversFrom IsNotHotPluggable it.s 0) (λ h. both_ways _ h.1.1 refl, (λ h. both_ways _ h.1.1 refl, (λ h. omega (arith, h.0), (λ h. omega (arith, h.0), tt)))) it.one_holds
+mixed_overlap (fits, inr it) = none_at hot_ranges.entries 0x80 (CoversFrom IsHotPluggable it.t 0) (λ h. omega (arith, h.0), (λ h. omega (arith, h.0), (λ h. both_ways _ refl h.1.1, (λ h. both_ways _ refl h.1.1, tt)))) it.other_holds
 
 past_end : SratFault faulty_srat code.RangePastEnd 0x40 0 0
 unfolding has_bit
