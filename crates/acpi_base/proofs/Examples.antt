@@ -1,6 +1,7 @@
 -- What holds of each entry of an example, and what of none.
 pub mod Madts
 pub mod Pptts
+pub mod Sets
 pub mod Slits
 pub mod Srats
 use Rattle.std.specs.List.{AllByRecursion}

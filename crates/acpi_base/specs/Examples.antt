@@ -1,6 +1,7 @@
 -- Examples of tables, each worked out by hand from the rules: their bytes, what they say, and their faults.
 pub mod Madts
 pub mod Pptts
+pub mod Sets
 pub mod Slits
 pub mod Srats
 use Rattle.std.specs.Prelude.{◌≡◌, ℕ, List, ◌∷◌, ◌++◌, length, replicate}

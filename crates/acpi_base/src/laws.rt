@@ -6,6 +6,7 @@ ghost use Rattle.acpi_base.specs.Policy.{PolicyValue};
 ghost use Rattle.acpi_base.specs.Entries.{OneCut, EntriesStand, CutIsStart, NoCutFault, CutsWhereAllStand, NoneInShort};
 ghost use Rattle.acpi_base.specs.Examples.Madts.{AreMadtContents, AreMadtFaults, IsFirstInterrupt, HasNoMadtFault};
 ghost use Rattle.acpi_base.specs.Examples.Pptts.{ArePpttContents, ArePpttFaults, AreCycleFaults, HasNoPpttFault};
+ghost use Rattle.acpi_base.specs.Examples.Sets.{AreListedTables, AreSetFaults};
 ghost use Rattle.acpi_base.specs.Examples.Slits.{AreSlitContents, AreSlitFaults, AreSoundSlits};
 ghost use Rattle.acpi_base.specs.Examples.Srats.{AreSratContents, AreSratFaults, AreFirstOverlaps, HasNoSratFault};
 ghost use Rattle.acpi_base.specs.Laws.{FaultsExcludeClean, FaultsFit, CleanOrFaulty, CleanOrFirstFault, OneFirstFault, OneVerdict, RootsListSlots};
@@ -137,4 +138,10 @@ pub fn slit_and_pptt_examples()
     ensures pptt_faults { ArePpttFaults }
     ensures cycles { AreCycleFaults }
     ensures sound_pptt { HasNoPpttFault }
+{}
+
+/// Examples of whole sets, as images: which tables their roots list, and a fault of each stage across tables.
+pub fn set_examples()
+    ensures listed { AreListedTables }
+    ensures faults { AreSetFaults }
 {}
