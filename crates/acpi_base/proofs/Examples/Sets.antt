@@ -3,6 +3,8 @@ use Rattle.std.proofs.Common.{◌≡◌, ℕ, zero, suc, ◌<◌, ◌≤◌, tru
 use Rattle.std.proofs.lemmas.List.Elements.{All-from_recursion}
 use Rattle.std.specs.Prelude.{◌≢◌, nat_lt}
 use Rattle.std.specs.List.{list_all, AllByRecursion}
+use Rattle.std.specs.Ordering.{nat_cmp}
+use Rattle.std.specs.FinMap.{get-empty}
 use Rattle.std.proofs.lemmas.Bool.{both_ways, and_parts, ltb-true}
 use Rattle.acpi_base.specs.Policy.{PolicyValue, inputs_of, counts_as_enabled}
 use Rattle.acpi_base.specs.Entries.{Stands, first_entry, entries_from, entries_of, end_of_entries, cut_of, has_form}
@@ -19,7 +21,7 @@ use Rattle.acpi_base.specs.Tables.{IsTable, IsSigned, length_of}
 use Rattle.acpi_base.specs.Root.{chosen_root, IsRoot, IsRootTable, HasSlot}
 use Rattle.acpi_base.specs.Listed.{madt_signature, srat_signature, pptt_signature, IsListedTable, HasListed}
 use Rattle.acpi_base.specs.Examples.{standing, IsSoundExample}
-use Rattle.acpi_base.specs.Examples.Sets.{rsdp_bytes, rsdt_bytes, rsdp_at, set_of, ListsBoth, processor_bytes, leaf_bytes, enabled_bytes, capable_bytes, disabled_bytes, named_bytes, uid_bytes, new_leaf_bytes, old_leaf_bytes, AreListedTables, AreSetFaults, enabled_set, capable_set, disabled_set, two_madts, leaf_set, old_leaf_set}
+use Rattle.acpi_base.specs.Examples.Sets.{rsdp_bytes, rsdt_bytes, rsdp_at, set_of, ListsBoth, processor_bytes, leaf_bytes, enabled_bytes, capable_bytes, disabled_bytes, named_bytes, uid_bytes, new_leaf_bytes, old_leaf_bytes, policy, AreListedTables, AreSetFaults, enabled_set, capable_set, disabled_set, two_madts, leaf_set, old_leaf_set}
 use Rattle.acpi_base.specs.Examples.Madts.{said_madt, two_io_apics_bytes}
 use Rattle.acpi_base.specs.Examples.Srats.{two_processors_bytes, two_processors}
 use Rattle.acpi_base.specs.Examples.Pptts.{said_pptt}
@@ -295,15 +297,20 @@ of_revision_1 : ¬ Leaves uid_bytes old_leaf_bytes
 unfolding pptt_contents field
 of_revision_1 fault = omega (arith, fault.0)
 
+-- an I/O APIC has as many inputs as the policy says of all
+inputs_are : (n : ℕ) → inputs_of (policy n Enabled) 0xfec00000 ≡ n
+unfolding inputs_of
+inputs_are n = rw (get-empty {X = ℕ} nat_cmp 0xfec00000) refl
+
 pub set_faults : AreSetFaults
 set_faults = record {
-  two_domains = λ p. in_both (Domains p 0x40 0x30) listed.enabled_lists (rw (said.enabled, srat_said.processors_say) (two_domains p (processor 1) (counts p 1 (counted p))));
-  exchanged = λ p fault. omega (arith, (of_both (Domains p 0x30 0x40) listed.enabled_lists fault).5);
-  capable = in_both (Domains Usable 0x40 0x30) listed.capable_lists (rw (said.capable, srat_said.processors_say) (two_domains Usable (processor 2) (counts Usable 2 usable_counted)));
-  only_capable = λ fault. let enabled = (of_both (Domains Enabled 0x40 0x30) listed.capable_lists fault).0 in not_enabled Enabled 2 only_capable (rw said.capable at enabled);
-  disabled = λ p fault. let enabled = (of_both (Domains p 0x40 0x30) listed.disabled_lists fault).0 in not_enabled p 0 (not_counted p) (rw said.disabled at enabled);
-  nowhere = λ q inputs. (named_bytes, listed.first_madt, rw said.named (nowhere q inputs));
-  served = λ q inputs fault. served q inputs (rw (one_listed two_madts rsdp_at madt_signature fault.0 named_bytes fault.1 named_listed, said.named) at fault.2);
-  unknown = in_both Leaves listed.leaf_lists (rw (said.uid, said.leaf) unknown);
-  of_revision_1 = λ fault. of_revision_1 (of_both Leaves listed.old_leaf_lists fault);
+  two_domains = λ p. record { own = refl; holds = in_both (Domains p 0x40 0x30) listed.enabled_lists (rw (said.enabled, srat_said.processors_say) (two_domains p (processor 1) (counts p 1 (counted p)))) };
+  exchanged = λ p fault. omega (arith, (of_both (Domains p 0x30 0x40) listed.enabled_lists fault.holds).5);
+  capable = record { own = refl; holds = in_both (Domains Usable 0x40 0x30) listed.capable_lists (rw (said.capable, srat_said.processors_say) (two_domains Usable (processor 2) (counts Usable 2 usable_counted))) };
+  only_capable = λ fault. let enabled = (of_both (Domains Enabled 0x40 0x30) listed.capable_lists fault.holds).0 in not_enabled Enabled 2 only_capable (rw said.capable at enabled);
+  disabled = λ p fault. let enabled = (of_both (Domains p 0x40 0x30) listed.disabled_lists fault.holds).0 in not_enabled p 0 (not_counted p) (rw said.disabled at enabled);
+  nowhere = record { own = refl; holds = (named_bytes, listed.first_madt, rw said.named (nowhere (policy 24 Enabled) (inputs_are 24))) };
+  served = λ fault. served (policy 25 Enabled) (inputs_are 25) (rw (one_listed two_madts rsdp_at madt_signature fault.holds.0 named_bytes fault.holds.1 named_listed, said.named) at fault.holds.2);
+  unknown = record { own = refl; holds = in_both Leaves listed.leaf_lists (rw (said.uid, said.leaf) unknown) };
+  of_revision_1 = λ fault. of_revision_1 (of_both Leaves listed.old_leaf_lists fault.holds);
 }

@@ -4,20 +4,19 @@ use Rattle.std.specs.Prelude.{◌≡◌, ℕ, List, [], ◌∷◌, ◌++◌, rep
 use Rattle.std.specs.FinMap.{empty}
 use Rattle.acpi_base.specs.Memory.{Memory, IsImage, with_bytes}
 use Rattle.acpi_base.specs.Number.{byte_sum}
-use Rattle.acpi_base.specs.Policy.{PolicyValue, inputs_of}
+use Rattle.acpi_base.specs.Policy.{PolicyValue}
 use Rattle.acpi_base.specs.Signature.{rsdp_signature, rsdt_signature}
 use Rattle.acpi_base.specs.Tables.{IsTable}
 use Rattle.acpi_base.specs.Root.{IsSlot}
-use Rattle.acpi_base.specs.Listed.{madt_signature, srat_signature, pptt_signature, IsListedTable, HasListed}
-use Rattle.acpi_base.specs.Madt.{madt_contents}
-use Rattle.acpi_base.specs.Srat.{srat_contents}
-use Rattle.acpi_base.specs.Pptt.{pptt_contents}
-use Rattle.acpi_base.specs.Across.{DomainFault, ServedFault, LeafFault}
+use Rattle.acpi_base.specs.Listed.{madt_signature, srat_signature, pptt_signature, IsListedTable}
+use Rattle.acpi_base.specs.Faults.{Fault}
 use Rattle.acpi_base.specs.Examples.{table, IsSoundExample}
 use Rattle.acpi_base.specs.Examples.Madts.{madt_table, two_io_apics_bytes}
 use Rattle.acpi_base.specs.Examples.Srats.{two_processors_bytes}
+use Rattle.acpi_base.specs.declared.policy.HotPlug.TheVariants.{Counted}
 use Rattle.acpi_base.specs.declared.policy.Processors.{Processors}
 use Rattle.acpi_base.specs.declared.policy.Processors.TheVariants.{Enabled, Usable}
+use Rattle.acpi_base.specs.declared.code.Code.{Code}
 use Rattle.acpi_base.specs.declared.code.Code.TheVariants as code
 
 -- ---- the image of two tables
@@ -127,29 +126,24 @@ pub record AreListedTables : Type 0 where
   pub leaf_lists : ListsBoth leaf_set madt_signature uid_bytes pptt_signature new_leaf_bytes
   pub old_leaf_lists : ListsBoth old_leaf_set madt_signature uid_bytes pptt_signature old_leaf_bytes
 
--- the set has the fault of stage 16 with these numbers
-abbrev pub HasTwoDomains : Processors → Memory → ℕ → ℕ → ℕ → Type 0
-HasTwoDomains p m at other point =
-    HasListed m rsdp_at madt_signature (λ madt. HasListed m rsdp_at srat_signature (λ srat. DomainFault p (madt_contents madt) (srat_contents srat) code.TwoDomains at other point))
+-- a check of these sets: so many inputs of each I/O APIC, and which processors count as enabled
+abbrev pub policy : ℕ → Processors → PolicyValue
+policy inputs processors =
+    record { rsdp = rsdp_at; default_inputs = inputs; inputs = empty; hotplug = Counted; processors = processors }
 
--- that of stage 17
-abbrev pub HasGsiNowhere : PolicyValue → Memory → ℕ → ℕ → ℕ → Type 0
-HasGsiNowhere q m at other point = HasListed m rsdp_at madt_signature (λ madt. ServedFault q (madt_contents madt) code.GsiNowhere at other point)
-
--- that of stage 18
-abbrev pub HasLeafUnknown : Memory → ℕ → ℕ → ℕ → Type 0
-HasLeafUnknown m at other point =
-    HasListed m rsdp_at madt_signature (λ madt. HasListed m rsdp_at pptt_signature (λ pptt. LeafFault (madt_contents madt) (pptt_contents pptt) code.LeafUnknown at other point))
+-- the set has this fault
+abbrev pub HasFault : Memory → PolicyValue → Code → ℕ → ℕ → ℕ → Type 0
+HasFault m q c at other point = Fault m q (record { code = c; at = at; other = other; point = point })
 
 -- the faults of the sets, and what is none: the processor does not count as enabled, or the entries are exchanged; the
 -- I/O APIC has one more input; the PPTT is of revision 1
 pub record AreSetFaults : Type 0 where
-  pub two_domains : (p : Processors) → HasTwoDomains p enabled_set 0x40 0x30 5
-  pub exchanged : (p : Processors) → ¬ HasTwoDomains p enabled_set 0x30 0x40 5
-  pub capable : HasTwoDomains Usable capable_set 0x40 0x30 5
-  pub only_capable : ¬ HasTwoDomains Enabled capable_set 0x40 0x30 5
-  pub disabled : (p : Processors) → ¬ HasTwoDomains p disabled_set 0x40 0x30 5
-  pub nowhere : (q : PolicyValue) → inputs_of q 0xfec00000 ≡ 24 → HasGsiNowhere q two_madts 0x38 0 0x18
-  pub served : (q : PolicyValue) → inputs_of q 0xfec00000 ≡ 25 → ¬ HasGsiNowhere q two_madts 0x38 0 0x18
-  pub unknown : HasLeafUnknown leaf_set 0x24 0 7
-  pub of_revision_1 : ¬ HasLeafUnknown old_leaf_set 0x24 0 7
+  pub two_domains : (p : Processors) → HasFault enabled_set (policy 24 p) code.TwoDomains 0x40 0x30 5
+  pub exchanged : (p : Processors) → ¬ HasFault enabled_set (policy 24 p) code.TwoDomains 0x30 0x40 5
+  pub capable : HasFault capable_set (policy 24 Usable) code.TwoDomains 0x40 0x30 5
+  pub only_capable : ¬ HasFault capable_set (policy 24 Enabled) code.TwoDomains 0x40 0x30 5
+  pub disabled : (p : Processors) → ¬ HasFault disabled_set (policy 24 p) code.TwoDomains 0x40 0x30 5
+  pub nowhere : HasFault two_madts (policy 24 Enabled) code.GsiNowhere 0x38 0 0x18
+  pub served : ¬ HasFault two_madts (policy 25 Enabled) code.GsiNowhere 0x38 0 0x18
+  pub unknown : HasFault leaf_set (policy 24 Enabled) code.LeafUnknown 0x24 0 7
+  pub of_revision_1 : ¬ HasFault old_leaf_set (policy 24 Enabled) code.LeafUnknown 0x24 0 7
