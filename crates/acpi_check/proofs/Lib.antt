@@ -1,2 +1,4 @@
+mod Clashes
 mod FirstFaults
+mod Gathered
 mod Slots
