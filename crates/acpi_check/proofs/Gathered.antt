@@ -1,10 +1,12 @@
 -- Spans that are gathered from the entries of a table stand for the ranges that the entries say.
 use Rattle.std.proofs.Common.{◌≡◌, ◌≢◌, ◌⊎◌, ℕ, zero, suc, ◌+◌, ◌<◌, ◌≤◌, List, [], ◌∷◌, ◌++◌, length, take, drop, map, Option, Some, None, refl, sym, ◌∙◌, ap, subst, inl, inr, arith, length-drop}
-use Rattle.std.specs.Prelude.{◌↔◌, ◌&&◌, All, AllPairs, Contains, slice_index, nat_le}
+use Rattle.std.specs.Prelude.{IsSome, IfSome, ◌↔◌, ◌&&◌, All, AllPairs, Contains, slice_index, nat_le}
+use Rattle.std.specs.Option.{option_map}
 use Rattle.std.specs.List.{cons_option, filter_map}
 use Rattle.std.proofs.Math.ListN.{get_or-map}
+use Rattle.std.proofs.lemmas.Bool.Decides.{nat_tests}
 use Rattle.std.proofs.lemmas.Bool.{and_parts, leb-true}
-use Rattle.std.proofs.lemmas.List.{length-take-le, length-map}
+use Rattle.std.proofs.lemmas.List.{length-take-le, length-map, map-append, append-nil}
 use Rattle.std.proofs.lemmas.List.Elements.{All-nil, All-cons, filter_map-append}
 use Rattle.std.proofs.lemmas.List.Kept.{AllPairs-cons}
 use Rattle.std.proofs.lemmas.Option.{cond_some, none-some, same_Some}
@@ -13,7 +15,7 @@ use Rattle.acpi_base.proofs.HeldBytes.{cases_Option}
 use Rattle.acpi_base.proofs.Standings.{first_element, later_element, first_or_later, no_element, element_of_map}
 use Rattle.acpi_graph.specs.Spans.{NamesDiffer}
 use Rattle.acpi_graph.specs.declared.span.Span.{Span}
-use Rattle.acpi_check.specs.Gathered.{HasSpan, AreSpansOf, SpanValue, span_value, spans_of}
+use Rattle.acpi_check.specs.Gathered.{HasSpan, AreSpansOf, SpanValue, span_value, span_from, spans_of}
 
 -- ---- elements of lists
 
@@ -143,3 +145,23 @@ are_spans {E} Says read is_read low entries rises spans is =
         let place : t.offset ≡ o = sym (is_read.named t.offset t.entry (span_value h.span) gives) ∙ h.name in
         let says = (is_read.held t.offset s x t.entry).1 (span_value h.span, gives, h.start, omega (arith, h.start, h.holds), h.holds.below_end) in
         (t.entry, subst (λ (k : ℕ). Stands entries k t.entry) place listed, says)
+
+-- ---- one entry more
+
+-- a span that `Span::new` made
+pub made : (start end name : ℕ) (span : Option Span) → (IsSome span ↔ (start < end)) → IfSome span (λ s. s.start ≡ start) → IfSome span (λ s. s.end ≡ end) → IfSome span (λ s. s.name ≡ name)
+    → option_map span_value span ≡ span_from start end name
+made start end name None some _ _ _ = grind (arith, nat_tests, some)
+made start end name (Some span) some is_start is_end is_name = grind (arith, nat_tests, span.not_empty, is_start, is_end, is_name)
+
+-- the spans of entries so far, and that of one more
+pub with_span : {E : Type 0} (read : ℕ → E → Option SpanValue) (entries : List (Standing E)) (o : ℕ) (e : E) (spans : List Span) (span : Span) → map span_value spans ≡ spans_of read entries
+    → read o e ≡ Some (span_value span) → map span_value (spans ++ span ∷ []) ≡ spans_of read (entries ++ record { offset = o; entry = e } ∷ [])
+with_span {E} read entries o e spans span is gives =
+    grind (arith, is, gives, map-append span_value spans (span ∷ []), filter_map-append (λ (s : Standing E). read s.offset s.entry) entries (record { offset = o; entry = e } ∷ []))
+
+-- an entry that gives none
+pub without_span : {E : Type 0} (read : ℕ → E → Option SpanValue) (entries : List (Standing E)) (o : ℕ) (e : E) (spans : List Span) → map span_value spans ≡ spans_of read entries
+    → read o e ≡ None → map span_value spans ≡ spans_of read (entries ++ record { offset = o; entry = e } ∷ [])
+without_span {E} read entries o e spans is none =
+    grind (arith, is, none, append-nil, filter_map-append (λ (s : Standing E). read s.offset s.entry) entries (record { offset = o; entry = e } ∷ []))
