@@ -1,13 +1,13 @@
 -- From the first overlap of spans to that of the ranges for which the spans stand.
-use Rattle.std.proofs.Common.{◌≡◌, ◌≢◌, ◌⊎◌, ℕ, ◌<◌, ◌≤◌, List, refl, sym, ◌∙◌, inl, inr, arith}
+use Rattle.std.proofs.Common.{◌≡◌, ℕ, List, refl, sym, ◌∙◌, arith}
 use Rattle.std.specs.Prelude.{◌↔◌, Contains}
-use Rattle.acpi_base.specs.Clashes.{IsClash, AreApart, AreApartBelow, ComesBefore, IsFirstClash}
+use Rattle.acpi_base.specs.Clashes.{IsClash, AreApart, IsFirstClash}
 use Rattle.acpi_graph.specs.Spans as graph
 use Rattle.acpi_graph.specs.Spans.{Holds, LiesInTwo, IsClear, IfAt}
 use Rattle.acpi_graph.specs.declared.clash.Clash.{Clash}
 use Rattle.acpi_graph.specs.declared.clash.Clash.TheVariants as clash
 use Rattle.acpi_graph.specs.declared.span.Span.{Span}
-use Rattle.acpi_check.specs.Gathered.{HasSpan, AreSpansOf, IsFound}
+use Rattle.acpi_check.specs.Gathered.{AreSpansOf, IsFound}
 
 -- a number that two ranges hold lies in two spans
 lies_in_two : {HoldsAt : ℕ → ℕ → ℕ → Type 0} (spans : List Span) → AreSpansOf HoldsAt spans → (o p x : ℕ) → IsClash HoldsAt o p x → LiesInTwo spans x
@@ -47,10 +47,6 @@ first_clash {HoldsAt} spans are first second point found =
   where
     holds : (span : Span) → Contains spans span → Holds span point → HoldsAt span.name span.start point
     holds span listed inside = (are.held span.name span.start point).1 (record { span = span; listed = listed; name = refl; start = refl; holds = inside })
-
--- no number below the point is held by two ranges
-pub apart_below : {HoldsAt : ℕ → ℕ → ℕ → Type 0} (spans : List Span) → AreSpansOf HoldsAt spans → (first second point : ℕ) → graph.IsFirstClash spans first second point → AreApartBelow HoldsAt point
-apart_below spans are first second point found = (first_clash spans are first second point found).least
 
 -- what `first_clash` finds of the spans is so of the ranges
 pub is_found : {HoldsAt : ℕ → ℕ → ℕ → Type 0} (spans : List Span) → AreSpansOf HoldsAt spans → (found : Clash) → ((found ≡ clash.None) ↔ IsClear spans) → IfAt found (graph.IsFirstClash spans) → IsFound HoldsAt found

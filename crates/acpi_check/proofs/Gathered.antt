@@ -1,5 +1,5 @@
 -- Spans that are gathered from the entries of a table stand for the ranges that the entries say.
-use Rattle.std.proofs.Common.{◌≡◌, ◌≢◌, ◌⊎◌, ℕ, zero, suc, ◌+◌, ◌<◌, ◌≤◌, List, [], ◌∷◌, ◌++◌, length, take, drop, map, Option, Some, None, refl, sym, ◌∙◌, ap, subst, inl, inr, arith, length-drop}
+use Rattle.std.proofs.Common.{◌≡◌, ◌≢◌, ℕ, zero, suc, ◌+◌, ◌<◌, ◌≤◌, List, [], ◌∷◌, ◌++◌, length, take, drop, map, Option, Some, None, sym, ◌∙◌, ap, subst, inl, inr, arith}
 use Rattle.std.specs.Prelude.{IsSome, IfSome, ◌↔◌, ◌&&◌, All, AllPairs, Contains, slice_index, nat_le}
 use Rattle.std.specs.Option.{option_map}
 use Rattle.std.specs.List.{cons_option, filter_map}
@@ -9,7 +9,7 @@ use Rattle.std.proofs.lemmas.Bool.{and_parts, leb-true}
 use Rattle.std.proofs.lemmas.List.{length-take-le, length-map, map-append, append-nil}
 use Rattle.std.proofs.lemmas.List.Elements.{All-nil, All-cons, filter_map-append}
 use Rattle.std.proofs.lemmas.List.Kept.{AllPairs-cons}
-use Rattle.std.proofs.lemmas.Option.{cond_some, none-some, same_Some}
+use Rattle.std.proofs.lemmas.Option.{cond_some}
 use Rattle.acpi_base.specs.Entries.{Standing, Stands, StandsWith, first_entry, entries_from, entries_of, said_by}
 use Rattle.acpi_base.proofs.HeldBytes.{cases_Option}
 use Rattle.acpi_base.proofs.Standings.{first_element, later_element, first_or_later, no_element, element_of_map}
@@ -146,7 +146,16 @@ are_spans {E} Says read is_read low entries rises spans is =
         let says = (is_read.held t.offset s x t.entry).1 (span_value h.span, gives, h.start, omega (arith, h.start, h.holds), h.holds.below_end) in
         (t.entry, subst (λ (k : ℕ). Stands entries k t.entry) place listed, says)
 
--- ---- one entry more
+-- ---- spans
+
+-- a span from a number on is what it was made of, and is not empty
+pub from_is : (start end name : ℕ) (v : SpanValue) → span_from start end name ≡ Some v → (start < end) × (v.start ≡ start) × (v.end ≡ end) × (v.name ≡ name)
+from_is start end name v is = grind (arith, nat_tests, cond_some, is)
+
+-- and there is one where a number lies in it
+pub from_some : (start end name s x : ℕ) → start ≡ s → s ≤ x → x < end → (v : SpanValue) × (span_from start end name ≡ Some v) × (v.start ≡ s) × (s ≤ x) × (x < v.end)
+from_some start end name s x begins least below =
+    (record { start = start; end = end; name = name }, grind (arith, nat_tests), begins, least, below)
 
 -- a span that `Span::new` made
 pub made : (start end name : ℕ) (span : Option Span) → (IsSome span ↔ (start < end)) → IfSome span (λ s. s.start ≡ start) → IfSome span (λ s. s.end ≡ end) → IfSome span (λ s. s.name ≡ name)
@@ -154,13 +163,15 @@ pub made : (start end name : ℕ) (span : Option Span) → (IsSome span ↔ (sta
 made start end name None some _ _ _ = grind (arith, nat_tests, some)
 made start end name (Some span) some is_start is_end is_name = grind (arith, nat_tests, span.not_empty, is_start, is_end, is_name)
 
+-- ---- one entry more
+
 -- the spans of entries so far, and that of one more
 pub with_span : {E : Type 0} (read : ℕ → E → Option SpanValue) (entries : List (Standing E)) (o : ℕ) (e : E) (spans : List Span) (span : Span) → map span_value spans ≡ spans_of read entries
     → read o e ≡ Some (span_value span) → map span_value (spans ++ span ∷ []) ≡ spans_of read (entries ++ record { offset = o; entry = e } ∷ [])
 with_span {E} read entries o e spans span is gives =
     grind (arith, is, gives, map-append span_value spans (span ∷ []), filter_map-append (λ (s : Standing E). read s.offset s.entry) entries (record { offset = o; entry = e } ∷ []))
 
--- an entry that gives none
+-- and an entry that gives none
 pub without_span : {E : Type 0} (read : ℕ → E → Option SpanValue) (entries : List (Standing E)) (o : ℕ) (e : E) (spans : List Span) → map span_value spans ≡ spans_of read entries
     → read o e ≡ None → map span_value spans ≡ spans_of read (entries ++ record { offset = o; entry = e } ∷ [])
 without_span {E} read entries o e spans is none =

@@ -1,4 +1,6 @@
 mod Clashes
+mod CoveredSpans
 mod FirstFaults
 mod Gathered
+mod ServedSpans
 mod Slots

@@ -5,7 +5,8 @@ use Rattle.acpi_base.specs.Clashes.{AreApart, IsFirstClash}
 use Rattle.acpi_base.specs.Entries.{Standing}
 use Rattle.acpi_base.specs.Madt.{MadtEntry, IoApic}
 use Rattle.acpi_base.specs.Policy.{PolicyValue, inputs_of}
-use Rattle.acpi_base.specs.Srat.{SratEntry, MemoryRange, MemoryValue, is_enabled}
+use Rattle.acpi_base.specs.Srat.{SratEntry, MemoryRange, MemoryValue, SratContents, is_enabled, AreRangesApart, IsFirstOverlap}
+use Rattle.acpi_base.specs.declared.policy.HotPlug.{HotPlug}
 use Rattle.acpi_graph.specs.Spans.{NamesDiffer, Holds}
 use Rattle.acpi_graph.specs.declared.clash.Clash.{Clash}
 use Rattle.acpi_graph.specs.declared.clash.Clash.TheVariants as clash
@@ -30,6 +31,18 @@ pub record AreSpansOf (HoldsAt : ℕ → ℕ → ℕ → Type 0) (spans : List S
 abbrev pub IsFound : (ℕ → ℕ → ℕ → Type 0) → Clash → Type 0
 IsFound HoldsAt clash.None = AreApart HoldsAt
 IsFound HoldsAt (clash.At first second point) = IsFirstClash HoldsAt first second point
+
+-- of two overlaps the one with the lesser point, and where both have one point the first
+abbrev pub earlier_clash : Clash → Clash → Clash
+earlier_clash clash.None hot = hot
+earlier_clash other clash.None = other
+earlier_clash (clash.At first second point) (clash.At hot_first hot_second hot_point) =
+    if nat_lt hot_point point then clash.At hot_first hot_second hot_point else clash.At first second point
+
+-- what is found of the ranges of an SRAT: that they are apart as they must be, or the overlap that is reported
+abbrev pub IsFoundOverlap : HotPlug → SratContents → Clash → Type 0
+IsFoundOverlap h c clash.None = AreRangesApart h c
+IsFoundOverlap h c (clash.At first second point) = IsFirstOverlap h c first second point
 
 -- ---- how they are gathered
 
