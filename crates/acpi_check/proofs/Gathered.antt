@@ -1,13 +1,13 @@
 -- Spans that are gathered from the entries of a table stand for the ranges that the entries say.
-use Rattle.std.proofs.Common.{◌≡◌, ◌≢◌, ℕ, zero, suc, ◌+◌, ◌<◌, ◌≤◌, List, [], ◌∷◌, ◌++◌, length, take, drop, map, Option, Some, None, sym, ◌∙◌, ap, subst, inl, inr, arith}
-use Rattle.std.specs.Prelude.{IsSome, IfSome, ◌↔◌, ◌&&◌, All, AllPairs, Contains, slice_index, nat_le}
-use Rattle.std.specs.Option.{option_map}
+use Rattle.std.proofs.Common.{◌≡◌, ◌≢◌, ℕ, zero, suc, ◌+◌, ◌<◌, ◌≤◌, List, [], ◌∷◌, length, take, drop, map, Option, Some, None, sym, ◌∙◌, ap, subst, inl, inr, arith}
+use Rattle.std.specs.Prelude.{◌↔◌, ◌&&◌, All, AllPairs, Contains, slice_index, nat_le}
 use Rattle.std.specs.List.{cons_option, filter_map}
 use Rattle.std.proofs.Math.ListN.{get_or-map}
 use Rattle.std.proofs.lemmas.Bool.Decides.{nat_tests}
 use Rattle.std.proofs.lemmas.Bool.{and_parts, leb-true}
-use Rattle.std.proofs.lemmas.List.{length-take-le, length-map, map-append, append-nil}
+use Rattle.std.proofs.lemmas.List.{length-take-le, length-map}
 use Rattle.std.proofs.lemmas.List.Elements.{All-nil, All-cons, filter_map-append}
+use Rattle.std.proofs.lemmas.Grind.{common_steps}
 use Rattle.std.proofs.lemmas.List.Kept.{AllPairs-cons}
 use Rattle.std.proofs.lemmas.Option.{cond_some}
 use Rattle.acpi_base.specs.Entries.{Standing, Stands, StandsWith, first_entry, entries_from, entries_of, said_by}
@@ -157,22 +157,5 @@ pub from_some : (start end name s x : ℕ) → start ≡ s → s ≤ x → x < e
 from_some start end name s x begins least below =
     (record { start = start; end = end; name = name }, grind (arith, nat_tests), begins, least, below)
 
--- a span that `Span::new` made
-pub made : (start end name : ℕ) (span : Option Span) → (IsSome span ↔ (start < end)) → IfSome span (λ s. s.start ≡ start) → IfSome span (λ s. s.end ≡ end) → IfSome span (λ s. s.name ≡ name)
-    → option_map span_value span ≡ span_from start end name
-made start end name None some _ _ _ = grind (arith, nat_tests, some)
-made start end name (Some span) some is_start is_end is_name = grind (arith, nat_tests, span.not_empty, is_start, is_end, is_name)
-
--- ---- one entry more
-
--- the spans of entries so far, and that of one more
-pub with_span : {E : Type 0} (read : ℕ → E → Option SpanValue) (entries : List (Standing E)) (o : ℕ) (e : E) (spans : List Span) (span : Span) → map span_value spans ≡ spans_of read entries
-    → read o e ≡ Some (span_value span) → map span_value (spans ++ span ∷ []) ≡ spans_of read (entries ++ record { offset = o; entry = e } ∷ [])
-with_span {E} read entries o e spans span is gives =
-    grind (arith, is, gives, map-append span_value spans (span ∷ []), filter_map-append (λ (s : Standing E). read s.offset s.entry) entries (record { offset = o; entry = e } ∷ []))
-
--- and an entry that gives none
-pub without_span : {E : Type 0} (read : ℕ → E → Option SpanValue) (entries : List (Standing E)) (o : ℕ) (e : E) (spans : List Span) → map span_value spans ≡ spans_of read entries
-    → read o e ≡ None → map span_value spans ≡ spans_of read (entries ++ record { offset = o; entry = e } ∷ [])
-without_span {E} read entries o e spans is none =
-    grind (arith, is, none, append-nil, filter_map-append (λ (s : Standing E). read s.offset s.entry) entries (record { offset = o; entry = e } ∷ []))
+-- what a loop that gathers spans needs
+pub ruleset gathering = (common_steps, filter_map-append)
