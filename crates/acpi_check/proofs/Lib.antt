@@ -2,5 +2,6 @@ mod Clashes
 mod CoveredSpans
 mod FirstFaults
 mod Gathered
+mod Indexed
 mod ServedSpans
 mod Slots
