@@ -1,2 +1,7 @@
+mod Clashes
+mod CoveredSpans
 mod FirstFaults
+mod Gathered
+mod Indexed
+mod ServedSpans
 mod Slots

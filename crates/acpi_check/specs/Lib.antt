@@ -1,4 +1,6 @@
 -- What the contracts of the checker cite.
+pub mod Gathered
+pub mod Indexed
 pub mod Set
 pub mod Settled
 pub mod Tables
