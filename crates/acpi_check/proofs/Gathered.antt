@@ -12,7 +12,7 @@ use Rattle.std.proofs.lemmas.List.Kept.{AllPairs-cons}
 use Rattle.std.proofs.lemmas.Option.{cond_some}
 use Rattle.acpi_base.specs.Entries.{Standing, Stands, StandsWith, first_entry, entries_from, entries_of, said_by}
 use Rattle.acpi_base.proofs.HeldBytes.{cases_Option}
-use Rattle.acpi_base.proofs.Standings.{first_element, later_element, first_or_later, no_element, element_of_map}
+use Rattle.acpi_base.proofs.Elements.{first_element, later_element, first_or_later, no_element, element_of_map}
 use Rattle.acpi_graph.specs.Spans.{NamesDiffer}
 use Rattle.acpi_graph.specs.declared.span.Span.{Span}
 use Rattle.acpi_check.specs.Gathered.{HasSpan, AreSpansOf, SpanValue, span_value, span_from, spans_of}
