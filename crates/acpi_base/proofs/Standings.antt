@@ -1,11 +1,12 @@
 -- The entries that stand in a table: they lie one behind another within it, so at most one stands at an offset,
 -- and whether one with a property does can be decided.
 use Rattle.std.proofs.Common.{◌≡◌, ℕ, zero, suc, ◌+◌, ◌<◌, ◌≤◌, List, [], ◌∷◌, length, take, drop, Some, refl, sym, ◌∙◌, ap, subst, inl, inr, arith, length-drop}
-use Rattle.std.specs.Prelude.{◌⊎◌, ◌&&◌, Contains, slice_index, nat_le}
+use Rattle.std.specs.Prelude.{◌⊎◌, ◌&&◌, Contains, slice_index, nat_le, sum_by}
 use Rattle.std.proofs.lemmas.Bool.{and_parts, leb-true, ltb-true, cases_lt}
 use Rattle.std.proofs.lemmas.List.{length-take-le, length-take, get_or-take, get_or-drop, get_or_past}
+use Rattle.std.proofs.lemmas.List.Sums.{sum_by-cons}
 use Rattle.std.proofs.lemmas.Option.{cond_some}
-use Rattle.acpi_base.specs.Entries.{Standing, Stands, StandsWith, first_entry, entries_from, entries_of, cut_of, said_by, Kind, IsTypeOf, AreUnused}
+use Rattle.acpi_base.specs.Entries.{Standing, Stands, StandsWith, first_entry, entries_from, entries_of, end_of_entries, cut_of, said_by, Kind, IsTypeOf, AreUnused}
 use Rattle.acpi_base.proofs.Faults.Deciding.{Decided, decided_as, both, either, same}
 use Rattle.acpi_base.proofs.HeldBytes.{cases_Option}
 use Rattle.acpi_base.proofs.Elements.{no_element, first_or_later, element_of_map, element_decided, bounded}
@@ -191,3 +192,28 @@ pub said_with : {E : Type 0} (read : List ℕ → E) (P : E → Type 0) → ((e 
 said_with read P holds first whole small o e stands =
     let (bytes, here, is) = said_from read (entries_of first whole) o e stands in
     subst P is (holds bytes (entry_below first whole small o bytes here))
+
+-- ---- the cut
+
+-- an entry ends at the end of all entries or before
+ends_before : (n offset : ℕ) (left : List ℕ) (o : ℕ) (e : List ℕ) → Stands (entries_from n offset left) o e → o + length e ≤ offset + sum_by (λ s. length s.entry) (entries_from n offset left)
+unfolding entries_from
+ends_before zero offset left o e stands = absurd (no_element _ stands)
+ends_before (suc n) offset left o e stands =
+    elim (cases_Option (first_entry left)) [
+      | inr none ↦ absurd (no_element _ (rw none at stands))
+      | inl (d, is) ↦
+          let rest = entries_from n (offset + length d) (drop (length d) left) in
+          let sum = sum_by-cons (λ (s : Standing (List ℕ)). length s.entry) (record { offset = offset; entry = d }) rest in
+          elim (first_or_later (record { offset = offset; entry = d }) (record { offset = o; entry = e }) rest (rw is at stands)) [
+            | inl same ↦ rw is (grind (arith, sum, ap (λ (s : Standing (List ℕ)). s.offset) same, ap (λ (s : Standing (List ℕ)). length s.entry) same))
+            | inr later ↦ rw is (omega (arith, sum, ends_before n (offset + length d) (drop (length d) left) o e later))
+          ]
+    ]
+
+-- the cut is behind every entry
+pub cut_behind : (first : ℕ) (whole : List ℕ) (cut o : ℕ) (e : List ℕ) → cut_of first whole ≡ Some cut → Stands (entries_of first whole) o e → o < cut
+unfolding cut_of end_of_entries entries_of
+cut_behind first whole cut o e is stands =
+    let end = (cond_some _ _ _ is).1 in
+    omega (arith, end, ends_before (length whole) first (drop first whole) o e stands, entry_within first whole o e stands)

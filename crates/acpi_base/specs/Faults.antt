@@ -67,14 +67,15 @@ NotAfter w v =
     × ((w.other < v.other)
     ⊎ ((w.other ≡ v.other) × (w.point ≤ v.point))))))
 
--- No fault of the stage stands before w. Where ranges overlap, an order of their own holds: by the least number that two
--- hold, and of those that hold it, the first two.
+-- w comes first of its stage's faults: no other stands before it. The two stages of overlaps have an order of their own: w
+-- names the least interrupt number that two I/O APICs serve, or the least address that two ranges cover that are compared,
+-- and of those that hold it the first two, by where they start and then by where they stand.
 abbrev pub IsLeastOfStage : Stage → Memory → PolicyValue → Witness → Type 0
 IsLeastOfStage stage.Interrupts m q w = HasMadt m q (λ madt. IsFirstGsiClash q madt w.at w.other w.point)
 IsLeastOfStage stage.Ranges m q w = HasSrat m q (λ srat. IsFirstOverlap q.hotplug srat w.at w.other w.point)
 IsLeastOfStage s m q w = (v : Witness) → FaultOfStage s m q v → NotAfter w v
 
--- w is the first fault: all earlier stages hold, and no fault of its stage stands before it
+-- w is the first fault: all earlier stages hold, and it comes first of its stage's faults
 pub record IsFirstFault (m : Memory) (q : PolicyValue) (w : Witness) : Type 0 where
   pub fault : Fault m q w
   pub earlier : CleanBefore (stage_of w.code) m q

@@ -187,11 +187,11 @@ ReferenceFault c code.DanglingResource at other point = NamesResource c at other
 ReferenceFault c code.DanglingCache at other point = Dangles (NamesNextLevel c) at other × (point ≡ 0)
 ReferenceFault c _ at other point = ⊥
 
--- so many nodes, of at least 20 bytes each, fit into a table
+-- no table of this size, its header counted, has more nodes, which have at least 20 bytes each
 abbrev pub most_nodes : PpttContents → ℕ
 most_nodes c = c.size / 20
 
--- so many caches, of at least 24 bytes each, fit into a table
+-- nor more caches, which have at least 24
 abbrev pub most_caches : PpttContents → ℕ
 most_caches c = c.size / 24
 

@@ -155,8 +155,8 @@ IsOverlap Apart c o p x = IsClash (Covers IsNotHotPluggable c) o p x ⊎ IsClash
 abbrev pub AreRangesApart : HotPlug → SratContents → Type 0
 AreRangesApart h c = (o p x : ℕ) → ¬ IsOverlap h c o p x
 
--- The fault of stage 10: the enabled ranges at `at` and `other` are compared and both cover the address `point`. An address
--- has 64 bits; where ranges overlap only beyond, one of them ends beyond, which is a fault of stage 9.
+-- The fault of stage 10: the enabled ranges at `at` and `other` are compared and both cover the address `point`, which has 64
+-- bits. Ranges that overlap share the greater of their bases, so they always share such an address.
 abbrev pub RangeFault : HotPlug → SratContents → Code → ℕ → ℕ → ℕ → Type 0
 RangeFault h c code.Overlap at other point = (point < 2 ^ 64) × IsOverlap h c at other point
 RangeFault h c _ at other point = ⊥

@@ -21,7 +21,8 @@ use Rattle.acpi_base.specs.declared.stage.Stage.TheVariants as stage
 abbrev pub AreSoundTables : Memory → ℕ → Type 0
 AreSoundTables m p = (k a : ℕ) → IsSlot m p k a → IsSoundTable m a
 
--- What a stage states. From stage 6 on a stage holds of a set that does not list a table that it speaks of.
+-- What a stage states. From stage 6 on a stage holds of a set that does not list a table that it speaks of, or whose first
+-- one with the signature is not whole.
 abbrev pub Holds : Stage → Memory → PolicyValue → Type 0
 Holds stage.Rsdp m q = IsSoundRsdp m q.rsdp
 Holds stage.Root m q = IsSoundRoot m q.rsdp

@@ -3,5 +3,6 @@ mod CoveredSpans
 mod FirstFaults
 mod Gathered
 mod Indexed
+mod Passes
 mod ServedSpans
 mod Slots

@@ -17,7 +17,7 @@ use std::marker::Model;
 /// 2^32 - 1, which summed to 0 when it was read. Contracts see the bytes.
 ///
 /// The signature, the revision and the bytes behind the header are not checked.
-#[derive(Debug, Drop)]
+#[derive(Clone, Debug, Drop)]
 pub struct Table<'a> {
     bytes: &'a [u8],
 }

@@ -94,7 +94,7 @@ two_overrides =
     ∷ standing 54 (Override (record { bus = 0; source = 9; gsi = 20; flags = 0 }))
     ∷ [])
 
--- ---- a MADT whose entries have a fault each, or two
+-- ---- a MADT whose entries have faults, all but the first address override
 
 abbrev pub faulty_madt_bytes : List ℕ
 faulty_madt_bytes =
@@ -143,7 +143,7 @@ pub record AreMadtFaults (q : PolicyValue) : Type 0 where
   pub clash : inputs_of q 0xfec00000 ≡ 32 → inputs_of q 0xfec01000 ≡ 24 → InterruptFault q (madt_contents two_io_apics_bytes) code.GsiClash 0x2c 0x38 0x18
   pub sources : OverrideFault (madt_contents two_overrides_bytes) code.OverrideClash 0x36 0x2c 9
 
--- the MADT with an entry of each kind has no fault of stage 6, whatever the policy
+-- the MADT with an entry of each kind has no fault of stage 6, however many inputs its I/O APIC has, up to 256
 abbrev pub HasNoMadtFault : PolicyValue → Type 0
 HasNoMadtFault q = inputs_of q 0xfec00000 ≤ 256 → (fault : Code) (at other point : ℕ) → ¬ MadtFault q (madt_contents all_kinds_bytes) fault at other point
 

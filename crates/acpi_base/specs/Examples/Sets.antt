@@ -1,5 +1,5 @@
--- Examples of whole sets: an image with an RSDP, an RSDT and two tables, and the fault that the two have together, worked
--- out by hand from the rules.
+-- Examples of whole sets: an image with an RSDP, an RSDT and two tables, and a fault of each stage across tables, worked out
+-- by hand from the rules. The sets have no FADT: a check would report that first.
 use Rattle.std.specs.Prelude.{◌≡◌, ℕ, List, [], ◌∷◌, ◌++◌, replicate, All}
 use Rattle.std.specs.FinMap.{empty}
 use Rattle.acpi_base.specs.Memory.{Memory, IsImage, with_bytes}

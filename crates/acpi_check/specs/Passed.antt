@@ -1,0 +1,47 @@
+-- What a pass over the entries of a table returns.
+use Rattle.std.specs.Prelude.{◌≡◌, ℕ, ◌≤◌, ◌⊎◌, ⊤, Option, Some, None, Result, Ok, Err}
+use Rattle.acpi_base.specs.Codes.{code_number, stage_of}
+use Rattle.acpi_base.specs.Policy.{PolicyValue}
+use Rattle.acpi_base.specs.Entries.{AreUnused}
+use Rattle.acpi_base.specs.Madt.{MadtEntry, IsSoundMadtEntry, IsAddressOverride, MadtEntryFault}
+use Rattle.acpi_base.specs.Faults.{NotAfter}
+use Rattle.acpi_base.specs.declared.code.Code.{Code}
+use Rattle.acpi_base.specs.declared.code.Code.TheVariants as code
+use Rattle.acpi_base.specs.declared.stage.Stage.{Stage}
+use Rattle.acpi_base.specs.declared.witness.Witness.{Witness}
+
+-- w is a fault of the stage by `IsFault`, and stands after none
+pub record IsFirstOfTable (s : Stage) (IsFault : Code → ℕ → ℕ → ℕ → Type 0) (w : Witness) : Type 0 where
+  pub own : stage_of w.code ≡ s
+  pub fault : IsFault w.code w.at w.other w.point
+  pub least : (v : Witness) → IsFault v.code v.at v.other v.point → NotAfter w v
+
+-- the table is sound, or this is its first fault
+abbrev pub FindsFirst : Stage → Type 0 → (Code → ℕ → ℕ → ℕ → Type 0) → Result ⊤ Witness → Type 0
+FindsFirst s Sound IsFault (Ok _) = Sound
+FindsFirst s Sound IsFault (Err w) = IsFirstOfTable s IsFault w
+
+-- ---- an entry of a MADT
+
+-- w is the least fault that the entry has by itself
+pub record IsOwnFault (q : PolicyValue) (e : MadtEntry) (w : Witness) : Type 0 where
+  pub fault : MadtEntryFault q w.code e
+  pub unused : AreUnused w.other w.point
+  pub least : (c : Code) → MadtEntryFault q c e → code_number w.code ≤ code_number c
+
+-- w is the fault of a second address override, of which `earlier` is the first one's offset
+pub record IsSecondOverride (e : MadtEntry) (earlier : Option ℕ) (w : Witness) : Type 0 where
+  pub code : w.code ≡ code.SecondAddressOverride
+  pub override : IsAddressOverride e
+  pub first : earlier ≡ Some w.other
+  pub unused : w.point ≡ 0
+
+-- the first address override's offset, once the entry at o came
+abbrev pub IsOverrideAfter : ℕ → MadtEntry → Option ℕ → Option ℕ → Type 0
+IsOverrideAfter o e earlier now =
+    (IsAddressOverride e × (earlier ≡ None) × (now ≡ Some o)) ⊎ ((¬ IsAddressOverride e) × (now ≡ earlier))
+
+-- the entry at o is sound, and this is the first address override's offset with it; or this is its least fault
+abbrev pub PassesMadtEntry : PolicyValue → ℕ → MadtEntry → Option ℕ → Result (Option ℕ) Witness → Type 0
+PassesMadtEntry q o e earlier (Ok now) = IsSoundMadtEntry q e × IsOverrideAfter o e earlier now
+PassesMadtEntry q o e earlier (Err w) = (w.at ≡ o) × (IsOwnFault q e w ⊎ IsSecondOverride e earlier w)
