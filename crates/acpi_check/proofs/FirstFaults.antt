@@ -8,15 +8,17 @@ use Rattle.acpi_base.specs.Codes.{code_number, stage_of}
 use Rattle.acpi_base.specs.Rsdp.{Addresses, addresses_at, RsdpValue, RsdpFault, IsRsdp}
 use Rattle.acpi_base.specs.Root.{HasSlot, IsSlot, RootFault, RootTableFault, NamedRootFault, chosen_root}
 use Rattle.acpi_base.specs.Tables.{IsSoundTable, TableFault}
-use Rattle.acpi_base.specs.Listed.{fadt_signature}
+use Rattle.acpi_base.specs.Listed.{fadt_signature, madt_signature, IsListedTable, ListsNone}
+use Rattle.acpi_base.specs.Madt.{madt_contents, IsSoundMadt, MadtFault}
 use Rattle.acpi_base.specs.Fadt.{facs_address, IsFadt, IsSoundFadt, FadtTableFault, FadtFault}
 use Rattle.acpi_base.specs.Facs.{HasSoundFacs, IsSoundFacs, NamedFacsFault}
-use Rattle.acpi_base.specs.Statements.{CleanBefore}
+use Rattle.acpi_base.specs.Statements.{Holds, CleanBefore}
 use Rattle.acpi_base.specs.Faults.{NotAfter, IsFirstFault}
 use Rattle.acpi_base.specs.declared.code.Code.{Code}
 use Rattle.acpi_base.specs.declared.code.Code.TheVariants as code
 use Rattle.acpi_base.specs.declared.stage.Stage.TheVariants as stage
 use Rattle.acpi_base.specs.declared.witness.Witness.{Witness}
+use Rattle.acpi_base.proofs.Faults.ListedTables.{of_listed, for_listed}
 use Rattle.acpi_base.proofs.Faults.Numbers.{stage_from_1}
 use Rattle.acpi_base.proofs.Faults.Order.{not_after}
 use Rattle.acpi_base.proofs.Faults.Settling.{IsFirstOfStage, first_of_set}
@@ -27,6 +29,7 @@ use Rattle.acpi_base.proofs.Tables.Faults.{excludes}
 use Rattle.acpi_base.proofs.Tables.Listed.{none_and_listed, one_listed}
 use Rattle.acpi_base.proofs.Facs.Faults.{place}
 use Rattle.acpi_read.specs.Roots.{RootValue}
+use Rattle.acpi_check.specs.Passed.{IsFirstOfTable}
 use Rattle.acpi_check.specs.Tables.{IsRootOf}
 
 -- the least fault of the RSDP
@@ -120,3 +123,22 @@ facs_first m q fadt c clean own fault least =
 -- a FACS that is sound for the set's FADT is sound
 pub facs_sound : (m : Memory) (p : ℕ) (fadt : List ℕ) → IsFadt m p fadt → HasSoundFacs m fadt → IsSoundFacs m p
 facs_sound m p fadt is sound = λ whole also. rw (one_listed m p fadt_signature whole fadt also is) sound
+
+-- ---- one table
+
+-- a set without a MADT has nothing to say of one
+pub no_madt : (m : Memory) (q : PolicyValue) → ListsNone m q.rsdp madt_signature → Holds stage.Madt m q
+no_madt m q none whole is = absurd (none_and_listed none is)
+
+-- a sound MADT that the set lists first is what the stage states
+pub madt_holds : (m : Memory) (q : PolicyValue) (whole : List ℕ) → IsListedTable m q.rsdp madt_signature whole → IsSoundMadt q (madt_contents whole) → Holds stage.Madt m q
+madt_holds m q whole is sound = for_listed (λ bytes. IsSoundMadt q (madt_contents bytes)) is sound
+
+-- the first fault of its entries is the set's
+pub madt_first : (m : Memory) (q : PolicyValue) (whole : List ℕ) (w : Witness) → CleanBefore stage.Madt m q → IsListedTable m q.rsdp madt_signature whole
+    → IsFirstOfTable stage.Madt (MadtFault q (madt_contents whole)) w → IsFirstFault m q w × (stage_of w.code ≡ stage.Madt)
+madt_first m q whole w clean is first =
+    (first_of_set clean (record {
+      holds = record { own = first.own; holds = (whole, is, first.fault) };
+      least = λ v here. first.least v (of_listed (λ bytes. MadtFault q (madt_contents bytes) v.code v.at v.other v.point) is here.holds);
+    }), first.own)

@@ -3,6 +3,7 @@ mod CoveredSpans
 mod FirstFaults
 mod Gathered
 mod Indexed
+mod MadtPass
 mod Passes
 mod ServedSpans
 mod Slots

@@ -1,8 +1,13 @@
 -- A pass over the entries of a table, which stand at rising offsets.
 use Rattle.std.proofs.Common.{◌≡◌, ℕ, zero, suc, ◌<◌, ◌≤◌, List, [], ◌∷◌, refl, sym, ap, subst, inl, inr, arith}
-use Rattle.std.specs.Prelude.{◌⊎◌}
+use Rattle.std.specs.Prelude.{◌⊎◌, ⊤, Result, Ok, Err}
+use Rattle.std.specs.Result.{IsErr, IsErrAnd}
 use Rattle.acpi_base.specs.Entries.{Standing, Stands, StandsWith, entries_of, said_by}
 use Rattle.acpi_base.proofs.Elements.{first_element, later_element, first_or_later, no_element}
+use Rattle.acpi_base.specs.declared.code.Code.{Code}
+use Rattle.acpi_base.specs.declared.stage.Stage.{Stage}
+use Rattle.acpi_base.specs.declared.witness.Witness.{Witness}
+use Rattle.acpi_check.specs.Passed.{IsFirstOfTable, FindsFirst}
 use Rattle.acpi_check.proofs.Gathered.{AreRising, rising}
 
 -- of these entries those left are still to come, and all others came before them and have P
@@ -63,6 +68,11 @@ before_or_behind {s = s} {left = left} pass o e stands =
           ]
     ]
 
+-- those behind the next one come behind it
+pub left_behind : {E : Type 0} {entries : List (Standing E)} {s : Standing E} {left : List (Standing E)} {P : ℕ → E → Type 0} → HasPassed entries (s ∷ left) P
+    → (o : ℕ) (e : E) → Stands left o e → s.offset < o
+left_behind {s = s} {left = left} pass o e stands = from_low (suc s.offset) left o e pass.rises.1 stands
+
 -- the next one stands in the table
 pub next_stands : {E : Type 0} {entries : List (Standing E)} {s : Standing E} {left : List (Standing E)} {P : ℕ → E → Type 0} → HasPassed entries (s ∷ left) P → Stands entries s.offset s.entry
 next_stands {s = s} {left = left} pass = pass.listed s.offset s.entry (first_element s left)
@@ -70,3 +80,8 @@ next_stands {s = s} {left = left} pass = pass.listed s.offset s.entry (first_ele
 -- all have P once none is left
 pub all_passed : {E : Type 0} {entries : List (Standing E)} {P : ℕ → E → Type 0} → HasPassed entries [] P → (o : ℕ) (e : E) → Stands entries o e → P o e
 all_passed pass o e stands = elim (pass.passed o e stands) [ inl left ↦ absurd (no_element _ left) | inr (earlier, holds) ↦ holds ]
+
+-- a result that is this fault says what the fault does
+pub reported : (s : Stage) (Sound : Type 0) (IsFault : Code → ℕ → ℕ → ℕ → Type 0) (w : Witness) (r : Result ⊤ Witness) → IsErr r → IsErrAnd r (λ v. v ≡ w) → IsFirstOfTable s IsFault w → FindsFirst s Sound IsFault r
+reported s Sound IsFault w (Ok _) err is first = absurd cc
+reported s Sound IsFault w (Err v) err is first = subst (IsFirstOfTable s IsFault) (sym is) first

@@ -11,6 +11,7 @@ ghost use Rattle.acpi_check.specs.Set.{IsSet, IsSetOf};
 
 use crate::facs::sound_facs;
 use crate::fadt::sound_fadt;
+use crate::madt::sound_madt;
 use crate::refusal::Refusal;
 use crate::root::sound_root;
 use crate::rsdp::sound_rsdp;
@@ -88,6 +89,7 @@ fn ask(set: &Set<'_>, stage: Stage) -> Result<(), Refusal>
 {
     match stage {
         Stage::Facs => sound_facs(set),
+        Stage::Madt => sound_madt(set),
         // Those before it hold of every set.
         _ => Ok(()),
     }

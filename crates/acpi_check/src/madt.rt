@@ -72,3 +72,38 @@ fn pass_entry(policy: &Policy, entry: &Entry<'_>, earlier: Option<u64>) -> Resul
         _ => Ok(earlier),
     }
 }
+
+/// The first fault of a MADT: of its entries in their order, or of the bytes behind them.
+#[tactic(auto, using(crate::proofs::MadtPass::passing))]
+fn first_fault(policy: &Policy, table: Table<'_>) -> Result<(), Witness>
+    ensures { FindsFirst Stage.Madt (IsSoundMadt policy.now (madt_contents table.entry)) (MadtFault policy.now (madt_contents table.entry)) result }
+{
+    let mut entries = match Entries::madt(table) {
+        Ok(entries) => entries,
+        Err(code) => return Err(Witness::at(code, 0)),
+    };
+    let mut address_override = None;
+    while let Some(entry) = entries.next() {
+        address_override = pass_entry(policy, &entry, address_override)?;
+    }
+    match entries.cut() {
+        Some(offset) => Err(Witness::at(Code::MadtEntryCut, offset)),
+        None => Ok(()),
+    }
+}
+
+/// Whether the MADT's entries are sound, or the set lists no MADT. Faults are at an entry's offset, at that of the bytes
+/// behind the entries, or at 0 for a MADT that is too short.
+pub fn sound_madt(set: &Set<'_>) -> Result<(), Refusal>
+    requires clean { CleanBefore Stage.Madt set.now.image.now set.now.policy.now }
+    requires set { IsSet set.now }
+    ensures { Settles Stage.Madt set.now.image.now set.now.policy.now (λ _. ⊤) result }
+{
+    match &set.madt {
+        None => Ok(()),
+        Some(table) => match first_fault(set.policy, table.copied()) {
+            Ok(()) => Ok(()),
+            Err(fault) => Err(Refusal::Fault(fault)),
+        },
+    }
+}

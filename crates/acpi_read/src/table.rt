@@ -17,7 +17,7 @@ use std::marker::Model;
 /// 2^32 - 1, which summed to 0 when it was read. Contracts see the bytes.
 ///
 /// The signature, the revision and the bytes behind the header are not checked.
-#[derive(Clone, Debug, Drop)]
+#[derive(Debug, Drop)]
 pub struct Table<'a> {
     bytes: &'a [u8],
 }
@@ -63,6 +63,13 @@ impl<'a> Table<'a> {
             return Err(Code::TableSum);
         }
         Ok(Table { bytes })
+    }
+
+    /// The same table once more: several stages look at one.
+    pub fn copied(&self) -> Table<'a>
+        ensures { result ≡ self.now }
+    {
+        Table { bytes: self.bytes }
     }
 
     /// All its bytes, header and all: as many as its Length says, at least 36, and fewer than 2^32.

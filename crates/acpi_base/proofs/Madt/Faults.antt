@@ -68,7 +68,7 @@ inti_excludes q (X2apicNmi v) wrong sound = sound wrong
 inti_excludes q _ wrong sound = wrong
 
 -- a fault excludes that an entry is sound
-entry_excludes : (q : PolicyValue) (fault : Code) (e : MadtEntry) → MadtEntryFault q fault e → ¬ IsSoundMadtEntry q e
+pub entry_excludes : (q : PolicyValue) (fault : Code) (e : MadtEntry) → MadtEntryFault q fault e → ¬ IsSoundMadtEntry q e
 entry_excludes q code.MadtEntryLength (Opaque e) wrong sound = sound wrong
 entry_excludes q code.OverrideBus (Override v) wrong sound = wrong sound.0
 entry_excludes q code.ReservedInti e wrong sound = inti_excludes q e wrong sound
