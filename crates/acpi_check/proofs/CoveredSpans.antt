@@ -13,7 +13,8 @@ use Rattle.acpi_graph.specs.declared.clash.Clash.{Clash}
 use Rattle.acpi_graph.specs.declared.clash.Clash.TheVariants as clash
 use Rattle.acpi_graph.specs.declared.span.Span.{Span}
 use Rattle.acpi_check.specs.Gathered.{AreSpansOf, IsFound, IsFoundOverlap, earlier_clash, SpanValue, span_value, span_from, covered, spans_of}
-use Rattle.acpi_check.proofs.Gathered.{AreNamed, are_spans, rising, from_is, from_some}
+use Rattle.acpi_check.proofs.Gathered.{are_spans, from_is, from_some}
+use Rattle.acpi_check.proofs.Kept.{rising}
 
 -- ---- ranges of one kind
 
@@ -26,7 +27,7 @@ where_some true o v is = (refl, is)
 where_some false o v is = absurd (none-some v is)
 
 -- a span is named by its entry's offset
-named : (counts : MemoryValue → Bool) → AreNamed (covered counts)
+named : (counts : MemoryValue → Bool) (o : ℕ) (e : SratEntry) (v : SpanValue) → covered counts o e ≡ Some v → v.name ≡ o
 named counts o (MemoryRange v) span is = grind (arith, from_is, is)
 named counts o _ span is = absurd cc
 

@@ -3,5 +3,7 @@ mod CoveredSpans
 mod FirstFaults
 mod Gathered
 mod Indexed
+mod IndexedNodes
+mod Kept
 mod ServedSpans
 mod Slots

@@ -7,10 +7,11 @@ use Rattle.acpi_base.specs.Madt.{MadtEntry, IoApic, MadtContents, madt_entry, ma
 use Rattle.acpi_base.specs.Policy.{PolicyValue}
 use Rattle.acpi_graph.specs.declared.span.Span.{Span}
 use Rattle.acpi_check.specs.Gathered.{AreSpansOf, SpanValue, span_value, served, spans_of}
-use Rattle.acpi_check.proofs.Gathered.{AreNamed, are_spans, rising, from_is, from_some}
+use Rattle.acpi_check.proofs.Gathered.{are_spans, from_is, from_some}
+use Rattle.acpi_check.proofs.Kept.{rising}
 
 -- a span is named by its entry's offset
-named : (q : PolicyValue) → AreNamed (served q)
+named : (q : PolicyValue) (o : ℕ) (e : MadtEntry) (v : SpanValue) → served q o e ≡ Some v → v.name ≡ o
 named q o (IoApic v) span is = grind (arith, from_is, is)
 named q o _ span is = absurd cc
 

@@ -1,6 +1,8 @@
 -- Chains of offsets as chains of indices, and the first cycle that is found of them.
-use Rattle.std.specs.Prelude.{◌≡◌, ◌≢◌, ◌⊎◌, ◌↔◌, ℕ, ◌<◌, ◌≤◌, List, AllPairs, Contains, length, slice_index, Option, Some, None}
+use Rattle.std.specs.Prelude.{◌≡◌, ◌≢◌, ◌⊎◌, ◌↔◌, ℕ, ◌<◌, ◌≤◌, List, AllPairs, Contains, length, map, slice_index, slice_index_or, option_map, Option, Some, None}
+use Rattle.std.specs.List.{filter_map}
 use Rattle.acpi_base.specs.Chains.{IsAt, IsCycle, AllEnd}
+use Rattle.acpi_base.specs.Entries.{Standing}
 use Rattle.acpi_graph.specs.Parents.{parent_of}
 use Rattle.acpi_graph.specs.declared.stray.Stray.{Stray}
 use Rattle.acpi_graph.specs.declared.stray.Stray.TheVariants as stray
@@ -33,3 +35,24 @@ abbrev pub IsFoundCycle : (ℕ → ℕ → Type 0) → ℕ → List ℕ → Stra
 IsFoundCycle Names most offsets stray.None = AllEnd Names
 IsFoundCycle Names most offsets (stray.Round node lead round) =
     IsFirstCycle Names most (slice_index offsets node) lead round
+
+-- ---- how they are gathered
+
+-- one of the kind: the offset at which it stands, and that which it names
+pub record NodeValue : Type 0 where
+  pub offset : ℕ
+  pub named : ℕ
+
+-- those of entries, in their order
+abbrev pub nodes_of : {E : Type 0} → (E → Option ℕ) → List (Standing E) → List NodeValue
+nodes_of read entries =
+    filter_map (λ s. option_map (λ p. record { offset = s.offset; named = p }) (read s.entry)) entries
+
+-- the offsets at which they stand
+abbrev pub offsets_of : List NodeValue → List ℕ
+offsets_of nodes = map (λ n. n.offset) nodes
+
+-- each parent is the index of what the node at its place names
+pub record AreParents (nodes : List NodeValue) (parents : List (Option ℕ)) : Type 0 where
+  pub count : length parents ≡ length nodes
+  pub each : (i : ℕ) (n : NodeValue) → i < length nodes → IsIndexOf (offsets_of nodes) (slice_index_or nodes i n).named (slice_index_or parents i None)
