@@ -22,6 +22,7 @@ use Rattle.acpi_check.proofs.Kept.{rising}
 abbrev pub Tests : (MemoryValue → Bool) → (MemoryValue → Type 0) → Type 0
 Tests counts P = (v : MemoryValue) → (counts v ≡ true) ↔ P v
 
+-- what is given under a test is given where the test holds
 where_some : (b : Bool) (o : Option SpanValue) (v : SpanValue) → cond b o None ≡ Some v → (b ≡ true) × (o ≡ Some v)
 where_some true o v is = (refl, is)
 where_some false o v is = absurd (none-some v is)
@@ -47,18 +48,21 @@ unfolding srat_contents
 covered_spans counts P tests whole spans is =
     are_spans (CoversFrom P) (covered counts) (record { named = named counts; held = held counts P tests }) 48 _ (rising srat_entry 48 whole) spans is
 
--- of all ranges, of those that are hot-pluggable, and of those that are not
+-- a test of all ranges
 pub tests_any : Tests (λ v. true) IsAny
 tests_any v = (λ _. tt, λ _. refl)
 
+-- of those that are hot-pluggable
 pub tests_hot : Tests (λ v. is_hot_pluggable v.flags) IsHotPluggable
 tests_hot v = (λ is. is, λ is. is)
 
+-- and of those that are not
 pub tests_other : Tests (λ v. not (is_hot_pluggable v.flags)) IsNotHotPluggable
 tests_other v = elim (is_hot_pluggable v.flags) as (λ b. (not b ≡ true) ↔ (b ≡ false)) [ true ↦ (λ is. absurd cc, λ is. absurd cc) | false ↦ (λ _. refl, λ _. refl) ]
 
 -- ---- ranges that must be apart
 
+-- where all ranges are compared, their first overlap is reported
 pub counted : (c : SratContents) (found : Clash) → IsFound (Covers IsAny c) found → IsFoundOverlap Counted c found
 counted c clash.None is = is
 counted c (clash.At first second point) is = is

@@ -17,10 +17,11 @@ use Rattle.acpi_check.proofs.Kept.{AreRising, map_has, kept_has, kept_from, keys
 abbrev pub NamesOf : {E : Type 0} → (E → Option ℕ) → List (Standing E) → ℕ → ℕ → Type 0
 NamesOf {E} read entries o p = (e : E) × Stands entries o e × (read e ≡ Some p)
 
+-- where an entry stands and what it names, if it names an offset
 abbrev kept : {E : Type 0} → (E → Option ℕ) → Standing E → Option NodeValue
 kept read s = option_map (λ p. record { offset = s.offset; named = p }) (read s.entry)
 
--- what is kept of an entry is where it stands and what it names
+-- what is kept of an entry says this
 kept_is : {E : Type 0} (read : E → Option ℕ) (s : Standing E) (n : NodeValue) → kept read s ≡ Some n → (n.offset ≡ s.offset) × (read s.entry ≡ Some n.named)
 kept_is read s n is =
     elim (cases_Option (read s.entry)) [

@@ -14,6 +14,7 @@ use Rattle.acpi_base.proofs.Standings.{first_element, later_element, first_or_la
 
 -- ---- elements of lists
 
+-- what a map makes of an element is an element
 pub map_has : {X Y : Type 0} (f : X → Y) (xs : List X) (x : X) → Contains xs x → Contains (map f xs) (f x)
 map_has f xs x (k, below, is) = (k, omega (arith, length-map xs f), get_or-map f xs k x ∙ ap f is)
 
@@ -51,6 +52,7 @@ abbrev pub AreRising : {E : Type 0} → ℕ → List (Standing E) → Type 0
 AreRising low [] = Unit {0}
 AreRising low (s ∷ rest) = (low ≤ s.offset) × AreRising (suc s.offset) rest
 
+-- so they do from any lower offset
 rising_from_less : {E : Type 0} (low high : ℕ) (entries : List (Standing E)) → low ≤ high → AreRising high entries → AreRising low entries
 rising_from_less low high [] less rises = tt
 rising_from_less low high (s ∷ rest) less rises = (omega (arith, rises.0), rises.1)
@@ -62,6 +64,7 @@ first_least left e is =
     let parts = cond_some (nat_le 2 (length left) && nat_le 2 (slice_index left 1) && nat_le (slice_index left 1) (length left)) (take (slice_index left 1) left) e is in
     grind (arith, and_parts, leb-true, length-take-le, parts.0, parts.1)
 
+-- entries one behind another stand at rising offsets
 rising_from : {E : Type 0} (read : List ℕ → E) (n offset : ℕ) (left : List ℕ) → AreRising offset (said_by read (entries_from n offset left))
 unfolding entries_from
 rising_from read zero offset left = tt
@@ -71,6 +74,7 @@ rising_from read (suc n) offset left =
       | inl (e, is) ↦ rw is (omega arith, rising_from_less (suc offset) (offset + length e) _ (omega (arith, first_least left e is)) (rising_from read n (offset + length e) (drop (length e) left)))
     ]
 
+-- the entries of a table do, from the first one's place on
 pub rising : {E : Type 0} (read : List ℕ → E) (first : ℕ) (whole : List ℕ) → AreRising first (said_by read (entries_of first whole))
 unfolding entries_of
 rising read first whole = rising_from read (length whole) first (drop first whole)

@@ -1,8 +1,11 @@
 -- Chains of offsets as chains of indices, and the first cycle that is found of them.
-use Rattle.std.specs.Prelude.{◌≡◌, ◌≢◌, ◌⊎◌, ◌↔◌, ℕ, ◌<◌, ◌≤◌, List, AllPairs, Contains, length, map, slice_index, slice_index_or, option_map, Option, Some, None}
+use Rattle.std.specs.Prelude.{◌≡◌, ◌≢◌, ◌↔◌, ℕ, ◌<◌, List, AllPairs, Contains, length, map, slice_index, slice_index_or, option_map, Option, Some, None}
 use Rattle.std.specs.List.{filter_map}
 use Rattle.acpi_base.specs.Chains.{IsAt, IsCycle, AllEnd}
 use Rattle.acpi_base.specs.Entries.{Standing}
+use Rattle.acpi_base.specs.Faults.{NotAfter}
+use Rattle.acpi_base.specs.declared.code.Code.{Code}
+use Rattle.acpi_base.specs.declared.witness.Witness.{Witness}
 use Rattle.acpi_graph.specs.Parents.{parent_of}
 use Rattle.acpi_graph.specs.declared.stray.Stray.{Stray}
 use Rattle.acpi_graph.specs.declared.stray.Stray.TheVariants as stray
@@ -20,21 +23,20 @@ pub record AreIndexed (Names : ℕ → ℕ → Type 0) (offsets : List ℕ) (par
   pub all : (o : ℕ) → Contains offsets o ↔ IsAt Names o
   pub named : (i p : ℕ) → i < length offsets → Names (slice_index offsets i) p → IsIndexOf offsets p (parent_of parents i)
 
--- the cycle from o on stands before that from p on, by the offset, the lead and the round, or is like it
-abbrev pub NotAfter : ℕ → ℕ → ℕ → ℕ → ℕ → ℕ → Type 0
-NotAfter o lead round p l r =
-    (o < p) ⊎ ((o ≡ p) × ((lead < l) ⊎ ((lead ≡ l) × (round ≤ r))))
+-- a fault of this code with these numbers
+abbrev pub witness : Code → ℕ → ℕ → ℕ → Witness
+witness fault at other point = record { code = fault; at = at; other = other; point = point }
 
--- the cycle that stands before all others
-pub record IsFirstCycle (Names : ℕ → ℕ → Type 0) (most o lead round : ℕ) : Type 0 where
+-- the cycle that is reported, under this code: as a fault it stands before all others
+pub record IsFirstCycle (Names : ℕ → ℕ → Type 0) (most : ℕ) (fault : Code) (o lead round : ℕ) : Type 0 where
   pub cycle : IsCycle Names most o lead round
-  pub least : (p l r : ℕ) → IsCycle Names most p l r → NotAfter o lead round p l r
+  pub least : (p l r : ℕ) → IsCycle Names most p l r → NotAfter (witness fault o lead round) (witness fault p l r)
 
--- what is found of the chains over these offsets: that all end, or the first cycle
-abbrev pub IsFoundCycle : (ℕ → ℕ → Type 0) → ℕ → List ℕ → Stray → Type 0
-IsFoundCycle Names most offsets stray.None = AllEnd Names
-IsFoundCycle Names most offsets (stray.Round node lead round) =
-    IsFirstCycle Names most (slice_index offsets node) lead round
+-- what is found of the chains over these offsets: that all end, or the cycle that is reported
+abbrev pub IsFoundCycle : (ℕ → ℕ → Type 0) → ℕ → Code → List ℕ → Stray → Type 0
+IsFoundCycle Names most fault offsets stray.None = AllEnd Names
+IsFoundCycle Names most fault offsets (stray.Round node lead round) =
+    IsFirstCycle Names most fault (slice_index offsets node) lead round
 
 -- ---- how they are gathered
 
