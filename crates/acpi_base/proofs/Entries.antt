@@ -1,6 +1,6 @@
 -- The entries that stand in a table, by the cuts of its bytes.
 use Rattle.std.proofs.Common.{◌≡◌, ℕ, zero, suc, ◌+◌, ◌-◌, ◌<◌, ◌≤◌, List, [], ◌∷◌, ◌++◌, length, take, drop, map, Some, None, refl, sym, ap, ◌∙◌, subst, inl, inr, append_assoc, append-nil, length-append, length-drop, arith}
-use Rattle.std.specs.Prelude.{◌⊎◌, slice_index, Contains, flat_map, sum_by}
+use Rattle.std.specs.Prelude.{◌⊎◌, slice_index, flat_map, sum_by}
 use Rattle.std.specs.List.{AllByRecursion}
 use Rattle.std.proofs.lemmas.Bool.Decides.{nat_tests}
 use Rattle.std.proofs.lemmas.Bool.{cases_lt}
@@ -8,6 +8,7 @@ use Rattle.std.proofs.lemmas.Option.{cond_some}
 use Rattle.std.proofs.lemmas.List.{length-take, length-take-le, take-append-drop, get_or-take, take_at, drop_at, drop-drop, nil_from_length}
 use Rattle.std.proofs.lemmas.List.Elements.{All-from_recursion, recursion_from_All}
 use Rattle.std.proofs.lemmas.List.Sums.{sum_by-cons}
+use Rattle.acpi_base.proofs.Elements.{first_or_later}
 use Rattle.acpi_base.proofs.HeldBytes.{cases_Option, none_and_some, same_value}
 use Rattle.acpi_base.specs.Entries.{IsEntry, Standing, Stands, first_entry, entries_from, entries_of, end_of_entries, cut_of, IsCut, IsStart, StandsAt, OneCut, CutsWhereAllStand, EntriesStand, CutIsStart, NoCutFault, NoneInShort}
 
@@ -99,11 +100,6 @@ one_path (e ∷ es) (d ∷ ds) left more rest path other ended none =
 abbrev standing : ℕ → List ℕ → Standing (List ℕ)
 standing o e = record { offset = o; entry = e }
 
--- an element of a list is its first or one of the rest
-pub first_or_rest : {X : Type 0} (y : X) (xs : List X) (x : X) → Contains (y ∷ xs) x → (y ≡ x) ⊎ Contains xs x
-first_or_rest y xs x (zero, inside, is) = inl is
-first_or_rest y xs x (suc k, inside, is) = inr (k, omega arith, is)
-
 -- the entry e stands behind a path
 record IsBehind (offset : ℕ) (left : List ℕ) (o : ℕ) (e : List ℕ) : Type 0 where
   es : List (List ℕ)
@@ -135,7 +131,7 @@ behind_path (suc n) offset left o e stands =
     elim (cases_Option (first_entry left)) [
       | inr none ↦ (let nothing = rw none at stands in absurd (omega (arith, nothing.1)))
       | inl (d, here) ↦
-          elim (first_or_rest (standing offset d) (entries_from n (offset + length d) (drop (length d) left)) (standing o e) (rw here at stands)) [
+          elim (first_or_later (standing offset d) (standing o e) (entries_from n (offset + length d) (drop (length d) left)) (rw here at stands)) [
             | inl same ↦
                 let place : offset ≡ o = ap (λ (s : Standing (List ℕ)). s.offset) same in
                 let entry : d ≡ e = ap (λ (s : Standing (List ℕ)). s.entry) same in

@@ -1,4 +1,7 @@
+pub mod Across
 pub mod Chains
+pub mod Clashes
+pub mod Elements
 pub mod Entries
 pub mod Examples
 pub mod Facs
@@ -6,6 +9,7 @@ pub mod Fadt
 pub mod Faults
 pub mod HeldBytes
 pub mod Layouts
+pub mod Madt
 pub mod Pieces
 pub mod Policies
 pub mod Pptt
@@ -13,6 +17,7 @@ pub mod Root
 pub mod Rsdp
 pub mod Runs
 pub mod Slit
+pub mod Srat
 pub mod Standings
 pub mod Tables
 pub mod Texts

@@ -1,41 +1,14 @@
--- The entries that stand in a table: they lie one behind another within it, so at most one stands at an offset.
-use Rattle.std.proofs.Common.{◌≡◌, ℕ, zero, suc, ◌+◌, ◌<◌, ◌≤◌, List, [], ◌∷◌, length, take, drop, map, Some, refl, sym, ◌∙◌, ap, subst, inl, inr, arith, length-drop}
+-- The entries that stand in a table: they lie one behind another within it, so at most one stands at an offset,
+-- and whether one with a property does can be decided.
+use Rattle.std.proofs.Common.{◌≡◌, ℕ, zero, suc, ◌+◌, ◌<◌, ◌≤◌, List, [], ◌∷◌, length, take, drop, Some, refl, sym, ◌∙◌, ap, subst, inl, inr, arith, length-drop}
 use Rattle.std.specs.Prelude.{◌⊎◌, ◌&&◌, Contains, slice_index, nat_le}
-use Rattle.std.proofs.lemmas.Bool.{and_parts, leb-true, cases_eq, cases_lt}
+use Rattle.std.proofs.lemmas.Bool.{and_parts, leb-true, ltb-true, cases_lt}
 use Rattle.std.proofs.lemmas.List.{length-take-le, length-take, get_or-take, get_or-drop, get_or_past}
 use Rattle.std.proofs.lemmas.Option.{cond_some}
-use Rattle.acpi_base.specs.Entries.{Standing, Stands, first_entry, entries_from, entries_of, said_by}
+use Rattle.acpi_base.specs.Entries.{Standing, Stands, StandsWith, first_entry, entries_from, entries_of, cut_of, said_by, Kind, IsTypeOf, AreUnused}
+use Rattle.acpi_base.proofs.Faults.Deciding.{Decided, decided_as, both, either, same}
 use Rattle.acpi_base.proofs.HeldBytes.{cases_Option}
-
--- ---- elements of a list
-
-pub first_element : {X : Type 0} (x : X) (xs : List X) → Contains (x ∷ xs) x
-first_element x xs = (zero, omega arith, refl)
-
-pub later_element : {X : Type 0} (x y : X) (xs : List X) → Contains xs y → Contains (x ∷ xs) y
-later_element x y xs (k, below, is) = (suc k, omega arith, is)
-
-pub first_or_later : {X : Type 0} (x y : X) (xs : List X) → Contains (x ∷ xs) y → (x ≡ y) ⊎ Contains xs y
-first_or_later x y xs (zero, below, is) = inl is
-first_or_later x y xs (suc k, below, is) = inr (k, omega arith, is)
-
-pub no_element : {X : Type 0} (y : X) → ¬ Contains [] y
-no_element y (k, below, is) = omega arith
-
-pub element_of_map : {X Y : Type 0} (f : X → Y) (xs : List X) (y : Y) → Contains (map f xs) y → (x : X) × Contains xs x × (f x ≡ y)
-element_of_map f [] y h = absurd (no_element y h)
-element_of_map f (x ∷ xs) y h =
-    elim (first_or_later (f x) y (map f xs) h) [
-      | inl is ↦ (x, first_element x xs, is)
-      | inr later ↦ let found = element_of_map f xs y later in (found.0, later_element x found.0 xs found.1, found.2)
-    ]
-
--- a function is below some number at each element
-pub bounded : {X : Type 0} (f : X → ℕ) (xs : List X) → (most : ℕ) × ((x : X) → Contains xs x → f x < most)
-bounded f [] = (0, λ x h. absurd (no_element x h))
-bounded f (x ∷ xs) =
-    let rest = bounded f xs in
-    (f x + 1 + rest.0, λ y h. elim (first_or_later x y xs h) [ inl is ↦ omega (arith, ap f is) | inr later ↦ omega (arith, rest.1 y later) ])
+use Rattle.acpi_base.proofs.Elements.{no_element, first_or_later, element_of_map, element_decided, bounded}
 
 -- ---- entries lie apart
 
@@ -110,6 +83,11 @@ entry_within first whole o e stands =
     let lies = lies_within first (first + length (drop first whole)) (entries_of first whole) (all_spread first whole) (record { offset = o; entry = e }) stands in
     (lies.behind, lies.least, omega (arith, lies.behind, lies.least, lies.fits, length-drop first whole))
 
+-- bytes that are no entry are left before the table's end
+pub cut_inside : (first : ℕ) (whole : List ℕ) (o : ℕ) → cut_of first whole ≡ Some o → o < length whole
+unfolding cut_of
+cut_inside first whole o is = grind (arith, cond_some, ltb-true)
+
 -- two entries of a table are one, or the one stands behind the other
 pub entries_apart : (first : ℕ) (whole : List ℕ) (o p : ℕ) (e d : List ℕ) → Stands (entries_of first whole) o e → Stands (entries_of first whole) p d
     → ((o ≡ p) × (e ≡ d)) ⊎ ((o + length e ≤ p) ⊎ (p + length d ≤ o))
@@ -156,6 +134,12 @@ said_from {E} read entries o v stands =
     let at : found.0.offset ≡ o = ap (λ (s : Standing E). s.offset) found.2 in
     (found.0.entry, subst (λ (k : ℕ). Stands entries k found.0.entry) at found.1, ap (λ (s : Standing E). s.entry) found.2)
 
+-- an entry that says something begins before the end of the table
+pub said_inside : {E : Type 0} (read : List ℕ → E) (first : ℕ) (whole : List ℕ) (o : ℕ) (v : E) → Stands (said_by read (entries_of first whole)) o v → o < length whole
+said_inside read first whole o v stands =
+    let (e, here, is) = said_from read (entries_of first whole) o v stands in
+    omega (arith, entry_within first whole o e here)
+
 -- at most one entry stands at an offset
 abbrev pub AreOnes : {E : Type 0} → List (Standing E) → Type 0
 AreOnes {E} entries = (o : ℕ) (e d : E) → Stands entries o e → Stands entries o d → e ≡ d
@@ -170,16 +154,40 @@ one_said read first whole o v u one other =
       | inr (inr behind) ↦ absurd (omega (arith, entry_within first whole o d.0 d.1))
     ]
 
--- an entry stands at an offset, or none does
-pub entry_or_none : {E : Type 0} (entries : List (Standing E)) (o : ℕ) → ((e : E) × Stands entries o e) ⊎ ((e : E) → ¬ Stands entries o e)
-entry_or_none [] o = inr (λ e stands. no_element _ stands)
-entry_or_none {E} (s ∷ rest) o =
-    elim (cases_eq s.offset o) [
-      | inl is ↦ inl (s.entry, subst (λ (k : ℕ). Stands (s ∷ rest) k s.entry) is (first_element s rest))
-      | inr other ↦
-          elim (entry_or_none rest o) [
-            | inl (e, later) ↦ inl (e, later_element s (record { offset = o; entry = e }) rest later)
-            | inr none ↦
-                inr (λ e stands. elim (first_or_later s (record { offset = o; entry = e }) rest stands) [ inl is ↦ other (ap (λ (t : Standing E). t.offset) is) | inr later ↦ none e later ])
-          ]
-    ]
+-- ---- what can be decided
+
+-- whether an entry stands at an offset of which P holds
+pub stands_with_decided : {E : Type 0} (entries : List (Standing E)) (o : ℕ) (P : E → Type 0) → ((e : E) → Decided (P e)) → Decided (StandsWith entries o P)
+stands_with_decided entries o P decide =
+    decided_as (λ h. (h.0.entry, subst (λ (k : ℕ). Stands entries k h.0.entry) h.2.0 h.1, h.2.1)) (λ h. (record { offset = o; entry = h.0 }, h.1, (refl, h.2)))
+    (element_decided entries (λ s. (s.offset ≡ o) × P s.entry) (λ s. both (same s.offset o) (decide s.entry)))
+
+-- whether an entry with P stands somewhere
+pub somewhere_decided : {E : Type 0} (entries : List (Standing E)) (P : E → Type 0) → ((e : E) → Decided (P e)) → Decided ((o : ℕ) × StandsWith entries o P)
+somewhere_decided entries P decide =
+    decided_as (λ h. (h.0.offset, (h.0.entry, h.1, h.2))) (λ h. (record { offset = h.0; entry = h.1.0 }, h.1.1, h.1.2))
+    (element_decided entries (λ s. P s.entry) (λ s. decide s.entry))
+
+-- whether one of the kinds has a type
+pub type_decided : {E : Type 0} (kinds : List (Kind E)) (type : ℕ) → Decided (IsTypeOf kinds type)
+type_decided [] type = inr (λ h. h)
+type_decided (k ∷ kinds) type = either (same type k.type) (type_decided kinds type)
+
+-- whether the numbers that a fault does not use are 0
+pub unused_decided : (other point : ℕ) → Decided (AreUnused other point)
+unused_decided other point = both (same other 0) (same point 0)
+
+-- ---- of all entries
+
+-- there is a number above every offset at which an entry stands, and above a number of each entry
+pub entries_bounded : {E : Type 0} (entries : List (Standing E)) (number : E → ℕ) → (most : ℕ) × ((o : ℕ) (e : E) → Stands entries o e → (o < most) × (number e < most))
+entries_bounded entries number =
+    let all = bounded (λ s. s.offset + number s.entry) entries in
+    (all.0, λ o e stands. let here = all.1 (record { offset = o; entry = e }) stands in (omega arith, omega arith))
+
+-- what holds of all that bytes below 256 say holds of what the entries of a table of such bytes say
+pub said_with : {E : Type 0} (read : List ℕ → E) (P : E → Type 0) → ((e : List ℕ) → ((k : ℕ) → slice_index e k < 256) → P (read e))
+    → (first : ℕ) (whole : List ℕ) → ((k : ℕ) → slice_index whole k < 256) → (o : ℕ) (e : E) → Stands (said_by read (entries_of first whole)) o e → P e
+said_with read P holds first whole small o e stands =
+    let (bytes, here, is) = said_from read (entries_of first whole) o e stands in
+    subst P is (holds bytes (entry_below first whole small o bytes here))

@@ -1,5 +1,5 @@
--- Rules across tables: the MADT with the SRAT, interrupt numbers that the MADT names with its I/O APICs, and the PPTT
--- with the MADT.
+-- Rules across tables: the MADT's processors in the SRAT, the interrupt numbers that entries of the MADT name among those
+-- that its I/O APICs serve, and the PPTT's leaves in the MADT.
 use Rattle.std.specs.Prelude.{◌≡◌, ◌≢◌, ℕ, ◌<◌, ◌≤◌, true}
 use Rattle.acpi_base.specs.Number.{has_bit}
 use Rattle.acpi_base.specs.Policy.{PolicyValue}
@@ -46,7 +46,7 @@ HasIoApic c = (o : ℕ) × StandsWith c.entries o IsIoApic
 abbrev pub IsServed : PolicyValue → MadtContents → ℕ → Type 0
 IsServed q c g = (o start : ℕ) × Serves q c o start g
 
--- Stage 17: where there is an I/O APIC, one serves each interrupt number that an override or an NMI source names.
+-- Stage 17: where there is an I/O APIC, each interrupt number that an override or an NMI source names is served by one.
 abbrev pub AreNamedServed : PolicyValue → MadtContents → Type 0
 AreNamedServed q c = HasIoApic c → (o g : ℕ) → StandsWith c.entries o (NamesGsi g) → IsServed q c g
 
@@ -70,7 +70,7 @@ IsUid madt uid = (o : ℕ) × StandsWith madt.entries o (HasUid uid)
 abbrev pub AreLeavesKnown : MadtContents → PpttContents → Type 0
 AreLeavesKnown madt pptt = 2 ≤ pptt.revision → IsWhollyTyped madt → (o id : ℕ) → StandsWith pptt.entries o (IsLeaf id) → IsUid madt id
 
--- The fault of stage 18: the ID `point` of the leaf at `at` is no UID.
+-- The fault of stage 18: under the same conditions, the ID `point` of the leaf at `at` is no UID.
 abbrev pub LeafFault : MadtContents → PpttContents → Code → ℕ → ℕ → ℕ → Type 0
 LeafFault madt pptt code.LeafUnknown at other point = (2 ≤ pptt.revision) × IsWhollyTyped madt × StandsWith pptt.entries at (IsLeaf point) × (¬ IsUid madt point) × (other ≡ 0)
 LeafFault madt pptt _ at other point = ⊥

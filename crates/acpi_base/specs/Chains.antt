@@ -40,7 +40,7 @@ abbrev pub LeadsTo : (ℕ → ℕ → Type 0) → ℕ → ℕ → ℕ → Type 0
 LeadsTo Names zero o p = o ≡ p
 LeadsTo Names (suc steps) o p = (next : ℕ) × IsStep Names o next × LeadsTo Names steps next p
 
--- `lead` steps lead from o to an offset from which `round` steps lead back to it; these are at most `most` steps
+-- `lead` steps lead from o to an offset from which `round` steps lead back to it; together these are at most `most` steps
 pub record IsCycle (Names : ℕ → ℕ → Type 0) (most o lead round : ℕ) : Type 0 where
   pub there : ℕ
   pub once : LeadsTo Names lead o there

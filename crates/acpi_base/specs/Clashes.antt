@@ -2,7 +2,7 @@
 -- the offset o stands a range that begins at s and holds the number x.
 use Rattle.std.specs.Prelude.{◌≡◌, ◌≢◌, ℕ, ◌<◌, ◌≤◌, ◌⊎◌}
 
--- the ranges at the two offsets hold the number `point`; they begin at s and at t
+-- two ranges, which stand at different offsets and begin at s and at t, both hold the number `point`
 pub record IsClash (HoldsAt : ℕ → ℕ → ℕ → Type 0) (at other point : ℕ) : Type 0 where
   pub s : ℕ
   pub t : ℕ

@@ -36,12 +36,12 @@ entries_from (suc n) offset left =
 unfoldable pub entries_of : ℕ → List ℕ → List (Standing (List ℕ))
 entries_of first whole = entries_from (length whole) first (drop first whole)
 
--- the offset behind the last of them
+-- the offset behind the last of them, which is `first` where there is none
 unfoldable pub end_of_entries : ℕ → List ℕ → ℕ
 end_of_entries first whole = first + sum_by (λ s. length s.entry) (entries_of first whole)
 
 -- the offset of the bytes that are left behind them, at which no entry stands; none where the entries fill
--- the table
+-- the table, or where it ends before the first entry's place
 unfoldable pub cut_of : ℕ → List ℕ → Option ℕ
 cut_of first whole =
     if nat_lt (end_of_entries first whole) (length whole) then Some (end_of_entries first whole) else None

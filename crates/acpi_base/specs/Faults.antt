@@ -8,6 +8,12 @@ use Rattle.acpi_base.specs.Root.{RootFault, IsSlot}
 use Rattle.acpi_base.specs.Tables.{TableFault}
 use Rattle.acpi_base.specs.Fadt.{FadtFault}
 use Rattle.acpi_base.specs.Facs.{FacsFault}
+use Rattle.acpi_base.specs.Contents.{HasMadt, HasSrat, HasSlit, HasPptt}
+use Rattle.acpi_base.specs.Madt.{MadtFault, InterruptFault, OverrideFault, IsFirstGsiClash}
+use Rattle.acpi_base.specs.Srat.{SratFault, RangeFault, IsFirstOverlap}
+use Rattle.acpi_base.specs.Slit.{SlitFault}
+use Rattle.acpi_base.specs.Pptt.{PpttFault, ReferenceFault, ParentFault, CacheFault}
+use Rattle.acpi_base.specs.Across.{DomainFault, ServedFault, LeafFault}
 use Rattle.acpi_base.specs.Statements.{CleanTo, CleanBefore}
 use Rattle.acpi_base.specs.declared.stage.Stage.{Stage}
 use Rattle.acpi_base.specs.declared.stage.Stage.TheVariants as stage
@@ -21,13 +27,26 @@ use Rattle.acpi_base.specs.declared.verdict.Verdict.TheVariants.{Yes, No}
 --   tables: at is the slot's number, other the table's address.
 --   FADT: at is an offset from its start, or 0.
 --   FACS: at is its address, or 0.
+-- From stage 6 on the set lists the tables that the stage speaks of, and the numbers are as the table's faults say.
 abbrev pub FaultCondition : Stage → Memory → PolicyValue → Witness → Type 0
 FaultCondition stage.Rsdp m q w = RsdpFault m q.rsdp w.code × (w.at ≡ q.rsdp) × (w.other ≡ 0) × (w.point ≡ 0)
 FaultCondition stage.Root m q w = RootFault m q.rsdp w.code w.at × (w.other ≡ 0) × (w.point ≡ 0)
 FaultCondition stage.Tables m q w = IsSlot m q.rsdp w.at w.other × TableFault m w.other w.code × (w.point ≡ 0)
 FaultCondition stage.Fadt m q w = FadtFault m q.rsdp w.code w.at × (w.other ≡ 0) × (w.point ≡ 0)
 FaultCondition stage.Facs m q w = FacsFault m q.rsdp w.code w.at × (w.other ≡ 0) × (w.point ≡ 0)
-FaultCondition _ m q w = ⊥
+FaultCondition stage.Madt m q w = HasMadt m q (λ madt. MadtFault q madt w.code w.at w.other w.point)
+FaultCondition stage.Interrupts m q w = HasMadt m q (λ madt. InterruptFault q madt w.code w.at w.other w.point)
+FaultCondition stage.Overrides m q w = HasMadt m q (λ madt. OverrideFault madt w.code w.at w.other w.point)
+FaultCondition stage.Srat m q w = HasSrat m q (λ srat. SratFault srat w.code w.at w.other w.point)
+FaultCondition stage.Ranges m q w = HasSrat m q (λ srat. RangeFault q.hotplug srat w.code w.at w.other w.point)
+FaultCondition stage.Slit m q w = HasSlit m q (λ slit. SlitFault slit w.code w.at w.other w.point)
+FaultCondition stage.Pptt m q w = HasPptt m q (λ pptt. PpttFault pptt w.code w.at w.other w.point)
+FaultCondition stage.References m q w = HasPptt m q (λ pptt. ReferenceFault pptt w.code w.at w.other w.point)
+FaultCondition stage.Parents m q w = HasPptt m q (λ pptt. ParentFault pptt w.code w.at w.other w.point)
+FaultCondition stage.Caches m q w = HasPptt m q (λ pptt. CacheFault pptt w.code w.at w.other w.point)
+FaultCondition stage.Domains m q w = HasMadt m q (λ madt. HasSrat m q (λ srat. DomainFault q.processors madt srat w.code w.at w.other w.point))
+FaultCondition stage.Served m q w = HasMadt m q (λ madt. ServedFault q madt w.code w.at w.other w.point)
+FaultCondition stage.Leaves m q w = HasMadt m q (λ madt. HasPptt m q (λ pptt. LeafFault madt pptt w.code w.at w.other w.point))
 
 -- w is a fault of the stage: it has one of the stage's codes, whose condition holds
 pub record FaultOfStage (stage : Stage) (m : Memory) (q : PolicyValue) (w : Witness) : Type 0 where
@@ -48,9 +67,12 @@ NotAfter w v =
     × ((w.other < v.other)
     ⊎ ((w.other ≡ v.other) × (w.point ≤ v.point))))))
 
--- no fault of the stage stands before w
+-- No fault of the stage stands before w. Where ranges overlap, an order of their own holds: by the least number that two
+-- hold, and of those that hold it, the first two.
 abbrev pub IsLeastOfStage : Stage → Memory → PolicyValue → Witness → Type 0
-IsLeastOfStage stage m q w = (v : Witness) → FaultOfStage stage m q v → NotAfter w v
+IsLeastOfStage stage.Interrupts m q w = HasMadt m q (λ madt. IsFirstGsiClash q madt w.at w.other w.point)
+IsLeastOfStage stage.Ranges m q w = HasSrat m q (λ srat. IsFirstOverlap q.hotplug srat w.at w.other w.point)
+IsLeastOfStage s m q w = (v : Witness) → FaultOfStage s m q v → NotAfter w v
 
 -- w is the first fault: all earlier stages hold, and no fault of its stage stands before it
 pub record IsFirstFault (m : Memory) (q : PolicyValue) (w : Witness) : Type 0 where

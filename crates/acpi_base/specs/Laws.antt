@@ -9,7 +9,6 @@ use Rattle.acpi_base.specs.Listed.{listed}
 use Rattle.acpi_base.specs.Statements.{CleanTo}
 use Rattle.acpi_base.specs.Faults.{Fault, IsFirstFault, IsVerdict}
 use Rattle.acpi_base.specs.declared.stage.Stage.{Stage}
-use Rattle.acpi_base.specs.declared.stage.TheConstants.{BUILT}
 use Rattle.acpi_base.specs.declared.witness.Witness.{Witness}
 use Rattle.acpi_base.specs.declared.verdict.Verdict.{Verdict}
 
@@ -29,12 +28,12 @@ FaultsFit = (m : Memory) (q : PolicyValue) (w : Witness) → IsImage m → IsPol
 -- the stages up to `last` hold, or one of them has a fault, whose numbers fit
 abbrev pub CleanOrFaulty : Type 0
 CleanOrFaulty =
-    (m : Memory) (q : PolicyValue) → IsImage m → IsPolicy q → (last : Stage) → stage_number last ≤ BUILT → CleanTo last m q ⊎ ((w : Witness) × Fault m q w × (stage_number (stage_of w.code) ≤ stage_number last) × NumbersFit w)
+    (m : Memory) (q : PolicyValue) → IsImage m → IsPolicy q → (last : Stage) → CleanTo last m q ⊎ ((w : Witness) × Fault m q w × (stage_number (stage_of w.code) ≤ stage_number last) × NumbersFit w)
 
 -- the stages up to `last` hold, or there is a first fault, of one of them
 abbrev pub CleanOrFirstFault : Type 0
 CleanOrFirstFault =
-    (m : Memory) (q : PolicyValue) (last : Stage) → stage_number last ≤ BUILT → CleanTo last m q ⊎ ((w : Witness) × IsFirstFault m q w × (stage_number (stage_of w.code) ≤ stage_number last))
+    (m : Memory) (q : PolicyValue) (last : Stage) → CleanTo last m q ⊎ ((w : Witness) × IsFirstFault m q w × (stage_number (stage_of w.code) ≤ stage_number last))
 
 -- at most one fault is the first
 abbrev pub OneFirstFault : Type 0

@@ -3,6 +3,7 @@ pub mod Adding
 pub mod Chains
 pub mod Clashes
 pub mod Codes
+pub mod Contents
 pub mod Entries
 pub mod Examples
 pub mod Facs

@@ -83,7 +83,8 @@ x2apic_nmi_of e = record { flags = field e 2 2; uid = field e 4 4; lint = field 
 
 -- ---- entries
 
--- what an entry says: one of the above, which is called a typed entry, or any other bytes
+-- what an entry says: one of the above, which is called a typed entry, or any other bytes, also those of a type above
+-- with another length
 pub data MadtEntry : Type 0 where
   LocalApic : LocalApicValue → MadtEntry
   IoApic : IoApicValue → MadtEntry
@@ -115,7 +116,7 @@ madt_entry e = read_by madt_kinds Opaque e
 -- ---- the table
 
 -- what a MADT says: its length in bytes, the local APICs' address, its flags, its entries as far as they stand, and the
--- offset at which bytes are left that are none
+-- offset of the bytes behind them at which none stands
 pub record MadtContents : Type 0 where
   pub size : ℕ
   pub address : ℕ
@@ -140,8 +141,8 @@ madt_contents whole =
 abbrev pub IsReservedInti : ℕ → Type 0
 IsReservedInti flags = (flags % 4 ≡ 2) ⊎ (flags / 4 % 4 ≡ 2)
 
--- an entry is sound: it has the length of its type, which may be a type that is not read; an override is of the ISA bus;
--- no flags are reserved; and the interrupt numbers of an I/O APIC are below 2^32
+-- an entry is sound: it has its type's length, or a type that none of the kinds has; an override is of the ISA bus; its
+-- polarity and trigger mode are not reserved; and the interrupt numbers of an I/O APIC end at 2^32 or before
 abbrev pub IsSoundMadtEntry : PolicyValue → MadtEntry → Type 0
 IsSoundMadtEntry q (IoApic v) = v.gsi_base + inputs_of q v.address ≤ 2 ^ 32
 IsSoundMadtEntry q (Override v) = (v.bus ≡ 0) × (¬ IsReservedInti v.flags)
@@ -163,7 +164,7 @@ pub record IsSoundMadt (q : PolicyValue) (c : MadtContents) : Type 0 where
   pub entries : (o : ℕ) (e : MadtEntry) → Stands c.entries o e → IsSoundMadtEntry q e
   pub one_address : (o p : ℕ) → StandsWith c.entries o IsAddressOverride → StandsWith c.entries p IsAddressOverride → o ≡ p
 
--- an entry has flags of an interrupt's polarity and trigger mode, which are reserved
+-- an entry has a reserved polarity or trigger mode
 abbrev pub HasReservedInti : MadtEntry → Type 0
 HasReservedInti (Override v) = IsReservedInti v.flags
 HasReservedInti (NmiSource v) = IsReservedInti v.flags
@@ -179,8 +180,9 @@ MadtEntryFault q code.ReservedInti e = HasReservedInti e
 MadtEntryFault q code.GsiPastEnd (IoApic v) = 2 ^ 32 < v.gsi_base + inputs_of q v.address
 MadtEntryFault q _ _ = ⊥
 
--- The faults of stage 6, by their code and numbers: `at` is the offset of an entry or of a cut, `other` that of an
--- earlier address override. A table of fewer than 44 bytes has no entries and no cut.
+-- The faults of stage 6, by their code and numbers: `at` is 0 for a short table, else the offset of the entry or of the
+-- bytes at which none stands; `other` is that of any earlier address override, and 0 for other codes. A table of fewer
+-- than 44 bytes has no entries and no cut.
 abbrev pub MadtFault : PolicyValue → MadtContents → Code → ℕ → ℕ → ℕ → Type 0
 MadtFault q c code.MadtShort at other point = (c.size < 44) × (at ≡ 0) × AreUnused other point
 MadtFault q c code.MadtEntryCut at other point = (c.cut ≡ Some at) × AreUnused other point

@@ -52,7 +52,8 @@ cache_of e =
       id = if length e == 28 then Some (field e 24 4) else None;
     }
 
--- what an entry says: one of the above, which is a typed entry, or any other bytes
+-- what an entry says: one of the above, which is a typed entry, or any other bytes, also those of type 0 or 1 with
+-- another length
 pub data PpttEntry : Type 0 where
   Node : NodeValue → PpttEntry
   Cache : CacheValue → PpttEntry
@@ -151,7 +152,8 @@ pub record IsCutPptt (c : PpttContents) : Type 0 where
   pub filled : c.cut ≡ None
   pub lengths : (o : ℕ) (e : PpttEntry) → Stands c.entries o e → ¬ HasOtherPpttLength e
 
--- Stage 13: what an entry names by its offset stands there.
+-- Stage 13: at each offset that an entry names, what it names stands. A Parent or Next Level of 0 names nothing; a private
+-- resource of 0 is an offset, at which nothing stands.
 pub record AreReferencesSound (c : PpttContents) : Type 0 where
   pub parents : NoneDangles (NamesParent c)
   pub resources : (o j r : ℕ) → NamesResource c o j r → IsResourceAt c r
@@ -177,8 +179,8 @@ PpttFaultAt c _ at = ⊥
 abbrev pub PpttFault : PpttContents → Code → ℕ → ℕ → ℕ → Type 0
 PpttFault c fault at other point = PpttFaultAt c fault at × (other ≡ 0) × (point ≡ 0)
 
--- The faults of stage 13. `at` is an offset; `other` is the Parent, the number of the private resource, or the Next
--- Level; `point` is the private resource.
+-- The faults of stage 13. `at` is the entry's offset; `other` is the Parent, the number of the private resource, from 0 on,
+-- or the Next Level; `point` is the private resource, and 0 for a Parent or a Next Level.
 abbrev pub ReferenceFault : PpttContents → Code → ℕ → ℕ → ℕ → Type 0
 ReferenceFault c code.DanglingParent at other point = Dangles (NamesParent c) at other × (point ≡ 0)
 ReferenceFault c code.DanglingResource at other point = NamesResource c at other point × ¬ IsResourceAt c point
@@ -193,7 +195,8 @@ most_nodes c = c.size / 20
 abbrev pub most_caches : PpttContents → ℕ
 most_caches c = c.size / 24
 
--- The fault of stage 14: from the node at `at` on the parents lead, after `other` steps, into a cycle of `point` steps.
+-- The fault of stage 14: from the node at `at` on the parents lead, after `other` steps, to a node from which `point` steps
+-- lead back to it, perhaps more than once round.
 abbrev pub ParentFault : PpttContents → Code → ℕ → ℕ → ℕ → Type 0
 ParentFault c code.ParentCycle at other point = IsCycle (NamesParent c) (most_nodes c) at other point
 ParentFault c _ at other point = ⊥

@@ -21,7 +21,7 @@ cell_place c i j = c.count * i + j
 abbrev pub distance : SlitContents → ℕ → ℕ → ℕ
 distance c i j = slice_index c.cells (cell_place c i j)
 
--- the table has a cell for each row and column, and nothing else
+-- behind its first 44 bytes the table has a cell for each pair of a row and a column, and nothing else
 abbrev pub HasSlitSize : SlitContents → Type 0
 HasSlitSize c = c.size ≡ 44 + c.count * c.count
 

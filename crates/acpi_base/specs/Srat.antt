@@ -52,7 +52,8 @@ x2apic_domain_of e =
 
 -- ---- entries
 
--- what an entry says: one of the above, which is called a typed entry, or any other bytes
+-- what an entry says: one of the above, which is called a typed entry, or any other bytes, also those of a type above
+-- with another length
 pub data SratEntry : Type 0 where
   ApicDomain : ApicDomainValue → SratEntry
   MemoryRange : MemoryValue → SratEntry
@@ -81,8 +82,8 @@ is_hot_pluggable flags = has_bit flags 1
 
 -- ---- the table
 
--- what an SRAT says: its length in bytes, its entries as far as they stand, and the offset at which bytes are left that
--- are none
+-- what an SRAT says: its length in bytes, its entries as far as they stand, and the offset of the bytes behind them at
+-- which none stands
 pub record SratContents : Type 0 where
   pub size : ℕ
   pub entries : List (Standing SratEntry)
@@ -95,8 +96,8 @@ srat_contents whole =
 
 -- ---- stage 9: each entry by itself
 
--- an entry is sound: it has the length of its type, which may be a type that is not read, and an enabled range ends at
--- 2^64 or before
+-- an entry is sound: it has its type's length, or a type that none of the kinds has, and an enabled range ends at 2^64 or
+-- before
 abbrev pub IsSoundSratEntry : SratEntry → Type 0
 IsSoundSratEntry (MemoryRange v) = is_enabled v.flags ≡ true → v.base + v.size ≤ 2 ^ 64
 IsSoundSratEntry (Opaque e) = ¬ IsTypeOf srat_kinds (slice_index e 0)
@@ -114,8 +115,8 @@ SratEntryFault code.SratEntryLength (Opaque e) = IsTypeOf srat_kinds (slice_inde
 SratEntryFault code.RangePastEnd (MemoryRange v) = (is_enabled v.flags ≡ true) × (2 ^ 64 < v.base + v.size)
 SratEntryFault _ _ = ⊥
 
--- The faults of stage 9, by their code and numbers: `at` is the offset of an entry or of a cut. A table of fewer than 48
--- bytes has no entries and no cut.
+-- The faults of stage 9, by their code and numbers: `at` is 0 for a short table, else the offset of the entry or of the
+-- bytes at which none stands. A table of fewer than 48 bytes has no entries and no cut.
 abbrev pub SratFault : SratContents → Code → ℕ → ℕ → ℕ → Type 0
 SratFault c code.SratShort at other point = (c.size < 48) × (at ≡ 0) × AreUnused other point
 SratFault c code.SratEntryCut at other point = (c.cut ≡ Some at) × AreUnused other point
@@ -144,22 +145,24 @@ CoversFrom P start x _ = ⊥
 abbrev pub Covers : (MemoryValue → Type 0) → SratContents → ℕ → ℕ → ℕ → Type 0
 Covers P c o start x = StandsWith c.entries o (CoversFrom P start x)
 
--- two enabled ranges cover the address x; where hot-pluggable ranges are apart, two that both are or both are not
+-- two enabled ranges that are compared both cover the address x: any two, or by kind, two that both are hot-pluggable or
+-- both are not
 abbrev pub IsOverlap : HotPlug → SratContents → ℕ → ℕ → ℕ → Type 0
 IsOverlap Counted c o p x = IsClash (Covers IsAny c) o p x
 IsOverlap Apart c o p x = IsClash (Covers IsNotHotPluggable c) o p x ⊎ IsClash (Covers IsHotPluggable c) o p x
 
--- Stage 10: no address is covered by two enabled ranges that must be apart.
+-- Stage 10: no address is covered by two enabled ranges that are compared.
 abbrev pub AreRangesApart : HotPlug → SratContents → Type 0
 AreRangesApart h c = (o p x : ℕ) → ¬ IsOverlap h c o p x
 
--- The fault of stage 10: the enabled ranges at `at` and `other` must be apart and cover the address `point`.
+-- The fault of stage 10: the enabled ranges at `at` and `other` are compared and both cover the address `point`. An address
+-- has 64 bits; where ranges overlap only beyond, one of them ends beyond, which is a fault of stage 9.
 abbrev pub RangeFault : HotPlug → SratContents → Code → ℕ → ℕ → ℕ → Type 0
 RangeFault h c code.Overlap at other point = (point < 2 ^ 64) × IsOverlap h c at other point
 RangeFault h c _ at other point = ⊥
 
--- The fault of stage 10 that is reported. Where hot-pluggable ranges are apart it is the one with the lesser `point`, and
--- where both have one `point`, the one of ranges that are not hot-pluggable.
+-- The fault of stage 10 that is reported. Where ranges are compared by kind, it is the first of one kind: of both kinds'
+-- firsts the one with the lesser `point`, and at one `point` that of the ranges that are not hot-pluggable.
 abbrev pub IsFirstOverlap : HotPlug → SratContents → ℕ → ℕ → ℕ → Type 0
 IsFirstOverlap Counted c at other point = IsFirstClash (Covers IsAny c) at other point
 IsFirstOverlap Apart c at other point =

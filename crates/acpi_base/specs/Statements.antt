@@ -8,6 +8,12 @@ use Rattle.acpi_base.specs.Root.{IsSoundRoot, IsSlot}
 use Rattle.acpi_base.specs.Tables.{IsSoundTable}
 use Rattle.acpi_base.specs.Fadt.{IsSoundFadt}
 use Rattle.acpi_base.specs.Facs.{IsSoundFacs}
+use Rattle.acpi_base.specs.Contents.{ForMadt, ForSrat, ForSlit, ForPptt}
+use Rattle.acpi_base.specs.Madt.{IsSoundMadt, AreInterruptsApart, DoOverridesAgree}
+use Rattle.acpi_base.specs.Srat.{IsSoundSrat, AreRangesApart}
+use Rattle.acpi_base.specs.Slit.{IsSoundSlit}
+use Rattle.acpi_base.specs.Pptt.{IsCutPptt, AreReferencesSound, DoParentsEnd, DoCachesEnd}
+use Rattle.acpi_base.specs.Across.{HaveOneDomain, AreNamedServed, AreLeavesKnown}
 use Rattle.acpi_base.specs.declared.stage.Stage.{Stage}
 use Rattle.acpi_base.specs.declared.stage.Stage.TheVariants as stage
 
@@ -15,14 +21,26 @@ use Rattle.acpi_base.specs.declared.stage.Stage.TheVariants as stage
 abbrev pub AreSoundTables : Memory → ℕ → Type 0
 AreSoundTables m p = (k a : ℕ) → IsSlot m p k a → IsSoundTable m a
 
--- what a stage states; a stage that is not built yet states what never holds
+-- What a stage states. From stage 6 on a stage holds of a set that does not list a table that it speaks of.
 abbrev pub Holds : Stage → Memory → PolicyValue → Type 0
 Holds stage.Rsdp m q = IsSoundRsdp m q.rsdp
 Holds stage.Root m q = IsSoundRoot m q.rsdp
 Holds stage.Tables m q = AreSoundTables m q.rsdp
 Holds stage.Fadt m q = IsSoundFadt m q.rsdp
 Holds stage.Facs m q = IsSoundFacs m q.rsdp
-Holds _ m q = ⊥
+Holds stage.Madt m q = ForMadt m q (IsSoundMadt q)
+Holds stage.Interrupts m q = ForMadt m q (AreInterruptsApart q)
+Holds stage.Overrides m q = ForMadt m q DoOverridesAgree
+Holds stage.Srat m q = ForSrat m q IsSoundSrat
+Holds stage.Ranges m q = ForSrat m q (AreRangesApart q.hotplug)
+Holds stage.Slit m q = ForSlit m q IsSoundSlit
+Holds stage.Pptt m q = ForPptt m q IsCutPptt
+Holds stage.References m q = ForPptt m q AreReferencesSound
+Holds stage.Parents m q = ForPptt m q DoParentsEnd
+Holds stage.Caches m q = ForPptt m q DoCachesEnd
+Holds stage.Domains m q = ForMadt m q (λ madt. ForSrat m q (HaveOneDomain q.processors madt))
+Holds stage.Served m q = ForMadt m q (AreNamedServed q)
+Holds stage.Leaves m q = ForMadt m q (λ madt. ForPptt m q (AreLeavesKnown madt))
 
 -- every stage up to `last` holds
 abbrev pub CleanTo : Stage → Memory → PolicyValue → Type 0

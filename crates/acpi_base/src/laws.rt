@@ -4,7 +4,11 @@ ghost use Rattle.std.specs.Prelude.{◌≡◌, ℕ, ◌↔◌, List, Some, IsSom
 ghost use Rattle.acpi_base.specs.Memory.{Memory, bytes_at, Has, AreBytes};
 ghost use Rattle.acpi_base.specs.Policy.{PolicyValue};
 ghost use Rattle.acpi_base.specs.Entries.{OneCut, EntriesStand, CutIsStart, NoCutFault, CutsWhereAllStand, NoneInShort};
-ghost use Rattle.acpi_base.specs.Examples.{AreMadtContents, AreSratContents, AreMadtFaults, AreSratFaults, AreFirstOverlaps, HasNoMadtFault, HasNoSratFault};
+ghost use Rattle.acpi_base.specs.Examples.Madts.{AreMadtContents, AreMadtFaults, IsFirstInterrupt, HasNoMadtFault};
+ghost use Rattle.acpi_base.specs.Examples.Pptts.{ArePpttContents, ArePpttFaults, AreCycleFaults, HasNoPpttFault};
+ghost use Rattle.acpi_base.specs.Examples.Sets.{AreListedTables, AreSetFaults};
+ghost use Rattle.acpi_base.specs.Examples.Slits.{AreSlitContents, AreSlitFaults, AreSoundSlits};
+ghost use Rattle.acpi_base.specs.Examples.Srats.{AreSratContents, AreSratFaults, AreFirstOverlaps, HasNoSratFault};
 ghost use Rattle.acpi_base.specs.Laws.{FaultsExcludeClean, FaultsFit, CleanOrFaulty, CleanOrFirstFault, OneFirstFault, OneVerdict, RootsListSlots};
 ghost use Rattle.acpi_base.specs.Pptt.{ParentsEndOrGoRound, CachesEndOrGoRound};
 ghost use Rattle.acpi_base.specs.TextLaws.{RunReadsText, RunReadsPrefix, RunStopsAtFaults, RunGoesOn, PrefixDecides, TextMeans, TextOrFault, NeverBoth, OneImage, OneTextFault, RefusalsAreOwn, LinesMean};
@@ -21,19 +25,19 @@ pub fn faults_fit()
     ensures fit { FaultsFit }
 {}
 
-/// An image is clean to a stage that is built, or has a fault of a stage up to it whose numbers fit a
-/// `Witness`: a refused image always has a fault to report.
+/// An image is clean to a stage, or has a fault of a stage up to it whose numbers fit a `Witness`: a refused
+/// image always has a fault to report.
 pub fn clean_or_fault()
     ensures either { CleanOrFaulty }
 {}
 
-/// An image is clean to a stage that is built, or has a first fault, of a stage up to it: each image has a
-/// verdict.
+/// An image is clean to a stage, or has a first fault, of a stage up to it: each image has a verdict.
 pub fn first_fault_exists()
     ensures either { CleanOrFirstFault }
 {}
 
-/// Two first faults of an image are one: which fault is reported does not depend on how it was looked for.
+/// Two first faults of an image are one, under each setting of the policy: which fault is reported does not
+/// depend on how it was looked for.
 #[tactic(auto, using(crate::proofs::Faults::Laws::one_first_fault))]
 pub fn one_first_fault()
     ensures one { OneFirstFault }
@@ -118,7 +122,26 @@ pub fn madt_and_srat_examples()
     ensures srat { AreSratContents }
     ensures madt_faults { (q : PolicyValue) → AreMadtFaults q }
     ensures srat_faults { AreSratFaults }
-    ensures first { AreFirstOverlaps }
+    ensures first_interrupt { (q : PolicyValue) → IsFirstInterrupt q }
+    ensures first_overlaps { AreFirstOverlaps }
     ensures sound_madt { (q : PolicyValue) → HasNoMadtFault q }
     ensures sound_srat { HasNoSratFault }
+{}
+
+/// Examples of the SLIT and the PPTT: what the bytes of small tables say, a fault of each code, and that sound tables
+/// have no fault.
+pub fn slit_and_pptt_examples()
+    ensures slit { AreSlitContents }
+    ensures slit_faults { AreSlitFaults }
+    ensures sound_slit { AreSoundSlits }
+    ensures pptt { ArePpttContents }
+    ensures pptt_faults { ArePpttFaults }
+    ensures cycles { AreCycleFaults }
+    ensures sound_pptt { HasNoPpttFault }
+{}
+
+/// Examples of whole sets, as images: which tables their roots list, and a fault of each stage across tables.
+pub fn set_examples()
+    ensures listed { AreListedTables }
+    ensures faults { AreSetFaults }
 {}

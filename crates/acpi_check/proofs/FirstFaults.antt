@@ -1,11 +1,12 @@
 -- From what a view reports to the first fault of a set.
-use Rattle.std.proofs.Common.{◌≡◌, ◌<◌, ◌≤◌, ℕ, List, refl, sym, subst, inl, inr}
-use Rattle.std.specs.Prelude.{◌⊎◌}
+use Rattle.std.proofs.Common.{◌≡◌, ◌<◌, ◌≤◌, ℕ, List, Some, refl, sym, ◌∙◌, subst, inl, inr, arith}
+use Rattle.std.specs.Prelude.{◌⊎◌, ◌≢◌}
 use Rattle.std.proofs.lemmas.Bool.{cases_order}
 use Rattle.acpi_base.specs.Memory.{Memory}
 use Rattle.acpi_base.specs.Policy.{PolicyValue}
 use Rattle.acpi_base.specs.Codes.{code_number, stage_of}
-use Rattle.acpi_base.specs.Root.{HasSlot, IsSlot}
+use Rattle.acpi_base.specs.Rsdp.{Addresses, addresses_at, RsdpValue, RsdpFault, IsRsdp}
+use Rattle.acpi_base.specs.Root.{HasSlot, IsSlot, RootFault, RootTableFault, NamedRootFault, chosen_root}
 use Rattle.acpi_base.specs.Tables.{IsSoundTable, TableFault}
 use Rattle.acpi_base.specs.Listed.{fadt_signature}
 use Rattle.acpi_base.specs.Fadt.{facs_address, IsFadt, IsSoundFadt, FadtTableFault, FadtFault}
@@ -13,16 +14,66 @@ use Rattle.acpi_base.specs.Facs.{HasSoundFacs, IsSoundFacs, NamedFacsFault}
 use Rattle.acpi_base.specs.Statements.{CleanBefore}
 use Rattle.acpi_base.specs.Faults.{NotAfter, IsFirstFault}
 use Rattle.acpi_base.specs.declared.code.Code.{Code}
+use Rattle.acpi_base.specs.declared.code.Code.TheVariants as code
 use Rattle.acpi_base.specs.declared.stage.Stage.TheVariants as stage
 use Rattle.acpi_base.specs.declared.witness.Witness.{Witness}
+use Rattle.acpi_base.proofs.Faults.Numbers.{stage_from_1}
 use Rattle.acpi_base.proofs.Faults.Order.{not_after}
-use Rattle.acpi_base.proofs.Faults.Stages.{first_of_set}
+use Rattle.acpi_base.proofs.Faults.Settling.{IsFirstOfStage, first_of_set}
+use Rattle.acpi_base.proofs.HeldBytes.{same_value}
+use Rattle.acpi_base.proofs.Root.Named.{no_root_and_root, one_root}
 use Rattle.acpi_base.proofs.Root.Slots.{one_slot, root_slot, slot_of_root}
 use Rattle.acpi_base.proofs.Tables.Faults.{excludes}
 use Rattle.acpi_base.proofs.Tables.Listed.{none_and_listed, one_listed}
 use Rattle.acpi_base.proofs.Facs.Faults.{place}
 use Rattle.acpi_read.specs.Roots.{RootValue}
 use Rattle.acpi_check.specs.Tables.{IsRootOf}
+
+-- the least fault of the RSDP
+pub rsdp_first : (m : Memory) (q : PolicyValue) (w : Witness) (p : ℕ) (c : Code) → p ≡ q.rsdp → w ≡ record { code = c; at = p; other = 0; point = 0 } → stage_of c ≡ stage.Rsdp → RsdpFault m p c
+    → ((d : Code) → RsdpFault m p d → code_number c ≤ code_number d) → IsFirstFault m q w × (stage_of w.code ≡ stage.Rsdp)
+rsdp_first m q w p c here is own fault least = rw (is, here) (first_of_set (λ s before. absurd (omega (arith, stage_from_1 s))) first, own)
+  where
+    first : IsFirstOfStage stage.Rsdp m q (record { code = c; at = q.rsdp; other = 0; point = 0 })
+    first =
+        record {
+          holds = record { own = own; holds = (rw (← here) fault, refl, refl, refl) };
+          least = λ v other. not_after (record { code = c; at = q.rsdp; other = 0; point = 0 }) v (inr (sym other.holds.1, least v.code (rw here other.holds.0))) (sym other.holds.2) (sym other.holds.3);
+        }
+
+-- the faults of a set's root are at one place
+one_place : (m : Memory) (p : ℕ) (c d : Code) (at place : ℕ) → RootFault m p c at → RootFault m p d place → at ≡ place
+one_place m p c d at place (inl one) (inl other) = one.2 ∙ sym other.2
+one_place m p c d at place (inl one) (inr other) = absurd (no_root_and_root one.0 other.1)
+one_place m p c d at place (inr one) (inl other) = absurd (no_root_and_root other.0 one.1)
+one_place m p c d at place (inr one) (inr other) = (one_root m p at one.0 place other.0 one.1 other.1).0
+
+-- and are those of the root that the RSDP names
+of_named : (m : Memory) (p : ℕ) (named : Addresses) (c : Code) (at : ℕ) → addresses_at m p ≡ Some named → RootFault m p c at → NamedRootFault m named c
+of_named m p named c at read (inl (none, is, here)) = inl (is, rw (same_value none.named named none.read read) at none.none)
+of_named m p named c at read (inr (d, root, wrong)) = inr (at, d, rw (same_value root.named named root.read read) at root.chosen, wrong)
+
+-- the first fault of the root, which is where its codes are reported
+pub root_first : (m : Memory) (q : PolicyValue) (w : Witness) (rsdp : RsdpValue) (at : ℕ) (c : Code) → CleanBefore stage.Root m q → IsRsdp m q.rsdp rsdp → w ≡ record { code = c; at = at; other = 0; point = 0 }
+    → (c ≡ code.NoRoot → at ≡ rsdp.address) → ((r d : ℕ) → c ≢ code.NoRoot → chosen_root rsdp.named ≡ Some (record { address = r; width = d }) → at ≡ r)
+    → stage_of c ≡ stage.Root → NamedRootFault m rsdp.named c → ((d : Code) → NamedRootFault m rsdp.named d → code_number c ≤ code_number d) → IsFirstFault m q w × (stage_of w.code ≡ stage.Root)
+root_first m q w rsdp at c clean read is none named own fault least = rw is (first_of_set clean first, own)
+  where
+    fault_there : RootFault m q.rsdp c at
+    fault_there =
+        elim fault [
+          | inl (no_root, nothing) ↦ inl (record { named = rsdp.named; read = read.named; none = nothing }, no_root, none no_root ∙ read.address)
+          | inr (r, d, chosen, wrong) ↦
+              let is_at = named r d (λ no_root. subst (λ (x : Code). RootTableFault m r d x) no_root wrong) chosen in
+              inr (d, record { named = rsdp.named; read = read.named; chosen = rw is_at chosen }, rw is_at wrong)
+        ]
+
+    first : IsFirstOfStage stage.Root m q (record { code = c; at = at; other = 0; point = 0 })
+    first =
+        record {
+          holds = record { own = own; holds = (fault_there, refl, refl) };
+          least = λ v other. not_after (record { code = c; at = at; other = 0; point = 0 }) v (inr (one_place m q.rsdp c v.code at v.at fault_there other.holds.0, least v.code (of_named m q.rsdp rsdp.named v.code v.at read.named other.holds.0))) (sym other.holds.1) (sym other.holds.2);
+        }
 
 -- the first slot that lists a table with a fault, and that table's least fault
 pub first_table_fault : (m : Memory) (q : PolicyValue) (root : RootValue) (c : Code) (k a : ℕ) → CleanBefore stage.Tables m q → IsRootOf m q.rsdp root → HasSlot root.bytes root.width k a → stage_of c ≡ stage.Tables

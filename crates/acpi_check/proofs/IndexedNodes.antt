@@ -8,7 +8,7 @@ use Rattle.acpi_base.specs.Chains.{IsAt}
 use Rattle.acpi_base.specs.Entries.{Standing, Stands}
 use Rattle.acpi_base.specs.Pptt.{PpttEntry, pptt_entry, pptt_contents, Says}
 use Rattle.acpi_base.proofs.HeldBytes.{cases_Option}
-use Rattle.acpi_base.proofs.Standings.{element_of_map}
+use Rattle.acpi_base.proofs.Elements.{element_of_map}
 use Rattle.acpi_graph.specs.Parents.{parent_of}
 use Rattle.acpi_check.specs.Indexed.{IsIndexOf, AreIndexed, NodeValue, nodes_of, offsets_of, AreParents}
 use Rattle.acpi_check.proofs.Kept.{AreRising, map_has, kept_has, kept_from, keys_rise, rising}

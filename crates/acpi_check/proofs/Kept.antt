@@ -10,7 +10,7 @@ use Rattle.std.proofs.lemmas.List.Kept.{AllPairs-cons}
 use Rattle.std.proofs.lemmas.Option.{cond_some}
 use Rattle.acpi_base.specs.Entries.{Standing, first_entry, entries_from, entries_of, said_by}
 use Rattle.acpi_base.proofs.HeldBytes.{cases_Option}
-use Rattle.acpi_base.proofs.Standings.{first_element, later_element, first_or_later, no_element}
+use Rattle.acpi_base.proofs.Elements.{first_element, later_element, first_or_later, no_element}
 
 -- ---- elements of lists
 

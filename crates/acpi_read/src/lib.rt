@@ -31,22 +31,32 @@
 //! little-endian, and an address of 0 means none.
 #![tactic(auto)]
 
+mod entries;
+mod entry;
 mod facs;
 mod fadt;
 mod gas;
 mod header;
+mod kind;
+pub mod laws;
 mod layout;
 mod listed;
+mod madt;
 mod root;
 mod rsdp;
 mod table;
 
+pub use entries::Entries;
+pub use entry::Entry;
 pub use facs::Facs;
 pub use fadt::{Block, Fadt};
 pub use gas::Gas;
 pub use header::Header;
 pub use layout::{Layout, read_back};
 pub use listed::first;
+pub use madt::{
+    AddressOverride, IoApic, LocalApic, LocalNmi, MadtEntry, NmiSource, Override, X2apic, X2apicNmi,
+};
 pub use root::Root;
 pub use rsdp::Rsdp;
 pub use table::Table;

@@ -2,13 +2,12 @@
 use Rattle.std.proofs.Common.{refl, sym, ap, subst, inl, inr, arith}
 use Rattle.std.proofs.lemmas.Bool.{cases_order}
 use Rattle.acpi_base.specs.Codes.{stage_number, stage_of}
-use Rattle.acpi_base.specs.Faults.{FaultOfStage}
 use Rattle.acpi_base.specs.Laws.{FaultsExcludeClean, FaultsFit, CleanOrFaulty, CleanOrFirstFault, OneFirstFault, OneVerdict}
 use Rattle.acpi_base.specs.declared.stage.Stage.{Stage}
 use Rattle.acpi_base.specs.declared.verdict.Verdict.TheVariants.{Yes, No}
 use Rattle.acpi_base.proofs.Faults.Numbers.{same_stage}
-use Rattle.acpi_base.proofs.Faults.Order.{same_witness}
-use Rattle.acpi_base.proofs.Faults.Stages.{clean_or_first, excludes, fits}
+use Rattle.acpi_base.proofs.Faults.Settling.{IsFirstOfStage}
+use Rattle.acpi_base.proofs.Faults.Stages.{clean_or_first, excludes, fits, one_first}
 
 pub fault_excludes_clean : FaultsExcludeClean
 fault_excludes_clean m q w last fault up_to clean = excludes m q w (stage_of w.code) fault.holds (clean (stage_of w.code) up_to)
@@ -17,15 +16,15 @@ pub faults_fit : FaultsFit
 faults_fit m q w image policy fault = fits m q w image policy (stage_of w.code) fault.holds
 
 pub clean_or_first_fault : CleanOrFirstFault
-clean_or_first_fault m q last built =
-    elim (clean_or_first m q (stage_number last) built) [
+clean_or_first_fault m q last =
+    elim (clean_or_first m q (stage_number last)) [
       | inl clean ↦ inl (λ s up_to. clean s (omega arith))
       | inr first ↦ inr first
     ]
 
 pub clean_or_fault : CleanOrFaulty
-clean_or_fault m q image policy last built =
-    elim (clean_or_first_fault m q last built) [
+clean_or_fault m q image policy last =
+    elim (clean_or_first_fault m q last) [
       | inl clean ↦ inl clean
       | inr (w, first, of_stage) ↦ inr (w, first.fault, of_stage, faults_fit m q w image policy first.fault)
     ]
@@ -34,10 +33,8 @@ pub one_first_fault : OneFirstFault
 one_first_fault m q w v one other =
     elim (cases_order (stage_number (stage_of w.code)) (stage_number (stage_of v.code))) [
       | inl same ↦
-          let stages = same_stage (stage_of w.code) (stage_of v.code) same in
-          let w_there = subst (λ (s : Stage). FaultOfStage s m q w) stages one.fault in
-          let v_there = subst (λ (s : Stage). FaultOfStage s m q v) (sym stages) other.fault in
-          same_witness w v (one.least v v_there) (other.least w w_there)
+          let there = subst (λ (s : Stage). IsFirstOfStage s m q v) (sym (same_stage (stage_of w.code) (stage_of v.code) same)) (record { holds = other.fault; least = other.least }) in
+          one_first (stage_of w.code) m q w v (record { holds = one.fault; least = one.least }) there
       | inr (inl less) ↦ absurd (excludes m q w (stage_of w.code) one.fault.holds (other.earlier (stage_of w.code) less))
       | inr (inr more) ↦ absurd (excludes m q v (stage_of v.code) other.fault.holds (one.earlier (stage_of v.code) more))
     ]

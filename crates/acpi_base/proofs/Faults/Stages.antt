@@ -1,160 +1,66 @@
--- Stage after stage: each holds or has a first fault, and a fault excludes that its stage holds.
-use Rattle.std.proofs.Common.{◌≡◌, ℕ, zero, suc, ◌+◌, ◌*◌, ◌<◌, ◌≤◌, List, length, refl, ap, subst, inl, inr, arith}
+-- Stage after stage: each holds or has a first fault, a fault excludes that its stage holds, and its numbers fit.
+use Rattle.std.proofs.Common.{◌≡◌, ℕ, zero, suc, ◌+◌, ◌<◌, ◌≤◌, sym, ◌∙◌, ap, subst, inl, inr, arith}
 use Rattle.std.specs.Prelude.{◌⊎◌}
 use Rattle.std.proofs.lemmas.Bool.{cases_lt}
 use Rattle.acpi_base.specs.Memory.{Memory, IsImage}
-use Rattle.acpi_base.specs.Number.{field}
 use Rattle.acpi_base.specs.Policy.{PolicyValue, IsPolicy}
 use Rattle.acpi_base.specs.Codes.{stage_number, stage_of}
-use Rattle.acpi_base.specs.Root.{HasSlot, IsSlot, IsSoundRoot}
-use Rattle.acpi_base.specs.Listed.{fadt_signature}
-use Rattle.acpi_base.specs.Fadt.{facs_address}
+use Rattle.acpi_base.specs.Madt.{madt_contents, IsFirstGsiClash}
+use Rattle.acpi_base.specs.Srat.{srat_contents, IsFirstOverlap}
+use Rattle.acpi_base.specs.Slit.{slit_contents}
+use Rattle.acpi_base.specs.Pptt.{pptt_contents}
 use Rattle.acpi_base.specs.Statements.{Holds, CleanBefore}
-use Rattle.acpi_base.specs.Faults.{FaultCondition, FaultOfStage, NotAfter, IsFirstFault}
+use Rattle.acpi_base.specs.Faults.{FaultCondition, FaultOfStage, IsFirstFault}
 use Rattle.acpi_base.specs.Laws.{NumbersFit}
 use Rattle.acpi_base.specs.declared.stage.Stage.{Stage}
 use Rattle.acpi_base.specs.declared.stage.Stage.TheVariants as stage
-use Rattle.acpi_base.specs.declared.stage.TheConstants.{BUILT}
 use Rattle.acpi_base.specs.declared.witness.Witness.{Witness}
-use Rattle.acpi_base.proofs.Faults.Deciding.{Decided, decided_as, both, all3, all4, same}
-use Rattle.acpi_base.proofs.Faults.Least.{IsFirstOf, bounded, first_witness, witness}
+use Rattle.acpi_base.proofs.Faults.FirstStages as first
+use Rattle.acpi_base.proofs.Faults.LaterStages as later
+use Rattle.acpi_base.proofs.Faults.Least.{same_parts}
+use Rattle.acpi_base.proofs.Faults.ListedTables.{of_listed, listed_fits}
 use Rattle.acpi_base.proofs.Faults.Numbers.{same_stage, stage_from_1, stage_with_number}
+use Rattle.acpi_base.proofs.Faults.Order.{same_witness}
+use Rattle.acpi_base.proofs.Faults.Settling.{IsFirstOfStage, Settles, settled, first_of_set}
 use Rattle.acpi_base.proofs.Rsdp.Faults as rsdp
-use Rattle.acpi_base.proofs.Rsdp.Naming.{sound_read}
 use Rattle.acpi_base.proofs.Root.Faults as root
-use Rattle.acpi_base.proofs.Root.Named.{root_width}
-use Rattle.acpi_base.proofs.Root.Slots.{one_slot, root_slot, slot_below, slot_fits, slot_of_root, slot_or_none}
+use Rattle.acpi_base.proofs.Root.Slots.{slot_fits}
 use Rattle.acpi_base.proofs.Tables.Faults as table
-use Rattle.acpi_base.proofs.Tables.Listed.{listed_or_none}
 use Rattle.acpi_base.proofs.Fadt.Faults as fadt
 use Rattle.acpi_base.proofs.Facs.Faults as facs
+use Rattle.acpi_base.proofs.Madt.Faults as madt
+use Rattle.acpi_base.proofs.Madt.Interrupts as interrupts
+use Rattle.acpi_base.proofs.Madt.Overrides as overrides
+use Rattle.acpi_base.proofs.Srat.Faults as srat
+use Rattle.acpi_base.proofs.Srat.Ranges as ranges
+use Rattle.acpi_base.proofs.Slit.Faults as slit
+use Rattle.acpi_base.proofs.Pptt.Faults as pptt
+use Rattle.acpi_base.proofs.Pptt.Chains as chains
+use Rattle.acpi_base.proofs.Pptt.Fits.{references_fit}
+use Rattle.acpi_base.proofs.Across.Domains as domains
+use Rattle.acpi_base.proofs.Across.Served as served
+use Rattle.acpi_base.proofs.Across.Leaves as leaves
 
--- ---- a stage holds or has a first fault
-
--- w is the first fault of the stage
-abbrev pub IsFirstOfStage : Stage → Memory → PolicyValue → Witness → Type 0
-IsFirstOfStage s m q w = IsFirstOf NotAfter (FaultOfStage s m q) w
-
--- the stage holds, or it has a first fault
-abbrev pub Settles : Stage → Memory → PolicyValue → Type 0
-Settles s m q = Holds s m q ⊎ ((w : Witness) × IsFirstOfStage s m q w)
-
--- what is shown of a stage: its faults have numbers below a bound, each can be decided, and without one it holds
-pub record IsJudged (s : Stage) (m : Memory) (q : PolicyValue) : Type 0 where
-  pub bound : ℕ
-  pub fit : (w : Witness) → FaultCondition s m q w → (w.at < bound) × (w.other < bound) × (w.point < bound)
-  pub decided : (w : Witness) → Decided (FaultCondition s m q w)
-  pub holds : ((w : Witness) → FaultOfStage s m q w → ⊥) → Holds s m q
-
-pub settled : (s : Stage) (m : Memory) (q : PolicyValue) → IsJudged s m q → Settles s m q
-settled s m q judged =
-    elim (first_witness (FaultOfStage s m q) judged.bound (λ w fault. judged.fit w fault.holds) decide) [
-      | inl none ↦ inl (judged.holds none)
-      | inr first ↦ inr first
-    ]
-  where
-    decide : (w : Witness) → Decided (FaultOfStage s m q w)
-    decide w =
-        decided_as (λ h. record { own = same_stage (stage_of w.code) s h.0; holds = h.1 }) (λ fault. (ap stage_number fault.own, fault.holds))
-        (both (same (stage_number (stage_of w.code)) (stage_number s)) (judged.decided w))
-
--- the first fault of a stage is that of a set whose earlier stages hold
-pub first_of_set : {s : Stage} {m : Memory} {q : PolicyValue} {w : Witness} → CleanBefore s m q → IsFirstOfStage s m q w → IsFirstFault m q w
-first_of_set {s} {m} {q} {w} clean first =
-    subst (λ (t : Stage). FaultOfStage t m q w → CleanBefore t m q → ((v : Witness) → FaultOfStage t m q v → NotAfter w v) → IsFirstFault m q w) first.holds.own
-    (λ fault earlier least. record { fault = fault; earlier = earlier; least = least }) first.holds clean first.least
-
--- ---- each stage that is built
-
-rsdp_judged : (m : Memory) (q : PolicyValue) → IsJudged stage.Rsdp m q
-rsdp_judged m q =
-    record {
-      bound = q.rsdp + 1;
-      fit = λ w fault. (omega (arith, fault.1), omega (arith, fault.2), omega (arith, fault.3));
-      decided = λ w. all4 (rsdp.decided m q.rsdp w.code) (same w.at q.rsdp) (same w.other 0) (same w.point 0);
-      holds = λ none. rsdp.sound_without_fault m q.rsdp (λ c own fault. none (witness c q.rsdp 0 0) (record { own = own; holds = (fault, refl, refl, refl) }));
-    }
-
-root_judged : (m : Memory) (q : PolicyValue) → CleanBefore stage.Root m q → IsJudged stage.Root m q
-root_judged m q clean =
-    let named = sound_read m q.rsdp (clean stage.Rsdp (omega arith)) in
-    let place = root.bounded m q.rsdp named.0 named.1 in
-    record {
-      bound = place.0;
-      fit = λ w fault. let at = place.1 w.code w.at fault.0 in (at, omega (arith, fault.1), omega (arith, fault.2));
-      decided = λ w. all3 (root.decided m q.rsdp named.0 named.1 w.code w.at) (same w.other 0) (same w.point 0);
-      holds = λ none. root.sound_without_fault m q.rsdp named.0 named.1 (λ c at own fault. none (witness c at 0 0) (record { own = own; holds = (fault, refl, refl) }));
-    }
-
-tables_judged : (m : Memory) (q : PolicyValue) → CleanBefore stage.Tables m q → IsJudged stage.Tables m q
-tables_judged m q clean =
-    record {
-      bound = length whole + addresses.0 + 1;
-      fit = fit;
-      decided = λ w. all3 (slot_decided w.at w.other) (table.decided m w.other w.code) (same w.point 0);
-      holds = λ none k a slot. table.sound_without_fault m a (λ c own fault. none (witness c k a 0) (record { own = own; holds = (slot, fault, refl) }));
-    }
-  where
-    sound : IsSoundRoot m q.rsdp
-    sound = clean stage.Root (omega arith)
-
-    whole : List ℕ
-    whole = sound.whole
-
-    d : ℕ
-    d = sound.d
-
-    of_root : (k a : ℕ) → IsSlot m q.rsdp k a → HasSlot whole d k a
-    of_root k a = slot_of_root m q.rsdp sound.r d k a whole sound.root sound.sound.table
-
-    addresses : (most : ℕ) × ((k : ℕ) → k < length whole → field whole (36 + d * k) d < most)
-    addresses = bounded (λ k. field whole (36 + d * k) d) (length whole)
-
-    fit : (w : Witness) → FaultCondition stage.Tables m q w → (w.at < length whole + addresses.0 + 1) × (w.other < length whole + addresses.0 + 1) × (w.point < length whole + addresses.0 + 1)
-    fit w (is_slot, fault, none) =
-        let slot = of_root w.at w.other is_slot in
-        let below = slot_below whole d w.at w.other (root_width sound.root) slot in
-        let address = addresses.1 w.at below in
-        (omega arith, omega (arith, slot.address), omega arith)
-
-    slot_decided : (k a : ℕ) → Decided (IsSlot m q.rsdp k a)
-    slot_decided k a =
-        elim (slot_or_none whole d k) [
-          | inr none ↦ inr (λ slot. none a (of_root k a slot))
-          | inl (b, slot) ↦
-              decided_as (λ is. root_slot sound.root sound.sound.table (subst (λ (x : ℕ). HasSlot whole d k x) is slot))
-              (λ here. one_slot whole d k b a slot (of_root k a here))
-              (same b a)
-        ]
-
-fadt_judged : (m : Memory) (q : PolicyValue) → CleanBefore stage.Fadt m q → IsJudged stage.Fadt m q
-fadt_judged m q clean =
-    let listed = listed_or_none m q.rsdp fadt_signature (clean stage.Root (omega arith)) (clean stage.Tables (omega arith)) in
-    record {
-      bound = 117;
-      fit = λ w fault. (omega (arith, fadt.place m q.rsdp w.code w.at fault.0), omega (arith, fault.1), omega (arith, fault.2));
-      decided = λ w. all3 (fadt.decided m q.rsdp listed w.code w.at) (same w.other 0) (same w.point 0);
-      holds = λ none. fadt.sound_without_fault m q.rsdp listed (λ c at own fault. none (witness c at 0 0) (record { own = own; holds = (fault, refl, refl) }));
-    }
-
-facs_judged : (m : Memory) (q : PolicyValue) → CleanBefore stage.Facs m q → IsJudged stage.Facs m q
-facs_judged m q clean =
-    let sound = clean stage.Fadt (omega arith) in
-    record {
-      bound = facs_address sound.whole + 1;
-      fit = λ w fault. (omega (arith, facs.place m q.rsdp sound w.code w.at fault.0), omega (arith, fault.1), omega (arith, fault.2));
-      decided = λ w. all3 (facs.decided m q.rsdp sound w.code w.at) (same w.other 0) (same w.point 0);
-      holds = λ none. facs.sound_without_fault m q.rsdp sound (λ c at own fault. none (witness c at 0 0) (record { own = own; holds = (fault, refl, refl) }));
-    }
-
--- where the stages before it hold, a stage that is built holds or has a first fault
-pub settles : (s : Stage) → stage_number s ≤ BUILT → (m : Memory) (q : PolicyValue) → CleanBefore s m q → Settles s m q
-settles stage.Rsdp built m q clean = settled stage.Rsdp m q (rsdp_judged m q)
-settles stage.Root built m q clean = settled stage.Root m q (root_judged m q clean)
-settles stage.Tables built m q clean = settled stage.Tables m q (tables_judged m q clean)
-settles stage.Fadt built m q clean = settled stage.Fadt m q (fadt_judged m q clean)
-settles stage.Facs built m q clean = settled stage.Facs m q (facs_judged m q clean)
-settles _ built m q clean = absurd (omega arith)
+-- where the stages before it hold, a stage holds or has a first fault
+pub settles : (s : Stage) (m : Memory) (q : PolicyValue) → CleanBefore s m q → Settles s m q
+settles stage.Rsdp m q clean = settled (λ w least. least) (first.rsdp_judged m q)
+settles stage.Root m q clean = settled (λ w least. least) (first.root_judged m q clean)
+settles stage.Tables m q clean = settled (λ w least. least) (first.tables_judged m q clean)
+settles stage.Fadt m q clean = settled (λ w least. least) (first.fadt_judged m q clean)
+settles stage.Facs m q clean = settled (λ w least. least) (first.facs_judged m q clean)
+settles stage.Madt m q clean = settled (λ w least. least) (later.madt_judged m q clean)
+settles stage.Interrupts m q clean = later.interrupts_settled m q clean
+settles stage.Overrides m q clean = settled (λ w least. least) (later.overrides_judged m q clean)
+settles stage.Srat m q clean = settled (λ w least. least) (later.srat_judged m q clean)
+settles stage.Ranges m q clean = later.ranges_settled m q clean
+settles stage.Slit m q clean = settled (λ w least. least) (later.slit_judged m q clean)
+settles stage.Pptt m q clean = settled (λ w least. least) (later.pptt_judged m q clean)
+settles stage.References m q clean = settled (λ w least. least) (later.references_judged m q clean)
+settles stage.Parents m q clean = settled (λ w least. least) (later.parents_judged m q clean)
+settles stage.Caches m q clean = settled (λ w least. least) (later.caches_judged m q clean)
+settles stage.Domains m q clean = settled (λ w least. least) (later.domains_judged m q clean)
+settles stage.Served m q clean = settled (λ w least. least) (later.served_judged m q clean)
+settles stage.Leaves m q clean = settled (λ w least. least) (later.leaves_judged m q clean)
 
 -- a fault of a stage excludes that the stage holds
 pub excludes : (m : Memory) (q : PolicyValue) (w : Witness) (s : Stage) → FaultCondition s m q w → ¬ Holds s m q
@@ -163,9 +69,36 @@ excludes m q w stage.Root fault = root.excludes m q.rsdp w.at w.code fault.0
 excludes m q w stage.Tables fault = λ sound. table.excludes m w.other w.code fault.1 (sound w.at w.other fault.0)
 excludes m q w stage.Fadt fault = fadt.excludes m q.rsdp w.code w.at fault.0
 excludes m q w stage.Facs fault = facs.excludes m q.rsdp w.code w.at fault.0
-excludes m q w _ fault = absurd fault
+excludes m q w stage.Madt (whole, is, fault) = λ sound. madt.excludes q (madt_contents whole) w.code w.at w.other w.point fault (sound whole is)
+excludes m q w stage.Interrupts (whole, is, fault) = λ apart. interrupts.excludes q (madt_contents whole) w.code w.at w.other w.point fault (apart whole is)
+excludes m q w stage.Overrides (whole, is, fault) = λ agree. overrides.excludes (madt_contents whole) w.code w.at w.other w.point fault (agree whole is)
+excludes m q w stage.Srat (whole, is, fault) = λ sound. srat.excludes (srat_contents whole) w.code w.at w.other w.point fault (sound whole is)
+excludes m q w stage.Ranges (whole, is, fault) = λ apart. ranges.excludes q.hotplug (srat_contents whole) w.code w.at w.other w.point fault (apart whole is)
+excludes m q w stage.Slit (whole, is, fault) = λ sound. slit.excludes (slit_contents whole) w.code w.at w.other w.point fault (sound whole is)
+excludes m q w stage.Pptt (whole, is, fault) = λ sound. pptt.cut_excludes (pptt_contents whole) w.code w.at w.other w.point fault (sound whole is)
+excludes m q w stage.References (whole, is, fault) = λ sound. pptt.references_excludes (pptt_contents whole) w.code w.at w.other w.point fault (sound whole is)
+excludes m q w stage.Parents (whole, is, fault) = λ end. chains.parents_excludes whole w.code w.at w.other w.point fault (end whole is)
+excludes m q w stage.Caches (whole, is, fault) = λ end. chains.caches_excludes whole w.code w.at w.other w.point fault (end whole is)
+excludes m q w stage.Domains (whole, is, (bytes, also, fault)) = λ one. domains.excludes q.processors (madt_contents whole) (srat_contents bytes) w.code w.at w.other w.point fault (one whole is bytes also)
+excludes m q w stage.Served (whole, is, fault) = λ all. served.excludes q (madt_contents whole) w.code w.at w.other w.point fault (all whole is)
+excludes m q w stage.Leaves (whole, is, (bytes, also, fault)) = λ all. leaves.excludes (madt_contents whole) (pptt_contents bytes) w.code w.at w.other w.point fault (all whole is bytes also)
 
--- the numbers of a fault of a stage fit
+-- two first faults of a stage are one
+pub one_first : (s : Stage) (m : Memory) (q : PolicyValue) (w v : Witness) → IsFirstOfStage s m q w → IsFirstOfStage s m q v → w ≡ v
+one_first stage.Interrupts m q w v one other =
+    let (whole, is, first) = one.least in
+    let numbers = interrupts.one_first q whole w.at w.other w.point v.at v.other v.point first (of_listed (λ bytes. IsFirstGsiClash q (madt_contents bytes) v.at v.other v.point) is other.least) in
+    let codes = λ (u : Witness) (fault : FaultOfStage stage.Interrupts m q u). interrupts.code_is q (madt_contents fault.holds.0) u.code u.at u.other u.point fault.holds.2 in
+    same_parts (codes w one.holds ∙ sym (codes v other.holds)) numbers.0 numbers.1 numbers.2
+one_first stage.Ranges m q w v one other =
+    let (whole, is, first) = one.least in
+    let numbers = ranges.one_first q.hotplug whole w.at w.other w.point v.at v.other v.point first (of_listed (λ bytes. IsFirstOverlap q.hotplug (srat_contents bytes) v.at v.other v.point) is other.least) in
+    let codes = λ (u : Witness) (fault : FaultOfStage stage.Ranges m q u). ranges.code_is q.hotplug (srat_contents fault.holds.0) u.code u.at u.other u.point fault.holds.2 in
+    same_parts (codes w one.holds ∙ sym (codes v other.holds)) numbers.0 numbers.1 numbers.2
+one_first _ m q w v one other = same_witness w v (one.least v other.holds) (other.least w one.holds)
+
+-- ---- the numbers of a fault fit
+
 pub fits : (m : Memory) (q : PolicyValue) (w : Witness) → IsImage m → IsPolicy q → (s : Stage) → FaultCondition s m q w → NumbersFit w
 fits m q w image policy stage.Rsdp fault =
     let rsdp = policy.rsdp_fits in
@@ -179,7 +112,59 @@ fits m q w image policy stage.Fadt fault =
     (omega (arith, fadt.place m q.rsdp w.code w.at fault.0), omega (arith, fault.1), omega (arith, fault.2))
 fits m q w image policy stage.Facs fault =
     (facs.place_fits image w.code w.at fault.0, omega (arith, fault.1), omega (arith, fault.2))
-fits m q w image policy _ fault = absurd fault
+fits m q w image policy stage.Madt (whole, is, fault) =
+    let (small, short) = listed_fits image is in
+    let (at, other, point) = madt.place q whole w.code w.at w.other w.point fault in
+    (omega arith, omega arith, omega arith)
+fits m q w image policy stage.Interrupts (whole, is, fault) =
+    let (small, short) = listed_fits image is in
+    let (at, other, point) = interrupts.fits q whole small policy w.code w.at w.other w.point fault in
+    (omega arith, omega arith, omega arith)
+fits m q w image policy stage.Overrides (whole, is, fault) =
+    let (small, short) = listed_fits image is in
+    let (at, other, point) = overrides.fits whole small w.code w.at w.other w.point fault in
+    (omega arith, omega arith, omega arith)
+fits m q w image policy stage.Srat (whole, is, fault) =
+    let (small, short) = listed_fits image is in
+    let (at, other, point) = srat.place whole w.code w.at w.other w.point fault in
+    (omega arith, omega arith, omega arith)
+fits m q w image policy stage.Ranges (whole, is, fault) =
+    let (small, short) = listed_fits image is in
+    let (at, other, point) = ranges.fits q.hotplug whole w.code w.at w.other w.point fault in
+    (omega arith, omega arith, omega arith)
+fits m q w image policy stage.Slit (whole, is, fault) =
+    let (small, short) = listed_fits image is in
+    let size = slit.size_is whole in
+    let (at, other, point) = slit.place (slit_contents whole) w.code w.at w.other w.point fault in
+    (omega arith, omega arith, omega arith)
+fits m q w image policy stage.Pptt (whole, is, fault) =
+    let (small, short) = listed_fits image is in
+    let (at, other, point) = pptt.cut_place whole w.code w.at w.other w.point fault in
+    (omega arith, omega arith, omega arith)
+fits m q w image policy stage.References (whole, is, fault) =
+    let (small, short) = listed_fits image is in
+    let (at, other, point) = references_fit whole small w.code w.at w.other w.point fault in
+    (omega arith, omega arith, omega arith)
+fits m q w image policy stage.Parents (whole, is, fault) =
+    let (small, short) = listed_fits image is in
+    let (at, other, point) = chains.parents_place whole w.code w.at w.other w.point fault in
+    (omega arith, omega arith, omega arith)
+fits m q w image policy stage.Caches (whole, is, fault) =
+    let (small, short) = listed_fits image is in
+    let (at, other, point) = chains.caches_place whole w.code w.at w.other w.point fault in
+    (omega arith, omega arith, omega arith)
+fits m q w image policy stage.Domains (madt, listed, (whole, is, fault)) =
+    let (small, short) = listed_fits image is in
+    let (at, other, point) = domains.fits q.processors (madt_contents madt) whole small w.code w.at w.other w.point fault in
+    (omega arith, omega arith, omega arith)
+fits m q w image policy stage.Served (whole, is, fault) =
+    let (small, short) = listed_fits image is in
+    let (at, other, point) = served.fits q whole small w.code w.at w.other w.point fault in
+    (omega arith, omega arith, omega arith)
+fits m q w image policy stage.Leaves (madt, listed, (whole, is, fault)) =
+    let (small, short) = listed_fits image is in
+    let (at, other, point) = leaves.fits (madt_contents madt) whole small w.code w.at w.other w.point fault in
+    (omega arith, omega arith, omega arith)
 
 -- ---- all stages up to one
 
@@ -192,10 +177,10 @@ abbrev CleanBelow : Memory → PolicyValue → ℕ → Type 0
 CleanBelow m q n = (s : Stage) → stage_number s < n → Holds s m q
 
 -- the stages with numbers up to n hold, or one of them has the first fault
-pub clean_or_first : (m : Memory) (q : PolicyValue) (n : ℕ) → n ≤ BUILT → CleanBelow m q (n + 1) ⊎ HasFirst m q n
-clean_or_first m q zero built = elim (stage_with_number 0) [ inl (s, number) ↦ absurd (omega (arith, stage_from_1 s)) | inr none ↦ inl (λ s less. absurd (omega (arith, stage_from_1 s))) ]
-clean_or_first m q (suc n) built =
-    elim (clean_or_first m q n (omega arith)) [
+pub clean_or_first : (m : Memory) (q : PolicyValue) (n : ℕ) → CleanBelow m q (n + 1) ⊎ HasFirst m q n
+clean_or_first m q zero = inl (λ s less. absurd (omega (arith, stage_from_1 s)))
+clean_or_first m q (suc n) =
+    elim (clean_or_first m q n) [
       | inr (w, first, up_to) ↦ inr (w, first, omega arith)
       | inl clean ↦
           elim (stage_with_number (suc n)) [
@@ -206,7 +191,7 @@ clean_or_first m q (suc n) built =
   where
     next : (s : Stage) → stage_number s ≡ suc n → CleanBefore s m q → CleanBelow m q (suc n + 1) ⊎ HasFirst m q (suc n)
     next s number clean =
-        elim (settles s (omega arith) m q clean) [
+        elim (settles s m q clean) [
           | inr (w, first) ↦ inr (w, first_of_set clean first, omega (arith, ap stage_number first.holds.own))
           | inl here ↦ inl (λ t less. elim (cases_lt (stage_number t) (stage_number s)) [ inl before ↦ clean t before | inr more ↦ subst (λ (r : Stage). Holds r m q) (same_stage s t (omega arith)) here ])
         ]

@@ -1,10 +1,10 @@
 -- The faults of a PPTT's entries and of what they name: each can be decided, excludes that they are sound, and where
 -- there is none they are sound.
 use Rattle.std.proofs.Common.{◌≡◌, ℕ, ◌+◌, ◌<◌, ◌≤◌, List, [], ◌∷◌, zero, suc, length, Some, refl, inl, inr, arith}
-use Rattle.std.specs.Prelude.{slice_index, slice_get, Contains}
-use Rattle.std.proofs.lemmas.Bool.{cases_eq, ltb-true}
-use Rattle.std.proofs.lemmas.Option.{slice_get_within, same_Some, cond_some}
-use Rattle.acpi_base.specs.Entries.{Standing, Stands, cut_of}
+use Rattle.std.specs.Prelude.{slice_index, slice_get}
+use Rattle.std.proofs.lemmas.Bool.{cases_eq}
+use Rattle.std.proofs.lemmas.Option.{slice_get_within, same_Some}
+use Rattle.acpi_base.specs.Entries.{Stands}
 use Rattle.acpi_base.specs.Chains.{Dangles, NoneDangles}
 use Rattle.acpi_base.specs.Codes.{stage_of}
 use Rattle.acpi_base.specs.Pptt.{PpttEntry, Node, Cache, Opaque, PpttContents, pptt_contents, HasOtherPpttLength, parent_of, resource_of, next_level_of, NamesParent, NamesNextLevel, IsCutPptt, AreReferencesSound, PpttFaultAt, PpttFault, ReferenceFault}
@@ -14,8 +14,8 @@ use Rattle.acpi_base.specs.declared.stage.Stage.TheVariants as stage
 use Rattle.acpi_base.proofs.Chains.{IsNaming, names_decided}
 use Rattle.acpi_base.proofs.Faults.Deciding.{Decided, decided_as, both, all3, same, differs, at_most, negated, is_some_number}
 use Rattle.acpi_base.proofs.HeldBytes.{cases_Option, none_and_some}
-use Rattle.acpi_base.proofs.Pptt.Places.{inside, entry_decided, resource_decided, naming}
-use Rattle.acpi_base.proofs.Standings.{bounded}
+use Rattle.acpi_base.proofs.Pptt.Places.{inside, resource_decided, naming}
+use Rattle.acpi_base.proofs.Standings.{cut_inside, entries_bounded, stands_with_decided}
 
 -- ---- entries
 
@@ -25,7 +25,7 @@ other_length _ = inr (λ h. h)
 
 cut_decided_at : (whole : List ℕ) (fault : Code) (at : ℕ) → Decided (PpttFaultAt (pptt_contents whole) fault at)
 cut_decided_at whole code.PpttEntryCut at = is_some_number (pptt_contents whole).cut at
-cut_decided_at whole code.PpttEntryLength at = entry_decided whole at HasOtherPpttLength other_length
+cut_decided_at whole code.PpttEntryLength at = stands_with_decided (pptt_contents whole).entries at HasOtherPpttLength other_length
 cut_decided_at whole _ at = inr (λ fault. fault)
 
 pub cut_decided : (whole : List ℕ) (fault : Code) (at other point : ℕ) → Decided (PpttFault (pptt_contents whole) fault at other point)
@@ -46,8 +46,8 @@ cut_excludes c code.PpttEntryLength at other point ((e, stands, wrong), _, _) so
 cut_excludes c _ at other point fault sound = fault.0
 
 cut_place_at : (whole : List ℕ) (fault : Code) (at : ℕ) → PpttFaultAt (pptt_contents whole) fault at → at < length whole
-unfolding pptt_contents cut_of
-cut_place_at whole code.PpttEntryCut at is = grind (arith, cond_some, ltb-true)
+unfolding pptt_contents
+cut_place_at whole code.PpttEntryCut at is = cut_inside 36 whole at is
 cut_place_at whole code.PpttEntryLength at (e, stands, wrong) = inside whole at e stands
 cut_place_at whole _ at fault = absurd fault
 
@@ -132,25 +132,22 @@ next_level_in (Cache v) p is = omega (arith, same_Some v.next_level p is)
 next_level_in _ p is = absurd cc
 
 pub references_bounded : (c : PpttContents) → (most : ℕ) × ((fault : Code) (at other point : ℕ) → ReferenceFault c fault at other point → (at < most) × (other < most) × (point < most))
-references_bounded c = (most.0 + 1, place)
+references_bounded c = (all.0 + 1, place)
   where
-    most : (most : ℕ) × ((s : Standing PpttEntry) → Contains c.entries s → s.offset + reach s.entry < most)
-    most = bounded (λ s. s.offset + reach s.entry) c.entries
+    all : (most : ℕ) × ((o : ℕ) (e : PpttEntry) → Stands c.entries o e → (o < most) × (reach e < most))
+    all = entries_bounded c.entries reach
 
-    here : (o : ℕ) (e : PpttEntry) → Stands c.entries o e → o + reach e < most.0
-    here o e stands = most.1 (record { offset = o; entry = e }) stands
-
-    place : (fault : Code) (at other point : ℕ) → ReferenceFault c fault at other point → (at < most.0 + 1) × (other < most.0 + 1) × (point < most.0 + 1)
+    place : (fault : Code) (at other point : ℕ) → ReferenceFault c fault at other point → (at < all.0 + 1) × (other < all.0 + 1) × (point < all.0 + 1)
     place code.DanglingParent at other point (dangles, nothing) =
         let (e, stands, is) = dangles.names in
-        let all = here at e stands in
+        let (here, far) = all.1 at e stands in
         (omega arith, omega (arith, parent_in e other is), omega arith)
     place code.DanglingResource at other point ((e, stands, is), nowhere) =
-        let all = here at e stands in
+        let (here, far) = all.1 at e stands in
         let own = resource_in e other point is in
         (omega arith, omega (arith, own.0), omega (arith, own.1))
     place code.DanglingCache at other point (dangles, nothing) =
         let (e, stands, is) = dangles.names in
-        let all = here at e stands in
+        let (here, far) = all.1 at e stands in
         (omega arith, omega (arith, next_level_in e other is), omega arith)
     place _ at other point fault = absurd fault

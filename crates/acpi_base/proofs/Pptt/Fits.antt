@@ -5,13 +5,13 @@ use Rattle.std.proofs.lemmas.Bool.{cond_both}
 use Rattle.std.proofs.lemmas.Option.{same_Some, slice_get_within, get_or_from_slice_get}
 use Rattle.std.proofs.lemmas.List.FromFn.{length-map-range_with_len, get_or-map-range_with_len}
 use Rattle.acpi_base.specs.Number.{field}
-use Rattle.acpi_base.specs.Entries.{Stands, entries_of}
+use Rattle.acpi_base.specs.Entries.{Stands}
 use Rattle.acpi_base.specs.Pptt.{PpttEntry, resource_count, resources_of, has_node_form, has_cache_form, pptt_entry, parent_of, resource_of, next_level_of, pptt_contents, ReferenceFault}
 use Rattle.acpi_base.specs.declared.code.Code.{Code}
 use Rattle.acpi_base.specs.declared.code.Code.TheVariants as code
 use Rattle.acpi_base.proofs.HeldBytes.{field_below}
 use Rattle.acpi_base.proofs.Pptt.Places.{inside}
-use Rattle.acpi_base.proofs.Standings.{entry_below, said_from}
+use Rattle.acpi_base.proofs.Standings.{said_with}
 
 -- what an entry names are numbers of 32 bits
 record NamesFit (e : PpttEntry) : Type 0 where
@@ -43,9 +43,7 @@ names_fit e small =
 
 entry_fits : (whole : List ℕ) → ((k : ℕ) → slice_index whole k < 256) → (o : ℕ) (e : PpttEntry) → Stands (pptt_contents whole).entries o e → NamesFit e
 unfolding pptt_contents
-entry_fits whole small o e stands =
-    let (bytes, here, is) = said_from pptt_entry (entries_of 36 whole) o e stands in
-    rw (← is) (names_fit bytes (entry_below 36 whole small o bytes here))
+entry_fits whole small o e stands = said_with pptt_entry NamesFit names_fit 36 whole small o e stands
 
 -- a fault of a reference is at an offset within the table, and its other numbers are of 32 bits
 pub references_fit : (whole : List ℕ) → ((k : ℕ) → slice_index whole k < 256) → (fault : Code) (at other point : ℕ) → ReferenceFault (pptt_contents whole) fault at other point

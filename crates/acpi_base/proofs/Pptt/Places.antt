@@ -6,7 +6,7 @@ use Rattle.acpi_base.specs.Entries.{Stands, entries_of, has_form}
 use Rattle.acpi_base.specs.Pptt.{PpttEntry, Node, Cache, Opaque, resource_count, has_node_form, has_cache_form, pptt_entry, pptt_type, pptt_contents, parent_of, next_level_of, Says, NamesParent, NamesNextLevel, IsResourceAt, most_nodes, most_caches}
 use Rattle.acpi_base.proofs.Chains.{IsNaming, IsNumbered}
 use Rattle.acpi_base.proofs.Faults.Deciding.{Decided, decided_as, differs, is_some}
-use Rattle.acpi_base.proofs.Standings.{AreOnes, entry_or_none, said_from, one_said, entry_within, entries_apart}
+use Rattle.acpi_base.proofs.Standings.{AreOnes, said_from, said_inside, one_said, entry_within, entries_apart, stands_with_decided}
 
 -- ---- how long entries are
 
@@ -52,9 +52,8 @@ within whole o e stands =
 
 -- and begins there
 pub inside : (whole : List ℕ) (o : ℕ) (e : PpttEntry) → Stands (pptt_contents whole).entries o e → o < length whole
-inside whole o e stands =
-    let (bytes, here, size) = bytes_at whole o e stands in
-    omega (arith, entry_within 36 whole o bytes here)
+unfolding pptt_contents
+inside whole = said_inside pptt_entry 36 whole
 
 -- two entries stand at one offset, or one stands behind the other
 apart : (whole : List ℕ) (o p : ℕ) (e d : PpttEntry) → Stands (pptt_contents whole).entries o e → Stands (pptt_contents whole).entries p d
@@ -102,22 +101,14 @@ caches_numbered whole =
 
 -- ---- what can be decided
 
--- whether an entry stands at an offset of which P holds
-pub entry_decided : (whole : List ℕ) (o : ℕ) (P : PpttEntry → Type 0) → ((e : PpttEntry) → Decided (P e)) → Decided ((e : PpttEntry) × Stands (pptt_contents whole).entries o e × P e)
-entry_decided whole o P decide =
-    elim (entry_or_none (pptt_contents whole).entries o) [
-      | inr none ↦ inr (λ h. none h.0 h.1)
-      | inl (e, stands) ↦ decided_as (λ h. (e, stands, h)) (λ h. subst P (ones whole o h.0 e h.1 stands) h.2) (decide e)
-    ]
-
 -- whether something that a node may refer to stands at an offset
 pub resource_decided : (whole : List ℕ) (o : ℕ) → Decided (IsResourceAt (pptt_contents whole) o)
-resource_decided whole o = entry_decided whole o (λ e. pptt_type e ≢ 0) (λ e. differs (pptt_type e) 0)
+resource_decided whole o = stands_with_decided (pptt_contents whole).entries o (λ e. pptt_type e ≢ 0) (λ e. differs (pptt_type e) 0)
 
 -- at most one offset is read of what stands at an offset, and whether one is can be decided
 pub naming : (whole : List ℕ) (read : PpttEntry → Option ℕ) → IsNaming (Says read (pptt_contents whole))
 naming whole read =
     record {
       one = λ o p q a b. let same = ones whole o a.0 b.0 a.1 b.1 in cc (a.2, b.2);
-      decide = λ o. decided_as (λ h. (h.2.0, (h.0, h.1, h.2.1))) (λ h. (h.1.0, h.1.1, (h.0, h.1.2))) (entry_decided whole o (λ e. (p : ℕ) × (read e ≡ Some p)) (λ e. is_some (read e)));
+      decide = λ o. decided_as (λ h. (h.2.0, (h.0, h.1, h.2.1))) (λ h. (h.1.0, h.1.1, (h.0, h.1.2))) (stands_with_decided (pptt_contents whole).entries o (λ e. (p : ℕ) × (read e ≡ Some p)) (λ e. is_some (read e)));
     }

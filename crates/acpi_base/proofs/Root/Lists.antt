@@ -1,12 +1,13 @@
 -- The addresses that a root's bytes list are those in its slots.
 use Rattle.std.proofs.Common.{◌≡◌, ◌<◌, ◌≤◌, ◌+◌, ◌-◌, ◌*◌, ℕ, zero, suc, List, ◌∷◌, length, map, true, false, cond, refl, sym, ◌∙◌, ap, inl, inr, arith}
-use Rattle.std.specs.Prelude.{◌≢◌, ◌⊎◌, ◌/◌, ◌==◌, not, Bool, filter}
+use Rattle.std.specs.Prelude.{◌≢◌, ◌/◌, ◌==◌, not, Bool, filter}
 use Rattle.std.specs.List.{Contains, range_with_len}
 use Rattle.std.proofs.lemmas.Bool.{cases_eq, ne_eqb}
 use Rattle.acpi_base.specs.Number.{field}
 use Rattle.acpi_base.specs.Root.{IsSlotWidth}
 use Rattle.acpi_base.specs.Listed.{listed}
 use Rattle.acpi_base.specs.Laws.{RootsListSlots}
+use Rattle.acpi_base.proofs.Elements.{first_or_later}
 
 -- what is not 0
 abbrev some : ℕ → Bool
@@ -23,11 +24,6 @@ record IsAmong (f : ℕ → ℕ) (start n a : ℕ) : Type 0 where
 among_more : (f : ℕ → ℕ) (start n a : ℕ) → IsAmong f (start + 1) n a → IsAmong f start (suc n) a
 among_more f start n a here = record { k = here.k; least = omega (arith, here.least); most = omega (arith, here.most); is = here.is; listed = here.listed }
 
--- an element of a list is its first or one of the rest
-first_or_rest : (b a : ℕ) (rest : List ℕ) → Contains (b ∷ rest) a → (b ≡ a) ⊎ Contains rest a
-first_or_rest b a rest (zero, below, is) = inl is
-first_or_rest b a rest (suc k, below, is) = inr (k, omega arith, is)
-
 among : (f : ℕ → ℕ) (start n a : ℕ) → Contains (filter some (map f (range_with_len start n))) a → IsAmong f start n a
 among f start zero a (k, below, is) = absurd (omega arith)
 among f start (suc n) a here =
@@ -35,7 +31,7 @@ among f start (suc n) a here =
       | inl none ↦ among_more f start n a (among f (start + 1) n a (let past : some (f start) ≡ false = rw none refl in rw past at here))
       | inr listed ↦
           let kept : some (f start) ≡ true = rw (ne_eqb (f start) 0 listed) refl in
-          elim (first_or_rest (f start) a (filter some (map f (range_with_len (start + 1) n))) (rw kept at here)) [
+          elim (first_or_later (f start) a (filter some (map f (range_with_len (start + 1) n))) (rw kept at here)) [
             | inl is ↦ record { k = start; least = omega arith; most = omega arith; is = is; listed = λ zero. listed (is ∙ zero) }
             | inr rest ↦ among_more f start n a (among f (start + 1) n a rest)
           ]

@@ -1,0 +1,4 @@
+-- Rules across tables.
+pub mod Domains
+pub mod Leaves
+pub mod Served

@@ -1,0 +1,4 @@
+-- The MADT.
+pub mod Faults
+pub mod Interrupts
+pub mod Overrides

@@ -1,0 +1,3 @@
+-- The SRAT.
+pub mod Faults
+pub mod Ranges

@@ -1,0 +1,3 @@
+pub mod EntriesLeft
+pub mod EntryKinds
+pub mod MadtKinds

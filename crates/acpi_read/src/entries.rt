@@ -1,0 +1,102 @@
+//! Entries of the tables that are cut into entries: the MADT, the SRAT and the PPTT.
+
+ghost use Rattle.std.specs.Prelude.{◌≡◌, ◌≤◌, ◌<◌, ◌+◌, ◌↔◌, length, IsOk, IfOk, IfErr, MatchOption};
+ghost use Rattle.std.specs.Iterator.{YieldsFirstBy, item_count};
+ghost use Rattle.std.specs.Option.{option_map};
+ghost use Rattle.acpi_base.specs.Entries.{first_entry};
+ghost use Rattle.acpi_base.specs.declared.code.Code.{Code};
+ghost use Rattle.acpi_read.specs.Entries.{entries_from_place, entry_value, cut_behind, IsLast, IsNext};
+
+use crate::entry::Entry;
+use crate::table::Table;
+use acpi_base::Code;
+use std::marker::Model;
+
+/// The entries of a table, from its first one on, as far as they stand one after another. Each has at least
+/// two bytes: its type, its length in bytes, and the rest.
+#[derive(Debug, Drop)]
+pub struct Entries<'a> {
+    /// All the table's bytes.
+    whole: &'a [u8],
+    /// Of the bytes that are left, behind the entries that came.
+    offset: usize,
+}
+
+impl<'a> Model for Entries<'a> {
+    ghost use Rattle.std.specs.Prelude.{◌≤◌, length};
+    ghost use Rattle.acpi_read.specs.Entries.{EntriesValue, entries_from_place};
+
+    ghost Value = { EntriesValue };
+
+    ghost view = { λ entries. entries_from_place entries.offset entries.whole.now };
+
+    ghost invariant = { λ entries. entries.offset ≤ length entries.whole.now };
+}
+
+/// The entry that the bytes begin with, where one stands there.
+#[tactic(auto, unfolding(acpi_base::specs::Entries::first_entry))]
+fn first_entry(left: &[u8]) -> Option<&[u8]>
+    ensures { option_map (λ entry. entry.now) result ≡ first_entry left.now }
+{
+    if left.len() < 2 {
+        return None;
+    }
+    let length = usize::from(left[1]);
+    if length < 2 || left.len() < length {
+        return None;
+    }
+    Some(&left[..length])
+}
+
+/// The entry that stands at an offset of a table, which is not past its end.
+fn entry_at(whole: &[u8], offset: usize) -> Option<&[u8]>
+    requires { offset ≤ length whole.now }
+    ensures { MatchOption result (IsLast offset whole.now) (λ entry. IsNext offset whole.now entry.now) }
+{
+    first_entry(&whole[offset..])
+}
+
+impl<'a> Entries<'a> {
+    /// Those of a MADT, from offset 44 on. Refuses one of fewer than 44 bytes with `MadtShort`. Its
+    /// signature is not checked.
+    pub fn madt(table: Table<'a>) -> Result<Entries<'a>, Code>
+        ensures ok { IsOk result ↔ (44 ≤ length table.entry) }
+        ensures entries { IfOk result (λ entries. entries ≡ entries_from_place 44 table.entry) }
+        ensures fault { IfErr result (λ code. code ≡ Code.MadtShort) }
+    {
+        let whole = table.bytes();
+        if whole.len() < 44 {
+            return Err(Code::MadtShort);
+        }
+        Ok(Entries { whole, offset: 44 })
+    }
+
+    /// Where no entry is still to come, the offset of the bytes that are left, if there are any: no entry
+    /// stands there.
+    pub fn cut(&self) -> Option<u64>
+        ensures { result ≡ cut_behind self.now.entries self.now.cut }
+    {
+        if entry_at(self.whole, self.offset).is_some() || self.offset == self.whole.len() {
+            return None;
+        }
+        Some(self.offset as u64)
+    }
+}
+
+impl<'a> Iterator for Entries<'a> {
+    type Item = Entry<'a>;
+
+    ghost next_gives = { λ before entry after. YieldsFirstBy entry_value (λ left. left.entries) before entry after × (after.cut ≡ before.cut) };
+
+    ghost remaining = { item_count (λ left. left.entries) };
+
+    fn next(&mut self) -> Option<Entry<'a>> {
+        let bytes = entry_at(self.whole, self.offset)?;
+        let offset = self.offset as u64;
+        self.offset += bytes.len();
+        Some(Entry { offset, bytes })
+    }
+}
+
+#[cfg(test)]
+mod tests;

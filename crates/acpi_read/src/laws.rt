@@ -1,0 +1,19 @@
+//! Laws over the definitions alone: each function's contract is the law, and its body is empty.
+
+ghost use Rattle.acpi_base.specs.Madt.{local_apic_of, io_apic_of, override_of, nmi_source_of, local_nmi_of, address_override_of, x2apic_of, x2apic_nmi_of};
+ghost use Rattle.acpi_read.specs.EntryKinds.{LaysOut};
+ghost use Rattle.acpi_read.specs.Madts.{local_apic_parts, local_apic_values, io_apic_parts, io_apic_values, override_parts, override_values, nmi_source_parts, nmi_source_values, local_nmi_parts, local_nmi_values, address_override_parts, address_override_values, x2apic_parts, x2apic_values, x2apic_nmi_parts, x2apic_nmi_values};
+
+/// The layouts of the kinds of entries of a MADT are of the types and lengths that the definition of the MADT
+/// gives them, and read the same fields.
+#[tactic(auto, using(crate::proofs::MadtKinds::madt_laid))]
+pub fn madt_layouts()
+    ensures local_apic { LaysOut local_apic_parts local_apic_values 0 8 local_apic_of }
+    ensures io_apic { LaysOut io_apic_parts io_apic_values 1 12 io_apic_of }
+    ensures source_override { LaysOut override_parts override_values 2 10 override_of }
+    ensures nmi_source { LaysOut nmi_source_parts nmi_source_values 3 8 nmi_source_of }
+    ensures local_nmi { LaysOut local_nmi_parts local_nmi_values 4 6 local_nmi_of }
+    ensures address_override { LaysOut address_override_parts address_override_values 5 12 address_override_of }
+    ensures x2apic { LaysOut x2apic_parts x2apic_values 9 16 x2apic_of }
+    ensures x2apic_nmi { LaysOut x2apic_nmi_parts x2apic_nmi_values 10 12 x2apic_nmi_of }
+{}
