@@ -5,6 +5,7 @@ use Rattle.std.specs.Prelude.{◌↔◌, ◌&&◌}
 use Rattle.std.proofs.lemmas.Bool.{and_parts, cases_lt, lt-ltb, le-ltb}
 use Rattle.std.proofs.lemmas.Option.{none-some}
 use Rattle.acpi_base.specs.Clashes.{IsClash}
+use Rattle.acpi_base.specs.Entries.{Standing, entries_of, said_by}
 use Rattle.acpi_base.specs.Srat.{SratEntry, MemoryRange, MemoryValue, SratContents, srat_entry, srat_contents, is_enabled, is_hot_pluggable, IsAny, IsHotPluggable, IsNotHotPluggable, CoversFrom, Covers, IsSoundSrat, IsSoundSratEntry, RangeFault, IsFirstOverlap}
 use Rattle.acpi_base.specs.declared.policy.HotPlug.{HotPlug}
 use Rattle.acpi_base.specs.declared.policy.HotPlug.TheVariants.{Counted, Apart}
@@ -41,12 +42,12 @@ held counts P tests o s x (MemoryRange v) = (
 )
 held counts P tests o s x _ = (λ h. absurd h, λ h. absurd (none-some h.0 h.1))
 
--- the spans that are gathered of a kind are the ranges of this kind
-pub covered_spans : (counts : MemoryValue → Bool) (P : MemoryValue → Type 0) → Tests counts P → (whole : List ℕ) (spans : List Span)
-    → map span_value spans ≡ spans_of (covered counts) (srat_contents whole).entries → AreSpansOf (Covers P (srat_contents whole)) spans
+-- the spans of a kind that are gathered of all entries are the ranges of this kind
+pub covered_spans : (counts : MemoryValue → Bool) (P : MemoryValue → Type 0) → Tests counts P → (whole : List ℕ) (entries : List (Standing (List ℕ))) (spans : List Span) → entries ≡ entries_of 48 whole
+    → map span_value spans ≡ spans_of (covered counts) (said_by srat_entry entries) → AreSpansOf (Covers P (srat_contents whole)) spans
 unfolding srat_contents
-covered_spans counts P tests whole spans is =
-    are_spans (CoversFrom P) (covered counts) (record { named = named counts; held = held counts P tests }) 48 _ (rising srat_entry 48 whole) spans is
+covered_spans counts P tests whole entries spans all is =
+    are_spans (CoversFrom P) (covered counts) (record { named = named counts; held = held counts P tests }) 48 _ (rising srat_entry 48 whole) spans (rw (← all) is)
 
 -- a test of all ranges
 pub tests_any : Tests (λ v. true) IsAny

@@ -7,6 +7,7 @@ use Rattle.std.proofs.lemmas.List.Elements.{Contains-get_or}
 use Rattle.std.proofs.lemmas.Option.{same_Some, slice_get-get_or}
 use Rattle.acpi_base.specs.Chains.{IsAt, IsStep, Ends, AllEnd, LeadsTo, IsCycle}
 use Rattle.acpi_base.proofs.Chains.{IsNumbered, pigeonhole, cycle_begins}
+use Rattle.acpi_base.proofs.Faults.Least.{witness}
 use Rattle.acpi_base.proofs.HeldBytes.{cases_Option}
 use Rattle.acpi_base.specs.Faults.{NotAfter}
 use Rattle.acpi_base.specs.declared.code.Code.{Code}
@@ -16,7 +17,7 @@ use Rattle.acpi_graph.specs.declared.stray.Stray.{Stray}
 use Rattle.acpi_graph.specs.declared.stray.Stray.TheVariants as stray
 use Rattle.acpi_graph.proofs.Chains.{after-add, went_on}
 use Rattle.acpi_graph.proofs.Rounds.{never_ends}
-use Rattle.acpi_check.specs.Indexed.{AreIndexed, witness, IsFirstCycle, IsFoundCycle}
+use Rattle.acpi_check.specs.Indexed.{AreIndexed, IsFirstCycle, IsFoundCycle}
 
 -- the offset at an index
 abbrev at : List ℕ → ℕ → ℕ

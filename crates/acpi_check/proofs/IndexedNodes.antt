@@ -5,7 +5,7 @@ use Rattle.std.proofs.lemmas.Bool.{cases_order}
 use Rattle.std.proofs.lemmas.List.{length-map, get_or-map}
 use Rattle.std.proofs.lemmas.Option.{none-some, same_Some, slice_get-get_or}
 use Rattle.acpi_base.specs.Chains.{IsAt}
-use Rattle.acpi_base.specs.Entries.{Standing, Stands}
+use Rattle.acpi_base.specs.Entries.{Standing, Stands, entries_of, said_by}
 use Rattle.acpi_base.specs.Pptt.{PpttEntry, pptt_entry, pptt_contents, Says}
 use Rattle.acpi_base.proofs.HeldBytes.{cases_Option}
 use Rattle.acpi_base.proofs.Elements.{element_of_map}
@@ -79,7 +79,8 @@ are_indexed {E} read low entries rises parents each =
         rw (slice_get-get_or parents i None (omega (arith, inside, each.count))) index
 
 -- those of a PPTT: its nodes with their parents, or its caches with their next levels
-pub pptt_indexed : (read : PpttEntry → Option ℕ) (whole : List ℕ) (parents : List (Option ℕ)) → AreParents (nodes_of read (pptt_contents whole).entries) parents
-    → AreIndexed (Says read (pptt_contents whole)) (offsets_of (nodes_of read (pptt_contents whole).entries)) parents
+pub pptt_indexed : (read : PpttEntry → Option ℕ) (whole : List ℕ) (entries : List (Standing (List ℕ))) (nodes : List NodeValue) (parents : List (Option ℕ)) → entries ≡ entries_of 36 whole
+    → nodes ≡ nodes_of read (said_by pptt_entry entries) → AreParents nodes parents → AreIndexed (Says read (pptt_contents whole)) (offsets_of nodes) parents
 unfolding pptt_contents
-pptt_indexed read whole parents each = are_indexed read 36 _ (rising pptt_entry 36 whole) parents each
+pptt_indexed read whole entries nodes parents all is each =
+    rw is (rw all (are_indexed read 36 (said_by pptt_entry (entries_of 36 whole)) (rising pptt_entry 36 whole) parents (rw (← all) (rw (← is) each))))

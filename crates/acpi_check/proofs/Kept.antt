@@ -1,16 +1,17 @@
 -- What is kept of the entries of a table, in their order: its keys are the entries' offsets, so they rise.
-use Rattle.std.proofs.Common.{◌≡◌, ℕ, zero, suc, ◌+◌, ◌<◌, ◌≤◌, List, [], ◌∷◌, length, take, drop, map, Option, Some, None, ◌∙◌, ap, inl, inr, arith}
+use Rattle.std.proofs.Common.{◌≡◌, ℕ, zero, suc, ◌+◌, ◌<◌, ◌≤◌, List, [], ◌∷◌, ◌++◌, length, take, drop, map, Option, Some, None, ◌∙◌, ap, inl, inr, arith}
 use Rattle.std.specs.Prelude.{◌&&◌, All, AllPairs, Contains, slice_index, nat_le}
 use Rattle.std.specs.List.{cons_option, filter_map}
 use Rattle.std.proofs.Math.ListN.{get_or-map}
 use Rattle.std.proofs.lemmas.Bool.{and_parts, leb-true}
 use Rattle.std.proofs.lemmas.List.{length-take-le, length-map}
-use Rattle.std.proofs.lemmas.List.Elements.{All-nil, All-cons}
+use Rattle.std.proofs.lemmas.List.Elements.{Contains-append_right, All-nil, All-cons}
 use Rattle.std.proofs.lemmas.List.Kept.{AllPairs-cons}
 use Rattle.std.proofs.lemmas.Option.{cond_some}
 use Rattle.acpi_base.specs.Entries.{Standing, first_entry, entries_from, entries_of, said_by}
 use Rattle.acpi_base.proofs.HeldBytes.{cases_Option}
 use Rattle.acpi_base.proofs.Elements.{first_element, later_element, first_or_later, no_element}
+use Rattle.acpi_base.proofs.Standings.{entry_within}
 
 -- ---- elements of lists
 
@@ -78,6 +79,12 @@ rising_from read (suc n) offset left =
 pub rising : {E : Type 0} (read : List ℕ → E) (first : ℕ) (whole : List ℕ) → AreRising first (said_by read (entries_of first whole))
 unfolding entries_of
 rising read first whole = rising_from read (length whole) first (drop first whole)
+
+-- the next entry of a table begins before the table's end
+pub next_inside : (first : ℕ) (whole : List ℕ) (before left rest : List (Standing (List ℕ))) (s : Standing (List ℕ)) → before ++ left ≡ entries_of first whole → left ≡ s ∷ rest → s.offset < length whole
+next_inside first whole before left rest s all next =
+    let here : Contains (entries_of first whole) s = rw (← all) (Contains-append_right before left s (rw next (first_element s rest))) in
+    omega (arith, entry_within first whole s.offset s.entry here)
 
 -- ---- keys rise
 

@@ -5,7 +5,6 @@ use Rattle.acpi_base.specs.Chains.{IsAt, IsCycle, AllEnd}
 use Rattle.acpi_base.specs.Entries.{Standing}
 use Rattle.acpi_base.specs.Faults.{NotAfter}
 use Rattle.acpi_base.specs.declared.code.Code.{Code}
-use Rattle.acpi_base.specs.declared.witness.Witness.{Witness}
 use Rattle.acpi_graph.specs.Parents.{parent_of}
 use Rattle.acpi_graph.specs.declared.stray.Stray.{Stray}
 use Rattle.acpi_graph.specs.declared.stray.Stray.TheVariants as stray
@@ -23,14 +22,10 @@ pub record AreIndexed (Names : ℕ → ℕ → Type 0) (offsets : List ℕ) (par
   pub all : (o : ℕ) → Contains offsets o ↔ IsAt Names o
   pub named : (i p : ℕ) → i < length offsets → Names (slice_index offsets i) p → IsIndexOf offsets p (parent_of parents i)
 
--- a fault of this code with these numbers
-abbrev pub witness : Code → ℕ → ℕ → ℕ → Witness
-witness fault at other point = record { code = fault; at = at; other = other; point = point }
-
 -- the cycle that is reported, under this code: as a fault it stands before all others
 pub record IsFirstCycle (Names : ℕ → ℕ → Type 0) (most : ℕ) (fault : Code) (o lead round : ℕ) : Type 0 where
   pub cycle : IsCycle Names most o lead round
-  pub least : (p l r : ℕ) → IsCycle Names most p l r → NotAfter (witness fault o lead round) (witness fault p l r)
+  pub least : (p l r : ℕ) → IsCycle Names most p l r → NotAfter (record { code = fault; at = o; other = lead; point = round }) (record { code = fault; at = p; other = l; point = r })
 
 -- what is found of the chains over these offsets: that all end, or the cycle that is reported
 abbrev pub IsFoundCycle : (ℕ → ℕ → Type 0) → ℕ → Code → List ℕ → Stray → Type 0
