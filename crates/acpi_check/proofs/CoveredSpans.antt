@@ -5,6 +5,7 @@ use Rattle.std.specs.Prelude.{◌↔◌, ◌&&◌}
 use Rattle.std.proofs.lemmas.Bool.{and_parts, cases_lt, lt-ltb, le-ltb}
 use Rattle.std.proofs.lemmas.Option.{none-some}
 use Rattle.acpi_base.specs.Clashes.{IsClash}
+use Rattle.acpi_base.specs.Entries.{Standing, entries_of, said_by}
 use Rattle.acpi_base.specs.Srat.{SratEntry, MemoryRange, MemoryValue, SratContents, srat_entry, srat_contents, is_enabled, is_hot_pluggable, IsAny, IsHotPluggable, IsNotHotPluggable, CoversFrom, Covers, IsSoundSrat, IsSoundSratEntry, RangeFault, IsFirstOverlap}
 use Rattle.acpi_base.specs.declared.policy.HotPlug.{HotPlug}
 use Rattle.acpi_base.specs.declared.policy.HotPlug.TheVariants.{Counted, Apart}
@@ -13,7 +14,8 @@ use Rattle.acpi_graph.specs.declared.clash.Clash.{Clash}
 use Rattle.acpi_graph.specs.declared.clash.Clash.TheVariants as clash
 use Rattle.acpi_graph.specs.declared.span.Span.{Span}
 use Rattle.acpi_check.specs.Gathered.{AreSpansOf, IsFound, IsFoundOverlap, earlier_clash, SpanValue, span_value, span_from, covered, spans_of}
-use Rattle.acpi_check.proofs.Gathered.{AreNamed, are_spans, rising, from_is, from_some}
+use Rattle.acpi_check.proofs.Gathered.{are_spans, from_is, from_some}
+use Rattle.acpi_check.proofs.Kept.{rising}
 
 -- ---- ranges of one kind
 
@@ -21,12 +23,13 @@ use Rattle.acpi_check.proofs.Gathered.{AreNamed, are_spans, rising, from_is, fro
 abbrev pub Tests : (MemoryValue → Bool) → (MemoryValue → Type 0) → Type 0
 Tests counts P = (v : MemoryValue) → (counts v ≡ true) ↔ P v
 
+-- what is given under a test is given where the test holds
 where_some : (b : Bool) (o : Option SpanValue) (v : SpanValue) → cond b o None ≡ Some v → (b ≡ true) × (o ≡ Some v)
 where_some true o v is = (refl, is)
 where_some false o v is = absurd (none-some v is)
 
 -- a span is named by its entry's offset
-named : (counts : MemoryValue → Bool) → AreNamed (covered counts)
+named : (counts : MemoryValue → Bool) (o : ℕ) (e : SratEntry) (v : SpanValue) → covered counts o e ≡ Some v → v.name ≡ o
 named counts o (MemoryRange v) span is = grind (arith, from_is, is)
 named counts o _ span is = absurd cc
 
@@ -39,25 +42,28 @@ held counts P tests o s x (MemoryRange v) = (
 )
 held counts P tests o s x _ = (λ h. absurd h, λ h. absurd (none-some h.0 h.1))
 
--- the spans that are gathered of a kind are the ranges of this kind
-pub covered_spans : (counts : MemoryValue → Bool) (P : MemoryValue → Type 0) → Tests counts P → (whole : List ℕ) (spans : List Span)
-    → map span_value spans ≡ spans_of (covered counts) (srat_contents whole).entries → AreSpansOf (Covers P (srat_contents whole)) spans
+-- the spans of a kind that are gathered of all entries are the ranges of this kind
+pub covered_spans : (counts : MemoryValue → Bool) (P : MemoryValue → Type 0) → Tests counts P → (whole : List ℕ) (entries : List (Standing (List ℕ))) (spans : List Span) → entries ≡ entries_of 48 whole
+    → map span_value spans ≡ spans_of (covered counts) (said_by srat_entry entries) → AreSpansOf (Covers P (srat_contents whole)) spans
 unfolding srat_contents
-covered_spans counts P tests whole spans is =
-    are_spans (CoversFrom P) (covered counts) (record { named = named counts; held = held counts P tests }) 48 _ (rising srat_entry 48 whole) spans is
+covered_spans counts P tests whole entries spans all is =
+    are_spans (CoversFrom P) (covered counts) (record { named = named counts; held = held counts P tests }) 48 _ (rising srat_entry 48 whole) spans (rw (← all) is)
 
--- of all ranges, of those that are hot-pluggable, and of those that are not
+-- a test of all ranges
 pub tests_any : Tests (λ v. true) IsAny
 tests_any v = (λ _. tt, λ _. refl)
 
+-- of those that are hot-pluggable
 pub tests_hot : Tests (λ v. is_hot_pluggable v.flags) IsHotPluggable
 tests_hot v = (λ is. is, λ is. is)
 
+-- and of those that are not
 pub tests_other : Tests (λ v. not (is_hot_pluggable v.flags)) IsNotHotPluggable
 tests_other v = elim (is_hot_pluggable v.flags) as (λ b. (not b ≡ true) ↔ (b ≡ false)) [ true ↦ (λ is. absurd cc, λ is. absurd cc) | false ↦ (λ _. refl, λ _. refl) ]
 
 -- ---- ranges that must be apart
 
+-- where all ranges are compared, their first overlap is reported
 pub counted : (c : SratContents) (found : Clash) → IsFound (Covers IsAny c) found → IsFoundOverlap Counted c found
 counted c clash.None is = is
 counted c (clash.At first second point) is = is

@@ -7,15 +7,19 @@ use Rattle.std.proofs.lemmas.List.Elements.{Contains-get_or}
 use Rattle.std.proofs.lemmas.Option.{same_Some, slice_get-get_or}
 use Rattle.acpi_base.specs.Chains.{IsAt, IsStep, Ends, AllEnd, LeadsTo, IsCycle}
 use Rattle.acpi_base.proofs.Chains.{IsNumbered, pigeonhole, cycle_begins}
+use Rattle.acpi_base.proofs.Faults.Least.{witness}
 use Rattle.acpi_base.proofs.HeldBytes.{cases_Option}
+use Rattle.acpi_base.specs.Faults.{NotAfter}
+use Rattle.acpi_base.specs.declared.code.Code.{Code}
 use Rattle.acpi_graph.specs.Parents as graph
 use Rattle.acpi_graph.specs.Parents.{AreNodes, parent_of, after, Returns, IsFirstStray, IfRound}
 use Rattle.acpi_graph.specs.declared.stray.Stray.{Stray}
 use Rattle.acpi_graph.specs.declared.stray.Stray.TheVariants as stray
 use Rattle.acpi_graph.proofs.Chains.{after-add, went_on}
 use Rattle.acpi_graph.proofs.Rounds.{never_ends}
-use Rattle.acpi_check.specs.Indexed.{AreIndexed, NotAfter, IsFirstCycle, IsFoundCycle}
+use Rattle.acpi_check.specs.Indexed.{AreIndexed, IsFirstCycle, IsFoundCycle}
 
+-- the offset at an index
 abbrev at : List ℕ → ℕ → ℕ
 at offsets i = slice_index offsets i
 
@@ -23,12 +27,13 @@ at offsets i = slice_index offsets i
 one_index : {Names : ℕ → ℕ → Type 0} {offsets : List ℕ} {parents : List (Option ℕ)} → AreIndexed Names offsets parents → (i j : ℕ) → i < length offsets → j < length offsets → at offsets i ≡ at offsets j → i ≡ j
 one_index are i j within also same = grind (arith, cases_order i j, are.rising i j 0, are.rising j i 0, same)
 
--- and each offset at which one of the kind stands has one
+-- each offset at which one of the kind stands has one
 indexed : {Names : ℕ → ℕ → Type 0} {offsets : List ℕ} {parents : List (Option ℕ)} → AreIndexed Names offsets parents → (o : ℕ) → IsAt Names o → (i : ℕ) × (i < length offsets) × (at offsets i ≡ o)
 indexed {Names} {offsets} are o here =
     let (i, within, is) = (are.all o).1 here in
     (i, within, get_or_default offsets i 0 o within ∙ is)
 
+-- one of the kind stands at each offset
 there : {Names : ℕ → ℕ → Type 0} {offsets : List ℕ} {parents : List (Option ℕ)} → AreIndexed Names offsets parents → (i : ℕ) → i < length offsets → IsAt Names (at offsets i)
 there {Names} {offsets} are i within = (are.all (at offsets i)).0 (Contains-get_or offsets i 0 within)
 
@@ -41,7 +46,7 @@ step_up {Names} {offsets} {parents} are i p within step =
       | inl (j, is) ↦ let place = rw is at (are.named i p within step.names) in (j, is, place.1, place.2)
     ]
 
--- and back
+-- a parent is a step to its offset
 step_down : {Names : ℕ → ℕ → Type 0} {offsets : List ℕ} {parents : List (Option ℕ)} → AreIndexed Names offsets parents → (i j : ℕ) → i < length offsets → parent_of parents i ≡ Some j
     → (j < length offsets) × IsStep Names (at offsets i) (at offsets j)
 step_down {Names} {offsets} {parents} are i j within is =
@@ -64,6 +69,7 @@ leads_up {Names} {offsets} {parents} are (suc k) i p within (next, step, leads) 
     let (end, after_j, inside, place) = leads_up are k j p below (rw is leads) in
     (end, after_first parents i j k parent ∙ after_j, inside, place)
 
+-- and back
 leads_down : {Names : ℕ → ℕ → Type 0} {offsets : List ℕ} {parents : List (Option ℕ)} → AreIndexed Names offsets parents → (k i j : ℕ) → i < length offsets → after parents i k ≡ Some j
     → (j < length offsets) × LeadsTo Names k (at offsets i) (at offsets j)
 leads_down {Names} {offsets} {parents} are zero i j within is = (omega (arith, same_Some i j is), ap (at offsets) (same_Some i j is))
@@ -137,16 +143,16 @@ room {Names} {offsets} {parents} {most} are numbered =
           absurd (omega (arith, one, are.rising i j 0 less (omega arith)))
     ]
 
--- the first stray index is the first cycle of offsets
-first_cycle : {Names : ℕ → ℕ → Type 0} {offsets : List ℕ} {parents : List (Option ℕ)} → AreIndexed Names offsets parents → (most : ℕ) → length offsets ≤ most → (node lead round : ℕ)
-    → IsFirstStray parents node lead round → lead + round ≤ length parents → IsFirstCycle Names most (at offsets node) lead round
-first_cycle {Names} {offsets} {parents} are most fits node lead round first within =
+-- the first stray index is the cycle of offsets that is reported
+first_cycle : {Names : ℕ → ℕ → Type 0} {offsets : List ℕ} {parents : List (Option ℕ)} → AreIndexed Names offsets parents → (most : ℕ) → length offsets ≤ most → (fault : Code) (node lead round : ℕ)
+    → IsFirstStray parents node lead round → lead + round ≤ length parents → IsFirstCycle Names most fault (at offsets node) lead round
+first_cycle {Names} {offsets} {parents} are most fits fault node lead round first within =
     record { cycle = cycle are most node lead round inside (omega (arith, are.count, within, fits)) first.is_round.returns; least = least }
   where
     inside : node < length offsets
     inside = omega (arith, are.count, first.is_node)
 
-    at_index : (i l r : ℕ) → i < length offsets → Returns parents i l r → NotAfter (at offsets node) lead round (at offsets i) l r
+    at_index : (i l r : ℕ) → i < length offsets → Returns parents i l r → NotAfter (witness fault (at offsets node) lead round) (witness fault (at offsets i) l r)
     at_index i l r below other =
         elim (cases_order node i) [
           | inr (inl less) ↦ inl (are.rising node i 0 less below)
@@ -155,20 +161,23 @@ first_cycle {Names} {offsets} {parents} are most fits node lead round first with
               let here : Returns parents node l r = rw same other in
               inr (
                 ap (at offsets) same,
-                elim (cases_eq lead l) [
-                  | inl is ↦ inr (is, first.is_round.least_round r (rw is here))
-                  | inr differs ↦ inl (omega (arith, differs, first.is_round.least_lead l r here))
-                ],
+                inr (
+                  refl,
+                  elim (cases_eq lead l) [
+                    | inl is ↦ inr (is, first.is_round.least_round r (rw is here))
+                    | inr differs ↦ inl (omega (arith, differs, first.is_round.least_lead l r here))
+                  ],
+                ),
               )
         ]
 
-    least : (p l r : ℕ) → IsCycle Names most p l r → NotAfter (at offsets node) lead round p l r
+    least : (p l r : ℕ) → IsCycle Names most p l r → NotAfter (witness fault (at offsets node) lead round) (witness fault p l r)
     least p l r other =
         let (i, below, is) = indexed are p (cycle_begins Names most p l r other) in
         rw (← is) (at_index i l r below (returns are most i l r below (rw is other)))
 
 -- what `first_stray` finds of the indices is so of the offsets
-pub is_found : {Names : ℕ → ℕ → Type 0} {offsets : List ℕ} {parents : List (Option ℕ)} {most : ℕ} → AreIndexed Names offsets parents → IsNumbered Names most → (found : Stray)
-    → ((found ≡ stray.None) ↔ graph.AllEnd parents) → IfRound found (IsFirstStray parents) → IfRound found (λ node lead round. lead + round ≤ length parents) → IsFoundCycle Names most offsets found
-is_found are numbered stray.None none first within = all_end are (none.0 refl)
-is_found {Names} {offsets} {parents} {most} are numbered (stray.Round node lead round) none first within = first_cycle are most (room are numbered) node lead round first within
+pub is_found : {Names : ℕ → ℕ → Type 0} {offsets : List ℕ} {parents : List (Option ℕ)} {most : ℕ} → AreIndexed Names offsets parents → IsNumbered Names most → (fault : Code) (found : Stray)
+    → ((found ≡ stray.None) ↔ graph.AllEnd parents) → IfRound found (IsFirstStray parents) → IfRound found (λ node lead round. lead + round ≤ length parents) → IsFoundCycle Names most fault offsets found
+is_found are numbered fault stray.None none first within = all_end are (none.0 refl)
+is_found {Names} {offsets} {parents} {most} are numbered fault (stray.Round node lead round) none first within = first_cycle are most (room are numbered) fault node lead round first within

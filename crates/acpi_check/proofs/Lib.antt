@@ -3,6 +3,8 @@ mod CoveredSpans
 mod FirstFaults
 mod Gathered
 mod Indexed
+mod IndexedNodes
+mod Kept
 mod MadtPass
 mod Passes
 mod ServedSpans

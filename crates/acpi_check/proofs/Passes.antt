@@ -8,7 +8,7 @@ use Rattle.acpi_base.specs.declared.code.Code.{Code}
 use Rattle.acpi_base.specs.declared.stage.Stage.{Stage}
 use Rattle.acpi_base.specs.declared.witness.Witness.{Witness}
 use Rattle.acpi_check.specs.Passed.{IsFirstOfTable, FindsFirst}
-use Rattle.acpi_check.proofs.Gathered.{AreRising, rising}
+use Rattle.acpi_check.proofs.Kept.{AreRising, rising}
 
 -- of these entries those left are still to come, and all others came before them and have P
 pub record HasPassed {E : Type 0} (entries left : List (Standing E)) (P : ℕ → E → Type 0) : Type 0 where

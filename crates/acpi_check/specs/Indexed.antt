@@ -1,6 +1,10 @@
 -- Chains of offsets as chains of indices, and the first cycle that is found of them.
-use Rattle.std.specs.Prelude.{◌≡◌, ◌≢◌, ◌⊎◌, ◌↔◌, ℕ, ◌<◌, ◌≤◌, List, AllPairs, Contains, length, slice_index, Option, Some, None}
+use Rattle.std.specs.Prelude.{◌≡◌, ◌≢◌, ◌↔◌, ℕ, ◌<◌, List, AllPairs, Contains, length, map, slice_index, slice_index_or, option_map, Option, Some, None}
+use Rattle.std.specs.List.{filter_map}
 use Rattle.acpi_base.specs.Chains.{IsAt, IsCycle, AllEnd}
+use Rattle.acpi_base.specs.Entries.{Standing}
+use Rattle.acpi_base.specs.Faults.{NotAfter}
+use Rattle.acpi_base.specs.declared.code.Code.{Code}
 use Rattle.acpi_graph.specs.Parents.{parent_of}
 use Rattle.acpi_graph.specs.declared.stray.Stray.{Stray}
 use Rattle.acpi_graph.specs.declared.stray.Stray.TheVariants as stray
@@ -18,18 +22,34 @@ pub record AreIndexed (Names : ℕ → ℕ → Type 0) (offsets : List ℕ) (par
   pub all : (o : ℕ) → Contains offsets o ↔ IsAt Names o
   pub named : (i p : ℕ) → i < length offsets → Names (slice_index offsets i) p → IsIndexOf offsets p (parent_of parents i)
 
--- the cycle from o on stands before that from p on, by the offset, the lead and the round, or is like it
-abbrev pub NotAfter : ℕ → ℕ → ℕ → ℕ → ℕ → ℕ → Type 0
-NotAfter o lead round p l r =
-    (o < p) ⊎ ((o ≡ p) × ((lead < l) ⊎ ((lead ≡ l) × (round ≤ r))))
-
--- the cycle that stands before all others
-pub record IsFirstCycle (Names : ℕ → ℕ → Type 0) (most o lead round : ℕ) : Type 0 where
+-- the cycle that is reported, under this code: as a fault it stands before all others
+pub record IsFirstCycle (Names : ℕ → ℕ → Type 0) (most : ℕ) (fault : Code) (o lead round : ℕ) : Type 0 where
   pub cycle : IsCycle Names most o lead round
-  pub least : (p l r : ℕ) → IsCycle Names most p l r → NotAfter o lead round p l r
+  pub least : (p l r : ℕ) → IsCycle Names most p l r → NotAfter (record { code = fault; at = o; other = lead; point = round }) (record { code = fault; at = p; other = l; point = r })
 
--- what is found of the chains over these offsets: that all end, or the first cycle
-abbrev pub IsFoundCycle : (ℕ → ℕ → Type 0) → ℕ → List ℕ → Stray → Type 0
-IsFoundCycle Names most offsets stray.None = AllEnd Names
-IsFoundCycle Names most offsets (stray.Round node lead round) =
-    IsFirstCycle Names most (slice_index offsets node) lead round
+-- what is found of the chains over these offsets: that all end, or the cycle that is reported
+abbrev pub IsFoundCycle : (ℕ → ℕ → Type 0) → ℕ → Code → List ℕ → Stray → Type 0
+IsFoundCycle Names most fault offsets stray.None = AllEnd Names
+IsFoundCycle Names most fault offsets (stray.Round node lead round) =
+    IsFirstCycle Names most fault (slice_index offsets node) lead round
+
+-- ---- how they are gathered
+
+-- one of the kind: the offset at which it stands, and that which it names
+pub record NodeValue : Type 0 where
+  pub offset : ℕ
+  pub named : ℕ
+
+-- those of entries, in their order
+abbrev pub nodes_of : {E : Type 0} → (E → Option ℕ) → List (Standing E) → List NodeValue
+nodes_of read entries =
+    filter_map (λ s. option_map (λ p. record { offset = s.offset; named = p }) (read s.entry)) entries
+
+-- the offsets at which they stand
+abbrev pub offsets_of : List NodeValue → List ℕ
+offsets_of nodes = map (λ n. n.offset) nodes
+
+-- each parent is the index of what the node at its place names
+pub record AreParents (nodes : List NodeValue) (parents : List (Option ℕ)) : Type 0 where
+  pub count : length parents ≡ length nodes
+  pub each : (i : ℕ) (n : NodeValue) → i < length nodes → IsIndexOf (offsets_of nodes) (slice_index_or nodes i n).named (slice_index_or parents i None)
