@@ -1,3 +1,4 @@
 pub mod EntriesLeft
 pub mod EntryKinds
 pub mod MadtKinds
+pub mod SratKinds

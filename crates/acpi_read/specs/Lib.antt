@@ -5,3 +5,4 @@ pub mod Gases
 pub mod Headers
 pub mod Madts
 pub mod Roots
+pub mod Srats

@@ -1,8 +1,10 @@
 //! Laws over the definitions alone: each function's contract is the law, and its body is empty.
 
 ghost use Rattle.acpi_base.specs.Madt.{local_apic_of, io_apic_of, override_of, nmi_source_of, local_nmi_of, address_override_of, x2apic_of, x2apic_nmi_of};
+ghost use Rattle.acpi_base.specs.Srat.{apic_domain_of, memory_of, x2apic_domain_of};
 ghost use Rattle.acpi_read.specs.EntryKinds.{LaysOut};
 ghost use Rattle.acpi_read.specs.Madts.{local_apic_parts, local_apic_values, io_apic_parts, io_apic_values, override_parts, override_values, nmi_source_parts, nmi_source_values, local_nmi_parts, local_nmi_values, address_override_parts, address_override_values, x2apic_parts, x2apic_values, x2apic_nmi_parts, x2apic_nmi_values};
+ghost use Rattle.acpi_read.specs.Srats.{apic_domain_parts, apic_domain_values, memory_parts, memory_values, x2apic_domain_parts, x2apic_domain_values};
 
 /// The layouts of the kinds of entries of a MADT are of the types and lengths that the definition of the MADT
 /// gives them, and read the same fields.
@@ -16,4 +18,12 @@ pub fn madt_layouts()
     ensures address_override { LaysOut address_override_parts address_override_values 5 12 address_override_of }
     ensures x2apic { LaysOut x2apic_parts x2apic_values 9 16 x2apic_of }
     ensures x2apic_nmi { LaysOut x2apic_nmi_parts x2apic_nmi_values 10 12 x2apic_nmi_of }
+{}
+
+/// The same of the kinds of entries of an SRAT.
+#[tactic(auto, using(crate::proofs::SratKinds::srat_laid))]
+pub fn srat_layouts()
+    ensures apic_domain { LaysOut apic_domain_parts apic_domain_values 0 16 apic_domain_of }
+    ensures memory { LaysOut memory_parts memory_values 1 40 memory_of }
+    ensures x2apic_domain { LaysOut x2apic_domain_parts x2apic_domain_values 2 24 x2apic_domain_of }
 {}

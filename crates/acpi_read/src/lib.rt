@@ -44,6 +44,7 @@ mod listed;
 mod madt;
 mod root;
 mod rsdp;
+mod srat;
 mod table;
 
 pub use entries::Entries;
@@ -59,6 +60,7 @@ pub use madt::{
 };
 pub use root::Root;
 pub use rsdp::Rsdp;
+pub use srat::{ApicDomain, MemoryRange, SratEntry, X2apicDomain};
 pub use table::Table;
 
 #[cfg(test)]
