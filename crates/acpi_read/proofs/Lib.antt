@@ -1,4 +1,5 @@
 pub mod EntriesLeft
 pub mod EntryKinds
 pub mod MadtKinds
+pub mod SlitCells
 pub mod SratKinds

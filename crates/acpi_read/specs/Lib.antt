@@ -5,4 +5,5 @@ pub mod Gases
 pub mod Headers
 pub mod Madts
 pub mod Roots
+pub mod Slits
 pub mod Srats

@@ -44,6 +44,7 @@ mod listed;
 mod madt;
 mod root;
 mod rsdp;
+mod slit;
 mod srat;
 mod table;
 
@@ -60,6 +61,7 @@ pub use madt::{
 };
 pub use root::Root;
 pub use rsdp::Rsdp;
+pub use slit::Slit;
 pub use srat::{ApicDomain, MemoryRange, SratEntry, X2apicDomain};
 pub use table::Table;
 
