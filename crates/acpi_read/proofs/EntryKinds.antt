@@ -5,7 +5,7 @@ use Rattle.std.proofs.lemmas.Bool.Decides.{nat_tests}
 use Rattle.std.proofs.lemmas.List.{get_or-drop}
 use Rattle.acpi_base.specs.Number.{field}
 use Rattle.acpi_base.specs.Layouts.{Part, Fixed, PartValue, layout_size, values_at, HasFixedAt, IsOfLayout, HasValues}
-use Rattle.acpi_base.specs.Entries.{IsEntry, IsEntryOf, Kind, has_form, read_by, IsTypeOf}
+use Rattle.acpi_base.specs.Entries.{IsEntry, Kind, has_form, read_by, IsTypeOf}
 use Rattle.acpi_read.specs.EntryKinds.{LaysOut}
 
 -- a number of one byte is the byte
@@ -41,21 +41,21 @@ of_form type size rest kind e form =
       fixed = (byte_field e 0 ∙ form.typed, (byte_field e 1 ∙ form.said, kind.free e));
     }
 
--- a layout whose values are those that `read` reads
-pub lays_out : {V : Type 0} (type size : ℕ) (rest : List Part) (values : V → List PartValue) (read : List ℕ → V)
+-- a layout that has the values of those that say what an entry says
+pub lays_out : {V W : Type 0} (type size : ℕ) (rest : List Part) (values : V → List PartValue) (read : List ℕ → W) (say : V → W)
     → IsKindLayout size rest
-    → ((e : List ℕ) → values_at 2 rest e ≡ values (read e))
-    → ((one other : V) → values one ≡ values other → one ≡ other)
-    → LaysOut (Fixed type ∷ Fixed size ∷ rest) values type size read
-lays_out type size rest values read kind same one_value =
+    → ((e : List ℕ) (v : V) → values_at 2 rest e ≡ values v → read e ≡ say v)
+    → ((e : List ℕ) (v : V) → ((k : ℕ) → slice_index e k < 256) → read e ≡ say v → values_at 2 rest e ≡ values v)
+    → LaysOut (Fixed type ∷ Fixed size ∷ rest) values type size read say
+lays_out type size rest values read say kind reads writes =
     record {
       reads = λ e v has.
           let form = form_of type size rest kind e has.layout in
-          record { count = form.count; typed = form.typed; said = form.said; value = one_value (read e) v (sym (same e) ∙ has.same) };
+          record { count = form.count; typed = form.typed; said = form.said; value = reads e v has.same };
       writes = λ e v bytes is.
           record {
             layout = of_form type size rest kind e (record { count = is.count; typed = is.typed; said = is.said });
-            same = same e ∙ ap values is.value;
+            same = writes e v bytes is.value;
           };
     }
 
@@ -66,13 +66,13 @@ abbrev pub Decides : {E : Type 0} → (List ℕ → E) → (List ℕ → E) → 
 Decides entry opaque type size say = (e : List ℕ) → slice_index e 0 ≡ type → entry e ≡ (if length e == size then say e else opaque e)
 
 -- an entry that the layout of a kind reads says what was read
-pub typed_by : {E V : Type 0} (entry opaque : List ℕ → E) (parts : List Part) (values : V → List PartValue) (type size : ℕ) (read : List ℕ → V) (say : V → E)
-    → LaysOut parts values type size read → Decides entry opaque type size (λ e. say (read e))
-    → (e : List ℕ) (v : V) → HasValues parts e (values v) → say v ≡ entry e
-typed_by entry opaque parts values type size read say laid decides e v has =
+pub typed_by : {E V W : Type 0} (entry opaque : List ℕ → E) (parts : List Part) (values : V → List PartValue) (type size : ℕ) (read : List ℕ → W) (say : V → W) (variant : W → E)
+    → LaysOut parts values type size read say → Decides entry opaque type size (λ e. variant (read e))
+    → (e : List ℕ) (v : V) → HasValues parts e (values v) → variant (say v) ≡ entry e
+typed_by entry opaque parts values type size read say variant laid decides e v has =
     let is = laid.reads e v has in
     let same = decides e is.typed in
-    grind (arith, nat_tests, is.count, ap say is.value)
+    grind (arith, nat_tests, is.count, ap variant is.value)
 
 -- one of its type that the layout does not read is opaque
 pub opaque_by : {E : Type 0} (entry opaque : List ℕ → E) (type size : ℕ) (rest : List Part) (say : List ℕ → E)

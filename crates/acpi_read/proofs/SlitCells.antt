@@ -5,11 +5,10 @@ use Rattle.std.proofs.lemmas.Bool.{cases_lt, cases_eq}
 use Rattle.std.proofs.lemmas.List.{get_or-drop}
 use Rattle.std.proofs.Math.Nat.{mul-le-mul_left}
 use Rattle.acpi_base.specs.Number.{field}
-use Rattle.acpi_base.specs.Codes.{code_number, stage_of}
+use Rattle.acpi_base.specs.Codes.{code_number}
 use Rattle.acpi_base.specs.Slit.{SlitContents, slit_contents, cell_place, distance, HasSlitSize, IsCell, IsSoundSlit, SlitFault}
 use Rattle.acpi_base.specs.declared.code.Code.{Code}
 use Rattle.acpi_base.specs.declared.code.Code.TheVariants as code
-use Rattle.acpi_base.specs.declared.stage.Stage.TheVariants as stage
 use Rattle.acpi_base.specs.declared.witness.Witness.{Witness}
 use Rattle.acpi_base.proofs.Slit.Faults.{excludes}
 use Rattle.acpi_base.proofs.Faults.Deciding.{not_other}

@@ -1,20 +1,24 @@
 -- The kinds of entries of an SRAT: what an entry says, by the layout of its kind.
-use Rattle.std.proofs.Common.{rules, ◌≡◌, List, [], ◌∷◌, ℕ, refl, sym, ap, ◌∙◌, arith}
+use Rattle.std.proofs.Common.{rules, ◌≡◌, List, [], ◌∷◌, ℕ, refl, sym, ap, arith}
 use Rattle.std.specs.Prelude.{slice_index, ◌+◌, ◌*◌, ◌/◌, ◌%◌, ◌<◌}
 use Rattle.std.proofs.lemmas.List.{get_or-drop}
 use Rattle.acpi_base.specs.Number.{field}
 use Rattle.acpi_base.proofs.HeldBytes.{field_below}
-use Rattle.acpi_base.specs.Layouts.{Part, PartValue, Number, HasValues, IsOfLayout}
+use Rattle.acpi_base.specs.Layouts.{PartValue, Number, HasValues, IsOfLayout}
 use Rattle.acpi_base.specs.Entries.{IsEntry, has_form, IsTypeOf}
 use Rattle.acpi_base.specs.Srat.{srat_kinds, srat_entry, Opaque}
-use Rattle.acpi_base.specs.Srat.{ApicDomain, ApicDomainValue, apic_domain_of}
-use Rattle.acpi_base.specs.Srat.{MemoryRange, MemoryValue, memory_of}
-use Rattle.acpi_base.specs.Srat.{X2apicDomain, X2apicDomainValue, x2apic_domain_of}
+use Rattle.acpi_base.specs.Srat as said
+use Rattle.acpi_base.specs.Srat.{apic_domain_of}
+use Rattle.acpi_base.specs.Srat.{memory_of}
+use Rattle.acpi_base.specs.Srat.{x2apic_domain_of}
 use Rattle.acpi_read.specs.EntryKinds.{LaysOut}
-use Rattle.acpi_read.specs.Srats.{apic_domain_parts, apic_domain_values}
-use Rattle.acpi_read.specs.Srats.{memory_parts, memory_values}
-use Rattle.acpi_read.specs.Srats.{x2apic_domain_parts, x2apic_domain_values}
-use Rattle.acpi_read.proofs.EntryKinds.{lays_out, form_of, of_form, IsKindLayout, Decides, typed_by, opaque_by, none_reads}
+use Rattle.acpi_read.specs.Srats.{apic_domain_parts, apic_domain_values, apic_domain_value}
+use Rattle.acpi_read.specs.Srats.{memory_parts, memory_values, memory_value}
+use Rattle.acpi_read.specs.Srats.{x2apic_domain_parts, x2apic_domain_values, x2apic_domain_value}
+use Rattle.acpi_read.specs.declared.srat.apic_domain.ApicDomain.{ApicDomain}
+use Rattle.acpi_read.specs.declared.srat.memory_range.MemoryRange.{MemoryRange}
+use Rattle.acpi_read.specs.declared.srat.x2apic_domain.X2apicDomain.{X2apicDomain}
+use Rattle.acpi_read.proofs.EntryKinds.{lays_out, Decides, typed_by, opaque_by, none_reads}
 
 -- ---- type 0
 
@@ -42,7 +46,7 @@ bytes_of d a b c e one two three is =
 abbrev apic_domain_read : List ℕ → List PartValue
 apic_domain_read e = Number (field e 2 1) ∷ Number (field e 3 1) ∷ Number (field e 4 4) ∷ Number (field e 8 1) ∷ Number (field e 9 1) ∷ Number (field e 10 1) ∷ Number (field e 11 1) ∷ Number (field e 12 4) ∷ []
 
-apic_domain_said : (e : List ℕ) (v : ApicDomainValue) → apic_domain_read e ≡ apic_domain_values v → apic_domain_of e ≡ v
+apic_domain_said : (e : List ℕ) (v : ApicDomain) → apic_domain_read e ≡ apic_domain_values v → apic_domain_of e ≡ apic_domain_value v
 apic_domain_said e v same =
     let domain = number_of v.domain (field e 2 1) (field e 9 1) (field e 10 1) (field e 11 1) (record { first = cc; second = cc; third = cc; fourth = cc }) in
     let whole : (apic_domain_of e).domain ≡ v.domain = omega (arith, three_bytes e 9) in
@@ -52,64 +56,59 @@ apic_domain_said e v same =
     let clock_domain : field e 12 4 ≡ v.clock_domain = cc in
     search rules
 
-apic_domain_written : (e : List ℕ) → ((k : ℕ) → slice_index e k < 256) → apic_domain_read e ≡ apic_domain_values (apic_domain_of e)
-apic_domain_written e bytes =
-    let is = bytes_of (apic_domain_of e).domain (field e 2 1) (field e 9 1) (field e 10 1) (field e 11 1) (field_below e bytes 2 1) (field_below e bytes 9 1) (field_below e bytes 10 1) (omega (arith, three_bytes e 9)) in
+apic_domain_written : (e : List ℕ) (v : ApicDomain) → ((k : ℕ) → slice_index e k < 256) → apic_domain_of e ≡ apic_domain_value v → apic_domain_read e ≡ apic_domain_values v
+apic_domain_written e v bytes same =
+    let whole : (apic_domain_of e).domain ≡ v.domain = ap (λ (r : said.ApicDomainValue). r.domain) same in
+    let is = bytes_of v.domain (field e 2 1) (field e 9 1) (field e 10 1) (field e 11 1) (field_below e bytes 2 1) (field_below e bytes 9 1) (field_below e bytes 10 1) (omega (arith, three_bytes e 9)) in
     let first = is.first in
     let second = is.second in
     let third = is.third in
     let fourth = is.fourth in
+    let apic_id : field e 3 1 ≡ v.apic_id = ap (λ (r : said.ApicDomainValue). r.apic_id) same in
+    let flags : field e 4 4 ≡ v.flags = ap (λ (r : said.ApicDomainValue). r.flags) same in
+    let eid : field e 8 1 ≡ v.eid = ap (λ (r : said.ApicDomainValue). r.eid) same in
+    let clock_domain : field e 12 4 ≡ v.clock_domain = ap (λ (r : said.ApicDomainValue). r.clock_domain) same in
     cc
 
-pub apic_domain_laid : LaysOut apic_domain_parts apic_domain_values 0 16 apic_domain_of
-apic_domain_laid =
-    record {
-      reads = λ e v has.
-          let form = form_of 0 16 _ (record { counted = refl; free = λ e. tt }) e has.layout in
-          record { count = form.count; typed = form.typed; said = form.said; value = apic_domain_said e v has.same };
-      writes = λ e v bytes is.
-          record {
-            layout = of_form 0 16 _ (record { counted = refl; free = λ e. tt }) e (record { count = is.count; typed = is.typed; said = is.said });
-            same = apic_domain_written e bytes ∙ ap apic_domain_values is.value;
-          };
-    }
+pub apic_domain_laid : LaysOut apic_domain_parts apic_domain_values 0 16 apic_domain_of apic_domain_value
+apic_domain_laid = lays_out 0 16 _ apic_domain_values apic_domain_of apic_domain_value (record { counted = refl; free = λ e. tt }) apic_domain_said apic_domain_written
 
-apic_domain_decides : Decides srat_entry Opaque 0 16 (λ e. ApicDomain (apic_domain_of e))
+apic_domain_decides : Decides srat_entry Opaque 0 16 (λ e. said.ApicDomain (apic_domain_of e))
 unfolding srat_entry has_form
 apic_domain_decides e typed = rw typed refl
 
-pub apic_domain_typed : (e : List ℕ) (v : ApicDomainValue) → HasValues apic_domain_parts e (apic_domain_values v) → ApicDomain v ≡ srat_entry e
-apic_domain_typed = typed_by srat_entry Opaque apic_domain_parts apic_domain_values 0 16 apic_domain_of ApicDomain apic_domain_laid apic_domain_decides
+pub apic_domain_typed : (e : List ℕ) (v : ApicDomain) → HasValues apic_domain_parts e (apic_domain_values v) → said.ApicDomain (apic_domain_value v) ≡ srat_entry e
+apic_domain_typed = typed_by srat_entry Opaque apic_domain_parts apic_domain_values 0 16 apic_domain_of apic_domain_value said.ApicDomain apic_domain_laid apic_domain_decides
 
 pub apic_domain_opaque : (e : List ℕ) → IsEntry e → slice_index e 0 ≡ 0 → ¬ IsOfLayout apic_domain_parts e → srat_entry e ≡ Opaque e
 apic_domain_opaque = opaque_by srat_entry Opaque 0 16 _ _ (record { counted = refl; free = λ e. tt }) apic_domain_decides
 
 -- ---- type 1
 
-pub memory_laid : LaysOut memory_parts memory_values 1 40 memory_of
-memory_laid = lays_out 1 40 _ memory_values memory_of (record { counted = refl; free = λ e. tt }) (λ e. refl) (λ one other same. search rules)
+pub memory_laid : LaysOut memory_parts memory_values 1 40 memory_of memory_value
+memory_laid = lays_out 1 40 _ memory_values memory_of memory_value (record { counted = refl; free = λ e. tt }) (λ e v same. search rules) (λ e v bytes same. search rules)
 
-memory_decides : Decides srat_entry Opaque 1 40 (λ e. MemoryRange (memory_of e))
+memory_decides : Decides srat_entry Opaque 1 40 (λ e. said.MemoryRange (memory_of e))
 unfolding srat_entry has_form
 memory_decides e typed = rw typed refl
 
-pub memory_typed : (e : List ℕ) (v : MemoryValue) → HasValues memory_parts e (memory_values v) → MemoryRange v ≡ srat_entry e
-memory_typed = typed_by srat_entry Opaque memory_parts memory_values 1 40 memory_of MemoryRange memory_laid memory_decides
+pub memory_typed : (e : List ℕ) (v : MemoryRange) → HasValues memory_parts e (memory_values v) → said.MemoryRange (memory_value v) ≡ srat_entry e
+memory_typed = typed_by srat_entry Opaque memory_parts memory_values 1 40 memory_of memory_value said.MemoryRange memory_laid memory_decides
 
 pub memory_opaque : (e : List ℕ) → IsEntry e → slice_index e 0 ≡ 1 → ¬ IsOfLayout memory_parts e → srat_entry e ≡ Opaque e
 memory_opaque = opaque_by srat_entry Opaque 1 40 _ _ (record { counted = refl; free = λ e. tt }) memory_decides
 
 -- ---- type 2
 
-pub x2apic_domain_laid : LaysOut x2apic_domain_parts x2apic_domain_values 2 24 x2apic_domain_of
-x2apic_domain_laid = lays_out 2 24 _ x2apic_domain_values x2apic_domain_of (record { counted = refl; free = λ e. tt }) (λ e. refl) (λ one other same. search rules)
+pub x2apic_domain_laid : LaysOut x2apic_domain_parts x2apic_domain_values 2 24 x2apic_domain_of x2apic_domain_value
+x2apic_domain_laid = lays_out 2 24 _ x2apic_domain_values x2apic_domain_of x2apic_domain_value (record { counted = refl; free = λ e. tt }) (λ e v same. search rules) (λ e v bytes same. search rules)
 
-x2apic_domain_decides : Decides srat_entry Opaque 2 24 (λ e. X2apicDomain (x2apic_domain_of e))
+x2apic_domain_decides : Decides srat_entry Opaque 2 24 (λ e. said.X2apicDomain (x2apic_domain_of e))
 unfolding srat_entry has_form
 x2apic_domain_decides e typed = rw typed refl
 
-pub x2apic_domain_typed : (e : List ℕ) (v : X2apicDomainValue) → HasValues x2apic_domain_parts e (x2apic_domain_values v) → X2apicDomain v ≡ srat_entry e
-x2apic_domain_typed = typed_by srat_entry Opaque x2apic_domain_parts x2apic_domain_values 2 24 x2apic_domain_of X2apicDomain x2apic_domain_laid x2apic_domain_decides
+pub x2apic_domain_typed : (e : List ℕ) (v : X2apicDomain) → HasValues x2apic_domain_parts e (x2apic_domain_values v) → said.X2apicDomain (x2apic_domain_value v) ≡ srat_entry e
+x2apic_domain_typed = typed_by srat_entry Opaque x2apic_domain_parts x2apic_domain_values 2 24 x2apic_domain_of x2apic_domain_value said.X2apicDomain x2apic_domain_laid x2apic_domain_decides
 
 pub x2apic_domain_opaque : (e : List ℕ) → IsEntry e → slice_index e 0 ≡ 2 → ¬ IsOfLayout x2apic_domain_parts e → srat_entry e ≡ Opaque e
 x2apic_domain_opaque = opaque_by srat_entry Opaque 2 24 _ _ (record { counted = refl; free = λ e. tt }) x2apic_domain_decides

@@ -26,12 +26,12 @@ apic_domain_parts =
     NumberOf 4 ∷  -- clock_domain
     []
 
-abbrev pub apic_domain_values : ApicDomainValue → List PartValue
-apic_domain_values v =
-    Number (v.domain % 256) ∷ Number v.apic_id ∷ Number v.flags ∷ Number v.eid ∷ Number (v.domain / 256 % 256)
-    ∷ Number (v.domain / 65536 % 256)
-    ∷ Number (v.domain / 16777216)
-    ∷ Number v.clock_domain
+abbrev pub apic_domain_values : ApicDomain → List PartValue
+apic_domain_values e =
+    Number (e.domain % 256) ∷ Number e.apic_id ∷ Number e.flags ∷ Number e.eid ∷ Number (e.domain / 256 % 256)
+    ∷ Number (e.domain / 65536 % 256)
+    ∷ Number (e.domain / 16777216)
+    ∷ Number e.clock_domain
     ∷ []
 
 abbrev pub apic_domain_value : ApicDomain → ApicDomainValue
@@ -52,8 +52,8 @@ memory_parts =
     Reserved 8 ∷
     []
 
-abbrev pub memory_values : MemoryValue → List PartValue
-memory_values v = Number v.domain ∷ Number v.base ∷ Number v.size ∷ Number v.flags ∷ []
+abbrev pub memory_values : MemoryRange → List PartValue
+memory_values e = Number e.domain ∷ Number e.base ∷ Number e.size ∷ Number e.flags ∷ []
 
 abbrev pub memory_value : MemoryRange → MemoryValue
 memory_value e = record { domain = e.domain; base = e.base; size = e.size; flags = e.flags }
@@ -71,8 +71,8 @@ x2apic_domain_parts =
     Reserved 4 ∷
     []
 
-abbrev pub x2apic_domain_values : X2apicDomainValue → List PartValue
-x2apic_domain_values v = Number v.domain ∷ Number v.x2apic_id ∷ Number v.flags ∷ Number v.clock_domain ∷ []
+abbrev pub x2apic_domain_values : X2apicDomain → List PartValue
+x2apic_domain_values e = Number e.domain ∷ Number e.x2apic_id ∷ Number e.flags ∷ Number e.clock_domain ∷ []
 
 abbrev pub x2apic_domain_value : X2apicDomain → X2apicDomainValue
 x2apic_domain_value e =

@@ -2,7 +2,7 @@
 
 ghost use Rattle.std.specs.Prelude.{◌≡◌, refl};
 ghost use Rattle.std.proofs.Common.{rules};
-ghost use Rattle.acpi_read.specs.Srats.{apic_domain_parts, apic_domain_values, apic_domain_value};
+ghost use Rattle.acpi_read.specs.Srats.{apic_domain_parts, apic_domain_values};
 ghost use Rattle.acpi_read.specs.declared.srat.apic_domain.ApicDomain.{ApicDomain};
 
 use crate::kind::is_kind;
@@ -32,7 +32,7 @@ impl Layout for ApicDomain {
 
     ghost parts = { apic_domain_parts };
 
-    ghost values = { λ entry. apic_domain_values (apic_domain_value entry) };
+    ghost values = { apic_domain_values };
 
     fn read(bytes: &[u8]) -> Option<ApicDomain> {
         if !is_kind(bytes, 0, 16) {

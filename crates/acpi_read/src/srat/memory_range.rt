@@ -2,7 +2,7 @@
 
 ghost use Rattle.std.specs.Prelude.{◌≡◌, refl};
 ghost use Rattle.std.proofs.Common.{rules};
-ghost use Rattle.acpi_read.specs.Srats.{memory_parts, memory_values, memory_value};
+ghost use Rattle.acpi_read.specs.Srats.{memory_parts, memory_values};
 ghost use Rattle.acpi_read.specs.declared.srat.memory_range.MemoryRange.{MemoryRange};
 
 use crate::kind::is_kind;
@@ -30,7 +30,7 @@ impl Layout for MemoryRange {
 
     ghost parts = { memory_parts };
 
-    ghost values = { λ entry. memory_values (memory_value entry) };
+    ghost values = { memory_values };
 
     fn read(bytes: &[u8]) -> Option<MemoryRange> {
         if !is_kind(bytes, 1, 40) {

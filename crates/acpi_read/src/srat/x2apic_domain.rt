@@ -2,7 +2,7 @@
 
 ghost use Rattle.std.specs.Prelude.{◌≡◌, refl};
 ghost use Rattle.std.proofs.Common.{rules};
-ghost use Rattle.acpi_read.specs.Srats.{x2apic_domain_parts, x2apic_domain_values, x2apic_domain_value};
+ghost use Rattle.acpi_read.specs.Srats.{x2apic_domain_parts, x2apic_domain_values};
 ghost use Rattle.acpi_read.specs.declared.srat.x2apic_domain.X2apicDomain.{X2apicDomain};
 
 use crate::kind::is_kind;
@@ -30,7 +30,7 @@ impl Layout for X2apicDomain {
 
     ghost parts = { x2apic_domain_parts };
 
-    ghost values = { λ entry. x2apic_domain_values (x2apic_domain_value entry) };
+    ghost values = { x2apic_domain_values };
 
     fn read(bytes: &[u8]) -> Option<X2apicDomain> {
         if !is_kind(bytes, 2, 24) {
