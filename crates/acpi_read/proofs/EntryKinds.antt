@@ -44,18 +44,18 @@ of_form type size rest kind e form =
 -- a layout that has the values of those that say what an entry says
 pub lays_out : {V W : Type 0} (type size : ℕ) (rest : List Part) (values : V → List PartValue) (read : List ℕ → W) (say : V → W)
     → IsKindLayout size rest
-    → ((e : List ℕ) (v : V) → values_at 2 rest e ≡ values v → read e ≡ say v)
-    → ((e : List ℕ) (v : V) → ((k : ℕ) → slice_index e k < 256) → read e ≡ say v → values_at 2 rest e ≡ values v)
+    → ((e : List ℕ) (v : V) → length e ≡ size → values_at 2 rest e ≡ values v → read e ≡ say v)
+    → ((e : List ℕ) (v : V) → length e ≡ size → ((k : ℕ) → slice_index e k < 256) → read e ≡ say v → values_at 2 rest e ≡ values v)
     → LaysOut (Fixed type ∷ Fixed size ∷ rest) values type size read say
 lays_out type size rest values read say kind reads writes =
     record {
       reads = λ e v has.
           let form = form_of type size rest kind e has.layout in
-          record { count = form.count; typed = form.typed; said = form.said; value = reads e v has.same };
+          record { count = form.count; typed = form.typed; said = form.said; value = reads e v form.count has.same };
       writes = λ e v bytes is.
           record {
             layout = of_form type size rest kind e (record { count = is.count; typed = is.typed; said = is.said });
-            same = writes e v bytes is.value;
+            same = writes e v is.count bytes is.value;
           };
     }
 

@@ -35,7 +35,7 @@ use Rattle.acpi_read.proofs.EntryKinds.{lays_out, Decides, typed_by, opaque_by, 
 -- ---- type 0
 
 pub local_apic_laid : LaysOut local_apic_parts local_apic_values 0 8 local_apic_of local_apic_value
-local_apic_laid = lays_out 0 8 _ local_apic_values local_apic_of local_apic_value (record { counted = refl; free = λ e. tt }) (λ e v same. search rules) (λ e v bytes same. search rules)
+local_apic_laid = lays_out 0 8 _ local_apic_values local_apic_of local_apic_value (record { counted = refl; free = λ e. tt }) (λ e v count same. search rules) (λ e v count bytes same. search rules)
 
 local_apic_decides : Decides madt_entry Opaque 0 8 (λ e. said.LocalApic (local_apic_of e))
 unfolding madt_entry has_form
@@ -50,7 +50,7 @@ local_apic_opaque = opaque_by madt_entry Opaque 0 8 _ _ (record { counted = refl
 -- ---- type 1
 
 pub io_apic_laid : LaysOut io_apic_parts io_apic_values 1 12 io_apic_of io_apic_value
-io_apic_laid = lays_out 1 12 _ io_apic_values io_apic_of io_apic_value (record { counted = refl; free = λ e. tt }) (λ e v same. search rules) (λ e v bytes same. search rules)
+io_apic_laid = lays_out 1 12 _ io_apic_values io_apic_of io_apic_value (record { counted = refl; free = λ e. tt }) (λ e v count same. search rules) (λ e v count bytes same. search rules)
 
 io_apic_decides : Decides madt_entry Opaque 1 12 (λ e. said.IoApic (io_apic_of e))
 unfolding madt_entry has_form
@@ -65,7 +65,7 @@ io_apic_opaque = opaque_by madt_entry Opaque 1 12 _ _ (record { counted = refl; 
 -- ---- type 2
 
 pub override_laid : LaysOut override_parts override_values 2 10 override_of override_value
-override_laid = lays_out 2 10 _ override_values override_of override_value (record { counted = refl; free = λ e. tt }) (λ e v same. search rules) (λ e v bytes same. search rules)
+override_laid = lays_out 2 10 _ override_values override_of override_value (record { counted = refl; free = λ e. tt }) (λ e v count same. search rules) (λ e v count bytes same. search rules)
 
 override_decides : Decides madt_entry Opaque 2 10 (λ e. said.Override (override_of e))
 unfolding madt_entry has_form
@@ -80,7 +80,7 @@ override_opaque = opaque_by madt_entry Opaque 2 10 _ _ (record { counted = refl;
 -- ---- type 3
 
 pub nmi_source_laid : LaysOut nmi_source_parts nmi_source_values 3 8 nmi_source_of nmi_source_value
-nmi_source_laid = lays_out 3 8 _ nmi_source_values nmi_source_of nmi_source_value (record { counted = refl; free = λ e. tt }) (λ e v same. search rules) (λ e v bytes same. search rules)
+nmi_source_laid = lays_out 3 8 _ nmi_source_values nmi_source_of nmi_source_value (record { counted = refl; free = λ e. tt }) (λ e v count same. search rules) (λ e v count bytes same. search rules)
 
 nmi_source_decides : Decides madt_entry Opaque 3 8 (λ e. said.NmiSource (nmi_source_of e))
 unfolding madt_entry has_form
@@ -95,7 +95,7 @@ nmi_source_opaque = opaque_by madt_entry Opaque 3 8 _ _ (record { counted = refl
 -- ---- type 4
 
 pub local_nmi_laid : LaysOut local_nmi_parts local_nmi_values 4 6 local_nmi_of local_nmi_value
-local_nmi_laid = lays_out 4 6 _ local_nmi_values local_nmi_of local_nmi_value (record { counted = refl; free = λ e. tt }) (λ e v same. search rules) (λ e v bytes same. search rules)
+local_nmi_laid = lays_out 4 6 _ local_nmi_values local_nmi_of local_nmi_value (record { counted = refl; free = λ e. tt }) (λ e v count same. search rules) (λ e v count bytes same. search rules)
 
 local_nmi_decides : Decides madt_entry Opaque 4 6 (λ e. said.LocalNmi (local_nmi_of e))
 unfolding madt_entry has_form
@@ -110,7 +110,7 @@ local_nmi_opaque = opaque_by madt_entry Opaque 4 6 _ _ (record { counted = refl;
 -- ---- type 5
 
 pub address_override_laid : LaysOut address_override_parts address_override_values 5 12 address_override_of address_override_value
-address_override_laid = lays_out 5 12 _ address_override_values address_override_of address_override_value (record { counted = refl; free = λ e. tt }) (λ e v same. search rules) (λ e v bytes same. search rules)
+address_override_laid = lays_out 5 12 _ address_override_values address_override_of address_override_value (record { counted = refl; free = λ e. tt }) (λ e v count same. search rules) (λ e v count bytes same. search rules)
 
 address_override_decides : Decides madt_entry Opaque 5 12 (λ e. said.AddressOverride (address_override_of e))
 unfolding madt_entry has_form
@@ -125,7 +125,7 @@ address_override_opaque = opaque_by madt_entry Opaque 5 12 _ _ (record { counted
 -- ---- type 9
 
 pub x2apic_laid : LaysOut x2apic_parts x2apic_values 9 16 x2apic_of x2apic_value
-x2apic_laid = lays_out 9 16 _ x2apic_values x2apic_of x2apic_value (record { counted = refl; free = λ e. tt }) (λ e v same. search rules) (λ e v bytes same. search rules)
+x2apic_laid = lays_out 9 16 _ x2apic_values x2apic_of x2apic_value (record { counted = refl; free = λ e. tt }) (λ e v count same. search rules) (λ e v count bytes same. search rules)
 
 x2apic_decides : Decides madt_entry Opaque 9 16 (λ e. said.X2apic (x2apic_of e))
 unfolding madt_entry has_form
@@ -140,7 +140,7 @@ x2apic_opaque = opaque_by madt_entry Opaque 9 16 _ _ (record { counted = refl; f
 -- ---- type 10
 
 pub x2apic_nmi_laid : LaysOut x2apic_nmi_parts x2apic_nmi_values 10 12 x2apic_nmi_of x2apic_nmi_value
-x2apic_nmi_laid = lays_out 10 12 _ x2apic_nmi_values x2apic_nmi_of x2apic_nmi_value (record { counted = refl; free = λ e. tt }) (λ e v same. search rules) (λ e v bytes same. search rules)
+x2apic_nmi_laid = lays_out 10 12 _ x2apic_nmi_values x2apic_nmi_of x2apic_nmi_value (record { counted = refl; free = λ e. tt }) (λ e v count same. search rules) (λ e v count bytes same. search rules)
 
 x2apic_nmi_decides : Decides madt_entry Opaque 10 12 (λ e. said.X2apicNmi (x2apic_nmi_of e))
 unfolding madt_entry has_form

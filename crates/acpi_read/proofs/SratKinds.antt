@@ -1,5 +1,5 @@
 -- The kinds of entries of an SRAT: what an entry says, by the layout of its kind.
-use Rattle.std.proofs.Common.{rules, ◌≡◌, List, [], ◌∷◌, ℕ, refl, sym, ap, arith}
+use Rattle.std.proofs.Common.{rules, ◌≡◌, List, [], ◌∷◌, length, ℕ, refl, sym, ap, arith}
 use Rattle.std.specs.Prelude.{slice_index, ◌+◌, ◌*◌, ◌/◌, ◌%◌, ◌<◌}
 use Rattle.std.proofs.lemmas.List.{get_or-drop}
 use Rattle.acpi_base.specs.Number.{field}
@@ -46,8 +46,8 @@ bytes_of d a b c e one two three is =
 abbrev apic_domain_read : List ℕ → List PartValue
 apic_domain_read e = Number (field e 2 1) ∷ Number (field e 3 1) ∷ Number (field e 4 4) ∷ Number (field e 8 1) ∷ Number (field e 9 1) ∷ Number (field e 10 1) ∷ Number (field e 11 1) ∷ Number (field e 12 4) ∷ []
 
-apic_domain_said : (e : List ℕ) (v : ApicDomain) → apic_domain_read e ≡ apic_domain_values v → apic_domain_of e ≡ apic_domain_value v
-apic_domain_said e v same =
+apic_domain_said : (e : List ℕ) (v : ApicDomain) → length e ≡ 16 → apic_domain_read e ≡ apic_domain_values v → apic_domain_of e ≡ apic_domain_value v
+apic_domain_said e v count same =
     let domain = number_of v.domain (field e 2 1) (field e 9 1) (field e 10 1) (field e 11 1) (record { first = cc; second = cc; third = cc; fourth = cc }) in
     let whole : (apic_domain_of e).domain ≡ v.domain = omega (arith, three_bytes e 9) in
     let apic_id : field e 3 1 ≡ v.apic_id = cc in
@@ -56,8 +56,8 @@ apic_domain_said e v same =
     let clock_domain : field e 12 4 ≡ v.clock_domain = cc in
     search rules
 
-apic_domain_written : (e : List ℕ) (v : ApicDomain) → ((k : ℕ) → slice_index e k < 256) → apic_domain_of e ≡ apic_domain_value v → apic_domain_read e ≡ apic_domain_values v
-apic_domain_written e v bytes same =
+apic_domain_written : (e : List ℕ) (v : ApicDomain) → length e ≡ 16 → ((k : ℕ) → slice_index e k < 256) → apic_domain_of e ≡ apic_domain_value v → apic_domain_read e ≡ apic_domain_values v
+apic_domain_written e v count bytes same =
     let whole : (apic_domain_of e).domain ≡ v.domain = ap (λ (r : said.ApicDomainValue). r.domain) same in
     let is = bytes_of v.domain (field e 2 1) (field e 9 1) (field e 10 1) (field e 11 1) (field_below e bytes 2 1) (field_below e bytes 9 1) (field_below e bytes 10 1) (omega (arith, three_bytes e 9)) in
     let first = is.first in
@@ -86,7 +86,7 @@ apic_domain_opaque = opaque_by srat_entry Opaque 0 16 _ _ (record { counted = re
 -- ---- type 1
 
 pub memory_laid : LaysOut memory_parts memory_values 1 40 memory_of memory_value
-memory_laid = lays_out 1 40 _ memory_values memory_of memory_value (record { counted = refl; free = λ e. tt }) (λ e v same. search rules) (λ e v bytes same. search rules)
+memory_laid = lays_out 1 40 _ memory_values memory_of memory_value (record { counted = refl; free = λ e. tt }) (λ e v count same. search rules) (λ e v count bytes same. search rules)
 
 memory_decides : Decides srat_entry Opaque 1 40 (λ e. said.MemoryRange (memory_of e))
 unfolding srat_entry has_form
@@ -101,7 +101,7 @@ memory_opaque = opaque_by srat_entry Opaque 1 40 _ _ (record { counted = refl; f
 -- ---- type 2
 
 pub x2apic_domain_laid : LaysOut x2apic_domain_parts x2apic_domain_values 2 24 x2apic_domain_of x2apic_domain_value
-x2apic_domain_laid = lays_out 2 24 _ x2apic_domain_values x2apic_domain_of x2apic_domain_value (record { counted = refl; free = λ e. tt }) (λ e v same. search rules) (λ e v bytes same. search rules)
+x2apic_domain_laid = lays_out 2 24 _ x2apic_domain_values x2apic_domain_of x2apic_domain_value (record { counted = refl; free = λ e. tt }) (λ e v count same. search rules) (λ e v count bytes same. search rules)
 
 x2apic_domain_decides : Decides srat_entry Opaque 2 24 (λ e. said.X2apicDomain (x2apic_domain_of e))
 unfolding srat_entry has_form

@@ -42,6 +42,7 @@ pub mod laws;
 mod layout;
 mod listed;
 mod madt;
+mod pptt;
 mod root;
 mod rsdp;
 mod slit;
@@ -59,6 +60,7 @@ pub use listed::first;
 pub use madt::{
     AddressOverride, IoApic, LocalApic, LocalNmi, MadtEntry, NmiSource, Override, X2apic, X2apicNmi,
 };
+pub use pptt::{Cache24, Cache28, NodeHead, PpttEntry};
 pub use root::Root;
 pub use rsdp::Rsdp;
 pub use slit::Slit;
