@@ -81,6 +81,13 @@ impl<'a> Table<'a> {
         self.bytes
     }
 
+    /// Another view of the same table. No byte is copied.
+    pub fn copy(&self) -> Table<'a>
+        ensures { result ≡ self.now }
+    {
+        Table { bytes: self.bytes }
+    }
+
     /// The fields of its first 36 bytes. Its length is the number of the table's bytes.
     #[tactic(auto, unfolding(acpi_base::specs::Header::header_of))]
     pub fn header(&self) -> Header
