@@ -65,7 +65,7 @@ impl<'a> Table<'a> {
         Ok(Table { bytes })
     }
 
-    /// The same table once more: several stages look at one.
+    /// Another view of the same table: several stages look at one. No byte is copied.
     pub fn copied(&self) -> Table<'a>
         ensures { result ≡ self.now }
     {
@@ -79,13 +79,6 @@ impl<'a> Table<'a> {
         ensures said { length_of self.now ≡ length self.now }
     {
         self.bytes
-    }
-
-    /// Another view of the same table. No byte is copied.
-    pub fn copy(&self) -> Table<'a>
-        ensures { result ≡ self.now }
-    {
-        Table { bytes: self.bytes }
     }
 
     /// The fields of its first 36 bytes. Its length is the number of the table's bytes.
