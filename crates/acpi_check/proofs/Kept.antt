@@ -1,5 +1,5 @@
 -- What is kept of the entries of a table, in their order: its keys are the entries' offsets, so they rise.
-use Rattle.std.proofs.Common.{◌≡◌, ℕ, zero, suc, ◌+◌, ◌<◌, ◌≤◌, List, [], ◌∷◌, ◌++◌, length, take, drop, map, Option, Some, None, ◌∙◌, ap, inl, inr, arith}
+use Rattle.std.proofs.Common.{◌≡◌, ℕ, zero, suc, ◌+◌, ◌<◌, ◌≤◌, List, [], ◌∷◌, ◌++◌, length, take, drop, map, Option, Some, None, refl, ◌∙◌, ap, inl, inr, arith}
 use Rattle.std.specs.Prelude.{◌&&◌, All, AllPairs, Contains, slice_index, nat_le}
 use Rattle.std.specs.List.{cons_option, filter_map}
 use Rattle.std.proofs.Math.ListN.{get_or-map}
@@ -9,6 +9,7 @@ use Rattle.std.proofs.lemmas.List.Elements.{Contains-append_right, All-nil, All-
 use Rattle.std.proofs.lemmas.List.Kept.{AllPairs-cons}
 use Rattle.std.proofs.lemmas.Option.{cond_some}
 use Rattle.acpi_base.specs.Entries.{Standing, first_entry, entries_from, entries_of, said_by}
+use Rattle.acpi_base.proofs.Entries.{none_in_short}
 use Rattle.acpi_base.proofs.HeldBytes.{cases_Option}
 use Rattle.acpi_base.proofs.Elements.{first_element, later_element, first_or_later, no_element}
 use Rattle.acpi_base.proofs.Standings.{entry_within}
@@ -85,6 +86,14 @@ pub next_inside : (first : ℕ) (whole : List ℕ) (before left rest : List (Sta
 next_inside first whole before left rest s all next =
     let here : Contains (entries_of first whole) s = rw (← all) (Contains-append_right before left s (rw next (first_element s rest))) in
     omega (arith, entry_within first whole s.offset s.entry here)
+
+-- a table that ends before the first entry's place has none
+pub none_of_short : (first : ℕ) (whole : List ℕ) → length whole < first → entries_of first whole ≡ []
+none_of_short first whole short = empty (entries_of first whole) (λ s listed. (none_in_short first whole short).1 s.offset s.entry listed)
+  where
+    empty : (entries : List (Standing (List ℕ))) → ((s : Standing (List ℕ)) → ¬ Contains entries s) → entries ≡ []
+    empty [] none = refl
+    empty (s ∷ rest) none = absurd (none s (first_element s rest))
 
 -- ---- keys rise
 

@@ -2,6 +2,7 @@ mod Clashes
 mod CoveredSpans
 mod FirstFaults
 mod Gathered
+mod GsiClashes
 mod Indexed
 mod IndexedNodes
 mod Kept

@@ -16,6 +16,7 @@
 mod check;
 mod facs;
 mod fadt;
+mod interrupts;
 mod madt;
 mod refusal;
 mod root;

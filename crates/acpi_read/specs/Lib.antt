@@ -4,4 +4,8 @@ pub mod Fadts
 pub mod Gases
 pub mod Headers
 pub mod Madts
+pub mod NodeHeads
+pub mod Pptts
 pub mod Roots
+pub mod Slits
+pub mod Srats

@@ -26,8 +26,8 @@ local_apic_parts =
     NumberOf 4 ∷  -- flags
     []
 
-abbrev pub local_apic_values : LocalApicValue → List PartValue
-local_apic_values v = Number v.uid ∷ Number v.apic_id ∷ Number v.flags ∷ []
+abbrev pub local_apic_values : LocalApic → List PartValue
+local_apic_values e = Number e.uid ∷ Number e.apic_id ∷ Number e.flags ∷ []
 
 abbrev pub local_apic_value : LocalApic → LocalApicValue
 local_apic_value e = record { uid = e.uid; apic_id = e.apic_id; flags = e.flags }
@@ -43,8 +43,8 @@ io_apic_parts =
     NumberOf 4 ∷  -- gsi_base
     []
 
-abbrev pub io_apic_values : IoApicValue → List PartValue
-io_apic_values v = Number v.id ∷ Number v.address ∷ Number v.gsi_base ∷ []
+abbrev pub io_apic_values : IoApic → List PartValue
+io_apic_values e = Number e.id ∷ Number e.address ∷ Number e.gsi_base ∷ []
 
 abbrev pub io_apic_value : IoApic → IoApicValue
 io_apic_value e = record { id = e.id; address = e.address; gsi_base = e.gsi_base }
@@ -60,8 +60,8 @@ override_parts =
     NumberOf 2 ∷  -- flags
     []
 
-abbrev pub override_values : OverrideValue → List PartValue
-override_values v = Number v.bus ∷ Number v.source ∷ Number v.gsi ∷ Number v.flags ∷ []
+abbrev pub override_values : Override → List PartValue
+override_values e = Number e.bus ∷ Number e.source ∷ Number e.gsi ∷ Number e.flags ∷ []
 
 abbrev pub override_value : Override → OverrideValue
 override_value e = record { bus = e.bus; source = e.source; gsi = e.gsi; flags = e.flags }
@@ -75,8 +75,8 @@ nmi_source_parts =
     NumberOf 4 ∷  -- gsi
     []
 
-abbrev pub nmi_source_values : NmiSourceValue → List PartValue
-nmi_source_values v = Number v.flags ∷ Number v.gsi ∷ []
+abbrev pub nmi_source_values : NmiSource → List PartValue
+nmi_source_values e = Number e.flags ∷ Number e.gsi ∷ []
 
 abbrev pub nmi_source_value : NmiSource → NmiSourceValue
 nmi_source_value e = record { flags = e.flags; gsi = e.gsi }
@@ -91,8 +91,8 @@ local_nmi_parts =
     NumberOf 1 ∷  -- lint
     []
 
-abbrev pub local_nmi_values : LocalNmiValue → List PartValue
-local_nmi_values v = Number v.uid ∷ Number v.flags ∷ Number v.lint ∷ []
+abbrev pub local_nmi_values : LocalNmi → List PartValue
+local_nmi_values e = Number e.uid ∷ Number e.flags ∷ Number e.lint ∷ []
 
 abbrev pub local_nmi_value : LocalNmi → LocalNmiValue
 local_nmi_value e = record { uid = e.uid; flags = e.flags; lint = e.lint }
@@ -106,8 +106,8 @@ address_override_parts =
     NumberOf 8 ∷  -- address
     []
 
-abbrev pub address_override_values : AddressOverrideValue → List PartValue
-address_override_values v = Number v.address ∷ []
+abbrev pub address_override_values : AddressOverride → List PartValue
+address_override_values e = Number e.address ∷ []
 
 abbrev pub address_override_value : AddressOverride → AddressOverrideValue
 address_override_value e = record { address = e.address }
@@ -123,8 +123,8 @@ x2apic_parts =
     NumberOf 4 ∷  -- uid
     []
 
-abbrev pub x2apic_values : X2apicValue → List PartValue
-x2apic_values v = Number v.x2apic_id ∷ Number v.flags ∷ Number v.uid ∷ []
+abbrev pub x2apic_values : X2apic → List PartValue
+x2apic_values e = Number e.x2apic_id ∷ Number e.flags ∷ Number e.uid ∷ []
 
 abbrev pub x2apic_value : X2apic → X2apicValue
 x2apic_value e = record { x2apic_id = e.x2apic_id; flags = e.flags; uid = e.uid }
@@ -140,8 +140,8 @@ x2apic_nmi_parts =
     Reserved 3 ∷
     []
 
-abbrev pub x2apic_nmi_values : X2apicNmiValue → List PartValue
-x2apic_nmi_values v = Number v.flags ∷ Number v.uid ∷ Number v.lint ∷ []
+abbrev pub x2apic_nmi_values : X2apicNmi → List PartValue
+x2apic_nmi_values e = Number e.flags ∷ Number e.uid ∷ Number e.lint ∷ []
 
 abbrev pub x2apic_nmi_value : X2apicNmi → X2apicNmiValue
 x2apic_nmi_value e = record { flags = e.flags; uid = e.uid; lint = e.lint }

@@ -56,19 +56,47 @@ fn entry_at(whole: &[u8], offset: usize) -> Option<&[u8]>
     first_entry(&whole[offset..])
 }
 
+/// The entries of a table from an offset on.
+fn entries_from<'a>(table: Table<'a>, first: usize) -> Entries<'a>
+    requires { first ≤ length table }
+    ensures { result ≡ entries_from_place first table.entry }
+{
+    Entries {
+        whole: table.bytes(),
+        offset: first,
+    }
+}
+
 impl<'a> Entries<'a> {
-    /// Those of a MADT, from offset 44 on. Refuses one of fewer than 44 bytes with `MadtShort`. Its
-    /// signature is not checked.
+    /// Those of a MADT, from offset 44 on. Refuses one of fewer than 44 bytes with `MadtShort`.
     pub fn madt(table: Table<'a>) -> Result<Entries<'a>, Code>
         ensures ok { IsOk result ↔ (44 ≤ length table.entry) }
         ensures entries { IfOk result (λ entries. entries ≡ entries_from_place 44 table.entry) }
         ensures fault { IfErr result (λ code. code ≡ Code.MadtShort) }
     {
-        let whole = table.bytes();
-        if whole.len() < 44 {
+        if table.bytes().len() < 44 {
             return Err(Code::MadtShort);
         }
-        Ok(Entries { whole, offset: 44 })
+        Ok(entries_from(table, 44))
+    }
+
+    /// Those of an SRAT, from offset 48 on. Refuses one of fewer than 48 bytes with `SratShort`.
+    pub fn srat(table: Table<'a>) -> Result<Entries<'a>, Code>
+        ensures ok { IsOk result ↔ (48 ≤ length table.entry) }
+        ensures entries { IfOk result (λ entries. entries ≡ entries_from_place 48 table.entry) }
+        ensures fault { IfErr result (λ code. code ≡ Code.SratShort) }
+    {
+        if table.bytes().len() < 48 {
+            return Err(Code::SratShort);
+        }
+        Ok(entries_from(table, 48))
+    }
+
+    /// Those of a PPTT, from offset 36 on.
+    pub fn pptt(table: Table<'a>) -> Entries<'a>
+        ensures { result ≡ entries_from_place 36 table.entry }
+    {
+        entries_from(table, 36)
     }
 
     /// Where no entry is still to come, the offset of the bytes that are left, if there are any: no entry

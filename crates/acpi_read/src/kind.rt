@@ -19,7 +19,7 @@ pub(crate) fn is_kind(bytes: &[u8], number: u8, size: u8) -> bool
 /// What the bytes say as an entry of a kind, or the code where they are not of the kind.
 pub(crate) fn typed<L: Layout>(bytes: &[u8], code: Code) -> Result<L, Code>
     ensures ok { IfOk result (λ value. HasValues L.parts bytes.now (L.values value)) }
-    ensures err { IfErr result (λ other. (other ≡ code) × ¬ IsOfLayout L.parts bytes.now) }
+    ensures err { IfErr result (λ other. (other ≡ code) × ¬ (IsOfLayout L.parts bytes.now × L.allows bytes.now)) }
 {
     L::read(bytes).ok_or(code)
 }

@@ -18,17 +18,21 @@ pub trait Layout: Sized {
     /// The values of those parts that have one.
     ghost values: { Self → List PartValue };
 
+    /// What else the bytes must fulfil: nothing, save of a kind whose length byte depends on its other fields.
+    ghost allows: { List ℕ → Type 0 } = { λ _. Unit {0} };
+
     /// The structure that the bytes are, all of them: none where they are not `LEN` bytes, or where a byte
     /// that is fixed for the kind is another. Bytes that the standard reserves may be any.
     fn read(bytes: &[u8]) -> Option<Self>
-        ensures some { IsSome result ↔ IsOfLayout parts bytes.now }
+        ensures some { IsSome result ↔ (IsOfLayout parts bytes.now × allows bytes.now) }
         ensures value { IfSome result (λ value. values_at 0 parts bytes.now ≡ values value) };
 
     /// Writes the structure's bytes, and 0 to bytes that the standard reserves. `out` has `LEN` bytes.
     fn write(&self, out: &mut [u8])
         requires { length out.old ≡ LEN }
         ensures bytes { out.new ≡ layout_bytes parts (values self.now) }
-        ensures fits { FitLayout parts (values self.now) };
+        ensures fits { FitLayout parts (values self.now) }
+        ensures allowed { allows out.new };
 
     /// The parts have `LEN` bytes.
     ghost counted: { layout_size parts ≡ LEN };

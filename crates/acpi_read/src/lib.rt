@@ -42,8 +42,11 @@ pub mod laws;
 mod layout;
 mod listed;
 mod madt;
+mod pptt;
 mod root;
 mod rsdp;
+mod slit;
+mod srat;
 mod table;
 
 pub use entries::Entries;
@@ -57,8 +60,11 @@ pub use listed::first;
 pub use madt::{
     AddressOverride, IoApic, LocalApic, LocalNmi, MadtEntry, NmiSource, Override, X2apic, X2apicNmi,
 };
+pub use pptt::{Cache24, Cache28, NodeHead, PpttEntry};
 pub use root::Root;
 pub use rsdp::Rsdp;
+pub use slit::Slit;
+pub use srat::{ApicDomain, MemoryRange, SratEntry, X2apicDomain};
 pub use table::Table;
 
 #[cfg(test)]

@@ -65,7 +65,7 @@ impl<'a> Table<'a> {
         Ok(Table { bytes })
     }
 
-    /// The same table once more: several stages look at one.
+    /// Another view of the same table: several stages look at one. No byte is copied.
     pub fn copied(&self) -> Table<'a>
         ensures { result ≡ self.now }
     {

@@ -123,3 +123,47 @@ fn a_short_madt_has_no_entries(rt: HostRuntime) -> Result<(), Fail> {
     assert_eq!(rt; madt_entries(&short).err(), Some(Code::MadtShort));
     Ok(())
 }
+
+#[test]
+fn entries_of_an_srat(rt: HostRuntime) -> Result<(), Fail> {
+    let body = [
+        0x01, 0x00, 0x00, 0x00, 0x03, 0x05, 0x00, 0x00, 0x00, 0x00, 0x00, 0x00, 0xc1, 0x03, 0xa1,
+        0x07,
+    ];
+    let srat = table(rt.alloc(), *b"SRAT", 1, &body)?;
+    let image = image_of(rt.alloc(), &[(0x1000, &srat)])?;
+    let srat = Table::read(&image, 0x1000).map_err(|_| "no table")?;
+    let mut entries = Entries::srat(srat).map_err(|_| "no entries")?;
+    let first = entries.next().ok_or("no entry")?;
+    assert_eq!(rt;
+        (first.offset, first.bytes),
+        (48, [0xc1, 0x03, 0xa1].as_slice())
+    );
+    assert!(rt; entries.next().is_none());
+    assert_eq!(rt; entries.cut(), Some(51));
+    let short = table(rt.alloc(), *b"SRAT", 1, &body[..11])?;
+    let image = image_of(rt.alloc(), &[(0x1000, &short)])?;
+    let short = Table::read(&image, 0x1000).map_err(|_| "no table")?;
+    assert_eq!(rt; Entries::srat(short).err(), Some(Code::SratShort));
+    Ok(())
+}
+
+#[test]
+fn entries_of_a_pptt(rt: HostRuntime) -> Result<(), Fail> {
+    let pptt = table(rt.alloc(), *b"PPTT", 2, &[0xc1, 0x03, 0xa1, 0xc2, 0x02])?;
+    let image = image_of(rt.alloc(), &[(0x1000, &pptt)])?;
+    let mut entries = Entries::pptt(Table::read(&image, 0x1000).map_err(|_| "no table")?);
+    let first = entries.next().ok_or("no entry")?;
+    assert_eq!(rt;
+        (first.offset, first.bytes),
+        (36, [0xc1, 0x03, 0xa1].as_slice())
+    );
+    let second = entries.next().ok_or("no second entry")?;
+    assert_eq!(rt;
+        (second.offset, second.bytes),
+        (39, [0xc2, 0x02].as_slice())
+    );
+    assert!(rt; entries.next().is_none());
+    assert_eq!(rt; entries.cut(), None);
+    Ok(())
+}

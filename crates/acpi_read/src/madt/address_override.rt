@@ -2,7 +2,7 @@
 
 ghost use Rattle.std.specs.Prelude.{◌≡◌, refl};
 ghost use Rattle.std.proofs.Common.{rules};
-ghost use Rattle.acpi_read.specs.Madts.{address_override_parts, address_override_values, address_override_value};
+ghost use Rattle.acpi_read.specs.Madts.{address_override_parts, address_override_values};
 ghost use Rattle.acpi_read.specs.declared.madt.address_override.AddressOverride.{AddressOverride};
 
 use crate::kind::is_kind;
@@ -24,7 +24,7 @@ impl Layout for AddressOverride {
 
     ghost parts = { address_override_parts };
 
-    ghost values = { λ entry. address_override_values (address_override_value entry) };
+    ghost values = { address_override_values };
 
     fn read(bytes: &[u8]) -> Option<AddressOverride> {
         if !is_kind(bytes, 5, 12) {

@@ -2,7 +2,7 @@
 
 ghost use Rattle.std.specs.Prelude.{◌≡◌, refl};
 ghost use Rattle.std.proofs.Common.{rules};
-ghost use Rattle.acpi_read.specs.Madts.{io_apic_parts, io_apic_values, io_apic_value};
+ghost use Rattle.acpi_read.specs.Madts.{io_apic_parts, io_apic_values};
 ghost use Rattle.acpi_read.specs.declared.madt.io_apic.IoApic.{IoApic};
 
 use crate::kind::is_kind;
@@ -28,7 +28,7 @@ impl Layout for IoApic {
 
     ghost parts = { io_apic_parts };
 
-    ghost values = { λ entry. io_apic_values (io_apic_value entry) };
+    ghost values = { io_apic_values };
 
     fn read(bytes: &[u8]) -> Option<IoApic> {
         if !is_kind(bytes, 1, 12) {

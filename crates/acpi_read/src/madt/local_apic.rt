@@ -2,7 +2,7 @@
 
 ghost use Rattle.std.specs.Prelude.{◌≡◌, refl};
 ghost use Rattle.std.proofs.Common.{rules};
-ghost use Rattle.acpi_read.specs.Madts.{local_apic_parts, local_apic_values, local_apic_value};
+ghost use Rattle.acpi_read.specs.Madts.{local_apic_parts, local_apic_values};
 ghost use Rattle.acpi_read.specs.declared.madt.local_apic.LocalApic.{LocalApic};
 
 use crate::kind::is_kind;
@@ -27,7 +27,7 @@ impl Layout for LocalApic {
 
     ghost parts = { local_apic_parts };
 
-    ghost values = { λ entry. local_apic_values (local_apic_value entry) };
+    ghost values = { local_apic_values };
 
     fn read(bytes: &[u8]) -> Option<LocalApic> {
         if !is_kind(bytes, 0, 8) {

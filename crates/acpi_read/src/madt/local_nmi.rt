@@ -2,7 +2,7 @@
 
 ghost use Rattle.std.specs.Prelude.{◌≡◌, refl};
 ghost use Rattle.std.proofs.Common.{rules};
-ghost use Rattle.acpi_read.specs.Madts.{local_nmi_parts, local_nmi_values, local_nmi_value};
+ghost use Rattle.acpi_read.specs.Madts.{local_nmi_parts, local_nmi_values};
 ghost use Rattle.acpi_read.specs.declared.madt.local_nmi.LocalNmi.{LocalNmi};
 
 use crate::kind::is_kind;
@@ -28,7 +28,7 @@ impl Layout for LocalNmi {
 
     ghost parts = { local_nmi_parts };
 
-    ghost values = { λ entry. local_nmi_values (local_nmi_value entry) };
+    ghost values = { local_nmi_values };
 
     fn read(bytes: &[u8]) -> Option<LocalNmi> {
         if !is_kind(bytes, 4, 6) {

@@ -2,7 +2,7 @@
 
 ghost use Rattle.std.specs.Prelude.{◌≡◌, refl};
 ghost use Rattle.std.proofs.Common.{rules};
-ghost use Rattle.acpi_read.specs.Madts.{nmi_source_parts, nmi_source_values, nmi_source_value};
+ghost use Rattle.acpi_read.specs.Madts.{nmi_source_parts, nmi_source_values};
 ghost use Rattle.acpi_read.specs.declared.madt.nmi_source.NmiSource.{NmiSource};
 
 use crate::kind::is_kind;
@@ -25,7 +25,7 @@ impl Layout for NmiSource {
 
     ghost parts = { nmi_source_parts };
 
-    ghost values = { λ entry. nmi_source_values (nmi_source_value entry) };
+    ghost values = { nmi_source_values };
 
     fn read(bytes: &[u8]) -> Option<NmiSource> {
         if !is_kind(bytes, 3, 8) {

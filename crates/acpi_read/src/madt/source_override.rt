@@ -2,7 +2,7 @@
 
 ghost use Rattle.std.specs.Prelude.{◌≡◌, refl};
 ghost use Rattle.std.proofs.Common.{rules};
-ghost use Rattle.acpi_read.specs.Madts.{override_parts, override_values, override_value};
+ghost use Rattle.acpi_read.specs.Madts.{override_parts, override_values};
 ghost use Rattle.acpi_read.specs.declared.madt.source_override.Override.{Override};
 
 use crate::kind::is_kind;
@@ -30,7 +30,7 @@ impl Layout for Override {
 
     ghost parts = { override_parts };
 
-    ghost values = { λ entry. override_values (override_value entry) };
+    ghost values = { override_values };
 
     fn read(bytes: &[u8]) -> Option<Override> {
         if !is_kind(bytes, 2, 10) {

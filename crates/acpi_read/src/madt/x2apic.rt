@@ -2,7 +2,7 @@
 
 ghost use Rattle.std.specs.Prelude.{◌≡◌, refl};
 ghost use Rattle.std.proofs.Common.{rules};
-ghost use Rattle.acpi_read.specs.Madts.{x2apic_parts, x2apic_values, x2apic_value};
+ghost use Rattle.acpi_read.specs.Madts.{x2apic_parts, x2apic_values};
 ghost use Rattle.acpi_read.specs.declared.madt.x2apic.X2apic.{X2apic};
 
 use crate::kind::is_kind;
@@ -27,7 +27,7 @@ impl Layout for X2apic {
 
     ghost parts = { x2apic_parts };
 
-    ghost values = { λ entry. x2apic_values (x2apic_value entry) };
+    ghost values = { x2apic_values };
 
     fn read(bytes: &[u8]) -> Option<X2apic> {
         if !is_kind(bytes, 9, 16) {

@@ -2,7 +2,7 @@
 
 ghost use Rattle.std.specs.Prelude.{◌≡◌, refl};
 ghost use Rattle.std.proofs.Common.{rules};
-ghost use Rattle.acpi_read.specs.Madts.{x2apic_nmi_parts, x2apic_nmi_values, x2apic_nmi_value};
+ghost use Rattle.acpi_read.specs.Madts.{x2apic_nmi_parts, x2apic_nmi_values};
 ghost use Rattle.acpi_read.specs.declared.madt.x2apic_nmi.X2apicNmi.{X2apicNmi};
 
 use crate::kind::is_kind;
@@ -28,7 +28,7 @@ impl Layout for X2apicNmi {
 
     ghost parts = { x2apic_nmi_parts };
 
-    ghost values = { λ entry. x2apic_nmi_values (x2apic_nmi_value entry) };
+    ghost values = { x2apic_nmi_values };
 
     fn read(bytes: &[u8]) -> Option<X2apicNmi> {
         if !is_kind(bytes, 10, 12) {

@@ -15,5 +15,5 @@ returns-clause-value g c =
     let holds = HasValues-layout_bytes layout.parts (layout.values value) c.write.ensures.fits in
     let of_layout = subst (IsOfLayout layout.parts) (sym c.write.ensures.bytes) holds.layout in
     let same = ap (values_at 0 layout.parts) c.write.ensures.bytes ∙ holds.same in
-    found c.read.result value (λ y. values_at 0 layout.parts c.write.new.out ≡ layout.values y) (c.read.ensures.some.1 of_layout) c.read.ensures.value
+    found c.read.result value (λ y. values_at 0 layout.parts c.write.new.out ≡ layout.values y) (c.read.ensures.some.1 (of_layout, c.write.ensures.allowed)) c.read.ensures.value
     (λ y held. g.met.L.Layout.one_value y value (sym held ∙ same))

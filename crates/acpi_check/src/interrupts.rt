@@ -1,0 +1,88 @@
+//! Stage 7: the interrupt numbers that I/O APICs serve.
+
+ghost use Rattle.std.specs.Prelude.{◌≡◌, ◌<◌, ◌^◌, ⊤, IfOk, option_map};
+ghost use Rattle.acpi_base.specs.Madt.{madt_entry, madt_contents, Serves};
+ghost use Rattle.acpi_base.specs.Statements.{CleanBefore};
+ghost use Rattle.acpi_base.specs.declared.stage.Stage.{Stage};
+ghost use Rattle.acpi_check.specs.Gathered.{span_value, served, AreSpansOf, IsFound};
+ghost use Rattle.acpi_check.specs.Settled.{Settles};
+ghost use Rattle.acpi_check.specs.Set.{IsSet};
+
+use crate::refusal::Refusal;
+use crate::set::Set;
+use acpi_base::{Code, Policy, Witness};
+use acpi_graph::{Clash, Span, first_clash};
+use acpi_read::{Entries, Entry, MadtEntry, Table};
+use std::alloc::{AllocError, Global};
+
+/// The interrupt numbers that an I/O APIC serves, named by the entry's offset. None for another entry, and for
+/// an I/O APIC without inputs.
+fn served_span(policy: &Policy, entry: &Entry<'_>) -> Option<Span>
+    requires { entry.now.offset < 2 ^ 32 }
+    ensures { option_map span_value result ≡ served policy.now entry.now.offset (madt_entry entry.now.bytes.now) }
+{
+    let Ok(MadtEntry::IoApic(io_apic)) = MadtEntry::read(entry.bytes) else {
+        return None;
+    };
+    let start = u128::from(io_apic.gsi_base);
+    let end = start + u128::from(policy.inputs_of(io_apic.address));
+    Span::new(start, end, entry.offset as u32)
+}
+
+/// The interrupt numbers that each I/O APIC of a MADT serves, in the entries' order.
+#[tactic(auto, using(crate::proofs::Gathered::gathering))]
+fn served_spans(alloc: Global, policy: &Policy, table: Table<'_>) -> Result<Vec<Span>, AllocError>
+    ensures { IfOk result (λ spans. AreSpansOf (Serves policy.now (madt_contents table.entry)) spans.items) }
+{
+    // A table has fewer than 2^32 bytes, so an offset fits the name of a span.
+    let _ = table.bytes();
+    let mut spans = Vec::new(alloc);
+    let Ok(entries) = Entries::madt(table) else {
+        return Ok(spans);
+    };
+    for entry in entries {
+        if let Some(span) = served_span(policy, &entry) {
+            spans.push(span)?;
+        }
+    }
+    Ok(spans)
+}
+
+/// The least interrupt number that two I/O APICs of a MADT serve, and the first two that do.
+#[tactic(auto, using(crate::proofs::Clashes::is_found))]
+fn first_gsi_clash(alloc: Global, policy: &Policy, table: Table<'_>) -> Result<Clash, AllocError>
+    ensures { IfOk result (IsFound (Serves policy.now (madt_contents table.entry))) }
+{
+    let spans = served_spans(alloc, policy, table)?;
+    let (clash, _) = first_clash(alloc, spans)?;
+    Ok(clash)
+}
+
+/// Whether no interrupt number is served by two I/O APICs of the MADT, or the set lists no MADT. A fault is at the
+/// offset of the first two that serve the least such number. Takes memory for each I/O APIC.
+pub fn apart_interrupts(alloc: Global, set: &Set<'_>) -> Result<(), Refusal>
+    requires clean { CleanBefore Stage.Interrupts set.now.image.now set.now.policy.now }
+    requires set { IsSet set.now }
+    ensures { Settles Stage.Interrupts set.now.image.now set.now.policy.now (λ _. ⊤) result }
+{
+    match &set.madt {
+        None => Ok(()),
+        Some(table) => match first_gsi_clash(alloc, set.policy, table.copied()) {
+            Ok(Clash::None) => Ok(()),
+            Ok(Clash::At {
+                first,
+                second,
+                point,
+            }) => Err(Refusal::Fault(Witness {
+                code: Code::GsiClash,
+                at: u64::from(first),
+                other: u64::from(second),
+                point: point as u64,
+            })),
+            Err(AllocError) => Err(Refusal::OutOfMemory),
+        },
+    }
+}
+
+#[cfg(test)]
+mod tests;

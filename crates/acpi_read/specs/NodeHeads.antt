@@ -1,0 +1,21 @@
+-- The heads of the PPTT's nodes.
+use Rattle.std.proofs.Common.{◌≡◌, ◌≤◌, ◌+◌, ◌*◌, ℕ, List, [], ◌∷◌, ap, sym, subst, ◌∙◌, arith}
+use Rattle.std.specs.Coded.{le_prop}
+use Rattle.acpi_read.specs.Pptts.{node_head_values}
+use Rattle.acpi_read.specs.declared.pptt.node_head.NodeHead.{NodeHead}
+
+-- heads with the same fields are the same
+same_fields : (flags parent id count : ℕ) (fits : count ≤ 58) (h : NodeHead) → flags ≡ h.flags → parent ≡ h.parent → id ≡ h.id → count ≡ h.count
+    → record { flags = flags; parent = parent; id = id; count = count; fits = fits } ≡ h
+same_fields flags parent id count fits h same_flags same_parent same_id same_count =
+    subst (λ (k : ℕ). (f : k ≤ 58) → record { flags = flags; parent = parent; id = id; count = k; fits = f } ≡ h) (sym same_count)
+    (λ f.
+    ap (λ (x : ℕ). record h { flags = x; parent = parent; id = id; fits = f }) same_flags
+    ∙ ap (λ (x : ℕ). record h { parent = x; id = id; fits = f }) same_parent
+    ∙ ap (λ (x : ℕ). record h { id = x; fits = f }) same_id
+    ∙ ap (λ (g : h.count ≤ 58). record h { fits = g }) (le_prop f h.fits))
+    fits
+
+-- and so are those with the same values
+pub one_head : (one other : NodeHead) → node_head_values one ≡ node_head_values other → one ≡ other
+one_head one other same = same_fields one.flags one.parent one.id one.count one.fits other (cc) (cc) (cc) (cc)

@@ -1,0 +1,77 @@
+//! Caches of 24 bytes.
+
+ghost use Rattle.std.specs.Prelude.{◌≡◌, refl};
+ghost use Rattle.std.proofs.Common.{rules};
+ghost use Rattle.acpi_read.specs.Pptts.{cache24_parts, cache24_values};
+ghost use Rattle.acpi_read.specs.declared.pptt.cache24.Cache24.{Cache24};
+
+use crate::kind::is_kind;
+use crate::layout::Layout;
+use acpi_base::field::{Value, put_values, u8_at, u16_at, u32_at};
+
+/// A cache type structure without an ID (ACPI 6.5, 5.2.30.2): type 1, 24 bytes. Bytes 2 and 3 are reserved. Which other
+/// fields are valid is not checked.
+#[derive(Clone, Copy, Debug, PartialEq, Eq)]
+pub struct Cache24 {
+    /// At 4: which of the fields behind it are valid.
+    pub flags: u32,
+    /// At 8: the offset of the cache of the next level, from the table's start; 0 for none.
+    pub next_level: u32,
+    /// At 12: its size in bytes.
+    pub size: u32,
+    /// At 16: how many sets it has.
+    pub sets: u32,
+    /// At 20: how many ways it has.
+    pub associativity: u8,
+    /// At 21: bits 1:0 are the allocation type, bits 3:2 the cache type, bit 4 the write policy.
+    pub attributes: u8,
+    /// At 22: the size of a line in bytes.
+    pub line_size: u16,
+}
+
+impl Layout for Cache24 {
+    ghost LEN = { 24 };
+
+    const LEN: usize = 24;
+
+    ghost parts = { cache24_parts };
+
+    ghost values = { cache24_values };
+
+    fn read(bytes: &[u8]) -> Option<Cache24> {
+        if !is_kind(bytes, 1, 24) {
+            return None;
+        }
+        Some(Cache24 {
+            flags: u32_at(bytes, 4),
+            next_level: u32_at(bytes, 8),
+            size: u32_at(bytes, 12),
+            sets: u32_at(bytes, 16),
+            associativity: u8_at(bytes, 20),
+            attributes: u8_at(bytes, 21),
+            line_size: u16_at(bytes, 22),
+        })
+    }
+
+    fn write(&self, out: &mut [u8]) {
+        put_values(
+            out,
+            &[
+                Value::U8(1),
+                Value::U8(24),
+                Value::Zeros(2),
+                Value::U32(self.flags),
+                Value::U32(self.next_level),
+                Value::U32(self.size),
+                Value::U32(self.sets),
+                Value::U8(self.associativity),
+                Value::U8(self.attributes),
+                Value::U16(self.line_size),
+            ],
+        );
+    }
+
+    ghost counted = { refl };
+
+    ghost one_value = { λ _ _ same. Prim.search rules };
+}
