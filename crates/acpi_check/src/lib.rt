@@ -17,6 +17,7 @@ mod check;
 mod facs;
 mod fadt;
 mod madt;
+mod overrides;
 mod refusal;
 mod root;
 mod rsdp;
