@@ -7,6 +7,7 @@ mod Indexed
 mod IndexedNodes
 mod Kept
 mod MadtPass
+mod OverridesPass
 mod Passes
 mod ServedSpans
 mod Slots

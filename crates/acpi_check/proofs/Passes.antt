@@ -1,8 +1,8 @@
 -- A pass over the entries of a table, which stand at rising offsets.
-use Rattle.std.proofs.Common.{◌≡◌, ℕ, zero, suc, ◌<◌, ◌≤◌, List, [], ◌∷◌, refl, sym, ap, subst, inl, inr, arith}
+use Rattle.std.proofs.Common.{◌≡◌, ℕ, suc, ◌<◌, ◌≤◌, List, [], ◌∷◌, sym, ap, subst, inl, inr, arith}
 use Rattle.std.specs.Prelude.{◌⊎◌, ⊤, Result, Ok, Err}
 use Rattle.std.specs.Result.{IsErr, IsErrAnd}
-use Rattle.acpi_base.specs.Entries.{Standing, Stands, StandsWith, entries_of, said_by}
+use Rattle.acpi_base.specs.Entries.{Standing, Stands, entries_of, said_by}
 use Rattle.acpi_base.proofs.Elements.{first_element, later_element, first_or_later, no_element}
 use Rattle.acpi_base.specs.declared.code.Code.{Code}
 use Rattle.acpi_base.specs.declared.stage.Stage.{Stage}

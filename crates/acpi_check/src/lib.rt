@@ -18,6 +18,7 @@ mod facs;
 mod fadt;
 mod interrupts;
 mod madt;
+mod overrides;
 mod refusal;
 mod root;
 mod rsdp;
