@@ -241,12 +241,13 @@ fn a_madt_of_each_length(rt: HostRuntime) -> Result<(), Fail> {
     let whole = madt(alloc, &[LOCAL_APIC, IO_APIC, TIMER, NMI])?;
     assert_eq!(rt; whole.len(), 80);
     for length in 0..81 {
-        let (kept, rest) = whole.split_at_checked(length).ok_or("a length")?;
+        // So many bytes sum to 0, or all where they do not reach over the checksum.
+        let summed = if length < 36 { whole.len() } else { length };
+        let (kept, rest) = whole.split_at_checked(summed).ok_or("a length")?;
         let field = u32::try_from(length).map_err(|_| "a length")?.to_le_bytes();
         let prefix = changed(joined(alloc, &[kept])?, &[(4, &field)]);
-        let madt = joined(alloc, &[&prefix, rest])?;
         let line = line_of_length(length);
-        let text = firmware(alloc, &madt)?;
+        let text = firmware(alloc, &joined(alloc, &[&prefix, rest])?)?;
         let status = u8::from(line != "yes\n");
         expect_check(&rt, alloc, text.as_bytes(), Stage::Overrides, status, line)?;
     }
