@@ -1,6 +1,7 @@
 -- What `clap` reads of the arguments of `check`, one after another.
-use Rattle.std.proofs.Common.{◌≡◌, ◌==◌, ◌&&◌, ◌||◌, ◌∙◌, ℕ, Bool, List, [], ◌∷◌, ◌++◌, Option, Some, None, true, false, cond, codes, append_assoc, append-nil, refl, ap, subst, sym}
+use Rattle.std.proofs.Common.{◌≡◌, ◌==◌, ◌∙◌, ℕ, Bool, List, [], ◌∷◌, ◌++◌, Option, Some, None, true, false, cond, codes, append_assoc, append-nil, refl, ap, subst, sym}
 use Rattle.std.specs.Prelude.{fold, IfSome}
+use Rattle.std.proofs.Math.Bool.{and-false, or-true}
 use Rattle.clap.specs.Words.{Row, Rule, Text, Shape}
 use Rattle.clap.specs.Walk.{Held, Waiting, Walk, finished, has_row, idle, more_values, nothing_held, option, plain_word, positional, rows_after, settled, settled_rows, subcommand_met, without, value, walked, with_values, word_met}
 use Rattle.clap.specs.Simple.{filled_from, help_rule, new_shape}
@@ -153,21 +154,17 @@ word_is_sound : (waiting : Waiting) (first : ℕ) (rest : Text) (h : Held) → G
     → word_fault shape [] false waiting (first ∷ rest) h ≡ []
 word_is_sound waiting first rest h goes plain = simp (goes.no_command, plain)
 
-never_several : (b : Bool) → (b && false) ≡ false
-never_several true = refl
-never_several false = refl
-
 -- it is the next word of `ADDRESS=COUNT`
 word_is_next : (rows : List Row) (pending : Option (Text × List Text)) (waiting : Waiting) (first : ℕ) (rest : Text) → GoesOn waiting → (first == 45) ≡ false
     → walked rules [] (standing rows pending waiting) (first ∷ rest) ≡ standing (settled_rows rules pending rows) (Some (codes "inputs", (first ∷ rest) ∷ [])) positional
 unfolding rules clap_on_literals
-word_is_next rows pending waiting first rest goes plain = rw (word_is_value waiting first rest (held rows pending) goes plain) (simp never_several)
+word_is_next rows pending waiting first rest goes plain = rw (word_is_value waiting first rest (held rows pending) goes plain) (simp and-false)
 
 word_may_come : (rows : List Row) (pending : Option (Text × List Text)) (waiting : Waiting) (first : ℕ) (rest : Text) → GoesOn waiting → (first == 45) ≡ false
     → settle_fault rules false (held rows pending) ≡ [] → turn_fault shape [] (standing rows pending waiting) (first ∷ rest) ≡ []
 unfolding rules shape clap_on_literals
 word_may_come rows pending waiting first rest goes plain settles =
-    rw (word_is_value waiting first rest (held rows pending) goes plain, word_is_sound waiting first rest (held rows pending) goes plain) (simp (never_several, settles))
+    rw (word_is_value waiting first rest (held rows pending) goes plain, word_is_sound waiting first rest (held rows pending) goes plain) (simp (and-false, settles))
 
 -- a word without a hyphen, and then the words behind it
 reads_word : (text : Text) (words : List Text) (before rows : List Row) (pending : Option (Text × List Text)) (waiting : Waiting) → GoesOn waiting → IsPlain text
@@ -239,10 +236,6 @@ either_way : (b : Bool) (rows : List Row) → cond b rows rows ≡ rows
 either_way true rows = refl
 either_way false rows = refl
 
-or_empty : (b : Bool) → (b || true) ≡ true
-or_empty true = refl
-or_empty false = refl
-
 -- no argument has a default of `clap`'s
 pub finished_rows : (h : Held) → finished rules h ≡ (settled rules h).rows
 unfolding rules
@@ -250,7 +243,7 @@ finished_rows h = simp either_way
 
 no_default_fault : (rows : List Row) → defaults_fault rows rules ≡ []
 unfolding rules clap_on_literals
-no_default_fault rows = simp (or_empty, either_way)
+no_default_fault rows = simp (or-true, either_way)
 
 -- `clap` takes the words
 pub taken : (words : List Text) (rows : List Row) → Reads (standing [] None idle) words rows → level_fault shape [] nothing_held words false [] ≡ []

@@ -1,11 +1,12 @@
 -- Values of the command line begin with no hyphen.
-use Rattle.std.proofs.Common.{◌≡◌, ◌==◌, ◌&&◌, ◌∙◌, ◌+◌, ℕ, suc, take, option_map, arith, Bool, List, [], ◌∷◌, Option, Some, None, true, false, cond, refl, ap, inl, inr}
+use Rattle.std.proofs.Common.{◌≡◌, ◌==◌, ◌&&◌, ◌++◌, ℕ, Bool, List, [], ◌∷◌, Option, Some, None, false, cond, codes, refl, ap, subst, sym, inl, inr}
+use Rattle.std.proofs.Math.Bool.{and-false}
 use Rattle.std.proofs.lemmas.Bool.Decides.{eqb_tells}
 use Rattle.std.specs.Prelude.{option_and_then}
 use Rattle.clap.specs.Words.{Text}
 use Rattle.acpi_cli.specs.CommandLine.{built_stage, last_word}
-use Rattle.acpi_cli.specs.Words.{all_inputs, count_word, hex_word, inputs_word, is_equals_sign}
-use Rattle.std.specs.List.{after_first, before_first, position_or_len}
+use Rattle.acpi_cli.specs.Words.{all_inputs, count_word, hex_word, inputs_word}
+use Rattle.acpi_cli.proofs.Spellings.{spelling}
 use Rattle.acpi_cli.proofs.InputsWords.{more_inputs}
 use Rattle.acpi_cli.specs.declared.policy_words.Inputs.{Inputs}
 
@@ -32,12 +33,11 @@ plain_if_read reads (c ∷ cs) t nothing hyphen e = elim (eqb_tells c 45) [
 
 -- a hyphen is no digit
 no_number : (some short : Bool) (n : ℕ) → cond (some && (short && false)) (Some n) None ≡ None
-no_number true true n = refl
-no_number true false n = refl
-no_number false short n = refl
+no_number some short n = simp and-false
 
-pub hex_is_plain : (hex : Text) (n : ℕ) → hex_word 16 hex ≡ Some n → IsPlain hex
-hex_is_plain hex n e = plain_if_read (hex_word 16) hex n refl (λ rest. no_number _ _ _) e
+-- no number of the command line begins with a hyphen
+pub hex_is_plain : (most : ℕ) (hex : Text) (n : ℕ) → hex_word most hex ≡ Some n → IsPlain hex
+hex_is_plain most hex n e = plain_if_read (hex_word most) hex n refl (λ rest. no_number _ _ _) e
 
 pub stage_is_plain : (number : Text) (n : ℕ) → last_word (Some number) ≡ Some n → IsPlain number
 stage_is_plain number n e = plain_if_read (λ text. last_word (Some text)) number n refl (λ rest. ap (option_and_then built_stage) (no_number _ _ _)) e
@@ -45,18 +45,19 @@ stage_is_plain number n e = plain_if_read (λ text. last_word (Some text)) numbe
 pub count_is_plain : (number : Text) (n : ℕ) → count_word number ≡ Some n → IsPlain number
 count_is_plain number n e = plain_if_read count_word number n refl (λ rest. ap (option_and_then _) (no_number _ _ _)) e
 
--- what stands before the `=` begins as the text does
-before_hyphen : (rest : Text) → before_first is_equals_sign (45 ∷ rest) ≡ 45 ∷ before_first is_equals_sign rest
-before_hyphen rest = ap (λ n. take n (45 ∷ rest)) (one_add (position_or_len is_equals_sign rest))
-  where
-    one_add : (n : ℕ) → 1 + n ≡ suc n
-    one_add n = omega arith
+-- nor does an address with what stands behind it
+plain_with_more : (text more : Text) → IsPlain text → IsPlain (text ++ more)
+plain_with_more text more plain = record {
+  first = plain.first;
+  rest = plain.rest ++ more;
+  is = ap (λ (t : Text). t ++ more) plain.is;
+  plain = plain.plain;
+}
 
-pub inputs_are_plain : (word : Text) (inputs : Inputs) → inputs_word word ≡ Some inputs → IsPlain word
-inputs_are_plain word inputs e = plain_if_read inputs_word word inputs refl (λ rest. no_inputs rest (ap (hex_word 8) (before_hyphen rest) ∙ no_number _ _ _)) e
-  where
-    no_inputs : (rest : Text) → hex_word 8 (before_first is_equals_sign (45 ∷ rest)) ≡ None → inputs_word (45 ∷ rest) ≡ None
-    no_inputs rest e = ap (option_and_then (λ address. option_map (λ count. record { address = address; count = count }) (count_word (after_first is_equals_sign (45 ∷ rest))))) e
+inputs_are_plain : (word : Text) (inputs : Inputs) → inputs_word word ≡ Some inputs → IsPlain word
+inputs_are_plain word inputs e =
+    let s = spelling word inputs e in
+    subst IsPlain (sym s.is) (plain_with_more (s.address ++ codes "=") s.count (plain_with_more s.address (codes "=") (hex_is_plain 8 s.address inputs.address s.is_address)))
 
 pub all_are_plain : (words : List Text) (counts : List Inputs) → all_inputs words ≡ Some counts → ArePlain words
 all_are_plain [] counts e = tt

@@ -93,7 +93,7 @@ rsdp_is_plain (Some text) rsdp e = go (hex_word 16 text) refl e
   where
     go : (address : Option ℕ) → hex_word 16 text ≡ address → option_map (λ a. Some a) address ≡ Some rsdp → IsPlain text
     go None is e = absurd (cc)
-    go (Some address) is e = hex_is_plain text address is
+    go (Some address) is e = hex_is_plain 16 text address is
 
 through_is_plain : (text : Option Text) (last : ℕ) → last_word text ≡ Some last → IfSome text IsPlain
 through_is_plain None last e = tt

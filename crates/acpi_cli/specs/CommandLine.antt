@@ -1,6 +1,6 @@
 -- The command line as it is declared to `clap`, and what its arguments ask for.
-use Rattle.std.specs.Prelude.{◌≡◌, ◌≤◌, ℕ, ◌&&◌, Bool, true, false, List, [], ◌∷◌, ◌++◌, Option, Some, None}
-use Rattle.std.specs.Prelude.{if◌then◌else◌, codes, fold, nat_le, option_and_then, option_map, unwrap_or}
+use Rattle.std.specs.Prelude.{◌≡◌, ◌≤◌, ◌==◌, ℕ, ◌&&◌, Bool, true, false, List, [], ◌∷◌, ◌++◌, Option, Some, None}
+use Rattle.std.specs.Prelude.{if◌then◌else◌, codes, find as find_first, fold, nat_le, option_and_then, option_map, unwrap_or}
 use Rattle.std.specs.Str.{bytes_eq}
 use Rattle.clap.specs.Words.{App, Kinds, Row, Rule, Text, all_of, fault_of, first_of, new_app, new_rule}
 use Rattle.clap.specs.Words.{subcommand_of, with_rule, with_subcommand}
@@ -82,6 +82,10 @@ default_word (Some text) = count_word text
 -- the policy with these counts of inputs, given one after another: the first count of an address stands
 abbrev pub with_inputs : PolicyValue → List Inputs → PolicyValue
 with_inputs q counts = fold (λ q inputs. with_input q inputs.address inputs.count) q counts
+
+-- the first of the counts that is one of the I/O APIC at this address
+abbrev pub first_count : List Inputs → ℕ → Option ℕ
+first_count counts address = option_map (λ inputs. inputs.count) (find_first (λ inputs. inputs.address == address) counts)
 
 -- The policy of `--default-inputs N` and the words `ADDRESS=COUNT`. No RSDP is set yet, and the settings are those of
 -- a new policy.

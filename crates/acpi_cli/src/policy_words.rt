@@ -1,8 +1,9 @@
 //! What the arguments of the command line say of I/O APICs: how many inputs each has.
 
-ghost use Rattle.std.specs.Prelude.{◌≡◌, IfErr, IfOk, IsSome, Some, map, option_map};
-ghost use Rattle.acpi_cli.specs.CommandLine.{default_word, policy_words};
-ghost use Rattle.acpi_cli.specs.Words.{count_word, inputs_word};
+ghost use Rattle.std.specs.Prelude.{◌≡◌, ◌++◌, ℕ, List, IfErr, IfOk, IsSome, Some, codes, map, option_map, unwrap_or};
+ghost use Rattle.acpi_base.specs.Policy.{PolicyValue, inputs_of, new_policy};
+ghost use Rattle.acpi_cli.specs.CommandLine.{default_word, first_count, policy_words, with_inputs};
+ghost use Rattle.acpi_cli.specs.Words.{count_word, hex_word, inputs_word};
 
 use crate::number_words::{decimal_number, hex_number};
 use crate::words::WordFault;
@@ -58,6 +59,26 @@ pub fn read_policy(
     }
     Ok(policy)
 }
+
+/// In the policy of the words each I/O APIC has the first count that they give for its address, else the default. They
+/// change nothing else in a policy.
+pub fn first_counts_stand()
+    ensures inputs { (default_inputs address : ℕ) (counts : List Inputs) →
+        inputs_of (with_inputs (new_policy 0 default_inputs) counts) address
+        ≡ unwrap_or (first_count counts address) default_inputs }
+    ensures others { (q : PolicyValue) (counts : List Inputs) →
+        with_inputs q counts ≡ record q { inputs = (with_inputs q counts).inputs } }
+{}
+
+/// A word is `ADDRESS=COUNT` exactly where it is an address of 1 to 8 hex digits, with `0x` before them or without, a
+/// `=`, and a count of 1 to 256 in 1 to 3 decimal digits.
+pub fn inputs_are_address_and_count()
+    ensures read { (address count : List ℕ) (a n : ℕ) → hex_word 8 address ≡ Some a → count_word count ≡ Some n
+        → inputs_word (address ++ codes "=" ++ count) ≡ Some (record { address = a; count = n }) }
+    ensures only { (word : List ℕ) (inputs : Inputs) → inputs_word word ≡ Some inputs
+        → (address : List ℕ) × (count : List ℕ) × (word ≡ address ++ codes "=" ++ count)
+        × (hex_word 8 address ≡ Some inputs.address) × (count_word count ≡ Some inputs.count) }
+{}
 
 /// An error message on the value of `--default-inputs` and on the words, in a line that names the first wrong one.
 pub fn policy_message(
