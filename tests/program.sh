@@ -250,7 +250,7 @@ refuses() {
   grep -qxF '  acpiset check [--rsdp HEX] [--through N]' "$scratch/err" || wrong="$wrong; no usage of check"
   grep -qxF '  acpiset find' "$scratch/err" || wrong="$wrong; no usage of find"
   grep -qxF "  --through N  the last stage to check, 1 to $last, and $last if absent:" "$scratch/err" || wrong="$wrong; no last stage"
-  [ "$(sed -n 's/^ \{15,\}\([0-9][0-9]*\) .*/\1/p' "$scratch/err" | tr '\n' ' ')" = "$(seq -s ' ' "$last") " ] || wrong="$wrong; no list of the stages"
+  [ "$(sed -n '/^  --through/,/^$/s/^ \{15,\}\([0-9][0-9]*\) .*/\1/p' "$scratch/err" | tr '\n' ' ')" = "$(seq -s ' ' "$last") " ] || wrong="$wrong; no list of the stages"
   count "arguments '$*'" "$wrong"
 }
 refuses ''
@@ -259,7 +259,16 @@ refuses '' check --help
 refuses '' help
 refuses "unrecognized subcommand 'chek'" chek --rsdp e0000
 refuses "unexpected argument '--rspd' found" check --rspd e0000
-refuses "unexpected argument 'fec00000=24' found" check --rsdp e0000 fec00000=24
+inputs='an I/O APIC has 1 to 256 inputs, in 1 to 3 decimal digits'
+for word in fec00000= fec00000=0 fec00000=257 fec00000=65560 fec00000=0024 fec00000=24x; do
+  refuses "'$word': $inputs" check --rsdp e0000 "$word"
+done
+refuses "'fec00000=257': $inputs" check --rsdp e0000 fec00000=24 fec00000=257
+refuses "'fec00000': what is no option is ADDRESS=COUNT, such as fec00000=24" check --rsdp e0000 fec00000
+refuses "'1fec00000=24': the address of an I/O APIC is 1 to 8 hex digits, with 0x before them or without" check --rsdp e0000 1fec00000=24
+for number in 0 257 65560 0024 3x; do
+  refuses "--default-inputs '$number': $inputs" check --rsdp e0000 --default-inputs "$number"
+done
 refuses "a value is required for '--rsdp <HEX>' but none was supplied" check --rsdp
 refuses "a value is required for '--through <N>' but none was supplied" check --rsdp e0000 --through
 refuses "the argument '--rsdp <HEX>' cannot be used multiple times" check --rsdp e0000 --rsdp e0000
