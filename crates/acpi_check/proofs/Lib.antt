@@ -10,3 +10,4 @@ mod MadtPass
 mod Passes
 mod ServedSpans
 mod Slots
+mod SratPass

@@ -16,6 +16,8 @@ use crate::refusal::Refusal;
 use crate::root::sound_root;
 use crate::rsdp::sound_rsdp;
 use crate::set::Set;
+use crate::slit::sound_slit;
+use crate::srat::sound_srat;
 use crate::tables::sound_tables;
 use acpi_base::{Image, Policy, Stage, Verdict};
 use std::alloc::{AllocError, Global};
@@ -90,6 +92,8 @@ fn ask(set: &Set<'_>, stage: Stage) -> Result<(), Refusal>
     match stage {
         Stage::Facs => sound_facs(set),
         Stage::Madt => sound_madt(set),
+        Stage::Srat => sound_srat(set),
+        Stage::Slit => sound_slit(set),
         // Those before it hold of every set.
         _ => Ok(()),
     }

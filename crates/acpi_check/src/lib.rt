@@ -22,6 +22,8 @@ mod refusal;
 mod root;
 mod rsdp;
 mod set;
+mod slit;
+mod srat;
 mod tables;
 #[cfg(test)]
 mod tests;
