@@ -9,7 +9,7 @@ use Rattle.acpi_base.specs.Rsdp.{Addresses, addresses_at, RsdpValue, RsdpFault, 
 use Rattle.acpi_base.specs.Root.{HasSlot, IsSlot, RootFault, RootTableFault, NamedRootFault, chosen_root}
 use Rattle.acpi_base.specs.Tables.{IsSoundTable, TableFault}
 use Rattle.acpi_base.specs.Listed.{fadt_signature, madt_signature, srat_signature, slit_signature, IsListedTable, ListsNone}
-use Rattle.acpi_base.specs.Madt.{madt_contents, IsSoundMadt, MadtFault}
+use Rattle.acpi_base.specs.Madt.{madt_contents, IsSoundMadt, MadtFault, DoOverridesAgree, OverrideFault}
 use Rattle.acpi_base.specs.Srat.{srat_contents, IsSoundSrat, SratFault}
 use Rattle.acpi_base.specs.Slit.{slit_contents, IsSoundSlit, SlitFault}
 use Rattle.acpi_base.specs.Fadt.{facs_address, IsFadt, IsSoundFadt, FadtTableFault, FadtFault}
@@ -140,11 +140,32 @@ madt_holds m q whole is sound = for_listed (λ bytes. IsSoundMadt q (madt_conten
 -- the first fault of its entries is the set's
 pub madt_first : (m : Memory) (q : PolicyValue) (whole : List ℕ) (w : Witness) → CleanBefore stage.Madt m q → IsListedTable m q.rsdp madt_signature whole
     → IsFirstOfTable stage.Madt (MadtFault q (madt_contents whole)) w → IsFirstFault m q w × (stage_of w.code ≡ stage.Madt)
-madt_first m q whole w clean is first =
-    (first_of_set clean (record {
-      holds = record { own = first.own; holds = (whole, is, first.fault) };
-      least = λ v here. first.least v (of_listed (λ bytes. MadtFault q (madt_contents bytes) v.code v.at v.other v.point) is here.holds);
-    }), first.own)
+madt_first m q whole w clean is first = (
+  first_of_set clean (record {
+    holds = record { own = first.own; holds = (whole, is, first.fault) };
+    least = λ v here. first.least v (of_listed (λ bytes. MadtFault q (madt_contents bytes) v.code v.at v.other v.point) is here.holds);
+  }),
+  first.own,
+)
+
+-- a set without a MADT has no overrides
+pub no_overrides : (m : Memory) (q : PolicyValue) → ListsNone m q.rsdp madt_signature → Holds stage.Overrides m q
+no_overrides m q none whole is = absurd (none_and_listed none is)
+
+-- a MADT whose overrides agree is what the stage states where the set lists it first
+pub overrides_hold : (m : Memory) (q : PolicyValue) (whole : List ℕ) → IsListedTable m q.rsdp madt_signature whole → DoOverridesAgree (madt_contents whole) → Holds stage.Overrides m q
+overrides_hold m q whole is agree = for_listed (λ bytes. DoOverridesAgree (madt_contents bytes)) is agree
+
+-- the first clash of its overrides is the set's first fault
+pub overrides_first : (m : Memory) (q : PolicyValue) (whole : List ℕ) (w : Witness) → CleanBefore stage.Overrides m q → IsListedTable m q.rsdp madt_signature whole
+    → IsFirstOfTable stage.Overrides (OverrideFault (madt_contents whole)) w → IsFirstFault m q w × (stage_of w.code ≡ stage.Overrides)
+overrides_first m q whole w clean is first = (
+  first_of_set clean (record {
+    holds = record { own = first.own; holds = (whole, is, first.fault) };
+    least = λ v here. first.least v (of_listed (λ bytes. OverrideFault (madt_contents bytes) v.code v.at v.other v.point) is here.holds);
+  }),
+  first.own,
+)
 
 -- the same of the SRAT's entries
 pub no_srat : (m : Memory) (q : PolicyValue) → ListsNone m q.rsdp srat_signature → Holds stage.Srat m q

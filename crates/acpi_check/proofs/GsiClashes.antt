@@ -21,13 +21,13 @@ none_served m q none whole is = absurd (none_and_listed none is)
 pub interrupts_hold : (m : Memory) (q : PolicyValue) (whole : List ℕ) → IsListedTable m q.rsdp madt_signature whole → AreInterruptsApart q (madt_contents whole) → Holds stage.Interrupts m q
 interrupts_hold m q whole is apart = for_listed (λ bytes. AreInterruptsApart q (madt_contents bytes)) is apart
 
--- the first number of it that two serve is the first fault of the set
+-- the first clash of its I/O APICs is the first fault of the set
 pub gsi_clash_first : (m : Memory) (q : PolicyValue) (whole : List ℕ) (at other point : ℕ) → CleanBefore stage.Interrupts m q → IsListedTable m q.rsdp madt_signature whole
     → IsFirstGsiClash q (madt_contents whole) at other point → IsFirstFault m q (record { code = code.GsiClash; at = at; other = other; point = point })
 gsi_clash_first m q whole at other point clean is first =
     first_of_set clean (record { holds = record { own = refl; holds = (whole, is, first.clash) }; least = (whole, is, first) })
 
--- and fits a witness
+-- and its interrupt number fits a witness
 pub gsi_clash_fits : (m : Memory) (q : PolicyValue) (whole : List ℕ) (at other point : ℕ) → CleanBefore stage.Interrupts m q → IsListedTable m q.rsdp madt_signature whole
     → IsFirstGsiClash q (madt_contents whole) at other point → point < 2 ^ 64
 gsi_clash_fits m q whole at other point clean is first =

@@ -7,7 +7,9 @@ mod Indexed
 mod IndexedNodes
 mod Kept
 mod MadtPass
+mod OverridesPass
 mod Passes
+mod RangeClashes
 mod ServedSpans
 mod Slots
 mod SratPass

@@ -1,7 +1,7 @@
 -- A pass over the entries of a MADT: it stops at the first fault, and finds none where the table is sound.
-use Rattle.std.proofs.Common.{◌≡◌, ℕ, ◌+◌, ◌<◌, ◌≤◌, List, [], ◌∷◌, length, Option, Some, None, Ok, Err, refl, sym, ◌∙◌, ap, subst, inl, inr, arith}
+use Rattle.std.proofs.Common.{◌≡◌, ℕ, ◌<◌, ◌≤◌, List, [], ◌∷◌, length, Option, Some, None, Ok, Err, refl, sym, ◌∙◌, ap, subst, inl, inr, arith}
 use Rattle.std.specs.Prelude.{◌⊎◌}
-use Rattle.std.proofs.lemmas.Option.{none-some, same_Some}
+use Rattle.std.proofs.lemmas.Option.{none-some}
 use Rattle.acpi_base.specs.Codes.{code_number, stage_of}
 use Rattle.acpi_base.specs.Entries.{Standing, Stands, StandsWith, AreUnused, entries_of, cut_of, said_by}
 use Rattle.acpi_base.specs.Faults.{NotAfter}
@@ -17,7 +17,7 @@ use Rattle.acpi_base.proofs.Faults.Order.{not_after}
 use Rattle.acpi_base.proofs.HeldBytes.{none_and_some, same_value}
 use Rattle.acpi_base.proofs.Madt.Faults.{entry_excludes}
 use Rattle.acpi_base.proofs.Standings.{cut_behind, said_from}
-use Rattle.acpi_check.specs.Passed.{IsFirstOfTable, IsOwnFault, IsSecondOverride, IsOverrideAfter, PassesMadtEntry}
+use Rattle.acpi_check.specs.Passed.{IsFirstOfTable, IsOwnFault, IsSecondOverride, PassesMadtEntry}
 use Rattle.acpi_check.proofs.Passes.{HasPassed, none_passed, one_more, before_or_behind, left_behind, next_stands, all_passed, own_fault_after, before_cut, none_said}
 
 -- ---- an entry by itself

@@ -1,7 +1,9 @@
 -- What the contracts of the checker cite.
 pub mod Gathered
 pub mod Indexed
+pub mod Overrides
 pub mod Passed
+pub mod RangeKinds
 pub mod Set
 pub mod Settled
 pub mod Tables

@@ -11,7 +11,10 @@ ghost use Rattle.acpi_check.specs.Set.{IsSet, IsSetOf};
 
 use crate::facs::sound_facs;
 use crate::fadt::sound_fadt;
+use crate::interrupts::apart_interrupts;
 use crate::madt::sound_madt;
+use crate::overrides::agreeing_overrides;
+use crate::ranges::apart_ranges;
 use crate::refusal::Refusal;
 use crate::root::sound_root;
 use crate::rsdp::sound_rsdp;
@@ -37,8 +40,7 @@ pub fn check_to(
     ensures early { stage_number last ≤ 6 → IsOk result }
     ensures memory { OnErr result (CleanTo Stage.Madt image.now policy.now) }
 {
-    let _ = alloc;
-    match stages_to(image, policy, last) {
+    match stages_to(alloc, image, policy, last) {
         Ok(()) => Ok(Verdict::Yes),
         Err(Refusal::Fault(fault)) => Ok(Verdict::No(fault)),
         Err(Refusal::OutOfMemory) => Err(AllocError),
@@ -46,7 +48,7 @@ pub fn check_to(
 }
 
 /// Asks the stages up to `last` in their order.
-fn stages_to(image: &Image, policy: &Policy, last: Stage) -> Result<(), Refusal>
+fn stages_to(alloc: Global, image: &Image, policy: &Policy, last: Stage) -> Result<(), Refusal>
     requires { stage_number last ≤ BUILT }
     ensures { SettlesTo last image.now policy.now (λ _. CleanTo last image.now policy.now) result }
 {
@@ -55,7 +57,7 @@ fn stages_to(image: &Image, policy: &Policy, last: Stage) -> Result<(), Refusal>
     };
     for number in Stage::Facs.number()..last.number() + 1 {
         if let Some(stage) = Stage::new(number) {
-            ask(&set, stage)?;
+            ask(alloc, &set, stage)?;
         }
     }
     Ok(())
@@ -83,7 +85,7 @@ fn set_to<'a>(image: &'a Image, policy: &'a Policy, last: Stage) -> Result<Optio
 }
 
 /// Asks one stage from the FACS on.
-fn ask(set: &Set<'_>, stage: Stage) -> Result<(), Refusal>
+fn ask(alloc: Global, set: &Set<'_>, stage: Stage) -> Result<(), Refusal>
     requires built { stage_number stage ≤ BUILT }
     requires clean { CleanBefore stage set.now.image.now set.now.policy.now }
     requires set { IsSet set.now }
@@ -92,7 +94,10 @@ fn ask(set: &Set<'_>, stage: Stage) -> Result<(), Refusal>
     match stage {
         Stage::Facs => sound_facs(set),
         Stage::Madt => sound_madt(set),
+        Stage::Interrupts => apart_interrupts(alloc, set),
+        Stage::Overrides => agreeing_overrides(set),
         Stage::Srat => sound_srat(set),
+        Stage::Ranges => apart_ranges(alloc, set),
         Stage::Slit => sound_slit(set),
         // Those before it hold of every set.
         _ => Ok(()),

@@ -15,8 +15,7 @@ use acpi_graph::{Clash, Span, first_clash};
 use acpi_read::{Entries, Entry, MadtEntry, Table};
 use std::alloc::{AllocError, Global};
 
-/// The interrupt numbers that an I/O APIC serves, named by the entry's offset. None for another entry, and for
-/// an I/O APIC without inputs.
+/// The interrupt numbers that an I/O APIC serves, named by the entry's offset. None for another entry.
 fn served_span(policy: &Policy, entry: &Entry<'_>) -> Option<Span>
     requires { entry.now.offset < 2 ^ 32 }
     ensures { option_map span_value result ≡ served policy.now entry.now.offset (madt_entry entry.now.bytes.now) }
@@ -58,8 +57,9 @@ fn first_gsi_clash(alloc: Global, policy: &Policy, table: Table<'_>) -> Result<C
     Ok(clash)
 }
 
-/// Whether no interrupt number is served by two I/O APICs of the MADT, or the set lists no MADT. A fault is at the
-/// offset of the first two that serve the least such number. Takes memory for each I/O APIC.
+/// Whether no interrupt number is served by two I/O APICs of the MADT, or the set lists no MADT. A fault names the
+/// least number that two serve, and the first two that serve it, by their first number and then by their offset.
+/// Takes memory for each I/O APIC.
 pub fn apart_interrupts(alloc: Global, set: &Set<'_>) -> Result<(), Refusal>
     requires clean { CleanBefore Stage.Interrupts set.now.image.now set.now.policy.now }
     requires set { IsSet set.now }
@@ -69,11 +69,13 @@ pub fn apart_interrupts(alloc: Global, set: &Set<'_>) -> Result<(), Refusal>
         None => Ok(()),
         Some(table) => match first_gsi_clash(alloc, set.policy, table.copied()) {
             Ok(Clash::None) => Ok(()),
-            Ok(Clash::At {
-                first,
-                second,
-                point,
-            }) => Err(Refusal::Fault(Witness {
+            Ok(
+                Clash::At {
+                    first,
+                    second,
+                    point,
+                },
+            ) => Err(Refusal::Fault(Witness {
                 code: Code::GsiClash,
                 at: u64::from(first),
                 other: u64::from(second),

@@ -1,8 +1,8 @@
 //! The check: whether the tables of an image are sound, and else the first fault.
 //!
 //! Each stage is one function. Where the earlier stages hold, it returns what it has read, for the stages
-//! behind it, or reports the first fault of its own. `check_to` asks them in their order; no stage that is
-//! built allocates memory.
+//! behind it, or reports the first fault of its own. `check_to` asks them in their order; stages 1 to 6
+//! allocate no memory.
 //!
 //! ```rust
 //! let policy = Policy::new(alloc, 0xe0000, 24).unwrap(); // the RSDP's address, and the inputs of an I/O APIC
@@ -18,6 +18,9 @@ mod facs;
 mod fadt;
 mod interrupts;
 mod madt;
+mod overrides;
+mod range_kind;
+mod ranges;
 mod refusal;
 mod root;
 mod rsdp;

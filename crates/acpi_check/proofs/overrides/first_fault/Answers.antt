@@ -1,0 +1,33 @@
+use Rattle.std.proofs.Common.{◌<◌, length, sym, inl, inr, true≢false}
+use Rattle.std.proofs.lemmas.Bool.{cases_lt}
+use Rattle.acpi_base.specs.Madt.{madt_contents, DoOverridesAgree, OverrideFault}
+use Rattle.acpi_base.specs.declared.stage.Stage.TheVariants as stage
+use Rattle.acpi_check.proofs.OverridesPass.{at_first, at_next, stops, ends_agree, short_agree}
+use Rattle.acpi_check.proofs.Passes.{reported}
+use Rattle.acpi_check.proofs.overrides.first_fault.Goals as goal
+
+pub returns-in_default : goal.returns-in_default
+returns-in_default c =
+    let short : length c.args.table < 44 = elim (cases_lt (length c.args.table) 44) [ inl short ↦ short | inr long ↦ absurd (true≢false (sym (c.in_default.ensures.ok.1 long))) ] in
+    short_agree c.args.table short
+
+pub loop-entry-init : goal.loop-entry-init
+loop-entry-init c = rw c.in-Ok.ensures.entries (at_first 256 c.args.table)
+
+pub loop-entry-preserved : goal.loop-entry-preserved
+loop-entry-preserved c =
+    let steps = c.in-Some.ensures.steps in
+    at_next c.args.table _ c.next.new.self.entries c.loop-entry.firsts c.pass_entry.new.firsts (rw steps.0 at c.loop-entry.invariant) (c.in_ok-pass_entry.ensures)
+
+pub returns-in_err-pass_entry : goal.returns-in_err-pass_entry
+returns-in_err-pass_entry c =
+    let whole = c.args.table in
+    let steps = c.in-Some.ensures.steps in
+    let w = c.in_err-pass_entry.field-0.0 in
+    let first = stops whole _ c.next.new.self.entries c.loop-entry.firsts c.pass_entry.new.firsts w (rw steps.0 at c.loop-entry.invariant) (c.in_err-pass_entry.ensures) in
+    reported stage.Overrides (DoOverridesAgree (madt_contents whole)) (OverrideFault (madt_contents whole)) w c.from_residual.result c.from_residual.ensures.0 c.from_residual.ensures.1 first
+
+pub returns : goal.returns
+returns c =
+    let steps = c.in_default-next.ensures.steps in
+    ends_agree c.args.table c.loop-entry.firsts (rw steps.0.0 at c.loop-entry.invariant)

@@ -1,0 +1,6 @@
+use Rattle.acpi_check.proofs.OverridesPass.{IsAt}
+use Rattle.acpi_check.proofs.overrides.first_fault.Given as goal
+
+-- of the overrides so far the first ones are kept, which the others agree with; the entries left are the rest of the table's
+abbrev pub invariant-loop-entry : goal.invariant-loop-entry
+invariant-loop-entry l = IsAt l.fn.table l.entries.entries l.firsts

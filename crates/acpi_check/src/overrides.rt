@@ -1,0 +1,84 @@
+//! Stage 8: the MADT's overrides of ISA interrupts.
+
+ghost use Rattle.std.specs.Prelude.{⊤, ◌≢◌, IfErr};
+ghost use Rattle.acpi_base.specs.Madt.{madt_entry, madt_contents, DoOverridesAgree, OverrideFault};
+ghost use Rattle.acpi_base.specs.Statements.{CleanBefore};
+ghost use Rattle.acpi_base.specs.declared.stage.Stage.{Stage};
+ghost use Rattle.acpi_check.specs.Overrides.{PassesOverride};
+ghost use Rattle.acpi_check.specs.Passed.{FindsFirst};
+ghost use Rattle.acpi_check.specs.Settled.{Settles};
+ghost use Rattle.acpi_check.specs.Set.{IsSet};
+ghost use Rattle.acpi_check.specs.declared.refusal.Refusal.{Refusal};
+
+use crate::refusal::Refusal;
+use crate::set::Set;
+use acpi_base::{Code, Witness};
+use acpi_read::{Entries, Entry, MadtEntry, Table};
+
+/// The first override of a Source.
+#[derive(Clone, Copy, Debug, PartialEq, Eq)]
+pub struct FirstOverride {
+    /// Where it stands, from the table's start.
+    pub offset: u64,
+    /// The interrupt number that it gives the Source.
+    pub gsi: u32,
+}
+
+/// Looks at an entry, where `firsts` has of each Source the first override before it: counts it in, or returns the
+/// fault where it is an override that gives its Source another number.
+fn pass_entry(firsts: &mut [Option<FirstOverride>; 256], entry: &Entry<'_>) -> Result<(), Witness>
+    ensures { PassesOverride entry.now.offset (madt_entry entry.now.bytes.now) firsts.old firsts.new result }
+{
+    let Ok(MadtEntry::Override(read)) = MadtEntry::read(entry.bytes) else {
+        return Ok(());
+    };
+    let index = usize::from(read.source);
+    match firsts[index] {
+        None => {
+            firsts[index] = Some(FirstOverride {
+                offset: entry.offset,
+                gsi: read.gsi,
+            });
+            Ok(())
+        }
+        Some(first) if first.gsi != read.gsi => Err(Witness {
+            code: Code::OverrideClash,
+            at: entry.offset,
+            other: first.offset,
+            point: u64::from(read.source),
+        }),
+        Some(_) => Ok(()),
+    }
+}
+
+/// The first fault of a MADT's overrides. One of fewer than 44 bytes has none.
+fn first_fault(table: Table<'_>) -> Result<(), Witness>
+    ensures { FindsFirst Stage.Overrides (DoOverridesAgree (madt_contents table.entry)) (OverrideFault (madt_contents table.entry)) result }
+{
+    let Ok(mut entries) = Entries::madt(table) else {
+        return Ok(());
+    };
+    let mut firsts = [None; 256];
+    while let Some(entry) = entries.next() {
+        pass_entry(&mut firsts, &entry)?;
+    }
+    Ok(())
+}
+
+/// Whether the MADT's overrides give each Source one interrupt number, or the set lists no MADT. A fault is at the first
+/// override that gives its Source another number than the first override of this Source, whose offset is `other`; `point`
+/// is the Source.
+pub fn agreeing_overrides(set: &Set<'_>) -> Result<(), Refusal>
+    requires clean { CleanBefore Stage.Overrides set.now.image.now set.now.policy.now }
+    requires set { IsSet set.now }
+    ensures settled { Settles Stage.Overrides set.now.image.now set.now.policy.now (λ _. ⊤) result }
+    ensures memory { IfErr result (λ refusal. refusal ≢ Refusal.OutOfMemory) }
+{
+    match &set.madt {
+        None => Ok(()),
+        Some(table) => match first_fault(table.copied()) {
+            Ok(()) => Ok(()),
+            Err(fault) => Err(Refusal::Fault(fault)),
+        },
+    }
+}
