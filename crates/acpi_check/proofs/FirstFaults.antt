@@ -176,11 +176,13 @@ srat_holds m q whole is sound = for_listed (λ bytes. IsSoundSrat (srat_contents
 
 pub srat_first : (m : Memory) (q : PolicyValue) (whole : List ℕ) (w : Witness) → CleanBefore stage.Srat m q → IsListedTable m q.rsdp srat_signature whole
     → IsFirstOfTable stage.Srat (SratFault (srat_contents whole)) w → IsFirstFault m q w × (stage_of w.code ≡ stage.Srat)
-srat_first m q whole w clean is first =
-    (first_of_set clean (record {
-      holds = record { own = first.own; holds = (whole, is, first.fault) };
-      least = λ v here. first.least v (of_listed (λ bytes. SratFault (srat_contents bytes) v.code v.at v.other v.point) is here.holds);
-    }), first.own)
+srat_first m q whole w clean is first = (
+  first_of_set clean (record {
+    holds = record { own = first.own; holds = (whole, is, first.fault) };
+    least = λ v here. first.least v (of_listed (λ bytes. SratFault (srat_contents bytes) v.code v.at v.other v.point) is here.holds);
+  }),
+  first.own,
+)
 
 -- and of the SLIT
 pub no_slit : (m : Memory) (q : PolicyValue) → ListsNone m q.rsdp slit_signature → Holds stage.Slit m q
@@ -191,10 +193,12 @@ slit_holds m q whole is sound = for_listed (λ bytes. IsSoundSlit (slit_contents
 
 pub slit_first : (m : Memory) (q : PolicyValue) (whole : List ℕ) (w : Witness) → CleanBefore stage.Slit m q → IsListedTable m q.rsdp slit_signature whole
     → IsFirstSlitFault (slit_contents whole) w → IsFirstFault m q w × (stage_of w.code ≡ stage.Slit)
-slit_first m q whole w clean is first =
-    (first_of_set clean (record {
-      holds = record { own = first.stage; holds = (whole, is, first.fault) };
-      least = λ v here.
-          let fault = of_listed (λ bytes. SlitFault (slit_contents bytes) v.code v.at v.other v.point) is here.holds in
-          not_after w v (first.least v.code v.at v.other v.point fault) (first.fault.1 ∙ sym fault.1) (first.fault.2 ∙ sym fault.2);
-    }), first.stage)
+slit_first m q whole w clean is first = (
+  first_of_set clean (record {
+    holds = record { own = first.stage; holds = (whole, is, first.fault) };
+    least = λ v here.
+        let fault = of_listed (λ bytes. SlitFault (slit_contents bytes) v.code v.at v.other v.point) is here.holds in
+        not_after w v (first.least v.code v.at v.other v.point fault) (first.fault.1 ∙ sym fault.1) (first.fault.2 ∙ sym fault.2);
+  }),
+  first.stage,
+)

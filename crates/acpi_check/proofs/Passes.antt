@@ -1,5 +1,5 @@
 -- A pass over the entries of a table, which stand at rising offsets.
-use Rattle.std.proofs.Common.{◌≡◌, ℕ, zero, suc, ◌<◌, ◌≤◌, List, [], ◌∷◌, length, Some, refl, sym, ◌∙◌, ap, subst, inl, inr, arith}
+use Rattle.std.proofs.Common.{◌≡◌, ℕ, suc, ◌<◌, ◌≤◌, List, [], ◌∷◌, length, Some, sym, ◌∙◌, ap, subst, inl, inr, arith}
 use Rattle.std.specs.Prelude.{◌⊎◌, ⊤, Result, Ok, Err}
 use Rattle.std.specs.Result.{IsErr, IsErrAnd}
 use Rattle.acpi_base.specs.Codes.{code_number}

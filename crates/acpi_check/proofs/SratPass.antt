@@ -1,9 +1,9 @@
 -- A pass over the entries of an SRAT: it stops at the first fault, and finds none where the table is sound.
-use Rattle.std.proofs.Common.{◌≡◌, ℕ, ◌<◌, ◌≤◌, List, [], ◌∷◌, length, None, Some, Ok, Err, refl, sym, subst, inl, inr, arith}
-use Rattle.acpi_base.specs.Codes.{code_number, stage_of}
+use Rattle.std.proofs.Common.{◌≡◌, ℕ, ◌<◌, ◌≤◌, List, [], ◌∷◌, length, None, Some, Err, refl, sym, subst, inl, inr, arith}
+use Rattle.acpi_base.specs.Codes.{stage_of}
 use Rattle.acpi_base.specs.Entries.{Standing, Stands, StandsWith, AreUnused, entries_of, cut_of, said_by}
 use Rattle.acpi_base.specs.Faults.{NotAfter}
-use Rattle.acpi_base.specs.Srat.{SratEntry, MemoryRange, Opaque, SratContents, srat_entry, srat_contents, IsSoundSrat, IsSoundSratEntry, SratEntryFault, SratFault}
+use Rattle.acpi_base.specs.Srat.{SratEntry, SratContents, srat_entry, srat_contents, IsSoundSrat, IsSoundSratEntry, SratEntryFault, SratFault}
 use Rattle.acpi_base.specs.declared.code.Code.{Code}
 use Rattle.acpi_base.specs.declared.code.Code.TheVariants as code
 use Rattle.acpi_base.specs.declared.stage.Stage.TheVariants as stage

@@ -24,6 +24,8 @@ mod ranges;
 mod refusal;
 mod root;
 mod rsdp;
+#[cfg(test)]
+mod samples;
 mod set;
 mod slit;
 mod srat;

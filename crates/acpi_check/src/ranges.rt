@@ -84,19 +84,14 @@ fn earlier(other: Clash, hot: Clash) -> Clash
 {
     match (other, hot) {
         (Clash::None, _) => hot,
-        (_, Clash::None) => other,
         (
             Clash::At { point, .. },
             Clash::At {
-                point: hot_point, ..
+                point: hot_point,
+                ..
             },
-        ) => {
-            if hot_point < point {
-                hot
-            } else {
-                other
-            }
-        }
+        ) if hot_point < point => hot,
+        _ => other,
     }
 }
 
@@ -127,11 +122,13 @@ pub fn apart_ranges(alloc: Global, set: &Set<'_>) -> Result<(), Refusal>
         None => Ok(()),
         Some(table) => match first_overlap(alloc, set.policy.hotplug(), table.copied()) {
             Ok(Clash::None) => Ok(()),
-            Ok(Clash::At {
-                first,
-                second,
-                point,
-            }) => Err(Refusal::Fault(Witness {
+            Ok(
+                Clash::At {
+                    first,
+                    second,
+                    point,
+                },
+            ) => Err(Refusal::Fault(Witness {
                 code: Code::Overlap,
                 at: u64::from(first),
                 other: u64::from(second),
@@ -141,3 +138,6 @@ pub fn apart_ranges(alloc: Global, set: &Set<'_>) -> Result<(), Refusal>
         },
     }
 }
+
+#[cfg(test)]
+mod tests;

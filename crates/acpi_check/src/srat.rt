@@ -86,3 +86,6 @@ pub fn sound_srat(set: &Set<'_>) -> Result<(), Refusal>
         },
     }
 }
+
+#[cfg(test)]
+mod tests;

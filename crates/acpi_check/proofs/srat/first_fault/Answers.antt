@@ -1,8 +1,8 @@
-use Rattle.std.proofs.Common.{◌≡◌, ◌<◌, length, sym, ◌∙◌, inl, inr, arith, true≢false}
+use Rattle.std.proofs.Common.{◌<◌, length, sym, ◌∙◌, inl, inr, true≢false}
 use Rattle.std.proofs.lemmas.Bool.{cases_lt}
 use Rattle.acpi_base.specs.Srat.{srat_contents, IsSoundSrat, SratFault}
 use Rattle.acpi_base.specs.declared.stage.Stage.TheVariants as stage
-use Rattle.acpi_check.proofs.SratPass.{at_first, at_next, stops, ends_sound, ends_cut, short_first}
+use Rattle.acpi_check.proofs.SratPass.{at_next, stops, ends_sound, ends_cut, short_first}
 use Rattle.acpi_check.proofs.Passes.{reported}
 use Rattle.acpi_check.proofs.srat.first_fault.Goals as goal
 

@@ -1,4 +1,3 @@
-use Rattle.acpi_base.specs.Listed.{srat_signature, IsListed}
 use Rattle.acpi_check.proofs.FirstFaults.{no_srat, srat_holds, srat_first}
 use Rattle.acpi_check.proofs.srat.sound_srat.Goals as goal
 
