@@ -8,8 +8,10 @@ use Rattle.acpi_base.specs.Codes.{code_number, stage_of}
 use Rattle.acpi_base.specs.Rsdp.{Addresses, addresses_at, RsdpValue, RsdpFault, IsRsdp}
 use Rattle.acpi_base.specs.Root.{HasSlot, IsSlot, RootFault, RootTableFault, NamedRootFault, chosen_root}
 use Rattle.acpi_base.specs.Tables.{IsSoundTable, TableFault}
-use Rattle.acpi_base.specs.Listed.{fadt_signature, madt_signature, IsListedTable, ListsNone}
+use Rattle.acpi_base.specs.Listed.{fadt_signature, madt_signature, srat_signature, slit_signature, IsListedTable, ListsNone}
 use Rattle.acpi_base.specs.Madt.{madt_contents, IsSoundMadt, MadtFault, DoOverridesAgree, OverrideFault}
+use Rattle.acpi_base.specs.Srat.{srat_contents, IsSoundSrat, SratFault}
+use Rattle.acpi_base.specs.Slit.{slit_contents, IsSoundSlit, SlitFault}
 use Rattle.acpi_base.specs.Fadt.{facs_address, IsFadt, IsSoundFadt, FadtTableFault, FadtFault}
 use Rattle.acpi_base.specs.Facs.{HasSoundFacs, IsSoundFacs, NamedFacsFault}
 use Rattle.acpi_base.specs.Statements.{Holds, CleanBefore}
@@ -29,6 +31,7 @@ use Rattle.acpi_base.proofs.Tables.Faults.{excludes}
 use Rattle.acpi_base.proofs.Tables.Listed.{none_and_listed, one_listed}
 use Rattle.acpi_base.proofs.Facs.Faults.{place}
 use Rattle.acpi_read.specs.Roots.{RootValue}
+use Rattle.acpi_read.specs.Slits.{IsFirstSlitFault}
 use Rattle.acpi_check.specs.Passed.{IsFirstOfTable}
 use Rattle.acpi_check.specs.Tables.{IsRootOf}
 
@@ -162,4 +165,40 @@ overrides_first m q whole w clean is first = (
     least = λ v here. first.least v (of_listed (λ bytes. OverrideFault (madt_contents bytes) v.code v.at v.other v.point) is here.holds);
   }),
   first.own,
+)
+
+-- the same of the SRAT's entries
+pub no_srat : (m : Memory) (q : PolicyValue) → ListsNone m q.rsdp srat_signature → Holds stage.Srat m q
+no_srat m q none whole is = absurd (none_and_listed none is)
+
+pub srat_holds : (m : Memory) (q : PolicyValue) (whole : List ℕ) → IsListedTable m q.rsdp srat_signature whole → IsSoundSrat (srat_contents whole) → Holds stage.Srat m q
+srat_holds m q whole is sound = for_listed (λ bytes. IsSoundSrat (srat_contents bytes)) is sound
+
+pub srat_first : (m : Memory) (q : PolicyValue) (whole : List ℕ) (w : Witness) → CleanBefore stage.Srat m q → IsListedTable m q.rsdp srat_signature whole
+    → IsFirstOfTable stage.Srat (SratFault (srat_contents whole)) w → IsFirstFault m q w × (stage_of w.code ≡ stage.Srat)
+srat_first m q whole w clean is first = (
+  first_of_set clean (record {
+    holds = record { own = first.own; holds = (whole, is, first.fault) };
+    least = λ v here. first.least v (of_listed (λ bytes. SratFault (srat_contents bytes) v.code v.at v.other v.point) is here.holds);
+  }),
+  first.own,
+)
+
+-- and of the SLIT
+pub no_slit : (m : Memory) (q : PolicyValue) → ListsNone m q.rsdp slit_signature → Holds stage.Slit m q
+no_slit m q none whole is = absurd (none_and_listed none is)
+
+pub slit_holds : (m : Memory) (q : PolicyValue) (whole : List ℕ) → IsListedTable m q.rsdp slit_signature whole → IsSoundSlit (slit_contents whole) → Holds stage.Slit m q
+slit_holds m q whole is sound = for_listed (λ bytes. IsSoundSlit (slit_contents bytes)) is sound
+
+pub slit_first : (m : Memory) (q : PolicyValue) (whole : List ℕ) (w : Witness) → CleanBefore stage.Slit m q → IsListedTable m q.rsdp slit_signature whole
+    → IsFirstSlitFault (slit_contents whole) w → IsFirstFault m q w × (stage_of w.code ≡ stage.Slit)
+slit_first m q whole w clean is first = (
+  first_of_set clean (record {
+    holds = record { own = first.stage; holds = (whole, is, first.fault) };
+    least = λ v here.
+        let fault = of_listed (λ bytes. SlitFault (slit_contents bytes) v.code v.at v.other v.point) is here.holds in
+        not_after w v (first.least v.code v.at v.other v.point fault) (first.fault.1 ∙ sym fault.1) (first.fault.2 ∙ sym fault.2);
+  }),
+  first.stage,
 )

@@ -9,5 +9,7 @@ mod Kept
 mod MadtPass
 mod OverridesPass
 mod Passes
+mod RangeClashes
 mod ServedSpans
 mod Slots
+mod SratPass

@@ -16,9 +16,8 @@ use Rattle.acpi_base.proofs.Entries.{none_in_short}
 use Rattle.acpi_base.proofs.Faults.Order.{not_after}
 use Rattle.acpi_base.proofs.HeldBytes.{none_and_some, same_value}
 use Rattle.acpi_base.proofs.Madt.Faults.{entry_excludes}
-use Rattle.acpi_base.proofs.Standings.{cut_behind, said_from}
 use Rattle.acpi_check.specs.Passed.{IsFirstOfTable, IsOwnFault, IsSecondOverride, PassesMadtEntry}
-use Rattle.acpi_check.proofs.Passes.{HasPassed, none_passed, one_more, before_or_behind, left_behind, next_stands, all_passed}
+use Rattle.acpi_check.proofs.Passes.{HasPassed, none_passed, one_more, before_or_behind, left_behind, next_stands, all_passed, own_fault_after, before_cut, none_said}
 
 -- ---- an entry by itself
 
@@ -93,33 +92,20 @@ not_short : (whole : List ℕ) → 44 ≤ length whole → ¬ ((madt_contents wh
 unfolding madt_contents
 not_short whole long short = omega arith
 
--- the next entry stands before the cut
-next_before_cut : (q : PolicyValue) (whole : List ℕ) (s : Standing (List ℕ)) (left : List (Standing (List ℕ))) (earlier : Option ℕ) → IsAt q whole (s ∷ left) earlier
-    → (at : ℕ) → (madt_contents whole).cut ≡ Some at → s.offset < at
-unfolding madt_contents
-next_before_cut q whole s left earlier here at is =
-    let (e, stands, _) = said_from madt_entry (entries_of 44 whole) s.offset (madt_entry s.entry) (next_stands here.pass) in
-    cut_behind 44 whole at s.offset e is stands
-
--- an entry with a fault of its own comes with the least fault of the next entry or behind it
+-- a fault that an entry has by itself comes with the least fault of the next entry or behind it
 own_after : (q : PolicyValue) (whole : List ℕ) (s : Standing (List ℕ)) (left : List (Standing (List ℕ))) (earlier : Option ℕ) (w : Witness) → IsAt q whole (s ∷ left) earlier
-    → w.at ≡ s.offset → IsOwnFault q (madt_entry s.entry) w ⊎ IsSecondOverride (madt_entry s.entry) earlier w
+    → w.at ≡ s.offset → IsOwnFault (λ c. MadtEntryFault q c (madt_entry s.entry)) w ⊎ IsSecondOverride (madt_entry s.entry) earlier w
     → (c : Code) (at other point : ℕ) → StandsWith (madt_contents whole).entries at (MadtEntryFault q c) → AreUnused other point → NotAfter w (record { code = c; at = at; other = other; point = point })
-own_after q whole s left earlier w here place fault c at other point (e, stands, wrong) unused =
-    elim (before_or_behind here.pass at e stands) [
-      | inl (_, sound) ↦ absurd (entry_excludes q c e wrong sound.0)
-      | inr (inr behind) ↦ inl (omega arith)
-      | inr (inl (same, entry)) ↦
-          let mine : MadtEntryFault q c (madt_entry s.entry) = subst (MadtEntryFault q c) entry wrong in
-          elim fault [
-            | inl own ↦ not_after w (record { code = c; at = at; other = other; point = point }) (inr (place ∙ sym same, own.least c mine)) (own.unused.0 ∙ sym unused.0) (own.unused.1 ∙ sym unused.1)
-            | inr second ↦ absurd (none_of_override q c (madt_entry s.entry) second.override mine)
-          ]
-    ]
+own_after q whole s left earlier w here place fault =
+    own_fault_after here.pass (MadtEntryFault q) (λ c o e passed wrong. entry_excludes q c e wrong passed.0) w place
+    (λ c mine. elim fault [
+      | inl own ↦ (own.least c mine, own.unused)
+      | inr second ↦ absurd (none_of_override q c (madt_entry s.entry) second.override mine)
+    ])
 
 -- and so does a second address override
 second_after : (q : PolicyValue) (whole : List ℕ) (s : Standing (List ℕ)) (left : List (Standing (List ℕ))) (earlier : Option ℕ) (w : Witness) → IsAt q whole (s ∷ left) earlier
-    → w.at ≡ s.offset → IsOwnFault q (madt_entry s.entry) w ⊎ IsSecondOverride (madt_entry s.entry) earlier w
+    → w.at ≡ s.offset → IsOwnFault (λ c. MadtEntryFault q c (madt_entry s.entry)) w ⊎ IsSecondOverride (madt_entry s.entry) earlier w
     → (at other point : ℕ) → StandsWith (madt_contents whole).entries at IsAddressOverride → StandsWith (madt_contents whole).entries other IsAddressOverride → other < at → point ≡ 0
     → NotAfter w (record { code = code.SecondAddressOverride; at = at; other = other; point = point })
 second_after q whole s left earlier w here place fault at other point (e, stands, is) (d, also, other_is) before zero =
@@ -147,11 +133,12 @@ second_after q whole s left earlier w here place fault at other point (e, stands
 
 -- no fault of the table stands before the least fault of the next entry
 none_before : (q : PolicyValue) (whole : List ℕ) (s : Standing (List ℕ)) (left : List (Standing (List ℕ))) (earlier : Option ℕ) (w : Witness) → IsAt q whole (s ∷ left) earlier
-    → w.at ≡ s.offset → IsOwnFault q (madt_entry s.entry) w ⊎ IsSecondOverride (madt_entry s.entry) earlier w
+    → w.at ≡ s.offset → IsOwnFault (λ c. MadtEntryFault q c (madt_entry s.entry)) w ⊎ IsSecondOverride (madt_entry s.entry) earlier w
     → (c : Code) (at other point : ℕ) → MadtFault q (madt_contents whole) c at other point → NotAfter w (record { code = c; at = at; other = other; point = point })
+unfolding madt_contents
 none_before q whole s left earlier w here place fault code.MadtShort at other point (short, _, _) = absurd (not_short whole here.long short)
 none_before q whole s left earlier w here place fault code.MadtEntryCut at other point (is, _) =
-    inl (omega (arith, place, next_before_cut q whole s left earlier here at is))
+    inl (omega (arith, place, before_cut madt_entry 44 whole at here.pass is))
 none_before q whole s left earlier w here place fault code.SecondAddressOverride at other point (one, two, before, zero) =
     second_after q whole s left earlier w here place fault at other point one two before zero
 none_before q whole s left earlier w here place fault c at other point wrong = own_after q whole s left earlier w here place fault c at other point wrong.0 wrong.1
@@ -180,13 +167,6 @@ stops q whole s left earlier w here (place, inr second) =
 cut_is : (whole : List ℕ) → (madt_contents whole).cut ≡ cut_of 44 whole
 unfolding madt_contents
 cut_is whole = refl
-
--- in a MADT of fewer than 44 bytes no entry stands
-pub none_said : (whole : List ℕ) → length whole < 44 → (o : ℕ) (e : MadtEntry) → ¬ Stands (madt_contents whole).entries o e
-unfolding madt_contents
-none_said whole short o e stands =
-    let (bytes, here, _) = said_from madt_entry (entries_of 44 whole) o e stands in
-    (none_in_short 44 whole short).1 o bytes here
 
 -- a MADT is sound whose entries were passed and fill it
 pub ends_sound : (q : PolicyValue) (whole : List ℕ) (earlier : Option ℕ) → IsAt q whole [] earlier → cut_of 44 whole ≡ None → IsSoundMadt q (madt_contents whole)
@@ -227,8 +207,8 @@ short_first q whole short = record { own = refl; fault = (short, refl, (refl, re
     alone : (c : Code) (at other point : ℕ) → MadtFault q (madt_contents whole) c at other point → NotAfter w (record { code = c; at = at; other = other; point = point })
     alone code.MadtShort at other point (_, zero, unused) = not_after w (record { code = code.MadtShort; at = at; other = other; point = point }) (inr (sym zero, omega arith)) (sym unused.0) (sym unused.1)
     alone code.MadtEntryCut at other point (is, _) = absurd (none_and_some (none_in_short 44 whole short).0 is)
-    alone code.SecondAddressOverride at other point (one, two, before, zero) = absurd (none_said whole short at one.0 one.1)
-    alone c at other point wrong = absurd (none_said whole short at wrong.0.0 wrong.0.1)
+    alone code.SecondAddressOverride at other point (one, two, before, zero) = absurd (none_said madt_entry 44 whole short at one.0 one.1)
+    alone c at other point wrong = absurd (none_said madt_entry 44 whole short at wrong.0.0 wrong.0.1)
 
 -- what a loop over the entries of a MADT needs
 pub ruleset passing = (at_first, at_next, stops, ends_sound, ends_cut, short_first)

@@ -18,8 +18,7 @@ use Rattle.acpi_base.proofs.Faults.Deciding.{same}
 use Rattle.acpi_check.specs.Overrides.{HasFirst, HasNone, IsLikeFirst, IsUnlikeFirst, PassesOverride}
 use Rattle.acpi_check.specs.Passed.{IsFirstOfTable}
 use Rattle.acpi_check.specs.declared.overrides.FirstOverride.{FirstOverride}
-use Rattle.acpi_check.proofs.MadtPass.{none_said}
-use Rattle.acpi_check.proofs.Passes.{HasPassed, none_passed, one_more, before_or_behind, left_behind, next_stands, all_passed}
+use Rattle.acpi_check.proofs.Passes.{HasPassed, none_passed, one_more, before_or_behind, left_behind, next_stands, all_passed, none_said}
 
 -- ---- the first overrides that are kept
 
@@ -207,4 +206,5 @@ ends_agree whole firsts here o p s g h (e, stands, gives) (d, also, gives_too) =
 
 -- and so do those of a MADT of fewer than 44 bytes, which has none
 pub short_agree : (whole : List ℕ) → length whole < 44 → DoOverridesAgree (madt_contents whole)
-short_agree whole short o p s g h one other = absurd (none_said whole short o one.0 one.1)
+unfolding madt_contents
+short_agree whole short o p s g h one other = absurd (none_said madt_entry 44 whole short o one.0 one.1)

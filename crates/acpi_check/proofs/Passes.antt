@@ -1,9 +1,14 @@
 -- A pass over the entries of a table, which stand at rising offsets.
-use Rattle.std.proofs.Common.{◌≡◌, ℕ, suc, ◌<◌, ◌≤◌, List, [], ◌∷◌, sym, ap, subst, inl, inr, arith}
+use Rattle.std.proofs.Common.{◌≡◌, ℕ, suc, ◌<◌, ◌≤◌, List, [], ◌∷◌, length, Some, sym, ◌∙◌, ap, subst, inl, inr, arith}
 use Rattle.std.specs.Prelude.{◌⊎◌, ⊤, Result, Ok, Err}
 use Rattle.std.specs.Result.{IsErr, IsErrAnd}
-use Rattle.acpi_base.specs.Entries.{Standing, Stands, entries_of, said_by}
+use Rattle.acpi_base.specs.Codes.{code_number}
+use Rattle.acpi_base.specs.Entries.{Standing, Stands, StandsWith, AreUnused, entries_of, cut_of, said_by}
+use Rattle.acpi_base.specs.Faults.{NotAfter}
 use Rattle.acpi_base.proofs.Elements.{first_element, later_element, first_or_later, no_element}
+use Rattle.acpi_base.proofs.Entries.{none_in_short}
+use Rattle.acpi_base.proofs.Faults.Order.{not_after}
+use Rattle.acpi_base.proofs.Standings.{cut_behind, said_from}
 use Rattle.acpi_base.specs.declared.code.Code.{Code}
 use Rattle.acpi_base.specs.declared.stage.Stage.{Stage}
 use Rattle.acpi_base.specs.declared.witness.Witness.{Witness}
@@ -80,6 +85,33 @@ next_stands {s = s} {left = left} pass = pass.listed s.offset s.entry (first_ele
 -- all have P once none is left
 pub all_passed : {E : Type 0} {entries : List (Standing E)} {P : ℕ → E → Type 0} → HasPassed entries [] P → (o : ℕ) (e : E) → Stands entries o e → P o e
 all_passed pass o e stands = elim (pass.passed o e stands) [ inl left ↦ absurd (no_element _ left) | inr (earlier, holds) ↦ holds ]
+
+-- a fault that an entry has by itself comes with the least fault of the next entry or behind it, where those that were
+-- passed have none
+pub own_fault_after : {E : Type 0} {entries : List (Standing E)} {s : Standing E} {left : List (Standing E)} {P : ℕ → E → Type 0} → HasPassed entries (s ∷ left) P
+    → (IsFault : Code → E → Type 0) → ((c : Code) (o : ℕ) (e : E) → P o e → ¬ IsFault c e) → (w : Witness) → w.at ≡ s.offset → ((c : Code) → IsFault c s.entry → (code_number w.code ≤ code_number c) × AreUnused w.other w.point)
+    → (c : Code) (at other point : ℕ) → StandsWith entries at (IsFault c) → AreUnused other point → NotAfter w (record { code = c; at = at; other = other; point = point })
+own_fault_after {s = s} pass IsFault excludes w place least c at other point (e, stands, wrong) unused =
+    elim (before_or_behind pass at e stands) [
+      | inl (_, passed) ↦ absurd (excludes c at e passed wrong)
+      | inr (inr behind) ↦ inl (omega arith)
+      | inr (inl (same, entry)) ↦
+          let (first, mine) = least c (subst (IsFault c) entry wrong) in
+          not_after w (record { code = c; at = at; other = other; point = point }) (inr (place ∙ sym same, first)) (mine.0 ∙ sym unused.0) (mine.1 ∙ sym unused.1)
+    ]
+
+-- the next entry stands before the bytes at which none does
+pub before_cut : {E : Type 0} (read : List ℕ → E) (first : ℕ) (whole : List ℕ) (at : ℕ) {s : Standing E} {left : List (Standing E)} {P : ℕ → E → Type 0} → HasPassed (said_by read (entries_of first whole)) (s ∷ left) P
+    → cut_of first whole ≡ Some at → s.offset < at
+before_cut read first whole at {s} pass is =
+    let (e, stands, _) = said_from read (entries_of first whole) s.offset s.entry (next_stands pass) in
+    cut_behind first whole at s.offset e is stands
+
+-- in a table that ends before its first entry's place none stands
+pub none_said : {E : Type 0} (read : List ℕ → E) (first : ℕ) (whole : List ℕ) → length whole < first → (o : ℕ) (e : E) → ¬ Stands (said_by read (entries_of first whole)) o e
+none_said read first whole short o e stands =
+    let (bytes, here, _) = said_from read (entries_of first whole) o e stands in
+    (none_in_short first whole short).1 o bytes here
 
 -- a result that is this fault says what the fault does
 pub reported : (s : Stage) (Sound : Type 0) (IsFault : Code → ℕ → ℕ → ℕ → Type 0) (w : Witness) (r : Result ⊤ Witness) → IsErr r → IsErrAnd r (λ v. v ≡ w) → IsFirstOfTable s IsFault w → FindsFirst s Sound IsFault r

@@ -3,6 +3,7 @@ pub mod Gathered
 pub mod Indexed
 pub mod Overrides
 pub mod Passed
+pub mod RangeKinds
 pub mod Set
 pub mod Settled
 pub mod Tables

@@ -4,6 +4,7 @@ use Rattle.acpi_base.specs.Codes.{code_number, stage_of}
 use Rattle.acpi_base.specs.Policy.{PolicyValue}
 use Rattle.acpi_base.specs.Entries.{AreUnused}
 use Rattle.acpi_base.specs.Madt.{MadtEntry, IsSoundMadtEntry, IsAddressOverride, MadtEntryFault}
+use Rattle.acpi_base.specs.Srat.{SratEntry, IsSoundSratEntry, SratEntryFault}
 use Rattle.acpi_base.specs.Faults.{NotAfter}
 use Rattle.acpi_base.specs.declared.code.Code.{Code}
 use Rattle.acpi_base.specs.declared.code.Code.TheVariants as code
@@ -21,13 +22,13 @@ abbrev pub FindsFirst : Stage → Type 0 → (Code → ℕ → ℕ → ℕ → T
 FindsFirst s Sound IsFault (Ok _) = Sound
 FindsFirst s Sound IsFault (Err w) = IsFirstOfTable s IsFault w
 
--- ---- an entry of a MADT
-
--- w is the least fault that the entry has by itself
-pub record IsOwnFault (q : PolicyValue) (e : MadtEntry) (w : Witness) : Type 0 where
-  pub fault : MadtEntryFault q w.code e
+-- w is the least fault that an entry has by itself
+pub record IsOwnFault (IsFault : Code → Type 0) (w : Witness) : Type 0 where
+  pub fault : IsFault w.code
   pub unused : AreUnused w.other w.point
-  pub least : (c : Code) → MadtEntryFault q c e → code_number w.code ≤ code_number c
+  pub least : (c : Code) → IsFault c → code_number w.code ≤ code_number c
+
+-- ---- an entry of a MADT
 
 -- w is the fault of a second address override, of which `earlier` is the first one's offset
 pub record IsSecondOverride (e : MadtEntry) (earlier : Option ℕ) (w : Witness) : Type 0 where
@@ -44,4 +45,11 @@ IsOverrideAfter o e earlier now =
 -- the entry at o is sound, and this is the first address override's offset with it; or this is its least fault
 abbrev pub PassesMadtEntry : PolicyValue → ℕ → MadtEntry → Option ℕ → Result (Option ℕ) Witness → Type 0
 PassesMadtEntry q o e earlier (Ok now) = IsSoundMadtEntry q e × IsOverrideAfter o e earlier now
-PassesMadtEntry q o e earlier (Err w) = (w.at ≡ o) × (IsOwnFault q e w ⊎ IsSecondOverride e earlier w)
+PassesMadtEntry q o e earlier (Err w) = (w.at ≡ o) × (IsOwnFault (λ c. MadtEntryFault q c e) w ⊎ IsSecondOverride e earlier w)
+
+-- ---- an entry of an SRAT
+
+-- the entry at o is sound, or this is its least fault
+abbrev pub PassesSratEntry : ℕ → SratEntry → Result ⊤ Witness → Type 0
+PassesSratEntry o e (Ok _) = IsSoundSratEntry e
+PassesSratEntry o e (Err w) = (w.at ≡ o) × IsOwnFault (λ c. SratEntryFault c e) w

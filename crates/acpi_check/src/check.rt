@@ -14,10 +14,13 @@ use crate::fadt::sound_fadt;
 use crate::interrupts::apart_interrupts;
 use crate::madt::sound_madt;
 use crate::overrides::agreeing_overrides;
+use crate::ranges::apart_ranges;
 use crate::refusal::Refusal;
 use crate::root::sound_root;
 use crate::rsdp::sound_rsdp;
 use crate::set::Set;
+use crate::slit::sound_slit;
+use crate::srat::sound_srat;
 use crate::tables::sound_tables;
 use acpi_base::{Image, Policy, Stage, Verdict};
 use std::alloc::{AllocError, Global};
@@ -93,6 +96,9 @@ fn ask(alloc: Global, set: &Set<'_>, stage: Stage) -> Result<(), Refusal>
         Stage::Madt => sound_madt(set),
         Stage::Interrupts => apart_interrupts(alloc, set),
         Stage::Overrides => agreeing_overrides(set),
+        Stage::Srat => sound_srat(set),
+        Stage::Ranges => apart_ranges(alloc, set),
+        Stage::Slit => sound_slit(set),
         // Those before it hold of every set.
         _ => Ok(()),
     }

@@ -19,10 +19,16 @@ mod fadt;
 mod interrupts;
 mod madt;
 mod overrides;
+mod range_kind;
+mod ranges;
 mod refusal;
 mod root;
 mod rsdp;
+#[cfg(test)]
+mod samples;
 mod set;
+mod slit;
+mod srat;
 mod tables;
 #[cfg(test)]
 mod tests;

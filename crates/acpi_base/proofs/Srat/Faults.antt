@@ -25,7 +25,7 @@ sound_entry (Opaque e) size past = size
 sound_entry _ size past = tt
 
 -- a fault excludes that an entry is sound
-entry_excludes : (fault : Code) (e : SratEntry) → SratEntryFault fault e → ¬ IsSoundSratEntry e
+pub entry_excludes : (fault : Code) (e : SratEntry) → SratEntryFault fault e → ¬ IsSoundSratEntry e
 entry_excludes code.SratEntryLength (Opaque e) wrong sound = sound wrong
 entry_excludes code.RangePastEnd (MemoryRange v) (enabled, past) sound = omega (arith, past, sound enabled)
 entry_excludes _ _ wrong sound = wrong

@@ -1,31 +1,15 @@
 use super::first_gsi_clash;
-use acpi_base::{Image, Policy, sum};
+use crate::samples::image_of;
+use acpi_base::Policy;
 use acpi_graph::Clash;
 use acpi_read::Table;
 use std::alloc::Global;
 use std::process::Abort;
 use std::test::*;
 
-/// A MADT with these entries from offset 44 on.
-fn madt(alloc: Global, entries: &[u8]) -> Result<Vec<u8>, Fail> {
-    let length = u32::try_from(44 + entries.len()).map_err(|_| "a table's length")?;
-    let mut bytes = Vec::new(alloc);
-    bytes.extend_from_slice(b"APIC")?;
-    bytes.extend_from_slice(&length.to_le_bytes())?;
-    bytes.extend_from_slice(&[0; 36])?;
-    bytes.extend_from_slice(entries)?;
-    let checksum = sum(&bytes).wrapping_neg();
-    if let Some(byte) = bytes.get_mut(9) {
-        *byte = checksum;
-    }
-    Ok(bytes)
-}
-
 /// What is found of a MADT with these entries, where an I/O APIC has 24 inputs, and the one at FEC80000h has 120.
 fn found(alloc: Global, entries: &[u8]) -> Result<Clash, Fail> {
-    let bytes = madt(alloc, entries)?;
-    let mut image = Image::new(alloc);
-    image.add(0x1000, &bytes).map_err(|_| "an image")?;
+    let image = image_of(alloc, b"APIC", &[0; 8], entries)?;
     let mut policy = Policy::new(alloc, 0xe0000, 24).map_err(|_| "a policy")?;
     policy.add_input(0xfec8_0000, 120).map_err(|_| "a count")?;
     let table = Table::read(&image, 0x1000).map_err(|_| "a table")?;

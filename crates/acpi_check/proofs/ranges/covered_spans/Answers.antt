@@ -1,0 +1,17 @@
+use Rattle.std.proofs.Common.{◌<◌, [], map, length, refl, sym, arith}
+use Rattle.std.proofs.lemmas.List.{append-nil}
+use Rattle.acpi_read.specs.Entries.{entry_value}
+use Rattle.acpi_check.proofs.Kept.{next_inside, none_of_short}
+use Rattle.acpi_check.proofs.RangeClashes.{kind_spans}
+use Rattle.acpi_check.proofs.ranges.covered_spans.Goals as goal
+
+pub covered_span-requires : goal.covered_span-requires
+covered_span-requires c = omega (arith, c.bytes.ensures.count, next_inside 48 c.args.table (map entry_value c.loop-entry.yielded) _ _ (entry_value c.in-Some.entry) c.loop-entry.invariant.1 c.in-Some.ensures.steps.0)
+
+pub returns-in_default : goal.returns-in_default
+returns-in_default c =
+    let short : length c.args.table < 48 = grind (arith, c.in_default.ensures.ok, c.in_default.not-Ok) in
+    kind_spans c.args.kind c.args.table [] c.new-spans.result.items (sym (none_of_short 48 c.args.table short)) (rw (c.new-spans.ensures.items) refl)
+
+pub returns : goal.returns
+returns c = kind_spans c.args.kind c.args.table (map entry_value c.loop-entry.yielded) c.loop-entry.spans.items (grind (arith, append-nil, c.loop-entry.invariant.1, c.in-None.ensures.steps)) c.loop-entry.invariant.0

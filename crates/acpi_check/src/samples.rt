@@ -1,0 +1,50 @@
+//! Tables for the tests.
+
+ghost use Rattle.std.specs.Prelude.{◌≤◌, length};
+
+use acpi_base::{Image, sum};
+use std::alloc::Global;
+use std::test::Fail;
+
+/// An image of one table at 1000h, with this signature, these fields behind its header, and these entries.
+pub(crate) fn image_of(
+    alloc: Global,
+    signature: &[u8; 4],
+    fields: &[u8],
+    entries: &[u8],
+) -> Result<Image, Fail>
+    requires { length fields.now ≤ 12 }
+{
+    let length =
+        u32::try_from(36 + fields.len() + entries.len()).map_err(|_| "a table's length")?;
+    let mut bytes = Vec::new(alloc);
+    bytes.extend_from_slice(signature)?;
+    bytes.extend_from_slice(&length.to_le_bytes())?;
+    bytes.extend_from_slice(&[0; 28])?;
+    bytes.extend_from_slice(fields)?;
+    bytes.extend_from_slice(entries)?;
+    let checksum = sum(&bytes).wrapping_neg();
+    if let Some(byte) = bytes.get_mut(9) {
+        *byte = checksum;
+    }
+    let mut image = Image::new(alloc);
+    image.add(0x1000, &bytes).map_err(|_| "an image")?;
+    Ok(image)
+}
+
+/// The first address of a range, how many bytes it has, and its flags: 1 is Enabled, 2 is Hot Pluggable.
+pub(crate) type Range = (u64, u64, u32);
+
+/// The entries of these ranges, which stand in an SRAT at the offsets 48, 88, 128 and so on.
+pub(crate) fn range_entries(alloc: Global, ranges: &[Range]) -> Result<Vec<u8>, Fail> {
+    let mut entries = Vec::new(alloc);
+    for (base, size, flags) in ranges {
+        entries.extend_from_slice(&[1, 40, 0, 0, 0, 0, 0, 0])?;
+        entries.extend_from_slice(&base.to_le_bytes())?;
+        entries.extend_from_slice(&size.to_le_bytes())?;
+        entries.extend_from_slice(&[0; 4])?;
+        entries.extend_from_slice(&flags.to_le_bytes())?;
+        entries.extend_from_slice(&[0; 8])?;
+    }
+    Ok(entries)
+}
