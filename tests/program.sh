@@ -51,6 +51,7 @@ runs "an RSDP whose sum is wrong" 1 'no 1 RsdpSum 0xe0000 0x0 0x0\n' '' "$scratc
 runs "the smallest set, all stages: it has no FADT" 1 'no 4 NoFadt 0x0 0x0 0x0\n' '' "$smallest" check --rsdp e0000
 runs "an empty text" 1 'no 1 RsdpOut 0xe0000 0x0 0x0\n' '' /dev/null check --rsdp e0000 --through 3
 runs "no RSDP at the address" 1 'no 1 RsdpOut 0xfffffffffffffff0 0x0 0x0\n' '' "$smallest" check --rsdp fffffffffffffff0 --through 3
+runs "the smallest set, with counts of inputs" 0 'yes\n' '' "$smallest" check --rsdp e0000 fec00000=32 --through 3 --default-inputs 16 0xFEC01000=256 fec00000=1
 tr 'a-f' 'A-F' <"$smallest" | sed 's/$/\r/' >"$scratch/upper"
 runs "digits in upper case, and lines that end in CR LF" 0 'yes\n' '' "$scratch/upper" check --rsdp e0000 --through 3
 
@@ -248,6 +249,7 @@ refuses() {
   [ -z "$message" ] || first="acpiset: $message"
   [ "$(head -n 1 "$scratch/err")" = "$first" ] || wrong="$wrong; standard error $(head -n 1 "$scratch/err")"
   grep -qxF '  acpiset check [--rsdp HEX] [--through N]' "$scratch/err" || wrong="$wrong; no usage of check"
+  grep -qxF '                [--default-inputs N] [ADDRESS=COUNT]..' "$scratch/err" || wrong="$wrong; no usage of counts"
   grep -qxF '  acpiset find' "$scratch/err" || wrong="$wrong; no usage of find"
   grep -qxF "  --through N  the last stage to check, 1 to $last, and $last if absent:" "$scratch/err" || wrong="$wrong; no last stage"
   [ "$(sed -n '/^  --through/,/^$/s/^ \{15,\}\([0-9][0-9]*\) .*/\1/p' "$scratch/err" | tr '\n' ' ')" = "$(seq -s ' ' "$last") " ] || wrong="$wrong; no list of the stages"
@@ -259,16 +261,7 @@ refuses '' check --help
 refuses '' help
 refuses "unrecognized subcommand 'chek'" chek --rsdp e0000
 refuses "unexpected argument '--rspd' found" check --rspd e0000
-inputs='an I/O APIC has 1 to 256 inputs, in 1 to 3 decimal digits'
-for word in fec00000= fec00000=0 fec00000=257 fec00000=65560 fec00000=0024 fec00000=24x; do
-  refuses "'$word': $inputs" check --rsdp e0000 "$word"
-done
-refuses "'fec00000=257': $inputs" check --rsdp e0000 fec00000=24 fec00000=257
-refuses "'fec00000': what is no option is ADDRESS=COUNT, such as fec00000=24" check --rsdp e0000 fec00000
-refuses "'1fec00000=24': the address of an I/O APIC is 1 to 8 hex digits, with 0x before them or without" check --rsdp e0000 1fec00000=24
-for number in 0 257 65560 0024 3x; do
-  refuses "--default-inputs '$number': $inputs" check --rsdp e0000 --default-inputs "$number"
-done
+refuses "unexpected argument 'fec00000=24' found" find fec00000=24
 refuses "a value is required for '--rsdp <HEX>' but none was supplied" check --rsdp
 refuses "a value is required for '--through <N>' but none was supplied" check --rsdp e0000 --through
 refuses "the argument '--rsdp <HEX>' cannot be used multiple times" check --rsdp e0000 --rsdp e0000
@@ -278,7 +271,41 @@ done
 for word in 0 $((last + 1)) 19 003 three; do
   refuses "--through '$word': the stages are 1 to $last" check --rsdp e0000 --through "$word"
 done
+refuses "a value is required for '--default-inputs <N>' but none was supplied" check --default-inputs
+for word in 0 257 0024 0x18 ''; do
+  refuses "--default-inputs '$word': an I/O APIC has 1 to 256 inputs, in 1 to 3 decimal digits" check --default-inputs "$word"
+done
+for word in fec00000=0 fec00000=257 fec00000= fec00000=0024 'fec00000= 24'; do
+  refuses "'$word': an I/O APIC has 1 to 256 inputs, in 1 to 3 decimal digits" check --rsdp e0000 "$word"
+done
+for word in 1fec00000=24 0x0fec00000=24 fec0000h=24 0Xfec00000=24 =24 1fec00000=257; do
+  refuses "'$word': the address of an I/O APIC is 1 to 8 hex digits, with 0x before them or without" check "$word"
+done
+for word in fec00000 e0000 help ''; do
+  refuses "'$word': what is no option is ADDRESS=COUNT, such as fec00000=24" check --rsdp e0000 "$word"
+done
+refuses "'fec01000=0': an I/O APIC has 1 to 256 inputs, in 1 to 3 decimal digits" check fec00000=24 fec01000=0 fec02000
 refuses "an argument is not UTF-8" check --rsdp $'\xff'
+refuses "an argument is not UTF-8" check $'fec00000=24\xff'
+
+# ---- many arguments
+# counts NAME STATUS STDOUT FIRST_LINE WORDS..: checks the smallest set with many words ADDRESS=COUNT. It has 20 seconds,
+# of which it needs a part of one.
+counts() {
+  local name=$1 status=$2 out=$3 first=$4 wrong=""
+  shift 4
+  timeout 20 "$program" check --rsdp e0000 --through 3 "$@" <"$smallest" >"$scratch/out" 2>"$scratch/err"
+  local got=$?
+  [ "$got" = "$status" ] || wrong="status $got, not $status"
+  [ "$(cat "$scratch/out")" = "$out" ] || wrong="$wrong; standard output $(cat "$scratch/out")"
+  [ "$(head -n 1 "$scratch/err")" = "$first" ] || wrong="$wrong; standard error $(head -n 1 "$scratch/err")"
+  count "$name" "$wrong"
+}
+mapfile -t words < <(awk 'BEGIN { for (i = 64999; i >= 0; i--) printf "%x=%d\n", 16 * i, i % 256 + 1 }')
+counts "65,000 counts of inputs, addresses falling" 0 yes '' "${words[@]}"
+mapfile -t words < <(awk 'BEGIN { for (i = 0; i < 65000; i++) printf "%x=%d\n", 16 * i, i % 256 + 1 }')
+counts "65,000 counts of inputs, addresses rising" 0 yes '' "${words[@]}"
+counts "65,000 counts of inputs, and a wrong one" 2 '' "acpiset: 'fec00000=0': an I/O APIC has 1 to 256 inputs, in 1 to 3 decimal digits" "${words[@]}" fec00000=0
 
 # status NAME STATUS INPUT ARGUMENTS..: runs the program where standard error is full.
 status() {
@@ -361,10 +388,14 @@ if "$compiler" $flags -o "$scratch/refuse_memory.so" refuse_memory.c; then
   starved 2 '' check --rsdp
   starved 2 '' check --rsdp xyz
   starved 2 '' check --through 0
+  starved 2 '' check --default-inputs 0
+  starved 2 '' check fec00000=24 fec00000=257
+  starved 2 '' check fec00000
   starved 2 '' check --rsdp $'\xff'
   starved 2 '' --help
   starved 2 ''
   starved 0 yes check --rsdp e0000 --through 3
+  starved 0 yes check --rsdp e0000 --through 3 --default-inputs 16 fec00000=32 fec01000=8 fec00000=24
   starved 0 'rsdp 0xe0000' find
 else
   count "requests for memory that are refused" "no C compiler to build tests/refuse_memory.c"

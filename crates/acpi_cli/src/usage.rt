@@ -19,17 +19,16 @@ fault.
                there is none check writes `no rsdp`
 ";
 
-const INPUTS: &str = "
-  --default-inputs N
-               how many inputs each I/O APIC has that no ADDRESS=COUNT names:
-               1 to 256, and 24 if absent
+const INPUTS: &str = "  --default-inputs N
+               how many inputs each I/O APIC has that no ADDRESS=COUNT names,
+               from 1 to 256; if absent, 24
   ADDRESS=COUNT
-               how many inputs the I/O APIC at ADDRESS has: 1 to 256. ADDRESS
-               is 1 to 8 hex digits, with 0x before them or without. Any
+               how many inputs the I/O APIC at ADDRESS has, from 1 to 256. Any
                number of these may be given; the first count of an address
-               stands
+               stands. ADDRESS is 1 to 8 hex digits, with 0x before them or
+               without
 
-No table says how many inputs an I/O APIC has, and stages from 6 on ask it.
+No table says how many inputs an I/O APIC has. Stages from 6 on ask for it.
 ";
 
 const TEXTS_AND_STATUSES: &str = "
