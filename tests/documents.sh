@@ -34,8 +34,9 @@ exports() {
 }
 
 # functions CRATE: its functions outside tests, a method as Type_method. One that must have an edit comes once more
-# with a + before it: an exported one whose contract has an `ensures`, and an exported type's method of an exported
-# trait, whose contract stands with the trait. A program exports nothing: there it is those in `program`.
+# with a + before it: an exported one whose contract has an `ensures`. A program exports nothing: there it is those in
+# `program`. An exported type with an exported trait, whose contracts stand with the trait, comes with a ~ before it: one
+# edit of any of its methods is enough.
 program='^(do_job|obey|read_words|run_[a-z]+|status_of)$'
 functions() {
   local names=""
@@ -59,7 +60,7 @@ functions() {
       name = type == "" ? $0 : type "_" $0
       is_open = is_pub && (type == "" ? $0 : type) in is_exported || names == "" && name ~ program
       print name
-      if (type in is_exported && trait in is_exported) print "+" name
+      if (type in is_exported && trait in is_exported) print "~" type
       next
     }
     /^ *\{$/ || /^ *\).*\{$/ { has_contract = 0 }
@@ -76,6 +77,7 @@ for crate in $(sed -n 's/^\([a-z_]*\):.*/\1/p' crates.txt); do
   edited=$(for edit in "crates/$crate"/must-fail/*.edit; do basename "$edit" .edit; done | sed 's/-.*//')
   exported=$(sed -n 's/^+//p' <<<"$all" | grep -vxF "$(sed -n "s/^$crate \([A-Za-z0-9_]*\) .*/\1/p" <<<"$aside")")
   within "$crate: functions that no edit is named for" "$exported" "$edited"
+  within "$crate: types with a trait of this repository that no edit is named for" "$(sed -n 's/^~//p' <<<"$all" | sort -u)" "$(sed 's/_.*//' <<<"$edited")"
   within "$crate: edits that are named for no function" "$edited" "$all"
 done
 

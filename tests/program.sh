@@ -161,6 +161,56 @@ facs 4=3f - no 5 FacsLength 0x7000 0x0 0x0
 facs 4=41 - no 5 FacsOut 0x7000 0x0 0x0
 LIST
 
+# ---- the MADT: a set of the RSDP, an RSDT, a FADT of hardware-reduced ACPI and a MADT with these entries
+# summed BYTES: prints a table's bytes with its Length and with the checksum that makes them sum to 0.
+summed() {
+  local -a new
+  local total=0 i
+  read -ra new <<<"$1"
+  new[4]=$(printf '%02x' $((${#new[@]} % 256)))
+  new[9]=00
+  for i in "${new[@]}"; do total=$((total + 16#$i)); done
+  new[9]=$(printf '%02x' $(((256 - total % 256) % 256)))
+  printf '%s\n' "${new[*]}"
+}
+
+# with_madt ENTRIES: prints the set's image text.
+with_madt() {
+  printf '@e0000\n%s\n' "${bytes[rsdp]}"
+  printf '@1000\n%s\n' "$(summed "52 53 44 54 00 00 00 00 01 00 $maker 00 20 00 00 00 30 00 00")"
+  printf '@2000\n%s\n' "$(summed "46 41 43 50 00 00 00 00 01 00 $maker $(zeros 76)00 00 10 00")"
+  printf '@3000\n%s\n' "$(summed "41 50 49 43 00 00 00 00 01 00 $maker 00 00 e0 fe 01 00 00 00 $1")"
+}
+
+cpu='00 08 03 00 01 00 00 00'
+io='01 0c 05 00 00 00 c0 fe 00 00 00 00'
+second='01 0c 06 00 00 10 c0 fe 18 00 00 00'
+while IFS='|' read -r entries words line; do
+  with_madt "$entries" >"$scratch/madt"
+  status=1
+  [ "$line" != yes ] || status=0
+  # Words are split on purpose.
+  runs "MADT entries $entries with '$words'" "$status" "$line\n" '' "$scratch/madt" check --rsdp e0000 $words
+done <<LIST
+$cpu $io $second||yes
+$cpu 07||no 6 MadtEntryCut 0x34 0x0 0x0
+00 0c 00 00 01 00 00 00 00 00 00 00||no 6 MadtEntryLength 0x2c 0x0 0x0
+$cpu 02 0a 01 09 09 00 00 00 02 00||no 6 OverrideBus 0x34 0x0 0x0
+$cpu 02 0a 00 09 09 00 00 00 08 00||no 6 ReservedInti 0x34 0x0 0x0
+05 0c 00 00 00 00 e0 fe 00 00 00 00 $cpu 05 0c 00 00 00 00 e0 fe 00 00 00 00||no 6 SecondAddressOverride 0x40 0x2c 0x0
+$cpu 01 0c 00 00 00 00 c0 fe f0 ff ff ff|--default-inputs 17|no 6 GsiPastEnd 0x34 0x0 0x0
+$cpu 01 0c 00 00 00 00 c0 fe f0 ff ff ff|--default-inputs 16|yes
+$io $second|fec00000=32|no 7 GsiClash 0x2c 0x38 0x18
+$io $second|fec00000=32 fec00000=24|no 7 GsiClash 0x2c 0x38 0x18
+$io $second|FEC00000=24 --default-inputs 64|yes
+$second $io|--default-inputs 25|no 7 GsiClash 0x38 0x2c 0x18
+02 0a 00 09 09 00 00 00 00 00 02 0a 00 09 14 00 00 00 00 00||no 8 OverrideClash 0x36 0x2c 0x9
+02 0a 00 09 09 00 00 00 00 00 02 0a 00 09 09 00 00 00 00 00||yes
+LIST
+# A MADT that ends within its fixed fields.
+with_madt '' | sed 's/^\(41 50 49 43\) 2c 00 00 00 01 [0-9a-f]* \(.* 00 00 e0 fe\) 01 00 00 00 *$/\1 28 00 00 00 01 00 \2/' >"$scratch/short"
+runs "a MADT of 40 bytes whose sum is wrong" 1 'no 3 TableSum 0x1 0x3000 0x0\n' '' "$scratch/short" check --rsdp e0000
+
 # ---- the search for the RSDP
 runs "the smallest set, found" 0 "rsdp 0xe0000\n" "" "$smallest" find
 runs "the smallest set, checked where it is found" 0 "yes\n" "" "$smallest" check --through 3
@@ -200,7 +250,7 @@ refuses() {
   grep -qxF '  acpiset check [--rsdp HEX] [--through N]' "$scratch/err" || wrong="$wrong; no usage of check"
   grep -qxF '  acpiset find' "$scratch/err" || wrong="$wrong; no usage of find"
   grep -qxF "  --through N  the last stage to check, 1 to $last, and $last if absent:" "$scratch/err" || wrong="$wrong; no last stage"
-  [ "$(sed -n 's/^ \{15,\}\([0-9][0-9]*\) .*/\1/p' "$scratch/err" | tr '\n' ' ')" = "$(seq -s ' ' "$last") " ] || wrong="$wrong; no list of the stages"
+  [ "$(sed -n '/^  --through/,/^$/s/^ \{15,\}\([0-9][0-9]*\) .*/\1/p' "$scratch/err" | tr '\n' ' ')" = "$(seq -s ' ' "$last") " ] || wrong="$wrong; no list of the stages"
   count "arguments '$*'" "$wrong"
 }
 refuses ''
@@ -209,7 +259,16 @@ refuses '' check --help
 refuses '' help
 refuses "unrecognized subcommand 'chek'" chek --rsdp e0000
 refuses "unexpected argument '--rspd' found" check --rspd e0000
-refuses "unexpected argument 'fec00000=24' found" check --rsdp e0000 fec00000=24
+inputs='an I/O APIC has 1 to 256 inputs, in 1 to 3 decimal digits'
+for word in fec00000= fec00000=0 fec00000=257 fec00000=65560 fec00000=0024 fec00000=24x; do
+  refuses "'$word': $inputs" check --rsdp e0000 "$word"
+done
+refuses "'fec00000=257': $inputs" check --rsdp e0000 fec00000=24 fec00000=257
+refuses "'fec00000': what is no option is ADDRESS=COUNT, such as fec00000=24" check --rsdp e0000 fec00000
+refuses "'1fec00000=24': the address of an I/O APIC is 1 to 8 hex digits, with 0x before them or without" check --rsdp e0000 1fec00000=24
+for number in 0 257 65560 0024 3x; do
+  refuses "--default-inputs '$number': $inputs" check --rsdp e0000 --default-inputs "$number"
+done
 refuses "a value is required for '--rsdp <HEX>' but none was supplied" check --rsdp
 refuses "a value is required for '--through <N>' but none was supplied" check --rsdp e0000 --through
 refuses "the argument '--rsdp <HEX>' cannot be used multiple times" check --rsdp e0000 --rsdp e0000

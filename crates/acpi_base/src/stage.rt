@@ -6,11 +6,11 @@ ghost use Rattle.acpi_base.specs.declared.stage.Stage.{Stage};
 ghost use Rattle.acpi_base.specs.declared.stage.TheConstants.{BUILT};
 
 /// The number of the last stage that is built.
-pub const BUILT: u8 = 5;
+pub const BUILT: u8 = 8;
 
-/// The last stage that is built is the FACS's.
+/// The last stage that is built is that of the overrides.
 pub fn built_stages()
-    ensures last { stage_number Stage.Facs ≡ BUILT }
+    ensures last { stage_number Stage.Overrides ≡ BUILT }
 {}
 
 /// A part of the check. Each stage is looked at only where all earlier ones hold. Sections are those

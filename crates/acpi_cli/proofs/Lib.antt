@@ -1,2 +1,8 @@
 pub mod PlainLines
+pub mod Hyphens
+pub mod CheckArguments
+pub mod CheckRows
+pub mod FirstCounts
+pub mod InputsWords
 mod Sent
+pub mod Spellings

@@ -1,107 +1,141 @@
--- Command lines whose arguments stand a space apart, and whose values begin with no hyphen.
-use Rattle.std.proofs.Common.{◌≡◌, ◌==◌, ◌&&◌, ◌∙◌, ℕ, Bool, List, [], ◌∷◌, Option, Some, None, true, false, cond, codes, refl, ap, sym, inl, inr}
-use Rattle.std.proofs.lemmas.Bool.Decides.{eqb_tells}
-use Rattle.std.specs.Prelude.{option_and_then}
-use Rattle.clap.specs.Words.{Row, Text}
-use Rattle.clap.specs.declared.builder.value_parser.Reading.TheVariants.{AsWritten}
-use Rattle.clap.specs.declared.parser.matches.ValueSource.TheVariants.{CommandLine}
+-- Command lines whose arguments stand a space apart, and what they ask for.
+use Rattle.std.proofs.Common.{◌≡◌, ◌∙◌, ◌++◌, ℕ, List, [], ◌∷◌, Option, Some, None, true, codes, append_assoc, append-nil, refl, ap, sym}
+use Rattle.std.specs.Prelude.{IfSome, fold, is_some, option_and_then, option_map, unwrap_or}
+use Rattle.clap.specs.Words.{Row, Rule, Shape, Text, all_of, first_of}
+use Rattle.clap.specs.Simple.{App, built, entered, names_of}
+use Rattle.clap.specs.Walk.{Names, Walk, finished, idle, nothing_held, settled, walk, walk_from, walked}
+use Rattle.clap.specs.Kinds.{Kinds, or_else}
+use Rattle.clap.specs.Faults.{built_fault, check_fault, defaults_fault, entered_fault, settle_fault, walk_fault}
 use Rattle.clap.proofs.OnLiterals.{clap_on_literals}
-use Rattle.acpi_base.specs.declared.stage.TheConstants.{BUILT}
-use Rattle.acpi_cli.specs.CommandLine.{asked, built_stage, check, find, find_line, find_words, check_words, command_asked, check_line, command_line, command_of, is_taken, last_word, short_line, through_line, whole_line}
-use Rattle.acpi_cli.specs.Words.{hex_word}
+use Rattle.acpi_base.specs.Policy.{PolicyValue, new_policy}
+use Rattle.acpi_cli.specs.CommandLine.{are_none, asked, check, check_asked, check_line, check_words, command_line, command_of, default_word, find, find_line, find_words, is_taken, last_word, policy_words, rsdp_word, with_inputs}
+use Rattle.acpi_cli.specs.Words.{all_inputs, hex_word}
+use Rattle.acpi_cli.specs.declared.policy_words.Inputs.{Inputs}
+use Rattle.acpi_cli.proofs.CheckRows.{check_rows, default_is_found, rsdp_is_found, through_is_found, words_are_found}
+use Rattle.acpi_cli.proofs.Hyphens.{IsPlain, all_are_plain, count_is_plain, hex_is_plain, stage_is_plain}
+use Rattle.acpi_cli.proofs.CheckArguments.{Reads, given, reads_check, rules, shape, standing, taken}
 
--- a text that begins with no hyphen
-pub record IsPlain (text : Text) : Type 0 where
-  pub first : ℕ
-  pub rest : Text
-  pub is : text ≡ first ∷ rest
-  pub plain : (first == 45) ≡ false
+-- ---- what stands before the arguments of a command
 
-no_value : {X : Type 0} (a b : Bool) (v n : X) → cond (a && (b && false)) (Some v) None ≡ Some n → ⊥
-no_value true true v n e = cc
-no_value true false v n e = cc
-no_value false b v n e = cc
+-- the walk that has come to a command keeps the words behind it
+words_behind : (c : List Rule) (names : Names) (w : Walk) (name : Text) (before words : List Text)
+    → fold (walked c names) (record w { stopped = Some (name, before) }) words ≡ record w { stopped = Some (name, before ++ words) }
+unfolding walked
+words_behind c names w name before [] = ap (λ (all : List Text). record w { stopped = Some (name, all) }) (sym (append-nil before))
+words_behind c names w name before (word ∷ words) =
+    words_behind c names w name (before ++ word ∷ []) words ∙ ap (λ (all : List Text). record w { stopped = Some (name, all) }) (append_assoc before (word ∷ []) words)
 
-no_number : (a b : Bool) (v n : ℕ) → option_and_then built_stage (cond (a && (b && false)) (Some v) None) ≡ Some n → ⊥
-no_number true true v n e = cc
-no_number true false v n e = cc
-no_number false b v n e = cc
+-- and has no fault in them
+no_fault_behind : (s : Shape) (names : Names) (w : Walk) (name : Text) (before words : List Text)
+    → walk_fault s names (record w { stopped = Some (name, before) }) words ≡ []
+unfolding walked walk_fault
+no_fault_behind s names w name before [] = refl
+no_fault_behind s names w name before (word ∷ words) = no_fault_behind s names w name (before ++ word ∷ []) words
 
-pub hex_is_plain : (hex : Text) (n : ℕ) → hex_word 16 hex ≡ Some n → IsPlain hex
-hex_is_plain [] n e = absurd (cc)
-hex_is_plain (c ∷ cs) n e = elim (eqb_tells c 45) [
-  | inl hyphen ↦ absurd (no_value _ _ _ _ (ap (λ x. hex_word 16 (x ∷ cs)) (sym hyphen.1) ∙ e))
-  | inr other ↦ record { first = c; rest = cs; is = refl; plain = other.0 }
-]
+-- what is left to be judged once the walk is over
+after_walk : (a : App) (words : List Text) (w : Walk) → walk a.top.rules (names_of a) nothing_held words ≡ w
+    → walk_fault a.top (names_of a) (walk_from nothing_held) words ≡ []
+    → built_fault a nothing_held words
+    ≡ or_else (entered_fault a w.stopped)
+    (or_else (settle_fault a.top.rules a.top.args_override_self w.held)
+    (or_else (defaults_fault (settled a.top.rules w.held).rows a.top.rules)
+    (check_fault a.top (finished a.top.rules w.held) (is_some (entered a w.stopped)))))
+after_walk a words w e fault = rw (fault, e) refl
 
-pub decimal_is_plain : (number : Text) (n : ℕ) → last_word (Some number) ≡ Some n → IsPlain number
-decimal_is_plain [] n e = absurd (cc)
-decimal_is_plain (c ∷ cs) n e = elim (eqb_tells c 45) [
-  | inl hyphen ↦ absurd (no_number _ _ _ _ (ap (λ x. last_word (Some (x ∷ cs))) (sym hyphen.1) ∙ e))
-  | inr other ↦ record { first = c; rest = cs; is = refl; plain = other.0 }
-]
+-- the walk over `check WORDS..`
+at_check : List Text → Walk
+at_check words = record (walk_from nothing_held) { stopped = Some (codes "check", words) }
 
--- what `clap` returns, where each value begins with no hyphen
-short_line_gives : (program cs : Text) (c n : ℕ) → (c == 45) ≡ false → hex_word 16 (c ∷ cs) ≡ Some n
-    → asked (short_line program (c ∷ cs)) ≡ Some (check (Some n) BUILT)
-unfolding is_taken command_of command_line check_line find_line clap_on_literals
-short_line_gives program cs c n e value = simp (e, value)
+program_line : App
+unfolding command_line check_line find_line
+program_line = built command_line
 
-through_line_gives : (program cs : Text) (c last : ℕ) → (c == 45) ≡ false → last_word (Some (c ∷ cs)) ≡ Some last
-    → asked (through_line program (c ∷ cs)) ≡ Some (check None last)
-unfolding is_taken command_of command_line check_line find_line clap_on_literals
-through_line_gives program cs c last e stage = simp (e, stage)
+walks_to_check : (words : List Text) → walk program_line.top.rules (names_of program_line) nothing_held (codes "check" ∷ words) ≡ at_check words
+unfolding program_line command_line check_line find_line at_check clap_on_literals
+walks_to_check words = words_behind program_line.top.rules (names_of program_line) (walk_from nothing_held) (codes "check") [] words
 
-abbrev row : Text → Text → Row
-row id value = record { id = id; values = value ∷ []; count = None; source = Some CommandLine; reading = AsWritten }
+no_fault_to_check : (words : List Text) → walk_fault program_line.top (names_of program_line) (walk_from nothing_held) (codes "check" ∷ words) ≡ []
+unfolding program_line command_line check_line find_line clap_on_literals
+no_fault_to_check words = no_fault_behind program_line.top (names_of program_line) (walk_from nothing_held) (codes "check") [] words
 
-abbrev both : Text → Text → Option (Text × List Row)
-both hex number = Some (codes "check", row (codes "rsdp") hex ∷ row (codes "through") number ∷ [])
+-- the arguments of `check` are all that is left to be judged, and have no fault
+check_has_no_fault : (words : List Text) (rows : List Row) → Reads (standing [] None idle) words rows
+    → or_else (entered_fault program_line (at_check words).stopped)
+    (or_else (settle_fault program_line.top.rules program_line.top.args_override_self (at_check words).held)
+    (or_else (defaults_fault (settled program_line.top.rules (at_check words).held).rows program_line.top.rules)
+    (check_fault program_line.top (finished program_line.top.rules (at_check words).held) (is_some (entered program_line (at_check words).stopped))))) ≡ []
+unfolding program_line command_line check_line find_line at_check shape rules clap_on_literals
+check_has_no_fault words rows reads = ap (λ (kinds : Kinds). or_else kinds []) (taken words rows reads)
 
-whole_line_taken : (program cs ds : Text) (c d : ℕ) → (c == 45) ≡ false → (d == 45) ≡ false → is_taken (whole_line program (c ∷ cs) (d ∷ ds)) ≡ true
-unfolding is_taken command_line check_line find_line clap_on_literals
-whole_line_taken program cs ds c d e f = simp (e, f)
+check_has_rows : (words : List Text) (rows : List Row) → Reads (standing [] None idle) words rows
+    → entered program_line (at_check words).stopped ≡ Some (codes "check", rows)
+unfolding program_line command_line check_line find_line at_check shape rules clap_on_literals
+check_has_rows words rows reads = ap (λ (r : List Row). Some (codes "check", r)) (given words rows reads)
 
-whole_line_command : (program cs ds : Text) (c d : ℕ) → (c == 45) ≡ false → (d == 45) ≡ false
-    → command_of (whole_line program (c ∷ cs) (d ∷ ds)) ≡ both (c ∷ cs) (d ∷ ds)
-unfolding command_of command_line check_line find_line clap_on_literals
-whole_line_command program cs ds c d e f = simp (e, f)
+-- `PROGRAM check WORDS..`, where the words are read
+check_is_taken : (program : Text) (words : List Text) (rows : List Row) → Reads (standing [] None idle) words rows → is_taken (program ∷ codes "check" ∷ words) ≡ true
+unfolding is_taken program_line
+check_is_taken program words rows reads =
+    ap are_none (after_walk program_line (codes "check" ∷ words) (at_check words) (walks_to_check words) (no_fault_to_check words) ∙ check_has_no_fault words rows reads)
 
-both_asked : (hex number : Text) (n last : ℕ) → hex_word 16 hex ≡ Some n → last_word (Some number) ≡ Some last
-    → command_asked (both hex number) ≡ Some (check (Some n) last)
-both_asked hex number n last value stage = simp (value, stage)
+check_is_entered : (program : Text) (words : List Text) (rows : List Row) → Reads (standing [] None idle) words rows → command_of (program ∷ codes "check" ∷ words) ≡ Some (codes "check", rows)
+unfolding command_of program_line
+check_is_entered program words rows reads = ap (λ (w : Walk). entered program_line w.stopped) (walks_to_check words) ∙ check_has_rows words rows reads
 
-whole_line_gives : (line : List Text) (hex number : Text) (n last : ℕ) → is_taken line ≡ true → command_of line ≡ both hex number
-    → hex_word 16 hex ≡ Some n → last_word (Some number) ≡ Some last → asked line ≡ Some (check (Some n) last)
-whole_line_gives line hex number n last taken command value stage =
-    rw taken (ap command_asked command ∙ both_asked hex number n last value stage)
+check_gives : (program : Text) (words : List Text) (rows : List Row) → Reads (standing [] None idle) words rows → asked (program ∷ codes "check" ∷ words) ≡ check_asked rows
+check_gives program words rows reads = rw (check_is_taken program words rows reads, check_is_entered program words rows reads) refl
+
+-- ---- plain lines
+
+rsdp_is_plain : (text : Option Text) (rsdp : Option ℕ) → rsdp_word text ≡ Some rsdp → IfSome text IsPlain
+rsdp_is_plain None rsdp e = tt
+rsdp_is_plain (Some text) rsdp e = go (hex_word 16 text) refl e
+  where
+    go : (address : Option ℕ) → hex_word 16 text ≡ address → option_map (λ a. Some a) address ≡ Some rsdp → IsPlain text
+    go None is e = absurd (cc)
+    go (Some address) is e = hex_is_plain 16 text address is
+
+through_is_plain : (text : Option Text) (last : ℕ) → last_word text ≡ Some last → IfSome text IsPlain
+through_is_plain None last e = tt
+through_is_plain (Some text) last e = stage_is_plain text last e
+
+default_is_plain : (text : Option Text) (count : ℕ) → default_word text ≡ Some count → IfSome text IsPlain
+default_is_plain None count e = tt
+default_is_plain (Some text) count e = count_is_plain text count e
+
+-- a policy is that of a default and of words
+record Given (inputs : Option Text) (words : List Text) : Type 0 where
+  pub count : ℕ
+  pub counts : List Inputs
+  pub default : default_word inputs ≡ Some count
+  pub all : all_inputs words ≡ Some counts
+
+policy_is_given : (inputs : Option Text) (words : List Text) (policy : PolicyValue) → policy_words inputs words ≡ Some policy → Given inputs words
+policy_is_given inputs words policy e = go (default_word inputs) (all_inputs words) refl refl e
+  where
+    go : (count : Option ℕ) (counts : Option (List Inputs)) → default_word inputs ≡ count → all_inputs words ≡ counts
+        → option_and_then (λ count. option_map (with_inputs (new_policy 0 count)) counts) count ≡ Some policy → Given inputs words
+    go None counts is are e = absurd (cc)
+    go (Some count) None is are e = absurd (cc)
+    go (Some count) (Some counts) is are e = record { count = count; counts = counts; default = is; all = are }
+
+-- what `check` is asked, from the values of its arguments
+asks : (options : List Row) (hex number inputs : Option Text) (words : List Text) (rsdp : Option ℕ) (policy : PolicyValue) (last : ℕ)
+    → first_of (codes "rsdp") options ≡ hex → first_of (codes "through") options ≡ number → first_of (codes "default-inputs") options ≡ inputs
+    → unwrap_or (all_of (codes "inputs") options) [] ≡ words → rsdp_word hex ≡ Some rsdp → policy_words inputs words ≡ Some policy → last_word number ≡ Some last
+    → check_asked options ≡ Some (check rsdp policy last)
+asks options hex number inputs words rsdp policy last is_hex is_number is_inputs is_words a b c = rw (is_hex, is_number, is_inputs, is_words, a, b, c) refl
+
+pub check_words_asked : (program : Text) (hex number inputs : Option Text) (words : List Text) (rsdp : Option ℕ) (policy : PolicyValue) (last : ℕ)
+    → rsdp_word hex ≡ Some rsdp → policy_words inputs words ≡ Some policy → last_word number ≡ Some last
+    → asked (check_words program hex number inputs words) ≡ Some (check rsdp policy last)
+check_words_asked program hex number inputs words rsdp policy last a b c =
+    let given = policy_is_given inputs words policy b in
+    check_gives program _ (check_rows hex number inputs words)
+    (reads_check hex number inputs words (rsdp_is_plain hex rsdp a) (through_is_plain number last c) (default_is_plain inputs given.count given.default) (all_are_plain words given.counts given.all))
+    ∙ asks (check_rows hex number inputs words) hex number inputs words rsdp policy last
+    (rsdp_is_found hex number inputs words) (through_is_found hex number inputs words) (default_is_found hex number inputs words) (words_are_found hex number inputs words) a b c
 
 pub find_words_asked : (program : Text) → asked (find_words program) ≡ Some find
 unfolding is_taken command_of command_line check_line find_line clap_on_literals
 find_words_asked program = refl
-
-pub check_words_asked : (program : Text) → asked (check_words program) ≡ Some (check None BUILT)
-unfolding is_taken command_of command_line check_line find_line clap_on_literals
-check_words_asked program = refl
-
-pub short_line_asked : (program hex : Text) (n : ℕ) → hex_word 16 hex ≡ Some n → asked (short_line program hex) ≡ Some (check (Some n) BUILT)
-short_line_asked program hex n e =
-    let h = hex_is_plain hex n e in
-    ap (λ t. asked (short_line program t)) h.is ∙ short_line_gives program h.rest h.first n h.plain (sym (ap (hex_word 16) h.is) ∙ e)
-
-pub through_line_asked : (program number : Text) (last : ℕ) → last_word (Some number) ≡ Some last → asked (through_line program number) ≡ Some (check None last)
-through_line_asked program number last e =
-    let d = decimal_is_plain number last e in
-    ap (λ t. asked (through_line program t)) d.is ∙ through_line_gives program d.rest d.first last d.plain (sym (ap (λ t. last_word (Some t)) d.is) ∙ e)
-
-pub whole_line_asked : (program hex number : Text) (n last : ℕ) → hex_word 16 hex ≡ Some n → last_word (Some number) ≡ Some last
-    → asked (whole_line program hex number) ≡ Some (check (Some n) last)
-whole_line_asked program hex number n last e f =
-    let h = hex_is_plain hex n e in
-    let d = decimal_is_plain number last f in
-    ap (λ t. asked (whole_line program t number)) h.is ∙ ap (λ t. asked (whole_line program (h.first ∷ h.rest) t)) d.is
-    ∙ whole_line_gives _ (h.first ∷ h.rest) (d.first ∷ d.rest) n last
-    (whole_line_taken program h.rest d.rest h.first d.first h.plain d.plain)
-    (whole_line_command program h.rest d.rest h.first d.first h.plain d.plain)
-    (sym (ap (hex_word 16) h.is) ∙ e)
-    (sym (ap (λ t. last_word (Some t)) d.is) ∙ f)

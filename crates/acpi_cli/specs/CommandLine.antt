@@ -1,14 +1,15 @@
 -- The command line as it is declared to `clap`, and what its arguments ask for.
-use Rattle.std.specs.Prelude.{◌≡◌, ◌≤◌, ℕ, ◌&&◌, Bool, true, false, List, [], ◌∷◌, Option, Some, None}
-use Rattle.std.specs.Prelude.{if◌then◌else◌, codes, nat_le, option_and_then, option_map}
+use Rattle.std.specs.Prelude.{◌≡◌, ◌≤◌, ◌==◌, ℕ, ◌&&◌, Bool, true, false, List, [], ◌∷◌, ◌++◌, Option, Some, None}
+use Rattle.std.specs.Prelude.{if◌then◌else◌, codes, find as find_first, fold, nat_le, option_and_then, option_map, unwrap_or}
 use Rattle.std.specs.Str.{bytes_eq}
-use Rattle.clap.specs.Words.{App, Kinds, Row, Rule, Text, fault_of, first_of, new_app, new_rule}
+use Rattle.clap.specs.Words.{App, Kinds, Row, Rule, Text, all_of, fault_of, first_of, new_app, new_rule}
 use Rattle.clap.specs.Words.{subcommand_of, with_rule, with_subcommand}
-use Rattle.clap.specs.declared.builder.action.ArgAction.TheVariants.{Set}
+use Rattle.clap.specs.declared.builder.action.ArgAction.TheVariants.{Append, Set}
 use Rattle.acpi_base.specs.Codes.{stage_number}
-use Rattle.acpi_base.specs.Policy.{PolicyValue, new_policy}
+use Rattle.acpi_base.specs.Policy.{PolicyValue, new_policy, with_input}
 use Rattle.acpi_base.specs.declared.stage.TheConstants.{BUILT}
-use Rattle.acpi_cli.specs.Words.{decimal_word, hex_word}
+use Rattle.acpi_cli.specs.Words.{all_inputs, count_word, decimal_word, hex_word}
+use Rattle.acpi_cli.specs.declared.policy_words.Inputs.{Inputs}
 use Rattle.acpi_cli.specs.declared.words.Job.{Job}
 use Rattle.acpi_cli.specs.declared.words.Job.TheVariants.{Check, Find}
 
@@ -18,11 +19,19 @@ use Rattle.acpi_cli.specs.declared.words.Job.TheVariants.{Check, Find}
 abbrev pub option_rule : Text → Rule
 option_rule name = record (new_rule name) { long = Some name; action = Some Set; value_names = 1 }
 
--- `check --rsdp HEX --through N`
+-- `ADDRESS=COUNT`, any number of times
+abbrev pub inputs_rule : Rule
+inputs_rule = record (new_rule (codes "inputs")) { action = Some Append; value_names = 1 }
+
+-- `check --rsdp HEX --through N --default-inputs N ADDRESS=COUNT..`
 unfoldable pub check_line : App
-check_line = with_rule
-    (with_rule (new_app (codes "check")) (option_rule (codes "rsdp")))
-    (option_rule (codes "through"))
+check_line =
+    with_rule (with_rule (with_rule (with_rule
+    (new_app (codes "check"))
+    (option_rule (codes "rsdp")))
+    (option_rule (codes "through")))
+    (option_rule (codes "default-inputs")))
+    inputs_rule
 
 -- `find`
 unfoldable pub find_line : App
@@ -47,8 +56,8 @@ command_of = subcommand_of command_line
 -- ---- what the arguments ask for
 
 pub data Asked : Type 0 where
-  -- the RSDP's address, where it is given, and the number of the last stage
-  check : Option ℕ → ℕ → Asked
+  -- the RSDP's address, where it is given, the policy, and the number of the last stage
+  check : Option ℕ → PolicyValue → ℕ → Asked
   find : Asked
 
 -- `--rsdp HEX`: without it the RSDP is to be found
@@ -65,11 +74,39 @@ abbrev pub last_word : Option Text → Option ℕ
 last_word None = Some BUILT
 last_word (Some text) = option_and_then built_stage (decimal_word 2 text)
 
+-- `--default-inputs N`: without it an I/O APIC has 24 inputs
+abbrev pub default_word : Option Text → Option ℕ
+default_word None = Some 24
+default_word (Some text) = count_word text
+
+-- the policy with these counts of inputs, given one after another: the first count of an address stands
+abbrev pub with_inputs : PolicyValue → List Inputs → PolicyValue
+with_inputs q counts = fold (λ q inputs. with_input q inputs.address inputs.count) q counts
+
+-- the first of the counts that is one of the I/O APIC at this address
+abbrev pub first_count : List Inputs → ℕ → Option ℕ
+first_count counts address = option_map (λ inputs. inputs.count) (find_first (λ inputs. inputs.address == address) counts)
+
+-- The policy of `--default-inputs N` and the words `ADDRESS=COUNT`. No RSDP is set yet, and the settings are those of
+-- a new policy.
+abbrev pub policy_words : Option Text → List Text → Option PolicyValue
+policy_words default_inputs words =
+    option_and_then
+    (λ inputs. option_map (with_inputs (new_policy 0 inputs)) (all_inputs words))
+    (default_word default_inputs)
+
+-- the policy among the options of a command
+abbrev pub policy_asked : List Row → Option PolicyValue
+policy_asked options =
+    policy_words (first_of (codes "default-inputs") options) (unwrap_or (all_of (codes "inputs") options) [])
+
 -- the options of `check`
 abbrev pub check_asked : List Row → Option Asked
 check_asked options =
     option_and_then
-    (λ rsdp. option_map (check rsdp) (last_word (first_of (codes "through") options)))
+    (λ rsdp. option_and_then
+    (λ policy. option_map (check rsdp policy) (last_word (first_of (codes "through") options)))
+    (policy_asked options))
     (rsdp_word (first_of (codes "rsdp") options))
 
 abbrev pub command_asked : Option (Text × List Row) → Option Asked
@@ -89,32 +126,24 @@ asked words = if is_taken words then command_asked (command_of words) else None
 abbrev pub find_words : Text → List Text
 find_words program = program ∷ codes "find" ∷ []
 
--- `PROGRAM check`
-abbrev pub check_words : Text → List Text
-check_words program = program ∷ codes "check" ∷ []
+-- `WORD VALUE`, where there is a value
+abbrev pub option_words : Text → Option Text → List Text
+option_words word None = []
+option_words word (Some value) = word ∷ value ∷ []
 
--- `PROGRAM check --through N`
-abbrev pub through_line : Text → Text → List Text
-through_line program number = program ∷ codes "check" ∷ codes "--through" ∷ number ∷ []
-
--- `PROGRAM check --rsdp HEX`
-abbrev pub short_line : Text → Text → List Text
-short_line program hex = program ∷ codes "check" ∷ codes "--rsdp" ∷ hex ∷ []
-
--- `PROGRAM check --rsdp HEX --through N`
-abbrev pub whole_line : Text → Text → Text → List Text
-whole_line program hex number =
-    program ∷ codes "check" ∷ codes "--rsdp" ∷ hex ∷ codes "--through" ∷ number ∷ []
+-- `PROGRAM check`, the options that are given, and the words `ADDRESS=COUNT`
+abbrev pub check_words : Text → Option Text → Option Text → Option Text → List Text → List Text
+check_words program rsdp through default_inputs words =
+    program ∷ codes "check"
+    ∷ (option_words (codes "--rsdp") rsdp
+    ++ (option_words (codes "--through") through
+    ++ (option_words (codes "--default-inputs") default_inputs ++ words)))
 
 -- ---- the job that carries it
 
--- no RSDP is set yet, each I/O APIC has 24 inputs, and the settings are those of a new policy
-abbrev pub plain_policy : PolicyValue
-plain_policy = new_policy 0 24
-
 abbrev pub Does : Asked → Job → Type 0
-Does (check rsdp last) (Check given policy stage) =
-    (given ≡ rsdp) × (policy ≡ plain_policy) × (stage_number stage ≡ last)
+Does (check rsdp policy last) (Check given held stage) =
+    (given ≡ rsdp) × (held ≡ policy) × (stage_number stage ≡ last)
 Does find Find = Unit {0}
 Does _ _ = ⊥
 

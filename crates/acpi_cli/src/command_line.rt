@@ -1,10 +1,10 @@
 //! The command line as it is declared to `clap`. No other module builds its commands.
 
-ghost use Rattle.std.specs.Prelude.{◌≡◌, ◌≢◌, IfErr, IfOk, false, map, option_map, true};
+ghost use Rattle.std.specs.Prelude.{◌≡◌, ◌≢◌, [], IfErr, IfOk, false, map, option_map, true, unwrap_or};
 ghost use Rattle.std.specs.String.{string_bytes};
-ghost use Rattle.clap.specs.Words.{app_of, first_of, found_of, kind_of, rows_of, rule_of, subcommand_rows_of};
+ghost use Rattle.clap.specs.Words.{all_of, app_of, first_of, found_of, kind_of, rows_of, rule_of, subcommand_rows_of};
 ghost use Rattle.clap.specs.declared.builder.command.Command.TheViews.{out-Command};
-ghost use Rattle.acpi_cli.specs.CommandLine.{check_line, command_line, command_of, is_taken, option_rule};
+ghost use Rattle.acpi_cli.specs.CommandLine.{check_line, command_line, command_of, inputs_rule, is_taken, option_rule};
 
 use crate::words::WordFault;
 use clap::error::ErrorKind;
@@ -48,6 +48,13 @@ pub fn value<'a>(options: &ArgMatches<'a>, id: &str) -> Option<&'a str>
     options.get_str(id)
 }
 
+/// The values of the positional argument `id`, in the order in which they were given.
+pub fn values<'b, 'a>(options: &'b ArgMatches<'a>, id: &str) -> &'b [&'a str]
+    ensures { map (λ text. text.now) result.now ≡ unwrap_or (all_of id.now (rows_of (found_of options.now))) [] }
+{
+    options.get_raw(id).unwrap_or_default()
+}
+
 fn fault_of(error: &Error) -> WordFault
     ensures memory { kind_of error.now ≡ ErrorKind.OutOfMemory → result ≡ WordFault.Memory }
     ensures words { kind_of error.now ≢ ErrorKind.OutOfMemory → result ≡ WordFault.Words }
@@ -73,7 +80,9 @@ fn check<'a>(alloc: Global) -> Result<Command<'a>, AllocError>
 {
     Command::new(alloc, "check")
         .arg(option(alloc, "rsdp", "HEX"))?
-        .arg(option(alloc, "through", "N"))
+        .arg(option(alloc, "through", "N"))?
+        .arg(option(alloc, "default-inputs", "N"))?
+        .arg(inputs(alloc))
 }
 
 /// `--NAME VALUE`, at most once. What the value is called shows only in error messages.
@@ -85,4 +94,14 @@ fn option<'a>(alloc: Global, name: &'a str, value: &'a str) -> Arg<'a>
         .long(name)
         .action(ArgAction::Set)
         .value_name(value)
+}
+
+/// `ADDRESS=COUNT`, any number of times.
+fn inputs<'a>(alloc: Global) -> Arg<'a>
+    ensures rule { rule_of result ≡ inputs_rule }
+    ensures own { result.global ≡ false }
+{
+    Arg::new(alloc, "inputs")
+        .action(ArgAction::Append)
+        .value_name("ADDRESS=COUNT")
 }

@@ -7,6 +7,7 @@ mod devices;
 mod find;
 mod number_words;
 mod outcome;
+mod policy_words;
 #[cfg(test)]
 mod tests;
 mod usage;

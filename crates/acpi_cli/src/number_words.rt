@@ -1,17 +1,19 @@
 //! Numbers among the arguments of the command line.
 
-ghost use Rattle.std.specs.Prelude.{◌≡◌, ◌≤◌, length, if◌then◌else◌, Some, None};
+ghost use Rattle.std.specs.Prelude.{◌≡◌, ◌≤◌, ◌<◌, ◌^◌, IfSome, length, if◌then◌else◌, Some, None};
 ghost use Rattle.std.specs.List.{list_all};
 ghost use Rattle.std.specs.Char.{is_digit};
 ghost use Rattle.std.specs.Str.Parse.{digits_value};
 ghost use Rattle.acpi_cli.specs.Words.{without_0x, number_word, hex_word, decimal_word};
 
-/// The number that `text` spells in 1 to 16 hex digits of either case, with `0x` before them or
+/// The number that `text` spells in 1 to `most` hex digits of either case, with `0x` before them or
 /// without. `None` where it is anything else.
-pub fn hex_number(text: &str) -> Option<u64>
-    ensures { result ≡ hex_word 16 text.now }
+pub fn hex_number(text: &str, most: usize) -> Option<u64>
+    requires { most ≤ 16 }
+    ensures value { result ≡ hex_word most text.now }
+    ensures fits { IfSome result (λ n. n < 16 ^ most) }
 {
-    number(without_prefix(text.as_bytes()), 16, 16)
+    number(without_prefix(text.as_bytes()), 16, most)
 }
 
 /// The number that `text` spells in 1 to `most` decimal digits. `None` where it is anything else.
@@ -36,7 +38,8 @@ fn number(digits: &[u8], base: u32, most: usize) -> Option<u64>
     requires low { 2 ≤ base }
     requires high { base ≤ 16 }
     requires short { most ≤ 16 }
-    ensures { result ≡ number_word base most digits.now }
+    ensures value { result ≡ number_word base most digits.now }
+    ensures fits { IfSome result (λ n. n < 16 ^ most) }
 {
     if digits.is_empty() || digits.len() > most {
         return None;
@@ -49,8 +52,9 @@ fn value(digits: &[u8], base: u32) -> Option<u64>
     requires low { 2 ≤ base }
     requires high { base ≤ 16 }
     requires short { length digits.now ≤ 16 }
-    ensures { result ≡ (if list_all (λ c. is_digit c base) digits.now
+    ensures value { result ≡ (if list_all (λ c. is_digit c base) digits.now
         then Some (digits_value base digits.now) else None) }
+    ensures fits { IfSome result (λ n. n < 16 ^ length digits.now) }
 {
     let mut value = 0;
     for byte in digits {

@@ -2,6 +2,7 @@
 
 mod builder;
 mod fadts;
+mod madts;
 
 ghost use Rattle.std.specs.Prelude.{◌≤◌};
 ghost use Rattle.acpi_base.specs.Codes.{stage_number};
@@ -33,6 +34,19 @@ fn checked(
     requires { stage_number last ≤ BUILT }
 {
     let policy = Policy::new(alloc, 0, 24).map_err(|_| "a policy")?;
+    checked_with(alloc, text, rsdp, policy, last)
+}
+
+/// What a check of the text under the policy, through the stage `last`, returns and writes.
+fn checked_with(
+    alloc: Global,
+    text: &[u8],
+    rsdp: Option<u64>,
+    policy: Policy,
+    last: Stage,
+) -> Result<(Result<Outcome, RunFault>, Vec<u8>), Fail>
+    requires { stage_number last ≤ BUILT }
+{
     let mut reader = Tally::new(text);
     let mut writer = Tally::new(Vec::new(alloc));
     let result = run_check(alloc, &mut reader, &mut writer, rsdp, policy, last);

@@ -6,6 +6,7 @@ use std::fmt;
 const COMMANDS: &str = "usage:
 
   acpiset check [--rsdp HEX] [--through N]
+                [--default-inputs N] [ADDRESS=COUNT]..
   acpiset find
 
 Both read the image of a machine's memory from standard input, as text.
@@ -16,6 +17,19 @@ fault.
   --rsdp HEX   the address of the RSDP: 1 to 16 hex digits, with 0x before
                them or without; if absent, the one that find finds, and where
                there is none check writes `no rsdp`
+";
+
+const INPUTS: &str = "
+  --default-inputs N
+               how many inputs each I/O APIC has that no ADDRESS=COUNT names:
+               1 to 256, and 24 if absent
+  ADDRESS=COUNT
+               how many inputs the I/O APIC at ADDRESS has: 1 to 256. ADDRESS
+               is 1 to 8 hex digits, with 0x before them or without. Any
+               number of these may be given; the first count of an address
+               stands
+
+No table says how many inputs an I/O APIC has, and stages from 6 on ask it.
 ";
 
 const TEXTS_AND_STATUSES: &str = "
@@ -31,7 +45,10 @@ line of pairs of hex digits is bytes, and # begins a comment:
 A fault is a line such as `no 3 TableSum 0x1 0x3000 0x0`: the stage, the
 fault's name, where it is, and two more numbers that say what it is about.
 
-For example: acpiset check --rsdp f59e0 < image.txt
+For example:
+
+  acpiset check --rsdp f59e0 < image.txt
+  acpiset check --default-inputs 16 fec00000=32 0xfec01000=8 < image.txt
 
 Exit statuses: 0 yes or found, 1 no or not found, 2 the arguments are refused,
 3 the text is no image, 4 out of memory, or a read or a write failed.";
@@ -53,6 +70,7 @@ impl fmt::Display for Usage {
                 writeln!(f, "{number:>17} {}", subject(stage))?;
             }
         }
+        f.write_str(INPUTS)?;
         f.write_str(TEXTS_AND_STATUSES)
     }
 }

@@ -1,28 +1,26 @@
 //! What the arguments of the command line ask for.
 
-ghost use Rattle.std.specs.Prelude.{◌≡◌, ◌≤◌, ℕ, List, IfErr, IfNone, IfOk, IfSome, IsSome, None, Some, map, option_map};
+ghost use Rattle.std.specs.Prelude.{◌≡◌, ◌≤◌, ℕ, List, Option, IfErr, IfOk, IfSome, IsSome, Some, map, option_map};
 ghost use Rattle.std.specs.String.{string_bytes};
 ghost use Rattle.clap.specs.Words.{found_of, rows_of};
 ghost use Rattle.acpi_base.specs.Codes.{stage_number};
-ghost use Rattle.acpi_cli.specs.CommandLine.{Asked, DoesAsked, IsBuilt, asked, built_stage, check_asked, last_word, plain_policy, rsdp_word};
-ghost use Rattle.acpi_cli.specs.CommandLine.{check_words, find_words, short_line, through_line, whole_line};
-ghost use Rattle.acpi_cli.specs.Words.{hex_word};
+ghost use Rattle.acpi_base.specs.Policy.{PolicyValue};
+ghost use Rattle.acpi_cli.specs.CommandLine.{Asked, DoesAsked, IsBuilt, asked, built_stage, check_asked, check_words};
+ghost use Rattle.acpi_cli.specs.CommandLine.{find_words, last_word, policy_words, rsdp_word};
 
-use crate::command_line::{clap_message, parse, value};
+use crate::command_line::{clap_message, parse, value, values};
 use crate::number_words::{decimal_number, hex_number};
+use crate::policy_words::{policy_message, read_policy};
 use acpi_base::{BUILT, Policy, Stage};
 use clap::ArgMatches;
 use std::alloc::Global;
 use thiserror::Error;
 
-/// The number of inputs of each I/O APIC.
-const DEFAULT_INPUTS: u16 = 24;
-
 /// A command, with what its engine is called with.
 #[derive(Debug, Drop)]
 pub enum Job {
     /// Check the tables that the RSDP leads to, up to the stage `last`: the RSDP at `rsdp`, or the one
-    /// that is found. The policy's own RSDP address is 0, and each I/O APIC has 24 inputs.
+    /// that is found. The policy's own RSDP address is 0.
     Check {
         rsdp: Option<u64>,
         policy: Policy,
@@ -45,9 +43,14 @@ pub enum WordFault {
 
 /// The job that the arguments `words` ask for, of which the first is the program's name.
 ///
-/// The commands are `check [--rsdp HEX] [--through N]` and `find`. HEX is an address of 1 to 16 hex
-/// digits, with `0x` before them or without. N is a stage of one or two decimal digits, from 1 to
-/// `BUILT`, which it also is if absent.
+/// The commands are `check [--rsdp HEX] [--through N] [--default-inputs N] [ADDRESS=COUNT]..` and `find`.
+/// HEX is an address of 1 to 16 hex digits, with `0x` before them or without. The N of `--through` is a
+/// stage of one or two decimal digits, from 1 to `BUILT`, which it also is if absent.
+///
+/// How many inputs an I/O APIC has stands in no table. The N of `--default-inputs` and COUNT are numbers
+/// of inputs of 1 to 3 decimal digits, from 1 to 256: COUNT of the I/O APIC at ADDRESS, which is 1 to 8 hex
+/// digits, with `0x` before them or without, and N, 24 if absent, of all that no word names. The first
+/// count of an address stands.
 ///
 /// Refuses `Words` where the arguments are anything else, `--help` among them; `Memory` may be
 /// returned in place of a job or of `Words`.
@@ -58,27 +61,32 @@ pub fn read_words(alloc: Global, words: &[String]) -> Result<Job, WordFault>
     ensures built { IfOk result IsBuilt }
 {
     let matches = parse(alloc, words)?;
-    let job = match matches.subcommand() {
+    match matches.subcommand() {
         Some((name, options)) if name == "check" => check_job(alloc, options),
-        Some((name, _)) if name == "find" => Some(Job::Find),
-        _ => None,
-    };
-    job.ok_or(WordFault::Words)
+        Some((name, _)) if name == "find" => Ok(Job::Find),
+        _ => Err(WordFault::Words),
+    }
 }
 
 /// The job of `check` with these options.
-fn check_job(alloc: Global, options: &ArgMatches) -> Option<Job>
-    ensures job { IfSome result (DoesAsked (check_asked (rows_of (found_of options.now)))) }
-    ensures none { IfNone result (check_asked (rows_of (found_of options.now)) ≡ None) }
-    ensures built { IfSome result IsBuilt }
+fn check_job(alloc: Global, options: &ArgMatches) -> Result<Job, WordFault>
+    ensures job { IfOk result (DoesAsked (check_asked (rows_of (found_of options.now)))) }
+    ensures refused { IfErr result (λ fault.
+        IsSome (check_asked (rows_of (found_of options.now))) → fault ≡ WordFault.Memory) }
+    ensures built { IfOk result IsBuilt }
 {
-    let rsdp = given_address(value(options, "rsdp"))?;
-    let last = last_stage(value(options, "through"))?;
-    Some(Job::Check {
-        rsdp,
-        policy: new_policy(alloc),
-        last,
-    })
+    let Some(rsdp) = given_address(value(options, "rsdp")) else {
+        return Err(WordFault::Words);
+    };
+    let Some(last) = last_stage(value(options, "through")) else {
+        return Err(WordFault::Words);
+    };
+    let policy = read_policy(
+        alloc,
+        value(options, "default-inputs"),
+        values(options, "inputs"),
+    )?;
+    Ok(Job::Check { rsdp, policy, last })
 }
 
 /// An error message on arguments that are refused, in a line that names the wrong one. `None` where the
@@ -93,7 +101,7 @@ pub fn error_message(alloc: Global, words: &[String]) -> Option<String> {
 /// An error message on the values of the options of `check`, in a line that names the first wrong one.
 fn value_message(alloc: Global, options: &ArgMatches) -> Option<String> {
     if let Some(hex) = value(options, "rsdp")
-        && hex_number(hex).is_none()
+        && hex_number(hex, 16).is_none()
     {
         return format!(in alloc;
             "--rsdp '{hex}': an address is 1 to 16 hex digits, with 0x before them or without"
@@ -104,7 +112,11 @@ fn value_message(alloc: Global, options: &ArgMatches) -> Option<String> {
     {
         return format!(in alloc; "--through '{number}': the stages are 1 to {BUILT}").ok();
     }
-    None
+    policy_message(
+        alloc,
+        value(options, "default-inputs"),
+        values(options, "inputs"),
+    )
 }
 
 /// The address that `--rsdp` gives, if it is there. `None` where its value is no address.
@@ -112,7 +124,7 @@ fn given_address(word: Option<&str>) -> Option<Option<u64>>
     ensures { result ≡ rsdp_word (option_map (λ text. text.now) word.entry) }
 {
     match word {
-        Some(text) => Some(Some(hex_number(text)?)),
+        Some(text) => Some(Some(hex_number(text, 16)?)),
         None => Some(None),
     }
 }
@@ -133,25 +145,16 @@ fn last_stage(word: Option<&str>) -> Option<Stage>
     Stage::new(number as u8)
 }
 
-fn new_policy(alloc: Global) -> Policy
-    ensures { result ≡ plain_policy }
-{
-    Policy::new(alloc, 0, DEFAULT_INPUTS).unwrap()
-}
-
-/// Each plain command line with good numbers is read, and as one expects. The stage that a line without
-/// `--through` asks for is one that a line can name.
+/// Each plain command line with good values is read, and as one expects: `find`; and `check` with each choice of its
+/// options, in this order, and then any number of words `ADDRESS=COUNT`. The stage that a line without `--through`
+/// asks for is one that a line can name.
 pub fn plain_lines_are_read()
     ensures built { built_stage BUILT ≡ Some BUILT }
     ensures find { (program : List ℕ) → asked (find_words program) ≡ Some Asked.find }
-    ensures alone { (program : List ℕ) → asked (check_words program) ≡ Some (Asked.check None BUILT) }
-    ensures through { (program number : List ℕ) (last : ℕ) → last_word (Some number) ≡ Some last
-        → asked (through_line program number) ≡ Some (Asked.check None last) }
-    ensures short { (program hex : List ℕ) (rsdp : ℕ) → hex_word 16 hex ≡ Some rsdp
-        → asked (short_line program hex) ≡ Some (Asked.check (Some rsdp) BUILT) }
-    ensures whole { (program hex number : List ℕ) (rsdp last : ℕ) → hex_word 16 hex ≡ Some rsdp
-        → last_word (Some number) ≡ Some last
-        → asked (whole_line program hex number) ≡ Some (Asked.check (Some rsdp) last) }
+    ensures check { (program : List ℕ) (hex number inputs : Option (List ℕ)) (words : List (List ℕ))
+        (rsdp : Option ℕ) (policy : PolicyValue) (last : ℕ) → rsdp_word hex ≡ Some rsdp
+        → policy_words inputs words ≡ Some policy → last_word number ≡ Some last
+        → asked (check_words program hex number inputs words) ≡ Some (Asked.check rsdp policy last) }
 {}
 
 #[cfg(test)]

@@ -1,6 +1,6 @@
 -- The kinds of entries of a PPTT: what an entry says, by the layout of its kind.
 use Rattle.std.proofs.Common.{rules, ◌≡◌, [], ◌∷◌, ◌+◌, ◌*◌, List, ℕ, refl, sym, ap, ◌∙◌, subst, inl, inr, arith}
-use Rattle.std.proofs.Common.{◌<◌, ◌≤◌, ◌≢◌, length, take, drop, map, Some, None}
+use Rattle.std.proofs.Common.{◌<◌, ◌≤◌, ◌≢◌, length, take, drop, map}
 use Rattle.std.specs.Prelude.{◌⊎◌, slice_index}
 use Rattle.std.specs.List.{range_with_len}
 use Rattle.std.proofs.lemmas.Bool.Decides.{nat_tests}
@@ -13,8 +13,8 @@ use Rattle.acpi_read.specs.EntryKinds.{LaysOut}
 use Rattle.acpi_read.specs.Pptts.{node_value, cache24_parts, cache24_values, cache24_value, cache28_parts, cache28_values, cache28_value}
 use Rattle.acpi_read.specs.declared.pptt.cache24.Cache24.{Cache24}
 use Rattle.acpi_read.specs.declared.pptt.cache28.Cache28.{Cache28}
-use Rattle.acpi_read.proofs.EntryKinds.{byte_field, lays_out, form_of, of_form, IsKindLayout}
-use Rattle.acpi_base.specs.Layouts.{PartValue, Number, values_at, layout_bytes, FitLayout, IsOfLayout, HasValues}
+use Rattle.acpi_read.proofs.EntryKinds.{byte_field, lays_out, of_form}
+use Rattle.acpi_base.specs.Layouts.{values_at, layout_bytes, FitLayout, IsOfLayout, HasValues}
 use Rattle.acpi_base.proofs.Layouts.RoundTrip.{HasValues-layout_bytes}
 use Rattle.acpi_read.specs.Pptts.{node_head_parts, node_head_values, HasNodeLength}
 use Rattle.acpi_read.specs.declared.pptt.node_head.NodeHead.{NodeHead}

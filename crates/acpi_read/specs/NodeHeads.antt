@@ -1,5 +1,5 @@
 -- The heads of the PPTT's nodes.
-use Rattle.std.proofs.Common.{◌≡◌, ◌≤◌, ◌+◌, ◌*◌, ℕ, List, [], ◌∷◌, ap, sym, subst, ◌∙◌, arith}
+use Rattle.std.proofs.Common.{◌≡◌, ◌≤◌, ℕ, ap, sym, subst, ◌∙◌}
 use Rattle.std.specs.Coded.{le_prop}
 use Rattle.acpi_read.specs.Pptts.{node_head_values}
 use Rattle.acpi_read.specs.declared.pptt.node_head.NodeHead.{NodeHead}

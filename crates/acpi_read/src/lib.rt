@@ -1,5 +1,5 @@
-//! Views of the ACPI tables in a memory image: the RSDP, the root, any listed table, the FADT and the FACS;
-//! and the fixed layouts in them, headers and generic addresses.
+//! Views of the ACPI tables in a memory image: the RSDP, the root, any listed table, the FADT, the FACS and the
+//! SLIT; the entries of the MADT, the SRAT and the PPTT; and the fixed layouts in them all.
 //!
 //! A view is read at an address. It borrows its bytes from the image and allocates no memory. Reading
 //! returns the view exactly where all its requirements hold, else the code of the first that does not, in
@@ -12,9 +12,17 @@
 //! first(image, root, signature)  an address or none             only the header must be held
 //! Fadt::new(table)               FadtShort                      at least 116 bytes
 //! Facs::read(image, fadt)        NoFacs .. FacsOut              the one that a FADT names, or none
+//! Entries::madt(table)           MadtShort                      its entries, from offset 44 on
+//! Entries::srat(table)           SratShort                      its entries, from offset 48 on
+//! Entries::pptt(table)                                          its entries, from offset 36 on
+//! MadtEntry::read(bytes)         MadtEntryLength                one of eight kinds, or any other type
+//! SratEntry::read(bytes)         SratEntryLength                one of three kinds, or any other type
+//! PpttEntry::read(bytes)         PpttEntryLength                a node, a cache, or any other type
+//! Slit::new(table)               SlitShort .. SlitLow           all its cells
 //! ```
 //!
-//! `Fadt::fault` returns a whole fault, with its offset, since a FADT has several that differ by it.
+//! `Fadt::fault` and `Slit::new` return a whole fault, with its offset, since these tables have several that
+//! differ by it.
 //!
 //! ```rust
 //! let rsdp = Rsdp::read(&image, 0xf59e0)?;
@@ -22,6 +30,13 @@
 //! if let Some(address) = first(&image, &root, *b"FACP") {
 //!     let fadt = Fadt::new(Table::read(&image, address)?)?;
 //!     let facs = Facs::read(&image, &fadt)?;
+//! }
+//! if let Some(address) = first(&image, &root, *b"APIC") {
+//!     let mut entries = Entries::madt(Table::read(&image, address)?)?;
+//!     while let Some(entry) = entries.next() {
+//!         if let MadtEntry::IoApic(io_apic) = MadtEntry::read(entry.bytes)? {}
+//!     }
+//!     if let Some(offset) = entries.cut() {} // no entry stands there, and bytes are left
 //! }
 //! ```
 //!

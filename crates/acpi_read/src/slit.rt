@@ -17,7 +17,7 @@ use std::marker::Model;
 pub struct Slit<'a> {
     bytes: &'a [u8],
     /// N.
-    count: u32,
+    rows: u32,
 }
 
 impl<'a> Model for Slit<'a> {
@@ -28,7 +28,7 @@ impl<'a> Model for Slit<'a> {
 
     ghost view = { λ slit. slit_contents slit.bytes.now };
 
-    ghost invariant = { λ slit. HasRows slit.bytes.now slit.count };
+    ghost invariant = { λ slit. HasRows slit.bytes.now slit.rows };
 }
 
 /// The fault of the cell of row i and column j; with those before it sound it is the first.
@@ -93,7 +93,7 @@ impl<'a> Slit<'a> {
         }
         Ok(Slit {
             bytes,
-            count: count as u32,
+            rows: count as u32,
         })
     }
 
@@ -101,7 +101,7 @@ impl<'a> Slit<'a> {
     pub fn count(&self) -> u32
         ensures { result ≡ self.now.count }
     {
-        self.count
+        self.rows
     }
 
     /// The relative distance from locality i to locality j, which are both below `count`: at 44 + N * i + j. It
@@ -112,7 +112,8 @@ impl<'a> Slit<'a> {
         requires to { j < self.now.count }
         ensures { result ≡ distance self.now i j }
     {
-        self.bytes[44 + self.count as usize * i as usize + j as usize]
+        let count = self.count() as usize;
+        self.bytes[44 + count * i as usize + j as usize]
     }
 }
 

@@ -1,4 +1,4 @@
-use crate::samples::{FADT, RSDP, RSDT, facs, image_of};
+use crate::samples::{FADT, MADT, RSDP, RSDT, facs, image_of};
 use crate::*;
 use acpi_base::{Code, Image};
 use std::test::*;
@@ -11,16 +11,24 @@ fn example(image: Image) -> Result<(), Code> {
         let fadt = Fadt::new(Table::read(&image, address)?)?;
         let facs = Facs::read(&image, &fadt)?;
     }
+    if let Some(address) = first(&image, &root, *b"APIC") {
+        let mut entries = Entries::madt(Table::read(&image, address)?)?;
+        while let Some(entry) = entries.next() {
+            if let MadtEntry::IoApic(io_apic) = MadtEntry::read(entry.bytes)? {}
+        }
+        if let Some(offset) = entries.cut() {}
+    }
     Ok(())
 }
 
 #[test]
 fn example_reads_a_machine(rt: HostRuntime) -> Result<(), Fail> {
     let facs = facs();
-    let pieces: [(u64, &[u8]); 4] = [
+    let pieces: [(u64, &[u8]); 5] = [
         (0xf59e0, &RSDP),
         (0x7fe223c, &RSDT),
         (0x7fe2034, &FADT),
+        (0x7fe2128, &MADT),
         (0x7fe0000, &facs),
     ];
     assert!(rt; example(image_of(rt.alloc(), &pieces)?).is_ok());

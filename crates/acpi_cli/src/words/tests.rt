@@ -53,7 +53,7 @@ fn lines_that_are_read(rt: HostRuntime) {
 }
 
 /// Lines that are refused.
-const REFUSED: [&str; 38] = [
+const REFUSED: [&str; 67] = [
     "acpiset",
     "acpiset ",
     "acpiset --help",
@@ -91,7 +91,36 @@ const REFUSED: [&str; 38] = [
     "acpiset check --rsdp e0000 --through a",
     "acpiset check --rsdp e0000 --through +3",
     "acpiset check --rsdp e0000 --through 3 --through 3",
-    "acpiset check --rsdp e0000 fec00000=32",
+    "acpiset fec00000=24",
+    "acpiset find fec00000=24",
+    "acpiset find --default-inputs 24",
+    "acpiset check help",
+    "acpiset check fec00000",
+    "acpiset check fec00000=",
+    "acpiset check fec00000=0",
+    "acpiset check fec00000=257",
+    "acpiset check fec00000=024 fec00000=0024",
+    "acpiset check fec00000=+24",
+    "acpiset check fec00000=0x18",
+    "acpiset check fec00000=18h",
+    "acpiset check fec00000==24",
+    "acpiset check fec00000=24=24",
+    "acpiset check fec00000=24,fec01000=24",
+    "acpiset check fec00000 = 24",
+    "acpiset check =24",
+    "acpiset check 0x=24",
+    "acpiset check 0Xfec00000=24",
+    "acpiset check fec0000h=24",
+    "acpiset check 1fec00000=24",
+    "acpiset check 0x0fec00000=24",
+    "acpiset check -fec00000=24",
+    "acpiset check --fec00000=24",
+    "acpiset check fec00000=24 fec01000=0",
+    "acpiset check --default-inputs",
+    "acpiset check --default-inputs 0",
+    "acpiset check --default-inputs 257",
+    "acpiset check --default-inputs 0024",
+    "acpiset check --default-inputs 24 --default-inputs 24",
 ];
 
 #[test]
@@ -103,6 +132,64 @@ fn lines_that_are_refused(rt: HostRuntime) {
             "{line}"
         );
     }
+}
+
+/// Lines that are read, with the address of an I/O APIC and the number of inputs that it then has.
+const INPUTS: [(&str, u32, u16); 19] = [
+    ("acpiset check", 0xfec0_0000, 24),
+    ("acpiset check --default-inputs 1", 0xfec0_0000, 1),
+    ("acpiset check --default-inputs 256", 0xfec0_0000, 256),
+    ("acpiset check --default-inputs 016", 0xfec0_0000, 16),
+    ("acpiset check fec00000=32", 0xfec0_0000, 32),
+    ("acpiset check fec00000=32", 0xfec0_1000, 24),
+    ("acpiset check fec00000=1", 0xfec0_0000, 1),
+    ("acpiset check fec00000=256", 0xfec0_0000, 256),
+    ("acpiset check fec00000=007", 0xfec0_0000, 7),
+    ("acpiset check FEC0ABCD=32", 0xfec0_abcd, 32),
+    ("acpiset check 0xFeC0aBcD=32", 0xfec0_abcd, 32),
+    ("acpiset check 0=32", 0, 32),
+    ("acpiset check 0xffffffff=32", u32::MAX, 32),
+    ("acpiset check fec00000=32 fec00000=8", 0xfec0_0000, 32),
+    ("acpiset check FEC00000=24 0xfec00000=32", 0xfec0_0000, 24),
+    ("acpiset check fec00000=32 fec01000=8", 0xfec0_1000, 8),
+    (
+        "acpiset check fec00000=32 --default-inputs 16 fec01000=8",
+        0xfec0_1000,
+        8,
+    ),
+    (
+        "acpiset check fec00000=32 --default-inputs 16 fec01000=8",
+        0xfec0_2000,
+        16,
+    ),
+    ("acpiset check -- fec00000=32", 0xfec0_0000, 32),
+];
+
+#[test]
+fn lines_that_say_how_many_inputs_there_are(rt: HostRuntime) {
+    for (line, address, count) in INPUTS {
+        let Job::Check { policy, .. } = read(rt.alloc(), line).expect(&rt, line) else {
+            panic!(rt; "{line}");
+        };
+        assert_eq!(rt; policy.inputs_of(address), count, "{line}");
+    }
+}
+
+#[test]
+fn many_words(rt: HostRuntime) -> Result<(), Fail> {
+    let mut words = words_of(rt.alloc(), "acpiset check")?;
+    for address in (0..65_000u32).rev() {
+        let count = address % 256 + 1;
+        words.push(format!(in rt.alloc(); "{address:x}={count}")?)?;
+    }
+    let Ok(Job::Check { policy, .. }) = read_words(rt.alloc(), words.as_slice()) else {
+        panic!(rt; "65,000 words");
+    };
+    for address in 0..65_000u32 {
+        let count = u32::from(policy.inputs_of(address));
+        assert_eq!(rt; count, address % 256 + 1, "{address}");
+    }
+    Ok(())
 }
 
 #[test]
@@ -151,6 +238,35 @@ fn what_is_wrong_with_a_line(rt: HostRuntime) {
         (
             "acpiset check --rsdp f59e0h",
             "--rsdp 'f59e0h': an address is 1 to 16 hex digits, with 0x before them or without",
+        ),
+        (
+            "acpiset check --default-inputs 0",
+            "--default-inputs '0': an I/O APIC has 1 to 256 inputs, in 1 to 3 decimal digits",
+        ),
+        (
+            "acpiset check fec00000=257",
+            "'fec00000=257': an I/O APIC has 1 to 256 inputs, in 1 to 3 decimal digits",
+        ),
+        (
+            "acpiset check fec00000=",
+            "'fec00000=': an I/O APIC has 1 to 256 inputs, in 1 to 3 decimal digits",
+        ),
+        (
+            "acpiset check fec00000",
+            "'fec00000': what is no option is ADDRESS=COUNT, such as fec00000=24",
+        ),
+        (
+            "acpiset check 1fec00000=257",
+            "'1fec00000=257': the address of an I/O APIC is 1 to 8 hex digits, with 0x before them or without",
+        ),
+        // The first wrong word is named, and an option before any word.
+        (
+            "acpiset check fec00000=24 fec01000=0 fec02000",
+            "'fec01000=0': an I/O APIC has 1 to 256 inputs, in 1 to 3 decimal digits",
+        ),
+        (
+            "acpiset check fec00000 --rsdp g",
+            "--rsdp 'g': an address is 1 to 16 hex digits, with 0x before them or without",
         ),
     ];
     for (line, text) in lines {

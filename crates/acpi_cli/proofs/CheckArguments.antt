@@ -1,0 +1,255 @@
+-- What `clap` reads of the arguments of `check`, one after another.
+use Rattle.std.proofs.Common.{◌≡◌, ◌==◌, ◌∙◌, ℕ, Bool, List, [], ◌∷◌, ◌++◌, Option, Some, None, true, false, cond, codes, append_assoc, append-nil, refl, ap, subst, sym}
+use Rattle.std.specs.Prelude.{fold, IfSome}
+use Rattle.std.proofs.Math.Bool.{and-false, or-true}
+use Rattle.clap.specs.Words.{Row, Rule, Text, Shape}
+use Rattle.clap.specs.Walk.{Held, Waiting, Walk, finished, has_row, idle, more_values, nothing_held, option, plain_word, positional, rows_after, settled, settled_rows, subcommand_met, without, value, walked, with_values, word_met}
+use Rattle.clap.specs.Simple.{filled_from, help_rule, new_shape}
+use Rattle.clap.specs.Kinds.{Kinds, or_else}
+use Rattle.clap.specs.Faults.{defaults_fault, level_fault, settle_fault, turn_fault, walk_fault, word_fault}
+use Rattle.clap.specs.declared.builder.value_parser.Reading.TheVariants.{AsWritten}
+use Rattle.clap.specs.declared.parser.matches.ValueSource.TheVariants.{CommandLine}
+use Rattle.clap.proofs.OnLiterals.{clap_on_literals}
+use Rattle.acpi_cli.specs.CommandLine.{inputs_rule, option_rule, option_words}
+use Rattle.acpi_cli.proofs.CheckRows.{at_row_absent, at_row_behind, check_rows, no_other_row, no_row_in_both, option_rows, row, word_rows}
+use Rattle.acpi_cli.proofs.Hyphens.{ArePlain, IsPlain}
+
+-- the arguments of `check` with what `clap` fills in, and its own `--help`
+unfoldable pub rules : List Rule
+rules = filled_from 1 (option_rule (codes "rsdp") ∷ option_rule (codes "through") ∷ option_rule (codes "default-inputs") ∷ inputs_rule ∷ help_rule ∷ [])
+
+-- `check` as `clap` builds it
+unfoldable pub shape : Shape
+shape = record (new_shape (codes "check")) { rules = rules; disable_help_subcommand = true; is_built = true }
+
+-- what is read so far, and whose values are being read
+abbrev pub held : List Row → Option (Text × List Text) → Held
+held rows pending = record { rows = rows; pending = pending; skip = 0 }
+
+-- the walk between two words, before any `--`
+abbrev pub standing : List Row → Option (Text × List Text) → Waiting → Walk
+standing rows pending waiting =
+    record { held = held rows pending; waiting = waiting; position = 1; is_trailing = false; stopped = None }
+
+-- from here on the words have no fault, and give these rows
+pub record Reads (start : Walk) (words : List Text) (rows : List Row) : Type 0 where
+  pub no_fault : walk_fault shape [] start words ≡ []
+  pub settles : settle_fault rules false (fold (walked rules []) start words).held ≡ []
+  pub gives : (settled rules (fold (walked rules []) start words).held).rows ≡ rows
+
+-- no word is left
+pub reads_none : (rows : List Row) (pending : Option (Text × List Text)) (waiting : Waiting) → settle_fault rules false (held rows pending) ≡ []
+    → Reads (standing rows pending waiting) [] (settled_rows rules pending rows)
+unfolding clap_on_literals
+reads_none rows pending waiting e = record { no_fault = refl; settles = e; gives = refl }
+
+-- one word more
+reads_one : (start next : Walk) (word : Text) (words : List Text) (rows : List Row) → turn_fault shape [] start word ≡ []
+    → walked rules [] start word ≡ next → Reads next words rows → Reads start (word ∷ words) rows
+unfolding shape clap_on_literals
+reads_one start next word words rows fault e reads = record {
+  no_fault = ap (λ (kinds : Kinds). or_else kinds (walk_fault shape [] (walked rules [] start word) words)) fault ∙ ap (λ (w : Walk). walk_fault shape [] w words) e ∙ reads.no_fault;
+  settles = ap (λ (w : Walk). settle_fault rules false (fold (walked rules []) w words).held) e ∙ reads.settles;
+  gives = ap (λ (w : Walk). (settled rules (fold (walked rules []) w words).held).rows) e ∙ reads.gives;
+}
+
+-- ---- options
+
+-- `WORD VALUE` gives the option `id` its value
+pub record IsOption (id word : Text) : Type 0 where
+  pub opens : (rows : List Row) (pending : Option (Text × List Text))
+      → walked rules [] (standing rows pending idle) word ≡ standing (settled_rows rules pending rows) (Some (id, [])) (option id)
+  pub is_known : (rows : List Row) (pending : Option (Text × List Text)) → settle_fault rules false (held rows pending) ≡ []
+      → turn_fault shape [] (standing rows pending idle) word ≡ []
+  pub takes : (rows : List Row) (first : ℕ) (rest : Text) → (first == 45) ≡ false
+      → walked rules [] (standing rows (Some (id, [])) (option id)) (first ∷ rest) ≡ standing rows (Some (id, (first ∷ rest) ∷ [])) idle
+  pub may_take : (rows : List Row) (first : ℕ) (rest : Text) → (first == 45) ≡ false
+      → turn_fault shape [] (standing rows (Some (id, [])) (option id)) (first ∷ rest) ≡ []
+  pub settles : (rows : List Row) (value : Text) → has_row id rows ≡ false → settle_fault rules false (held rows (Some (id, value ∷ []))) ≡ []
+  pub settled : (rows : List Row) (value : Text)
+      → settled_rows rules (Some (id, value ∷ [])) rows ≡ with_values id AsWritten CommandLine (value ∷ []) (without id rows)
+
+rsdp_option : IsOption (codes "rsdp") (codes "--rsdp")
+unfolding rules shape clap_on_literals
+rsdp_option = record {
+  opens = λ rows pending. refl;
+  is_known = λ rows pending e. rw e refl;
+  takes = λ rows first rest e. simp e;
+  may_take = λ rows first rest e. simp e;
+  settles = λ rows value e. rw e refl;
+  settled = λ rows value. refl;
+}
+
+through_option : IsOption (codes "through") (codes "--through")
+unfolding rules shape clap_on_literals
+through_option = record {
+  opens = λ rows pending. refl;
+  is_known = λ rows pending e. rw e refl;
+  takes = λ rows first rest e. simp e;
+  may_take = λ rows first rest e. simp e;
+  settles = λ rows value e. rw e refl;
+  settled = λ rows value. refl;
+}
+
+default_option : IsOption (codes "default-inputs") (codes "--default-inputs")
+unfolding rules shape clap_on_literals
+default_option = record {
+  opens = λ rows pending. refl;
+  is_known = λ rows pending e. rw e refl;
+  takes = λ rows first rest e. simp e;
+  may_take = λ rows first rest e. simp e;
+  settles = λ rows value e. rw e refl;
+  settled = λ rows value. refl;
+}
+
+-- what is read so far and what is pending come to these rows
+record Holds (before : List Row) (pending : Option (Text × List Text)) (rows : List Row) : Type 0 where
+  pub sound : settle_fault rules false (held before pending) ≡ []
+  pub come_to : settled_rows rules pending before ≡ rows
+
+-- an option that was not given before comes behind what is read
+option_behind : (id word text : Text) (rows : List Row) → IsOption id word → has_row id rows ≡ false
+    → Holds rows (Some (id, text ∷ [])) (rows ++ option_rows id (Some text))
+option_behind id word text rows is other = record {
+  sound = is.settles rows text other;
+  come_to = is.settled rows text
+      ∙ ap (with_values id AsWritten CommandLine (text ∷ [])) (at_row_absent id (λ _. []) [] rows other ∙ append-nil rows)
+      ∙ at_row_absent id (more_values CommandLine (text ∷ [])) _ rows other;
+}
+
+-- `WORD TEXT`, where there is a text, and then the words behind it
+reads_option : (id word : Text) (text : Option Text) (words : List Text) (before options rows : List Row) (pending : Option (Text × List Text)) → IsOption id word
+    → IfSome text IsPlain → Holds before pending options → has_row id options ≡ false
+    → ((now : List Row) (waits : Option (Text × List Text)) → Holds now waits (options ++ option_rows id text) → Reads (standing now waits idle) words rows)
+    → Reads (standing before pending idle) (option_words word text ++ words) rows
+reads_option id word None words before options rows pending is plain holds other reads =
+    reads before pending (record { sound = holds.sound; come_to = holds.come_to ∙ sym (append-nil options) })
+reads_option id word (Some text) words before options rows pending is plain holds other reads =
+    reads_one _ (standing options (Some (id, [])) (option id)) _ _ _ (is.is_known before pending holds.sound)
+    (is.opens before pending ∙ ap (λ (r : List Row). standing r (Some (id, [])) (option id)) holds.come_to)
+    (subst (λ (t : Text). Reads (standing options (Some (id, [])) (option id)) (t ∷ words) rows) (sym plain.is)
+    (reads_one _ _ _ _ _ (is.may_take options plain.first plain.rest plain.plain) (is.takes options plain.first plain.rest plain.plain)
+    (subst (λ (t : Text). Reads (standing options (Some (id, t ∷ [])) idle) words rows) plain.is
+    (reads options (Some (id, text ∷ [])) (option_behind id word text options is other)))))
+
+-- ---- words without a hyphen
+
+-- the walk goes on in the same way after any word of this kind
+record GoesOn (waiting : Waiting) : Type 0 where
+  pub no_command : (word : Text) → subcommand_met [] waiting word ≡ None
+  pub plain : (word : Text) (h : Held) → plain_word rules waiting word h ≡ (h, value)
+
+idle_goes_on : GoesOn idle
+idle_goes_on = record { no_command = λ word. refl; plain = λ word h. refl }
+
+positional_goes_on : GoesOn positional
+positional_goes_on = record { no_command = λ word. refl; plain = λ word h. refl }
+
+-- a word without a hyphen is a value
+word_is_value : (waiting : Waiting) (first : ℕ) (rest : Text) (h : Held) → GoesOn waiting → (first == 45) ≡ false
+    → word_met rules [] false waiting 1 (first ∷ rest) h ≡ (h, value)
+word_is_value waiting first rest h goes plain = simp (goes.no_command, plain, goes.plain)
+
+word_is_sound : (waiting : Waiting) (first : ℕ) (rest : Text) (h : Held) → GoesOn waiting → (first == 45) ≡ false
+    → word_fault shape [] false waiting (first ∷ rest) h ≡ []
+word_is_sound waiting first rest h goes plain = simp (goes.no_command, plain)
+
+-- it is the next word of `ADDRESS=COUNT`
+word_is_next : (rows : List Row) (pending : Option (Text × List Text)) (waiting : Waiting) (first : ℕ) (rest : Text) → GoesOn waiting → (first == 45) ≡ false
+    → walked rules [] (standing rows pending waiting) (first ∷ rest) ≡ standing (settled_rows rules pending rows) (Some (codes "inputs", (first ∷ rest) ∷ [])) positional
+unfolding rules clap_on_literals
+word_is_next rows pending waiting first rest goes plain = rw (word_is_value waiting first rest (held rows pending) goes plain) (simp and-false)
+
+word_may_come : (rows : List Row) (pending : Option (Text × List Text)) (waiting : Waiting) (first : ℕ) (rest : Text) → GoesOn waiting → (first == 45) ≡ false
+    → settle_fault rules false (held rows pending) ≡ [] → turn_fault shape [] (standing rows pending waiting) (first ∷ rest) ≡ []
+unfolding rules shape clap_on_literals
+word_may_come rows pending waiting first rest goes plain settles =
+    rw (word_is_value waiting first rest (held rows pending) goes plain, word_is_sound waiting first rest (held rows pending) goes plain) (simp (and-false, settles))
+
+-- a word without a hyphen, and then the words behind it
+reads_word : (text : Text) (words : List Text) (before rows : List Row) (pending : Option (Text × List Text)) (waiting : Waiting) → GoesOn waiting → IsPlain text
+    → settle_fault rules false (held before pending) ≡ []
+    → Reads (standing (settled_rows rules pending before) (Some (codes "inputs", text ∷ [])) positional) words rows
+    → Reads (standing before pending waiting) (text ∷ words) rows
+reads_word text words before rows pending waiting goes plain settles reads =
+    subst (λ (t : Text). Reads (standing before pending waiting) (t ∷ words) rows) (sym plain.is)
+    (reads_one _ _ _ _ _ (word_may_come before pending waiting plain.first plain.rest goes plain.plain settles) (word_is_next before pending waiting plain.first plain.rest goes plain.plain)
+    (subst (λ (t : Text). Reads (standing (settled_rows rules pending before) (Some (codes "inputs", t ∷ [])) positional) words rows) plain.is reads))
+
+word_settles : (rows : List Row) (word : Text) → settle_fault rules false (held rows (Some (codes "inputs", word ∷ []))) ≡ []
+unfolding rules
+word_settles rows word = refl
+
+-- one more word is put behind those that are read
+one_more_word : (options : List Row) (read : List Text) (word : Text) → has_row (codes "inputs") options ≡ false
+    → settled_rows rules (Some (codes "inputs", word ∷ [])) (options ++ word_rows read) ≡ options ++ word_rows (read ++ word ∷ [])
+unfolding rules
+one_more_word options [] word other = at_row_behind (codes "inputs") (more_values CommandLine (word ∷ [])) _ options [] other
+one_more_word options (first ∷ read) word other =
+    at_row_behind (codes "inputs") (more_values CommandLine (word ∷ [])) (row (codes "inputs") (word ∷ []) ∷ []) options (word_rows (first ∷ read)) other
+
+-- all words after the first
+reads_words : (options : List Row) (read : List Text) (word : Text) (words : List Text) → has_row (codes "inputs") options ≡ false → ArePlain words
+    → Reads (standing (options ++ word_rows read) (Some (codes "inputs", word ∷ [])) positional) words (options ++ word_rows (read ++ word ∷ words))
+reads_words options read word [] other plain =
+    subst (λ (rows : List Row). Reads (standing (options ++ word_rows read) (Some (codes "inputs", word ∷ [])) positional) [] rows) (one_more_word options read word other)
+    (reads_none (options ++ word_rows read) (Some (codes "inputs", word ∷ [])) positional (word_settles _ word))
+reads_words options read word (next ∷ words) other plain =
+    reads_word next words (options ++ word_rows read) _ (Some (codes "inputs", word ∷ [])) positional positional_goes_on plain.0 (word_settles _ word)
+    (subst (λ (rows : List Row). Reads (standing rows (Some (codes "inputs", next ∷ [])) positional) words (options ++ word_rows (read ++ word ∷ next ∷ words))) (sym (one_more_word options read word other))
+    (subst (λ (all : List Text). Reads (standing (options ++ word_rows (read ++ word ∷ [])) (Some (codes "inputs", next ∷ [])) positional) words (options ++ word_rows all))
+    (append_assoc read (word ∷ []) (next ∷ words)) (reads_words options (read ++ word ∷ []) next words other plain.1)))
+
+-- the words behind the options
+reads_all_words : (before options : List Row) (pending : Option (Text × List Text)) (words : List Text) → Holds before pending options
+    → has_row (codes "inputs") options ≡ false → ArePlain words → Reads (standing before pending idle) words (options ++ word_rows words)
+reads_all_words before options pending [] holds other plain =
+    subst (λ (rows : List Row). Reads (standing before pending idle) [] rows) (holds.come_to ∙ sym (append-nil options)) (reads_none before pending idle holds.sound)
+reads_all_words before options pending (word ∷ words) holds other plain =
+    reads_word word words before _ pending idle idle_goes_on plain.0 holds.sound
+    (subst (λ (rows : List Row). Reads (standing rows (Some (codes "inputs", word ∷ [])) positional) words (options ++ word_rows (word ∷ words))) (append-nil options ∙ sym holds.come_to)
+    (reads_words options [] word words other plain.1))
+
+-- all arguments of a plain line
+pub reads_check : (rsdp through default_inputs : Option Text) (words : List Text) → IfSome rsdp IsPlain → IfSome through IsPlain → IfSome default_inputs IsPlain → ArePlain words
+    → Reads (standing [] None idle)
+    (option_words (codes "--rsdp") rsdp ++ (option_words (codes "--through") through ++ (option_words (codes "--default-inputs") default_inputs ++ words)))
+    (check_rows rsdp through default_inputs words)
+reads_check rsdp through default_inputs words plain_rsdp plain_through plain_default plain_words =
+    let first = option_rows (codes "rsdp") rsdp in
+    let second = option_rows (codes "through") through in
+    let third = option_rows (codes "default-inputs") default_inputs in
+    let no_through = no_other_row (codes "through") (codes "rsdp") rsdp refl in
+    let no_default = no_row_in_both (codes "default-inputs") first second
+    (no_other_row (codes "default-inputs") (codes "rsdp") rsdp refl) (no_other_row (codes "default-inputs") (codes "through") through refl) in
+    let no_words = no_row_in_both (codes "inputs") (first ++ second) third
+    (no_row_in_both (codes "inputs") first second (no_other_row (codes "inputs") (codes "rsdp") rsdp refl) (no_other_row (codes "inputs") (codes "through") through refl))
+    (no_other_row (codes "inputs") (codes "default-inputs") default_inputs refl) in
+    reads_option _ _ rsdp _ [] [] _ None rsdp_option plain_rsdp (record { sound = refl; come_to = refl }) refl
+    (λ before pending holds. reads_option _ _ through _ before _ _ pending through_option plain_through holds no_through
+    (λ before pending holds. reads_option _ _ default_inputs _ before _ _ pending default_option plain_default holds no_default
+    (λ before pending holds. reads_all_words before _ pending words holds no_words plain_words)))
+
+-- ---- at the end of the words
+
+either_way : (b : Bool) (rows : List Row) → cond b rows rows ≡ rows
+either_way true rows = refl
+either_way false rows = refl
+
+-- no argument has a default of `clap`'s
+pub finished_rows : (h : Held) → finished rules h ≡ (settled rules h).rows
+unfolding rules
+finished_rows h = simp either_way
+
+no_default_fault : (rows : List Row) → defaults_fault rows rules ≡ []
+unfolding rules clap_on_literals
+no_default_fault rows = simp (or-true, either_way)
+
+-- `clap` takes the words
+pub taken : (words : List Text) (rows : List Row) → Reads (standing [] None idle) words rows → level_fault shape [] nothing_held words false [] ≡ []
+unfolding shape rules
+taken words rows reads = rw (reads.no_fault, reads.settles, no_default_fault _) refl
+
+-- what it then has read
+pub given : (words : List Text) (rows : List Row) → Reads (standing [] None idle) words rows → rows_after rules [] words ≡ rows
+given words rows reads = finished_rows (fold (walked rules []) (standing [] None idle) words).held ∙ reads.gives

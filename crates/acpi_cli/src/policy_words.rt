@@ -1,0 +1,140 @@
+//! What the arguments of the command line say of I/O APICs: how many inputs each has.
+
+ghost use Rattle.std.specs.Prelude.{◌≡◌, ◌++◌, ℕ, List, IfErr, IfOk, IsSome, Some, codes, map, option_map, unwrap_or};
+ghost use Rattle.acpi_base.specs.Policy.{PolicyValue, inputs_of, new_policy};
+ghost use Rattle.acpi_cli.specs.CommandLine.{default_word, first_count, policy_words, with_inputs};
+ghost use Rattle.acpi_cli.specs.Words.{count_word, hex_word, inputs_word};
+
+use crate::number_words::{decimal_number, hex_number};
+use crate::words::WordFault;
+use acpi_base::Policy;
+use std::alloc::Global;
+
+/// The number of inputs of each I/O APIC without a count of its own.
+const DEFAULT_INPUTS: u16 = 24;
+
+/// The most inputs that an I/O APIC can have.
+const MOST_INPUTS: u64 = 256;
+
+/// What a count of inputs may be, in an error message.
+const COUNTS: &str = "an I/O APIC has 1 to 256 inputs, in 1 to 3 decimal digits";
+
+/// What the address of an I/O APIC may be, in an error message.
+const ADDRESSES: &str = "1 to 8 hex digits, with 0x before them or without";
+
+/// The address of an I/O APIC, and how many inputs it has.
+#[derive(Clone, Copy, Debug, PartialEq, Eq)]
+struct Inputs {
+    address: u32,
+    count: u16,
+}
+
+/// The policy of `--default-inputs` and of the words `ADDRESS=COUNT`. Its RSDP address is 0. The first count of an
+/// address stands. Takes a number of steps that grows with n log n of n words.
+///
+/// Refuses `Words` where a word is wrong; `Memory` may be returned in place of a policy or of `Words`.
+#[tactic(auto, using(crate::proofs::InputsWords::one_more, crate::proofs::InputsWords::one_wrong))]
+pub fn read_policy(
+    alloc: Global,
+    default_inputs: Option<&str>,
+    words: &[&str],
+) -> Result<Policy, WordFault>
+    ensures policy { IfOk result (λ policy.
+        policy_words (option_map (λ text. text.now) default_inputs.entry) (map (λ text. text.now) words.now) ≡ Some policy) }
+    ensures refused { IfErr result (λ fault.
+        IsSome (policy_words (option_map (λ text. text.now) default_inputs.entry) (map (λ text. text.now) words.now))
+        → fault ≡ WordFault.Memory) }
+{
+    let Some(default_inputs) = default_count(default_inputs) else {
+        return Err(WordFault::Words);
+    };
+    let mut policy = Policy::new(alloc, 0, default_inputs).unwrap();
+    for word in words {
+        let Some(inputs) = read_inputs(word) else {
+            return Err(WordFault::Words);
+        };
+        if policy.add_input(inputs.address, inputs.count).is_err() {
+            return Err(WordFault::Memory);
+        }
+    }
+    Ok(policy)
+}
+
+/// In the policy of the words each I/O APIC has the first count that they give for its address, else the default. They
+/// change nothing else in a policy.
+pub fn first_counts_stand()
+    ensures inputs { (default_inputs address : ℕ) (counts : List Inputs) →
+        inputs_of (with_inputs (new_policy 0 default_inputs) counts) address
+        ≡ unwrap_or (first_count counts address) default_inputs }
+    ensures others { (q : PolicyValue) (counts : List Inputs) →
+        with_inputs q counts ≡ record q { inputs = (with_inputs q counts).inputs } }
+{}
+
+/// A word is `ADDRESS=COUNT` exactly where it is an address of 1 to 8 hex digits, with `0x` before them or without, a
+/// `=`, and a count of 1 to 256 in 1 to 3 decimal digits.
+pub fn inputs_are_address_and_count()
+    ensures read { (address count : List ℕ) (a n : ℕ) → hex_word 8 address ≡ Some a → count_word count ≡ Some n
+        → inputs_word (address ++ codes "=" ++ count) ≡ Some (record { address = a; count = n }) }
+    ensures only { (word : List ℕ) (inputs : Inputs) → inputs_word word ≡ Some inputs
+        → (address : List ℕ) × (count : List ℕ) × (word ≡ address ++ codes "=" ++ count)
+        × (hex_word 8 address ≡ Some inputs.address) × (count_word count ≡ Some inputs.count) }
+{}
+
+/// An error message on the value of `--default-inputs` and on the words, in a line that names the first wrong one.
+pub fn policy_message(
+    alloc: Global,
+    default_inputs: Option<&str>,
+    words: &[&str],
+) -> Option<String> {
+    if let Some(number) = default_inputs
+        && count(number).is_none()
+    {
+        return format!(in alloc; "--default-inputs '{number}': {COUNTS}").ok();
+    }
+    let word = words.iter().find(|word| read_inputs(word).is_none())?;
+    inputs_message(alloc, word)
+}
+
+/// An error message on a word that is no `ADDRESS=COUNT`.
+fn inputs_message(alloc: Global, word: &str) -> Option<String> {
+    let Some((address, _)) = word.split_once('=') else {
+        return format!(in alloc;
+            "'{word}': what is no option is ADDRESS=COUNT, such as fec00000=24"
+        ).ok();
+    };
+    if hex_number(address, 8).is_none() {
+        return format!(in alloc; "'{word}': the address of an I/O APIC is {ADDRESSES}").ok();
+    }
+    format!(in alloc; "'{word}': {COUNTS}").ok()
+}
+
+/// The count that `--default-inputs` gives, else 24. `None` where its value is no count.
+fn default_count(word: Option<&str>) -> Option<u16>
+    ensures { result ≡ default_word (option_map (λ text. text.now) word.entry) }
+{
+    match word {
+        Some(text) => count(text),
+        None => Some(DEFAULT_INPUTS),
+    }
+}
+
+/// The inputs that `ADDRESS=COUNT` says. `None` where the word is anything else.
+fn read_inputs(word: &str) -> Option<Inputs>
+    ensures { result ≡ inputs_word word.now }
+{
+    let (address, number) = word.split_once('=')?;
+    let address = hex_number(address, 8)? as u32;
+    let count = count(number)?;
+    Some(Inputs { address, count })
+}
+
+/// The number of inputs, 1 to 256, that `text` spells in 1 to 3 decimal digits. `None` where it is anything else.
+fn count(text: &str) -> Option<u16>
+    ensures { result ≡ count_word text.now }
+{
+    let number = decimal_number(text, 3)?;
+    if number == 0 || number > MOST_INPUTS {
+        return None;
+    }
+    Some(number as u16)
+}
