@@ -15,8 +15,7 @@ pub(crate) fn image_of(
 ) -> Result<Image, Fail>
     requires { length fields.now ≤ 12 }
 {
-    let length =
-        u32::try_from(36 + fields.len() + entries.len()).map_err(|_| "a table's length")?;
+    let length = u32::try_from(36 + fields.len() + entries.len()).map_err(|_| "a table's length")?;
     let mut bytes = Vec::new(alloc);
     bytes.extend_from_slice(signature)?;
     bytes.extend_from_slice(&length.to_le_bytes())?;
