@@ -1,15 +1,12 @@
 -- The spans that are gathered from the entries of an SRAT are the addresses that its enabled ranges cover, and their first
 -- overlaps, by kinds of ranges, make the one that is reported.
-use Rattle.std.proofs.Common.{◌≡◌, ℕ, ◌+◌, ◌^◌, ◌<◌, ◌≤◌, Bool, true, false, not, cond, List, map, Option, Some, None, refl, inl, inr, arith}
+use Rattle.std.proofs.Common.{◌≡◌, ℕ, ◌+◌, ◌<◌, ◌≤◌, Bool, true, false, not, cond, List, map, Option, Some, None, refl, inl, inr, arith}
 use Rattle.std.specs.Prelude.{◌↔◌, ◌&&◌}
 use Rattle.std.proofs.lemmas.Bool.{and_parts, cases_lt, lt-ltb, le-ltb}
 use Rattle.std.proofs.lemmas.Option.{none-some}
-use Rattle.acpi_base.specs.Clashes.{IsClash}
 use Rattle.acpi_base.specs.Entries.{Standing, entries_of, said_by}
-use Rattle.acpi_base.specs.Srat.{SratEntry, MemoryRange, MemoryValue, SratContents, srat_entry, srat_contents, is_enabled, is_hot_pluggable, IsAny, IsHotPluggable, IsNotHotPluggable, CoversFrom, Covers, IsSoundSrat, IsSoundSratEntry, RangeFault, IsFirstOverlap}
-use Rattle.acpi_base.specs.declared.policy.HotPlug.{HotPlug}
+use Rattle.acpi_base.specs.Srat.{SratEntry, MemoryRange, MemoryValue, SratContents, srat_entry, srat_contents, is_enabled, is_hot_pluggable, IsAny, IsHotPluggable, IsNotHotPluggable, CoversFrom, Covers}
 use Rattle.acpi_base.specs.declared.policy.HotPlug.TheVariants.{Counted, Apart}
-use Rattle.acpi_base.specs.declared.code.Code.TheVariants as code
 use Rattle.acpi_graph.specs.declared.clash.Clash.{Clash}
 use Rattle.acpi_graph.specs.declared.clash.Clash.TheVariants as clash
 use Rattle.acpi_graph.specs.declared.span.Span.{Span}
@@ -78,22 +75,3 @@ apart c (clash.At a b x) (clash.At a' b' x') first hot_first =
       | inl less ↦ rw (lt-ltb x' x less) (inr (hot_first, λ o p y clash. omega (arith, less, first.least o p y clash)))
       | inr most ↦ rw (le-ltb x' x most) (inl (first, λ o p y clash. omega (arith, most, hot_first.least o p y clash)))
     ]
-
--- ---- faults
-
--- in a sound SRAT an address that is covered is below 2^64
-covered_below : (P : MemoryValue → Type 0) (s x : ℕ) (e : SratEntry) → IsSoundSratEntry e → CoversFrom P s x e → x < 2 ^ 64
-covered_below P s x (MemoryRange v) sound h = omega (arith, sound h.0, h.2, h.4)
-covered_below P s x _ sound h = absurd h
-
--- and so is one that two ranges cover
-clash_below : (P : MemoryValue → Type 0) (c : SratContents) → IsSoundSrat c → (at other point : ℕ) → IsClash (Covers P c) at other point → point < 2 ^ 64
-clash_below P c sound at other point clash =
-    let (e, stands, h) = clash.one_holds in
-    covered_below P clash.s point e (sound.entries at e stands) h
-
--- so the overlap that is reported of a sound SRAT is a fault
-pub is_fault : (h : HotPlug) (c : SratContents) → IsSoundSrat c → (at other point : ℕ) → IsFirstOverlap h c at other point → RangeFault h c code.Overlap at other point
-is_fault Counted c sound at other point first = (clash_below IsAny c sound at other point first.clash, first.clash)
-is_fault Apart c sound at other point (inl (first, _)) = (clash_below IsNotHotPluggable c sound at other point first.clash, inl first.clash)
-is_fault Apart c sound at other point (inr (first, _)) = (clash_below IsHotPluggable c sound at other point first.clash, inr first.clash)

@@ -11,13 +11,14 @@ use Rattle.acpi_base.specs.declared.code.Code.TheVariants as code
 use Rattle.acpi_base.specs.declared.stage.Stage.TheVariants as stage
 use Rattle.acpi_base.proofs.Faults.ListedTables.{for_listed}
 use Rattle.acpi_base.proofs.Faults.Settling.{first_of_set}
+use Rattle.acpi_base.proofs.Srat.Ranges.{is_fault}
 use Rattle.acpi_base.proofs.Tables.Listed.{none_and_listed}
 use Rattle.acpi_graph.specs.declared.span.Span.{Span}
 use Rattle.acpi_check.specs.Gathered.{AreSpansOf, span_value, covered, spans_of}
 use Rattle.acpi_check.specs.RangeKinds.{counts, IsOfKind}
 use Rattle.acpi_check.specs.declared.range_kind.RangeKind.{RangeKind}
 use Rattle.acpi_check.specs.declared.range_kind.RangeKind.TheVariants as kind
-use Rattle.acpi_check.proofs.CoveredSpans.{Tests, tests_any, tests_hot, tests_other, covered_spans, is_fault}
+use Rattle.acpi_check.proofs.CoveredSpans.{Tests, tests_any, tests_hot, tests_other, covered_spans}
 
 -- the test of a kind tells which ranges are of it
 tests : (k : RangeKind) → Tests (counts k) (IsOfKind k)

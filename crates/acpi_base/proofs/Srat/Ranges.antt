@@ -110,15 +110,19 @@ of_kind Counted c at other point clash from = from IsAny clash
 of_kind Apart c at other point (inl clash) from = from IsNotHotPluggable clash
 of_kind Apart c at other point (inr clash) from = from IsHotPluggable clash
 
+-- the overlap that is reported of a sound SRAT is a fault
+pub is_fault : (h : HotPlug) (c : SratContents) → IsSoundSrat c → (at other point : ℕ) → IsFirstOverlap h c at other point → RangeFault h c code.Overlap at other point
+is_fault h c sound at other point first =
+    let overlap = is_overlap h c at other point first in
+    (of_kind h c at other point overlap (λ P clash. clash_below P c sound at other point clash), overlap)
+
 -- no address of a sound SRAT is covered by two ranges that must be apart, or there is a fault that is reported
 pub settled : (h : HotPlug) (whole : List ℕ) → IsSoundSrat (srat_contents whole)
     → AreRangesApart h (srat_contents whole) ⊎ ((at other point : ℕ) × IsFirstOverlap h (srat_contents whole) at other point × RangeFault h (srat_contents whole) code.Overlap at other point)
 settled h whole sound =
     elim (apart_or_overlap h whole) [
       | inl apart ↦ inl apart
-      | inr (at, other, point, first) ↦
-          let overlap = is_overlap h (srat_contents whole) at other point first in
-          inr (at, other, point, first, (of_kind h (srat_contents whole) at other point overlap (λ P clash. clash_below P (srat_contents whole) sound at other point clash), overlap))
+      | inr (at, other, point, first) ↦ inr (at, other, point, first, is_fault h (srat_contents whole) sound at other point first)
     ]
 
 -- only one fault is reported
