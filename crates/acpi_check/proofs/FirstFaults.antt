@@ -1,6 +1,6 @@
 -- From what a view reports to the first fault of a set.
 use Rattle.std.proofs.Common.{◌≡◌, ◌<◌, ◌≤◌, ℕ, List, Some, refl, sym, ◌∙◌, subst, inl, inr, arith}
-use Rattle.std.specs.Prelude.{◌⊎◌, ◌≢◌}
+use Rattle.std.specs.Prelude.{◌⊎◌, ◌≢◌, ◌↔◌}
 use Rattle.std.proofs.lemmas.Bool.{cases_order}
 use Rattle.acpi_base.specs.Memory.{Memory}
 use Rattle.acpi_base.specs.Policy.{PolicyValue}
@@ -8,14 +8,15 @@ use Rattle.acpi_base.specs.Codes.{code_number, stage_of}
 use Rattle.acpi_base.specs.Rsdp.{Addresses, addresses_at, RsdpValue, RsdpFault, IsRsdp}
 use Rattle.acpi_base.specs.Root.{HasSlot, IsSlot, RootFault, RootTableFault, NamedRootFault, chosen_root}
 use Rattle.acpi_base.specs.Tables.{IsSoundTable, TableFault}
-use Rattle.acpi_base.specs.Listed.{fadt_signature, madt_signature, IsListedTable, ListsNone}
+use Rattle.acpi_base.specs.Listed.{fadt_signature, madt_signature, IsListedTable, HasListed, ListsNone}
 use Rattle.acpi_base.specs.Madt.{madt_contents, IsSoundMadt, MadtFault}
 use Rattle.acpi_base.specs.Fadt.{facs_address, IsFadt, IsSoundFadt, FadtTableFault, FadtFault}
 use Rattle.acpi_base.specs.Facs.{HasSoundFacs, IsSoundFacs, NamedFacsFault}
 use Rattle.acpi_base.specs.Statements.{Holds, CleanBefore}
-use Rattle.acpi_base.specs.Faults.{NotAfter, IsFirstFault}
+use Rattle.acpi_base.specs.Faults.{FaultCondition, FaultOfStage, NotAfter, IsLeastOfStage, IsFirstFault}
 use Rattle.acpi_base.specs.declared.code.Code.{Code}
 use Rattle.acpi_base.specs.declared.code.Code.TheVariants as code
+use Rattle.acpi_base.specs.declared.stage.Stage.{Stage}
 use Rattle.acpi_base.specs.declared.stage.Stage.TheVariants as stage
 use Rattle.acpi_base.specs.declared.witness.Witness.{Witness}
 use Rattle.acpi_base.proofs.Faults.ListedTables.{of_listed, for_listed}
@@ -126,6 +127,18 @@ facs_sound m p fadt is sound = λ whole also. rw (one_listed m p fadt_signature 
 
 -- ---- one table
 
+-- the first fault of the table that the set lists first is the set's, where the stage's faults are those of this table
+pub table_first : {s : Stage} {m : Memory} {q : PolicyValue} {signature whole : List ℕ} (IsFault : List ℕ → Code → ℕ → ℕ → ℕ → Type 0)
+    → ((v : Witness) → FaultCondition s m q v ↔ HasListed m q.rsdp signature (λ bytes. IsFault bytes v.code v.at v.other v.point)) → ((w : Witness) → ((v : Witness) → FaultOfStage s m q v → NotAfter w v) → IsLeastOfStage s m q w)
+    → CleanBefore s m q → IsListedTable m q.rsdp signature whole → (w : Witness) → IsFirstOfTable s (IsFault whole) w → IsFirstFault m q w × (stage_of w.code ≡ s)
+table_first {whole = whole} IsFault condition order clean is w first = (
+  first_of_set clean (record {
+    holds = record { own = first.own; holds = (condition w).1 (whole, is, first.fault) };
+    least = order w (λ v here. first.least v (of_listed (λ bytes. IsFault bytes v.code v.at v.other v.point) is ((condition v).0 here.holds)));
+  }),
+  first.own,
+)
+
 -- a set without a MADT has nothing to say of one
 pub no_madt : (m : Memory) (q : PolicyValue) → ListsNone m q.rsdp madt_signature → Holds stage.Madt m q
 no_madt m q none whole is = absurd (none_and_listed none is)
@@ -138,7 +151,4 @@ madt_holds m q whole is sound = for_listed (λ bytes. IsSoundMadt q (madt_conten
 pub madt_first : (m : Memory) (q : PolicyValue) (whole : List ℕ) (w : Witness) → CleanBefore stage.Madt m q → IsListedTable m q.rsdp madt_signature whole
     → IsFirstOfTable stage.Madt (MadtFault q (madt_contents whole)) w → IsFirstFault m q w × (stage_of w.code ≡ stage.Madt)
 madt_first m q whole w clean is first =
-    (first_of_set clean (record {
-      holds = record { own = first.own; holds = (whole, is, first.fault) };
-      least = λ v here. first.least v (of_listed (λ bytes. MadtFault q (madt_contents bytes) v.code v.at v.other v.point) is here.holds);
-    }), first.own)
+    table_first (λ bytes. MadtFault q (madt_contents bytes)) (λ v. (λ h. h, λ h. h)) (λ v least. least) clean is w first

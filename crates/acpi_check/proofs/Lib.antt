@@ -8,5 +8,8 @@ mod IndexedNodes
 mod Kept
 mod MadtPass
 mod Passes
+mod PpttFaults
+mod PpttPass
+mod Searches
 mod ServedSpans
 mod Slots

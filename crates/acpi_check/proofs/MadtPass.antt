@@ -1,7 +1,7 @@
 -- A pass over the entries of a MADT: it stops at the first fault, and finds none where the table is sound.
-use Rattle.std.proofs.Common.{◌≡◌, ℕ, ◌+◌, ◌<◌, ◌≤◌, List, [], ◌∷◌, length, Option, Some, None, Ok, Err, refl, sym, ◌∙◌, ap, subst, inl, inr, arith}
+use Rattle.std.proofs.Common.{◌≡◌, ℕ, ◌<◌, ◌≤◌, List, [], ◌∷◌, length, Option, Some, None, Ok, Err, refl, sym, ◌∙◌, ap, subst, inl, inr, arith}
 use Rattle.std.specs.Prelude.{◌⊎◌}
-use Rattle.std.proofs.lemmas.Option.{none-some, same_Some}
+use Rattle.std.proofs.lemmas.Option.{none-some}
 use Rattle.acpi_base.specs.Codes.{code_number, stage_of}
 use Rattle.acpi_base.specs.Entries.{Standing, Stands, StandsWith, AreUnused, entries_of, cut_of, said_by}
 use Rattle.acpi_base.specs.Faults.{NotAfter}
@@ -16,9 +16,9 @@ use Rattle.acpi_base.proofs.Entries.{none_in_short}
 use Rattle.acpi_base.proofs.Faults.Order.{not_after}
 use Rattle.acpi_base.proofs.HeldBytes.{none_and_some, same_value}
 use Rattle.acpi_base.proofs.Madt.Faults.{entry_excludes}
-use Rattle.acpi_base.proofs.Standings.{cut_behind, said_from}
-use Rattle.acpi_check.specs.Passed.{IsFirstOfTable, IsOwnFault, IsSecondOverride, IsOverrideAfter, PassesMadtEntry}
-use Rattle.acpi_check.proofs.Passes.{HasPassed, none_passed, one_more, before_or_behind, left_behind, next_stands, all_passed}
+use Rattle.acpi_base.proofs.Standings.{said_from}
+use Rattle.acpi_check.specs.Passed.{IsFirstOfTable, IsOwnFault, IsSecondOverride, PassesMadtEntry}
+use Rattle.acpi_check.proofs.Passes.{HasPassed, none_passed, one_more, before_or_behind, left_behind, before_cut, next_stands, all_passed}
 
 -- ---- an entry by itself
 
@@ -97,9 +97,7 @@ not_short whole long short = omega arith
 next_before_cut : (q : PolicyValue) (whole : List ℕ) (s : Standing (List ℕ)) (left : List (Standing (List ℕ))) (earlier : Option ℕ) → IsAt q whole (s ∷ left) earlier
     → (at : ℕ) → (madt_contents whole).cut ≡ Some at → s.offset < at
 unfolding madt_contents
-next_before_cut q whole s left earlier here at is =
-    let (e, stands, _) = said_from madt_entry (entries_of 44 whole) s.offset (madt_entry s.entry) (next_stands here.pass) in
-    cut_behind 44 whole at s.offset e is stands
+next_before_cut q whole s left earlier here at is = before_cut madt_entry 44 whole here.pass at is
 
 -- an entry with a fault of its own comes with the least fault of the next entry or behind it
 own_after : (q : PolicyValue) (whole : List ℕ) (s : Standing (List ℕ)) (left : List (Standing (List ℕ))) (earlier : Option ℕ) (w : Witness) → IsAt q whole (s ∷ left) earlier

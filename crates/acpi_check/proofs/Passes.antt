@@ -1,9 +1,10 @@
 -- A pass over the entries of a table, which stand at rising offsets.
-use Rattle.std.proofs.Common.{◌≡◌, ℕ, zero, suc, ◌<◌, ◌≤◌, List, [], ◌∷◌, refl, sym, ap, subst, inl, inr, arith}
+use Rattle.std.proofs.Common.{◌≡◌, ℕ, suc, ◌<◌, ◌≤◌, List, [], ◌∷◌, Some, sym, ap, subst, inl, inr, arith}
 use Rattle.std.specs.Prelude.{◌⊎◌, ⊤, Result, Ok, Err}
 use Rattle.std.specs.Result.{IsErr, IsErrAnd}
-use Rattle.acpi_base.specs.Entries.{Standing, Stands, StandsWith, entries_of, said_by}
+use Rattle.acpi_base.specs.Entries.{Standing, Stands, entries_of, cut_of, said_by}
 use Rattle.acpi_base.proofs.Elements.{first_element, later_element, first_or_later, no_element}
+use Rattle.acpi_base.proofs.Standings.{cut_behind, said_from}
 use Rattle.acpi_base.specs.declared.code.Code.{Code}
 use Rattle.acpi_base.specs.declared.stage.Stage.{Stage}
 use Rattle.acpi_base.specs.declared.witness.Witness.{Witness}
@@ -76,6 +77,13 @@ left_behind {s = s} {left = left} pass o e stands = from_low (suc s.offset) left
 -- the next one stands in the table
 pub next_stands : {E : Type 0} {entries : List (Standing E)} {s : Standing E} {left : List (Standing E)} {P : ℕ → E → Type 0} → HasPassed entries (s ∷ left) P → Stands entries s.offset s.entry
 next_stands {s = s} {left = left} pass = pass.listed s.offset s.entry (first_element s left)
+
+-- and stands before the bytes that are left behind all entries
+pub before_cut : {E : Type 0} (read : List ℕ → E) (first : ℕ) (whole : List ℕ) {s : Standing E} {left : List (Standing E)} {P : ℕ → E → Type 0} → HasPassed (said_by read (entries_of first whole)) (s ∷ left) P
+    → (at : ℕ) → cut_of first whole ≡ Some at → s.offset < at
+before_cut read first whole {s} {left} pass at is =
+    let (e, stands, _) = said_from read (entries_of first whole) s.offset s.entry (next_stands pass) in
+    cut_behind first whole at s.offset e is stands
 
 -- all have P once none is left
 pub all_passed : {E : Type 0} {entries : List (Standing E)} {P : ℕ → E → Type 0} → HasPassed entries [] P → (o : ℕ) (e : E) → Stands entries o e → P o e

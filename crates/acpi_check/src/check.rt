@@ -12,6 +12,7 @@ ghost use Rattle.acpi_check.specs.Set.{IsSet, IsSetOf};
 use crate::facs::sound_facs;
 use crate::fadt::sound_fadt;
 use crate::madt::sound_madt;
+use crate::pptt::sound_pptt;
 use crate::refusal::Refusal;
 use crate::root::sound_root;
 use crate::rsdp::sound_rsdp;
@@ -90,6 +91,7 @@ fn ask(set: &Set<'_>, stage: Stage) -> Result<(), Refusal>
     match stage {
         Stage::Facs => sound_facs(set),
         Stage::Madt => sound_madt(set),
+        Stage::Pptt => sound_pptt(set),
         // Those before it hold of every set.
         _ => Ok(()),
     }

@@ -69,11 +69,13 @@ pub fn apart_interrupts(alloc: Global, set: &Set<'_>) -> Result<(), Refusal>
         None => Ok(()),
         Some(table) => match first_gsi_clash(alloc, set.policy, table.copied()) {
             Ok(Clash::None) => Ok(()),
-            Ok(Clash::At {
-                first,
-                second,
-                point,
-            }) => Err(Refusal::Fault(Witness {
+            Ok(
+                Clash::At {
+                    first,
+                    second,
+                    point,
+                },
+            ) => Err(Refusal::Fault(Witness {
                 code: Code::GsiClash,
                 at: u64::from(first),
                 other: u64::from(second),

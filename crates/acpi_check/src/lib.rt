@@ -18,9 +18,11 @@ mod facs;
 mod fadt;
 mod interrupts;
 mod madt;
+mod pptt;
 mod refusal;
 mod root;
 mod rsdp;
+mod search;
 mod set;
 mod tables;
 #[cfg(test)]

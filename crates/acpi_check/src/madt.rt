@@ -53,7 +53,11 @@ fn own_fault(policy: &Policy, entry: &MadtEntry<'_>) -> Option<Code>
 
 /// Looks at an entry, where `earlier` is the offset of the first address override before it: returns that offset
 /// with this entry counted, or the entry's least fault.
-fn pass_entry(policy: &Policy, entry: &Entry<'_>, earlier: Option<u64>) -> Result<Option<u64>, Witness>
+fn pass_entry(
+    policy: &Policy,
+    entry: &Entry<'_>,
+    earlier: Option<u64>,
+) -> Result<Option<u64>, Witness>
     ensures { PassesMadtEntry policy.now entry.now.offset (madt_entry entry.now.bytes.now) earlier result }
 {
     let offset = entry.offset;

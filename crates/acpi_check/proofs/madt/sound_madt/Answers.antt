@@ -1,4 +1,3 @@
-use Rattle.acpi_base.specs.Listed.{madt_signature, IsListed}
 use Rattle.acpi_check.proofs.FirstFaults.{no_madt, madt_holds, madt_first}
 use Rattle.acpi_check.proofs.madt.sound_madt.Goals as goal
 
