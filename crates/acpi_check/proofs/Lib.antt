@@ -6,10 +6,13 @@ mod GsiClashes
 mod Indexed
 mod IndexedNodes
 mod Kept
+mod KindPlaces
 mod MadtPass
+mod NamedPlaces
 mod Passes
 mod PpttFaults
 mod PpttPass
+mod ReferencePass
 mod Searches
 mod ServedSpans
 mod Slots

@@ -5,7 +5,7 @@ use Rattle.acpi_base.specs.Policy.{PolicyValue}
 use Rattle.acpi_base.specs.Codes.{stage_of}
 use Rattle.acpi_base.specs.Listed.{pptt_signature, IsListedTable, ListsNone}
 use Rattle.acpi_base.specs.Contents.{ForPptt}
-use Rattle.acpi_base.specs.Pptt.{PpttContents, pptt_contents, PpttFault}
+use Rattle.acpi_base.specs.Pptt.{PpttContents, pptt_contents, PpttFault, ReferenceFault}
 use Rattle.acpi_base.specs.Statements.{CleanBefore}
 use Rattle.acpi_base.specs.Faults.{IsFirstFault}
 use Rattle.acpi_base.specs.declared.stage.Stage.TheVariants as stage
@@ -27,3 +27,8 @@ for_pptt m q P whole is holds = for_listed (λ bytes. P (pptt_contents bytes)) i
 pub pptt_first : (m : Memory) (q : PolicyValue) (whole : List ℕ) (w : Witness) → CleanBefore stage.Pptt m q → IsListedTable m q.rsdp pptt_signature whole
     → IsFirstOfTable stage.Pptt (PpttFault (pptt_contents whole)) w → IsFirstFault m q w × (stage_of w.code ≡ stage.Pptt)
 pptt_first m q whole w clean is first = table_first (λ bytes. PpttFault (pptt_contents bytes)) (λ v. (λ h. h, λ h. h)) (λ v least. least) clean is w first
+
+-- the first fault of what they name is the set's
+pub references_first : (m : Memory) (q : PolicyValue) (whole : List ℕ) (w : Witness) → CleanBefore stage.References m q → IsListedTable m q.rsdp pptt_signature whole
+    → IsFirstOfTable stage.References (ReferenceFault (pptt_contents whole)) w → IsFirstFault m q w × (stage_of w.code ≡ stage.References)
+references_first m q whole w clean is first = table_first (λ bytes. ReferenceFault (pptt_contents bytes)) (λ v. (λ h. h, λ h. h)) (λ v least. least) clean is w first

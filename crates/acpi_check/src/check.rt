@@ -13,6 +13,7 @@ use crate::facs::sound_facs;
 use crate::fadt::sound_fadt;
 use crate::madt::sound_madt;
 use crate::pptt::sound_pptt;
+use crate::references::sound_references;
 use crate::refusal::Refusal;
 use crate::root::sound_root;
 use crate::rsdp::sound_rsdp;
@@ -36,8 +37,7 @@ pub fn check_to(
     ensures early { stage_number last ≤ 6 → IsOk result }
     ensures memory { OnErr result (CleanTo Stage.Madt image.now policy.now) }
 {
-    let _ = alloc;
-    match stages_to(image, policy, last) {
+    match stages_to(alloc, image, policy, last) {
         Ok(()) => Ok(Verdict::Yes),
         Err(Refusal::Fault(fault)) => Ok(Verdict::No(fault)),
         Err(Refusal::OutOfMemory) => Err(AllocError),
@@ -45,7 +45,7 @@ pub fn check_to(
 }
 
 /// Asks the stages up to `last` in their order.
-fn stages_to(image: &Image, policy: &Policy, last: Stage) -> Result<(), Refusal>
+fn stages_to(alloc: Global, image: &Image, policy: &Policy, last: Stage) -> Result<(), Refusal>
     requires { stage_number last ≤ BUILT }
     ensures { SettlesTo last image.now policy.now (λ _. CleanTo last image.now policy.now) result }
 {
@@ -54,7 +54,7 @@ fn stages_to(image: &Image, policy: &Policy, last: Stage) -> Result<(), Refusal>
     };
     for number in Stage::Facs.number()..last.number() + 1 {
         if let Some(stage) = Stage::new(number) {
-            ask(&set, stage)?;
+            ask(alloc, &set, stage)?;
         }
     }
     Ok(())
@@ -82,7 +82,7 @@ fn set_to<'a>(image: &'a Image, policy: &'a Policy, last: Stage) -> Result<Optio
 }
 
 /// Asks one stage from the FACS on.
-fn ask(set: &Set<'_>, stage: Stage) -> Result<(), Refusal>
+fn ask(alloc: Global, set: &Set<'_>, stage: Stage) -> Result<(), Refusal>
     requires built { stage_number stage ≤ BUILT }
     requires clean { CleanBefore stage set.now.image.now set.now.policy.now }
     requires set { IsSet set.now }
@@ -92,6 +92,7 @@ fn ask(set: &Set<'_>, stage: Stage) -> Result<(), Refusal>
         Stage::Facs => sound_facs(set),
         Stage::Madt => sound_madt(set),
         Stage::Pptt => sound_pptt(set),
+        Stage::References => sound_references(alloc, set),
         // Those before it hold of every set.
         _ => Ok(()),
     }
