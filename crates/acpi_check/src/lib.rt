@@ -19,13 +19,17 @@ mod fadt;
 mod interrupts;
 mod madt;
 mod overrides;
+mod places;
+mod pptt;
 mod range_kind;
 mod ranges;
+mod references;
 mod refusal;
 mod root;
 mod rsdp;
 #[cfg(test)]
 mod samples;
+mod search;
 mod set;
 mod slit;
 mod srat;
