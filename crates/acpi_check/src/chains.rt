@@ -136,3 +136,6 @@ pub fn caches_end(alloc: Global, set: &Set<'_>) -> Result<(), Refusal>
         },
     }
 }
+
+#[cfg(test)]
+mod tests;
