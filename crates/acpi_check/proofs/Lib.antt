@@ -7,6 +7,7 @@ mod Indexed
 mod IndexedNodes
 mod Kept
 mod KindPlaces
+mod LinkedNodes
 mod MadtPass
 mod NamedPlaces
 mod OverridesPass

@@ -9,6 +9,7 @@ ghost use Rattle.acpi_base.specs.declared.stage.TheConstants.{BUILT};
 ghost use Rattle.acpi_check.specs.Settled.{Settles, SettlesTo};
 ghost use Rattle.acpi_check.specs.Set.{IsSet, IsSetOf};
 
+use crate::chains::{caches_end, parents_end};
 use crate::facs::sound_facs;
 use crate::fadt::sound_fadt;
 use crate::interrupts::apart_interrupts;
@@ -103,6 +104,8 @@ fn ask(alloc: Global, set: &Set<'_>, stage: Stage) -> Result<(), Refusal>
         Stage::Slit => sound_slit(set),
         Stage::Pptt => sound_pptt(set),
         Stage::References => sound_references(alloc, set),
+        Stage::Parents => parents_end(alloc, set),
+        Stage::Caches => caches_end(alloc, set),
         // Those before it hold of every set.
         _ => Ok(()),
     }

@@ -13,11 +13,13 @@
 //! ```
 #![tactic(auto)]
 
+mod chains;
 mod check;
 mod facs;
 mod fadt;
 mod interrupts;
 mod madt;
+mod nodes;
 mod overrides;
 mod places;
 mod pptt;

@@ -15,7 +15,7 @@ use acpi_read::{Entries, PpttEntry, Table};
 
 /// The first fault of a PPTT: of its entries in their order, or of the bytes behind them.
 #[tactic(auto, using(crate::proofs::PpttPass::passing))]
-fn first_fault(table: Table<'_>) -> Result<(), Witness>
+pub fn first_fault(table: Table<'_>) -> Result<(), Witness>
     ensures { FindsFirst Stage.Pptt (IsCutPptt (pptt_contents table.entry)) (PpttFault (pptt_contents table.entry)) result }
 {
     let mut entries = Entries::pptt(table);
