@@ -1,6 +1,6 @@
 -- From what a view reports to the first fault of a set.
 use Rattle.std.proofs.Common.{◌≡◌, ◌<◌, ◌≤◌, ℕ, List, Some, refl, sym, ◌∙◌, subst, inl, inr, arith}
-use Rattle.std.specs.Prelude.{◌⊎◌, ◌≢◌}
+use Rattle.std.specs.Prelude.{◌⊎◌, ◌≢◌, ◌↔◌}
 use Rattle.std.proofs.lemmas.Bool.{cases_order}
 use Rattle.acpi_base.specs.Memory.{Memory}
 use Rattle.acpi_base.specs.Policy.{PolicyValue}
@@ -8,16 +8,17 @@ use Rattle.acpi_base.specs.Codes.{code_number, stage_of}
 use Rattle.acpi_base.specs.Rsdp.{Addresses, addresses_at, RsdpValue, RsdpFault, IsRsdp}
 use Rattle.acpi_base.specs.Root.{HasSlot, IsSlot, RootFault, RootTableFault, NamedRootFault, chosen_root}
 use Rattle.acpi_base.specs.Tables.{IsSoundTable, TableFault}
-use Rattle.acpi_base.specs.Listed.{fadt_signature, madt_signature, srat_signature, slit_signature, IsListedTable, ListsNone}
+use Rattle.acpi_base.specs.Listed.{fadt_signature, madt_signature, srat_signature, slit_signature, IsListedTable, HasListed, ListsNone}
 use Rattle.acpi_base.specs.Madt.{madt_contents, IsSoundMadt, MadtFault, DoOverridesAgree, OverrideFault}
 use Rattle.acpi_base.specs.Srat.{srat_contents, IsSoundSrat, SratFault}
 use Rattle.acpi_base.specs.Slit.{slit_contents, IsSoundSlit, SlitFault}
 use Rattle.acpi_base.specs.Fadt.{facs_address, IsFadt, IsSoundFadt, FadtTableFault, FadtFault}
 use Rattle.acpi_base.specs.Facs.{HasSoundFacs, IsSoundFacs, NamedFacsFault}
 use Rattle.acpi_base.specs.Statements.{Holds, CleanBefore}
-use Rattle.acpi_base.specs.Faults.{NotAfter, IsFirstFault}
+use Rattle.acpi_base.specs.Faults.{FaultCondition, FaultOfStage, NotAfter, IsLeastOfStage, IsFirstFault}
 use Rattle.acpi_base.specs.declared.code.Code.{Code}
 use Rattle.acpi_base.specs.declared.code.Code.TheVariants as code
+use Rattle.acpi_base.specs.declared.stage.Stage.{Stage}
 use Rattle.acpi_base.specs.declared.stage.Stage.TheVariants as stage
 use Rattle.acpi_base.specs.declared.witness.Witness.{Witness}
 use Rattle.acpi_base.proofs.Faults.ListedTables.{of_listed, for_listed}
@@ -128,6 +129,18 @@ pub facs_sound : (m : Memory) (p : ℕ) (fadt : List ℕ) → IsFadt m p fadt �
 facs_sound m p fadt is sound = λ whole also. rw (one_listed m p fadt_signature whole fadt also is) sound
 
 -- ---- one table
+
+-- the first fault of the table that the set lists first is the set's, where the stage's faults are those of this table
+pub table_first : {s : Stage} {m : Memory} {q : PolicyValue} {signature whole : List ℕ} (IsFault : List ℕ → Code → ℕ → ℕ → ℕ → Type 0)
+    → ((v : Witness) → FaultCondition s m q v ↔ HasListed m q.rsdp signature (λ bytes. IsFault bytes v.code v.at v.other v.point)) → ((w : Witness) → ((v : Witness) → FaultOfStage s m q v → NotAfter w v) → IsLeastOfStage s m q w)
+    → CleanBefore s m q → IsListedTable m q.rsdp signature whole → (w : Witness) → IsFirstOfTable s (IsFault whole) w → IsFirstFault m q w × (stage_of w.code ≡ s)
+table_first {whole = whole} IsFault condition order clean is w first = (
+  first_of_set clean (record {
+    holds = record { own = first.own; holds = (condition w).1 (whole, is, first.fault) };
+    least = order w (λ v here. first.least v (of_listed (λ bytes. IsFault bytes v.code v.at v.other v.point) is ((condition v).0 here.holds)));
+  }),
+  first.own,
+)
 
 -- a set without a MADT has nothing to say of one
 pub no_madt : (m : Memory) (q : PolicyValue) → ListsNone m q.rsdp madt_signature → Holds stage.Madt m q

@@ -1,10 +1,10 @@
 -- Nodes that are gathered from the entries of a table, with the index of what each names, are chains of offsets.
 use Rattle.std.proofs.Common.{◌≡◌, ℕ, ◌<◌, List, length, get_or, Option, Some, None, refl, sym, ◌∙◌, ap, subst, inl, inr, arith}
-use Rattle.std.specs.Prelude.{AllPairs, Contains, slice_index, option_map}
+use Rattle.std.specs.Prelude.{◌⊎◌, AllPairs, Contains, slice_index, option_map}
 use Rattle.std.proofs.lemmas.Bool.{cases_order}
 use Rattle.std.proofs.lemmas.List.{length-map, get_or-map}
 use Rattle.std.proofs.lemmas.Option.{none-some, same_Some, slice_get-get_or}
-use Rattle.acpi_base.specs.Chains.{IsAt}
+use Rattle.acpi_base.specs.Chains.{IsAt, NoneDangles}
 use Rattle.acpi_base.specs.Entries.{Standing, Stands, entries_of, said_by}
 use Rattle.acpi_base.specs.Pptt.{PpttEntry, pptt_entry, pptt_contents, Says}
 use Rattle.acpi_base.proofs.HeldBytes.{cases_Option}
@@ -37,6 +37,26 @@ is_kept {E} read entries o p (e, stands, is) = kept_has (kept read) entries (rec
 nodes_rise : {E : Type 0} (read : E → Option ℕ) (low : ℕ) (entries : List (Standing E)) → AreRising low entries → AllPairs (λ n m. n.offset < m.offset) (nodes_of read entries)
 nodes_rise read low entries rises = keys_rise (kept read) (λ n. n.offset) (λ s n is. (kept_is read s n is).0) low entries rises
 
+-- and so do their offsets
+pub offsets_rise : {E : Type 0} (read : E → Option ℕ) (low : ℕ) (entries : List (Standing E)) → AreRising low entries → AllPairs (λ o p. o < p) (offsets_of (nodes_of read entries))
+offsets_rise {E} read low entries rises = λ i j d before below. grind (arith, nodes_rise read low entries rises i j node before, get_or-map (λ (n : NodeValue). n.offset) nodes, length-map nodes (λ n. n.offset))
+  where
+    nodes : List NodeValue
+    nodes = nodes_of read entries
+
+    node : NodeValue
+    node = record { offset = 0; named = 0 }
+
+-- what a node names is among the offsets, where it names none that is not there
+pub named_there : {E : Type 0} (read : E → Option ℕ) (entries : List (Standing E)) → NoneDangles (NamesOf read entries)
+    → (n : NodeValue) → Contains (nodes_of read entries) n → (n.named ≡ 0) ⊎ Contains (offsets_of (nodes_of read entries)) n.named
+named_there read entries none n listed =
+    let (s, stands, is) = kept_from (kept read) entries n listed in
+    elim (none s.offset n.named (s.entry, stands, (kept_is read s n is).1)) [
+      | inl zero ↦ inl zero
+      | inr (p, names) ↦ inr (map_has (λ (m : NodeValue). m.offset) (nodes_of read entries) (record { offset = n.named; named = p }) (is_kept read entries n.named p names))
+    ]
+
 -- one node stands at an offset
 one_node : (nodes : List NodeValue) → AllPairs (λ n m. n.offset < m.offset) nodes → (n : NodeValue) → Contains nodes n → (i : ℕ) → i < length nodes → (get_or nodes i n).offset ≡ n.offset → get_or nodes i n ≡ n
 one_node nodes rise n (k, below, is) i within same =
@@ -52,16 +72,13 @@ pub are_indexed : {E : Type 0} (read : E → Option ℕ) (low : ℕ) (entries : 
 are_indexed {E} read low entries rises parents each =
     record {
       count = omega (arith, length-map nodes (λ n. n.offset), each.count);
-      rising = λ i j d before below. grind (arith, nodes_rise read low entries rises i j node before, get_or-map (λ (n : NodeValue). n.offset) nodes, length-map nodes (λ n. n.offset));
+      rising = offsets_rise read low entries rises;
       all = λ o. (stands o, λ here. map_has (λ (n : NodeValue). n.offset) nodes (record { offset = o; named = here.0 }) (is_kept read entries o here.0 here.1));
       named = named;
     }
   where
     nodes : List NodeValue
     nodes = nodes_of read entries
-
-    node : NodeValue
-    node = record { offset = 0; named = 0 }
 
     stands : (o : ℕ) → Contains (offsets_of nodes) o → IsAt (NamesOf read entries) o
     stands o here =

@@ -6,10 +6,17 @@ mod GsiClashes
 mod Indexed
 mod IndexedNodes
 mod Kept
+mod KindPlaces
+mod LinkedNodes
 mod MadtPass
+mod NamedPlaces
 mod OverridesPass
 mod Passes
+mod PpttFaults
+mod PpttPass
 mod RangeClashes
+mod ReferencePass
+mod Searches
 mod ServedSpans
 mod Slots
 mod SratPass

@@ -1,6 +1,8 @@
 -- What the contracts of the checker cite.
 pub mod Gathered
 pub mod Indexed
+pub mod Linked
+pub mod NamedPlaces
 pub mod Overrides
 pub mod Passed
 pub mod RangeKinds

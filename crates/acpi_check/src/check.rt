@@ -9,12 +9,15 @@ ghost use Rattle.acpi_base.specs.declared.stage.TheConstants.{BUILT};
 ghost use Rattle.acpi_check.specs.Settled.{Settles, SettlesTo};
 ghost use Rattle.acpi_check.specs.Set.{IsSet, IsSetOf};
 
+use crate::chains::{caches_end, parents_end};
 use crate::facs::sound_facs;
 use crate::fadt::sound_fadt;
 use crate::interrupts::apart_interrupts;
 use crate::madt::sound_madt;
 use crate::overrides::agreeing_overrides;
+use crate::pptt::sound_pptt;
 use crate::ranges::apart_ranges;
+use crate::references::sound_references;
 use crate::refusal::Refusal;
 use crate::root::sound_root;
 use crate::rsdp::sound_rsdp;
@@ -99,6 +102,10 @@ fn ask(alloc: Global, set: &Set<'_>, stage: Stage) -> Result<(), Refusal>
         Stage::Srat => sound_srat(set),
         Stage::Ranges => apart_ranges(alloc, set),
         Stage::Slit => sound_slit(set),
+        Stage::Pptt => sound_pptt(set),
+        Stage::References => sound_references(alloc, set),
+        Stage::Parents => parents_end(alloc, set),
+        Stage::Caches => caches_end(alloc, set),
         // Those before it hold of every set.
         _ => Ok(()),
     }

@@ -13,19 +13,25 @@
 //! ```
 #![tactic(auto)]
 
+mod chains;
 mod check;
 mod facs;
 mod fadt;
 mod interrupts;
 mod madt;
+mod nodes;
 mod overrides;
+mod places;
+mod pptt;
 mod range_kind;
 mod ranges;
+mod references;
 mod refusal;
 mod root;
 mod rsdp;
 #[cfg(test)]
 mod samples;
+mod search;
 mod set;
 mod slit;
 mod srat;

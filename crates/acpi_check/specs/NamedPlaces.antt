@@ -1,0 +1,74 @@
+-- Where the entries of a PPTT stand, by what may be named there, and what an entry names of these offsets.
+use Rattle.std.specs.Prelude.{◌≡◌, ◌≢◌, ◌<◌, ◌⊎◌, ◌↔◌, ℕ, Bool, true, false, List, AllPairs, Contains, Some, None, if◌then◌else◌}
+use Rattle.std.specs.List.{filter_map}
+use Rattle.acpi_base.specs.Codes.{stage_of}
+use Rattle.acpi_base.specs.Entries.{Standing}
+use Rattle.acpi_base.specs.Faults.{NotAfter}
+use Rattle.acpi_base.specs.Pptt.{PpttEntry, Node, Cache, Opaque, PpttContents, parent_of, resource_of, next_level_of, IsNodeAt, IsCacheAt, IsResourceAt}
+use Rattle.acpi_base.specs.declared.code.Code.{Code}
+use Rattle.acpi_base.specs.declared.code.Code.TheVariants as code
+use Rattle.acpi_base.specs.declared.stage.Stage.TheVariants as stage
+use Rattle.acpi_base.specs.declared.witness.Witness.{Witness}
+use Rattle.acpi_check.specs.declared.places.Kind.{Kind}
+use Rattle.acpi_check.specs.declared.places.Kind.TheVariants as kind
+use Rattle.acpi_check.specs.declared.places.Places.{Places}
+
+-- ---- offsets
+
+-- the offsets of each kind rise
+pub record DoPlacesRise (places : Places) : Type 0 where
+  pub nodes : AllPairs (λ o p. o < p) places.nodes.items
+  pub caches : AllPairs (λ o p. o < p) places.caches.items
+  pub resources : AllPairs (λ o p. o < p) places.resources.items
+
+-- these are the offsets at which a node, a cache or a private resource stands
+pub record ArePlaces (c : PpttContents) (places : Places) : Type 0 where
+  pub rise : DoPlacesRise places
+  pub nodes : (o : ℕ) → Contains places.nodes.items o ↔ IsNodeAt c o
+  pub caches : (o : ℕ) → Contains places.caches.items o ↔ IsCacheAt c o
+  pub resources : (o : ℕ) → Contains places.resources.items o ↔ IsResourceAt c o
+
+-- ---- how they are gathered
+
+-- what an entry is
+abbrev pub kind_of : PpttEntry → Kind
+kind_of (Node v) = kind.Node
+kind_of (Cache v) = kind.Cache
+kind_of (Opaque e) = kind.Other
+
+abbrev pub is_node : Kind → Bool
+is_node kind.Node = true
+is_node _ = false
+
+abbrev pub is_cache : Kind → Bool
+is_cache kind.Cache = true
+is_cache _ = false
+
+abbrev pub is_resource : Kind → Bool
+is_resource kind.Node = false
+is_resource _ = true
+
+-- the offsets at which entries of the kinds stand, in their order
+abbrev pub offsets_of : (Kind → Bool) → List (Standing PpttEntry) → List ℕ
+offsets_of kinds entries = filter_map (λ s. if kinds (kind_of s.entry) then Some s.offset else None) entries
+
+-- ---- what an entry names
+
+-- each offset that the entry names is one of those of the kind
+pub record NamesPlaces (places : Places) (e : PpttEntry) : Type 0 where
+  pub parent : (p : ℕ) → parent_of e ≡ Some p → (p ≡ 0) ⊎ Contains places.nodes.items p
+  pub resource : (j r : ℕ) → resource_of j e ≡ Some r → Contains places.resources.items r
+  pub next_level : (p : ℕ) → next_level_of e ≡ Some p → (p ≡ 0) ⊎ Contains places.caches.items p
+
+-- the entry names an offset that is none of these: a fault with these two numbers
+abbrev pub EntryReferenceFault : Places → PpttEntry → Code → ℕ → ℕ → Type 0
+EntryReferenceFault places e code.DanglingParent other point = (parent_of e ≡ Some other) × (other ≢ 0) × (¬ Contains places.nodes.items other) × (point ≡ 0)
+EntryReferenceFault places e code.DanglingResource other point = (resource_of other e ≡ Some point) × ¬ Contains places.resources.items point
+EntryReferenceFault places e code.DanglingCache other point = (next_level_of e ≡ Some other) × (other ≢ 0) × (¬ Contains places.caches.items other) × (point ≡ 0)
+EntryReferenceFault places e _ other point = ⊥
+
+-- w is the first of them
+pub record IsFirstReference (places : Places) (e : PpttEntry) (w : Witness) : Type 0 where
+  pub own : stage_of w.code ≡ stage.References
+  pub fault : EntryReferenceFault places e w.code w.other w.point
+  pub least : (v : Witness) → w.at ≡ v.at → EntryReferenceFault places e v.code v.other v.point → NotAfter w v

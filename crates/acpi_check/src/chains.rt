@@ -1,0 +1,141 @@
+//! Stages 14 and 15: the chains of Parents and of Next Levels in the PPTT.
+
+ghost use Rattle.std.specs.Prelude.{◌≡◌, ◌⊎◌, ⊤, AllPairs, Contains, IfOk, ◌<◌};
+ghost use Rattle.acpi_base.specs.Chains.{NoneDangles};
+ghost use Rattle.acpi_base.specs.Pptt.{pptt_entry, pptt_contents};
+ghost use Rattle.acpi_base.specs.Statements.{CleanBefore};
+ghost use Rattle.acpi_base.specs.declared.stage.Stage.{Stage};
+ghost use Rattle.acpi_check.specs.Indexed.{IsIndexOf};
+ghost use Rattle.acpi_check.specs.Linked.{named_by, code_of, Names, AreNodesOf, AreLinked, AreIndices, FindsCycle};
+ghost use Rattle.acpi_check.specs.Settled.{Settles};
+ghost use Rattle.acpi_check.specs.Set.{IsSet};
+
+use crate::nodes::{Chain, Nodes};
+use crate::refusal::Refusal;
+use crate::search::find;
+use crate::set::Set;
+use acpi_base::{Code, Witness};
+use acpi_graph::{Stray, first_stray};
+use acpi_read::{Entries, Entry, PpttEntry, Table};
+use std::alloc::{AllocError, Global};
+
+/// The offset that an entry names, where it is a node of such chains.
+fn named_by(chain: Chain, entry: &Entry<'_>) -> Option<u32>
+    ensures { result ≡ named_by chain (pptt_entry entry.now.bytes.now) }
+{
+    let Ok(read) = PpttEntry::read(entry.bytes) else {
+        return None;
+    };
+    match (chain, read) {
+        (Chain::Parents, PpttEntry::Node(head, _)) => Some(head.parent),
+        (Chain::NextLevels, PpttEntry::Cache24(cache)) => Some(cache.next_level),
+        (Chain::NextLevels, PpttEntry::Cache28(cache)) => Some(cache.next_level),
+        _ => None,
+    }
+}
+
+/// The nodes of a PPTT's chains.
+#[tactic(auto, using(crate::proofs::Gathered::gathering))]
+fn nodes_of(alloc: Global, chain: Chain, table: Table<'_>) -> Result<Nodes, AllocError>
+    ensures { IfOk result (AreNodesOf chain table.entry) }
+{
+    let mut offsets = Vec::new(alloc);
+    let mut named = Vec::new(alloc);
+    for entry in Entries::pptt(table) {
+        if let Some(offset) = named_by(chain, &entry) {
+            offsets.push(entry.offset)?;
+            named.push(offset)?;
+        }
+    }
+    Ok(Nodes { offsets, named })
+}
+
+/// The index of what a node names among offsets that rise; none where it names none.
+fn index_of(offsets: &[u64], named: u32) -> Option<usize>
+    requires rising { AllPairs (λ o p. o < p) offsets.now }
+    requires there { (named ≡ 0) ⊎ Contains offsets.now named }
+    ensures { IsIndexOf offsets.now named result }
+{
+    if named == 0 {
+        return None;
+    }
+    find(offsets, u64::from(named))
+}
+
+/// For each node the index of what it names.
+fn parents_of(alloc: Global, nodes: &Nodes) -> Result<Vec<Option<usize>>, AllocError>
+    requires { AreLinked nodes.now }
+    ensures { IfOk result (λ parents. AreIndices nodes.now parents.items) }
+{
+    let mut parents = Vec::new(alloc);
+    for k in 0..nodes.named.len() {
+        parents.push(index_of(&nodes.offsets, nodes.named[k]))?;
+    }
+    Ok(parents)
+}
+
+/// The code of a cycle.
+fn code_of(chain: Chain) -> Code
+    ensures { result ≡ code_of chain }
+{
+    match chain {
+        Chain::Parents => Code::ParentCycle,
+        Chain::NextLevels => Code::CacheCycle,
+    }
+}
+
+/// The fault of the first node of a PPTT whose chain does not end.
+fn first_cycle(alloc: Global, chain: Chain, table: Table<'_>) -> Result<Option<Witness>, AllocError>
+    requires { NoneDangles (Names chain (pptt_contents table)) }
+    ensures { IfOk result (FindsCycle chain (pptt_contents table.entry)) }
+{
+    let nodes = nodes_of(alloc, chain, table)?;
+    let parents = parents_of(alloc, &nodes)?;
+    let (found, _) = first_stray(alloc, &parents)?;
+    match found {
+        Stray::None => Ok(None),
+        Stray::Round { node, lead, round } => Ok(Some(Witness {
+            code: code_of(chain),
+            at: nodes.offsets[node],
+            other: lead as u64,
+            point: round as u64,
+        })),
+    }
+}
+
+/// Whether the chain of Parents from every node of the PPTT ends, or the set lists no PPTT. A fault is at the offset of
+/// the first node whose chain does not. Takes memory for each node.
+pub fn parents_end(alloc: Global, set: &Set<'_>) -> Result<(), Refusal>
+    requires clean { CleanBefore Stage.Parents set.now.image.now set.now.policy.now }
+    requires set { IsSet set.now }
+    ensures { Settles Stage.Parents set.now.image.now set.now.policy.now (λ _. ⊤) result }
+{
+    match &set.pptt {
+        None => Ok(()),
+        Some(table) => match first_cycle(alloc, Chain::Parents, table.copied()) {
+            Ok(None) => Ok(()),
+            Ok(Some(fault)) => Err(Refusal::Fault(fault)),
+            Err(AllocError) => Err(Refusal::OutOfMemory),
+        },
+    }
+}
+
+/// Whether the chain of Next Levels from every cache of the PPTT ends, or the set lists no PPTT. A fault is at the offset
+/// of the first cache whose chain does not. Takes memory for each cache.
+pub fn caches_end(alloc: Global, set: &Set<'_>) -> Result<(), Refusal>
+    requires clean { CleanBefore Stage.Caches set.now.image.now set.now.policy.now }
+    requires set { IsSet set.now }
+    ensures { Settles Stage.Caches set.now.image.now set.now.policy.now (λ _. ⊤) result }
+{
+    match &set.pptt {
+        None => Ok(()),
+        Some(table) => match first_cycle(alloc, Chain::NextLevels, table.copied()) {
+            Ok(None) => Ok(()),
+            Ok(Some(fault)) => Err(Refusal::Fault(fault)),
+            Err(AllocError) => Err(Refusal::OutOfMemory),
+        },
+    }
+}
+
+#[cfg(test)]
+mod tests;

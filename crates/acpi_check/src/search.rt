@@ -1,0 +1,22 @@
+//! Look-ups among offsets.
+
+ghost use Rattle.std.specs.Prelude.{◌≡◌, ◌<◌, AllPairs, Contains, MatchBool, MatchOption, length, slice_index};
+
+/// The place of an offset among offsets that rise, or none where it is not among them.
+pub fn find(offsets: &[u64], offset: u64) -> Option<usize>
+    requires { AllPairs (λ o p. o < p) offsets.now }
+    ensures { MatchOption result (¬ Contains offsets.now offset) (λ k. (k < length offsets.now) × (slice_index offsets.now k ≡ offset)) }
+{
+    offsets.binary_search(&offset).ok()
+}
+
+/// Whether an offset is among offsets that rise.
+pub fn has(offsets: &[u64], offset: u32) -> bool
+    requires { AllPairs (λ o p. o < p) offsets.now }
+    ensures { MatchBool result (Contains offsets.now offset) (¬ Contains offsets.now offset) }
+{
+    match find(offsets, u64::from(offset)) {
+        Some(_) => true,
+        None => false,
+    }
+}
