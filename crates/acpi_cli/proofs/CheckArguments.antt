@@ -38,7 +38,7 @@ pub record Reads (start : Walk) (words : List Text) (rows : List Row) : Type 0 w
   pub gives : (settled rules (fold (walked rules []) start words).held).rows ≡ rows
 
 -- no word is left
-pub reads_none : (rows : List Row) (pending : Option (Text × List Text)) (waiting : Waiting) → settle_fault rules false (held rows pending) ≡ []
+reads_none : (rows : List Row) (pending : Option (Text × List Text)) (waiting : Waiting) → settle_fault rules false (held rows pending) ≡ []
     → Reads (standing rows pending waiting) [] (settled_rows rules pending rows)
 unfolding clap_on_literals
 reads_none rows pending waiting e = record { no_fault = refl; settles = e; gives = refl }
@@ -56,7 +56,7 @@ reads_one start next word words rows fault e reads = record {
 -- ---- options
 
 -- `WORD VALUE` gives the option `id` its value
-pub record IsOption (id word : Text) : Type 0 where
+record IsOption (id word : Text) : Type 0 where
   pub opens : (rows : List Row) (pending : Option (Text × List Text))
       → walked rules [] (standing rows pending idle) word ≡ standing (settled_rows rules pending rows) (Some (id, [])) (option id)
   pub is_known : (rows : List Row) (pending : Option (Text × List Text)) → settle_fault rules false (held rows pending) ≡ []
@@ -69,6 +69,7 @@ pub record IsOption (id word : Text) : Type 0 where
   pub settled : (rows : List Row) (value : Text)
       → settled_rows rules (Some (id, value ∷ [])) rows ≡ with_values id AsWritten CommandLine (value ∷ []) (without id rows)
 
+-- `--rsdp` is such an option
 rsdp_option : IsOption (codes "rsdp") (codes "--rsdp")
 unfolding rules shape clap_on_literals
 rsdp_option = record {
@@ -80,6 +81,7 @@ rsdp_option = record {
   settled = λ rows value. refl;
 }
 
+-- and `--through`
 through_option : IsOption (codes "through") (codes "--through")
 unfolding rules shape clap_on_literals
 through_option = record {
@@ -91,6 +93,7 @@ through_option = record {
   settled = λ rows value. refl;
 }
 
+-- and `--default-inputs`
 default_option : IsOption (codes "default-inputs") (codes "--default-inputs")
 unfolding rules shape clap_on_literals
 default_option = record {
@@ -134,14 +137,16 @@ reads_option id word (Some text) words before options rows pending is plain hold
 
 -- ---- words without a hyphen
 
--- the walk goes on in the same way after any word of this kind
+-- at such a place a word without a hyphen goes to no command and to no option
 record GoesOn (waiting : Waiting) : Type 0 where
   pub no_command : (word : Text) → subcommand_met [] waiting word ≡ None
   pub plain : (word : Text) (h : Held) → plain_word rules waiting word h ≡ (h, value)
 
+-- behind an option with its value
 idle_goes_on : GoesOn idle
 idle_goes_on = record { no_command = λ word. refl; plain = λ word h. refl }
 
+-- and behind such a word
 positional_goes_on : GoesOn positional
 positional_goes_on = record { no_command = λ word. refl; plain = λ word h. refl }
 
@@ -150,6 +155,7 @@ word_is_value : (waiting : Waiting) (first : ℕ) (rest : Text) (h : Held) → G
     → word_met rules [] false waiting 1 (first ∷ rest) h ≡ (h, value)
 word_is_value waiting first rest h goes plain = simp (goes.no_command, plain, goes.plain)
 
+-- and has no fault
 word_is_sound : (waiting : Waiting) (first : ℕ) (rest : Text) (h : Held) → GoesOn waiting → (first == 45) ≡ false
     → word_fault shape [] false waiting (first ∷ rest) h ≡ []
 word_is_sound waiting first rest h goes plain = simp (goes.no_command, plain)
@@ -160,6 +166,7 @@ word_is_next : (rows : List Row) (pending : Option (Text × List Text)) (waiting
 unfolding rules clap_on_literals
 word_is_next rows pending waiting first rest goes plain = rw (word_is_value waiting first rest (held rows pending) goes plain) (simp and-false)
 
+-- and may come where what is pending has no fault
 word_may_come : (rows : List Row) (pending : Option (Text × List Text)) (waiting : Waiting) (first : ℕ) (rest : Text) → GoesOn waiting → (first == 45) ≡ false
     → settle_fault rules false (held rows pending) ≡ [] → turn_fault shape [] (standing rows pending waiting) (first ∷ rest) ≡ []
 unfolding rules shape clap_on_literals
@@ -176,6 +183,7 @@ reads_word text words before rows pending waiting goes plain settles reads =
     (reads_one _ _ _ _ _ (word_may_come before pending waiting plain.first plain.rest goes plain.plain settles) (word_is_next before pending waiting plain.first plain.rest goes plain.plain)
     (subst (λ (t : Text). Reads (standing (settled_rows rules pending before) (Some (codes "inputs", t ∷ [])) positional) words rows) plain.is reads))
 
+-- a word that is pending has no fault
 word_settles : (rows : List Row) (word : Text) → settle_fault rules false (held rows (Some (codes "inputs", word ∷ []))) ≡ []
 unfolding rules
 word_settles rows word = refl
@@ -232,15 +240,17 @@ reads_check rsdp through default_inputs words plain_rsdp plain_through plain_def
 
 -- ---- at the end of the words
 
+-- a choice of the same
 either_way : (b : Bool) (rows : List Row) → cond b rows rows ≡ rows
 either_way true rows = refl
 either_way false rows = refl
 
 -- no argument has a default of `clap`'s
-pub finished_rows : (h : Held) → finished rules h ≡ (settled rules h).rows
+finished_rows : (h : Held) → finished rules h ≡ (settled rules h).rows
 unfolding rules
 finished_rows h = simp either_way
 
+-- so none is refused
 no_default_fault : (rows : List Row) → defaults_fault rows rules ≡ []
 unfolding rules clap_on_literals
 no_default_fault rows = simp (or-true, either_way)

@@ -1,7 +1,8 @@
 -- The rows in which `clap` hands on the arguments of `check`, and where each is found.
-use Rattle.std.proofs.Common.{◌≡◌, ◌||◌, ◌∙◌, ◌++◌, Bool, List, [], ◌∷◌, Option, Some, None, true, false, codes, append-nil, refl, ap, sym, unwrap_or}
+use Rattle.std.proofs.Common.{◌≡◌, ◌∙◌, ◌++◌, List, [], ◌∷◌, Option, Some, None, false, codes, append-nil, refl, ap, sym, unwrap_or}
 use Rattle.std.specs.Prelude.{find}
 use Rattle.std.specs.Str.{bytes_eq}
+use Rattle.std.proofs.lemmas.Bool.{or_parts}
 use Rattle.std.proofs.lemmas.List.Folds.{find-append, list_any-append}
 use Rattle.clap.specs.Words.{Row, Text, all_of, first_of}
 use Rattle.clap.specs.Walk.{at_row, has_row}
@@ -29,16 +30,12 @@ check_rows rsdp through default_inputs words =
 
 -- ---- rows with an id
 
-neither : (a b : Bool) → (a || b) ≡ false → (a ≡ false) × (b ≡ false)
-neither false b e = (refl, e)
-neither true b e = absurd (cc)
-
 -- a row that is not there is put behind those that are
 pub at_row_behind : (id : Text) (change : Row → List Row) (missing rows behind : List Row) → has_row id rows ≡ false
     → at_row id change missing (rows ++ behind) ≡ rows ++ at_row id change missing behind
 at_row_behind id change missing [] behind e = refl
 at_row_behind id change missing (r ∷ rs) behind e =
-    let others = neither (bytes_eq r.id id) (has_row id rs) e in
+    let others = or_parts (bytes_eq r.id id) (has_row id rs) e in
     rw others.0 (ap (λ (rows : List Row). r ∷ rows) (at_row_behind id change missing rs behind others.1))
 
 -- or is the last where none is behind
@@ -50,36 +47,43 @@ pub no_other_row : (id other : Text) (value : Option Text) → bytes_eq other id
 no_other_row id other None e = refl
 no_other_row id other (Some value) e = rw e refl
 
+-- nor do rows of which neither part has it
 pub no_row_in_both : (id : Text) (rows behind : List Row) → has_row id rows ≡ false → has_row id behind ≡ false → has_row id (rows ++ behind) ≡ false
 no_row_in_both id rows behind e f = rw (list_any-append, e, f) refl
 
 -- ---- where the arguments are found
 
+-- another option is not found
 finds_no_option : (id other : Text) (value : Option Text) → bytes_eq other id ≡ false → find (λ (r : Row). bytes_eq r.id id) (option_rows other value) ≡ None
 finds_no_option id other None e = refl
 finds_no_option id other (Some value) e = rw e refl
 
+-- nor are the words
 finds_no_words : (id : Text) (words : List Text) → bytes_eq (codes "inputs") id ≡ false → find (λ (r : Row). bytes_eq r.id id) (word_rows words) ≡ None
 finds_no_words id [] e = refl
 finds_no_words id (word ∷ words) e = rw e refl
 
+-- under its id `--rsdp` is found
 pub rsdp_is_found : (rsdp through default_inputs : Option Text) (words : List Text) → first_of (codes "rsdp") (check_rows rsdp through default_inputs words) ≡ rsdp
 rsdp_is_found (Some rsdp) through default_inputs words = refl
 rsdp_is_found None through default_inputs words =
     simp (find-append, finds_no_option (codes "rsdp") (codes "through") through refl, finds_no_option (codes "rsdp") (codes "default-inputs") default_inputs refl, finds_no_words (codes "rsdp") words refl)
 
+-- and `--through`
 pub through_is_found : (rsdp through default_inputs : Option Text) (words : List Text) → first_of (codes "through") (check_rows rsdp through default_inputs words) ≡ through
 through_is_found rsdp (Some through) default_inputs words =
     simp (find-append, finds_no_option (codes "through") (codes "rsdp") rsdp refl)
 through_is_found rsdp None default_inputs words =
     simp (find-append, finds_no_option (codes "through") (codes "rsdp") rsdp refl, finds_no_option (codes "through") (codes "default-inputs") default_inputs refl, finds_no_words (codes "through") words refl)
 
+-- and `--default-inputs`
 pub default_is_found : (rsdp through default_inputs : Option Text) (words : List Text) → first_of (codes "default-inputs") (check_rows rsdp through default_inputs words) ≡ default_inputs
 default_is_found rsdp through (Some default_inputs) words =
     simp (find-append, finds_no_option (codes "default-inputs") (codes "rsdp") rsdp refl, finds_no_option (codes "default-inputs") (codes "through") through refl)
 default_is_found rsdp through None words =
     simp (find-append, finds_no_option (codes "default-inputs") (codes "rsdp") rsdp refl, finds_no_option (codes "default-inputs") (codes "through") through refl, finds_no_words (codes "default-inputs") words refl)
 
+-- and the words `ADDRESS=COUNT`
 pub words_are_found : (rsdp through default_inputs : Option Text) (words : List Text) → unwrap_or (all_of (codes "inputs") (check_rows rsdp through default_inputs words)) [] ≡ words
 words_are_found rsdp through default_inputs [] =
     simp (find-append, finds_no_option (codes "inputs") (codes "rsdp") rsdp refl, finds_no_option (codes "inputs") (codes "through") through refl, finds_no_option (codes "inputs") (codes "default-inputs") default_inputs refl)

@@ -35,17 +35,19 @@ plain_if_read reads (c ∷ cs) t nothing hyphen e = elim (eqb_tells c 45) [
 no_number : (some short : Bool) (n : ℕ) → cond (some && (short && false)) (Some n) None ≡ None
 no_number some short n = simp and-false
 
--- no number of the command line begins with a hyphen
+-- an address begins with no hyphen
 pub hex_is_plain : (most : ℕ) (hex : Text) (n : ℕ) → hex_word most hex ≡ Some n → IsPlain hex
 hex_is_plain most hex n e = plain_if_read (hex_word most) hex n refl (λ rest. no_number _ _ _) e
 
+-- nor does the number of a stage
 pub stage_is_plain : (number : Text) (n : ℕ) → last_word (Some number) ≡ Some n → IsPlain number
 stage_is_plain number n e = plain_if_read (λ text. last_word (Some text)) number n refl (λ rest. ap (option_and_then built_stage) (no_number _ _ _)) e
 
+-- nor a count of inputs
 pub count_is_plain : (number : Text) (n : ℕ) → count_word number ≡ Some n → IsPlain number
 count_is_plain number n e = plain_if_read count_word number n refl (λ rest. ap (option_and_then _) (no_number _ _ _)) e
 
--- nor does an address with what stands behind it
+-- nor a text with more behind it
 plain_with_more : (text more : Text) → IsPlain text → IsPlain (text ++ more)
 plain_with_more text more plain = record {
   first = plain.first;
@@ -54,11 +56,13 @@ plain_with_more text more plain = record {
   plain = plain.plain;
 }
 
+-- nor a word `ADDRESS=COUNT`
 inputs_are_plain : (word : Text) (inputs : Inputs) → inputs_word word ≡ Some inputs → IsPlain word
 inputs_are_plain word inputs e =
     let s = spelling word inputs e in
     subst IsPlain (sym s.is) (plain_with_more (s.address ++ codes "=") s.count (plain_with_more s.address (codes "=") (hex_is_plain 8 s.address inputs.address s.is_address)))
 
+-- nor any of several
 pub all_are_plain : (words : List Text) (counts : List Inputs) → all_inputs words ≡ Some counts → ArePlain words
 all_are_plain [] counts e = tt
 all_are_plain (word ∷ words) counts e =

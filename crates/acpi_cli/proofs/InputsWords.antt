@@ -28,6 +28,7 @@ pub record MoreInputs (word : List ℕ) (words : List (List ℕ)) (counts : List
   pub others : all_inputs words ≡ Some rest
   pub all : counts ≡ first ∷ rest
 
+-- words that all say something say something first
 pub more_inputs : (word : List ℕ) (words : List (List ℕ)) (counts : List Inputs) → all_inputs (word ∷ words) ≡ Some counts
     → MoreInputs word words counts
 more_inputs word words counts = go (inputs_word word) (all_inputs words) refl refl

@@ -46,14 +46,17 @@ after_walk a words w e fault = rw (fault, e) refl
 at_check : List Text → Walk
 at_check words = record (walk_from nothing_held) { stopped = Some (codes "check", words) }
 
+-- the whole command line as `clap` builds it
 program_line : App
 unfolding command_line check_line find_line
 program_line = built command_line
 
+-- the walk comes to `check`
 walks_to_check : (words : List Text) → walk program_line.top.rules (names_of program_line) nothing_held (codes "check" ∷ words) ≡ at_check words
 unfolding program_line command_line check_line find_line at_check clap_on_literals
 walks_to_check words = words_behind program_line.top.rules (names_of program_line) (walk_from nothing_held) (codes "check") [] words
 
+-- and has no fault up to it
 no_fault_to_check : (words : List Text) → walk_fault program_line.top (names_of program_line) (walk_from nothing_held) (codes "check" ∷ words) ≡ []
 unfolding program_line command_line check_line find_line clap_on_literals
 no_fault_to_check words = no_fault_behind program_line.top (names_of program_line) (walk_from nothing_held) (codes "check") [] words
@@ -67,6 +70,7 @@ check_has_no_fault : (words : List Text) (rows : List Row) → Reads (standing [
 unfolding program_line command_line check_line find_line at_check shape rules clap_on_literals
 check_has_no_fault words rows reads = ap (λ (kinds : Kinds). or_else kinds []) (taken words rows reads)
 
+-- and they come in these rows
 check_has_rows : (words : List Text) (rows : List Row) → Reads (standing [] None idle) words rows
     → entered program_line (at_check words).stopped ≡ Some (codes "check", rows)
 unfolding program_line command_line check_line find_line at_check shape rules clap_on_literals
@@ -78,15 +82,18 @@ unfolding is_taken program_line
 check_is_taken program words rows reads =
     ap are_none (after_walk program_line (codes "check" ∷ words) (at_check words) (walks_to_check words) (no_fault_to_check words) ∙ check_has_no_fault words rows reads)
 
+-- the command is `check`
 check_is_entered : (program : Text) (words : List Text) (rows : List Row) → Reads (standing [] None idle) words rows → command_of (program ∷ codes "check" ∷ words) ≡ Some (codes "check", rows)
 unfolding command_of program_line
 check_is_entered program words rows reads = ap (λ (w : Walk). entered program_line w.stopped) (walks_to_check words) ∙ check_has_rows words rows reads
 
+-- so it asks for what its arguments say
 check_gives : (program : Text) (words : List Text) (rows : List Row) → Reads (standing [] None idle) words rows → asked (program ∷ codes "check" ∷ words) ≡ check_asked rows
 check_gives program words rows reads = rw (check_is_taken program words rows reads, check_is_entered program words rows reads) refl
 
 -- ---- plain lines
 
+-- a good value of `--rsdp` begins with no hyphen
 rsdp_is_plain : (text : Option Text) (rsdp : Option ℕ) → rsdp_word text ≡ Some rsdp → IfSome text IsPlain
 rsdp_is_plain None rsdp e = tt
 rsdp_is_plain (Some text) rsdp e = go (hex_word 16 text) refl e
@@ -95,21 +102,24 @@ rsdp_is_plain (Some text) rsdp e = go (hex_word 16 text) refl e
     go None is e = absurd (cc)
     go (Some address) is e = hex_is_plain 16 text address is
 
+-- nor does a good value of `--through`
 through_is_plain : (text : Option Text) (last : ℕ) → last_word text ≡ Some last → IfSome text IsPlain
 through_is_plain None last e = tt
 through_is_plain (Some text) last e = stage_is_plain text last e
 
+-- nor one of `--default-inputs`
 default_is_plain : (text : Option Text) (count : ℕ) → default_word text ≡ Some count → IfSome text IsPlain
 default_is_plain None count e = tt
 default_is_plain (Some text) count e = count_is_plain text count e
 
--- a policy is that of a default and of words
+-- what a policy is made from
 record Given (inputs : Option Text) (words : List Text) : Type 0 where
   pub count : ℕ
   pub counts : List Inputs
   pub default : default_word inputs ≡ Some count
   pub all : all_inputs words ≡ Some counts
 
+-- a policy is made from a default and from counts
 policy_is_given : (inputs : Option Text) (words : List Text) (policy : PolicyValue) → policy_words inputs words ≡ Some policy → Given inputs words
 policy_is_given inputs words policy e = go (default_word inputs) (all_inputs words) refl refl e
   where
@@ -126,6 +136,7 @@ asks : (options : List Row) (hex number inputs : Option Text) (words : List Text
     → check_asked options ≡ Some (check rsdp policy last)
 asks options hex number inputs words rsdp policy last is_hex is_number is_inputs is_words a b c = rw (is_hex, is_number, is_inputs, is_words, a, b, c) refl
 
+-- a plain line of `check` asks for what its arguments say
 pub check_words_asked : (program : Text) (hex number inputs : Option Text) (words : List Text) (rsdp : Option ℕ) (policy : PolicyValue) (last : ℕ)
     → rsdp_word hex ≡ Some rsdp → policy_words inputs words ≡ Some policy → last_word number ≡ Some last
     → asked (check_words program hex number inputs words) ≡ Some (check rsdp policy last)
@@ -136,6 +147,7 @@ check_words_asked program hex number inputs words rsdp policy last a b c =
     ∙ asks (check_rows hex number inputs words) hex number inputs words rsdp policy last
     (rsdp_is_found hex number inputs words) (through_is_found hex number inputs words) (default_is_found hex number inputs words) (words_are_found hex number inputs words) a b c
 
+-- and one of `find` for a search
 pub find_words_asked : (program : Text) → asked (find_words program) ≡ Some find
 unfolding is_taken command_of command_line check_line find_line clap_on_literals
 find_words_asked program = refl

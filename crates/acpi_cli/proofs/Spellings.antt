@@ -20,17 +20,20 @@ use Rattle.acpi_cli.specs.declared.policy_words.Inputs.{Inputs}
 abbrev LacksEquals : List ℕ → Type 0
 LacksEquals text = (i : ℕ) → i < length text → get_or text i 0 ≢ 61
 
+-- a number has none
 number_lacks : (text : List ℕ) (a : ℕ) → number_word 16 8 text ≡ Some a → LacksEquals text
 number_lacks text a e i inside is =
     let all = (and_parts _ (list_all (λ c. is_digit c 16) text) (and_parts _ _ (cond_some _ _ _ e).0).1).1 in
     let not_all : list_all (λ c. is_digit c 16) text ≡ false = list_all_at (λ c. is_digit c 16) text i 0 inside (rw is refl) in
     true≢false (sym all ∙ not_all)
 
+-- nor one with `0x` before it
 prefixed_lacks : (text : List ℕ) → LacksEquals text → LacksEquals (48 ∷ 120 ∷ text)
 prefixed_lacks text lacks zero inside = λ e. absurd (omega arith)
 prefixed_lacks text lacks (suc zero) inside = λ e. absurd (omega arith)
 prefixed_lacks text lacks (suc (suc i)) inside = lacks i (omega arith)
 
+-- nor an address
 address_lacks : (address : List ℕ) (a : ℕ) → hex_word 8 address ≡ Some a → LacksEquals address
 address_lacks address a = go (starts_with nat_eq address (codes "0x")) refl
   where
@@ -83,6 +86,7 @@ parts word inside =
     ∙ ap (λ byte. before_first is_equals_sign word ++ byte ∷ after_first is_equals_sign word) here
     ∙ sym (append_assoc (before_first is_equals_sign word) (codes "=") (after_first is_equals_sign word))
 
+-- a word that is read is so spelled
 pub spelling : (word : List ℕ) (inputs : Inputs) → inputs_word word ≡ Some inputs → Spelling word inputs
 spelling word inputs = go (hex_word 8 (before_first is_equals_sign word)) (count_word (after_first is_equals_sign word)) refl refl
   where

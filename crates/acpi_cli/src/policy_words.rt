@@ -23,7 +23,7 @@ const COUNTS: &str = "an I/O APIC has 1 to 256 inputs, in 1 to 3 decimal digits"
 const ADDRESSES: &str = "1 to 8 hex digits, with 0x before them or without";
 
 /// The address of an I/O APIC, and how many inputs it has.
-#[derive(Clone, Copy, Debug, PartialEq, Eq)]
+#[derive(Clone, Copy)]
 struct Inputs {
     address: u32,
     count: u16,
