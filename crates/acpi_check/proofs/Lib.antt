@@ -9,6 +9,7 @@ mod Kept
 mod KindPlaces
 mod LinkedNodes
 mod MadtPass
+mod NamedPass
 mod NamedPlaces
 mod OverridesPass
 mod Passes
@@ -17,6 +18,8 @@ mod PpttPass
 mod RangeClashes
 mod ReferencePass
 mod Searches
+mod ServedFaults
+mod ServedNumbers
 mod ServedSpans
 mod Slots
 mod SratPass

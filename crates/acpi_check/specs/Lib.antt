@@ -2,10 +2,12 @@
 pub mod Gathered
 pub mod Indexed
 pub mod Linked
+pub mod Named
 pub mod NamedPlaces
 pub mod Overrides
 pub mod Passed
 pub mod RangeKinds
+pub mod Served
 pub mod Set
 pub mod Settled
 pub mod Tables

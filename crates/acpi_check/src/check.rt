@@ -21,6 +21,7 @@ use crate::references::sound_references;
 use crate::refusal::Refusal;
 use crate::root::sound_root;
 use crate::rsdp::sound_rsdp;
+use crate::served::named_served;
 use crate::set::Set;
 use crate::slit::sound_slit;
 use crate::srat::sound_srat;
@@ -106,6 +107,7 @@ fn ask(alloc: Global, set: &Set<'_>, stage: Stage) -> Result<(), Refusal>
         Stage::References => sound_references(alloc, set),
         Stage::Parents => parents_end(alloc, set),
         Stage::Caches => caches_end(alloc, set),
+        Stage::Served => named_served(alloc, set),
         // Those before it hold of every set.
         _ => Ok(()),
     }

@@ -32,6 +32,7 @@ mod rsdp;
 #[cfg(test)]
 mod samples;
 mod search;
+mod served;
 mod set;
 mod slit;
 mod srat;
