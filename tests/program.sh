@@ -55,19 +55,20 @@ runs "the smallest set, with counts of inputs" 0 'yes\n' '' "$smallest" check --
 tr 'a-f' 'A-F' <"$smallest" | sed 's/$/\r/' >"$scratch/upper"
 runs "digits in upper case, and lines that end in CR LF" 0 'yes\n' '' "$scratch/upper" check --rsdp e0000 --through 3
 
-# Each image, where its RSDP lies, and the status and the address of a search: an RSDP above the BIOS's memory is
-# not found.
-while read -r image rsdp status found; do
-  runs "firmware $image" 0 'yes\n' '' "images/$image.img.txt" check --rsdp "$rsdp" --through "$last"
+# Each image, where its RSDP lies, the status and the address of a search, and the verdict: an RSDP above the BIOS's
+# memory is not found. One has a window for hot-plugged memory over an NVDIMM.
+while read -r image rsdp status found verdict; do
+  runs "firmware $image" "$([ "$verdict" = yes ]; echo $?)" "$verdict\n" '' "images/$image.img.txt" check --rsdp "$rsdp" --through "$last"
+  runs "firmware $image, its hot-pluggable ranges apart" 0 'yes\n' '' "images/$image.img.txt" check --rsdp "$rsdp" --hotplug apart
   runs "firmware $image, found" "$status" "rsdp $found\n" '' "images/$image.img.txt" find
 done <<'LIST'
-sb-q35-default f59e0 0 0xf59e0
-sb-q35-numa4-dist f59c0 0 0xf59c0
-sb-pc-nvdimm-numa f59d0 0 0xf59d0
-ovmf-q35 f77e014 1 none
-mv-acpi f4a10 0 0xf4a10
-q10-efi-virt-smp4 4f0b0018 1 none
-q11-efi-virt-caches 47fe0000 1 none
+sb-q35-default f59e0 0 0xf59e0 yes
+sb-q35-numa4-dist f59c0 0 0xf59c0 yes
+sb-pc-nvdimm-numa f59d0 0 0xf59d0 no 10 Overlap 0x90 0xb8 0x100000000
+ovmf-q35 f77e014 1 none yes
+mv-acpi f4a10 0 0xf4a10 yes
+q10-efi-virt-smp4 4f0b0018 1 none yes
+q11-efi-virt-caches 47fe0000 1 none yes
 LIST
 gzip -dc images/sb-q35-default.region.img.txt.gz >"$scratch/region"
 runs "firmware sb-q35-default, its whole region" 0 'yes\n' '' "$scratch/region" check --rsdp f59e0
@@ -162,7 +163,7 @@ facs 4=3f - no 5 FacsLength 0x7000 0x0 0x0
 facs 4=41 - no 5 FacsOut 0x7000 0x0 0x0
 LIST
 
-# ---- the MADT: a set of the RSDP, an RSDT, a FADT of hardware-reduced ACPI and a MADT with these entries
+# ---- tables of entries: a set of the RSDP, an RSDT, a FADT of hardware-reduced ACPI and one table more
 # summed BYTES: prints a table's bytes with its Length and with the checksum that makes them sum to 0.
 summed() {
   local -a new
@@ -175,13 +176,16 @@ summed() {
   printf '%s\n' "${new[*]}"
 }
 
-# with_madt ENTRIES: prints the set's image text.
-with_madt() {
+# with_table SIGNATURE REVISION BODY: prints the set's image text. The body is what stands behind the header.
+with_table() {
   printf '@e0000\n%s\n' "${bytes[rsdp]}"
   printf '@1000\n%s\n' "$(summed "52 53 44 54 00 00 00 00 01 00 $maker 00 20 00 00 00 30 00 00")"
   printf '@2000\n%s\n' "$(summed "46 41 43 50 00 00 00 00 01 00 $maker $(zeros 76)00 00 10 00")"
-  printf '@3000\n%s\n' "$(summed "41 50 49 43 00 00 00 00 01 00 $maker 00 00 e0 fe 01 00 00 00 $1")"
+  printf '@3000\n%s\n' "$(summed "$1 00 00 00 00 $2 00 $maker $3")"
 }
+
+# with_madt ENTRIES: that of a set with a MADT.
+with_madt() { with_table '41 50 49 43' 01 "00 00 e0 fe 01 00 00 00 $1"; }
 
 cpu='00 08 03 00 01 00 00 00'
 io='01 0c 05 00 00 00 c0 fe 00 00 00 00'
@@ -208,12 +212,65 @@ $second $io|--default-inputs 25|no 7 GsiClash 0x38 0x2c 0x18
 02 0a 00 09 09 00 00 00 00 00 02 0a 00 09 14 00 00 00 00 00||no 8 OverrideClash 0x36 0x2c 0x9
 02 0a 00 09 09 00 00 00 00 00 02 0a 00 09 09 00 00 00 00 00||yes
 LIST
-# A MADT that ends within its fixed fields.
-{
-  with_madt '' | sed '/^@3000$/,$d'
-  printf '@3000\n%s\n' "$(summed "41 50 49 43 00 00 00 00 01 00 $maker 00 00 e0 fe")"
-} >"$scratch/short"
-runs "a MADT of 40 bytes" 1 'no 6 MadtShort 0x0 0x0 0x0\n' '' "$scratch/short" check --rsdp e0000
+
+# number VALUE COUNT: the bytes of a number, the lowest first.
+number() {
+  local value=$(($1)) i
+  for ((i = 0; i < $2; i++)); do
+    printf '%02x ' $((value & 255))
+    value=$((value >> 8))
+  done
+}
+
+# range BASE LENGTH FLAGS: an SRAT's range of memory.
+range() { printf '01 28 %s%s%s%s%s%s' "$(zeros 6)" "$(number "$1" 8)" "$(number "$2" 8)" "$(zeros 4)" "$(number "$3" 4)" "$(zeros 8)"; }
+
+# node PARENT REFERENCES..: a PPTT's processor node.
+node() {
+  local parent=$1 reference
+  shift
+  printf '00 %02x %s%s%s%s' $((20 + 4 * $#)) "$(zeros 6)" "$(number "$parent" 4)" "$(zeros 4)" "$(number $# 4)"
+  for reference in "$@"; do number "$reference" 4; done
+}
+
+# cache LENGTH NEXT: a PPTT's cache of 24 or 28 bytes.
+cache() { printf '01 %02x %s%s%s' "$1" "$(zeros 6)" "$(number "$2" 4)" "$(zeros $(($1 - 12)))"; }
+
+madt='41 50 49 43' srat='53 52 41 54' slit='53 4c 49 54' pptt='50 50 54 54'
+fixed="01 $(zeros 11)"
+while IFS='|' read -r signature body words line; do
+  with_table "$signature" 02 "$body" >"$scratch/table"
+  status=1
+  [ "$line" != yes ] || status=0
+  # Words are split on purpose.
+  runs "table $signature with the body $body and '$words'" "$status" "$line\n" '' "$scratch/table" check --rsdp e0000 $words
+done <<LIST
+$madt|00 00 e0 fe||no 6 MadtShort 0x0 0x0 0x0
+$srat|01 $(zeros 10)||no 9 SratShort 0x0 0x0 0x0
+$srat|$fixed$(range 0 0x1000 1)01 00||no 9 SratEntryCut 0x58 0x0 0x0
+$srat|${fixed}02 10 $(zeros 14)||no 9 SratEntryLength 0x30 0x0 0x0
+$srat|$fixed$(range 0xfffffffffffff000 0x1001 1)||no 9 RangePastEnd 0x30 0x0 0x0
+$srat|$fixed$(range 0xfffffffffffff000 0x1000 1)||yes
+$srat|$fixed$(range 0x1000 0x2000 1)$(range 0 0x2000 1)||no 10 Overlap 0x58 0x30 0x1000
+$srat|$fixed$(range 0 0x80000000 1)$(range 0 0x100000000 3)|--hotplug counted|no 10 Overlap 0x30 0x58 0x0
+$srat|$fixed$(range 0 0x80000000 1)$(range 0 0x100000000 3)|--hotplug apart|yes
+$srat|$fixed$(range 0 0x80000000 1)$(range 0 0x100000000 3)|--hotplug apart --through 9|yes
+$srat|$fixed$(range 0 0x80000000 1)$(range 0 0x80000000 1)|--hotplug apart|no 10 Overlap 0x30 0x58 0x0
+$slit|$(zeros 7)||no 11 SlitShort 0x0 0x0 0x0
+$slit|$(number 2 8)0a 14 14||no 11 SlitSize 0x24 0x0 0x0
+$slit|$(number -1 8)||no 11 SlitSize 0x24 0x0 0x0
+$slit|$(number 2 8)0a 14 14 0b||no 11 SlitDiagonal 0x2f 0x0 0x0
+$slit|$(number 2 8)0a 14 09 0a||no 11 SlitLow 0x2e 0x0 0x0
+$slit|$(number 2 8)0a 14 14 0a||yes
+$pptt|$(node 0)07||no 12 PpttEntryCut 0x38 0x0 0x0
+$pptt|01 14 $(zeros 18)||no 12 PpttEntryLength 0x24 0x0 0x0
+$pptt|$(node 0)$(node 57)||no 13 DanglingParent 0x38 0x39 0x0
+$pptt|$(node 0 64 36)$(cache 24 0)||no 13 DanglingResource 0x24 0x1 0x24
+$pptt|$(cache 28 65)$(cache 24 0)||no 13 DanglingCache 0x24 0x41 0x0
+$pptt|$(node 56)$(node 36)||no 14 ParentCycle 0x24 0x0 0x2
+$pptt|$(cache 24 60)$(cache 28 60)||no 15 CacheCycle 0x24 0x1 0x1
+$pptt|$(node 0 64 88)$(cache 24 88)$(cache 28 0)||yes
+LIST
 
 # ---- the search for the RSDP
 runs "the smallest set, found" 0 "rsdp 0xe0000\n" "" "$smallest" find
@@ -253,6 +310,7 @@ refuses() {
   [ "$(head -n 1 "$scratch/err")" = "$first" ] || wrong="$wrong; standard error $(head -n 1 "$scratch/err")"
   grep -qxF '  acpiset check [--rsdp HEX] [--through N]' "$scratch/err" || wrong="$wrong; no usage of check"
   grep -qxF '                [--default-inputs N] [ADDRESS=COUNT]..' "$scratch/err" || wrong="$wrong; no usage of counts"
+  grep -qxF '                [--hotplug counted|apart]' "$scratch/err" || wrong="$wrong; no usage of hot-pluggable ranges"
   grep -qxF '  acpiset find' "$scratch/err" || wrong="$wrong; no usage of find"
   grep -qxF "  --through N  the last stage to check, 1 to $last, and $last if absent:" "$scratch/err" || wrong="$wrong; no last stage"
   [ "$(sed -n '/^  --through/,/^$/s/^ \{15,\}\([0-9][0-9]*\) .*/\1/p' "$scratch/err" | tr '\n' ' ')" = "$(seq -s ' ' "$last") " ] || wrong="$wrong; no list of the stages"
@@ -288,6 +346,11 @@ for word in fec00000 e0000 help ''; do
   refuses "'$word': what is no option is ADDRESS=COUNT, such as fec00000=24" check --rsdp e0000 "$word"
 done
 refuses "'fec01000=0': an I/O APIC has 1 to 256 inputs, in 1 to 3 decimal digits" check fec00000=24 fec01000=0 fec02000
+refuses "a value is required for '--hotplug <SETTING>' but none was supplied" check --hotplug
+refuses "the argument '--hotplug <SETTING>' cannot be used multiple times" check --hotplug apart --hotplug counted
+for word in Counted count both 0 ''; do
+  refuses "--hotplug '$word': hot-pluggable ranges are counted or apart" check --rsdp e0000 --hotplug "$word"
+done
 refuses "an argument is not UTF-8" check --rsdp $'\xff'
 refuses "an argument is not UTF-8" check $'fec00000=24\xff'
 
@@ -392,13 +455,14 @@ if "$compiler" $flags -o "$scratch/refuse_memory.so" refuse_memory.c; then
   starved 2 '' check --rsdp xyz
   starved 2 '' check --through 0
   starved 2 '' check --default-inputs 0
+  starved 2 '' check --hotplug both
   starved 2 '' check fec00000=24 fec00000=257
   starved 2 '' check fec00000
   starved 2 '' check --rsdp $'\xff'
   starved 2 '' --help
   starved 2 ''
   starved 0 yes check --rsdp e0000 --through 3
-  starved 0 yes check --rsdp e0000 --through 3 --default-inputs 16 fec00000=32 fec01000=8 fec00000=24
+  starved 0 yes check --rsdp e0000 --through 3 --default-inputs 16 fec00000=32 fec01000=8 --hotplug apart
   starved 0 'rsdp 0xe0000' find
 else
   count "requests for memory that are refused" "no C compiler to build tests/refuse_memory.c"
