@@ -85,6 +85,3 @@ pub fn apart_interrupts(alloc: Global, set: &Set<'_>) -> Result<(), Refusal>
         },
     }
 }
-
-#[cfg(test)]
-mod tests;
