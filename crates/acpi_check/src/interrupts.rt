@@ -89,6 +89,3 @@ pub fn apart_interrupts(alloc: Global, set: &Set<'_>) -> Result<(), Refusal>
         },
     }
 }
-
-#[cfg(test)]
-mod tests;
