@@ -2,11 +2,13 @@ mod Clashes
 mod CoveredSpans
 mod FirstFaults
 mod Gathered
+mod GatheredNumbers
 mod GsiClashes
 mod Indexed
 mod IndexedNodes
 mod Kept
 mod KindPlaces
+mod LeavesFaults
 mod LinkedNodes
 mod MadtPass
 mod NamedPass
@@ -23,3 +25,5 @@ mod ServedNumbers
 mod ServedSpans
 mod Slots
 mod SratPass
+mod TwoTables
+mod TypedPass

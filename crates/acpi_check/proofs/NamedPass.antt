@@ -5,6 +5,7 @@ use Rattle.acpi_base.specs.Codes.{code_number}
 use Rattle.acpi_base.specs.Entries.{Standing, entries_of, said_by}
 use Rattle.acpi_base.specs.Faults.{NotAfter}
 use Rattle.acpi_base.specs.Madt.{MadtEntry, madt_entry, madt_contents}
+use Rattle.acpi_base.specs.Pptt.{PpttEntry, pptt_entry, pptt_contents}
 use Rattle.acpi_base.specs.declared.code.Code.{Code}
 use Rattle.acpi_base.specs.declared.witness.Witness.{Witness}
 use Rattle.acpi_base.proofs.Faults.Order.{not_after}
@@ -59,3 +60,9 @@ madt_at_first Known read whole = at_first Known read madt_entry 44 whole
 pub short_madt : (read : MadtEntry → Option ℕ) (whole : List ℕ) → length whole < 44 → (o n : ℕ) → ¬ NamesAt read (madt_contents whole).entries o n
 unfolding madt_contents
 short_madt read whole short o n (e, stands, is) = none_said madt_entry 44 whole short o e stands
+
+-- ---- a PPTT
+
+pub pptt_at_first : (Known : ℕ → Type 0) (read : PpttEntry → Option ℕ) (whole : List ℕ) → IsAt Known read (pptt_contents whole).entries (said_by pptt_entry (entries_of 36 whole))
+unfolding pptt_contents
+pptt_at_first Known read whole = at_first Known read pptt_entry 36 whole

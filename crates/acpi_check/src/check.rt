@@ -13,6 +13,7 @@ use crate::chains::{caches_end, parents_end};
 use crate::facs::sound_facs;
 use crate::fadt::sound_fadt;
 use crate::interrupts::apart_interrupts;
+use crate::leaves::known_leaves;
 use crate::madt::sound_madt;
 use crate::overrides::agreeing_overrides;
 use crate::pptt::sound_pptt;
@@ -108,6 +109,7 @@ fn ask(alloc: Global, set: &Set<'_>, stage: Stage) -> Result<(), Refusal>
         Stage::Parents => parents_end(alloc, set),
         Stage::Caches => caches_end(alloc, set),
         Stage::Served => named_served(alloc, set),
+        Stage::Leaves => known_leaves(alloc, set),
         // Those before it hold of every set.
         _ => Ok(()),
     }
