@@ -1,9 +1,12 @@
 mod Clashes
 mod CoveredSpans
+mod DomainsFaults
+mod DomainsPass
 mod FirstFaults
 mod Gathered
 mod GatheredNumbers
 mod GsiClashes
+mod Headlines
 mod Indexed
 mod IndexedNodes
 mod Kept
@@ -27,3 +30,4 @@ mod Slots
 mod SratPass
 mod TwoTables
 mod TypedPass
+mod ValuesPass

@@ -1,5 +1,8 @@
 -- What the contracts of the checker cite.
+pub mod Domains
+pub mod Firsts
 pub mod Gathered
+pub mod Headline
 pub mod Indexed
 pub mod Leaves
 pub mod Linked

@@ -1,15 +1,17 @@
-//! A check of all stages up to one.
+//! A check of all stages, or of those up to one.
 
-ghost use Rattle.std.specs.Prelude.{◌≡◌, ◌≤◌, ⊤, IfOk, IsOk, OnErr, MatchOption};
+ghost use Rattle.std.specs.Prelude.{◌≡◌, ◌≤◌, ◌↔◌, ⊤, IfOk, IsOk, OnErr, MatchOption};
 ghost use Rattle.acpi_base.specs.Codes.{stage_number};
 ghost use Rattle.acpi_base.specs.Statements.{CleanBefore, CleanTo};
-ghost use Rattle.acpi_base.specs.Faults.{IsVerdict};
+ghost use Rattle.acpi_base.specs.Faults.{IsFirstFault, IsVerdict};
 ghost use Rattle.acpi_base.specs.declared.stage.Stage.{Stage};
-ghost use Rattle.acpi_base.specs.declared.stage.TheConstants.{BUILT};
+ghost use Rattle.acpi_base.specs.declared.verdict.Verdict.{Verdict};
+ghost use Rattle.acpi_check.specs.Headline.{IsClean, IfNo};
 ghost use Rattle.acpi_check.specs.Settled.{Settles, SettlesTo};
 ghost use Rattle.acpi_check.specs.Set.{IsSet, IsSetOf};
 
 use crate::chains::{caches_end, parents_end};
+use crate::domains::one_domain;
 use crate::facs::sound_facs;
 use crate::fadt::sound_fadt;
 use crate::interrupts::apart_interrupts;
@@ -30,6 +32,18 @@ use crate::tables::sound_tables;
 use acpi_base::{Image, Policy, Stage, Verdict};
 use std::alloc::{AllocError, Global};
 
+/// The verdict on the image's tables: `Yes` exactly where all eighteen statements hold of the image and the
+/// policy, else `No` with the first fault: one of the earliest stage that does not hold.
+///
+/// Out of memory only where stages 1 to 6 hold.
+pub fn check(alloc: Global, image: &Image, policy: &Policy) -> Result<Verdict, AllocError>
+    ensures yes { IfOk result (λ verdict. (verdict ≡ Verdict.Yes) ↔ IsClean image.now policy.now) }
+    ensures no { IfOk result (IfNo (IsFirstFault image.now policy.now)) }
+    ensures memory { OnErr result (CleanTo Stage.Madt image.now policy.now) }
+{
+    check_to(alloc, image, policy, Stage::Leaves)
+}
+
 /// The verdict on the image's tables over the stages up to `last`: `Yes` where all of them hold, else
 /// `No` with the first fault, which is one of the earliest stage that does not hold.
 ///
@@ -40,7 +54,6 @@ pub fn check_to(
     policy: &Policy,
     last: Stage,
 ) -> Result<Verdict, AllocError>
-    requires { stage_number last ≤ BUILT }
     ensures verdict { IfOk result (IsVerdict last image.now policy.now) }
     ensures early { stage_number last ≤ 6 → IsOk result }
     ensures memory { OnErr result (CleanTo Stage.Madt image.now policy.now) }
@@ -54,7 +67,6 @@ pub fn check_to(
 
 /// Asks the stages up to `last` in their order.
 fn stages_to(alloc: Global, image: &Image, policy: &Policy, last: Stage) -> Result<(), Refusal>
-    requires { stage_number last ≤ BUILT }
     ensures { SettlesTo last image.now policy.now (λ _. CleanTo last image.now policy.now) result }
 {
     let Some(set) = set_to(image, policy, last)? else {
@@ -91,7 +103,6 @@ fn set_to<'a>(image: &'a Image, policy: &'a Policy, last: Stage) -> Result<Optio
 
 /// Asks one stage from the FACS on.
 fn ask(alloc: Global, set: &Set<'_>, stage: Stage) -> Result<(), Refusal>
-    requires built { stage_number stage ≤ BUILT }
     requires clean { CleanBefore stage set.now.image.now set.now.policy.now }
     requires set { IsSet set.now }
     ensures { Settles stage set.now.image.now set.now.policy.now (λ _. ⊤) result }
@@ -108,9 +119,10 @@ fn ask(alloc: Global, set: &Set<'_>, stage: Stage) -> Result<(), Refusal>
         Stage::References => sound_references(alloc, set),
         Stage::Parents => parents_end(alloc, set),
         Stage::Caches => caches_end(alloc, set),
+        Stage::Domains => one_domain(alloc, set),
         Stage::Served => named_served(alloc, set),
         Stage::Leaves => known_leaves(alloc, set),
-        // Those before it hold of every set.
-        _ => Ok(()),
+        // These hold of every set.
+        Stage::Rsdp | Stage::Root | Stage::Tables | Stage::Fadt => Ok(()),
     }
 }
