@@ -53,7 +53,11 @@ pub fn served_spans(
 
 /// The least interrupt number that two I/O APICs of a MADT serve, and the first two that do.
 #[tactic(auto, using(crate::proofs::Clashes::is_found))]
-fn first_gsi_clash(alloc: Global, policy: &Policy, table: Table<'_>) -> Result<Clash, AllocError>
+pub fn first_gsi_clash(
+    alloc: Global,
+    policy: &Policy,
+    table: Table<'_>,
+) -> Result<Clash, AllocError>
     ensures { IfOk result (IsFound (Serves policy.now (madt_contents table.entry))) }
 {
     let spans = served_spans(alloc, policy, table)?;

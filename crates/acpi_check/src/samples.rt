@@ -1,10 +1,29 @@
 //! Tables for the tests.
 
-ghost use Rattle.std.specs.Prelude.{◌≤◌, length};
-
 use acpi_base::{Image, sum};
 use std::alloc::Global;
 use std::test::Fail;
+
+/// A table with this signature and this revision, and these bytes behind its header.
+pub(crate) fn table_of(
+    alloc: Global,
+    signature: &[u8; 4],
+    revision: u8,
+    body: &[u8],
+) -> Result<Vec<u8>, Fail> {
+    let length = u32::try_from(36 + body.len()).map_err(|_| "a table's length")?;
+    let mut bytes = Vec::new(alloc);
+    bytes.extend_from_slice(signature)?;
+    bytes.extend_from_slice(&length.to_le_bytes())?;
+    bytes.extend_from_slice(&[revision])?;
+    bytes.extend_from_slice(&[0; 27])?;
+    bytes.extend_from_slice(body)?;
+    let checksum = sum(&bytes).wrapping_neg();
+    if let Some(byte) = bytes.get_mut(9) {
+        *byte = checksum;
+    }
+    Ok(bytes)
+}
 
 /// An image of one table at 1000h, with this signature, these fields behind its header, and these entries.
 pub(crate) fn image_of(
@@ -12,22 +31,14 @@ pub(crate) fn image_of(
     signature: &[u8; 4],
     fields: &[u8],
     entries: &[u8],
-) -> Result<Image, Fail>
-    requires { length fields.now ≤ 12 }
-{
-    let length = u32::try_from(36 + fields.len() + entries.len()).map_err(|_| "a table's length")?;
-    let mut bytes = Vec::new(alloc);
-    bytes.extend_from_slice(signature)?;
-    bytes.extend_from_slice(&length.to_le_bytes())?;
-    bytes.extend_from_slice(&[0; 28])?;
-    bytes.extend_from_slice(fields)?;
-    bytes.extend_from_slice(entries)?;
-    let checksum = sum(&bytes).wrapping_neg();
-    if let Some(byte) = bytes.get_mut(9) {
-        *byte = checksum;
-    }
+) -> Result<Image, Fail> {
+    let mut body = Vec::new(alloc);
+    body.extend_from_slice(fields)?;
+    body.extend_from_slice(entries)?;
     let mut image = Image::new(alloc);
-    image.add(0x1000, &bytes).map_err(|_| "an image")?;
+    image
+        .add(0x1000, &table_of(alloc, signature, 2, &body)?)
+        .map_err(|_| "an image")?;
     Ok(image)
 }
 

@@ -123,3 +123,6 @@ pub fn named_served(alloc: Global, set: &Set<'_>) -> Result<(), Refusal>
         },
     }
 }
+
+#[cfg(test)]
+mod tests;
