@@ -134,6 +134,3 @@ pub fn one_domain(alloc: Global, set: &Set<'_>) -> Result<(), Refusal>
         Err(AllocError) => Err(Refusal::OutOfMemory),
     }
 }
-
-#[cfg(test)]
-mod tests;

@@ -53,11 +53,7 @@ pub fn served_spans(
 
 /// The least interrupt number that two I/O APICs of a MADT serve, and the first two that do.
 #[tactic(auto, using(crate::proofs::Clashes::is_found))]
-pub fn first_gsi_clash(
-    alloc: Global,
-    policy: &Policy,
-    table: Table<'_>,
-) -> Result<Clash, AllocError>
+fn first_gsi_clash(alloc: Global, policy: &Policy, table: Table<'_>) -> Result<Clash, AllocError>
     ensures { IfOk result (IsFound (Serves policy.now (madt_contents table.entry))) }
 {
     let spans = served_spans(alloc, policy, table)?;
@@ -93,6 +89,3 @@ pub fn apart_interrupts(alloc: Global, set: &Set<'_>) -> Result<(), Refusal>
         },
     }
 }
-
-#[cfg(test)]
-mod tests;

@@ -130,6 +130,3 @@ pub fn known_leaves(alloc: Global, set: &Set<'_>) -> Result<(), Refusal>
         Err(AllocError) => Err(Refusal::OutOfMemory),
     }
 }
-
-#[cfg(test)]
-mod tests;

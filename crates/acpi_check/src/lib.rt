@@ -32,8 +32,6 @@ mod references;
 mod refusal;
 mod root;
 mod rsdp;
-#[cfg(test)]
-mod samples;
 mod search;
 mod served;
 mod set;

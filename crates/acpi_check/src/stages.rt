@@ -2,11 +2,11 @@
 
 ghost use Rattle.std.specs.Prelude.{◌≡◌, ◌≤◌, ◌↔◌, ⊤, IfOk, IsOk, OnErr, MatchOption};
 ghost use Rattle.acpi_base.specs.Codes.{stage_number};
-ghost use Rattle.acpi_base.specs.Statements.{CleanBefore, CleanTo};
+ghost use Rattle.acpi_base.specs.Statements.{IsClean, CleanBefore, CleanTo};
 ghost use Rattle.acpi_base.specs.Faults.{IsFirstFault, IsVerdict};
 ghost use Rattle.acpi_base.specs.declared.stage.Stage.{Stage};
 ghost use Rattle.acpi_base.specs.declared.verdict.Verdict.{Verdict};
-ghost use Rattle.acpi_check.specs.Headline.{IsClean, IfNo};
+ghost use Rattle.acpi_check.specs.Headline.{IfNo};
 ghost use Rattle.acpi_check.specs.Settled.{Settles, SettlesTo};
 ghost use Rattle.acpi_check.specs.Set.{IsSet, IsSetOf};
 
