@@ -1,0 +1,1 @@
+//! Codes 57 to 59: rules across tables.

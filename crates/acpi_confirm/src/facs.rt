@@ -1,0 +1,1 @@
+//! Codes 26 to 31: the FACS.

@@ -1,0 +1,1 @@
+//! Codes 19 to 25: the FADT.

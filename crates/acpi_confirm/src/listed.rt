@@ -1,0 +1,1 @@
+//! The first listed table with a signature.

@@ -1,0 +1,1 @@
+//! Codes 32 to 40: the MADT.

@@ -1,0 +1,1 @@
+//! Codes 50 to 56: the PPTT.

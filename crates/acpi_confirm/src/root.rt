@@ -1,0 +1,1 @@
+//! Codes 8 to 14: the root.

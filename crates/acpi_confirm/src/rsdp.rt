@@ -1,0 +1,1 @@
+//! Codes 1 to 7: the RSDP.

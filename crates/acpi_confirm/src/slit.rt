@@ -1,0 +1,1 @@
+//! Codes 46 to 49: the SLIT.

@@ -1,0 +1,1 @@
+//! Codes 41 to 45: the SRAT.

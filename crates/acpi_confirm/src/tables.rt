@@ -1,0 +1,1 @@
+//! Codes 15 to 18: the listed tables.
