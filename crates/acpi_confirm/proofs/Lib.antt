@@ -1,1 +1,2 @@
+pub mod ListedTables
 pub mod Roots
