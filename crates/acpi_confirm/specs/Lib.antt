@@ -1,2 +1,4 @@
+pub mod Cells
 pub mod Conditions
+pub mod Srats
 pub mod Walks
