@@ -1,2 +1,5 @@
+pub mod Cells
 pub mod ListedTables
 pub mod Roots
+pub mod SratEntries
+pub mod Walks

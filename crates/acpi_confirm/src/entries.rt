@@ -1,1 +1,58 @@
 //! The entries of a table, one after another.
+
+ghost use Rattle.std.specs.Prelude.{◌≡◌};
+ghost use Rattle.std.specs.Option.{option_map, MatchOption};
+ghost use Rattle.acpi_base.specs.Entries.{first_entry, entries_of, cut_of};
+ghost use Rattle.acpi_confirm.specs.Walks.{IsThere, IsEnd, IsNext};
+
+/// The entry that bytes begin with, where one stands there: its second byte is its length.
+#[tactic(auto, unfolding(acpi_base::specs::Entries::first_entry))]
+fn first_entry(left: &[u8]) -> Option<&[u8]>
+    ensures { option_map (λ entry. entry.now) result ≡ first_entry left.now }
+{
+    let length = usize::from(*left.get(1)?);
+    if length < 2 {
+        return None;
+    }
+    left.get(..length)
+}
+
+/// The entry that stands at a start.
+#[tactic(auto, using(crate::proofs::Walks::walking))]
+fn entry_from(whole: &[u8], start: usize) -> Option<&[u8]>
+    ensures { MatchOption result (IsEnd start whole.now) (λ entry. IsNext start whole.now entry.now) }
+{
+    if start > whole.len() {
+        return None;
+    }
+    first_entry(&whole[start..])
+}
+
+/// The entry that stands at an offset of a table whose entries stand from `first` on, where one does: the walk
+/// goes over the starts up to the offset.
+#[tactic(auto, using(crate::proofs::Walks::walking))]
+pub(crate) fn entry_at(whole: &[u8], first: usize, at: u64) -> Option<&[u8]>
+    ensures { IsThere (entries_of first whole.now) at (option_map (λ entry. entry.now) result) }
+{
+    let mut start = first;
+    while (start as u64) < at {
+        start += entry_from(whole, start)?.len();
+    }
+    if start as u64 == at {
+        entry_from(whole, start)
+    } else {
+        None
+    }
+}
+
+/// The offset of the bytes behind the entries of a table, at which none stands, if any are left.
+#[tactic(auto, unfolding(acpi_base::specs::Entries::cut_of))]
+pub(crate) fn cut(whole: &[u8], first: usize) -> Option<u64>
+    ensures { result ≡ cut_of first whole.now }
+{
+    let mut start = first;
+    while let Some(entry) = entry_from(whole, start) {
+        start += entry.len();
+    }
+    (start < whole.len()).then_some(start as u64)
+}

@@ -1,0 +1,19 @@
+-- A walk over the entries of a table: each stands where the one before it ends.
+use Rattle.std.specs.Prelude.{◌≡◌, ℕ, ◌+◌, ◌≤◌, ◌↔◌, List, [], ◌∷◌, length, Option, Some}
+use Rattle.acpi_base.specs.Entries.{IsEntry, Standing, Stands, entries_of, end_of_entries}
+
+-- what stands at the offset o: this entry, or none
+pub record IsThere {E : Type 0} (entries : List (Standing E)) (o : ℕ) (there : Option E) : Type 0 where
+  pub is : (e : E) → Stands entries o e ↔ (there ≡ Some e)
+
+-- no entry stands from the offset on
+pub record IsEnd (start : ℕ) (whole : List ℕ) : Type 0 where
+  pub none : entries_of start whole ≡ []
+  pub end : end_of_entries start whole ≡ start
+
+-- the entry is the first from the offset on: behind it come the others
+pub record IsNext (start : ℕ) (whole e : List ℕ) : Type 0 where
+  pub entry : IsEntry e
+  pub fits : start + length e ≤ length whole
+  pub first : entries_of start whole ≡ record { offset = start; entry = e } ∷ entries_of (start + length e) whole
+  pub end : end_of_entries start whole ≡ end_of_entries (start + length e) whole
