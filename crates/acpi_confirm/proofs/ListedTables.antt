@@ -55,8 +55,8 @@ test_of_listed {m} {p} {signature} {whole} P listed decides =
     (λ yes. (whole, listed, decides.0 yes), λ has. decides.1 (subst P (one_listed m p signature has.0 whole has.1 listed) has.2))
 
 -- a set that does not list the table has none
-pub none_has_listed : {m : Memory} {p : ℕ} {signature : List ℕ} (P : List ℕ → Type 0) → ((whole : List ℕ) → ¬ IsListedTable m p signature whole) → ¬ HasListed m p signature P
-none_has_listed P none has = none has.0 has.1
+pub none_has_listed : {m : Memory} {p : ℕ} {signature : List ℕ} (P : List ℕ → Type 0) → ((whole : List ℕ) → ¬ IsListedTable m p signature whole) → IsTrue false ↔ HasListed m p signature P
+none_has_listed P none = (λ yes. absurd cc, λ has. absurd (none has.0 has.1))
 
 -- ---- the FADT and the FACS
 

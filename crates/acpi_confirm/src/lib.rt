@@ -20,10 +20,14 @@
 //! ```
 #![tactic(auto)]
 
+ghost use Rattle.std.specs.Prelude.{◌↔◌, IsTrue};
+ghost use Rattle.acpi_base.specs.Faults.{Fault};
+
 mod cross;
 mod entries;
 mod facs;
 mod fadt;
+mod in_tables;
 mod listed;
 mod madt;
 mod pptt;
@@ -32,3 +36,39 @@ mod rsdp;
 mod slit;
 mod srat;
 mod tables;
+
+use acpi_base::{Image, Policy, Stage, Witness};
+use facs::is_facs_fault;
+use fadt::is_fadt_fault;
+use in_tables::{
+    in_madt, in_madt_and_pptt, in_madt_and_srat, in_named_interrupts, in_pptt, in_slit, in_srat,
+};
+use root::is_root_fault;
+use rsdp::is_rsdp_fault;
+use tables::is_table_fault;
+
+/// Whether the witness is a fault of the image under the policy: its code's condition holds with these three numbers,
+/// of which those that the code does not use are 0. Any numbers are allowed, and no stage needs to hold. Takes no
+/// memory, and always returns.
+///
+/// A fault need not be the first one: of a set with several, `confirm` takes each.
+pub fn confirm(image: &Image, policy: &Policy, witness: &Witness) -> bool
+    ensures fault { IsTrue result ↔ Fault image.now policy.now witness.now }
+{
+    match witness.code.stage() {
+        Stage::Rsdp => is_rsdp_fault(image, policy, witness),
+        Stage::Root => is_root_fault(image, policy, witness),
+        Stage::Tables => is_table_fault(image, policy, witness),
+        Stage::Fadt => is_fadt_fault(image, policy, witness),
+        Stage::Facs => is_facs_fault(image, policy, witness),
+        Stage::Madt | Stage::Interrupts | Stage::Overrides => in_madt(image, policy, witness),
+        Stage::Srat | Stage::Ranges => in_srat(image, policy, witness),
+        Stage::Slit => in_slit(image, policy, witness),
+        Stage::Pptt | Stage::References | Stage::Parents | Stage::Caches => {
+            in_pptt(image, policy, witness)
+        }
+        Stage::Domains => in_madt_and_srat(image, policy, witness),
+        Stage::Served => in_named_interrupts(image, policy, witness),
+        Stage::Leaves => in_madt_and_pptt(image, policy, witness),
+    }
+}
