@@ -91,10 +91,10 @@ cell_there slit at n size from below is =
     let column : place % n < n = omega arith in
     let square : n * n ≡ (slit_contents slit).count * (slit_contents slit).count = grind (arith, count) in
     let row : place / n < n =
-        elim (cases_lt (place / n) n) [
-          | inl less ↦ less
-          | inr most ↦ absurd (omega (arith, mul-le-mul_left n most, size, slit_size slit))
-        ]
+    elim (cases_lt (place / n) n) [
+      | inl less ↦ less
+      | inr most ↦ absurd (omega (arith, mul-le-mul_left n most, size, slit_size slit))
+    ]
     in
     let where_is : at ≡ 44 + ((slit_contents slit).count * (place / n) + place % n) = rw count (omega arith) in
     record {

@@ -1,4 +1,5 @@
 pub mod Cells
 pub mod Conditions
+pub mod Madts
 pub mod Srats
 pub mod Walks

@@ -6,6 +6,10 @@ use Rattle.acpi_base.specs.Entries.{IsEntry, Standing, Stands, entries_of, end_o
 pub record IsThere {E : Type 0} (entries : List (Standing E)) (o : ℕ) (there : Option E) : Type 0 where
   pub is : (e : E) → Stands entries o e ↔ (there ≡ Some e)
 
+-- P holds of this alone, or of none
+pub record IsOnly {X : Type 0} (P : X → Type 0) (only : Option X) : Type 0 where
+  pub is : (x : X) → P x ↔ (only ≡ Some x)
+
 -- no entry stands from the offset on
 pub record IsEnd (start : ℕ) (whole : List ℕ) : Type 0 where
   pub none : entries_of start whole ≡ []

@@ -1,8 +1,8 @@
 //! The entries of a table, one after another.
 
-ghost use Rattle.std.specs.Prelude.{◌≡◌};
+ghost use Rattle.std.specs.Prelude.{◌≡◌, IfSome};
 ghost use Rattle.std.specs.Option.{option_map, MatchOption};
-ghost use Rattle.acpi_base.specs.Entries.{first_entry, entries_of, cut_of};
+ghost use Rattle.acpi_base.specs.Entries.{IsEntry, first_entry, entries_of, cut_of};
 ghost use Rattle.acpi_confirm.specs.Walks.{IsThere, IsEnd, IsNext};
 
 /// The entry that bytes begin with, where one stands there: its second byte is its length.
@@ -32,7 +32,8 @@ fn entry_from(whole: &[u8], start: usize) -> Option<&[u8]>
 /// goes over the starts up to the offset.
 #[tactic(auto, using(crate::proofs::Walks::walking))]
 pub(crate) fn entry_at(whole: &[u8], first: usize, at: u64) -> Option<&[u8]>
-    ensures { IsThere (entries_of first whole.now) at (option_map (λ entry. entry.now) result) }
+    ensures there { IsThere (entries_of first whole.now) at (option_map (λ entry. entry.now) result) }
+    ensures entry { IfSome result (λ entry. IsEntry entry.now) }
 {
     let mut start = first;
     while (start as u64) < at {
