@@ -1,9 +1,10 @@
 //! The entries of a table, one after another.
 
-ghost use Rattle.std.specs.Prelude.{◌≡◌, IfSome};
+ghost use Rattle.std.specs.Prelude.{◌≡◌, IfSome, List, ℕ};
+ghost use denote.Ref.{Bor};
 ghost use Rattle.std.specs.Option.{option_map, MatchOption};
 ghost use Rattle.acpi_base.specs.Entries.{IsEntry, first_entry, entries_of, cut_of};
-ghost use Rattle.acpi_confirm.specs.Walks.{IsThere, IsEnd, IsNext};
+ghost use Rattle.acpi_confirm.specs.Walks.{IsThere, IsEnd, IsNext, FindsAny};
 
 /// The entry that bytes begin with, where one stands there: its second byte is its length.
 #[tactic(auto, unfolding(acpi_base::specs::Entries::first_entry))]
@@ -56,4 +57,19 @@ pub(crate) fn cut(whole: &[u8], first: usize) -> Option<u64>
         start += entry.len();
     }
     (start < whole.len()).then_some(start as u64)
+}
+
+/// Whether a table has an entry that is sought.
+pub(crate) fn has_entry<F: Fn(&[u8]) -> bool>(whole: &[u8], first: usize, is_sought: F) -> bool
+    requires { (entry : Bor (List ℕ)) → IsEntry entry.now → F.pre is_sought entry }
+    ensures { FindsAny (λ entry found. F.post is_sought entry found) (entries_of first whole.now) result }
+{
+    let mut start = first;
+    while let Some(entry) = entry_from(whole, start) {
+        if is_sought(entry) {
+            return true;
+        }
+        start += entry.len();
+    }
+    false
 }
