@@ -1,5 +1,8 @@
 pub mod Cells
+pub mod Chains
+pub mod Crosses
 pub mod MadtFaults
+pub mod PpttEntries
 pub mod Ranges
 pub mod SratEntries
 pub mod Standing

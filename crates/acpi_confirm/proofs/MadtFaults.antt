@@ -32,11 +32,11 @@ pub ruleset madt_codes = (madt_size, madt_cut, own_codes)
 
 -- ---- two I/O APICs
 
-serves_from : (q : PolicyValue) (c : MadtContents) (o g : ℕ) → StandsWith c.entries o (ServesGsi q g) → (s : ℕ) × Serves q c o s g
+pub serves_from : (q : PolicyValue) (c : MadtContents) (o g : ℕ) → StandsWith c.entries o (ServesGsi q g) → (s : ℕ) × Serves q c o s g
 serves_from q c o g (IoApic v, stands, (from, below)) = (v.gsi_base, (IoApic v, stands, (refl, from, below)))
 serves_from q c o g (_, stands, not) = absurd not
 
-serves_gsi : (q : PolicyValue) (c : MadtContents) (o s g : ℕ) → Serves q c o s g → StandsWith c.entries o (ServesGsi q g)
+pub serves_gsi : (q : PolicyValue) (c : MadtContents) (o s g : ℕ) → Serves q c o s g → StandsWith c.entries o (ServesGsi q g)
 serves_gsi q c o s g (IoApic v, stands, (base, from, below)) = (IoApic v, stands, (rw base from, rw (← base) at below))
 serves_gsi q c o s g (_, stands, not) = absurd not
 

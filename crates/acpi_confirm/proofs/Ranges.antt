@@ -110,7 +110,3 @@ pub one_offset : (h : HotPlug) (c : SratContents) (o p x : ℕ) → o ≡ p → 
 one_offset Counted c o p x same clash = clash.two same
 one_offset Apart c o p x same (inl clash) = clash.two same
 one_offset Apart c o p x same (inr clash) = clash.two same
-
--- what is not so is not true
-pub not_so : (P : Type 0) → ¬ P → IsTrue false ↔ P
-not_so P not = (λ true. absurd (cc), λ holds. absurd (not holds))

@@ -1,5 +1,6 @@
 pub mod Cells
 pub mod Conditions
+pub mod Links
 pub mod Madts
 pub mod Srats
 pub mod Walks

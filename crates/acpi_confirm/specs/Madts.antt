@@ -25,3 +25,8 @@ HasType _ = Unit {0}
 abbrev pub ServesGsi : PolicyValue → ℕ → said.MadtEntry → Type 0
 ServesGsi q g (said.IoApic v) = (v.gsi_base ≤ g) × (g < v.gsi_base + inputs_of q v.address)
 ServesGsi q g _ = ⊥
+
+-- the entry is not typed
+abbrev pub IsOpaque : said.MadtEntry → Type 0
+IsOpaque (said.Opaque e) = Unit {0}
+IsOpaque _ = ⊥

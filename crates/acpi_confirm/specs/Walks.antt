@@ -24,6 +24,9 @@ pub record IsNext (start : ℕ) (whole e : List ℕ) : Type 0 where
   pub end : end_of_entries start whole ≡ end_of_entries (start + length e) whole
 
 -- by what it answers at an entry's bytes a search has found one among these entries, or no entry is one
-abbrev pub FindsAny : (Bor (List ℕ) → Bool → Type 0) → List (Standing (List ℕ)) → Bool → Type 0
-FindsAny Answers entries true = (o : ℕ) × (entry : Bor (List ℕ)) × Stands entries o entry.now × Answers entry true
-FindsAny Answers entries false = (o : ℕ) (e : List ℕ) → Stands entries o e → (entry : Bor (List ℕ)) × (entry.now ≡ e) × Answers entry false
+abbrev pub FindsOne : (Bor (List ℕ) → Bool → Type 0) → List (Standing (List ℕ)) → Bool → Type 0
+FindsOne Answers entries true = (o : ℕ) × (entry : Bor (List ℕ)) × Stands entries o entry.now × Answers entry true
+FindsOne Answers entries false = (o : ℕ) (e : List ℕ) → Stands entries o e → (entry : Bor (List ℕ)) × (entry.now ≡ e) × Answers entry false
+
+pub record FindsAny (Answers : Bor (List ℕ) → Bool → Type 0) (entries : List (Standing (List ℕ))) (r : Bool) : Type 0 where
+  pub one : FindsOne Answers entries r

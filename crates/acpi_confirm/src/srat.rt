@@ -15,7 +15,7 @@ use acpi_base::field::{u8_at, u16_at, u32_at, u64_at};
 use acpi_base::{Code, HotPlug, Policy, Stage, Witness};
 
 /// Where the first entry stands.
-const FIRST_ENTRY: usize = 48;
+pub(crate) const FIRST_ENTRY: usize = 48;
 
 /// What an entry says: of a typed entry its fields, of any other its bytes.
 #[derive(Clone, Copy)]
@@ -60,7 +60,7 @@ fn apic_domain(entry: &[u8]) -> u64
 
 /// What an entry's bytes say.
 #[tactic(auto, unfolding(acpi_base::specs::Srat::srat_entry, acpi_base::specs::Entries::has_form))]
-fn read(entry: &[u8]) -> SratEntry<'_>
+pub(crate) fn read(entry: &[u8]) -> SratEntry<'_>
     requires { 2 ≤ length entry.now }
     ensures says { srat_value result ≡ srat_entry entry.now }
     ensures typed { HasType (srat_value result) }
@@ -91,7 +91,7 @@ fn read(entry: &[u8]) -> SratEntry<'_>
 
 /// Whether the flags of an entry say that it is enabled.
 #[tactic(auto, unfolding(acpi_base::specs::Number::has_bit))]
-fn is_enabled(flags: u32) -> bool
+pub(crate) fn is_enabled(flags: u32) -> bool
     ensures { result ≡ srat.is_enabled flags }
 {
     flags & 1 == 1

@@ -7,4 +7,4 @@ loop-entry-preserved g c =
     over_next _ c.args.first c.loop-entry.start c.args.whole.now c.in-Some.entry.now c.loop-entry.invariant c.in-Some.ensures (c.in-Some.entry, refl, c.if-is_sought.ensures)
 
 pub returns : goal.returns
-returns g c = over_all _ c.args.first c.loop-entry.start c.args.whole.now c.loop-entry.invariant c.in_default.ensures
+returns g c = record { one = over_all _ c.args.first c.loop-entry.start c.args.whole.now c.loop-entry.invariant c.in_default.ensures }

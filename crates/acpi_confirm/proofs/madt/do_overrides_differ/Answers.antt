@@ -3,7 +3,7 @@ use Rattle.std.proofs.lemmas.Bool.Decides.{nat_tests}
 use Rattle.std.specs.Prelude.{◌==◌, not}
 use Rattle.acpi_base.specs.Madt.{madt_contents}
 use Rattle.acpi_confirm.proofs.MadtFaults.{differ, no_first, no_second, not_before}
-use Rattle.acpi_confirm.proofs.Ranges.{not_so}
+use Rattle.acpi_confirm.proofs.Standing.{not_so}
 use Rattle.acpi_confirm.proofs.madt.do_overrides_differ.Goals as goal
 
 pub returns-then-earlier-at : goal.returns-then-earlier-at
