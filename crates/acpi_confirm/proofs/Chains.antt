@@ -84,8 +84,7 @@ led_first Named from steps = record { same = λ p. (λ h. h, λ h. h) }
 
 lead_step : (Named : ℕ → ℕ → Type 0) (k o m n p : ℕ) → IsNamed Named o (Some m) → IsStep Named o n → LeadsTo Named (suc k) o p ↔ LeadsTo Named k n p
 lead_step Named k o m n p named step =
-    let mine : m ≡ n = same_Some _ _ ((named.is n).0 step.names) in
-    (
+    let mine : m ≡ n = same_Some _ _ ((named.is n).0 step.names) in (
       λ (q, first, rest). subst (λ (x : ℕ). LeadsTo Named k x p) (sym (same_Some _ _ ((named.is q).0 first.names)) ∙ mine) rest,
       λ rest. (n, step, rest),
     )

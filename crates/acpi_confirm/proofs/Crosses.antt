@@ -1,10 +1,10 @@
 -- Faults across tables.
-use Rattle.std.proofs.Common.{◌≡◌, ◌≢◌, ◌+◌, ◌<◌, ◌≤◌, ℕ, List, length, Option, Some, None, refl, sym, ap, ◌∙◌, subst, arith}
-use Rattle.std.specs.Prelude.{◌↔◌, IsTrue, Bool, true, false, slice_index}
+use Rattle.std.proofs.Common.{◌≡◌, ◌≢◌, ◌+◌, ◌<◌, ◌≤◌, ℕ, List, length, Option, Some, None, refl, sym, ap, ◌∙◌, subst, arith, true≢false}
+use Rattle.std.specs.Prelude.{◌↔◌, IsTrue, Bool, true, false, not, slice_index}
 use Rattle.std.proofs.lemmas.List.{get_or-drop, get_or_past}
 use Rattle.std.proofs.lemmas.Option.{same_Some}
 use Rattle.acpi_base.specs.Across.{DomainFault, IsEnabled, IsServed, PutsAt}
-use Rattle.acpi_base.specs.Entries.{Stands, StandsWith}
+use Rattle.acpi_base.specs.Entries.{Stands, StandsWith, cut_of}
 use Rattle.acpi_base.specs.Madt.{MadtContents, MadtEntry, Opaque, IsWhollyTyped, madt_contents}
 use Rattle.acpi_base.specs.Number.{field}
 use Rattle.acpi_base.specs.Policy.{PolicyValue}
@@ -61,7 +61,9 @@ not_opaque c whole o _ stands is = is
 pub none_opaque : (c : MadtContents) → IsWhollyTyped c → ¬ ((o : ℕ) × StandsWith c.entries o IsOpaque)
 none_opaque c whole (o, (e, stands, is)) = not_opaque c whole o e stands is
 
-pub ruleset typed = (wholly_typed, none_opaque, madt_size, madt_cut)
+pub typed : (madt : List ℕ) (b : Bool) → 44 ≤ length madt → None ≡ cut_of 44 madt → (IsTrue b ↔ ((o : ℕ) × StandsWith (madt_contents madt).entries o IsOpaque)) → IsTrue (not b) ↔ IsWhollyTyped (madt_contents madt)
+typed madt true long filled is = (λ no_one. absurd (cc), λ whole. absurd (none_opaque (madt_contents madt) whole (is.0 refl)))
+typed madt false long filled is = (λ _. wholly_typed (madt_contents madt) (omega (arith, madt_size madt)) (madt_cut madt ∙ sym filled) (λ some. true≢false (sym (is.1 some))), λ _. refl)
 
 pub revision_is : (pptt : List ℕ) → (pptt_contents pptt).revision ≡ field pptt 8 1
 unfolding pptt_contents

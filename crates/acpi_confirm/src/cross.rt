@@ -41,7 +41,9 @@ fn is_enabled_processor(processors: Processors, entry: &[u8], number: u64) -> bo
             u64::from(apic_id) == number && counts_as_enabled(processors, flags)
         }
         MadtEntry::X2apic {
-            x2apic_id, flags, ..
+            x2apic_id,
+            flags,
+            ..
         } => u64::from(x2apic_id) == number && counts_as_enabled(processors, flags),
         _ => false,
     }
@@ -116,12 +118,7 @@ fn has_two_domains(
 }
 
 /// Code 57: whether the MADT and the SRAT have this fault.
-pub(crate) fn is_domain_fault(
-    madt: &[u8],
-    srat: &[u8],
-    policy: &Policy,
-    witness: &Witness,
-) -> bool
+pub(crate) fn is_domain_fault(madt: &[u8], srat: &[u8], policy: &Policy, witness: &Witness) -> bool
     ensures { IsTrue result ↔ DomainFault policy.now.processors (madt_contents madt.now) (srat_contents srat.now) witness.now.code witness.now.at witness.now.other witness.now.point }
 {
     match witness.code {
@@ -158,7 +155,11 @@ fn has_io_apic(madt: &[u8]) -> bool
 fn is_served(policy: &Policy, madt: &[u8], number: u64) -> bool
     ensures { IsTrue result ↔ IsServed policy.now (madt_contents madt.now) number }
 {
-    has_entry(madt, madt::FIRST_ENTRY, |entry| serves(policy, entry, number))
+    has_entry(
+        madt,
+        madt::FIRST_ENTRY,
+        |entry| serves(policy, entry, number),
+    )
 }
 
 /// Whether an entry is an override or an NMI source, and names the interrupt number.
@@ -217,14 +218,17 @@ fn has_opaque(madt: &[u8]) -> bool
 }
 
 /// Whether the MADT has at least 44 bytes, and typed entries fill the rest of it.
-#[tactic(auto, using(crate::proofs::Crosses::typed))]
+#[tactic(auto, using(crate::proofs::MadtFaults::madt_codes))]
 fn is_wholly_typed(madt: &[u8]) -> bool
     ensures { IsTrue result ↔ IsWhollyTyped (madt_contents madt.now) }
 {
     if madt.len() < 44 {
         return false;
     }
-    cut(madt, madt::FIRST_ENTRY).is_none() && !has_opaque(madt)
+    match cut(madt, madt::FIRST_ENTRY) {
+        Some(_) => false,
+        None => !has_opaque(madt),
+    }
 }
 
 /// Whether an entry is of a processor, enabled or not, with this UID.

@@ -108,7 +108,14 @@ pub(super) fn has_parent_fault(pptt: &[u8], witness: &Witness) -> bool
     let most = pptt.len() as u64 / 20;
     match witness.code {
         Code::ParentCycle => {
-            is_cycle(pptt, Link::Parent, most, witness.at, witness.other, witness.point)
+            is_cycle(
+                pptt,
+                Link::Parent,
+                most,
+                witness.at,
+                witness.other,
+                witness.point,
+            )
         }
         _ => false,
     }
@@ -122,7 +129,14 @@ pub(super) fn has_cache_fault(pptt: &[u8], witness: &Witness) -> bool
     let most = pptt.len() as u64 / 24;
     match witness.code {
         Code::CacheCycle => {
-            is_cycle(pptt, Link::NextLevel, most, witness.at, witness.other, witness.point)
+            is_cycle(
+                pptt,
+                Link::NextLevel,
+                most,
+                witness.at,
+                witness.other,
+                witness.point,
+            )
         }
         _ => false,
     }
