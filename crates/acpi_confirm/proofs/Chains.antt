@@ -1,15 +1,15 @@
 -- Chains of a PPTT's entries.
-use Rattle.std.proofs.Common.{◌≡◌, ◌≢◌, ◌+◌, ◌-◌, ◌<◌, ◌≤◌, zero, suc, ℕ, List, [], ◌∷◌, length, drop, Option, Some, None, refl, sym, ap, ◌∙◌, subst, inl, inr, arith}
-use Rattle.std.specs.Prelude.{◌↔◌, IsTrue, Bool, true, false}
+use Rattle.std.proofs.Common.{◌≡◌, ◌≢◌, ◌+◌, ◌-◌, ◌<◌, ◌≤◌, zero, suc, ℕ, List, length, drop, Option, Some, None, refl, sym, ap, ◌∙◌, subst, inl, inr, arith}
+use Rattle.std.specs.Prelude.{◌↔◌, IsTrue, Bool}
 use Rattle.std.proofs.lemmas.Option.{same_Some}
-use Rattle.acpi_base.specs.Chains.{IsAt, IsStep, LeadsTo, IsCycle}
-use Rattle.acpi_base.specs.Entries.{IsEntry, Standing, Stands, first_entry, entries_of}
+use Rattle.acpi_base.specs.Chains.{IsStep, LeadsTo, IsCycle}
+use Rattle.acpi_base.specs.Entries.{Standing, Stands, first_entry, entries_of}
 use Rattle.acpi_base.specs.Pptt.{pptt_entry, pptt_contents}
 use Rattle.acpi_base.proofs.Elements.{first_or_later, no_element}
 use Rattle.acpi_base.proofs.HeldBytes.{cases_Option, none_and_some}
 use Rattle.acpi_base.proofs.Standings.{entry_within, said_from}
 use Rattle.acpi_confirm.specs.Links.{Names, IsStepTo}
-use Rattle.acpi_confirm.specs.Walks.{IsThere, IsOnly, IsEnd, IsNext}
+use Rattle.acpi_confirm.specs.Walks.{IsThere, IsOnly}
 use Rattle.acpi_confirm.specs.declared.pptt.Link.{Link}
 use Rattle.acpi_confirm.specs.declared.pptt.Link.TheVariants.{Parent, NextLevel}
 use Rattle.acpi_confirm.proofs.Walks.{is_end, is_next, IsOnWay, at_first, at_next}

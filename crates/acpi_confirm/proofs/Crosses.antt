@@ -1,9 +1,9 @@
 -- Faults across tables.
-use Rattle.std.proofs.Common.{◌≡◌, ◌≢◌, ◌+◌, ◌<◌, ◌≤◌, ℕ, List, length, Option, Some, None, refl, sym, ap, ◌∙◌, subst, arith, true≢false}
-use Rattle.std.specs.Prelude.{◌↔◌, IsTrue, Bool, true, false, not, slice_index}
+use Rattle.std.proofs.Common.{◌≡◌, ◌≢◌, ◌<◌, ◌≤◌, ℕ, List, length, Option, Some, None, refl, sym, ◌∙◌, arith, true≢false}
+use Rattle.std.specs.Prelude.{◌↔◌, IsTrue, Bool, true, false, not}
 use Rattle.std.proofs.lemmas.List.{get_or-drop, get_or_past}
 use Rattle.std.proofs.lemmas.Option.{same_Some}
-use Rattle.acpi_base.specs.Across.{DomainFault, IsEnabled, IsServed, PutsAt}
+use Rattle.acpi_base.specs.Across.{DomainFault, IsEnabled, IsServed}
 use Rattle.acpi_base.specs.Entries.{Stands, StandsWith, cut_of}
 use Rattle.acpi_base.specs.Madt.{MadtContents, MadtEntry, Opaque, IsWhollyTyped, madt_contents}
 use Rattle.acpi_base.specs.Number.{field}

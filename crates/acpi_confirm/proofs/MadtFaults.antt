@@ -1,9 +1,9 @@
 -- The faults of a MADT.
-use Rattle.std.proofs.Common.{◌≡◌, ◌≢◌, ◌<◌, ◌≤◌, ℕ, List, length, Option, Some, None, refl, sym, ap, ◌∙◌, subst, inl, inr, arith}
-use Rattle.std.specs.Prelude.{◌↔◌, IsTrue, Bool, true, false}
+use Rattle.std.proofs.Common.{◌≡◌, ◌≢◌, ◌<◌, ◌≤◌, ℕ, List, length, Option, Some, None, refl, sym, ◌∙◌, arith}
+use Rattle.std.specs.Prelude.{◌↔◌, IsTrue, Bool}
 use Rattle.std.proofs.lemmas.Option.{same_Some}
 use Rattle.acpi_base.specs.Entries.{StandsWith, AreUnused, cut_of}
-use Rattle.acpi_base.specs.Madt.{MadtContents, MadtEntry, IoApic, madt_contents, MadtFault, MadtEntryFault, InterruptFault, OverrideFault, Serves, Overrides}
+use Rattle.acpi_base.specs.Madt.{MadtContents, IoApic, madt_contents, MadtFault, MadtEntryFault, OverrideFault, Serves, Overrides}
 use Rattle.acpi_base.specs.Clashes.{IsClash}
 use Rattle.acpi_base.specs.Policy.{PolicyValue}
 use Rattle.acpi_base.proofs.HeldBytes.{none_and_some}

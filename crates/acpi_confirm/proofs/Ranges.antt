@@ -1,6 +1,6 @@
 -- The faults of an SRAT.
-use Rattle.std.proofs.Common.{◌≡◌, ◌≢◌, ◌≤◌, ℕ, List, length, Option, Some, None, refl, sym, ap, ◌∙◌, subst, inl, inr}
-use Rattle.std.specs.Prelude.{◌⊎◌, ◌↔◌, IsTrue, Bool, true, false}
+use Rattle.std.proofs.Common.{◌≡◌, ◌≢◌, ◌≤◌, ℕ, List, length, Option, Some, None, refl, sym, ap, ◌∙◌, inl, inr}
+use Rattle.std.specs.Prelude.{◌↔◌, IsTrue, Bool, true, false}
 use Rattle.std.proofs.lemmas.Option.{same_Some}
 use Rattle.acpi_base.specs.Entries.{StandsWith, AreUnused, cut_of}
 use Rattle.acpi_base.specs.Srat.{SratContents, MemoryValue, MemoryRange, srat_contents, SratFault, SratEntryFault, IsAny, IsHotPluggable, IsNotHotPluggable, is_hot_pluggable, Covers, IsOverlap}
