@@ -1,9 +1,8 @@
+pub mod Across
 pub mod Cells
 pub mod Chains
-pub mod Crosses
 pub mod MadtFaults
 pub mod PpttEntries
-pub mod Ranges
-pub mod SratEntries
+pub mod SratFaults
 pub mod Standing
 pub mod Walks

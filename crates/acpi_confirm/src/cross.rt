@@ -11,7 +11,7 @@ ghost use Rattle.acpi_base.specs.declared.code.Code.{Code};
 ghost use Rattle.acpi_confirm.specs.Madts.{IsOpaque, ServesGsi};
 ghost use Rattle.acpi_confirm.specs.Walks.{IsOnly};
 
-use crate::entries::{cut, entry_at, has_entry};
+use crate::entries::{cut, entry_at, has_bit, has_entry};
 use crate::madt::{self, MadtEntry, serves};
 use crate::pptt::{self, is_node};
 use crate::srat::{self, SratEntry, is_enabled};
@@ -21,13 +21,13 @@ use acpi_base::{Code, Policy, Processors, Witness};
 // ---- Code 57: domains
 
 /// Whether a processor with these flags in the MADT counts as enabled.
-#[tactic(auto, unfolding(acpi_base::specs::Policy::counts_as_enabled, acpi_base::specs::Number::has_bit))]
+#[tactic(auto, unfolding(acpi_base::specs::Policy::counts_as_enabled))]
 fn counts_as_enabled(processors: Processors, flags: u32) -> bool
     ensures { result ≡ counts_as_enabled processors flags }
 {
     match processors {
-        Processors::Enabled => flags & 1 == 1,
-        Processors::Usable => flags & 1 == 1 || flags >> 1 & 1 == 1,
+        Processors::Enabled => has_bit(flags, 0),
+        Processors::Usable => has_bit(flags, 0) || has_bit(flags, 1),
     }
 }
 
@@ -251,7 +251,7 @@ fn is_uid(madt: &[u8], uid: u64) -> bool
 }
 
 /// Whether an entry of the PPTT is a node that is a leaf and has this ID, which its flags say is valid.
-#[tactic(auto, unfolding(acpi_base::specs::Pptt::pptt_entry, acpi_base::specs::Number::has_bit))]
+#[tactic(auto, unfolding(acpi_base::specs::Pptt::pptt_entry))]
 fn is_leaf(entry: &[u8], id: u64) -> bool
     requires { IsEntry entry.now }
     ensures { IsTrue result ↔ IsLeaf id (pptt_entry entry.now) }
@@ -260,7 +260,7 @@ fn is_leaf(entry: &[u8], id: u64) -> bool
         return false;
     }
     let flags = u32_at(entry, 4);
-    flags >> 1 & 1 == 1 && flags >> 3 & 1 == 1 && u64::from(u32_at(entry, 12)) == id
+    has_bit(flags, 1) && has_bit(flags, 3) && u64::from(u32_at(entry, 12)) == id
 }
 
 /// Whether the entry at an offset is a leaf with this ID.
@@ -274,7 +274,7 @@ fn is_leaf_at(pptt: &[u8], at: u64, id: u64) -> bool
 }
 
 /// Whether the PPTT's Revision is at least 2.
-#[tactic(auto, using(crate::proofs::Crosses::revision))]
+#[tactic(auto, using(crate::proofs::Across::revision))]
 fn has_revision_2(pptt: &[u8]) -> bool
     ensures { IsTrue result ↔ (2 ≤ (pptt_contents pptt.now).revision) }
 {

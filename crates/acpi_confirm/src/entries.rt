@@ -1,10 +1,20 @@
 //! The entries of a table, one after another.
 
-ghost use Rattle.std.specs.Prelude.{◌≡◌, IfSome, List, ℕ};
+ghost use Rattle.std.specs.Prelude.{◌≡◌, ◌<◌, IfSome, List, ℕ};
 ghost use denote.Ref.{Bor};
 ghost use Rattle.std.specs.Option.{option_map, MatchOption};
 ghost use Rattle.acpi_base.specs.Entries.{IsEntry, first_entry, entries_of, cut_of};
+ghost use Rattle.acpi_base.specs.Number.{has_bit};
 ghost use Rattle.acpi_confirm.specs.Walks.{IsThere, IsEnd, IsNext, FindsAny};
+
+/// Whether a bit of an entry's flags is set; bit 0 is the lowest.
+#[tactic(auto, unfolding(acpi_base::specs::Number::has_bit))]
+pub(crate) fn has_bit(flags: u32, bit: u32) -> bool
+    requires { bit < 32 }
+    ensures { result ≡ has_bit flags bit }
+{
+    flags >> bit & 1 == 1
+}
 
 /// The entry that bytes begin with, where one stands there: its second byte is its length.
 #[tactic(auto, unfolding(acpi_base::specs::Entries::first_entry))]

@@ -10,7 +10,7 @@ ghost use Rattle.acpi_confirm.specs.Conditions.{SratCondition};
 ghost use Rattle.acpi_confirm.specs.Srats.{HasType, CoversWith, AreCompared, srat_value};
 ghost use Rattle.acpi_confirm.specs.Walks.{IsOnly};
 
-use crate::entries::{cut, entry_at};
+use crate::entries::{cut, entry_at, has_bit};
 use acpi_base::field::{u8_at, u16_at, u32_at, u64_at};
 use acpi_base::{Code, HotPlug, Policy, Stage, Witness};
 
@@ -47,7 +47,7 @@ pub(crate) enum SratEntry<'a> {
 }
 
 /// The domain of an entry of type 0, whose bits 31:8 stand apart from bits 7:0.
-#[tactic(auto, using(crate::proofs::SratEntries::three_bytes))]
+#[tactic(auto, using(crate::proofs::SratFaults::three_bytes))]
 fn apic_domain(entry: &[u8]) -> u64
     requires { 16 ≤ length entry.now }
     ensures { result ≡ field entry.now 2 1 + 256 * field entry.now 9 3 }
@@ -90,19 +90,17 @@ pub(crate) fn read(entry: &[u8]) -> SratEntry<'_>
 }
 
 /// Whether the flags of an entry say that it is enabled.
-#[tactic(auto, unfolding(acpi_base::specs::Number::has_bit))]
 pub(crate) fn is_enabled(flags: u32) -> bool
     ensures { result ≡ srat.is_enabled flags }
 {
-    flags & 1 == 1
+    has_bit(flags, 0)
 }
 
 /// Whether the flags of a range say that it is hot-pluggable.
-#[tactic(auto, unfolding(acpi_base::specs::Number::has_bit))]
 fn is_hot_pluggable(flags: u32) -> bool
     ensures { result ≡ srat.is_hot_pluggable flags }
 {
-    flags >> 1 & 1 == 1
+    has_bit(flags, 1)
 }
 
 /// Codes 43 and 44: whether an entry has this fault by itself.
@@ -136,7 +134,7 @@ fn has_own_fault_at(srat: &[u8], at: u64, code: Code) -> bool
 }
 
 /// Codes 41 to 44: the table and each entry by itself.
-#[tactic(auto, using(crate::proofs::Ranges::srat_codes))]
+#[tactic(auto, using(crate::proofs::SratFaults::srat_codes))]
 fn has_entry_fault(srat: &[u8], witness: &Witness) -> bool
     ensures { IsTrue result ↔ SratFault (srat_contents srat.now) witness.now.code witness.now.at witness.now.other witness.now.point }
 {

@@ -1,7 +1,7 @@
 use Rattle.std.proofs.Common.{arith}
 use Rattle.acpi_base.specs.Madt.{madt_contents}
 use Rattle.acpi_base.specs.Srat.{srat_contents}
-use Rattle.acpi_confirm.proofs.Crosses.{differ, no_first, no_second, not_before}
+use Rattle.acpi_confirm.proofs.Across.{differ, no_first, no_second, not_before}
 use Rattle.acpi_confirm.proofs.Standing.{not_so}
 use Rattle.acpi_confirm.proofs.cross.has_two_domains.Goals as goal
 

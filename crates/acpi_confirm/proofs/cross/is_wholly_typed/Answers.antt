@@ -1,4 +1,4 @@
-use Rattle.acpi_confirm.proofs.Crosses.{typed}
+use Rattle.acpi_confirm.proofs.Across.{typed}
 use Rattle.acpi_confirm.proofs.cross.is_wholly_typed.Goals as goal
 
 pub returns-in-None : goal.returns-in-None

@@ -1,5 +1,5 @@
 use Rattle.acpi_base.specs.Srat.{srat_contents}
-use Rattle.acpi_confirm.proofs.Ranges.{overlap, no_first, no_second, one_offset}
+use Rattle.acpi_confirm.proofs.SratFaults.{overlap, no_first, no_second, one_offset}
 use Rattle.acpi_confirm.proofs.Standing.{not_so}
 use Rattle.acpi_confirm.proofs.srat.is_overlap.Goals as goal
 

@@ -1,7 +1,9 @@
 -- The faults of an SRAT.
-use Rattle.std.proofs.Common.{◌≡◌, ◌≢◌, ◌≤◌, ℕ, List, length, Option, Some, None, refl, sym, ap, ◌∙◌, inl, inr}
+use Rattle.std.proofs.Common.{◌≡◌, ◌≢◌, ◌≤◌, ℕ, List, length, Option, Some, None, refl, sym, ap, ◌∙◌, inl, inr, ◌+◌, ◌*◌, arith}
 use Rattle.std.specs.Prelude.{◌↔◌, IsTrue, Bool, true, false}
+use Rattle.std.proofs.lemmas.List.{get_or-drop}
 use Rattle.std.proofs.lemmas.Option.{same_Some}
+use Rattle.acpi_base.specs.Number.{field}
 use Rattle.acpi_base.specs.Entries.{StandsWith, AreUnused, cut_of}
 use Rattle.acpi_base.specs.Srat.{SratContents, MemoryValue, MemoryRange, srat_contents, SratFault, SratEntryFault, IsAny, IsHotPluggable, IsNotHotPluggable, is_hot_pluggable, Covers, IsOverlap}
 use Rattle.acpi_base.specs.Clashes.{IsClash}
@@ -12,6 +14,11 @@ use Rattle.acpi_confirm.specs.Srats.{CoversWith, AreCompared}
 use Rattle.acpi_confirm.specs.Walks.{IsOnly}
 use Rattle.acpi_base.specs.declared.code.Code.{Code}
 use Rattle.acpi_base.specs.declared.code.Code.TheVariants as code
+
+-- a number of three bytes is one of two bytes and the third
+pub three_bytes : (e : List ℕ) → field e 9 3 ≡ field e 9 2 + 65536 * field e 11 1
+unfolding field
+three_bytes e = grind (arith, get_or-drop 9 e 0 0, get_or-drop 9 e 1 0, get_or-drop 9 e 2 0, get_or-drop 11 e 0 0)
 
 pub srat_size : (srat : List ℕ) → (srat_contents srat).size ≡ length srat
 unfolding srat_contents
