@@ -1,6 +1,6 @@
 -- The cells of a SLIT.
 use Rattle.std.proofs.Common.{◌≡◌, ◌<◌, ◌≤◌, ◌+◌, ◌*◌, ◌-◌, ◌/◌, ◌%◌, ℕ, List, length, refl, inl, inr, subst, sym, ap, ◌∙◌, arith}
-use Rattle.std.specs.Prelude.{◌⊎◌, ◌↔◌, IsTrue, Bool, false, slice_index}
+use Rattle.std.specs.Prelude.{◌↔◌, IsTrue, Bool, false, slice_index}
 use Rattle.std.proofs.lemmas.Bool.{cases_lt}
 use Rattle.std.proofs.lemmas.List.{get_or-drop}
 use Rattle.std.proofs.Math.Nat.{mul-le-mul_left}
@@ -91,10 +91,10 @@ cell_there slit at n size from below is =
     let column : place % n < n = omega arith in
     let square : n * n ≡ (slit_contents slit).count * (slit_contents slit).count = grind (arith, count) in
     let row : place / n < n =
-        elim (cases_lt (place / n) n) [
-          | inl less ↦ less
-          | inr most ↦ absurd (omega (arith, mul-le-mul_left n most, size, slit_size slit))
-        ]
+    elim (cases_lt (place / n) n) [
+      | inl less ↦ less
+      | inr most ↦ absurd (omega (arith, mul-le-mul_left n most, size, slit_size slit))
+    ]
     in
     let where_is : at ≡ 44 + ((slit_contents slit).count * (place / n) + place % n) = rw count (omega arith) in
     record {

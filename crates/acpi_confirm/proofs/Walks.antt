@@ -1,6 +1,6 @@
 -- A walk over the entries of a table.
 use Rattle.std.proofs.Common.{◌≡◌, ℕ, zero, suc, ◌+◌, ◌<◌, ◌≤◌, List, [], ◌∷◌, length, drop, Option, Some, None, refl, ap, ◌∙◌, sym, subst, inl, inr, arith, length-drop}
-use Rattle.std.specs.Prelude.{◌↔◌, slice_index}
+use Rattle.std.specs.Prelude.{◌⊎◌, ◌↔◌, slice_index}
 use Rattle.std.proofs.lemmas.Bool.Decides.{nat_tests}
 use Rattle.std.proofs.lemmas.List.{drop-drop, length-take-le, get_or-take, nil_from_length}
 use Rattle.std.proofs.lemmas.List.Sums.{sum_by-cons}
@@ -156,3 +156,34 @@ is_there first whole at (Some e) way next =
     }
 
 pub ruleset walking = (at_first, at_next, is_past, end_or_next, none_there, passed_there, is_there)
+
+-- ---- a search
+
+-- from the start on the same entries stand as in the whole table, but for some of which No holds
+pub record IsOver (No : List ℕ → Type 0) (first start : ℕ) (whole : List ℕ) : Type 0 where
+  pub listed : (o : ℕ) (e : List ℕ) → Stands (entries_of start whole) o e → Stands (entries_of first whole) o e
+  pub passed : (o : ℕ) (e : List ℕ) → Stands (entries_of first whole) o e → Stands (entries_of start whole) o e ⊎ No e
+
+pub over_none : (No : List ℕ → Type 0) (first : ℕ) (whole : List ℕ) → IsOver No first first whole
+over_none No first whole = record { listed = λ o e stands. stands; passed = λ o e stands. inl stands }
+
+pub over_next : (No : List ℕ → Type 0) (first start : ℕ) (whole e : List ℕ) → IsOver No first start whole → IsNext start whole e → No e → IsOver No first (start + length e) whole
+over_next No first start whole e over next passes =
+    record {
+      listed = λ o d later. over.listed o d (rw next.first (later_element _ _ _ later));
+      passed = λ o d stands. elim (over.passed o d stands) [
+        | inr passed ↦ inr passed
+        | inl left ↦
+            elim (first_or_later _ _ _ (rw next.first at left)) [
+              | inl is ↦ inr (subst No (ap (λ (s : Standing (List ℕ)). s.entry) is) passes)
+              | inr later ↦ inl later
+            ]
+      ];
+    }
+
+pub over_here : (No : List ℕ → Type 0) (first start : ℕ) (whole e : List ℕ) → IsOver No first start whole → IsNext start whole e → Stands (entries_of first whole) start e
+over_here No first start whole e over next = over.listed start e (rw next.first (first_element _ _))
+
+pub over_all : (No : List ℕ → Type 0) (first start : ℕ) (whole : List ℕ) → IsOver No first start whole → IsEnd start whole → (o : ℕ) (e : List ℕ) → Stands (entries_of first whole) o e → No e
+over_all No first start whole over end o e stands =
+    elim (over.passed o e stands) [ inl left ↦ absurd (no_element _ (rw end.none at left)) | inr passed ↦ passed ]
