@@ -52,7 +52,7 @@ functions() {
       next
     }
     /^}/ { type = "" }
-    /^ *(pub )?fn / {
+    /^ *(pub(\([a-z]+\))? )?fn / {
       is_pub = $1 == "pub"
       has_contract = !/\{$/
       sub(/.*fn /, "")

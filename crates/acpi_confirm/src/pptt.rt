@@ -202,3 +202,6 @@ pub(crate) fn is_pptt_fault(pptt: &[u8], witness: &Witness) -> bool
         _ => false,
     }
 }
+
+#[cfg(test)]
+mod tests;
