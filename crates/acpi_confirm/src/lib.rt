@@ -4,6 +4,12 @@
 //! three numbers are. It needs no earlier stage to hold. It shares no code with the crates that check: it looks the
 //! bytes up in the image itself, and walks over the slots and the entries itself. It allocates no memory.
 //!
+//! ```rust
+//! let policy = Policy::new(alloc, 0xe0000, 24).unwrap(); // the RSDP's address, and the inputs of an I/O APIC
+//! let fault = parse_witness(b"4 NoFadt 0x0 0x0 0x0").unwrap(); // as the checker prints it
+//! assert!(rt; confirm(&image, &policy, &fault)); // the image's root is whole, and lists no FADT
+//! ```
+//!
 //! A file for each group of codes, in the order of `docs/FAULTS.md`:
 //!
 //! ```text
@@ -18,6 +24,9 @@
 //! pptt     50 to 56    the PPTT's entries, and its chains
 //! cross    57 to 59    two tables, or two kinds of entries
 //! ```
+//!
+//! `listed` finds the first listed table with a signature, `in_tables` has its bytes judged, and `entries` walks over
+//! the entries of a table.
 #![tactic(auto)]
 
 ghost use Rattle.std.specs.Prelude.{◌↔◌, IsTrue};

@@ -22,7 +22,7 @@ struct Addresses {
 
 /// Where the root is, and how wide its slots are.
 #[derive(Clone, Copy, Debug)]
-pub(crate) struct Place {
+struct Place {
     address: u64,
     /// In bytes: 8 in an XSDT, 4 in an RSDT.
     width: u32,

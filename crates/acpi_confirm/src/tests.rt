@@ -1,5 +1,5 @@
 use crate::confirm;
-use acpi_base::{Code, Image, Policy, Witness};
+use acpi_base::{Code, Image, Policy, Witness, parse_witness};
 use std::alloc::Global;
 use std::test::*;
 
@@ -56,6 +56,20 @@ fn wrong_row(image: &Image, policy: &Policy, rows: &[Row]) -> Option<Row> {
         }
     }
     None
+}
+
+// The example at the head of the crate.
+#[test]
+fn example_confirms_that_no_fadt_is_listed(rt: HostRuntime) -> Result<(), Fail> {
+    let alloc = rt.alloc();
+    let mut image = Image::new(alloc);
+    let root = table(alloc, b"RSDT", &[])?;
+    image.add(0xe0000, &RSDP).map_err(|_| "an image")?;
+    image.add(0x1000, &root).map_err(|_| "an image")?;
+    let policy = Policy::new(alloc, 0xe0000, 24).unwrap();
+    let fault = parse_witness(b"4 NoFadt 0x0 0x0 0x0").ok_or("a fault")?;
+    assert!(rt; confirm(&image, &policy, &fault));
+    Ok(())
 }
 
 #[test]

@@ -1,7 +1,5 @@
 use Rattle.std.proofs.Common.{ℕ, List}
-use Rattle.acpi_base.specs.Codes.{stage_of}
 use Rattle.acpi_base.specs.Slit.{slit_contents, SlitFault}
-use Rattle.acpi_confirm.specs.Conditions.{MadtCondition, SratCondition, PpttCondition}
 use Rattle.acpi_confirm.proofs.ListedTables.{test_of_listed, none_has_listed}
 use Rattle.acpi_confirm.proofs.in_tables.in_slit.Goals as goal
 
