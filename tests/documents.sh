@@ -54,7 +54,7 @@ functions() {
       next
     }
     /^}/ { type = "" }
-    /^ *(pub )?fn / {
+    /^ *(pub(\([a-z]+\))? )?fn / {
       is_pub = $1 == "pub"
       is_law = !/->|&mut /
       part = /[{}]$/ ? "" : "head"

@@ -106,16 +106,7 @@ stops numbers whole rise s left firsts now w here passes = at (placement_of (sra
           code = refl;
           listed = there;
           clash = (c.d, c.h, (e, stands, gives.0), (b, also, gives_too.0), c.before, c.differ);
-          first = λ p o i inside clash.
-              elim (other.first p o i (as_values numbers whole p o i inside clash)) [
-                | inl behind ↦ inl behind
-                | inr (same, least, point) ↦
-                    elim (cases_order h.first.offset o) [
-                      | inl one ↦ inr (same, inr (refl, inr (one, omega arith)))
-                      | inr (inl less) ↦ inr (same, inr (refl, inl less))
-                      | inr (inr more) ↦ absurd (omega arith)
-                    ]
-              ];
+          first = λ p o i inside clash. values.in_order code.TwoDomains s.offset h.first.offset put.processor p o i (other.first p o i (as_values numbers whole p o i inside clash));
         }
 
     at : (p : Option Placement) → placement_of (srat_entry s.entry) ≡ p → PassesPlacement numbers s.offset p firsts now (Some w) → IsFirstOtherDomain numbers (srat_contents whole) w

@@ -5,9 +5,12 @@ use Rattle.std.specs.Prelude.{◌⊎◌, ◌≢◌, slice_set}
 use Rattle.std.specs.List.{slice_get}
 use Rattle.std.proofs.lemmas.List.{get_or-replicate, get_or-set_same, length-set, length-replicate}
 use Rattle.std.proofs.lemmas.Option.{none-some, same_Some, slice_get_within, slice_get-get_or, get_or_from_slice_get}
+use Rattle.std.proofs.Math.Nat.{eq-or-lt_of_le}
 use Rattle.acpi_base.specs.Entries.{Standing, Stands, StandsWith, entries_of, said_by}
 use Rattle.acpi_base.proofs.Elements.{first_element, later_element}
 use Rattle.acpi_base.proofs.Faults.Deciding.{same}
+use Rattle.acpi_base.specs.Faults.{NotAfter}
+use Rattle.acpi_base.specs.declared.code.Code.{Code}
 use Rattle.acpi_check.specs.Firsts.{HasFirst, HasNone, IsUnlikeFirst, NotesValue}
 use Rattle.acpi_check.specs.declared.firsts.FirstValue.{FirstValue}
 use Rattle.acpi_check.proofs.Passes.{HasPassed, none_passed, one_more, before_or_behind, left_behind, next_stands, all_passed}
@@ -72,6 +75,11 @@ pub record IsOther {E : Type 0} (Gives : ℕ → ℕ → E → Type 0) (entries 
 pub record IsFirstOther {E : Type 0} (Gives : ℕ → ℕ → E → Type 0) (entries : List (Standing E)) (at other point : ℕ) : Type 0 where
   pub clash : IsOther Gives entries at other point
   pub first : (p o i : ℕ) → IsOther Gives entries p o i → (at < p) ⊎ ((at ≡ p) × (other ≤ o) × (point ≡ i))
+
+-- under one code they make the first fault
+pub in_order : (c : Code) (at other point p o i : ℕ) → (at < p) ⊎ ((at ≡ p) × (other ≤ o) × (point ≡ i)) → NotAfter (record { code = c; at = at; other = other; point = point }) (record { code = c; at = p; other = o; point = i })
+in_order c at other point p o i (inl behind) = inl behind
+in_order c at other point p o i (inr (same, most, key)) = inr (same, inr (refl, elim (eq-or-lt_of_le most) [ inl one ↦ inr (one, omega arith) | inr less ↦ inl less ]))
 
 -- ---- the pass
 
