@@ -1,6 +1,6 @@
 -- From the arguments to the exit status.
-use Rattle.std.proofs.Common.{◌≡◌, ◌≢◌, ◌≤◌, ◌+◌, ℕ, List, [], Option, Some, None, Err, length, refl, sym, subst, inl, inr, arith}
-use Rattle.std.specs.Prelude.{◌⊎◌, IfErr, IsSome, Result}
+use Rattle.std.proofs.Common.{◌≡◌, ℕ, List, [], Option, Some, None, Err, refl, sym, inl, inr, arith}
+use Rattle.std.specs.Prelude.{IsSome, Result}
 use Rattle.std.specs.Io.KnownBytes.{Consumes, Keeps}
 use Rattle.acpi_base.specs.Memory.{Memory}
 use Rattle.acpi_cli.specs.CommandLine.{Asked, Does, DoesAsked, check, find}
@@ -12,7 +12,6 @@ use Rattle.acpi_cli.specs.declared.outcome.RunFault.{RunFault}
 use Rattle.acpi_cli.specs.declared.outcome.RunFault.TheVariants as run
 use Rattle.acpi_cli.specs.declared.words.Job.{Job}
 use Rattle.acpi_cli.specs.declared.words.Job.TheVariants.{Check, Find}
-use Rattle.acpi_cli.specs.declared.words.WordFault.{WordFault}
 use Rattle.acpi_cli.specs.declared.words.WordFault.TheVariants as fault
 
 -- a job that does what is asked reports it
