@@ -9,6 +9,8 @@ use Rattle.acpi_base.specs.Codes.{stage_number}
 use Rattle.acpi_base.specs.Policy.{PolicyValue, new_policy, with_input}
 use Rattle.acpi_base.specs.declared.policy.HotPlug.{HotPlug}
 use Rattle.acpi_base.specs.declared.policy.HotPlug.TheVariants.{Apart, Counted}
+use Rattle.acpi_base.specs.declared.policy.Processors.{Processors}
+use Rattle.acpi_base.specs.declared.policy.Processors.TheVariants.{Enabled, Usable}
 use Rattle.acpi_base.specs.declared.stage.TheConstants.{BUILT}
 use Rattle.acpi_cli.specs.Words.{all_inputs, count_word, decimal_word, hex_word}
 use Rattle.acpi_cli.specs.declared.policy_words.Inputs.{Inputs}
@@ -25,15 +27,16 @@ option_rule name = record (new_rule name) { long = Some name; action = Some Set;
 abbrev pub inputs_rule : Rule
 inputs_rule = record (new_rule (codes "inputs")) { action = Some Append; value_names = 1 }
 
--- `check --rsdp HEX --through N --default-inputs N --hotplug SETTING ADDRESS=COUNT..`
+-- `check --rsdp HEX --through N --default-inputs N --hotplug SETTING --processors SETTING ADDRESS=COUNT..`
 unfoldable pub check_line : App
 check_line =
-    with_rule (with_rule (with_rule (with_rule (with_rule
+    with_rule (with_rule (with_rule (with_rule (with_rule (with_rule
     (new_app (codes "check"))
     (option_rule (codes "rsdp")))
     (option_rule (codes "through")))
     (option_rule (codes "default-inputs")))
     (option_rule (codes "hotplug")))
+    (option_rule (codes "processors")))
     inputs_rule
 
 -- `find`
@@ -106,15 +109,25 @@ hotplug_word (Some text) =
     then Some Counted
     else (if bytes_eq text (codes "apart") then Some Apart else None)
 
--- the policy with this setting for hot-pluggable ranges
-abbrev pub with_hotplug : HotPlug → PolicyValue → PolicyValue
-with_hotplug setting q = record q { hotplug = setting }
+-- `--processors enabled` or `--processors usable`: without it only processors with the flag Enabled count as enabled
+abbrev pub processors_word : Option Text → Option Processors
+processors_word None = Some Enabled
+processors_word (Some text) =
+    if bytes_eq text (codes "enabled")
+    then Some Enabled
+    else (if bytes_eq text (codes "usable") then Some Usable else None)
 
--- The policy of all words that say how to judge, where each of them is right: the inputs of I/O APICs, and the setting.
-abbrev pub policy_words : Option Text → Option Text → List Text → Option PolicyValue
-policy_words default_inputs hotplug words =
+-- the policy with these settings
+abbrev pub with_settings : HotPlug → Processors → PolicyValue → PolicyValue
+with_settings hotplug processors q = record q { hotplug = hotplug; processors = processors }
+
+-- The policy of all words that say how to judge, where each of them is right: the inputs of I/O APICs, and the settings.
+abbrev pub policy_words : Option Text → Option Text → Option Text → List Text → Option PolicyValue
+policy_words default_inputs hotplug processors words =
     option_and_then
-    (λ setting. option_map (with_hotplug setting) (inputs_policy default_inputs words))
+    (λ h. option_and_then
+    (λ p. option_map (with_settings h p) (inputs_policy default_inputs words))
+    (processors_word processors))
     (hotplug_word hotplug)
 
 -- the policy among the options of a command
@@ -123,6 +136,7 @@ policy_asked options =
     policy_words
     (first_of (codes "default-inputs") options)
     (first_of (codes "hotplug") options)
+    (first_of (codes "processors") options)
     (unwrap_or (all_of (codes "inputs") options) [])
 
 -- the options of `check`
@@ -157,13 +171,14 @@ option_words name None = []
 option_words name (Some value) = (codes "--" ++ name) ∷ value ∷ []
 
 -- `PROGRAM check`, the options that are given, and the words `ADDRESS=COUNT`
-abbrev pub check_words : Text → Option Text → Option Text → Option Text → Option Text → List Text → List Text
-check_words program rsdp through default_inputs hotplug words =
+abbrev pub check_words : Text → Option Text → Option Text → Option Text → Option Text → Option Text → List Text → List Text
+check_words program rsdp through default_inputs hotplug processors words =
     program ∷ codes "check"
     ∷ (option_words (codes "rsdp") rsdp
     ++ (option_words (codes "through") through
     ++ (option_words (codes "default-inputs") default_inputs
-    ++ (option_words (codes "hotplug") hotplug ++ words))))
+    ++ (option_words (codes "hotplug") hotplug
+    ++ (option_words (codes "processors") processors ++ words)))))
 
 -- ---- the job that carries it
 

@@ -7,7 +7,7 @@ const COMMANDS: &str = "usage:
 
   acpiset check [--rsdp HEX] [--through N]
                 [--default-inputs N] [ADDRESS=COUNT]..
-                [--hotplug counted|apart]
+                [--hotplug counted|apart] [--processors enabled|usable]
   acpiset find
 
 Both read the image of a machine's memory from standard input, as text.
@@ -33,6 +33,11 @@ const POLICY: &str = "  --default-inputs N
                (counted), or only two that are both hot-pluggable or both not
                (apart), for firmware that lays a window for hot-plugged memory
                over memory that is there; if absent, counted
+  --processors enabled|usable
+               which processors of the MADT must not lie in two domains: those
+               with the flag Enabled (enabled), or also those with the flag
+               Online Capable, which may be enabled later (usable); if absent,
+               enabled
 
 No table says how many inputs an I/O APIC has. Stages from 6 on ask for it.
 ";
@@ -54,7 +59,7 @@ For example:
 
   acpiset check --rsdp f59e0 < image.txt
   acpiset check --default-inputs 16 fec00000=32 0xfec01000=8 < image.txt
-  acpiset check --hotplug apart < image.txt
+  acpiset check --hotplug apart --processors usable < image.txt
 
 Exit statuses: 0 yes or found, 1 no or not found, 2 the arguments are refused,
 3 the text is no image, 4 out of memory, or a read or a write failed.";

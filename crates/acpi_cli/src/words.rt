@@ -44,10 +44,10 @@ pub enum WordFault {
 /// The job that the arguments `words` ask for, of which the first is the program's name.
 ///
 /// The commands are `find` and `check [--rsdp HEX] [--through N] [--default-inputs N] [--hotplug SETTING]
-/// [ADDRESS=COUNT]..`. HEX is an address of 1 to 16 hex digits, with `0x` before them or without. The N of
-/// `--through` is a stage of one or two decimal digits, from 1 to `BUILT`, which it also is if absent. The
-/// SETTING of `--hotplug` is `counted`, which it also is if absent, or `apart`: `HotPlug::Counted` or
-/// `HotPlug::Apart`.
+/// [--processors SETTING] [ADDRESS=COUNT]..`. HEX is an address of 1 to 16 hex digits, with `0x` before them
+/// or without. The N of `--through` is a stage of one or two decimal digits, from 1 to `BUILT`, which it
+/// also is if absent. The setting of `--hotplug` is `counted`, which it also is if absent, or `apart`
+/// (`HotPlug`); that of `--processors` is `enabled`, which it also is if absent, or `usable` (`Processors`).
 ///
 /// How many inputs an I/O APIC has stands in no table. The N of `--default-inputs` and COUNT are numbers
 /// of inputs of 1 to 3 decimal digits, from 1 to 256: COUNT of the I/O APIC at ADDRESS, which is 1 to 8 hex
@@ -146,10 +146,10 @@ fn last_stage(word: Option<&str>) -> Option<Stage>
 pub fn plain_lines_are_read()
     ensures built { built_stage BUILT ≡ Some BUILT }
     ensures find { (program : List ℕ) → asked (find_words program) ≡ Some Asked.find }
-    ensures check { (program : List ℕ) (hex number inputs hotplug : Option (List ℕ)) (words : List (List ℕ))
+    ensures check { (program : List ℕ) (hex number inputs hotplug processors : Option (List ℕ)) (words : List (List ℕ))
         (rsdp : Option ℕ) (policy : PolicyValue) (last : ℕ) → rsdp_word hex ≡ Some rsdp
-        → policy_words inputs hotplug words ≡ Some policy → last_word number ≡ Some last
-        → asked (check_words program hex number inputs hotplug words) ≡ Some (Asked.check rsdp policy last) }
+        → policy_words inputs hotplug processors words ≡ Some policy → last_word number ≡ Some last
+        → asked (check_words program hex number inputs hotplug processors words) ≡ Some (Asked.check rsdp policy last) }
 {}
 
 #[cfg(test)]

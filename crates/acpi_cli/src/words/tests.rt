@@ -1,7 +1,7 @@
 //! Command lines that are read, and command lines that are refused.
 
 use super::*;
-use acpi_base::HotPlug;
+use acpi_base::{HotPlug, Processors};
 use std::alloc::AllocError;
 use std::test::Fail;
 
@@ -54,7 +54,7 @@ fn lines_that_are_read(rt: HostRuntime) {
 }
 
 /// Lines that are refused.
-const REFUSED: [&str; 75] = [
+const REFUSED: [&str; 80] = [
     "acpiset",
     "acpiset ",
     "acpiset --help",
@@ -130,6 +130,11 @@ const REFUSED: [&str; 75] = [
     "acpiset check --hotplug counted,apart",
     "acpiset check --hotplug apart --hotplug counted",
     "acpiset find --hotplug apart",
+    "acpiset check --processors",
+    "acpiset check --processors Usable",
+    "acpiset check --processors apart",
+    "acpiset check --processors usable --processors usable",
+    "acpiset find --processors usable",
 ];
 
 #[test]
@@ -184,26 +189,55 @@ fn lines_that_say_how_many_inputs_there_are(rt: HostRuntime) {
     }
 }
 
-/// Lines that are read, with the setting that they give, and the number of inputs of the I/O APIC at FEC00000h.
-const SETTINGS: [(&str, HotPlug, u16); 5] = [
-    ("acpiset check", HotPlug::Counted, 24),
-    ("acpiset check --hotplug counted", HotPlug::Counted, 24),
-    ("acpiset check --hotplug apart", HotPlug::Apart, 24),
-    ("acpiset check --hotplug=apart", HotPlug::Apart, 24),
+/// Lines that are read, with the settings that they give, and the number of inputs of the I/O APIC at FEC00000h.
+const SETTINGS: [(&str, HotPlug, Processors, u16); 7] = [
+    ("acpiset check", HotPlug::Counted, Processors::Enabled, 24),
+    (
+        "acpiset check --hotplug counted --processors enabled",
+        HotPlug::Counted,
+        Processors::Enabled,
+        24,
+    ),
+    (
+        "acpiset check --hotplug apart",
+        HotPlug::Apart,
+        Processors::Enabled,
+        24,
+    ),
+    (
+        "acpiset check --hotplug=apart",
+        HotPlug::Apart,
+        Processors::Enabled,
+        24,
+    ),
+    (
+        "acpiset check --processors usable",
+        HotPlug::Counted,
+        Processors::Usable,
+        24,
+    ),
+    (
+        "acpiset check --processors usable --hotplug apart",
+        HotPlug::Apart,
+        Processors::Usable,
+        24,
+    ),
     (
         "acpiset check fec00000=32 --hotplug apart --default-inputs 16",
         HotPlug::Apart,
+        Processors::Enabled,
         32,
     ),
 ];
 
 #[test]
-fn lines_that_say_which_ranges_must_not_overlap(rt: HostRuntime) {
-    for (line, hotplug, count) in SETTINGS {
+fn lines_that_give_settings(rt: HostRuntime) {
+    for (line, hotplug, processors, count) in SETTINGS {
         let Job::Check { policy, .. } = read(rt.alloc(), line).expect(&rt, line) else {
             panic!(rt; "{line}");
         };
         assert_eq!(rt; policy.hotplug(), hotplug, "{line}");
+        assert_eq!(rt; policy.processors(), processors, "{line}");
         assert_eq!(rt; policy.inputs_of(0xfec0_0000), count, "{line}");
     }
 }
@@ -295,6 +329,10 @@ fn what_is_wrong_with_a_line(rt: HostRuntime) {
         (
             "acpiset check --hotplug both",
             "--hotplug 'both': hot-pluggable ranges are counted or apart",
+        ),
+        (
+            "acpiset check --processors online",
+            "--processors 'online': processors are enabled or usable",
         ),
         // The first wrong word is named, and an option before any word.
         (

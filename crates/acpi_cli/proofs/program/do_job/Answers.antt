@@ -1,4 +1,4 @@
-use Rattle.acpi_cli.proofs.do_job.Goals as goal
+use Rattle.acpi_cli.proofs.program.do_job.Goals as goal
 
 pub returns-in-Check : goal.returns-in-Check
 returns-in-Check g c = rw (c.in-Check.is) (c.run_check.ensures)
