@@ -6,7 +6,7 @@ use Rattle.std.specs.Prelude.{option_and_then}
 use Rattle.clap.specs.Words.{Text}
 use Rattle.acpi_base.specs.declared.policy.HotPlug.{HotPlug}
 use Rattle.acpi_base.specs.declared.policy.Processors.{Processors}
-use Rattle.acpi_cli.specs.CommandLine.{built_stage, hotplug_word, last_word, processors_word}
+use Rattle.acpi_cli.specs.CommandLine.{hotplug_word, last_word, processors_word, stage_of_number}
 use Rattle.acpi_cli.specs.Words.{all_inputs, count_word, hex_word, inputs_word}
 use Rattle.acpi_cli.proofs.Spellings.{spelling}
 use Rattle.acpi_cli.proofs.InputsWords.{more_inputs}
@@ -43,7 +43,7 @@ hex_is_plain most hex n e = plain_if_read (hex_word most) hex n refl (λ rest. n
 
 -- nor does the number of a stage
 pub stage_is_plain : (number : Text) (n : ℕ) → last_word (Some number) ≡ Some n → IsPlain number
-stage_is_plain number n e = plain_if_read (λ text. last_word (Some text)) number n refl (λ rest. ap (option_and_then built_stage) (no_number _ _ _)) e
+stage_is_plain number n e = plain_if_read (λ text. last_word (Some text)) number n refl (λ rest. ap (option_and_then stage_of_number) (no_number _ _ _)) e
 
 -- nor a count of inputs
 pub count_is_plain : (number : Text) (n : ℕ) → count_word number ≡ Some n → IsPlain number

@@ -25,14 +25,14 @@ reports_asked find (Check given held stage) does m bytes returned reports = absu
 reports_asked find Find does m bytes returned reports = reports
 
 -- so an engine that does the job does what is asked
-pub obeyed : (a : Option Asked) (job : Job) (input output : Device) (result : Result Outcome RunFault) → DoesAsked a job
-    → Runs (ReportsJob job) input output result → Obeys a input output (exit_status result)
-obeyed None job input output result does runs = absurd does
-obeyed (Some what) job input output result does runs = elim runs [
+pub obeyed : (a : Option Asked) (job : Job) (input output : Device) (result : Result Outcome RunFault) (status : ℕ) → DoesAsked a job
+    → Runs (ReportsJob job) input output result → status ≡ exit_status result → Obeys a input output status
+obeyed None job input output result status does runs e = absurd does
+obeyed (Some what) job input output result status does runs e = elim runs [
   | inl ended ↦
       let reports = reports_asked what job does ended.0 ended.1.0 ended.1.1.0 ended.1.1.1.1.0 in
-      (result, inl (ended.0, ended.1.0, ended.1.1.0, ended.1.1.1.0, reports, ended.1.1.1.1.1), refl)
-  | inr gave_up ↦ (result, inr gave_up, refl)
+      (result, inl (ended.0, ended.1.0, ended.1.1.0, ended.1.1.1.0, reports, ended.1.1.1.1.1), e)
+  | inr gave_up ↦ (result, inr gave_up, e)
 ]
 
 -- arguments that are refused ask for nothing
@@ -40,7 +40,12 @@ pub refused : (a : Option Asked) (input output : Device) (status : ℕ) → (IsS
     → status ≡ 2 → Obeys a input output status
 refused None input output status asks nothing_read nothing_written e = (nothing_read, nothing_written, inl e)
 refused (Some what) input output status asks nothing_read nothing_written e =
-    let same = asks tt in absurd (cc)
+    let same = asks refl in absurd (cc)
+
+-- what is not touched keeps its bytes
+pub keeps_all : (bytes : Option (List ℕ)) → Keeps bytes bytes
+keeps_all None = tt
+keeps_all (Some xs) = refl
 
 -- nothing was consumed of what was not touched
 consumes_nothing : (before after : Option (List ℕ)) → Keeps before after → Consumes before after []

@@ -1,5 +1,5 @@
 -- The command line as it is declared to `clap`, and what its arguments ask for.
-use Rattle.std.specs.Prelude.{◌≡◌, ◌≤◌, ◌==◌, ℕ, ◌&&◌, Bool, true, false, List, [], ◌∷◌, ◌++◌, Option, Some, None}
+use Rattle.std.specs.Prelude.{◌≡◌, ◌==◌, ℕ, ◌&&◌, Bool, true, false, List, [], ◌∷◌, ◌++◌, Option, Some, None}
 use Rattle.std.specs.Prelude.{if◌then◌else◌, codes, find as find_first, fold, nat_le, option_and_then, option_map, unwrap_or}
 use Rattle.std.specs.Str.{bytes_eq}
 use Rattle.clap.specs.Words.{App, Kinds, Row, Rule, Text, all_of, fault_of, first_of, new_app, new_rule}
@@ -11,7 +11,6 @@ use Rattle.acpi_base.specs.declared.policy.HotPlug.{HotPlug}
 use Rattle.acpi_base.specs.declared.policy.HotPlug.TheVariants.{Apart, Counted}
 use Rattle.acpi_base.specs.declared.policy.Processors.{Processors}
 use Rattle.acpi_base.specs.declared.policy.Processors.TheVariants.{Enabled, Usable}
-use Rattle.acpi_base.specs.declared.stage.TheConstants.{BUILT}
 use Rattle.acpi_cli.specs.Words.{all_inputs, count_word, decimal_word, hex_word}
 use Rattle.acpi_cli.specs.declared.policy_words.Inputs.{Inputs}
 use Rattle.acpi_cli.specs.declared.words.Job.{Job}
@@ -71,14 +70,14 @@ abbrev pub rsdp_word : Option Text → Option (Option ℕ)
 rsdp_word None = Some None
 rsdp_word (Some text) = option_map (λ address. Some address) (hex_word 16 text)
 
--- the number of a stage that is built
-abbrev pub built_stage : ℕ → Option ℕ
-built_stage n = if nat_le 1 n && nat_le n BUILT then Some n else None
+-- the number of a stage
+abbrev pub stage_of_number : ℕ → Option ℕ
+stage_of_number n = if nat_le 1 n && nat_le n 18 then Some n else None
 
--- `--through N`: without it the last stage that is built
+-- `--through N`: without it the last of all stages
 abbrev pub last_word : Option Text → Option ℕ
-last_word None = Some BUILT
-last_word (Some text) = option_and_then built_stage (decimal_word 2 text)
+last_word None = Some 18
+last_word (Some text) = option_and_then stage_of_number (decimal_word 2 text)
 
 -- `--default-inputs N`: without it an I/O APIC has 24 inputs
 abbrev pub default_word : Option Text → Option ℕ
@@ -187,11 +186,6 @@ Does (check rsdp policy last) (Check given held stage) =
     (given ≡ rsdp) × (held ≡ policy) × (stage_number stage ≡ last)
 Does find Find = Unit {0}
 Does _ _ = ⊥
-
--- the job's stages are built
-abbrev pub IsBuilt : Job → Type 0
-IsBuilt (Check given policy stage) = stage_number stage ≤ BUILT
-IsBuilt Find = Unit {0}
 
 -- the job does what is asked, and something is asked
 abbrev pub DoesAsked : Option Asked → Job → Type 0

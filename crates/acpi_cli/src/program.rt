@@ -2,7 +2,7 @@
 
 ghost use Rattle.std.specs.Prelude.{◌≡◌, map};
 ghost use Rattle.std.specs.String.{string_bytes};
-ghost use Rattle.acpi_cli.specs.CommandLine.{IsBuilt, asked};
+ghost use Rattle.acpi_cli.specs.CommandLine.{asked};
 ghost use Rattle.acpi_cli.specs.Engine.{device, Runs, ReportsJob};
 ghost use Rattle.acpi_cli.specs.Program.{Obeys};
 
@@ -27,7 +27,7 @@ const OUT_OF_MEMORY: u8 = 4;
 /// 4. Where they ask for none, or ask for help, nothing is read or written, and the status is 2; where memory runs out
 /// while they are read, nothing is read or written either, and the status is 4. Why the program gave up is reported on
 /// `errors`; a failed write there changes nothing else.
-#[tactic(auto, using(crate::proofs::Statuses::obeyed, crate::proofs::Statuses::refused, crate::proofs::Statuses::starved))]
+#[tactic(auto, using(crate::proofs::Statuses::refused))]
 pub fn obey<R: Read, W: Write, E: Write>(
     alloc: Global,
     reader: &mut Tally<R>,
@@ -58,7 +58,6 @@ pub fn do_job<R: Read, W: Write>(
     writer: &mut Tally<W>,
     job: Job,
 ) -> Result<Outcome, RunFault>
-    requires { IsBuilt job }
     ensures { Runs (ReportsJob job) (device R.remaining reader.old reader.new) (device W.contents writer.old writer.new) result }
 {
     match job {

@@ -4,10 +4,6 @@ mod builder;
 mod fadts;
 mod madts;
 
-ghost use Rattle.std.specs.Prelude.{◌≤◌};
-ghost use Rattle.acpi_base.specs.Codes.{stage_number};
-ghost use Rattle.acpi_base.specs.declared.stage.TheConstants.{BUILT};
-
 use crate::check::run_check;
 use crate::find::run_find;
 use crate::outcome::{Outcome, RunFault, status_of};
@@ -30,9 +26,7 @@ fn checked(
     text: &[u8],
     rsdp: Option<u64>,
     last: Stage,
-) -> Result<(Result<Outcome, RunFault>, Vec<u8>), Fail>
-    requires { stage_number last ≤ BUILT }
-{
+) -> Result<(Result<Outcome, RunFault>, Vec<u8>), Fail> {
     let policy = Policy::new(alloc, 0, 24).map_err(|_| "a policy")?;
     checked_with(alloc, text, rsdp, policy, last)
 }
@@ -44,9 +38,7 @@ fn checked_with(
     rsdp: Option<u64>,
     policy: Policy,
     last: Stage,
-) -> Result<(Result<Outcome, RunFault>, Vec<u8>), Fail>
-    requires { stage_number last ≤ BUILT }
-{
+) -> Result<(Result<Outcome, RunFault>, Vec<u8>), Fail> {
     let mut reader = Tally::new(text);
     let mut writer = Tally::new(Vec::new(alloc));
     let result = run_check(alloc, &mut reader, &mut writer, rsdp, policy, last);
@@ -61,9 +53,7 @@ fn expect_check(
     last: Stage,
     status: u8,
     line: &str,
-) -> Result<(), Fail>
-    requires { stage_number last ≤ BUILT }
-{
+) -> Result<(), Fail> {
     let (result, written) = checked(alloc, text, Some(0xe0000), last)?;
     assert_eq!(rt; written.as_slice(), line.as_bytes(), "{line}");
     assert_eq!(rt; status_of(&result), status, "{line}");

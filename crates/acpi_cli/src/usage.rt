@@ -1,6 +1,6 @@
 //! What a user reads whose arguments are refused, or who asks for help.
 
-use acpi_base::{BUILT, Stage};
+use acpi_base::Stage;
 use std::fmt;
 
 const COMMANDS: &str = "usage:
@@ -64,7 +64,7 @@ For example:
 Exit statuses: 0 yes or found, 1 no or not found, 2 the arguments are refused,
 3 the text is no image, 4 out of memory, or a read or a write failed.";
 
-/// The usage of the program, with the stages that are built. It ends without a line end, and takes no
+/// The usage of the program, with all stages. It ends without a line end, and takes no
 /// memory to print.
 #[derive(Clone, Copy, Debug)]
 pub struct Usage;
@@ -72,11 +72,12 @@ pub struct Usage;
 impl fmt::Display for Usage {
     fn fmt<W: fmt::Write>(&self, f: &mut fmt::Formatter<W>) -> fmt::Result {
         f.write_str(COMMANDS)?;
+        let last = Stage::Leaves.number();
         writeln!(
             f,
-            "  --through N  the last stage to check, 1 to {BUILT}, and {BUILT} if absent:"
+            "  --through N  the last stage to check, 1 to {last}, and {last} if absent:"
         )?;
-        for number in 1..=BUILT {
+        for number in 1..=last {
             if let Some(stage) = Stage::new(number) {
                 writeln!(f, "{number:>17} {}", subject(stage))?;
             }
