@@ -69,8 +69,7 @@ functions() {
 }
 
 # Exported functions that need no edit: CRATE FUNCTION, and the reason. Texts that only people read belong here too.
-aside='acpi_base Image_numbers_fit states a law, and its body does nothing
-acpi_base built_stages states a law, and its body does nothing'
+aside='acpi_base Image_numbers_fit states a law, and its body does nothing'
 
 for crate in $(sed -n 's/^\([a-z_]*\):.*/\1/p' crates.txt); do
   all=$(functions "$crate")
@@ -82,14 +81,14 @@ for crate in $(sed -n 's/^\([a-z_]*\):.*/\1/p' crates.txt); do
 done
 
 # ---- the documents
-last=$(sed -n 's/^pub const BUILT: u8 = \([0-9]*\);$/\1/p' crates/acpi_base/src/stage.rt)
-stages=$(sed -n 's/^stage_number stage\.\([A-Za-z]*\) = \([0-9]*\)$/\1 \2/p' crates/acpi_base/specs/Codes.antt | awk -v last="$last" '$2 <= last { print $1 }')
-codes=$(while read -r stage; do sed -n "s/^stage_of code\.\([A-Za-z]*\) = stage\.$stage\$/\1/p" crates/acpi_base/specs/Codes.antt; done <<<"$stages")
-numbered=$(while read -r code; do sed -n "s/^code_number code\.\($code\) = \([0-9]*\)\$/\2 \1/p" crates/acpi_base/specs/Codes.antt; done <<<"$codes")
+codes=$(sed -n 's/^code_number code\.\([A-Za-z]*\) = \([0-9]*\)$/\2 \1/p' crates/acpi_base/specs/Codes.antt)
 described=$(sed -n 's/^### \([0-9]* [A-Za-z]*\)$/\1/p' docs/FAULTS.md)
-same 'codes of built stages (<) and parts of FAULTS.md (>)' "$numbered" "$described"
-listed=$(sed -n 's/^| \([0-9]*\) | .* | yes |$/\1/p' docs/FAULTS.md)
-same 'stages that are built (<) and those that FAULTS.md lists as built (>)' "$(seq 1 "$last")" "$listed"
+same 'codes (<) and parts of FAULTS.md (>)' "$codes" "$described"
+stages=$(sed -n 's/^stage_number stage\.[A-Za-z]* = \([0-9]*\)$/\1/p' crates/acpi_base/specs/Codes.antt)
+listed=$(sed -n 's/^| \([0-9]*\) | .* | [0-9to, ]* |$/\1/p' docs/FAULTS.md)
+same 'stages (<) and those that FAULTS.md lists (>)' "$stages" "$listed"
+headline=$(sed -n '/^## The headline$/,/^## /{/^```rust$/,/^```$/p}' README.md | grep -v '^```')
+count 'the contract of check in README, if it is not that of the function' "$(grep -qF "$headline" <(sed -n '/^pub fn check(/,/^{$/p' crates/acpi_check/src/check.rt) || echo "$headline")"
 
 paths=$(cat README.md docs/*.md | grep -o '`\(crates\|docs\|tests\|bench\)/[A-Za-z0-9_./-]*[A-Za-z0-9_]`' | tr -d '`' | sort -u)
 there=$(while read -r path; do [ -e "$path" ] && printf '%s\n' "$path"; done <<<"$paths")
