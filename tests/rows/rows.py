@@ -59,12 +59,96 @@ row("a part of X_FIRMWARE_CTRL", image_of(fadt(length=139, _132=b"\1" * 7)), "ye
 row("a reset register of no width", image_of(fadt(REDUCED | RESET_REG_SUP, 276)), "no 4 ResetRegister 0x74 0x0 0x0")
 row("a FADT that ends before the reset register", image_of(fadt(REDUCED | RESET_REG_SUP)), "yes")
 
+# ---- one piece changed
+# Sets of full hardware, by an RSDT and by an XSDT. Nothing lists the table at 3000h, which is too short for a FADT.
+SHORT = {0x3000: table(b"FACP", b"")}
+BY_RSDT = {**FULL, **SHORT}
+BY_XSDT = {RSDP_AT: extended_rsdp(), XSDT_AT: xsdt(TABLES_AT), TABLES_AT: full_fadt(), FACS_AT: facs(), **SHORT}
+
+
+def changed_row(answer, pieces, at, changes, *sums):
+    """A set with the piece at this address changed."""
+    name = ", ".join(f"{offset}: {byte:02x}" for offset, byte in changes.items())
+    row(f"the piece at {at:x} with {name}, sums {sums}", {**pieces, at: changed(pieces[at], changes, *sums)}, answer)
+
+
+def rsdp_row(answer, changes, *sums):
+    changed_row(answer, BY_RSDT, RSDP_AT, changes, *sums)
+
+
+def extended_row(answer, changes, *sums):
+    changed_row(answer, BY_XSDT, RSDP_AT, changes, *sums)
+
+
+def rsdt_row(answer, changes, *sums):
+    changed_row(answer, BY_RSDT, RSDT_AT, changes, *sums)
+
+
+def fadt_row(answer, changes, *sums):
+    changed_row(answer, BY_RSDT, TABLES_AT, changes, *sums)
+
+
+def facs_row(answer, changes):
+    changed_row(answer, BY_RSDT, FACS_AT, changes)
+
+
+row("by an RSDT", BY_RSDT, "yes")
+row("by an XSDT", BY_XSDT, "yes")
+rsdp_row("no 1 RsdpSignature 0xe0000 0x0 0x0", {0: 0x72}, (8, 20))
+rsdp_row("no 1 RsdpSignature 0xe0000 0x0 0x0", {0: 0x72})
+rsdp_row("no 1 RsdpSum 0xe0000 0x0 0x0", {8: 0x4A})
+rsdp_row("yes", {15: 1}, (8, 20))
+rsdp_row("no 1 RsdpTailOut 0xe0000 0x0 0x0", {15: 2}, (8, 20))
+extended_row("yes", {15: 0xFF}, (8, 20))
+extended_row("no 1 RsdpLength 0xe0000 0x0 0x0", {20: 35}, (32, 36))
+extended_row("no 1 RsdpLongOut 0xe0000 0x0 0x0", {20: 37}, (32, 36))
+extended_row("no 1 RsdpExtendedSum 0xe0000 0x0 0x0", {32: 0xCC})
+LONG_RSDP = changed(extended_rsdp() + b"\1\2\3\4", {20: 40}, (32, 40))
+row("an RSDP of 40 bytes", {**BY_XSDT, RSDP_AT: LONG_RSDP}, "yes")
+rsdp_row("no 2 NoRoot 0xe0000 0x0 0x0", {17: 0}, (8, 20))
+rsdp_row("no 2 RootHeaderOut 0x4000 0x0 0x0", {17: 0x40}, (8, 20))
+extended_row("no 2 RootHeaderOut 0x1000 0x0 0x0", {25: 0}, (32, 36))
+rsdt_row("no 2 RootSignature 0x1000 0x0 0x0", {0: ord("X")}, (9, 40))
+changed_row("no 2 RootSignature 0x1100 0x0 0x0", BY_XSDT, XSDT_AT, {0: ord("R")}, (9, 44))
+rsdt_row("no 2 RootLength 0x1000 0x0 0x0", {4: 35}, (9, 35))
+rsdt_row("no 2 RootOut 0x1000 0x0 0x0", {4: 41})
+rsdt_row("no 2 RootRagged 0x1000 0x0 0x0", {4: 39}, (9, 39))
+rsdt_row("no 2 RootSum 0x1000 0x0 0x0", {9: 0xE7})
+rsdt_row("no 3 TableHeaderOut 0x0 0x4000 0x0", {37: 0x40}, (9, 40))
+fadt_row("no 3 TableLength 0x0 0x2000 0x0", {4: 35}, (9, 35))
+fadt_row("no 3 TableOut 0x0 0x2000 0x0", {4: 117})
+fadt_row("no 3 TableSum 0x0 0x2000 0x0", {9: 0x64})
+row("a second table that is not there", {**BY_RSDT, RSDT_AT: rsdt(0x2000, 0x4000)}, "no 3 TableHeaderOut 0x1 0x4000 0x0")
+fadt_row("no 4 NoFadt 0x0 0x0 0x0", {0: ord("f")}, (9, 116))
+fadt_row("no 4 FadtShort 0x0 0x0 0x0", {4: 115}, (9, 115))
+row("a second FADT, which is too short", {**BY_RSDT, RSDT_AT: rsdt(0x2000, 0x3000)}, "yes")
+row("a first FADT that is too short", {**BY_RSDT, RSDT_AT: rsdt(0x3000, 0x2000)}, "no 4 FadtShort 0x0 0x0 0x0")
+fadt_row("no 4 PmEventLength 0x58 0x0 0x0", {88: 3}, (9, 116))
+fadt_row("no 4 PmControlLength 0x59 0x0 0x0", {89: 1}, (9, 116))
+fadt_row("no 4 PmTimerLength 0x5b 0x0 0x0", {91: 3}, (9, 116))
+fadt_row("yes", {91: 0}, (9, 116))
+fadt_row("no 4 GpeLength 0x5c 0x0 0x0", {92: 1, 93: 1}, (9, 116))
+fadt_row("no 4 GpeLength 0x5d 0x0 0x0", {93: 1}, (9, 116))
+# reduced hardware has none of these
+fadt_row("yes", {88: 0, 89: 0, 91: 3, 92: 1, 114: 0x10}, (9, 116))
+for space, width, answer in ((1, 8, "yes"), (3, 8, "no 4 ResetRegister 0x74 0x0 0x0"), (1, 16, "no 4 ResetRegister 0x74 0x0 0x0")):
+    register = bytes([space, width, 0, 0]) + bytes(8)
+    resettable = full_fadt(length=129, _113=b"\4", _116=register)
+    row(f"a reset register of {width} bits in the space {space}", {**BY_RSDT, TABLES_AT: resettable}, answer)
+fadt_row("no 5 NoFacs 0x0 0x0 0x0", {37: 0}, (9, 116))
+fadt_row("no 5 FacsAlign 0x7020 0x0 0x0", {36: 0x20}, (9, 116))
+fadt_row("no 5 FacsHeaderOut 0x8000 0x0 0x0", {37: 0x80}, (9, 116))
+facs_row("no 5 FacsSignature 0x7000 0x0 0x0", {0: ord("f")})
+facs_row("no 5 FacsLength 0x7000 0x0 0x0", {4: 63})
+facs_row("no 5 FacsOut 0x7000 0x0 0x0", {4: 65})
+
 # ---- the MADT's entries
 row("a MADT of its fixed fields", image_of(fadt(), madt()), "yes")
 row("a MADT of 40 bytes", image_of(fadt(), table(b"APIC", bytes(4))), "no 6 MadtShort 0x0 0x0 0x0")
 row("one byte behind the last entry", image_of(fadt(), madt(lapic(0, 0), b"\7")), "no 6 MadtEntryCut 0x34 0x0 0x0")
 row("an entry of length 0", image_of(fadt(), madt(b"\0\0")), "no 6 MadtEntryCut 0x2c 0x0 0x0")
 row("an entry of length 0 behind another", image_of(fadt(), madt(lapic(0, 0), b"\7\0")), "no 6 MadtEntryCut 0x34 0x0 0x0")
+row("an entry that goes past the table", image_of(fadt(), madt(lapic(0, 0), b"\0\11" + bytes(6))), "no 6 MadtEntryCut 0x34 0x0 0x0")
 row("an entry of length 1", image_of(fadt(), madt(b"\0\1")), "no 6 MadtEntryCut 0x2c 0x0 0x0")
 row("a local APIC of 12 bytes", image_of(fadt(), madt(bytes([0, 12]) + bytes(10))), "no 6 MadtEntryLength 0x2c 0x0 0x0")
 row("an entry of a type that no rule names", image_of(fadt(), madt(bytes([11, 80]) + bytes(78))), "yes")
@@ -75,6 +159,8 @@ row("a reserved polarity of an NMI source", image_of(fadt(), madt(nmi_source(9, 
 row("a reserved polarity of a local APIC NMI", image_of(fadt(), madt(lapic_nmi(255, 1, 0b0010))), "no 6 ReservedInti 0x2c 0x0 0x0")
 row("a reserved polarity of an x2APIC NMI", image_of(fadt(), madt(x2apic_nmi(0, 1, 0b0010))), "no 6 ReservedInti 0x2c 0x0 0x0")
 row("an override of another bus", image_of(fadt(), madt(override(9, 9, 0b0010, bus=1))), "no 6 OverrideBus 0x2c 0x0 0x0")
+THREE_ADDRESSES = [lapic_nmi(255, 1), lapic_address(0), lapic(0, 0), lapic_address(0), lapic_address(0)]
+row("three addresses of the local APICs", image_of(fadt(), madt(*THREE_ADDRESSES)), "no 6 SecondAddressOverride 0x46 0x32 0x0")
 row("two addresses of the local APICs", image_of(fadt(), madt(lapic_address(0), lapic_address(0))), "no 6 SecondAddressOverride 0x38 0x2c 0x0")
 HIGH = image_of(fadt(), madt(io_apic(0xFEC00000, 0xFFFFFFF0)))
 row("interrupt numbers up to 2^32", HIGH, "yes", "--default-inputs 16")
@@ -90,7 +176,26 @@ TWO_IO_APICS = image_of(fadt(), madt(io_apic(0xFEC00000, 0), io_apic(0xFEC01000,
 row("two I/O APICs", TWO_IO_APICS, "yes")
 row("two I/O APICs, the first one with 32 inputs", TWO_IO_APICS, "no 7 GsiClash 0x2c 0x38 0x18", "fec00000=32")
 row("the first count of an address stands", TWO_IO_APICS, "no 7 GsiClash 0x2c 0x38 0x18", "fec00000=32 fec00000=24")
+row("interrupt numbers that touch", image_of(fadt(), madt(io_apic(0xFEC10000, 144), io_apic(0xFEC80000, 24), io_apic(0xFEC00000, 0))), "yes", "fec80000=120")
+row("the last interrupt numbers", image_of(fadt(), madt(io_apic(0xFEC00000, 2**32 - 24), io_apic(0xFEC10000, 2**32 - 48))), "yes")
+for bases, words, clash in (
+    ((0, 23), "", "0x2c 0x38 0x17"),
+    ((23, 0), "", "0x38 0x2c 0x17"),
+    ((60, 0, 23), "", "0x38 0x44 0x17"),
+    ((143, 0, 24), "fec20000=120", "0x44 0x2c 0x8f"),
+    # not neighbours in the table
+    ((100, 0, 110), "", "0x2c 0x44 0x6e"),
+    ((10, 8, 9), "", "0x38 0x44 0x9"),
+    ((5, 5, 5), "", "0x2c 0x38 0x5"),
+    # all three serve 20, and the two that begin first are reported
+    ((20, 20, 0), "", "0x44 0x2c 0x14"),
+    ((2**32 - 24, 2**32 - 47), "", "0x38 0x2c 0xffffffe8"),
+):
+    io_apics = [io_apic(0xFEC00000 + 0x10000 * place, base) for place, base in enumerate(bases)]
+    row(f"I/O APICs from {bases} on", image_of(fadt(), madt(*io_apics)), f"no 7 GsiClash {clash}", words)
 row("two numbers of one source", image_of(fadt(), madt(override(9, 9), override(9, 20))), "no 8 OverrideClash 0x36 0x2c 0x9")
+SIX_OVERRIDES = [override(9, 20), override(0, 2), override(9, 20), override(9, 9), override(0, 2), override(9, 9)]
+row("the first of six overrides", image_of(fadt(), madt(*SIX_OVERRIDES)), "no 8 OverrideClash 0x4a 0x2c 0x9")
 row("one override twice", image_of(fadt(), madt(override(9, 9), override(9, 9))), "yes")
 
 # ---- the SRAT's entries
@@ -99,17 +204,26 @@ row("ranges that are apart, one of them empty", image_of(fadt(), srat(*RANGES)),
 row("an SRAT of 44 bytes", image_of(fadt(), table(b"SRAT", bytes(8))), "no 9 SratShort 0x0 0x0 0x0")
 row("half an SRAT entry", image_of(fadt(), srat(memory(0, 0)[:20])), "no 9 SratEntryCut 0x30 0x0 0x0")
 row("a range of 24 bytes", image_of(fadt(), srat(bytes([1, 24]) + bytes(22))), "no 9 SratEntryLength 0x30 0x0 0x0")
+row("a byte behind the last SRAT entry", image_of(fadt(), srat(b"\3\2", b"\0")), "no 9 SratEntryCut 0x32 0x0 0x0")
+row("the first of two wrong lengths", image_of(fadt(), srat(x2apic_domain(0, 0), b"\3\3\0", b"\0\17" + bytes(13), b"\1\2")), "no 9 SratEntryLength 0x4b 0x0 0x0")
 row("an SRAT entry of a type that no rule names", image_of(fadt(), srat(bytes([3, 20]) + bytes(18))), "yes")
 row("a range up to 2^64", image_of(fadt(), srat(memory(0xFFFFFFFFFFFFF000, 0x1000))), "yes")
 row("a range past 2^64", image_of(fadt(), srat(memory(0xFFFFFFFFFFFFF000, 0x1001))), "no 9 RangePastEnd 0x30 0x0 0x0")
 row("the longest range, from 1", image_of(fadt(), srat(memory(1, 2**64 - 1))), "yes")
 row("the longest range, from 2", image_of(fadt(), srat(memory(2, 2**64 - 1))), "no 9 RangePastEnd 0x30 0x0 0x0")
+row("the third range goes past 2^64", image_of(fadt(), srat(memory(2, 2**64 - 1, 0), memory(2, 2**64 - 1, 2), memory(2, 2**64 - 1, 3))), "no 9 RangePastEnd 0x80 0x0 0x0")
 row("a range past 2^64 that is not enabled", image_of(fadt(), srat(memory(2, 2**64 - 1, flags=0))), "yes")
 
 # ---- memory ranges
 OVERLAP = image_of(fadt(), srat(*RANGES, memory(0x3FFFFFFF, 0x1000)))
 row("two ranges that share an address", OVERLAP, "no 10 Overlap 0x80 0xa8 0x3fffffff")
 row("the least address of three overlaps", image_of(fadt(), srat(memory(0x1000, 0x2000), memory(0, 0x2000), memory(0x1000, 0x800))), "no 10 Overlap 0x58 0x30 0x1000")
+row("ranges that touch, in no order", image_of(fadt(), srat(memory(16, 16), memory(0, 16), memory(32, 8))), "yes")
+row("a range inside the first, behind another", image_of(fadt(), srat(memory(0, 64), memory(100, 1), memory(8, 4))), "no 10 Overlap 0x30 0x80 0x8")
+row("ranges that are not enabled", image_of(fadt(), srat(memory(0, 16), memory(0, 16, 0), memory(0, 16, 2))), "yes")
+row("empty ranges inside another", image_of(fadt(), srat(memory(0, 16), memory(8, 0), memory(8, 0))), "yes")
+row("the last and the first addresses", image_of(fadt(), srat(memory(2**64 - 0x1000, 0x1000), memory(0, 0x1000))), "yes")
+row("the last address", image_of(fadt(), srat(memory(2**64 - 0x1000, 0x1000), memory(2**64 - 1, 1))), "no 10 Overlap 0x30 0x58 0xffffffffffffffff")
 TWO_SRATS = image_of(fadt(), srat(memory(0, 0x1000)), srat(memory(0, 0x2000), memory(0, 0x2000)))
 row("an overlap in a second SRAT", TWO_SRATS, "yes")
 WINDOW = image_of(fadt(), srat(memory(0, 0x80000000), memory(0, 0x100000000, 3)))
@@ -124,6 +238,17 @@ for name, pieces, answer in (
     row(f"{name}, counted", pieces, "no 10 Overlap 0x30 0x58 0x0", "--hotplug counted")
     row(f"{name}, apart", pieces, answer, "--hotplug apart")
 
+for ranges, overlap in (
+    # each is a base, a length and flags; windows have flags of 3
+    (((0, 9, 3), (4, 9, 1), (8, 9, 3)), "0x30 0x80 0x8"),
+    (((0, 9, 1), (4, 9, 3), (8, 9, 1)), "0x30 0x80 0x8"),
+    (((0, 9, 1), (0, 9, 3), (8, 1, 1), (7, 1, 3)), "0x58 0xa8 0x7"),
+    (((0, 9, 3), (0, 9, 1), (8, 1, 3), (7, 1, 1)), "0x58 0xa8 0x7"),
+    (((0, 9, 3), (0, 9, 1), (8, 1, 3), (8, 1, 1)), "0x58 0xa8 0x8"),
+):
+    entries = [memory(*numbers) for numbers in ranges]
+    row(f"ranges {ranges}", image_of(fadt(), srat(*entries)), f"no 10 Overlap {overlap}", "--hotplug apart")
+
 # ---- the SLIT
 row("no localities", image_of(fadt(), slit(0)), "yes")
 row("one locality", image_of(fadt(), slit(1, [10])), "yes")
@@ -131,6 +256,9 @@ row("a SLIT of 40 bytes", image_of(fadt(), table(b"SLIT", bytes(4))), "no 11 Sli
 row("2^32 localities, whose square is 0 in 64 bits", image_of(fadt(), slit(2**32)), "no 11 SlitSize 0x24 0x0 0x0")
 row("2^64 - 1 localities", image_of(fadt(), slit(2**64 - 1)), "no 11 SlitSize 0x24 0x0 0x0")
 row("a locality at 11 from itself", image_of(fadt(), slit(2, [11, 20, 20, 10])), "no 11 SlitDiagonal 0x2c 0x0 0x0")
+row("the second locality at 11 from itself", image_of(fadt(), slit(2, [10, 20, 20, 11])), "no 11 SlitDiagonal 0x2f 0x0 0x0")
+row("a distance of 9 in the second row", image_of(fadt(), slit(2, [10, 20, 9, 10])), "no 11 SlitLow 0x2e 0x0 0x0")
+row("a cell too few", image_of(fadt(), slit(2, [10, 20, 20])), "no 11 SlitSize 0x24 0x0 0x0")
 row("a distance of 9", image_of(fadt(), slit(2, [10, 9, 20, 10])), "no 11 SlitLow 0x2d 0x0 0x0")
 row("a locality at 9 from itself", image_of(fadt(), slit(2, [9, 20, 20, 10])), "no 11 SlitDiagonal 0x2c 0x0 0x0")
 row("a locality out of reach", image_of(fadt(), slit(2, [10, 255, 255, 10])), "yes")
@@ -150,10 +278,18 @@ row("the last but one of three resources", image_of(fadt(), pptt(node(resources=
 row("a next level inside its own cache", image_of(fadt(), pptt(cache(37, 28))), "no 13 DanglingCache 0x24 0x25 0x0")
 row("a node that is its own parent", image_of(fadt(), pptt(node(36))), "no 14 ParentCycle 0x24 0x0 0x1")
 row("two nodes that lead to a cycle of three", image_of(fadt(), pptt(node(56), node(76), node(96), node(116), node(76))), "no 14 ParentCycle 0x24 0x2 0x3")
+row("a next level that is a node", image_of(fadt(), pptt(node(), cache(36))), "no 13 DanglingCache 0x38 0x24 0x0")
+row("a parent inside a node, before a wrong resource", image_of(fadt(), pptt(node(), node(40, resources=[36]))), "no 13 DanglingParent 0x38 0x28 0x0")
+row("a parent that is a cache", image_of(fadt(), pptt(node(56), cache())), "no 13 DanglingParent 0x24 0x38 0x0")
+row("two nodes that are each other's parents", image_of(fadt(), pptt(node(56), node(36))), "no 14 ParentCycle 0x24 0x0 0x2")
+row("a node under one that is its own parent", image_of(fadt(), pptt(node(56), node(56))), "no 14 ParentCycle 0x24 0x1 0x1")
+row("the second node is its own parent", image_of(fadt(), pptt(node(), node(56))), "no 14 ParentCycle 0x38 0x0 0x1")
 CHAIN = [node(56 + 20 * place) for place in range(999)]
 RING = image_of(fadt(), pptt(*CHAIN, node(36)))
 row("a chain of 1,000 nodes", image_of(fadt(), pptt(*CHAIN, node())), "yes")
 row("a ring of 1,000 nodes", RING, "no 14 ParentCycle 0x24 0x0 0x3e8")
+row("three caches that end", image_of(fadt(), pptt(cache(60), cache(84, 24), cache(length=28))), "yes")
+row("a cache that leads to a cycle of two", image_of(fadt(), pptt(cache(60), cache(84), cache(60, 28))), "no 15 CacheCycle 0x24 0x1 0x2")
 row("a cache that is its own next level", image_of(fadt(), pptt(cache(36, 28))), "no 15 CacheCycle 0x24 0x0 0x1")
 
 # ---- proximity domains of processors

@@ -23,6 +23,17 @@ def summed(data, at):
     return bytes(data)
 
 
+def changed(data, changes, *sums):
+    """The bytes with some of them changed, by their offsets. Then, for each (offset, size) of `sums`, so many bytes from
+    the start are made to sum to 0 by the one at the offset."""
+    data = bytearray(data)
+    for at, byte in changes.items():
+        data[at] = byte
+    for at, size in sums:
+        data[:size] = summed(data[:size], at)
+    return bytes(data)
+
+
 def table(signature, body, revision=1):
     """A header (5.2.6) and a body."""
     length = number(36 + len(body), 4)

@@ -6,11 +6,11 @@ ghost use Rattle.acpi_base.specs.declared.stage.Stage.{Stage};
 ghost use Rattle.acpi_base.specs.declared.stage.TheConstants.{BUILT};
 
 /// The number of the last stage that is built.
-pub const BUILT: u8 = 8;
+pub const BUILT: u8 = 15;
 
-/// The last stage that is built is that of the overrides.
+/// The last stage that is built is that of the caches.
 pub fn built_stages()
-    ensures last { stage_number Stage.Overrides ≡ BUILT }
+    ensures last { stage_number Stage.Caches ≡ BUILT }
 {}
 
 /// A part of the check. Each stage is looked at only where all earlier ones hold. Sections are those

@@ -15,7 +15,7 @@ const RSDT: [u8; 36] = [
     0x01, 0x00, 0x00, 0x00,
 ];
 
-// The example at the head of the crate; the tests of the stages are in acpi_cli, row by row.
+// The example at the head of the crate. What each stage answers is shown by the rows in tests/rows.
 #[test]
 fn example_checks_the_smallest_set(rt: HostRuntime) -> Result<(), Fail> {
     let alloc = rt.alloc();

@@ -4,7 +4,8 @@ use Rattle.std.proofs.Math.Bool.{and-false}
 use Rattle.std.proofs.lemmas.Bool.Decides.{eqb_tells}
 use Rattle.std.specs.Prelude.{option_and_then}
 use Rattle.clap.specs.Words.{Text}
-use Rattle.acpi_cli.specs.CommandLine.{built_stage, last_word}
+use Rattle.acpi_base.specs.declared.policy.HotPlug.{HotPlug}
+use Rattle.acpi_cli.specs.CommandLine.{built_stage, hotplug_word, last_word}
 use Rattle.acpi_cli.specs.Words.{all_inputs, count_word, hex_word, inputs_word}
 use Rattle.acpi_cli.proofs.Spellings.{spelling}
 use Rattle.acpi_cli.proofs.InputsWords.{more_inputs}
@@ -46,6 +47,10 @@ stage_is_plain number n e = plain_if_read (λ text. last_word (Some text)) numbe
 -- nor a count of inputs
 pub count_is_plain : (number : Text) (n : ℕ) → count_word number ≡ Some n → IsPlain number
 count_is_plain number n e = plain_if_read count_word number n refl (λ rest. ap (option_and_then _) (no_number _ _ _)) e
+
+-- nor a setting
+pub setting_is_plain : (text : Text) (setting : HotPlug) → hotplug_word (Some text) ≡ Some setting → IsPlain text
+setting_is_plain text setting e = plain_if_read (λ text. hotplug_word (Some text)) text setting refl (λ rest. refl) e
 
 -- nor a text with more behind it
 plain_with_more : (text more : Text) → IsPlain text → IsPlain (text ++ more)

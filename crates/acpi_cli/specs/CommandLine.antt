@@ -7,6 +7,8 @@ use Rattle.clap.specs.Words.{subcommand_of, with_rule, with_subcommand}
 use Rattle.clap.specs.declared.builder.action.ArgAction.TheVariants.{Append, Set}
 use Rattle.acpi_base.specs.Codes.{stage_number}
 use Rattle.acpi_base.specs.Policy.{PolicyValue, new_policy, with_input}
+use Rattle.acpi_base.specs.declared.policy.HotPlug.{HotPlug}
+use Rattle.acpi_base.specs.declared.policy.HotPlug.TheVariants.{Apart, Counted}
 use Rattle.acpi_base.specs.declared.stage.TheConstants.{BUILT}
 use Rattle.acpi_cli.specs.Words.{all_inputs, count_word, decimal_word, hex_word}
 use Rattle.acpi_cli.specs.declared.policy_words.Inputs.{Inputs}
@@ -23,14 +25,15 @@ option_rule name = record (new_rule name) { long = Some name; action = Some Set;
 abbrev pub inputs_rule : Rule
 inputs_rule = record (new_rule (codes "inputs")) { action = Some Append; value_names = 1 }
 
--- `check --rsdp HEX --through N --default-inputs N ADDRESS=COUNT..`
+-- `check --rsdp HEX --through N --default-inputs N --hotplug SETTING ADDRESS=COUNT..`
 unfoldable pub check_line : App
 check_line =
-    with_rule (with_rule (with_rule (with_rule
+    with_rule (with_rule (with_rule (with_rule (with_rule
     (new_app (codes "check"))
     (option_rule (codes "rsdp")))
     (option_rule (codes "through")))
     (option_rule (codes "default-inputs")))
+    (option_rule (codes "hotplug")))
     inputs_rule
 
 -- `find`
@@ -89,19 +92,41 @@ first_count counts address = option_map (λ inputs. inputs.count) (find_first (�
 
 -- The policy of `--default-inputs N` and the words `ADDRESS=COUNT`. No RSDP is set yet, and the settings are those of
 -- a new policy.
-abbrev pub policy_words : Option Text → List Text → Option PolicyValue
-policy_words default_inputs words =
+abbrev pub inputs_policy : Option Text → List Text → Option PolicyValue
+inputs_policy default_inputs words =
     option_and_then
     (λ inputs. option_map (with_inputs (new_policy 0 inputs)) (all_inputs words))
     (default_word default_inputs)
 
+-- `--hotplug counted` or `--hotplug apart`: without it hot-pluggable ranges of memory count as the others
+abbrev pub hotplug_word : Option Text → Option HotPlug
+hotplug_word None = Some Counted
+hotplug_word (Some text) =
+    if bytes_eq text (codes "counted")
+    then Some Counted
+    else (if bytes_eq text (codes "apart") then Some Apart else None)
+
+-- the policy with this setting for hot-pluggable ranges
+abbrev pub with_hotplug : HotPlug → PolicyValue → PolicyValue
+with_hotplug setting q = record q { hotplug = setting }
+
+-- The policy of all words that say how to judge, where each of them is right: the inputs of I/O APICs, and the setting.
+abbrev pub policy_words : Option Text → Option Text → List Text → Option PolicyValue
+policy_words default_inputs hotplug words =
+    option_and_then
+    (λ setting. option_map (with_hotplug setting) (inputs_policy default_inputs words))
+    (hotplug_word hotplug)
+
 -- the policy among the options of a command
 abbrev pub policy_asked : List Row → Option PolicyValue
 policy_asked options =
-    policy_words (first_of (codes "default-inputs") options) (unwrap_or (all_of (codes "inputs") options) [])
+    policy_words
+    (first_of (codes "default-inputs") options)
+    (first_of (codes "hotplug") options)
+    (unwrap_or (all_of (codes "inputs") options) [])
 
 -- the options of `check`
-abbrev pub check_asked : List Row → Option Asked
+unfoldable pub check_asked : List Row → Option Asked
 check_asked options =
     option_and_then
     (λ rsdp. option_and_then
@@ -126,18 +151,19 @@ asked words = if is_taken words then command_asked (command_of words) else None
 abbrev pub find_words : Text → List Text
 find_words program = program ∷ codes "find" ∷ []
 
--- `WORD VALUE`, where there is a value
+-- `--NAME VALUE`, where there is a value
 abbrev pub option_words : Text → Option Text → List Text
-option_words word None = []
-option_words word (Some value) = word ∷ value ∷ []
+option_words name None = []
+option_words name (Some value) = (codes "--" ++ name) ∷ value ∷ []
 
 -- `PROGRAM check`, the options that are given, and the words `ADDRESS=COUNT`
-abbrev pub check_words : Text → Option Text → Option Text → Option Text → List Text → List Text
-check_words program rsdp through default_inputs words =
+abbrev pub check_words : Text → Option Text → Option Text → Option Text → Option Text → List Text → List Text
+check_words program rsdp through default_inputs hotplug words =
     program ∷ codes "check"
-    ∷ (option_words (codes "--rsdp") rsdp
-    ++ (option_words (codes "--through") through
-    ++ (option_words (codes "--default-inputs") default_inputs ++ words)))
+    ∷ (option_words (codes "rsdp") rsdp
+    ++ (option_words (codes "through") through
+    ++ (option_words (codes "default-inputs") default_inputs
+    ++ (option_words (codes "hotplug") hotplug ++ words))))
 
 -- ---- the job that carries it
 

@@ -7,6 +7,7 @@ const COMMANDS: &str = "usage:
 
   acpiset check [--rsdp HEX] [--through N]
                 [--default-inputs N] [ADDRESS=COUNT]..
+                [--hotplug counted|apart]
   acpiset find
 
 Both read the image of a machine's memory from standard input, as text.
@@ -19,7 +20,7 @@ fault.
                there is none check writes `no rsdp`
 ";
 
-const INPUTS: &str = "  --default-inputs N
+const POLICY: &str = "  --default-inputs N
                how many inputs each I/O APIC has that no ADDRESS=COUNT names,
                from 1 to 256; if absent, 24
   ADDRESS=COUNT
@@ -27,6 +28,11 @@ const INPUTS: &str = "  --default-inputs N
                number of these may be given; the first count of an address
                stands. ADDRESS is 1 to 8 hex digits, with 0x before them or
                without
+  --hotplug counted|apart
+               which enabled ranges of memory must not overlap: any two of them
+               (counted), or only two that are both hot-pluggable or both not
+               (apart), for firmware that lays a window for hot-plugged memory
+               over memory that is there; if absent, counted
 
 No table says how many inputs an I/O APIC has. Stages from 6 on ask for it.
 ";
@@ -48,6 +54,7 @@ For example:
 
   acpiset check --rsdp f59e0 < image.txt
   acpiset check --default-inputs 16 fec00000=32 0xfec01000=8 < image.txt
+  acpiset check --hotplug apart < image.txt
 
 Exit statuses: 0 yes or found, 1 no or not found, 2 the arguments are refused,
 3 the text is no image, 4 out of memory, or a read or a write failed.";
@@ -69,7 +76,7 @@ impl fmt::Display for Usage {
                 writeln!(f, "{number:>17} {}", subject(stage))?;
             }
         }
-        f.write_str(INPUTS)?;
+        f.write_str(POLICY)?;
         f.write_str(TEXTS_AND_STATUSES)
     }
 }

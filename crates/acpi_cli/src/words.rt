@@ -8,7 +8,7 @@ ghost use Rattle.acpi_base.specs.Policy.{PolicyValue};
 ghost use Rattle.acpi_cli.specs.CommandLine.{Asked, DoesAsked, IsBuilt, asked, built_stage, check_asked, check_words};
 ghost use Rattle.acpi_cli.specs.CommandLine.{find_words, last_word, policy_words, rsdp_word};
 
-use crate::command_line::{clap_message, parse, value, values};
+use crate::command_line::{clap_message, parse, value};
 use crate::number_words::{decimal_number, hex_number};
 use crate::policy_words::{policy_message, read_policy};
 use acpi_base::{BUILT, Policy, Stage};
@@ -43,9 +43,11 @@ pub enum WordFault {
 
 /// The job that the arguments `words` ask for, of which the first is the program's name.
 ///
-/// The commands are `check [--rsdp HEX] [--through N] [--default-inputs N] [ADDRESS=COUNT]..` and `find`.
-/// HEX is an address of 1 to 16 hex digits, with `0x` before them or without. The N of `--through` is a
-/// stage of one or two decimal digits, from 1 to `BUILT`, which it also is if absent.
+/// The commands are `find` and `check [--rsdp HEX] [--through N] [--default-inputs N] [--hotplug SETTING]
+/// [ADDRESS=COUNT]..`. HEX is an address of 1 to 16 hex digits, with `0x` before them or without. The N of
+/// `--through` is a stage of one or two decimal digits, from 1 to `BUILT`, which it also is if absent. The
+/// SETTING of `--hotplug` is `counted`, which it also is if absent, or `apart`: `HotPlug::Counted` or
+/// `HotPlug::Apart`.
 ///
 /// How many inputs an I/O APIC has stands in no table. The N of `--default-inputs` and COUNT are numbers
 /// of inputs of 1 to 3 decimal digits, from 1 to 256: COUNT of the I/O APIC at ADDRESS, which is 1 to 8 hex
@@ -69,6 +71,7 @@ pub fn read_words(alloc: Global, words: &[String]) -> Result<Job, WordFault>
 }
 
 /// The job of `check` with these options.
+#[tactic(auto, unfolding(crate::specs::CommandLine::check_asked))]
 fn check_job(alloc: Global, options: &ArgMatches) -> Result<Job, WordFault>
     ensures job { IfOk result (DoesAsked (check_asked (rows_of (found_of options.now)))) }
     ensures refused { IfErr result (λ fault.
@@ -81,11 +84,7 @@ fn check_job(alloc: Global, options: &ArgMatches) -> Result<Job, WordFault>
     let Some(last) = last_stage(value(options, "through")) else {
         return Err(WordFault::Words);
     };
-    let policy = read_policy(
-        alloc,
-        value(options, "default-inputs"),
-        values(options, "inputs"),
-    )?;
+    let policy = read_policy(alloc, options)?;
     Ok(Job::Check { rsdp, policy, last })
 }
 
@@ -112,11 +111,7 @@ fn value_message(alloc: Global, options: &ArgMatches) -> Option<String> {
     {
         return format!(in alloc; "--through '{number}': the stages are 1 to {BUILT}").ok();
     }
-    policy_message(
-        alloc,
-        value(options, "default-inputs"),
-        values(options, "inputs"),
-    )
+    policy_message(alloc, options)
 }
 
 /// The address that `--rsdp` gives, if it is there. `None` where its value is no address.
@@ -151,10 +146,10 @@ fn last_stage(word: Option<&str>) -> Option<Stage>
 pub fn plain_lines_are_read()
     ensures built { built_stage BUILT ≡ Some BUILT }
     ensures find { (program : List ℕ) → asked (find_words program) ≡ Some Asked.find }
-    ensures check { (program : List ℕ) (hex number inputs : Option (List ℕ)) (words : List (List ℕ))
+    ensures check { (program : List ℕ) (hex number inputs hotplug : Option (List ℕ)) (words : List (List ℕ))
         (rsdp : Option ℕ) (policy : PolicyValue) (last : ℕ) → rsdp_word hex ≡ Some rsdp
-        → policy_words inputs words ≡ Some policy → last_word number ≡ Some last
-        → asked (check_words program hex number inputs words) ≡ Some (Asked.check rsdp policy last) }
+        → policy_words inputs hotplug words ≡ Some policy → last_word number ≡ Some last
+        → asked (check_words program hex number inputs hotplug words) ≡ Some (Asked.check rsdp policy last) }
 {}
 
 #[cfg(test)]

@@ -1,6 +1,7 @@
 //! Command lines that are read, and command lines that are refused.
 
 use super::*;
+use acpi_base::HotPlug;
 use std::alloc::AllocError;
 use std::test::Fail;
 
@@ -53,7 +54,7 @@ fn lines_that_are_read(rt: HostRuntime) {
 }
 
 /// Lines that are refused.
-const REFUSED: [&str; 67] = [
+const REFUSED: [&str; 75] = [
     "acpiset",
     "acpiset ",
     "acpiset --help",
@@ -121,6 +122,14 @@ const REFUSED: [&str; 67] = [
     "acpiset check --default-inputs 257",
     "acpiset check --default-inputs 0024",
     "acpiset check --default-inputs 24 --default-inputs 24",
+    "acpiset check --hotplug",
+    "acpiset check --hotplug ",
+    "acpiset check --hotplug Apart",
+    "acpiset check --hotplug apar",
+    "acpiset check --hotplug aparts",
+    "acpiset check --hotplug counted,apart",
+    "acpiset check --hotplug apart --hotplug counted",
+    "acpiset find --hotplug apart",
 ];
 
 #[test]
@@ -172,6 +181,30 @@ fn lines_that_say_how_many_inputs_there_are(rt: HostRuntime) {
             panic!(rt; "{line}");
         };
         assert_eq!(rt; policy.inputs_of(address), count, "{line}");
+    }
+}
+
+/// Lines that are read, with the setting that they give, and the number of inputs of the I/O APIC at FEC00000h.
+const SETTINGS: [(&str, HotPlug, u16); 5] = [
+    ("acpiset check", HotPlug::Counted, 24),
+    ("acpiset check --hotplug counted", HotPlug::Counted, 24),
+    ("acpiset check --hotplug apart", HotPlug::Apart, 24),
+    ("acpiset check --hotplug=apart", HotPlug::Apart, 24),
+    (
+        "acpiset check fec00000=32 --hotplug apart --default-inputs 16",
+        HotPlug::Apart,
+        32,
+    ),
+];
+
+#[test]
+fn lines_that_say_which_ranges_must_not_overlap(rt: HostRuntime) {
+    for (line, hotplug, count) in SETTINGS {
+        let Job::Check { policy, .. } = read(rt.alloc(), line).expect(&rt, line) else {
+            panic!(rt; "{line}");
+        };
+        assert_eq!(rt; policy.hotplug(), hotplug, "{line}");
+        assert_eq!(rt; policy.inputs_of(0xfec0_0000), count, "{line}");
     }
 }
 
@@ -258,6 +291,10 @@ fn what_is_wrong_with_a_line(rt: HostRuntime) {
         (
             "acpiset check 1fec00000=257",
             "'1fec00000=257': the address of an I/O APIC is 1 to 8 hex digits, with 0x before them or without",
+        ),
+        (
+            "acpiset check --hotplug both",
+            "--hotplug 'both': hot-pluggable ranges are counted or apart",
         ),
         // The first wrong word is named, and an option before any word.
         (
