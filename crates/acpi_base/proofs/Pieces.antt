@@ -1,6 +1,9 @@
-pub mod Edits
+pub mod Bases
+pub mod Firsts
+pub mod Gathers
 pub mod Images
-pub mod Joins
-pub mod Neighbours
+pub mod Inserts
+pub mod Layings
 pub mod RunBytes
 pub mod Searches
+pub mod Stores

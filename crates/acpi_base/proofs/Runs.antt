@@ -34,6 +34,12 @@ unfolding first_of
 first_of_from f a zero x e = absurd (cc)
 first_of_from f a (suc n) x e = grind (arith, first_of_from f (a + 1) n x)
 
+-- f and g agree at the n numbers from a on
+pub run_of-agree : (f g : ℕ → Option ℕ) (a n : ℕ) → ((k : ℕ) → k < n → f (a + k) ≡ g (a + k)) → run_of f a n ≡ run_of g a n
+unfolding run_of
+run_of-agree f g a zero h = refl
+run_of-agree f g a (suc n) h = grind (arith, add-zero, h 0, run_of-agree f g (a + 1) n (next (λ x k. f x ≡ g x) a n h))
+
 -- ---- what a list of bytes says
 
 -- the first byte, and the rest

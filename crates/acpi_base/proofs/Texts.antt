@@ -1,6 +1,7 @@
 pub mod ByteMachine
 pub mod DataImages
 pub mod DataPlaces
+pub mod DigitTable
 pub mod GoodTexts
 pub mod Judging
 pub mod LineParsing

@@ -10,8 +10,10 @@ pub mod Facs
 pub mod Fadt
 pub mod Faults
 pub mod Found
+pub mod Gathered
 pub mod Header
 pub mod ImageText
+pub mod Laid
 pub mod Laws
 pub mod Layouts
 pub mod Listed
@@ -28,6 +30,7 @@ pub mod Signature
 pub mod Slit
 pub mod Srat
 pub mod Statements
+pub mod Stored
 pub mod Tables
 pub mod Tally
 pub mod TextLaws

@@ -2,6 +2,7 @@
 use Rattle.std.specs.Prelude.{◌≡◌, ◌⊎◌, ℕ, ◌+◌, List, length, Option, Bool, true, false, Result, Ok, Err}
 use Rattle.std.specs.Io.KnownBytes.{IsAtEnd}
 use Rattle.acpi_base.specs.ImageText.{Line, Blank, Address, Data, Bad, Reading, max_text, read_prefix, IsRefused, IsRefusedPrefix}
+use Rattle.acpi_base.specs.Gathered.{gathered_memory}
 use Rattle.acpi_base.specs.Tally.{CountsFailure}
 use Rattle.acpi_base.specs.declared.text.TextFault.{TextFault}
 use Rattle.acpi_base.specs.declared.text.TextFault.TheVariants as text
@@ -50,7 +51,7 @@ data_line false bytes = Bad
 
 -- where the code stands between two lines
 abbrev pub reading_of : Progress → Reading
-reading_of p = record { lines = p.lines; through = p.through; next = p.next; image = p.image }
+reading_of p = record { lines = p.lines; through = p.through; next = p.next; image = gathered_memory p.image }
 
 -- whether the fault is one of a text, and not of its reader or of memory
 abbrev pub is_of_text : TextFault → Bool

@@ -2,17 +2,19 @@
 
 ghost use Rattle.std.specs.Prelude.{◌≡◌, ◌+◌, ◌^◌, nat_lt, if◌then◌else◌, IsOk, IsOkUnless, OnOk, OnErr, IfSome, MatchOption, length};
 ghost use Rattle.std.specs.Option.{option_map};
-ghost use Rattle.std.specs.List.{AllByRecursion};
 ghost use Rattle.std.specs.FinMap.{empty};
 ghost use Rattle.acpi_base.specs.Memory.{IsImage, first_of, byte_of, bytes_at, with_bytes};
 ghost use Rattle.acpi_base.specs.Adding.{add_refusal};
-ghost use Rattle.acpi_base.specs.Segments.{lookup, runs, IsWhole};
+ghost use Rattle.acpi_base.specs.Segments.{lookup};
+ghost use Rattle.acpi_base.specs.Laid.{IsSound, runs_of};
 
+pub(crate) mod gathering;
 mod segments;
+mod span;
 #[cfg(test)]
 mod tests;
 
-use segments::Segment;
+use segments::Segments;
 use std::alloc::{AllocError, Global};
 use std::marker::Model;
 
@@ -39,9 +41,9 @@ impl From<AllocError> for ImageFault {
 
 /// Why `count` bytes cannot be added from an address on.
 #[tactic(auto, using(crate::proofs::Pieces::Images::no_refusal))]
-fn refusal(segments: &[Segment], base: u64, count: u64) -> Option<ImageFault>
-    requires { AllByRecursion IsWhole (runs segments.now) }
-    ensures { result ≡ (if nat_lt (2 ^ 64) (base + count) then Some ImageFault.PastEnd else option_map (λ address. ImageFault.Twice address) (first_of (lookup (runs segments.now)) base count)) }
+fn refusal(segments: &Segments, base: u64, count: u64) -> Option<ImageFault>
+    requires { IsSound segments.now }
+    ensures { result ≡ (if nat_lt (2 ^ 64) (base + count) then Some ImageFault.PastEnd else option_map (λ address. ImageFault.Twice address) (first_of (lookup (runs_of segments.now)) base count)) }
 {
     if count == 0 {
         return None;
@@ -50,15 +52,17 @@ fn refusal(segments: &[Segment], base: u64, count: u64) -> Option<ImageFault>
     if count - 1 > u64::MAX - base {
         return Some(ImageFault::PastEnd);
     }
-    segments::first_held(segments, base, count).map(|address| ImageFault::Twice { address })
+    segments
+        .first_held(base, count)
+        .map(|address| ImageFault::Twice { address })
 }
 
 /// A memory image: bytes at 64-bit addresses, in pieces that may lie anywhere.
 ///
-/// Pieces that touch are joined into one. Every search goes over all pieces, so its time grows with their number.
+/// Pieces that touch are joined into one. A search takes time that grows with the logarithm of their number.
 #[derive(Debug, Drop)]
 pub struct Image {
-    segments: Vec<Segment>,
+    segments: Segments,
     alloc: Global,
 }
 
@@ -71,22 +75,21 @@ impl Model for Image {
 
     ghost coded = { code coded_ℕ coded_ℕ };
 
-    ghost use Rattle.acpi_base.specs.Segments.{runs, memory_of, IsTidy};
+    ghost use Rattle.acpi_base.specs.Laid.{IsSound, memory_in};
 
-    ghost view = { λ image. memory_of (runs image.segments.items) };
+    ghost view = { λ image. memory_in image.segments };
 
-    ghost invariant = { λ image. IsTidy (runs image.segments.items) };
+    ghost invariant = { λ image. IsSound image.segments };
 }
 
 impl Image {
     /// An image that holds no byte. Takes no memory.
-    #[tactic(auto, using(crate::proofs::Pieces::Images::image_of))]
     pub fn new(alloc: Global) -> Image
         ensures nothing { result ≡ empty }
         ensures image { IsImage result }
     {
         Image {
-            segments: Vec::new(alloc),
+            segments: Segments::new(alloc),
             alloc,
         }
     }
@@ -97,6 +100,9 @@ impl Image {
     /// `PastEnd`, where the last byte would lie past the address 2^64 - 1;
     /// `Twice`, where an address is held already, with the least such address;
     /// `Memory`, where the allocator is out of memory. Adding no bytes always returns `Ok`, and takes no memory.
+    ///
+    /// Bytes behind all that are held are appended, without a look at the others. Elsewhere all bytes of the image
+    /// are copied once.
     #[tactic(auto, using(crate::proofs::Pieces::Images::adding))]
     pub fn add(&mut self, base: u64, bytes: &[u8]) -> Result<(), ImageFault>
         ensures refused { MatchOption (add_refusal self.old base bytes.now) (IsOkUnless result ImageFault.Memory) (λ fault. result ≡ Err fault) }
@@ -112,32 +118,31 @@ impl Image {
         if bytes.is_empty() {
             return Ok(());
         }
-        segments::put(self.alloc, &mut self.segments, base, bytes)?;
+        self.segments.put(self.alloc, base, bytes)?;
         Ok(())
     }
 
     /// States that each address of the image is below 2^64 and each of its bytes below 256. A caller that is lent an
     /// image calls this where its proof needs these bounds: they are ensured where an image is made, and a reference
     /// to it does not carry them. Does nothing when it runs, and takes no memory.
-    #[tactic(auto, using(crate::proofs::Pieces::Images::image_of))]
     pub fn numbers_fit(&self)
         ensures fit { IsImage self.now }
     {
         // Reading a field opens the image's invariant to the proof.
-        let _pieces = self.segments.len();
+        let _segments = &self.segments;
     }
 
     /// Returns the byte at an address, or `None` where the address is not held. Takes no memory.
-    #[tactic(auto, using(crate::proofs::Pieces::RunBytes::byte_of_memory_of))]
+    #[tactic(auto, using(crate::proofs::Pieces::Images::byte_of_held_by))]
     pub fn byte_at(&self, address: u64) -> Option<u8>
         ensures { result ≡ byte_of self.now address }
     {
-        segments::byte_at(&self.segments, address)
+        self.segments.byte_at(address)
     }
 
     /// Returns the `count` bytes from an address on, or `None` where one of these addresses is not held. The bytes
     /// may have been added in several calls. For a count of 0 it returns no bytes, at every address. Takes no memory.
-    #[tactic(auto, using(crate::proofs::Pieces::Images::bytes_at_memory_of), unfolding(crate::specs::Memory::run_of))]
+    #[tactic(auto, using(crate::proofs::Pieces::Images::bytes_at_held_by), unfolding(crate::specs::Memory::run_of))]
     pub fn window(&self, address: u64, count: u64) -> Option<&[u8]>
         ensures bytes { option_map (λ bytes. bytes.now) result ≡ bytes_at self.now address count }
         ensures count { IfSome result (λ bytes. length bytes.now ≡ count) }
@@ -145,6 +150,6 @@ impl Image {
         if count == 0 {
             return Some(&[]);
         }
-        segments::window(&self.segments, address, count)
+        self.segments.window(address, count)
     }
 }

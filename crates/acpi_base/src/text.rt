@@ -3,6 +3,9 @@
 #[cfg(test)]
 mod tests;
 
+ghost use Rattle.std.specs.Prelude.{◌≡◌};
+
+use std::alloc::AllocError;
 use thiserror::Error;
 
 /// Why an image text could not be read. Lines count from 1.
@@ -29,4 +32,14 @@ pub enum TextFault {
     /// Out of memory for the text or the image.
     #[error("out of memory")]
     Memory,
+}
+
+impl From<AllocError> for TextFault {
+    ghost use Rattle.acpi_base.specs.declared.text.TextFault.{TextFault};
+
+    ghost from_gives = { λ _ fault. fault ≡ TextFault.Memory };
+
+    fn from(_error: AllocError) -> TextFault {
+        TextFault::Memory
+    }
 }

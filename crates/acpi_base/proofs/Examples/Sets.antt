@@ -14,7 +14,7 @@ use Rattle.acpi_base.specs.Pptt.{Node, PpttContents, has_node_form, has_cache_fo
 use Rattle.acpi_base.specs.Across.{IsEnabled, DomainFault, IsServed, ServedFault, IsUid, LeafFault}
 use Rattle.acpi_base.specs.Memory.{Memory, IsImage, run_of, cons_both, bytes_at}
 use Rattle.acpi_base.specs.Number.{field, byte_sum, has_bit}
-use Rattle.acpi_base.specs.Segments.{Run, run_at, lookup, NoneTouch, IsWhole}
+use Rattle.acpi_base.specs.Segments.{Run, run_at, lookup, IsWhole}
 use Rattle.acpi_base.specs.Signature.{has_signature}
 use Rattle.acpi_base.specs.Rsdp.{addresses_at}
 use Rattle.acpi_base.specs.Tables.{IsTable, IsSigned, length_of}
@@ -54,11 +54,8 @@ all_below (b ∷ rest) is = (let parts = and_parts (nat_lt b 256) (list_all (λ 
 -- it is an image where the two tables are bytes, fewer than 1000h each
 is_image : (one other : List ℕ) → (0 < length one) × (length one < 0x1000) → (0 < length other) × (length other < 0x1000)
     → list_all (λ b. nat_lt b 256) one ≡ true → list_all (λ b. nat_lt b 256) other ≡ true → IsImage (set_of one other)
-is_image one other size other_size bytes other_bytes = image_of (runs one other) (record { apart = apart; whole = whole })
+is_image one other size other_size bytes other_bytes = image_of (runs one other) whole
   where
-    apart : NoneTouch (runs one other)
-    apart = ((inr (omega arith), (inr (omega arith), (inr (omega arith), tt))), ((inl (omega arith), (inl (omega arith), tt)), ((inl (omega arith), tt), (tt, tt))))
-
     whole : AllByRecursion IsWhole (runs one other)
     whole = (
       record { filled = omega arith; fits = omega arith; bytes = all_below rsdp_bytes refl },

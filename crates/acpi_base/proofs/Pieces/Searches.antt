@@ -1,68 +1,217 @@
--- What a search of the segments finds, which goes from the first to the last.
-use Rattle.std.proofs.Common.{◌≡◌, ℕ, zero, suc, ◌+◌, ◌<◌, ◌≤◌, List, [], ◌∷◌, length, get_or, drop, Option, None, IsSome, refl, sym, ap, ◌∙◌, arith}
+-- What a search of the segments finds.
+use Rattle.std.proofs.Common.{◌≡◌, ◌⊎◌, inl, inr, ℕ, zero, suc, ◌+◌, ◌-◌, ◌<◌, ◌≤◌, List, [], ◌∷◌, length, get_or, take, drop, Option, None, Some, IsSome, refl, sym, ap, subst, ◌∙◌, arith, length-drop}
 use Rattle.std.specs.Option.{option_or}
 use Rattle.std.specs.List.{AllByRecursion}
-use Rattle.std.proofs.lemmas.List.{drop_more, drop_all}
 use Rattle.std.proofs.lemmas.Bool.{cases_lt}
-use Rattle.acpi_base.specs.declared.image.segments.Segment.{Segment}
-use Rattle.acpi_base.specs.Memory.{run_of, first_of, cons_both}
-use Rattle.acpi_base.specs.Segments.{Run, held, end_of, lookup, window_of, earlier, run, runs, IsWhole, ApartFrom, NoneTouch}
-use Rattle.acpi_base.proofs.Pieces.RunBytes.{held_none, held_inside}
-use Rattle.acpi_base.proofs.Runs.{first_of_from, first_of_none}
+use Rattle.std.proofs.lemmas.List.{get_or_default}
+use Rattle.acpi_base.specs.Memory.{first_of, run_of}
+use Rattle.acpi_base.specs.Segments.{Run, held, run_at, lookup, end_of}
+use Rattle.acpi_base.specs.Stored.{Piece, end_at, LiesBefore, run_in, runs_in, all_runs}
+use Rattle.acpi_base.specs.Laid.{AreApart, AreLaid, IsPlace, IsReached, IsGap}
+use Rattle.acpi_base.proofs.Pieces.RunBytes.{held_none, held_some, held_inside, run_of_held}
+use Rattle.acpi_base.proofs.Runs.{run_of-agree, run_of_none, first_of_at, first_of_none}
+use Rattle.acpi_base.proofs.Pieces.Stores.{all_from, of_all, all_weaker, run_ends, none_held, base_held}
 
--- where f has something, g has nothing, nor at the next number, and the other way round at the next number: in a row, they are never mixed
-run_of-or : (f g : ℕ → Option ℕ) → ((x : ℕ) → IsSome (f x) → (g x ≡ None) × (g (x + 1) ≡ None)) → ((x : ℕ) → IsSome (g x) → f (x + 1) ≡ None) → (a n : ℕ)
-    → run_of (λ x. option_or (f x) (g x)) a (suc n) ≡ option_or (run_of f a (suc n)) (run_of g a (suc n))
-unfolding run_of cons_both
-run_of-or f g p q a zero = grind (arith)
-run_of-or f g p q a (suc n) = grind (arith, run_of-or f g p q (a + 1) n)
-
--- the runs apart from r hold nothing in r, nor just behind it
-lookup_apart : (r : Run) (rs : List Run) (x : ℕ) → ApartFrom r rs → r.base ≤ x → x ≤ end_of r → lookup rs x ≡ None
-lookup_apart r [] x h l m = refl
-lookup_apart r (s ∷ ss) x h l m = grind (arith, held_none, lookup_apart r ss x h.1 l m)
-
--- nor does r hold what follows on something of theirs
-held_apart : (r : Run) (rs : List Run) (x : ℕ) → ApartFrom r rs → IsSome (lookup rs x) → held r (x + 1) ≡ None
-held_apart r [] x h s = absurd (cc)
-held_apart r (s ∷ ss) x h i = grind (arith, cases_lt, held_none, held_inside, held_apart r ss x h.1)
-
--- one run holds all that runs hold in a row
-pub window_of-lookup : (rs : List Run) (a n : ℕ) → 0 < n → NoneTouch rs → window_of rs a n ≡ run_of (lookup rs) a n
-unfolding run_of cons_both
-window_of-lookup rs a zero l h = absurd (omega arith)
-window_of-lookup [] a (suc n) l h = refl
-window_of-lookup (r ∷ rs) a (suc n) l h =
-    let parted = run_of-or (held r) (lookup rs) (λ x s. grind (arith, held_inside, lookup_apart)) (λ x s. held_apart r rs x h.0 s) a n in
-    rw (window_of-lookup rs a (suc n) l h.1) (sym parted)
-
--- the least of three
-pub earlier_assoc : (x y z : Option ℕ) → earlier (earlier x y) z ≡ earlier x (earlier y z)
-earlier_assoc x y z = grind arith
-
--- the first at which f or g has something
-pub first_of-or : (f g : ℕ → Option ℕ) (a n : ℕ) → first_of (λ x. option_or (f x) (g x)) a n ≡ earlier (first_of f a n) (first_of g a n)
+-- where nothing is first, there is nothing
+pub nothing_held : (f : ℕ → Option ℕ) (a n x : ℕ) → first_of f a n ≡ None → a ≤ x → x < a + n → f x ≡ None
 unfolding first_of
-first_of-or f g a zero = refl
-first_of-or f g a (suc n) = grind (arith, first_of_from f (a + 1) n, first_of_from g (a + 1) n, first_of-or f g (a + 1) n)
+nothing_held f a zero x e l h = absurd (omega arith)
+nothing_held f a (suc n) x e l h = grind (arith, cases_lt a x, nothing_held f (a + 1) n x)
 
--- the segment that was read is not empty
-pub filled_at : (ss : List Segment) (i : ℕ) (s : Segment) → i < length ss → s ≡ get_or ss i s → AllByRecursion IsWhole (runs ss)
-    → 0 < length s.bytes.items
-filled_at [] i s h e a = absurd (omega arith)
-filled_at (t ∷ ts) zero s h e a = (let whole = a.0.filled in grind arith)
-filled_at (t ∷ ts) (suc i) s h e a = filled_at ts i s (omega arith) e a.1
+-- the first is the one that is held here
+pub first_here : (f : ℕ → Option ℕ) (a n : ℕ) → 0 < n → IsSome (f a) → Some a ≡ first_of f a n
+first_here f a n l some = grind (arith, first_of_at f a n 0)
 
--- one step of the search for the first address that is held
-pub first_of_lookup_more : (ss : List Segment) (i : ℕ) (s : Segment) (b n : ℕ) → i < length ss → s ≡ get_or ss i s
-    → first_of (lookup (runs (drop i ss))) b n ≡ earlier (first_of (held (run s)) b n) (first_of (lookup (runs (drop (i + 1) ss))) b n)
-first_of_lookup_more ss i s b n h e =
-    ap (λ ts. first_of (lookup (runs ts)) b n) (drop_more ss i s h ∙ ap (λ t. t ∷ drop (i + 1) ss) (sym e))
-    ∙ first_of-or (held (run s)) (lookup (runs (drop (i + 1) ss))) b n
+-- or the one behind a gap
+pub first_next : (f : ℕ → Option ℕ) (a n b : ℕ) → a < b → b < a + n → IsSome (f b) → ((x : ℕ) → a ≤ x → x < b → f x ≡ None) → Some b ≡ first_of f a n
+first_next f a n b l m some gap =
+    let same : a + (b - a) ≡ b = omega arith in
+    sym (first_of_at f a n (b - a) (omega arith) (subst (λ x. IsSome (f x)) (sym same) some) (λ j h. gap (a + j) (omega arith) (omega arith)) ∙ ap Some same)
 
--- past the last segment, nothing is added
-pub first_of_lookup_all : (ss : List Segment) (i b n : ℕ) (x : Option ℕ) → length ss ≤ i → earlier x (first_of (lookup (runs (drop i ss))) b n) ≡ x
-first_of_lookup_all ss i b n x h = grind (arith, drop_all, first_of_none)
+-- or there is none
+pub first_never : (f : ℕ → Option ℕ) (a n : ℕ) → ((x : ℕ) → a ≤ x → x < a + n → f x ≡ None) → None ≡ first_of f a n
+first_never f a n gap = sym (first_of_none f a n (λ k h. gap (a + k) (omega arith) (omega arith)))
 
--- what the search for the first held address needs
-pub ruleset first_held = (filled_at, earlier_assoc, first_of_lookup_more, first_of_lookup_all)
+-- the first address that is held
+pub ruleset first_in_gap = (first_here, first_next, first_never)
+
+-- ---- the order of the segments
+
+-- bases rise
+pub bases_rise : (ps : List Piece) (i k : ℕ) (d : Piece) → AreApart ps → i ≤ k → k < length ps → (get_or ps i d).0 ≤ (get_or ps k d).0
+bases_rise [] i k d apart l h = absurd (omega arith)
+bases_rise (p ∷ ps) zero zero d apart l h = omega arith
+bases_rise (p ∷ ps) zero (suc k) d apart l h = (let behind = of_all _ ps k d apart.1 (omega arith) in omega arith)
+bases_rise (p ∷ ps) (suc i) zero d apart l h = absurd (omega arith)
+bases_rise (p ∷ ps) (suc i) (suc k) d apart l h = bases_rise ps i k d apart.2 (omega arith) (omega arith)
+
+-- no segment is empty
+pub filled : (ps : List Piece) (i : ℕ) (d : Piece) → AreApart ps → i < length ps → 0 < (get_or ps i d).1.len
+filled [] i d apart h = absurd (omega arith)
+filled (p ∷ ps) zero d apart h = apart.0
+filled (p ∷ ps) (suc i) d apart h = filled ps i d apart.2 (omega arith)
+
+-- ---- the last segment that begins at an address or before it
+
+-- from the address on, to its end, no other segment holds anything
+reached_ended : (store : List ℕ) (n : ℕ) (ps : List Piece) (i a x : ℕ) (d : Piece) → n ≤ length store → AllByRecursion (LiesBefore n) ps → AreApart ps
+    → i < length ps → IsPlace ps a (i + 1) → a ≤ x → (x ≤ a) ⊎ (x ≤ end_at (get_or ps i d)) → lookup (runs_in store ps) x ≡ held (run_in store (get_or ps i d)) x
+reached_ended store n [] i a x d l lies apart h place from to = absurd (omega arith)
+reached_ended store n (p ∷ ps) zero a x d l lies apart h place from to =
+    let later : AllByRecursion (λ q. (end_at q ≤ x) ⊎ (x < q.0)) ps = all_from _ ps (λ k e m.
+    inr (let behind = of_all _ ps k e apart.1 m in let above = place.1 (suc k) e (omega arith) (omega arith) in grind arith)) in
+    grind (arith, none_held store n ps x l lies.1 later)
+reached_ended store n (p ∷ ps) (suc i) a x d l lies apart h place from to =
+    let before = of_all _ ps i d apart.1 (omega arith) in
+    let begins = place.0 (suc i) d (omega arith) (omega arith) in
+    let rest = reached_ended store n ps i a x d l lies.1 apart.2 (omega arith)
+    (λ k e m o. place.0 (suc k) e (omega arith) (omega arith), λ k e m o. place.1 (suc k) e (omega arith) (omega arith)) from to in
+    grind (arith, run_ends store p n l lies.0, held_none (run_in store p) x, rest)
+
+-- the open segment is empty, or begins behind the address
+abbrev pub IsBehind : List ℕ → ℕ → ℕ → ℕ → Type 0
+IsBehind store base begin a = (length store ≤ begin) ⊎ (a < base)
+
+-- then it holds nothing there
+behind_none : (store : List ℕ) (base begin x : ℕ) → IsBehind store base begin x → held (run_at base (drop begin store)) x ≡ None
+behind_none store base begin x behind = grind (arith, behind, length-drop begin store, cases_lt x base, held_none (run_at base (drop begin store)) x)
+
+-- from the base of the open segment on, nothing else is held
+pub reached_open : (store : List ℕ) (ps : List Piece) (base begin a : ℕ) → AreLaid store ps base begin → base ≤ a
+    → IsReached (all_runs store ps base begin) a (run_at base (drop begin store))
+reached_open store ps base begin a laid low = record { begins = low; here = all a (omega arith); further = λ x l m. all x l }
+  where
+    all : (x : ℕ) → a ≤ x → lookup (all_runs store ps base begin) x ≡ held (run_at base (drop begin store)) x
+    all x l =
+        let none : lookup (runs_in store ps) x ≡ None = none_held store begin ps x laid.within laid.lies (all_weaker _ _ ps (λ p below. inl (omega arith)) laid.below) in
+        grind (arith, none)
+
+-- the segment before the place is the one that is reached, where the open one begins behind the address
+pub reached : (store : List ℕ) (ps : List Piece) (base begin a i : ℕ) (d : Piece) → AreLaid store ps base begin → IsBehind store base begin a → i < length ps
+    → IsPlace ps a (i + 1) → IsReached (all_runs store ps base begin) a (run_in store (get_or ps i d))
+reached store ps base begin a i d laid behind h place = record {
+  begins = place.0 i d (omega arith) (omega arith);
+  here = all a (omega arith) (inl (omega arith)) (behind_none store base begin a behind);
+  further = λ x l m. (let ends = run_ends store (get_or ps i d) begin laid.within (of_all _ ps i d laid.lies h) in
+      let below = of_all _ ps i d laid.below h in
+      all x l (inr (omega arith)) (behind_none store base begin x (inr (omega arith))));
+}
+  where
+    all : (x : ℕ) → a ≤ x → (x ≤ a) ⊎ (x ≤ end_at (get_or ps i d)) → held (run_at base (drop begin store)) x ≡ None
+        → lookup (all_runs store ps base begin) x ≡ held (run_in store (get_or ps i d)) x
+    all x l m none = rw none (reached_ended store begin ps i a x d laid.within laid.lies laid.apart h place l m)
+
+-- the same where it was read
+pub reached_at : (store : List ℕ) (ps : List Piece) (base begin a i n : ℕ) (p : Piece) (bytes : List ℕ) → AreLaid store ps base begin → IsBehind store base begin a
+    → i < length ps → n ≡ i + 1 → IsPlace ps a n → p ≡ get_or ps i p → bytes ≡ take p.1.len (drop p.1.start store) → IsReached (all_runs store ps base begin) a (run_at p.0 bytes)
+reached_at store ps base begin a i n p bytes laid behind h next place is same =
+    let found = reached store ps base begin a i p laid behind h (subst (IsPlace ps a) next place) in
+    rw same (subst (λ (q : Piece). IsReached (all_runs store ps base begin) a (run_in store q)) (sym is) found)
+
+-- its bytes lie in the store
+pub lies_inside : (store : List ℕ) (ps : List Piece) (base begin i : ℕ) (p : Piece) → AreLaid store ps base begin → i < length ps → p ≡ get_or ps i p
+    → p.1.start + p.1.len ≤ length store
+lies_inside store ps base begin i p laid h is =
+    let within = laid.within in
+    let lies = subst (LiesBefore begin) (sym is) (of_all _ ps i p laid.lies h) in
+    let low = lies.0 in
+    omega arith
+
+-- no segment is reached
+pub none_reached : (store : List ℕ) (ps : List Piece) (base begin a : ℕ) → AreLaid store ps base begin → IsBehind store base begin a → IsPlace ps a 0
+    → lookup (all_runs store ps base begin) a ≡ None
+none_reached store ps base begin a laid behind place =
+    rw (behind_none store base begin a behind) (none_held store begin ps a laid.within laid.lies (all_from _ ps (λ k d l. inr (place.1 k d (omega arith) l))))
+
+-- the bytes from the address on, where the run that is reached has so many
+pub reached_whole : (rs : List Run) (a n : ℕ) (r : Run) → IsReached rs a r → a + n ≤ end_of r → run_of (lookup rs) a n ≡ Some (take n (drop (a - r.base) r.bytes))
+reached_whole rs a n r reaches fits =
+    run_of-agree (lookup rs) (held r) a n (λ k h. reaches.further (a + k) (omega arith) (omega arith)) ∙ run_of_held r a n reaches.begins fits
+
+-- there are none where it has not
+pub reached_short : (rs : List Run) (a n : ℕ) (r : Run) → IsReached rs a r → 0 < n → end_of r < a + n → run_of (lookup rs) a n ≡ None
+reached_short rs a n r reaches some short =
+    elim (cases_lt a (end_of r)) [
+      | inl m ↦
+          let last : a + (end_of r - a) ≡ end_of r = omega arith in
+          run_of_none (lookup rs) a n (end_of r - a) (omega arith) (ap (lookup rs) last ∙ reaches.further (end_of r) (omega arith) (omega arith) ∙ held_none r (end_of r) (inr (omega arith)))
+      | inr m ↦
+          let first : a + 0 ≡ a = omega arith in
+          run_of_none (lookup rs) a n 0 some (ap (lookup rs) first ∙ reaches.here ∙ held_none r a (inr m))
+    ]
+
+-- nor where nothing is held at the first
+pub free_short : (rs : List Run) (a n : ℕ) → 0 < n → lookup rs a ≡ None → run_of (lookup rs) a n ≡ None
+free_short rs a n some none = (let first : a + 0 ≡ a = omega arith in run_of_none (lookup rs) a n 0 some (ap (lookup rs) first ∙ none))
+
+-- what a window shows
+pub ruleset reached_window = (reached_whole, reached_short, free_short)
+
+-- ---- the next segment behind an address that is not held
+
+-- what begins at the address or before it has ended there
+pub ended_at : (store : List ℕ) (n : ℕ) (ps : List Piece) (k a : ℕ) (d : Piece) → n ≤ length store → AllByRecursion (LiesBefore n) ps
+    → lookup (runs_in store ps) a ≡ None → k < length ps → (get_or ps k d).0 ≤ a → end_at (get_or ps k d) ≤ a
+ended_at store n [] k a d l lies none h begins = absurd (omega arith)
+ended_at store n (p ∷ ps) zero a d l lies none h begins =
+    grind (arith, cases_lt a (end_at p), run_ends store p n l lies.0, held_some (run_in store p) a)
+ended_at store n (p ∷ ps) (suc k) a d l lies none h begins =
+    let rest : lookup (runs_in store ps) a ≡ None = grind arith in
+    ended_at store n ps k a d l lies.1 rest (omega arith) begins
+
+-- nothing is held up to the base of the segment at the place
+gap_ended : (store : List ℕ) (n : ℕ) (ps : List Piece) (a b i x : ℕ) → n ≤ length store → AllByRecursion (LiesBefore n) ps → lookup (runs_in store ps) a ≡ None
+    → IsPlace ps a i → ((k : ℕ) (d : Piece) → i ≤ k → k < length ps → b ≤ (get_or ps k d).0) → a ≤ x → x < b → lookup (runs_in store ps) x ≡ None
+gap_ended store n ps a b i x l lies none place above from to =
+    none_held store n ps x l lies (all_from _ ps (λ k d h. elim (cases_lt k i) [
+      | inl m ↦ inl (let ended = ended_at store n ps k a d l lies none h (place.0 k d (omega arith) m) in omega arith)
+      | inr m ↦ inr (let low = above k d m h in omega arith)
+    ]))
+
+-- the next one has ended
+pub next_ended : (store : List ℕ) (ps : List Piece) (base begin a i : ℕ) (d : Piece) → AreLaid store ps base begin → lookup (all_runs store ps base begin) a ≡ None
+    → IsPlace ps a i → i < length ps
+    → (a < (get_or ps i d).0) × IsSome (lookup (all_runs store ps base begin) (get_or ps i d).0) × IsGap (all_runs store ps base begin) a (get_or ps i d).0
+next_ended store ps base begin a i d laid none place h =
+    let rest : lookup (runs_in store ps) a ≡ None = grind arith in
+    let below = of_all _ ps i d laid.below h in
+    let some = base_held store begin ps i d laid.within laid.lies h (filled ps i d laid.apart h) in (
+      place.1 i d (omega arith) h,
+      grind (arith, some),
+      λ x from to.
+          rw (behind_none store base begin x (inr (omega arith)))
+          (gap_ended store begin ps a (get_or ps i d).0 i x laid.within laid.lies rest place (λ k e m o. bases_of k e m o) from to),
+    )
+  where
+    bases_of : (k : ℕ) (e : Piece) → i ≤ k → k < length ps → (get_or ps i d).0 ≤ (get_or ps k e).0
+    bases_of k e m o = (let rise = bases_rise ps i k e laid.apart m o in let same = get_or_default ps i d e h in rw same rise)
+
+-- the same where it was read
+pub next_at : (store : List ℕ) (ps : List Piece) (base begin a i : ℕ) (p : Piece) → AreLaid store ps base begin → lookup (all_runs store ps base begin) a ≡ None
+    → IsPlace ps a i → i < length ps → p ≡ get_or ps i p
+    → (a < p.0) × IsSome (lookup (all_runs store ps base begin) p.0) × IsGap (all_runs store ps base begin) a p.0
+next_at store ps base begin a i p laid none place h is =
+    subst (λ (q : Piece). (a < q.0) × IsSome (lookup (all_runs store ps base begin) q.0) × IsGap (all_runs store ps base begin) a q.0) (sym is) (next_ended store ps base begin a i p laid none place h)
+
+-- the open one is next
+pub next_open : (store : List ℕ) (ps : List Piece) (base begin a : ℕ) → AreLaid store ps base begin → lookup (all_runs store ps base begin) a ≡ None
+    → IsPlace ps a (length ps) → a < base → begin < length store
+    → (a < base) × IsSome (lookup (all_runs store ps base begin) base) × IsGap (all_runs store ps base begin) a base
+next_open store ps base begin a laid none place low some =
+    let rest : lookup (runs_in store ps) a ≡ None = grind arith in
+    let long = length-drop begin store in
+    let first = held_some (run_at base (drop begin store)) base (omega arith) (omega arith) in (
+      low,
+      grind (arith, first),
+      λ x from to.
+          rw (behind_none store base begin x (inr to))
+          (gap_ended store begin ps a base (length ps) x laid.within laid.lies rest place (λ k e m o. absurd (omega arith)) from to),
+    )
+
+-- there is none
+pub no_next : (store : List ℕ) (ps : List Piece) (base begin a : ℕ) → AreLaid store ps base begin → lookup (all_runs store ps base begin) a ≡ None
+    → IsPlace ps a (length ps) → (base ≤ a) ⊎ (length store ≤ begin) → (x : ℕ) → a ≤ x → lookup (all_runs store ps base begin) x ≡ None
+no_next store ps base begin a laid none place past x from =
+    let rest : lookup (runs_in store ps) a ≡ None = grind arith in
+    let past_end : held (run_at base (drop begin store)) x ≡ None = grind (arith, length-drop begin store, held_none (run_at base (drop begin store)) x, held_some (run_at base (drop begin store)) a, cases_lt a (end_of (run_at base (drop begin store)))) in
+    rw past_end (gap_ended store begin ps a (x + 1) (length ps) x laid.within laid.lies rest place (λ k e m o. absurd (omega arith)) from (omega arith))

@@ -1,243 +1,244 @@
-//! The pieces of an image: runs of bytes in no order, which neither overlap nor touch.
+//! The segments of an image: its bytes in the order of their addresses, found by binary search.
 //!
-//! Contracts see a list of segments as its `runs`: after an edit that failed, a `Vec` may have another
-//! capacity, and holds the same bytes.
+//! An address that is not held lies between two segments. All bytes lie in one store. The last segment is
+//! open: it has the store's bytes from `start` on, so what follows it is only appended. Where that is empty, none is open.
 
-ghost use Rattle.std.specs.Prelude.{◌≡◌, ◌+◌, ◌-◌, ◌^◌, ◌<◌, ◌≤◌, ◌≢◌, ◌==◌, ◌++◌, IfSome, IfOk, OnOk, OnErr, slice_set, [], ◌∷◌, length, vec_len};
-ghost use Rattle.std.specs.Option.{option_map};
-ghost use Rattle.std.specs.List.{remove, AllByRecursion};
-ghost use Rattle.acpi_base.specs.Memory.{run_of, first_of};
-ghost use Rattle.acpi_base.specs.Segments.{held, lookup, window_of, earlier, run, runs, run_at, run_in, bridged, place_where, end_of, IsWhole, IsFree, Puts};
+ghost use Rattle.std.specs.Prelude.{◌≡◌, ◌+◌, ◌-◌, ◌^◌, ◌<◌, ◌≤◌, ℕ, None, IfSome, IsSome, OnOk, OnErr, IfOk, MatchOption, length, drop};
+ghost use Rattle.std.specs.Option.{option_map, option_or};
+ghost use Rattle.std.specs.List.{AllByRecursion};
+ghost use Rattle.std.specs.FinMap.{empty};
+ghost use Rattle.acpi_base.specs.Memory.{run_of, first_of, first_held, with_bytes, byte_of};
+ghost use Rattle.acpi_base.specs.Segments.{lookup, run_at};
+ghost use Rattle.acpi_base.specs.Stored.{LiesBefore, Rising, end_at, runs_in};
+ghost use Rattle.acpi_base.specs.Laid.{IsGap, IsPlace, IsReached, IsSound, end_in, memory_in, runs_of};
 
+use super::span::Span;
 use std::alloc::{AllocError, Global};
 
-/// Bytes, from an address on.
+/// The bytes of an image.
 #[derive(Debug, Drop)]
-pub struct Segment {
-    pub base: u64,
-    pub bytes: Vec<u8>,
+pub struct Segments {
+    bytes: Vec<u8>,
+    ended: Vec<(u64, Span)>,
+    base: u64,
+    start: usize,
 }
 
-fn byte_in(segment: &Segment, address: u64) -> Option<u8>
-    ensures { result ≡ held (run segment.now) address }
-{
-    if address < segment.base {
-        return None;
-    }
-    segment
-        .bytes
-        .get((address - segment.base) as usize)
-        .copied()
-}
-
-/// The byte at an address.
-pub fn byte_at(segments: &[Segment], address: u64) -> Option<u8>
-    ensures { result ≡ lookup (runs segments.now) address }
-{
-    for segment in segments {
-        if let Some(byte) = byte_in(segment, address) {
-            return Some(byte);
+impl Segments {
+    /// No bytes. Takes no memory.
+    pub fn new(alloc: Global) -> Segments
+        ensures sound { IsSound result }
+        ensures nothing { memory_in result ≡ empty }
+    {
+        Segments {
+            bytes: Vec::new(alloc),
+            ended: Vec::new(alloc),
+            base: 0,
+            start: 0,
         }
     }
-    None
-}
 
-#[tactic(auto, using(crate::proofs::Pieces::RunBytes::run_of_held, crate::proofs::Pieces::RunBytes::run_of_held_outside))]
-fn part_of(segment: &Segment, address: u64, count: u64) -> Option<&[u8]>
-    requires { 0 < count }
-    ensures bytes { option_map (λ bytes. bytes.now) result ≡ run_of (held (run segment.now)) address count }
-    ensures count { IfSome result (λ bytes. length bytes.now ≡ count) }
-{
-    let bytes = segment.bytes.as_slice();
-    let held = bytes.len() as u64;
-    if address < segment.base || address - segment.base >= held {
-        return None;
+    /// No bytes, and memory for so many.
+    pub fn with_capacity(alloc: Global, count: usize) -> Result<Segments, AllocError>
+        ensures sound { IfOk result IsSound }
+        ensures nothing { IfOk result (λ segments. memory_in segments ≡ empty) }
+        ensures end { IfOk result (λ segments. end_in segments ≡ 0) }
+    {
+        Ok(Segments {
+            bytes: Vec::with_capacity(alloc, count)?,
+            ended: Vec::new(alloc),
+            base: 0,
+            start: 0,
+        })
     }
-    let start = address - segment.base;
-    if count > held - start {
-        return None;
-    }
-    Some(&bytes[start as usize..(start + count) as usize])
-}
 
-/// The bytes of the one segment that holds all of these addresses.
-pub fn window(segments: &[Segment], address: u64, count: u64) -> Option<&[u8]>
-    requires { 0 < count }
-    ensures bytes { option_map (λ bytes. bytes.now) result ≡ window_of (runs segments.now) address count }
-    ensures count { IfSome result (λ bytes. length bytes.now ≡ count) }
-{
-    for segment in segments {
-        if let Some(bytes) = part_of(segment, address, count) {
-            return Some(bytes);
+    /// How many of the segments that have ended begin at the address or before it.
+    fn place(&self, address: u64) -> usize
+        requires { IsSound self.now }
+        ensures within { result ≤ length self.now.ended.items }
+        ensures place { IsPlace self.now.ended.items address result }
+    {
+        self.ended.partition_point(|segment| segment.0 <= address)
+    }
+
+    fn open(&self) -> &[u8]
+        requires { IsSound self.now }
+        ensures { result.now ≡ drop self.now.start self.now.bytes.items }
+    {
+        &self.bytes[self.start..]
+    }
+
+    /// The last segment that begins at an address or before it.
+    fn reaching(&self, address: u64) -> Option<(u64, &[u8])>
+        requires { IsSound self.now }
+        ensures { MatchOption result (lookup (runs_of self.now) address ≡ None) (λ found. IsReached (runs_of self.now) address (run_at found.0 found.1.now)) }
+    {
+        if self.base <= address && self.start < self.bytes.len() {
+            return Some((self.base, self.open()));
+        }
+        let place = self.place(address);
+        if place == 0 {
+            return None;
+        }
+        let (base, span) = self.ended[place - 1];
+        Some((base, span.bytes(&self.bytes)))
+    }
+
+    /// The byte at an address.
+    #[tactic(auto, using(crate::proofs::Pieces::RunBytes::held_from))]
+    pub fn byte_at(&self, address: u64) -> Option<u8>
+        requires { IsSound self.now }
+        ensures { result ≡ lookup (runs_of self.now) address }
+    {
+        let (base, bytes) = self.reaching(address)?;
+        bytes.get((address - base) as usize).copied()
+    }
+
+    /// The bytes at so many addresses, all of which one segment holds.
+    #[tactic(auto, using(crate::proofs::Pieces::Searches::reached_window))]
+    pub fn window(&self, address: u64, count: u64) -> Option<&[u8]>
+        requires sound { IsSound self.now }
+        requires some { 0 < count }
+        ensures bytes { option_map (λ bytes. bytes.now) result ≡ run_of (lookup (runs_of self.now)) address count }
+        ensures count { IfSome result (λ bytes. length bytes.now ≡ count) }
+    {
+        let (base, bytes) = self.reaching(address)?;
+        let start = address - base;
+        let held = bytes.len() as u64;
+        if start >= held || count > held - start {
+            return None;
+        }
+        Some(&bytes[start as usize..(start + count) as usize])
+    }
+
+    /// The least base of a segment behind an address that is not held.
+    fn next_base(&self, address: u64) -> Option<u64>
+        requires sound { IsSound self.now }
+        requires free { lookup (runs_of self.now) address ≡ None }
+        ensures none { result ≡ None → (x : ℕ) → address ≤ x → lookup (runs_of self.now) x ≡ None }
+        ensures some { IfSome result (λ base. (address < base) × IsSome (lookup (runs_of self.now) base) × IsGap (runs_of self.now) address base) }
+    {
+        let place = self.place(address);
+        if place < self.ended.len() {
+            return Some(self.ended[place].0);
+        }
+        if self.base > address && self.start < self.bytes.len() {
+            return Some(self.base);
+        }
+        None
+    }
+
+    /// The least of so many addresses that is held.
+    #[tactic(auto, using(crate::proofs::Pieces::Searches::first_in_gap))]
+    pub fn first_held(&self, base: u64, count: u64) -> Option<u64>
+        requires sound { IsSound self.now }
+        requires some { 0 < count }
+        ensures { result ≡ first_of (lookup (runs_of self.now)) base count }
+    {
+        if self.byte_at(base).is_some() {
+            return Some(base);
+        }
+        let next = self.next_base(base)?;
+        if next - base < count {
+            Some(next)
+        } else {
+            None
         }
     }
-    None
-}
 
-// An empty segment would seem to hold its base.
-#[tactic(auto, using(crate::proofs::Pieces::RunBytes::first_of_held))]
-fn first_in(segment: &Segment, base: u64, count: u64) -> Option<u64>
-    requires filled { 0 < length segment.now.bytes.items }
-    requires count { 0 < count }
-    ensures { result ≡ first_of (held (run segment.now)) base count }
-{
-    if base < segment.base {
-        if segment.base - base < count {
-            return Some(segment.base);
+    /// Ends the open segment, unless bytes from `base` on follow it.
+    fn begin(&mut self, base: u64) -> Result<(), AllocError>
+        requires sound { IsSound self.old }
+        requires behind { end_in self.old ≤ base }
+        ensures sound { IsSound self.new }
+        ensures same { memory_in self.new ≡ memory_in self.old }
+        ensures at { OnOk result (base ≡ end_in self.new) }
+    {
+        let open = self.bytes.len() - self.start;
+        if open == 0 {
+            self.base = base;
+            return Ok(());
         }
-        return None;
+        if base - self.base == open as u64 {
+            return Ok(());
+        }
+        let span = Span {
+            start: self.start,
+            len: open,
+        };
+        self.ended.push((self.base, span))?;
+        self.base = base;
+        self.start += open;
+        Ok(())
     }
-    if base - segment.base < segment.bytes.len() as u64 {
-        return Some(base);
+
+    /// Appends bytes at addresses behind all that are held.
+    pub fn take(&mut self, base: u64, bytes: &[u8]) -> Result<(), AllocError>
+        requires sound { IsSound self.old }
+        requires behind { end_in self.old ≤ base }
+        requires fits { base + length bytes.now ≤ 2 ^ 64 }
+        ensures sound { IsSound self.new }
+        ensures ok { OnOk result (memory_in self.new ≡ with_bytes (memory_in self.old) base bytes.now) }
+        ensures err { OnErr result (memory_in self.new ≡ memory_in self.old) }
+        ensures end { OnOk result (end_in self.new ≡ base + length bytes.now) }
+    {
+        self.begin(base)?;
+        self.bytes.extend_from_slice(bytes)?;
+        Ok(())
     }
-    None
-}
 
-fn earlier_of(first: Option<u64>, second: Option<u64>) -> Option<u64>
-    ensures { result ≡ earlier first second }
-{
-    match (first, second) {
-        (Some(first), Some(second)) => Some(first.min(second)),
-        (Some(first), None) => Some(first),
-        (None, second) => second,
+    /// Appends the bytes of pieces in another store, which stand in the order of their addresses.
+    fn take_all(&mut self, store: &[u8], pieces: &[(u64, Span)]) -> Result<(), AllocError>
+        requires sound { IsSound self.old }
+        requires rising { Rising pieces.now }
+        requires lies { AllByRecursion (LiesBefore (length store.now)) pieces.now }
+        requires behind { AllByRecursion (λ p. end_in self.old ≤ p.0) pieces.now }
+        ensures sound { OnOk result (IsSound self.new) }
+        ensures whole { OnOk result ((x : ℕ) → byte_of (memory_in self.new) x ≡ option_or (byte_of (memory_in self.old) x) (lookup (runs_in store.now pieces.now) x)) }
+        ensures end { OnOk result ((a : ℕ) → end_in self.old ≤ a → AllByRecursion (λ p. end_at p ≤ a) pieces.now → end_in self.new ≤ a) }
+    {
+        for piece in pieces {
+            self.take(piece.0, piece.1.bytes(store))?;
+        }
+        Ok(())
     }
-}
 
-/// The least of the `count` addresses from `base` on that is held already.
-#[tactic(auto, using(crate::proofs::Pieces::Searches::first_held))]
-pub fn first_held(segments: &[Segment], base: u64, count: u64) -> Option<u64>
-    requires whole { AllByRecursion IsWhole (runs segments.now) }
-    requires count { 0 < count }
-    ensures { result ≡ first_of (lookup (runs segments.now)) base count }
-{
-    let mut least = None;
-    for segment in segments {
-        least = earlier_of(least, first_in(segment, base, count));
+    /// The same bytes and more, where all of those come before the open segment and none is held.
+    fn with(&self, alloc: Global, base: u64, bytes: &[u8]) -> Result<Segments, AllocError>
+        requires sound { IsSound self.now }
+        requires before { base < self.now.base }
+        requires some { 0 < length bytes.now }
+        requires fits { base + length bytes.now ≤ 2 ^ 64 }
+        requires free { IsGap (runs_of self.now) base (base + length bytes.now) }
+        ensures sound { IfOk result IsSound }
+        ensures ok { IfOk result (λ all. memory_in all ≡ with_bytes (memory_in self.now) base bytes.now) }
+    {
+        let (low, high) = self.ended.split_at(self.place(base));
+        let mut all = Segments::with_capacity(alloc, self.bytes.len() + bytes.len())?;
+        all.take_all(&self.bytes, low)?;
+        all.take(base, bytes)?;
+        all.take_all(&self.bytes, high)?;
+        if self.start < self.bytes.len() {
+            all.take(self.base, self.open())?;
+        }
+        Ok(all)
     }
-    least
-}
 
-fn ends_at(segment: &Segment, address: u64) -> bool
-    ensures { result ≡ (end_of (run segment.now) == address) }
-{
-    segment.base <= address && address - segment.base == segment.bytes.len() as u64
-}
-
-/// The segment that ends right before an address.
-#[tactic(auto, unfolding(crate::specs::Segments::place_where))]
-pub fn ending_at(segments: &[Segment], address: u64) -> Option<usize>
-    ensures place { result ≡ place_where end_of address segments.now }
-    ensures within { IfSome result (λ place. place < length segments.now) }
-{
-    segments
-        .iter()
-        .position(|segment| ends_at(segment, address))
-}
-
-/// The segment that starts right behind `count` addresses from `base` on.
-#[tactic(auto, unfolding(crate::specs::Segments::place_where))]
-pub fn starting_at(segments: &[Segment], base: u64, count: u64) -> Option<usize>
-    ensures place { result ≡ place_where (λ run. run.base) (base + count) segments.now }
-    ensures within { IfSome result (λ place. place < length segments.now) }
-{
-    segments.iter().position(|segment| base <= segment.base && segment.base - base == count)
-}
-
-fn joined(alloc: Global, first: &[u8], second: &[u8], third: &[u8]) -> Result<Vec<u8>, AllocError>
-    ensures { IfOk result (λ bytes. bytes.items ≡ first.now ++ second.now ++ third.now) }
-{
-    let mut bytes = Vec::from_slice(alloc, first)?;
-    bytes.extend_from_slice(second)?;
-    bytes.extend_from_slice(third)?;
-    Ok(bytes)
-}
-
-fn put_alone(
-    alloc: Global,
-    segments: &mut Vec<Segment>,
-    base: u64,
-    bytes: &[u8],
-) -> Result<(), AllocError>
-    ensures ok { OnOk result (runs segments.new.items ≡ runs segments.old.items ++ run_at base bytes.now ∷ []) }
-    ensures err { OnErr result (runs segments.new.items ≡ runs segments.old.items) }
-{
-    let bytes = Vec::from_slice(alloc, bytes)?;
-    segments.push(Segment { base, bytes })?;
-    Ok(())
-}
-
-// In place, so that reading a text line by line does not copy all earlier bytes for each line.
-#[tactic(auto, using(crate::proofs::Pieces::Edits::edits))]
-fn append(segments: &mut Vec<Segment>, before: usize, bytes: &[u8]) -> Result<(), AllocError>
-    requires { before < vec_len segments.old }
-    ensures ok { OnOk result (let old = run_in (runs segments.old.items) before in runs segments.new.items ≡ slice_set (runs segments.old.items) before (run_at old.base (old.bytes ++ bytes.now))) }
-    ensures err { OnErr result (runs segments.new.items ≡ runs segments.old.items) }
-{
-    segments[before].bytes.extend_from_slice(bytes)
-}
-
-#[tactic(auto, using(crate::proofs::Pieces::Edits::edits))]
-fn prepend(
-    alloc: Global,
-    segments: &mut Vec<Segment>,
-    base: u64,
-    bytes: &[u8],
-    after: usize,
-) -> Result<(), AllocError>
-    requires { after < vec_len segments.old }
-    ensures ok { OnOk result (let old = run_in (runs segments.old.items) after in runs segments.new.items ≡ slice_set (runs segments.old.items) after (run_at base (bytes.now ++ old.bytes))) }
-    ensures err { OnErr result (runs segments.new.items ≡ runs segments.old.items) }
-{
-    let bytes = joined(alloc, &[], bytes, &segments[after].bytes)?;
-    segments[after] = Segment { base, bytes };
-    Ok(())
-}
-
-#[tactic(auto, using(crate::proofs::Pieces::Edits::edits))]
-fn bridge(
-    alloc: Global,
-    segments: &mut Vec<Segment>,
-    before: usize,
-    bytes: &[u8],
-    after: usize,
-) -> Result<(), AllocError>
-    requires before { before < vec_len segments.old }
-    requires after { after < vec_len segments.old }
-    requires two { before ≢ after }
-    ensures ok { OnOk result (runs segments.new.items ≡ bridged (runs segments.old.items) before bytes.now after) }
-    ensures err { OnErr result (runs segments.new.items ≡ runs segments.old.items) }
-{
-    let bytes = joined(
-        alloc,
-        &segments[before].bytes,
-        bytes,
-        &segments[after].bytes,
-    )?;
-    // Removing the later segment moves those after it in the list down by one.
-    segments.remove(after);
-    let before = if after < before { before - 1 } else { before };
-    segments[before].bytes = bytes;
-    Ok(())
-}
-
-/// Adds bytes at addresses of which none is held. They are joined with the segments that they touch.
-#[tactic(auto, using(crate::proofs::Pieces::Joins::puts, crate::proofs::Pieces::Joins::two_places))]
-pub fn put(
-    alloc: Global,
-    segments: &mut Vec<Segment>,
-    base: u64,
-    bytes: &[u8],
-) -> Result<(), AllocError>
-    requires { IsFree (run_at base bytes.now) (runs segments.old.items) }
-    ensures ok { OnOk result (Puts (run_at base bytes.now) (runs segments.old.items) (runs segments.new.items)) }
-    ensures err { OnErr result (runs segments.new.items ≡ runs segments.old.items) }
-{
-    let before = ending_at(segments, base);
-    let after = starting_at(segments, base, bytes.len() as u64);
-    match (before, after) {
-        (None, None) => put_alone(alloc, segments, base, bytes),
-        (Some(before), None) => append(segments, before, bytes),
-        (None, Some(after)) => prepend(alloc, segments, base, bytes, after),
-        (Some(before), Some(after)) => bridge(alloc, segments, before, bytes, after),
+    /// Adds bytes at addresses of which none is held. Behind all that are held they are appended; elsewhere the
+    /// segments are laid out anew, which copies all bytes.
+    pub fn put(&mut self, alloc: Global, base: u64, bytes: &[u8]) -> Result<(), AllocError>
+        requires sound { IsSound self.old }
+        requires some { 0 < length bytes.now }
+        requires fits { base + length bytes.now ≤ 2 ^ 64 }
+        requires free { IsGap (runs_of self.old) base (base + length bytes.now) }
+        ensures sound { IsSound self.new }
+        ensures ok { OnOk result (memory_in self.new ≡ with_bytes (memory_in self.old) base bytes.now) }
+        ensures err { OnErr result (memory_in self.new ≡ memory_in self.old) }
+    {
+        if base >= self.base {
+            return self.take(base, bytes);
+        }
+        *self = self.with(alloc, base, bytes)?;
+        Ok(())
     }
 }

@@ -5,6 +5,7 @@ ghost use Rattle.std.specs.List.{list_all};
 ghost use Rattle.acpi_base.specs.ImageText.{digit_of, is_blank, is_hex_digit, without_cr, without_comment, skip_blanks, hex_number, address_of, data_from, line_of};
 ghost use Rattle.acpi_base.specs.TextReading.{data_line, line_with};
 
+use super::digit::digit_value;
 use std::alloc::AllocError;
 
 /// What a line says.
@@ -24,20 +25,6 @@ fn is_blank_byte(byte: u8) -> bool
     ensures { result ≡ is_blank byte }
 {
     byte == b' ' || byte == b'\t'
-}
-
-/// A hex digit's value, in either case.
-#[tactic(auto, unfolding(crate::specs::ImageText::digit_of))]
-fn digit_value(byte: u8) -> Option<u8>
-    ensures value { result ≡ digit_of byte }
-    ensures small { IfSome result (λ digit. digit < 16) }
-{
-    match byte {
-        b'0'..=b'9' => Some(byte - b'0'),
-        b'A'..=b'F' => Some(byte - b'A' + 10),
-        b'a'..=b'f' => Some(byte - b'a' + 10),
-        _ => None,
-    }
 }
 
 /// The line without a CR at its end.
@@ -127,19 +114,25 @@ fn parse_data(line: &[u8], bytes: &mut Vec<u8>) -> Result<bool, AllocError>
     ensures { IfOk result (λ is_data. data_line is_data bytes.new.items ≡ data_from [] None line.now) }
 {
     bytes.clear();
-    let mut high = None;
-    for byte in line {
-        high = match (high, digit_value(*byte)) {
-            (None, Some(digit)) => Some(digit),
-            (Some(high), Some(low)) => {
-                bytes.push(16 * high + low)?;
-                None
+    let mut rest = line;
+    while let [first, after @ ..] = rest {
+        let Some(high) = digit_value(*first) else {
+            if !is_blank_byte(*first) {
+                return Ok(false);
             }
-            (None, None) if is_blank_byte(*byte) => None,
-            _ => return Ok(false),
+            rest = after;
+            continue;
         };
+        let [second, behind @ ..] = after else {
+            return Ok(false);
+        };
+        let Some(low) = digit_value(*second) else {
+            return Ok(false);
+        };
+        bytes.push(16 * high + low)?;
+        rest = behind;
     }
-    Ok(high.is_none())
+    Ok(true)
 }
 
 /// What a line says, its LF left off. The bytes of a data line go into the vector, in place of what it had.

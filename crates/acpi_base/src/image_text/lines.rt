@@ -2,11 +2,13 @@
 
 ghost use Rattle.std.specs.Prelude.{◌≡◌, ◌≤◌, ◌<◌, ◌+◌, [], ◌∷◌, length, drop, slice_range, OnOk, IfOk, IfErr};
 ghost use Rattle.acpi_base.specs.Memory.{IsImage};
+ghost use Rattle.acpi_base.specs.Gathered.{IsGathering};
 ghost use Rattle.acpi_base.specs.ImageText.{start, max_text, data_fault, put_data, take_line, read_line, read_lines, ended_lines, last_line, ended_from, last_from, read_text, read_prefix, IsText};
 ghost use Rattle.acpi_base.specs.TextReading.{Refuses, IsFaultlessPrefix, line_with, reading_of};
 
 use super::MAX_TEXT;
 use super::line::{Form, parse_line};
+use crate::image::gathering::Gathering;
 use crate::image::{Image, ImageFault};
 use crate::text::TextFault;
 use std::alloc::Global;
@@ -24,7 +26,7 @@ pub struct Progress {
     /// Where the next data stands: 2^64 where data has reached the last address.
     next: Option<u128>,
     /// The data so far.
-    image: Image,
+    image: Gathering,
 }
 
 /// Why the bytes of a line cannot be added.
@@ -41,23 +43,23 @@ fn data_fault(line: u64, fault: ImageFault) -> TextFault
 impl Progress {
     fn new(alloc: Global) -> Progress
         ensures start { reading_of result ≡ start }
-        ensures image { IsImage result.image }
+        ensures image { IsGathering result.image }
     {
         Progress {
             lines: 0,
             through: 0,
             next: None,
-            image: Image::new(alloc),
+            image: Gathering::new(alloc),
         }
     }
 
     /// Puts the bytes of the line that was read last in at the next address.
     fn put_data(&mut self, bytes: &[u8]) -> Result<(), TextFault>
         requires some { 0 < length bytes.now }
-        requires image { IsImage self.old.image }
+        requires image { IsGathering self.old.image }
         ensures ok { OnOk result (put_data (reading_of self.old) self.old.lines bytes.now self.old.next ≡ Ok (reading_of self.new)) }
         ensures err { IfErr result (Refuses (put_data (reading_of self.old) self.old.lines bytes.now self.old.next)) }
-        ensures image { OnOk result (IsImage self.new.image) }
+        ensures image { OnOk result (IsGathering self.new.image) }
     {
         let line = self.lines;
         let Some(next) = self.next else {
@@ -78,11 +80,11 @@ impl Progress {
 
     /// Takes the line that was read last for what it says.
     fn take_line(&mut self, form: Form, bytes: &[u8]) -> Result<(), TextFault>
-        requires image { IsImage self.old.image }
+        requires image { IsGathering self.old.image }
         requires some { form ≡ Form.Data → 0 < length bytes.now }
         ensures ok { OnOk result (take_line (reading_of self.old) self.old.lines (line_with form bytes.now) ≡ Ok (reading_of self.new)) }
         ensures err { IfErr result (Refuses (take_line (reading_of self.old) self.old.lines (line_with form bytes.now))) }
-        ensures image { OnOk result (IsImage self.new.image) }
+        ensures image { OnOk result (IsGathering self.new.image) }
     {
         match form {
             Form::Blank => Ok(()),
@@ -99,13 +101,13 @@ impl Progress {
     /// place for its bytes.
     #[tactic(auto, unfolding(crate::specs::ImageText::read_line), using(crate::proofs::Texts::LineParsing::data_some))]
     fn read_line(&mut self, line: &[u8], ending: u64, bytes: &mut Vec<u8>) -> Result<(), TextFault>
-        requires image { IsImage self.old.image }
+        requires image { IsGathering self.old.image }
         requires lines { self.old.lines ≤ self.old.through }
         requires through { self.old.through ≤ max_text }
         requires ending { ending ≤ 1 }
         ensures ok { OnOk result (read_line (reading_of self.old) line.now ending ≡ Ok (reading_of self.new)) }
         ensures err { IfErr result (Refuses (read_line (reading_of self.old) line.now ending)) }
-        ensures image { OnOk result (IsImage self.new.image) }
+        ensures image { OnOk result (IsGathering self.new.image) }
         ensures lines { OnOk result (self.new.lines ≡ self.old.lines + 1) }
         ensures through { OnOk result (self.new.through ≡ self.old.through + length line.now + ending) }
         ensures short { OnOk result (self.new.through ≤ max_text) }
@@ -148,12 +150,12 @@ fn line_end(text: &[u8], start: usize) -> usize
 #[tactic(auto, unfolding(crate::specs::ImageText::read_lines))]
 fn read_ended(progress: &mut Progress, text: &[u8], bytes: &mut Vec<u8>) -> Result<usize, TextFault>
     requires start { reading_of progress.old ≡ start }
-    requires image { IsImage progress.old.image }
+    requires image { IsGathering progress.old.image }
     ensures ok { OnOk result (read_lines start (ended_lines text.now) ≡ Ok (reading_of progress.new)) }
     ensures err { IfErr result (Refuses (read_lines start (ended_lines text.now))) }
     ensures last { IfOk result (λ at. (at ≤ length text.now) × (last_line text.now ≡ drop at text.now)) }
     ensures place { IfOk result (λ at. (progress.new.through ≡ at) × (at ≤ max_text) × (progress.new.lines ≤ at)) }
-    ensures image { OnOk result (IsImage progress.new.image) }
+    ensures image { OnOk result (IsGathering progress.new.image) }
 {
     let mut begin = 0;
     loop {
@@ -177,6 +179,7 @@ pub fn judge_whole(alloc: Global, text: &[u8]) -> Result<Image, TextFault>
     let begin = read_ended(&mut progress, text, &mut bytes)?;
     progress.read_line(&text[begin..], 0, &mut bytes)?;
     let Progress { image, .. } = progress;
+    let image = image.finish(alloc)?;
     Ok(image)
 }
 

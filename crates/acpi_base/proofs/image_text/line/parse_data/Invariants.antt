@@ -1,11 +1,11 @@
-use Rattle.std.proofs.Common.{◌≡◌, ◌<◌, drop, [], vec_items}
-use Rattle.std.specs.Prelude.{None, IfSome}
+use Rattle.std.proofs.Common.{◌≡◌, length, [], vec_items}
+use Rattle.std.specs.Prelude.{None}
 use Rattle.acpi_base.specs.ImageText.{data_from}
 use Rattle.acpi_base.proofs.image_text.line.parse_data.Given as goal
 
--- the line goes on so from the bytes so far and the first digit of the next
-abbrev pub invariant-loop-byte : goal.invariant-loop-byte
-invariant-loop-byte l = record {
-  line : data_from (vec_items l.bytes) l.high (drop l.byte-index l.line) ≡ data_from [] None l.line;
-  high : IfSome l.high (λ h. h < 16);
-}
+-- the line goes on so from the bytes so far
+abbrev pub invariant-loop-rest : goal.invariant-loop-rest
+invariant-loop-rest l = data_from (vec_items l.bytes) None l.rest ≡ data_from [] None l.line
+
+abbrev pub decreases-loop-rest : goal.decreases-loop-rest
+decreases-loop-rest l = length l.rest

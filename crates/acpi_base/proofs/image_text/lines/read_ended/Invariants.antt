@@ -1,5 +1,5 @@
 use Rattle.std.proofs.Common.{◌≡◌, ◌≤◌, ◌-◌, drop, length}
-use Rattle.acpi_base.specs.Memory.{IsImage}
+use Rattle.acpi_base.specs.Gathered.{IsGathering}
 use Rattle.acpi_base.specs.ImageText.{start, max_text, read_lines, ended_lines, last_line}
 use Rattle.acpi_base.specs.TextReading.{reading_of}
 use Rattle.acpi_base.proofs.image_text.lines.read_ended.Given as goal
@@ -13,7 +13,7 @@ invariant-loop-begin l = record {
   through : l.progress.through ≡ l.begin;
   short : l.begin ≤ max_text;
   lines : l.progress.lines ≤ l.begin;
-  image : IsImage l.progress.image;
+  image : IsGathering l.progress.image;
 }
 
 abbrev pub decreases-loop-begin : goal.decreases-loop-begin

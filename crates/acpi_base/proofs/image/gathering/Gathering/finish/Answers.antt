@@ -1,0 +1,15 @@
+use Rattle.std.proofs.Common.{ap, ◌∙◌, length, drop, arith}
+use Rattle.std.proofs.lemmas.List.{drop_all}
+use Rattle.acpi_base.specs.Segments.{memory_of}
+use Rattle.acpi_base.specs.Stored.{runs_in}
+use Rattle.acpi_base.proofs.Pieces.Images.{no_bytes}
+use Rattle.acpi_base.proofs.image.gathering.Gathering.finish.Goals as goal
+
+pub returns-clause-same : goal.returns-clause-same
+returns-clause-same c =
+    let p = c.end.new.self in
+    let ended = c.in_ok-end.ensures.ended in
+    c.in_ok-segments.ensures.same
+    ∙ ap (λ store. memory_of (runs_in store p.ended.entries)) c.deref.ensures.value
+    ∙ no_bytes (memory_of (runs_in p.store.items p.ended.entries)) p.base (drop p.start p.store.items) (ap length (drop_all p.start p.store.items (omega arith)))
+    ∙ c.in_ok-end.ensures.same
