@@ -2,7 +2,7 @@
 
 mod digit;
 mod feeder;
-mod line;
+pub(crate) mod line;
 mod lines;
 #[cfg(test)]
 mod tests;
