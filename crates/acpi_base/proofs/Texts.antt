@@ -2,6 +2,7 @@ pub mod ByteMachine
 pub mod DataImages
 pub mod DataPlaces
 pub mod DigitTable
+pub mod Feeding
 pub mod GoodTexts
 pub mod Judging
 pub mod LineParsing

@@ -9,6 +9,7 @@ pub mod Examples
 pub mod Facs
 pub mod Fadt
 pub mod Faults
+pub mod Feeding
 pub mod Found
 pub mod Gathered
 pub mod Header
@@ -29,6 +30,7 @@ pub mod Segments
 pub mod Signature
 pub mod Slit
 pub mod Srat
+pub mod StandingCode
 pub mod Statements
 pub mod Stored
 pub mod Tables

@@ -1,13 +1,12 @@
 -- What `read_image` and its parts return, in the words of image text.
-use Rattle.std.specs.Prelude.{◌≡◌, ◌⊎◌, ℕ, ◌+◌, List, length, Option, Bool, true, false, Result, Ok, Err}
-use Rattle.std.specs.Io.KnownBytes.{IsAtEnd}
-use Rattle.acpi_base.specs.ImageText.{Line, Blank, Address, Data, Bad, Reading, max_text, read_prefix, IsRefused, IsRefusedPrefix}
+use Rattle.std.specs.Prelude.{◌≡◌, ◌⊎◌, ℕ, List, length, Option, Bool, true, false, Result, Ok, Err}
+use Rattle.std.specs.Io.KnownBytes.{Consumes, IsAtEnd}
+use Rattle.acpi_base.specs.ImageText.{Line, Blank, Address, Data, Bad, Reading, read_prefix, IsRefused, IsRefusedPrefix}
 use Rattle.acpi_base.specs.Gathered.{gathered_memory}
+use Rattle.acpi_base.specs.TextMachine.{Standing, beginning, run}
 use Rattle.acpi_base.specs.Tally.{CountsFailure}
 use Rattle.acpi_base.specs.declared.text.TextFault.{TextFault}
 use Rattle.acpi_base.specs.declared.text.TextFault.TheVariants as text
-use Rattle.acpi_base.specs.declared.image_text.collect.Ending.{Ending}
-use Rattle.acpi_base.specs.declared.image_text.collect.Ending.TheVariants as ending
 use Rattle.acpi_base.specs.declared.image_text.line.Form.{Form}
 use Rattle.acpi_base.specs.declared.image_text.line.Form.TheVariants as form
 use Rattle.acpi_base.specs.declared.image_text.lines.Progress.{Progress}
@@ -30,12 +29,12 @@ abbrev pub CountsRead : ℕ → ℕ → TextFault → Type 0
 CountsRead old new text.Read = CountsFailure old new
 CountsRead old new fault = (new ≡ old) ⊎ CountsFailure old new
 
--- How the collecting of these bytes ended, with what the reader has left and its count of failures before
--- and after.
-abbrev pub HasEnded : Ending → List ℕ → Option (List ℕ) → ℕ → ℕ → Type 0
-HasEnded ending.End bytes left old new = IsAtEnd left × (new ≡ old)
-HasEnded ending.Full bytes left old new = (length bytes ≡ max_text + 1) × (new ≡ old)
-HasEnded ending.Failed bytes left old new = CountsFailure old new
+-- The reader has brought a text of so many bytes, and the machine stands for it.
+pub record HasBrought (before left : Option (List ℕ)) (standing : Standing) (count : ℕ) : Type 0 where
+  pub text : List ℕ
+  pub consumed : Consumes before left text
+  pub long : length text ≡ count
+  pub stands : run beginning text ≡ standing
 
 -- what a line says, where the code holds a data line's bytes apart from the form
 abbrev pub line_with : Form → List ℕ → Line

@@ -1,30 +1,36 @@
 //! Images read from image text: lines of hex digits that say which bytes stand where.
 
-mod collect;
 mod digit;
+mod feeder;
 pub(crate) mod line;
 mod lines;
 #[cfg(test)]
 mod tests;
 
-ghost use Rattle.std.specs.Prelude.{◌≡◌, ◌≤◌, ◌+◌, ℕ, List, length, IfOk, MatchResult};
+ghost use Rattle.std.specs.Prelude.{◌≡◌, ◌≤◌, ◌+◌, ◌⊎◌, ℕ, List, length, OnOk, IfOk, IfErr, MatchResult};
 ghost use Rattle.std.specs.Io.KnownBytes.{Consumes, IsAtEnd};
 ghost use Rattle.acpi_base.specs.Memory.{IsImage};
 ghost use Rattle.acpi_base.specs.ImageText.{IsText, max_text};
+ghost use Rattle.acpi_base.specs.TextMachine.{Standing, Stopped, beginning, end_text, run};
 ghost use Rattle.acpi_base.specs.TextReading.{IsRefusal, CountsRead};
+ghost use Rattle.acpi_base.specs.Feeding.{EndsAs, IsGoing};
 
 use crate::image::Image;
 use crate::tally::Tally;
 use crate::text::TextFault;
-use collect::{Ending, collect};
-use lines::{judge_prefix, judge_whole};
+use feeder::Feeder;
 use std::alloc::Global;
 use std::io::Read;
+use std::marker::Model;
 
 /// The most bytes of a text.
 const MAX_TEXT: usize = 67_108_864;
 
-/// Reads a text to its end, and returns the image of its data. A read of no bytes is the end.
+/// How many bytes one read asks for.
+const PIECE: usize = 16_384;
+
+/// An image text that comes in pieces, which may be cut anywhere. One unfinished line is kept, and no more of
+/// the text.
 ///
 /// A line is judged where its LF comes or the text ends, and for `TooLong` already at the first byte too
 /// many. The first line with a fault refuses the text. Lines count from 1. In one line the faults come in
@@ -36,12 +42,86 @@ const MAX_TEXT: usize = 67_108_864;
 /// 4. `PastEnd`: its data passes the address 2^64 - 1, also where the data before it has reached that.
 /// 5. `Twice`: an address of its data is held already; the least one.
 ///
-/// `Read`: a read failed, and neither the lines that had ended nor the lengths so far have a fault.
-/// `Memory`: out of memory for the text or the image. It can be returned in place of any other result.
+/// `Memory`: out of memory for the line or the image. It can be returned in place of any other result.
+/// Once refused, the text is refused with the same fault for good.
+#[derive(Drop)]
+pub struct ImageText {
+    feeder: Feeder,
+    stopped: Option<TextFault>,
+    alloc: Global,
+}
+
+impl Model for ImageText {
+    ghost use Rattle.acpi_base.specs.TextMachine.{Standing};
+    ghost use Rattle.acpi_base.specs.StandingCode.{standing_code};
+
+    ghost Value = { Standing };
+
+    ghost coded = { standing_code };
+
+    ghost use Rattle.acpi_base.specs.Feeding.{stands, IsReading};
+
+    ghost view = { λ text. stands text.stopped text.feeder };
+
+    ghost invariant = { λ text. IsReading text.stopped text.feeder };
+}
+
+impl ImageText {
+    /// The empty text. Takes no memory.
+    pub fn new(alloc: Global) -> ImageText
+        ensures { result ≡ beginning }
+    {
+        ImageText {
+            feeder: Feeder::new(alloc),
+            stopped: None,
+            alloc,
+        }
+    }
+
+    /// Reads the next piece of the text. Refuses as above, with the first fault that stands in what has come.
+    /// A line that has not ended has none but `TooLong`. After a refusal it takes no memory.
+    pub fn feed(&mut self, piece: &[u8]) -> Result<(), TextFault>
+        ensures ok { OnOk result (self.new ≡ run self.old piece.now) }
+        ensures going { OnOk result (IsGoing self.new) }
+        ensures err { IfErr result (λ fault. (self.new ≡ Stopped fault) × ((fault ≡ TextFault.Memory) ⊎ (run self.old piece.now ≡ Stopped fault))) }
+        ensures stays { (fault : TextFault) → self.old ≡ Stopped fault → (result ≡ Err fault) × (self.new ≡ self.old) }
+    {
+        if let Some(fault) = self.stopped {
+            return Err(fault);
+        }
+        match self.feeder.take(piece) {
+            Ok(()) => Ok(()),
+            Err(fault) => {
+                self.stopped = Some(fault);
+                Err(fault)
+            }
+        }
+    }
+
+    /// The text has ended: judges what has come of its last line, and returns the image of its data.
+    pub fn finish(self) -> Result<Image, TextFault>
+        ensures ok { IfOk result (EndsAs self) }
+        ensures err { IfErr result (λ fault. (fault ≡ TextFault.Memory) ⊎ (end_text self ≡ Err fault)) }
+        ensures image { IfOk result IsImage }
+    {
+        let ImageText {
+            feeder,
+            stopped,
+            alloc,
+        } = self;
+        match stopped {
+            Some(fault) => Err(fault),
+            None => feeder.finish(alloc),
+        }
+    }
+}
+
+/// Reads a text to its end or to its first fault, and returns the image of its data. A read of no bytes is
+/// the end. Refuses as `ImageText` does, and with
+/// `Read`, where a read failed, and neither the lines that had ended nor the lengths so far have a fault.
 ///
 /// At most 67,108,865 bytes are read, so a reader that never ends is refused. What was read is gone from
 /// the reader, whatever is returned.
-#[tactic(auto, using(crate::proofs::Texts::Judging::whole_result))]
 pub fn read_image<R: Read>(alloc: Global, reader: &mut Tally<R>) -> Result<Image, TextFault>
     ensures text { (text : List ℕ)
         × Consumes (R.remaining reader.old.inner) (R.remaining reader.new.inner) text
@@ -53,18 +133,21 @@ pub fn read_image<R: Read>(alloc: Global, reader: &mut Tally<R>) -> Result<Image
     ensures count { MatchResult result (λ _. reader.new.failures ≡ reader.old.failures)
         (CountsRead reader.old.failures reader.new.failures) }
 {
-    let mut text = Vec::new(alloc);
-    match collect(reader, &mut text) {
-        Ok(Ending::End) => judge_whole(alloc, &text),
-        Ok(Ending::Full) => match judge_prefix(alloc, &text) {
-            Err(fault) => Err(fault),
-            // A text that is too long has at least that fault.
-            Ok(()) => unreachable!(),
-        },
-        Ok(Ending::Failed) => match judge_prefix(alloc, &text) {
-            Err(fault) => Err(fault),
-            Ok(()) => Err(TextFault::Read),
-        },
-        Err(_) => Err(TextFault::Memory),
+    let mut text = ImageText::new(alloc);
+    let mut piece = [0; PIECE];
+    let mut total = 0;
+    'pieces: loop {
+        // One byte more than a text may have shows that it is too long.
+        let room = (MAX_TEXT + 1 - total).min(PIECE);
+        let Ok(count) = reader.read(&mut piece[..room]) else {
+            return Err(TextFault::Read);
+        };
+        if count == 0 {
+            return text.finish();
+        }
+        if let Err(fault) = text.feed(&piece[..count]) {
+            return Err(fault);
+        }
+        total += count;
     }
 }

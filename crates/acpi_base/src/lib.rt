@@ -1,7 +1,7 @@
 //! What every part of the ACPI table checker stands on: images of a machine's memory, the text that they are
 //! read from, the codes of faults, and the definitions of what a sound set of tables is.
 //!
-//! - `Image`: bytes at 64-bit addresses. `read_image` reads one from image text.
+//! - `Image`: bytes at 64-bit addresses. `read_image` reads one from image text, `ImageText` from such a text in pieces.
 //! - `sum`, `find_rsdp`: a checksum, and the search for the RSDP.
 //! - `field`: numbers and bytes at an offset in a table, read and written.
 //! - `Code`, `Stage`, `Witness`, `Verdict`: what can be wrong, in which part of the check, where, and the
@@ -42,7 +42,7 @@ pub use fault_parsing::parse_witness;
 pub use fault_text::{verdict_text, witness_text};
 pub use find::find_rsdp;
 pub use image::{Image, ImageFault};
-pub use image_text::read_image;
+pub use image_text::{ImageText, read_image};
 pub use policy::{HotPlug, Policy, PolicyFault, Processors};
 pub use stage::Stage;
 pub use tally::{DeviceFailed, Tally};

@@ -14,7 +14,7 @@ run_append s [] ys = refl
 run_append s (b ∷ xs) ys = run_append (step s b) xs ys
 
 -- a machine that has stopped stays so
-run_stopped : (fault : TextFault) (bytes : List ℕ) → run (Stopped fault) bytes ≡ Stopped fault
+pub run_stopped : (fault : TextFault) (bytes : List ℕ) → run (Stopped fault) bytes ≡ Stopped fault
 unfolding run
 run_stopped fault [] = refl
 run_stopped fault (b ∷ rest) = run_stopped fault rest
@@ -24,18 +24,18 @@ pub take_line_keeps : (r : Reading) (n : ℕ) (said : Line) (s : Reading) → ta
 take_line_keeps r n said s e = grind (arith)
 
 -- where reading stands within a line, of which these bytes have come
-abbrev after : Result Reading TextFault → List ℕ → Standing
+abbrev pub after : Result Reading TextFault → List ℕ → Standing
 after (Ok r) line = if is_too_long (length line) (r.through + length line) then Stopped text.TooLong else Going r line
 after (Err fault) line = Stopped fault
 
 -- a byte ends the line or goes onto it
-step_after : (r : Reading) (line : List ℕ) (b : ℕ)
+pub step_after : (r : Reading) (line : List ℕ) (b : ℕ)
     → step (after (Ok r) line) b ≡ (if eqb b 10 then after (read_line r line 1) [] else after (Ok r) (line ++ b ∷ []))
 unfolding read_line
 step_after r line b = grind (arith, nat_tests, length-append, take_line_keeps)
 
 -- the machine stands where reading by lines does
-run_after : (x : Result Reading TextFault) (line bytes : List ℕ)
+pub run_after : (x : Result Reading TextFault) (line bytes : List ℕ)
     → run (after x line) bytes ≡ after (on_ok x (λ r. read_lines r (ended_from line bytes))) (last_from line bytes)
 unfolding run read_lines ended_from last_from
 run_after (Err fault) line bytes = run_stopped fault bytes

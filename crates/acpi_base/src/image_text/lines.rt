@@ -1,10 +1,10 @@
-//! Judging a text line by line.
+//! Reading a text line by line.
 
-ghost use Rattle.std.specs.Prelude.{◌≡◌, ◌≤◌, ◌<◌, ◌+◌, [], ◌∷◌, length, drop, slice_range, OnOk, IfOk, IfErr};
+ghost use Rattle.std.specs.Prelude.{◌≡◌, ◌≤◌, ◌<◌, ◌+◌, length, OnOk, IfOk, IfErr};
 ghost use Rattle.acpi_base.specs.Memory.{IsImage};
 ghost use Rattle.acpi_base.specs.Gathered.{IsGathering};
-ghost use Rattle.acpi_base.specs.ImageText.{start, max_text, data_fault, put_data, take_line, read_line, read_lines, ended_lines, last_line, ended_from, last_from, read_text, read_prefix, IsText};
-ghost use Rattle.acpi_base.specs.TextReading.{Refuses, IsFaultlessPrefix, line_with, reading_of};
+ghost use Rattle.acpi_base.specs.ImageText.{start, max_text, data_fault, put_data, take_line, read_line};
+ghost use Rattle.acpi_base.specs.TextReading.{Refuses, line_with, reading_of};
 
 use super::MAX_TEXT;
 use super::line::{Form, parse_line};
@@ -14,7 +14,7 @@ use crate::text::TextFault;
 use std::alloc::Global;
 
 /// The most bytes of a line, its CR counted and its LF not.
-const MAX_LINE: usize = 65_536;
+pub const MAX_LINE: usize = 65_536;
 
 /// Where reading stands between two lines.
 #[derive(Drop)]
@@ -41,7 +41,7 @@ fn data_fault(line: u64, fault: ImageFault) -> TextFault
 }
 
 impl Progress {
-    fn new(alloc: Global) -> Progress
+    pub fn new(alloc: Global) -> Progress
         ensures start { reading_of result ≡ start }
         ensures image { IsGathering result.image }
     {
@@ -100,7 +100,12 @@ impl Progress {
     /// Reads the next line: `ending` is 1 where an LF ends it, and 0 where the text does. The vector is a
     /// place for its bytes.
     #[tactic(auto, unfolding(crate::specs::ImageText::read_line), using(crate::proofs::Texts::LineParsing::data_some))]
-    fn read_line(&mut self, line: &[u8], ending: u64, bytes: &mut Vec<u8>) -> Result<(), TextFault>
+    pub fn read_line(
+        &mut self,
+        line: &[u8],
+        ending: u64,
+        bytes: &mut Vec<u8>,
+    ) -> Result<(), TextFault>
         requires image { IsGathering self.old.image }
         requires lines { self.old.lines ≤ self.old.through }
         requires through { self.old.through ≤ max_text }
@@ -126,74 +131,22 @@ impl Progress {
             Err(_) => Err(TextFault::Memory),
         }
     }
-}
 
-/// Where the line that begins at `start` ends: at its LF, or at the text's end.
-#[tactic(auto, unfolding(crate::specs::ImageText::ended_from, crate::specs::ImageText::last_from), using(crate::proofs::Texts::LineParsing::one_more))]
-fn line_end(text: &[u8], start: usize) -> usize
-    requires { start ≤ length text.now }
-    ensures within { (start ≤ result) × (result ≤ length text.now) }
-    ensures ended { result < length text.now → ended_lines (drop start text.now)
-        ≡ slice_range text.now start result ∷ ended_lines (drop (result + 1) text.now) }
-    ensures last { result < length text.now → last_line (drop start text.now) ≡ last_line (drop (result + 1) text.now) }
-    ensures none { result ≡ length text.now → (ended_lines (drop start text.now) ≡ []) × (last_line (drop start text.now) ≡ drop start text.now) }
-{
-    for i in start..text.len() {
-        if text[i] == b'\n' {
-            return i;
-        }
+    /// How many bytes were read, each line's LF among them.
+    pub fn through(&self) -> u64
+        ensures { result ≡ self.now.through }
+    {
+        self.through
     }
-    text.len()
-}
 
-/// Reads the lines that an LF ends. Returns where the last line begins.
-#[tactic(auto, unfolding(crate::specs::ImageText::read_lines))]
-fn read_ended(progress: &mut Progress, text: &[u8], bytes: &mut Vec<u8>) -> Result<usize, TextFault>
-    requires start { reading_of progress.old ≡ start }
-    requires image { IsGathering progress.old.image }
-    ensures ok { OnOk result (read_lines start (ended_lines text.now) ≡ Ok (reading_of progress.new)) }
-    ensures err { IfErr result (Refuses (read_lines start (ended_lines text.now))) }
-    ensures last { IfOk result (λ at. (at ≤ length text.now) × (last_line text.now ≡ drop at text.now)) }
-    ensures place { IfOk result (λ at. (progress.new.through ≡ at) × (at ≤ max_text) × (progress.new.lines ≤ at)) }
-    ensures image { OnOk result (IsGathering progress.new.image) }
-{
-    let mut begin = 0;
-    loop {
-        let end = line_end(text, begin);
-        if end == text.len() {
-            return Ok(begin);
-        }
-        progress.read_line(&text[begin..end], 1, bytes)?;
-        begin = end + 1;
+    /// The image of the data.
+    pub fn finish(self, alloc: Global) -> Result<Image, TextFault>
+        requires { IsGathering self.image }
+        ensures ok { IfOk result (λ image. (reading_of self).image ≡ image) }
+        ensures err { IfErr result (λ fault. fault ≡ TextFault.Memory) }
+        ensures image { IfOk result IsImage }
+    {
+        let image = self.image.finish(alloc)?;
+        Ok(image)
     }
-}
-
-/// Judges a whole text.
-pub fn judge_whole(alloc: Global, text: &[u8]) -> Result<Image, TextFault>
-    ensures ok { IfOk result (IsText text.now) }
-    ensures err { IfErr result (Refuses (read_text text.now)) }
-    ensures image { IfOk result IsImage }
-{
-    let mut progress = Progress::new(alloc);
-    let mut bytes = Vec::new(alloc);
-    let begin = read_ended(&mut progress, text, &mut bytes)?;
-    progress.read_line(&text[begin..], 0, &mut bytes)?;
-    let Progress { image, .. } = progress;
-    let image = image.finish(alloc)?;
-    Ok(image)
-}
-
-/// Judges a prefix of a text: the lines that have ended, and the lengths so far.
-pub fn judge_prefix(alloc: Global, text: &[u8]) -> Result<(), TextFault>
-    ensures ok { OnOk result (IsFaultlessPrefix text.now) }
-    ensures err { IfErr result (Refuses (read_prefix text.now)) }
-    ensures short { OnOk result (length text.now ≤ max_text) }
-{
-    let mut progress = Progress::new(alloc);
-    let mut bytes = Vec::new(alloc);
-    let begin = read_ended(&mut progress, text, &mut bytes)?;
-    if text.len() - begin > MAX_LINE || text.len() > MAX_TEXT {
-        return Err(TextFault::TooLong);
-    }
-    Ok(())
 }

@@ -1,4 +1,4 @@
-use crate::{Tally, TextFault, read_image};
+use crate::{ImageText, Tally, TextFault, read_image};
 use std::io;
 use std::io::Read;
 use std::test::Fail;
@@ -143,10 +143,10 @@ fn limits_lines_and_texts(rt: HostRuntime) -> Result<(), Fail> {
 
 #[test]
 fn judges_what_came_before_a_failure(rt: HostRuntime) {
-    for (bytes, fault) in [
-        (b"@0\n01\n".as_slice(), TextFault::Read),
-        (b"@0\n01\n@0\n02", TextFault::Read),
-        (b"@0\n01\n@0\n02\n", TextFault::Twice { address: 0 }),
+    for (bytes, fault, failures) in [
+        (b"@0\n01\n".as_slice(), TextFault::Read, 1),
+        (b"@0\n01\n@0\n02", TextFault::Read, 1),
+        (b"@0\n01\n@0\n02\n", TextFault::Twice { address: 0 }, 0),
     ] {
         let mut reader = Tally::new(FailsOnce {
             bytes,
@@ -154,7 +154,7 @@ fn judges_what_came_before_a_failure(rt: HostRuntime) {
         });
         let read = read_image(rt.alloc(), &mut reader);
         assert_eq!(rt; read.err(), Some(fault), "{bytes:?}");
-        assert_eq!(rt; reader.failures(), 1);
+        assert_eq!(rt; reader.failures(), failures);
     }
 }
 
@@ -166,5 +166,51 @@ fn reads_the_example_of_the_crate(rt: HostRuntime) -> Result<(), Fail> {
     let image = read_image(alloc, &mut reader)?;
     assert_eq!(rt; image.window(0x1000, 3), Some([1, 2, 3].as_slice()));
     assert_eq!(rt; image.window(0x1000, 4), None);
+    Ok(())
+}
+
+// Row 1's text in pieces of each of these sizes, also with CR LF for LF.
+#[test]
+fn text_comes_in_pieces(rt: HostRuntime) -> Result<(), Fail> {
+    let mut with_crs = Vec::new(rt.alloc());
+    for byte in TABLES {
+        if *byte == b'\n' {
+            with_crs.push(b'\r')?;
+        }
+        with_crs.push(*byte)?;
+    }
+    for text in [TABLES, with_crs.as_slice()] {
+        for size in [1, 2, 3, 7, 48, 1000] {
+            let mut reading = ImageText::new(rt.alloc());
+            for piece in text.chunks(size) {
+                assert_eq!(rt; reading.feed(piece), Ok(()));
+            }
+            let image = reading.finish()?;
+            assert_eq!(rt; image.byte_at(0xe0008), Some(0x4b));
+            assert_eq!(rt; image.byte_at(0xe0013), Some(0));
+            assert_eq!(rt; image.byte_at(0x1009), Some(0x0a));
+            assert_eq!(rt; image.byte_at(0x1024), None);
+        }
+    }
+    Ok(())
+}
+
+#[test]
+fn a_refusal_stays(rt: HostRuntime) {
+    let mut reading = ImageText::new(rt.alloc());
+    let fault = TextFault::NoAddress { line: 1 };
+    assert_eq!(rt; reading.feed(b"01\n"), Err(fault));
+    assert_eq!(rt; reading.feed(b"@0\n"), Err(fault));
+    assert_eq!(rt; reading.finish().err(), Some(fault));
+}
+
+#[test]
+fn a_pair_is_cut(rt: HostRuntime) -> Result<(), Fail> {
+    let mut reading = ImageText::new(rt.alloc());
+    assert_eq!(rt; reading.feed(b"@0\n0"), Ok(()));
+    assert_eq!(rt; reading.feed(b"1"), Ok(()));
+    let image = reading.finish()?;
+    assert_eq!(rt; image.window(0, 1), Some([1].as_slice()));
+    assert_eq!(rt; image.window(0, 2), None);
     Ok(())
 }

@@ -1,0 +1,11 @@
+use Rattle.std.proofs.Common.{◌≡◌, ap, sym, ◌∙◌}
+use Rattle.std.proofs.lemmas.Result.{IfOk-weaker}
+use Rattle.acpi_base.specs.ImageText.{read_line}
+use Rattle.acpi_base.specs.TextReading.{reading_of}
+use Rattle.acpi_base.proofs.image_text.feeder.Feeder.finish.Goals as goal
+
+pub returns-clause-ok : goal.returns-clause-ok
+returns-clause-ok c =
+    let f = c.args.self in
+    let read = ap (λ line. read_line (reading_of f.progress) line 0) (sym c.deref.ensures.value) ∙ c.in_ok-read_line.ensures.ok in
+    IfOk-weaker c.finish.result _ _ (λ image same. (reading_of c.read_line.new.self, read, same)) c.finish.ensures.ok
