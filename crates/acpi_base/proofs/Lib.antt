@@ -21,3 +21,4 @@ pub mod Srat
 pub mod Standings
 pub mod Tables
 pub mod Texts
+pub mod Written

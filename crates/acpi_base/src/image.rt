@@ -8,6 +8,7 @@ ghost use Rattle.acpi_base.specs.Memory.{IsImage, first_of, byte_of, bytes_at, w
 ghost use Rattle.acpi_base.specs.Adding.{add_refusal};
 ghost use Rattle.acpi_base.specs.Segments.{lookup, runs, IsWhole};
 
+mod runs;
 mod segments;
 #[cfg(test)]
 mod tests;

@@ -18,7 +18,7 @@ run_of-or f g p q a zero = grind (arith)
 run_of-or f g p q a (suc n) = grind (arith, run_of-or f g p q (a + 1) n)
 
 -- the runs apart from r hold nothing in r, nor just behind it
-lookup_apart : (r : Run) (rs : List Run) (x : ℕ) → ApartFrom r rs → r.base ≤ x → x ≤ end_of r → lookup rs x ≡ None
+pub lookup_apart : (r : Run) (rs : List Run) (x : ℕ) → ApartFrom r rs → r.base ≤ x → x ≤ end_of r → lookup rs x ≡ None
 lookup_apart r [] x h l m = refl
 lookup_apart r (s ∷ ss) x h l m = grind (arith, held_none, lookup_apart r ss x h.1 l m)
 
