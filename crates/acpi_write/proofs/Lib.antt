@@ -1,0 +1,9 @@
+pub mod EncodedSizes
+pub mod EntryForms
+pub mod EntryLists
+pub mod MadtBytes
+pub mod NodeBytes
+pub mod PpttBytes
+pub mod SratBytes
+pub mod Sums
+pub mod TableBytes

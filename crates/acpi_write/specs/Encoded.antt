@@ -1,10 +1,19 @@
 -- The bytes that are written for a table, as a function of what it says.
-use Rattle.std.specs.Prelude.{ℕ, ◌+◌, ◌-◌, ◌%◌, List, [], ◌∷◌, ◌++◌, length, replicate, flat_map}
+use Rattle.std.specs.Prelude.{◌≡◌, ℕ, ◌+◌, ◌-◌, ◌%◌, ◌^◌, ◌<◌, List, [], ◌∷◌, ◌++◌, length, take, drop, replicate, flat_map}
 use Rattle.acpi_base.specs.Number.{number_bytes, byte_sum}
-use Rattle.acpi_base.specs.Header.{HeadValue, header_with, header_bytes}
+use Rattle.acpi_base.specs.Header.{HeadValue, head_of, header_with, header_bytes}
 use Rattle.acpi_base.specs.Listed.{fadt_signature, madt_signature, srat_signature, slit_signature, pptt_signature}
 use Rattle.acpi_write.specs.EntryBytes.{madt_bytes, srat_bytes, pptt_bytes}
 use Rattle.acpi_write.specs.Values.{TableValue, Madt, Srat, Slit, Pptt, Fadt, Other}
+
+-- each field has its width
+pub record FitsHead (head : HeadValue) : Type 0 where
+  pub revision : head.revision < 256
+  pub oemid : length head.oemid ≡ 6
+  pub oem_table_id : length head.oem_table_id ≡ 8
+  pub oem_revision : head.oem_revision < 2 ^ 32
+  pub creator_id : head.creator_id < 2 ^ 32
+  pub creator_revision : head.creator_revision < 2 ^ 32
 
 -- the byte that makes the sum 0 of bytes that hold 0 in its place (5.2.6)
 unfoldable pub closing : List ℕ → ℕ
@@ -21,11 +30,38 @@ table_bytes signature head body =
 abbrev pub srat_reserved : List ℕ
 srat_reserved = number_bytes 4 1 ++ replicate 8 0
 
--- the bytes that are written for a value
-unfoldable pub encoded : TableValue → List ℕ
-encoded (Madt head address flags entries) = table_bytes madt_signature head (number_bytes 4 address ++ number_bytes 4 flags ++ flat_map madt_bytes entries)
-encoded (Srat head entries) = table_bytes srat_signature head (srat_reserved ++ flat_map srat_bytes entries)
-encoded (Slit head count cells) = table_bytes slit_signature head (number_bytes 8 count ++ cells)
-encoded (Pptt head entries) = table_bytes pptt_signature head (flat_map pptt_bytes entries)
-encoded (Fadt head body) = table_bytes fadt_signature head body
+-- a table's signature
+abbrev pub signature_of : TableValue → List ℕ
+signature_of (Madt _ _ _ _) = madt_signature
+signature_of (Srat _ _) = srat_signature
+signature_of (Slit _ _ _) = slit_signature
+signature_of (Pptt _ _) = pptt_signature
+signature_of (Fadt _ _) = fadt_signature
+signature_of (Other bytes) = take 4 bytes
+
+-- what its header says besides
+abbrev pub value_head : TableValue → HeadValue
+value_head (Madt head _ _ _) = head
+value_head (Srat head _) = head
+value_head (Slit head _ _) = head
+value_head (Pptt head _) = head
+value_head (Fadt head _) = head
+value_head (Other bytes) = head_of bytes
+
+-- its bytes behind the header
+abbrev pub body_of : TableValue → List ℕ
+body_of (Madt head address flags entries) = number_bytes 4 address ++ (number_bytes 4 flags ++ flat_map madt_bytes entries)
+body_of (Srat head entries) = srat_reserved ++ flat_map srat_bytes entries
+body_of (Slit head count cells) = number_bytes 8 count ++ cells
+body_of (Pptt head entries) = flat_map pptt_bytes entries
+body_of (Fadt head body) = body
+body_of (Other bytes) = drop 36 bytes
+
+-- how many bytes it has
+abbrev pub encoded_length : TableValue → ℕ
+encoded_length v = 36 + length (body_of v)
+
+-- the bytes that are written for a value; those of another table are as they were
+abbrev pub encoded : TableValue → List ℕ
 encoded (Other bytes) = bytes
+encoded v = table_bytes (signature_of v) (value_head v) (body_of v)

@@ -5,7 +5,7 @@ use Rattle.acpi_base.specs.Header.{HeadValue, head_of}
 use Rattle.acpi_base.specs.Signature.{has_signature}
 use Rattle.acpi_base.specs.Tables.{length_of}
 use Rattle.acpi_base.specs.Listed.{fadt_signature, madt_signature, srat_signature, slit_signature, pptt_signature}
-use Rattle.acpi_base.specs.Entries.{IsCut}
+use Rattle.acpi_base.specs.Entries.{IsEntry, IsCut}
 use Rattle.acpi_base.specs.Madt.{madt_entry}
 use Rattle.acpi_base.specs.Srat.{srat_entry}
 use Rattle.acpi_base.specs.Pptt.{pptt_entry}
@@ -18,6 +18,10 @@ pub record IsTableOf (signature : List ℕ) (head : HeadValue) (bytes : List ℕ
   pub head_is : head_of bytes ≡ head
   pub size : length_of bytes ≡ length bytes
   pub zero_sum : byte_sum bytes ≡ 0
+
+-- the bytes are an entry that says this value
+abbrev pub SaysEntry : {E : Type 0} → (List ℕ → E) → List ℕ → E → Type 0
+SaysEntry read e v = IsEntry e × (read e ≡ v)
 
 -- a table's bytes from its first entry's place on are cut into entries that say these values, in their order
 pub record SpellEntries {E : Type 0} (read : List ℕ → E) (first : ℕ) (bytes : List ℕ) (entries : List E) : Type 0 where

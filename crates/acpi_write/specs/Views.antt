@@ -1,12 +1,13 @@
 -- Values of the program as plain values, and their shape.
-use Rattle.std.specs.Prelude.{◌≡◌, ℕ, ◌*◌, ◌≤◌, List, length, map, slice_index}
+use Rattle.std.specs.Prelude.{◌≡◌, ℕ, ◌*◌, ◌^◌, ◌<◌, ◌≤◌, List, length, map, slice_index}
 use Rattle.std.specs.List.{All}
 use Rattle.acpi_base.specs.Number.{byte_sum}
 use Rattle.acpi_base.specs.Header.{HeadValue}
 use Rattle.acpi_base.specs.Tables.{length_of}
 use Rattle.acpi_base.specs.Entries.{IsEntry, IsTypeOf}
-use Rattle.acpi_base.specs.Madt.{madt_kinds}
-use Rattle.acpi_base.specs.Srat.{srat_kinds}
+use Rattle.acpi_base.specs.Madt.{madt_kinds, madt_entry}
+use Rattle.acpi_base.specs.Srat.{srat_kinds, srat_entry}
+use Rattle.acpi_base.specs.Pptt.{pptt_entry}
 use Rattle.acpi_read.specs.Madts.{madt_value}
 use Rattle.acpi_read.specs.Srats.{srat_value}
 use Rattle.acpi_read.specs.Pptts.{pptt_value, HasReferences}
@@ -17,6 +18,11 @@ use Rattle.acpi_read.specs.declared.srat.SratEntry.TheVariants as srat
 use Rattle.acpi_read.specs.declared.pptt.PpttEntry.{PpttEntry}
 use Rattle.acpi_read.specs.declared.pptt.PpttEntry.TheVariants as pptt
 use Rattle.acpi_write.specs.Values as value
+use Rattle.acpi_write.specs.EntryBytes.{madt_bytes, srat_bytes, pptt_bytes}
+use Rattle.acpi_write.specs.Encoded.{encoded_length}
+use Rattle.acpi_write.specs.Spells.{SaysEntry}
+use Rattle.acpi_write.specs.declared.encode.WriteFault.{WriteFault}
+use Rattle.acpi_write.specs.declared.encode.WriteFault.TheVariants as fault
 use Rattle.acpi_write.specs.declared.table_value.Head.{Head}
 use Rattle.acpi_write.specs.declared.table_value.TableValue.{TableValue}
 use Rattle.acpi_write.specs.declared.table_value.TableValue.TheVariants as table
@@ -71,3 +77,20 @@ IsShaped (table.Slit head count cells) = length cells.now ≡ count * count
 IsShaped (table.Pptt head entries) = All IsShapedPptt entries.items
 IsShaped (table.Fadt head body) = 80 ≤ length body.items
 IsShaped (table.Other bytes) = IsWholeTable bytes.now
+
+-- ---- what is written
+
+-- the bytes of each entry are an entry that says it
+abbrev pub EntriesSay : TableValue → Type 0
+EntriesSay (table.Madt head address flags entries) = All (λ e. SaysEntry madt_entry (madt_bytes (madt_value e)) (madt_value e)) entries.items
+EntriesSay (table.Srat head entries) = All (λ e. SaysEntry srat_entry (srat_bytes (srat_value e)) (srat_value e)) entries.items
+EntriesSay (table.Pptt head entries) = All (λ e. SaysEntry pptt_entry (pptt_bytes (pptt_value e)) (pptt_value e)) entries.items
+EntriesSay _ = Unit {0}
+
+-- ---- what `encode_table` returns
+
+-- why the table is not written
+abbrev pub IsRefusal : TableValue → WriteFault → Type 0
+IsRefusal v fault.Shape = ¬ IsShaped v
+IsRefusal v fault.TooLong = IsShaped v × (2 ^ 32 ≤ encoded_length (table_value v))
+IsRefusal v fault.Memory = IsShaped v × (encoded_length (table_value v) < 2 ^ 32)

@@ -6,6 +6,8 @@
 //! - `laws`: what holds of the definitions: bytes say at most one value of a kind.
 #![tactic(auto)]
 
+mod encode;
+mod entry_bytes;
 mod table_value;
 
 pub use table_value::{Head, TableValue};
