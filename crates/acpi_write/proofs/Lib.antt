@@ -4,6 +4,8 @@ pub mod EntryLists
 pub mod MadtBytes
 pub mod NodeBytes
 pub mod PpttBytes
+pub mod Spelling
 pub mod SratBytes
 pub mod Sums
 pub mod TableBytes
+pub mod Tables

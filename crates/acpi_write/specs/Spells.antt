@@ -1,5 +1,6 @@
 -- Which bytes say which value.
 use Rattle.std.specs.Prelude.{◌≡◌, ℕ, ◌≤◌, List, length, drop, map, true}
+use Rattle.std.specs.List.{All}
 use Rattle.acpi_base.specs.Number.{field, byte_sum}
 use Rattle.acpi_base.specs.Header.{HeadValue, head_of}
 use Rattle.acpi_base.specs.Signature.{has_signature}
@@ -22,6 +23,10 @@ pub record IsTableOf (signature : List ℕ) (head : HeadValue) (bytes : List ℕ
 -- the bytes are an entry that says this value
 abbrev pub SaysEntry : {E : Type 0} → (List ℕ → E) → List ℕ → E → Type 0
 SaysEntry read e v = IsEntry e × (read e ≡ v)
+
+-- the bytes that are written for each of these are an entry that says its value
+abbrev pub DoEntriesSay : {X E : Type 0} → (List ℕ → E) → (E → List ℕ) → (X → E) → List X → Type 0
+DoEntriesSay read bytes_of value xs = All (λ x. SaysEntry read (bytes_of (value x)) (value x)) xs
 
 -- a table's bytes from its first entry's place on are cut into entries that say these values, in their order
 pub record SpellEntries {E : Type 0} (read : List ℕ → E) (first : ℕ) (bytes : List ℕ) (entries : List E) : Type 0 where

@@ -19,8 +19,8 @@ use Rattle.acpi_read.specs.declared.pptt.PpttEntry.{PpttEntry}
 use Rattle.acpi_read.specs.declared.pptt.PpttEntry.TheVariants as pptt
 use Rattle.acpi_write.specs.Values as value
 use Rattle.acpi_write.specs.EntryBytes.{madt_bytes, srat_bytes, pptt_bytes}
-use Rattle.acpi_write.specs.Encoded.{encoded_length}
-use Rattle.acpi_write.specs.Spells.{SaysEntry}
+use Rattle.acpi_write.specs.Encoded.{encoded_length, FitsHead}
+use Rattle.acpi_write.specs.Spells.{DoEntriesSay}
 use Rattle.acpi_write.specs.declared.encode.WriteFault.{WriteFault}
 use Rattle.acpi_write.specs.declared.encode.WriteFault.TheVariants as fault
 use Rattle.acpi_write.specs.declared.table_value.Head.{Head}
@@ -80,14 +80,14 @@ IsShaped (table.Other bytes) = IsWholeTable bytes.now
 
 -- ---- what is written
 
--- the bytes of each entry are an entry that says it
-abbrev pub EntriesSay : TableValue → Type 0
-EntriesSay (table.Madt head address flags entries) = All (λ e. SaysEntry madt_entry (madt_bytes (madt_value e)) (madt_value e)) entries.items
-EntriesSay (table.Srat head entries) = All (λ e. SaysEntry srat_entry (srat_bytes (srat_value e)) (srat_value e)) entries.items
-EntriesSay (table.Pptt head entries) = All (λ e. SaysEntry pptt_entry (pptt_bytes (pptt_value e)) (pptt_value e)) entries.items
-EntriesSay _ = Unit {0}
-
--- ---- what `encode_table` returns
+-- its numbers have their width, and the bytes of each entry are an entry that says it
+abbrev pub DoPartsSay : TableValue → Type 0
+DoPartsSay (table.Madt head address flags entries) = FitsHead (head_value head) × (address < 2 ^ 32) × (flags < 2 ^ 32) × DoEntriesSay madt_entry madt_bytes madt_value entries.items
+DoPartsSay (table.Srat head entries) = FitsHead (head_value head) × DoEntriesSay srat_entry srat_bytes srat_value entries.items
+DoPartsSay (table.Slit head count cells) = FitsHead (head_value head) × (count < 2 ^ 64)
+DoPartsSay (table.Pptt head entries) = FitsHead (head_value head) × DoEntriesSay pptt_entry pptt_bytes pptt_value entries.items
+DoPartsSay (table.Fadt head body) = FitsHead (head_value head)
+DoPartsSay (table.Other bytes) = Unit {0}
 
 -- why the table is not written
 abbrev pub IsRefusal : TableValue → WriteFault → Type 0

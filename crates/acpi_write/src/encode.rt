@@ -1,7 +1,9 @@
 //! Tables as bytes.
 
+#[cfg(test)]
+mod tests;
+
 ghost use Rattle.std.specs.Prelude.{◌≡◌, ◌≢◌, ◌+◌, ◌*◌, ◌^◌, ◌<◌, ◌≤◌, ◌++◌, length, map, flat_map, IsTrue, IfOk, IfErr, OnOk, MatchOption, ◌↔◌};
-ghost use Rattle.acpi_base.specs.Listed.{madt_signature};
 ghost use Rattle.acpi_write.specs.Encoded.{table_bytes, encoded, body_of, encoded_length, srat_reserved, FitsHead};
 ghost use Rattle.acpi_base.specs.Number.{number_bytes};
 ghost use Rattle.acpi_base.specs.Madt.{madt_entry};
@@ -11,9 +13,9 @@ ghost use Rattle.acpi_read.specs.Madts.{madt_value};
 ghost use Rattle.acpi_read.specs.Srats.{srat_value};
 ghost use Rattle.acpi_read.specs.Pptts.{pptt_value};
 ghost use Rattle.acpi_write.specs.EntryBytes.{madt_bytes, srat_bytes, pptt_bytes};
-ghost use Rattle.acpi_write.specs.Spells.{Spells, SaysEntry};
+ghost use Rattle.acpi_write.specs.Spells.{Spells, DoEntriesSay};
 ghost use Rattle.std.specs.List.{All};
-ghost use Rattle.acpi_write.specs.Views.{head_value, table_value, IsShaped, IsShapedMadt, IsShapedSrat, IsShapedPptt, IsWholeTable, EntriesSay};
+ghost use Rattle.acpi_write.specs.Views.{head_value, table_value, IsShaped, IsShapedMadt, IsShapedSrat, IsShapedPptt, IsWholeTable, DoPartsSay, IsRefusal};
 
 use crate::entry_bytes::{append_all, sizes};
 use crate::table_value::{Head, TableValue};
@@ -97,7 +99,7 @@ fn madt_body(
 ) -> Result<Vec<u8>, AllocError>
     requires { All IsShapedMadt entries.now }
     ensures bytes { IfOk result (λ bytes. bytes.items ≡ number_bytes 4 address ++ (number_bytes 4 flags ++ flat_map madt_bytes (map madt_value entries.now))) }
-    ensures says { IfOk result (λ _. All (λ e. SaysEntry madt_entry (madt_bytes (madt_value e)) (madt_value e)) entries.now) }
+    ensures says { IfOk result (λ _. (address < 2 ^ 32) × (flags < 2 ^ 32) × DoEntriesSay madt_entry madt_bytes madt_value entries.now) }
 {
     let mut bytes = Vec::from_slice(alloc, &address.to_le_bytes())?;
     bytes.extend_from_slice(&flags.to_le_bytes())?;
@@ -110,7 +112,7 @@ fn madt_body(
 fn srat_body(alloc: Global, entries: &[SratEntry<'_>]) -> Result<Vec<u8>, AllocError>
     requires { All IsShapedSrat entries.now }
     ensures bytes { IfOk result (λ bytes. bytes.items ≡ srat_reserved ++ flat_map srat_bytes (map srat_value entries.now)) }
-    ensures says { IfOk result (λ _. All (λ e. SaysEntry srat_entry (srat_bytes (srat_value e)) (srat_value e)) entries.now) }
+    ensures says { IfOk result (λ _. DoEntriesSay srat_entry srat_bytes srat_value entries.now) }
 {
     let mut bytes = Vec::from_slice(alloc, &SRAT_RESERVED)?;
     append_all(&mut bytes, entries)?;
@@ -120,7 +122,8 @@ fn srat_body(alloc: Global, entries: &[SratEntry<'_>]) -> Result<Vec<u8>, AllocE
 /// The bytes of a SLIT behind its header.
 #[tactic(auto, unfolding(acpi_base::specs::Number::number_bytes))]
 fn slit_body(alloc: Global, count: u64, cells: &[u8]) -> Result<Vec<u8>, AllocError>
-    ensures { IfOk result (λ bytes. bytes.items ≡ number_bytes 8 count ++ cells.now) }
+    ensures bytes { IfOk result (λ bytes. bytes.items ≡ number_bytes 8 count ++ cells.now) }
+    ensures fits { count < 2 ^ 64 }
 {
     let mut bytes = Vec::from_slice(alloc, &count.to_le_bytes())?;
     bytes.extend_from_slice(cells)?;
@@ -132,7 +135,7 @@ fn slit_body(alloc: Global, count: u64, cells: &[u8]) -> Result<Vec<u8>, AllocEr
 fn pptt_body(alloc: Global, entries: &[PpttEntry<'_>]) -> Result<Vec<u8>, AllocError>
     requires { All IsShapedPptt entries.now }
     ensures bytes { IfOk result (λ bytes. bytes.items ≡ flat_map pptt_bytes (map pptt_value entries.now)) }
-    ensures says { IfOk result (λ _. All (λ e. SaysEntry pptt_entry (pptt_bytes (pptt_value e)) (pptt_value e)) entries.now) }
+    ensures says { IfOk result (λ _. DoEntriesSay pptt_entry pptt_bytes pptt_value entries.now) }
 {
     let mut bytes = Vec::new(alloc);
     append_all(&mut bytes, entries)?;
@@ -172,4 +175,66 @@ fn with_header(
     let mut bytes = Vec::from_slice(alloc, &front)?;
     bytes.extend_from_slice(body)?;
     Ok(bytes)
+}
+
+/// The bytes of a table of which there are some, and not too many.
+fn bytes_of(alloc: Global, table: &TableValue<'_>) -> Result<Vec<u8>, AllocError>
+    requires shaped { IsShaped table.now }
+    requires short { encoded_length (table_value table.now) < 2 ^ 32 }
+    ensures bytes { IfOk result (λ bytes. bytes.items ≡ encoded (table_value table.now)) }
+    ensures says { IfOk result (λ _. DoPartsSay table.now) }
+{
+    match table {
+        TableValue::Madt {
+            head,
+            address,
+            flags,
+            entries,
+        } => {
+            let body = madt_body(alloc, *address, *flags, entries)?;
+            with_header(alloc, *b"APIC", head, &body)
+        }
+        TableValue::Srat { head, entries } => {
+            let body = srat_body(alloc, entries)?;
+            with_header(alloc, *b"SRAT", head, &body)
+        }
+        TableValue::Slit { head, count, cells } => {
+            let body = slit_body(alloc, *count, cells)?;
+            with_header(alloc, *b"SLIT", head, &body)
+        }
+        TableValue::Pptt { head, entries } => {
+            let body = pptt_body(alloc, entries)?;
+            with_header(alloc, *b"PPTT", head, &body)
+        }
+        TableValue::Fadt { head, body } => with_header(alloc, *b"FACP", head, body),
+        TableValue::Other { bytes } => Vec::from_slice(alloc, bytes),
+    }
+}
+
+/// The bytes of a table that says the value. Reserved bytes are written as 0, save that the 4 at 36 of an SRAT are 1;
+/// the checksum makes the bytes sum to 0, and the Length is their number. Another table's bytes stay as they are. They
+/// say no other value of the kind.
+///
+/// Refuses, in this order:
+/// `Shape`, where there are no bytes for the value: an entry is kept as bytes whose type is one that its table gives a
+/// meaning (0 to 5, 9 and 10 in a MADT, 0 to 2 in an SRAT, 0 and 1 in a PPTT) or whose second byte is not their number;
+/// a node does not have 4 bytes for each of its references; a SLIT's cells are not as many as its rows times its
+/// columns; a FADT has fewer than 80 bytes behind its header; another table's bytes are not as many as its Length says,
+/// fewer than 36, or do not sum to 0;
+/// `TooLong`, where the table would have more than 4,294,967,295 bytes;
+/// `Memory`, where the allocator is out of memory. Where it returns one of the first two, it takes no memory.
+#[tactic(auto, using(crate::proofs::Spelling::spelling))]
+pub fn encode_table(alloc: Global, table: &TableValue<'_>) -> Result<Vec<u8>, WriteFault>
+    ensures spells { IfOk result (λ bytes. Spells (table_value table.now) bytes.items) }
+    ensures bytes { IfOk result (λ bytes. bytes.items ≡ encoded (table_value table.now)) }
+    ensures shaped { IfOk result (λ _. IsShaped table.now × (encoded_length (table_value table.now) < 2 ^ 32)) }
+    ensures refused { IfErr result (IsRefusal table.now) }
+{
+    let Some(size) = size_of(table) else {
+        return Err(WriteFault::Shape);
+    };
+    if size > u128::from(u32::MAX) {
+        return Err(WriteFault::TooLong);
+    }
+    Ok(bytes_of(alloc, table)?)
 }

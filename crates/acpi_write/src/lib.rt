@@ -8,6 +8,8 @@
 
 mod encode;
 mod entry_bytes;
+pub mod laws;
 mod table_value;
 
+pub use encode::{WriteFault, encode_table};
 pub use table_value::{Head, TableValue};
