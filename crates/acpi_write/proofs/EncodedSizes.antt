@@ -1,5 +1,5 @@
 -- How many bytes a table has.
-use Rattle.std.proofs.Common.{◌≡◌, ℕ, ◌+◌, ◌≤◌, List, ◌++◌, length, drop, map, flat_map, replicate, ap, sym, ◌∙◌, arith, length-append, length-drop}
+use Rattle.std.proofs.Common.{◌≡◌, ℕ, ◌+◌, ◌≤◌, List, ◌++◌, length, drop, map, flat_map, replicate, ap, arith, length-append, length-drop}
 use Rattle.acpi_base.specs.Number.{number_bytes}
 use Rattle.acpi_base.proofs.Layouts.RoundTrip.{length-number_bytes}
 use Rattle.acpi_read.specs.Madts.{madt_value}

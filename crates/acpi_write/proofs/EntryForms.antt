@@ -1,5 +1,5 @@
 -- Structures of the layout of a kind of entry are entries.
-use Rattle.std.proofs.Common.{◌≡◌, ℕ, ◌≤◌, List, length, sym, subst, ◌∙◌}
+use Rattle.std.proofs.Common.{ℕ, ◌≤◌, List, sym, subst, ◌∙◌}
 use Rattle.acpi_base.specs.Layouts.{Part, PartValue, HasValues}
 use Rattle.acpi_base.specs.Entries.{IsEntry}
 use Rattle.acpi_read.specs.EntryKinds.{LaysOut}

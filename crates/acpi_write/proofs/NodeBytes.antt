@@ -1,11 +1,11 @@
 -- The bytes of a node: how many there are, and what they say.
-use Rattle.std.proofs.Common.{◌≡◌, ◌≢◌, ℕ, zero, suc, ◌+◌, ◌*◌, ◌/◌, ◌%◌, ◌≤◌, ◌<◌, List, [], ◌∷◌, ◌++◌, length, get_or, take, drop, map, flat_map, refl, sym, ap, subst, ◌∙◌, arith, append_assoc, length-append, length-drop}
+use Rattle.std.proofs.Common.{◌≡◌, ℕ, zero, suc, ◌+◌, ◌*◌, ◌/◌, ◌%◌, ◌≤◌, ◌<◌, List, [], ◌∷◌, ◌++◌, length, get_or, take, drop, map, flat_map, refl, sym, ap, subst, ◌∙◌, arith, append_assoc, length-append, length-drop}
 use Rattle.std.specs.Prelude.{slice_index}
 use Rattle.std.specs.List.{range_with_len}
 use Rattle.std.proofs.lemmas.List.{drop_all, drop-drop, get_or-drop, take-append-drop, take_at, drop_at, get_or_append_left}
 use Rattle.std.proofs.lemmas.List.FromFn.{length-map-range_with_len}
 use Rattle.acpi_base.specs.Number.{field, number_bytes}
-use Rattle.acpi_base.specs.Layouts.{layout_bytes, layout_size, HasValues}
+use Rattle.acpi_base.specs.Layouts.{layout_bytes, HasValues}
 use Rattle.acpi_base.specs.Entries.{IsEntry}
 use Rattle.acpi_base.specs.Pptt.{pptt_entry, Node}
 use Rattle.acpi_base.proofs.Layouts.RoundTrip.{length-number_bytes}

@@ -1,10 +1,10 @@
 -- What is written for a value says it.
-use Rattle.std.proofs.Common.{◌≡◌, ℕ, zero, suc, ◌+◌, ◌^◌, ◌<◌, List, [], ◌∷◌, ◌++◌, length, drop, map, flat_map, replicate, refl, sym, ap, subst, ◌∙◌, arith, length-append}
+use Rattle.std.proofs.Common.{◌≡◌, ℕ, ◌+◌, ◌^◌, ◌<◌, List, [], ◌∷◌, ◌++◌, length, drop, map, flat_map, replicate, refl, sym, ap, subst, ◌∙◌, arith, length-append}
 use Rattle.std.specs.List.{All}
 use Rattle.std.proofs.lemmas.List.{drop-drop, drop_at}
 use Rattle.std.proofs.lemmas.List.Elements.{All-cons, All-nil, All-head, All-tail}
-use Rattle.acpi_base.specs.Number.{field, number_bytes}
-use Rattle.acpi_base.specs.Entries.{IsEntry, IsCut}
+use Rattle.acpi_base.specs.Number.{number_bytes}
+use Rattle.acpi_base.specs.Entries.{IsEntry}
 use Rattle.acpi_base.proofs.Entries.{one_cut}
 use Rattle.acpi_base.proofs.Layouts.RoundTrip.{length-number_bytes, number_there}
 use Rattle.acpi_base.specs.Listed.{madt_signature, srat_signature, slit_signature, pptt_signature}
@@ -15,9 +15,9 @@ use Rattle.acpi_read.specs.Madts.{madt_value}
 use Rattle.acpi_read.specs.Srats.{srat_value}
 use Rattle.acpi_read.specs.Pptts.{pptt_value}
 use Rattle.acpi_write.specs.EntryBytes.{madt_bytes, srat_bytes, pptt_bytes}
-use Rattle.acpi_write.specs.Encoded.{encoded, encoded_length, table_bytes, srat_reserved, FitsHead}
+use Rattle.acpi_write.specs.Encoded.{encoded, encoded_length, table_bytes, srat_reserved}
 use Rattle.acpi_write.specs.Spells.{SaysEntry, DoEntriesSay, SpellEntries, Spells, OneValueSpelled}
-use Rattle.acpi_write.specs.Values.{TableValue, Madt, Srat, Slit, Pptt, Fadt, Other}
+use Rattle.acpi_write.specs.Values.{Madt, Srat, Slit, Pptt, Fadt, Other}
 use Rattle.acpi_write.specs.Views.{head_value, table_value, IsShaped, DoPartsSay}
 use Rattle.acpi_write.specs.declared.table_value.TableValue as written
 use Rattle.acpi_write.specs.declared.table_value.TableValue.TheVariants as table
@@ -63,8 +63,7 @@ says (table.Madt head address flags entries) shaped short say =
     let whole = table_bytes madt_signature (head_value head) body in
     let is = madt_table (head_value head) body say.0 short in
     let flags_there = behind 36 4 40 whole (number_bytes 4 address) (number_bytes 4 flags ++ parts) is.1 (length-number_bytes 4 address) refl in
-    let entries_there = behind 40 4 44 whole (number_bytes 4 flags) parts flags_there (length-number_bytes 4 flags) refl in
-    (
+    let entries_there = behind 40 4 44 whole (number_bytes 4 flags) parts flags_there (length-number_bytes 4 flags) refl in (
       is.0,
       number_there 36 4 address whole (number_bytes 4 flags ++ parts) is.1 say.1,
       number_there 40 4 flags whole parts flags_there say.2,
@@ -79,8 +78,7 @@ says (table.Srat head entries) shaped short say =
 says (table.Slit head count cells) shaped short say =
     let body = number_bytes 8 count ++ cells.now in
     let whole = table_bytes slit_signature (head_value head) body in
-    let is = slit_table (head_value head) body say.0 short in
-    (
+    let is = slit_table (head_value head) body say.0 short in (
       is.0,
       number_there 36 8 count whole cells.now is.1 say.1,
       behind 36 8 44 whole (number_bytes 8 count) cells.now is.1 (length-number_bytes 8 count) refl,

@@ -1,5 +1,5 @@
 -- The bytes of a table, as they are put together.
-use Rattle.std.proofs.Common.{◌≡◌, ℕ, ◌+◌, ◌-◌, ◌%◌, ◌<◌, List, ◌++◌, length, sum, refl, sym, ap, ◌∙◌, arith}
+use Rattle.std.proofs.Common.{◌≡◌, ℕ, ◌+◌, ◌-◌, ◌%◌, List, ◌++◌, length, ap, ◌∙◌, arith}
 use Rattle.acpi_base.specs.Number.{byte_sum}
 use Rattle.acpi_base.specs.Header.{HeadValue, header_with, header_bytes}
 use Rattle.acpi_write.specs.Encoded.{closing, table_bytes}

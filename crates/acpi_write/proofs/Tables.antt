@@ -1,10 +1,9 @@
 -- The bytes of a table with its header are all of a table's, sum to 0, and say what they were made of.
-use Rattle.std.proofs.Common.{◌≡◌, ℕ, ◌+◌, ◌^◌, ◌<◌, ◌≤◌, List, [], ◌∷◌, ◌++◌, length, drop, sum, true, refl, sym, ap, ◌∙◌, arith, append_assoc}
+use Rattle.std.proofs.Common.{◌≡◌, ℕ, ◌+◌, ◌^◌, ◌<◌, List, ◌++◌, length, drop, sum, true, refl, sym, ap, ◌∙◌, arith, append_assoc}
 use Rattle.acpi_base.specs.Number.{byte_sum, number_bytes}
-use Rattle.acpi_base.specs.Header.{HeadValue, HeaderValue, header_of, header_with, header_bytes, head_of, FitsHeader}
+use Rattle.acpi_base.specs.Header.{HeadValue, HeaderValue, header_of, header_with, header_bytes, FitsHeader}
 use Rattle.acpi_base.specs.Listed.{fadt_signature, madt_signature, srat_signature, slit_signature, pptt_signature}
 use Rattle.acpi_base.specs.Signature.{has_signature}
-use Rattle.acpi_base.specs.Tables.{length_of}
 use Rattle.acpi_base.proofs.Layouts.Headers.{header_of-header_bytes, head_of-header_bytes, drop-header_bytes, length-header_and_body}
 use Rattle.acpi_write.specs.Encoded.{closing, table_bytes, FitsHead}
 use Rattle.acpi_write.specs.Spells.{IsTableOf}
@@ -55,14 +54,16 @@ is_table signature head body signed fits =
     let v = header_with signature (36 + length body) (closing opened) head in
     let wide = fits_header signature head body (closing opened) (closing_below opened) fits in
     let count = length-header_and_body v body wide in
-    let begins = front signature head body in
-    (record {
-      least = omega (arith, count);
-      signed = ap (λ (bs : List ℕ). has_signature bs signature) begins.1 ∙ signed begins.0;
-      head_is = head_of-header_bytes signature (36 + length body) (closing opened) head body wide;
-      size = ap (λ (h : HeaderValue). h.length) (header_of-header_bytes v body wide) ∙ sym count;
-      zero_sum = table_sum signature head body;
-    }, drop-header_bytes v body wide)
+    let begins = front signature head body in (
+      record {
+        least = omega (arith, count);
+        signed = ap (λ (bs : List ℕ). has_signature bs signature) begins.1 ∙ signed begins.0;
+        head_is = head_of-header_bytes signature (36 + length body) (closing opened) head body wide;
+        size = ap (λ (h : HeaderValue). h.length) (header_of-header_bytes v body wide) ∙ sym count;
+        zero_sum = table_sum signature head body;
+      },
+      drop-header_bytes v body wide,
+    )
 
 pub madt_table : (head : HeadValue) (body : List ℕ) → FitsHead head → 36 + length body < 2 ^ 32
     → IsTableOf madt_signature head (table_bytes madt_signature head body) × (drop 36 (table_bytes madt_signature head body) ≡ body)

@@ -1,5 +1,5 @@
 -- The bytes that are written for a table, as a function of what it says.
-use Rattle.std.specs.Prelude.{◌≡◌, ℕ, ◌+◌, ◌-◌, ◌%◌, ◌^◌, ◌<◌, List, [], ◌∷◌, ◌++◌, length, take, drop, replicate, flat_map}
+use Rattle.std.specs.Prelude.{◌≡◌, ℕ, ◌+◌, ◌-◌, ◌%◌, ◌^◌, ◌<◌, List, ◌++◌, length, take, drop, replicate, flat_map}
 use Rattle.acpi_base.specs.Number.{number_bytes, byte_sum}
 use Rattle.acpi_base.specs.Header.{HeadValue, head_of, header_with, header_bytes}
 use Rattle.acpi_base.specs.Listed.{fadt_signature, madt_signature, srat_signature, slit_signature, pptt_signature}

@@ -1,6 +1,6 @@
 use super::*;
 use acpi_read::{Cache24, IoApic, MemoryRange, NodeHead};
-use std::test::{Fail, HostRuntime};
+use std::test::Fail;
 
 /// A head whose names are all `A`, of revision 1.
 fn head() -> Head {
@@ -62,7 +62,10 @@ fn a_madt_of_two_entries(rt: HostRuntime) -> Result<(), Fail> {
         0, 0, 0xe0, 0xfe, 1, 0, 0, 0, 1, 12, 2, 0, 0, 0, 0xc0, 0xfe, 24, 0, 0, 0, 0x0b, 4, 0xee,
         0xff,
     ];
-    assert_eq!(rt; body_behind(rt.alloc(), &madt)?.as_slice(), expected.as_slice());
+    assert_eq!(rt;
+        body_behind(rt.alloc(), &madt)?.as_slice(),
+        expected.as_slice()
+    );
     Ok(())
 }
 
@@ -85,7 +88,10 @@ fn an_srat_of_a_range(rt: HostRuntime) -> Result<(), Fail> {
         1, 0, 0, 0, 0, 0, 0, 0, 0, 0, 0, 0, 1, 40, 3, 0, 0, 0, 0, 0, 0, 0, 0x10, 0, 0, 0, 0, 0, 0,
         0x20, 0, 0, 0, 0, 0, 0, 0, 0, 0, 0, 1, 0, 0, 0, 0, 0, 0, 0, 0, 0, 0, 0,
     ];
-    assert_eq!(rt; body_behind(rt.alloc(), &srat)?.as_slice(), expected.as_slice());
+    assert_eq!(rt;
+        body_behind(rt.alloc(), &srat)?.as_slice(),
+        expected.as_slice()
+    );
     Ok(())
 }
 
@@ -117,7 +123,10 @@ fn a_pptt_of_a_node_and_a_cache(rt: HostRuntime) -> Result<(), Fail> {
         0, 24, 0, 0, 10, 0, 0, 0, 0, 0, 0, 0, 5, 0, 0, 0, 1, 0, 0, 0, 60, 0, 0, 0, 1, 24, 0, 0,
         0x7f, 0, 0, 0, 0, 0, 0, 0, 0, 0x80, 0, 0, 64, 0, 0, 0, 8, 2, 64, 0,
     ];
-    assert_eq!(rt; body_behind(rt.alloc(), &pptt)?.as_slice(), expected.as_slice());
+    assert_eq!(rt;
+        body_behind(rt.alloc(), &pptt)?.as_slice(),
+        expected.as_slice()
+    );
     Ok(())
 }
 
@@ -128,7 +137,10 @@ fn values_of_another_shape(rt: HostRuntime) -> Result<(), Fail> {
         count: 2,
         cells: &[10, 20, 20],
     };
-    assert_eq!(rt; encode_table(rt.alloc(), &slit).err(), Some(WriteFault::Shape));
+    assert_eq!(rt;
+        encode_table(rt.alloc(), &slit).err(),
+        Some(WriteFault::Shape)
+    );
     let kept: [&[u8]; 2] = [&[0, 8, 0, 0, 0, 0, 0, 0], &[0x0b, 3]];
     for bytes in kept {
         let mut entries = Vec::new(rt.alloc());
@@ -139,12 +151,21 @@ fn values_of_another_shape(rt: HostRuntime) -> Result<(), Fail> {
             flags: 0,
             entries,
         };
-        assert_eq!(rt; encode_table(rt.alloc(), &madt).err(), Some(WriteFault::Shape));
+        assert_eq!(rt;
+            encode_table(rt.alloc(), &madt).err(),
+            Some(WriteFault::Shape)
+        );
     }
     let body = Vec::from_slice(rt.alloc(), &[0; 79])?;
     let fadt = TableValue::Fadt { head: head(), body };
-    assert_eq!(rt; encode_table(rt.alloc(), &fadt).err(), Some(WriteFault::Shape));
+    assert_eq!(rt;
+        encode_table(rt.alloc(), &fadt).err(),
+        Some(WriteFault::Shape)
+    );
     let other = TableValue::Other { bytes: b"HPET" };
-    assert_eq!(rt; encode_table(rt.alloc(), &other).err(), Some(WriteFault::Shape));
+    assert_eq!(rt;
+        encode_table(rt.alloc(), &other).err(),
+        Some(WriteFault::Shape)
+    );
     Ok(())
 }
