@@ -23,3 +23,4 @@ pub mod Srat
 pub mod Standings
 pub mod Tables
 pub mod Texts
+pub mod Written

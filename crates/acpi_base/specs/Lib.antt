@@ -24,6 +24,7 @@ pub mod Number
 pub mod Policy
 pub mod PolicyFields
 pub mod Pptt
+pub mod Rests
 pub mod Root
 pub mod Rsdp
 pub mod Segments
@@ -40,3 +41,4 @@ pub mod TextMachine
 pub mod TextMeaning
 pub mod TextReading
 pub mod WitnessText
+pub mod WrittenText

@@ -11,6 +11,7 @@ ghost use Rattle.acpi_base.specs.Examples.Slits.{AreSlitContents, AreSlitFaults,
 ghost use Rattle.acpi_base.specs.Examples.Srats.{AreSratContents, AreSratFaults, AreFirstOverlaps, HasNoSratFault};
 ghost use Rattle.acpi_base.specs.Laws.{FaultsExcludeClean, FaultsFit, CleanOrFaulty, CleanOrFirstFault, OneFirstFault, OneVerdict, RootsListSlots, TextsDiffer};
 ghost use Rattle.acpi_base.specs.Pptt.{ParentsEndOrGoRound, CachesEndOrGoRound};
+ghost use Rattle.acpi_base.specs.WrittenText.{WrittenIsText, OneWritten};
 ghost use Rattle.acpi_base.specs.TextLaws.{RunReadsText, RunReadsPrefix, RunStopsAtFaults, RunGoesOn, PrefixDecides, TextMeans, TextOrFault, NeverBoth, OneImage, OneTextFault, RefusalsAreOwn, LinesMean};
 
 /// An image with a fault of a stage is not clean to that stage or a later one: a fault that is reported is
@@ -149,4 +150,10 @@ pub fn slit_and_pptt_examples()
 pub fn set_examples()
     ensures listed { AreListedTables }
     ensures faults { AreSetFaults }
+{}
+
+/// The written form of an image is read as the image, where a text may be so long, and an image has one written form.
+pub fn written_texts()
+    ensures read { WrittenIsText }
+    ensures one { OneWritten }
 {}

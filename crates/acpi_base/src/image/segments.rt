@@ -69,7 +69,7 @@ impl Segments {
     }
 
     /// The last segment that begins at an address or before it.
-    fn reaching(&self, address: u64) -> Option<(u64, &[u8])>
+    pub fn reaching(&self, address: u64) -> Option<(u64, &[u8])>
         requires { IsSound self.now }
         ensures { MatchOption result (lookup (runs_of self.now) address ≡ None) (λ found. IsReached (runs_of self.now) address (run_at found.0 found.1.now)) }
     {

@@ -1,0 +1,6 @@
+pub mod Lines
+pub mod OneWritten
+pub mod Reading
+pub mod Rests
+pub mod Rows
+pub mod WrittenRuns

@@ -1,0 +1,62 @@
+//! The runs of an image, in rising order of addresses.
+
+ghost use Rattle.std.specs.Prelude.{◌≡◌, ◌+◌, length, Some, None, MatchOption};
+ghost use Rattle.acpi_base.specs.Laid.{IsSound, memory_in, runs_of};
+ghost use Rattle.acpi_base.specs.Memory.{run_of};
+ghost use Rattle.acpi_base.specs.Segments.{lookup};
+ghost use Rattle.acpi_base.specs.WrittenText.{IsEmptyFrom, IsFirstFrom, IsNextRun};
+
+use crate::image::Image;
+use crate::image::segments::Segments;
+
+/// The bytes from an address on, up to the next address that no segment holds. None where that is the address itself.
+#[tactic(auto, using(crate::proofs::Written::Rests::rests), unfolding(crate::specs::Memory::run_of))]
+fn rest_from(segments: &Segments, address: u64) -> &[u8]
+    requires { IsSound segments.now }
+    ensures held { run_of (lookup (runs_of segments.now)) address (length result.now) ≡ Some result.now }
+    ensures none_behind { lookup (runs_of segments.now) (address + length result.now) ≡ None }
+{
+    let Some((base, bytes)) = segments.reaching(address) else {
+        return &[];
+    };
+    let skipped = address - base;
+    if skipped > bytes.len() as u64 {
+        return &[];
+    }
+    &bytes[skipped as usize..]
+}
+
+/// The least address that is held, of those from an address on.
+#[tactic(auto, using(crate::proofs::Written::Rests::firsts))]
+fn first_from(segments: &Segments, address: u64) -> Option<u64>
+    requires { IsSound segments.now }
+    ensures { MatchOption result (IsEmptyFrom (memory_in segments.now) address) (IsFirstFrom (memory_in segments.now) address) }
+{
+    if let Some(first) = segments.first_held(address, u64::MAX) {
+        return Some(first);
+    }
+    // From the address 0 on, there is one address more than a count can say.
+    if segments.byte_at(u64::MAX).is_none() {
+        return None;
+    }
+    Some(u64::MAX)
+}
+
+/// The first run from an address on.
+fn next_run(segments: &Segments, address: u64) -> Option<(u64, &[u8])>
+    requires { IsSound segments.now }
+    ensures { MatchOption result (IsEmptyFrom (memory_in segments.now) address) (λ found. IsNextRun (memory_in segments.now) address found.0 found.1.now) }
+{
+    let base = first_from(segments, address)?;
+    Some((base, rest_from(segments, base)))
+}
+
+impl Image {
+    /// The first run of bytes that is held from an address on, up to the next address that is not held: where it
+    /// begins, and its bytes. Takes no memory.
+    pub(crate) fn run_from(&self, address: u64) -> Option<(u64, &[u8])>
+        ensures { MatchOption result (IsEmptyFrom self.now address) (λ found. IsNextRun self.now address found.0 found.1.now) }
+    {
+        next_run(&self.segments, address)
+    }
+}

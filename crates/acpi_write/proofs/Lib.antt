@@ -1,0 +1,11 @@
+pub mod EncodedSizes
+pub mod EntryForms
+pub mod EntryLists
+pub mod MadtBytes
+pub mod NodeBytes
+pub mod PpttBytes
+pub mod Spelling
+pub mod SratBytes
+pub mod Sums
+pub mod TableBytes
+pub mod Tables

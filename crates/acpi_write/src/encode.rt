@@ -1,0 +1,240 @@
+//! Tables as bytes.
+
+#[cfg(test)]
+mod tests;
+
+ghost use Rattle.std.specs.Prelude.{◌≡◌, ◌≢◌, ◌+◌, ◌*◌, ◌^◌, ◌<◌, ◌≤◌, ◌++◌, length, map, flat_map, IsTrue, IfOk, IfErr, OnOk, MatchOption, ◌↔◌};
+ghost use Rattle.acpi_write.specs.Encoded.{table_bytes, encoded, body_of, encoded_length, srat_reserved, FitsHead};
+ghost use Rattle.acpi_base.specs.Number.{number_bytes};
+ghost use Rattle.acpi_base.specs.Madt.{madt_entry};
+ghost use Rattle.acpi_base.specs.Srat.{srat_entry};
+ghost use Rattle.acpi_base.specs.Pptt.{pptt_entry};
+ghost use Rattle.acpi_read.specs.Madts.{madt_value};
+ghost use Rattle.acpi_read.specs.Srats.{srat_value};
+ghost use Rattle.acpi_read.specs.Pptts.{pptt_value};
+ghost use Rattle.acpi_write.specs.EntryBytes.{madt_bytes, srat_bytes, pptt_bytes};
+ghost use Rattle.acpi_write.specs.Spells.{Spells, DoEntriesSay};
+ghost use Rattle.std.specs.List.{All};
+ghost use Rattle.acpi_write.specs.Views.{head_value, table_value, IsShaped, IsShapedMadt, IsShapedSrat, IsShapedPptt, IsWholeTable, DoPartsSay, IsRefusal};
+
+use crate::entry_bytes::{append_all, sizes};
+use crate::table_value::{Head, TableValue};
+use acpi_base::field::u32_at;
+use acpi_base::sum;
+use acpi_read::{Header, Layout, MadtEntry, PpttEntry, SratEntry};
+use std::alloc::{AllocError, Global};
+use thiserror::Error;
+
+/// Why a table could not be written.
+#[derive(Clone, Copy, Debug, PartialEq, Eq, Error)]
+pub enum WriteFault {
+    /// There are no bytes for the value.
+    #[error("no bytes for the value")]
+    Shape,
+    /// The table would have more than 4,294,967,295 bytes.
+    #[error("table too long")]
+    TooLong,
+    /// Out of memory.
+    #[error("out of memory")]
+    Memory,
+}
+
+impl From<AllocError> for WriteFault {
+    ghost use Rattle.acpi_write.specs.declared.encode.WriteFault.{WriteFault};
+
+    ghost from_gives = { λ _ fault. fault ≡ WriteFault.Memory };
+
+    fn from(_error: AllocError) -> WriteFault {
+        WriteFault::Memory
+    }
+}
+
+/// Whether the bytes are all of one table's, and sum to 0.
+fn is_whole_table(bytes: &[u8]) -> bool
+    ensures { IsTrue result ↔ IsWholeTable bytes.now }
+{
+    bytes.len() >= 36 && u32_at(bytes, 4) as usize == bytes.len() && sum(bytes) == 0
+}
+
+/// How many bytes the table has. None where there are none for the value.
+#[tactic(auto, using(crate::proofs::EntryLists::encoded_sizes))]
+fn size_of(table: &TableValue<'_>) -> Option<u128>
+    ensures { MatchOption result (¬ IsShaped table.now) (λ size. IsShaped table.now × (size ≡ encoded_length (table_value table.now))) }
+{
+    match table {
+        TableValue::Madt { entries, .. } => Some(44 + sizes(entries)?),
+        TableValue::Srat { entries, .. } => Some(48 + sizes(entries)?),
+        TableValue::Slit { count, cells, .. } => {
+            if u128::from(*count) * u128::from(*count) != cells.len() as u128 {
+                return None;
+            }
+            Some(44 + cells.len() as u128)
+        }
+        TableValue::Pptt { entries, .. } => Some(36 + sizes(entries)?),
+        TableValue::Fadt { body, .. } => {
+            if body.len() < 80 {
+                return None;
+            }
+            Some(36 + body.len() as u128)
+        }
+        TableValue::Other { bytes } => {
+            if !is_whole_table(bytes) {
+                return None;
+            }
+            Some(bytes.len() as u128)
+        }
+    }
+}
+
+/// The bytes of an SRAT from 36 to 47, which are reserved (ACPI 6.5, 5.2.16).
+const SRAT_RESERVED: [u8; 12] = [1, 0, 0, 0, 0, 0, 0, 0, 0, 0, 0, 0];
+
+/// The bytes of a MADT behind its header.
+#[tactic(auto, using(crate::proofs::EntryLists::bodies), unfolding(acpi_base::specs::Number::number_bytes))]
+fn madt_body(
+    alloc: Global,
+    address: u32,
+    flags: u32,
+    entries: &[MadtEntry<'_>],
+) -> Result<Vec<u8>, AllocError>
+    requires { All IsShapedMadt entries.now }
+    ensures bytes { IfOk result (λ bytes. bytes.items ≡ number_bytes 4 address ++ (number_bytes 4 flags ++ flat_map madt_bytes (map madt_value entries.now))) }
+    ensures says { IfOk result (λ _. (address < 2 ^ 32) × (flags < 2 ^ 32) × DoEntriesSay madt_entry madt_bytes madt_value entries.now) }
+{
+    let mut bytes = Vec::from_slice(alloc, &address.to_le_bytes())?;
+    bytes.extend_from_slice(&flags.to_le_bytes())?;
+    append_all(&mut bytes, entries)?;
+    Ok(bytes)
+}
+
+/// The bytes of an SRAT behind its header.
+#[tactic(auto, using(crate::proofs::EntryLists::bodies), unfolding(acpi_base::specs::Number::number_bytes))]
+fn srat_body(alloc: Global, entries: &[SratEntry<'_>]) -> Result<Vec<u8>, AllocError>
+    requires { All IsShapedSrat entries.now }
+    ensures bytes { IfOk result (λ bytes. bytes.items ≡ srat_reserved ++ flat_map srat_bytes (map srat_value entries.now)) }
+    ensures says { IfOk result (λ _. DoEntriesSay srat_entry srat_bytes srat_value entries.now) }
+{
+    let mut bytes = Vec::from_slice(alloc, &SRAT_RESERVED)?;
+    append_all(&mut bytes, entries)?;
+    Ok(bytes)
+}
+
+/// The bytes of a SLIT behind its header.
+#[tactic(auto, unfolding(acpi_base::specs::Number::number_bytes))]
+fn slit_body(alloc: Global, count: u64, cells: &[u8]) -> Result<Vec<u8>, AllocError>
+    ensures bytes { IfOk result (λ bytes. bytes.items ≡ number_bytes 8 count ++ cells.now) }
+    ensures fits { count < 2 ^ 64 }
+{
+    let mut bytes = Vec::from_slice(alloc, &count.to_le_bytes())?;
+    bytes.extend_from_slice(cells)?;
+    Ok(bytes)
+}
+
+/// The bytes of a PPTT behind its header.
+#[tactic(auto, using(crate::proofs::EntryLists::bodies))]
+fn pptt_body(alloc: Global, entries: &[PpttEntry<'_>]) -> Result<Vec<u8>, AllocError>
+    requires { All IsShapedPptt entries.now }
+    ensures bytes { IfOk result (λ bytes. bytes.items ≡ flat_map pptt_bytes (map pptt_value entries.now)) }
+    ensures says { IfOk result (λ _. DoEntriesSay pptt_entry pptt_bytes pptt_value entries.now) }
+{
+    let mut bytes = Vec::new(alloc);
+    append_all(&mut bytes, entries)?;
+    Ok(bytes)
+}
+
+/// The bytes of a table: its header, with the checksum that makes the sum 0, and its body.
+#[tactic(auto, using(crate::proofs::TableBytes::encoded_bytes))]
+fn with_header(
+    alloc: Global,
+    signature: [u8; 4],
+    head: &Head,
+    body: &[u8],
+) -> Result<Vec<u8>, AllocError>
+    requires { 36 + length body.now < 2 ^ 32 }
+    ensures bytes { IfOk result (λ bytes. bytes.items ≡ table_bytes signature (head_value head.now) body.now) }
+    ensures fits { FitsHead (head_value head.now) }
+{
+    let head = *head;
+    let oemid = head.oemid;
+    let oem_table_id = head.oem_table_id;
+    let mut header = Header {
+        signature,
+        length: 36 + body.len() as u32,
+        revision: head.revision,
+        checksum: 0,
+        oemid,
+        oem_table_id,
+        oem_revision: head.oem_revision,
+        creator_id: head.creator_id,
+        creator_revision: head.creator_revision,
+    };
+    let mut front = [0; 36];
+    header.write(&mut front);
+    header.checksum = 0u8.wrapping_sub(sum(&front).wrapping_add(sum(body)));
+    header.write(&mut front);
+    let mut bytes = Vec::from_slice(alloc, &front)?;
+    bytes.extend_from_slice(body)?;
+    Ok(bytes)
+}
+
+/// The bytes of a table of which there are some, and not too many.
+fn bytes_of(alloc: Global, table: &TableValue<'_>) -> Result<Vec<u8>, AllocError>
+    requires shaped { IsShaped table.now }
+    requires short { encoded_length (table_value table.now) < 2 ^ 32 }
+    ensures bytes { IfOk result (λ bytes. bytes.items ≡ encoded (table_value table.now)) }
+    ensures says { IfOk result (λ _. DoPartsSay table.now) }
+{
+    match table {
+        TableValue::Madt {
+            head,
+            address,
+            flags,
+            entries,
+        } => {
+            let body = madt_body(alloc, *address, *flags, entries)?;
+            with_header(alloc, *b"APIC", head, &body)
+        }
+        TableValue::Srat { head, entries } => {
+            let body = srat_body(alloc, entries)?;
+            with_header(alloc, *b"SRAT", head, &body)
+        }
+        TableValue::Slit { head, count, cells } => {
+            let body = slit_body(alloc, *count, cells)?;
+            with_header(alloc, *b"SLIT", head, &body)
+        }
+        TableValue::Pptt { head, entries } => {
+            let body = pptt_body(alloc, entries)?;
+            with_header(alloc, *b"PPTT", head, &body)
+        }
+        TableValue::Fadt { head, body } => with_header(alloc, *b"FACP", head, body),
+        TableValue::Other { bytes } => Vec::from_slice(alloc, bytes),
+    }
+}
+
+/// The bytes of a table that says the value. Reserved bytes are written as 0, save that the 4 at 36 of an SRAT are 1;
+/// the checksum makes the bytes sum to 0, and the Length is their number. Another table's bytes stay as they are. They
+/// say no other value of the kind.
+///
+/// Refuses, in this order:
+/// `Shape`, where there are no bytes for the value: an entry is kept as bytes whose type is one that its table gives a
+/// meaning (0 to 5, 9 and 10 in a MADT, 0 to 2 in an SRAT, 0 and 1 in a PPTT) or whose second byte is not their number;
+/// a node does not have 4 bytes for each of its references; a SLIT's cells are not as many as its rows times its
+/// columns; a FADT has fewer than 80 bytes behind its header; another table's bytes are not as many as its Length says,
+/// fewer than 36, or do not sum to 0;
+/// `TooLong`, where the table would have more than 4,294,967,295 bytes;
+/// `Memory`, where the allocator is out of memory. Where it returns one of the first two, it takes no memory.
+#[tactic(auto, using(crate::proofs::Spelling::spelling))]
+pub fn encode_table(alloc: Global, table: &TableValue<'_>) -> Result<Vec<u8>, WriteFault>
+    ensures spells { IfOk result (λ bytes. Spells (table_value table.now) bytes.items) }
+    ensures bytes { IfOk result (λ bytes. bytes.items ≡ encoded (table_value table.now)) }
+    ensures shaped { IfOk result (λ _. IsShaped table.now × (encoded_length (table_value table.now) < 2 ^ 32)) }
+    ensures refused { IfErr result (IsRefusal table.now) }
+{
+    let Some(size) = size_of(table) else {
+        return Err(WriteFault::Shape);
+    };
+    if size > u128::from(u32::MAX) {
+        return Err(WriteFault::TooLong);
+    }
+    Ok(bytes_of(alloc, table)?)
+}

@@ -1,0 +1,228 @@
+//! Entries as bytes.
+
+ghost use Rattle.std.specs.Prelude.{◌≡◌, ◌≢◌, ◌≤◌, ◌*◌, ◌^◌, ◌++◌, ℕ, List, length, flat_map, OnOk, MatchOption};
+ghost use Rattle.std.specs.List.{All};
+ghost use Rattle.acpi_base.specs.Entries.{IsEntry};
+ghost use Rattle.acpi_base.specs.Layouts.{layout_bytes, HasValues};
+ghost use Rattle.acpi_base.specs.Madt.{madt_entry};
+ghost use Rattle.acpi_base.specs.Srat.{srat_entry};
+ghost use Rattle.acpi_base.specs.Pptt.{pptt_entry, Node};
+ghost use Rattle.acpi_read.specs.Madts.{madt_value};
+ghost use Rattle.acpi_read.specs.Srats.{srat_value};
+ghost use Rattle.acpi_read.specs.Pptts.{pptt_value, node_value};
+ghost use Rattle.acpi_write.specs.EntryBytes.{madt_bytes, srat_bytes, pptt_bytes};
+ghost use Rattle.acpi_write.specs.Spells.{SaysEntry};
+ghost use Rattle.acpi_write.specs.Views.{IsShapedMadt, IsShapedSrat, IsShapedPptt};
+
+use acpi_read::{Layout, MadtEntry, NodeHead, PpttEntry, SratEntry};
+use std::alloc::AllocError;
+
+/// The most bytes that a structure of a fixed layout has.
+const MOST: usize = 40;
+
+/// Adds the bytes of a structure of a fixed layout.
+fn append_layout<L: Layout>(bytes: &mut Vec<u8>, value: &L) -> Result<(), AllocError>
+    requires { L.LEN ≤ 40 }
+    ensures bytes { OnOk result (bytes.new.items ≡ bytes.old.items ++ layout_bytes L.parts (L.values value.now)) }
+    ensures says { HasValues L.parts (layout_bytes L.parts (L.values value.now)) (L.values value.now) }
+{
+    let mut out = [0; MOST];
+    let out = &mut out[..L::LEN];
+    value.write(out);
+    bytes.extend_from_slice(out)
+}
+
+/// How many bytes an entry has that is kept as bytes. None where they do not say their own number.
+fn kept_size(bytes: &[u8]) -> Option<usize>
+    ensures { MatchOption result (¬ IsEntry bytes.now) (λ size. IsEntry bytes.now × (size ≡ length bytes.now) × (size ≤ 255)) }
+{
+    if bytes.len() < 2 || usize::from(bytes[1]) != bytes.len() {
+        return None;
+    }
+    Some(bytes.len())
+}
+
+/// How many bytes a node has. None where it does not have 4 bytes for each of its references.
+#[tactic(auto, using(crate::proofs::NodeBytes::node_sizes))]
+fn node_size(head: &NodeHead, references: &[u8]) -> Option<usize>
+    ensures { MatchOption result (length references.now ≢ 4 * head.now.count) (λ size. (length references.now ≡ 4 * head.now.count) × (size ≡ length (pptt_bytes (Node (node_value head.now references.now)))) × (size ≤ 255)) }
+{
+    let head = *head;
+    if references.len() as u64 != 4 * u64::from(head.count) {
+        return None;
+    }
+    Some(20 + references.len())
+}
+
+/// Adds the bytes of a node.
+#[tactic(auto, using(crate::proofs::NodeBytes::nodes))]
+fn append_node(bytes: &mut Vec<u8>, head: &NodeHead, references: &[u8]) -> Result<(), AllocError>
+    requires { length references.now ≡ 4 * head.now.count }
+    ensures bytes { OnOk result (bytes.new.items ≡ bytes.old.items ++ pptt_bytes (Node (node_value head.now references.now))) }
+    ensures says { OnOk result (SaysEntry pptt_entry (pptt_bytes (Node (node_value head.now references.now))) (Node (node_value head.now references.now))) }
+{
+    append_layout(bytes, head)?;
+    bytes.extend_from_slice(references)
+}
+
+/// An entry that can be written.
+pub(crate) trait EntryBytes {
+    /// There are bytes for it.
+    ghost shaped: { Self → Type 0 };
+
+    /// Its bytes.
+    ghost spelled: { Self → List ℕ };
+
+    /// The bytes are an entry that says it.
+    ghost said_by: { Self → List ℕ → Type 0 };
+
+    /// How many bytes it has. None where there are none for it.
+    fn size(&self) -> Option<usize>
+        ensures { MatchOption result (¬ shaped self.now) (λ size. shaped self.now × (size ≡ length (spelled self.now)) × (size ≤ 255)) };
+
+    /// Adds its bytes.
+    fn append(&self, bytes: &mut Vec<u8>) -> Result<(), AllocError>
+        requires { shaped self.now }
+        ensures bytes { OnOk result (bytes.new.items ≡ bytes.old.items ++ spelled self.now) }
+        ensures says { OnOk result (said_by self.now (spelled self.now)) };
+}
+
+impl<'a> EntryBytes for MadtEntry<'a> {
+    ghost shaped = { IsShapedMadt };
+
+    ghost spelled = { λ entry. madt_bytes (madt_value entry) };
+
+    ghost said_by = { λ entry bytes. SaysEntry madt_entry bytes (madt_value entry) };
+
+    #[tactic(auto, using(crate::proofs::MadtBytes::madt_sizes))]
+    fn size(&self) -> Option<usize> {
+        match self {
+            MadtEntry::LocalApic(_) => Some(8),
+            MadtEntry::IoApic(_) => Some(12),
+            MadtEntry::Override(_) => Some(10),
+            MadtEntry::NmiSource(_) => Some(8),
+            MadtEntry::LocalNmi(_) => Some(6),
+            MadtEntry::AddressOverride(_) => Some(12),
+            MadtEntry::X2apic(_) => Some(16),
+            MadtEntry::X2apicNmi(_) => Some(12),
+            MadtEntry::Opaque(bytes) => {
+                let size = kept_size(bytes)?;
+                if matches!(bytes[0], 0..=5 | 9 | 10) {
+                    return None;
+                }
+                Some(size)
+            }
+        }
+    }
+
+    #[tactic(auto, using(crate::proofs::MadtBytes::madt_says))]
+    fn append(&self, bytes: &mut Vec<u8>) -> Result<(), AllocError> {
+        match self {
+            MadtEntry::LocalApic(entry) => append_layout(bytes, entry),
+            MadtEntry::IoApic(entry) => append_layout(bytes, entry),
+            MadtEntry::Override(entry) => append_layout(bytes, entry),
+            MadtEntry::NmiSource(entry) => append_layout(bytes, entry),
+            MadtEntry::LocalNmi(entry) => append_layout(bytes, entry),
+            MadtEntry::AddressOverride(entry) => append_layout(bytes, entry),
+            MadtEntry::X2apic(entry) => append_layout(bytes, entry),
+            MadtEntry::X2apicNmi(entry) => append_layout(bytes, entry),
+            MadtEntry::Opaque(entry) => bytes.extend_from_slice(entry),
+        }
+    }
+}
+
+impl<'a> EntryBytes for SratEntry<'a> {
+    ghost shaped = { IsShapedSrat };
+
+    ghost spelled = { λ entry. srat_bytes (srat_value entry) };
+
+    ghost said_by = { λ entry bytes. SaysEntry srat_entry bytes (srat_value entry) };
+
+    #[tactic(auto, using(crate::proofs::SratBytes::srat_sizes))]
+    fn size(&self) -> Option<usize> {
+        match self {
+            SratEntry::ApicDomain(_) => Some(16),
+            SratEntry::MemoryRange(_) => Some(40),
+            SratEntry::X2apicDomain(_) => Some(24),
+            SratEntry::Opaque(bytes) => {
+                let size = kept_size(bytes)?;
+                if bytes[0] <= 2 {
+                    return None;
+                }
+                Some(size)
+            }
+        }
+    }
+
+    #[tactic(auto, using(crate::proofs::SratBytes::srat_says))]
+    fn append(&self, bytes: &mut Vec<u8>) -> Result<(), AllocError> {
+        match self {
+            SratEntry::ApicDomain(entry) => append_layout(bytes, entry),
+            SratEntry::MemoryRange(entry) => append_layout(bytes, entry),
+            SratEntry::X2apicDomain(entry) => append_layout(bytes, entry),
+            SratEntry::Opaque(entry) => bytes.extend_from_slice(entry),
+        }
+    }
+}
+
+impl<'a> EntryBytes for PpttEntry<'a> {
+    ghost shaped = { IsShapedPptt };
+
+    ghost spelled = { λ entry. pptt_bytes (pptt_value entry) };
+
+    ghost said_by = { λ entry bytes. SaysEntry pptt_entry bytes (pptt_value entry) };
+
+    #[tactic(auto, using(crate::proofs::PpttBytes::pptt_sizes))]
+    fn size(&self) -> Option<usize> {
+        match self {
+            PpttEntry::Node(head, references) => node_size(head, references),
+            PpttEntry::Cache24(_) => Some(24),
+            PpttEntry::Cache28(_) => Some(28),
+            PpttEntry::Opaque(bytes) => {
+                let size = kept_size(bytes)?;
+                if bytes[0] <= 1 {
+                    return None;
+                }
+                Some(size)
+            }
+        }
+    }
+
+    #[tactic(auto, using(crate::proofs::PpttBytes::pptt_says))]
+    fn append(&self, bytes: &mut Vec<u8>) -> Result<(), AllocError> {
+        match self {
+            PpttEntry::Node(head, references) => append_node(bytes, head, references),
+            PpttEntry::Cache24(entry) => append_layout(bytes, entry),
+            PpttEntry::Cache28(entry) => append_layout(bytes, entry),
+            PpttEntry::Opaque(entry) => bytes.extend_from_slice(entry),
+        }
+    }
+}
+
+/// How many bytes the entries have together. None where there are none for one of them.
+#[tactic(auto, using(crate::proofs::EntryLists::entry_lists))]
+pub(crate) fn sizes<E: EntryBytes>(entries: &[E]) -> Option<u128>
+    ensures { MatchOption result (¬ All E.shaped entries.now) (λ size. All E.shaped entries.now × (size ≡ length (flat_map E.spelled entries.now)) × (size ≤ 255 * 2 ^ 64)) }
+{
+    let mut total = 0;
+    for entry in entries {
+        total += entry.size()? as u128;
+    }
+    Some(total)
+}
+
+/// Adds the bytes of the entries, one after another.
+#[tactic(auto, using(crate::proofs::EntryLists::entry_lists))]
+pub(crate) fn append_all<E: EntryBytes>(
+    bytes: &mut Vec<u8>,
+    entries: &[E],
+) -> Result<(), AllocError>
+    requires { All E.shaped entries.now }
+    ensures bytes { OnOk result (bytes.new.items ≡ bytes.old.items ++ flat_map E.spelled entries.now) }
+    ensures says { OnOk result (All (λ entry. E.said_by entry (E.spelled entry)) entries.now) }
+{
+    for entry in entries {
+        entry.append(bytes)?;
+    }
+    Ok(())
+}

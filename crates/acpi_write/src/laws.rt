@@ -1,0 +1,8 @@
+//! Laws over the definitions alone: each function's contract is the law, and its body is empty.
+
+ghost use Rattle.acpi_write.specs.Spells.{OneValueSpelled};
+
+/// Bytes say at most one value of a kind, so what is written can be read in one way.
+pub fn one_value()
+    ensures { OneValueSpelled }
+{}
