@@ -20,10 +20,10 @@ rest_held rs a r bytes reached is =
     let from = reached.begins in
     let count = rest_count a r bytes from is in
     run_of-from_each (lookup rs) a (length bytes) bytes refl (λ k l.
-        let place : a + k - r.base ≡ (a - r.base) + k = omega (arith, from) in
-        reached.further (a + k) (omega arith) (omega (arith, count, l))
-        ∙ held_at r (a + k) (omega (arith, from)) (omega (arith, count, l))
-        ∙ ap Some (ap (λ (j : ℕ). get_or r.bytes j 0) place ∙ sym (get_or-drop (a - r.base) r.bytes k 0) ∙ ap (λ (bs : List ℕ). get_or bs k 0) (sym is)))
+    let place : a + k - r.base ≡ (a - r.base) + k = omega (arith, from) in
+    reached.further (a + k) (omega arith) (omega (arith, count, l))
+    ∙ held_at r (a + k) (omega (arith, from)) (omega (arith, count, l))
+    ∙ ap Some (ap (λ (j : ℕ). get_or r.bytes j 0) place ∙ sym (get_or-drop (a - r.base) r.bytes k 0) ∙ ap (λ (bs : List ℕ). get_or bs k 0) (sym is)))
 
 pub rest_ends : (rs : List Run) (a : ℕ) (r : Run) (bytes : List ℕ) → IsReached rs a r → bytes ≡ drop (a - r.base) r.bytes → lookup rs (a + length bytes) ≡ None
 rest_ends rs a r bytes reached is =
