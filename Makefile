@@ -20,6 +20,7 @@ acpiset: $(sources)
 test:
 	rt ci
 	tests/documents.sh
+	tests/rows/run.py $(program)
 	tests/program.sh $(program)
 
 # Prints speed and memory beside other programs; not part of the tests.

@@ -3,8 +3,7 @@
 usage: inputs.py run FILE              one run, just below 64 MiB of text
        inputs.py ORDER COUNT FILE      COUNT rows of 16 bytes, each with its own address; ORDER is
                                        rising-apart, falling-apart or falling-touching
-       inputs.py KIND COUNT FILE       a sound set whose MADT has COUNT entries of a KIND: overrides, or
-                                       io-apics of one input each, in no order; bytes without blanks
+       inputs.py KIND COUNT FILE       a set with COUNT entries of a KIND, one of KINDS below
 """
 
 import random
@@ -47,8 +46,8 @@ def many_rows(order, count):
     return "".join(f"@{BASE + number * distance:x}\n{row}" for number in numbers)
 
 
-def table(signature, body):
-    header = struct.pack("<4sIBB6s8sI4sI", signature, 36 + len(body), 1, 0, b"BENCH ", b"BENCHRUN", 1, b"NONE", 1)
+def table(signature, body, revision=1):
+    header = struct.pack("<4sIBB6s8sI4sI", signature, 36 + len(body), revision, 0, b"BENCH ", b"BENCHRUN", 1, b"NONE", 1)
     return with_checksum(header + body, 9)
 
 
@@ -57,24 +56,124 @@ def override(number):
     return bytes((2, 10, 0, 9, 9, 0, 0, 0, 0, 0))
 
 
+def nmi_source(number):
+    return struct.pack("<BBHI", 3, 8, 0, number)
+
+
 def io_apic(number):
     return struct.pack("<BBBBII", 1, 12, 0, 0, 0xFEC00000, number)
 
 
-def many_entries(kind, count):
-    """An RSDP, an RSDT, a FADT of hardware-reduced ACPI, and a MADT with that many entries of one kind."""
+def x2apic(number):
+    """An enabled processor, its X2APIC ID and its UID."""
+    return struct.pack("<BBHIII", 9, 16, 0, number, 1, number)
+
+
+def x2apic_affinity(number):
+    """Puts the processor into one of 64 domains."""
+    return struct.pack("<BBHIIIII", 2, 24, 0, number % 64, number, 1, 0, 0)
+
+
+def memory_range(number):
+    """An enabled range of 4 KiB that begins where the one before it ends."""
+    return struct.pack("<BBIHQQIIQ", 1, 40, 0, 0, number << 12, 1 << 12, 0, 1, 0)
+
+
+def node(parent, flags=0, uid=0, resources=()):
+    head = struct.pack("<BBHIIII", 0, 20 + 4 * len(resources), 0, flags, parent, uid, len(resources))
+    return head + struct.pack(f"<{len(resources)}I", *resources)
+
+
+def cache(next_level):
+    return struct.pack("<BBHIIIIBBH", 1, 24, 0, 0, next_level, 0, 0, 0, 0, 64)
+
+
+def shuffled(count):
     numbers = list(range(count))
     random.Random(1).shuffle(numbers)
-    entry = {"overrides": override, "io-apics": io_apic}[kind]
-    madt = table(b"APIC", struct.pack("<II", 0xFEE00000, 1) + b"".join(map(entry, numbers)))
+    return numbers
+
+
+def madt(*entries):
+    return table(b"APIC", struct.pack("<II", 0xFEE00000, 1) + b"".join(entries))
+
+
+def srat(*entries):
+    return table(b"SRAT", struct.pack("<IQ", 1, 0) + b"".join(entries))
+
+
+def slit(count):
+    """All distances are 20, but for those from a locality to itself."""
+    cells = bytearray(b"\x14") * (count * count)
+    cells[:: count + 1] = b"\x0a" * count
+    return table(b"SLIT", struct.pack("<Q", count) + bytes(cells))
+
+
+def pptt(*entries):
+    return table(b"PPTT", b"".join(entries), revision=2)
+
+
+def chain(count, last):
+    """Nodes each of which has the next one as its parent; `last` is the parent of the last one."""
+    parents = [36 + 20 * number for number in range(1, count)] + [last]
+    return pptt(*map(node, parents))
+
+
+def nodes_of_58_caches(count):
+    """Nodes with as many private resources as fit, all of them caches at the table's start."""
+    caches = [36 + 24 * number for number in range(58)]
+    return pptt(*(cache(0) for _ in caches), *(node(0, resources=caches) for _ in range(count)))
+
+
+def machine(count):
+    """A machine with that many processors: 64 domains, and a PPTT with a package and two caches for every 64 processors."""
+    packages = range(36, 36 + 68 * (count // 64), 68)
+    entries = [node(0) + cache(at + 44) + cache(0) for at in packages]
+    leaves = [node(36 + 68 * (number // 64 % len(packages)), flags=0b1010, uid=number) for number in range(count)]
+    numbers = range(count)
+    return [
+        madt(io_apic(0), *map(x2apic, numbers)),
+        srat(*map(x2apic_affinity, numbers), *map(memory_range, range(64))),
+        slit(64),
+        pptt(*entries, *leaves),
+    ]
+
+
+# the tables of a kind, by the number of entries; each has all its entries in no order
+KINDS = {
+    "overrides": lambda count: [madt(*map(override, shuffled(count)))],
+    "io-apics": lambda count: [madt(*map(io_apic, shuffled(count)))],
+    "ranges": lambda count: [srat(*map(memory_range, shuffled(count)))],
+    "localities": lambda count: [slit(count)],
+    "chained-nodes": lambda count: [chain(count, last=0)],
+    "nodes-in-a-ring": lambda count: [chain(count, last=36)],
+    "nodes-of-58-caches": lambda count: [nodes_of_58_caches(count)],
+    "processors": lambda count: [
+        madt(*map(x2apic, shuffled(count))),
+        srat(*map(x2apic_affinity, reversed(shuffled(count)))),
+    ],
+    "nmi-sources": lambda count: [madt(*map(io_apic, shuffled(count)), *map(nmi_source, reversed(shuffled(count))))],
+    "processors-of-a-machine": machine,
+    "leaves": lambda count: [
+        madt(*map(x2apic, shuffled(count))),
+        pptt(*(node(0, flags=0b1010, uid=number) for number in reversed(shuffled(count)))),
+    ],
+}
+
+
+def set_of(kind, count):
+    """An RSDP, an RSDT, a FADT of hardware-reduced ACPI, and the tables of the kind; bytes without blanks."""
     fadt = table(b"FACP", bytes(76) + struct.pack("<I", 1 << 20))
-    rsdt = table(b"RSDT", struct.pack("<II", 0x2000, 0x100000))
+    pieces = [(0x2000, fadt)]
+    for whole in KINDS[kind](count):
+        last, before = pieces[-1]
+        pieces.append((max(0x100000, (last + len(before) + 63) // 64 * 64), whole))
+    rsdt = table(b"RSDT", b"".join(struct.pack("<I", address) for address, _ in pieces))
     rsdp = with_checksum(struct.pack("<8sB6sBI", b"RSD PTR ", 0, b"BENCH ", 0, 0x1000), 8)
-    pieces = ((0xE0000, rsdp), (0x1000, rsdt), (0x2000, fadt), (0x100000, madt))
     line = 1 << 14
     return "".join(
         f"@{address:x}\n" + "".join(data[at : at + line].hex() + "\n" for at in range(0, len(data), line))
-        for address, data in pieces
+        for address, data in ((0xE0000, rsdp), (0x1000, rsdt), *pieces)
     )
 
 
@@ -82,8 +181,8 @@ def text_of(what):
     if what == ["run"]:
         return long_run()
     kind, count = what
-    if kind in ("overrides", "io-apics"):
-        return many_entries(kind, int(count))
+    if kind in KINDS:
+        return set_of(kind, int(count))
     return many_rows(kind, int(count))
 
 

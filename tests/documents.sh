@@ -22,7 +22,7 @@ same() { count "$1" "$(diff <(sort -u <<<"$2") <(sort -u <<<"$3") | grep '^[<>]'
 # within WHAT FIRST SECOND: each name of the first list is in the second.
 within() { count "$1" "$(comm -23 <(sort -u <<<"$2") <(sort -u <<<"$3"))"; }
 
-# ---- edits: each exported function has wrong bodies that the prover must refuse
+# ---- edits: exported functions have wrong bodies that the prover must refuse
 
 # exports CRATE: the names that a library exports: those in `pub use` of src/lib.rt, and the functions of its public
 # modules. Laws stand apart.
@@ -35,8 +35,10 @@ exports() {
 
 # functions CRATE: its functions outside tests, a method as Type_method. One that must have an edit comes once more
 # with a + before it: an exported one whose contract has an `ensures`. A program exports nothing: there it is those in
-# `program`. An exported type with an exported trait, whose contracts stand with the trait, comes with a ~ before it: one
-# edit of any of its methods is enough.
+# `program`. Not so a law, which returns nothing and changes nothing, nor a function whose whole body hands out a
+# field, sets one or passes the same call on to one: `rt plant` tries other fields and values there.
+# A method of an exported type's impl of an exported trait comes with a ~ before it, without its type: its contract
+# stands once, with the trait, so one edit for any type is enough.
 program='^(do_job|obey|read_words|run_[a-z]+|status_of)$'
 functions() {
   local names=""
@@ -54,42 +56,53 @@ functions() {
     /^}/ { type = "" }
     /^ *(pub(\([a-z]+\))? )?fn / {
       is_pub = $1 == "pub"
-      has_contract = !/\{$/
+      is_law = !/->|&mut /
+      part = /[{}]$/ ? "" : "head"
+      lines = asks = 0
       sub(/.*fn /, "")
       sub(/[^a-z0-9_].*/, "")
-      name = type == "" ? $0 : type "_" $0
-      is_open = is_pub && (type == "" ? $0 : type) in is_exported || names == "" && name ~ program
+      method = $0
+      name = type == "" ? method : type "_" method
+      is_open = is_pub && (type == "" ? method : type) in is_exported || names == "" && name ~ program
       print name
-      if (type in is_exported && trait in is_exported) print "~" type
+      if (type in is_exported && trait in is_exported) print "~" method
       next
     }
-    /^ *\{$/ || /^ *\).*\{$/ { has_contract = 0 }
-    is_open && has_contract && /^ *ensures / { print "+" name; has_contract = 0 }
+    part == "head" && /^ *ensures / { asks = 1; next }
+    part == "head" && /^ *[{]}?$/ { part = "body"; next }
+    part == "head" && !/^ *requires / && /->|&mut / { is_law = 0 }
+    part == "body" && /^(    )?}$/ {
+      if (is_open && asks && !is_law && !(lines == 1 && is_plain)) print "+" name
+      part = ""
+    }
+    part == "body" {
+      lines++
+      is_plain = /^ *self\.[a-z_]+( = [a-z_]+;)?$/ || $0 ~ "^ *self\\.[a-z_]+\\." method "\\(\\)$"
+    }
   ' $(find "crates/$1/src" -name '*.rt' ! -name laws.rt ! -path '*/tests*')
 }
 
-# Exported functions that need no edit: CRATE FUNCTION, and the reason. Texts that only people read belong here too.
-aside='acpi_base Image_numbers_fit states a law, and its body does nothing
-acpi_base built_stages states a law, and its body does nothing'
+# Functions whose names differ in digits alone, as those of each width of a number, are a family: one edit is enough.
+family() { tr -d '0-9'; }
 
 for crate in $(sed -n 's/^\([a-z_]*\):.*/\1/p' crates.txt); do
   all=$(functions "$crate")
   edited=$(for edit in "crates/$crate"/must-fail/*.edit; do basename "$edit" .edit; done | sed 's/-.*//')
-  exported=$(sed -n 's/^+//p' <<<"$all" | grep -vxF "$(sed -n "s/^$crate \([A-Za-z0-9_]*\) .*/\1/p" <<<"$aside")")
-  within "$crate: functions that no edit is named for" "$exported" "$edited"
-  within "$crate: types with a trait of this repository that no edit is named for" "$(sed -n 's/^~//p' <<<"$all" | sort -u)" "$(sed 's/_.*//' <<<"$edited")"
+  within "$crate: functions that no edit is named for" "$(sed -n 's/^+//p' <<<"$all" | family)" "$(family <<<"$edited")"
+  within "$crate: methods of its own traits that no edit is named for" "$(sed -n 's/^~//p' <<<"$all")" "$(sed 's/^[A-Z][A-Za-z0-9]*_//' <<<"$edited")"
   within "$crate: edits that are named for no function" "$edited" "$all"
 done
 
 # ---- the documents
-last=$(sed -n 's/^pub const BUILT: u8 = \([0-9]*\);$/\1/p' crates/acpi_base/src/stage.rt)
-stages=$(sed -n 's/^stage_number stage\.\([A-Za-z]*\) = \([0-9]*\)$/\1 \2/p' crates/acpi_base/specs/Codes.antt | awk -v last="$last" '$2 <= last { print $1 }')
-codes=$(while read -r stage; do sed -n "s/^stage_of code\.\([A-Za-z]*\) = stage\.$stage\$/\1/p" crates/acpi_base/specs/Codes.antt; done <<<"$stages")
-numbered=$(while read -r code; do sed -n "s/^code_number code\.\($code\) = \([0-9]*\)\$/\2 \1/p" crates/acpi_base/specs/Codes.antt; done <<<"$codes")
+codes=$(sed -n 's/^code_number code\.\([A-Za-z]*\) = \([0-9]*\)$/\2 \1/p' crates/acpi_base/specs/Codes.antt)
 described=$(sed -n 's/^### \([0-9]* [A-Za-z]*\)$/\1/p' docs/FAULTS.md)
-same 'codes of built stages (<) and parts of FAULTS.md (>)' "$numbered" "$described"
-listed=$(sed -n 's/^| \([0-9]*\) | .* | yes |$/\1/p' docs/FAULTS.md)
-same 'stages that are built (<) and those that FAULTS.md lists as built (>)' "$(seq 1 "$last")" "$listed"
+same 'codes (<) and parts of FAULTS.md (>)' "$codes" "$described"
+stages=$(sed -n 's/^stage_number stage\.[A-Za-z]* = \([0-9]*\)$/\1/p' crates/acpi_base/specs/Codes.antt)
+listed=$(sed -n 's/^| \([0-9]*\) | .* | [0-9to, ]* |$/\1/p' docs/FAULTS.md)
+same 'stages (<) and those that FAULTS.md lists (>)' "$stages" "$listed"
+headline=$(sed -n '/^## The headline$/,/^## /{/^```rust$/,/^```$/p}' README.md | grep -v '^```')
+contract=$(sed -n '/^pub fn check(/,/^{$/p' crates/acpi_check/src/stages.rt | grep -v '^{$')
+same 'the contract of check, as README has it (<) and in acpi_check (>)' "$headline" "$contract"
 
 paths=$(cat README.md docs/*.md | grep -o '`\(crates\|docs\|tests\|bench\)/[A-Za-z0-9_./-]*[A-Za-z0-9_]`' | tr -d '`' | sort -u)
 there=$(while read -r path; do [ -e "$path" ] && printf '%s\n' "$path"; done <<<"$paths")

@@ -43,6 +43,10 @@ Holds stage.Domains m q = ForMadt m q (λ madt. ForSrat m q (HaveOneDomain q.pro
 Holds stage.Served m q = ForMadt m q (AreNamedServed q)
 Holds stage.Leaves m q = ForMadt m q (λ madt. ForPptt m q (AreLeavesKnown madt))
 
+-- every stage holds
+abbrev pub IsClean : Memory → PolicyValue → Type 0
+IsClean m q = (stage : Stage) → Holds stage m q
+
 -- every stage up to `last` holds
 abbrev pub CleanTo : Stage → Memory → PolicyValue → Type 0
 CleanTo last m q = (stage : Stage) → stage_number stage ≤ stage_number last → Holds stage m q

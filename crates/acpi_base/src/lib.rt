@@ -44,7 +44,7 @@ pub use find::find_rsdp;
 pub use image::{Image, ImageFault};
 pub use image_text::read_image;
 pub use policy::{HotPlug, Policy, PolicyFault, Processors};
-pub use stage::{BUILT, Stage, built_stages};
+pub use stage::Stage;
 pub use tally::{DeviceFailed, Tally};
 pub use text::TextFault;
 pub use verdict::Verdict;

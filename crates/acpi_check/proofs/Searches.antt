@@ -1,9 +1,15 @@
--- What a binary search finds among numbers that rise.
-use Rattle.std.proofs.Common.{◌≡◌, ℕ, ◌<◌, ◌≤◌, List, length, get_or, inl, inr, arith}
-use Rattle.std.specs.Prelude.{AllPairs, Contains, MatchOption, slice_index, Result, Ok, Err}
+-- Numbers that rise, and what a binary search finds among them.
+use Rattle.std.proofs.Common.{◌≡◌, ℕ, ◌<◌, ◌≤◌, List, length, get_or, eqb, inl, inr, arith}
+use Rattle.std.specs.Prelude.{◌↔◌, AllPairs, Contains, MatchOption, slice_index, Result, Ok, Err}
+use Rattle.std.specs.List.{dedup}
+use Rattle.std.specs.List.Sorted.{IsPermutation, IsSorted}
+use Rattle.std.specs.Ordering.{nat_cmp}
 use Rattle.std.specs.Result.{MatchResult, result_ok}
 use Rattle.std.proofs.lemmas.Bool.{cases_order, cases_lt}
 use Rattle.std.proofs.lemmas.List.{get_or_default}
+use Rattle.std.proofs.lemmas.List.Kept.{AllPairs-from_increasing, Contains-dedup_nat, Contains-from_dedup}
+use Rattle.std.proofs.lemmas.List.Sorted.{Contains-permutation, IsPermutation-sym}
+use Rattle.std.proofs.lemmas.Map.Keys.{IsStrictlyIncreasing-dedup}
 
 -- each number is at least those before it
 pub never_falls : (xs : List ℕ) → AllPairs (λ x y. x < y) xs → (i j : ℕ) → i ≤ j → j < length xs → get_or xs i 0 ≤ get_or xs j 0
@@ -19,3 +25,13 @@ found xs x (Err i) here =
     λ (k, within, is).
     let at = get_or_default xs k 0 x within in
     elim (cases_lt k i) [ inl before ↦ omega (arith, here.1 k before, is) | inr behind ↦ omega (arith, here.2 k behind within, is) ]
+
+-- sorted numbers rise once each that is like the one before it is dropped, and are the same numbers
+pub in_order : (xs sorted kept : List ℕ) → IsPermutation xs sorted → IsSorted nat_cmp sorted → kept ≡ dedup eqb sorted → AllPairs (λ x y. x < y) kept × ((x : ℕ) → Contains kept x ↔ Contains xs x)
+in_order xs sorted kept moved order is = (
+  rw is (AllPairs-from_increasing (dedup eqb sorted) (IsStrictlyIncreasing-dedup sorted order)),
+  λ x. (
+    λ listed. Contains-permutation sorted xs x (IsPermutation-sym xs sorted moved) (Contains-from_dedup eqb sorted x (rw is at listed)),
+    λ listed. rw is (Contains-dedup_nat sorted x (Contains-permutation xs sorted x moved listed)),
+  ),
+)

@@ -22,6 +22,11 @@ abbrev pub FindsFirst : Stage → Type 0 → (Code → ℕ → ℕ → ℕ → T
 FindsFirst s Sound IsFault (Ok _) = Sound
 FindsFirst s Sound IsFault (Err w) = IsFirstOfTable s IsFault w
 
+-- the same, where a fault is handed on as one that there may be
+abbrev pub FindsFault : Stage → Type 0 → (Code → ℕ → ℕ → ℕ → Type 0) → Option Witness → Type 0
+FindsFault s Sound IsFault None = Sound
+FindsFault s Sound IsFault (Some w) = IsFirstOfTable s IsFault w
+
 -- w is the least fault that an entry has by itself
 pub record IsOwnFault (IsFault : Code → Type 0) (w : Witness) : Type 0 where
   pub fault : IsFault w.code

@@ -136,6 +136,3 @@ pub fn caches_end(alloc: Global, set: &Set<'_>) -> Result<(), Refusal>
         },
     }
 }
-
-#[cfg(test)]
-mod tests;

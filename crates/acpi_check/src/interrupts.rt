@@ -30,7 +30,11 @@ fn served_span(policy: &Policy, entry: &Entry<'_>) -> Option<Span>
 
 /// The interrupt numbers that each I/O APIC of a MADT serves, in the entries' order.
 #[tactic(auto, using(crate::proofs::Gathered::gathering))]
-fn served_spans(alloc: Global, policy: &Policy, table: Table<'_>) -> Result<Vec<Span>, AllocError>
+pub fn served_spans(
+    alloc: Global,
+    policy: &Policy,
+    table: Table<'_>,
+) -> Result<Vec<Span>, AllocError>
     ensures { IfOk result (λ spans. AreSpansOf (Serves policy.now (madt_contents table.entry)) spans.items) }
 {
     // A table has fewer than 2^32 bytes, so an offset fits the name of a span.
@@ -85,6 +89,3 @@ pub fn apart_interrupts(alloc: Global, set: &Set<'_>) -> Result<(), Refusal>
         },
     }
 }
-
-#[cfg(test)]
-mod tests;

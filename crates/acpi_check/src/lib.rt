@@ -1,42 +1,45 @@
 //! The check: whether the tables of an image are sound, and else the first fault.
 //!
 //! Each stage is one function. Where the earlier stages hold, it returns what it has read, for the stages
-//! behind it, or reports the first fault of its own. `check_to` asks them in their order; stages 1 to 6
-//! allocate no memory.
+//! behind it, or reports the first fault of its own. `check` asks all eighteen in their order, `check_to`
+//! those up to one; stages 1 to 6 allocate no memory.
 //!
 //! ```rust
 //! let policy = Policy::new(alloc, 0xe0000, 24).unwrap(); // the RSDP's address, and the inputs of an I/O APIC
-//! match check_to(alloc, &image, &policy, Stage::Facs)? {
-//!     Verdict::Yes => {}         // the RSDP, the root, the listed tables, the FADT and the FACS are sound
+//! match check(alloc, &image, &policy)? {
+//!     Verdict::Yes => {}         // all eighteen stages hold
 //!     Verdict::No(fault) => {}   // the first fault, in a fixed order
 //! }
 //! ```
 #![tactic(auto)]
 
 mod chains;
-mod check;
+mod domains;
 mod facs;
 mod fadt;
+mod firsts;
 mod interrupts;
+mod leaves;
 mod madt;
 mod nodes;
 mod overrides;
 mod places;
 mod pptt;
+mod processors;
 mod range_kind;
 mod ranges;
 mod references;
 mod refusal;
 mod root;
 mod rsdp;
-#[cfg(test)]
-mod samples;
 mod search;
+mod served;
 mod set;
 mod slit;
 mod srat;
+mod stages;
 mod tables;
 #[cfg(test)]
 mod tests;
 
-pub use check::check_to;
+pub use stages::{check, check_to};

@@ -10,45 +10,31 @@ ghost use Rattle.acpi_check.specs.Settled.{Settles};
 ghost use Rattle.acpi_check.specs.Set.{IsSet};
 ghost use Rattle.acpi_check.specs.declared.refusal.Refusal.{Refusal};
 
+use crate::firsts::{FirstValue, note_value};
 use crate::refusal::Refusal;
 use crate::set::Set;
 use acpi_base::{Code, Witness};
 use acpi_read::{Entries, Entry, MadtEntry, Table};
 
-/// The first override of a Source.
-#[derive(Clone, Copy, Debug, PartialEq, Eq)]
-pub struct FirstOverride {
-    /// Where it stands, from the table's start.
-    pub offset: u64,
-    /// The interrupt number that it gives the Source.
-    pub gsi: u32,
-}
-
-/// Looks at an entry, where `firsts` has of each Source the first override before it: counts it in, or returns the
-/// fault where it is an override that gives its Source another number.
-fn pass_entry(firsts: &mut [Option<FirstOverride>; 256], entry: &Entry<'_>) -> Result<(), Witness>
+/// Looks at an entry, where `firsts` has of each Source the number of the first override before it: counts it in, or
+/// returns the fault where it is an override that gives its Source another number.
+fn pass_entry(firsts: &mut [Option<FirstValue>; 256], entry: &Entry<'_>) -> Option<Witness>
     ensures { PassesOverride entry.now.offset (madt_entry entry.now.bytes.now) firsts.old firsts.new result }
 {
     let Ok(MadtEntry::Override(read)) = MadtEntry::read(entry.bytes) else {
-        return Ok(());
+        return None;
     };
-    let index = usize::from(read.source);
-    match firsts[index] {
-        None => {
-            firsts[index] = Some(FirstOverride {
-                offset: entry.offset,
-                gsi: read.gsi,
-            });
-            Ok(())
-        }
-        Some(first) if first.gsi != read.gsi => Err(Witness {
-            code: Code::OverrideClash,
-            at: entry.offset,
-            other: first.offset,
-            point: u64::from(read.source),
-        }),
-        Some(_) => Ok(()),
-    }
+    let now = FirstValue {
+        offset: entry.offset,
+        value: read.gsi,
+    };
+    let first = note_value(firsts, usize::from(read.source), now)?;
+    Some(Witness {
+        code: Code::OverrideClash,
+        at: entry.offset,
+        other: first.offset,
+        point: u64::from(read.source),
+    })
 }
 
 /// The first fault of a MADT's overrides. One of fewer than 44 bytes has none.
@@ -60,7 +46,9 @@ fn first_fault(table: Table<'_>) -> Result<(), Witness>
     };
     let mut firsts = [None; 256];
     while let Some(entry) = entries.next() {
-        pass_entry(&mut firsts, &entry)?;
+        if let Some(fault) = pass_entry(&mut firsts, &entry) {
+            return Err(fault);
+        }
     }
     Ok(())
 }

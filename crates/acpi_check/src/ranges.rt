@@ -138,6 +138,3 @@ pub fn apart_ranges(alloc: Global, set: &Set<'_>) -> Result<(), Refusal>
         },
     }
 }
-
-#[cfg(test)]
-mod tests;

@@ -1,6 +1,6 @@
-//! Look-ups among offsets.
+//! Look-ups among numbers that rise, as offsets do.
 
-ghost use Rattle.std.specs.Prelude.{◌≡◌, ◌<◌, AllPairs, Contains, MatchBool, MatchOption, length, slice_index};
+ghost use Rattle.std.specs.Prelude.{◌≡◌, ◌<◌, ◌↔◌, ℕ, AllPairs, Contains, MatchBool, MatchOption, length, slice_index};
 
 /// The place of an offset among offsets that rise, or none where it is not among them.
 pub fn find(offsets: &[u64], offset: u64) -> Option<usize>
@@ -19,4 +19,14 @@ pub fn has(offsets: &[u64], offset: u32) -> bool
         Some(_) => true,
         None => false,
     }
+}
+
+/// The numbers in rising order, each once.
+pub fn in_rising_order(mut numbers: Vec<u64>) -> Vec<u64>
+    ensures rise { AllPairs (λ i j. i < j) result.items }
+    ensures same { (n : ℕ) → Contains result.items n ↔ Contains numbers.items n }
+{
+    numbers.sort_unstable();
+    numbers.dedup();
+    numbers
 }

@@ -86,6 +86,3 @@ pub fn sound_srat(set: &Set<'_>) -> Result<(), Refusal>
         },
     }
 }
-
-#[cfg(test)]
-mod tests;

@@ -11,12 +11,12 @@ use Rattle.clap.specs.declared.builder.value_parser.Reading.TheVariants.{AsWritt
 use Rattle.clap.specs.declared.parser.matches.ValueSource.TheVariants.{CommandLine}
 use Rattle.clap.proofs.OnLiterals.{clap_on_literals}
 use Rattle.acpi_cli.specs.CommandLine.{inputs_rule, option_rule, option_words}
-use Rattle.acpi_cli.proofs.CheckRows.{at_row_absent, at_row_behind, check_rows, no_other_row, no_row_in_both, option_rows, row, word_rows}
+use Rattle.acpi_cli.proofs.CheckRows.{at_row_absent, at_row_behind, has_option, no_option_row, option_rows, options_rows, row, rows_of_one_more, word_rows}
 use Rattle.acpi_cli.proofs.Hyphens.{ArePlain, IsPlain}
 
 -- the arguments of `check` with what `clap` fills in, and its own `--help`
 unfoldable pub rules : List Rule
-rules = filled_from 1 (option_rule (codes "rsdp") ∷ option_rule (codes "through") ∷ option_rule (codes "default-inputs") ∷ inputs_rule ∷ help_rule ∷ [])
+rules = filled_from 1 (option_rule (codes "rsdp") ∷ option_rule (codes "through") ∷ option_rule (codes "default-inputs") ∷ option_rule (codes "hotplug") ∷ option_rule (codes "processors") ∷ inputs_rule ∷ help_rule ∷ [])
 
 -- `check` as `clap` builds it
 unfoldable pub shape : Shape
@@ -55,12 +55,12 @@ reads_one start next word words rows fault e reads = record {
 
 -- ---- options
 
--- `WORD VALUE` gives the option `id` its value
-record IsOption (id word : Text) : Type 0 where
+-- `--ID VALUE` gives the option `id` its value
+pub record IsOption (id : Text) : Type 0 where
   pub opens : (rows : List Row) (pending : Option (Text × List Text))
-      → walked rules [] (standing rows pending idle) word ≡ standing (settled_rows rules pending rows) (Some (id, [])) (option id)
+      → walked rules [] (standing rows pending idle) (codes "--" ++ id) ≡ standing (settled_rows rules pending rows) (Some (id, [])) (option id)
   pub is_known : (rows : List Row) (pending : Option (Text × List Text)) → settle_fault rules false (held rows pending) ≡ []
-      → turn_fault shape [] (standing rows pending idle) word ≡ []
+      → turn_fault shape [] (standing rows pending idle) (codes "--" ++ id) ≡ []
   pub takes : (rows : List Row) (first : ℕ) (rest : Text) → (first == 45) ≡ false
       → walked rules [] (standing rows (Some (id, [])) (option id)) (first ∷ rest) ≡ standing rows (Some (id, (first ∷ rest) ∷ [])) idle
   pub may_take : (rows : List Row) (first : ℕ) (rest : Text) → (first == 45) ≡ false
@@ -70,7 +70,7 @@ record IsOption (id word : Text) : Type 0 where
       → settled_rows rules (Some (id, value ∷ [])) rows ≡ with_values id AsWritten CommandLine (value ∷ []) (without id rows)
 
 -- `--rsdp` is such an option
-rsdp_option : IsOption (codes "rsdp") (codes "--rsdp")
+pub rsdp_option : IsOption (codes "rsdp")
 unfolding rules shape clap_on_literals
 rsdp_option = record {
   opens = λ rows pending. refl;
@@ -82,7 +82,7 @@ rsdp_option = record {
 }
 
 -- and `--through`
-through_option : IsOption (codes "through") (codes "--through")
+pub through_option : IsOption (codes "through")
 unfolding rules shape clap_on_literals
 through_option = record {
   opens = λ rows pending. refl;
@@ -94,9 +94,33 @@ through_option = record {
 }
 
 -- and `--default-inputs`
-default_option : IsOption (codes "default-inputs") (codes "--default-inputs")
+pub default_option : IsOption (codes "default-inputs")
 unfolding rules shape clap_on_literals
 default_option = record {
+  opens = λ rows pending. refl;
+  is_known = λ rows pending e. rw e refl;
+  takes = λ rows first rest e. simp e;
+  may_take = λ rows first rest e. simp e;
+  settles = λ rows value e. rw e refl;
+  settled = λ rows value. refl;
+}
+
+-- and `--hotplug`
+pub hotplug_option : IsOption (codes "hotplug")
+unfolding rules shape clap_on_literals
+hotplug_option = record {
+  opens = λ rows pending. refl;
+  is_known = λ rows pending e. rw e refl;
+  takes = λ rows first rest e. simp e;
+  may_take = λ rows first rest e. simp e;
+  settles = λ rows value e. rw e refl;
+  settled = λ rows value. refl;
+}
+
+-- and `--processors`
+pub processors_option : IsOption (codes "processors")
+unfolding rules shape clap_on_literals
+processors_option = record {
   opens = λ rows pending. refl;
   is_known = λ rows pending e. rw e refl;
   takes = λ rows first rest e. simp e;
@@ -111,29 +135,29 @@ record Holds (before : List Row) (pending : Option (Text × List Text)) (rows : 
   pub come_to : settled_rows rules pending before ≡ rows
 
 -- an option that was not given before comes behind what is read
-option_behind : (id word text : Text) (rows : List Row) → IsOption id word → has_row id rows ≡ false
+option_behind : (id text : Text) (rows : List Row) → IsOption id → has_row id rows ≡ false
     → Holds rows (Some (id, text ∷ [])) (rows ++ option_rows id (Some text))
-option_behind id word text rows is other = record {
+option_behind id text rows is other = record {
   sound = is.settles rows text other;
   come_to = is.settled rows text
       ∙ ap (with_values id AsWritten CommandLine (text ∷ [])) (at_row_absent id (λ _. []) [] rows other ∙ append-nil rows)
       ∙ at_row_absent id (more_values CommandLine (text ∷ [])) _ rows other;
 }
 
--- `WORD TEXT`, where there is a text, and then the words behind it
-reads_option : (id word : Text) (text : Option Text) (words : List Text) (before options rows : List Row) (pending : Option (Text × List Text)) → IsOption id word
+-- `--ID TEXT`, where there is a text, and then the words behind it
+reads_option : (id : Text) (text : Option Text) (words : List Text) (before options rows : List Row) (pending : Option (Text × List Text)) → IsOption id
     → IfSome text IsPlain → Holds before pending options → has_row id options ≡ false
     → ((now : List Row) (waits : Option (Text × List Text)) → Holds now waits (options ++ option_rows id text) → Reads (standing now waits idle) words rows)
-    → Reads (standing before pending idle) (option_words word text ++ words) rows
-reads_option id word None words before options rows pending is plain holds other reads =
+    → Reads (standing before pending idle) (option_words id text ++ words) rows
+reads_option id None words before options rows pending is plain holds other reads =
     reads before pending (record { sound = holds.sound; come_to = holds.come_to ∙ sym (append-nil options) })
-reads_option id word (Some text) words before options rows pending is plain holds other reads =
+reads_option id (Some text) words before options rows pending is plain holds other reads =
     reads_one _ (standing options (Some (id, [])) (option id)) _ _ _ (is.is_known before pending holds.sound)
     (is.opens before pending ∙ ap (λ (r : List Row). standing r (Some (id, [])) (option id)) holds.come_to)
     (subst (λ (t : Text). Reads (standing options (Some (id, [])) (option id)) (t ∷ words) rows) (sym plain.is)
     (reads_one _ _ _ _ _ (is.may_take options plain.first plain.rest plain.plain) (is.takes options plain.first plain.rest plain.plain)
     (subst (λ (t : Text). Reads (standing options (Some (id, t ∷ [])) idle) words rows) plain.is
-    (reads options (Some (id, text ∷ [])) (option_behind id word text options is other)))))
+    (reads options (Some (id, text ∷ [])) (option_behind id text options is other)))))
 
 -- ---- words without a hyphen
 
@@ -218,25 +242,40 @@ reads_all_words before options pending (word ∷ words) holds other plain =
     (subst (λ (rows : List Row). Reads (standing rows (Some (codes "inputs", word ∷ [])) positional) words (options ++ word_rows (word ∷ words))) (append-nil options ∙ sym holds.come_to)
     (reads_words options [] word words other plain.1))
 
--- all arguments of a plain line
-pub reads_check : (rsdp through default_inputs : Option Text) (words : List Text) → IfSome rsdp IsPlain → IfSome through IsPlain → IfSome default_inputs IsPlain → ArePlain words
-    → Reads (standing [] None idle)
-    (option_words (codes "--rsdp") rsdp ++ (option_words (codes "--through") through ++ (option_words (codes "--default-inputs") default_inputs ++ words)))
-    (check_rows rsdp through default_inputs words)
-reads_check rsdp through default_inputs words plain_rsdp plain_through plain_default plain_words =
-    let first = option_rows (codes "rsdp") rsdp in
-    let second = option_rows (codes "through") through in
-    let third = option_rows (codes "default-inputs") default_inputs in
-    let no_through = no_other_row (codes "through") (codes "rsdp") rsdp refl in
-    let no_default = no_row_in_both (codes "default-inputs") first second
-    (no_other_row (codes "default-inputs") (codes "rsdp") rsdp refl) (no_other_row (codes "default-inputs") (codes "through") through refl) in
-    let no_words = no_row_in_both (codes "inputs") (first ++ second) third
-    (no_row_in_both (codes "inputs") first second (no_other_row (codes "inputs") (codes "rsdp") rsdp refl) (no_other_row (codes "inputs") (codes "through") through refl))
-    (no_other_row (codes "inputs") (codes "default-inputs") default_inputs refl) in
-    reads_option _ _ rsdp _ [] [] _ None rsdp_option plain_rsdp (record { sound = refl; come_to = refl }) refl
-    (λ before pending holds. reads_option _ _ through _ before _ _ pending through_option plain_through holds no_through
-    (λ before pending holds. reads_option _ _ default_inputs _ before _ _ pending default_option plain_default holds no_default
-    (λ before pending holds. reads_all_words before _ pending words holds no_words plain_words)))
+-- ---- all arguments
+
+-- the words of several options, each an id and a value, and then the words behind them
+abbrev pub options_words : List (Text × Option Text) → List Text → List Text
+options_words [] words = words
+options_words (choice ∷ options) words = option_words choice.0 choice.1 ++ options_words options words
+
+-- they are options, and their values begin with no hyphen
+abbrev pub AreOptions : List (Text × Option Text) → Type 0
+AreOptions [] = Unit {0}
+AreOptions (choice ∷ options) = (IsOption choice.0 × IfSome choice.1 IsPlain) × AreOptions options
+
+-- none of them has the id of one before it
+abbrev pub AreNew : List (Text × Option Text) → List (Text × Option Text) → Type 0
+AreNew before [] = Unit {0}
+AreNew before (choice ∷ options) = (has_option choice.0 before ≡ false) × AreNew (before ++ choice ∷ []) options
+
+-- the options that are left, and the words behind them
+reads_rest : (all done left : List (Text × Option Text)) (words : List Text) (before : List Row) (pending : Option (Text × List Text))
+    → done ++ left ≡ all → AreOptions left → AreNew done left → has_option (codes "inputs") all ≡ false → ArePlain words → Holds before pending (options_rows done)
+    → Reads (standing before pending idle) (options_words left words) (options_rows all ++ word_rows words)
+reads_rest all done [] words before pending e are new no_words plain holds =
+    let come_to = holds.come_to ∙ ap options_rows (sym (append-nil done) ∙ e) in
+    reads_all_words before (options_rows all) pending words (record { sound = holds.sound; come_to = come_to }) (no_option_row (codes "inputs") all no_words) plain
+reads_rest all done (choice ∷ left) words before pending e are new no_words plain holds =
+    reads_option choice.0 choice.1 (options_words left words) before (options_rows done) _ pending are.0.0 are.0.1 holds (no_option_row choice.0 done new.0)
+    (λ now waits holds. reads_rest all (done ++ choice ∷ []) left words now waits (append_assoc done (choice ∷ []) left ∙ e) are.1 new.1 no_words plain
+    (record { sound = holds.sound; come_to = holds.come_to ∙ sym (rows_of_one_more done choice) }))
+
+-- all options and words of a plain line
+pub reads_options : (options : List (Text × Option Text)) (words : List Text) → AreOptions options → AreNew [] options → has_option (codes "inputs") options ≡ false → ArePlain words
+    → Reads (standing [] None idle) (options_words options words) (options_rows options ++ word_rows words)
+reads_options options words are new no_words plain =
+    reads_rest options [] options words [] None refl are new no_words plain (record { sound = refl; come_to = refl })
 
 -- ---- at the end of the words
 

@@ -1,9 +1,11 @@
 -- The rows in which `clap` hands on the arguments of `check`, and where each is found.
-use Rattle.std.proofs.Common.{◌≡◌, ◌∙◌, ◌++◌, List, [], ◌∷◌, Option, Some, None, false, codes, append-nil, refl, ap, sym, unwrap_or}
+use Rattle.std.proofs.Common.{◌≡◌, ◌∙◌, ◌++◌, Bool, List, [], ◌∷◌, Option, Some, None, true, false, cond, codes, append_assoc, append-nil, refl, ap, sym, unwrap_or}
 use Rattle.std.specs.Prelude.{find}
+use Rattle.std.specs.List.{list_any}
 use Rattle.std.specs.Str.{bytes_eq}
 use Rattle.std.proofs.lemmas.Bool.{or_parts}
 use Rattle.std.proofs.lemmas.List.Folds.{find-append, list_any-append}
+use Rattle.std.proofs.lemmas.Slice.Eq.{bytes_eq-Decides}
 use Rattle.clap.specs.Words.{Row, Text, all_of, first_of}
 use Rattle.clap.specs.Walk.{at_row, has_row}
 use Rattle.clap.specs.declared.builder.value_parser.Reading.TheVariants.{AsWritten}
@@ -23,10 +25,14 @@ abbrev pub word_rows : List Text → List Row
 word_rows [] = []
 word_rows (word ∷ words) = row (codes "inputs") (word ∷ words) ∷ []
 
--- what was read of all arguments
-abbrev pub check_rows : Option Text → Option Text → Option Text → List Text → List Row
-check_rows rsdp through default_inputs words =
-    option_rows (codes "rsdp") rsdp ++ option_rows (codes "through") through ++ option_rows (codes "default-inputs") default_inputs ++ word_rows words
+-- what was read of several options, each an id and a value
+abbrev pub options_rows : List (Text × Option Text) → List Row
+options_rows [] = []
+options_rows (choice ∷ options) = option_rows choice.0 choice.1 ++ options_rows options
+
+-- one of them has this id
+abbrev pub has_option : Text → List (Text × Option Text) → Bool
+has_option id options = list_any (λ choice. bytes_eq choice.0 id) options
 
 -- ---- rows with an id
 
@@ -42,50 +48,75 @@ at_row_behind id change missing (r ∷ rs) behind e =
 pub at_row_absent : (id : Text) (change : Row → List Row) (missing rows : List Row) → has_row id rows ≡ false → at_row id change missing rows ≡ rows ++ missing
 at_row_absent id change missing rows e = ap (at_row id change missing) (sym (append-nil rows)) ∙ at_row_behind id change missing rows [] e
 
--- no row has the id of another
-pub no_other_row : (id other : Text) (value : Option Text) → bytes_eq other id ≡ false → has_row id (option_rows other value) ≡ false
+-- rows behind others
+pub rows_of_one_more : (options : List (Text × Option Text)) (choice : Text × Option Text)
+    → options_rows (options ++ choice ∷ []) ≡ options_rows options ++ option_rows choice.0 choice.1
+rows_of_one_more [] choice = append-nil (option_rows choice.0 choice.1)
+rows_of_one_more (first ∷ options) choice =
+    ap (λ (rows : List Row). option_rows first.0 first.1 ++ rows) (rows_of_one_more options choice)
+    ∙ sym (append_assoc (option_rows first.0 first.1) (options_rows options) (option_rows choice.0 choice.1))
+
+-- no row has the id of another option
+no_other_row : (id other : Text) (value : Option Text) → bytes_eq other id ≡ false → has_row id (option_rows other value) ≡ false
 no_other_row id other None e = refl
 no_other_row id other (Some value) e = rw e refl
 
 -- nor do rows of which neither part has it
-pub no_row_in_both : (id : Text) (rows behind : List Row) → has_row id rows ≡ false → has_row id behind ≡ false → has_row id (rows ++ behind) ≡ false
+no_row_in_both : (id : Text) (rows behind : List Row) → has_row id rows ≡ false → has_row id behind ≡ false → has_row id (rows ++ behind) ≡ false
 no_row_in_both id rows behind e f = rw (list_any-append, e, f) refl
+
+-- so none has an id that no option has
+pub no_option_row : (id : Text) (options : List (Text × Option Text)) → has_option id options ≡ false → has_row id (options_rows options) ≡ false
+no_option_row id [] e = refl
+no_option_row id (choice ∷ options) e =
+    let others = or_parts (bytes_eq choice.0 id) (has_option id options) e in
+    no_row_in_both id (option_rows choice.0 choice.1) (options_rows options) (no_other_row id choice.0 choice.1 others.0) (no_option_row id options others.1)
+
+-- nor has that of the words `ADDRESS=COUNT`
+pub no_word_row : (id : Text) (words : List Text) → bytes_eq (codes "inputs") id ≡ false → has_row id (word_rows words) ≡ false
+no_word_row id [] e = refl
+no_word_row id (word ∷ words) e = rw e refl
 
 -- ---- where the arguments are found
 
--- another option is not found
-finds_no_option : (id other : Text) (value : Option Text) → bytes_eq other id ≡ false → find (λ (r : Row). bytes_eq r.id id) (option_rows other value) ≡ None
-finds_no_option id other None e = refl
-finds_no_option id other (Some value) e = rw e refl
+-- no two of the options have one id
+abbrev pub AreDistinct : List (Text × Option Text) → Type 0
+AreDistinct [] = Unit {0}
+AreDistinct (choice ∷ options) = (has_option choice.0 options ≡ false) × AreDistinct options
 
--- nor are the words
-finds_no_words : (id : Text) (words : List Text) → bytes_eq (codes "inputs") id ≡ false → find (λ (r : Row). bytes_eq r.id id) (word_rows words) ≡ None
-finds_no_words id [] e = refl
-finds_no_words id (word ∷ words) e = rw e refl
+-- the value of the option with this id
+abbrev pub value_of : Text → List (Text × Option Text) → Option Text
+value_of id [] = None
+value_of id (choice ∷ options) = cond (bytes_eq choice.0 id) choice.1 (value_of id options)
 
--- under its id `--rsdp` is found
-pub rsdp_is_found : (rsdp through default_inputs : Option Text) (words : List Text) → first_of (codes "rsdp") (check_rows rsdp through default_inputs words) ≡ rsdp
-rsdp_is_found (Some rsdp) through default_inputs words = refl
-rsdp_is_found None through default_inputs words =
-    simp (find-append, finds_no_option (codes "rsdp") (codes "through") through refl, finds_no_option (codes "rsdp") (codes "default-inputs") default_inputs refl, finds_no_words (codes "rsdp") words refl)
+-- an id that no row has is not found
+finds_none : (id : Text) (rows : List Row) → has_row id rows ≡ false → find (λ (r : Row). bytes_eq r.id id) rows ≡ None
+finds_none id [] e = refl
+finds_none id (r ∷ rs) e =
+    let others = or_parts (bytes_eq r.id id) (has_row id rs) e in
+    rw others.0 (finds_none id rs others.1)
 
--- and `--through`
-pub through_is_found : (rsdp through default_inputs : Option Text) (words : List Text) → first_of (codes "through") (check_rows rsdp through default_inputs words) ≡ through
-through_is_found rsdp (Some through) default_inputs words =
-    simp (find-append, finds_no_option (codes "through") (codes "rsdp") rsdp refl)
-through_is_found rsdp None default_inputs words =
-    simp (find-append, finds_no_option (codes "through") (codes "rsdp") rsdp refl, finds_no_option (codes "through") (codes "default-inputs") default_inputs refl, finds_no_words (codes "through") words refl)
+-- an option is found under its id
+pub option_is_found : (id : Text) (options : List (Text × Option Text)) (behind : List Row) → AreDistinct options → has_row id behind ≡ false
+    → first_of id (options_rows options ++ behind) ≡ value_of id options
+option_is_found id [] behind distinct other = rw (finds_none id behind other) refl
+option_is_found id (choice ∷ options) behind distinct other =
+    go (bytes_eq choice.0 id) refl choice.1 (option_is_found id options behind distinct.1 other)
+  where
+    none_behind : bytes_eq choice.0 id ≡ true → has_row id (options_rows options ++ behind) ≡ false
+    none_behind is =
+        let same : choice.0 ≡ id = (bytes_eq-Decides choice.0 id).0 is in
+        no_row_in_both id (options_rows options) behind (no_option_row id options (ap (λ (i : Text). has_option i options) (sym same) ∙ distinct.0)) other
 
--- and `--default-inputs`
-pub default_is_found : (rsdp through default_inputs : Option Text) (words : List Text) → first_of (codes "default-inputs") (check_rows rsdp through default_inputs words) ≡ default_inputs
-default_is_found rsdp through (Some default_inputs) words =
-    simp (find-append, finds_no_option (codes "default-inputs") (codes "rsdp") rsdp refl, finds_no_option (codes "default-inputs") (codes "through") through refl)
-default_is_found rsdp through None words =
-    simp (find-append, finds_no_option (codes "default-inputs") (codes "rsdp") rsdp refl, finds_no_option (codes "default-inputs") (codes "through") through refl, finds_no_words (codes "default-inputs") words refl)
+    go : (is : Bool) → bytes_eq choice.0 id ≡ is → (value : Option Text) → first_of id (options_rows options ++ behind) ≡ value_of id options
+        → first_of id (option_rows choice.0 value ++ options_rows options ++ behind) ≡ cond is value (value_of id options)
+    go true is None found = rw (finds_none id (options_rows options ++ behind) (none_behind is)) refl
+    go true is (Some value) found = rw is refl
+    go false is None found = found
+    go false is (Some value) found = rw is found
 
--- and the words `ADDRESS=COUNT`
-pub words_are_found : (rsdp through default_inputs : Option Text) (words : List Text) → unwrap_or (all_of (codes "inputs") (check_rows rsdp through default_inputs words)) [] ≡ words
-words_are_found rsdp through default_inputs [] =
-    simp (find-append, finds_no_option (codes "inputs") (codes "rsdp") rsdp refl, finds_no_option (codes "inputs") (codes "through") through refl, finds_no_option (codes "inputs") (codes "default-inputs") default_inputs refl)
-words_are_found rsdp through default_inputs (word ∷ words) =
-    simp (find-append, finds_no_option (codes "inputs") (codes "rsdp") rsdp refl, finds_no_option (codes "inputs") (codes "through") through refl, finds_no_option (codes "inputs") (codes "default-inputs") default_inputs refl)
+-- and so are the words `ADDRESS=COUNT`
+pub words_are_found : (options : List (Text × Option Text)) (words : List Text) → has_option (codes "inputs") options ≡ false
+    → unwrap_or (all_of (codes "inputs") (options_rows options ++ word_rows words)) [] ≡ words
+words_are_found options [] e = rw (find-append, finds_none (codes "inputs") (options_rows options) (no_option_row (codes "inputs") options e)) refl
+words_are_found options (word ∷ words) e = rw (find-append, finds_none (codes "inputs") (options_rows options) (no_option_row (codes "inputs") options e)) refl

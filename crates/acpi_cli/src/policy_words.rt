@@ -1,13 +1,17 @@
-//! What the arguments of the command line say of I/O APICs: how many inputs each has.
+//! What the arguments of the command line say of the policy: how many inputs each I/O APIC has, which ranges of memory
+//! must not overlap, and which processors count as enabled.
 
 ghost use Rattle.std.specs.Prelude.{◌≡◌, ◌++◌, ℕ, List, IfErr, IfOk, IsSome, Some, codes, map, option_map, unwrap_or};
+ghost use Rattle.clap.specs.Words.{found_of, rows_of};
 ghost use Rattle.acpi_base.specs.Policy.{PolicyValue, inputs_of, new_policy};
-ghost use Rattle.acpi_cli.specs.CommandLine.{default_word, first_count, policy_words, with_inputs};
+ghost use Rattle.acpi_cli.specs.CommandLine.{default_word, first_count, hotplug_word, inputs_policy, policy_asked, processors_word, with_inputs};
 ghost use Rattle.acpi_cli.specs.Words.{count_word, hex_word, inputs_word};
 
+use crate::command_line::{value, values};
 use crate::number_words::{decimal_number, hex_number};
 use crate::words::WordFault;
-use acpi_base::Policy;
+use acpi_base::{HotPlug, Policy, Processors};
+use clap::ArgMatches;
 use std::alloc::Global;
 
 /// The number of inputs of each I/O APIC without a count of its own.
@@ -19,6 +23,12 @@ const MOST_INPUTS: u64 = 256;
 /// What a count of inputs may be, in an error message.
 const COUNTS: &str = "an I/O APIC has 1 to 256 inputs, in 1 to 3 decimal digits";
 
+/// What the setting of `--hotplug` may be, in an error message.
+const HOTPLUG_SETTINGS: &str = "hot-pluggable ranges are counted or apart";
+
+/// What the setting of `--processors` may be, in an error message.
+const PROCESSORS_SETTINGS: &str = "processors are enabled or usable";
+
 /// What the address of an I/O APIC may be, in an error message.
 const ADDRESSES: &str = "1 to 8 hex digits, with 0x before them or without";
 
@@ -29,20 +39,43 @@ struct Inputs {
     count: u16,
 }
 
-/// The policy of `--default-inputs` and of the words `ADDRESS=COUNT`. Its RSDP address is 0. The first count of an
-/// address stands. Takes a number of steps that grows with n log n of n words.
+/// The policy of `--default-inputs`, `--hotplug`, `--processors` and the words `ADDRESS=COUNT` among the options. Its RSDP
+/// address is 0. Takes a number of steps that grows with n log n of n words.
 ///
 /// Refuses `Words` where a word is wrong; `Memory` may be returned in place of a policy or of `Words`.
+pub fn read_policy(alloc: Global, options: &ArgMatches) -> Result<Policy, WordFault>
+    ensures policy { IfOk result (λ policy. policy_asked (rows_of (found_of options.now)) ≡ Some policy) }
+    ensures refused { IfErr result (λ fault.
+        IsSome (policy_asked (rows_of (found_of options.now))) → fault ≡ WordFault.Memory) }
+{
+    let Some(hotplug) = hotplug_setting(value(options, "hotplug")) else {
+        return Err(WordFault::Words);
+    };
+    let Some(processors) = processors_setting(value(options, "processors")) else {
+        return Err(WordFault::Words);
+    };
+    let mut policy = read_inputs(
+        alloc,
+        value(options, "default-inputs"),
+        values(options, "inputs"),
+    )?;
+    policy.set_hotplug(hotplug);
+    policy.set_processors(processors);
+    Ok(policy)
+}
+
+/// The policy of `--default-inputs` and of the words `ADDRESS=COUNT`, with the settings of a new one. The first count of
+/// an address stands.
 #[tactic(auto, using(crate::proofs::InputsWords::one_more, crate::proofs::InputsWords::one_wrong))]
-pub fn read_policy(
+fn read_inputs(
     alloc: Global,
     default_inputs: Option<&str>,
     words: &[&str],
 ) -> Result<Policy, WordFault>
     ensures policy { IfOk result (λ policy.
-        policy_words (option_map (λ text. text.now) default_inputs.entry) (map (λ text. text.now) words.now) ≡ Some policy) }
+        inputs_policy (option_map (λ text. text.now) default_inputs.entry) (map (λ text. text.now) words.now) ≡ Some policy) }
     ensures refused { IfErr result (λ fault.
-        IsSome (policy_words (option_map (λ text. text.now) default_inputs.entry) (map (λ text. text.now) words.now))
+        IsSome (inputs_policy (option_map (λ text. text.now) default_inputs.entry) (map (λ text. text.now) words.now))
         → fault ≡ WordFault.Memory) }
 {
     let Some(default_inputs) = default_count(default_inputs) else {
@@ -50,7 +83,7 @@ pub fn read_policy(
     };
     let mut policy = Policy::new(alloc, 0, default_inputs).unwrap();
     for word in words {
-        let Some(inputs) = read_inputs(word) else {
+        let Some(inputs) = inputs_of_word(word) else {
             return Err(WordFault::Words);
         };
         if policy.add_input(inputs.address, inputs.count).is_err() {
@@ -80,18 +113,25 @@ pub fn inputs_are_address_and_count()
         × (hex_word 8 address ≡ Some inputs.address) × (count_word count ≡ Some inputs.count) }
 {}
 
-/// An error message on the value of `--default-inputs` and on the words, in a line that names the first wrong one.
-pub fn policy_message(
-    alloc: Global,
-    default_inputs: Option<&str>,
-    words: &[&str],
-) -> Option<String> {
-    if let Some(number) = default_inputs
+/// An error message on the options that `read_policy` reads, in a line that names the first wrong one.
+pub fn policy_message(alloc: Global, options: &ArgMatches) -> Option<String> {
+    if let Some(number) = value(options, "default-inputs")
         && count(number).is_none()
     {
         return format!(in alloc; "--default-inputs '{number}': {COUNTS}").ok();
     }
-    let word = words.iter().find(|word| read_inputs(word).is_none())?;
+    if let Some(setting) = value(options, "hotplug")
+        && hotplug_setting(Some(setting)).is_none()
+    {
+        return format!(in alloc; "--hotplug '{setting}': {HOTPLUG_SETTINGS}").ok();
+    }
+    if let Some(setting) = value(options, "processors")
+        && processors_setting(Some(setting)).is_none()
+    {
+        return format!(in alloc; "--processors '{setting}': {PROCESSORS_SETTINGS}").ok();
+    }
+    let words = values(options, "inputs");
+    let word = words.iter().find(|word| inputs_of_word(word).is_none())?;
     inputs_message(alloc, word)
 }
 
@@ -118,8 +158,36 @@ fn default_count(word: Option<&str>) -> Option<u16>
     }
 }
 
+/// The setting that `--hotplug` gives, else `Counted`. `None` where its value is no setting.
+fn hotplug_setting(word: Option<&str>) -> Option<HotPlug>
+    ensures { result ≡ hotplug_word (option_map (λ text. text.now) word.entry) }
+{
+    let Some(text) = word else {
+        return Some(HotPlug::Counted);
+    };
+    match text.as_bytes() {
+        b"counted" => Some(HotPlug::Counted),
+        b"apart" => Some(HotPlug::Apart),
+        _ => None,
+    }
+}
+
+/// The setting that `--processors` gives, else `Enabled`. `None` where its value is no setting.
+fn processors_setting(word: Option<&str>) -> Option<Processors>
+    ensures { result ≡ processors_word (option_map (λ text. text.now) word.entry) }
+{
+    let Some(text) = word else {
+        return Some(Processors::Enabled);
+    };
+    match text.as_bytes() {
+        b"enabled" => Some(Processors::Enabled),
+        b"usable" => Some(Processors::Usable),
+        _ => None,
+    }
+}
+
 /// The inputs that `ADDRESS=COUNT` says. `None` where the word is anything else.
-fn read_inputs(word: &str) -> Option<Inputs>
+fn inputs_of_word(word: &str) -> Option<Inputs>
     ensures { result ≡ inputs_word word.now }
 {
     let (address, number) = word.split_once('=')?;

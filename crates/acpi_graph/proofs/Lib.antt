@@ -3,6 +3,6 @@ pub mod Pigeonholes
 pub mod Chains
 pub mod Rounds
 pub mod ReturnsWithin
+pub mod SortedSpans
 mod FirstOverlap
-mod SortedSpans
 mod Walks

@@ -1,12 +1,15 @@
 //! Tables for the tests: those of the machine `q35` of QEMU 7.2, as its firmware SeaBIOS left them, and
 //! tables that are built here.
 
-ghost use Rattle.std.specs.Prelude.{◌≤◌, length};
+ghost use Rattle.std.specs.Prelude.{◌≡◌, length, IsTrue};
+ghost use Rattle.acpi_base.specs.Entries.{IsEntry};
 
 use crate::header::Header;
-use crate::layout::Layout;
+use crate::layout::{Layout, read_back};
 use acpi_base::{Image, sum};
 use std::alloc::Global;
+use std::fmt::Debug;
+use std::process::Abort;
 use std::test::Fail;
 
 /// At F59E0h: revision 0, the RSDT at 7FE223Ch.
@@ -95,7 +98,7 @@ pub(crate) const EXTENDED: [u8; 36] = [
 pub(crate) fn image_of(alloc: Global, pieces: &[(u64, &[u8])]) -> Result<Image, Fail> {
     let mut image = Image::new(alloc);
     for (address, bytes) in pieces {
-        image.add(*address, bytes).map_err(|_| "no image")?;
+        image.add(*address, bytes)?;
     }
     Ok(image)
 }
@@ -106,12 +109,10 @@ pub(crate) fn table(
     signature: [u8; 4],
     revision: u8,
     body: &[u8],
-) -> Result<Vec<u8>, Fail>
-    requires { length body.now ≤ 1000 }
-{
+) -> Result<Vec<u8>, Fail> {
     let mut header = Header {
         signature,
-        length: 36 + body.len() as u32,
+        length: u32::try_from(36 + body.len())?,
         revision,
         checksum: 0,
         oemid: *b"MAKER ",
@@ -128,4 +129,27 @@ pub(crate) fn table(
     bytes.extend_from_slice(&out)?;
     bytes.extend_from_slice(body)?;
     Ok(bytes)
+}
+
+/// The bytes are read as the value, and the value is written as `written`, where reserved bytes are 0. `out` is room
+/// for them.
+pub(crate) fn expect_layout<R: Abort, L: Layout + Copy + Debug + PartialEq>(
+    rt: &R,
+    value: L,
+    bytes: &[u8],
+    written: &[u8],
+    out: &mut [u8],
+)
+    requires { length out.old ≡ L.LEN }
+{
+    assert_eq!(rt; L::read(bytes), Some(value));
+    assert_eq!(rt; read_back(&value, out), Some(value));
+    assert_eq!(rt; *out, *written);
+}
+
+/// Whether the second of the bytes is their count, as that of an entry is.
+pub(crate) fn is_entry(bytes: &[u8]) -> bool
+    ensures { IsTrue result → IsEntry bytes.now }
+{
+    bytes.len() >= 2 && usize::from(bytes[1]) == bytes.len()
 }

@@ -1,71 +1,93 @@
 use super::*;
+use std::process::Abort;
 use std::test::Fail;
 
-#[test]
-fn pieces_that_touch_are_one(rt: HostRuntime) -> Result<(), Fail> {
-    let mut image = Image::new(rt.alloc());
-    assert_eq!(rt; image.add(0x1000, &[1, 2]), Ok(()));
-    assert_eq!(rt; image.add(0x1002, &[3]), Ok(()));
-    assert_eq!(rt; image.window(0x1000, 3), Some([1, 2, 3].as_slice()));
-    assert_eq!(rt;
-        image.add(0xfff, &[9, 9]),
-        Err(ImageFault::Twice { address: 0x1000 })
-    );
-    assert_eq!(rt; image.byte_at(0xfff), None);
-    Ok(())
+/// Bytes that are added, the address of the first, and what `add` returns.
+type Added<'a> = (u64, &'a [u8], Result<(), ImageFault>);
+
+/// An address, a number of bytes from there on, and what `window` returns.
+type Window<'a> = (u64, u64, Option<&'a [u8]>);
+
+/// An image to which the bytes are added in this order.
+fn image_of(rt: &impl Abort, alloc: Global, pieces: &[Added]) -> Image {
+    let mut image = Image::new(alloc);
+    for (address, bytes, result) in pieces {
+        assert_eq!(rt; image.add(*address, bytes), *result, "{address:#x}");
+    }
+    image
 }
 
-#[test]
-fn the_last_address(rt: HostRuntime) -> Result<(), Fail> {
-    let mut image = Image::new(rt.alloc());
-    assert_eq!(rt; image.add(u64::MAX, &[1]), Ok(()));
-    assert_eq!(rt; image.add(u64::MAX, &[1, 2]), Err(ImageFault::PastEnd));
-    assert_eq!(rt; image.window(u64::MAX, 1), Some([1].as_slice()));
-    assert_eq!(rt; image.window(u64::MAX, 2), None);
-    assert_eq!(rt; image.window(5, 0).ok_or("none")?.len(), 0);
-    Ok(())
-}
+/// Images, each with windows of it and a byte that is looked up.
+const IMAGES: [(&[Added], &[Window], (u64, Option<u8>)); 5] = [
+    // Pieces that touch are one.
+    (
+        &[
+            (0x1000, &[1, 2], Ok(())),
+            (0x1002, &[3], Ok(())),
+            (0xfff, &[9, 9], Err(ImageFault::Twice { address: 0x1000 })),
+        ],
+        &[(0x1000, 3, Some(&[1, 2, 3]))],
+        (0xfff, None),
+    ),
+    // The last address.
+    (
+        &[
+            (u64::MAX, &[1], Ok(())),
+            (u64::MAX, &[1, 2], Err(ImageFault::PastEnd)),
+        ],
+        &[
+            (u64::MAX, 1, Some(&[1])),
+            (u64::MAX, 2, None),
+            (5, 0, Some(&[])),
+        ],
+        (u64::MAX, Some(1)),
+    ),
+    // Any order joins.
+    (
+        &[
+            (0x14, &[5], Ok(())),
+            (0x13, &[4], Ok(())),
+            (0x10, &[1], Ok(())),
+            (0x40, &[7], Ok(())),
+            (0x11, &[2, 3], Ok(())),
+        ],
+        &[
+            (0x10, 5, Some(&[1, 2, 3, 4, 5])),
+            (0x12, 2, Some(&[3, 4])),
+            (0x10, 6, None),
+        ],
+        (0x40, Some(7)),
+    ),
+    // The least address that would be held twice, and a hole between pieces.
+    (
+        &[
+            (0x30, &[1], Ok(())),
+            (0x20, &[2, 3], Ok(())),
+            (0x10, &[0; 64], Err(ImageFault::Twice { address: 0x20 })),
+            (0x21, &[0], Err(ImageFault::Twice { address: 0x21 })),
+        ],
+        &[(0x20, 2, Some(&[2, 3])), (0x20, 17, None)],
+        (0x10, None),
+    ),
+    // No bytes are always added.
+    (
+        &[
+            (u64::MAX, &[], Ok(())),
+            (0x10, &[1], Ok(())),
+            (0x10, &[], Ok(())),
+        ],
+        &[(u64::MAX, 1, None)],
+        (0x10, Some(1)),
+    ),
+];
 
 #[test]
-fn any_order_joins(rt: HostRuntime) -> Result<(), Fail> {
-    let mut image = Image::new(rt.alloc());
-    assert_eq!(rt; image.add(0x14, &[5]), Ok(()));
-    assert_eq!(rt; image.add(0x13, &[4]), Ok(()));
-    assert_eq!(rt; image.add(0x10, &[1]), Ok(()));
-    assert_eq!(rt; image.add(0x40, &[7]), Ok(()));
-    assert_eq!(rt; image.window(0x10, 5), None);
-    assert_eq!(rt; image.add(0x11, &[2, 3]), Ok(()));
-    assert_eq!(rt; image.window(0x10, 5), Some([1, 2, 3, 4, 5].as_slice()));
-    assert_eq!(rt; image.window(0x12, 2), Some([3, 4].as_slice()));
-    assert_eq!(rt; image.window(0x10, 6), None);
-    assert_eq!(rt; image.byte_at(0x40), Some(7));
-    Ok(())
-}
-
-#[test]
-fn the_least_address_held_twice(rt: HostRuntime) -> Result<(), Fail> {
-    let mut image = Image::new(rt.alloc());
-    assert_eq!(rt; image.add(0x30, &[1]), Ok(()));
-    assert_eq!(rt; image.add(0x20, &[2, 3]), Ok(()));
-    assert_eq!(rt;
-        image.add(0x10, &[0; 64]),
-        Err(ImageFault::Twice { address: 0x20 })
-    );
-    assert_eq!(rt;
-        image.add(0x21, &[0]),
-        Err(ImageFault::Twice { address: 0x21 })
-    );
-    assert_eq!(rt; image.byte_at(0x10), None);
-    Ok(())
-}
-
-#[test]
-fn nothing_is_always_added(rt: HostRuntime) -> Result<(), Fail> {
-    let mut image = Image::new(rt.alloc());
-    assert_eq!(rt; image.add(u64::MAX, &[]), Ok(()));
-    assert_eq!(rt; image.byte_at(u64::MAX), None);
-    assert_eq!(rt; image.add(0x10, &[1]), Ok(()));
-    assert_eq!(rt; image.add(0x10, &[]), Ok(()));
-    assert_eq!(rt; image.byte_at(0x10), Some(1));
-    Ok(())
+fn images_hold_what_was_added(rt: HostRuntime) {
+    for (pieces, windows, (address, byte)) in IMAGES {
+        let image = image_of(&rt, rt.alloc(), pieces);
+        assert!(rt; image.byte_at(address) == byte, "{address:#x}");
+        for (address, count, bytes) in windows {
+            assert_eq!(rt; image.window(*address, *count), *bytes, "{address:#x}");
+        }
+    }
 }

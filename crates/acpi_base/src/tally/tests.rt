@@ -1,98 +1,45 @@
+ghost use Rattle.std.specs.Prelude.{◌≤◌, IfOk};
+
 use crate::{DeviceFailed, Tally};
 use std::io;
-use std::io::{Read, Write};
+use std::io::{ErrorKind, Read, Write};
 use std::test::Fail;
 
-// Reads three bytes, once, and takes three bytes, once; from then on reads fail, and writes take none.
+/// Answers its calls one after another with these counts of bytes and errors, and then with 0 bytes.
 #[derive(Drop)]
-struct Tired {
-    has_read: bool,
-    has_written: bool,
+struct Scripted {
+    answers: &'static [Result<usize, ErrorKind>],
+    calls: usize,
 }
 
-impl Read for Tired {
-    fn read(&mut self, buffer: &mut [u8]) -> io::Result<usize> {
-        if self.has_read || buffer.len() < 3 {
-            return Err(io::ErrorKind::Other.into());
-        }
-        self.has_read = true;
-        buffer[..3].fill(7);
-        Ok(3)
-    }
-}
-
-impl Write for Tired {
-    fn write(&mut self, bytes: &[u8]) -> io::Result<usize> {
-        if self.has_written {
-            return Ok(0);
-        }
-        self.has_written = true;
-        Ok(bytes.len().min(3))
-    }
-
-    fn flush(&mut self) -> io::Result<()> {
-        Ok(())
-    }
-}
-
-#[test]
-fn counts_failures(rt: HostRuntime) {
-    let mut tally = Tally::new(Tired {
-        has_read: false,
-        has_written: false,
-    });
-    let mut buffer = [0; 5];
-    assert_eq!(rt; tally.read(&mut buffer), Ok(3));
-    assert_eq!(rt; buffer, [7, 7, 7, 0, 0]);
-    assert_eq!(rt; tally.write(b"abcde"), Ok(3));
-    assert_eq!(rt; tally.write(b""), Ok(0));
-    assert_eq!(rt; tally.failures(), 0);
-    assert_eq!(rt; tally.read(&mut buffer), Err(DeviceFailed));
-    assert_eq!(rt; tally.failures(), 1);
-    assert_eq!(rt; tally.write(b"de"), Err(DeviceFailed));
-    assert_eq!(rt; tally.failures(), 2);
-    assert!(rt; tally.into_inner().has_written);
-}
-
-#[test]
-fn passes_bytes_on(rt: HostRuntime) -> Result<(), Fail> {
-    let mut tally = Tally::new(Vec::new(rt.alloc()));
-    assert_eq!(rt; tally.write(b"abc"), Ok(3));
-    assert_eq!(rt; tally.into_inner().as_slice(), b"abc".as_slice());
-    let text = format!(in rt.alloc(); "{DeviceFailed}")?;
-    assert_eq!(rt; text.as_str(), "device");
-    Ok(())
-}
-
-// Its first call fails with an error of this kind. Each later one reads or writes as much as there is room for.
-#[derive(Drop)]
-struct FailsFirst {
-    kind: io::ErrorKind,
-    calls: u32,
-}
-
-impl FailsFirst {
-    /// Counts a call, and fails at the first one.
-    fn call(&mut self) -> io::Result<()> {
+impl Scripted {
+    /// The next answer, with at most so many bytes.
+    fn next(&mut self, most: usize) -> io::Result<usize>
+        ensures { IfOk result (λ count. count ≤ most) }
+    {
         self.calls = self.calls.saturating_add(1);
-        if self.calls == 1 {
-            return Err(self.kind.into());
+        let [first, rest @ ..] = self.answers else {
+            return Ok(0);
+        };
+        self.answers = rest;
+        match first {
+            Ok(count) => Ok(most.min(*count)),
+            Err(kind) => Err((*kind).into()),
         }
-        Ok(())
     }
 }
 
-impl Read for FailsFirst {
+impl Read for Scripted {
     fn read(&mut self, buffer: &mut [u8]) -> io::Result<usize> {
-        self.call()?;
-        Ok(buffer.len())
+        let count = self.next(buffer.len())?;
+        buffer.fill(7);
+        Ok(count)
     }
 }
 
-impl Write for FailsFirst {
+impl Write for Scripted {
     fn write(&mut self, bytes: &[u8]) -> io::Result<usize> {
-        self.call()?;
-        Ok(bytes.len())
+        self.next(bytes.len())
     }
 
     fn flush(&mut self) -> io::Result<()> {
@@ -100,44 +47,76 @@ impl Write for FailsFirst {
     }
 }
 
-const KINDS: [io::ErrorKind; 4] = [
-    io::ErrorKind::Interrupted,
-    io::ErrorKind::WouldBlock,
-    io::ErrorKind::BrokenPipe,
-    io::ErrorKind::Other,
+/// What is inside gives three bytes, then all that there is room for, then fails in each way, and then ends.
+const ANSWERS: [Result<usize, ErrorKind>; 8] = [
+    Ok(3),
+    Ok(usize::MAX),
+    Err(ErrorKind::Interrupted),
+    Err(ErrorKind::WouldBlock),
+    Err(ErrorKind::BrokenPipe),
+    Ok(2),
+    Err(ErrorKind::Other),
+    Ok(0),
 ];
 
+// No failed call is tried again, and each call makes one of what is inside.
 #[test]
-fn a_failed_read_is_not_tried_again(rt: HostRuntime) {
-    for kind in KINDS {
-        let mut tally = Tally::new(FailsFirst { kind, calls: 0 });
-        assert_eq!(rt; tally.read(&mut [0; 2]), Err(DeviceFailed), "{kind:?}");
-        assert_eq!(rt; tally.failures(), 1, "{kind:?}");
-        assert_eq!(rt; tally.into_inner().calls, 1, "{kind:?}");
+fn reads_are_counted_where_they_fail(rt: HostRuntime) {
+    let mut tally = Tally::new(Scripted {
+        answers: &ANSWERS,
+        calls: 0,
+    });
+    // How many bytes there is room for, what is returned, and the failures from then on.
+    for (room, result, failures) in [
+        (5, Ok(3), 0),
+        (5, Ok(5), 0),
+        (5, Err(DeviceFailed), 1),
+        (5, Err(DeviceFailed), 2),
+        (0, Err(DeviceFailed), 3),
+        (5, Ok(2), 3),
+        (5, Err(DeviceFailed), 4),
+        (5, Ok(0), 4),
+        (0, Ok(0), 4),
+    ] {
+        let mut buffer = [0; 5];
+        let read = tally.read(&mut buffer[..room.min(5)]);
+        assert_eq!(rt; (read, tally.failures()), (result, failures));
     }
+    assert_eq!(rt; tally.into_inner().calls, 9);
 }
 
 #[test]
-fn a_failed_write_is_not_tried_again(rt: HostRuntime) {
-    for kind in KINDS {
-        let mut tally = Tally::new(FailsFirst { kind, calls: 0 });
-        assert_eq!(rt; tally.write(b"ab"), Err(DeviceFailed), "{kind:?}");
-        assert_eq!(rt; tally.failures(), 1, "{kind:?}");
-        assert_eq!(rt; tally.into_inner().calls, 1, "{kind:?}");
+fn writes_are_counted_where_they_fail(rt: HostRuntime) {
+    let mut tally = Tally::new(Scripted {
+        answers: &ANSWERS,
+        calls: 0,
+    });
+    // The bytes, what is returned, and the failures from then on.
+    for (bytes, result, failures) in [
+        (b"abcde".as_slice(), Ok(3), 0),
+        (b"abcde", Ok(5), 0),
+        (b"abcde", Err(DeviceFailed), 1),
+        (b"abcde", Err(DeviceFailed), 2),
+        (b"", Err(DeviceFailed), 3),
+        (b"abcde", Ok(2), 3),
+        (b"abcde", Err(DeviceFailed), 4),
+        // A write that takes none of some bytes has failed.
+        (b"abcde", Err(DeviceFailed), 5),
+        (b"", Ok(0), 5),
+    ] {
+        let written = tally.write(bytes);
+        assert_eq!(rt; (written, tally.failures()), (result, failures));
     }
+    assert_eq!(rt; tally.into_inner().calls, 9);
 }
 
 #[test]
-fn each_call_makes_one_call_of_what_is_inside(rt: HostRuntime) {
-    let kind = io::ErrorKind::Other;
-    let mut reader = Tally::new(FailsFirst { kind, calls: 1 });
-    assert_eq!(rt; reader.read(&mut [0; 2]), Ok(2));
-    assert_eq!(rt; reader.read(&mut []), Ok(0));
-    assert_eq!(rt; reader.failures(), 0);
-    assert_eq!(rt; reader.into_inner().calls, 3);
-    let mut writer = Tally::new(FailsFirst { kind, calls: 1 });
-    assert_eq!(rt; writer.write(b"ab"), Ok(2));
-    assert_eq!(rt; writer.write(b""), Ok(0));
-    assert_eq!(rt; writer.failures(), 0);
-    assert_eq!(rt; writer.into_inner().calls, 3);
+fn passes_bytes_on(rt: HostRuntime) {
+    let mut writer = Tally::new(Vec::new(rt.alloc()));
+    assert!(rt; writer.write(b"abc") == Ok(3));
+    assert!(rt; writer.into_inner().as_slice() == b"abc".as_slice());
+    let mut reader = Tally::new(b"abc".as_slice());
+    let mut buffer = [7; 5];
+    assert!(rt; reader.read(&mut buffer) == Ok(3));
+    assert!(rt; buffer == *b"abc\x07\x07");
 }

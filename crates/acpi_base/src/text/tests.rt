@@ -1,4 +1,4 @@
-use crate::TextFault;
+use crate::{DeviceFailed, TextFault};
 use std::test::Fail;
 
 #[test]
@@ -28,5 +28,7 @@ fn texts_of_text_faults(rt: HostRuntime) -> Result<(), Fail> {
         let text = format!(in rt.alloc(); "{fault}")?;
         assert_eq!(rt; text.as_str(), wanted);
     }
+    let text = format!(in rt.alloc(); "{DeviceFailed}")?;
+    assert!(rt; text.as_str() == "device");
     Ok(())
 }

@@ -92,13 +92,13 @@ fn plain_stray(parents: &[Option<usize>]) -> Stray {
 }
 
 /// The list of `count` parents whose digits, from 0 for none up to `count`, write the number.
-fn numbered(alloc: Global, count: u8, number: u32) -> Result<Vec<Option<usize>>, AllocError> {
+fn numbered(alloc: Global, count: u8, number: usize) -> Result<Vec<Option<usize>>, AllocError> {
     let mut parents = Vec::new(alloc);
     let mut rest = number;
+    let digits = usize::from(count) + 1;
     for _ in 0..count {
-        let digit = rest % (u32::from(count) + 1);
-        parents.push((digit as usize).checked_sub(1))?;
-        rest /= u32::from(count) + 1;
+        parents.push((rest % digits).checked_sub(1))?;
+        rest /= digits;
     }
     Ok(parents)
 }

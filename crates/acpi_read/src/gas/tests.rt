@@ -1,6 +1,5 @@
 use super::*;
-use crate::layout::read_back;
-use crate::samples::FADT;
+use crate::samples::{FADT, expect_layout};
 use std::test::*;
 
 #[test]
@@ -12,10 +11,8 @@ fn gas_is_read_and_written(rt: HostRuntime) {
         access_size: 0,
         address: 0xcf9,
     };
-    assert_eq!(rt; Gas::read(&FADT[116..128]), Some(reset));
-    assert_eq!(rt; Gas::read(&FADT[116..129]), None);
-    assert_eq!(rt; Gas::read(&FADT[116..127]), None);
-    let mut out = [0xff; 12];
-    assert_eq!(rt; read_back(&reset, &mut out), Some(reset));
-    assert_eq!(rt; out.as_slice(), &FADT[116..128]);
+    let bytes = &FADT[116..128];
+    expect_layout(&rt, reset, bytes, bytes, &mut [0xff; 12]);
+    assert!(rt; Gas::read(&FADT[116..129]).is_none());
+    assert!(rt; Gas::read(&FADT[116..127]).is_none());
 }

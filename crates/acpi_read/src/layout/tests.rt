@@ -3,6 +3,7 @@ ghost use Rattle.std.specs.Prelude.{ℕ, List, [], ◌∷◌, refl};
 ghost use Rattle.acpi_base.specs.Layouts.{Part, NumberOf, Fixed, Reserved, PartValue, Number};
 
 use super::*;
+use crate::samples::expect_layout;
 use acpi_base::field::{Value, put_values, u8_at, u16_at, u32_at, u64_at};
 use std::test::*;
 
@@ -71,27 +72,20 @@ const BYTES: [u8; 20] = [
 
 #[test]
 fn entry_is_written_and_read_back(rt: HostRuntime) {
-    let mut out = [0xff; 20];
-    assert_eq!(rt; read_back(&ENTRY, &mut out), Some(ENTRY));
-    assert_eq!(rt; out, BYTES);
-}
-
-#[test]
-fn reserved_bytes_may_be_any(rt: HostRuntime) {
-    let mut bytes = BYTES;
-    bytes[2] = 0xff;
-    bytes[3] = 0xff;
-    bytes[5] = 0xff;
-    assert_eq!(rt; Entry::read(&bytes), Some(ENTRY));
+    let bytes = [
+        200, 20, 0xff, 0xff, 0xa1, 0xff, 0xb1, 0xb2, 0xc1, 0xc2, 0xc3, 0xc4, 0xd1, 0xd2, 0xd3,
+        0xd4, 0xd5, 0xd6, 0xd7, 0xd8,
+    ];
+    expect_layout(&rt, ENTRY, &bytes, &BYTES, &mut [0xff; 20]);
 }
 
 #[test]
 fn another_kind_is_refused(rt: HostRuntime) {
-    let mut other_type = BYTES;
-    other_type[0] = 201;
-    assert_eq!(rt; Entry::read(&other_type), None);
-    let mut other_length = BYTES;
-    other_length[1] = 19;
-    assert_eq!(rt; Entry::read(&other_length), None);
-    assert_eq!(rt; Entry::read(&BYTES[..19]), None);
+    // Another type, and another length.
+    for head in [[201, 20], [200, 19]] {
+        let mut bytes = BYTES;
+        bytes[..2].copy_from_slice(&head);
+        assert!(rt; Entry::read(&bytes).is_none(), "{head:?}");
+    }
+    assert!(rt; Entry::read(&BYTES[..19]).is_none());
 }

@@ -8,9 +8,9 @@ use std::test::*;
 fn first_is_listed_and_held(rt: HostRuntime) -> Result<(), Fail> {
     let pieces: [(u64, &[u8]); 3] = [(0xf59e0, &RSDP), (0x7fe223c, &RSDT), (0x7fe2214, &WAET)];
     let image = image_of(rt.alloc(), &pieces)?;
-    let rsdp = Rsdp::read(&image, 0xf59e0).ok().ok_or("no RSDP")?;
-    let root = Root::read(&image, &rsdp).ok().ok_or("no root")?;
-    assert_eq!(rt; first(&image, &root, *b"WAET"), Some(0x7fe2214));
-    assert_eq!(rt; first(&image, &root, *b"FACP"), None);
+    let rsdp = Rsdp::read(&image, 0xf59e0)?;
+    let root = Root::read(&image, &rsdp)?;
+    assert!(rt; first(&image, &root, *b"WAET") == Some(0x7fe2214));
+    assert!(rt; first(&image, &root, *b"FACP").is_none());
     Ok(())
 }

@@ -1,6 +1,27 @@
+ghost use Rattle.std.specs.Prelude.{◌≡◌, length};
+
 use super::*;
-use crate::layout::{Layout, read_back};
+use crate::layout::Layout;
+use crate::samples::{expect_layout, is_entry};
+use std::fmt::Debug;
+use std::process::Abort;
 use std::test::*;
+
+/// The bytes are read as the value, also as this entry, and the value is written as `written`.
+fn expect_kind<R: Abort, L: Layout + Copy + Debug + PartialEq>(
+    rt: &R,
+    value: L,
+    entry: MadtEntry,
+    bytes: &[u8],
+    written: &[u8],
+    out: &mut [u8],
+)
+    requires { length out.old ≡ L.LEN }
+{
+    assert!(rt; is_entry(bytes));
+    assert_eq!(rt; MadtEntry::read(bytes), Ok(entry));
+    expect_layout(rt, value, bytes, written, out);
+}
 
 const LOCAL_APIC: LocalApic = LocalApic {
     uid: 0xa1,
@@ -11,14 +32,8 @@ const LOCAL_APIC: LocalApic = LocalApic {
 #[test]
 fn local_apic_is_read_and_written(rt: HostRuntime) {
     let bytes = [0x00, 0x08, 0xa1, 0xb1, 0xc1, 0xc2, 0xc3, 0xc4];
-    assert_eq!(rt; LocalApic::read(&bytes), Some(LOCAL_APIC));
-    assert_eq!(rt;
-        MadtEntry::read(&bytes),
-        Ok(MadtEntry::LocalApic(LOCAL_APIC))
-    );
-    let mut out = [0xff; 8];
-    assert_eq!(rt; read_back(&LOCAL_APIC, &mut out), Some(LOCAL_APIC));
-    assert_eq!(rt; out, bytes);
+    let entry = MadtEntry::LocalApic(LOCAL_APIC);
+    expect_kind(&rt, LOCAL_APIC, entry, &bytes, &bytes, &mut [0xff; 8]);
 }
 
 const IO_APIC: IoApic = IoApic {
@@ -32,14 +47,11 @@ fn io_apic_is_read_and_written(rt: HostRuntime) {
     let bytes = [
         0x01, 0x0c, 0xa1, 0xff, 0xb1, 0xb2, 0xb3, 0xb4, 0xc1, 0xc2, 0xc3, 0xc4,
     ];
-    assert_eq!(rt; IoApic::read(&bytes), Some(IO_APIC));
-    assert_eq!(rt; MadtEntry::read(&bytes), Ok(MadtEntry::IoApic(IO_APIC)));
-    let mut out = [0xff; 12];
-    assert_eq!(rt; read_back(&IO_APIC, &mut out), Some(IO_APIC));
     let written = [
         0x01, 0x0c, 0xa1, 0x00, 0xb1, 0xb2, 0xb3, 0xb4, 0xc1, 0xc2, 0xc3, 0xc4,
     ];
-    assert_eq!(rt; out, written);
+    let entry = MadtEntry::IoApic(IO_APIC);
+    expect_kind(&rt, IO_APIC, entry, &bytes, &written, &mut [0xff; 12]);
 }
 
 const OVERRIDE: Override = Override {
@@ -52,11 +64,8 @@ const OVERRIDE: Override = Override {
 #[test]
 fn override_is_read_and_written(rt: HostRuntime) {
     let bytes = [0x02, 0x0a, 0xa1, 0xb1, 0xc1, 0xc2, 0xc3, 0xc4, 0xd1, 0xd2];
-    assert_eq!(rt; Override::read(&bytes), Some(OVERRIDE));
-    assert_eq!(rt; MadtEntry::read(&bytes), Ok(MadtEntry::Override(OVERRIDE)));
-    let mut out = [0xff; 10];
-    assert_eq!(rt; read_back(&OVERRIDE, &mut out), Some(OVERRIDE));
-    assert_eq!(rt; out, bytes);
+    let entry = MadtEntry::Override(OVERRIDE);
+    expect_kind(&rt, OVERRIDE, entry, &bytes, &bytes, &mut [0xff; 10]);
 }
 
 const NMI_SOURCE: NmiSource = NmiSource {
@@ -67,14 +76,8 @@ const NMI_SOURCE: NmiSource = NmiSource {
 #[test]
 fn nmi_source_is_read_and_written(rt: HostRuntime) {
     let bytes = [0x03, 0x08, 0xa1, 0xa2, 0xb1, 0xb2, 0xb3, 0xb4];
-    assert_eq!(rt; NmiSource::read(&bytes), Some(NMI_SOURCE));
-    assert_eq!(rt;
-        MadtEntry::read(&bytes),
-        Ok(MadtEntry::NmiSource(NMI_SOURCE))
-    );
-    let mut out = [0xff; 8];
-    assert_eq!(rt; read_back(&NMI_SOURCE, &mut out), Some(NMI_SOURCE));
-    assert_eq!(rt; out, bytes);
+    let entry = MadtEntry::NmiSource(NMI_SOURCE);
+    expect_kind(&rt, NMI_SOURCE, entry, &bytes, &bytes, &mut [0xff; 8]);
 }
 
 const LOCAL_NMI: LocalNmi = LocalNmi {
@@ -86,11 +89,8 @@ const LOCAL_NMI: LocalNmi = LocalNmi {
 #[test]
 fn local_nmi_is_read_and_written(rt: HostRuntime) {
     let bytes = [0x04, 0x06, 0xa1, 0xb1, 0xb2, 0xc1];
-    assert_eq!(rt; LocalNmi::read(&bytes), Some(LOCAL_NMI));
-    assert_eq!(rt; MadtEntry::read(&bytes), Ok(MadtEntry::LocalNmi(LOCAL_NMI)));
-    let mut out = [0xff; 6];
-    assert_eq!(rt; read_back(&LOCAL_NMI, &mut out), Some(LOCAL_NMI));
-    assert_eq!(rt; out, bytes);
+    let entry = MadtEntry::LocalNmi(LOCAL_NMI);
+    expect_kind(&rt, LOCAL_NMI, entry, &bytes, &bytes, &mut [0xff; 6]);
 }
 
 const ADDRESS_OVERRIDE: AddressOverride = AddressOverride {
@@ -102,20 +102,18 @@ fn address_override_is_read_and_written(rt: HostRuntime) {
     let bytes = [
         0x05, 0x0c, 0xff, 0xff, 0xa1, 0xa2, 0xa3, 0xa4, 0xa5, 0xa6, 0xa7, 0xa8,
     ];
-    assert_eq!(rt; AddressOverride::read(&bytes), Some(ADDRESS_OVERRIDE));
-    assert_eq!(rt;
-        MadtEntry::read(&bytes),
-        Ok(MadtEntry::AddressOverride(ADDRESS_OVERRIDE))
-    );
-    let mut out = [0xff; 12];
-    assert_eq!(rt;
-        read_back(&ADDRESS_OVERRIDE, &mut out),
-        Some(ADDRESS_OVERRIDE)
-    );
     let written = [
         0x05, 0x0c, 0x00, 0x00, 0xa1, 0xa2, 0xa3, 0xa4, 0xa5, 0xa6, 0xa7, 0xa8,
     ];
-    assert_eq!(rt; out, written);
+    let entry = MadtEntry::AddressOverride(ADDRESS_OVERRIDE);
+    expect_kind(
+        &rt,
+        ADDRESS_OVERRIDE,
+        entry,
+        &bytes,
+        &written,
+        &mut [0xff; 12],
+    );
 }
 
 const X2APIC: X2apic = X2apic {
@@ -130,15 +128,12 @@ fn x2apic_is_read_and_written(rt: HostRuntime) {
         0x09, 0x10, 0xff, 0xff, 0xa1, 0xa2, 0xa3, 0xa4, 0xb1, 0xb2, 0xb3, 0xb4, 0xc1, 0xc2, 0xc3,
         0xc4,
     ];
-    assert_eq!(rt; X2apic::read(&bytes), Some(X2APIC));
-    assert_eq!(rt; MadtEntry::read(&bytes), Ok(MadtEntry::X2apic(X2APIC)));
-    let mut out = [0xff; 16];
-    assert_eq!(rt; read_back(&X2APIC, &mut out), Some(X2APIC));
     let written = [
         0x09, 0x10, 0x00, 0x00, 0xa1, 0xa2, 0xa3, 0xa4, 0xb1, 0xb2, 0xb3, 0xb4, 0xc1, 0xc2, 0xc3,
         0xc4,
     ];
-    assert_eq!(rt; out, written);
+    let entry = MadtEntry::X2apic(X2APIC);
+    expect_kind(&rt, X2APIC, entry, &bytes, &written, &mut [0xff; 16]);
 }
 
 const X2APIC_NMI: X2apicNmi = X2apicNmi {
@@ -152,38 +147,38 @@ fn x2apic_nmi_is_read_and_written(rt: HostRuntime) {
     let bytes = [
         0x0a, 0x0c, 0xa1, 0xa2, 0xb1, 0xb2, 0xb3, 0xb4, 0xc1, 0xff, 0xff, 0xff,
     ];
-    assert_eq!(rt; X2apicNmi::read(&bytes), Some(X2APIC_NMI));
-    assert_eq!(rt;
-        MadtEntry::read(&bytes),
-        Ok(MadtEntry::X2apicNmi(X2APIC_NMI))
-    );
-    let mut out = [0xff; 12];
-    assert_eq!(rt; read_back(&X2APIC_NMI, &mut out), Some(X2APIC_NMI));
     let written = [
         0x0a, 0x0c, 0xa1, 0xa2, 0xb1, 0xb2, 0xb3, 0xb4, 0xc1, 0x00, 0x00, 0x00,
     ];
-    assert_eq!(rt; out, written);
+    let entry = MadtEntry::X2apicNmi(X2APIC_NMI);
+    expect_kind(&rt, X2APIC_NMI, entry, &bytes, &written, &mut [0xff; 12]);
 }
 
-#[test]
-fn other_types_are_opaque(rt: HostRuntime) {
-    let bytes = [0x0b, 0x06, 0xa1, 0xa2, 0xa3, 0xa4];
-    assert_eq!(rt; MadtEntry::read(&bytes), Ok(MadtEntry::Opaque(&bytes)));
-    assert_eq!(rt;
-        MadtEntry::read(&[0xff, 0x02]),
-        Ok(MadtEntry::Opaque(&[0xff, 0x02]))
-    );
-    assert_eq!(rt; LocalNmi::read(&bytes), None);
-}
+/// Bytes of other types and other lengths, and how they are read.
+const OTHERS: [(&[u8], Result<MadtEntry, Code>); 5] = [
+    (
+        &[0x0b, 0x06, 0xa1, 0xa2, 0xa3, 0xa4],
+        Ok(MadtEntry::Opaque(&[0x0b, 0x06, 0xa1, 0xa2, 0xa3, 0xa4])),
+    ),
+    (&[0xff, 0x02], Ok(MadtEntry::Opaque(&[0xff, 0x02]))),
+    (
+        &[0x00, 0x06, 0xa1, 0xb1, 0xc1, 0xc2],
+        Err(Code::MadtEntryLength),
+    ),
+    (
+        &[0x04, 0x08, 0xa1, 0xb1, 0xb2, 0xc1, 0xc2, 0xc3],
+        Err(Code::MadtEntryLength),
+    ),
+    (&[0x0a, 0x02], Err(Code::MadtEntryLength)),
+];
 
 #[test]
-fn other_lengths_are_refused(rt: HostRuntime) {
-    let short = [0x00, 0x06, 0xa1, 0xb1, 0xc1, 0xc2];
-    assert_eq!(rt; MadtEntry::read(&short), Err(Code::MadtEntryLength));
-    let long = [0x04, 0x08, 0xa1, 0xb1, 0xb2, 0xc1, 0xc2, 0xc3];
-    assert_eq!(rt; MadtEntry::read(&long), Err(Code::MadtEntryLength));
-    assert_eq!(rt; LocalNmi::read(&long), None);
-    assert_eq!(rt; LocalNmi::read(&long[..6]), None);
-    let least = [0x0a, 0x02];
-    assert_eq!(rt; MadtEntry::read(&least), Err(Code::MadtEntryLength));
+fn other_types_are_opaque_and_other_lengths_refused(rt: HostRuntime) {
+    for (bytes, entry) in OTHERS {
+        assert!(rt; is_entry(bytes));
+        assert_eq!(rt; MadtEntry::read(bytes), entry);
+        assert!(rt; LocalNmi::read(bytes).is_none(), "{bytes:?}");
+    }
+    // As long as a Local APIC NMI is, with the length byte 8.
+    assert!(rt; LocalNmi::read(&[0x04, 0x08, 0xa1, 0xb1, 0xb2, 0xc1]).is_none());
 }

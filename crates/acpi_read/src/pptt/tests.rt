@@ -1,6 +1,27 @@
+ghost use Rattle.std.specs.Prelude.{◌≡◌, length};
+
 use super::*;
-use crate::layout::{Layout, read_back};
+use crate::layout::Layout;
+use crate::samples::{expect_layout, is_entry};
+use std::fmt::Debug;
+use std::process::Abort;
 use std::test::*;
+
+/// The bytes are read as the value, also as this entry, and the value is written as `written`.
+fn expect_kind<R: Abort, L: Layout + Copy + Debug + PartialEq>(
+    rt: &R,
+    value: L,
+    entry: PpttEntry,
+    bytes: &[u8],
+    written: &[u8],
+    out: &mut [u8],
+)
+    requires { length out.old ≡ L.LEN }
+{
+    assert!(rt; is_entry(bytes));
+    assert_eq!(rt; PpttEntry::read(bytes), Ok(entry));
+    expect_layout(rt, value, bytes, written, out);
+}
 
 const HEAD: NodeHead = NodeHead {
     flags: 0xa4a3_a2a1,
@@ -15,43 +36,40 @@ fn node_is_read_and_written(rt: HostRuntime) {
         0x00, 0x1c, 0xff, 0xff, 0xa1, 0xa2, 0xa3, 0xa4, 0xb1, 0xb2, 0xb3, 0xb4, 0xc1, 0xc2, 0xc3,
         0xc4, 0x02, 0x00, 0x00, 0x00, 0xd1, 0xd2, 0xd3, 0xd4, 0xe1, 0xe2, 0xe3, 0xe4,
     ];
-    assert_eq!(rt; NodeHead::read(&bytes[..20]), Some(HEAD));
-    assert_eq!(rt; NodeHead::read(&bytes), None);
-    assert_eq!(rt;
-        PpttEntry::read(&bytes),
-        Ok(PpttEntry::Node(HEAD, &bytes[20..]))
-    );
-    let mut out = [0xff; 20];
-    assert_eq!(rt; read_back(&HEAD, &mut out), Some(HEAD));
     let written = [
         0x00, 0x1c, 0x00, 0x00, 0xa1, 0xa2, 0xa3, 0xa4, 0xb1, 0xb2, 0xb3, 0xb4, 0xc1, 0xc2, 0xc3,
         0xc4, 0x02, 0x00, 0x00, 0x00,
     ];
-    assert_eq!(rt; out, written);
+    expect_layout(&rt, HEAD, &bytes[..20], &written, &mut [0xff; 20]);
+    assert!(rt; NodeHead::read(&bytes).is_none());
+    assert!(rt; PpttEntry::read(&bytes) == Ok(PpttEntry::Node(HEAD, &bytes[20..])));
+}
+
+/// A node with no private resource, whose length byte and count of resources are these.
+fn node(length: u8, count: u8) -> [u8; 20] {
+    [
+        0x00, length, 0x00, 0x00, 0xa1, 0xa2, 0xa3, 0xa4, 0xb1, 0xb2, 0xb3, 0xb4, 0xc1, 0xc2, 0xc3,
+        0xc4, count, 0x00, 0x00, 0x00,
+    ]
 }
 
 #[test]
 fn node_has_the_length_of_its_resources(rt: HostRuntime) {
-    let mut none = [
-        0x00, 0x14, 0x00, 0x00, 0xa1, 0xa2, 0xa3, 0xa4, 0xb1, 0xb2, 0xb3, 0xb4, 0xc1, 0xc2, 0xc3,
-        0xc4, 0x00, 0x00, 0x00, 0x00,
-    ];
-    assert!(rt; PpttEntry::read(&none).is_ok());
-    none[16] = 1;
-    assert_eq!(rt; NodeHead::read(&none), None);
-    assert_eq!(rt; PpttEntry::read(&none), Err(Code::PpttEntryLength));
-    // 20 and 4 for each are 276, whose lowest byte is 14h.
-    none[16] = 64;
-    assert_eq!(rt; NodeHead::read(&none), None);
-    let long = [
-        0x00, 0x18, 0x00, 0x00, 0xa1, 0xa2, 0xa3, 0xa4, 0xb1, 0xb2, 0xb3, 0xb4, 0xc1, 0xc2, 0xc3,
-        0xc4, 0x00, 0x00, 0x00, 0x00, 0xd1, 0xd2, 0xd3, 0xd4,
-    ];
-    assert_eq!(rt; PpttEntry::read(&long), Err(Code::PpttEntryLength));
-    assert_eq!(rt;
-        PpttEntry::read(&[0x00, 0x03, 0xa1]),
-        Err(Code::PpttEntryLength)
-    );
+    // 20 and 4 for each of 64 are 276, whose lowest byte is 14h.
+    for (length, count, is_read) in [
+        (0x14, 0, true),
+        (0x14, 1, false),
+        (0x14, 64, false),
+        (0x18, 0, false),
+        (0x18, 1, true),
+    ] {
+        let bytes = node(length, count);
+        let read = NodeHead::read(&bytes);
+        assert_eq!(rt; read.is_some(), is_read, "{length} {count}");
+        if is_entry(&bytes) {
+            assert_eq!(rt; PpttEntry::read(&bytes).is_ok(), is_read, "{count}");
+        }
+    }
 }
 
 const CACHE24: Cache24 = Cache24 {
@@ -70,15 +88,12 @@ fn cache24_is_read_and_written(rt: HostRuntime) {
         0x01, 0x18, 0xff, 0xff, 0xa1, 0xa2, 0xa3, 0xa4, 0xb1, 0xb2, 0xb3, 0xb4, 0xc1, 0xc2, 0xc3,
         0xc4, 0xd1, 0xd2, 0xd3, 0xd4, 0xe1, 0xe2, 0xf1, 0xf2,
     ];
-    assert_eq!(rt; Cache24::read(&bytes), Some(CACHE24));
-    assert_eq!(rt; PpttEntry::read(&bytes), Ok(PpttEntry::Cache24(CACHE24)));
-    let mut out = [0xff; 24];
-    assert_eq!(rt; read_back(&CACHE24, &mut out), Some(CACHE24));
     let written = [
         0x01, 0x18, 0x00, 0x00, 0xa1, 0xa2, 0xa3, 0xa4, 0xb1, 0xb2, 0xb3, 0xb4, 0xc1, 0xc2, 0xc3,
         0xc4, 0xd1, 0xd2, 0xd3, 0xd4, 0xe1, 0xe2, 0xf1, 0xf2,
     ];
-    assert_eq!(rt; out, written);
+    let entry = PpttEntry::Cache24(CACHE24);
+    expect_kind(&rt, CACHE24, entry, &bytes, &written, &mut [0xff; 24]);
 }
 
 const CACHE28: Cache28 = Cache28 {
@@ -98,22 +113,40 @@ fn cache28_is_read_and_written(rt: HostRuntime) {
         0x01, 0x1c, 0xff, 0xff, 0xa1, 0xa2, 0xa3, 0xa4, 0xb1, 0xb2, 0xb3, 0xb4, 0xc1, 0xc2, 0xc3,
         0xc4, 0xd1, 0xd2, 0xd3, 0xd4, 0xe1, 0xe2, 0xf1, 0xf2, 0x91, 0x92, 0x93, 0x94,
     ];
-    assert_eq!(rt; Cache28::read(&bytes), Some(CACHE28));
-    assert_eq!(rt; Cache24::read(&bytes[..24]), None);
-    assert_eq!(rt; PpttEntry::read(&bytes), Ok(PpttEntry::Cache28(CACHE28)));
-    let mut out = [0xff; 28];
-    assert_eq!(rt; read_back(&CACHE28, &mut out), Some(CACHE28));
     let written = [
         0x01, 0x1c, 0x00, 0x00, 0xa1, 0xa2, 0xa3, 0xa4, 0xb1, 0xb2, 0xb3, 0xb4, 0xc1, 0xc2, 0xc3,
         0xc4, 0xd1, 0xd2, 0xd3, 0xd4, 0xe1, 0xe2, 0xf1, 0xf2, 0x91, 0x92, 0x93, 0x94,
     ];
-    assert_eq!(rt; out, written);
+    let entry = PpttEntry::Cache28(CACHE28);
+    expect_kind(&rt, CACHE28, entry, &bytes, &written, &mut [0xff; 28]);
+    assert!(rt; Cache24::read(&bytes[..24]).is_none());
 }
 
+/// Bytes of another type and of other lengths, and how they are read.
+const OTHERS: [(&[u8], Result<PpttEntry, Code>); 4] = [
+    (
+        &[0x02, 0x06, 0xa1, 0xa2, 0xa3, 0xa4],
+        Ok(PpttEntry::Opaque(&[0x02, 0x06, 0xa1, 0xa2, 0xa3, 0xa4])),
+    ),
+    (
+        &[0x01, 0x06, 0xa1, 0xa2, 0xa3, 0xa4],
+        Err(Code::PpttEntryLength),
+    ),
+    (&[0x00, 0x03, 0xa1], Err(Code::PpttEntryLength)),
+    // A node with room for a private resource that it does not count.
+    (
+        &[
+            0x00, 0x18, 0x00, 0x00, 0xa1, 0xa2, 0xa3, 0xa4, 0xb1, 0xb2, 0xb3, 0xb4, 0xc1, 0xc2,
+            0xc3, 0xc4, 0x00, 0x00, 0x00, 0x00, 0xd1, 0xd2, 0xd3, 0xd4,
+        ],
+        Err(Code::PpttEntryLength),
+    ),
+];
+
 #[test]
-fn other_types_are_opaque(rt: HostRuntime) {
-    let bytes = [0x02, 0x06, 0xa1, 0xa2, 0xa3, 0xa4];
-    assert_eq!(rt; PpttEntry::read(&bytes), Ok(PpttEntry::Opaque(&bytes)));
-    let cache = [0x01, 0x06, 0xa1, 0xa2, 0xa3, 0xa4];
-    assert_eq!(rt; PpttEntry::read(&cache), Err(Code::PpttEntryLength));
+fn other_types_are_opaque_and_other_lengths_refused(rt: HostRuntime) {
+    for (bytes, entry) in OTHERS {
+        assert!(rt; is_entry(bytes));
+        assert_eq!(rt; PpttEntry::read(bytes), entry);
+    }
 }

@@ -5,15 +5,13 @@ use std::test::*;
 #[test]
 fn rsdt_of_a_machine(rt: HostRuntime) -> Result<(), Fail> {
     let image = image_of(rt.alloc(), &[(0xf59e0, &RSDP), (0x7fe223c, &RSDT)])?;
-    let rsdp = Rsdp::read(&image, 0xf59e0).ok().ok_or("no RSDP")?;
-    let root = Root::read(&image, &rsdp).ok().ok_or("no root")?;
-    assert_eq!(rt; root.address(), 0x7fe223c);
-    assert!(rt; !root.wide());
-    assert_eq!(rt; root.bytes(), RSDT.as_slice());
-    assert_eq!(rt; root.header().signature, *b"RSDT");
+    let rsdp = Rsdp::read(&image, 0xf59e0)?;
+    let root = Root::read(&image, &rsdp)?;
+    assert!(rt; root.address() == 0x7fe223c && !root.wide());
+    assert!(rt; root.bytes() == RSDT.as_slice());
+    assert!(rt; root.header().signature == *b"RSDT");
     assert!(rt; root.slots() == 5);
-    assert_eq!(rt; root.slot(0), 0x7fe2034);
-    assert_eq!(rt; root.slot(4), 0x7fe2214);
+    assert!(rt; root.slot(0) == 0x7fe2034 && root.slot(4) == 0x7fe2214);
     Ok(())
 }
 
@@ -23,12 +21,10 @@ fn xsdt_goes_before_the_rsdt(rt: HostRuntime) -> Result<(), Fail> {
     let slots = [0, 0, 0, 0, 0, 0, 0, 0, 0x14, 0x22, 0xfe, 0x07, 0, 0, 0, 0];
     let xsdt = table(rt.alloc(), *b"XSDT", 1, &slots)?;
     let image = image_of(rt.alloc(), &[(0xe0000, &EXTENDED), (0x1100, &xsdt)])?;
-    let rsdp = Rsdp::read(&image, 0xe0000).ok().ok_or("no RSDP")?;
-    let root = Root::read(&image, &rsdp).ok().ok_or("no root")?;
-    assert_eq!(rt; root.address(), 0x1100);
-    assert!(rt; root.wide());
+    let rsdp = Rsdp::read(&image, 0xe0000)?;
+    let root = Root::read(&image, &rsdp)?;
+    assert!(rt; root.address() == 0x1100 && root.wide());
     assert!(rt; root.slots() == 2);
-    assert_eq!(rt; root.slot(0), 0);
-    assert_eq!(rt; root.slot(1), 0x7fe2214);
+    assert!(rt; root.slot(0) == 0 && root.slot(1) == 0x7fe2214);
     Ok(())
 }

@@ -3,24 +3,17 @@ use crate::samples::{EXTENDED, RSDP, image_of};
 use std::test::*;
 
 #[test]
-fn short_form_of_a_machine(rt: HostRuntime) -> Result<(), Fail> {
-    let image = image_of(rt.alloc(), &[(0xf59e0, &RSDP)])?;
-    let rsdp = Rsdp::read(&image, 0xf59e0).ok().ok_or("no RSDP")?;
-    assert_eq!(rt; rsdp.address(), 0xf59e0);
-    assert_eq!(rt; rsdp.revision(), 0);
-    assert_eq!(rt; rsdp.oemid(), *b"BOCHS ");
-    assert_eq!(rt; rsdp.rsdt(), 0x7fe223c);
-    assert_eq!(rt; rsdp.xsdt(), 0);
-    Ok(())
-}
-
-#[test]
-fn extended_form_names_both_roots(rt: HostRuntime) -> Result<(), Fail> {
-    let image = image_of(rt.alloc(), &[(0xe0000, &EXTENDED)])?;
-    let rsdp = Rsdp::read(&image, 0xe0000).ok().ok_or("no RSDP")?;
-    assert_eq!(rt; rsdp.revision(), 2);
-    assert_eq!(rt; rsdp.oemid(), *b"AAAAAA");
-    assert_eq!(rt; rsdp.rsdt(), 0x1000);
-    assert_eq!(rt; rsdp.xsdt(), 0x1100);
+fn fields_of_the_short_and_the_extended_form(rt: HostRuntime) -> Result<(), Fail> {
+    let pieces: [(u64, &[u8]); 2] = [(0xf59e0, &RSDP), (0xe0000, &EXTENDED)];
+    let image = image_of(rt.alloc(), &pieces)?;
+    for (address, revision, oemid, rsdt, xsdt) in [
+        (0xf59e0, 0, *b"BOCHS ", 0x7fe223c, 0),
+        (0xe0000, 2, *b"AAAAAA", 0x1000, 0x1100),
+    ] {
+        let rsdp = Rsdp::read(&image, address)?;
+        let fields = (rsdp.address(), rsdp.revision(), rsdp.oemid());
+        assert_eq!(rt; fields, (address, revision, oemid));
+        assert_eq!(rt; (rsdp.rsdt(), rsdp.xsdt()), (rsdt, xsdt));
+    }
     Ok(())
 }

@@ -1,6 +1,27 @@
+ghost use Rattle.std.specs.Prelude.{◌≡◌, length};
+
 use super::*;
-use crate::layout::{Layout, read_back};
+use crate::layout::Layout;
+use crate::samples::{expect_layout, is_entry};
+use std::fmt::Debug;
+use std::process::Abort;
 use std::test::*;
+
+/// The bytes are read as the value, also as this entry, and the value is written as `written`.
+fn expect_kind<R: Abort, L: Layout + Copy + Debug + PartialEq>(
+    rt: &R,
+    value: L,
+    entry: SratEntry,
+    bytes: &[u8],
+    written: &[u8],
+    out: &mut [u8],
+)
+    requires { length out.old ≡ L.LEN }
+{
+    assert!(rt; is_entry(bytes));
+    assert_eq!(rt; SratEntry::read(bytes), Ok(entry));
+    expect_layout(rt, value, bytes, written, out);
+}
 
 const APIC_DOMAIN: ApicDomain = ApicDomain {
     domain: 0xa4a3_a2a1,
@@ -16,14 +37,8 @@ fn apic_domain_is_read_and_written(rt: HostRuntime) {
         0x00, 0x10, 0xa1, 0xb1, 0xc1, 0xc2, 0xc3, 0xc4, 0xd1, 0xa2, 0xa3, 0xa4, 0xe1, 0xe2, 0xe3,
         0xe4,
     ];
-    assert_eq!(rt; ApicDomain::read(&bytes), Some(APIC_DOMAIN));
-    assert_eq!(rt;
-        SratEntry::read(&bytes),
-        Ok(SratEntry::ApicDomain(APIC_DOMAIN))
-    );
-    let mut out = [0xff; 16];
-    assert_eq!(rt; read_back(&APIC_DOMAIN, &mut out), Some(APIC_DOMAIN));
-    assert_eq!(rt; out, bytes);
+    let entry = SratEntry::ApicDomain(APIC_DOMAIN);
+    expect_kind(&rt, APIC_DOMAIN, entry, &bytes, &bytes, &mut [0xff; 16]);
 }
 
 const MEMORY_RANGE: MemoryRange = MemoryRange {
@@ -40,19 +55,13 @@ fn memory_range_is_read_and_written(rt: HostRuntime) {
         0xb8, 0xc1, 0xc2, 0xc3, 0xc4, 0xc5, 0xc6, 0xc7, 0xc8, 0xff, 0xff, 0xff, 0xff, 0xd1, 0xd2,
         0xd3, 0xd4, 0xff, 0xff, 0xff, 0xff, 0xff, 0xff, 0xff, 0xff,
     ];
-    assert_eq!(rt; MemoryRange::read(&bytes), Some(MEMORY_RANGE));
-    assert_eq!(rt;
-        SratEntry::read(&bytes),
-        Ok(SratEntry::MemoryRange(MEMORY_RANGE))
-    );
-    let mut out = [0xff; 40];
-    assert_eq!(rt; read_back(&MEMORY_RANGE, &mut out), Some(MEMORY_RANGE));
     let written = [
         0x01, 0x28, 0xa1, 0xa2, 0xa3, 0xa4, 0x00, 0x00, 0xb1, 0xb2, 0xb3, 0xb4, 0xb5, 0xb6, 0xb7,
         0xb8, 0xc1, 0xc2, 0xc3, 0xc4, 0xc5, 0xc6, 0xc7, 0xc8, 0x00, 0x00, 0x00, 0x00, 0xd1, 0xd2,
         0xd3, 0xd4, 0x00, 0x00, 0x00, 0x00, 0x00, 0x00, 0x00, 0x00,
     ];
-    assert_eq!(rt; out, written);
+    let entry = SratEntry::MemoryRange(MEMORY_RANGE);
+    expect_kind(&rt, MEMORY_RANGE, entry, &bytes, &written, &mut [0xff; 40]);
 }
 
 const X2APIC_DOMAIN: X2apicDomain = X2apicDomain {
@@ -68,35 +77,37 @@ fn x2apic_domain_is_read_and_written(rt: HostRuntime) {
         0x02, 0x18, 0xff, 0xff, 0xa1, 0xa2, 0xa3, 0xa4, 0xb1, 0xb2, 0xb3, 0xb4, 0xc1, 0xc2, 0xc3,
         0xc4, 0xd1, 0xd2, 0xd3, 0xd4, 0xff, 0xff, 0xff, 0xff,
     ];
-    assert_eq!(rt; X2apicDomain::read(&bytes), Some(X2APIC_DOMAIN));
-    assert_eq!(rt;
-        SratEntry::read(&bytes),
-        Ok(SratEntry::X2apicDomain(X2APIC_DOMAIN))
-    );
-    let mut out = [0xff; 24];
-    assert_eq!(rt; read_back(&X2APIC_DOMAIN, &mut out), Some(X2APIC_DOMAIN));
     let written = [
         0x02, 0x18, 0x00, 0x00, 0xa1, 0xa2, 0xa3, 0xa4, 0xb1, 0xb2, 0xb3, 0xb4, 0xc1, 0xc2, 0xc3,
         0xc4, 0xd1, 0xd2, 0xd3, 0xd4, 0x00, 0x00, 0x00, 0x00,
     ];
-    assert_eq!(rt; out, written);
+    let entry = SratEntry::X2apicDomain(X2APIC_DOMAIN);
+    expect_kind(&rt, X2APIC_DOMAIN, entry, &bytes, &written, &mut [0xff; 24]);
 }
 
-#[test]
-fn other_types_are_opaque(rt: HostRuntime) {
-    let bytes = [0x03, 0x06, 0xa1, 0xa2, 0xa3, 0xa4];
-    assert_eq!(rt; SratEntry::read(&bytes), Ok(SratEntry::Opaque(&bytes)));
-    assert_eq!(rt; X2apicDomain::read(&bytes), None);
-}
+/// Bytes of another type and of other lengths, and how they are read.
+const OTHERS: [(&[u8], Result<SratEntry, Code>); 3] = [
+    (
+        &[0x03, 0x06, 0xa1, 0xa2, 0xa3, 0xa4],
+        Ok(SratEntry::Opaque(&[0x03, 0x06, 0xa1, 0xa2, 0xa3, 0xa4])),
+    ),
+    (&[0x00, 0x02], Err(Code::SratEntryLength)),
+    (&LONG, Err(Code::SratEntryLength)),
+];
+
+/// A Local APIC affinity and a byte more, which the length byte counts.
+const LONG: [u8; 17] = [
+    0x00, 0x11, 0xa1, 0xb1, 0xc1, 0xc2, 0xc3, 0xc4, 0xd1, 0xa2, 0xa3, 0xa4, 0xe1, 0xe2, 0xe3, 0xe4,
+    0xe5,
+];
 
 #[test]
-fn other_lengths_are_refused(rt: HostRuntime) {
-    assert_eq!(rt; SratEntry::read(&[0x00, 0x02]), Err(Code::SratEntryLength));
-    let long = [
-        0x00, 0x11, 0xa1, 0xb1, 0xc1, 0xc2, 0xc3, 0xc4, 0xd1, 0xa2, 0xa3, 0xa4, 0xe1, 0xe2, 0xe3,
-        0xe4, 0xe5,
-    ];
-    assert_eq!(rt; SratEntry::read(&long), Err(Code::SratEntryLength));
-    assert_eq!(rt; ApicDomain::read(&long), None);
-    assert_eq!(rt; ApicDomain::read(&long[..16]), None);
+fn other_types_are_opaque_and_other_lengths_refused(rt: HostRuntime) {
+    for (bytes, entry) in OTHERS {
+        assert!(rt; is_entry(bytes));
+        assert_eq!(rt; SratEntry::read(bytes), entry);
+        assert!(rt; ApicDomain::read(bytes).is_none(), "{bytes:?}");
+        assert!(rt; X2apicDomain::read(bytes).is_none(), "{bytes:?}");
+    }
+    assert!(rt; ApicDomain::read(&LONG[..16]).is_none());
 }

@@ -3,7 +3,6 @@ use Rattle.std.proofs.lemmas.Bool.{cases_lt}
 use Rattle.acpi_base.specs.Madt.{madt_contents, DoOverridesAgree, OverrideFault}
 use Rattle.acpi_base.specs.declared.stage.Stage.TheVariants as stage
 use Rattle.acpi_check.proofs.OverridesPass.{at_first, at_next, stops, ends_agree, short_agree}
-use Rattle.acpi_check.proofs.Passes.{reported}
 use Rattle.acpi_check.proofs.overrides.first_fault.Goals as goal
 
 pub returns-in_default : goal.returns-in_default
@@ -17,15 +16,12 @@ loop-entry-init c = rw c.in-Ok.ensures.entries (at_first 256 c.args.table)
 pub loop-entry-preserved : goal.loop-entry-preserved
 loop-entry-preserved c =
     let steps = c.in-Some.ensures.steps in
-    at_next c.args.table _ c.next.new.self.entries c.loop-entry.firsts c.pass_entry.new.firsts (rw steps.0 at c.loop-entry.invariant) (c.in_ok-pass_entry.ensures)
+    at_next c.args.table _ c.next.new.self.entries c.loop-entry.firsts c.pass_entry.new.firsts (rw steps.0 at c.loop-entry.invariant) c.in_default-pass_entry.ensures
 
-pub returns-in_err-pass_entry : goal.returns-in_err-pass_entry
-returns-in_err-pass_entry c =
-    let whole = c.args.table in
+pub returns-in-Some-pass_entry : goal.returns-in-Some-pass_entry
+returns-in-Some-pass_entry c =
     let steps = c.in-Some.ensures.steps in
-    let w = c.in_err-pass_entry.field-0.0 in
-    let first = stops whole _ c.next.new.self.entries c.loop-entry.firsts c.pass_entry.new.firsts w (rw steps.0 at c.loop-entry.invariant) (c.in_err-pass_entry.ensures) in
-    reported stage.Overrides (DoOverridesAgree (madt_contents whole)) (OverrideFault (madt_contents whole)) w c.from_residual.result c.from_residual.ensures.0 c.from_residual.ensures.1 first
+    stops c.args.table _ c.next.new.self.entries c.loop-entry.firsts c.pass_entry.new.firsts c.in-Some-pass_entry.fault (rw steps.0 at c.loop-entry.invariant) c.in-Some-pass_entry.ensures
 
 pub returns : goal.returns
 returns c =

@@ -1,0 +1,82 @@
+-- From the interrupt numbers that entries of a MADT name to the first fault of a set.
+use Rattle.std.proofs.Common.{◌≡◌, ℕ, ◌<◌, List, [], ◌∷◌, length, Option, Some, None, sym, ap, subst, arith}
+use Rattle.std.specs.Prelude.{◌↔◌}
+use Rattle.std.proofs.lemmas.Option.{same_Some, none-some}
+use Rattle.acpi_base.specs.Across.{HasIoApic, IsIoApic, AreNamedServed, ServedFault}
+use Rattle.acpi_base.specs.Codes.{stage_of}
+use Rattle.acpi_base.specs.Faults.{NotAfter, IsFirstFault}
+use Rattle.acpi_base.specs.Listed.{madt_signature, IsListedTable, ListsNone}
+use Rattle.acpi_base.specs.Madt.{MadtEntry, IoApic, Override, NmiSource, MadtContents, madt_contents, ServesFrom, NamesGsi}
+use Rattle.acpi_base.specs.Memory.{Memory}
+use Rattle.acpi_base.specs.Policy.{PolicyValue}
+use Rattle.acpi_base.specs.Statements.{Holds, CleanBefore}
+use Rattle.acpi_base.specs.declared.code.Code.{Code}
+use Rattle.acpi_base.specs.declared.code.Code.TheVariants as code
+use Rattle.acpi_base.specs.declared.stage.Stage.TheVariants as stage
+use Rattle.acpi_base.specs.declared.witness.Witness.{Witness}
+use Rattle.acpi_base.proofs.Elements.{first_element}
+use Rattle.acpi_base.proofs.Faults.ListedTables.{for_listed}
+use Rattle.acpi_base.proofs.Tables.Listed.{none_and_listed}
+use Rattle.acpi_graph.specs.declared.span.Span.{Span}
+use Rattle.acpi_check.specs.Named.{FindsUnknown}
+use Rattle.acpi_check.specs.Passed.{IsFirstOfTable, FindsFault}
+use Rattle.acpi_check.specs.Served.{IsHeld, AreServed, named_gsi}
+use Rattle.acpi_check.proofs.FirstFaults.{table_first}
+
+-- ---- entries
+
+-- an entry names an interrupt number
+names : (g : ℕ) (e : MadtEntry) → NamesGsi g e ↔ (named_gsi e ≡ Some g)
+names g (Override v) = (λ is. ap Some is, λ is. same_Some v.gsi g is)
+names g (NmiSource v) = (λ is. ap Some is, λ is. same_Some v.gsi g is)
+names g _ = (λ h. absurd h, λ is. none-some g is)
+
+-- what serves an interrupt number is an I/O APIC
+is_io_apic : (q : PolicyValue) (start g : ℕ) (e : MadtEntry) → ServesFrom q start g e → IsIoApic e
+is_io_apic q start g (IoApic v) serves = tt
+is_io_apic q start g _ serves = absurd serves
+
+-- where there are spans there is one
+has_io_apic : (q : PolicyValue) (c : MadtContents) (spans : List Span) → AreServed q c spans → 0 < length spans → HasIoApic c
+has_io_apic q c [] are some = absurd (omega arith)
+has_io_apic q c (span ∷ spans) are some =
+    let (o, start, (e, stands, serves)) = (are.held span.start).0 (span, first_element span spans, record { from_start = omega arith; below_end = span.not_empty }) in
+    (o, (e, stands, is_io_apic q start span.start e serves))
+
+-- ---- the table
+
+-- where there are no spans there is no I/O APIC, and nothing is stated
+pub none_served : (q : PolicyValue) (c : MadtContents) (spans : List Span) → AreServed q c spans → length spans ≡ 0 → AreNamedServed q c
+none_served q c spans are none io o g named = absurd (omega (arith, are.some io))
+
+-- what is found of the numbers that entries name is so of the table
+pub served_found : (q : PolicyValue) (c : MadtContents) (spans : List Span) → AreServed q c spans → 0 < length spans
+    → (found : Option Witness) → FindsUnknown (IsHeld spans) named_gsi code.GsiNowhere c.entries found → FindsFault stage.Served (AreNamedServed q c) (ServedFault q c) found
+served_found q c spans are some None all = λ io o g (e, stands, named). (are.held g).0 (all o g (e, stands, (names g e).0 named))
+served_found q c spans are some (Some w) first =
+    record { own = ap stage_of first.code; fault = rw first.code fault; least = λ v wrong. least v.code v.at v.other v.point wrong }
+  where
+    fault : ServedFault q c code.GsiNowhere w.at w.other w.point
+    fault =
+        let (e, stands, named) = first.names in
+        (has_io_apic q c spans are some, (e, stands, (names w.point e).1 named), λ served. first.unknown ((are.held w.point).1 served), first.other)
+
+    least : (d : Code) (at other point : ℕ) → ServedFault q c d at other point → NotAfter w (record { code = d; at = at; other = other; point = point })
+    least code.GsiNowhere at other point (_, (e, stands, named), nowhere, zero) =
+        subst (λ (k : ℕ). NotAfter w (record { code = code.GsiNowhere; at = at; other = k; point = point })) (sym zero)
+        (first.first at point (e, stands, (names point e).0 named) (λ held. nowhere ((are.held point).0 held)))
+    least _ at other point wrong = absurd wrong
+
+-- ---- the set
+
+-- a set without a MADT names no interrupt number
+pub none_named : (m : Memory) (q : PolicyValue) → ListsNone m q.rsdp madt_signature → Holds stage.Served m q
+none_named m q none whole is = absurd (none_and_listed none is)
+
+-- what is found of the MADT that the set lists first is so of the set
+pub served_holds : (m : Memory) (q : PolicyValue) (whole : List ℕ) → IsListedTable m q.rsdp madt_signature whole → AreNamedServed q (madt_contents whole) → Holds stage.Served m q
+served_holds m q whole is served = for_listed (λ bytes. AreNamedServed q (madt_contents bytes)) is served
+
+pub served_first : (m : Memory) (q : PolicyValue) (whole : List ℕ) (w : Witness) → CleanBefore stage.Served m q → IsListedTable m q.rsdp madt_signature whole
+    → IsFirstOfTable stage.Served (ServedFault q (madt_contents whole)) w → IsFirstFault m q w × (stage_of w.code ≡ stage.Served)
+served_first m q whole w clean is first = table_first (λ bytes. ServedFault q (madt_contents bytes)) (λ v. (λ h. h, λ h. h)) (λ v least. least) clean is w first

@@ -1,0 +1,146 @@
+-- Spans in rising order are looked through for the interrupt numbers that I/O APICs serve.
+use Rattle.std.proofs.Common.{◌≡◌, ℕ, ◌-◌, ◌<◌, ◌≤◌, true, false, List, length, get_or, nat_lt, leb, refl, sym, ap, subst, inl, inr, arith}
+use Rattle.std.specs.Prelude.{Contains, MatchBool}
+use Rattle.std.specs.FinMap.{get}
+use Rattle.std.specs.List.Sorted.{IsPermutation, IsSorted, IsNonDecreasingBy, IsPartitionPoint}
+use Rattle.std.proofs.lemmas.Bool.{cases_lt, cases_order, leb-true, leb-false, lt-ltb, le-ltb}
+use Rattle.std.proofs.lemmas.List.{get_or_default}
+use Rattle.std.proofs.lemmas.List.Elements.{Contains-get_or}
+use Rattle.std.proofs.lemmas.List.Sorted.{Contains-permutation, IsPermutation-sym}
+use Rattle.acpi_base.specs.Across.{IsIoApic, IsServed}
+use Rattle.acpi_base.specs.Clashes.{AreApart}
+use Rattle.acpi_base.specs.Madt.{MadtEntry, IoApic, MadtContents, ServesFrom, Serves, AreInterruptsApart}
+use Rattle.acpi_base.specs.Policy.{PolicyValue, IsPolicy, inputs_of}
+use Rattle.acpi_base.proofs.HeldBytes.{cases_Option}
+use Rattle.acpi_graph.specs.Spans.{NamesDiffer, Holds, IsClear}
+use Rattle.acpi_graph.specs.declared.span.Span.{Span}
+use Rattle.acpi_graph.proofs.SortedSpans.{span_cmp, in_order, names_permuted, clear_permuted}
+use Rattle.acpi_check.specs.Gathered.{AreSpansOf}
+use Rattle.acpi_check.specs.Served.{DoSpansRise, IsHeld, AreServed}
+
+-- ---- spans in rising order
+
+-- where no number is held by two ranges, none lies in two spans
+clear : {HoldsAt : ℕ → ℕ → ℕ → Type 0} (spans : List Span) → AreSpansOf HoldsAt spans → AreApart HoldsAt → IsClear spans
+clear {HoldsAt} spans are apart x two =
+    apart two.one.name two.other.name x (record {
+      s = two.one.start;
+      t = two.other.start;
+      one_holds = is two.one two.one_listed two.one_holds;
+      other_holds = is two.other two.other_listed two.other_holds;
+      two = two.two;
+    })
+  where
+    is : (span : Span) → Contains spans span → Holds span x → HoldsAt span.name span.start x
+    is span listed holds = (are.held span.name span.start x).1 (record { span = span; listed = listed; name = refl; start = refl; holds = holds })
+
+-- sorted spans that are clear of each other rise
+rise : (spans : List Span) → NamesDiffer spans → IsSorted span_cmp spans → IsClear spans → DoSpansRise spans
+rise spans names sorted clears i j d before within =
+    elim (cases_lt b.start a.end) [
+      | inr ends ↦ ends
+      | inl overlap ↦
+          absurd (clears b.start (record {
+            one = a;
+            other = b;
+            one_listed = Contains-get_or spans i d (omega arith);
+            other_listed = Contains-get_or spans j d within;
+            two = names i j d before within;
+            one_holds = record { from_start = begins; below_end = overlap };
+            other_holds = record { from_start = omega arith; below_end = b.not_empty };
+          }))
+    ]
+  where
+    a : Span
+    a = get_or spans i d
+
+    b : Span
+    b = get_or spans j d
+
+    begins : a.start ≤ b.start
+    begins = elim (in_order spans names sorted i j d before within) [ inl less ↦ omega arith | inr (same, _) ↦ omega arith ]
+
+-- ---- what a search by the start finds
+
+-- spans that rise begin in rising order
+pub starts_rise : (spans : List Span) → DoSpansRise spans → IsNonDecreasingBy (λ s. s.start) spans
+starts_rise spans rises i j d least within =
+    let filled : (get_or spans i d).start < (get_or spans i d).end = (get_or spans i d).not_empty in
+    elim (cases_order i j) [
+      | inl same ↦ rw same (omega arith)
+      | inr (inl less) ↦ omega (arith, rises i j d less within)
+      | inr (inr more) ↦ absurd (omega arith)
+    ]
+
+-- the spans below i begin by x, and the others do not
+abbrev pub IsBegun : List Span → ℕ → ℕ → Type 0
+IsBegun spans x i = IsPartitionPoint (λ s. leb s.start x ≡ true) (λ s. leb s.start x ≡ false) spans i
+
+-- where none has begun none holds x
+pub none_begun : (spans : List Span) (x i : ℕ) → i ≡ 0 → IsBegun spans x i → ¬ IsHeld spans x
+none_begun spans x i zero begun (span, (k, within, is), holds) =
+    let later = leb-false _ _ (begun.1 k span (omega arith) within) in
+    grind (arith, later, is, holds.from_start)
+
+-- where the last that has begun holds x, one does
+pub last_holds : (spans : List Span) (x i : ℕ) (d : Span) → 0 < i → i ≤ length spans → IsBegun spans x i → x < (get_or spans (i - 1) d).end → IsHeld spans x
+last_holds spans x i d some within begun below =
+    (get_or spans (i - 1) d, Contains-get_or spans (i - 1) d (omega arith), record { from_start = leb-true _ _ (begun.0 (i - 1) d (omega arith) (omega arith)); below_end = below })
+
+-- and where it does not, none does
+pub last_ended : (spans : List Span) (x i : ℕ) (d : Span) → DoSpansRise spans → 0 < i → i ≤ length spans → IsBegun spans x i → (get_or spans (i - 1) d).end ≤ x → ¬ IsHeld spans x
+last_ended spans x i d rises some within begun ended (span, (k, inside, is), holds) =
+    let last : (get_or spans (i - 1) span).start < (get_or spans (i - 1) span).end = (get_or spans (i - 1) span).not_empty in
+    let ends : (get_or spans (i - 1) span).end ≤ x = subst (λ (s : Span). s.end ≤ x) (get_or_default spans (i - 1) d span (omega arith)) ended in
+    let start = ap (λ (s : Span). s.start) is in
+    let end = ap (λ (s : Span). s.end) is in
+    elim (cases_order k (i - 1)) [
+      | inl same ↦ omega (arith, end, holds.below_end, subst (λ (j : ℕ). (get_or spans j span).end ≤ x) (sym same) ends)
+      | inr (inl less) ↦ omega (arith, end, holds.below_end, rises k (i - 1) span less (omega arith))
+      | inr (inr more) ↦ omega (arith, start, holds.from_start, leb-false _ _ (begun.1 k span (omega arith) inside))
+    ]
+
+-- so its end decides
+pub held : (spans : List Span) (x i : ℕ) (d : Span) → DoSpansRise spans → 0 < i → i ≤ length spans → IsBegun spans x i → MatchBool (nat_lt x (get_or spans (i - 1) d).end) (IsHeld spans x) (¬ IsHeld spans x)
+held spans x i d rises some within begun =
+    elim (cases_lt x (get_or spans (i - 1) d).end) [
+      | inl below ↦ rw (lt-ltb x (get_or spans (i - 1) d).end below) (last_holds spans x i d some within begun below)
+      | inr ended ↦ rw (le-ltb x (get_or spans (i - 1) d).end ended) (last_ended spans x i d rises some within begun ended)
+    ]
+
+-- ---- the interrupt numbers that are served
+
+-- an I/O APIC has an input at least
+one_input : (q : PolicyValue) → IsPolicy q → (address : ℕ) → 0 < inputs_of q address
+unfolding inputs_of
+one_input q is address =
+    elim (cases_Option (get q.inputs address)) [
+      | inr none ↦ rw none (omega (arith, is.default_fits))
+      | inl (count, given) ↦ rw given (omega (arith, is.inputs_fit address count given))
+    ]
+
+-- so it serves its first number
+serves_some : (q : PolicyValue) → IsPolicy q → (e : MadtEntry) → IsIoApic e → (g : ℕ) × ServesFrom q g g e
+serves_some q is (IoApic v) io = (v.gsi_base, (refl, omega arith, omega (arith, one_input q is v.address)))
+serves_some q is _ io = absurd io
+
+-- sorted spans are those of the I/O APICs, where no two serve one number
+pub are_served : (q : PolicyValue) (c : MadtContents) (spans sorted : List Span) → IsPolicy q → AreInterruptsApart q c → AreSpansOf (Serves q c) spans → IsPermutation spans sorted → IsSorted span_cmp sorted → AreServed q c sorted
+are_served q c spans sorted is apart are moved order =
+    record {
+      rise = rise sorted (names_permuted spans sorted moved are.names) order (clear_permuted sorted spans back (clear spans are apart));
+      held = λ g. (from g, to g);
+      some = λ (o, (e, stands, io)). let (g, serves) = serves_some q is e io in let (span, (k, within, _), holds) = to g (o, g, (e, stands, serves)) in omega arith;
+    }
+  where
+    back : IsPermutation sorted spans
+    back = IsPermutation-sym spans sorted moved
+
+    from : (g : ℕ) → IsHeld sorted g → IsServed q c g
+    from g (span, listed, holds) =
+        (span.name, span.start, (are.held span.name span.start g).1 (record { span = span; listed = Contains-permutation sorted spans span back listed; name = refl; start = refl; holds = holds }))
+
+    to : (g : ℕ) → IsServed q c g → IsHeld sorted g
+    to g (o, start, serves) =
+        let has = (are.held o start g).0 serves in
+        (has.span, Contains-permutation spans sorted has.span moved has.listed, has.holds)

@@ -1,0 +1,27 @@
+-- The interrupt numbers that a MADT's I/O APICs serve, as spans in rising order, and those that its entries name.
+use Rattle.std.specs.Prelude.{ℕ, ◌<◌, ◌≤◌, ◌↔◌, List, AllPairs, Contains, length, Option, Some, None}
+use Rattle.acpi_base.specs.Across.{HasIoApic, IsServed}
+use Rattle.acpi_base.specs.Madt.{MadtEntry, Override, NmiSource, MadtContents}
+use Rattle.acpi_base.specs.Policy.{PolicyValue}
+use Rattle.acpi_graph.specs.Spans.{Holds}
+use Rattle.acpi_graph.specs.declared.span.Span.{Span}
+
+-- each span ends before those behind it begin
+abbrev pub DoSpansRise : List Span → Type 0
+DoSpansRise spans = AllPairs (λ a b. a.end ≤ b.start) spans
+
+-- a span of the list holds the number
+abbrev pub IsHeld : List Span → ℕ → Type 0
+IsHeld spans x = (span : Span) × Contains spans span × Holds span x
+
+-- these are the interrupt numbers that the I/O APICs serve; each serves some
+pub record AreServed (q : PolicyValue) (c : MadtContents) (spans : List Span) : Type 0 where
+  pub rise : DoSpansRise spans
+  pub held : (g : ℕ) → IsHeld spans g ↔ IsServed q c g
+  pub some : HasIoApic c → 0 < length spans
+
+-- the interrupt number that an override or an NMI source names
+abbrev pub named_gsi : MadtEntry → Option ℕ
+named_gsi (Override v) = Some v.gsi
+named_gsi (NmiSource v) = Some v.gsi
+named_gsi _ = None

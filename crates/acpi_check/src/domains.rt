@@ -1,0 +1,136 @@
+//! Stage 16: the proximity domains in which the SRAT puts the processors of the MADT.
+
+ghost use Rattle.std.specs.Prelude.{◌≡◌, ◌<◌, ⊤, AllPairs, IfOk, length};
+ghost use Rattle.acpi_base.specs.Across.{HaveOneDomain, DomainFault};
+ghost use Rattle.acpi_base.specs.Madt.{madt_contents};
+ghost use Rattle.acpi_base.specs.Srat.{srat_entry, srat_contents};
+ghost use Rattle.acpi_base.specs.Statements.{CleanBefore};
+ghost use Rattle.acpi_base.specs.declared.stage.Stage.{Stage};
+ghost use Rattle.acpi_check.specs.Domains.{placement_of, PassesPlacement, FindsDomains};
+ghost use Rattle.acpi_check.specs.Passed.{FindsFault};
+ghost use Rattle.acpi_check.specs.Settled.{Settles};
+ghost use Rattle.acpi_check.specs.Set.{IsSet};
+
+use crate::firsts::{FirstValue, note_value};
+use crate::processors::{Key, numbers_of};
+use crate::refusal::Refusal;
+use crate::search::find;
+use crate::set::Set;
+use crate::srat::is_enabled;
+use acpi_base::{Code, Processors, Witness};
+use acpi_read::{Entries, Entry, SratEntry, Table};
+use std::alloc::{AllocError, Global};
+
+/// A processor in a proximity domain.
+#[derive(Clone, Copy, Debug, PartialEq, Eq)]
+pub struct Placement {
+    /// The APIC ID or x2APIC ID: they are one number space.
+    pub processor: u32,
+    /// The domain.
+    pub domain: u32,
+}
+
+/// The processor that an enabled entry of an SRAT puts in a domain. None for another entry.
+fn placement_of(entry: &Entry<'_>) -> Option<Placement>
+    ensures { result ≡ placement_of (srat_entry entry.now.bytes.now) }
+{
+    let Ok(read) = SratEntry::read(entry.bytes) else {
+        return None;
+    };
+    match read {
+        SratEntry::ApicDomain(put) => is_enabled(put.flags).then_some(Placement {
+            processor: u32::from(put.apic_id),
+            domain: put.domain,
+        }),
+        SratEntry::X2apicDomain(put) => is_enabled(put.flags).then_some(Placement {
+            processor: put.x2apic_id,
+            domain: put.domain,
+        }),
+        _ => None,
+    }
+}
+
+/// Looks at an entry, where `firsts` has of each of the numbers the first domain before it: counts it in, or returns the
+/// fault where it puts a processor with one of the numbers in another domain.
+fn pass_entry(
+    numbers: &[u64],
+    firsts: &mut [Option<FirstValue>],
+    entry: &Entry<'_>,
+) -> Option<Witness>
+    requires rise { AllPairs (λ i j. i < j) numbers.now }
+    requires count { length firsts.old ≡ length numbers.now }
+    ensures { PassesPlacement numbers.now entry.now.offset (placement_of (srat_entry entry.now.bytes.now)) firsts.old firsts.new result }
+{
+    let put = placement_of(entry)?;
+    let place = find(numbers, u64::from(put.processor))?;
+    let now = FirstValue {
+        offset: entry.offset,
+        value: put.domain,
+    };
+    let first = note_value(firsts, place, now)?;
+    Some(Witness {
+        code: Code::TwoDomains,
+        at: entry.offset,
+        other: first.offset,
+        point: u64::from(put.processor),
+    })
+}
+
+/// The fault of the first entry of an SRAT that puts a processor with one of the numbers, which rise, in another domain
+/// than an earlier entry.
+fn first_other_domain(
+    alloc: Global,
+    numbers: &[u64],
+    table: Table<'_>,
+) -> Result<Option<Witness>, AllocError>
+    requires { AllPairs (λ i j. i < j) numbers.now }
+    ensures { IfOk result (FindsDomains numbers.now (srat_contents table.entry)) }
+{
+    let Ok(mut entries) = Entries::srat(table) else {
+        return Ok(None);
+    };
+    let mut firsts = vec![in alloc; None; numbers.len()]?;
+    while let Some(entry) = entries.next() {
+        if let Some(fault) = pass_entry(numbers, &mut firsts, &entry) {
+            return Ok(Some(fault));
+        }
+    }
+    Ok(None)
+}
+
+/// The fault of the first entry of an SRAT that puts a processor of a MADT that counts as enabled in another domain than
+/// an earlier entry.
+fn first_two_domains(
+    alloc: Global,
+    processors: Processors,
+    madt: Table<'_>,
+    srat: Table<'_>,
+) -> Result<Option<Witness>, AllocError>
+    ensures { IfOk result (FindsFault Stage.Domains (HaveOneDomain processors (madt_contents madt.entry) (srat_contents srat.entry))
+        (DomainFault processors (madt_contents madt.entry) (srat_contents srat.entry))) }
+{
+    let numbers = numbers_of(alloc, Key::Enabled(processors), madt)?;
+    first_other_domain(alloc, &numbers, srat)
+}
+
+/// Whether the SRAT puts no processor of the MADT that counts as enabled in two domains, or the set lists no MADT or no
+/// SRAT. A fault is at the first entry of the SRAT that puts a processor in another domain than the first entry that is of
+/// it, whose offset is `other`; `point` is the processor's APIC ID or x2APIC ID. Takes memory for each processor.
+pub fn one_domain(alloc: Global, set: &Set<'_>) -> Result<(), Refusal>
+    requires clean { CleanBefore Stage.Domains set.now.image.now set.now.policy.now }
+    requires set { IsSet set.now }
+    ensures { Settles Stage.Domains set.now.image.now set.now.policy.now (λ _. ⊤) result }
+{
+    let Some(madt) = &set.madt else {
+        return Ok(());
+    };
+    let Some(srat) = &set.srat else {
+        return Ok(());
+    };
+    let processors = set.policy.processors();
+    match first_two_domains(alloc, processors, madt.copied(), srat.copied()) {
+        Ok(None) => Ok(()),
+        Ok(Some(fault)) => Err(Refusal::Fault(fault)),
+        Err(AllocError) => Err(Refusal::OutOfMemory),
+    }
+}

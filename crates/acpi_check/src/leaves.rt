@@ -1,0 +1,132 @@
+//! Stage 18: the leaves of the PPTT among the processors of the MADT.
+
+ghost use Rattle.std.specs.Prelude.{◌≡◌, ◌<◌, ⊤, AllPairs, Contains, IfOk, MatchBool, MatchOption};
+ghost use Rattle.acpi_base.specs.Across.{AreLeavesKnown, LeafFault};
+ghost use Rattle.acpi_base.specs.Madt.{madt_entry, madt_contents, IsWhollyTyped};
+ghost use Rattle.acpi_base.specs.Pptt.{pptt_entry, pptt_contents};
+ghost use Rattle.acpi_base.specs.Statements.{CleanBefore};
+ghost use Rattle.acpi_base.specs.declared.code.Code.{Code};
+ghost use Rattle.acpi_base.specs.declared.stage.Stage.{Stage};
+ghost use Rattle.acpi_check.specs.Leaves.{is_typed, leaf_id};
+ghost use Rattle.acpi_check.specs.Named.{IsKnown, IsUnknown, FindsUnknown};
+ghost use Rattle.acpi_check.specs.Passed.{FindsFault};
+ghost use Rattle.acpi_check.specs.Settled.{Settles};
+ghost use Rattle.acpi_check.specs.Set.{IsSet};
+
+use crate::processors::{Key, numbers_of};
+use crate::refusal::Refusal;
+use crate::search::has;
+use crate::set::Set;
+use acpi_base::{Code, Witness};
+use acpi_read::{Entries, Entry, MadtEntry, PpttEntry, Table};
+use std::alloc::{AllocError, Global};
+
+/// Whether an entry of a MADT is of a type that is read here: another one may be of a processor.
+fn is_typed(entry: &Entry<'_>) -> bool
+    ensures { result ≡ is_typed (madt_entry entry.now.bytes.now) }
+{
+    match MadtEntry::read(entry.bytes) {
+        Ok(MadtEntry::Opaque(_)) => false,
+        Ok(_) => true,
+        Err(_) => false,
+    }
+}
+
+/// Whether typed entries fill a MADT, so that all its processors are known.
+fn is_wholly_typed(table: Table<'_>) -> bool
+    ensures { MatchBool result (IsWhollyTyped (madt_contents table.entry)) (¬ IsWhollyTyped (madt_contents table.entry)) }
+{
+    let Ok(mut entries) = Entries::madt(table) else {
+        return false;
+    };
+    while let Some(entry) = entries.next() {
+        if !is_typed(&entry) {
+            return false;
+        }
+    }
+    entries.cut().is_none()
+}
+
+/// The ID of a leaf: of a node whose flags say that the ID is valid, in bit 1, and that it is a leaf, in bit 3. None for
+/// another entry.
+#[tactic(auto, unfolding(acpi_base::specs::Number::has_bit))]
+fn leaf_id(entry: &Entry<'_>) -> Option<u32>
+    ensures { result ≡ leaf_id (pptt_entry entry.now.bytes.now) }
+{
+    let Ok(PpttEntry::Node(head, _)) = PpttEntry::read(entry.bytes) else {
+        return None;
+    };
+    let is_valid = head.flags >> 1 & 1 == 1;
+    let is_leaf = head.flags >> 3 & 1 == 1;
+    (is_valid && is_leaf).then_some(head.id)
+}
+
+/// The fault of a leaf whose ID is not among the UIDs, which rise.
+fn own_fault(uids: &[u64], entry: &Entry<'_>) -> Option<Witness>
+    requires { AllPairs (λ i j. i < j) uids.now }
+    ensures { MatchOption result (IsKnown (Contains uids.now) (leaf_id (pptt_entry entry.now.bytes.now)))
+        (IsUnknown (Contains uids.now) Code.LeafUnknown entry.now.offset (leaf_id (pptt_entry entry.now.bytes.now))) }
+{
+    let id = leaf_id(entry)?;
+    if has(uids, id) {
+        return None;
+    }
+    Some(Witness {
+        code: Code::LeafUnknown,
+        at: entry.offset,
+        other: 0,
+        point: u64::from(id),
+    })
+}
+
+/// The fault of the first leaf of a PPTT whose ID is not among the UIDs.
+fn first_unknown(uids: &[u64], table: Table<'_>) -> Option<Witness>
+    requires { AllPairs (λ i j. i < j) uids.now }
+    ensures { FindsUnknown (Contains uids.now) leaf_id Code.LeafUnknown (pptt_contents table.entry).entries result }
+{
+    let mut entries = Entries::pptt(table);
+    while let Some(entry) = entries.next() {
+        if let Some(fault) = own_fault(uids, &entry) {
+            return Some(fault);
+        }
+    }
+    None
+}
+
+/// The fault of the first leaf of a PPTT that is no processor of a MADT. A PPTT before revision 2 has none, and of a MADT
+/// that is not wholly typed nothing is said.
+fn first_unknown_leaf(
+    alloc: Global,
+    madt: Table<'_>,
+    pptt: Table<'_>,
+) -> Result<Option<Witness>, AllocError>
+    ensures { IfOk result (FindsFault Stage.Leaves (AreLeavesKnown (madt_contents madt.entry) (pptt_contents pptt.entry))
+        (LeafFault (madt_contents madt.entry) (pptt_contents pptt.entry))) }
+{
+    if pptt.header().revision < 2 || !is_wholly_typed(madt.copied()) {
+        return Ok(None);
+    }
+    let uids = numbers_of(alloc, Key::Uid, madt)?;
+    Ok(first_unknown(&uids, pptt))
+}
+
+/// Whether the ID of each leaf of the PPTT is the UID of a processor of the MADT, or the PPTT's Revision is below 2, or
+/// the MADT has an entry of a type that is not read here, or the set lists no MADT or no PPTT. A fault is at the leaf's
+/// offset, and `point` is its ID. Takes memory for each processor.
+pub fn known_leaves(alloc: Global, set: &Set<'_>) -> Result<(), Refusal>
+    requires clean { CleanBefore Stage.Leaves set.now.image.now set.now.policy.now }
+    requires set { IsSet set.now }
+    ensures { Settles Stage.Leaves set.now.image.now set.now.policy.now (λ _. ⊤) result }
+{
+    let Some(madt) = &set.madt else {
+        return Ok(());
+    };
+    let Some(pptt) = &set.pptt else {
+        return Ok(());
+    };
+    match first_unknown_leaf(alloc, madt.copied(), pptt.copied()) {
+        Ok(None) => Ok(()),
+        Ok(Some(fault)) => Err(Refusal::Fault(fault)),
+        Err(AllocError) => Err(Refusal::OutOfMemory),
+    }
+}

@@ -1,0 +1,70 @@
+//! Numbers of the MADT's processors, to be looked up.
+
+ghost use Rattle.std.specs.Prelude.{◌≡◌, IfOk};
+ghost use Rattle.acpi_base.specs.Madt.{madt_entry, madt_contents};
+ghost use Rattle.acpi_base.specs.Policy.{counts_as_enabled};
+ghost use Rattle.acpi_check.specs.Processors.{number_of, AreNumbers};
+
+use crate::search::in_rising_order;
+use acpi_base::Processors;
+use acpi_read::{Entries, Entry, MadtEntry, Table};
+use std::alloc::{AllocError, Global};
+
+/// By which number processors are looked up.
+#[derive(Clone, Copy, Debug, PartialEq, Eq)]
+pub enum Key {
+    /// All, enabled or not, by their UIDs.
+    Uid,
+    /// Those that count as enabled, by their APIC IDs and x2APIC IDs, which are one number space.
+    Enabled(Processors),
+}
+
+/// Whether a processor with these flags of the MADT counts as enabled.
+#[tactic(auto, unfolding(acpi_base::specs::Number::has_bit, acpi_base::specs::Policy::counts_as_enabled))]
+fn counts_as_enabled(processors: Processors, flags: u32) -> bool
+    ensures { result ≡ counts_as_enabled processors flags }
+{
+    let is_enabled = flags & 1 == 1;
+    let is_online_capable = flags >> 1 & 1 == 1;
+    match processors {
+        Processors::Enabled => is_enabled,
+        Processors::Usable => is_enabled || is_online_capable,
+    }
+}
+
+/// The number of the processor of which an entry is. None for another entry.
+fn number_of(key: Key, entry: &Entry<'_>) -> Option<u32>
+    ensures { result ≡ number_of key (madt_entry entry.now.bytes.now) }
+{
+    let Ok(read) = MadtEntry::read(entry.bytes) else {
+        return None;
+    };
+    match (key, read) {
+        (Key::Uid, MadtEntry::LocalApic(processor)) => Some(u32::from(processor.uid)),
+        (Key::Uid, MadtEntry::X2apic(processor)) => Some(processor.uid),
+        (Key::Enabled(processors), MadtEntry::LocalApic(processor)) => {
+            counts_as_enabled(processors, processor.flags).then_some(u32::from(processor.apic_id))
+        }
+        (Key::Enabled(processors), MadtEntry::X2apic(processor)) => {
+            counts_as_enabled(processors, processor.flags).then_some(processor.x2apic_id)
+        }
+        _ => None,
+    }
+}
+
+/// The numbers of the processors of a MADT, in rising order and each once.
+#[tactic(auto, using(crate::proofs::Gathered::gathering))]
+pub fn numbers_of(alloc: Global, key: Key, table: Table<'_>) -> Result<Vec<u64>, AllocError>
+    ensures { IfOk result (λ numbers. AreNumbers key (madt_contents table.entry) numbers.items) }
+{
+    let mut numbers = Vec::new(alloc);
+    let Ok(entries) = Entries::madt(table) else {
+        return Ok(numbers);
+    };
+    for entry in entries {
+        if let Some(number) = number_of(key, &entry) {
+            numbers.push(u64::from(number))?;
+        }
+    }
+    Ok(in_rising_order(numbers))
+}

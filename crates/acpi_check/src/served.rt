@@ -1,0 +1,125 @@
+//! Stage 17: the interrupt numbers that entries of the MADT name.
+
+ghost use Rattle.std.specs.Prelude.{◌≡◌, ⊤, IfOk, MatchBool, MatchOption};
+ghost use Rattle.acpi_base.specs.Across.{AreNamedServed, ServedFault};
+ghost use Rattle.acpi_base.specs.Madt.{madt_entry, madt_contents, AreInterruptsApart};
+ghost use Rattle.acpi_base.specs.Statements.{CleanBefore};
+ghost use Rattle.acpi_base.specs.declared.code.Code.{Code};
+ghost use Rattle.acpi_base.specs.declared.stage.Stage.{Stage};
+ghost use Rattle.acpi_check.specs.Named.{IsKnown, IsUnknown, FindsUnknown};
+ghost use Rattle.acpi_check.specs.Passed.{FindsFault};
+ghost use Rattle.acpi_check.specs.Served.{named_gsi, AreServed, DoSpansRise, IsHeld};
+ghost use Rattle.acpi_check.specs.Settled.{Settles};
+ghost use Rattle.acpi_check.specs.Set.{IsSet};
+
+use crate::interrupts::served_spans;
+use crate::refusal::Refusal;
+use crate::set::Set;
+use acpi_base::{Code, Policy, Witness};
+use acpi_graph::Span;
+use acpi_read::{Entries, Entry, MadtEntry, Table};
+use std::alloc::{AllocError, Global};
+
+/// The interrupt number that an override or an NMI source names. None for another entry.
+fn named_gsi(entry: &Entry<'_>) -> Option<u32>
+    ensures { result ≡ named_gsi (madt_entry entry.now.bytes.now) }
+{
+    let Ok(read) = MadtEntry::read(entry.bytes) else {
+        return None;
+    };
+    match read {
+        MadtEntry::Override(source) => Some(source.gsi),
+        MadtEntry::NmiSource(nmi) => Some(nmi.gsi),
+        _ => None,
+    }
+}
+
+/// The interrupt numbers that each I/O APIC of a MADT serves, in rising order.
+fn rising_spans(alloc: Global, policy: &Policy, table: Table<'_>) -> Result<Vec<Span>, AllocError>
+    requires { AreInterruptsApart policy.now (madt_contents table) }
+    ensures { IfOk result (λ spans. AreServed policy.now (madt_contents table.entry) spans.items) }
+{
+    // A policy gives each I/O APIC an input at least, so each serves a number.
+    let _ = policy.rsdp();
+    let mut spans = served_spans(alloc, policy, table)?;
+    spans.sort_unstable();
+    Ok(spans)
+}
+
+/// Whether one of the spans holds a number. Each ends before the next begins.
+fn is_held(spans: &[Span], number: u128) -> bool
+    requires { DoSpansRise spans.now }
+    ensures { MatchBool result (IsHeld spans.now number) (¬ IsHeld spans.now number) }
+{
+    let begun = spans.partition_point(|span| span.start <= number);
+    begun > 0 && number < spans[begun - 1].end
+}
+
+/// The fault of an entry that names an interrupt number that none of the spans holds.
+fn own_fault(spans: &[Span], entry: &Entry<'_>) -> Option<Witness>
+    requires { DoSpansRise spans.now }
+    ensures { MatchOption result (IsKnown (IsHeld spans.now) (named_gsi (madt_entry entry.now.bytes.now)))
+        (IsUnknown (IsHeld spans.now) Code.GsiNowhere entry.now.offset (named_gsi (madt_entry entry.now.bytes.now))) }
+{
+    let gsi = named_gsi(entry)?;
+    if is_held(spans, u128::from(gsi)) {
+        return None;
+    }
+    Some(Witness {
+        code: Code::GsiNowhere,
+        at: entry.offset,
+        other: 0,
+        point: u64::from(gsi),
+    })
+}
+
+/// The fault of the first entry of a MADT that names an interrupt number that none of the spans holds.
+fn first_unheld(spans: &[Span], table: Table<'_>) -> Option<Witness>
+    requires { DoSpansRise spans.now }
+    ensures { FindsUnknown (IsHeld spans.now) named_gsi Code.GsiNowhere (madt_contents table.entry).entries result }
+{
+    let Ok(mut entries) = Entries::madt(table) else {
+        return None;
+    };
+    while let Some(entry) = entries.next() {
+        if let Some(fault) = own_fault(spans, &entry) {
+            return Some(fault);
+        }
+    }
+    None
+}
+
+/// The fault of the first entry of a MADT that names an interrupt number that no I/O APIC serves, where there is an
+/// I/O APIC.
+fn first_unserved(
+    alloc: Global,
+    policy: &Policy,
+    table: Table<'_>,
+) -> Result<Option<Witness>, AllocError>
+    requires { AreInterruptsApart policy.now (madt_contents table) }
+    ensures { IfOk result (FindsFault Stage.Served (AreNamedServed policy.now (madt_contents table.entry)) (ServedFault policy.now (madt_contents table.entry))) }
+{
+    let spans = rising_spans(alloc, policy, table.copied())?;
+    if spans.is_empty() {
+        return Ok(None);
+    }
+    Ok(first_unheld(&spans, table))
+}
+
+/// Whether an I/O APIC of the MADT serves each interrupt number that an override or an NMI source names, or the MADT has
+/// no I/O APIC, or the set lists no MADT. A fault is at the offset of the entry that names the number, which is `point`.
+/// Takes memory for each I/O APIC.
+pub fn named_served(alloc: Global, set: &Set<'_>) -> Result<(), Refusal>
+    requires clean { CleanBefore Stage.Served set.now.image.now set.now.policy.now }
+    requires set { IsSet set.now }
+    ensures { Settles Stage.Served set.now.image.now set.now.policy.now (λ _. ⊤) result }
+{
+    match &set.madt {
+        None => Ok(()),
+        Some(table) => match first_unserved(alloc, set.policy, table.copied()) {
+            Ok(None) => Ok(()),
+            Ok(Some(fault)) => Err(Refusal::Fault(fault)),
+            Err(AllocError) => Err(Refusal::OutOfMemory),
+        },
+    }
+}

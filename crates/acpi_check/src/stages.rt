@@ -1,0 +1,128 @@
+//! A check of all stages, or of those up to one.
+
+ghost use Rattle.std.specs.Prelude.{◌≡◌, ◌≤◌, ◌↔◌, ⊤, IfOk, IsOk, OnErr, MatchOption};
+ghost use Rattle.acpi_base.specs.Codes.{stage_number};
+ghost use Rattle.acpi_base.specs.Statements.{IsClean, CleanBefore, CleanTo};
+ghost use Rattle.acpi_base.specs.Faults.{IsFirstFault, IsVerdict};
+ghost use Rattle.acpi_base.specs.declared.stage.Stage.{Stage};
+ghost use Rattle.acpi_base.specs.declared.verdict.Verdict.{Verdict};
+ghost use Rattle.acpi_check.specs.Headline.{IfNo};
+ghost use Rattle.acpi_check.specs.Settled.{Settles, SettlesTo};
+ghost use Rattle.acpi_check.specs.Set.{IsSet, IsSetOf};
+
+use crate::chains::{caches_end, parents_end};
+use crate::domains::one_domain;
+use crate::facs::sound_facs;
+use crate::fadt::sound_fadt;
+use crate::interrupts::apart_interrupts;
+use crate::leaves::known_leaves;
+use crate::madt::sound_madt;
+use crate::overrides::agreeing_overrides;
+use crate::pptt::sound_pptt;
+use crate::ranges::apart_ranges;
+use crate::references::sound_references;
+use crate::refusal::Refusal;
+use crate::root::sound_root;
+use crate::rsdp::sound_rsdp;
+use crate::served::named_served;
+use crate::set::Set;
+use crate::slit::sound_slit;
+use crate::srat::sound_srat;
+use crate::tables::sound_tables;
+use acpi_base::{Image, Policy, Stage, Verdict};
+use std::alloc::{AllocError, Global};
+
+/// The verdict on the image's tables: `Yes` exactly where all eighteen statements hold of the image and the
+/// policy, else `No` with the first fault: one of the earliest stage that does not hold.
+///
+/// Out of memory only where stages 1 to 6 hold.
+pub fn check(alloc: Global, image: &Image, policy: &Policy) -> Result<Verdict, AllocError>
+    ensures yes { IfOk result (λ verdict. (verdict ≡ Verdict.Yes) ↔ IsClean image.now policy.now) }
+    ensures no { IfOk result (IfNo (IsFirstFault image.now policy.now)) }
+    ensures memory { OnErr result (CleanTo Stage.Madt image.now policy.now) }
+{
+    check_to(alloc, image, policy, Stage::Leaves)
+}
+
+/// The verdict on the image's tables over the stages up to `last`: `Yes` where all of them hold, else
+/// `No` with the first fault, which is one of the earliest stage that does not hold.
+///
+/// Out of memory only where stages 1 to 6 hold. For `last` up to 6 always `Ok`: those stages take none.
+pub fn check_to(
+    alloc: Global,
+    image: &Image,
+    policy: &Policy,
+    last: Stage,
+) -> Result<Verdict, AllocError>
+    ensures verdict { IfOk result (IsVerdict last image.now policy.now) }
+    ensures early { stage_number last ≤ 6 → IsOk result }
+    ensures memory { OnErr result (CleanTo Stage.Madt image.now policy.now) }
+{
+    match stages_to(alloc, image, policy, last) {
+        Ok(()) => Ok(Verdict::Yes),
+        Err(Refusal::Fault(fault)) => Ok(Verdict::No(fault)),
+        Err(Refusal::OutOfMemory) => Err(AllocError),
+    }
+}
+
+/// Asks the stages up to `last` in their order.
+fn stages_to(alloc: Global, image: &Image, policy: &Policy, last: Stage) -> Result<(), Refusal>
+    ensures { SettlesTo last image.now policy.now (λ _. CleanTo last image.now policy.now) result }
+{
+    let Some(set) = set_to(image, policy, last)? else {
+        return Ok(());
+    };
+    for number in Stage::Facs.number()..last.number() + 1 {
+        if let Some(stage) = Stage::new(number) {
+            ask(alloc, &set, stage)?;
+        }
+    }
+    Ok(())
+}
+
+/// Asks the stages up to the FADT, each of which hands on what the next one looks at; none where `last`
+/// comes before the FADT.
+fn set_to<'a>(image: &'a Image, policy: &'a Policy, last: Stage) -> Result<Option<Set<'a>>, Refusal>
+    ensures { SettlesTo last image.now policy.now
+        (λ found. MatchOption found (CleanTo last image.now policy.now) (IsSetOf image.now policy.now)) result }
+{
+    let rsdp = sound_rsdp(image, policy)?;
+    if last.number() <= Stage::Rsdp.number() {
+        return Ok(None);
+    }
+    let root = sound_root(image, policy, &rsdp)?;
+    if last.number() <= Stage::Root.number() {
+        return Ok(None);
+    }
+    let tables = sound_tables(image, policy, root)?;
+    if last.number() <= Stage::Tables.number() {
+        return Ok(None);
+    }
+    Ok(Some(sound_fadt(image, policy, tables)?))
+}
+
+/// Asks one stage from the FACS on.
+fn ask(alloc: Global, set: &Set<'_>, stage: Stage) -> Result<(), Refusal>
+    requires clean { CleanBefore stage set.now.image.now set.now.policy.now }
+    requires set { IsSet set.now }
+    ensures { Settles stage set.now.image.now set.now.policy.now (λ _. ⊤) result }
+{
+    match stage {
+        Stage::Facs => sound_facs(set),
+        Stage::Madt => sound_madt(set),
+        Stage::Interrupts => apart_interrupts(alloc, set),
+        Stage::Overrides => agreeing_overrides(set),
+        Stage::Srat => sound_srat(set),
+        Stage::Ranges => apart_ranges(alloc, set),
+        Stage::Slit => sound_slit(set),
+        Stage::Pptt => sound_pptt(set),
+        Stage::References => sound_references(alloc, set),
+        Stage::Parents => parents_end(alloc, set),
+        Stage::Caches => caches_end(alloc, set),
+        Stage::Domains => one_domain(alloc, set),
+        Stage::Served => named_served(alloc, set),
+        Stage::Leaves => known_leaves(alloc, set),
+        // These hold of every set.
+        Stage::Rsdp | Stage::Root | Stage::Tables | Stage::Fadt => Ok(()),
+    }
+}
