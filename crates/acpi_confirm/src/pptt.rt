@@ -20,7 +20,7 @@ use chains::{has_cache_fault, has_parent_fault};
 /// Where the first entry stands.
 pub(crate) const FIRST_ENTRY: usize = 36;
 
-/// What links two entries of one kind.
+/// What links two nodes, or two caches.
 #[derive(Clone, Copy)]
 enum Link {
     /// A node's Parent is a node.
@@ -52,7 +52,8 @@ fn is_cache(entry: &[u8]) -> bool
     matches!((entry[0], entry.len()), (1, 24 | 28))
 }
 
-/// The offset that an entry names by the link, where the link is of its kind: 0 for none.
+/// The offset that an entry names by the link, which is 0 where it names none. None for an entry that is not of the
+/// link's kind.
 #[tactic(auto, unfolding(acpi_base::specs::Pptt::pptt_entry), using(crate::proofs::PpttEntries::kinds))]
 fn named(entry: &[u8], link: Link) -> Option<u64>
     requires { IsEntry entry.now }

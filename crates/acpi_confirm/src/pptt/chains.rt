@@ -19,8 +19,8 @@ struct Linked {
     names: u64,
 }
 
-/// The entry that one names: the walk goes on from where that one stands if the entry lies ahead, and else starts
-/// anew.
+/// The entry at the offset that one names: the walk goes on from where that one stands if the offset lies ahead, and
+/// otherwise starts again from the first entry.
 fn entry_named<'a>(pptt: &'a [u8], link: Link, here: Linked) -> Option<&'a [u8]>
     requires { IsOnly (Names link (pptt_contents pptt.now) here.at) (Some here.names) }
     ensures there { IsThere (entries_of 36 pptt.now) here.names (option_map (λ entry. entry.now) result) }
@@ -32,7 +32,7 @@ fn entry_named<'a>(pptt: &'a [u8], link: Link, here: Linked) -> Option<&'a [u8]>
     entry_at(pptt, here.at as usize, here.names)
 }
 
-/// The offset that the one names in its turn that one names.
+/// The offset that is named in turn by the node or cache that this one names, where one stands there.
 fn named_next(pptt: &[u8], link: Link, here: Linked) -> Option<u64>
     requires { IsOnly (Names link (pptt_contents pptt.now) here.at) (Some here.names) }
     ensures { IsOnly (Names link (pptt_contents pptt.now) here.names) result }
@@ -79,8 +79,8 @@ fn follow(pptt: &[u8], link: Link, from: u64, steps: u64) -> Option<u64>
     Some(here.at)
 }
 
-/// Whether the steps of a cycle are as many as fit.
-fn fit(most: u64, lead: u64, round: u64) -> bool
+/// Whether a cycle has a step, and the steps to it and round it are at most `most`.
+fn steps_fit(most: u64, lead: u64, round: u64) -> bool
     ensures { IsTrue result ↔ ((1 ≤ round) × (lead + round ≤ most)) }
 {
     round >= 1 && u128::from(lead) + u128::from(round) <= u128::from(most)
@@ -91,7 +91,7 @@ fn fit(most: u64, lead: u64, round: u64) -> bool
 fn is_cycle(pptt: &[u8], link: Link, most: u64, from: u64, lead: u64, round: u64) -> bool
     ensures { IsTrue result ↔ IsCycle (Names link (pptt_contents pptt.now)) most from lead round }
 {
-    if !fit(most, lead, round) {
+    if !steps_fit(most, lead, round) {
         return false;
     }
     let Some(there) = follow(pptt, link, from, lead) else {
