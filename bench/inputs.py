@@ -125,6 +125,20 @@ def nodes_of_58_caches(count):
     return pptt(*(cache(0) for _ in caches), *(node(0, resources=caches) for _ in range(count)))
 
 
+def machine(count):
+    """A machine with that many processors: 64 domains, and a PPTT with a package and two caches for every 64 processors."""
+    packages = range(36, 36 + 68 * (count // 64), 68)
+    entries = [node(0) + cache(at + 44) + cache(0) for at in packages]
+    leaves = [node(36 + 68 * (number // 64 % len(packages)), flags=0b1010, uid=number) for number in range(count)]
+    numbers = range(count)
+    return [
+        madt(io_apic(0), *map(x2apic, numbers)),
+        srat(*map(x2apic_affinity, numbers), *map(memory_range, range(64))),
+        slit(64),
+        pptt(*entries, *leaves),
+    ]
+
+
 # the tables of a kind, by the number of entries; each has all its entries in no order
 KINDS = {
     "overrides": lambda count: [madt(*map(override, shuffled(count)))],
@@ -139,6 +153,7 @@ KINDS = {
         srat(*map(x2apic_affinity, reversed(shuffled(count)))),
     ],
     "nmi-sources": lambda count: [madt(*map(io_apic, shuffled(count)), *map(nmi_source, reversed(shuffled(count))))],
+    "processors-of-a-machine": machine,
     "leaves": lambda count: [
         madt(*map(x2apic, shuffled(count))),
         pptt(*(node(0, flags=0b1010, uid=number) for number in reversed(shuffled(count)))),

@@ -54,7 +54,7 @@ functions() {
       next
     }
     /^}/ { type = "" }
-    /^ *(pub )?fn / {
+    /^ *(pub(\([a-z]+\))? )?fn / {
       is_pub = $1 == "pub"
       is_law = !/->|&mut /
       part = /[{}]$/ ? "" : "head"
@@ -94,14 +94,15 @@ for crate in $(sed -n 's/^\([a-z_]*\):.*/\1/p' crates.txt); do
 done
 
 # ---- the documents
-last=$(sed -n 's/^pub const BUILT: u8 = \([0-9]*\);$/\1/p' crates/acpi_base/src/stage.rt)
-stages=$(sed -n 's/^stage_number stage\.\([A-Za-z]*\) = \([0-9]*\)$/\1 \2/p' crates/acpi_base/specs/Codes.antt | awk -v last="$last" '$2 <= last { print $1 }')
-codes=$(while read -r stage; do sed -n "s/^stage_of code\.\([A-Za-z]*\) = stage\.$stage\$/\1/p" crates/acpi_base/specs/Codes.antt; done <<<"$stages")
-numbered=$(while read -r code; do sed -n "s/^code_number code\.\($code\) = \([0-9]*\)\$/\2 \1/p" crates/acpi_base/specs/Codes.antt; done <<<"$codes")
+codes=$(sed -n 's/^code_number code\.\([A-Za-z]*\) = \([0-9]*\)$/\2 \1/p' crates/acpi_base/specs/Codes.antt)
 described=$(sed -n 's/^### \([0-9]* [A-Za-z]*\)$/\1/p' docs/FAULTS.md)
-same 'codes of built stages (<) and parts of FAULTS.md (>)' "$numbered" "$described"
-listed=$(sed -n 's/^| \([0-9]*\) | .* | yes |$/\1/p' docs/FAULTS.md)
-same 'stages that are built (<) and those that FAULTS.md lists as built (>)' "$(seq 1 "$last")" "$listed"
+same 'codes (<) and parts of FAULTS.md (>)' "$codes" "$described"
+stages=$(sed -n 's/^stage_number stage\.[A-Za-z]* = \([0-9]*\)$/\1/p' crates/acpi_base/specs/Codes.antt)
+listed=$(sed -n 's/^| \([0-9]*\) | .* | [0-9to, ]* |$/\1/p' docs/FAULTS.md)
+same 'stages (<) and those that FAULTS.md lists (>)' "$stages" "$listed"
+headline=$(sed -n '/^## The headline$/,/^## /{/^```rust$/,/^```$/p}' README.md | grep -v '^```')
+contract=$(sed -n '/^pub fn check(/,/^{$/p' crates/acpi_check/src/stages.rt | grep -v '^{$')
+same 'the contract of check, as README has it (<) and in acpi_check (>)' "$headline" "$contract"
 
 paths=$(cat README.md docs/*.md | grep -o '`\(crates\|docs\|tests\|bench\)/[A-Za-z0-9_./-]*[A-Za-z0-9_]`' | tr -d '`' | sort -u)
 there=$(while read -r path; do [ -e "$path" ] && printf '%s\n' "$path"; done <<<"$paths")

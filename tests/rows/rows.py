@@ -292,6 +292,42 @@ row("three caches that end", image_of(fadt(), pptt(cache(60), cache(84, 24), cac
 row("a cache that leads to a cycle of two", image_of(fadt(), pptt(cache(60), cache(84), cache(60, 28))), "no 15 CacheCycle 0x24 0x1 0x2")
 row("a cache that is its own next level", image_of(fadt(), pptt(cache(36, 28))), "no 15 CacheCycle 0x24 0x0 0x1")
 
+# ---- proximity domains of processors
+def two_domains(flags, second=1):
+    """A processor of the MADT with these flags, which the SRAT puts in the domains 0 and `second`."""
+    return image_of(fadt(), madt(lapic(0, 5, flags)), srat(apic_domain(5, 0), x2apic_domain(5, second)))
+
+
+TWO_DOMAINS = "no 16 TwoDomains 0x40 0x30 0x5"
+for flags, enabled, usable in (
+    (0b00, "yes", "yes"),
+    (0b01, TWO_DOMAINS, TWO_DOMAINS),
+    (0b10, "yes", TWO_DOMAINS),
+    (0b11, TWO_DOMAINS, TWO_DOMAINS),
+):
+    row(f"two domains of a processor with flags {flags:02b}", two_domains(flags), enabled)
+    row(f"two domains of a processor with flags {flags:02b}, enabled", two_domains(flags), enabled, "--processors enabled")
+    row(f"two domains of a processor with flags {flags:02b}, usable", two_domains(flags), usable, "--processors usable")
+    row(f"one domain twice of a processor with flags {flags:02b}", two_domains(flags, second=0), "yes", "--processors usable")
+row("two domains, the high bits apart", two_domains(1, second=0x100), TWO_DOMAINS)
+row("two domains of an x2APIC", image_of(fadt(), madt(x2apic(0, 5)), srat(apic_domain(5, 0), x2apic_domain(5, 1))), TWO_DOMAINS)
+row("a disabled entry in the SRAT", image_of(fadt(), madt(lapic(0, 5)), srat(apic_domain(5, 0), x2apic_domain(5, 1, flags=0))), "yes")
+
+# ---- interrupt numbers that are named
+row("an override to a number that none serves", image_of(fadt(), madt(io_apic(0xFEC00000, 0), override(9, 24))), "no 17 GsiNowhere 0x38 0x0 0x18")
+row("an NMI source of a number that none serves", image_of(fadt(), madt(io_apic(0xFEC00000, 0), nmi_source(24))), "no 17 GsiNowhere 0x38 0x0 0x18")
+row("an override to a number of the second I/O APIC", image_of(fadt(), madt(io_apic(0xFEC00000, 0), io_apic(0xFEC01000, 24), override(9, 47))), "yes")
+row("an override and no I/O APIC", image_of(fadt(), madt(override(9, 24))), "yes")
+
+# ---- leaves
+LEAF = node(0, IS_ID_VALID | IS_LEAF, 7)
+row("a leaf that is no processor", image_of(fadt(), madt(lapic(5, 0)), pptt(LEAF)), "no 18 LeafUnknown 0x24 0x0 0x7")
+row("a leaf that is a disabled processor", image_of(fadt(), madt(lapic(7, 0, flags=0)), pptt(LEAF)), "yes")
+row("a leaf in a PPTT of Revision 1", image_of(fadt(), madt(lapic(5, 0)), pptt(LEAF, revision=1)), "yes")
+row("a leaf, and a MADT entry of a type that no rule names", image_of(fadt(), madt(lapic(5, 0), bytes([11, 80]) + bytes(78)), pptt(LEAF)), "yes")
+row("a leaf whose ID is not valid", image_of(fadt(), madt(lapic(5, 0)), pptt(node(0, IS_LEAF, 7))), "yes")
+row("a node that is no leaf", image_of(fadt(), madt(lapic(5, 0)), pptt(node(0, IS_ID_VALID, 7))), "yes")
+
 # ---- a whole set, and parts of it
 WHOLE = image_of(
     full_fadt(_92=b"\4"),

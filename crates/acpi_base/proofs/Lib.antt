@@ -7,7 +7,9 @@ pub mod Examples
 pub mod Facs
 pub mod Fadt
 pub mod Faults
+pub mod FaultTexts
 pub mod HeldBytes
+pub mod HexTexts
 pub mod Layouts
 pub mod Madt
 pub mod Pieces

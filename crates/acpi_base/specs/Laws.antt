@@ -8,6 +8,7 @@ use Rattle.acpi_base.specs.Root.{IsSlotWidth, HasSlot}
 use Rattle.acpi_base.specs.Listed.{listed}
 use Rattle.acpi_base.specs.Statements.{CleanTo}
 use Rattle.acpi_base.specs.Faults.{Fault, IsFirstFault, IsVerdict}
+use Rattle.acpi_base.specs.WitnessText.{witness_line}
 use Rattle.acpi_base.specs.declared.stage.Stage.{Stage}
 use Rattle.acpi_base.specs.declared.witness.Witness.{Witness}
 use Rattle.acpi_base.specs.declared.verdict.Verdict.{Verdict}
@@ -48,3 +49,7 @@ OneVerdict =
 abbrev pub RootsListSlots : Type 0
 RootsListSlots =
     (whole : List ℕ) (d a : ℕ) → IsSlotWidth d → Contains (listed whole d) a ↔ ((k : ℕ) × HasSlot whole d k a)
+
+-- two faults have two texts
+abbrev pub TextsDiffer : Type 0
+TextsDiffer = (w v : Witness) → NumbersFit w → NumbersFit v → witness_line w ≡ witness_line v → w ≡ v

@@ -1,7 +1,7 @@
 //! Images read from image text: lines of hex digits that say which bytes stand where.
 
 mod collect;
-mod line;
+pub(crate) mod line;
 mod lines;
 #[cfg(test)]
 mod tests;

@@ -9,7 +9,7 @@ ghost use Rattle.acpi_base.specs.Examples.Pptts.{ArePpttContents, ArePpttFaults,
 ghost use Rattle.acpi_base.specs.Examples.Sets.{AreListedTables, AreSetFaults};
 ghost use Rattle.acpi_base.specs.Examples.Slits.{AreSlitContents, AreSlitFaults, AreSoundSlits};
 ghost use Rattle.acpi_base.specs.Examples.Srats.{AreSratContents, AreSratFaults, AreFirstOverlaps, HasNoSratFault};
-ghost use Rattle.acpi_base.specs.Laws.{FaultsExcludeClean, FaultsFit, CleanOrFaulty, CleanOrFirstFault, OneFirstFault, OneVerdict, RootsListSlots};
+ghost use Rattle.acpi_base.specs.Laws.{FaultsExcludeClean, FaultsFit, CleanOrFaulty, CleanOrFirstFault, OneFirstFault, OneVerdict, RootsListSlots, TextsDiffer};
 ghost use Rattle.acpi_base.specs.Pptt.{ParentsEndOrGoRound, CachesEndOrGoRound};
 ghost use Rattle.acpi_base.specs.TextLaws.{RunReadsText, RunReadsPrefix, RunStopsAtFaults, RunGoesOn, PrefixDecides, TextMeans, TextOrFault, NeverBoth, OneImage, OneTextFault, RefusalsAreOwn, LinesMean};
 
@@ -60,6 +60,11 @@ pub fn roots_list_slots()
 pub fn chains_end_or_go_round()
     ensures parents { ParentsEndOrGoRound }
     ensures caches { CachesEndOrGoRound }
+{}
+
+/// Two faults have two texts: a text says which fault it is of.
+pub fn fault_texts_differ()
+    ensures { TextsDiffer }
 {}
 
 /// Reading an image text byte by byte is reading it by lines, in any pieces.

@@ -22,6 +22,7 @@
 
 mod checksum;
 mod code;
+mod fault_parsing;
 mod fault_text;
 pub mod field;
 mod find;
@@ -37,12 +38,13 @@ mod witness;
 
 pub use checksum::sum;
 pub use code::Code;
+pub use fault_parsing::parse_witness;
 pub use fault_text::{verdict_text, witness_text};
 pub use find::find_rsdp;
 pub use image::{Image, ImageFault};
 pub use image_text::read_image;
 pub use policy::{HotPlug, Policy, PolicyFault, Processors};
-pub use stage::{BUILT, Stage, built_stages};
+pub use stage::Stage;
 pub use tally::{DeviceFailed, Tally};
 pub use text::TextFault;
 pub use verdict::Verdict;

@@ -2,16 +2,6 @@
 
 ghost use Rattle.std.specs.Prelude.{◌≡◌, ◌≤◌, ◌↔◌, IsSome, IfSome};
 ghost use Rattle.acpi_base.specs.Codes.{stage_number};
-ghost use Rattle.acpi_base.specs.declared.stage.Stage.{Stage};
-ghost use Rattle.acpi_base.specs.declared.stage.TheConstants.{BUILT};
-
-/// The number of the last stage that is built.
-pub const BUILT: u8 = 15;
-
-/// The last stage that is built is that of the caches.
-pub fn built_stages()
-    ensures last { stage_number Stage.Caches ≡ BUILT }
-{}
 
 /// A part of the check. Each stage is looked at only where all earlier ones hold. Sections are those
 /// of ACPI 6.5.

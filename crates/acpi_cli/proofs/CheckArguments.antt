@@ -16,7 +16,7 @@ use Rattle.acpi_cli.proofs.Hyphens.{ArePlain, IsPlain}
 
 -- the arguments of `check` with what `clap` fills in, and its own `--help`
 unfoldable pub rules : List Rule
-rules = filled_from 1 (option_rule (codes "rsdp") ∷ option_rule (codes "through") ∷ option_rule (codes "default-inputs") ∷ option_rule (codes "hotplug") ∷ inputs_rule ∷ help_rule ∷ [])
+rules = filled_from 1 (option_rule (codes "rsdp") ∷ option_rule (codes "through") ∷ option_rule (codes "default-inputs") ∷ option_rule (codes "hotplug") ∷ option_rule (codes "processors") ∷ inputs_rule ∷ help_rule ∷ [])
 
 -- `check` as `clap` builds it
 unfoldable pub shape : Shape
@@ -109,6 +109,18 @@ default_option = record {
 pub hotplug_option : IsOption (codes "hotplug")
 unfolding rules shape clap_on_literals
 hotplug_option = record {
+  opens = λ rows pending. refl;
+  is_known = λ rows pending e. rw e refl;
+  takes = λ rows first rest e. simp e;
+  may_take = λ rows first rest e. simp e;
+  settles = λ rows value e. rw e refl;
+  settled = λ rows value. refl;
+}
+
+-- and `--processors`
+pub processors_option : IsOption (codes "processors")
+unfolding rules shape clap_on_literals
+processors_option = record {
   opens = λ rows pending. refl;
   is_known = λ rows pending e. rw e refl;
   takes = λ rows first rest e. simp e;

@@ -5,7 +5,8 @@ use Rattle.std.proofs.lemmas.Bool.Decides.{eqb_tells}
 use Rattle.std.specs.Prelude.{option_and_then}
 use Rattle.clap.specs.Words.{Text}
 use Rattle.acpi_base.specs.declared.policy.HotPlug.{HotPlug}
-use Rattle.acpi_cli.specs.CommandLine.{built_stage, hotplug_word, last_word}
+use Rattle.acpi_base.specs.declared.policy.Processors.{Processors}
+use Rattle.acpi_cli.specs.CommandLine.{hotplug_word, last_word, processors_word, stage_of_number}
 use Rattle.acpi_cli.specs.Words.{all_inputs, count_word, hex_word, inputs_word}
 use Rattle.acpi_cli.proofs.Spellings.{spelling}
 use Rattle.acpi_cli.proofs.InputsWords.{more_inputs}
@@ -42,15 +43,19 @@ hex_is_plain most hex n e = plain_if_read (hex_word most) hex n refl (λ rest. n
 
 -- nor does the number of a stage
 pub stage_is_plain : (number : Text) (n : ℕ) → last_word (Some number) ≡ Some n → IsPlain number
-stage_is_plain number n e = plain_if_read (λ text. last_word (Some text)) number n refl (λ rest. ap (option_and_then built_stage) (no_number _ _ _)) e
+stage_is_plain number n e = plain_if_read (λ text. last_word (Some text)) number n refl (λ rest. ap (option_and_then stage_of_number) (no_number _ _ _)) e
 
 -- nor a count of inputs
 pub count_is_plain : (number : Text) (n : ℕ) → count_word number ≡ Some n → IsPlain number
 count_is_plain number n e = plain_if_read count_word number n refl (λ rest. ap (option_and_then _) (no_number _ _ _)) e
 
--- nor a setting
-pub setting_is_plain : (text : Text) (setting : HotPlug) → hotplug_word (Some text) ≡ Some setting → IsPlain text
-setting_is_plain text setting e = plain_if_read (λ text. hotplug_word (Some text)) text setting refl (λ rest. refl) e
+-- nor a setting for hot-pluggable ranges
+pub hotplug_is_plain : (text : Text) (setting : HotPlug) → hotplug_word (Some text) ≡ Some setting → IsPlain text
+hotplug_is_plain text setting e = plain_if_read (λ text. hotplug_word (Some text)) text setting refl (λ rest. refl) e
+
+-- nor one for processors
+pub processors_are_plain : (text : Text) (setting : Processors) → processors_word (Some text) ≡ Some setting → IsPlain text
+processors_are_plain text setting e = plain_if_read (λ text. processors_word (Some text)) text setting refl (λ rest. refl) e
 
 -- nor a text with more behind it
 plain_with_more : (text more : Text) → IsPlain text → IsPlain (text ++ more)

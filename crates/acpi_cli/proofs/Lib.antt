@@ -4,5 +4,6 @@ pub mod CheckArguments
 pub mod CheckRows
 pub mod FirstCounts
 pub mod InputsWords
+pub mod Statuses
 mod Sent
 pub mod Spellings

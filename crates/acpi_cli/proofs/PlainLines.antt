@@ -1,6 +1,7 @@
 -- Command lines whose arguments stand a space apart, and what they ask for.
-use Rattle.std.proofs.Common.{◌≡◌, ◌∙◌, ◌++◌, ℕ, List, [], ◌∷◌, Option, Some, None, true, codes, append_assoc, append-nil, refl, ap, sym}
+use Rattle.std.proofs.Common.{◌≡◌, ◌∙◌, ◌++◌, ℕ, List, [], ◌∷◌, Option, Some, None, true, false, codes, append_assoc, append-nil, refl, ap, sym}
 use Rattle.std.specs.Prelude.{IfSome, fold, is_some, option_and_then, option_map, unwrap_or}
+use Rattle.std.specs.Str.{bytes_eq}
 use Rattle.clap.specs.Words.{Row, Rule, Shape, Text, all_of, first_of}
 use Rattle.clap.specs.Simple.{App, built, entered, names_of}
 use Rattle.clap.specs.Walk.{Names, Walk, finished, idle, nothing_held, settled, walk, walk_from, walked}
@@ -9,12 +10,13 @@ use Rattle.clap.specs.Faults.{built_fault, check_fault, defaults_fault, entered_
 use Rattle.clap.proofs.OnLiterals.{clap_on_literals}
 use Rattle.acpi_base.specs.Policy.{PolicyValue, new_policy}
 use Rattle.acpi_base.specs.declared.policy.HotPlug.{HotPlug}
-use Rattle.acpi_cli.specs.CommandLine.{are_none, asked, check, check_asked, check_line, check_words, command_line, command_of, default_word, find, find_line, find_words, hotplug_word, is_taken, last_word, policy_words, rsdp_word, with_hotplug, with_inputs}
+use Rattle.acpi_base.specs.declared.policy.Processors.{Processors}
+use Rattle.acpi_cli.specs.CommandLine.{are_none, asked, check, check_asked, check_line, check_words, command_line, command_of, default_word, find, find_line, find_words, hotplug_word, is_taken, last_word, policy_words, processors_word, rsdp_word, with_inputs, with_settings}
 use Rattle.acpi_cli.specs.Words.{all_inputs, hex_word}
 use Rattle.acpi_cli.specs.declared.policy_words.Inputs.{Inputs}
 use Rattle.acpi_cli.proofs.CheckRows.{AreDistinct, no_word_row, option_is_found, options_rows, word_rows, words_are_found}
-use Rattle.acpi_cli.proofs.Hyphens.{IsPlain, all_are_plain, count_is_plain, hex_is_plain, setting_is_plain, stage_is_plain}
-use Rattle.acpi_cli.proofs.CheckArguments.{AreNew, AreOptions, Reads, default_option, given, hotplug_option, reads_options, rsdp_option, rules, shape, standing, taken, through_option}
+use Rattle.acpi_cli.proofs.Hyphens.{IsPlain, all_are_plain, count_is_plain, hex_is_plain, hotplug_is_plain, processors_are_plain, stage_is_plain}
+use Rattle.acpi_cli.proofs.CheckArguments.{AreNew, AreOptions, Reads, default_option, given, hotplug_option, processors_option, reads_options, rsdp_option, rules, shape, standing, taken, through_option}
 
 -- ---- what stands before the arguments of a command
 
@@ -113,76 +115,95 @@ default_is_plain : (text : Option Text) (count : ℕ) → default_word text ≡ 
 default_is_plain None count e = tt
 default_is_plain (Some text) count e = count_is_plain text count e
 
--- nor does a setting
-hotplug_is_plain : (text : Option Text) (setting : HotPlug) → hotplug_word text ≡ Some setting → IfSome text IsPlain
-hotplug_is_plain None setting e = tt
-hotplug_is_plain (Some text) setting e = setting_is_plain text setting e
+-- nor does a setting for hot-pluggable ranges
+hotplug_begins_plain : (text : Option Text) (setting : HotPlug) → hotplug_word text ≡ Some setting → IfSome text IsPlain
+hotplug_begins_plain None setting e = tt
+hotplug_begins_plain (Some text) setting e = hotplug_is_plain text setting e
+
+-- nor one for processors
+processors_begin_plain : (text : Option Text) (setting : Processors) → processors_word text ≡ Some setting → IfSome text IsPlain
+processors_begin_plain None setting e = tt
+processors_begin_plain (Some text) setting e = processors_are_plain text setting e
 
 -- what a policy is made from
-record Given (inputs hotplug : Option Text) (words : List Text) : Type 0 where
+record Given (inputs hotplug processors : Option Text) (words : List Text) : Type 0 where
   pub count : ℕ
-  pub setting : HotPlug
+  pub ranges : HotPlug
+  pub who : Processors
   pub counts : List Inputs
   pub is_count : default_word inputs ≡ Some count
-  pub is_setting : hotplug_word hotplug ≡ Some setting
+  pub is_hotplug : hotplug_word hotplug ≡ Some ranges
+  pub is_processors : processors_word processors ≡ Some who
   pub are_counts : all_inputs words ≡ Some counts
 
--- a policy is made from a default, a setting and counts
-policy_is_given : (inputs hotplug : Option Text) (words : List Text) (policy : PolicyValue) → policy_words inputs hotplug words ≡ Some policy → Given inputs hotplug words
-policy_is_given inputs hotplug words policy e = go (default_word inputs) (hotplug_word hotplug) (all_inputs words) refl refl refl e
+-- a policy is made from a default, two settings and counts
+policy_is_given : (inputs hotplug processors : Option Text) (words : List Text) (policy : PolicyValue)
+    → policy_words inputs hotplug processors words ≡ Some policy → Given inputs hotplug processors words
+policy_is_given inputs hotplug processors words policy e =
+    go (default_word inputs) (hotplug_word hotplug) (processors_word processors) (all_inputs words) refl refl refl refl e
   where
-    go : (count : Option ℕ) (setting : Option HotPlug) (counts : Option (List Inputs))
-        → default_word inputs ≡ count → hotplug_word hotplug ≡ setting → all_inputs words ≡ counts
+    go : (count : Option ℕ) (ranges : Option HotPlug) (who : Option Processors) (counts : Option (List Inputs))
+        → default_word inputs ≡ count → hotplug_word hotplug ≡ ranges → processors_word processors ≡ who → all_inputs words ≡ counts
         → option_and_then
-        (λ (setting : HotPlug). option_map (with_hotplug setting) (option_and_then (λ (count : ℕ). option_map (with_inputs (new_policy 0 count)) counts) count))
-        setting ≡ Some policy → Given inputs hotplug words
-    go count None counts a b c e = absurd (cc)
-    go None (Some setting) counts a b c e = absurd (cc)
-    go (Some count) (Some setting) None a b c e = absurd (cc)
-    go (Some count) (Some setting) (Some counts) a b c e =
-        record { count = count; setting = setting; counts = counts; is_count = a; is_setting = b; are_counts = c }
+        (λ (h : HotPlug). option_and_then (λ (p : Processors). option_map (with_settings h p) (option_and_then (λ (count : ℕ). option_map (with_inputs (new_policy 0 count)) counts) count)) who)
+        ranges ≡ Some policy → Given inputs hotplug processors words
+    go count None who counts a b c d e = absurd (cc)
+    go count (Some ranges) None counts a b c d e = absurd (cc)
+    go None (Some ranges) (Some who) counts a b c d e = absurd (cc)
+    go (Some count) (Some ranges) (Some who) None a b c d e = absurd (cc)
+    go (Some count) (Some ranges) (Some who) (Some counts) a b c d e = record {
+      count = count;
+      ranges = ranges;
+      who = who;
+      counts = counts;
+      is_count = a;
+      is_hotplug = b;
+      is_processors = c;
+      are_counts = d;
+    }
 
 -- the options of a plain line
-abbrev plain_options : Option Text → Option Text → Option Text → Option Text → List (Text × Option Text)
-plain_options rsdp through default_inputs hotplug =
-    (codes "rsdp", rsdp) ∷ (codes "through", through) ∷ (codes "default-inputs", default_inputs) ∷ (codes "hotplug", hotplug) ∷ []
+abbrev plain_options : Option Text → Option Text → Option Text → Option Text → Option Text → List (Text × Option Text)
+plain_options rsdp through default_inputs hotplug processors =
+    (codes "rsdp", rsdp) ∷ (codes "through", through) ∷ (codes "default-inputs", default_inputs) ∷ (codes "hotplug", hotplug) ∷ (codes "processors", processors) ∷ []
 
 -- what `check` is asked, from the values of its arguments
-asks : (options : List Row) (hex number inputs hotplug : Option Text) (words : List Text) (rsdp : Option ℕ) (policy : PolicyValue) (last : ℕ)
+asks : (options : List Row) (hex number inputs hotplug processors : Option Text) (words : List Text) (rsdp : Option ℕ) (policy : PolicyValue) (last : ℕ)
     → first_of (codes "rsdp") options ≡ hex → first_of (codes "through") options ≡ number
-    → first_of (codes "default-inputs") options ≡ inputs → first_of (codes "hotplug") options ≡ hotplug
-    → unwrap_or (all_of (codes "inputs") options) [] ≡ words → rsdp_word hex ≡ Some rsdp → policy_words inputs hotplug words ≡ Some policy → last_word number ≡ Some last
+    → first_of (codes "default-inputs") options ≡ inputs → first_of (codes "hotplug") options ≡ hotplug → first_of (codes "processors") options ≡ processors
+    → unwrap_or (all_of (codes "inputs") options) [] ≡ words → rsdp_word hex ≡ Some rsdp → policy_words inputs hotplug processors words ≡ Some policy → last_word number ≡ Some last
     → check_asked options ≡ Some (check rsdp policy last)
 unfolding check_asked
-asks options hex number inputs hotplug words rsdp policy last is_hex is_number is_inputs is_hotplug are_words a b c =
-    rw (is_hex, is_number, is_inputs, is_hotplug, are_words, a, b, c) refl
+asks options hex number inputs hotplug processors words rsdp policy last is_hex is_number is_inputs is_hotplug is_processors are_words a b c =
+    rw (is_hex, is_number, is_inputs, is_hotplug, is_processors, are_words, a, b, c) refl
 
 -- a plain line of `check` asks for what its arguments say
-pub check_words_asked : (program : Text) (hex number inputs hotplug : Option Text) (words : List Text) (rsdp : Option ℕ) (policy : PolicyValue) (last : ℕ)
-    → rsdp_word hex ≡ Some rsdp → policy_words inputs hotplug words ≡ Some policy → last_word number ≡ Some last
-    → asked (check_words program hex number inputs hotplug words) ≡ Some (check rsdp policy last)
-check_words_asked program hex number inputs hotplug words rsdp policy last a b c =
-    let given = policy_is_given inputs hotplug words policy b in
-    let options = plain_options hex number inputs hotplug in
+pub check_words_asked : (program : Text) (hex number inputs hotplug processors : Option Text) (words : List Text) (rsdp : Option ℕ) (policy : PolicyValue) (last : ℕ)
+    → rsdp_word hex ≡ Some rsdp → policy_words inputs hotplug processors words ≡ Some policy → last_word number ≡ Some last
+    → asked (check_words program hex number inputs hotplug processors words) ≡ Some (check rsdp policy last)
+check_words_asked program hex number inputs hotplug processors words rsdp policy last a b c =
+    let given = policy_is_given inputs hotplug processors words policy b in
+    let options = plain_options hex number inputs hotplug processors in
     let are : AreOptions options = (
       (rsdp_option, rsdp_is_plain hex rsdp a),
       (
         (through_option, through_is_plain number last c),
         (
           (default_option, default_is_plain inputs given.count given.is_count),
-          ((hotplug_option, hotplug_is_plain hotplug given.setting given.is_setting), tt),
+          (
+            (hotplug_option, hotplug_begins_plain hotplug given.ranges given.is_hotplug),
+            ((processors_option, processors_begin_plain processors given.who given.is_processors), tt),
+          ),
         ),
       ),
     ) in
-    let new : AreNew [] options = (refl, (refl, (refl, (refl, tt)))) in
-    let distinct : AreDistinct options = (refl, (refl, (refl, (refl, tt)))) in
+    let new : AreNew [] options = (refl, (refl, (refl, (refl, (refl, tt))))) in
+    let distinct : AreDistinct options = (refl, (refl, (refl, (refl, (refl, tt))))) in
+    let found = λ (id : Text) (e : bytes_eq (codes "inputs") id ≡ false). option_is_found id options (word_rows words) distinct (no_word_row id words e) in
     check_gives program _ (options_rows options ++ word_rows words)
     (reads_options options words are new refl (all_are_plain words given.counts given.are_counts))
-    ∙ asks (options_rows options ++ word_rows words) hex number inputs hotplug words rsdp policy last
-    (option_is_found (codes "rsdp") options (word_rows words) distinct (no_word_row (codes "rsdp") words refl))
-    (option_is_found (codes "through") options (word_rows words) distinct (no_word_row (codes "through") words refl))
-    (option_is_found (codes "default-inputs") options (word_rows words) distinct (no_word_row (codes "default-inputs") words refl))
-    (option_is_found (codes "hotplug") options (word_rows words) distinct (no_word_row (codes "hotplug") words refl))
+    ∙ asks (options_rows options ++ word_rows words) hex number inputs hotplug processors words rsdp policy last
+    (found (codes "rsdp") refl) (found (codes "through") refl) (found (codes "default-inputs") refl) (found (codes "hotplug") refl) (found (codes "processors") refl)
     (words_are_found options words refl) a b c
 
 -- and one of `find` for a search

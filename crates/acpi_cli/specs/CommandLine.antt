@@ -1,5 +1,5 @@
 -- The command line as it is declared to `clap`, and what its arguments ask for.
-use Rattle.std.specs.Prelude.{◌≡◌, ◌≤◌, ◌==◌, ℕ, ◌&&◌, Bool, true, false, List, [], ◌∷◌, ◌++◌, Option, Some, None}
+use Rattle.std.specs.Prelude.{◌≡◌, ◌==◌, ℕ, ◌&&◌, Bool, true, false, List, [], ◌∷◌, ◌++◌, Option, Some, None}
 use Rattle.std.specs.Prelude.{if◌then◌else◌, codes, find as find_first, fold, nat_le, option_and_then, option_map, unwrap_or}
 use Rattle.std.specs.Str.{bytes_eq}
 use Rattle.clap.specs.Words.{App, Kinds, Row, Rule, Text, all_of, fault_of, first_of, new_app, new_rule}
@@ -9,7 +9,8 @@ use Rattle.acpi_base.specs.Codes.{stage_number}
 use Rattle.acpi_base.specs.Policy.{PolicyValue, new_policy, with_input}
 use Rattle.acpi_base.specs.declared.policy.HotPlug.{HotPlug}
 use Rattle.acpi_base.specs.declared.policy.HotPlug.TheVariants.{Apart, Counted}
-use Rattle.acpi_base.specs.declared.stage.TheConstants.{BUILT}
+use Rattle.acpi_base.specs.declared.policy.Processors.{Processors}
+use Rattle.acpi_base.specs.declared.policy.Processors.TheVariants.{Enabled, Usable}
 use Rattle.acpi_cli.specs.Words.{all_inputs, count_word, decimal_word, hex_word}
 use Rattle.acpi_cli.specs.declared.policy_words.Inputs.{Inputs}
 use Rattle.acpi_cli.specs.declared.words.Job.{Job}
@@ -25,15 +26,16 @@ option_rule name = record (new_rule name) { long = Some name; action = Some Set;
 abbrev pub inputs_rule : Rule
 inputs_rule = record (new_rule (codes "inputs")) { action = Some Append; value_names = 1 }
 
--- `check --rsdp HEX --through N --default-inputs N --hotplug SETTING ADDRESS=COUNT..`
+-- `check --rsdp HEX --through N --default-inputs N --hotplug SETTING --processors SETTING ADDRESS=COUNT..`
 unfoldable pub check_line : App
 check_line =
-    with_rule (with_rule (with_rule (with_rule (with_rule
+    with_rule (with_rule (with_rule (with_rule (with_rule (with_rule
     (new_app (codes "check"))
     (option_rule (codes "rsdp")))
     (option_rule (codes "through")))
     (option_rule (codes "default-inputs")))
     (option_rule (codes "hotplug")))
+    (option_rule (codes "processors")))
     inputs_rule
 
 -- `find`
@@ -68,14 +70,14 @@ abbrev pub rsdp_word : Option Text → Option (Option ℕ)
 rsdp_word None = Some None
 rsdp_word (Some text) = option_map (λ address. Some address) (hex_word 16 text)
 
--- the number of a stage that is built
-abbrev pub built_stage : ℕ → Option ℕ
-built_stage n = if nat_le 1 n && nat_le n BUILT then Some n else None
+-- the number of a stage
+abbrev pub stage_of_number : ℕ → Option ℕ
+stage_of_number n = if nat_le 1 n && nat_le n 18 then Some n else None
 
--- `--through N`: without it the last stage that is built
+-- `--through N`: without it the last of all stages
 abbrev pub last_word : Option Text → Option ℕ
-last_word None = Some BUILT
-last_word (Some text) = option_and_then built_stage (decimal_word 2 text)
+last_word None = Some 18
+last_word (Some text) = option_and_then stage_of_number (decimal_word 2 text)
 
 -- `--default-inputs N`: without it an I/O APIC has 24 inputs
 abbrev pub default_word : Option Text → Option ℕ
@@ -106,15 +108,25 @@ hotplug_word (Some text) =
     then Some Counted
     else (if bytes_eq text (codes "apart") then Some Apart else None)
 
--- the policy with this setting for hot-pluggable ranges
-abbrev pub with_hotplug : HotPlug → PolicyValue → PolicyValue
-with_hotplug setting q = record q { hotplug = setting }
+-- `--processors enabled` or `--processors usable`: without it only processors with the flag Enabled count as enabled
+abbrev pub processors_word : Option Text → Option Processors
+processors_word None = Some Enabled
+processors_word (Some text) =
+    if bytes_eq text (codes "enabled")
+    then Some Enabled
+    else (if bytes_eq text (codes "usable") then Some Usable else None)
 
--- The policy of all words that say how to judge, where each of them is right: the inputs of I/O APICs, and the setting.
-abbrev pub policy_words : Option Text → Option Text → List Text → Option PolicyValue
-policy_words default_inputs hotplug words =
+-- the policy with these settings
+abbrev pub with_settings : HotPlug → Processors → PolicyValue → PolicyValue
+with_settings hotplug processors q = record q { hotplug = hotplug; processors = processors }
+
+-- The policy of all words that say how to judge, where each of them is right: the inputs of I/O APICs, and the settings.
+abbrev pub policy_words : Option Text → Option Text → Option Text → List Text → Option PolicyValue
+policy_words default_inputs hotplug processors words =
     option_and_then
-    (λ setting. option_map (with_hotplug setting) (inputs_policy default_inputs words))
+    (λ h. option_and_then
+    (λ p. option_map (with_settings h p) (inputs_policy default_inputs words))
+    (processors_word processors))
     (hotplug_word hotplug)
 
 -- the policy among the options of a command
@@ -123,6 +135,7 @@ policy_asked options =
     policy_words
     (first_of (codes "default-inputs") options)
     (first_of (codes "hotplug") options)
+    (first_of (codes "processors") options)
     (unwrap_or (all_of (codes "inputs") options) [])
 
 -- the options of `check`
@@ -157,13 +170,14 @@ option_words name None = []
 option_words name (Some value) = (codes "--" ++ name) ∷ value ∷ []
 
 -- `PROGRAM check`, the options that are given, and the words `ADDRESS=COUNT`
-abbrev pub check_words : Text → Option Text → Option Text → Option Text → Option Text → List Text → List Text
-check_words program rsdp through default_inputs hotplug words =
+abbrev pub check_words : Text → Option Text → Option Text → Option Text → Option Text → Option Text → List Text → List Text
+check_words program rsdp through default_inputs hotplug processors words =
     program ∷ codes "check"
     ∷ (option_words (codes "rsdp") rsdp
     ++ (option_words (codes "through") through
     ++ (option_words (codes "default-inputs") default_inputs
-    ++ (option_words (codes "hotplug") hotplug ++ words))))
+    ++ (option_words (codes "hotplug") hotplug
+    ++ (option_words (codes "processors") processors ++ words)))))
 
 -- ---- the job that carries it
 
@@ -172,11 +186,6 @@ Does (check rsdp policy last) (Check given held stage) =
     (given ≡ rsdp) × (held ≡ policy) × (stage_number stage ≡ last)
 Does find Find = Unit {0}
 Does _ _ = ⊥
-
--- the job's stages are built
-abbrev pub IsBuilt : Job → Type 0
-IsBuilt (Check given policy stage) = stage_number stage ≤ BUILT
-IsBuilt Find = Unit {0}
 
 -- the job does what is asked, and something is asked
 abbrev pub DoesAsked : Option Asked → Job → Type 0

@@ -2,4 +2,5 @@
 pub mod CommandLine
 pub mod Engine
 pub mod Outcome
+pub mod Program
 pub mod Words

@@ -1,8 +1,6 @@
 //! The engine of the command `check`.
 
-ghost use Rattle.std.specs.Prelude.{◌≡◌, ◌≤◌, IfOk, IfSome, IsNone};
-ghost use Rattle.acpi_base.specs.Codes.{stage_number};
-ghost use Rattle.acpi_base.specs.declared.stage.TheConstants.{BUILT};
+ghost use Rattle.std.specs.Prelude.{◌≡◌, IfOk, IfSome, IsNone};
 ghost use Rattle.acpi_cli.specs.Engine.{device, HasNoRsdp, IsRsdpAddress, Runs, ReportsCheck, outcome_of};
 
 use crate::devices::{Output, read_input, write_output};
@@ -41,7 +39,6 @@ fn check_output(
     mut policy: Policy,
     last: Stage,
 ) -> Result<Output, AllocError>
-    requires { stage_number last ≤ BUILT }
     ensures { IfOk result (λ output. ReportsCheck given policy last image.now output.bytes.items output.outcome) }
 {
     let Some(address) = rsdp_address(image, given) else {
@@ -72,7 +69,6 @@ pub fn run_check<R: Read, W: Write>(
     policy: Policy,
     last: Stage,
 ) -> Result<Outcome, RunFault>
-    requires { stage_number last ≤ BUILT }
     ensures { Runs (ReportsCheck rsdp policy last)
         (device R.remaining reader.old reader.new)
         (device W.contents writer.old writer.new)

@@ -83,6 +83,7 @@ fn check<'a>(alloc: Global) -> Result<Command<'a>, AllocError>
         .arg(option(alloc, "through", "N"))?
         .arg(option(alloc, "default-inputs", "N"))?
         .arg(option(alloc, "hotplug", "SETTING"))?
+        .arg(option(alloc, "processors", "SETTING"))?
         .arg(inputs(alloc))
 }
 

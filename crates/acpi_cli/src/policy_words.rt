@@ -1,16 +1,16 @@
-//! What the arguments of the command line say of the policy: how many inputs each I/O APIC has, and which ranges of
-//! memory must not overlap.
+//! What the arguments of the command line say of the policy: how many inputs each I/O APIC has, which ranges of memory
+//! must not overlap, and which processors count as enabled.
 
 ghost use Rattle.std.specs.Prelude.{◌≡◌, ◌++◌, ℕ, List, IfErr, IfOk, IsSome, Some, codes, map, option_map, unwrap_or};
 ghost use Rattle.clap.specs.Words.{found_of, rows_of};
 ghost use Rattle.acpi_base.specs.Policy.{PolicyValue, inputs_of, new_policy};
-ghost use Rattle.acpi_cli.specs.CommandLine.{default_word, first_count, hotplug_word, inputs_policy, policy_asked, with_inputs};
+ghost use Rattle.acpi_cli.specs.CommandLine.{default_word, first_count, hotplug_word, inputs_policy, policy_asked, processors_word, with_inputs};
 ghost use Rattle.acpi_cli.specs.Words.{count_word, hex_word, inputs_word};
 
 use crate::command_line::{value, values};
 use crate::number_words::{decimal_number, hex_number};
 use crate::words::WordFault;
-use acpi_base::{HotPlug, Policy};
+use acpi_base::{HotPlug, Policy, Processors};
 use clap::ArgMatches;
 use std::alloc::Global;
 
@@ -26,6 +26,9 @@ const COUNTS: &str = "an I/O APIC has 1 to 256 inputs, in 1 to 3 decimal digits"
 /// What the setting of `--hotplug` may be, in an error message.
 const HOTPLUG_SETTINGS: &str = "hot-pluggable ranges are counted or apart";
 
+/// What the setting of `--processors` may be, in an error message.
+const PROCESSORS_SETTINGS: &str = "processors are enabled or usable";
+
 /// What the address of an I/O APIC may be, in an error message.
 const ADDRESSES: &str = "1 to 8 hex digits, with 0x before them or without";
 
@@ -36,8 +39,8 @@ struct Inputs {
     count: u16,
 }
 
-/// The policy of `--default-inputs`, `--hotplug` and the words `ADDRESS=COUNT` among the options. Its RSDP address is 0.
-/// Takes a number of steps that grows with n log n of n words.
+/// The policy of `--default-inputs`, `--hotplug`, `--processors` and the words `ADDRESS=COUNT` among the options. Its RSDP
+/// address is 0. Takes a number of steps that grows with n log n of n words.
 ///
 /// Refuses `Words` where a word is wrong; `Memory` may be returned in place of a policy or of `Words`.
 pub fn read_policy(alloc: Global, options: &ArgMatches) -> Result<Policy, WordFault>
@@ -48,12 +51,16 @@ pub fn read_policy(alloc: Global, options: &ArgMatches) -> Result<Policy, WordFa
     let Some(hotplug) = hotplug_setting(value(options, "hotplug")) else {
         return Err(WordFault::Words);
     };
+    let Some(processors) = processors_setting(value(options, "processors")) else {
+        return Err(WordFault::Words);
+    };
     let mut policy = read_inputs(
         alloc,
         value(options, "default-inputs"),
         values(options, "inputs"),
     )?;
     policy.set_hotplug(hotplug);
+    policy.set_processors(processors);
     Ok(policy)
 }
 
@@ -118,6 +125,11 @@ pub fn policy_message(alloc: Global, options: &ArgMatches) -> Option<String> {
     {
         return format!(in alloc; "--hotplug '{setting}': {HOTPLUG_SETTINGS}").ok();
     }
+    if let Some(setting) = value(options, "processors")
+        && processors_setting(Some(setting)).is_none()
+    {
+        return format!(in alloc; "--processors '{setting}': {PROCESSORS_SETTINGS}").ok();
+    }
     let words = values(options, "inputs");
     let word = words.iter().find(|word| inputs_of_word(word).is_none())?;
     inputs_message(alloc, word)
@@ -156,6 +168,20 @@ fn hotplug_setting(word: Option<&str>) -> Option<HotPlug>
     match text.as_bytes() {
         b"counted" => Some(HotPlug::Counted),
         b"apart" => Some(HotPlug::Apart),
+        _ => None,
+    }
+}
+
+/// The setting that `--processors` gives, else `Enabled`. `None` where its value is no setting.
+fn processors_setting(word: Option<&str>) -> Option<Processors>
+    ensures { result ≡ processors_word (option_map (λ text. text.now) word.entry) }
+{
+    let Some(text) = word else {
+        return Some(Processors::Enabled);
+    };
+    match text.as_bytes() {
+        b"enabled" => Some(Processors::Enabled),
+        b"usable" => Some(Processors::Usable),
         _ => None,
     }
 }

@@ -1,13 +1,13 @@
 //! What a user reads whose arguments are refused, or who asks for help.
 
-use acpi_base::{BUILT, Stage};
+use acpi_base::Stage;
 use std::fmt;
 
 const COMMANDS: &str = "usage:
 
   acpiset check [--rsdp HEX] [--through N]
                 [--default-inputs N] [ADDRESS=COUNT]..
-                [--hotplug counted|apart]
+                [--hotplug counted|apart] [--processors enabled|usable]
   acpiset find
 
 Both read the image of a machine's memory from standard input, as text.
@@ -33,6 +33,11 @@ const POLICY: &str = "  --default-inputs N
                (counted), or only two that are both hot-pluggable or both not
                (apart), for firmware that lays a window for hot-plugged memory
                over memory that is there; if absent, counted
+  --processors enabled|usable
+               which processors of the MADT must not lie in two domains: those
+               with the flag Enabled (enabled), or also those with the flag
+               Online Capable, which may be enabled later (usable); if absent,
+               enabled
 
 No table says how many inputs an I/O APIC has. Stages from 6 on ask for it.
 ";
@@ -54,12 +59,12 @@ For example:
 
   acpiset check --rsdp f59e0 < image.txt
   acpiset check --default-inputs 16 fec00000=32 0xfec01000=8 < image.txt
-  acpiset check --hotplug apart < image.txt
+  acpiset check --hotplug apart --processors usable < image.txt
 
 Exit statuses: 0 yes or found, 1 no or not found, 2 the arguments are refused,
 3 the text is no image, 4 out of memory, or a read or a write failed.";
 
-/// The usage of the program, with the stages that are built. It ends without a line end, and takes no
+/// The usage of the program, with all stages. It ends without a line end, and takes no
 /// memory to print.
 #[derive(Clone, Copy, Debug)]
 pub struct Usage;
@@ -67,11 +72,12 @@ pub struct Usage;
 impl fmt::Display for Usage {
     fn fmt<W: fmt::Write>(&self, f: &mut fmt::Formatter<W>) -> fmt::Result {
         f.write_str(COMMANDS)?;
+        let last = Stage::Leaves.number();
         writeln!(
             f,
-            "  --through N  the last stage to check, 1 to {BUILT}, and {BUILT} if absent:"
+            "  --through N  the last stage to check, 1 to {last}, and {last} if absent:"
         )?;
-        for number in 1..=BUILT {
+        for number in 1..=last {
             if let Some(stage) = Stage::new(number) {
                 writeln!(f, "{number:>17} {}", subject(stage))?;
             }

@@ -1,17 +1,17 @@
 //! What the arguments of the command line ask for.
 
-ghost use Rattle.std.specs.Prelude.{◌≡◌, ◌≤◌, ℕ, List, Option, IfErr, IfOk, IfSome, IsSome, Some, map, option_map};
+ghost use Rattle.std.specs.Prelude.{◌≡◌, ℕ, List, Option, IfErr, IfOk, IfSome, IsSome, Some, map, option_map};
 ghost use Rattle.std.specs.String.{string_bytes};
 ghost use Rattle.clap.specs.Words.{found_of, rows_of};
 ghost use Rattle.acpi_base.specs.Codes.{stage_number};
 ghost use Rattle.acpi_base.specs.Policy.{PolicyValue};
-ghost use Rattle.acpi_cli.specs.CommandLine.{Asked, DoesAsked, IsBuilt, asked, built_stage, check_asked, check_words};
+ghost use Rattle.acpi_cli.specs.CommandLine.{Asked, DoesAsked, asked, check_asked, check_words};
 ghost use Rattle.acpi_cli.specs.CommandLine.{find_words, last_word, policy_words, rsdp_word};
 
 use crate::command_line::{clap_message, parse, value};
 use crate::number_words::{decimal_number, hex_number};
 use crate::policy_words::{policy_message, read_policy};
-use acpi_base::{BUILT, Policy, Stage};
+use acpi_base::{Policy, Stage};
 use clap::ArgMatches;
 use std::alloc::Global;
 use thiserror::Error;
@@ -44,10 +44,10 @@ pub enum WordFault {
 /// The job that the arguments `words` ask for, of which the first is the program's name.
 ///
 /// The commands are `find` and `check [--rsdp HEX] [--through N] [--default-inputs N] [--hotplug SETTING]
-/// [ADDRESS=COUNT]..`. HEX is an address of 1 to 16 hex digits, with `0x` before them or without. The N of
-/// `--through` is a stage of one or two decimal digits, from 1 to `BUILT`, which it also is if absent. The
-/// SETTING of `--hotplug` is `counted`, which it also is if absent, or `apart`: `HotPlug::Counted` or
-/// `HotPlug::Apart`.
+/// [--processors SETTING] [ADDRESS=COUNT]..`. HEX is an address of 1 to 16 hex digits, with `0x` before them
+/// or without. The N of `--through` is a stage of one or two decimal digits, from 1 to 18, which it also is
+/// if absent. The setting of `--hotplug` is `counted`, which it also is if absent, or `apart`
+/// (`HotPlug`); that of `--processors` is `enabled`, which it also is if absent, or `usable` (`Processors`).
 ///
 /// How many inputs an I/O APIC has stands in no table. The N of `--default-inputs` and COUNT are numbers
 /// of inputs of 1 to 3 decimal digits, from 1 to 256: COUNT of the I/O APIC at ADDRESS, which is 1 to 8 hex
@@ -60,7 +60,6 @@ pub fn read_words(alloc: Global, words: &[String]) -> Result<Job, WordFault>
     ensures job { IfOk result (DoesAsked (asked (map string_bytes words.now))) }
     ensures refused { IfErr result (λ fault.
         IsSome (asked (map string_bytes words.now)) → fault ≡ WordFault.Memory) }
-    ensures built { IfOk result IsBuilt }
 {
     let matches = parse(alloc, words)?;
     match matches.subcommand() {
@@ -76,7 +75,6 @@ fn check_job(alloc: Global, options: &ArgMatches) -> Result<Job, WordFault>
     ensures job { IfOk result (DoesAsked (check_asked (rows_of (found_of options.now)))) }
     ensures refused { IfErr result (λ fault.
         IsSome (check_asked (rows_of (found_of options.now))) → fault ≡ WordFault.Memory) }
-    ensures built { IfOk result IsBuilt }
 {
     let Some(rsdp) = given_address(value(options, "rsdp")) else {
         return Err(WordFault::Words);
@@ -109,7 +107,8 @@ fn value_message(alloc: Global, options: &ArgMatches) -> Option<String> {
     if let Some(number) = value(options, "through")
         && last_stage(Some(number)).is_none()
     {
-        return format!(in alloc; "--through '{number}': the stages are 1 to {BUILT}").ok();
+        let last = Stage::Leaves.number();
+        return format!(in alloc; "--through '{number}': the stages are 1 to {last}").ok();
     }
     policy_message(alloc, options)
 }
@@ -124,32 +123,25 @@ fn given_address(word: Option<&str>) -> Option<Option<u64>>
     }
 }
 
-/// The stage that `--through` names, else the last that is built. `None` where its value is no stage that
-/// is built.
+/// The stage that `--through` names, else the last of all. `None` where its value is no stage.
 fn last_stage(word: Option<&str>) -> Option<Stage>
-    ensures named { option_map stage_number result ≡ last_word (option_map (λ text. text.now) word.entry) }
-    ensures built { IfSome result (λ stage. stage_number stage ≤ BUILT) }
+    ensures { option_map stage_number result ≡ last_word (option_map (λ text. text.now) word.entry) }
 {
     let Some(text) = word else {
-        return Stage::new(BUILT);
+        return Some(Stage::Leaves);
     };
-    let number = decimal_number(text, 2)?;
-    if number > u64::from(BUILT) {
-        return None;
-    }
-    Stage::new(number as u8)
+    let number = u8::try_from(decimal_number(text, 2)?).ok()?;
+    Stage::new(number)
 }
 
 /// Each plain command line with good values is read, and as one expects: `find`; and `check` with each choice of its
-/// options, in this order, and then any number of words `ADDRESS=COUNT`. The stage that a line without `--through`
-/// asks for is one that a line can name.
+/// options, in this order, and then any number of words `ADDRESS=COUNT`.
 pub fn plain_lines_are_read()
-    ensures built { built_stage BUILT ≡ Some BUILT }
     ensures find { (program : List ℕ) → asked (find_words program) ≡ Some Asked.find }
-    ensures check { (program : List ℕ) (hex number inputs hotplug : Option (List ℕ)) (words : List (List ℕ))
+    ensures check { (program : List ℕ) (hex number inputs hotplug processors : Option (List ℕ)) (words : List (List ℕ))
         (rsdp : Option ℕ) (policy : PolicyValue) (last : ℕ) → rsdp_word hex ≡ Some rsdp
-        → policy_words inputs hotplug words ≡ Some policy → last_word number ≡ Some last
-        → asked (check_words program hex number inputs hotplug words) ≡ Some (Asked.check rsdp policy last) }
+        → policy_words inputs hotplug processors words ≡ Some policy → last_word number ≡ Some last
+        → asked (check_words program hex number inputs hotplug processors words) ≡ Some (Asked.check rsdp policy last) }
 {}
 
 #[cfg(test)]

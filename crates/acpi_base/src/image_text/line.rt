@@ -97,7 +97,7 @@ fn is_all_blank(text: &[u8]) -> bool
 
 /// The number that up to 16 hex digits spell, the highest first.
 #[tactic(auto, unfolding(crate::specs::ImageText::hex_number), using(crate::proofs::Texts::LineParsing::power_fits))]
-fn number_value(digits: &[u8]) -> u64
+pub fn number_value(digits: &[u8]) -> u64
     requires { length digits.now ≤ 16 }
     ensures { result ≡ hex_number 0 digits.now }
 {

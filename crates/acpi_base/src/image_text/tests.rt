@@ -94,7 +94,7 @@ fn takes_each_form_of_line(rt: HostRuntime) -> Result<(), Fail> {
         (b"@10\n01\n@8\n@20 \n\n02 03\n04", 0x20, &[2, 3, 4]),
     ];
     for (text, address, bytes) in texts {
-        let image = read_image(rt.alloc(), &mut Tally::new(text)).map_err(|_| "a good text")?;
+        let image = read_image(rt.alloc(), &mut Tally::new(text))?;
         let count = bytes.len() as u64;
         assert_eq!(rt; image.window(address, count), Some(bytes), "{text:?}");
         assert_eq!(rt; image.window(address, count + 1), None, "{text:?}");

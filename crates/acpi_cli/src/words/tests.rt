@@ -1,7 +1,7 @@
 //! Command lines that are read, and command lines that are refused.
 
 use super::*;
-use acpi_base::HotPlug;
+use acpi_base::{HotPlug, Processors};
 use std::alloc::AllocError;
 use std::test::Fail;
 
@@ -22,23 +22,24 @@ fn words_of(alloc: Global, line: &str) -> Result<Vec<String>, AllocError> {
 }
 
 /// Lines that are read, with the address and the number of the last stage that they give.
-const READ: [(&str, u64, u8); 12] = [
-    ("acpiset check --rsdp e0000", 0xe0000, BUILT),
-    ("acpiset check --rsdp 0xe0000", 0xe0000, BUILT),
-    ("acpiset check --rsdp E0000", 0xe0000, BUILT),
-    ("acpiset check --rsdp=e0000", 0xe0000, BUILT),
-    ("acpiset check --rsdp 0", 0, BUILT),
-    ("a check --rsdp 0", 0, BUILT),
-    ("acpiset check --rsdp ffffffffffffffff", u64::MAX, BUILT),
+const READ: [(&str, u64, u8); 13] = [
+    ("acpiset check --rsdp e0000", 0xe0000, 18),
+    ("acpiset check --rsdp 0xe0000", 0xe0000, 18),
+    ("acpiset check --rsdp E0000", 0xe0000, 18),
+    ("acpiset check --rsdp=e0000", 0xe0000, 18),
+    ("acpiset check --rsdp 0", 0, 18),
+    ("a check --rsdp 0", 0, 18),
+    ("acpiset check --rsdp ffffffffffffffff", u64::MAX, 18),
     (
         "acpiset check --rsdp 0x0123456789aBcDeF",
         0x0123_4567_89ab_cdef,
-        BUILT,
+        18,
     ),
     ("acpiset check --rsdp e0000 --through 1", 0xe0000, 1),
     ("acpiset check --through 2 --rsdp e0000", 0xe0000, 2),
     ("acpiset check --rsdp e0000 --through 3", 0xe0000, 3),
     ("acpiset check --rsdp e0000 --through 03", 0xe0000, 3),
+    ("acpiset check --rsdp e0000 --through 18", 0xe0000, 18),
 ];
 
 #[test]
@@ -54,7 +55,7 @@ fn lines_that_are_read(rt: HostRuntime) {
 }
 
 /// Lines that are refused.
-const REFUSED: [&str; 75] = [
+const REFUSED: [&str; 80] = [
     "acpiset",
     "acpiset ",
     "acpiset --help",
@@ -130,6 +131,11 @@ const REFUSED: [&str; 75] = [
     "acpiset check --hotplug counted,apart",
     "acpiset check --hotplug apart --hotplug counted",
     "acpiset find --hotplug apart",
+    "acpiset check --processors",
+    "acpiset check --processors Usable",
+    "acpiset check --processors apart",
+    "acpiset check --processors usable --processors usable",
+    "acpiset find --processors usable",
 ];
 
 #[test]
@@ -184,26 +190,55 @@ fn lines_that_say_how_many_inputs_there_are(rt: HostRuntime) {
     }
 }
 
-/// Lines that are read, with the setting that they give, and the number of inputs of the I/O APIC at FEC00000h.
-const SETTINGS: [(&str, HotPlug, u16); 5] = [
-    ("acpiset check", HotPlug::Counted, 24),
-    ("acpiset check --hotplug counted", HotPlug::Counted, 24),
-    ("acpiset check --hotplug apart", HotPlug::Apart, 24),
-    ("acpiset check --hotplug=apart", HotPlug::Apart, 24),
+/// Lines that are read, with the settings that they give, and the number of inputs of the I/O APIC at FEC00000h.
+const SETTINGS: [(&str, HotPlug, Processors, u16); 7] = [
+    ("acpiset check", HotPlug::Counted, Processors::Enabled, 24),
+    (
+        "acpiset check --hotplug counted --processors enabled",
+        HotPlug::Counted,
+        Processors::Enabled,
+        24,
+    ),
+    (
+        "acpiset check --hotplug apart",
+        HotPlug::Apart,
+        Processors::Enabled,
+        24,
+    ),
+    (
+        "acpiset check --hotplug=apart",
+        HotPlug::Apart,
+        Processors::Enabled,
+        24,
+    ),
+    (
+        "acpiset check --processors usable",
+        HotPlug::Counted,
+        Processors::Usable,
+        24,
+    ),
+    (
+        "acpiset check --processors usable --hotplug apart",
+        HotPlug::Apart,
+        Processors::Usable,
+        24,
+    ),
     (
         "acpiset check fec00000=32 --hotplug apart --default-inputs 16",
         HotPlug::Apart,
+        Processors::Enabled,
         32,
     ),
 ];
 
 #[test]
-fn lines_that_say_which_ranges_must_not_overlap(rt: HostRuntime) {
-    for (line, hotplug, count) in SETTINGS {
+fn lines_that_give_settings(rt: HostRuntime) {
+    for (line, hotplug, processors, count) in SETTINGS {
         let Job::Check { policy, .. } = read(rt.alloc(), line).expect(&rt, line) else {
             panic!(rt; "{line}");
         };
         assert_eq!(rt; policy.hotplug(), hotplug, "{line}");
+        assert_eq!(rt; policy.processors(), processors, "{line}");
         assert_eq!(rt; policy.inputs_of(0xfec0_0000), count, "{line}");
     }
 }
@@ -227,7 +262,7 @@ fn many_words(rt: HostRuntime) -> Result<(), Fail> {
 
 #[test]
 fn lines_that_leave_the_address_out(rt: HostRuntime) {
-    for (line, number) in [("acpiset check", BUILT), ("acpiset check --through 3", 3)] {
+    for (line, number) in [("acpiset check", 18), ("acpiset check --through 3", 3)] {
         let Job::Check { rsdp, last, .. } = read(rt.alloc(), line).expect(&rt, line) else {
             panic!(rt; "{line}");
         };
@@ -250,20 +285,6 @@ fn no_arguments_at_all(rt: HostRuntime) {
 }
 
 #[test]
-fn a_stage_above_the_last_one(rt: HostRuntime) -> Result<(), Fail> {
-    let above = BUILT + 1;
-    let line = format!(in rt.alloc(); "acpiset check --rsdp e0000 --through {above}")?;
-    let text = format!(in rt.alloc(); "--through '{above}': the stages are 1 to {BUILT}")?;
-    let words = words_of(rt.alloc(), line.as_str())?;
-    assert_eq!(rt;
-        read_words(rt.alloc(), words.as_slice()).err(),
-        Some(WordFault::Words)
-    );
-    assert_eq!(rt; error_message(rt.alloc(), words.as_slice()), Some(text));
-    Ok(())
-}
-
-#[test]
 fn what_is_wrong_with_a_line(rt: HostRuntime) {
     let lines = [
         ("acpiset judge", "unrecognized subcommand 'judge'"),
@@ -271,6 +292,10 @@ fn what_is_wrong_with_a_line(rt: HostRuntime) {
         (
             "acpiset check --rsdp f59e0h",
             "--rsdp 'f59e0h': an address is 1 to 16 hex digits, with 0x before them or without",
+        ),
+        (
+            "acpiset check --through 19",
+            "--through '19': the stages are 1 to 18",
         ),
         (
             "acpiset check --default-inputs 0",
@@ -295,6 +320,10 @@ fn what_is_wrong_with_a_line(rt: HostRuntime) {
         (
             "acpiset check --hotplug both",
             "--hotplug 'both': hot-pluggable ranges are counted or apart",
+        ),
+        (
+            "acpiset check --processors online",
+            "--processors 'online': processors are enabled or usable",
         ),
         // The first wrong word is named, and an option before any word.
         (

@@ -1,0 +1,5 @@
+use Rattle.acpi_base.proofs.FaultTexts.{texts_differ}
+use Rattle.acpi_base.proofs.laws.fault_texts_differ.Goals as goal
+
+pub returns : goal.returns
+returns c = texts_differ

@@ -1,0 +1,61 @@
+-- From the arguments to the exit status.
+use Rattle.std.proofs.Common.{◌≡◌, ◌≢◌, ◌≤◌, ◌+◌, ℕ, List, [], Option, Some, None, Err, length, refl, sym, subst, inl, inr, arith}
+use Rattle.std.specs.Prelude.{◌⊎◌, IfErr, IsSome, Result}
+use Rattle.std.specs.Io.KnownBytes.{Consumes, Keeps}
+use Rattle.acpi_base.specs.Memory.{Memory}
+use Rattle.acpi_cli.specs.CommandLine.{Asked, Does, DoesAsked, check, find}
+use Rattle.acpi_cli.specs.Engine.{Device, Reads, ReportsJob, Runs}
+use Rattle.acpi_cli.specs.Outcome.{exit_status}
+use Rattle.acpi_cli.specs.Program.{IsUntouched, Obeys, ReportsAsked}
+use Rattle.acpi_cli.specs.declared.outcome.Outcome.{Outcome}
+use Rattle.acpi_cli.specs.declared.outcome.RunFault.{RunFault}
+use Rattle.acpi_cli.specs.declared.outcome.RunFault.TheVariants as run
+use Rattle.acpi_cli.specs.declared.words.Job.{Job}
+use Rattle.acpi_cli.specs.declared.words.Job.TheVariants.{Check, Find}
+use Rattle.acpi_cli.specs.declared.words.WordFault.{WordFault}
+use Rattle.acpi_cli.specs.declared.words.WordFault.TheVariants as fault
+
+-- a job that does what is asked reports it
+reports_asked : (what : Asked) (job : Job) → Does what job → (m : Memory) (bytes : List ℕ) (returned : Outcome)
+    → ReportsJob job m bytes returned → ReportsAsked what m bytes returned
+reports_asked (check rsdp policy last) (Check given held stage) does m bytes returned reports =
+    (stage, does.2, rw (sym does.0, sym does.1) reports)
+reports_asked (check rsdp policy last) Find does m bytes returned reports = absurd does
+reports_asked find (Check given held stage) does m bytes returned reports = absurd does
+reports_asked find Find does m bytes returned reports = reports
+
+-- so an engine that does the job does what is asked
+pub obeyed : (a : Option Asked) (job : Job) (input output : Device) (result : Result Outcome RunFault) (status : ℕ) → DoesAsked a job
+    → Runs (ReportsJob job) input output result → status ≡ exit_status result → Obeys a input output status
+obeyed None job input output result status does runs e = absurd does
+obeyed (Some what) job input output result status does runs e = elim runs [
+  | inl ended ↦
+      let reports = reports_asked what job does ended.0 ended.1 ended.2 ended.4 in
+      (result, inl (ended.0, ended.1, ended.2, ended.3, reports, ended.5), e)
+  | inr gave_up ↦ (result, inr gave_up, e)
+]
+
+-- arguments that are refused ask for nothing
+pub refused : (a : Option Asked) (input output : Device) (status : ℕ) → (IsSome a → fault.Words ≡ fault.Memory) → IsUntouched input → IsUntouched output
+    → status ≡ 2 → Obeys a input output status
+refused None input output status asks nothing_read nothing_written e = (nothing_read, nothing_written, inl e)
+refused (Some what) input output status asks nothing_read nothing_written e =
+    let same = asks refl in absurd (cc)
+
+-- what is not touched keeps its bytes
+pub keeps_all : (bytes : Option (List ℕ)) → Keeps bytes bytes
+keeps_all None = tt
+keeps_all (Some xs) = refl
+
+-- nothing was consumed of what was not touched
+consumes_nothing : (before after : Option (List ℕ)) → Keeps before after → Consumes before after []
+consumes_nothing None after keeps = keeps
+consumes_nothing (Some xs) None keeps = absurd keeps
+consumes_nothing (Some xs) (Some ys) keeps = sym keeps
+
+-- where memory runs out before anything is read, that is what an engine may do
+pub starved : (a : Option Asked) (input output : Device) (status : ℕ) → IsUntouched input → IsUntouched output → status ≡ 4 → Obeys a input output status
+starved None input output status nothing_read nothing_written e = (nothing_read, nothing_written, inr e)
+starved (Some what) input output status nothing_read nothing_written e =
+    let reads : Reads input [] = record { consumed = consumes_nothing input.bytes_before input.bytes_after nothing_read.0; bounded = omega arith } in
+    (Err run.Memory, inr (run.Memory, refl, ([], reads), nothing_written), e)

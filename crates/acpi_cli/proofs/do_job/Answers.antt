@@ -1,7 +1,0 @@
-use Rattle.acpi_cli.proofs.do_job.Goals as goal
-
-pub returns-in-Check : goal.returns-in-Check
-returns-in-Check g c = rw (c.in-Check.is) (c.run_check.ensures)
-
-pub returns-in-Find : goal.returns-in-Find
-returns-in-Find g c = rw (c.in-Find.is) (c.run_find.ensures)

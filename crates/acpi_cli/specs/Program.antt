@@ -1,0 +1,29 @@
+-- What the program does with its arguments.
+use Rattle.std.specs.Prelude.{◌≡◌, ◌⊎◌, ℕ, List, Option, Some, None, Result}
+use Rattle.std.specs.Io.KnownBytes.{Keeps}
+use Rattle.acpi_base.specs.Memory.{Memory}
+use Rattle.acpi_base.specs.Codes.{stage_number}
+use Rattle.acpi_base.specs.declared.stage.Stage.{Stage}
+use Rattle.acpi_cli.specs.CommandLine.{Asked, check, find}
+use Rattle.acpi_cli.specs.Engine.{Device, HasNotFailed, ReportsCheck, ReportsFound, Runs}
+use Rattle.acpi_cli.specs.Outcome.{exit_status}
+use Rattle.acpi_cli.specs.declared.outcome.Outcome.{Outcome}
+use Rattle.acpi_cli.specs.declared.outcome.RunFault.{RunFault}
+
+-- what is reported on an image by an engine that does what is asked
+abbrev pub ReportsAsked : Asked → Memory → List ℕ → Outcome → Type 0
+ReportsAsked (check given policy last) m bytes returned =
+    (stage : Stage) × (stage_number stage ≡ last) × ReportsCheck given policy stage m bytes returned
+ReportsAsked find m bytes returned = ReportsFound m bytes returned
+
+-- nothing was read from the device or written to it
+abbrev pub IsUntouched : Device → Type 0
+IsUntouched device = Keeps device.bytes_before device.bytes_after × HasNotFailed device
+
+-- What the program does. Where its arguments ask for something, an engine does it, and the exit status is that of the
+-- engine's result. Where they ask for nothing, it reads and writes nothing, and the exit status is 2, or 4 where memory
+-- ran out.
+abbrev pub Obeys : Option Asked → Device → Device → ℕ → Type 0
+Obeys (Some what) input output status =
+    (result : Result Outcome RunFault) × Runs (ReportsAsked what) input output result × (status ≡ exit_status result)
+Obeys None input output status = IsUntouched input × IsUntouched output × ((status ≡ 2) ⊎ (status ≡ 4))

@@ -1,0 +1,93 @@
+//! From the arguments of the command line to the exit status, on any reader and writer.
+
+ghost use Rattle.std.specs.Prelude.{◌≡◌, map};
+ghost use Rattle.std.specs.String.{string_bytes};
+ghost use Rattle.acpi_cli.specs.CommandLine.{asked};
+ghost use Rattle.acpi_cli.specs.Engine.{device, Runs, ReportsJob};
+ghost use Rattle.acpi_cli.specs.Program.{Obeys};
+
+use crate::check::run_check;
+use crate::find::run_find;
+use crate::outcome::{Outcome, RunFault, status_of};
+use crate::usage::Usage;
+use crate::words::{Job, WordFault, error_message, read_words};
+use acpi_base::Tally;
+use std::alloc::Global;
+use std::io::{Read, Write};
+
+/// The exit status where the arguments are refused.
+const REFUSED: u8 = 2;
+
+/// The exit status where the program is out of memory.
+const OUT_OF_MEMORY: u8 = 4;
+
+/// Does what the arguments `words` ask for, of which the first is the program's name, and returns the exit status.
+///
+/// Where they ask for a job, its engine runs on `reader` and `writer`, and the status is that of its result: 0, 1, 3 or
+/// 4. Where they ask for none, or ask for help, nothing is read or written, and the status is 2; where memory runs out
+/// while they are read, nothing is read or written either, and the status is 4. Why the program gave up is reported on
+/// `errors`; a failed write there changes nothing else.
+#[tactic(auto, using(crate::proofs::Statuses::refused))]
+pub fn obey<R: Read, W: Write, E: Write>(
+    alloc: Global,
+    reader: &mut Tally<R>,
+    writer: &mut Tally<W>,
+    errors: &mut E,
+    words: &[String],
+) -> u8
+    ensures { Obeys (asked (map string_bytes words.now))
+        (device R.remaining reader.old reader.new)
+        (device W.contents writer.old writer.new)
+        result }
+{
+    match read_words(alloc, words) {
+        Ok(job) => {
+            let result = do_job(alloc, reader, writer, job);
+            report(errors, &result);
+            status_of(&result)
+        }
+        Err(WordFault::Words) => refuse(errors, error_message(alloc, words).as_deref()),
+        Err(WordFault::Memory) => refuse_memory(errors),
+    }
+}
+
+/// Does the job on a reader and a writer.
+pub fn do_job<R: Read, W: Write>(
+    alloc: Global,
+    reader: &mut Tally<R>,
+    writer: &mut Tally<W>,
+    job: Job,
+) -> Result<Outcome, RunFault>
+    ensures { Runs (ReportsJob job) (device R.remaining reader.old reader.new) (device W.contents writer.old writer.new) result }
+{
+    match job {
+        Job::Check { rsdp, policy, last } => run_check(alloc, reader, writer, rsdp, policy, last),
+        Job::Find => run_find(alloc, reader, writer),
+    }
+}
+
+/// Reports why an engine gave up, if it did.
+fn report<E: Write>(errors: &mut E, ended: &Result<Outcome, RunFault>) {
+    if let Err(fault) = ended {
+        let _ = writeln!(errors, "acpiset: {fault}");
+    }
+}
+
+/// Reports what is wrong with the arguments, where it can be said, and the usage.
+pub fn refuse<E: Write>(errors: &mut E, message: Option<&str>) -> u8
+    ensures { result ≡ 2 }
+{
+    let _ = match message {
+        Some(message) => writeln!(errors, "acpiset: {message}\n\n{Usage}"),
+        None => writeln!(errors, "acpiset: {Usage}"),
+    };
+    REFUSED
+}
+
+/// Reports that the program is out of memory.
+pub fn refuse_memory<E: Write>(errors: &mut E) -> u8
+    ensures { result ≡ 4 }
+{
+    let _ = writeln!(errors, "acpiset: {}", WordFault::Memory);
+    OUT_OF_MEMORY
+}

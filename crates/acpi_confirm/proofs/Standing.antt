@@ -1,0 +1,93 @@
+-- What stands at an offset of a table, by what its entries say.
+use Rattle.std.proofs.Common.{◌≡◌, ℕ, List, [], ◌∷◌, Option, Some, None, refl, sym, ap, ◌∙◌, subst, inl, inr, arith, nat_eq}
+use denote.Ref.{Bor}
+use Rattle.std.specs.Prelude.{◌↔◌, IsTrue, Bool, true, false}
+use Rattle.std.specs.Option.{option_eq, is_some}
+use Rattle.std.proofs.lemmas.Bool.{eqb-true}
+use Rattle.std.proofs.lemmas.Bool.Decides.{nat_tests}
+use Rattle.std.proofs.lemmas.Option.{same_Some}
+use Rattle.acpi_base.specs.Entries.{Standing, Stands, StandsWith, said_by}
+use Rattle.acpi_base.proofs.Elements.{first_element, later_element, first_or_later, no_element}
+use Rattle.acpi_base.proofs.HeldBytes.{none_and_some}
+use Rattle.acpi_base.proofs.Standings.{said_from}
+use Rattle.acpi_confirm.specs.Walks.{IsThere, IsOnly, FindsAny}
+
+-- what an entry says stands where the entry does
+pub said_at : {E : Type 0} (read : List ℕ → E) (entries : List (Standing (List ℕ))) (o : ℕ) (e : List ℕ) → Stands entries o e → Stands (said_by read entries) o (read e)
+said_at read [] o e stands = absurd (no_element _ stands)
+said_at {E} read (s ∷ entries) o e stands =
+    elim (first_or_later s (record { offset = o; entry = e }) entries stands) [
+      | inl is ↦
+          let said : Standing (List ℕ) → Standing E = λ t. record { offset = t.offset; entry = read t.entry } in
+          subst (λ (t : Standing E). Stands (said_by read (s ∷ entries)) t.offset t.entry) (ap said is) (first_element (said s) (said_by read entries))
+      | inr later ↦ later_element _ _ _ (said_at read entries o e later)
+    ]
+
+-- P of what the entry at an offset says
+pub some_with : {E : Type 0} (read : List ℕ → E) (entries : List (Standing (List ℕ))) (o : ℕ) (e : List ℕ) (P : E → Type 0) → IsThere entries o (Some e) → P (read e) ↔ StandsWith (said_by read entries) o P
+some_with {E} read entries o e P there = (
+  λ holds. (read e, said_at read entries o e ((there.is e).1 refl), holds),
+  λ (v, stands, holds).
+      let (d, here, says) = said_from read entries o v stands in
+      let same : e ≡ d = same_Some _ _ ((there.is d).0 here) in
+      subst (λ (x : List ℕ). P (read x)) (sym same) (subst P (sym says) holds),
+)
+
+pub none_with : {E : Type 0} (read : List ℕ → E) (entries : List (Standing (List ℕ))) (o : ℕ) (P : E → Type 0) → IsThere entries o None → ¬ StandsWith (said_by read entries) o P
+none_with read entries o P there (v, stands, holds) =
+    let (d, here, says) = said_from read entries o v stands in
+    none_and_some refl ((there.is d).0 here)
+
+-- whether P holds of what the entry at an offset says
+pub some_at : {E : Type 0} (read : List ℕ → E) (entries : List (Standing (List ℕ))) (o : ℕ) (e : List ℕ) (P : E → Type 0) (b : Bool) → IsThere entries o (Some e) → (IsTrue b ↔ P (read e)) → IsTrue b ↔ StandsWith (said_by read entries) o P
+some_at read entries o e P b there is =
+    let with = some_with read entries o e P there in
+    (λ true. with.0 (is.0 true), λ stands. is.1 (with.1 stands))
+
+pub none_at : {E : Type 0} (read : List ℕ → E) (entries : List (Standing (List ℕ))) (o : ℕ) (P : E → Type 0) → IsThere entries o None → IsTrue false ↔ StandsWith (said_by read entries) o P
+none_at read entries o P there = (λ true. absurd (cc), λ stands. absurd (none_with read entries o P there stands))
+
+-- the one number of which the entry at an offset says R
+pub some_only : {E X : Type 0} (read : List ℕ → E) (entries : List (Standing (List ℕ))) (o : ℕ) (e : List ℕ) (R : X → E → Type 0) (only : Option X) → IsThere entries o (Some e) → IsOnly (λ x. R x (read e)) only → IsOnly (λ x. StandsWith (said_by read entries) o (R x)) only
+some_only read entries o e R only there is =
+    record { is = λ x. (λ stands. (is.is x).0 ((some_with read entries o e (R x) there).1 stands), λ same. (some_with read entries o e (R x) there).0 ((is.is x).1 same)) }
+
+pub none_only : {E X : Type 0} (read : List ℕ → E) (entries : List (Standing (List ℕ))) (o : ℕ) (R : X → E → Type 0) → IsThere entries o None → IsOnly (λ x. StandsWith (said_by read entries) o (R x)) None
+none_only read entries o R there =
+    record { is = λ x. (λ stands. absurd (none_with read entries o (R x) there stands), λ same. absurd (none_and_some refl same)) }
+
+-- an option that is this one has its value alone
+pub only_same : {X : Type 0} (is only : Option X) → only ≡ is → IsOnly (λ x. is ≡ Some x) only
+only_same is only same = record { is = λ x. (λ some. same ∙ some, λ some. sym same ∙ some) }
+
+-- whether P holds of a number, and whether it holds of any
+pub only_eq : (P : ℕ → Type 0) (only : Option ℕ) (x : ℕ) → IsOnly P only → IsTrue (option_eq nat_eq only (Some x)) ↔ P x
+only_eq P None x is = (λ true. absurd (cc), λ holds. absurd (none_and_some refl ((is.is x).0 holds)))
+only_eq P (Some n) x is = (
+  λ true. (is.is x).1 (ap Some (eqb-true n x true)),
+  λ holds. let same : n ≡ x = same_Some _ _ ((is.is x).0 holds) in grind (arith, nat_tests),
+)
+
+pub only_some : {X : Type 0} (P : X → Type 0) (only : Option X) → IsOnly P only → IsTrue (is_some only) ↔ ((x : X) × P x)
+only_some P None is = (λ true. absurd (cc), λ (x, holds). absurd (none_and_some refl ((is.is x).0 holds)))
+only_some P (Some x) is = (λ _. (x, (is.is x).1 refl), λ _. refl)
+
+-- what is not so is not true
+pub not_so : (P : Type 0) → ¬ P → IsTrue false ↔ P
+not_so P not = (λ true. absurd (cc), λ holds. absurd (not holds))
+
+-- ---- of all entries
+
+-- whether P holds of what some entry says, by a search that answers so at each
+pub found : {E : Type 0} (read : List ℕ → E) (entries : List (Standing (List ℕ))) (P : E → Type 0) (Answers : Bor (List ℕ) → Bool → Type 0) (r : Bool) → FindsAny Answers entries r
+    → ((entry : Bor (List ℕ)) (b : Bool) → Answers entry b → (IsTrue b ↔ P (read entry.now))) → IsTrue r ↔ ((o : ℕ) × StandsWith (said_by read entries) o P)
+found read entries P Answers true finds says =
+    let (o, entry, stands, answer) = finds.one in
+    (λ _. (o, (read entry.now, said_at read entries o entry.now stands, (says entry true answer).0 refl)), λ _. refl)
+found read entries P Answers false finds says = (
+  λ true. absurd (cc),
+  λ (o, (v, stands, holds)).
+      let (e, here, is) = said_from read entries o v stands in
+      let (entry, same, answer) = finds.one o e here in
+      (says entry false answer).1 (subst (λ (x : List ℕ). P (read x)) (sym same) (subst P (sym is) holds)),
+)

@@ -1,0 +1,7 @@
+pub mod Cells
+pub mod Conditions
+pub mod Links
+pub mod Madts
+pub mod Roots
+pub mod Srats
+pub mod Walks

@@ -1,0 +1,23 @@
+-- What links two entries of a PPTT.
+use Rattle.std.specs.Prelude.{ℕ, Option, Some}
+use Rattle.acpi_base.specs.Chains.{IsStep}
+use Rattle.acpi_base.specs.Pptt.{PpttEntry, PpttContents, parent_of, next_level_of, NamesParent, NamesNextLevel}
+use Rattle.acpi_confirm.specs.Walks.{IsOnly}
+use Rattle.acpi_confirm.specs.declared.pptt.Link.{Link}
+use Rattle.acpi_confirm.specs.declared.pptt.Link.TheVariants.{Parent, NextLevel}
+use Rattle.acpi_confirm.specs.declared.pptt.chains.Linked.{Linked}
+
+-- the offset that an entry names
+abbrev pub named_by : Link → PpttEntry → Option ℕ
+named_by Parent e = parent_of e
+named_by NextLevel e = next_level_of e
+
+-- the entry at o names p
+abbrev pub Names : Link → PpttContents → ℕ → ℕ → Type 0
+Names Parent c = NamesParent c
+Names NextLevel c = NamesNextLevel c
+
+-- a step leads from o to this one, which names what it says
+pub record IsStepTo (Named : ℕ → ℕ → Type 0) (o : ℕ) (next : Linked) : Type 0 where
+  pub step : IsStep Named o next.at
+  pub names : IsOnly (Named next.at) (Some next.names)

@@ -1,0 +1,85 @@
+//! Confirming a fault: whether a fault that a checker reports stands in the image, judged apart from the checker.
+//!
+//! `confirm` returns true exactly on the faults of the definitions, whoever made the witness and whatever its
+//! three numbers are. It needs no earlier stage to hold. It shares no code with the crates that check: it looks the
+//! bytes up in the image itself, and walks over the slots and the entries itself. It allocates no memory.
+//!
+//! ```rust
+//! let policy = Policy::new(alloc, 0xe0000, 24).unwrap(); // the RSDP's address, and the inputs of an I/O APIC
+//! let fault = parse_witness(b"4 NoFadt 0x0 0x0 0x0").unwrap(); // as the checker prints it
+//! assert!(rt; confirm(&image, &policy, &fault)); // the image's root is whole, and lists no FADT
+//! ```
+//!
+//! A file for each group of codes, in the order of `docs/FAULTS.md`:
+//!
+//! ```text
+//! rsdp      1 to 7     the RSDP
+//! root      8 to 14    the root, and its bytes for the codes behind it
+//! tables   15 to 18    a listed table
+//! fadt     19 to 25    the FADT
+//! facs     26 to 31    the FACS
+//! madt     32 to 40    the MADT's entries
+//! srat     41 to 45    the SRAT's entries
+//! slit     46 to 49    the SLIT
+//! pptt     50 to 56    the PPTT's entries, and its chains
+//! cross    57 to 59    two tables, or two kinds of entries
+//! ```
+//!
+//! `listed` finds the first listed table with a signature, `in_tables` has its bytes judged, and `entries` walks over
+//! the entries of a table.
+#![tactic(auto)]
+
+ghost use Rattle.std.specs.Prelude.{◌↔◌, IsTrue};
+ghost use Rattle.acpi_base.specs.Faults.{Fault};
+
+mod cross;
+mod entries;
+mod facs;
+mod fadt;
+mod in_tables;
+mod listed;
+mod madt;
+mod pptt;
+mod root;
+mod rsdp;
+mod slit;
+mod srat;
+mod tables;
+#[cfg(test)]
+mod tests;
+
+use acpi_base::{Image, Policy, Stage, Witness};
+use facs::is_facs_fault;
+use fadt::is_fadt_fault;
+use in_tables::{
+    in_madt, in_madt_and_pptt, in_madt_and_srat, in_named_interrupts, in_pptt, in_slit, in_srat,
+};
+use root::is_root_fault;
+use rsdp::is_rsdp_fault;
+use tables::is_table_fault;
+
+/// Whether the witness is a fault of the image under the policy: its code's condition holds with these three numbers,
+/// of which those that the code does not use are 0. Any numbers are allowed, and no stage needs to hold. Takes no
+/// memory, and always returns.
+///
+/// A fault need not be the first one: of a set with several, `confirm` takes each.
+pub fn confirm(image: &Image, policy: &Policy, witness: &Witness) -> bool
+    ensures fault { IsTrue result ↔ Fault image.now policy.now witness.now }
+{
+    match witness.code.stage() {
+        Stage::Rsdp => is_rsdp_fault(image, policy, witness),
+        Stage::Root => is_root_fault(image, policy, witness),
+        Stage::Tables => is_table_fault(image, policy, witness),
+        Stage::Fadt => is_fadt_fault(image, policy, witness),
+        Stage::Facs => is_facs_fault(image, policy, witness),
+        Stage::Madt | Stage::Interrupts | Stage::Overrides => in_madt(image, policy, witness),
+        Stage::Srat | Stage::Ranges => in_srat(image, policy, witness),
+        Stage::Slit => in_slit(image, policy, witness),
+        Stage::Pptt | Stage::References | Stage::Parents | Stage::Caches => {
+            in_pptt(image, policy, witness)
+        }
+        Stage::Domains => in_madt_and_srat(image, policy, witness),
+        Stage::Served => in_named_interrupts(image, policy, witness),
+        Stage::Leaves => in_madt_and_pptt(image, policy, witness),
+    }
+}

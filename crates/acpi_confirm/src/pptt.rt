@@ -1,0 +1,207 @@
+//! Codes 50 to 56: the PPTT.
+
+mod chains;
+
+ghost use Rattle.std.specs.Prelude.{◌≡◌, ◌≢◌, ◌≤◌, ◌↔◌, length, IsTrue};
+ghost use Rattle.std.specs.Bool.{OnTrue};
+ghost use Rattle.acpi_base.specs.Chains.{IsAt, Dangles};
+ghost use Rattle.acpi_base.specs.Codes.{stage_of};
+ghost use Rattle.acpi_base.specs.Entries.{IsEntry, StandsWith};
+ghost use Rattle.acpi_base.specs.Pptt.{PpttFaultAt, PpttFault, ReferenceFault, HasOtherPpttLength, NamesResource, IsResourceAt, has_node_form, has_cache_form, pptt_contents, pptt_entry, pptt_type, resource_of};
+ghost use Rattle.acpi_confirm.specs.Conditions.{PpttCondition};
+ghost use Rattle.acpi_confirm.specs.Links.{Names, named_by};
+ghost use Rattle.acpi_confirm.specs.Walks.{IsOnly};
+
+use crate::entries::{cut, entry_at};
+use acpi_base::field::u32_at;
+use acpi_base::{Code, Stage, Witness};
+use chains::{has_cache_fault, has_parent_fault};
+
+/// Where the first entry stands.
+pub(crate) const FIRST_ENTRY: usize = 36;
+
+/// What links two entries of one kind.
+#[derive(Clone, Copy)]
+enum Link {
+    /// A node's Parent is a node.
+    Parent,
+    /// A cache's Next Level of Cache is a cache.
+    NextLevel,
+}
+
+/// Whether an entry is a node: type 0, 20 bytes and 4 for each private resource.
+#[tactic(auto, unfolding(acpi_base::specs::Pptt::has_node_form, acpi_base::specs::Entries::has_form))]
+pub(crate) fn is_node(entry: &[u8]) -> bool
+    requires { IsEntry entry.now }
+    ensures form { result ≡ has_node_form entry.now }
+    ensures long { OnTrue result (20 ≤ length entry.now) }
+{
+    if entry[0] != 0 || entry.len() < 20 {
+        return false;
+    }
+    entry.len() as u64 == 20 + 4 * u64::from(u32_at(entry, 16))
+}
+
+/// Whether an entry is a cache: type 1, 24 or 28 bytes.
+#[tactic(auto, unfolding(acpi_base::specs::Pptt::has_cache_form, acpi_base::specs::Entries::has_form))]
+fn is_cache(entry: &[u8]) -> bool
+    requires { IsEntry entry.now }
+    ensures form { result ≡ has_cache_form entry.now }
+    ensures long { OnTrue result (24 ≤ length entry.now) }
+{
+    matches!((entry[0], entry.len()), (1, 24 | 28))
+}
+
+/// The offset that an entry names by the link, where the link is of its kind: 0 for none.
+#[tactic(auto, unfolding(acpi_base::specs::Pptt::pptt_entry), using(crate::proofs::PpttEntries::kinds))]
+fn named(entry: &[u8], link: Link) -> Option<u64>
+    requires { IsEntry entry.now }
+    ensures { result ≡ named_by link (pptt_entry entry.now) }
+{
+    match link {
+        Link::Parent if is_node(entry) => Some(u64::from(u32_at(entry, 8))),
+        Link::NextLevel if is_cache(entry) => Some(u64::from(u32_at(entry, 8))),
+        _ => None,
+    }
+}
+
+/// The offset that the entry at an offset names by the link.
+fn named_at(pptt: &[u8], link: Link, at: u64) -> Option<u64>
+    ensures { IsOnly (Names link (pptt_contents pptt.now) at) result }
+{
+    match entry_at(pptt, FIRST_ENTRY, at) {
+        Some(entry) => named(entry, link),
+        None => None,
+    }
+}
+
+/// Whether an entry is not typed though it has type 0 or 1.
+#[tactic(auto, unfolding(acpi_base::specs::Pptt::pptt_entry), using(crate::proofs::PpttEntries::kinds))]
+fn has_other_length(entry: &[u8]) -> bool
+    requires { IsEntry entry.now }
+    ensures { IsTrue result ↔ HasOtherPpttLength (pptt_entry entry.now) }
+{
+    entry[0] <= 1 && !is_node(entry) && !is_cache(entry)
+}
+
+/// Whether the entry at an offset is not typed though it has type 0 or 1.
+fn has_other_length_at(pptt: &[u8], at: u64) -> bool
+    ensures { IsTrue result ↔ StandsWith (pptt_contents pptt.now).entries at HasOtherPpttLength }
+{
+    match entry_at(pptt, FIRST_ENTRY, at) {
+        Some(entry) => has_other_length(entry),
+        None => false,
+    }
+}
+
+/// Whether the PPTT has this fault of an entry by itself at this offset.
+#[tactic(auto, using(crate::proofs::PpttEntries::pptt_cut))]
+fn has_entry_fault_at(pptt: &[u8], code: Code, at: u64) -> bool
+    ensures { IsTrue result ↔ PpttFaultAt (pptt_contents pptt.now) code at }
+{
+    match code {
+        Code::PpttEntryCut => cut(pptt, FIRST_ENTRY) == Some(at),
+        Code::PpttEntryLength => has_other_length_at(pptt, at),
+        _ => false,
+    }
+}
+
+/// Codes 50 and 51: each entry by itself.
+fn has_entry_fault(pptt: &[u8], witness: &Witness) -> bool
+    ensures { IsTrue result ↔ PpttFault (pptt_contents pptt.now) witness.now.code witness.now.at witness.now.other witness.now.point }
+{
+    has_entry_fault_at(pptt, witness.code, witness.at) && witness.other == 0 && witness.point == 0
+}
+
+/// The private resource `index` of an entry, from 0 on, where it is a node that has so many.
+#[tactic(auto, unfolding(acpi_base::specs::Pptt::pptt_entry), using(crate::proofs::PpttEntries::resources))]
+fn resource(entry: &[u8], index: u64) -> Option<u64>
+    requires { IsEntry entry.now }
+    ensures { result ≡ resource_of index (pptt_entry entry.now) }
+{
+    if !is_node(entry) || index >= u64::from(u32_at(entry, 16)) {
+        return None;
+    }
+    Some(u64::from(u32_at(entry, 20 + 4 * index as usize)))
+}
+
+/// The private resource `index` of the entry at an offset.
+fn resource_at(pptt: &[u8], at: u64, index: u64) -> Option<u64>
+    ensures { IsOnly (NamesResource (pptt_contents pptt.now) at index) result }
+{
+    match entry_at(pptt, FIRST_ENTRY, at) {
+        Some(entry) => resource(entry, index),
+        None => None,
+    }
+}
+
+/// Whether an entry, typed or not, has another type than 0.
+#[tactic(auto, unfolding(acpi_base::specs::Pptt::pptt_entry), using(crate::proofs::PpttEntries::kinds))]
+fn is_resource(entry: &[u8]) -> bool
+    requires { IsEntry entry.now }
+    ensures { IsTrue result ↔ (pptt_type (pptt_entry entry.now) ≢ 0) }
+{
+    entry[0] != 0
+}
+
+/// Whether an entry of another type than 0 stands at an offset.
+fn is_resource_at(pptt: &[u8], at: u64) -> bool
+    ensures { IsTrue result ↔ IsResourceAt (pptt_contents pptt.now) at }
+{
+    match entry_at(pptt, FIRST_ENTRY, at) {
+        Some(entry) => is_resource(entry),
+        None => false,
+    }
+}
+
+/// Whether an entry of the link's kind stands at an offset.
+fn is_linked_at(pptt: &[u8], link: Link, at: u64) -> bool
+    ensures { IsTrue result ↔ IsAt (Names link (pptt_contents pptt.now)) at }
+{
+    named_at(pptt, link, at).is_some()
+}
+
+/// Whether the entry at an offset names this other one by the link, and none of the link's kind stands there.
+fn dangles(pptt: &[u8], link: Link, at: u64, other: u64) -> bool
+    ensures { IsTrue result ↔ Dangles (Names link (pptt_contents pptt.now)) at other }
+{
+    named_at(pptt, link, at) == Some(other) && other != 0 && !is_linked_at(pptt, link, other)
+}
+
+/// Whether the private resource `index` of the entry at an offset is this one.
+fn names_resource(pptt: &[u8], at: u64, index: u64, resource: u64) -> bool
+    ensures { IsTrue result ↔ NamesResource (pptt_contents pptt.now) at index resource }
+{
+    resource_at(pptt, at, index) == Some(resource)
+}
+
+/// Codes 52 to 54: what entries name.
+fn has_reference_fault(pptt: &[u8], witness: &Witness) -> bool
+    ensures { IsTrue result ↔ ReferenceFault (pptt_contents pptt.now) witness.now.code witness.now.at witness.now.other witness.now.point }
+{
+    let (at, other, point) = (witness.at, witness.other, witness.point);
+    match witness.code {
+        Code::DanglingParent => point == 0 && dangles(pptt, Link::Parent, at, other),
+        Code::DanglingResource => {
+            names_resource(pptt, at, other, point) && !is_resource_at(pptt, point)
+        }
+        Code::DanglingCache => point == 0 && dangles(pptt, Link::NextLevel, at, other),
+        _ => false,
+    }
+}
+
+/// Whether a fault of stages 12 to 15 stands in the PPTT.
+pub(crate) fn is_pptt_fault(pptt: &[u8], witness: &Witness) -> bool
+    ensures { IsTrue result ↔ PpttCondition (stage_of witness.now.code) (pptt_contents pptt.now) witness.now }
+{
+    match witness.code.stage() {
+        Stage::Pptt => has_entry_fault(pptt, witness),
+        Stage::References => has_reference_fault(pptt, witness),
+        Stage::Parents => has_parent_fault(pptt, witness),
+        Stage::Caches => has_cache_fault(pptt, witness),
+        _ => false,
+    }
+}
+
+#[cfg(test)]
+mod tests;

@@ -1,0 +1,65 @@
+//! Codes 1 to 7: the RSDP (ACPI 6.5, 5.2.5.3).
+
+ghost use Rattle.std.specs.Prelude.{◌≡◌, ◌≤◌, ◌↔◌, List, ℕ, IsTrue, IfSome, IsNone, Some, length};
+ghost use Rattle.acpi_base.specs.Faults.{FaultCondition};
+ghost use Rattle.acpi_base.specs.Memory.{bytes_at};
+ghost use Rattle.acpi_base.specs.Rsdp.{revision_of, IsExtended, rsdp_length, RsdpFault};
+ghost use Rattle.acpi_base.specs.declared.stage.Stage.{Stage};
+
+use acpi_base::field::{is_signed, u8_at, u32_at};
+use acpi_base::{Code, Image, Policy, Witness, sum};
+
+/// Whether the witness is a fault of the RSDP at the policy's address.
+pub(crate) fn is_rsdp_fault(image: &Image, policy: &Policy, witness: &Witness) -> bool
+    ensures { IsTrue result ↔ FaultCondition Stage.Rsdp image.now policy.now witness.now }
+{
+    witness.at == policy.rsdp()
+        && witness.other == 0
+        && witness.point == 0
+        && has_fault(image, witness.at, witness.code)
+}
+
+/// Whether the RSDP at an address has the fault with this code.
+fn has_fault(image: &Image, address: u64, code: Code) -> bool
+    ensures { IsTrue result ↔ RsdpFault image.now address code }
+{
+    let head = image.window(address, 20);
+    match code {
+        Code::RsdpOut => head.is_none(),
+        Code::RsdpSignature => head.is_some_and(|head| !is_signed(head, b"RSD PTR ")),
+        Code::RsdpSum => head.is_some_and(|head| sum(head) != 0),
+        Code::RsdpTailOut => is_extended(image, address) && image.window(address, 36).is_none(),
+        Code::RsdpLength => extended_length(image, address).is_some_and(|length| length < 36),
+        Code::RsdpLongOut => extended_length(image, address).is_some_and(|length| {
+            length >= 36 && image.window(address, u64::from(length)).is_none()
+        }),
+        Code::RsdpExtendedSum => extended_length(image, address).is_some_and(|length| {
+            length >= 36
+                && image
+                    .window(address, u64::from(length))
+                    .is_some_and(|whole| sum(whole) != 0)
+        }),
+        _ => false,
+    }
+}
+
+/// Whether the 20 bytes of an RSDP of the extended form, of revision 2 or more, are held.
+fn is_extended(image: &Image, address: u64) -> bool
+    ensures { IsTrue result ↔ ((head : List ℕ) × (bytes_at image.now address 20 ≡ Some head) × (2 ≤ revision_of head)) }
+{
+    image
+        .window(address, 20)
+        .is_some_and(|head| u8_at(head, 15) >= 2)
+}
+
+/// The Length of an RSDP of the extended form whose 36 bytes are held.
+fn extended_length(image: &Image, address: u64) -> Option<u32>
+    ensures found { IfSome result (λ length. (head : List ℕ) × (prefix : List ℕ) × IsExtended image.now address head prefix × (rsdp_length prefix ≡ length)) }
+    ensures every { (head prefix : List ℕ) → IsExtended image.now address head prefix → result ≡ Some (rsdp_length prefix) }
+{
+    if !is_extended(image, address) {
+        return None;
+    }
+    let prefix = image.window(address, 36)?;
+    Some(u32_at(prefix, 20))
+}
