@@ -93,6 +93,9 @@ fn first_unknown(uids: &[u64], table: Table<'_>) -> Option<Witness>
     None
 }
 
+/// The Revision of the PPTT that first has the flag of a leaf.
+const HAS_LEAVES: u8 = 2;
+
 /// The fault of the first leaf of a PPTT that is no processor of a MADT. A PPTT before revision 2 has none, and of a MADT
 /// that is not wholly typed nothing is said.
 fn first_unknown_leaf(
@@ -103,7 +106,7 @@ fn first_unknown_leaf(
     ensures { IfOk result (FindsFault Stage.Leaves (AreLeavesKnown (madt_contents madt.entry) (pptt_contents pptt.entry))
         (LeafFault (madt_contents madt.entry) (pptt_contents pptt.entry))) }
 {
-    if pptt.header().revision < 2 || !is_wholly_typed(madt.copied()) {
+    if pptt.header().revision < HAS_LEAVES || !is_wholly_typed(madt.copied()) {
         return Ok(None);
     }
     let uids = numbers_of(alloc, Key::Uid, madt)?;

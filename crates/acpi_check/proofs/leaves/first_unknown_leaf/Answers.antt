@@ -4,19 +4,19 @@ use Rattle.acpi_base.specs.Madt.{madt_contents}
 use Rattle.acpi_base.specs.Pptt.{pptt_contents}
 use Rattle.acpi_check.proofs.LeavesFaults.{revision, leaves_found}
 use Rattle.acpi_check.proofs.leaves.first_unknown_leaf.Goals as goal
-use Rattle.acpi_check.proofs.leaves.first_unknown_leaf.Goals.{then-header-lt2-via-then-header-lt2, then-header-lt2-via-else-header-lt2+then-not-is_wholly_typed}
+use Rattle.acpi_check.proofs.leaves.first_unknown_leaf.Goals.{then-header-lt-HAS_LEAVES-via-then-header-lt-HAS_LEAVES, then-header-lt-HAS_LEAVES-via-else-header-lt-HAS_LEAVES+then-not-is_wholly_typed}
 
-pub returns-then-header-lt2 : goal.returns-then-header-lt2
-returns-then-header-lt2 c =
+pub returns-then-header-lt-HAS_LEAVES : goal.returns-then-header-lt-HAS_LEAVES
+returns-then-header-lt-HAS_LEAVES c =
     let is : c.header.result.revision ≡ (pptt_contents c.args.pptt).revision = ap (λ (h : HeaderValue). h.revision) c.header.ensures.fields ∙ revision c.args.pptt in
     λ recent typed.
-    elim c.then-header-lt2.branch [
-      | then-header-lt2-via-then-header-lt2 w ↦ absurd (omega (arith, w.if-header-lt2.true))
-      | then-header-lt2-via-else-header-lt2+then-not-is_wholly_typed w ↦ absurd ((rw w.copied.ensures at w.if-not-is_wholly_typed.ensures) typed)
+    elim c.then-header-lt-HAS_LEAVES.branch [
+      | then-header-lt-HAS_LEAVES-via-then-header-lt-HAS_LEAVES w ↦ absurd (omega (arith, w.if-header-lt-HAS_LEAVES.true))
+      | then-header-lt-HAS_LEAVES-via-else-header-lt-HAS_LEAVES+then-not-is_wholly_typed w ↦ absurd ((rw w.copied.ensures at w.if-not-is_wholly_typed.ensures) typed)
     ]
 
 pub returns : goal.returns
 returns c =
     let is : c.header.result.revision ≡ (pptt_contents c.args.pptt).revision = ap (λ (h : HeaderValue). h.revision) c.header.ensures.fields ∙ revision c.args.pptt in
-    leaves_found (madt_contents c.args.madt) (pptt_contents c.args.pptt) c.in_ok-uids.uids.items c.in_ok-uids.ensures (omega (arith, c.if-header-lt2.false)) (rw c.copied.ensures at c.if-not-is_wholly_typed.ensures) c.first_unknown.result
+    leaves_found (madt_contents c.args.madt) (pptt_contents c.args.pptt) c.in_ok-uids.uids.items c.in_ok-uids.ensures (omega (arith, c.if-header-lt-HAS_LEAVES.false)) (rw c.copied.ensures at c.if-not-is_wholly_typed.ensures) c.first_unknown.result
     (rw c.deref.ensures.value at c.first_unknown.ensures)
