@@ -216,13 +216,13 @@ runs "an input that is a folder" 4 '' 'acpiset: device\n' "$scratch" check --rsd
 fails "an input that is closed" $?
 
 # ---- memory that is refused
-{ printf '#'; head -c 60000000 /dev/zero | tr '\0' '\n'; } >"$scratch/text"
-(ulimit -v 60000 && "$program" check --rsdp e0000 <"$scratch/text") >"$scratch/out" 2>"$scratch/err"
+{ printf '@0\n'; yes 00000000000000000000000000000000 | head -n 1800000; } >"$scratch/text"
+(ulimit -v 20000 && "$program" check --rsdp e0000 <"$scratch/text") >"$scratch/out" 2>"$scratch/err"
 got=$? wrong=""
 [ "$got" = 4 ] || wrong="status $got, not 4"
 [ ! -s "$scratch/out" ] || wrong="$wrong; standard output $(cat "$scratch/out")"
 [ "$(cat "$scratch/err")" = 'acpiset: out of memory' ] || wrong="$wrong; standard error $(cat "$scratch/err")"
-count "a text of 60 MB in 60 MB of memory" "$wrong"
+count "an image of 28,800,000 bytes in 20 MB of memory" "$wrong"
 rm "$scratch/text"
 
 # starved STATUS STDOUT ARGUMENTS..: refuses each request for memory in turn. Each run ends with this status and

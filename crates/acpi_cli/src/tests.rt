@@ -161,22 +161,24 @@ impl Read for Broken {
 
 #[test]
 fn an_input_that_fails(rt: HostRuntime) -> Result<(), Fail> {
-    let texts: [(&[u8], RunFault); 4] = [
-        (b"", RunFault::Device),
-        (b"@0\n01\n", RunFault::Device),
+    let texts: [(&[u8], RunFault, u64); 4] = [
+        (b"", RunFault::Device, 1),
+        (b"@0\n01\n", RunFault::Device, 1),
         // The last line has not ended, so its form is not judged.
-        (b"@0\n01\n@0\n02", RunFault::Device),
+        (b"@0\n01\n@0\n02", RunFault::Device, 1),
+        // A fault is answered as soon as it stands, before the input fails.
         (
             b"@0\n01\n@0\n02\n",
             RunFault::Image(TextFault::Twice { address: 0 }),
+            0,
         ),
     ];
-    for (bytes, fault) in texts {
+    for (bytes, fault, failures) in texts {
         let mut reader = Tally::new(Broken { bytes });
         let mut writer = Tally::new(Vec::new(rt.alloc()));
         let result = run_find(rt.alloc(), &mut reader, &mut writer);
         assert_eq!(rt; result, Err(fault));
-        assert_eq!(rt; reader.failures(), 1);
+        assert_eq!(rt; reader.failures(), failures);
         assert!(rt; writer.into_inner().is_empty());
     }
     Ok(())
