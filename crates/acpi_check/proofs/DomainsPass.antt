@@ -19,7 +19,7 @@ use Rattle.acpi_check.proofs.ValuesPass.{IsKeyed, IsOther}
 -- ---- entries
 
 -- an entry puts a processor in a domain exactly where this is read of it
-puts : (i d : ℕ) (e : SratEntry) → PutsIn i d e ↔ (placement_of e ≡ Some (record { processor = i; domain = d }))
+pub puts : (i d : ℕ) (e : SratEntry) → PutsIn i d e ↔ (placement_of e ≡ Some (record { processor = i; domain = d }))
 puts i d (ApicDomain v) = (
   λ (number, domain, enabled). rw (enabled, number, domain) refl,
   λ is.

@@ -6,6 +6,7 @@ mod FirstFaults
 mod Gathered
 mod GatheredNumbers
 mod GsiClashes
+mod GsiRanges
 mod Headlines
 mod Indexed
 mod IndexedNodes
@@ -18,6 +19,7 @@ mod NamedPass
 mod NamedPlaces
 mod OverridesPass
 mod Passes
+mod Placements
 mod PpttFaults
 mod PpttPass
 mod RangeClashes

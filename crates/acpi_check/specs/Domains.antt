@@ -1,5 +1,5 @@
 -- Processors that an SRAT puts in domains, and what a pass over its entries returns.
-use Rattle.std.specs.Prelude.{◌≡◌, ◌≢◌, ℕ, ◌<◌, ◌⊎◌, List, Contains, length, slice_index, Option, Some, None, if◌then◌else◌}
+use Rattle.std.specs.Prelude.{◌≡◌, ◌≢◌, ℕ, ◌<◌, ◌⊎◌, ◌↔◌, List, Contains, length, slice_index, Option, Some, None, if◌then◌else◌}
 use Rattle.acpi_base.specs.Across.{PutsAt}
 use Rattle.acpi_base.specs.Faults.{NotAfter}
 use Rattle.acpi_base.specs.Srat.{SratEntry, ApicDomain, X2apicDomain, SratContents, is_enabled}
@@ -45,6 +45,16 @@ PassesPlacement numbers o None old new None = new ≡ old
 PassesPlacement numbers o None old new (Some w) = ⊥
 PassesPlacement numbers o (Some put) old new None = IsAgreed numbers o put old new
 PassesPlacement numbers o (Some put) old new (Some w) = IsOtherDomain numbers o put old w
+
+-- ---- all placements
+
+-- these are the placements that the SRAT's entries make
+abbrev pub ArePlacements : SratContents → List Placement → Type 0
+ArePlacements c placements = (i d : ℕ) → Contains placements (record { processor = i; domain = d }) ↔ ((o : ℕ) × PutsAt c o i d)
+
+-- no processor is put in two domains
+abbrev pub DoAgree : List Placement → Type 0
+DoAgree placements = (a b : Placement) → Contains placements a → Contains placements b → a.processor ≡ b.processor → a.domain ≡ b.domain
 
 -- ---- what is found
 

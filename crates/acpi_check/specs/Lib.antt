@@ -2,6 +2,7 @@
 pub mod Domains
 pub mod Firsts
 pub mod Gathered
+pub mod GsiRanges
 pub mod Headline
 pub mod Indexed
 pub mod Leaves

@@ -1,12 +1,12 @@
 //! Stage 16: the proximity domains in which the SRAT puts the processors of the MADT.
 
-ghost use Rattle.std.specs.Prelude.{◌≡◌, ◌<◌, ⊤, AllPairs, IfOk, length};
+ghost use Rattle.std.specs.Prelude.{◌≡◌, ◌<◌, ◌≤◌, ⊤, AllPairs, IfOk, MatchBool, length};
 ghost use Rattle.acpi_base.specs.Across.{HaveOneDomain, DomainFault};
 ghost use Rattle.acpi_base.specs.Madt.{madt_contents};
 ghost use Rattle.acpi_base.specs.Srat.{srat_entry, srat_contents};
 ghost use Rattle.acpi_base.specs.Statements.{CleanBefore};
 ghost use Rattle.acpi_base.specs.declared.stage.Stage.{Stage};
-ghost use Rattle.acpi_check.specs.Domains.{placement_of, PassesPlacement, FindsDomains};
+ghost use Rattle.acpi_check.specs.Domains.{placement_of, ArePlacements, DoAgree, PassesPlacement, FindsDomains};
 ghost use Rattle.acpi_check.specs.Passed.{FindsFault};
 ghost use Rattle.acpi_check.specs.Settled.{Settles};
 ghost use Rattle.acpi_check.specs.Set.{IsSet};
@@ -21,8 +21,8 @@ use acpi_base::{Code, Processors, Witness};
 use acpi_read::{Entries, Entry, SratEntry, Table};
 use std::alloc::{AllocError, Global};
 
-/// A processor in a proximity domain.
-#[derive(Clone, Copy, Debug, PartialEq, Eq)]
+/// A processor in a proximity domain. Placements compare by the processor's number, then by the domain.
+#[derive(Clone, Copy, Debug, PartialEq, Eq, PartialOrd, Ord)]
 pub struct Placement {
     /// The APIC ID or x2APIC ID: they are one number space.
     pub processor: u32,
@@ -98,8 +98,41 @@ fn first_other_domain(
     Ok(None)
 }
 
+/// What the enabled entries of an SRAT place, in the entries' order.
+#[tactic(auto, using(crate::proofs::Gathered::gathering))]
+fn placements_of(alloc: Global, table: Table<'_>) -> Result<Vec<Placement>, AllocError>
+    ensures { IfOk result (λ placements. ArePlacements (srat_contents table.entry) placements.items) }
+{
+    let mut placements = Vec::new(alloc);
+    let Ok(entries) = Entries::srat(table) else {
+        return Ok(placements);
+    };
+    for entry in entries {
+        if let Some(put) = placement_of(&entry) {
+            placements.push(put)?;
+        }
+    }
+    Ok(placements)
+}
+
+/// Whether placements put no processor in two domains. Those of one processor stand side by side, so neighbours are
+/// compared.
+fn do_agree(placements: &[Placement]) -> bool
+    requires { AllPairs (λ a b. a.processor ≤ b.processor) placements.now }
+    ensures { MatchBool result (DoAgree placements.now) (¬ DoAgree placements.now) }
+{
+    for next in 1..placements.len() {
+        let before = &placements[next - 1];
+        let after = &placements[next];
+        if before.processor == after.processor && before.domain != after.domain {
+            return false;
+        }
+    }
+    true
+}
+
 /// The fault of the first entry of an SRAT that puts a processor of a MADT that counts as enabled in another domain than
-/// an earlier entry.
+/// an earlier entry. Where no processor at all is put in two domains, there is none.
 fn first_two_domains(
     alloc: Global,
     processors: Processors,
@@ -109,6 +142,11 @@ fn first_two_domains(
     ensures { IfOk result (FindsFault Stage.Domains (HaveOneDomain processors (madt_contents madt.entry) (srat_contents srat.entry))
         (DomainFault processors (madt_contents madt.entry) (srat_contents srat.entry))) }
 {
+    let mut placements = placements_of(alloc, srat.copied())?;
+    placements.sort_unstable();
+    if do_agree(&placements) {
+        return Ok(None);
+    }
     let numbers = numbers_of(alloc, Key::Enabled(processors), madt)?;
     first_other_domain(alloc, &numbers, srat)
 }

@@ -18,6 +18,7 @@ mod domains;
 mod facs;
 mod fadt;
 mod firsts;
+mod gsi_ranges;
 mod interrupts;
 mod leaves;
 mod madt;

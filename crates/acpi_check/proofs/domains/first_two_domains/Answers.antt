@@ -1,8 +1,19 @@
+use Rattle.std.specs.Prelude.{AllPairs}
+use Rattle.std.proofs.Common.{sym, subst}
 use Rattle.acpi_base.specs.Madt.{madt_contents}
 use Rattle.acpi_base.specs.Srat.{srat_contents}
 use Rattle.acpi_check.proofs.DomainsFaults.{all_found}
+use Rattle.acpi_check.proofs.Placements.{processors_rise, one_domain}
 use Rattle.acpi_check.proofs.domains.first_two_domains.Goals as goal
+
+pub do_agree-requires : goal.do_agree-requires
+do_agree-requires c = rw (c.deref.ensures.value) (processors_rise c.sort_unstable.new.self.items c.sort_unstable.ensures.sorted)
+
+pub returns-then-do_agree : goal.returns-then-do_agree
+returns-then-do_agree c =
+    one_domain c.args.processors (madt_contents c.args.madt) (srat_contents c.args.srat) c.in_ok-placements.placements.items c.sort_unstable.new.self.items (rw c.copied.ensures at c.in_ok-placements.ensures) c.sort_unstable.ensures.permutation
+    (rw c.deref.ensures.value at c.if-do_agree.ensures)
 
 pub returns : goal.returns
 returns c =
-    all_found c.args.processors (madt_contents c.args.madt) (srat_contents c.args.srat) c.in_ok-numbers.numbers.items c.in_ok-numbers.ensures c.first_other_domain.result (rw c.deref.ensures.value at c.first_other_domain.ensures)
+    all_found c.args.processors (madt_contents c.args.madt) (srat_contents c.args.srat) c.in_ok-numbers.numbers.items c.in_ok-numbers.ensures c.first_other_domain.result (rw c.deref-2.ensures.value at c.first_other_domain.ensures)

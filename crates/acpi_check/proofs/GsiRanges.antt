@@ -1,0 +1,128 @@
+-- From sorted ranges of interrupt numbers to what the I/O APICs of a MADT serve.
+use Rattle.std.proofs.Common.{◌≡◌, ◌≢◌, ℕ, zero, suc, ◌+◌, ◌<◌, ◌≤◌, ◌&&◌, Bool, true, false, List, [], ◌∷◌, length, get_or, nat_lt, Option, Some, None, refl, sym, ◌∙◌, ap, subst, inl, inr, arith, true≢false}
+use Rattle.std.specs.Prelude.{AllPairs, Contains}
+use Rattle.std.specs.List.{filter_map, AllAdjacentBelow, IsDistinct}
+use Rattle.std.specs.List.Sorted.{IsPermutation}
+use Rattle.std.proofs.Math.Bool.{and_comm}
+use Rattle.std.proofs.lemmas.Bool.{lt-ltb, le-ltb}
+use Rattle.std.proofs.lemmas.List.Elements.{All-contains, All-from_recursion}
+use Rattle.std.proofs.lemmas.List.Sorted.{Contains-permutation, IsPermutation-sym}
+use Rattle.std.proofs.lemmas.Map.Keys.{IsDistinct-head, IsDistinct-tail, IsDistinct-from_apart, IsDistinct-IsPermutation}
+use Rattle.std.proofs.lemmas.Option.{same_Some, none-some}
+use Rattle.acpi_base.specs.Across.{IsServed, HasIoApic, AreNamedServed}
+use Rattle.acpi_base.specs.Clashes.{AreApart, IsClash}
+use Rattle.acpi_base.specs.Entries.{Standing, entries_of, said_by}
+use Rattle.acpi_base.specs.Madt.{MadtEntry, IoApic, MadtContents, madt_entry, madt_contents, ServesFrom, Serves, AreInterruptsApart}
+use Rattle.acpi_base.specs.Policy.{PolicyValue, inputs_of}
+use Rattle.acpi_base.proofs.Elements.{first_or_later, no_element}
+use Rattle.acpi_base.proofs.HeldBytes.{cases_Option}
+use Rattle.acpi_graph.proofs.ClearOfNeighbours.{ends_before_later}
+use Rattle.acpi_check.specs.GsiRanges.{served_range, ranges_of, IsInRange, IsInRanges, DoRangesRise}
+use Rattle.acpi_check.specs.declared.gsi_ranges.GsiRange.{GsiRange}
+use Rattle.acpi_check.proofs.Kept.{kept_has, kept_from, none_of_short}
+
+-- ---- gathered
+
+-- the ranges of all entries are the table's
+pub gathered : (q : PolicyValue) (whole : List ℕ) (entries : List (Standing (List ℕ))) (ranges : List GsiRange) → entries ≡ entries_of 44 whole → ranges ≡ ranges_of q (said_by madt_entry entries)
+    → ranges ≡ ranges_of q (madt_contents whole).entries
+unfolding madt_contents
+gathered q whole entries ranges all is = is ∙ ap (λ (es : List (Standing (List ℕ))). ranges_of q (said_by madt_entry es)) all
+
+-- a MADT that is too short has none
+pub no_ranges : (q : PolicyValue) (whole : List ℕ) (ranges : List GsiRange) → length whole < 44 → ranges ≡ [] → ranges ≡ ranges_of q (madt_contents whole).entries
+no_ranges q whole ranges short none = gathered q whole [] ranges (sym (none_of_short 44 whole short)) none
+
+-- ---- one entry
+
+-- an I/O APIC serves the numbers of its range
+serves : (q : PolicyValue) (g : ℕ) (e : MadtEntry) (range : GsiRange) → served_range q e ≡ Some range → IsInRange range g → ServesFrom q range.first g e
+serves q g (IoApic v) range is here =
+    let same = same_Some (record { first = v.gsi_base; count = inputs_of q v.address }) range is in
+    (ap (λ (r : GsiRange). r.first) same, here.0, omega (arith, here.1, ap (λ (r : GsiRange). r.count) same))
+serves q g _ range is here = none-some range is
+
+-- and no others
+range_of : (q : PolicyValue) (start g : ℕ) (e : MadtEntry) → ServesFrom q start g e → (range : GsiRange) × (served_range q e ≡ Some range) × IsInRange range g
+range_of q start g (IoApic v) here = (record { first = v.gsi_base; count = inputs_of q v.address }, refl, (omega (arith, here.0, here.1), omega (arith, here.0, here.2)))
+range_of q start g _ here = absurd here
+
+-- ---- ranges that share a number
+
+-- whether two ranges share a number
+abbrev overlap : GsiRange → GsiRange → Bool
+overlap a b = nat_lt b.first (a.first + a.count) && nat_lt a.first (b.first + b.count)
+
+flips : (a b : GsiRange) → overlap a b ≡ overlap b a
+flips a b = and_comm (nat_lt b.first (a.first + a.count)) (nat_lt a.first (b.first + b.count))
+
+shared : (a b : GsiRange) (g : ℕ) → IsInRange a g → IsInRange b g → overlap a b ≡ true
+shared a b g one other = rw (lt-ltb b.first (a.first + a.count) (omega (arith, one, other)), lt-ltb a.first (b.first + b.count) (omega (arith, one, other))) refl
+
+-- of ranges that rise no two overlap
+none_overlaps : (ranges : List GsiRange) → DoRangesRise ranges → IsDistinct overlap ranges
+none_overlaps ranges rise = IsDistinct-from_apart overlap ranges (λ i j d before within. rw (le-ltb (get_or ranges j d).first ((get_or ranges i d).first + (get_or ranges i d).count) (rise i j d before within)) refl)
+
+-- where no two ranges of entries overlap, those of two entries do not
+apart_entries : (q : PolicyValue) (entries : List (Standing MadtEntry)) → IsDistinct overlap (ranges_of q entries) → (s t : Standing MadtEntry) → Contains entries s → Contains entries t → s.offset ≢ t.offset
+    → (a b : GsiRange) → served_range q s.entry ≡ Some a → served_range q t.entry ≡ Some b → overlap a b ≡ false
+apart_entries q [] distinct s t one other differ a b is_a is_b = absurd (no_element s one)
+apart_entries q (u ∷ rest) distinct s t one other differ a b is_a is_b =
+    elim (cases_Option (served_range q u.entry)) [
+      | inr none ↦ elim (first_or_later u s rest one) [
+          | inl same ↦ none-some a (sym none ∙ ap kept same ∙ is_a)
+          | inr s_later ↦ elim (first_or_later u t rest other) [
+              | inl same ↦ none-some b (sym none ∙ ap kept same ∙ is_b)
+              | inr t_later ↦ apart_entries q rest (rw none at distinct) s t s_later t_later differ a b is_a is_b
+            ]
+        ]
+      | inl (y, is) ↦
+          let here : IsDistinct overlap (y ∷ ranges_of q rest) = rw is at distinct in
+          let apart : (z : GsiRange) → Contains (ranges_of q rest) z → overlap y z ≡ false =
+          λ z listed. All-contains (λ w. overlap y w ≡ false) (ranges_of q rest) z (All-from_recursion (λ w. overlap y w ≡ false) (ranges_of q rest) (IsDistinct-head overlap y (ranges_of q rest) here)) listed in
+          elim (first_or_later u s rest one) [
+            | inl s_first ↦ elim (first_or_later u t rest other) [
+                | inl t_first ↦ absurd (differ (ap (λ (w : Standing MadtEntry). w.offset) (sym s_first ∙ t_first)))
+                | inr t_later ↦
+                    let same : y ≡ a = same_Some y a (sym is ∙ ap kept s_first ∙ is_a) in
+                    subst (λ (w : GsiRange). overlap w b ≡ false) same (apart b (kept_has kept rest t b t_later is_b))
+              ]
+            | inr s_later ↦ elim (first_or_later u t rest other) [
+                | inl t_first ↦
+                    let same : y ≡ b = same_Some y b (sym is ∙ ap kept t_first ∙ is_b) in
+                    flips a b ∙ subst (λ (w : GsiRange). overlap w a ≡ false) same (apart a (kept_has kept rest s a s_later is_a))
+                | inr t_later ↦ apart_entries q rest (IsDistinct-tail overlap y (ranges_of q rest) here) s t s_later t_later differ a b is_a is_b
+              ]
+          ]
+    ]
+  where
+    kept : Standing MadtEntry → Option GsiRange
+    kept w = served_range q w.entry
+
+-- ---- the table
+
+-- where the sorted ranges rise, no interrupt number is served by two I/O APICs
+pub are_apart : (q : PolicyValue) (c : MadtContents) (sorted : List GsiRange) → IsPermutation (ranges_of q c.entries) sorted → DoRangesRise sorted → AreInterruptsApart q c
+are_apart q c sorted moved rise o p g clash =
+    let (e, stands, one) = clash.one_holds in
+    let (f, also, other) = clash.other_holds in
+    let (a, is_a, in_a) = range_of q clash.s g e one in
+    let (b, is_b, in_b) = range_of q clash.t g f other in
+    let distinct = IsDistinct-IsPermutation overlap flips sorted (ranges_of q c.entries) (IsPermutation-sym (ranges_of q c.entries) sorted moved) (none_overlaps sorted rise) in
+    true≢false (sym (shared a b g in_a in_b) ∙ apart_entries q c.entries distinct (record { offset = o; entry = e }) (record { offset = p; entry = f }) stands also clash.two a b is_a is_b)
+
+-- a number in one of the ranges is served
+pub is_served : (q : PolicyValue) (c : MadtContents) (sorted : List GsiRange) → IsPermutation (ranges_of q c.entries) sorted → (g : ℕ) → IsInRanges sorted g → IsServed q c g
+is_served q c sorted moved g (range, listed, here) =
+    let (s, found, is) = kept_from (λ (s : Standing MadtEntry). served_range q s.entry) c.entries range (Contains-permutation sorted (ranges_of q c.entries) range (IsPermutation-sym (ranges_of q c.entries) sorted moved) listed) in
+    (s.offset, range.first, (s.entry, found, serves q g s.entry range is here))
+
+-- ---- neighbours
+
+-- a range ends before the one behind it begins
+abbrev pub EndsBefore : GsiRange → GsiRange → Type 0
+EndsBefore a b = a.first + a.count ≤ b.first
+
+-- where each ends before its neighbour begins, all rise
+pub all_rise : (ranges : List GsiRange) → AllAdjacentBelow EndsBefore ranges (length ranges) → DoRangesRise ranges
+all_rise ranges near i j d before within = ends_before_later (λ r. r.first) (λ r. r.first + r.count) ranges (length ranges) (omega arith) (λ k d below. omega arith) near i j d before within

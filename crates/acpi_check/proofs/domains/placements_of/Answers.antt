@@ -1,0 +1,13 @@
+use Rattle.std.proofs.Common.{◌<◌, map, length, arith}
+use Rattle.std.proofs.lemmas.List.{append-nil}
+use Rattle.acpi_read.specs.Entries.{entry_value}
+use Rattle.acpi_check.proofs.Placements.{are_placements, no_placements}
+use Rattle.acpi_check.proofs.domains.placements_of.Goals as goal
+
+pub returns-in_default : goal.returns-in_default
+returns-in_default c =
+    let short : length c.args.table < 48 = grind (arith, c.in_default.ensures.ok, c.in_default.not-Ok) in
+    no_placements c.args.table c.new-placements.result.items short c.new-placements.ensures.items
+
+pub returns : goal.returns
+returns c = are_placements c.args.table (map entry_value c.loop-entry.yielded) c.loop-entry.placements.items (grind (arith, append-nil, c.loop-entry.invariant.1, c.in-None.ensures.steps)) c.loop-entry.invariant.0
