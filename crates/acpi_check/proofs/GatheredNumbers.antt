@@ -7,11 +7,11 @@ use Rattle.acpi_base.proofs.Elements.{no_element}
 use Rattle.acpi_check.specs.Named.{NamesAt}
 use Rattle.acpi_check.specs.Processors.{number_of, numbers_in, AreNumbers}
 use Rattle.acpi_check.specs.declared.processors.Key.{Key}
-use Rattle.acpi_check.proofs.Kept.{kept_has, kept_from}
+use Rattle.acpi_check.proofs.Kept.{kept_has, kept_from, none_of_short}
 use Rattle.acpi_check.proofs.NamedPass.{short_madt}
 
 -- the numbers of entries are those that entries name
-in_entries : {E : Type 0} (read : E → Option ℕ) (entries : List (Standing E)) (n : ℕ) → Contains (numbers_in read entries) n ↔ ((o : ℕ) × NamesAt read entries o n)
+pub in_entries : {E : Type 0} (read : E → Option ℕ) (entries : List (Standing E)) (n : ℕ) → Contains (numbers_in read entries) n ↔ ((o : ℕ) × NamesAt read entries o n)
 in_entries {E} read entries n = (from, λ (o, (e, stands, is)). kept_has (λ (s : Standing E). read s.entry) entries (record { offset = o; entry = e }) n stands is)
   where
     from : Contains (numbers_in read entries) n → (o : ℕ) × NamesAt read entries o n
@@ -34,3 +34,15 @@ are_numbers k whole entries gathered numbers all is rise same =
 pub no_numbers : (k : Key) (whole : List ℕ) → length whole < 44 → AreNumbers k (madt_contents whole) []
 no_numbers k whole short =
     record { rise = λ i j d before within. absurd (omega arith); all = λ n. (λ listed. absurd (no_element n listed), λ (o, names). absurd (short_madt (number_of k) whole short o n names)) }
+
+-- ---- numbers of a MADT's entries
+
+-- the numbers of all entries are the table's
+pub madt_numbers : (read : MadtEntry → Option ℕ) (whole : List ℕ) (entries : List (Standing (List ℕ))) (numbers : List ℕ) → entries ≡ entries_of 44 whole → numbers ≡ numbers_in read (said_by madt_entry entries)
+    → numbers ≡ numbers_in read (madt_contents whole).entries
+unfolding madt_contents
+madt_numbers read whole entries numbers all is = is ∙ ap (λ (es : List (Standing (List ℕ))). numbers_in read (said_by madt_entry es)) all
+
+-- a MADT that is too short has none
+pub no_madt_numbers : (read : MadtEntry → Option ℕ) (whole : List ℕ) (numbers : List ℕ) → length whole < 44 → numbers ≡ [] → numbers ≡ numbers_in read (madt_contents whole).entries
+no_madt_numbers read whole numbers short none = madt_numbers read whole [] numbers (sym (none_of_short 44 whole short)) none

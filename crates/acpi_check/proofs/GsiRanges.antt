@@ -1,11 +1,12 @@
 -- From sorted ranges of interrupt numbers to what the I/O APICs of a MADT serve.
 use Rattle.std.proofs.Common.{◌≡◌, ◌≢◌, ℕ, zero, suc, ◌+◌, ◌<◌, ◌≤◌, ◌&&◌, Bool, true, false, List, [], ◌∷◌, length, get_or, nat_lt, Option, Some, None, refl, sym, ◌∙◌, ap, subst, inl, inr, arith, true≢false}
-use Rattle.std.specs.Prelude.{AllPairs, Contains}
+use Rattle.std.specs.Prelude.{◌↔◌, AllPairs, Contains}
 use Rattle.std.specs.List.{filter_map, AllAdjacentBelow, IsDistinct}
 use Rattle.std.specs.List.Sorted.{IsPermutation}
 use Rattle.std.proofs.Math.Bool.{and_comm}
 use Rattle.std.proofs.lemmas.Bool.{lt-ltb, le-ltb}
-use Rattle.std.proofs.lemmas.List.Elements.{All-contains, All-from_recursion}
+use Rattle.std.proofs.lemmas.List.{get_or_default}
+use Rattle.std.proofs.lemmas.List.Elements.{Contains-get_or, All-contains, All-from_recursion}
 use Rattle.std.proofs.lemmas.List.Sorted.{Contains-permutation, IsPermutation-sym}
 use Rattle.std.proofs.lemmas.Map.Keys.{IsDistinct-head, IsDistinct-tail, IsDistinct-from_apart, IsDistinct-IsPermutation}
 use Rattle.std.proofs.lemmas.Option.{same_Some, none-some}
@@ -18,8 +19,12 @@ use Rattle.acpi_base.proofs.Elements.{first_or_later, no_element}
 use Rattle.acpi_base.proofs.HeldBytes.{cases_Option}
 use Rattle.acpi_graph.proofs.ClearOfNeighbours.{ends_before_later}
 use Rattle.acpi_check.specs.GsiRanges.{served_range, ranges_of, IsInRange, IsInRanges, DoRangesRise}
+use Rattle.acpi_check.specs.Processors.{numbers_in}
+use Rattle.acpi_check.specs.Served.{named_gsi}
 use Rattle.acpi_check.specs.declared.gsi_ranges.GsiRange.{GsiRange}
+use Rattle.acpi_check.proofs.GatheredNumbers.{in_entries}
 use Rattle.acpi_check.proofs.Kept.{kept_has, kept_from, none_of_short}
+use Rattle.acpi_check.proofs.ServedFaults.{names}
 
 -- ---- gathered
 
@@ -70,9 +75,9 @@ apart_entries q [] distinct s t one other differ a b is_a is_b = absurd (no_elem
 apart_entries q (u ∷ rest) distinct s t one other differ a b is_a is_b =
     elim (cases_Option (served_range q u.entry)) [
       | inr none ↦ elim (first_or_later u s rest one) [
-          | inl same ↦ none-some a (sym none ∙ ap kept same ∙ is_a)
+          | inl same ↦ absurd (none-some a (sym none ∙ ap kept same ∙ is_a))
           | inr s_later ↦ elim (first_or_later u t rest other) [
-              | inl same ↦ none-some b (sym none ∙ ap kept same ∙ is_b)
+              | inl same ↦ absurd (none-some b (sym none ∙ ap kept same ∙ is_b))
               | inr t_later ↦ apart_entries q rest (rw none at distinct) s t s_later t_later differ a b is_a is_b
             ]
         ]
@@ -126,3 +131,19 @@ EndsBefore a b = a.first + a.count ≤ b.first
 -- where each ends before its neighbour begins, all rise
 pub all_rise : (ranges : List GsiRange) → AllAdjacentBelow EndsBefore ranges (length ranges) → DoRangesRise ranges
 all_rise ranges near i j d before within = ends_before_later (λ r. r.first) (λ r. r.first + r.count) ranges (length ranges) (omega arith) (λ k d below. omega arith) near i j d before within
+
+-- ---- numbers in ranges
+
+-- a number in the range at a place is in one of the list
+pub in_this : (ranges : List GsiRange) (j : ℕ) (d : GsiRange) (g : ℕ) → j < length ranges → IsInRange (get_or ranges j d) g → IsInRanges ranges g
+in_this ranges j d g within here = (get_or ranges j d, Contains-get_or ranges j d within, here)
+
+-- where the numbers at all places are in ranges, all numbers are
+pub all_held : (ranges : List GsiRange) (numbers : List ℕ) → ((k : ℕ) → k < length numbers → IsInRanges ranges (get_or numbers k 0)) → (n : ℕ) → Contains numbers n → IsInRanges ranges n
+all_held ranges numbers held n (k, within, is) = subst (IsInRanges ranges) (get_or_default numbers k 0 n within ∙ is) (held k within)
+
+-- where all numbers that entries name are in ranges, all are served
+pub named_served : (q : PolicyValue) (c : MadtContents) (sorted : List GsiRange) (named numbers : List ℕ) → IsPermutation (ranges_of q c.entries) sorted → named ≡ numbers_in named_gsi c.entries
+    → ((n : ℕ) → Contains numbers n ↔ Contains named n) → ((n : ℕ) → Contains numbers n → IsInRanges sorted n) → AreNamedServed q c
+named_served q c sorted named numbers moved is same held io o g (e, stands, names_g) =
+    is_served q c sorted moved g (held g ((same g).1 (subst (λ (ns : List ℕ). Contains ns g) (sym is) ((in_entries named_gsi c.entries g).1 (o, (e, stands, (names g e).0 names_g))))))

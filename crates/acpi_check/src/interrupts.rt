@@ -8,6 +8,7 @@ ghost use Rattle.acpi_check.specs.Gathered.{span_value, served, AreSpansOf, IsFo
 ghost use Rattle.acpi_check.specs.Settled.{Settles};
 ghost use Rattle.acpi_check.specs.Set.{IsSet};
 
+use crate::gsi_ranges::{do_rise, served_ranges};
 use crate::refusal::Refusal;
 use crate::set::Set;
 use acpi_base::{Code, Policy, Witness};
@@ -51,11 +52,16 @@ pub fn served_spans(
     Ok(spans)
 }
 
-/// The least interrupt number that two I/O APICs of a MADT serve, and the first two that do.
+/// The least interrupt number that two I/O APICs of a MADT serve, and the first two that do. Spans, which name the I/O
+/// APICs, are sorted only where short ranges show that there are two.
 #[tactic(auto, using(crate::proofs::Clashes::is_found))]
 fn first_gsi_clash(alloc: Global, policy: &Policy, table: Table<'_>) -> Result<Clash, AllocError>
     ensures { IfOk result (IsFound (Serves policy.now (madt_contents table.entry))) }
 {
+    let ranges = served_ranges(alloc, policy, table.copied())?;
+    if do_rise(&ranges) {
+        return Ok(Clash::None);
+    }
     let spans = served_spans(alloc, policy, table)?;
     let (clash, _) = first_clash(alloc, spans)?;
     Ok(clash)

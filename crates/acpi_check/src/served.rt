@@ -1,6 +1,6 @@
 //! Stage 17: the interrupt numbers that entries of the MADT name.
 
-ghost use Rattle.std.specs.Prelude.{◌≡◌, ⊤, IfOk, MatchBool, MatchOption};
+ghost use Rattle.std.specs.Prelude.{◌≡◌, ⊤, IfOk, IsTrue, MatchBool, MatchOption};
 ghost use Rattle.acpi_base.specs.Across.{AreNamedServed, ServedFault};
 ghost use Rattle.acpi_base.specs.Madt.{madt_entry, madt_contents, AreInterruptsApart};
 ghost use Rattle.acpi_base.specs.Statements.{CleanBefore};
@@ -8,12 +8,15 @@ ghost use Rattle.acpi_base.specs.declared.code.Code.{Code};
 ghost use Rattle.acpi_base.specs.declared.stage.Stage.{Stage};
 ghost use Rattle.acpi_check.specs.Named.{IsKnown, IsUnknown, FindsUnknown};
 ghost use Rattle.acpi_check.specs.Passed.{FindsFault};
+ghost use Rattle.acpi_check.specs.Processors.{numbers_in};
 ghost use Rattle.acpi_check.specs.Served.{named_gsi, AreServed, DoSpansRise, IsHeld};
 ghost use Rattle.acpi_check.specs.Settled.{Settles};
 ghost use Rattle.acpi_check.specs.Set.{IsSet};
 
+use crate::gsi_ranges::{are_held, served_ranges};
 use crate::interrupts::served_spans;
 use crate::refusal::Refusal;
+use crate::search::in_rising_order;
 use crate::set::Set;
 use acpi_base::{Code, Policy, Witness};
 use acpi_graph::Span;
@@ -32,6 +35,33 @@ fn named_gsi(entry: &Entry<'_>) -> Option<u32>
         MadtEntry::NmiSource(nmi) => Some(nmi.gsi),
         _ => None,
     }
+}
+
+/// The interrupt numbers that overrides and NMI sources of a MADT name, in the entries' order.
+#[tactic(auto, using(crate::proofs::Gathered::gathering))]
+fn named_gsis(alloc: Global, table: Table<'_>) -> Result<Vec<u64>, AllocError>
+    ensures { IfOk result (λ numbers. numbers.items ≡ numbers_in named_gsi (madt_contents table.entry).entries) }
+{
+    let mut numbers = Vec::new(alloc);
+    let Ok(entries) = Entries::madt(table) else {
+        return Ok(numbers);
+    };
+    for entry in entries {
+        if let Some(number) = named_gsi(&entry) {
+            numbers.push(u64::from(number))?;
+        }
+    }
+    Ok(numbers)
+}
+
+/// Whether I/O APICs of a MADT are seen to serve all interrupt numbers that entries name. It costs two sorts of short
+/// records and one walk over both, and no search.
+fn are_all_served(alloc: Global, policy: &Policy, table: Table<'_>) -> Result<bool, AllocError>
+    ensures { IfOk result (λ all. IsTrue all → AreNamedServed policy.now (madt_contents table.entry)) }
+{
+    let ranges = served_ranges(alloc, policy, table.copied())?;
+    let numbers = in_rising_order(named_gsis(alloc, table)?);
+    Ok(are_held(&ranges, &numbers))
 }
 
 /// The interrupt numbers that each I/O APIC of a MADT serves, in rising order.
@@ -99,6 +129,10 @@ fn first_unserved(
     requires { AreInterruptsApart policy.now (madt_contents table) }
     ensures { IfOk result (FindsFault Stage.Served (AreNamedServed policy.now (madt_contents table.entry)) (ServedFault policy.now (madt_contents table.entry))) }
 {
+    let all_served = are_all_served(alloc, policy, table.copied())?;
+    if all_served {
+        return Ok(None);
+    }
     let spans = rising_spans(alloc, policy, table.copied())?;
     if spans.is_empty() {
         return Ok(None);

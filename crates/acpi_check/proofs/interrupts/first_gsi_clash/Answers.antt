@@ -1,0 +1,7 @@
+use Rattle.acpi_base.specs.Madt.{madt_contents}
+use Rattle.acpi_check.proofs.GsiRanges.{are_apart}
+use Rattle.acpi_check.proofs.interrupts.first_gsi_clash.Goals as goal
+
+pub returns-then-do_rise : goal.returns-then-do_rise
+returns-then-do_rise c =
+    are_apart c.args.policy.now (madt_contents c.args.table) c.in_ok-ranges.ranges.items (rw c.copied.ensures at c.in_ok-ranges.ensures) (rw c.deref.ensures.value at c.if-do_rise.ensures)
