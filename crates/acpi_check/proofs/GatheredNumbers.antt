@@ -3,6 +3,7 @@ use Rattle.std.proofs.Common.{◌≡◌, ℕ, ◌<◌, List, [], length, Option,
 use Rattle.std.specs.Prelude.{◌↔◌, AllPairs, Contains}
 use Rattle.acpi_base.specs.Entries.{Standing, entries_of, said_by}
 use Rattle.acpi_base.specs.Madt.{MadtEntry, madt_entry, madt_contents}
+use Rattle.acpi_base.specs.Pptt.{PpttEntry, pptt_entry, pptt_contents}
 use Rattle.acpi_base.proofs.Elements.{no_element}
 use Rattle.acpi_check.specs.Named.{NamesAt}
 use Rattle.acpi_check.specs.Processors.{number_of, numbers_in, AreNumbers}
@@ -46,3 +47,11 @@ madt_numbers read whole entries numbers all is = is ∙ ap (λ (es : List (Stand
 -- a MADT that is too short has none
 pub no_madt_numbers : (read : MadtEntry → Option ℕ) (whole : List ℕ) (numbers : List ℕ) → length whole < 44 → numbers ≡ [] → numbers ≡ numbers_in read (madt_contents whole).entries
 no_madt_numbers read whole numbers short none = madt_numbers read whole [] numbers (sym (none_of_short 44 whole short)) none
+
+-- ---- numbers of a PPTT's entries
+
+-- the numbers of all entries are the table's
+pub pptt_numbers : (read : PpttEntry → Option ℕ) (whole : List ℕ) (entries : List (Standing (List ℕ))) (numbers : List ℕ) → entries ≡ entries_of 36 whole → numbers ≡ numbers_in read (said_by pptt_entry entries)
+    → numbers ≡ numbers_in read (pptt_contents whole).entries
+unfolding pptt_contents
+pptt_numbers read whole entries numbers all is = is ∙ ap (λ (es : List (Standing (List ℕ))). numbers_in read (said_by pptt_entry es)) all

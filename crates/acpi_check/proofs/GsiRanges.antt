@@ -75,29 +75,29 @@ apart_entries q [] distinct s t one other differ a b is_a is_b = absurd (no_elem
 apart_entries q (u ∷ rest) distinct s t one other differ a b is_a is_b =
     elim (cases_Option (served_range q u.entry)) [
       | inr none ↦ elim (first_or_later u s rest one) [
-          | inl same ↦ absurd (none-some a (sym none ∙ ap kept same ∙ is_a))
-          | inr s_later ↦ elim (first_or_later u t rest other) [
-              | inl same ↦ absurd (none-some b (sym none ∙ ap kept same ∙ is_b))
-              | inr t_later ↦ apart_entries q rest (rw none at distinct) s t s_later t_later differ a b is_a is_b
-            ]
+        | inl same ↦ absurd (none-some a (sym none ∙ ap kept same ∙ is_a))
+        | inr s_later ↦ elim (first_or_later u t rest other) [
+          | inl same ↦ absurd (none-some b (sym none ∙ ap kept same ∙ is_b))
+          | inr t_later ↦ apart_entries q rest (rw none at distinct) s t s_later t_later differ a b is_a is_b
         ]
+      ]
       | inl (y, is) ↦
           let here : IsDistinct overlap (y ∷ ranges_of q rest) = rw is at distinct in
           let apart : (z : GsiRange) → Contains (ranges_of q rest) z → overlap y z ≡ false =
           λ z listed. All-contains (λ w. overlap y w ≡ false) (ranges_of q rest) z (All-from_recursion (λ w. overlap y w ≡ false) (ranges_of q rest) (IsDistinct-head overlap y (ranges_of q rest) here)) listed in
           elim (first_or_later u s rest one) [
             | inl s_first ↦ elim (first_or_later u t rest other) [
-                | inl t_first ↦ absurd (differ (ap (λ (w : Standing MadtEntry). w.offset) (sym s_first ∙ t_first)))
-                | inr t_later ↦
-                    let same : y ≡ a = same_Some y a (sym is ∙ ap kept s_first ∙ is_a) in
-                    subst (λ (w : GsiRange). overlap w b ≡ false) same (apart b (kept_has kept rest t b t_later is_b))
-              ]
+              | inl t_first ↦ absurd (differ (ap (λ (w : Standing MadtEntry). w.offset) (sym s_first ∙ t_first)))
+              | inr t_later ↦
+                  let same : y ≡ a = same_Some y a (sym is ∙ ap kept s_first ∙ is_a) in
+                  subst (λ (w : GsiRange). overlap w b ≡ false) same (apart b (kept_has kept rest t b t_later is_b))
+            ]
             | inr s_later ↦ elim (first_or_later u t rest other) [
-                | inl t_first ↦
-                    let same : y ≡ b = same_Some y b (sym is ∙ ap kept t_first ∙ is_b) in
-                    flips a b ∙ subst (λ (w : GsiRange). overlap w a ≡ false) same (apart a (kept_has kept rest s a s_later is_a))
-                | inr t_later ↦ apart_entries q rest (IsDistinct-tail overlap y (ranges_of q rest) here) s t s_later t_later differ a b is_a is_b
-              ]
+              | inl t_first ↦
+                  let same : y ≡ b = same_Some y b (sym is ∙ ap kept t_first ∙ is_b) in
+                  flips a b ∙ subst (λ (w : GsiRange). overlap w a ≡ false) same (apart a (kept_has kept rest s a s_later is_a))
+              | inr t_later ↦ apart_entries q rest (IsDistinct-tail overlap y (ranges_of q rest) here) s t s_later t_later differ a b is_a is_b
+            ]
           ]
     ]
   where

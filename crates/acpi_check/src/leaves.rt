@@ -10,13 +10,15 @@ ghost use Rattle.acpi_base.specs.declared.stage.Stage.{Stage};
 ghost use Rattle.acpi_check.specs.Leaves.{is_typed, leaf_id};
 ghost use Rattle.acpi_check.specs.Named.{IsKnown, IsUnknown, FindsUnknown};
 ghost use Rattle.acpi_check.specs.Passed.{FindsFault};
+ghost use Rattle.acpi_check.specs.Processors.{numbers_in};
 ghost use Rattle.acpi_check.specs.Settled.{Settles};
 ghost use Rattle.acpi_check.specs.Set.{IsSet};
 
 use crate::processors::{Key, numbers_of};
 use crate::refusal::Refusal;
-use crate::search::has;
+use crate::search::{has, in_rising_order};
 use crate::set::Set;
+use crate::subset::are_among;
 use acpi_base::{Code, Witness};
 use acpi_read::{Entries, Entry, MadtEntry, PpttEntry, Table};
 use std::alloc::{AllocError, Global};
@@ -61,6 +63,20 @@ fn leaf_id(entry: &Entry<'_>) -> Option<u32>
     (is_valid && is_leaf).then_some(head.id)
 }
 
+/// The IDs of a PPTT's leaves, in the entries' order.
+#[tactic(auto, using(crate::proofs::Gathered::gathering))]
+fn leaf_ids(alloc: Global, table: Table<'_>) -> Result<Vec<u64>, AllocError>
+    ensures { IfOk result (λ ids. ids.items ≡ numbers_in leaf_id (pptt_contents table.entry).entries) }
+{
+    let mut ids = Vec::new(alloc);
+    for entry in Entries::pptt(table) {
+        if let Some(id) = leaf_id(&entry) {
+            ids.push(u64::from(id))?;
+        }
+    }
+    Ok(ids)
+}
+
 /// The fault of a leaf whose ID is not among the UIDs, which rise.
 fn own_fault(uids: &[u64], entry: &Entry<'_>) -> Option<Witness>
     requires { AllPairs (λ i j. i < j) uids.now }
@@ -97,7 +113,8 @@ fn first_unknown(uids: &[u64], table: Table<'_>) -> Option<Witness>
 const HAS_LEAVES: u8 = 2;
 
 /// The fault of the first leaf of a PPTT that is no processor of a MADT. A PPTT before revision 2 has none, and of a MADT
-/// that is not wholly typed nothing is said.
+/// that is not wholly typed nothing is said. Leaves are looked up one by one only where their sorted IDs are not all seen
+/// among the UIDs.
 fn first_unknown_leaf(
     alloc: Global,
     madt: Table<'_>,
@@ -110,6 +127,10 @@ fn first_unknown_leaf(
         return Ok(None);
     }
     let uids = numbers_of(alloc, Key::Uid, madt)?;
+    let ids = in_rising_order(leaf_ids(alloc, pptt.copied())?);
+    if are_among(&ids, &uids) {
+        return Ok(None);
+    }
     Ok(first_unknown(&uids, pptt))
 }
 

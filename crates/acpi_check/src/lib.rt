@@ -39,6 +39,7 @@ mod set;
 mod slit;
 mod srat;
 mod stages;
+mod subset;
 mod tables;
 #[cfg(test)]
 mod tests;

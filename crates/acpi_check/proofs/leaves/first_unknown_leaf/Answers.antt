@@ -1,8 +1,8 @@
-use Rattle.std.proofs.Common.{◌≡◌, ◌∙◌, ap, arith}
+use Rattle.std.proofs.Common.{◌≡◌, refl, ◌∙◌, ap, arith}
 use Rattle.acpi_base.specs.Header.{HeaderValue}
 use Rattle.acpi_base.specs.Madt.{madt_contents}
 use Rattle.acpi_base.specs.Pptt.{pptt_contents}
-use Rattle.acpi_check.proofs.LeavesFaults.{revision, leaves_found}
+use Rattle.acpi_check.proofs.LeavesFaults.{revision, leaves_found, all_known}
 use Rattle.acpi_check.proofs.leaves.first_unknown_leaf.Goals as goal
 use Rattle.acpi_check.proofs.leaves.first_unknown_leaf.Goals.{then-header-lt-HAS_LEAVES-via-then-header-lt-HAS_LEAVES, then-header-lt-HAS_LEAVES-via-else-header-lt-HAS_LEAVES+then-not-is_wholly_typed}
 
@@ -15,8 +15,13 @@ returns-then-header-lt-HAS_LEAVES c =
       | then-header-lt-HAS_LEAVES-via-else-header-lt-HAS_LEAVES+then-not-is_wholly_typed w ↦ absurd ((rw w.copied.ensures at w.if-not-is_wholly_typed.ensures) typed)
     ]
 
+pub returns-then-are_among : goal.returns-then-are_among
+returns-then-are_among c =
+    all_known (madt_contents c.args.madt) (pptt_contents c.args.pptt) c.in_ok-uids.uids.items c.in_ok-leaf_ids.field-0.items c.in_rising_order-ids.result.items c.in_ok-uids.ensures (rw c.copied-2.ensures at c.in_ok-leaf_ids.ensures) c.in_rising_order-ids.ensures.same
+    ((rw (c.deref.ensures.value, c.deref-2.ensures.value) at c.if-are_among.ensures) refl)
+
 pub returns : goal.returns
 returns c =
     let is : c.header.result.revision ≡ (pptt_contents c.args.pptt).revision = ap (λ (h : HeaderValue). h.revision) c.header.ensures.fields ∙ revision c.args.pptt in
     leaves_found (madt_contents c.args.madt) (pptt_contents c.args.pptt) c.in_ok-uids.uids.items c.in_ok-uids.ensures (omega (arith, c.if-header-lt-HAS_LEAVES.false)) (rw c.copied.ensures at c.if-not-is_wholly_typed.ensures) c.first_unknown.result
-    (rw c.deref.ensures.value at c.first_unknown.ensures)
+    (rw c.deref-3.ensures.value at c.first_unknown.ensures)

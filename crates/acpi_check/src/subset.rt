@@ -1,0 +1,16 @@
+//! A comparison of two lists of numbers that rise.
+
+ghost use Rattle.std.specs.Prelude.{ℕ, Contains, IsTrue};
+
+/// Whether the numbers that are asked for are seen among the known ones. Where both rise, one walk over them sees it.
+pub fn are_among(asked: &[u64], known: &[u64]) -> bool
+    ensures { IsTrue result → ((n : ℕ) → Contains asked.now n → Contains known.now n) }
+{
+    let mut place = 0;
+    for number in known {
+        if place < asked.len() && asked[place] == *number {
+            place += 1;
+        }
+    }
+    place == asked.len()
+}
