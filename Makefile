@@ -21,6 +21,8 @@ test:
 	rt ci
 	tests/documents.sh
 	tests/rows/run.py $(program)
+	tests/rows/examples.py $(program)
+	tests/tools.sh $(program)
 	tests/program.sh $(program)
 
 # Prints speed and memory beside other programs; not part of the tests.
