@@ -97,9 +97,9 @@ done
 codes=$(sed -n 's/^code_number code\.\([A-Za-z]*\) = \([0-9]*\)$/\2 \1/p' crates/acpi_base/specs/Codes.antt)
 described=$(sed -n 's/^### \([0-9]* [A-Za-z]*\)$/\1/p' docs/FAULTS.md)
 same 'codes (<) and parts of FAULTS.md (>)' "$codes" "$described"
-indexed=$(sed -n '/^## Index$/,/^## How/p' docs/FAULTS.md | grep -o '[0-9]* \[[A-Za-z]*\](#[a-z0-9-]*)' | sed 's/\[\(.*\)\](#.*/\1/')
+indexed=$(sed -n '/^## Index$/,/^## How/p' docs/FAULTS.md | grep -o '[0-9][0-9]* \[[A-Za-z]*\](#[a-z0-9-]*)' | sed 's/\[\(.*\)\](#.*/\1/')
 same 'parts of FAULTS.md (<) and its index by code (>)' "$described" "$indexed"
-by_name=$(sed -n '/^## Index$/,/^## How/p' docs/FAULTS.md | grep -o '\[[A-Za-z]*\](#[0-9]*-[a-z]*) [0-9]*' | sed 's/\[\(.*\)\](#.*) \(.*\)/\2 \1/')
+by_name=$(sed -n '/^## Index$/,/^## How/p' docs/FAULTS.md | grep -o '\[[A-Za-z]*\](#[0-9]*-[a-z]*) [0-9][0-9]*' | sed 's/\[\(.*\)\](#.*) \(.*\)/\2 \1/')
 same 'parts of FAULTS.md (<) and its index by name (>)' "$described" "$by_name"
 complete=$(awk '/^### [0-9]/ { part = $2 " " $3 } /^## / { part = "" } part != "" && /^- [A-Z][a-z]*:/ { print part, $2 }' docs/FAULTS.md)
 asked=$(while read -r part; do printf '%s %s\n' "$part" Wrong: "$part" Fields: "$part" Numbers: "$part" System: "$part" Fix: "$part" Example:; done <<<"$described")
