@@ -1,5 +1,6 @@
 #!/usr/bin/env bash
-# Runs the recipes of docs/RECIPES.md whose tools are on the machine, and compares what they print with the page.
+# Runs the recipes of docs/RECIPES.md and docs/TROUBLESHOOTING.md whose tools are on the machine, and compares what they print
+# with the page.
 # usage: tests/recipes.sh PROGRAM; it names those that it left out, and the last line is 'recipes: N passed, M failed, L left out'.
 # SECONDS_TO_BOOT says how long QEMU may run, where the page's own number is not enough.
 #
@@ -35,7 +36,7 @@ awk -v folder="$scratch/blocks" '
   }
   /^```/ { inside = 0; next }
   inside && target != "" { print > target }
-' docs/RECIPES.md
+' docs/RECIPES.md docs/TROUBLESHOOTING.md
 
 # lacks NEEDS: the words of what a recipe needs that this machine lacks.
 lacks() {
