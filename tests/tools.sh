@@ -152,6 +152,9 @@ explained_lines() {
   explains 'no 10 Overlap 0x90 0xb8 0x100000000\n' 'the other entry at offset 0xb8 (184), at 0xffe103c:' --rsdp 0xf59d0 "$images/sb-pc-nvdimm-numa.img.txt"
   explains 'no 4 PmEventLength 0x58 0x0 0x0\n' 'the field at offset 0x58 (88), at 0x2058:' table.sum
   explains 'no 4 NoFadt 0x0 0x0 0x0\n' 'the slots list: FACP, APIC, HPET, MCFG, WAET' "$images/ovmf-q35.img.txt"
+  explains 'no 3 TableOut 0x1 0x3000 0x0\n' 'all 56 bytes are held: is this the image that the line is of?' table.sum
+  sed '/^00 00 00 00 00 00 00 00 00 00 00 00 00 00 00 00$/d' "$scratch/table.sum" >"$scratch/table.cut"
+  explains 'no 3 TableOut 0x0 0x2000 0x0\n' 'of the 116 bytes that have to be held the first 68 are; the next one, at 0x2044, is not' table.cut
   explains 'no 3 TableOut 0x1 0x3000 0x0\n' '(-- is a byte that the image does not hold)' "$images/ovmf-q35.img.txt"
   printf 'no 3 RsdpSum 0x0 0x0 0x0\n' >"$scratch/line"
   input="$scratch/line" refuses 'no line that acpiset check or find writes' explain

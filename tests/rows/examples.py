@@ -1,6 +1,7 @@
 #!/usr/bin/env python3
 """Runs the built program on the examples of docs/FAULTS.md: each one's bytes put into the set of
-tests/images/example.img.txt make it print the line that the example has.
+tests/images/example.img.txt make it print the line that the example has. And tools/explain finds in each image what the
+line is about.
 
 usage: examples.py PROGRAM; the last line is 'examples: N passed, M failed'."""
 
@@ -8,6 +9,7 @@ import os
 import re
 import subprocess
 import sys
+import tempfile
 
 TOP = os.path.join(os.path.dirname(os.path.abspath(__file__)), "..", "..")
 PART = re.compile(r"^### (\d+) (\w+)$(.*?)(?=^##|\Z)", re.M | re.S)
@@ -48,7 +50,19 @@ def changed(image, changes):
     return image
 
 
-def wrong(program, image, number, name, part):
+def unexplained(line, text):
+    """What tools/explain does not find in the image that the line is of."""
+    with tempfile.NamedTemporaryFile() as file:
+        file.write(text)
+        file.flush()
+        words = [f"{TOP}/tools/explain", "--rsdp", "e0000", file.name]
+        run = subprocess.run(words, input=line.encode(), capture_output=True, timeout=60)
+    _, _, found = run.stdout.decode().partition("In the image:")
+    is_found = run.returncode == 0 and not run.stderr and re.search(r"0x[0-9a-f]+ |the slots list", found)
+    return "" if is_found and "is this the image" not in found else f"explain: {run.stderr.decode()}{found}"
+
+
+def wrong(program, image, name, part):
     """What is wrong with a part's example; nothing where it is right."""
     example = EXAMPLE.search(part)
     if not example:
@@ -56,9 +70,10 @@ def wrong(program, image, number, name, part):
     changes, line = example.groups()
     if line.split()[2] != name:
         return f"the example's line is '{line}'"
-    run = subprocess.run([program, "check", "--rsdp", "e0000"], input=text_of(changed(image, changes)), capture_output=True, timeout=60)
+    text = text_of(changed(image, changes))
+    run = subprocess.run([program, "check", "--rsdp", "e0000"], input=text, capture_output=True, timeout=60)
     told = (run.returncode, run.stdout.decode(), run.stderr.decode())
-    return "" if told == (1, line + "\n", "") else f"{told}, not {line}"
+    return unexplained(line, text) if told == (1, line + "\n", "") else f"{told}, not {line}"
 
 
 def main():
@@ -67,7 +82,7 @@ def main():
         image = image_of(file.read())
     with open(f"{TOP}/docs/FAULTS.md") as file:
         parts = PART.findall(file.read())
-    faults = {f"{number} {name}": wrong(program, image, number, name, part) for number, name, part in parts}
+    faults = {f"{number} {name}": wrong(program, image, name, part) for number, name, part in parts}
     run = subprocess.run([program, "check"], input=text_of(image), capture_output=True, timeout=60)
     faults["the set itself"] = "" if run.stdout == b"yes\n" else run.stdout.decode()
     for name, fault in faults.items():
