@@ -83,6 +83,7 @@ raw_tables() {
   makes '' 'no 5 NoFacs 0x0 0x0 0x0' 'the FADT names no FACS: check will say NoFacs' tables2image named.dat
   makes '' 'no 4 NoFadt 0x0 0x0 0x0' 'no file has a FADT: check will say NoFadt' tables2image hpet.dat
   status=2 refuses 'usage: tables2image FILE..' tables2image
+  status=2 refuses 'usage: tables2image FILE..' tables2image --help
   refuses 'absent.dat: no such file' tables2image facp.dat absent.dat
   refuses '/dev/null: not a regular file' tables2image /dev/null
   refuses 'empty.dat: empty' tables2image facp.dat empty.dat
@@ -123,6 +124,7 @@ dumped_texts() {
   refuses 'absent.txt: ' acpidump2image absent.txt
   refuses 'folder: cannot be read' acpidump2image folder
   status=2 refuses 'usage: acpidump2image [FILE]' acpidump2image whole.txt zeros.txt
+  status=2 refuses 'usage: acpidump2image [FILE]' acpidump2image --help
 }
 
 # explains LINE TEXT ARGUMENTS..: the part that is printed of this line of acpiset has the text.
@@ -165,6 +167,7 @@ explained_lines() {
   input="$scratch/line" refuses 'absent: cannot be read' explain absent
   input="$scratch/line" status=2 refuses 'usage: ' explain --rsdp g
   input="$scratch/line" status=2 refuses 'usage: ' explain one two
+  input="$scratch/line" status=2 refuses 'usage: ' explain --help
 }
 
 # Each fault that the document has a part on.
