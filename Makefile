@@ -45,14 +45,13 @@ install: $(BINARY)
 	for tool in $(tools); do install -D tools/$$tool $(bin)/acpiset-$$tool || exit; done
 	install -D -m 644 man/acpiset.1 $(man)/man1/acpiset.1
 	install -D -m 644 man/acpiset-faults.7 $(man)/man7/acpiset-faults.7
-	install -d $(doc)
-	install -m 644 $(documents) $(doc)
+	for page in $(documents); do install -D -m 644 $$page $(doc)/$$page || exit; done
 
 uninstall:
 	rm -f $(bin)/acpiset $(addprefix $(bin)/acpiset-,$(tools))
 	rm -f $(man)/man1/acpiset.1 $(man)/man7/acpiset-faults.7
-	rm -f $(addprefix $(doc)/,$(notdir $(documents)))
-	-rmdir $(doc)
+	rm -f $(addprefix $(doc)/,$(documents))
+	-rmdir $(doc)/docs $(doc)
 
 # An archive of what `install` puts, with the sum of each file. It may be unpacked anywhere. The program needs x86-64
 # Linux and the C library alone: glibc 2.34 or later.

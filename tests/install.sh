@@ -34,7 +34,7 @@ wanted=$({
   for tool in tools/*; do echo "bin/acpiset-${tool#tools/}"; done
   echo share/man/man1/acpiset.1
   echo share/man/man7/acpiset-faults.7
-  for document in README.md CHANGELOG.md CONTRIBUTING.md docs/*.md; do echo "share/doc/acpiset/${document#docs/}"; done
+  for document in README.md CHANGELOG.md CONTRIBUTING.md docs/*.md; do echo "share/doc/acpiset/$document"; done
 } | LC_ALL=C sort)
 same 'files that are installed' "$(cd "$usr" && find . -type f | sed 's|^\./||' | LC_ALL=C sort)" "$wanted"
 same 'the program' "$("$usr/bin/acpiset" check <tests/images/example.img.txt)" yes
