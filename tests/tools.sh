@@ -141,6 +141,7 @@ explained_lines() {
   local verdict set
   explains 'yes\n' 'every rule'
   explains 'yes' 'every rule'
+  explains 'yes\r\n' 'every rule'
   explains 'no rsdp\n' '--rsdp'
   explains 'rsdp none\n' '--rsdp'
   explains 'rsdp 0xf59e0\n' '--rsdp'
