@@ -1,7 +1,7 @@
 -- From sorted ranges of interrupt numbers to what the I/O APICs of a MADT serve.
-use Rattle.std.proofs.Common.{◌≡◌, ◌≢◌, ℕ, zero, suc, ◌+◌, ◌<◌, ◌≤◌, ◌&&◌, Bool, true, false, List, [], ◌∷◌, length, get_or, nat_lt, Option, Some, None, refl, sym, ◌∙◌, ap, subst, inl, inr, arith, true≢false}
-use Rattle.std.specs.Prelude.{◌↔◌, AllPairs, Contains}
-use Rattle.std.specs.List.{filter_map, AllAdjacentBelow, IsDistinct}
+use Rattle.std.proofs.Common.{◌≡◌, ◌≢◌, ℕ, ◌+◌, ◌<◌, ◌≤◌, ◌&&◌, Bool, true, false, List, [], ◌∷◌, length, get_or, nat_lt, Option, Some, refl, sym, ◌∙◌, ap, subst, inl, inr, arith, true≢false}
+use Rattle.std.specs.Prelude.{◌↔◌, Contains}
+use Rattle.std.specs.List.{AllAdjacentBelow, IsDistinct}
 use Rattle.std.specs.List.Sorted.{IsPermutation}
 use Rattle.std.proofs.Math.Bool.{and_comm}
 use Rattle.std.proofs.lemmas.Bool.{lt-ltb, le-ltb}
@@ -10,10 +10,9 @@ use Rattle.std.proofs.lemmas.List.Elements.{Contains-get_or, All-contains, All-f
 use Rattle.std.proofs.lemmas.List.Sorted.{Contains-permutation, IsPermutation-sym}
 use Rattle.std.proofs.lemmas.Map.Keys.{IsDistinct-head, IsDistinct-tail, IsDistinct-from_apart, IsDistinct-IsPermutation}
 use Rattle.std.proofs.lemmas.Option.{same_Some, none-some}
-use Rattle.acpi_base.specs.Across.{IsServed, HasIoApic, AreNamedServed}
-use Rattle.acpi_base.specs.Clashes.{AreApart, IsClash}
+use Rattle.acpi_base.specs.Across.{IsServed, AreNamedServed}
 use Rattle.acpi_base.specs.Entries.{Standing, entries_of, said_by}
-use Rattle.acpi_base.specs.Madt.{MadtEntry, IoApic, MadtContents, madt_entry, madt_contents, ServesFrom, Serves, AreInterruptsApart}
+use Rattle.acpi_base.specs.Madt.{MadtEntry, IoApic, MadtContents, madt_entry, madt_contents, ServesFrom, AreInterruptsApart}
 use Rattle.acpi_base.specs.Policy.{PolicyValue, inputs_of}
 use Rattle.acpi_base.proofs.Elements.{first_or_later, no_element}
 use Rattle.acpi_base.proofs.HeldBytes.{cases_Option}

@@ -1,12 +1,12 @@
 -- The placements that are gathered from an SRAT, and whether they put a processor in two domains.
-use Rattle.std.proofs.Common.{◌≡◌, ◌≢◌, ℕ, zero, suc, ◌+◌, ◌<◌, ◌≤◌, List, [], length, get_or, Option, false, Ordering, refl, sym, ◌∙◌, ap, subst, inl, inr, arith, add-one}
-use Rattle.std.specs.Prelude.{◌↔◌, AllPairs, Contains}
+use Rattle.std.proofs.Common.{◌≡◌, ◌≢◌, ℕ, zero, suc, ◌<◌, ◌≤◌, List, [], length, get_or, Option, false, Ordering, refl, sym, ◌∙◌, ap, subst, inl, inr, arith, add-one}
+use Rattle.std.specs.Prelude.{AllPairs, Contains}
 use Rattle.std.specs.Cmp.{IsTotalOrder}
 use Rattle.std.specs.List.{filter_map, AllAdjacentBelow}
 use Rattle.std.specs.List.Sorted.{IsPermutation, IsSorted}
 use Rattle.std.specs.Ordering.{nat_cmp, ordering_then, is_lt}
 use Rattle.std.proofs.Math.Nat.{eq-or-lt_of_le}
-use Rattle.std.proofs.lemmas.Bool.{cases_lt, cases_order}
+use Rattle.std.proofs.lemmas.Bool.{cases_lt}
 use Rattle.std.proofs.lemmas.Bool.Decides.{nat_tests}
 use Rattle.std.proofs.lemmas.Cmp.{nat_cmp_total, on_total, then_total}
 use Rattle.std.proofs.lemmas.List.{get_or_default}
@@ -17,7 +17,6 @@ use Rattle.acpi_base.specs.Entries.{Standing, entries_of, said_by}
 use Rattle.acpi_base.specs.Madt.{MadtContents}
 use Rattle.acpi_base.specs.Srat.{SratEntry, SratContents, srat_entry, srat_contents}
 use Rattle.acpi_base.specs.declared.policy.Processors.{Processors}
-use Rattle.acpi_base.proofs.Elements.{no_element}
 use Rattle.acpi_check.specs.Domains.{placement_of, ArePlacements, DoAgree}
 use Rattle.acpi_check.specs.declared.domains.Placement.{Placement}
 use Rattle.acpi_check.proofs.DomainsPass.{puts}

@@ -1,4 +1,3 @@
-use Rattle.std.proofs.Common.{◌≤◌, length}
 use Rattle.std.specs.List.{AllAdjacentBelow}
 use Rattle.acpi_check.proofs.Placements.{Agree}
 use Rattle.acpi_check.proofs.domains.do_agree.Given as goal
