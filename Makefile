@@ -29,6 +29,7 @@ test:
 	rt ci
 	tests/documents.sh
 	tests/rows/run.py $(program)
+	tests/rows/texts.py $(program)
 	tests/rows/examples.py $(program)
 	tests/tools.sh $(program)
 	tests/install.sh $(program)

@@ -1,8 +1,10 @@
 """Writes the generated image texts.
 
 usage: inputs.py run FILE              one run, just below 64 MiB of text
-       inputs.py ORDER COUNT FILE      COUNT rows of 16 bytes, each with its own address; ORDER is
-                                       rising-apart, falling-apart or falling-touching
+       inputs.py ORDER SIZE COUNT FILE COUNT rows of SIZE bytes, each with its own address; ORDER is one of
+                                       ORDERS below
+       inputs.py one-table COUNT FILE  COUNT slots that list one table of 16 MiB
+       inputs.py nested COUNT FILE     COUNT tables 64 bytes apart, all of which end where the last does
        inputs.py KIND COUNT FILE       a set with COUNT entries of a KIND, one of KINDS below
 """
 
@@ -39,11 +41,26 @@ def long_run():
     return address + rows(memory)
 
 
-def many_rows(order, count):
-    distance = ROW if order == "falling-touching" else 2 * ROW
-    numbers = range(count) if order == "rising-apart" else reversed(range(count))
-    row = rows(bytes(ROW))
-    return "".join(f"@{BASE + number * distance:x}\n{row}" for number in numbers)
+def shuffled(count):
+    numbers = list(range(count))
+    random.Random(1).shuffle(numbers)
+    return numbers
+
+
+# the distance from row to row, in rows, and the order in which they come
+ORDERS = {
+    "rising-apart": (2, range),
+    "falling-apart": (2, lambda count: range(count - 1, -1, -1)),
+    "shuffled-apart": (2, shuffled),
+    "falling-touching": (1, lambda count: range(count - 1, -1, -1)),
+    "holes-last": (1, lambda count: [*range(0, count, 2), *range(1, count, 2)]),
+}
+
+
+def many_rows(order, size, count):
+    distance, numbers = ORDERS[order]
+    row = bytes(size).hex(" ") + "\n"
+    return "".join(f"@{(BASE << 4) + number * distance * size:x}\n{row}" for number in numbers(count))
 
 
 def table(signature, body, revision=1):
@@ -86,12 +103,6 @@ def node(parent, flags=0, uid=0, resources=()):
 
 def cache(next_level):
     return struct.pack("<BBHIIIIBBH", 1, 24, 0, 0, next_level, 0, 0, 0, 0, 64)
-
-
-def shuffled(count):
-    numbers = list(range(count))
-    random.Random(1).shuffle(numbers)
-    return numbers
 
 
 def madt(*entries):
@@ -161,29 +172,57 @@ KINDS = {
 }
 
 
+def pieces_text(pieces):
+    """Bytes without blanks: an RSDP that names the first piece, and the pieces."""
+    rsdp = with_checksum(struct.pack("<8sB6sBI", b"RSD PTR ", 0, b"BENCH ", 0, pieces[0][0]), 8)
+    line = 1 << 14
+    return "".join(
+        f"@{address:x}\n" + "".join(data[at : at + line].hex() + "\n" for at in range(0, len(data), line))
+        for address, data in ((0xE0000, rsdp), *pieces)
+    )
+
+
+LISTED_AT = 0x20000000
+
+
+def listed(addresses, memory):
+    """An RSDT with slots that hold these addresses, and the bytes at LISTED_AT."""
+    return pieces_text([(0x10000000, table(b"RSDT", struct.pack(f"<{len(addresses)}I", *addresses))), (LISTED_AT, memory)])
+
+
+def one_table(count):
+    return listed([LISTED_AT] * count, table(b"DATA", random.Random(1).randbytes((1 << 24) - 36)))
+
+
+def nested(count):
+    """64 bytes of each table sum to 0, and so do those of all behind it."""
+    heads = (with_checksum(struct.pack("<4sI56x", b"DATA", 64 * left), 9) for left in range(count, 0, -1))
+    return listed([LISTED_AT + 64 * number for number in range(count)], b"".join(heads))
+
+
+SETS = {"one-table": one_table, "nested": nested}
+
+
 def set_of(kind, count):
-    """An RSDP, an RSDT, a FADT of hardware-reduced ACPI, and the tables of the kind; bytes without blanks."""
+    """An RSDP, an RSDT, a FADT of hardware-reduced ACPI, and the tables of the kind."""
     fadt = table(b"FACP", bytes(76) + struct.pack("<I", 1 << 20))
     pieces = [(0x2000, fadt)]
     for whole in KINDS[kind](count):
         last, before = pieces[-1]
         pieces.append((max(0x100000, (last + len(before) + 63) // 64 * 64), whole))
     rsdt = table(b"RSDT", b"".join(struct.pack("<I", address) for address, _ in pieces))
-    rsdp = with_checksum(struct.pack("<8sB6sBI", b"RSD PTR ", 0, b"BENCH ", 0, 0x1000), 8)
-    line = 1 << 14
-    return "".join(
-        f"@{address:x}\n" + "".join(data[at : at + line].hex() + "\n" for at in range(0, len(data), line))
-        for address, data in ((0xE0000, rsdp), (0x1000, rsdt), *pieces)
-    )
+    return pieces_text([(0x1000, rsdt), *pieces])
 
 
 def text_of(what):
     if what == ["run"]:
         return long_run()
-    kind, count = what
-    if kind in KINDS:
-        return set_of(kind, int(count))
-    return many_rows(kind, int(count))
+    kind, *numbers = what
+    if kind in SETS:
+        return SETS[kind](*map(int, numbers))
+    if kind in ORDERS:
+        return many_rows(kind, *map(int, numbers))
+    return set_of(kind, *map(int, numbers))
 
 
 def main():

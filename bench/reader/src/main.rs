@@ -1,6 +1,8 @@
 //! A plain reader of image text: what an engineer would write who proves nothing. It reads the text on
-//! standard input as `acpiset` does, with the same refusals, and prints how much it holds.
+//! standard input as `acpiset` does, with the same refusals, and prints how much it holds. `reader` sorts the rows at the
+//! end; `reader --map` keeps them in an ordered map.
 
+use std::collections::BTreeMap;
 use std::fmt;
 use std::io::{self, Read};
 use std::process::ExitCode;
@@ -33,58 +35,101 @@ impl fmt::Display for Refusal {
     }
 }
 
-/// Bytes, from an address on.
-struct Segment {
-    base: u64,
-    bytes: Vec<u8>,
+/// Rows as they come, and at the end an image.
+trait Rows: Default {
+    /// Puts bytes in at an address. On an `Err` an address is held already.
+    fn add(&mut self, base: u64, bytes: &[u8]) -> Result<(), u64>;
+
+    /// The runs of bytes between which an address is not held, in rising order. On an `Err` an address is held twice.
+    fn finish(self) -> Result<Image, u64>;
 }
 
-impl Segment {
-    /// The address behind the last byte, which may be 2^64.
-    fn end(&self) -> u128 {
-        self.base as u128 + self.bytes.len() as u128
-    }
-}
-
-/// Segments in the order of their addresses, of which no two overlap or touch.
+/// The bytes in the order of their addresses, and where each run begins: its address, and its place among the bytes.
 #[derive(Default)]
 struct Image {
-    segments: Vec<Segment>,
+    bytes: Vec<u8>,
+    runs: Vec<(u64, usize)>,
 }
 
 impl Image {
-    /// Puts bytes in at an address. On an `Err` an address is held already: the least one.
+    /// Appends bytes behind all others. On an `Err` the address is held already.
+    fn append(&mut self, base: u64, bytes: &[u8]) -> Result<(), u64> {
+        let end = self.runs.last().map(|(base, start)| *base as u128 + (self.bytes.len() - start) as u128);
+        match end {
+            Some(end) if end > base as u128 => return Err(base),
+            Some(end) if end == base as u128 => {}
+            _ => self.runs.push((base, self.bytes.len())),
+        }
+        self.bytes.extend_from_slice(bytes);
+        Ok(())
+    }
+}
+
+/// Rows in the order in which they come, which are sorted at the end: what is held twice is found only then.
+#[derive(Default)]
+struct SortedAtTheEnd {
+    bytes: Vec<u8>,
+    /// Address, place among the bytes, length.
+    rows: Vec<(u64, usize, usize)>,
+}
+
+impl Rows for SortedAtTheEnd {
+    fn add(&mut self, base: u64, bytes: &[u8]) -> Result<(), u64> {
+        match self.rows.last_mut() {
+            Some((last, _, length)) if *last as u128 + *length as u128 == base as u128 => *length += bytes.len(),
+            _ => self.rows.push((base, self.bytes.len(), bytes.len())),
+        }
+        self.bytes.extend_from_slice(bytes);
+        Ok(())
+    }
+
+    fn finish(mut self) -> Result<Image, u64> {
+        if let [(base, 0, _)] = self.rows[..] {
+            return Ok(Image { bytes: self.bytes, runs: vec![(base, 0)] });
+        }
+        self.rows.sort_unstable_by_key(|(base, ..)| *base);
+        let mut image = Image { bytes: Vec::with_capacity(self.bytes.len()), runs: Vec::new() };
+        for (base, start, length) in self.rows {
+            image.append(base, &self.bytes[start..start + length])?;
+        }
+        Ok(image)
+    }
+}
+
+/// Runs in an ordered map by their addresses, joined where they touch.
+#[derive(Default)]
+struct Mapped {
+    runs: BTreeMap<u64, Vec<u8>>,
+}
+
+impl Rows for Mapped {
     fn add(&mut self, base: u64, bytes: &[u8]) -> Result<(), u64> {
         let end = base as u128 + bytes.len() as u128;
-        let after = self.segments.partition_point(|segment| segment.base <= base);
-        let (front, back) = self.segments.split_at_mut(after);
-        let before = front.last_mut();
-        if before.as_ref().is_some_and(|segment| segment.end() > base as u128) {
-            return Err(base);
-        }
-        let next = back.first().map(|segment| segment.base);
+        let next = self.runs.range(base..).next().map(|(next, _)| *next);
         if let Some(next) = next.filter(|next| (*next as u128) < end) {
             return Err(next);
         }
-        let meets_next = next.is_some_and(|next| next as u128 == end);
-        match before.filter(|segment| segment.end() == base as u128) {
-            Some(before) => {
-                before.bytes.extend_from_slice(bytes);
-                if meets_next {
-                    before.bytes.append(&mut back[0].bytes);
-                    self.segments.remove(after);
-                }
+        let before = self.runs.range_mut(..base).next_back();
+        let before_end = before.as_ref().map(|(first, run)| **first as u128 + run.len() as u128);
+        match before {
+            Some(_) if before_end > Some(base as u128) => Err(base),
+            Some((_, run)) if before_end == Some(base as u128) => {
+                run.extend_from_slice(bytes);
+                Ok(())
             }
-            None if meets_next => {
-                back[0].bytes.splice(0..0, bytes.iter().copied());
-                back[0].base = base;
-            }
-            None => {
-                let bytes = bytes.to_vec();
-                self.segments.insert(after, Segment { base, bytes });
+            _ => {
+                self.runs.insert(base, bytes.to_vec());
+                Ok(())
             }
         }
-        Ok(())
+    }
+
+    fn finish(self) -> Result<Image, u64> {
+        let mut image = Image::default();
+        for (base, bytes) in self.runs {
+            image.append(base, &bytes)?;
+        }
+        Ok(image)
     }
 }
 
@@ -145,8 +190,8 @@ fn parse_line(line: &[u8], bytes: &mut Vec<u8>) -> Option<Line> {
     }
 }
 
-fn read_image(text: &[u8]) -> Result<Image, Refusal> {
-    let mut image = Image::default();
+fn read_image<R: Rows>(text: &[u8]) -> Result<Image, Refusal> {
+    let mut rows = R::default();
     let mut bytes = Vec::new();
     let mut next = None;
     let mut through = 0;
@@ -165,26 +210,28 @@ fn read_image(text: &[u8]) -> Result<Image, Refusal> {
                     return Err(Refusal::PastEnd(number));
                 }
                 let base = (end - bytes.len() as u128) as u64;
-                image.add(base, &bytes).map_err(Refusal::Twice)?;
+                rows.add(base, &bytes).map_err(Refusal::Twice)?;
                 next = Some(end);
             }
         }
     }
-    Ok(image)
+    rows.finish().map_err(Refusal::Twice)
 }
 
 fn run() -> Result<Image, Refusal> {
     let mut text = Vec::new();
     let mut reader = io::stdin().lock().take(MOST_TEXT as u64 + 1);
     reader.read_to_end(&mut text).map_err(|_| Refusal::Device)?;
-    read_image(&text)
+    match std::env::args().nth(1).as_deref() {
+        Some("--map") => read_image::<Mapped>(&text),
+        _ => read_image::<SortedAtTheEnd>(&text),
+    }
 }
 
 fn main() -> ExitCode {
     match run() {
         Ok(image) => {
-            let held: usize = image.segments.iter().map(|segment| segment.bytes.len()).sum();
-            println!("{} runs, {held} bytes", image.segments.len());
+            println!("{} runs, {} bytes", image.runs.len(), image.bytes.len());
             ExitCode::SUCCESS
         }
         Err(refusal) => {

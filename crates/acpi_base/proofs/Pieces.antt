@@ -7,3 +7,4 @@ pub mod Layings
 pub mod RunBytes
 pub mod Searches
 pub mod Stores
+pub mod Sums

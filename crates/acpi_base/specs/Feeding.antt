@@ -1,9 +1,9 @@
 -- What a reader of a text in pieces keeps, and what it stands for.
-use Rattle.std.specs.Prelude.{◌≡◌, ℕ, ◌+◌, ◌≤◌, List, length, Option, Some, None, Result, Ok, Err, false}
+use Rattle.std.specs.Prelude.{◌≡◌, ◌+◌, ◌≤◌, length, Option, Some, None, Ok, false}
 use Rattle.acpi_base.specs.declared.image_text.feeder.Feeder.{Feeder}
 use Rattle.acpi_base.specs.declared.text.TextFault.{TextFault}
 use Rattle.acpi_base.specs.Gathered.{IsGathering}
-use Rattle.acpi_base.specs.ImageText.{Reading, is_too_long, max_text}
+use Rattle.acpi_base.specs.ImageText.{Reading, is_too_long}
 use Rattle.acpi_base.specs.Memory.{Memory}
 use Rattle.acpi_base.specs.TextMachine.{Standing, Going, Stopped, end_text}
 use Rattle.acpi_base.specs.TextReading.{reading_of}

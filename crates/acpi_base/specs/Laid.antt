@@ -21,17 +21,17 @@ pub record AreLaid (store : List ℕ) (ps : List Piece) (base begin : ℕ) : Typ
   pub image : IsImage (held_by store ps base begin)
 
 abbrev pub runs_of : Segments → List Run
-runs_of s = all_runs s.bytes.items s.ended.items s.base s.start
+runs_of s = all_runs s.store s.ended.items s.base s.start
 
 abbrev pub memory_in : Segments → Memory
-memory_in s = held_by s.bytes.items s.ended.items s.base s.start
+memory_in s = held_by s.store s.ended.items s.base s.start
 
 abbrev pub IsSound : Segments → Type 0
-IsSound s = AreLaid s.bytes.items s.ended.items s.base s.start
+IsSound s = AreLaid s.store s.ended.items s.base s.start
 
 -- the address behind the open segment
 abbrev pub end_in : Segments → ℕ
-end_in s = s.base + (length s.bytes.items - s.start)
+end_in s = s.base + (length s.store - s.start)
 
 -- the pieces before the place begin at the address or before it, the others behind it
 abbrev pub IsPlace : List Piece → ℕ → ℕ → Type 0

@@ -34,6 +34,7 @@ pub mod Srat
 pub mod StandingCode
 pub mod Statements
 pub mod Stored
+pub mod Sums
 pub mod Tables
 pub mod Tally
 pub mod TextLaws

@@ -5,6 +5,7 @@ ghost use Rattle.std.specs.Option.{option_map};
 ghost use Rattle.std.specs.FinMap.{empty};
 ghost use Rattle.acpi_base.specs.Memory.{IsImage, first_of, byte_of, bytes_at, with_bytes};
 ghost use Rattle.acpi_base.specs.Adding.{add_refusal};
+ghost use Rattle.acpi_base.specs.Number.{byte_sum};
 ghost use Rattle.acpi_base.specs.Segments.{lookup};
 ghost use Rattle.acpi_base.specs.Laid.{IsSound, runs_of};
 
@@ -12,6 +13,7 @@ pub(crate) mod gathering;
 mod runs;
 mod segments;
 mod span;
+mod summed;
 #[cfg(test)]
 mod tests;
 
@@ -152,5 +154,18 @@ impl Image {
             return Some(&[]);
         }
         self.segments.window(address, count)
+    }
+
+    /// Returns the sum modulo 256 of the `count` bytes from an address on, or `None` where one of these addresses is
+    /// not held. It is 0 where a checksum is right, and for a count of 0, at every address. However many the bytes
+    /// are, fewer than 256 of them are looked at. Takes no memory.
+    #[tactic(auto, using(crate::proofs::Pieces::Images::bytes_at_held_by), unfolding(crate::specs::Memory::run_of, crate::specs::Number::byte_sum))]
+    pub fn window_sum(&self, address: u64, count: u64) -> Option<u8>
+        ensures { result ≡ option_map byte_sum (bytes_at self.now address count) }
+    {
+        if count == 0 {
+            return Some(0);
+        }
+        self.segments.window_sum(address, count)
     }
 }

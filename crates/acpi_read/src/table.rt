@@ -10,7 +10,7 @@ ghost use Rattle.acpi_read.specs.Headers.{header_value};
 
 use crate::header::{Header, header_at};
 use acpi_base::field::u32_at;
-use acpi_base::{Code, Image, sum};
+use acpi_base::{Code, Image};
 use std::marker::Model;
 
 /// A system description table of any kind (ACPI 6.5, 5.2.6): as many bytes as its Length says, from 36 to
@@ -59,7 +59,7 @@ impl<'a> Table<'a> {
         let Some(bytes) = image.window(address, u64::from(length)) else {
             return Err(Code::TableOut);
         };
-        if sum(bytes) != 0 {
+        if image.window_sum(address, u64::from(length)) != Some(0) {
             return Err(Code::TableSum);
         }
         Ok(Table { bytes })

@@ -1,21 +1,20 @@
 -- Pieces that are gathered: what they hold, and that they stay in order.
-use Rattle.std.proofs.Common.{◌≡◌, ◌⊎◌, inl, inr, ℕ, zero, suc, ◌+◌, ◌-◌, ◌^◌, ◌<◌, ◌≤◌, List, [], ◌∷◌, ◌++◌, length, take, drop, Option, None, Some, IsSome, is_some, refl, sym, ap, subst, ◌∙◌, arith, length-append, length-drop}
+use Rattle.std.proofs.Common.{◌≡◌, ◌⊎◌, inl, inr, ℕ, ◌+◌, ◌-◌, ◌^◌, ◌<◌, ◌≤◌, List, [], ◌∷◌, ◌++◌, length, take, drop, Option, None, Some, IsSome, is_some, refl, sym, ap, subst, ◌∙◌, arith, length-drop}
 use Rattle.std.specs.Option.{option_or}
 use Rattle.std.specs.List.{AllByRecursion}
 use Rattle.std.specs.Ordering.{nat_cmp, match_ordering}
 use Rattle.std.specs.declared.cmp.Ordering.TheVariants.{Less, Equal, Greater}
 use Rattle.std.specs.BTreeMap.{insert_entry}
-use Rattle.std.specs.FinMap.{empty}
 use Rattle.std.proofs.lemmas.Bool.{cases_lt}
 use Rattle.std.proofs.lemmas.Bool.Decides.{nat_tests}
-use Rattle.std.proofs.lemmas.List.{drop-append-le, drop_all, take_all}
+use Rattle.std.proofs.lemmas.List.{drop_all, take_all}
 use Rattle.acpi_base.specs.declared.image.span.Span.{Span}
 use Rattle.acpi_base.specs.Memory.{with_bytes}
 use Rattle.acpi_base.specs.Segments.{run_at, held, lookup, memory_of}
 use Rattle.acpi_base.specs.Stored.{Piece, Rising, end_at, LiesBefore, run_in, runs_in, all_runs, held_by}
 use Rattle.acpi_base.specs.Gathered.{at_base, IsClearOf, AllClear, AreGathered}
-use Rattle.acpi_base.proofs.Pieces.RunBytes.{held_none, byte_of_memory_of}
-use Rattle.acpi_base.proofs.Pieces.Stores.{all_weaker, run_ends, runs_in_more}
+use Rattle.acpi_base.proofs.Pieces.RunBytes.{byte_of_memory_of}
+use Rattle.acpi_base.proofs.Pieces.Stores.{all_weaker, run_ends}
 use Rattle.acpi_base.proofs.Pieces.Images.{same_memory, no_bytes}
 use Rattle.acpi_base.proofs.Pieces.Layings.{more_held, moved_held, never_both}
 use Rattle.acpi_base.proofs.Pieces.Bases.{from_bases, of_base}

@@ -1,5 +1,5 @@
 -- Bytes that are put among segments: the segments before them, the bytes, and those behind them make one list.
-use Rattle.std.proofs.Common.{◌≡◌, ◌⊎◌, inl, inr, ℕ, zero, suc, ◌+◌, ◌-◌, ◌^◌, ◌<◌, ◌≤◌, List, [], ◌∷◌, ◌++◌, length, get_or, take, drop, Option, None, Some, IsSome, refl, sym, ap, subst, ◌∙◌, arith, length-drop}
+use Rattle.std.proofs.Common.{◌≡◌, inl, inr, ℕ, zero, suc, ◌+◌, ◌<◌, ◌≤◌, List, [], ◌∷◌, length, get_or, take, drop, Option, None, IsSome, refl, ap, ◌∙◌, arith, length-drop}
 use Rattle.std.specs.Option.{option_or}
 use Rattle.std.specs.List.{AllByRecursion}
 use Rattle.std.specs.FinMap.{empty}
@@ -7,11 +7,11 @@ use Rattle.std.proofs.lemmas.Bool.{cases_lt}
 use Rattle.std.proofs.lemmas.List.{drop_all, length-take-le, get_or-take, get_or-drop}
 use Rattle.acpi_base.specs.declared.image.segments.Segments.{Segments}
 use Rattle.acpi_base.specs.Memory.{Memory, byte_of, with_bytes}
-use Rattle.acpi_base.specs.Segments.{run_at, held, lookup, end_of}
-use Rattle.acpi_base.specs.Stored.{Piece, Rising, end_at, LiesBefore, runs_in, all_runs}
-use Rattle.acpi_base.specs.Laid.{AreApart, AreLaid, IsSound, IsPlace, IsGap, end_in, memory_in, runs_of}
+use Rattle.acpi_base.specs.Segments.{run_at, held, lookup}
+use Rattle.acpi_base.specs.Stored.{Piece, Rising, end_at, LiesBefore, runs_in}
+use Rattle.acpi_base.specs.Laid.{AreApart, IsSound, IsPlace, IsGap, memory_in, runs_of}
 use Rattle.acpi_base.proofs.Pieces.RunBytes.{held_some, held_inside, byte_of_memory_of, byte_of-with_bytes}
-use Rattle.acpi_base.proofs.Pieces.Stores.{all_from, of_all, all_weaker, base_held}
+use Rattle.acpi_base.proofs.Pieces.Stores.{all_from, all_weaker, base_held}
 use Rattle.acpi_base.proofs.Pieces.Searches.{ended_at, filled}
 use Rattle.acpi_base.proofs.Pieces.Images.{same_memory, no_bytes}
 
@@ -49,22 +49,22 @@ lookup_parts store (p ∷ ps) (suc i) x = grind (arith, lookup_parts store ps i 
 -- the segments before a place end before n addresses from a on, and the others begin behind them
 pub record Parts (s : Segments) (a n i : ℕ) : Type 0 where
   pub low_rising : Rising (take i s.ended.items)
-  pub low_lies : AllByRecursion (LiesBefore (length s.bytes.items)) (take i s.ended.items)
+  pub low_lies : AllByRecursion (LiesBefore (length s.store)) (take i s.ended.items)
   pub low_end : AllByRecursion (λ p. end_at p ≤ a) (take i s.ended.items)
   pub low_begin : AllByRecursion (λ p. 0 ≤ p.0) (take i s.ended.items)
   pub high_rising : Rising (drop i s.ended.items)
-  pub high_lies : AllByRecursion (LiesBefore (length s.bytes.items)) (drop i s.ended.items)
+  pub high_lies : AllByRecursion (LiesBefore (length s.store)) (drop i s.ended.items)
   pub high_begin : AllByRecursion (λ p. a + n ≤ p.0) (drop i s.ended.items)
   pub high_end : AllByRecursion (λ p. end_at p ≤ s.base) (drop i s.ended.items)
-  pub last_begin : s.start < length s.bytes.items → a + n ≤ s.base
+  pub last_begin : s.start < length s.store → a + n ≤ s.base
 
 -- where the bytes find nothing held, the ended segments hold nothing there
-gap_in_ended : (s : Segments) (a b x : ℕ) → IsGap (runs_of s) a b → a ≤ x → x < b → lookup (runs_in s.bytes.items s.ended.items) x ≡ None
+gap_in_ended : (s : Segments) (a b x : ℕ) → IsGap (runs_of s) a b → a ≤ x → x < b → lookup (runs_in s.store s.ended.items) x ≡ None
 gap_in_ended s a b x gap l h = (let none = gap x l h in grind arith)
 
 pub parts_at : (s : Segments) (a n i : ℕ) → IsSound s → a < s.base → 0 < n → IsGap (runs_of s) a (a + n) → i ≤ length s.ended.items → IsPlace s.ended.items a i → Parts s a n i
 parts_at s a n i sound low some gap within place =
-    let store = s.bytes.items in
+    let store = s.store in
     let ps = s.ended.items in
     let inside = sound.within in
     let lies = all_weaker (LiesBefore s.start) (LiesBefore (length store)) ps (λ p h. (let l = h.0 in omega arith, h.1)) sound.lies in
@@ -95,7 +95,7 @@ parts_at s a n i sound low some gap within place =
       | inl m ↦ absurd (
           let above = place.1 k d l h in
           let none = gap_in_ended s a (a + n) (get_or s.ended.items k d).0 gap (omega arith) m in
-          let here = base_held s.bytes.items s.start s.ended.items k d sound.within sound.lies h (filled s.ended.items k d sound.apart h) in
+          let here = base_held s.store s.start s.ended.items k d sound.within sound.lies h (filled s.ended.items k d sound.apart h) in
           grind arith)
       | inr m ↦ m
     ]
@@ -104,20 +104,20 @@ parts_at s a n i sound low some gap within place =
 
 -- the bytes are put in where nothing was held
 pub put_among : (s : Segments) (a i : ℕ) (bs : List ℕ) (m0 m1 m2 m3 : Memory) → IsGap (runs_of s) a (a + length bs) → m0 ≡ empty
-    → ((x : ℕ) → byte_of m1 x ≡ option_or (byte_of m0 x) (lookup (runs_in s.bytes.items (take i s.ended.items)) x))
+    → ((x : ℕ) → byte_of m1 x ≡ option_or (byte_of m0 x) (lookup (runs_in s.store (take i s.ended.items)) x))
     → m2 ≡ with_bytes m1 a bs
-    → ((x : ℕ) → byte_of m3 x ≡ option_or (byte_of m2 x) (lookup (runs_in s.bytes.items (drop i s.ended.items)) x))
-    → with_bytes m3 s.base (drop s.start s.bytes.items) ≡ with_bytes (memory_in s) a bs
+    → ((x : ℕ) → byte_of m3 x ≡ option_or (byte_of m2 x) (lookup (runs_in s.store (drop i s.ended.items)) x))
+    → with_bytes m3 s.base (drop s.start s.store) ≡ with_bytes (memory_in s) a bs
 put_among s a i bs m0 m1 m2 m3 gap e0 e1 e2 e3 = same_memory _ _ (λ x.
     let here = held_inside (run_at a bs) x in
     let free = gap x in
     let nothing : byte_of m0 x ≡ None = ap (λ m. byte_of m x) e0 ∙ byte_of_memory_of [] x in
     let second : byte_of m2 x ≡ option_or (held (run_at a bs) x) (byte_of m1 x) = ap (λ m. byte_of m x) e2 ∙ byte_of-with_bytes m1 a bs x in
     let old = byte_of_memory_of (runs_of s) x in
-    composed (held (run_at a bs) x) (held (run_at s.base (drop s.start s.bytes.items)) x) (lookup (runs_in s.bytes.items (take i s.ended.items)) x)
-    (lookup (runs_in s.bytes.items (drop i s.ended.items)) x) (lookup (runs_in s.bytes.items s.ended.items) x) (byte_of m0 x) (byte_of m1 x) (byte_of m2 x) (byte_of m3 x)
-    (byte_of (memory_in s) x) _ _ (lookup_parts s.bytes.items s.ended.items i x) nothing (e1 x) second (e3 x) old
-    (byte_of-with_bytes m3 s.base (drop s.start s.bytes.items) x) (byte_of-with_bytes (memory_in s) a bs x)
+    composed (held (run_at a bs) x) (held (run_at s.base (drop s.start s.store)) x) (lookup (runs_in s.store (take i s.ended.items)) x)
+    (lookup (runs_in s.store (drop i s.ended.items)) x) (lookup (runs_in s.store s.ended.items) x) (byte_of m0 x) (byte_of m1 x) (byte_of m2 x) (byte_of m3 x)
+    (byte_of (memory_in s) x) _ _ (lookup_parts s.store s.ended.items i x) nothing (e1 x) second (e3 x) old
+    (byte_of-with_bytes m3 s.base (drop s.start s.store) x) (byte_of-with_bytes (memory_in s) a bs x)
     (λ some. (let within = here some in free within.0 within.1)))
   where
     composed : (new last low high all b0 b1 b2 b3 was left right : Option ℕ) → all ≡ option_or low high → b0 ≡ None → b1 ≡ option_or b0 low → b2 ≡ option_or new b1
@@ -125,5 +125,5 @@ put_among s a i bs m0 m1 m2 m3 gap e0 e1 e2 e3 = same_memory _ _ (λ x.
     composed new last low high all b0 b1 b2 b3 was left right p q r t u v w z free = grind arith
 
 -- the same where no segment is open
-pub put_last : (s : Segments) (m : Memory) → length s.bytes.items ≤ s.start → m ≡ with_bytes m s.base (drop s.start s.bytes.items)
-put_last s m none = no_bytes m s.base (drop s.start s.bytes.items) (ap length (drop_all s.start s.bytes.items none))
+pub put_last : (s : Segments) (m : Memory) → length s.store ≤ s.start → m ≡ with_bytes m s.base (drop s.start s.store)
+put_last s m none = no_bytes m s.base (drop s.start s.store) (ap length (drop_all s.start s.store none))

@@ -1,5 +1,5 @@
 -- Segments that are laid behind one another: what they hold, and that they stay in order.
-use Rattle.std.proofs.Common.{◌≡◌, ◌⊎◌, inl, inr, ℕ, zero, suc, ◌+◌, ◌-◌, ◌^◌, ◌<◌, ◌≤◌, List, [], ◌∷◌, ◌++◌, length, get_or, take, drop, Option, None, Some, refl, sym, ap, subst, ◌∙◌, arith, length-append, length-drop}
+use Rattle.std.proofs.Common.{◌≡◌, ◌⊎◌, inl, inr, ℕ, ◌+◌, ◌-◌, ◌^◌, ◌<◌, ◌≤◌, List, [], ◌∷◌, ◌++◌, length, get_or, take, drop, Option, None, refl, sym, ap, subst, ◌∙◌, arith, length-append, length-drop}
 use Rattle.std.specs.Option.{option_or}
 use Rattle.std.specs.List.{AllByRecursion}
 use Rattle.std.specs.FinMap.{empty}
@@ -11,7 +11,7 @@ use Rattle.acpi_base.specs.Segments.{Run, run_at, held, lookup, end_of, memory_o
 use Rattle.acpi_base.specs.Stored.{Piece, Rising, end_at, LiesBefore, run_in, runs_in, all_runs, held_by}
 use Rattle.acpi_base.specs.declared.image.segments.Segments.{Segments}
 use Rattle.acpi_base.specs.Laid.{AreApart, AreLaid, IsSound, end_in, memory_in}
-use Rattle.acpi_base.proofs.Pieces.RunBytes.{held_none, held_from, held-cons, held-nil, byte_of_memory_of, byte_of-with_bytes}
+use Rattle.acpi_base.proofs.Pieces.RunBytes.{held_none, held-cons, held-nil, byte_of_memory_of, byte_of-with_bytes}
 use Rattle.acpi_base.proofs.Pieces.Stores.{all_weaker, run_ends, runs_in_more, none_held}
 use Rattle.acpi_base.proofs.Pieces.Images.{same_memory, no_bytes, image_with}
 
@@ -159,7 +159,7 @@ pub record IsLeft (store : List ℕ) (f : ℕ → Option ℕ) (s : Segments) (re
 -- behind its end, segments hold nothing
 past_end : (s : Segments) (x : ℕ) → IsSound s → end_in s ≤ x → byte_of (memory_in s) x ≡ None
 past_end s x sound past =
-    let store = s.bytes.items in
+    let store = s.store in
     let long = length-drop s.start store in
     let within = sound.within in
     let none : lookup (runs_in store s.ended.items) x ≡ None = none_held store s.start s.ended.items x within sound.lies (all_weaker _ _ s.ended.items (λ p below. inl (omega arith)) sound.below) in

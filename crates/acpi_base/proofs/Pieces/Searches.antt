@@ -1,14 +1,13 @@
 -- What a search of the segments finds.
-use Rattle.std.proofs.Common.{◌≡◌, ◌⊎◌, inl, inr, ℕ, zero, suc, ◌+◌, ◌-◌, ◌<◌, ◌≤◌, List, [], ◌∷◌, length, get_or, take, drop, Option, None, Some, IsSome, refl, sym, ap, subst, ◌∙◌, arith, length-drop}
-use Rattle.std.specs.Option.{option_or}
+use Rattle.std.proofs.Common.{◌≡◌, ◌⊎◌, inl, inr, ℕ, zero, suc, ◌+◌, ◌-◌, ◌<◌, ◌≤◌, List, [], ◌∷◌, length, get_or, take, drop, Option, None, Some, IsSome, sym, ap, subst, ◌∙◌, arith, length-drop}
 use Rattle.std.specs.List.{AllByRecursion}
 use Rattle.std.proofs.lemmas.Bool.{cases_lt}
-use Rattle.std.proofs.lemmas.List.{get_or_default}
+use Rattle.std.proofs.lemmas.List.{get_or_default, take_all, length-take-le, take-take, drop-take, drop-drop}
 use Rattle.acpi_base.specs.Memory.{first_of, run_of}
 use Rattle.acpi_base.specs.Segments.{Run, held, run_at, lookup, end_of}
 use Rattle.acpi_base.specs.Stored.{Piece, end_at, LiesBefore, run_in, runs_in, all_runs}
 use Rattle.acpi_base.specs.Laid.{AreApart, AreLaid, IsPlace, IsReached, IsGap}
-use Rattle.acpi_base.proofs.Pieces.RunBytes.{held_none, held_some, held_inside, run_of_held}
+use Rattle.acpi_base.proofs.Pieces.RunBytes.{held_none, held_some, run_of_held}
 use Rattle.acpi_base.proofs.Runs.{run_of-agree, run_of_none, first_of_at, first_of_none}
 use Rattle.acpi_base.proofs.Pieces.Stores.{all_from, of_all, all_weaker, run_ends, none_held, base_held}
 
@@ -107,6 +106,23 @@ pub reached_at : (store : List ℕ) (ps : List Piece) (base begin a i n : ℕ) (
 reached_at store ps base begin a i n p bytes laid behind h next place is same =
     let found = reached store ps base begin a i p laid behind h (subst (IsPlace ps a) next place) in
     rw same (subst (λ (q : Piece). IsReached (all_runs store ps base begin) a (run_in store q)) (sym is) found)
+
+-- the piece of the open run
+pub open_run : (store : List ℕ) (base begin n : ℕ) → n ≡ length store - begin → run_in store (base, record { start = begin; len = n }) ≡ run_at base (drop begin store)
+open_run store base begin n e = (let long = length-drop begin store in ap (run_at base) (take_all n (drop begin store) (omega arith)))
+
+-- where the piece lies in the store, its run ends where it does
+pub piece_ends : (store : List ℕ) (p : Piece) → p.1.start + p.1.len ≤ length store → end_of (run_in store p) ≡ end_at p
+piece_ends store p l = (let long = length-drop p.1.start store in ap (λ n. p.0 + n) (length-take-le p.1.len (drop p.1.start store) (omega arith)))
+
+-- a part of a piece lies in the store where the piece does
+pub part_in : (store : List ℕ) (start len k n : ℕ) → k + n ≤ len → take n (drop k (take len (drop start store))) ≡ take n (drop (start + k) store)
+part_in store start len k n fits =
+    let parts : k + (len - k) ≡ len = omega arith in
+    ap (λ m. take n (drop k (take m (drop start store)))) (sym parts)
+    ∙ ap (take n) (drop-take k (len - k) (drop start store))
+    ∙ take-take n (len - k) (drop k (drop start store)) (omega arith)
+    ∙ ap (take n) (drop-drop k start store)
 
 -- its bytes lie in the store
 pub lies_inside : (store : List ℕ) (ps : List Piece) (base begin i : ℕ) (p : Piece) → AreLaid store ps base begin → i < length ps → p ≡ get_or ps i p

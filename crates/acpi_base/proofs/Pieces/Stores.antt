@@ -1,9 +1,8 @@
 -- What the pieces in a store hold.
-use Rattle.std.proofs.Common.{◌≡◌, ◌⊎◌, ℕ, zero, suc, ◌+◌, ◌<◌, ◌≤◌, List, [], ◌∷◌, ◌++◌, length, get_or, take, drop, Option, None, Some, IsSome, refl, sym, ap, ◌∙◌, arith, length-drop}
-use Rattle.std.specs.Option.{option_or}
+use Rattle.std.proofs.Common.{◌≡◌, ◌⊎◌, ℕ, zero, suc, ◌<◌, ◌≤◌, List, [], ◌∷◌, ◌++◌, length, get_or, drop, None, IsSome, refl, arith, length-drop}
 use Rattle.std.specs.List.{AllByRecursion}
 use Rattle.std.proofs.lemmas.List.{take-append-le, drop-append-le, length-take-le}
-use Rattle.acpi_base.specs.Segments.{held, end_of, lookup}
+use Rattle.acpi_base.specs.Segments.{end_of, lookup}
 use Rattle.acpi_base.specs.Stored.{Piece, end_at, LiesBefore, run_in, runs_in}
 use Rattle.acpi_base.proofs.Pieces.RunBytes.{held_none, held_some}
 

@@ -3,22 +3,24 @@
 //! An address that is not held lies between two segments. All bytes lie in one store. The last segment is
 //! open: it has the store's bytes from `start` on, so what follows it is only appended. Where that is empty, none is open.
 
-ghost use Rattle.std.specs.Prelude.{◌≡◌, ◌+◌, ◌-◌, ◌^◌, ◌<◌, ◌≤◌, ℕ, None, IfSome, IsSome, OnOk, OnErr, IfOk, MatchOption, length, drop};
+ghost use Rattle.std.specs.Prelude.{◌≡◌, ◌+◌, ◌-◌, ◌^◌, ◌<◌, ◌≤◌, ℕ, None, IfSome, IsSome, OnOk, OnErr, IfOk, MatchOption, length, take, drop};
 ghost use Rattle.std.specs.Option.{option_map, option_or};
 ghost use Rattle.std.specs.List.{AllByRecursion};
 ghost use Rattle.std.specs.FinMap.{empty};
 ghost use Rattle.acpi_base.specs.Memory.{run_of, first_of, first_held, with_bytes, byte_of};
+ghost use Rattle.acpi_base.specs.Number.{byte_sum};
 ghost use Rattle.acpi_base.specs.Segments.{lookup, run_at};
-ghost use Rattle.acpi_base.specs.Stored.{LiesBefore, Rising, end_at, runs_in};
+ghost use Rattle.acpi_base.specs.Stored.{LiesBefore, Rising, end_at, run_in, runs_in};
 ghost use Rattle.acpi_base.specs.Laid.{IsGap, IsPlace, IsReached, IsSound, end_in, memory_in, runs_of};
 
 use super::span::Span;
+use super::summed::Summed;
 use std::alloc::{AllocError, Global};
 
 /// The bytes of an image.
 #[derive(Debug, Drop)]
 pub struct Segments {
-    bytes: Vec<u8>,
+    store: Summed,
     ended: Vec<(u64, Span)>,
     base: u64,
     start: usize,
@@ -31,7 +33,7 @@ impl Segments {
         ensures nothing { memory_in result ≡ empty }
     {
         Segments {
-            bytes: Vec::new(alloc),
+            store: Summed::new(alloc),
             ended: Vec::new(alloc),
             base: 0,
             start: 0,
@@ -45,7 +47,7 @@ impl Segments {
         ensures end { IfOk result (λ segments. end_in segments ≡ 0) }
     {
         Ok(Segments {
-            bytes: Vec::with_capacity(alloc, count)?,
+            store: Summed::with_capacity(alloc, count)?,
             ended: Vec::new(alloc),
             base: 0,
             start: 0,
@@ -63,9 +65,31 @@ impl Segments {
 
     fn open(&self) -> &[u8]
         requires { IsSound self.now }
-        ensures { result.now ≡ drop self.now.start self.now.bytes.items }
+        ensures { result.now ≡ drop self.now.start self.now.store }
     {
-        &self.bytes[self.start..]
+        &self.store.bytes()[self.start..]
+    }
+
+    /// The last segment that begins at an address or before it: its base, and where its bytes lie.
+    fn piece_reaching(&self, address: u64) -> Option<(u64, Span)>
+        requires { IsSound self.now }
+        ensures reached { MatchOption result (lookup (runs_of self.now) address ≡ None) (λ piece. IsReached (runs_of self.now) address (run_in self.now.store piece)) }
+        ensures lies { IfSome result (λ piece. piece.1.start + piece.1.len ≤ length self.now.store) }
+        ensures small { length self.now.store < 2 ^ 64 }
+    {
+        let count = self.store.len();
+        if self.base <= address && self.start < count {
+            let span = Span {
+                start: self.start,
+                len: count - self.start,
+            };
+            return Some((self.base, span));
+        }
+        let place = self.place(address);
+        if place == 0 {
+            return None;
+        }
+        Some(self.ended[place - 1])
     }
 
     /// The last segment that begins at an address or before it.
@@ -73,15 +97,8 @@ impl Segments {
         requires { IsSound self.now }
         ensures { MatchOption result (lookup (runs_of self.now) address ≡ None) (λ found. IsReached (runs_of self.now) address (run_at found.0 found.1.now)) }
     {
-        if self.base <= address && self.start < self.bytes.len() {
-            return Some((self.base, self.open()));
-        }
-        let place = self.place(address);
-        if place == 0 {
-            return None;
-        }
-        let (base, span) = self.ended[place - 1];
-        Some((base, span.bytes(&self.bytes)))
+        let (base, span) = self.piece_reaching(address)?;
+        Some((base, span.bytes(self.store.bytes())))
     }
 
     /// The byte at an address.
@@ -94,21 +111,45 @@ impl Segments {
         bytes.get((address - base) as usize).copied()
     }
 
+    /// Where the bytes at so many addresses lie, all of which one segment holds.
+    fn window_span(&self, address: u64, count: u64) -> Option<Span>
+        requires sound { IsSound self.now }
+        requires some { 0 < count }
+        ensures bytes { option_map (λ span. take span.len (drop span.start self.now.store)) result ≡ run_of (lookup (runs_of self.now)) address count }
+        ensures count { IfSome result (λ span. span.len ≡ count) }
+        ensures lies { IfSome result (λ span. span.start + span.len ≤ length self.now.store) }
+    {
+        let (base, span) = self.piece_reaching(address)?;
+        let skipped = address - base;
+        let held = span.len as u64;
+        if skipped >= held || count > held - skipped {
+            return None;
+        }
+        Some(Span {
+            start: span.start + skipped as usize,
+            len: count as usize,
+        })
+    }
+
     /// The bytes at so many addresses, all of which one segment holds.
-    #[tactic(auto, using(crate::proofs::Pieces::Searches::reached_window))]
     pub fn window(&self, address: u64, count: u64) -> Option<&[u8]>
         requires sound { IsSound self.now }
         requires some { 0 < count }
         ensures bytes { option_map (λ bytes. bytes.now) result ≡ run_of (lookup (runs_of self.now)) address count }
         ensures count { IfSome result (λ bytes. length bytes.now ≡ count) }
     {
-        let (base, bytes) = self.reaching(address)?;
-        let start = address - base;
-        let held = bytes.len() as u64;
-        if start >= held || count > held - start {
-            return None;
-        }
-        Some(&bytes[start as usize..(start + count) as usize])
+        let span = self.window_span(address, count)?;
+        Some(span.bytes(self.store.bytes()))
+    }
+
+    /// The sum of the bytes at so many addresses, all of which one segment holds.
+    pub fn window_sum(&self, address: u64, count: u64) -> Option<u8>
+        requires sound { IsSound self.now }
+        requires some { 0 < count }
+        ensures { result ≡ option_map byte_sum (run_of (lookup (runs_of self.now)) address count) }
+    {
+        let span = self.window_span(address, count)?;
+        Some(self.store.sum(span))
     }
 
     /// The least base of a segment behind an address that is not held.
@@ -122,7 +163,7 @@ impl Segments {
         if place < self.ended.len() {
             return Some(self.ended[place].0);
         }
-        if self.base > address && self.start < self.bytes.len() {
+        if self.base > address && self.start < self.store.len() {
             return Some(self.base);
         }
         None
@@ -154,7 +195,7 @@ impl Segments {
         ensures same { memory_in self.new ≡ memory_in self.old }
         ensures at { OnOk result (base ≡ end_in self.new) }
     {
-        let open = self.bytes.len() - self.start;
+        let open = self.store.len() - self.start;
         if open == 0 {
             self.base = base;
             return Ok(());
@@ -183,7 +224,7 @@ impl Segments {
         ensures end { OnOk result (end_in self.new ≡ base + length bytes.now) }
     {
         self.begin(base)?;
-        self.bytes.extend_from_slice(bytes)?;
+        self.store.extend(bytes)?;
         Ok(())
     }
 
@@ -214,11 +255,12 @@ impl Segments {
         ensures ok { IfOk result (λ all. memory_in all ≡ with_bytes (memory_in self.now) base bytes.now) }
     {
         let (low, high) = self.ended.split_at(self.place(base));
-        let mut all = Segments::with_capacity(alloc, self.bytes.len() + bytes.len())?;
-        all.take_all(&self.bytes, low)?;
+        let store = self.store.bytes();
+        let mut all = Segments::with_capacity(alloc, store.len() + bytes.len())?;
+        all.take_all(store, low)?;
         all.take(base, bytes)?;
-        all.take_all(&self.bytes, high)?;
-        if self.start < self.bytes.len() {
+        all.take_all(store, high)?;
+        if self.start < store.len() {
             all.take(self.base, self.open())?;
         }
         Ok(all)

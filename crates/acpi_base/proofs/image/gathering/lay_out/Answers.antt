@@ -1,4 +1,4 @@
-use Rattle.std.proofs.Common.{subst, refl}
+use Rattle.std.proofs.Common.{subst}
 use Rattle.acpi_base.specs.Segments.{lookup}
 use Rattle.acpi_base.specs.Stored.{runs_in}
 use Rattle.acpi_base.proofs.Pieces.Layings.{IsLeft, all_left, left_more, left_none}

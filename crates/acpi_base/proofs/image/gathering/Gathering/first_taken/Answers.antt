@@ -1,8 +1,7 @@
 use Rattle.std.proofs.Common.{◌≡◌, ◌+◌, ◌-◌, length, drop, sym, subst, ap, ◌∙◌, arith, length-drop}
-use Rattle.acpi_base.specs.Segments.{earlier, held, run_at, lookup}
+use Rattle.acpi_base.specs.Segments.{earlier, held, run_at}
 use Rattle.acpi_base.specs.Memory.{first_of}
 use Rattle.acpi_base.specs.Gathered.{IsFirstHeld}
-use Rattle.acpi_base.specs.Stored.{runs_in}
 use Rattle.acpi_base.proofs.Pieces.Firsts.{first_in_run, first_in_pieces, first_in_all}
 use Rattle.acpi_base.proofs.image.gathering.Gathering.first_taken.Goals as goal
 

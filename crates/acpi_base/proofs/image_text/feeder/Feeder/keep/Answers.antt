@@ -1,6 +1,6 @@
-use Rattle.std.proofs.Common.{◌⊎◌, inl, inr, ◌+◌, ◌<◌, ◌≡◌, ◌∙◌, length, ap, sym, arith}
+use Rattle.std.proofs.Common.{inl, inr, ◌+◌, ◌∙◌, length, ap, sym, arith}
 use Rattle.std.proofs.lemmas.Bool.{cases_lt}
-use Rattle.acpi_base.specs.ImageText.{max_line, max_text}
+use Rattle.acpi_base.specs.ImageText.{max_line}
 use Rattle.acpi_base.specs.TextMachine.{Going}
 use Rattle.acpi_base.specs.TextReading.{reading_of}
 use Rattle.acpi_base.proofs.Texts.Feeding.{kept, kept_too_long, short_bounds}

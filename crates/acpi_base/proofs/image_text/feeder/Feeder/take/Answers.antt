@@ -1,8 +1,8 @@
-use Rattle.std.proofs.Common.{◌≡◌, inl, inr, ◌++◌, ◌+◌, ◌-◌, ◌≤◌, ◌<◌, ℕ, suc, List, length, take, drop, ap, sym, subst, ◌∙◌, add-one, arith}
+use Rattle.std.proofs.Common.{◌≡◌, inl, inr, ◌++◌, ◌+◌, ◌-◌, ◌<◌, ℕ, suc, List, length, take, drop, ap, sym, subst, ◌∙◌, add-one, arith}
 use Rattle.std.proofs.lemmas.Bool.Decides.{nat_tests}
 use Rattle.std.proofs.lemmas.List.{drop-drop}
 use Rattle.std.proofs.lemmas.Slice.{between_to_end}
-use Rattle.acpi_base.specs.ImageText.{max_text, read_line}
+use Rattle.acpi_base.specs.ImageText.{read_line}
 use Rattle.acpi_base.specs.TextMachine.{Going, run}
 use Rattle.acpi_base.specs.TextReading.{Refuses, reading_of}
 use Rattle.acpi_base.proofs.Texts.Feeding.{line_passed, line_refused, short_bounds}
