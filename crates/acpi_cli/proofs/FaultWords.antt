@@ -1,6 +1,7 @@
 -- The texts of faults on the command line: each is read as its fault, and no other text is read.
-use Rattle.std.proofs.Common.{◌≡◌, ◌≢◌, ◌<◌, ◌∙◌, ◌^◌, ◌&&◌, ◌↔◌, ◌++◌, ℕ, Bool, true, false, List, [], ◌∷◌, Option, Some, None, cond, drop, get_or, length, option_map, codes, append_assoc, refl, ap, sym, subst, true≢false}
-use Rattle.std.specs.Prelude.{decimal, nat_lt, option_and_then}
+use Rattle.std.proofs.Common.{◌≡◌, ◌≢◌, ◌<◌, ◌∙◌, ◌^◌, ◌&&◌, ◌↔◌, ◌++◌, ◌==◌, ℕ, Bool, true, false, List, [], ◌∷◌, Option, Some, None, cond, drop, get_or, length, option_map, codes, append_assoc, refl, ap, sym, subst, true≢false}
+use Rattle.std.specs.Prelude.{decimal, nat_lt, not, option_and_then}
+use Rattle.std.specs.Fmt.{digits}
 use Rattle.std.specs.List.{list_all}
 use Rattle.std.specs.Str.{bytes_eq}
 use Rattle.std.proofs.lemmas.Bool.{and_parts, lt-ltb, ltb-true}
@@ -16,6 +17,7 @@ use Rattle.acpi_base.specs.declared.code.Code.TheVariants as code
 use Rattle.acpi_base.specs.declared.witness.Witness.{Witness}
 use Rattle.acpi_base.proofs.FaultTexts.{name_has_no_blank, stage_has_no_blank}
 use Rattle.acpi_base.proofs.HexTexts.{hex_has_no_blank, hex_reads_back}
+use Rattle.acpi_cli.proofs.Hyphens.{IsPlain, plain_with_more}
 use Rattle.acpi_cli.specs.Words.{behind_word, code_named, fault_named, fault_written, is_blank, number_behind_0x, numbers_fit, word_of}
 
 -- ---- words
@@ -116,3 +118,31 @@ none_is_read text none = go (fault_written text) refl
     go : (read : Option Witness) → fault_written text ≡ read → None ≡ fault_written text
     go None e = sym e
     go (Some w) e = (let is = read_is_written text w e in absurd (none w is.0 is.1))
+
+-- ---- its first byte
+
+begins_plain : List ℕ → Bool
+begins_plain [] = false
+begins_plain (c ∷ cs) = not (c == 45)
+
+is_plain : (text : List ℕ) → begins_plain text ≡ true → IsPlain text
+unfolding begins_plain
+is_plain [] e = absurd (cc)
+is_plain (c ∷ cs) e = record { first = c; rest = cs; is = refl; plain = by (c == 45) e }
+  where
+    by : (b : Bool) → not b ≡ true → b ≡ false
+    by true e = absurd (cc)
+    by false e = refl
+
+-- a fault's text begins with a digit
+stage_begins_plain : (c : Code) → begins_plain (decimal (stage_number (stage_of c))) ≡ true
+unfolding digits begins_plain
+stage_begins_plain code.RsdpOut = refl
+stage_begins_plain _ = refl
+
+-- so with no hyphen
+pub fault_is_plain : (text : List ℕ) (w : Witness) → fault_written text ≡ Some w → IsPlain text
+fault_is_plain text w e =
+    let is = read_is_written text w e in
+    let stage : IsPlain (decimal (stage_number (stage_of w.code))) = is_plain _ (stage_begins_plain w.code) in
+    subst IsPlain (sym (is.1 ∙ line_is w)) (plain_with_more (decimal (stage_number (stage_of w.code))) (32 ∷ behind_stage w) stage)

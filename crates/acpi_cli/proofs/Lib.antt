@@ -1,6 +1,6 @@
 pub mod PlainLines
 pub mod Hyphens
-pub mod CheckArguments
+pub mod JudgingArguments
 pub mod CheckRows
 pub mod Declared
 pub mod FaultWords

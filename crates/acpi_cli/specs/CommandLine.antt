@@ -215,6 +215,16 @@ check_words program rsdp through default_inputs hotplug processors words =
     ++ (option_words (codes "hotplug") hotplug
     ++ (option_words (codes "processors") processors ++ words)))))
 
+-- `PROGRAM confirm`, the fault's text, the options that are given, and the words `ADDRESS=COUNT`
+abbrev pub confirm_words : Text → Text → Option Text → Option Text → Option Text → Option Text → List Text → List Text
+confirm_words program fault rsdp default_inputs hotplug processors words =
+    program ∷ codes "confirm"
+    ∷ (option_words (codes "witness") (Some fault)
+    ++ (option_words (codes "rsdp") rsdp
+    ++ (option_words (codes "default-inputs") default_inputs
+    ++ (option_words (codes "hotplug") hotplug
+    ++ (option_words (codes "processors") processors ++ words)))))
+
 -- ---- the job that carries it
 
 abbrev pub Does : Asked → Job → Type 0

@@ -16,8 +16,8 @@ const COMMANDS: &str = "usage:
 All read the image of a machine's memory from standard input, as text.
 
 check judges the ACPI tables in it, and writes `yes`, or `no` and the first
-fault. confirm judges one fault, by code that it does not share with check, and
-writes `true` where the image has it, or `false`.
+fault. confirm judges one fault, apart from check, and writes `true` where the
+image has it, or `false`.
 
   --witness FAULT
                the fault that confirm judges, in one argument and as check

@@ -8,7 +8,7 @@ ghost use Rattle.acpi_base.specs.Laws.{NumbersFit};
 ghost use Rattle.acpi_base.specs.Policy.{PolicyValue};
 ghost use Rattle.acpi_base.specs.WitnessText.{witness_line};
 ghost use Rattle.acpi_base.specs.declared.witness.Witness.{Witness};
-ghost use Rattle.acpi_cli.specs.CommandLine.{Asked, DoesAsked, asked, check_asked, check_words, confirm_asked};
+ghost use Rattle.acpi_cli.specs.CommandLine.{Asked, DoesAsked, asked, check_asked, check_words, confirm_asked, confirm_words};
 ghost use Rattle.acpi_cli.specs.CommandLine.{find_words, last_word, policy_words, rsdp_word, witness_word};
 ghost use Rattle.acpi_cli.specs.Words.{fault_written};
 
@@ -206,14 +206,18 @@ pub fn fault_words_are_texts()
     ensures { (text : List ℕ) (w : Witness) → (fault_written text ≡ Some w) ↔ (NumbersFit w × (text ≡ witness_line w)) }
 {}
 
-/// Each plain command line with good values is read, and as one expects: `find`; and `check` with each choice of its
-/// options, in this order, and then any number of words `ADDRESS=COUNT`.
+/// Each plain command line with good values is read, and as one expects: `find`; `check` with each choice of its
+/// options, in this order, and then any number of words `ADDRESS=COUNT`; and so `confirm` of each fault, as it is written.
 pub fn plain_lines_are_read()
     ensures find { (program : List ℕ) → asked (find_words program) ≡ Some Asked.find }
     ensures check { (program : List ℕ) (hex number inputs hotplug processors : Option (List ℕ)) (words : List (List ℕ))
         (rsdp : Option ℕ) (policy : PolicyValue) (last : ℕ) → rsdp_word hex ≡ Some rsdp
         → policy_words inputs hotplug processors words ≡ Some policy → last_word number ≡ Some last
         → asked (check_words program hex number inputs hotplug processors words) ≡ Some (Asked.check rsdp policy last) }
+    ensures confirm { (program : List ℕ) (w : Witness) (hex inputs hotplug processors : Option (List ℕ)) (words : List (List ℕ))
+        (rsdp : Option ℕ) (policy : PolicyValue) → NumbersFit w → rsdp_word hex ≡ Some rsdp
+        → policy_words inputs hotplug processors words ≡ Some policy
+        → asked (confirm_words program (witness_line w) hex inputs hotplug processors words) ≡ Some (Asked.confirm rsdp policy w) }
 {}
 
 #[cfg(test)]
