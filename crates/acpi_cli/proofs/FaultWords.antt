@@ -1,5 +1,5 @@
 -- The texts of faults on the command line: each is read as its fault, and no other text is read.
-use Rattle.std.proofs.Common.{◌≡◌, ◌≢◌, ◌<◌, ◌∙◌, ◌^◌, ◌&&◌, ◌↔◌, ◌++◌, ◌==◌, ℕ, Bool, true, false, List, [], ◌∷◌, Option, Some, None, cond, drop, get_or, length, option_map, codes, append_assoc, refl, ap, sym, subst, true≢false}
+use Rattle.std.proofs.Common.{◌≡◌, ◌≢◌, ◌<◌, ◌∙◌, ◌^◌, ◌&&◌, ◌++◌, ◌==◌, ℕ, Bool, true, false, List, [], ◌∷◌, Option, Some, None, cond, get_or, length, append_assoc, refl, ap, sym, subst, true≢false}
 use Rattle.std.specs.Prelude.{decimal, nat_lt, not, option_and_then}
 use Rattle.std.specs.Fmt.{digits}
 use Rattle.std.specs.List.{list_all}
@@ -9,7 +9,6 @@ use Rattle.std.proofs.lemmas.List.Folds.{list_all_at}
 use Rattle.std.proofs.lemmas.Slice.Eq.{bytes_eq-Decides}
 use Rattle.clap.proofs.CutLemmas.{after_first-at, before_first-at}
 use Rattle.acpi_base.specs.Codes.{code_name, stage_number, stage_of}
-use Rattle.acpi_base.specs.ImageText.{hex_number}
 use Rattle.acpi_base.specs.Laws.{NumbersFit}
 use Rattle.acpi_base.specs.WitnessText.{hex_text, is_no_blank, witness_line}
 use Rattle.acpi_base.specs.declared.code.Code.{Code}
@@ -18,7 +17,7 @@ use Rattle.acpi_base.specs.declared.witness.Witness.{Witness}
 use Rattle.acpi_base.proofs.FaultTexts.{name_has_no_blank, stage_has_no_blank}
 use Rattle.acpi_base.proofs.HexTexts.{hex_has_no_blank, hex_reads_back}
 use Rattle.acpi_cli.proofs.Hyphens.{IsPlain, plain_with_more}
-use Rattle.acpi_cli.specs.Words.{behind_word, code_named, fault_named, fault_written, is_blank, number_behind_0x, numbers_fit, word_of}
+use Rattle.acpi_cli.specs.Words.{behind_word, code_named, fault_named, fault_written, number_behind_0x, numbers_fit, word_of}
 
 -- ---- words
 

@@ -1,4 +1,4 @@
-use Rattle.std.proofs.Common.{◌≡◌, ◌<◌, ◌^◌, Some, None, rules, arith, sym, ◌∙◌}
+use Rattle.std.proofs.Common.{◌≡◌, Some, None, rules, arith, sym, ◌∙◌}
 use Rattle.acpi_base.specs.Laws.{NumbersFit}
 use Rattle.acpi_cli.proofs.FaultWords.{is_read, none_is_read}
 use Rattle.acpi_cli.proofs.words.given_witness.Goals as goal
