@@ -176,6 +176,7 @@ fn given_address(word: Option<&str>) -> Option<Option<u64>>
 fn given_witness(word: Option<&str>) -> Option<Witness>
     ensures { result ≡ witness_word (option_map (λ text. text.now) word.entry) }
 {
+    // Each number is read, so that the proof knows it to have 64 bits.
     let Witness {
         code,
         at,
