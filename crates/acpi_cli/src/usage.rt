@@ -71,7 +71,8 @@ For example:
   acpiset confirm --rsdp f59e0 --witness '3 TableSum 0x1 0x3000 0x0' < image.txt
 
 Exit statuses: 0 yes, true or found, 1 no, false or not found, 2 the arguments
-are refused, 3 the text is no image, 4 out of memory, or a read or a write failed.";
+are refused, 3 the text is no image, 4 out of memory, or a read or a write
+failed.";
 
 /// The usage of the program, with all stages. It ends without a line end, and takes no
 /// memory to print.
