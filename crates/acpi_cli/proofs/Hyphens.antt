@@ -58,7 +58,7 @@ pub processors_are_plain : (text : Text) (setting : Processors) → processors_w
 processors_are_plain text setting e = plain_if_read (λ text. processors_word (Some text)) text setting refl (λ rest. refl) e
 
 -- nor a text with more behind it
-plain_with_more : (text more : Text) → IsPlain text → IsPlain (text ++ more)
+pub plain_with_more : (text more : Text) → IsPlain text → IsPlain (text ++ more)
 plain_with_more text more plain = record {
   first = plain.first;
   rest = plain.rest ++ more;

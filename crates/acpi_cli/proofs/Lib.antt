@@ -1,7 +1,9 @@
 pub mod PlainLines
 pub mod Hyphens
-pub mod CheckArguments
+pub mod JudgingArguments
 pub mod CheckRows
+pub mod Declared
+pub mod FaultWords
 pub mod FirstCounts
 pub mod InputsWords
 pub mod Statuses

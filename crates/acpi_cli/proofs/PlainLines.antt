@@ -11,12 +11,14 @@ use Rattle.clap.proofs.OnLiterals.{clap_on_literals}
 use Rattle.acpi_base.specs.Policy.{PolicyValue, new_policy}
 use Rattle.acpi_base.specs.declared.policy.HotPlug.{HotPlug}
 use Rattle.acpi_base.specs.declared.policy.Processors.{Processors}
-use Rattle.acpi_cli.specs.CommandLine.{are_none, asked, check, check_asked, check_line, check_words, command_line, command_of, default_word, find, find_line, find_words, hotplug_word, is_taken, last_word, policy_words, processors_word, rsdp_word, with_inputs, with_settings}
-use Rattle.acpi_cli.specs.Words.{all_inputs, hex_word}
+use Rattle.acpi_cli.specs.CommandLine.{are_none, asked, check, check_asked, check_line, check_words, command_line, command_of, confirm, confirm_asked, confirm_line, confirm_words, default_word, find, find_line, find_words, hotplug_word, is_taken, last_word, policy_words, processors_word, rsdp_word, with_inputs, with_settings}
+use Rattle.acpi_base.specs.declared.witness.Witness.{Witness}
+use Rattle.acpi_cli.specs.Words.{all_inputs, fault_written, hex_word}
+use Rattle.acpi_cli.proofs.FaultWords.{fault_is_plain}
 use Rattle.acpi_cli.specs.declared.policy_words.Inputs.{Inputs}
 use Rattle.acpi_cli.proofs.CheckRows.{AreDistinct, no_word_row, option_is_found, options_rows, word_rows, words_are_found}
 use Rattle.acpi_cli.proofs.Hyphens.{IsPlain, all_are_plain, count_is_plain, hex_is_plain, hotplug_is_plain, processors_are_plain, stage_is_plain}
-use Rattle.acpi_cli.proofs.CheckArguments.{AreNew, AreOptions, Reads, default_option, given, hotplug_option, processors_option, reads_options, rsdp_option, rules, shape, standing, taken, through_option}
+use Rattle.acpi_cli.proofs.JudgingArguments.{AreNew, AreOptions, Judging, Reads, checking, confirming, default_option, given, hotplug_option, name_of, processors_option, reads_options, rsdp_option, rules, shape, standing, taken, through_option, witness_option}
 
 -- ---- what stands before the arguments of a command
 
@@ -45,54 +47,61 @@ after_walk : (a : App) (words : List Text) (w : Walk) → walk a.top.rules (name
     (check_fault a.top (finished a.top.rules w.held) (is_some (entered a w.stopped)))))
 after_walk a words w e fault = rw (fault, e) refl
 
--- the walk over `check WORDS..`
-at_check : List Text → Walk
-at_check words = record (walk_from nothing_held) { stopped = Some (codes "check", words) }
+-- the walk over `check WORDS..` or `confirm WORDS..`
+at_command : Judging → List Text → Walk
+at_command j words = record (walk_from nothing_held) { stopped = Some (name_of j, words) }
 
 -- the whole command line as `clap` builds it
 program_line : App
-unfolding command_line check_line find_line
+unfolding command_line check_line confirm_line find_line
 program_line = built command_line
 
--- the walk comes to `check`
-walks_to_check : (words : List Text) → walk program_line.top.rules (names_of program_line) nothing_held (codes "check" ∷ words) ≡ at_check words
-unfolding program_line command_line check_line find_line at_check clap_on_literals
-walks_to_check words = words_behind program_line.top.rules (names_of program_line) (walk_from nothing_held) (codes "check") [] words
+-- the walk comes to the command
+walks_to : (j : Judging) (words : List Text) → walk program_line.top.rules (names_of program_line) nothing_held (name_of j ∷ words) ≡ at_command j words
+unfolding program_line command_line check_line confirm_line find_line at_command clap_on_literals
+walks_to checking words = words_behind program_line.top.rules (names_of program_line) (walk_from nothing_held) (codes "check") [] words
+walks_to confirming words = words_behind program_line.top.rules (names_of program_line) (walk_from nothing_held) (codes "confirm") [] words
 
 -- and has no fault up to it
-no_fault_to_check : (words : List Text) → walk_fault program_line.top (names_of program_line) (walk_from nothing_held) (codes "check" ∷ words) ≡ []
-unfolding program_line command_line check_line find_line clap_on_literals
-no_fault_to_check words = no_fault_behind program_line.top (names_of program_line) (walk_from nothing_held) (codes "check") [] words
+no_fault_to : (j : Judging) (words : List Text) → walk_fault program_line.top (names_of program_line) (walk_from nothing_held) (name_of j ∷ words) ≡ []
+unfolding program_line command_line check_line confirm_line find_line clap_on_literals
+no_fault_to checking words = no_fault_behind program_line.top (names_of program_line) (walk_from nothing_held) (codes "check") [] words
+no_fault_to confirming words = no_fault_behind program_line.top (names_of program_line) (walk_from nothing_held) (codes "confirm") [] words
 
--- the arguments of `check` are all that is left to be judged, and have no fault
-check_has_no_fault : (words : List Text) (rows : List Row) → Reads (standing [] None idle) words rows
-    → or_else (entered_fault program_line (at_check words).stopped)
-    (or_else (settle_fault program_line.top.rules program_line.top.args_override_self (at_check words).held)
-    (or_else (defaults_fault (settled program_line.top.rules (at_check words).held).rows program_line.top.rules)
-    (check_fault program_line.top (finished program_line.top.rules (at_check words).held) (is_some (entered program_line (at_check words).stopped))))) ≡ []
-unfolding program_line command_line check_line find_line at_check shape rules clap_on_literals
-check_has_no_fault words rows reads = ap (λ (kinds : Kinds). or_else kinds []) (taken words rows reads)
+-- the arguments of the command are all that is left to be judged, and have no fault
+command_has_no_fault : (j : Judging) (words : List Text) (rows : List Row) → Reads j (standing [] None idle) words rows
+    → or_else (entered_fault program_line (at_command j words).stopped)
+    (or_else (settle_fault program_line.top.rules program_line.top.args_override_self (at_command j words).held)
+    (or_else (defaults_fault (settled program_line.top.rules (at_command j words).held).rows program_line.top.rules)
+    (check_fault program_line.top (finished program_line.top.rules (at_command j words).held) (is_some (entered program_line (at_command j words).stopped))))) ≡ []
+unfolding program_line command_line check_line confirm_line find_line at_command shape rules clap_on_literals
+command_has_no_fault checking words rows reads = ap (λ (kinds : Kinds). or_else kinds []) (taken checking words rows reads)
+command_has_no_fault confirming words rows reads = ap (λ (kinds : Kinds). or_else kinds []) (taken confirming words rows reads)
 
 -- and they come in these rows
-check_has_rows : (words : List Text) (rows : List Row) → Reads (standing [] None idle) words rows
-    → entered program_line (at_check words).stopped ≡ Some (codes "check", rows)
-unfolding program_line command_line check_line find_line at_check shape rules clap_on_literals
-check_has_rows words rows reads = ap (λ (r : List Row). Some (codes "check", r)) (given words rows reads)
+command_has_rows : (j : Judging) (words : List Text) (rows : List Row) → Reads j (standing [] None idle) words rows
+    → entered program_line (at_command j words).stopped ≡ Some (name_of j, rows)
+unfolding program_line command_line check_line confirm_line find_line at_command shape rules clap_on_literals
+command_has_rows checking words rows reads = ap (λ (r : List Row). Some (codes "check", r)) (given checking words rows reads)
+command_has_rows confirming words rows reads = ap (λ (r : List Row). Some (codes "confirm", r)) (given confirming words rows reads)
 
--- `PROGRAM check WORDS..`, where the words are read
-check_is_taken : (program : Text) (words : List Text) (rows : List Row) → Reads (standing [] None idle) words rows → is_taken (program ∷ codes "check" ∷ words) ≡ true
+-- `PROGRAM COMMAND WORDS..`, where the words are read
+command_is_taken : (j : Judging) (program : Text) (words : List Text) (rows : List Row) → Reads j (standing [] None idle) words rows → is_taken (program ∷ name_of j ∷ words) ≡ true
 unfolding is_taken program_line
-check_is_taken program words rows reads =
-    ap are_none (after_walk program_line (codes "check" ∷ words) (at_check words) (walks_to_check words) (no_fault_to_check words) ∙ check_has_no_fault words rows reads)
+command_is_taken j program words rows reads =
+    ap are_none (after_walk program_line (name_of j ∷ words) (at_command j words) (walks_to j words) (no_fault_to j words) ∙ command_has_no_fault j words rows reads)
 
--- the command is `check`
-check_is_entered : (program : Text) (words : List Text) (rows : List Row) → Reads (standing [] None idle) words rows → command_of (program ∷ codes "check" ∷ words) ≡ Some (codes "check", rows)
+-- the command is this one
+command_is_entered : (j : Judging) (program : Text) (words : List Text) (rows : List Row) → Reads j (standing [] None idle) words rows → command_of (program ∷ name_of j ∷ words) ≡ Some (name_of j, rows)
 unfolding command_of program_line
-check_is_entered program words rows reads = ap (λ (w : Walk). entered program_line w.stopped) (walks_to_check words) ∙ check_has_rows words rows reads
+command_is_entered j program words rows reads = ap (λ (w : Walk). entered program_line w.stopped) (walks_to j words) ∙ command_has_rows j words rows reads
 
 -- so it asks for what its arguments say
-check_gives : (program : Text) (words : List Text) (rows : List Row) → Reads (standing [] None idle) words rows → asked (program ∷ codes "check" ∷ words) ≡ check_asked rows
-check_gives program words rows reads = rw (check_is_taken program words rows reads, check_is_entered program words rows reads) refl
+check_gives : (program : Text) (words : List Text) (rows : List Row) → Reads checking (standing [] None idle) words rows → asked (program ∷ codes "check" ∷ words) ≡ check_asked rows
+check_gives program words rows reads = rw (command_is_taken checking program words rows reads, command_is_entered checking program words rows reads) refl
+
+confirm_gives : (program : Text) (words : List Text) (rows : List Row) → Reads confirming (standing [] None idle) words rows → asked (program ∷ codes "confirm" ∷ words) ≡ confirm_asked rows
+confirm_gives program words rows reads = rw (command_is_taken confirming program words rows reads, command_is_entered confirming program words rows reads) refl
 
 -- ---- plain lines
 
@@ -184,15 +193,15 @@ pub check_words_asked : (program : Text) (hex number inputs hotplug processors :
 check_words_asked program hex number inputs hotplug processors words rsdp policy last a b c =
     let given = policy_is_given inputs hotplug processors words policy b in
     let options = plain_options hex number inputs hotplug processors in
-    let are : AreOptions options = (
-      (rsdp_option, rsdp_is_plain hex rsdp a),
+    let are : AreOptions checking options = (
+      (rsdp_option checking, rsdp_is_plain hex rsdp a),
       (
         (through_option, through_is_plain number last c),
         (
-          (default_option, default_is_plain inputs given.count given.is_count),
+          (default_option checking, default_is_plain inputs given.count given.is_count),
           (
-            (hotplug_option, hotplug_begins_plain hotplug given.ranges given.is_hotplug),
-            ((processors_option, processors_begin_plain processors given.who given.is_processors), tt),
+            (hotplug_option checking, hotplug_begins_plain hotplug given.ranges given.is_hotplug),
+            ((processors_option checking, processors_begin_plain processors given.who given.is_processors), tt),
           ),
         ),
       ),
@@ -201,12 +210,56 @@ check_words_asked program hex number inputs hotplug processors words rsdp policy
     let distinct : AreDistinct options = (refl, (refl, (refl, (refl, (refl, tt))))) in
     let found = λ (id : Text) (e : bytes_eq (codes "inputs") id ≡ false). option_is_found id options (word_rows words) distinct (no_word_row id words e) in
     check_gives program _ (options_rows options ++ word_rows words)
-    (reads_options options words are new refl (all_are_plain words given.counts given.are_counts))
+    (reads_options checking options words are new refl (all_are_plain words given.counts given.are_counts))
     ∙ asks (options_rows options ++ word_rows words) hex number inputs hotplug processors words rsdp policy last
     (found (codes "rsdp") refl) (found (codes "through") refl) (found (codes "default-inputs") refl) (found (codes "hotplug") refl) (found (codes "processors") refl)
     (words_are_found options words refl) a b c
 
+-- the options of a plain line of `confirm`
+abbrev confirm_options : Text → Option Text → Option Text → Option Text → Option Text → List (Text × Option Text)
+confirm_options witness rsdp default_inputs hotplug processors =
+    (codes "witness", Some witness) ∷ (codes "rsdp", rsdp) ∷ (codes "default-inputs", default_inputs) ∷ (codes "hotplug", hotplug) ∷ (codes "processors", processors) ∷ []
+
+-- what `confirm` is asked, from the values of its arguments
+asks_to_confirm : (options : List Row) (text : Text) (hex inputs hotplug processors : Option Text) (words : List Text) (w : Witness) (rsdp : Option ℕ) (policy : PolicyValue)
+    → first_of (codes "witness") options ≡ Some text → first_of (codes "rsdp") options ≡ hex
+    → first_of (codes "default-inputs") options ≡ inputs → first_of (codes "hotplug") options ≡ hotplug → first_of (codes "processors") options ≡ processors
+    → unwrap_or (all_of (codes "inputs") options) [] ≡ words → fault_written text ≡ Some w → rsdp_word hex ≡ Some rsdp → policy_words inputs hotplug processors words ≡ Some policy
+    → confirm_asked options ≡ Some (confirm rsdp policy w)
+unfolding confirm_asked
+asks_to_confirm options text hex inputs hotplug processors words w rsdp policy is_text is_hex is_inputs is_hotplug is_processors are_words a b c =
+    rw (is_text, is_hex, is_inputs, is_hotplug, is_processors, are_words, a, b, c) refl
+
+-- a plain line of `confirm` asks for what its arguments say
+pub confirm_words_asked : (program text : Text) (hex inputs hotplug processors : Option Text) (words : List Text) (w : Witness) (rsdp : Option ℕ) (policy : PolicyValue)
+    → fault_written text ≡ Some w → rsdp_word hex ≡ Some rsdp → policy_words inputs hotplug processors words ≡ Some policy
+    → asked (confirm_words program text hex inputs hotplug processors words) ≡ Some (confirm rsdp policy w)
+confirm_words_asked program text hex inputs hotplug processors words w rsdp policy a b c =
+    let given = policy_is_given inputs hotplug processors words policy c in
+    let options = confirm_options text hex inputs hotplug processors in
+    let are : AreOptions confirming options = (
+      (witness_option, fault_is_plain text w a),
+      (
+        (rsdp_option confirming, rsdp_is_plain hex rsdp b),
+        (
+          (default_option confirming, default_is_plain inputs given.count given.is_count),
+          (
+            (hotplug_option confirming, hotplug_begins_plain hotplug given.ranges given.is_hotplug),
+            ((processors_option confirming, processors_begin_plain processors given.who given.is_processors), tt),
+          ),
+        ),
+      ),
+    ) in
+    let new : AreNew [] options = (refl, (refl, (refl, (refl, (refl, tt))))) in
+    let distinct : AreDistinct options = (refl, (refl, (refl, (refl, (refl, tt))))) in
+    let found = λ (id : Text) (e : bytes_eq (codes "inputs") id ≡ false). option_is_found id options (word_rows words) distinct (no_word_row id words e) in
+    confirm_gives program _ (options_rows options ++ word_rows words)
+    (reads_options confirming options words are new refl (all_are_plain words given.counts given.are_counts))
+    ∙ asks_to_confirm (options_rows options ++ word_rows words) text hex inputs hotplug processors words w rsdp policy
+    (found (codes "witness") refl) (found (codes "rsdp") refl) (found (codes "default-inputs") refl) (found (codes "hotplug") refl) (found (codes "processors") refl)
+    (words_are_found options words refl) a b c
+
 -- and one of `find` for a search
 pub find_words_asked : (program : Text) → asked (find_words program) ≡ Some find
-unfolding is_taken command_of command_line check_line find_line clap_on_literals
+unfolding is_taken command_of command_line check_line confirm_line find_line clap_on_literals
 find_words_asked program = refl

@@ -4,7 +4,7 @@ ghost use Rattle.std.specs.Prelude.{◌≡◌, ◌≢◌, [], IfErr, IfOk, false
 ghost use Rattle.std.specs.String.{string_bytes};
 ghost use Rattle.clap.specs.Words.{all_of, app_of, first_of, found_of, kind_of, rows_of, rule_of, subcommand_rows_of};
 ghost use Rattle.clap.specs.declared.builder.command.Command.TheViews.{out-Command};
-ghost use Rattle.acpi_cli.specs.CommandLine.{check_line, command_line, command_of, inputs_rule, is_taken, option_rule};
+ghost use Rattle.acpi_cli.specs.CommandLine.{check_line, command_line, confirm_line, command_of, inputs_rule, is_taken, option_rule};
 
 use crate::words::WordFault;
 use clap::error::ErrorKind;
@@ -71,6 +71,7 @@ fn acpiset<'a>(alloc: Global) -> Result<Command<'a>, AllocError>
 {
     Command::new(alloc, "acpiset")
         .subcommand(check(alloc)?)?
+        .subcommand(confirm(alloc)?)?
         .subcommand(Command::new(alloc, "find"))
 }
 
@@ -81,6 +82,19 @@ fn check<'a>(alloc: Global) -> Result<Command<'a>, AllocError>
     Command::new(alloc, "check")
         .arg(option(alloc, "rsdp", "HEX"))?
         .arg(option(alloc, "through", "N"))?
+        .arg(option(alloc, "default-inputs", "N"))?
+        .arg(option(alloc, "hotplug", "SETTING"))?
+        .arg(option(alloc, "processors", "SETTING"))?
+        .arg(inputs(alloc))
+}
+
+fn confirm<'a>(alloc: Global) -> Result<Command<'a>, AllocError>
+    ensures line { IfOk result (λ command. app_of command ≡ confirm_line) }
+    ensures own { IfOk result (λ command. (out-Command command).has_globals ≡ false) }
+{
+    Command::new(alloc, "confirm")
+        .arg(option(alloc, "witness", "FAULT"))?
+        .arg(option(alloc, "rsdp", "HEX"))?
         .arg(option(alloc, "default-inputs", "N"))?
         .arg(option(alloc, "hotplug", "SETTING"))?
         .arg(option(alloc, "processors", "SETTING"))?

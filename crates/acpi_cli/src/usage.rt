@@ -8,16 +8,24 @@ const COMMANDS: &str = "usage:
   acpiset check [--rsdp HEX] [--through N]
                 [--default-inputs N] [ADDRESS=COUNT]..
                 [--hotplug counted|apart] [--processors enabled|usable]
+  acpiset confirm --witness FAULT [--rsdp HEX]
+                [--default-inputs N] [ADDRESS=COUNT]..
+                [--hotplug counted|apart] [--processors enabled|usable]
   acpiset find
 
-Both read the image of a machine's memory from standard input, as text.
+All read the image of a machine's memory from standard input, as text.
 
 check judges the ACPI tables in it, and writes `yes`, or `no` and the first
-fault.
+fault. confirm judges one fault, apart from check, and writes `true` where the
+image has it, or `false`.
 
+  --witness FAULT
+               the fault that confirm judges, in one argument and as check
+               writes it behind `no`, such as '10 Overlap 0x30 0x58 0x0'. It
+               need not be the first one
   --rsdp HEX   the address of the RSDP: 1 to 16 hex digits, with 0x before
                them or without; if absent, the one that find finds, and where
-               there is none check writes `no rsdp`
+               there is none check and confirm write `no rsdp`
 ";
 
 const POLICY: &str = "  --default-inputs N
@@ -52,17 +60,19 @@ line of pairs of hex digits is bytes, and # begins a comment:
   @e0000
   52 53 44 20  # and so on
 
-A fault is a line such as `no 3 TableSum 0x1 0x3000 0x0`: the stage, the
-fault's name, where it is, and two more numbers that say what it is about.
+A fault is written as `3 TableSum 0x1 0x3000 0x0`: the stage, the fault's
+name, where it is, and two more numbers that say what it is about.
 
 For example:
 
   acpiset check --rsdp f59e0 < image.txt
   acpiset check --default-inputs 16 fec00000=32 0xfec01000=8 < image.txt
   acpiset check --hotplug apart --processors usable < image.txt
+  acpiset confirm --rsdp f59e0 --witness '3 TableSum 0x1 0x3000 0x0' < image.txt
 
-Exit statuses: 0 yes or found, 1 no or not found, 2 the arguments are refused,
-3 the text is no image, 4 out of memory, or a read or a write failed.";
+Exit statuses: 0 yes, true or found, 1 no, false or not found, 2 the arguments
+are refused, 3 the text is no image, 4 out of memory, or a read or a write
+failed.";
 
 /// The usage of the program, with all stages. It ends without a line end, and takes no
 /// memory to print.
