@@ -2,14 +2,16 @@
 use Rattle.std.specs.Prelude.{◌≡◌, ◌≤◌, ◌⊎◌, ◌+◌, ◌++◌, ℕ, List, length, take, codes, Option, Some, None, Result, Ok, Err, true}
 use Rattle.std.specs.Io.KnownBytes.{Appends, Consumes, IsAtEnd, Keeps}
 use Rattle.acpi_base.specs.Memory.{Memory}
-use Rattle.acpi_base.specs.Policy.{PolicyValue}
+use Rattle.acpi_base.specs.Policy.{PolicyValue, new_policy}
 use Rattle.acpi_base.specs.ImageText.{IsText, max_text}
 use Rattle.acpi_base.specs.TextReading.{IsFaultlessPrefix, IsRefusal, is_of_text}
 use Rattle.acpi_base.specs.Tally.{Counted, CountsFailure}
 use Rattle.acpi_base.specs.Found.{IsFound, IsNowhere}
 use Rattle.acpi_base.specs.Faults.{IsVerdict}
+use Rattle.acpi_base.specs.Statements.{CleanTo}
 use Rattle.acpi_base.specs.WitnessText.{hex_text, verdict_line}
 use Rattle.acpi_base.specs.declared.stage.Stage.{Stage}
+use Rattle.acpi_base.specs.declared.stage.Stage.TheVariants as stage
 use Rattle.acpi_base.specs.declared.text.TextFault.{TextFault}
 use Rattle.acpi_base.specs.declared.verdict.Verdict.{Verdict}
 use Rattle.acpi_base.specs.declared.verdict.Verdict.TheVariants as verdict
@@ -149,6 +151,17 @@ pub record ReportsNoRsdp (given : Option ℕ) (m : Memory) (bytes : List ℕ) (r
 -- what a check reports on an image
 abbrev pub ReportsCheck : Option ℕ → PolicyValue → Stage → Memory → List ℕ → Outcome → Type 0
 ReportsCheck given q last m bytes returned = ReportsVerdict given q last m bytes returned ⊎ ReportsNoRsdp given m bytes returned
+
+-- the policy that a set is shown by: any serves, as the stages up to the listed tables ask for the RSDP's address alone
+abbrev pub shown_policy : PolicyValue
+shown_policy = new_policy 0 24
+
+-- What is shown of an image: where the stages up to the listed tables hold, lines, of which nothing more is said; else
+-- what a check of those stages reports.
+abbrev pub ReportsShow : Option ℕ → Memory → List ℕ → Outcome → Type 0
+ReportsShow given m bytes returned =
+    ((returned ≡ outcome.Yes) × ((p : ℕ) × IsRsdpAddress given m p × CleanTo stage.Tables m (with_rsdp shown_policy p)))
+    ⊎ ((returned ≡ outcome.No) × ReportsCheck given shown_policy stage.Tables m bytes returned)
 
 -- what a search reports on an image: where it finds the RSDP, or that it finds none
 abbrev pub ReportsFound : Memory → List ℕ → Outcome → Type 0

@@ -1,6 +1,6 @@
 //! The engine of the command `check`.
 
-ghost use Rattle.std.specs.Prelude.{◌≡◌, IfOk, IfSome, IsNone};
+ghost use Rattle.std.specs.Prelude.{◌≡◌, IfOk, IfSome, IsNone, codes};
 ghost use Rattle.acpi_cli.specs.Engine.{device, HasNoRsdp, IsRsdpAddress, Runs, ReportsCheck, outcome_of};
 
 use crate::devices::{Output, read_input, write_output};
@@ -21,7 +21,7 @@ fn outcome_of(verdict: &Verdict) -> Outcome
 }
 
 /// The address that is given, else the one that is found.
-fn rsdp_address(image: &Image, given: Option<u64>) -> Option<u64>
+pub fn rsdp_address(image: &Image, given: Option<u64>) -> Option<u64>
     ensures some { IfSome result (IsRsdpAddress given image.now) }
     ensures none { IsNone result → HasNoRsdp given image.now }
 {
@@ -29,6 +29,15 @@ fn rsdp_address(image: &Image, given: Option<u64>) -> Option<u64>
         Some(address) => Some(address),
         None => find_rsdp(image),
     }
+}
+
+/// What is reported where there is no RSDP to start from.
+pub fn no_rsdp(alloc: Global) -> Result<Output, AllocError>
+    ensures { IfOk result (λ output. (output.bytes.items ≡ codes "no rsdp\n") × (output.outcome ≡ Outcome.No)) }
+{
+    let bytes = Vec::from_slice(alloc, b"no rsdp\n")?;
+    let outcome = Outcome::No;
+    Ok(Output { bytes, outcome })
 }
 
 /// What a check reports on the image.
@@ -42,9 +51,7 @@ fn check_output(
     ensures { IfOk result (λ output. ReportsCheck given policy last image.now output.bytes.items output.outcome) }
 {
     let Some(address) = rsdp_address(image, given) else {
-        let bytes = Vec::from_slice(alloc, b"no rsdp\n")?;
-        let outcome = Outcome::No;
-        return Ok(Output { bytes, outcome });
+        return no_rsdp(alloc);
     };
     policy.set_rsdp(address);
     let verdict = check_to(alloc, image, &policy, last)?;

@@ -9,6 +9,7 @@ mod number_words;
 mod outcome;
 mod policy_words;
 mod program;
+mod show;
 #[cfg(test)]
 mod tests;
 mod usage;
