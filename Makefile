@@ -21,6 +21,8 @@ test:
 	rt ci
 	tests/documents.sh
 	tests/rows/run.py $(program)
+	tests/rows/confirm.py $(program)
+	tests/show/run.py $(program)
 	tests/program.sh $(program)
 
 # Prints speed and memory beside other programs; not part of the tests.

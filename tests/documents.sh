@@ -101,8 +101,14 @@ stages=$(sed -n 's/^stage_number stage\.[A-Za-z]* = \([0-9]*\)$/\1/p' crates/acp
 listed=$(sed -n 's/^| \([0-9]*\) | .* | [0-9to, ]* |$/\1/p' docs/FAULTS.md)
 same 'stages (<) and those that FAULTS.md lists (>)' "$stages" "$listed"
 headline=$(sed -n '/^## The headline$/,/^## /{/^```rust$/,/^```$/p}' README.md | grep -v '^```')
-contract=$(sed -n '/^pub fn check(/,/^{$/p' crates/acpi_check/src/stages.rt | grep -v '^{$')
-same 'the contract of check, as README has it (<) and in acpi_check (>)' "$headline" "$contract"
+# contract FUNCTION FILE: what stands before the function's body.
+contract() { sed -n "/^pub fn $1(/,/^{\$/p" "$2" | grep -v '^{$'; }
+contracts=$(
+  contract check crates/acpi_check/src/stages.rt
+  contract confirm crates/acpi_confirm/src/lib.rt
+  contract check_and_confirm_agree crates/acpi_cli/src/laws.rt
+)
+same 'the contracts of the headline, as README has them (<) and in the code (>)' "$headline" "$contracts"
 
 paths=$(cat README.md docs/*.md | grep -o '`\(crates\|docs\|tests\|bench\)/[A-Za-z0-9_./-]*[A-Za-z0-9_]`' | tr -d '`' | sort -u)
 there=$(while read -r path; do [ -e "$path" ] && printf '%s\n' "$path"; done <<<"$paths")

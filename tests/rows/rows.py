@@ -45,6 +45,8 @@ row("nothing to check", b"", "no rsdp", command="check")
 # ---- listed tables
 row("a slot of 0 between two tables", image_of(fadt(), hpet(), slots=(0x2000, 0, 0x3000)), "yes")
 row("a table of Length 2^32 - 1", image_of(fadt()[:4] + b"\xff" * 4 + fadt()[8:]), "no 3 TableOut 0x0 0x2000 0x0")
+UNSUMMED = changed(hpet(), {9: 0})
+row("a table without a sum in two slots", image_of(fadt(), UNSUMMED, slots=(0x2000, 0x3000, 0x3000)), "no 3 TableSum 0x1 0x3000 0x0")
 row("an RSDT that lists itself", image_of(fadt(), slots=(0x1000, 0x2000)), "yes")
 
 # ---- FADT and FACS

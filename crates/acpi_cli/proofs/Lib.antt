@@ -2,8 +2,11 @@ pub mod PlainLines
 pub mod Hyphens
 pub mod CheckArguments
 pub mod CheckRows
+pub mod Declared
+pub mod FaultWords
 pub mod FirstCounts
 pub mod InputsWords
 pub mod Statuses
 mod Sent
+pub mod SoundSets
 pub mod Spellings

@@ -11,7 +11,7 @@ use Rattle.clap.proofs.OnLiterals.{clap_on_literals}
 use Rattle.acpi_base.specs.Policy.{PolicyValue, new_policy}
 use Rattle.acpi_base.specs.declared.policy.HotPlug.{HotPlug}
 use Rattle.acpi_base.specs.declared.policy.Processors.{Processors}
-use Rattle.acpi_cli.specs.CommandLine.{are_none, asked, check, check_asked, check_line, check_words, command_line, command_of, default_word, find, find_line, find_words, hotplug_word, is_taken, last_word, policy_words, processors_word, rsdp_word, with_inputs, with_settings}
+use Rattle.acpi_cli.specs.CommandLine.{are_none, asked, check, check_asked, check_line, check_words, command_line, command_of, confirm_line, default_word, find, find_line, find_words, hotplug_word, is_taken, last_word, policy_words, processors_word, rsdp_word, show_line, with_inputs, with_settings}
 use Rattle.acpi_cli.specs.Words.{all_inputs, hex_word}
 use Rattle.acpi_cli.specs.declared.policy_words.Inputs.{Inputs}
 use Rattle.acpi_cli.proofs.CheckRows.{AreDistinct, no_word_row, option_is_found, options_rows, word_rows, words_are_found}
@@ -51,17 +51,17 @@ at_check words = record (walk_from nothing_held) { stopped = Some (codes "check"
 
 -- the whole command line as `clap` builds it
 program_line : App
-unfolding command_line check_line find_line
+unfolding command_line check_line confirm_line show_line find_line
 program_line = built command_line
 
 -- the walk comes to `check`
 walks_to_check : (words : List Text) → walk program_line.top.rules (names_of program_line) nothing_held (codes "check" ∷ words) ≡ at_check words
-unfolding program_line command_line check_line find_line at_check clap_on_literals
+unfolding program_line command_line check_line confirm_line show_line find_line at_check clap_on_literals
 walks_to_check words = words_behind program_line.top.rules (names_of program_line) (walk_from nothing_held) (codes "check") [] words
 
 -- and has no fault up to it
 no_fault_to_check : (words : List Text) → walk_fault program_line.top (names_of program_line) (walk_from nothing_held) (codes "check" ∷ words) ≡ []
-unfolding program_line command_line check_line find_line clap_on_literals
+unfolding program_line command_line check_line confirm_line show_line find_line clap_on_literals
 no_fault_to_check words = no_fault_behind program_line.top (names_of program_line) (walk_from nothing_held) (codes "check") [] words
 
 -- the arguments of `check` are all that is left to be judged, and have no fault
@@ -70,13 +70,13 @@ check_has_no_fault : (words : List Text) (rows : List Row) → Reads (standing [
     (or_else (settle_fault program_line.top.rules program_line.top.args_override_self (at_check words).held)
     (or_else (defaults_fault (settled program_line.top.rules (at_check words).held).rows program_line.top.rules)
     (check_fault program_line.top (finished program_line.top.rules (at_check words).held) (is_some (entered program_line (at_check words).stopped))))) ≡ []
-unfolding program_line command_line check_line find_line at_check shape rules clap_on_literals
+unfolding program_line command_line check_line confirm_line show_line find_line at_check shape rules clap_on_literals
 check_has_no_fault words rows reads = ap (λ (kinds : Kinds). or_else kinds []) (taken words rows reads)
 
 -- and they come in these rows
 check_has_rows : (words : List Text) (rows : List Row) → Reads (standing [] None idle) words rows
     → entered program_line (at_check words).stopped ≡ Some (codes "check", rows)
-unfolding program_line command_line check_line find_line at_check shape rules clap_on_literals
+unfolding program_line command_line check_line confirm_line show_line find_line at_check shape rules clap_on_literals
 check_has_rows words rows reads = ap (λ (r : List Row). Some (codes "check", r)) (given words rows reads)
 
 -- `PROGRAM check WORDS..`, where the words are read
@@ -208,5 +208,5 @@ check_words_asked program hex number inputs hotplug processors words rsdp policy
 
 -- and one of `find` for a search
 pub find_words_asked : (program : Text) → asked (find_words program) ≡ Some find
-unfolding is_taken command_of command_line check_line find_line clap_on_literals
+unfolding is_taken command_of command_line check_line confirm_line show_line find_line clap_on_literals
 find_words_asked program = refl

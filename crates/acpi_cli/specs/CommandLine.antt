@@ -11,10 +11,11 @@ use Rattle.acpi_base.specs.declared.policy.HotPlug.{HotPlug}
 use Rattle.acpi_base.specs.declared.policy.HotPlug.TheVariants.{Apart, Counted}
 use Rattle.acpi_base.specs.declared.policy.Processors.{Processors}
 use Rattle.acpi_base.specs.declared.policy.Processors.TheVariants.{Enabled, Usable}
-use Rattle.acpi_cli.specs.Words.{all_inputs, count_word, decimal_word, hex_word}
+use Rattle.acpi_base.specs.declared.witness.Witness.{Witness}
+use Rattle.acpi_cli.specs.Words.{all_inputs, count_word, decimal_word, fault_written, hex_word}
 use Rattle.acpi_cli.specs.declared.policy_words.Inputs.{Inputs}
 use Rattle.acpi_cli.specs.declared.words.Job.{Job}
-use Rattle.acpi_cli.specs.declared.words.Job.TheVariants.{Check, Find}
+use Rattle.acpi_cli.specs.declared.words.Job.TheVariants.{Check, Confirm, Find, Show}
 
 -- ---- the command line, as it is declared to `clap`
 
@@ -38,13 +39,35 @@ check_line =
     (option_rule (codes "processors")))
     inputs_rule
 
+-- `confirm --witness FAULT --rsdp HEX --default-inputs N --hotplug SETTING --processors SETTING ADDRESS=COUNT..`
+unfoldable pub confirm_line : App
+confirm_line =
+    with_rule (with_rule (with_rule (with_rule (with_rule (with_rule
+    (new_app (codes "confirm"))
+    (option_rule (codes "witness")))
+    (option_rule (codes "rsdp")))
+    (option_rule (codes "default-inputs")))
+    (option_rule (codes "hotplug")))
+    (option_rule (codes "processors")))
+    inputs_rule
+
+-- `show --rsdp HEX`
+unfoldable pub show_line : App
+show_line = with_rule (new_app (codes "show")) (option_rule (codes "rsdp"))
+
 -- `find`
 unfoldable pub find_line : App
 find_line = new_app (codes "find")
 
 -- `acpiset COMMAND ..`
 unfoldable pub command_line : App
-command_line = with_subcommand (with_subcommand (new_app (codes "acpiset")) check_line.top) find_line.top
+command_line =
+    with_subcommand (with_subcommand (with_subcommand (with_subcommand
+    (new_app (codes "acpiset"))
+    check_line.top)
+    confirm_line.top)
+    show_line.top)
+    find_line.top
 
 abbrev pub are_none : Kinds → Bool
 are_none [] = true
@@ -63,6 +86,10 @@ command_of = subcommand_of command_line
 pub data Asked : Type 0 where
   -- the RSDP's address, where it is given, the policy, and the number of the last stage
   check : Option ℕ → PolicyValue → ℕ → Asked
+  -- the RSDP's address, where it is given, the policy, and the fault
+  confirm : Option ℕ → PolicyValue → Witness → Asked
+  -- the RSDP's address, where it is given
+  show : Option ℕ → Asked
   find : Asked
 
 -- `--rsdp HEX`: without it the RSDP is to be found
@@ -78,6 +105,11 @@ stage_of_number n = if nat_le 1 n && nat_le n 18 then Some n else None
 abbrev pub last_word : Option Text → Option ℕ
 last_word None = Some 18
 last_word (Some text) = option_and_then stage_of_number (decimal_word 2 text)
+
+-- `--witness FAULT`: there is no job without it
+abbrev pub witness_word : Option Text → Option Witness
+witness_word None = None
+witness_word (Some text) = fault_written text
 
 -- `--default-inputs N`: without it an I/O APIC has 24 inputs
 abbrev pub default_word : Option Text → Option ℕ
@@ -147,12 +179,29 @@ check_asked options =
     (policy_asked options))
     (rsdp_word (first_of (codes "rsdp") options))
 
+-- the options of `confirm`
+unfoldable pub confirm_asked : List Row → Option Asked
+confirm_asked options =
+    option_and_then
+    (λ rsdp. option_and_then
+    (λ policy. option_map (confirm rsdp policy) (witness_word (first_of (codes "witness") options)))
+    (policy_asked options))
+    (rsdp_word (first_of (codes "rsdp") options))
+
+-- the options of `show`
+unfoldable pub show_asked : List Row → Option Asked
+show_asked options = option_map show (rsdp_word (first_of (codes "rsdp") options))
+
 abbrev pub command_asked : Option (Text × List Row) → Option Asked
 command_asked None = None
 command_asked (Some command) =
     if bytes_eq command.0 (codes "check")
     then check_asked command.1
-    else (if bytes_eq command.0 (codes "find") then Some find else None)
+    else (if bytes_eq command.0 (codes "confirm")
+    then confirm_asked command.1
+    else (if bytes_eq command.0 (codes "show")
+    then show_asked command.1
+    else (if bytes_eq command.0 (codes "find") then Some find else None)))
 
 -- what a whole command line asks for, where it is one
 abbrev pub asked : List Text → Option Asked
@@ -184,6 +233,9 @@ check_words program rsdp through default_inputs hotplug processors words =
 abbrev pub Does : Asked → Job → Type 0
 Does (check rsdp policy last) (Check given held stage) =
     (given ≡ rsdp) × (held ≡ policy) × (stage_number stage ≡ last)
+Does (confirm rsdp policy w) (Confirm given held witness) =
+    (given ≡ rsdp) × (held ≡ policy) × (witness ≡ w)
+Does (show rsdp) (Show given) = given ≡ rsdp
 Does find Find = Unit {0}
 Does _ _ = ⊥
 

@@ -7,7 +7,7 @@ use Rattle.acpi_base.specs.ImageText.{IsText, max_text}
 use Rattle.acpi_base.specs.TextReading.{IsFaultlessPrefix, IsRefusal, is_of_text}
 use Rattle.acpi_base.specs.Tally.{Counted, CountsFailure}
 use Rattle.acpi_base.specs.Found.{IsFound, IsNowhere}
-use Rattle.acpi_base.specs.Faults.{IsVerdict}
+use Rattle.acpi_base.specs.Faults.{Fault, IsVerdict}
 use Rattle.acpi_base.specs.Statements.{CleanTo}
 use Rattle.acpi_base.specs.WitnessText.{hex_text, verdict_line}
 use Rattle.acpi_base.specs.declared.stage.Stage.{Stage}
@@ -15,8 +15,9 @@ use Rattle.acpi_base.specs.declared.stage.Stage.TheVariants as stage
 use Rattle.acpi_base.specs.declared.text.TextFault.{TextFault}
 use Rattle.acpi_base.specs.declared.verdict.Verdict.{Verdict}
 use Rattle.acpi_base.specs.declared.verdict.Verdict.TheVariants as verdict
+use Rattle.acpi_base.specs.declared.witness.Witness.{Witness}
 use Rattle.acpi_cli.specs.declared.words.Job.{Job}
-use Rattle.acpi_cli.specs.declared.words.Job.TheVariants.{Check, Find}
+use Rattle.acpi_cli.specs.declared.words.Job.TheVariants.{Check, Confirm, Find, Show}
 use Rattle.acpi_cli.specs.declared.outcome.Outcome.{Outcome}
 use Rattle.acpi_cli.specs.declared.outcome.Outcome.TheVariants as outcome
 use Rattle.acpi_cli.specs.declared.outcome.RunFault.{RunFault}
@@ -152,6 +153,22 @@ pub record ReportsNoRsdp (given : Option ℕ) (m : Memory) (bytes : List ℕ) (r
 abbrev pub ReportsCheck : Option ℕ → PolicyValue → Stage → Memory → List ℕ → Outcome → Type 0
 ReportsCheck given q last m bytes returned = ReportsVerdict given q last m bytes returned ⊎ ReportsNoRsdp given m bytes returned
 
+-- `true` is reported of a fault of the image, and `false` of everything else, with the outcome that goes with it
+abbrev pub TellsFault : Memory → PolicyValue → Witness → List ℕ → Outcome → Type 0
+TellsFault m q w bytes returned =
+    (Fault m q w × (bytes ≡ codes "true\n") × (returned ≡ outcome.Yes))
+    ⊎ ((¬ Fault m q w) × (bytes ≡ codes "false\n") × (returned ≡ outcome.No))
+
+-- a witness is judged, with the RSDP at an address
+pub record ReportsFault (given : Option ℕ) (q : PolicyValue) (w : Witness) (m : Memory) (bytes : List ℕ) (returned : Outcome) : Type 0 where
+  pub address : ℕ
+  pub rsdp : IsRsdpAddress given m address
+  pub told : TellsFault m (with_rsdp q address) w bytes returned
+
+-- what is reported on an image of which a fault is to be confirmed
+abbrev pub ReportsConfirm : Option ℕ → PolicyValue → Witness → Memory → List ℕ → Outcome → Type 0
+ReportsConfirm given q w m bytes returned = ReportsFault given q w m bytes returned ⊎ ReportsNoRsdp given m bytes returned
+
 -- the policy that a set is shown by: any serves, as the stages up to the listed tables ask for the RSDP's address alone
 abbrev pub shown_policy : PolicyValue
 shown_policy = new_policy 0 24
@@ -172,4 +189,6 @@ ReportsFound m bytes returned =
 -- what a job reports on an image
 abbrev pub ReportsJob : Job → Memory → List ℕ → Outcome → Type 0
 ReportsJob (Check given policy last) = ReportsCheck given policy last
+ReportsJob (Confirm given policy w) = ReportsConfirm given policy w
+ReportsJob (Show given) = ReportsShow given
 ReportsJob Find = ReportsFound

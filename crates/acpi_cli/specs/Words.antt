@@ -1,9 +1,16 @@
--- Numbers among the arguments of the command line, and the inputs of I/O APICs.
-use Rattle.std.specs.Prelude.{ℕ, ◌==◌, Bool, ◌&&◌, List, [], ◌∷◌, Option, Some, None, if◌then◌else◌}
-use Rattle.std.specs.Prelude.{codes, drop, length, nat_eq, nat_le, nat_lt, option_and_then, option_map}
+-- Numbers among the arguments of the command line, the inputs of I/O APICs, and faults.
+use Rattle.std.specs.Prelude.{ℕ, ◌==◌, ◌^◌, Bool, ◌&&◌, List, [], ◌∷◌, Option, Some, None, if◌then◌else◌}
+use Rattle.std.specs.Prelude.{codes, drop, find as find_first, length, nat_eq, nat_le, nat_lt, option_and_then, option_map}
 use Rattle.std.specs.List.{after_first, before_first, list_all, starts_with}
 use Rattle.std.specs.Char.{is_digit}
+use Rattle.std.specs.Str.{bytes_eq}
 use Rattle.std.specs.Str.Parse.{digits_value}
+use Rattle.acpi_base.specs.Codes.{code_name}
+use Rattle.acpi_base.specs.ImageText.{hex_number}
+use Rattle.acpi_base.specs.WitnessText.{witness_line}
+use Rattle.acpi_base.specs.declared.code.Code.{Code}
+use Rattle.acpi_base.specs.declared.code.Code.TheVariants as code
+use Rattle.acpi_base.specs.declared.witness.Witness.{Witness}
 use Rattle.acpi_cli.specs.declared.policy_words.Inputs.{Inputs}
 
 -- ---- numbers
@@ -51,3 +58,63 @@ abbrev pub all_inputs : List (List ℕ) → Option (List Inputs)
 all_inputs [] = Some []
 all_inputs (word ∷ words) =
     option_and_then (λ first. option_map (λ rest. first ∷ rest) (all_inputs words)) (inputs_word word)
+
+-- ---- faults
+
+-- the codes of all faults
+abbrev pub all_codes : List Code
+all_codes =
+    code.RsdpOut ∷ code.RsdpSignature ∷ code.RsdpSum ∷ code.RsdpTailOut ∷ code.RsdpLength ∷
+    code.RsdpLongOut ∷ code.RsdpExtendedSum ∷ code.NoRoot ∷ code.RootHeaderOut ∷
+    code.RootSignature ∷ code.RootLength ∷ code.RootOut ∷ code.RootRagged ∷ code.RootSum ∷
+    code.TableHeaderOut ∷ code.TableLength ∷ code.TableOut ∷ code.TableSum ∷ code.NoFadt ∷
+    code.FadtShort ∷ code.PmEventLength ∷ code.PmControlLength ∷ code.PmTimerLength ∷
+    code.GpeLength ∷ code.ResetRegister ∷ code.NoFacs ∷ code.FacsAlign ∷ code.FacsHeaderOut ∷
+    code.FacsSignature ∷ code.FacsLength ∷ code.FacsOut ∷ code.MadtShort ∷ code.MadtEntryCut ∷
+    code.MadtEntryLength ∷ code.OverrideBus ∷ code.ReservedInti ∷ code.SecondAddressOverride ∷
+    code.GsiPastEnd ∷ code.GsiClash ∷ code.OverrideClash ∷ code.SratShort ∷ code.SratEntryCut ∷
+    code.SratEntryLength ∷ code.RangePastEnd ∷ code.Overlap ∷ code.SlitShort ∷ code.SlitSize ∷
+    code.SlitDiagonal ∷ code.SlitLow ∷ code.PpttEntryCut ∷ code.PpttEntryLength ∷
+    code.DanglingParent ∷ code.DanglingResource ∷ code.DanglingCache ∷ code.ParentCycle ∷
+    code.CacheCycle ∷ code.TwoDomains ∷ code.GsiNowhere ∷ code.LeafUnknown ∷ []
+
+-- the code with this name
+unfoldable pub code_named : List ℕ → Option Code
+code_named name = find_first (λ c. bytes_eq (code_name c) name) all_codes
+
+-- what stands before the first blank, and what stands behind it
+abbrev pub is_blank : ℕ → Bool
+is_blank byte = byte == 32
+
+abbrev pub word_of : List ℕ → List ℕ
+word_of = before_first is_blank
+
+abbrev pub behind_word : List ℕ → List ℕ
+behind_word = after_first is_blank
+
+-- the number with these hex digits behind its `0x`
+abbrev pub number_behind_0x : List ℕ → ℕ
+number_behind_0x word = hex_number 0 (drop 2 word)
+
+-- the fault that a text's second word and its three numbers name: any text names one that has a fault's name in this place
+unfoldable pub fault_named : List ℕ → Option Witness
+fault_named text =
+    option_map
+    (λ c. record {
+      code = c;
+      at = number_behind_0x (word_of (behind_word (behind_word text)));
+      other = number_behind_0x (word_of (behind_word (behind_word (behind_word text))));
+      point = number_behind_0x (behind_word (behind_word (behind_word (behind_word text))));
+    })
+    (code_named (word_of (behind_word text)))
+
+-- its three numbers have 64 bits
+abbrev pub numbers_fit : Witness → Bool
+numbers_fit w = nat_lt w.at (2 ^ 64) && (nat_lt w.other (2 ^ 64) && nat_lt w.point (2 ^ 64))
+
+-- the fault whose text this is: it is written so, and in no other way
+unfoldable pub fault_written : List ℕ → Option Witness
+fault_written text =
+    option_and_then
+    (λ w. if bytes_eq (witness_line w) text && numbers_fit w then Some w else None)
+    (fault_named text)

@@ -1,10 +1,13 @@
-//! The program: reads its arguments, and checks the image on standard input or looks for the RSDP in it.
+//! The program: reads its arguments, and checks the image on standard input, confirms a fault of it, shows what its tables
+//! say, or looks for the RSDP in it.
 #![tactic(auto)]
 
 mod check;
 mod command_line;
+mod confirm;
 mod devices;
 mod find;
+mod laws;
 mod number_words;
 mod outcome;
 mod policy_words;

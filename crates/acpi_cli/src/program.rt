@@ -7,8 +7,10 @@ ghost use Rattle.acpi_cli.specs.Engine.{device, Runs, ReportsJob};
 ghost use Rattle.acpi_cli.specs.Program.{Obeys};
 
 use crate::check::run_check;
+use crate::confirm::run_confirm;
 use crate::find::run_find;
 use crate::outcome::{Outcome, RunFault, status_of};
+use crate::show::run_show;
 use crate::usage::Usage;
 use crate::words::{Job, WordFault, error_message, read_words};
 use acpi_base::Tally;
@@ -62,6 +64,12 @@ pub fn do_job<R: Read, W: Write>(
 {
     match job {
         Job::Check { rsdp, policy, last } => run_check(alloc, reader, writer, rsdp, policy, last),
+        Job::Confirm {
+            rsdp,
+            policy,
+            witness,
+        } => run_confirm(alloc, reader, writer, rsdp, policy, &witness),
+        Job::Show { rsdp } => run_show(alloc, reader, writer, rsdp),
         Job::Find => run_find(alloc, reader, writer),
     }
 }

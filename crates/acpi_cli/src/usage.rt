@@ -8,16 +8,27 @@ const COMMANDS: &str = "usage:
   acpiset check [--rsdp HEX] [--through N]
                 [--default-inputs N] [ADDRESS=COUNT]..
                 [--hotplug counted|apart] [--processors enabled|usable]
+  acpiset confirm --witness FAULT [--rsdp HEX]
+                [--default-inputs N] [ADDRESS=COUNT]..
+                [--hotplug counted|apart] [--processors enabled|usable]
+  acpiset show [--rsdp HEX]
   acpiset find
 
-Both read the image of a machine's memory from standard input, as text.
+All read the image of a machine's memory from standard input, as text.
 
 check judges the ACPI tables in it, and writes `yes`, or `no` and the first
-fault.
+fault. confirm judges one fault, by code that it does not share with check, and
+writes `true` where the image has it, or `false`. show writes what the tables
+say, a line for each entry, where the first 3 stages hold, and else what
+check --through 3 writes.
 
+  --witness FAULT
+               the fault that confirm judges, in one argument and as check
+               writes it behind `no`, such as '10 Overlap 0x30 0x58 0x0'. It
+               need not be the first one
   --rsdp HEX   the address of the RSDP: 1 to 16 hex digits, with 0x before
                them or without; if absent, the one that find finds, and where
-               there is none check writes `no rsdp`
+               there is none these three write `no rsdp`
 ";
 
 const POLICY: &str = "  --default-inputs N
@@ -52,17 +63,20 @@ line of pairs of hex digits is bytes, and # begins a comment:
   @e0000
   52 53 44 20  # and so on
 
-A fault is a line such as `no 3 TableSum 0x1 0x3000 0x0`: the stage, the
-fault's name, where it is, and two more numbers that say what it is about.
+A fault is written as `3 TableSum 0x1 0x3000 0x0`: the stage, the fault's
+name, where it is, and two more numbers that say what it is about.
 
 For example:
 
   acpiset check --rsdp f59e0 < image.txt
   acpiset check --default-inputs 16 fec00000=32 0xfec01000=8 < image.txt
   acpiset check --hotplug apart --processors usable < image.txt
+  acpiset show --rsdp f59e0 < image.txt
+  acpiset confirm --rsdp f59e0 --witness '3 TableSum 0x1 0x3000 0x0' < image.txt
 
-Exit statuses: 0 yes or found, 1 no or not found, 2 the arguments are refused,
-3 the text is no image, 4 out of memory, or a read or a write failed.";
+Exit statuses: 0 yes, true, shown or found, 1 no, false or not found, 2 the
+arguments are refused, 3 the text is no image, 4 out of memory, or a read or a
+write failed.";
 
 /// The usage of the program, with all stages. It ends without a line end, and takes no
 /// memory to print.

@@ -1,20 +1,28 @@
 //! What the arguments of the command line ask for.
 
-ghost use Rattle.std.specs.Prelude.{◌≡◌, ℕ, List, Option, IfErr, IfOk, IsSome, Some, map, option_map};
+ghost use Rattle.std.specs.Prelude.{◌≡◌, ◌↔◌, ℕ, List, Option, IfErr, IfOk, IsSome, Some, map, option_map};
 ghost use Rattle.std.specs.String.{string_bytes};
 ghost use Rattle.clap.specs.Words.{found_of, rows_of};
 ghost use Rattle.acpi_base.specs.Codes.{stage_number};
+ghost use Rattle.acpi_base.specs.Laws.{NumbersFit};
 ghost use Rattle.acpi_base.specs.Policy.{PolicyValue};
-ghost use Rattle.acpi_cli.specs.CommandLine.{Asked, DoesAsked, asked, check_asked, check_words};
-ghost use Rattle.acpi_cli.specs.CommandLine.{find_words, last_word, policy_words, rsdp_word};
+ghost use Rattle.acpi_base.specs.WitnessText.{witness_line};
+ghost use Rattle.acpi_base.specs.declared.witness.Witness.{Witness};
+ghost use Rattle.acpi_cli.specs.CommandLine.{Asked, DoesAsked, asked, check_asked, check_words, confirm_asked};
+ghost use Rattle.acpi_cli.specs.CommandLine.{find_words, last_word, policy_words, rsdp_word, show_asked, witness_word};
+ghost use Rattle.acpi_cli.specs.Words.{fault_written};
 
 use crate::command_line::{clap_message, parse, value};
 use crate::number_words::{decimal_number, hex_number};
 use crate::policy_words::{policy_message, read_policy};
-use acpi_base::{Policy, Stage};
+use acpi_base::{Policy, Stage, Witness, parse_witness};
 use clap::ArgMatches;
 use std::alloc::Global;
 use thiserror::Error;
+
+/// What a fault looks like, in an error message.
+const FAULTS: &str =
+    "a fault is one argument, as check writes it, such as '10 Overlap 0x30 0x58 0x0'";
 
 /// A command, with what its engine is called with.
 #[derive(Debug, Drop)]
@@ -25,6 +33,17 @@ pub enum Job {
         rsdp: Option<u64>,
         policy: Policy,
         last: Stage,
+    },
+    /// Judge whether the witness is a fault of the tables that the RSDP leads to: the RSDP at `rsdp`, or the
+    /// one that is found. The policy's own RSDP address is 0.
+    Confirm {
+        rsdp: Option<u64>,
+        policy: Policy,
+        witness: Witness,
+    },
+    /// Show what the tables say that the RSDP leads to: the RSDP at `rsdp`, or the one that is found.
+    Show {
+        rsdp: Option<u64>,
     },
     /// Look for the RSDP.
     Find,
@@ -43,8 +62,10 @@ pub enum WordFault {
 
 /// The job that the arguments `words` ask for, of which the first is the program's name.
 ///
-/// The commands are `find` and `check [--rsdp HEX] [--through N] [--default-inputs N] [--hotplug SETTING]
-/// [--processors SETTING] [ADDRESS=COUNT]..`. HEX is an address of 1 to 16 hex digits, with `0x` before them
+/// The commands are `find`, `show [--rsdp HEX]`, `check [--rsdp HEX] [--through N] [--default-inputs N] [--hotplug SETTING]
+/// [--processors SETTING] [ADDRESS=COUNT]..`, and `confirm` with the same options as `check`, save that it has
+/// `--witness FAULT`, which it needs, in the place of `--through N`. FAULT is a fault as `check` writes it
+/// (`parse_witness`), in one argument. HEX is an address of 1 to 16 hex digits, with `0x` before them
 /// or without. The N of `--through` is a stage of one or two decimal digits, from 1 to 18, which it also is
 /// if absent. The setting of `--hotplug` is `counted`, which it also is if absent, or `apart`
 /// (`HotPlug`); that of `--processors` is `enabled`, which it also is if absent, or `usable` (`Processors`).
@@ -64,6 +85,8 @@ pub fn read_words(alloc: Global, words: &[String]) -> Result<Job, WordFault>
     let matches = parse(alloc, words)?;
     match matches.subcommand() {
         Some((name, options)) if name == "check" => check_job(alloc, options),
+        Some((name, options)) if name == "confirm" => confirm_job(alloc, options),
+        Some((name, options)) if name == "show" => show_job(options),
         Some((name, _)) if name == "find" => Ok(Job::Find),
         _ => Err(WordFault::Words),
     }
@@ -86,16 +109,55 @@ fn check_job(alloc: Global, options: &ArgMatches) -> Result<Job, WordFault>
     Ok(Job::Check { rsdp, policy, last })
 }
 
+/// The job of `confirm` with these options.
+#[tactic(auto, unfolding(crate::specs::CommandLine::confirm_asked))]
+fn confirm_job(alloc: Global, options: &ArgMatches) -> Result<Job, WordFault>
+    ensures job { IfOk result (DoesAsked (confirm_asked (rows_of (found_of options.now)))) }
+    ensures refused { IfErr result (λ fault.
+        IsSome (confirm_asked (rows_of (found_of options.now))) → fault ≡ WordFault.Memory) }
+{
+    let Some(rsdp) = given_address(value(options, "rsdp")) else {
+        return Err(WordFault::Words);
+    };
+    let Some(witness) = given_witness(value(options, "witness")) else {
+        return Err(WordFault::Words);
+    };
+    let policy = read_policy(alloc, options)?;
+    Ok(Job::Confirm {
+        rsdp,
+        policy,
+        witness,
+    })
+}
+
+/// The job of `show` with these options.
+#[tactic(auto, unfolding(crate::specs::CommandLine::show_asked))]
+fn show_job(options: &ArgMatches) -> Result<Job, WordFault>
+    ensures job { IfOk result (DoesAsked (show_asked (rows_of (found_of options.now)))) }
+    ensures refused { IfErr result (λ fault.
+        IsSome (show_asked (rows_of (found_of options.now))) → fault ≡ WordFault.Memory) }
+{
+    match given_address(value(options, "rsdp")) {
+        Some(rsdp) => Ok(Job::Show { rsdp }),
+        None => Err(WordFault::Words),
+    }
+}
+
 /// An error message on arguments that are refused, in a line that names the wrong one. `None` where the
 /// command is missing, where help is asked for, or where the program is out of memory.
 pub fn error_message(alloc: Global, words: &[String]) -> Option<String> {
     match parse(alloc, words) {
-        Ok(matches) => value_message(alloc, matches.subcommand()?.1),
+        Ok(matches) => match matches.subcommand()? {
+            (name, options) if name == "confirm" && value(options, "witness").is_none() => {
+                format!(in alloc; "confirm needs --witness FAULT: {FAULTS}").ok()
+            }
+            (_, options) => value_message(alloc, options),
+        },
         Err(_) => clap_message(alloc, words),
     }
 }
 
-/// An error message on the values of the options of `check`, in a line that names the first wrong one.
+/// An error message on the values of the options of a command, in a line that names the first wrong one.
 fn value_message(alloc: Global, options: &ArgMatches) -> Option<String> {
     if let Some(hex) = value(options, "rsdp")
         && hex_number(hex, 16).is_none()
@@ -103,6 +165,11 @@ fn value_message(alloc: Global, options: &ArgMatches) -> Option<String> {
         return format!(in alloc;
             "--rsdp '{hex}': an address is 1 to 16 hex digits, with 0x before them or without"
         ).ok();
+    }
+    if let Some(text) = value(options, "witness")
+        && given_witness(Some(text)).is_none()
+    {
+        return format!(in alloc; "--witness '{text}': {FAULTS}").ok();
     }
     if let Some(number) = value(options, "through")
         && last_stage(Some(number)).is_none()
@@ -123,6 +190,24 @@ fn given_address(word: Option<&str>) -> Option<Option<u64>>
     }
 }
 
+/// The fault that `--witness` gives. `None` where it is absent, or its value is no fault.
+fn given_witness(word: Option<&str>) -> Option<Witness>
+    ensures { result ≡ witness_word (option_map (λ text. text.now) word.entry) }
+{
+    let Witness {
+        code,
+        at,
+        other,
+        point,
+    } = parse_witness(word?.as_bytes())?;
+    Some(Witness {
+        code,
+        at,
+        other,
+        point,
+    })
+}
+
 /// The stage that `--through` names, else the last of all. `None` where its value is no stage.
 fn last_stage(word: Option<&str>) -> Option<Stage>
     ensures { option_map stage_number result ≡ last_word (option_map (λ text. text.now) word.entry) }
@@ -133,6 +218,11 @@ fn last_stage(word: Option<&str>) -> Option<Stage>
     let number = u8::try_from(decimal_number(text, 2)?).ok()?;
     Stage::new(number)
 }
+
+/// A value of `--witness` is read as a fault exactly where it is this fault's text, with numbers of 64 bits.
+pub fn fault_words_are_texts()
+    ensures { (text : List ℕ) (w : Witness) → (fault_written text ≡ Some w) ↔ (NumbersFit w × (text ≡ witness_line w)) }
+{}
 
 /// Each plain command line with good values is read, and as one expects: `find`; and `check` with each choice of its
 /// options, in this order, and then any number of words `ADDRESS=COUNT`.

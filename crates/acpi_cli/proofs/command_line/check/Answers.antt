@@ -1,21 +1,7 @@
-use Rattle.std.proofs.Common.{◌≡◌, ◌∙◌, Bool, ◌||◌, false, ap₂}
 use Rattle.std.proofs.lemmas.Result.{IfOk-weaker}
-use Rattle.clap.specs.Words.{AddsArg, App, Rule, app_of, rule_of, with_rule}
-use Rattle.clap.specs.declared.builder.arg.Arg.{Arg}
-use Rattle.clap.specs.declared.builder.command.Command.{Command}
-use Rattle.clap.specs.declared.builder.command.Command.TheViews.{out-Command}
 use Rattle.acpi_cli.specs.CommandLine.{check_line}
+use Rattle.acpi_cli.proofs.Declared.{one_more}
 use Rattle.acpi_cli.proofs.command_line.check.Goals as goal
-
--- the command is declared so, and none of its arguments is one of subcommands too
-abbrev IsDeclared : Command → App → Type 0
-IsDeclared command line = (app_of command ≡ line) × ((out-Command command).has_globals ≡ false)
-
--- and so it is with one argument more
-one_more : (old : Command) (a : Arg) (new : Command) (line : App) (rule : Rule) → IsDeclared old line → rule_of a ≡ rule → a.global ≡ false → AddsArg old a new
-    → IsDeclared new (with_rule line rule)
-one_more old a new line rule is is_rule own adds =
-    (adds.shape own ∙ ap₂ with_rule is.0 is_rule, adds.globals ∙ ap₂ (λ (x y : Bool). x || y) is.1 own)
 
 pub returns : goal.returns
 unfolding check_line
