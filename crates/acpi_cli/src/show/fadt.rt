@@ -1,6 +1,6 @@
 //! The lines of the FADT, of its register blocks, and of the FACS.
 
-use crate::show::listed::{Listed, Unread, UnreadLine};
+use crate::show::listed::{Listed, Unread, add_unread};
 use acpi_base::Image;
 use acpi_base::field::{u8_at, u16_at, u32_at};
 use acpi_read::{Block, Facs, Fadt, Gas};
@@ -28,30 +28,20 @@ const BLOCKS: [&str; 8] = [
 pub fn add_fadt(text: &mut String, image: &Image, listed: Listed<'_>) -> Result<(), AllocError> {
     let Listed { address, table } = listed;
     let Ok(fadt) = Fadt::new(table) else {
-        let line = UnreadLine {
-            table: "fadt",
-            address,
-            why: Unread::Short,
-        };
-        return writeln!(text, "{line}");
+        return add_unread(text, "fadt", address, Unread::Short);
     };
-    writeln!(
-        text,
-        "{}",
-        FadtLine {
-            address,
-            fadt: &fadt
-        }
-    )?;
-    writeln!(
-        text,
-        "{}",
-        DsdtLine {
-            address: fadt.dsdt_address()
-        }
-    )?;
+    add_fields(text, address, &fadt)?;
     add_blocks(text, &fadt)?;
     add_facs(text, image, &fadt)
+}
+
+/// Adds the lines of the FADT itself and of the DSDT that it names.
+fn add_fields(text: &mut String, address: u64, fadt: &Fadt<'_>) -> Result<(), AllocError> {
+    let line = FadtLine { address, fadt };
+    writeln!(text, "{line}")?;
+    let address = fadt.dsdt_address();
+    let line = DsdtLine { address };
+    writeln!(text, "{line}")
 }
 
 /// `fadt ADDRESS length N profile N sci N flags FLAGS reduced yes`, or `reduced no`.
@@ -96,15 +86,14 @@ fn add_blocks(text: &mut String, fadt: &Fadt<'_>) -> Result<(), AllocError> {
         match fadt.block(k) {
             Block::None => {}
             Block::Gas(gas) => writeln!(text, "{}", GasLine { name, gas })?,
-            Block::Port { address, bytes } => writeln!(
-                text,
-                "{}",
-                PortLine {
+            Block::Port { address, bytes } => {
+                let line = PortLine {
                     name,
                     bytes,
-                    address
-                }
-            )?,
+                    address,
+                };
+                writeln!(text, "{line}")?;
+            }
         }
     }
     Ok(())
@@ -162,15 +151,7 @@ fn add_facs(text: &mut String, image: &Image, fadt: &Fadt<'_>) -> Result<(), All
     match Facs::read(image, fadt) {
         Ok(Some(facs)) => writeln!(text, "{}", FacsLine { facs: &facs }),
         Ok(None) => Ok(()),
-        Err(_) => writeln!(
-            text,
-            "{}",
-            UnreadLine {
-                table: "facs",
-                address,
-                why: Unread::Bad
-            }
-        ),
+        Err(_) => add_unread(text, "facs", address, Unread::Bad),
     }
 }
 

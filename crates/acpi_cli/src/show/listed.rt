@@ -4,7 +4,8 @@ ghost use Rattle.acpi_cli.specs.Shown.{ListsSound};
 
 use acpi_base::Image;
 use acpi_read::{Root, Table, first};
-use std::fmt;
+use std::alloc::AllocError;
+use std::fmt::{self, Write};
 
 /// A table that the root lists.
 pub struct Listed<'a> {
@@ -31,14 +32,29 @@ pub enum Unread {
     Bad,
 }
 
+/// Adds the line of a table of which no more is shown.
+pub fn add_unread(
+    text: &mut String,
+    table: &'static str,
+    address: u64,
+    why: Unread,
+) -> Result<(), AllocError> {
+    let line = UnreadLine {
+        table,
+        address,
+        why,
+    };
+    writeln!(text, "{line}")
+}
+
 /// `TABLE ADDRESS short`, or `TABLE ADDRESS bad`.
 #[derive(Clone, Copy)]
-pub struct UnreadLine {
+struct UnreadLine {
     /// What the table's lines begin with.
-    pub table: &'static str,
+    table: &'static str,
     /// Where it stands.
-    pub address: u64,
-    pub why: Unread,
+    address: u64,
+    why: Unread,
 }
 
 impl fmt::Display for UnreadLine {

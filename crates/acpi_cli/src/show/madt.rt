@@ -1,7 +1,7 @@
 //! The lines of the MADT.
 
 use crate::show::entries::{Owner, add_entries, write_other};
-use crate::show::listed::{Listed, Unread, UnreadLine};
+use crate::show::listed::{Listed, Unread, add_unread};
 use acpi_base::field::u32_at;
 use acpi_read::{
     AddressOverride, Entries, Entry, IoApic, LocalApic, LocalNmi, MadtEntry, NmiSource, Override,
@@ -20,25 +20,17 @@ const FLAGS: usize = 40;
 pub fn add_madt(text: &mut String, listed: Listed<'_>) -> Result<(), AllocError> {
     let Listed { address, table } = listed;
     let Ok(entries) = Entries::madt(table.copied()) else {
-        let line = UnreadLine {
-            table: "madt",
-            address,
-            why: Unread::Short,
-        };
-        return writeln!(text, "{line}");
+        return add_unread(text, "madt", address, Unread::Short);
     };
     let bytes = table.bytes();
     let local_apic = u32_at(bytes, LOCAL_APIC_ADDRESS);
     let flags = u32_at(bytes, FLAGS);
-    writeln!(
-        text,
-        "{}",
-        MadtLine {
-            address,
-            local_apic,
-            flags
-        }
-    )?;
+    let line = MadtLine {
+        address,
+        local_apic,
+        flags,
+    };
+    writeln!(text, "{line}")?;
     add_entries(text, Owner::Madt, entries)
 }
 

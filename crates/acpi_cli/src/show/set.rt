@@ -1,8 +1,10 @@
 //! All lines of a set.
 
+ghost use Rattle.std.specs.Prelude.{◌<◌};
 ghost use Rattle.acpi_base.specs.Root.{IsSoundRoot};
 ghost use Rattle.acpi_base.specs.Rsdp.{IsSoundRsdp};
 ghost use Rattle.acpi_base.specs.Statements.{AreSoundTables};
+ghost use Rattle.acpi_read.specs.Roots.{slots_of};
 ghost use Rattle.acpi_cli.specs.Shown.{ListsSound};
 
 use crate::show::fadt::add_fadt;
@@ -19,6 +21,7 @@ use std::fmt::Write;
 
 /// All lines of the set whose RSDP lies at an address: those of the RSDP, of the root and its slots, and of the tables
 /// that are shown line by line. The RSDP, the root and all listed tables are sound.
+#[tactic(auto, using(crate::proofs::SoundSets::named_root, crate::proofs::SoundSets::lists_sound))]
 pub fn set_text(alloc: Global, image: &Image, address: u64) -> Result<String, AllocError>
     requires rsdp { IsSoundRsdp image.now address }
     requires root { IsSoundRoot image.now address }
@@ -39,23 +42,27 @@ fn add_root(text: &mut String, image: &Image, root: &Root<'_>) -> Result<(), All
 {
     writeln!(text, "{}", RootLine(root))?;
     for slot in 0..root.slots() {
-        let address = root.slot(slot);
-        if address == 0 {
-            writeln!(text, "{}", EmptySlotLine { slot })?;
-            continue;
-        }
-        let header = Table::read(image, address).unwrap().header();
-        writeln!(
-            text,
-            "{}",
-            SlotLine {
-                slot,
-                address,
-                header
-            }
-        )?;
+        add_slot(text, image, root, slot)?;
     }
     Ok(())
+}
+
+/// Adds the line of a slot of the root.
+fn add_slot(text: &mut String, image: &Image, root: &Root<'_>, slot: u32) -> Result<(), AllocError>
+    requires sound { ListsSound image.now root.now }
+    requires inside { slot < slots_of root.now }
+{
+    let address = root.slot(slot);
+    if address == 0 {
+        return writeln!(text, "{}", EmptySlotLine { slot });
+    }
+    let header = Table::read(image, address).unwrap().header();
+    let line = SlotLine {
+        slot,
+        address,
+        header,
+    };
+    writeln!(text, "{line}")
 }
 
 /// Adds the lines of the first listed table with each of five signatures, and of the FACS that the FADT names.

@@ -2,7 +2,7 @@
 
 ghost use Rattle.std.specs.Prelude.{◌<◌};
 
-use crate::show::listed::{Listed, Unread, UnreadLine};
+use crate::show::listed::{Listed, Unread, add_unread};
 use acpi_base::Code;
 use acpi_read::Slit;
 use std::alloc::AllocError;
@@ -19,15 +19,7 @@ pub fn add_slit(text: &mut String, listed: Listed<'_>) -> Result<(), AllocError>
             } else {
                 Unread::Bad
             };
-            return writeln!(
-                text,
-                "{}",
-                UnreadLine {
-                    table: "slit",
-                    address,
-                    why
-                }
-            );
+            return add_unread(text, "slit", address, why);
         }
     };
     let count = slit.count();

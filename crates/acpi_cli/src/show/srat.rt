@@ -1,7 +1,7 @@
 //! The lines of the SRAT.
 
 use crate::show::entries::{Owner, add_entries, write_other};
-use crate::show::listed::{Listed, Unread, UnreadLine};
+use crate::show::listed::{Listed, Unread, add_unread};
 use acpi_read::{Entries, Entry, MemoryRange, SratEntry};
 use std::alloc::AllocError;
 use std::fmt::{self, Write};
@@ -10,12 +10,7 @@ use std::fmt::{self, Write};
 pub fn add_srat(text: &mut String, listed: Listed<'_>) -> Result<(), AllocError> {
     let Listed { address, table } = listed;
     let Ok(entries) = Entries::srat(table) else {
-        let line = UnreadLine {
-            table: "srat",
-            address,
-            why: Unread::Short,
-        };
-        return writeln!(text, "{line}");
+        return add_unread(text, "srat", address, Unread::Short);
     };
     writeln!(text, "{}", SratLine { address })?;
     add_entries(text, Owner::Srat, entries)
