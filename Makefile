@@ -35,6 +35,7 @@ test:
 	tests/tools.sh $(program)
 	tests/install.sh $(program)
 	tests/recipes.sh $(program)
+	tests/show/run.py $(program)
 	tests/program.sh $(program)
 
 # Prints speed and memory beside other programs; not part of the tests.

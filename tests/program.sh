@@ -89,6 +89,15 @@ runs "firmware sb-pc-nvdimm-numa, its overlap" 0 'true\n' '' images/sb-pc-nvdimm
 runs "firmware sb-pc-nvdimm-numa, its overlap, its hot-pluggable ranges apart" 1 'false\n' '' images/sb-pc-nvdimm-numa.img.txt confirm --rsdp f59d0 --witness "$overlap" --hotplug apart
 runs "firmware sb-q35-default, no fault" 1 'false\n' '' images/sb-q35-default.img.txt confirm --rsdp f59e0 --witness "$overlap"
 
+# ---- sets that are shown: what is shown of each is in tests/show
+shown='rsdp 0xe0000 revision 0\nroot 0x1000 RSDT length 36 slots 0\n'
+runs "the smallest set, shown" 0 "$shown" '' "$smallest" show --rsdp e0000
+runs "the smallest set, shown where it is found" 0 "$shown" '' "$smallest" show
+runs "an RSDP whose sum is wrong, shown" 1 'no 1 RsdpSum 0xe0000 0x0 0x0\n' '' "$scratch/sum" show --rsdp e0000
+runs "no RSDP with a right sum to show" 1 'no rsdp\n' '' "$scratch/sum" show
+runs "nothing to show" 1 'no rsdp\n' '' /dev/null show
+runs "firmware sb-q35-default, its whole region, shown" 0 "$(cat show/images/sb-q35-default.txt)\n" '' "$scratch/region" show
+
 # ---- the search for the RSDP
 runs "the smallest set, found" 0 "rsdp 0xe0000\n" "" "$smallest" find
 runs "the smallest set, checked where it is found" 0 "yes\n" "" "$smallest" check --through 3
@@ -112,6 +121,7 @@ runs "a text of 67,108,864 bytes" 0 'yes\n' '' "$scratch/text" check --rsdp e000
 printf '\n' >>"$scratch/text"
 runs "a text of 67,108,865 bytes" 3 '' 'acpiset: too long\n' "$scratch/text" check --rsdp e0000
 rm "$scratch/text"
+runs "half a pair to show" 3 '' 'acpiset: line 2: bad line\n' "$scratch/half" show --rsdp e0000
 runs "half a pair, and a fault to confirm" 3 '' 'acpiset: line 2: bad line\n' "$scratch/half" confirm --rsdp e0000 --witness "$overlap"
 runs "half a pair, a fault to confirm, and no RSDP" 3 '' 'acpiset: line 2: bad line\n' "$scratch/half" confirm --witness "$overlap"
 
@@ -132,6 +142,7 @@ refuses() {
   grep -qxF '                [--hotplug counted|apart] [--processors enabled|usable]' "$scratch/err" || wrong="$wrong; no usage of settings"
   grep -qxF '  acpiset confirm --witness FAULT [--rsdp HEX]' "$scratch/err" || wrong="$wrong; no usage of confirm"
   grep -qF "'10 Overlap 0x30 0x58 0x0'" "$scratch/err" || wrong="$wrong; no fault as it is written"
+  grep -qxF '  acpiset show [--rsdp HEX]' "$scratch/err" || wrong="$wrong; no usage of show"
   grep -qxF '  acpiset find' "$scratch/err" || wrong="$wrong; no usage of find"
   grep -qxF "  --through N  the last stage to check, 1 to $last, and $last if absent:" "$scratch/err" || wrong="$wrong; no last stage"
   [ "$(sed -n '/^  --through/,/^$/s/^ \{15,\}\([0-9][0-9]*\) .*/\1/p' "$scratch/err" | tr '\n' ' ')" = "$(seq -s ' ' "$last") " ] || wrong="$wrong; no list of the stages"
@@ -195,6 +206,12 @@ refuses "'fec00000=0': an I/O APIC has 1 to 256 inputs, in 1 to 3 decimal digits
 refuses "--hotplug 'both': hot-pluggable ranges are counted or apart" confirm --witness "$overlap" --hotplug both
 refuses "--processors 'both': processors are enabled or usable" confirm --witness "$overlap" --processors both
 refuses "--default-inputs '257': an I/O APIC has 1 to 256 inputs, in 1 to 3 decimal digits" confirm --witness "$overlap" --default-inputs 257
+refuses "--rsdp 'xyz': an address is 1 to 16 hex digits, with 0x before them or without" show --rsdp xyz
+refuses "a value is required for '--rsdp <HEX>' but none was supplied" show --rsdp
+refuses "the argument '--rsdp <HEX>' cannot be used multiple times" show --rsdp e0000 --rsdp e0000
+refuses "unexpected argument '--through' found" show --rsdp e0000 --through 3
+refuses "unexpected argument 'fec00000=24' found" show fec00000=24
+refuses '' show --help
 refuses "an argument is not UTF-8" check --rsdp $'\xff'
 refuses "an argument is not UTF-8" check $'fec00000=24\xff'
 
@@ -247,6 +264,8 @@ fails "an output that is closed" $?
 fails "an output that is full, and a fault that is confirmed" $?
 "$program" confirm --rsdp e0000 --witness "$overlap" <"$smallest" >&- 2>"$scratch/err"
 fails "an output that is closed, and a fault that is none" $?
+"$program" show --rsdp e0000 <"$smallest" >/dev/full 2>"$scratch/err"
+fails "an output that is full, and a set that is shown" $?
 mkfifo "$scratch/pipe"
 exec 7<>"$scratch/pipe" 8>"$scratch/pipe" 7<&-
 "$program" check --rsdp e0000 --through 3 <"$smallest" >&8 2>"$scratch/err"
@@ -317,6 +336,8 @@ if "$compiler" $flags -o "$scratch/refuse_memory.so" refuse_memory.c; then
   starved 2 '' confirm --witness '9 Overlap 0x30 0x58 0x0'
   starved 0 true confirm --rsdp e0000 --witness '4 NoFadt 0x0 0x0 0x0' --default-inputs 16 fec00000=32 --hotplug apart --processors usable
   starved 1 false confirm --rsdp e0000 --witness '4 NoFadt 0x0 0x0 0x1'
+  starved 2 '' show --rsdp xyz
+  starved 0 "$(printf '%b' "$shown")" show --rsdp e0000
   starved 0 'rsdp 0xe0000' find
 else
   count "requests for memory that are refused" "no C compiler to build tests/refuse_memory.c"

@@ -8,4 +8,5 @@ pub mod FirstCounts
 pub mod InputsWords
 pub mod Statuses
 mod Sent
+pub mod SoundSets
 pub mod Spellings

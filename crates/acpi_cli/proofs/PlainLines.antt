@@ -11,7 +11,7 @@ use Rattle.clap.proofs.OnLiterals.{clap_on_literals}
 use Rattle.acpi_base.specs.Policy.{PolicyValue, new_policy}
 use Rattle.acpi_base.specs.declared.policy.HotPlug.{HotPlug}
 use Rattle.acpi_base.specs.declared.policy.Processors.{Processors}
-use Rattle.acpi_cli.specs.CommandLine.{are_none, asked, check, check_asked, check_line, check_words, command_line, command_of, confirm, confirm_asked, confirm_line, confirm_words, default_word, find, find_line, find_words, hotplug_word, is_taken, last_word, policy_words, processors_word, rsdp_word, with_inputs, with_settings}
+use Rattle.acpi_cli.specs.CommandLine.{are_none, asked, check, check_asked, check_line, check_words, command_line, command_of, confirm, confirm_asked, confirm_line, confirm_words, default_word, find, find_line, find_words, hotplug_word, is_taken, last_word, policy_words, processors_word, rsdp_word, show_line, with_inputs, with_settings}
 use Rattle.acpi_base.specs.declared.witness.Witness.{Witness}
 use Rattle.acpi_cli.specs.Words.{all_inputs, fault_written, hex_word}
 use Rattle.acpi_cli.proofs.FaultWords.{fault_is_plain}
@@ -53,18 +53,18 @@ at_command j words = record (walk_from nothing_held) { stopped = Some (name_of j
 
 -- the whole command line as `clap` builds it
 program_line : App
-unfolding command_line check_line confirm_line find_line
+unfolding command_line check_line confirm_line show_line find_line
 program_line = built command_line
 
 -- the walk comes to the command
 walks_to : (j : Judging) (words : List Text) → walk program_line.top.rules (names_of program_line) nothing_held (name_of j ∷ words) ≡ at_command j words
-unfolding program_line command_line check_line confirm_line find_line at_command clap_on_literals
+unfolding program_line command_line check_line confirm_line show_line find_line at_command clap_on_literals
 walks_to checking words = words_behind program_line.top.rules (names_of program_line) (walk_from nothing_held) (codes "check") [] words
 walks_to confirming words = words_behind program_line.top.rules (names_of program_line) (walk_from nothing_held) (codes "confirm") [] words
 
 -- and has no fault up to it
 no_fault_to : (j : Judging) (words : List Text) → walk_fault program_line.top (names_of program_line) (walk_from nothing_held) (name_of j ∷ words) ≡ []
-unfolding program_line command_line check_line confirm_line find_line clap_on_literals
+unfolding program_line command_line check_line confirm_line show_line find_line clap_on_literals
 no_fault_to checking words = no_fault_behind program_line.top (names_of program_line) (walk_from nothing_held) (codes "check") [] words
 no_fault_to confirming words = no_fault_behind program_line.top (names_of program_line) (walk_from nothing_held) (codes "confirm") [] words
 
@@ -74,14 +74,14 @@ command_has_no_fault : (j : Judging) (words : List Text) (rows : List Row) → R
     (or_else (settle_fault program_line.top.rules program_line.top.args_override_self (at_command j words).held)
     (or_else (defaults_fault (settled program_line.top.rules (at_command j words).held).rows program_line.top.rules)
     (check_fault program_line.top (finished program_line.top.rules (at_command j words).held) (is_some (entered program_line (at_command j words).stopped))))) ≡ []
-unfolding program_line command_line check_line confirm_line find_line at_command shape rules clap_on_literals
+unfolding program_line command_line check_line confirm_line show_line find_line at_command shape rules clap_on_literals
 command_has_no_fault checking words rows reads = ap (λ (kinds : Kinds). or_else kinds []) (taken checking words rows reads)
 command_has_no_fault confirming words rows reads = ap (λ (kinds : Kinds). or_else kinds []) (taken confirming words rows reads)
 
 -- and they come in these rows
 command_has_rows : (j : Judging) (words : List Text) (rows : List Row) → Reads j (standing [] None idle) words rows
     → entered program_line (at_command j words).stopped ≡ Some (name_of j, rows)
-unfolding program_line command_line check_line confirm_line find_line at_command shape rules clap_on_literals
+unfolding program_line command_line check_line confirm_line show_line find_line at_command shape rules clap_on_literals
 command_has_rows checking words rows reads = ap (λ (r : List Row). Some (codes "check", r)) (given checking words rows reads)
 command_has_rows confirming words rows reads = ap (λ (r : List Row). Some (codes "confirm", r)) (given confirming words rows reads)
 
@@ -261,5 +261,5 @@ confirm_words_asked program text hex inputs hotplug processors words w rsdp poli
 
 -- and one of `find` for a search
 pub find_words_asked : (program : Text) → asked (find_words program) ≡ Some find
-unfolding is_taken command_of command_line check_line confirm_line find_line clap_on_literals
+unfolding is_taken command_of command_line check_line confirm_line show_line find_line clap_on_literals
 find_words_asked program = refl

@@ -15,7 +15,7 @@ use Rattle.acpi_base.specs.declared.witness.Witness.{Witness}
 use Rattle.acpi_cli.specs.Words.{all_inputs, count_word, decimal_word, fault_written, hex_word}
 use Rattle.acpi_cli.specs.declared.policy_words.Inputs.{Inputs}
 use Rattle.acpi_cli.specs.declared.words.Job.{Job}
-use Rattle.acpi_cli.specs.declared.words.Job.TheVariants.{Check, Confirm, Find}
+use Rattle.acpi_cli.specs.declared.words.Job.TheVariants.{Check, Confirm, Find, Show}
 
 -- ---- the command line, as it is declared to `clap`
 
@@ -51,6 +51,10 @@ confirm_line =
     (option_rule (codes "processors")))
     inputs_rule
 
+-- `show --rsdp HEX`
+unfoldable pub show_line : App
+show_line = with_rule (new_app (codes "show")) (option_rule (codes "rsdp"))
+
 -- `find`
 unfoldable pub find_line : App
 find_line = new_app (codes "find")
@@ -58,10 +62,11 @@ find_line = new_app (codes "find")
 -- `acpiset COMMAND ..`
 unfoldable pub command_line : App
 command_line =
-    with_subcommand (with_subcommand (with_subcommand
+    with_subcommand (with_subcommand (with_subcommand (with_subcommand
     (new_app (codes "acpiset"))
     check_line.top)
     confirm_line.top)
+    show_line.top)
     find_line.top
 
 abbrev pub are_none : Kinds → Bool
@@ -83,6 +88,8 @@ pub data Asked : Type 0 where
   check : Option ℕ → PolicyValue → ℕ → Asked
   -- the RSDP's address, where it is given, the policy, and the fault
   confirm : Option ℕ → PolicyValue → Witness → Asked
+  -- the RSDP's address, where it is given
+  show : Option ℕ → Asked
   find : Asked
 
 -- `--rsdp HEX`: without it the RSDP is to be found
@@ -181,6 +188,10 @@ confirm_asked options =
     (policy_asked options))
     (rsdp_word (first_of (codes "rsdp") options))
 
+-- the options of `show`
+unfoldable pub show_asked : List Row → Option Asked
+show_asked options = option_map show (rsdp_word (first_of (codes "rsdp") options))
+
 abbrev pub command_asked : Option (Text × List Row) → Option Asked
 command_asked None = None
 command_asked (Some command) =
@@ -188,7 +199,9 @@ command_asked (Some command) =
     then check_asked command.1
     else (if bytes_eq command.0 (codes "confirm")
     then confirm_asked command.1
-    else (if bytes_eq command.0 (codes "find") then Some find else None))
+    else (if bytes_eq command.0 (codes "show")
+    then show_asked command.1
+    else (if bytes_eq command.0 (codes "find") then Some find else None)))
 
 -- what a whole command line asks for, where it is one
 abbrev pub asked : List Text → Option Asked
@@ -232,6 +245,7 @@ Does (check rsdp policy last) (Check given held stage) =
     (given ≡ rsdp) × (held ≡ policy) × (stage_number stage ≡ last)
 Does (confirm rsdp policy w) (Confirm given held witness) =
     (given ≡ rsdp) × (held ≡ policy) × (witness ≡ w)
+Does (show rsdp) (Show given) = given ≡ rsdp
 Does find Find = Unit {0}
 Does _ _ = ⊥
 

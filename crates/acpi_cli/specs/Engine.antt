@@ -2,20 +2,22 @@
 use Rattle.std.specs.Prelude.{◌≡◌, ◌≤◌, ◌⊎◌, ◌+◌, ◌++◌, ℕ, List, length, take, codes, Option, Some, None, Result, Ok, Err, true}
 use Rattle.std.specs.Io.KnownBytes.{Appends, Consumes, IsAtEnd, Keeps}
 use Rattle.acpi_base.specs.Memory.{Memory}
-use Rattle.acpi_base.specs.Policy.{PolicyValue}
+use Rattle.acpi_base.specs.Policy.{PolicyValue, new_policy}
 use Rattle.acpi_base.specs.ImageText.{IsText, max_text}
 use Rattle.acpi_base.specs.TextReading.{IsFaultlessPrefix, IsRefusal, is_of_text}
 use Rattle.acpi_base.specs.Tally.{Counted, CountsFailure}
 use Rattle.acpi_base.specs.Found.{IsFound, IsNowhere}
 use Rattle.acpi_base.specs.Faults.{Fault, IsVerdict}
+use Rattle.acpi_base.specs.Statements.{CleanTo}
 use Rattle.acpi_base.specs.WitnessText.{hex_text, verdict_line}
 use Rattle.acpi_base.specs.declared.stage.Stage.{Stage}
+use Rattle.acpi_base.specs.declared.stage.Stage.TheVariants as stage
 use Rattle.acpi_base.specs.declared.text.TextFault.{TextFault}
 use Rattle.acpi_base.specs.declared.verdict.Verdict.{Verdict}
 use Rattle.acpi_base.specs.declared.verdict.Verdict.TheVariants as verdict
 use Rattle.acpi_base.specs.declared.witness.Witness.{Witness}
 use Rattle.acpi_cli.specs.declared.words.Job.{Job}
-use Rattle.acpi_cli.specs.declared.words.Job.TheVariants.{Check, Confirm, Find}
+use Rattle.acpi_cli.specs.declared.words.Job.TheVariants.{Check, Confirm, Find, Show}
 use Rattle.acpi_cli.specs.declared.outcome.Outcome.{Outcome}
 use Rattle.acpi_cli.specs.declared.outcome.Outcome.TheVariants as outcome
 use Rattle.acpi_cli.specs.declared.outcome.RunFault.{RunFault}
@@ -167,6 +169,17 @@ pub record ReportsFault (given : Option ℕ) (q : PolicyValue) (w : Witness) (m 
 abbrev pub ReportsConfirm : Option ℕ → PolicyValue → Witness → Memory → List ℕ → Outcome → Type 0
 ReportsConfirm given q w m bytes returned = ReportsFault given q w m bytes returned ⊎ ReportsNoRsdp given m bytes returned
 
+-- the policy that a set is shown by: any serves, as the stages up to the listed tables ask for the RSDP's address alone
+abbrev pub shown_policy : PolicyValue
+shown_policy = new_policy 0 24
+
+-- What is shown of an image: where the stages up to the listed tables hold, lines, of which nothing more is said; else
+-- what a check of those stages reports.
+abbrev pub ReportsShow : Option ℕ → Memory → List ℕ → Outcome → Type 0
+ReportsShow given m bytes returned =
+    ((returned ≡ outcome.Yes) × ((p : ℕ) × IsRsdpAddress given m p × CleanTo stage.Tables m (with_rsdp shown_policy p)))
+    ⊎ ((returned ≡ outcome.No) × ReportsCheck given shown_policy stage.Tables m bytes returned)
+
 -- what a search reports on an image: where it finds the RSDP, or that it finds none
 abbrev pub ReportsFound : Memory → List ℕ → Outcome → Type 0
 ReportsFound m bytes returned =
@@ -177,4 +190,5 @@ ReportsFound m bytes returned =
 abbrev pub ReportsJob : Job → Memory → List ℕ → Outcome → Type 0
 ReportsJob (Check given policy last) = ReportsCheck given policy last
 ReportsJob (Confirm given policy w) = ReportsConfirm given policy w
+ReportsJob (Show given) = ReportsShow given
 ReportsJob Find = ReportsFound

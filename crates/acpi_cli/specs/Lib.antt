@@ -3,4 +3,5 @@ pub mod CommandLine
 pub mod Engine
 pub mod Outcome
 pub mod Program
+pub mod Shown
 pub mod Words

@@ -11,13 +11,15 @@ const COMMANDS: &str = "usage:
   acpiset confirm --witness FAULT [--rsdp HEX]
                 [--default-inputs N] [ADDRESS=COUNT]..
                 [--hotplug counted|apart] [--processors enabled|usable]
+  acpiset show [--rsdp HEX]
   acpiset find
 
 All read the image of a machine's memory from standard input, as text.
 
 check judges the ACPI tables in it, and writes `yes`, or `no` and the first
 fault. confirm judges one fault, apart from check, and writes `true` where the
-image has it, or `false`.
+image has it, or `false`. show writes what the tables say, a line for each
+entry, where the first 3 stages hold, and else what check --through 3 writes.
 
   --witness FAULT
                the fault that confirm judges, in one argument and as check
@@ -25,7 +27,7 @@ image has it, or `false`.
                need not be the first one
   --rsdp HEX   the address of the RSDP: 1 to 16 hex digits, with 0x before
                them or without; if absent, the one that find finds, and where
-               there is none check and confirm write `no rsdp`
+               there is none these three write `no rsdp`
 ";
 
 const POLICY: &str = "  --default-inputs N
@@ -68,11 +70,12 @@ For example:
   acpiset check --rsdp f59e0 < image.txt
   acpiset check --default-inputs 16 fec00000=32 0xfec01000=8 < image.txt
   acpiset check --hotplug apart --processors usable < image.txt
+  acpiset show --rsdp f59e0 < image.txt
   acpiset confirm --rsdp f59e0 --witness '3 TableSum 0x1 0x3000 0x0' < image.txt
 
-Exit statuses: 0 yes, true or found, 1 no, false or not found, 2 the arguments
-are refused, 3 the text is no image, 4 out of memory, or a read or a write
-failed.";
+Exit statuses: 0 yes, true, shown or found, 1 no, false or not found, 2 the
+arguments are refused, 3 the text is no image, 4 out of memory, or a read or a
+write failed.";
 
 /// The usage of the program, with all stages. It ends without a line end, and takes no
 /// memory to print.

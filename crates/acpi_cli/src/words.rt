@@ -9,7 +9,7 @@ ghost use Rattle.acpi_base.specs.Policy.{PolicyValue};
 ghost use Rattle.acpi_base.specs.WitnessText.{witness_line};
 ghost use Rattle.acpi_base.specs.declared.witness.Witness.{Witness};
 ghost use Rattle.acpi_cli.specs.CommandLine.{Asked, DoesAsked, asked, check_asked, check_words, confirm_asked, confirm_words};
-ghost use Rattle.acpi_cli.specs.CommandLine.{find_words, last_word, policy_words, rsdp_word, witness_word};
+ghost use Rattle.acpi_cli.specs.CommandLine.{find_words, last_word, policy_words, rsdp_word, show_asked, witness_word};
 ghost use Rattle.acpi_cli.specs.Words.{fault_written};
 
 use crate::command_line::{clap_message, parse, value};
@@ -41,6 +41,10 @@ pub enum Job {
         policy: Policy,
         witness: Witness,
     },
+    /// Show what the tables say that the RSDP leads to: the RSDP at `rsdp`, or the one that is found.
+    Show {
+        rsdp: Option<u64>,
+    },
     /// Look for the RSDP.
     Find,
 }
@@ -58,8 +62,8 @@ pub enum WordFault {
 
 /// The job that the arguments `words` ask for, of which the first is the program's name.
 ///
-/// The commands are `find`, `check [--rsdp HEX] [--through N] [--default-inputs N] [--hotplug SETTING]
-/// [--processors SETTING] [ADDRESS=COUNT]..`, and `confirm` with the same options, save that it has
+/// The commands are `find`, `show [--rsdp HEX]`, `check [--rsdp HEX] [--through N] [--default-inputs N] [--hotplug SETTING]
+/// [--processors SETTING] [ADDRESS=COUNT]..`, and `confirm` with the same options as `check`, save that it has
 /// `--witness FAULT`, which it needs, in the place of `--through N`. FAULT is a fault as `check` writes it
 /// (`parse_witness`), in one argument. HEX is an address of 1 to 16 hex digits, with `0x` before them
 /// or without. The N of `--through` is a stage of one or two decimal digits, from 1 to 18, which it also is
@@ -82,6 +86,7 @@ pub fn read_words(alloc: Global, words: &[String]) -> Result<Job, WordFault>
     match matches.subcommand() {
         Some((name, options)) if name == "check" => check_job(alloc, options),
         Some((name, options)) if name == "confirm" => confirm_job(alloc, options),
+        Some((name, options)) if name == "show" => show_job(options),
         Some((name, _)) if name == "find" => Ok(Job::Find),
         _ => Err(WordFault::Words),
     }
@@ -123,6 +128,19 @@ fn confirm_job(alloc: Global, options: &ArgMatches) -> Result<Job, WordFault>
         policy,
         witness,
     })
+}
+
+/// The job of `show` with these options.
+#[tactic(auto, unfolding(crate::specs::CommandLine::show_asked))]
+fn show_job(options: &ArgMatches) -> Result<Job, WordFault>
+    ensures job { IfOk result (DoesAsked (show_asked (rows_of (found_of options.now)))) }
+    ensures refused { IfErr result (λ fault.
+        IsSome (show_asked (rows_of (found_of options.now))) → fault ≡ WordFault.Memory) }
+{
+    match given_address(value(options, "rsdp")) {
+        Some(rsdp) => Ok(Job::Show { rsdp }),
+        None => Err(WordFault::Words),
+    }
 }
 
 /// An error message on arguments that are refused, in a line that names the wrong one. `None` where the

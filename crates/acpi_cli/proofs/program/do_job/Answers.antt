@@ -6,5 +6,8 @@ returns-in-Check g c = rw (c.in-Check.is) (c.run_check.ensures)
 pub returns-in-Confirm : goal.returns-in-Confirm
 returns-in-Confirm g c = rw (c.in-Confirm.is) (c.run_confirm.ensures)
 
+pub returns-in-Show : goal.returns-in-Show
+returns-in-Show g c = rw (c.in-Show.is) (c.run_show.ensures)
+
 pub returns-in-Find : goal.returns-in-Find
 returns-in-Find g c = rw (c.in-Find.is) (c.run_find.ensures)

@@ -1,0 +1,71 @@
+//! The engine of the command `show`.
+
+mod entries;
+mod fadt;
+mod listed;
+mod madt;
+mod pptt;
+mod root;
+mod set;
+mod slit;
+mod srat;
+
+ghost use Rattle.std.specs.Prelude.{IfOk};
+ghost use Rattle.acpi_cli.specs.Engine.{device, Runs, ReportsShow};
+
+use crate::check::{no_rsdp, rsdp_address};
+use crate::devices::{Output, read_input, write_output};
+use crate::outcome::{Outcome, RunFault};
+use crate::show::set::set_text;
+use acpi_base::{Image, Policy, Stage, Tally, Verdict, verdict_text};
+use acpi_check::check_to;
+use std::alloc::{AllocError, Global};
+use std::io::{Read, Write};
+
+/// How many inputs an I/O APIC has: the stages up to the listed tables do not ask.
+const INPUTS: u16 = 24;
+
+/// What is shown of the image.
+fn show_output(alloc: Global, image: &Image, given: Option<u64>) -> Result<Output, AllocError>
+    ensures { IfOk result (λ output. ReportsShow given image.now output.bytes.items output.outcome) }
+{
+    let Some(address) = rsdp_address(image, given) else {
+        return no_rsdp(alloc);
+    };
+    let policy = Policy::new(alloc, address, INPUTS).unwrap();
+    let verdict = check_to(alloc, image, &policy, Stage::Tables)?;
+    if let Verdict::No(_) = verdict {
+        let bytes = verdict_text(alloc, &verdict)?;
+        let outcome = Outcome::No;
+        return Ok(Output { bytes, outcome });
+    }
+    let bytes = set_text(alloc, image, address)?.into_bytes();
+    let outcome = Outcome::Yes;
+    Ok(Output { bytes, outcome })
+}
+
+/// Shows the set of tables of the image whose text is on `reader`, from the RSDP at the address `rsdp`, or where it is
+/// `None` from the one that is found: a line for the RSDP, the root, each of its slots, and each thing that the FADT,
+/// the FACS, the MADT, the SRAT, the SLIT and the PPTT say.
+///
+/// Returns `Yes` where the stages up to the listed tables hold. Where they do not it writes the verdict's line, and where
+/// no address is given and none is found `no rsdp`, and returns `No`. Nothing is written before the image is read and
+/// judged and all lines are made. Refuses `Image` where the text is none, `Memory`, and `Device` where a read or a write
+/// failed; what was written then is a prefix of the lines.
+pub fn run_show<R: Read, W: Write>(
+    alloc: Global,
+    reader: &mut Tally<R>,
+    writer: &mut Tally<W>,
+    rsdp: Option<u64>,
+) -> Result<Outcome, RunFault>
+    ensures { Runs (ReportsShow rsdp)
+        (device R.remaining reader.old reader.new)
+        (device W.contents writer.old writer.new)
+        result }
+{
+    let image = read_input(alloc, reader)?;
+    let Ok(output) = show_output(alloc, &image, rsdp) else {
+        return Err(RunFault::Memory);
+    };
+    write_output(writer, &output)
+}

@@ -1,0 +1,141 @@
+//! The lines of the MADT.
+
+use crate::show::entries::{Owner, add_entries, write_other};
+use crate::show::listed::{Listed, Unread, add_unread};
+use acpi_base::field::u32_at;
+use acpi_read::{
+    AddressOverride, Entries, Entry, IoApic, LocalApic, LocalNmi, MadtEntry, NmiSource, Override,
+    X2apic, X2apicNmi,
+};
+use std::alloc::AllocError;
+use std::fmt::{self, Write};
+
+/// The offset of Local Interrupt Controller Address in a MADT (ACPI 6.5, 5.2.12).
+const LOCAL_APIC_ADDRESS: usize = 36;
+
+/// The offset of Flags in a MADT.
+const FLAGS: usize = 40;
+
+/// Adds the lines of the MADT.
+pub fn add_madt(text: &mut String, listed: Listed<'_>) -> Result<(), AllocError> {
+    let Listed { address, table } = listed;
+    let Ok(entries) = Entries::madt(table.copied()) else {
+        return add_unread(text, "madt", address, Unread::Short);
+    };
+    let bytes = table.bytes();
+    let local_apic = u32_at(bytes, LOCAL_APIC_ADDRESS);
+    let flags = u32_at(bytes, FLAGS);
+    let line = MadtLine {
+        address,
+        local_apic,
+        flags,
+    };
+    writeln!(text, "{line}")?;
+    add_entries(text, Owner::Madt, entries)
+}
+
+/// `madt ADDRESS lapic ADDRESS flags FLAGS`.
+#[derive(Clone, Copy)]
+struct MadtLine {
+    /// Where the MADT stands.
+    address: u64,
+    /// The address of the local APICs.
+    local_apic: u32,
+    flags: u32,
+}
+
+impl fmt::Display for MadtLine {
+    fn fmt<W: fmt::Write>(&self, f: &mut fmt::Formatter<W>) -> fmt::Result {
+        write!(
+            f,
+            "madt 0x{:x} lapic 0x{:x} flags 0x{:x}",
+            self.address, self.local_apic, self.flags
+        )
+    }
+}
+
+/// What an entry of the MADT says.
+pub fn write_madt_entry<W: fmt::Write>(
+    f: &mut fmt::Formatter<W>,
+    entry: &Entry<'_>,
+) -> fmt::Result {
+    match MadtEntry::read(entry.bytes) {
+        Ok(MadtEntry::LocalApic(apic)) => write_local_apic(f, apic),
+        Ok(MadtEntry::IoApic(apic)) => write_io_apic(f, apic),
+        Ok(MadtEntry::Override(source)) => write_override(f, source),
+        Ok(MadtEntry::NmiSource(nmi)) => write_nmi_source(f, nmi),
+        Ok(MadtEntry::LocalNmi(nmi)) => write_local_nmi(f, nmi),
+        Ok(MadtEntry::AddressOverride(local_apics)) => write_address_override(f, local_apics),
+        Ok(MadtEntry::X2apic(apic)) => write_x2apic(f, apic),
+        Ok(MadtEntry::X2apicNmi(nmi)) => write_x2apic_nmi(f, nmi),
+        Ok(MadtEntry::Opaque(_)) | Err(_) => write_other(f, entry),
+    }
+}
+
+/// `lapic uid N id N flags FLAGS`.
+fn write_local_apic<W: fmt::Write>(f: &mut fmt::Formatter<W>, apic: LocalApic) -> fmt::Result {
+    let LocalApic {
+        uid,
+        apic_id,
+        flags,
+    } = apic;
+    write!(f, "lapic uid {uid} id {apic_id} flags 0x{flags:x}")
+}
+
+/// `ioapic id N address ADDRESS base N`.
+fn write_io_apic<W: fmt::Write>(f: &mut fmt::Formatter<W>, apic: IoApic) -> fmt::Result {
+    let IoApic {
+        id,
+        address,
+        gsi_base,
+    } = apic;
+    write!(f, "ioapic id {id} address 0x{address:x} base {gsi_base}")
+}
+
+/// `override source N gsi N flags FLAGS`.
+fn write_override<W: fmt::Write>(f: &mut fmt::Formatter<W>, source: Override) -> fmt::Result {
+    let Override {
+        source,
+        gsi,
+        flags,
+        ..
+    } = source;
+    write!(f, "override source {source} gsi {gsi} flags 0x{flags:x}")
+}
+
+/// `nmi gsi N flags FLAGS`.
+fn write_nmi_source<W: fmt::Write>(f: &mut fmt::Formatter<W>, nmi: NmiSource) -> fmt::Result {
+    let NmiSource { flags, gsi } = nmi;
+    write!(f, "nmi gsi {gsi} flags 0x{flags:x}")
+}
+
+/// `lapic-nmi uid N flags FLAGS lint N`.
+fn write_local_nmi<W: fmt::Write>(f: &mut fmt::Formatter<W>, nmi: LocalNmi) -> fmt::Result {
+    let LocalNmi { uid, flags, lint } = nmi;
+    write!(f, "lapic-nmi uid {uid} flags 0x{flags:x} lint {lint}")
+}
+
+/// `lapic-address ADDRESS`.
+fn write_address_override<W: fmt::Write>(
+    f: &mut fmt::Formatter<W>,
+    local_apics: AddressOverride,
+) -> fmt::Result {
+    let AddressOverride { address } = local_apics;
+    write!(f, "lapic-address 0x{address:x}")
+}
+
+/// `x2apic uid N id N flags FLAGS`.
+fn write_x2apic<W: fmt::Write>(f: &mut fmt::Formatter<W>, apic: X2apic) -> fmt::Result {
+    let X2apic {
+        x2apic_id,
+        flags,
+        uid,
+    } = apic;
+    write!(f, "x2apic uid {uid} id {x2apic_id} flags 0x{flags:x}")
+}
+
+/// `x2apic-nmi uid N flags FLAGS lint N`.
+fn write_x2apic_nmi<W: fmt::Write>(f: &mut fmt::Formatter<W>, nmi: X2apicNmi) -> fmt::Result {
+    let X2apicNmi { flags, uid, lint } = nmi;
+    write!(f, "x2apic-nmi uid {uid} flags 0x{flags:x} lint {lint}")
+}

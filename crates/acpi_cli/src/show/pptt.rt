@@ -1,0 +1,108 @@
+//! The lines of the PPTT.
+
+ghost use Rattle.std.specs.Prelude.{◌≡◌, ◌*◌, length};
+
+use crate::show::entries::{Owner, add_entries, write_other};
+use crate::show::listed::Listed;
+use acpi_base::field::u32_at;
+use acpi_read::{Cache24, Cache28, Entries, Entry, NodeHead, PpttEntry};
+use std::alloc::AllocError;
+use std::fmt::{self, Write};
+
+/// Adds the lines of the PPTT.
+pub fn add_pptt(text: &mut String, listed: Listed<'_>) -> Result<(), AllocError> {
+    let Listed { address, table } = listed;
+    writeln!(text, "{}", PpttLine { address })?;
+    add_entries(text, Owner::Pptt, Entries::pptt(table))
+}
+
+/// `pptt ADDRESS`.
+#[derive(Clone, Copy)]
+struct PpttLine {
+    /// Where the PPTT stands.
+    address: u64,
+}
+
+impl fmt::Display for PpttLine {
+    fn fmt<W: fmt::Write>(&self, f: &mut fmt::Formatter<W>) -> fmt::Result {
+        write!(f, "pptt 0x{:x}", self.address)
+    }
+}
+
+/// What an entry of the PPTT says.
+pub fn write_pptt_entry<W: fmt::Write>(
+    f: &mut fmt::Formatter<W>,
+    entry: &Entry<'_>,
+) -> fmt::Result {
+    match PpttEntry::read(entry.bytes) {
+        Ok(PpttEntry::Node(head, references)) => write_node(f, head, references),
+        Ok(PpttEntry::Cache24(cache)) => write_cache24(f, cache),
+        Ok(PpttEntry::Cache28(cache)) => write_cache28(f, cache),
+        Ok(PpttEntry::Opaque(_)) | Err(_) => write_other(f, entry),
+    }
+}
+
+/// `node flags FLAGS parent OFFSET id N resources OFFSET ..`.
+fn write_node<W: fmt::Write>(
+    f: &mut fmt::Formatter<W>,
+    head: NodeHead,
+    references: &[u8],
+) -> fmt::Result
+    requires { length references.now ≡ 4 * head.count }
+{
+    write!(
+        f,
+        "node flags 0x{:x} parent 0x{:x} id {} resources",
+        head.flags, head.parent, head.id
+    )?;
+    for k in 0..head.count as usize {
+        write!(f, " 0x{:x}", u32_at(references, 4 * k))?;
+    }
+    Ok(())
+}
+
+/// `cache flags FLAGS next OFFSET size N sets N ways N attributes FLAGS line N`: one of 24 bytes.
+fn write_cache24<W: fmt::Write>(f: &mut fmt::Formatter<W>, cache: Cache24) -> fmt::Result {
+    let Cache24 {
+        flags,
+        next_level,
+        size,
+        sets,
+        associativity,
+        attributes,
+        line_size,
+    } = cache;
+    write!(
+        f,
+        "cache flags 0x{flags:x} next 0x{next_level:x} size {size} sets {sets}"
+    )?;
+    write!(
+        f,
+        " ways {associativity} attributes 0x{attributes:x} line {line_size}"
+    )
+}
+
+/// The same and `id N`: one of 28 bytes.
+fn write_cache28<W: fmt::Write>(f: &mut fmt::Formatter<W>, cache: Cache28) -> fmt::Result {
+    let Cache28 {
+        flags,
+        next_level,
+        size,
+        sets,
+        associativity,
+        attributes,
+        line_size,
+        id,
+    } = cache;
+    let fields = Cache24 {
+        flags,
+        next_level,
+        size,
+        sets,
+        associativity,
+        attributes,
+        line_size,
+    };
+    write_cache24(f, fields)?;
+    write!(f, " id {id}")
+}

@@ -1,0 +1,77 @@
+//! The lines of the SRAT.
+
+use crate::show::entries::{Owner, add_entries, write_other};
+use crate::show::listed::{Listed, Unread, add_unread};
+use acpi_read::{Entries, Entry, MemoryRange, SratEntry};
+use std::alloc::AllocError;
+use std::fmt::{self, Write};
+
+/// Adds the lines of the SRAT.
+pub fn add_srat(text: &mut String, listed: Listed<'_>) -> Result<(), AllocError> {
+    let Listed { address, table } = listed;
+    let Ok(entries) = Entries::srat(table) else {
+        return add_unread(text, "srat", address, Unread::Short);
+    };
+    writeln!(text, "{}", SratLine { address })?;
+    add_entries(text, Owner::Srat, entries)
+}
+
+/// `srat ADDRESS`.
+#[derive(Clone, Copy)]
+struct SratLine {
+    /// Where the SRAT stands.
+    address: u64,
+}
+
+impl fmt::Display for SratLine {
+    fn fmt<W: fmt::Write>(&self, f: &mut fmt::Formatter<W>) -> fmt::Result {
+        write!(f, "srat 0x{:x}", self.address)
+    }
+}
+
+/// What an entry of the SRAT says.
+pub fn write_srat_entry<W: fmt::Write>(
+    f: &mut fmt::Formatter<W>,
+    entry: &Entry<'_>,
+) -> fmt::Result {
+    match SratEntry::read(entry.bytes) {
+        Ok(SratEntry::ApicDomain(cpu)) => write_processor(
+            f,
+            u32::from(cpu.apic_id),
+            cpu.domain,
+            cpu.flags,
+        ),
+        Ok(SratEntry::MemoryRange(range)) => write_memory_range(f, range),
+        Ok(SratEntry::X2apicDomain(cpu)) => write_processor(
+            f,
+            cpu.x2apic_id,
+            cpu.domain,
+            cpu.flags,
+        ),
+        Ok(SratEntry::Opaque(_)) | Err(_) => write_other(f, entry),
+    }
+}
+
+/// `cpu id N domain N flags FLAGS`: a processor by the ID of its local APIC or its local x2APIC.
+fn write_processor<W: fmt::Write>(
+    f: &mut fmt::Formatter<W>,
+    id: u32,
+    domain: u32,
+    flags: u32,
+) -> fmt::Result {
+    write!(f, "cpu id {id} domain {domain} flags 0x{flags:x}")
+}
+
+/// `memory domain N base ADDRESS length N flags FLAGS`, the length in hex.
+fn write_memory_range<W: fmt::Write>(f: &mut fmt::Formatter<W>, range: MemoryRange) -> fmt::Result {
+    let MemoryRange {
+        domain,
+        base,
+        size,
+        flags,
+    } = range;
+    write!(
+        f,
+        "memory domain {domain} base 0x{base:x} length 0x{size:x} flags 0x{flags:x}"
+    )
+}
