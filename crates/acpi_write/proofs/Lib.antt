@@ -1,9 +1,15 @@
+pub mod CleanSets
 pub mod EncodedSizes
 pub mod EntryForms
 pub mod EntryLists
+pub mod EntryReading
+pub mod FadtBodies
+pub mod Listing
 pub mod MadtBytes
 pub mod NodeBytes
+pub mod OneSetValue
 pub mod PpttBytes
+pub mod Reading
 pub mod Spelling
 pub mod SratBytes
 pub mod Sums

@@ -1,8 +1,14 @@
 //! Laws over the definitions alone: each function's contract is the law, and its body is empty.
 
+ghost use Rattle.acpi_write.specs.SetValues.{OneSetValue};
 ghost use Rattle.acpi_write.specs.Spells.{OneValueSpelled};
 
 /// Bytes say at most one value of a kind, so what is written can be read in one way.
 pub fn one_value()
     ensures { OneValueSpelled }
+{}
+
+/// A clean set says one value.
+pub fn one_set_value()
+    ensures { OneSetValue }
 {}
