@@ -170,17 +170,21 @@ own_srat _ sound = tt
 
 readable_madt : (q : PolicyValue) (whole : List ℕ) → madt.IsSoundMadt q (madt.madt_contents whole) → IsReadableMadt whole
 unfolding madt.madt_contents
-readable_madt q whole sound = record { long = sound.long; lengths = λ o e stands. own_madt q e (sound.entries o e stands) }
+readable_madt q whole sound = record { long = sound.long; filled = sound.filled; lengths = λ o e stands. own_madt q e (sound.entries o e stands) }
 
 readable_srat : (whole : List ℕ) → srat.IsSoundSrat (srat.srat_contents whole) → IsReadableSrat whole
 unfolding srat.srat_contents
-readable_srat whole sound = record { long = sound.long; lengths = λ o e stands. own_srat e (sound.entries o e stands) }
+readable_srat whole sound = record { long = sound.long; filled = sound.filled; lengths = λ o e stands. own_srat e (sound.entries o e stands) }
 
 readable_slit : (whole : List ℕ) → slit.IsSoundSlit (slit.slit_contents whole) → IsReadableSlit whole
 unfolding slit.slit_contents
 readable_slit whole sound =
     let size : length whole ≡ 44 + field whole 36 8 * field whole 36 8 = sound.size in
     record { long = omega (arith, size); size = sound.size }
+
+readable_pptt : (whole : List ℕ) → pptt.IsCutPptt (pptt.pptt_contents whole) → IsReadablePptt whole
+unfolding pptt.pptt_contents
+readable_pptt whole sound = record { filled = sound.filled; lengths = sound.lengths }
 
 -- a table that stands where a sound one does sums to 0
 zero_sum : (m : Memory) (a : ℕ) (whole : List ℕ) → IsSoundTable m a → IsWholeAt m a whole → byte_sum whole ≡ 0
@@ -211,7 +215,7 @@ clean_readable m q r d root ts clean named table zip k none below =
                 | inr no_srat ↦ rw no_srat (elim (cases_Bool (is_first (take k ts) whole slit_signature)) [
                   | inl is ↦ rw is (readable_slit whole (clean stage.Slit whole (first slit_signature refl is)))
                   | inr no_slit ↦ rw no_slit (elim (cases_Bool (is_first (take k ts) whole pptt_signature)) [
-                    | inl is ↦ rw is (record { lengths = (clean stage.Pptt whole (first pptt_signature refl is)).lengths })
+                    | inl is ↦ rw is (readable_pptt whole (clean stage.Pptt whole (first pptt_signature refl is)))
                     | inr no_pptt ↦ rw no_pptt sum
                   ])
                 ])

@@ -4,7 +4,7 @@ use Rattle.std.specs.List.{list_any}
 use Rattle.acpi_base.specs.Number.{byte_sum}
 use Rattle.acpi_base.specs.Signature.{has_signature}
 use Rattle.acpi_base.specs.Listed.{fadt_signature, madt_signature, srat_signature, slit_signature, pptt_signature}
-use Rattle.acpi_base.specs.Entries.{Stands}
+use Rattle.acpi_base.specs.Entries.{Stands, cut_of}
 use Rattle.acpi_base.specs.Madt as madt
 use Rattle.acpi_base.specs.Srat as srat
 use Rattle.acpi_base.specs.Slit.{slit_contents, HasSlitSize}
@@ -17,14 +17,16 @@ use Rattle.acpi_write.specs.declared.kinds.Kind.{Kind}
 use Rattle.acpi_write.specs.declared.kinds.Kind.TheVariants as kind
 use Rattle.acpi_write.specs.declared.kinds.Seen.{Seen}
 
--- a MADT is long enough, and its entries have a length of their type
+-- a MADT is long enough, and entries fill it that have a length of their type
 pub record IsReadableMadt (whole : List ℕ) : Type 0 where
   pub long : 44 ≤ length whole
+  pub filled : cut_of 44 whole ≡ None
   pub lengths : (o : ℕ) (e : madt.MadtEntry) → Stands (madt.madt_contents whole).entries o e → madts.IsOfOwnLength e
 
 -- an SRAT
 pub record IsReadableSrat (whole : List ℕ) : Type 0 where
   pub long : 48 ≤ length whole
+  pub filled : cut_of 48 whole ≡ None
   pub lengths : (o : ℕ) (e : srat.SratEntry) → Stands (srat.srat_contents whole).entries o e → srats.IsOfOwnLength e
 
 -- a SLIT has its cells
@@ -34,6 +36,7 @@ pub record IsReadableSlit (whole : List ℕ) : Type 0 where
 
 -- a PPTT
 pub record IsReadablePptt (whole : List ℕ) : Type 0 where
+  pub filled : cut_of 36 whole ≡ None
   pub lengths : (o : ℕ) (e : pptt.PpttEntry) → Stands (pptt.pptt_contents whole).entries o e → ¬ pptt.HasOtherPpttLength e
 
 -- the bytes can be read as those of the kind

@@ -101,6 +101,10 @@ IsShaped (table.Pptt head entries) = All IsShapedPptt entries.items
 IsShaped (table.Fadt head body) = 80 ≤ length body.items
 IsShaped (table.Other bytes) = IsWholeTable bytes.now
 
+-- the table that is written has fewer than 2^32 bytes
+abbrev pub IsShort : TableValue → Type 0
+IsShort v = encoded_length (table_value v) < 2 ^ 32
+
 -- ---- what is written
 
 -- its numbers have their width, and the bytes of each entry are an entry that says it

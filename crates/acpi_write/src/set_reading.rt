@@ -10,7 +10,7 @@ ghost use Rattle.acpi_base.specs.Statements.{IsClean};
 ghost use Rattle.acpi_base.specs.Tables.{IsTable, IsSoundTable};
 ghost use Rattle.acpi_read.specs.Roots.{RootValue, IsSoundNamedRoot};
 ghost use Rattle.acpi_write.specs.SetValues.{IsFacsOf, IsSetValue};
-ghost use Rattle.acpi_write.specs.Views.{set_value, IsShaped, IsValuesRefusal};
+ghost use Rattle.acpi_write.specs.Views.{set_value, IsShaped, IsShort, IsValuesRefusal};
 
 use crate::set_value::{SetValue, ValuesFault};
 use crate::table_reading::{head_in, listed_tables, table_values};
@@ -95,6 +95,7 @@ fn clean_values<'a>(
     requires { IsClean image.now policy.now }
     ensures value { IfOk result (λ value. IsSetValue image.now policy.now.rsdp (set_value value)) }
     ensures shaped { IfOk result (λ value. All IsShaped value.tables.items) }
+    ensures short { IfOk result (λ value. All IsShort value.tables.items) }
 {
     let rsdp = sound_rsdp(image, policy.rsdp());
     let root = sound_root(image, &rsdp);
@@ -113,7 +114,7 @@ fn clean_values<'a>(
 }
 
 /// What the set of an image says, where it is clean under the policy: the RSDP's OEMID, the root's header, each listed
-/// table and the FACS. Each table of the value can be written by `encode_table`.
+/// table and the FACS. `encode_table` writes each table of the value: it refuses none of them with `Shape` or `TooLong`.
 ///
 /// Refuses, in this order:
 /// `NotClean`, exactly where the set is not clean, with its first fault, which is that of `check`;
@@ -126,6 +127,7 @@ pub fn values<'a>(
     ensures clean { IfOk result (λ _. IsClean image.now policy.now) }
     ensures value { IfOk result (λ value. IsSetValue image.now policy.now.rsdp (set_value value)) }
     ensures shaped { IfOk result (λ value. All IsShaped value.tables.items) }
+    ensures short { IfOk result (λ value. All IsShort value.tables.items) }
     ensures refused { IfErr result (IsValuesRefusal image.now policy.now) }
 {
     if let Verdict::No(fault) = check(alloc, image, policy)? {

@@ -10,7 +10,7 @@ ghost use Rattle.acpi_base.specs.Tables.{IsSoundTable};
 ghost use Rattle.acpi_read.specs.Headers.{header_value};
 ghost use Rattle.acpi_write.specs.Readable.{IsReadableAs, IsReadableMadt, IsReadableSrat, IsReadableSlit, IsReadablePptt, said_as, AreReadable};
 ghost use Rattle.acpi_write.specs.SetValues.{fadt_said, madt_said, srat_said, slit_said, pptt_said, values_of, IsWholeAt};
-ghost use Rattle.acpi_write.specs.Views.{head_value, table_value, IsShaped};
+ghost use Rattle.acpi_write.specs.Views.{head_value, table_value, IsShaped, IsShort};
 
 use crate::entry_lists::{madt_entries, pptt_entries, srat_entries};
 use crate::fadt_body::with_facs;
@@ -159,6 +159,7 @@ pub(crate) fn table_values<'a>(
     requires { AreReadable tables.now }
     ensures values { IfOk result (λ found. map table_value found.items ≡ values_of tables.now) }
     ensures shaped { IfOk result (λ found. All IsShaped found.items) }
+    ensures short { IfOk result (λ found. All IsShort found.items) }
 {
     let mut seen = Seen::new();
     let mut found = Vec::new(alloc);
