@@ -11,6 +11,7 @@ pub mod NodeBytes
 pub mod OneSetValue
 pub mod PpttBytes
 pub mod Reading
+pub mod Spelled
 pub mod Spelling
 pub mod SratBytes
 pub mod Sums

@@ -1,6 +1,7 @@
 pub mod Encoded
 pub mod EntryBytes
 pub mod FadtBody
+pub mod Laws
 pub mod Readable
 pub mod SetValues
 pub mod Spells

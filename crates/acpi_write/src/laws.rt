@@ -1,5 +1,6 @@
 //! Laws over the definitions alone: each function's contract is the law, and its body is empty.
 
+ghost use Rattle.acpi_write.specs.Laws.{WhatIsReadIsSpelled};
 ghost use Rattle.acpi_write.specs.SetValues.{OneSetValue};
 ghost use Rattle.acpi_write.specs.Spells.{OneValueSpelled};
 
@@ -11,4 +12,10 @@ pub fn one_value()
 /// A clean set says one value.
 pub fn one_set_value()
     ensures { OneSetValue }
+{}
+
+/// The value that is read of a table is the one that its bytes say: of a SLIT, and where entries fill it of a MADT, an SRAT
+/// and a PPTT.
+pub fn what_is_read()
+    ensures { WhatIsReadIsSpelled }
 {}

@@ -27,7 +27,12 @@ const FADT_HEADER: [u8; 36] = [
 fn a_set_of_a_fadt(rt: HostRuntime) -> Result<(), Fail> {
     let mut image = Image::new(rt.alloc());
     let policy = Policy::new(rt.alloc(), 0xe0000, 24).map_err(|_| "policy")?;
-    assert!(rt; matches!(values(rt.alloc(), &image, &policy), Err(ValuesFault::NotClean(_))));
+    assert!(rt;
+        matches!(
+            values(rt.alloc(), &image, &policy),
+            Err(ValuesFault::NotClean(_))
+        )
+    );
     image.add(0xe0000, &RSDP).map_err(|_| "add")?;
     image.add(0x1000, &RSDT).map_err(|_| "add")?;
     image.add(0x2000, &FADT_HEADER).map_err(|_| "add")?;
