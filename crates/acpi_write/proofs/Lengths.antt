@@ -99,7 +99,7 @@ cache_length e (inr long) =
     let same : (length e == 28) ≡ true = eq-eqb (length e) 28 long in
     rw same (simp (length-append, length-number_bytes, length-replicate, long) refl)
 
-cache_sizes : (e : List ℕ) → pptt.has_cache_form e ≡ true → (length e ≡ 24) ⊎ (length e ≡ 28)
+pub cache_sizes : (e : List ℕ) → pptt.has_cache_form e ≡ true → (length e ≡ 24) ⊎ (length e ≡ 28)
 unfolding pptt.has_cache_form
 cache_sizes e is =
     elim (cases_Bool (has_form e 1 24)) [
@@ -107,7 +107,7 @@ cache_sizes e is =
       | inr other ↦ inr (form_length e 1 28 (sym (rw other refl) ∙ is))
     ]
 
-node_size : (e : List ℕ) → pptt.has_node_form e ≡ true → length e ≡ 20 + 4 * pptt.resource_count e
+pub node_size : (e : List ℕ) → pptt.has_node_form e ≡ true → length e ≡ 20 + 4 * pptt.resource_count e
 unfolding pptt.has_node_form
 node_size e is = form_length e 0 (20 + 4 * pptt.resource_count e) is
 

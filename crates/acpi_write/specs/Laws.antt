@@ -1,10 +1,14 @@
 -- What the laws of values say.
-use Rattle.std.specs.Prelude.{◌≡◌, ℕ, ◌≤◌, List, length, None, true}
+use Rattle.std.specs.Prelude.{◌≡◌, ℕ, ◌<◌, ◌≤◌, List, length, slice_index, None, true}
 use Rattle.acpi_base.specs.Signature.{has_signature}
-use Rattle.acpi_base.specs.Entries.{cut_of}
+use Rattle.acpi_base.specs.Entries.{IsEntry, cut_of}
 use Rattle.acpi_base.specs.Listed.{madt_signature, srat_signature, slit_signature, pptt_signature}
 use Rattle.acpi_write.specs.SetValues.{madt_said, srat_said, slit_said, pptt_said}
-use Rattle.acpi_write.specs.Spells.{Spells}
+use Rattle.acpi_base.specs.Madt.{madt_entry}
+use Rattle.acpi_base.specs.Srat.{srat_entry}
+use Rattle.acpi_base.specs.Pptt.{pptt_entry}
+use Rattle.acpi_write.specs.EntryBytes.{madt_bytes, srat_bytes, pptt_bytes}
+use Rattle.acpi_write.specs.Spells.{Spells, SaysEntry}
 use Rattle.acpi_write.specs.Views.{IsWholeTable}
 
 -- a table's bytes say the value that is read of them: a MADT's, an SRAT's and a PPTT's where entries fill the table
@@ -17,3 +21,22 @@ pub record IsSpelled (whole : List ℕ) : Type 0 where
 -- of whole tables
 abbrev pub WhatIsReadIsSpelled : Type 0
 WhatIsReadIsSpelled = (whole : List ℕ) → IsWholeTable whole → IsSpelled whole
+
+-- each number of the list is a byte
+abbrev pub AreBytes : List ℕ → Type 0
+AreBytes bytes = (k : ℕ) → slice_index bytes k < 256
+
+-- what an entry says is said again by the bytes that are written for it, which are as many
+pub record WrittenAgain {E : Type 0} (read : List ℕ → E) (bytes_of : E → List ℕ) (e : List ℕ) : Type 0 where
+  pub says : SaysEntry read (bytes_of (read e)) (read e)
+  pub count : length (bytes_of (read e)) ≡ length e
+
+-- as an entry of each of the three tables
+pub record IsKept (e : List ℕ) : Type 0 where
+  pub madt : WrittenAgain madt_entry madt_bytes e
+  pub srat : WrittenAgain srat_entry srat_bytes e
+  pub pptt : WrittenAgain pptt_entry pptt_bytes e
+
+-- of all entries
+abbrev pub EntriesAreKept : Type 0
+EntriesAreKept = (e : List ℕ) → AreBytes e → IsEntry e → IsKept e

@@ -1,6 +1,6 @@
 //! Laws over the definitions alone: each function's contract is the law, and its body is empty.
 
-ghost use Rattle.acpi_write.specs.Laws.{WhatIsReadIsSpelled};
+ghost use Rattle.acpi_write.specs.Laws.{EntriesAreKept, WhatIsReadIsSpelled};
 ghost use Rattle.acpi_write.specs.SetValues.{OneSetValue};
 ghost use Rattle.acpi_write.specs.Spells.{OneValueSpelled};
 
@@ -18,4 +18,9 @@ pub fn one_set_value()
 /// and a PPTT.
 pub fn what_is_read()
     ensures { WhatIsReadIsSpelled }
+{}
+
+/// An entry that is read and written again says the same in as many bytes.
+pub fn entries_are_kept()
+    ensures { EntriesAreKept }
 {}
