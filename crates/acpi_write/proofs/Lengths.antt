@@ -173,7 +173,7 @@ filled_length first whole long filled =
 
 -- ---- tables
 
-madt_table : (whole : List ℕ) → 44 ≤ length whole → cut_of 44 whole ≡ None → encoded_length (said_as (Some kind.Madt) whole) ≡ length whole
+pub madt_table : (whole : List ℕ) → 44 ≤ length whole → cut_of 44 whole ≡ None → encoded_length (said_as (Some kind.Madt) whole) ≡ length whole
 unfolding madt.madt_contents
 madt_table whole long filled =
     let parts = flat_map madt_bytes (entries_in (said_by madt.madt_entry (entries_of 44 whole))) in
@@ -181,7 +181,7 @@ madt_table whole long filled =
     let outer = length-append (number_bytes 4 (field whole 36 4)) (number_bytes 4 (field whole 40 4) ++ parts) in
     omega (arith, inner, outer, length-number_bytes 4 (field whole 36 4), length-number_bytes 4 (field whole 40 4), entries_length madt.madt_entry madt_bytes madt_length (entries_of 44 whole), filled_length 44 whole long filled)
 
-srat_table : (whole : List ℕ) → 48 ≤ length whole → cut_of 48 whole ≡ None → encoded_length (said_as (Some kind.Srat) whole) ≡ length whole
+pub srat_table : (whole : List ℕ) → 48 ≤ length whole → cut_of 48 whole ≡ None → encoded_length (said_as (Some kind.Srat) whole) ≡ length whole
 unfolding srat.srat_contents
 srat_table whole long filled =
     let parts = flat_map srat_bytes (entries_in (said_by srat.srat_entry (entries_of 48 whole))) in
@@ -189,12 +189,12 @@ srat_table whole long filled =
     let reserved : length srat_reserved ≡ 12 = omega (arith, length-append (number_bytes 4 1) (replicate 8 0), length-number_bytes 4 1) in
     omega (arith, outer, reserved, entries_length srat.srat_entry srat_bytes srat_length (entries_of 48 whole), filled_length 48 whole long filled)
 
-pptt_table : (whole : List ℕ) → 36 ≤ length whole → cut_of 36 whole ≡ None → encoded_length (said_as (Some kind.Pptt) whole) ≡ length whole
+pub pptt_table : (whole : List ℕ) → 36 ≤ length whole → cut_of 36 whole ≡ None → encoded_length (said_as (Some kind.Pptt) whole) ≡ length whole
 unfolding pptt.pptt_contents
 pptt_table whole long filled =
     omega (arith, entries_length pptt.pptt_entry pptt_bytes pptt_length (entries_of 36 whole), filled_length 36 whole long filled)
 
-slit_table : (whole : List ℕ) → 44 ≤ length whole → encoded_length (said_as (Some kind.Slit) whole) ≡ length whole
+pub slit_table : (whole : List ℕ) → 44 ≤ length whole → encoded_length (said_as (Some kind.Slit) whole) ≡ length whole
 unfolding slit.slit_contents
 slit_table whole long =
     omega (arith, length-append (number_bytes 8 (field whole 36 8)) (drop 44 whole), length-number_bytes 8 (field whole 36 8), length-drop 44 whole, long)

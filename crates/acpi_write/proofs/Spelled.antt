@@ -21,7 +21,7 @@ use Rattle.acpi_write.specs.Laws.{IsSpelled, WhatIsReadIsSpelled}
 -- ---- from a cut to the entries that stand
 
 -- these entries one after another from an offset on
-abbrev standing : ℕ → List (List ℕ) → List (Standing (List ℕ))
+abbrev pub standing : ℕ → List (List ℕ) → List (Standing (List ℕ))
 standing offset [] = []
 standing offset (e ∷ es) = record { offset = offset; entry = e } ∷ standing (offset + length e) es
 
@@ -36,7 +36,7 @@ nothing_at_end : (left : List ℕ) → left ≡ [] → first_entry left ≡ None
 unfolding first_entry
 nothing_at_end left none = rw none refl
 
-entries_again : (n offset : ℕ) (es : List (List ℕ)) (left : List ℕ) → All IsEntry es → flat_map (λ e. e) es ≡ left → length es ≤ n → entries_from n offset left ≡ standing offset es
+pub entries_again : (n offset : ℕ) (es : List (List ℕ)) (left : List ℕ) → All IsEntry es → flat_map (λ e. e) es ≡ left → length es ≤ n → entries_from n offset left ≡ standing offset es
 unfolding entries_from
 entries_again zero offset [] left each joined count = refl
 entries_again zero offset (e ∷ es) left each joined count = absurd (omega (arith, count))
@@ -54,7 +54,7 @@ said_standing read offset [] = refl
 said_standing read offset (e ∷ es) = ap (λ l. read e ∷ l) (said_standing read (offset + length e) es)
 
 -- each has at least two bytes, so there are no more of them than bytes
-few : (es : List (List ℕ)) → All IsEntry es → length es ≤ length (flat_map (λ e. e) es)
+pub few : (es : List (List ℕ)) → All IsEntry es → length es ≤ length (flat_map (λ e. e) es)
 few [] each = omega arith
 few (e ∷ es) each =
     let here = All-head IsEntry e es each in

@@ -1,14 +1,18 @@
 -- What the laws of values say.
-use Rattle.std.specs.Prelude.{◌≡◌, ℕ, ◌<◌, ◌≤◌, List, length, slice_index, None, true}
+use Rattle.std.specs.Prelude.{◌≡◌, ℕ, ◌^◌, ◌<◌, ◌≤◌, List, length, slice_index, None, true}
 use Rattle.acpi_base.specs.Signature.{has_signature}
 use Rattle.acpi_base.specs.Entries.{IsEntry, cut_of}
 use Rattle.acpi_base.specs.Listed.{madt_signature, srat_signature, slit_signature, pptt_signature}
 use Rattle.acpi_write.specs.SetValues.{madt_said, srat_said, slit_said, pptt_said}
-use Rattle.acpi_base.specs.Madt.{madt_entry}
-use Rattle.acpi_base.specs.Srat.{srat_entry}
-use Rattle.acpi_base.specs.Pptt.{pptt_entry}
+use Rattle.acpi_base.specs.Header.{head_of}
+use Rattle.acpi_base.specs.Madt.{madt_entry, madt_contents}
+use Rattle.acpi_base.specs.Srat.{srat_entry, srat_contents}
+use Rattle.acpi_base.specs.Pptt.{pptt_entry, pptt_contents}
+use Rattle.acpi_base.specs.Slit.{slit_contents}
 use Rattle.acpi_write.specs.EntryBytes.{madt_bytes, srat_bytes, pptt_bytes}
-use Rattle.acpi_write.specs.Spells.{Spells, SaysEntry}
+use Rattle.acpi_write.specs.Encoded.{encoded}
+use Rattle.acpi_write.specs.Spells.{Spells, SaysEntry, IsTableOf}
+use Rattle.acpi_write.specs.Values.{TableValue}
 use Rattle.acpi_write.specs.Views.{IsWholeTable}
 
 -- a table's bytes say the value that is read of them: a MADT's, an SRAT's and a PPTT's where entries fill the table
@@ -40,3 +44,20 @@ pub record IsKept (e : List ℕ) : Type 0 where
 -- of all entries
 abbrev pub EntriesAreKept : Type 0
 EntriesAreKept = (e : List ℕ) → AreBytes e → IsEntry e → IsKept e
+
+-- the bytes that are written for the value are a table with the same signature, head and contents
+pub record KeepsContents {C : Type 0} (signature : List ℕ) (contents_of : List ℕ → C) (v : TableValue) (whole : List ℕ) : Type 0 where
+  pub table : IsTableOf signature (head_of whole) (encoded v)
+  pub contents : contents_of (encoded v) ≡ contents_of whole
+
+-- a table that is read as one of a kind and written again keeps its contents: a MADT, an SRAT and a PPTT where entries
+-- fill it
+pub record AreContentsKept (whole : List ℕ) : Type 0 where
+  pub madt : 44 ≤ length whole → cut_of 44 whole ≡ None → KeepsContents madt_signature madt_contents (madt_said whole) whole
+  pub srat : 48 ≤ length whole → cut_of 48 whole ≡ None → KeepsContents srat_signature srat_contents (srat_said whole) whole
+  pub slit : 44 ≤ length whole → KeepsContents slit_signature slit_contents (slit_said whole) whole
+  pub pptt : cut_of 36 whole ≡ None → KeepsContents pptt_signature pptt_contents (pptt_said whole) whole
+
+-- of whole tables
+abbrev pub ContentsAreKept : Type 0
+ContentsAreKept = (whole : List ℕ) → IsWholeTable whole → AreBytes whole → length whole < 2 ^ 32 → AreContentsKept whole

@@ -1,6 +1,6 @@
 //! Laws over the definitions alone: each function's contract is the law, and its body is empty.
 
-ghost use Rattle.acpi_write.specs.Laws.{EntriesAreKept, WhatIsReadIsSpelled};
+ghost use Rattle.acpi_write.specs.Laws.{ContentsAreKept, EntriesAreKept, WhatIsReadIsSpelled};
 ghost use Rattle.acpi_write.specs.SetValues.{OneSetValue};
 ghost use Rattle.acpi_write.specs.Spells.{OneValueSpelled};
 
@@ -23,4 +23,10 @@ pub fn what_is_read()
 /// An entry that is read and written again says the same in as many bytes.
 pub fn entries_are_kept()
     ensures { EntriesAreKept }
+{}
+
+/// A table that is read by its contents and written again has the same contents: the same entries at the same offsets,
+/// where entries fill it.
+pub fn contents_are_kept()
+    ensures { ContentsAreKept }
 {}

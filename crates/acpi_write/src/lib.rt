@@ -4,7 +4,8 @@
 //! - `TableValue`: what a table says: the MADT, the SRAT and the PPTT by their entries, the SLIT by its cells, the FADT
 //!   by its bytes behind the header, and any other table by all its bytes.
 //! - `encode_table`: the bytes of a table that says a value, with the checksum that makes them sum to 0.
-//! - `laws`: what holds of the definitions: bytes say at most one value of a kind, and a clean set says one value.
+//! - `laws`: what holds of the definitions: bytes say at most one value of a kind, a table that is read and written again
+//!   has the same contents, and a clean set says one value.
 #![tactic(auto)]
 
 mod encode;
