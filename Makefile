@@ -3,7 +3,15 @@ PREFIX ?= /usr/local
 program := crates/acpi_cli/out/acpi_cli
 sources := crates.txt $(shell find crates -path '*/out' -prune -o -type f -print)
 
-.PHONY: run build test bench install clean
+# What is installed: the program that `build` leaves, or another one that is there already.
+BINARY ?= acpiset
+tools := $(notdir $(wildcard tools/*))
+documents := README.md CHANGELOG.md CONTRIBUTING.md $(wildcard docs/*.md)
+bin = $(DESTDIR)$(PREFIX)/bin
+man = $(DESTDIR)$(PREFIX)/share/man
+doc = $(DESTDIR)$(PREFIX)/share/doc/acpiset
+
+.PHONY: run build test bench install uninstall dist clean
 
 # Proves and builds the program, and checks the smallest set of tables.
 run: build
@@ -21,14 +29,38 @@ test:
 	rt ci
 	tests/documents.sh
 	tests/rows/run.py $(program)
+	tests/rows/examples.py $(program)
+	tests/tools.sh $(program)
+	tests/install.sh $(program)
+	tests/recipes.sh $(program)
 	tests/program.sh $(program)
 
 # Prints speed and memory beside other programs; not part of the tests.
 bench: build
 	bench/run ./acpiset
 
-install: build
-	install -D acpiset $(DESTDIR)$(PREFIX)/bin/acpiset
+# The program, the tools as acpiset-NAME, the manual pages and the documents.
+install: $(BINARY)
+	install -D $(BINARY) $(bin)/acpiset
+	for tool in $(tools); do install -D tools/$$tool $(bin)/acpiset-$$tool || exit; done
+	install -D -m 644 man/acpiset.1 $(man)/man1/acpiset.1
+	install -D -m 644 man/acpiset-faults.7 $(man)/man7/acpiset-faults.7
+	for page in $(documents); do install -D -m 644 $$page $(doc)/$$page || exit; done
+
+uninstall:
+	rm -f $(bin)/acpiset $(addprefix $(bin)/acpiset-,$(tools))
+	rm -f $(man)/man1/acpiset.1 $(man)/man7/acpiset-faults.7
+	rm -f $(addprefix $(doc)/,$(documents))
+	-rmdir $(doc)/docs $(doc)
+
+# An archive of what `install` puts, with the sum of each file. It may be unpacked anywhere. The program needs x86-64
+# Linux and the C library alone: glibc 2.34 or later.
+dist: $(BINARY)
+	rm -rf dist
+	$(MAKE) install DESTDIR=dist/ PREFIX=acpiset
+	cd dist/acpiset && find . -type f ! -name SHA256SUMS | LC_ALL=C sort | xargs sha256sum > SHA256SUMS
+	cd dist && tar -czf acpiset-x86_64-linux.tar.gz acpiset
+	cd dist && sha256sum acpiset-x86_64-linux.tar.gz > acpiset-x86_64-linux.tar.gz.sha256
 
 clean:
-	rm -rf crates/*/out acpiset
+	rm -rf crates/*/out acpiset dist

@@ -97,6 +97,13 @@ done
 codes=$(sed -n 's/^code_number code\.\([A-Za-z]*\) = \([0-9]*\)$/\2 \1/p' crates/acpi_base/specs/Codes.antt)
 described=$(sed -n 's/^### \([0-9]* [A-Za-z]*\)$/\1/p' docs/FAULTS.md)
 same 'codes (<) and parts of FAULTS.md (>)' "$codes" "$described"
+indexed=$(sed -n '/^## Index$/,/^## How/p' docs/FAULTS.md | grep -o '[0-9][0-9]* \[[A-Za-z]*\](#[a-z0-9-]*)' | sed 's/\[\(.*\)\](#.*/\1/')
+same 'parts of FAULTS.md (<) and its index by code (>)' "$described" "$indexed"
+by_name=$(sed -n '/^## Index$/,/^## How/p' docs/FAULTS.md | grep -o '\[[A-Za-z]*\](#[0-9]*-[a-z]*) [0-9][0-9]*' | sed 's/\[\(.*\)\](#.*) \(.*\)/\2 \1/')
+same 'parts of FAULTS.md (<) and its index by name (>)' "$described" "$by_name"
+complete=$(awk '/^### [0-9]/ { part = $2 " " $3 } /^## / { part = "" } part != "" && /^- [A-Z][a-z]*:/ { print part, $2 }' docs/FAULTS.md)
+asked=$(while read -r part; do printf '%s %s\n' "$part" Wrong: "$part" Fields: "$part" Numbers: "$part" System: "$part" Fix: "$part" Example:; done <<<"$described")
+same 'what a part of FAULTS.md has to say (<) and what it says (>)' "$asked" "$complete"
 stages=$(sed -n 's/^stage_number stage\.[A-Za-z]* = \([0-9]*\)$/\1/p' crates/acpi_base/specs/Codes.antt)
 listed=$(sed -n 's/^| \([0-9]*\) | .* | [0-9to, ]* |$/\1/p' docs/FAULTS.md)
 same 'stages (<) and those that FAULTS.md lists (>)' "$stages" "$listed"
@@ -104,12 +111,18 @@ headline=$(sed -n '/^## The headline$/,/^## /{/^```rust$/,/^```$/p}' README.md |
 contract=$(sed -n '/^pub fn check(/,/^{$/p' crates/acpi_check/src/stages.rt | grep -v '^{$')
 same 'the contract of check, as README has it (<) and in acpi_check (>)' "$headline" "$contract"
 
-paths=$(cat README.md docs/*.md | grep -o '`\(crates\|docs\|tests\|bench\)/[A-Za-z0-9_./-]*[A-Za-z0-9_]`' | tr -d '`' | sort -u)
+paths=$(cat README.md docs/*.md | grep -o '`\(crates\|docs\|tests\|bench\|tools\|man\)/[A-Za-z0-9_./-]*[A-Za-z0-9_]`' | tr -d '`' | sort -u)
 there=$(while read -r path; do [ -e "$path" ] && printf '%s\n' "$path"; done <<<"$paths")
 same 'files that the documents name (<) and that are there (>)' "$paths" "$there"
 parts=$(cat README.md docs/*.md | grep -o '`\(src\|specs\)/[A-Za-z0-9_/]*\.\(rt\|antt\)`' | tr -d '`' | sort -u)
 there=$(while read -r part; do for crate in crates/*; do [ -e "$crate/$part" ] && printf '%s\n' "$part"; done; done <<<"$parts")
 same 'files of a crate that the documents name (<) and that are there (>)' "$parts" "$there"
+
+count 'man/acpiset-faults.7, made of docs/FAULTS.md (<) and as it is (>)' "$(awk -f man/faults.awk docs/FAULTS.md | diff - man/acpiset-faults.7 | grep '^[<>]')"
+options=$(sed -n 's/.*option(alloc, "\([a-z-]*\)".*/--\1/p' crates/acpi_cli/src/command_line.rt)
+within 'options that man/acpiset.1 does not name' "$options" "$(sed 's/\\-/-/g' man/acpiset.1 | grep -o -- '--[a-z-]*[a-z]')"
+commands=$(sed -n 's/.*Command::new(alloc, "\([a-z]*\)").*/\1/p' crates/acpi_cli/src/command_line.rt)
+within 'commands that man/acpiset.1 does not name' "$commands" "$(grep -o '[a-z]*' man/acpiset.1)"
 
 printf 'documents: %d passed, %d failed\n' "$passed" "$failed"
 [ "$failed" = 0 ]

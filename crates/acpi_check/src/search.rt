@@ -2,11 +2,27 @@
 
 ghost use Rattle.std.specs.Prelude.{◌≡◌, ◌<◌, ◌↔◌, ℕ, AllPairs, Contains, MatchBool, MatchOption, length, slice_index};
 
-/// The place of an offset among offsets that rise, or none where it is not among them.
+/// The place at which an offset would stand if the offsets rose evenly from the first to the last. It is a guess, which may
+/// be past their end.
+fn interpolated_place(offsets: &[u64], offset: u64) -> usize {
+    let [first, .., last] = offsets else {
+        return 0;
+    };
+    let steps = offsets.len() as u64 - 1;
+    let span = last.saturating_sub(*first).max(1);
+    (offset.saturating_sub(*first).saturating_mul(steps) / span) as usize
+}
+
+/// The place of an offset among offsets that rise, or none where it is not among them. Where they rise evenly, as those
+/// of entries of one length do, it looks at one of them.
 pub fn find(offsets: &[u64], offset: u64) -> Option<usize>
     requires { AllPairs (λ o p. o < p) offsets.now }
     ensures { MatchOption result (¬ Contains offsets.now offset) (λ k. (k < length offsets.now) × (slice_index offsets.now k ≡ offset)) }
 {
+    let place = interpolated_place(offsets, offset);
+    if place < offsets.len() && offsets[place] == offset {
+        return Some(place);
+    }
     offsets.binary_search(&offset).ok()
 }
 

@@ -1,0 +1,100 @@
+# Makes the manual page acpiset-faults.7 of docs/FAULTS.md.
+# usage: awk -f man/faults.awk docs/FAULTS.md > man/acpiset-faults.7
+
+# A text of the document as the page has it: code in bold, links as their words, what roff reads otherwise escaped.
+function roff(text,   before, inside, out) {
+  gsub(/\\/, "\\e", text)
+  gsub(/-/, "\\-", text)
+  out = ""
+  while (match(text, /\[[^]]*\]\([^)]*\)/)) {
+    inside = substr(text, RSTART + 1, RLENGTH - 2)
+    sub(/\].*/, "", inside)
+    out = out substr(text, 1, RSTART - 1) inside
+    text = substr(text, RSTART + RLENGTH)
+  }
+  text = out text
+  gsub(/\*\*/, "", text)
+  out = ""
+  while (match(text, /`[^`]*`/)) {
+    before = substr(text, 1, RSTART - 1)
+    inside = substr(text, RSTART + 1, RLENGTH - 2)
+    out = out before "\\fB" inside "\\fR"
+    text = substr(text, RSTART + RLENGTH)
+  }
+  text = out text
+  if (text ~ /^[.\047]/) text = "\\&" text
+  return text
+}
+
+# Prints the paragraph that has been gathered; of a list item of a part its first word is the tag.
+function flush_text(   tag) {
+  if (gathered == "") return
+  if (is_item && gathered ~ /^[A-Z][a-z]*: /) {
+    tag = gathered
+    sub(/:.*/, "", tag)
+    sub(/^[A-Za-z]*: /, "", gathered)
+    print ".TP"
+    print ".B " tag
+    print roff(gathered)
+  } else {
+    print is_item ? ".IP \\(bu 2" : ".PP"
+    print roff(gathered)
+  }
+  gathered = ""
+  is_item = 0
+}
+
+# A row of a table: its first cell as the tag, the others behind it.
+function print_row(row,   cells, count, cell) {
+  sub(/^\| */, "", row)
+  sub(/ *\|$/, "", row)
+  count = split(row, cells, / *\| */)
+  print ".TP"
+  print ".B " roff(cells[1])
+  row = cells[2]
+  for (cell = 3; cell <= count; cell++) row = row "; " cells[cell]
+  print roff(row)
+}
+
+BEGIN {
+  print ".\\\" Made of docs/FAULTS.md by man/faults.awk: change that document, and make this page again."
+  print ".TH ACPISET\\-FAULTS 7"
+  print ".SH NAME"
+  print "acpiset\\-faults \\- the lines of acpiset(1), what each means, and what to do"
+}
+
+/^# / { next }
+/^## Index$/ { skipped = 1; next }
+/^## / { skipped = 0 }
+skipped { next }
+
+/^```/ {
+  flush_text()
+  in_block = !in_block
+  print in_block ? ".PP\n.nf" : ".fi"
+  next
+}
+in_block { print roff($0); next }
+
+/^## / { flush_text(); print ".SH " roff(toupper(substr($0, 4))); next }
+/^### / { flush_text(); print ".SS " roff(substr($0, 5)); next }
+/^\|[- |]*$/ { next }
+/^\|/ {
+  flush_text()
+  if (was_table) print_row($0)
+  was_table = 1
+  next
+}
+{ was_table = 0 }
+/^$/ { flush_text(); next }
+/^- / { flush_text(); is_item = 1; gathered = substr($0, 3); next }
+{
+  sub(/^ +/, "")
+  gathered = gathered == "" ? $0 : gathered " " $0
+}
+
+END {
+  flush_text()
+  print ".SH SEE ALSO"
+  print ".BR acpiset (1)"
+}

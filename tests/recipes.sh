@@ -1,0 +1,96 @@
+#!/usr/bin/env bash
+# Runs the recipes of docs/RECIPES.md and docs/TROUBLESHOOTING.md whose tools are on the machine, and compares what they print
+# with the page.
+# usage: tests/recipes.sh PROGRAM; it names those that it left out, and the last line is 'recipes: N passed, M failed, L left out'.
+# A recipe that runs QEMU and fails is run once more with more time to boot.
+#
+# A recipe is a block of sh behind a line '<!-- recipe NAME needs: WORDS -->', and the block of text behind it is what it prints.
+# A word is a command, root, or file:PATH. With 'own' it prints what the machine has: then only its end is looked at. A block
+# behind '<!-- file NAME -->' is a file that recipes use. All run in one folder and in one shell, so each finds what those
+# before it left.
+set -u
+program=$(realpath "${1:?usage: tests/recipes.sh PROGRAM}")
+[ -x "$program" ] || { printf '%s: no program\n' "$program" >&2; exit 1; }
+cd "$(dirname "$0")/.."
+SOURCE=$PWD
+scratch=$(mktemp -d)
+trap 'rm -rf "$scratch"' EXIT
+mkdir "$scratch/bin" "$scratch/blocks" "$scratch/work"
+ln -s "$program" "$scratch/bin/acpiset"
+for tool in tools/*; do ln -s "$SOURCE/$tool" "$scratch/bin/acpiset-${tool#tools/}"; done
+PATH="$scratch/bin:$PATH"
+passed=0
+failed=0
+left=0
+
+awk -v folder="$scratch/blocks" '
+  /^<!-- recipe / { name = sprintf("%02d-%s", ++count, $3); needs = $0; sub(/.*needs: */, "", needs); sub(/ *-->$/, "", needs); kind = "recipe"; next }
+  /^<!-- file / { name = $3; kind = "file"; next }
+  /^```/ && !inside {
+    inside = 1
+    target = ""
+    if (kind == "recipe" && $0 == "```sh") { target = folder "/" name ".sh"; print needs > (folder "/" name ".needs"); kind = "printed" }
+    else if (kind == "printed" && $0 == "```text") { target = folder "/" name ".text"; kind = "" }
+    else if (kind == "file") { target = folder "/../work/" name; kind = "" }
+    next
+  }
+  /^```/ { inside = 0; next }
+  inside && target != "" { print > target }
+' docs/RECIPES.md docs/TROUBLESHOOTING.md
+
+# lacks NEEDS: the words of what a recipe needs that this machine lacks.
+lacks() {
+  local word
+  for word in $1; do
+    case $word in
+      own) ;;
+      root) [ "$(id -u)" = 0 ] || printf ' %s' "$word" ;;
+      file:*) [ -r "${word#file:}" ] || printf ' %s' "$word" ;;
+      *) command -v "$word" >"$scratch/found" || printf ' %s' "$word" ;;
+    esac
+  done
+}
+
+# A time that a test took differs from run to run.
+settled() { sed 's/finished in [0-9.]*s/finished in 0.00s/'; }
+
+# differs BLOCK NEEDS: runs a recipe in this shell, and prints how what it printed differs from the page.
+differs() {
+  . "$1" >"$scratch/printed" 2>&1
+  cd "$scratch/work"
+  case " $2 " in
+    *' own '*) grep -qE '^(yes|no [0-9]+ .*|.*ACPI: RSDP 0x.*)$' <(tail -n 1 "$scratch/printed") || cat "$scratch/printed" ;;
+    *) diff <(settled <"$scratch/printed") <(settled <"${1%.sh}.text") ;;
+  esac
+}
+
+cd "$scratch/work"
+for block in "$scratch"/blocks/*.sh; do
+  name=$(basename "$block" .sh)
+  needs=$(cat "${block%.sh}.needs")
+  missing=$(lacks "$needs")
+  if [ -n "$missing" ]; then
+    left=$((left + 1))
+    printf 'left out: %s, for want of%s\n' "$name" "$missing"
+    continue
+  fi
+  differs "$block" "$needs" >"$scratch/difference"
+  if [ -s "$scratch/difference" ] && [[ $needs == *qemu* ]]; then
+    SECONDS_TO_BOOT=120
+    differs "$block" "$needs" >"$scratch/difference"
+    unset SECONDS_TO_BOOT
+  fi
+  if [[ $needs == *own* ]] && [ ! -s "$scratch/printed" ]; then
+    left=$((left + 1))
+    printf 'left out: %s, for the machine has nothing to print\n' "$name"
+  elif [ ! -s "$scratch/difference" ]; then
+    passed=$((passed + 1))
+    printf 'passed: %s\n' "$name"
+  else
+    failed=$((failed + 1))
+    printf 'failed: %s, what it printed (<) and what the page says (>):\n%s\n' "$name" "$(cat "$scratch/difference")"
+  fi
+done
+
+printf 'recipes: %d passed, %d failed, %d left out\n' "$passed" "$failed" "$left"
+[ "$failed" = 0 ]
