@@ -1,7 +1,7 @@
 -- The tables of a clean set can be read as those of their kinds.
-use Rattle.std.proofs.Common.{◌≡◌, ℕ, zero, suc, ◌+◌, ◌-◌, ◌*◌, ◌/◌, ◌<◌, ◌≤◌, Bool, true, false, List, [], ◌∷◌, length, take, map, get_or, Some, refl, sym, ap, ◌∙◌, subst, inl, inr, arith}
-use Rattle.std.specs.Prelude.{◌≢◌, ◌==◌, not, filter, ◌&&◌, ◌||◌}
-use Rattle.std.specs.List.{AllZip, list_any}
+use Rattle.std.proofs.Common.{◌≡◌, ℕ, zero, suc, ◌+◌, ◌-◌, ◌*◌, ◌/◌, ◌<◌, ◌≤◌, Bool, true, false, List, [], ◌∷◌, length, take, get_or, Some, refl, sym, ap, ◌∙◌, subst, inl, inr, arith}
+use Rattle.std.specs.Prelude.{◌≢◌, not, ◌&&◌, ◌||◌}
+use Rattle.std.specs.List.{AllZip}
 use Rattle.std.proofs.lemmas.Bool.{cases_Bool, cases_eq, both_ways}
 use Rattle.acpi_base.specs.Memory.{Memory}
 use Rattle.acpi_base.specs.Number.{field, byte_sum}
@@ -9,13 +9,13 @@ use Rattle.acpi_base.specs.Policy.{PolicyValue}
 use Rattle.acpi_base.specs.Signature.{has_signature}
 use Rattle.acpi_base.specs.Rsdp.{RsdpValue, IsRsdp}
 use Rattle.acpi_base.specs.Root.{chosen_root, IsSlotWidth, IsRoot, IsRootTable, IsSoundRoot, HasSlot}
-use Rattle.acpi_base.specs.Tables.{IsTable, IsSigned, IsSoundTable}
+use Rattle.acpi_base.specs.Tables.{IsSigned, IsSoundTable}
 use Rattle.acpi_base.specs.Listed.{listed, fadt_signature, madt_signature, srat_signature, slit_signature, pptt_signature, IsFirstListed, IsListedTable}
 use Rattle.acpi_base.specs.Madt as madt
 use Rattle.acpi_base.specs.Srat as srat
 use Rattle.acpi_base.specs.Slit as slit
 use Rattle.acpi_base.specs.Pptt as pptt
-use Rattle.acpi_base.specs.Statements.{IsClean, AreSoundTables}
+use Rattle.acpi_base.specs.Statements.{IsClean}
 use Rattle.acpi_base.specs.declared.stage.Stage.TheVariants as stage
 use Rattle.acpi_base.proofs.HeldBytes.{same_value}
 use Rattle.acpi_base.proofs.Root.Slots.{root_slot}
@@ -25,7 +25,7 @@ use Rattle.acpi_base.proofs.Tables.Whole.{one_table, signed_table}
 use Rattle.acpi_read.specs.Roots.{RootValue, IsSoundNamedRoot}
 use Rattle.acpi_read.specs.Madts as madts
 use Rattle.acpi_read.specs.Srats as srats
-use Rattle.acpi_write.specs.Readable.{IsReadableAs, IsReadableMadt, IsReadableSrat, IsReadableSlit, IsReadablePptt, IsReadableBehind, AreReadable, kind_behind, is_among}
+use Rattle.acpi_write.specs.Readable.{IsReadableMadt, IsReadableSrat, IsReadableSlit, IsReadablePptt, AreReadable, kind_behind, is_among}
 use Rattle.acpi_write.specs.SetValues.{IsWholeAt, is_first}
 use Rattle.acpi_write.proofs.Listing.{listed_from, listed_is, listed_skip, listed_take}
 

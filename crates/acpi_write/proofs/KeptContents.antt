@@ -1,5 +1,5 @@
 -- A table that is read and written again has the same contents.
-use Rattle.std.proofs.Common.{◌≡◌, ℕ, zero, suc, ◌+◌, ◌-◌, ◌*◌, ◌^◌, ◌<◌, ◌≤◌, List, [], ◌∷◌, ◌++◌, length, get_or, take, drop, map, flat_map, replicate, None, refl, sym, ap, ◌∙◌, subst, inl, inr, arith, length-append, length-drop}
+use Rattle.std.proofs.Common.{◌≡◌, ℕ, ◌+◌, ◌-◌, ◌^◌, ◌<◌, ◌≤◌, List, [], ◌∷◌, ◌++◌, length, get_or, drop, map, flat_map, replicate, None, refl, sym, ap, ◌∙◌, subst, inl, inr, arith, length-append, length-drop}
 use Rattle.std.specs.List.{All}
 use Rattle.std.proofs.lemmas.Bool.{cases_lt}
 use Rattle.std.proofs.lemmas.List.{get_or-drop, get_or_append_left, get_or-append_right, length-take-le}
@@ -7,7 +7,7 @@ use Rattle.std.proofs.Math.ListN.{get_or-eq_default}
 use Rattle.std.proofs.lemmas.List.Elements.{All-nil, All-cons, All-head, All-tail}
 use Rattle.acpi_base.specs.Number.{field, number_bytes}
 use Rattle.acpi_base.specs.Header.{HeadValue, header_of, head_of}
-use Rattle.acpi_base.specs.Entries.{IsEntry, Standing, entries_of, cut_of, said_by, IsCut}
+use Rattle.acpi_base.specs.Entries.{IsEntry, entries_of, cut_of, said_by}
 use Rattle.acpi_base.specs.Listed.{madt_signature, srat_signature, slit_signature, pptt_signature}
 use Rattle.acpi_base.specs.Madt as madt
 use Rattle.acpi_base.specs.Srat as srat
@@ -20,7 +20,6 @@ use Rattle.acpi_write.specs.EntryBytes.{madt_bytes, srat_bytes, pptt_bytes}
 use Rattle.acpi_write.specs.Encoded.{FitsHead, encoded, body_of, srat_reserved}
 use Rattle.acpi_write.specs.Laws.{AreBytes, WrittenAgain, KeepsContents, ContentsAreKept}
 use Rattle.acpi_write.specs.SetValues.{entries_in, madt_said, srat_said, slit_said, pptt_said}
-use Rattle.acpi_write.specs.Spells.{IsTableOf}
 use Rattle.acpi_write.specs.Views.{IsWholeTable}
 use Rattle.acpi_write.proofs.KeptEntries.{entries_are_kept}
 use Rattle.acpi_write.proofs.Lengths as lengths

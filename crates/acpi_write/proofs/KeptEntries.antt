@@ -1,12 +1,12 @@
 -- What an entry says is said again by the bytes that are written for it.
-use Rattle.std.proofs.Common.{◌≡◌, ◌≢◌, ℕ, zero, suc, ◌+◌, ◌*◌, ◌/◌, ◌%◌, ◌^◌, ◌<◌, ◌≤◌, Bool, true, false, cond, List, [], ◌∷◌, ◌++◌, length, get_or, take, drop, map, Option, Some, None, refl, sym, ap, ◌∙◌, subst, inl, inr, arith, length-drop}
-use Rattle.std.specs.Prelude.{◌⊎◌, ◌==◌, ◌&&◌, ◌||◌, nat_lt, slice_index}
+use Rattle.std.proofs.Common.{◌≡◌, ℕ, ◌+◌, ◌*◌, ◌<◌, ◌≤◌, Bool, true, false, List, [], ◌∷◌, length, get_or, drop, map, refl, sym, subst, inl, inr, arith, length-drop}
+use Rattle.std.specs.Prelude.{◌⊎◌, ◌==◌, ◌&&◌, nat_lt}
 use Rattle.std.specs.List.{range_with_len}
-use Rattle.std.proofs.lemmas.Bool.{cases_Bool, ltb-true, and_parts, eqb-true, eq-eqb, ne_eqb}
+use Rattle.std.proofs.lemmas.Bool.{cases_Bool, ltb-true, and_parts, eq-eqb, ne_eqb}
 use Rattle.std.proofs.lemmas.List.{drop-drop, get_or-drop}
 use Rattle.acpi_base.specs.Number.{field}
-use Rattle.acpi_base.specs.Layouts.{Part, NumberOf, BytesOf, Fixed, Reserved, PartValue, FitLayout, values_at, layout_bytes}
-use Rattle.acpi_base.specs.Entries.{IsEntry, IsTypeOf, has_form}
+use Rattle.acpi_base.specs.Layouts.{Part, NumberOf, BytesOf, Fixed, Reserved, FitLayout, values_at, layout_bytes}
+use Rattle.acpi_base.specs.Entries.{IsEntry, has_form}
 use Rattle.acpi_base.specs.Madt.{madt_kinds, madt_entry}
 use Rattle.acpi_base.specs.Madt as madt
 use Rattle.acpi_base.specs.Srat.{srat_kinds, srat_entry}
@@ -16,9 +16,7 @@ use Rattle.acpi_base.specs.Pptt as pptt
 use Rattle.acpi_base.proofs.HeldBytes.{field_below}
 use Rattle.acpi_base.proofs.Layouts.RoundTrip.{HasValues-layout_bytes}
 use Rattle.acpi_read.specs.Madts.{local_apic_parts, local_apic_values, io_apic_parts, io_apic_values, override_parts, override_values, nmi_source_parts, nmi_source_values, local_nmi_parts, local_nmi_values, address_override_parts, address_override_values, x2apic_parts, x2apic_values, x2apic_nmi_parts, x2apic_nmi_values}
-use Rattle.acpi_read.specs.Madts as madts
 use Rattle.acpi_read.specs.Srats.{apic_domain_parts, apic_domain_values, memory_parts, memory_values, x2apic_domain_parts, x2apic_domain_values}
-use Rattle.acpi_read.specs.Srats as srats
 use Rattle.acpi_read.specs.Pptts.{node_head_parts, node_head_values, node_value, cache24_parts, cache24_values, cache28_parts, cache28_values}
 use Rattle.acpi_read.specs.declared.madt.local_apic.LocalApic.{LocalApic}
 use Rattle.acpi_read.specs.declared.madt.io_apic.IoApic.{IoApic}
@@ -36,7 +34,7 @@ use Rattle.acpi_read.specs.declared.pptt.cache24.Cache24.{Cache24}
 use Rattle.acpi_read.specs.declared.pptt.cache28.Cache28.{Cache28}
 use Rattle.acpi_write.specs.EntryBytes.{madt_bytes, srat_bytes, pptt_bytes}
 use Rattle.acpi_write.specs.Spells.{SaysEntry}
-use Rattle.acpi_write.specs.Laws.{AreBytes, WrittenAgain, EntriesAreKept}
+use Rattle.acpi_write.specs.Laws.{AreBytes, EntriesAreKept}
 use Rattle.acpi_write.proofs.MadtBytes.{local_apic_says, io_apic_says, override_says, nmi_source_says, local_nmi_says, address_override_says, x2apic_says, x2apic_nmi_says}
 use Rattle.acpi_write.proofs.SratBytes.{apic_domain_says, memory_says, x2apic_domain_says}
 use Rattle.acpi_write.proofs.PpttBytes.{cache24_says, cache28_says}

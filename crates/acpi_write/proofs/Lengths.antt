@@ -1,9 +1,7 @@
 -- A table is written in as many bytes as it was read from.
-use Rattle.std.proofs.Common.{◌≡◌, ◌≢◌, ℕ, zero, suc, ◌+◌, ◌-◌, ◌*◌, ◌/◌, ◌%◌, ◌^◌, ◌<◌, ◌≤◌, Bool, true, false, cond, List, [], ◌∷◌, ◌++◌, length, take, drop, map, flat_map, replicate, Option, Some, None, refl, sym, ap, ◌∙◌, subst, inl, inr, arith, length-append, length-drop}
-use Rattle.std.specs.Prelude.{◌⊎◌, ◌==◌, ◌&&◌, ◌||◌, nat_lt, slice_index, sum_by}
-use Rattle.std.specs.Option.{option_map_or}
-use Rattle.std.specs.List.{range_with_len}
-use Rattle.std.proofs.lemmas.Bool.{cases_Bool, cases_lt, cases_eq, eqb-true, eq-eqb, ne_eqb, and_parts}
+use Rattle.std.proofs.Common.{◌≡◌, ℕ, zero, suc, ◌+◌, ◌*◌, ◌^◌, ◌<◌, ◌≤◌, true, false, cond, List, [], ◌∷◌, ◌++◌, length, drop, flat_map, replicate, Option, Some, None, refl, sym, ap, ◌∙◌, inl, inr, arith, length-append, length-drop}
+use Rattle.std.specs.Prelude.{◌⊎◌, ◌==◌, nat_lt, slice_index, sum_by}
+use Rattle.std.proofs.lemmas.Bool.{cases_Bool, cases_lt, eqb-true, eq-eqb, ne_eqb, and_parts}
 use Rattle.std.proofs.lemmas.Bool.Decides.{nat_tests}
 use Rattle.std.proofs.lemmas.List.{length-replicate, length-take-le}
 use Rattle.std.proofs.lemmas.List.FromFn.{length-map-range_with_len}
@@ -19,7 +17,6 @@ use Rattle.acpi_base.proofs.HeldBytes.{cases_Option}
 use Rattle.acpi_base.proofs.Layouts.RoundTrip.{length-number_bytes}
 use Rattle.acpi_write.specs.Encoded.{encoded_length, srat_reserved}
 use Rattle.acpi_write.specs.EntryBytes.{madt_bytes, srat_bytes, pptt_bytes}
-use Rattle.acpi_write.specs.FadtBody.{with_facs}
 use Rattle.acpi_write.specs.Readable.{IsReadableAs, said_as}
 use Rattle.acpi_write.specs.SetValues.{entries_in}
 use Rattle.acpi_write.specs.Values.{TableValue}

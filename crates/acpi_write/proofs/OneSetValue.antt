@@ -5,7 +5,7 @@ use Rattle.acpi_base.specs.Memory.{Memory, bytes_at}
 use Rattle.acpi_base.specs.Header.{head_of}
 use Rattle.acpi_base.specs.Listed.{listed}
 use Rattle.acpi_base.specs.Fadt.{IsFadt, facs_address}
-use Rattle.acpi_base.specs.Facs.{IsFacs, facs_length}
+use Rattle.acpi_base.specs.Facs.{facs_length}
 use Rattle.acpi_base.specs.declared.stage.Stage.TheVariants as stage
 use Rattle.acpi_base.proofs.HeldBytes.{same_value}
 use Rattle.acpi_base.proofs.Root.Named.{one_root, one_root_table}

@@ -1,7 +1,6 @@
 -- Which tables are read as those of a kind, and what tables say, from table to table.
-use Rattle.std.proofs.Common.{◌≡◌, ℕ, zero, suc, ◌+◌, ◌<◌, ◌≤◌, Bool, true, false, List, [], ◌∷◌, ◌++◌, length, take, map, get_or, Option, refl, sym, ap, ◌∙◌, subst, inl, inr, arith, append_assoc}
+use Rattle.std.proofs.Common.{◌≡◌, ℕ, suc, ◌+◌, ◌<◌, Bool, true, false, List, [], ◌∷◌, ◌++◌, length, take, get_or, Option, refl, sym, ap, ◌∙◌, inl, inr, arith, append_assoc}
 use Rattle.std.specs.Prelude.{not, ◌&&◌, ◌||◌}
-use Rattle.std.specs.List.{list_any}
 use Rattle.std.proofs.lemmas.Bool.{cases_Bool}
 use Rattle.std.proofs.lemmas.List.Folds.{list_any-append}
 use Rattle.std.proofs.Math.Seq.{take-suc}
@@ -9,7 +8,6 @@ use Rattle.acpi_base.specs.Signature.{has_signature}
 use Rattle.acpi_base.specs.Listed.{fadt_signature, madt_signature, srat_signature, slit_signature, pptt_signature}
 use Rattle.acpi_write.specs.Readable.{said_as, first_by, kind_behind, is_among, HasSeen}
 use Rattle.acpi_write.specs.SetValues.{is_first, said_behind, values_behind, values_of}
-use Rattle.acpi_write.specs.Values.{TableValue}
 use Rattle.acpi_write.specs.declared.kinds.Kind.{Kind}
 use Rattle.acpi_write.specs.declared.kinds.Seen.{Seen}
 

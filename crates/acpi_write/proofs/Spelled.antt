@@ -1,22 +1,21 @@
 -- Bytes say the value that is read of them.
-use Rattle.std.proofs.Common.{◌≡◌, ℕ, zero, suc, ◌+◌, ◌-◌, ◌<◌, ◌≤◌, true, false, cond, List, [], ◌∷◌, ◌++◌, length, take, drop, map, flat_map, Option, Some, None, refl, sym, ap, ◌∙◌, subst, arith, length-append, length-drop}
-use Rattle.std.specs.Prelude.{slice_index}
+use Rattle.std.proofs.Common.{◌≡◌, ℕ, zero, suc, ◌+◌, ◌≤◌, true, List, [], ◌∷◌, ◌++◌, length, take, drop, map, flat_map, Some, None, refl, sym, ap, ◌∙◌, arith, length-append, length-drop}
 use Rattle.std.specs.List.{All}
 use Rattle.std.proofs.lemmas.Bool.Decides.{nat_tests}
 use Rattle.std.proofs.lemmas.List.{get_or-take, take_at, drop_at}
 use Rattle.std.proofs.lemmas.List.Elements.{All-head, All-tail}
 use Rattle.acpi_base.specs.Header.{head_of}
 use Rattle.acpi_base.specs.Signature.{has_signature}
-use Rattle.acpi_base.specs.Entries.{IsEntry, Standing, first_entry, entries_from, entries_of, cut_of, said_by, IsCut}
+use Rattle.acpi_base.specs.Entries.{IsEntry, Standing, first_entry, entries_from, entries_of, cut_of, said_by}
 use Rattle.acpi_base.specs.Madt as madt
 use Rattle.acpi_base.specs.Srat as srat
 use Rattle.acpi_base.specs.Slit as slit
 use Rattle.acpi_base.specs.Pptt as pptt
 use Rattle.acpi_base.proofs.Entries.{no_cut_fault}
-use Rattle.acpi_write.specs.SetValues.{entries_in, madt_said, srat_said, slit_said, pptt_said}
-use Rattle.acpi_write.specs.Spells.{IsTableOf, SpellEntries, Spells}
+use Rattle.acpi_write.specs.SetValues.{entries_in}
+use Rattle.acpi_write.specs.Spells.{IsTableOf, SpellEntries}
 use Rattle.acpi_write.specs.Views.{IsWholeTable}
-use Rattle.acpi_write.specs.Laws.{IsSpelled, WhatIsReadIsSpelled}
+use Rattle.acpi_write.specs.Laws.{WhatIsReadIsSpelled}
 
 -- ---- from a cut to the entries that stand
 

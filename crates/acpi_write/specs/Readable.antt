@@ -1,5 +1,5 @@
 -- What is asked of a table's bytes where they are read as those of a kind, and which tables are.
-use Rattle.std.specs.Prelude.{◌≡◌, ℕ, ◌≤◌, Bool, true, false, not, ◌&&◌, ◌||◌, List, length, take, slice_index_or, ◌<◌, Option, Some, None, if◌then◌else◌}
+use Rattle.std.specs.Prelude.{◌≡◌, ℕ, ◌≤◌, Bool, List, length, take, slice_index_or, ◌<◌, Option, Some, None, if◌then◌else◌}
 use Rattle.std.specs.List.{list_any}
 use Rattle.acpi_base.specs.Number.{byte_sum}
 use Rattle.acpi_base.specs.Signature.{has_signature}

@@ -1,4 +1,4 @@
-use Rattle.std.proofs.Common.{◌≡◌, ◌∙◌, ap, sym, subst, List, ℕ, map}
+use Rattle.std.proofs.Common.{◌∙◌, ap, sym, subst, List, ℕ}
 use Rattle.std.specs.Option.{option_map}
 use Rattle.acpi_base.specs.Facs.{HasSoundFacs}
 use Rattle.acpi_base.specs.Listed.{fadt_signature}

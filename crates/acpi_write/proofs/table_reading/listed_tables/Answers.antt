@@ -1,4 +1,4 @@
-use Rattle.std.proofs.Common.{◌≡◌, ◌+◌, ◌-◌, ◌*◌, ◌/◌, ℕ, List, length, Result, Ok, Err, IsOk, refl, sym, ap, ◌∙◌, subst, arith}
+use Rattle.std.proofs.Common.{◌≡◌, ◌+◌, ◌*◌, ℕ, Result, Ok, Err, IsOk, refl, sym, ◌∙◌, subst, arith}
 use Rattle.acpi_base.specs.Number.{field}
 use Rattle.acpi_base.specs.Root.{HasSlot}
 use Rattle.acpi_write.specs.SetValues.{IsWholeAt}

@@ -1,4 +1,4 @@
-use Rattle.std.proofs.Common.{◌≡◌, ◌-◌, ◌∙◌, ap, sym, arith, List, ℕ, length, drop, take, length-drop}
+use Rattle.std.proofs.Common.{◌∙◌, ap, arith, List, ℕ, length, drop, length-drop}
 use Rattle.std.proofs.lemmas.List.{take_rest}
 use Rattle.acpi_write.specs.FadtBody.{with_facs}
 use Rattle.acpi_write.specs.Values.{Fadt}

@@ -1,4 +1,4 @@
-use Rattle.std.proofs.Common.{◌≡◌, ◌∙◌, ap, sym, arith, List, ℕ, map}
+use Rattle.std.proofs.Common.{◌∙◌, ap, List, ℕ}
 use Rattle.acpi_base.specs.Number.{field}
 use Rattle.acpi_base.specs.Madt.{madt_contents}
 use Rattle.acpi_write.specs.SetValues.{entries_in}

@@ -1,9 +1,8 @@
-use Rattle.std.proofs.Common.{◌≡◌, ◌+◌, ◌^◌, ◌<◌, ◌≤◌, ◌∙◌, ◌++◌, ◌∷◌, [], ℕ, List, Option, length, take, map, refl, ap, sym, subst, arith}
+use Rattle.std.proofs.Common.{◌≡◌, ◌+◌, ◌^◌, ◌<◌, ◌≤◌, ◌∙◌, ◌++◌, ◌∷◌, [], ℕ, List, Option, length, take, map, refl, ap, sym, subst}
 use Rattle.std.proofs.lemmas.List.{map-append, get_or_default}
 use Rattle.std.proofs.lemmas.List.Elements.{All-nil, All-push}
 use Rattle.acpi_write.specs.Readable.{IsReadableAs, IsReadableBehind, kind_behind, said_as}
 use Rattle.acpi_write.specs.SetValues.{said_behind}
-use Rattle.acpi_write.specs.Values as value
 use Rattle.acpi_write.specs.Views.{table_value, IsShaped, IsShort}
 use Rattle.acpi_write.proofs.Lengths.{said_short}
 use Rattle.acpi_write.proofs.Reading.{seen_none, seen_more, kind_seen, said_by_kind, values_none, values_next, next_take}
