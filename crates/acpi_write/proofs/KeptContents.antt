@@ -96,7 +96,7 @@ module _ {E : Type 0} (read : List ℕ → E) (bytes_of : E → List ℕ) (kept 
 
 -- ---- the head
 
-fits_head : (whole : List ℕ) → AreBytes whole → 36 ≤ length whole → FitsHead (head_of whole)
+pub fits_head : (whole : List ℕ) → AreBytes whole → 36 ≤ length whole → FitsHead (head_of whole)
 unfolding header_of
 fits_head whole low long = record {
   revision = field_below whole low 8 1;
@@ -108,7 +108,7 @@ fits_head whole low long = record {
 }
 
 -- a table has its header and its body
-length_of_parts : (new body : List ℕ) → 36 ≤ length new → drop 36 new ≡ body → length new ≡ 36 + length body
+pub length_of_parts : (new body : List ℕ) → 36 ≤ length new → drop 36 new ≡ body → length new ≡ 36 + length body
 length_of_parts new body least is = omega (arith, least, ap length is, length-drop 36 new)
 
 -- ---- tables

@@ -9,6 +9,7 @@ pub mod KeptEntries
 pub mod Lengths
 pub mod Listing
 pub mod MadtBytes
+pub mod NamedFacs
 pub mod NodeBytes
 pub mod OneSetValue
 pub mod PpttBytes

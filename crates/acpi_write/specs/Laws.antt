@@ -1,8 +1,9 @@
 -- What the laws of values say.
-use Rattle.std.specs.Prelude.{◌≡◌, ℕ, ◌^◌, ◌<◌, ◌≤◌, List, length, slice_index, None, true}
+use Rattle.std.specs.Prelude.{◌≡◌, ℕ, ◌^◌, ◌<◌, ◌≤◌, List, length, drop, slice_index, None, true}
 use Rattle.acpi_base.specs.Signature.{has_signature}
 use Rattle.acpi_base.specs.Entries.{IsEntry, cut_of}
-use Rattle.acpi_base.specs.Listed.{madt_signature, srat_signature, slit_signature, pptt_signature}
+use Rattle.acpi_base.specs.Fadt.{IsSoundFadtTable, facs_address, is_reduced}
+use Rattle.acpi_base.specs.Listed.{fadt_signature, madt_signature, srat_signature, slit_signature, pptt_signature}
 use Rattle.acpi_write.specs.SetValues.{madt_said, srat_said, slit_said, pptt_said}
 use Rattle.acpi_base.specs.Header.{head_of}
 use Rattle.acpi_base.specs.Madt.{madt_entry, madt_contents}
@@ -10,7 +11,8 @@ use Rattle.acpi_base.specs.Srat.{srat_entry, srat_contents}
 use Rattle.acpi_base.specs.Pptt.{pptt_entry, pptt_contents}
 use Rattle.acpi_base.specs.Slit.{slit_contents}
 use Rattle.acpi_write.specs.EntryBytes.{madt_bytes, srat_bytes, pptt_bytes}
-use Rattle.acpi_write.specs.Encoded.{encoded}
+use Rattle.acpi_write.specs.Encoded.{encoded, table_bytes}
+use Rattle.acpi_write.specs.FadtBody.{with_facs}
 use Rattle.acpi_write.specs.Spells.{Spells, SaysEntry, IsTableOf}
 use Rattle.acpi_write.specs.Values.{TableValue}
 use Rattle.acpi_write.specs.Views.{IsWholeTable}
@@ -61,3 +63,18 @@ pub record AreContentsKept (whole : List ℕ) : Type 0 where
 -- of whole tables
 abbrev pub ContentsAreKept : Type 0
 ContentsAreKept = (whole : List ℕ) → IsWholeTable whole → AreBytes whole → length whole < 2 ^ 32 → AreContentsKept whole
+
+-- the FADT's bytes with this FACS address in the field that it has for it are a sound FADT that names this FACS, and that
+-- says of the hardware what it said
+pub record NamesFacs (whole : List ℕ) (facs : ℕ) : Type 0 where
+  pub table : IsTableOf fadt_signature (head_of whole) (table_bytes fadt_signature (head_of whole) (with_facs (drop 36 whole) facs))
+  pub sound : IsSoundFadtTable (table_bytes fadt_signature (head_of whole) (with_facs (drop 36 whole) facs))
+  pub named : facs_address (table_bytes fadt_signature (head_of whole) (with_facs (drop 36 whole) facs)) ≡ facs
+  pub reduced : is_reduced (table_bytes fadt_signature (head_of whole) (with_facs (drop 36 whole) facs)) ≡ is_reduced whole
+
+-- of sound FADTs; one of fewer than 140 bytes has only 4 bytes for the address
+abbrev pub FadtsNameFacs : Type 0
+FadtsNameFacs =
+    (whole : List ℕ) (facs : ℕ) → IsWholeTable whole → AreBytes whole → length whole < 2 ^ 32 → IsSoundFadtTable whole → facs < 2 ^ 64
+    → (length whole < 140 → facs < 2 ^ 32)
+    → NamesFacs whole facs

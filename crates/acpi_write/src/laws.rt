@@ -1,6 +1,6 @@
 //! Laws over the definitions alone: each function's contract is the law, and its body is empty.
 
-ghost use Rattle.acpi_write.specs.Laws.{ContentsAreKept, EntriesAreKept, WhatIsReadIsSpelled};
+ghost use Rattle.acpi_write.specs.Laws.{ContentsAreKept, EntriesAreKept, FadtsNameFacs, WhatIsReadIsSpelled};
 ghost use Rattle.acpi_write.specs.SetValues.{OneSetValue};
 ghost use Rattle.acpi_write.specs.Spells.{OneValueSpelled};
 
@@ -29,4 +29,9 @@ pub fn entries_are_kept()
 /// where entries fill it.
 pub fn contents_are_kept()
     ensures { ContentsAreKept }
+{}
+
+/// A sound FADT with another FACS address is sound, and names that FACS.
+pub fn fadts_name_facs()
+    ensures { FadtsNameFacs }
 {}
