@@ -50,7 +50,7 @@ spell_entries read bytes_of value first whole xs behind say =
     }
 
 -- what stands behind parts of a body
-behind : (first n at : ℕ) (whole part rest : List ℕ) → drop first whole ≡ part ++ rest → length part ≡ n → at ≡ first + n → drop at whole ≡ rest
+pub behind : (first n at : ℕ) (whole part rest : List ℕ) → drop first whole ≡ part ++ rest → length part ≡ n → at ≡ first + n → drop at whole ≡ rest
 behind first n at whole part rest stands count is =
     ap (λ (k : ℕ). drop k whole) is ∙ sym (drop-drop n first whole) ∙ ap (drop n) stands ∙ drop_at part rest n count
 

@@ -1,7 +1,13 @@
 -- Values of the program as plain values, and their shape.
 use Rattle.std.specs.Prelude.{◌≡◌, ℕ, ◌*◌, ◌^◌, ◌<◌, ◌≤◌, List, length, map, slice_index}
 use Rattle.std.specs.List.{All}
+use Rattle.std.specs.Option.{option_map}
+use Rattle.acpi_base.specs.Memory.{Memory}
 use Rattle.acpi_base.specs.Number.{byte_sum}
+use Rattle.acpi_base.specs.Policy.{PolicyValue}
+use Rattle.acpi_base.specs.Faults.{IsFirstFault}
+use Rattle.acpi_base.specs.Statements.{IsClean, CleanTo}
+use Rattle.acpi_base.specs.declared.stage.Stage.TheVariants as stage
 use Rattle.acpi_base.specs.Header.{HeadValue}
 use Rattle.acpi_base.specs.Tables.{length_of}
 use Rattle.acpi_base.specs.Entries.{IsEntry, IsTypeOf}
@@ -23,6 +29,9 @@ use Rattle.acpi_write.specs.Encoded.{encoded_length, FitsHead}
 use Rattle.acpi_write.specs.Spells.{DoEntriesSay}
 use Rattle.acpi_write.specs.declared.encode.WriteFault.{WriteFault}
 use Rattle.acpi_write.specs.declared.encode.WriteFault.TheVariants as fault
+use Rattle.acpi_write.specs.declared.set_value.SetValue.{SetValue}
+use Rattle.acpi_write.specs.declared.set_value.ValuesFault.{ValuesFault}
+use Rattle.acpi_write.specs.declared.set_value.ValuesFault.TheVariants as values_fault
 use Rattle.acpi_write.specs.declared.table_value.Head.{Head}
 use Rattle.acpi_write.specs.declared.table_value.TableValue.{TableValue}
 use Rattle.acpi_write.specs.declared.table_value.TableValue.TheVariants as table
@@ -46,6 +55,20 @@ table_value (table.Slit head count cells) = value.Slit (head_value head) count c
 table_value (table.Pptt head entries) = value.Pptt (head_value head) (map pptt_value entries.items)
 table_value (table.Fadt head body) = value.Fadt (head_value head) body.items
 table_value (table.Other bytes) = value.Other bytes.now
+
+abbrev pub set_value : SetValue → value.SetValue
+set_value v =
+    record {
+      oemid = v.oemid;
+      root = head_value v.root;
+      tables = map table_value v.tables.items;
+      facs = option_map (λ bytes. bytes.now) v.facs;
+    }
+
+-- why a set has no value: it is not clean, and this is its first fault, or there is no memory
+abbrev pub IsValuesRefusal : Memory → PolicyValue → ValuesFault → Type 0
+IsValuesRefusal m q (values_fault.NotClean w) = (¬ IsClean m q) × IsFirstFault m q w
+IsValuesRefusal m q values_fault.Memory = CleanTo stage.Madt m q
 
 -- ---- shape: whether there are bytes for it
 
@@ -77,6 +100,10 @@ IsShaped (table.Slit head count cells) = length cells.now ≡ count * count
 IsShaped (table.Pptt head entries) = All IsShapedPptt entries.items
 IsShaped (table.Fadt head body) = 80 ≤ length body.items
 IsShaped (table.Other bytes) = IsWholeTable bytes.now
+
+-- the table that is written has fewer than 2^32 bytes
+abbrev pub IsShort : TableValue → Type 0
+IsShort v = encoded_length (table_value v) < 2 ^ 32
 
 -- ---- what is written
 

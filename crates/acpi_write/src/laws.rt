@@ -1,8 +1,37 @@
 //! Laws over the definitions alone: each function's contract is the law, and its body is empty.
 
+ghost use Rattle.acpi_write.specs.Laws.{ContentsAreKept, EntriesAreKept, FadtsNameFacs, WhatIsReadIsSpelled};
+ghost use Rattle.acpi_write.specs.SetValues.{OneSetValue};
 ghost use Rattle.acpi_write.specs.Spells.{OneValueSpelled};
 
 /// Bytes say at most one value of a kind, so what is written can be read in one way.
 pub fn one_value()
     ensures { OneValueSpelled }
+{}
+
+/// A clean set says one value.
+pub fn one_set_value()
+    ensures { OneSetValue }
+{}
+
+/// The value that is read of a table is the one that its bytes say: of a SLIT, and where entries fill it of a MADT, an SRAT
+/// and a PPTT.
+pub fn what_is_read()
+    ensures { WhatIsReadIsSpelled }
+{}
+
+/// An entry that is read and written again says the same in as many bytes.
+pub fn entries_are_kept()
+    ensures { EntriesAreKept }
+{}
+
+/// A table that is read by its contents and written again has the same contents: the same entries at the same offsets,
+/// where entries fill it.
+pub fn contents_are_kept()
+    ensures { ContentsAreKept }
+{}
+
+/// A sound FADT with another FACS address is sound, and names that FACS.
+pub fn fadts_name_facs()
+    ensures { FadtsNameFacs }
 {}

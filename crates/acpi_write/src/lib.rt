@@ -1,15 +1,25 @@
-//! ACPI tables written from what they say: the values of a set's tables, and their bytes.
+//! What ACPI tables say, and their bytes: the value of a clean set, and tables written from what they say.
 //!
+//! - `values`: what a clean set says, apart from where its parts stand, or the first fault of a set that is not clean.
 //! - `TableValue`: what a table says: the MADT, the SRAT and the PPTT by their entries, the SLIT by its cells, the FADT
 //!   by its bytes behind the header, and any other table by all its bytes.
 //! - `encode_table`: the bytes of a table that says a value, with the checksum that makes them sum to 0.
-//! - `laws`: what holds of the definitions: bytes say at most one value of a kind.
+//! - `laws`: what holds of the definitions: bytes say at most one value of a kind, a table that is read and written again
+//!   has the same contents, and a clean set says one value.
 #![tactic(auto)]
 
 mod encode;
 mod entry_bytes;
+mod entry_lists;
+mod fadt_body;
+mod kinds;
 pub mod laws;
+mod set_reading;
+mod set_value;
+mod table_reading;
 mod table_value;
 
 pub use encode::{WriteFault, encode_table};
+pub use set_reading::values;
+pub use set_value::{SetValue, ValuesFault};
 pub use table_value::{Head, TableValue};

@@ -1,0 +1,80 @@
+-- What the laws of values say.
+use Rattle.std.specs.Prelude.{◌≡◌, ℕ, ◌^◌, ◌<◌, ◌≤◌, List, length, drop, slice_index, None, true}
+use Rattle.acpi_base.specs.Signature.{has_signature}
+use Rattle.acpi_base.specs.Entries.{IsEntry, cut_of}
+use Rattle.acpi_base.specs.Fadt.{IsSoundFadtTable, facs_address, is_reduced}
+use Rattle.acpi_base.specs.Listed.{fadt_signature, madt_signature, srat_signature, slit_signature, pptt_signature}
+use Rattle.acpi_write.specs.SetValues.{madt_said, srat_said, slit_said, pptt_said}
+use Rattle.acpi_base.specs.Header.{head_of}
+use Rattle.acpi_base.specs.Madt.{madt_entry, madt_contents}
+use Rattle.acpi_base.specs.Srat.{srat_entry, srat_contents}
+use Rattle.acpi_base.specs.Pptt.{pptt_entry, pptt_contents}
+use Rattle.acpi_base.specs.Slit.{slit_contents}
+use Rattle.acpi_write.specs.EntryBytes.{madt_bytes, srat_bytes, pptt_bytes}
+use Rattle.acpi_write.specs.Encoded.{encoded, table_bytes}
+use Rattle.acpi_write.specs.FadtBody.{with_facs}
+use Rattle.acpi_write.specs.Spells.{Spells, SaysEntry, IsTableOf}
+use Rattle.acpi_write.specs.Values.{TableValue}
+use Rattle.acpi_write.specs.Views.{IsWholeTable}
+
+-- a table's bytes say the value that is read of them: a MADT's, an SRAT's and a PPTT's where entries fill the table
+pub record IsSpelled (whole : List ℕ) : Type 0 where
+  pub madt : has_signature whole madt_signature ≡ true → 44 ≤ length whole → cut_of 44 whole ≡ None → Spells (madt_said whole) whole
+  pub srat : has_signature whole srat_signature ≡ true → 48 ≤ length whole → cut_of 48 whole ≡ None → Spells (srat_said whole) whole
+  pub slit : has_signature whole slit_signature ≡ true → Spells (slit_said whole) whole
+  pub pptt : has_signature whole pptt_signature ≡ true → cut_of 36 whole ≡ None → Spells (pptt_said whole) whole
+
+-- of whole tables
+abbrev pub WhatIsReadIsSpelled : Type 0
+WhatIsReadIsSpelled = (whole : List ℕ) → IsWholeTable whole → IsSpelled whole
+
+-- each number of the list is a byte
+abbrev pub AreBytes : List ℕ → Type 0
+AreBytes bytes = (k : ℕ) → slice_index bytes k < 256
+
+-- what an entry says is said again by the bytes that are written for it, which are as many
+pub record WrittenAgain {E : Type 0} (read : List ℕ → E) (bytes_of : E → List ℕ) (e : List ℕ) : Type 0 where
+  pub says : SaysEntry read (bytes_of (read e)) (read e)
+  pub count : length (bytes_of (read e)) ≡ length e
+
+-- as an entry of each of the three tables
+pub record IsKept (e : List ℕ) : Type 0 where
+  pub madt : WrittenAgain madt_entry madt_bytes e
+  pub srat : WrittenAgain srat_entry srat_bytes e
+  pub pptt : WrittenAgain pptt_entry pptt_bytes e
+
+-- of all entries
+abbrev pub EntriesAreKept : Type 0
+EntriesAreKept = (e : List ℕ) → AreBytes e → IsEntry e → IsKept e
+
+-- the bytes that are written for the value are a table with the same signature, head and contents
+pub record KeepsContents {C : Type 0} (signature : List ℕ) (contents_of : List ℕ → C) (v : TableValue) (whole : List ℕ) : Type 0 where
+  pub table : IsTableOf signature (head_of whole) (encoded v)
+  pub contents : contents_of (encoded v) ≡ contents_of whole
+
+-- a table that is read as one of a kind and written again keeps its contents: a MADT, an SRAT and a PPTT where entries
+-- fill it
+pub record AreContentsKept (whole : List ℕ) : Type 0 where
+  pub madt : 44 ≤ length whole → cut_of 44 whole ≡ None → KeepsContents madt_signature madt_contents (madt_said whole) whole
+  pub srat : 48 ≤ length whole → cut_of 48 whole ≡ None → KeepsContents srat_signature srat_contents (srat_said whole) whole
+  pub slit : 44 ≤ length whole → KeepsContents slit_signature slit_contents (slit_said whole) whole
+  pub pptt : cut_of 36 whole ≡ None → KeepsContents pptt_signature pptt_contents (pptt_said whole) whole
+
+-- of whole tables
+abbrev pub ContentsAreKept : Type 0
+ContentsAreKept = (whole : List ℕ) → IsWholeTable whole → AreBytes whole → length whole < 2 ^ 32 → AreContentsKept whole
+
+-- the FADT's bytes with this FACS address in the field that it has for it are a sound FADT that names this FACS, and that
+-- says of the hardware what it said
+pub record NamesFacs (whole : List ℕ) (facs : ℕ) : Type 0 where
+  pub table : IsTableOf fadt_signature (head_of whole) (table_bytes fadt_signature (head_of whole) (with_facs (drop 36 whole) facs))
+  pub sound : IsSoundFadtTable (table_bytes fadt_signature (head_of whole) (with_facs (drop 36 whole) facs))
+  pub named : facs_address (table_bytes fadt_signature (head_of whole) (with_facs (drop 36 whole) facs)) ≡ facs
+  pub reduced : is_reduced (table_bytes fadt_signature (head_of whole) (with_facs (drop 36 whole) facs)) ≡ is_reduced whole
+
+-- of sound FADTs; one of fewer than 140 bytes has only 4 bytes for the address
+abbrev pub FadtsNameFacs : Type 0
+FadtsNameFacs =
+    (whole : List ℕ) (facs : ℕ) → IsWholeTable whole → AreBytes whole → length whole < 2 ^ 32 → IsSoundFadtTable whole → facs < 2 ^ 64
+    → (length whole < 140 → facs < 2 ^ 32)
+    → NamesFacs whole facs

@@ -1,0 +1,104 @@
+-- What a clean set of tables says, apart from where its parts stand.
+use Rattle.std.specs.Prelude.{◌≡◌, ◌≢◌, ℕ, List, [], ◌∷◌, ◌++◌, take, drop, map, Option, Some, None, Bool, not, ◌&&◌, if◌then◌else◌}
+use Rattle.std.specs.List.{AllZip, list_any}
+use Rattle.acpi_base.specs.Memory.{Memory, bytes_at}
+use Rattle.acpi_base.specs.Header.{head_of}
+use Rattle.acpi_base.specs.Signature.{has_signature}
+use Rattle.acpi_base.specs.Tables.{IsTable}
+use Rattle.acpi_base.specs.Root.{IsRoot, IsRootTable}
+use Rattle.acpi_base.specs.Listed.{fadt_signature, madt_signature, srat_signature, slit_signature, pptt_signature, listed}
+use Rattle.acpi_base.specs.Entries.{Standing}
+use Rattle.acpi_base.specs.Madt.{madt_contents}
+use Rattle.acpi_base.specs.Srat.{srat_contents}
+use Rattle.acpi_base.specs.Slit.{slit_contents}
+use Rattle.acpi_base.specs.Pptt.{pptt_contents}
+use Rattle.acpi_base.specs.Fadt.{IsFadt, facs_address}
+use Rattle.acpi_base.specs.Facs.{IsFacs}
+use Rattle.acpi_base.specs.Policy.{PolicyValue}
+use Rattle.acpi_base.specs.Statements.{IsClean}
+use Rattle.acpi_write.specs.FadtBody.{with_facs}
+use Rattle.acpi_write.specs.Values.{TableValue, Madt, Srat, Slit, Pptt, Fadt, Other, SetValue}
+
+-- ---- what a table's bytes say as a table of a kind
+
+-- entries without their offsets
+abbrev pub entries_in : {E : Type 0} → List (Standing E) → List E
+entries_in entries = map (λ s. s.entry) entries
+
+-- a FADT: its FACS addresses are left out, as the FACS may stand elsewhere (5.2.9)
+abbrev pub fadt_said : List ℕ → TableValue
+fadt_said whole = Fadt (head_of whole) (with_facs (drop 36 whole) 0)
+
+-- a MADT (5.2.12)
+abbrev pub madt_said : List ℕ → TableValue
+madt_said whole = Madt (head_of whole) (madt_contents whole).address (madt_contents whole).flags (entries_in (madt_contents whole).entries)
+
+-- an SRAT (5.2.16)
+abbrev pub srat_said : List ℕ → TableValue
+srat_said whole = Srat (head_of whole) (entries_in (srat_contents whole).entries)
+
+-- a SLIT (5.2.17)
+abbrev pub slit_said : List ℕ → TableValue
+slit_said whole = Slit (head_of whole) (slit_contents whole).count (slit_contents whole).cells
+
+-- a PPTT (5.2.30)
+abbrev pub pptt_said : List ℕ → TableValue
+pptt_said whole = Pptt (head_of whole) (entries_in (pptt_contents whole).entries)
+
+-- ---- what the listed tables say
+
+-- the table has this signature, and none of those before it has
+abbrev pub is_first : List (List ℕ) → List ℕ → List ℕ → Bool
+is_first before whole signature = has_signature whole signature && not (list_any (λ t. has_signature t signature) before)
+
+-- what a table says behind those before it: the first FADT, MADT, SRAT, SLIT and PPTT by their kind, any other table by
+-- its bytes
+unfoldable pub said_behind : List (List ℕ) → List ℕ → TableValue
+said_behind before whole =
+    if is_first before whole fadt_signature then fadt_said whole
+    else if is_first before whole madt_signature then madt_said whole
+    else if is_first before whole srat_signature then srat_said whole
+    else if is_first before whole slit_signature then slit_said whole
+    else if is_first before whole pptt_signature then pptt_said whole
+    else Other whole
+
+-- what tables say behind those before them, in their order
+unfoldable pub values_behind : List (List ℕ) → List (List ℕ) → List TableValue
+values_behind before [] = []
+values_behind before (whole ∷ rest) = said_behind before whole ∷ values_behind (before ++ whole ∷ []) rest
+
+-- what tables say
+abbrev pub values_of : List (List ℕ) → List TableValue
+values_of tables = values_behind [] tables
+
+-- ---- what a set says
+
+-- a table stands at a, and these are all its bytes
+abbrev pub IsWholeAt : Memory → ℕ → List ℕ → Type 0
+IsWholeAt m a whole = (header : List ℕ) × IsTable m a header whole
+
+-- the FACS that a FADT names, or that it names none (5.2.10)
+abbrev pub IsFacsOf : Memory → List ℕ → Option (List ℕ) → Type 0
+IsFacsOf m fadt None = facs_address fadt ≡ 0
+IsFacsOf m fadt (Some bytes) = (facs_address fadt ≢ 0) × IsFacs m (facs_address fadt) bytes
+
+-- the set that the RSDP at p leads to says v: its RSDP's OEMID, its root's head, what the listed tables say in the order
+-- of their slots, and the bytes of its FACS
+pub record IsSetValue (m : Memory) (p : ℕ) (v : SetValue) : Type 0 where
+  pub head : List ℕ
+  pub head_held : bytes_at m p 20 ≡ Some head
+  pub oemid : v.oemid ≡ take 6 (drop 9 head)
+  pub r : ℕ
+  pub d : ℕ
+  pub root_bytes : List ℕ
+  pub root : IsRoot m p r d
+  pub root_table : IsRootTable m r d root_bytes
+  pub root_head : v.root ≡ head_of root_bytes
+  pub tables : List (List ℕ)
+  pub each : AllZip (IsWholeAt m) (listed root_bytes d) tables
+  pub values : v.tables ≡ values_of tables
+  pub facs : (fadt : List ℕ) → IsFadt m p fadt → IsFacsOf m fadt v.facs
+
+-- a clean set says one value
+abbrev pub OneSetValue : Type 0
+OneSetValue = (m : Memory) (q : PolicyValue) (v w : SetValue) → IsClean m q → IsSetValue m q.rsdp v → IsSetValue m q.rsdp w → v ≡ w

@@ -1,0 +1,26 @@
+//! The FACS's address in a FADT.
+
+ghost use Rattle.std.specs.Prelude.{◌≡◌, ◌≤◌, ◌<◌, ◌^◌, length, IfOk};
+ghost use Rattle.acpi_write.specs.FadtBody.{with_facs};
+
+use std::alloc::{AllocError, Global};
+
+/// The body of a FADT, which is its bytes from 36 on, with this FACS address: in X_FIRMWARE_CTRL where the body has that
+/// field, at 96 to 103, and else in FIRMWARE_CTRL, at 0 to 3 (ACPI 6.5, 5.2.9). The other field is 0.
+pub(crate) fn with_facs(alloc: Global, body: &[u8], facs: u64) -> Result<Vec<u8>, AllocError>
+    requires least { 4 ≤ length body.now }
+    requires low { length body.now < 104 → facs < 2 ^ 32 }
+    ensures { IfOk result (λ bytes. bytes.items ≡ with_facs body.now facs) }
+{
+    let mut bytes = Vec::new(alloc);
+    if body.len() < 104 {
+        bytes.extend_from_slice(&(facs as u32).to_le_bytes())?;
+        bytes.extend_from_slice(&body[4..])?;
+        return Ok(bytes);
+    }
+    bytes.extend_from_slice(&[0; 4])?;
+    bytes.extend_from_slice(&body[4..96])?;
+    bytes.extend_from_slice(&facs.to_le_bytes())?;
+    bytes.extend_from_slice(&body[104..])?;
+    Ok(bytes)
+}

@@ -1,0 +1,43 @@
+//! What sets of tables say.
+
+ghost use Rattle.std.specs.Prelude.{◌≡◌};
+
+use crate::table_value::{Head, TableValue};
+use acpi_base::Witness;
+use std::alloc::AllocError;
+use thiserror::Error;
+
+/// What a set of tables says, apart from where its parts stand.
+#[derive(Debug, Drop)]
+pub struct SetValue<'a> {
+    /// The RSDP's: six characters that identify the OEM (ACPI 6.5, 5.2.5.3).
+    pub oemid: [u8; 6],
+    /// What the header of the root says, an RSDT or an XSDT.
+    pub root: Head,
+    /// The listed tables, in the order of their slots; a slot that holds 0 lists none. The first FADT, MADT, SRAT, SLIT
+    /// and PPTT are read by their contents. Any other table, also a later one with such a signature, is `Other`.
+    pub tables: Vec<TableValue<'a>>,
+    /// The bytes of the FACS, where the FADT names one (5.2.10). The FADT's own addresses of it are 0 here.
+    pub facs: Option<&'a [u8]>,
+}
+
+/// Why there is no value of a set.
+#[derive(Clone, Copy, Debug, PartialEq, Eq, Error)]
+pub enum ValuesFault {
+    /// The set is not clean; this is its first fault.
+    #[error("the set is not clean")]
+    NotClean(Witness),
+    /// Out of memory.
+    #[error("out of memory")]
+    Memory,
+}
+
+impl From<AllocError> for ValuesFault {
+    ghost use Rattle.acpi_write.specs.declared.set_value.ValuesFault.{ValuesFault};
+
+    ghost from_gives = { λ _ fault. fault ≡ ValuesFault.Memory };
+
+    fn from(_error: AllocError) -> ValuesFault {
+        ValuesFault::Memory
+    }
+}
