@@ -14,6 +14,7 @@ pub mod NodeBytes
 pub mod OneSetValue
 pub mod PpttBytes
 pub mod Reading
+pub mod RebuiltParts
 pub mod Spelled
 pub mod Spelling
 pub mod SratBytes

@@ -1,18 +1,17 @@
 -- A FADT that names another FACS.
-use Rattle.std.proofs.Common.{◌≡◌, ℕ, ◌+◌, ◌-◌, ◌^◌, ◌<◌, ◌≤◌, List, [], ◌∷◌, ◌++◌, length, take, drop, refl, sym, ap, ◌∙◌, subst, inl, inr, arith, append_assoc, length-append, length-drop}
-use Rattle.std.specs.Prelude.{◌⊎◌, ◌%◌, true, false, cond, nat_le}
+use Rattle.std.proofs.Common.{◌≡◌, ℕ, ◌+◌, ◌-◌, ◌^◌, ◌<◌, ◌≤◌, List, ◌++◌, length, take, drop, refl, sym, ap, ◌∙◌, subst, inl, inr, arith, length-drop}
+use Rattle.std.specs.Prelude.{◌⊎◌, ◌%◌}
 use Rattle.std.proofs.lemmas.Bool.{cases_lt, cases_eq, le-leb, lt-leb, eq-eqb, ne_eqb}
 use Rattle.std.proofs.lemmas.List.{drop-drop, take_at, drop_at, length-take-le}
 use Rattle.acpi_base.specs.Number.{field, number_bytes}
 use Rattle.acpi_base.specs.Header.{head_of}
-use Rattle.acpi_base.specs.Fadt.{IsSoundFadtTable, IsResetRegister, gas_at, has_flag, is_reduced, wide_address, facs_address}
+use Rattle.acpi_base.specs.Fadt.{IsSoundFadtTable, IsResetRegister, gas_at, has_flag, wide_address, facs_address}
 use Rattle.acpi_base.specs.Listed.{fadt_signature}
 use Rattle.acpi_base.proofs.HeldBytes.{field-take}
 use Rattle.acpi_base.proofs.Layouts.RoundTrip.{length-number_bytes, number_there}
 use Rattle.acpi_write.specs.Encoded.{table_bytes}
 use Rattle.acpi_write.specs.FadtBody.{put_over, with_facs}
-use Rattle.acpi_write.specs.Laws.{AreBytes, NamesFacs, FadtsNameFacs}
-use Rattle.acpi_write.specs.Views.{IsWholeTable}
+use Rattle.acpi_write.specs.Laws.{FadtsNameFacs}
 use Rattle.acpi_write.proofs.FadtBodies.{length-put_over, with_facs-wide, with_facs-narrow, length-with_facs}
 use Rattle.acpi_write.proofs.KeptContents.{fits_head, length_of_parts}
 use Rattle.acpi_write.proofs.Tables.{fadt_table}

@@ -3,6 +3,7 @@ pub mod EntryBytes
 pub mod FadtBody
 pub mod Laws
 pub mod Readable
+pub mod Rebuilt
 pub mod SetValues
 pub mod Spells
 pub mod Values

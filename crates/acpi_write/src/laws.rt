@@ -1,6 +1,7 @@
 //! Laws over the definitions alone: each function's contract is the law, and its body is empty.
 
 ghost use Rattle.acpi_write.specs.Laws.{ContentsAreKept, EntriesAreKept, FadtsNameFacs, WhatIsReadIsSpelled};
+ghost use Rattle.acpi_write.specs.Rebuilt.{RebuiltHoldsParts};
 ghost use Rattle.acpi_write.specs.SetValues.{OneSetValue};
 ghost use Rattle.acpi_write.specs.Spells.{OneValueSpelled};
 
@@ -34,4 +35,9 @@ pub fn contents_are_kept()
 /// A sound FADT with another FACS address is sound, and names that FACS.
 pub fn fadts_name_facs()
     ensures { FadtsNameFacs }
+{}
+
+/// The rebuilt image of a set holds each of its parts, whole and at its place.
+pub fn rebuilt_holds_parts()
+    ensures { RebuiltHoldsParts }
 {}

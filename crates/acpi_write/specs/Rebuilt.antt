@@ -1,0 +1,111 @@
+-- The rebuilt image of a set: what it says, put together anew from a base address on.
+use Rattle.std.specs.Prelude.{◌≡◌, ℕ, ◌+◌, ◌*◌, ◌/◌, List, [], ◌∷◌, ◌++◌, length, drop, map, flat_map, slice_index, Option, Some, None}
+use Rattle.std.specs.List.{AllByRecursion}
+use Rattle.std.specs.FinMap.{empty}
+use Rattle.acpi_base.specs.Memory.{Memory, bytes_at, with_bytes}
+use Rattle.acpi_base.specs.Number.{number_bytes}
+use Rattle.acpi_base.specs.Signature.{rsdp_signature, xsdt_signature}
+use Rattle.acpi_base.specs.Listed.{fadt_signature}
+use Rattle.acpi_write.specs.Encoded.{closing, table_bytes, encoded, encoded_length}
+use Rattle.acpi_write.specs.FadtBody.{with_facs}
+use Rattle.acpi_write.specs.Values.{TableValue, Fadt, SetValue}
+
+-- ---- pieces of an image
+
+-- bytes that stand from an address on
+pub record Piece : Type 0 where
+  pub address : ℕ
+  pub bytes : List ℕ
+
+-- the least multiple of 64 not below an address
+unfoldable pub aligned : ℕ → ℕ
+aligned a = (a + 63) / 64 * 64
+
+-- blocks of bytes one after another: the first at an address, each further one at the least multiple of 64 not below the
+-- end of the one before
+unfoldable pub laid : ℕ → List (List ℕ) → List Piece
+laid a [] = []
+laid a (bytes ∷ rest) = record { address = a; bytes = bytes } ∷ laid (aligned (a + length bytes)) rest
+
+-- where blocks of these lengths begin
+unfoldable pub places : ℕ → List ℕ → List ℕ
+places a [] = []
+places a (n ∷ rest) = a ∷ places (aligned (a + n)) rest
+
+-- the image with the pieces put in
+unfoldable pub with_pieces : Memory → List Piece → Memory
+with_pieces m [] = m
+with_pieces m (p ∷ rest) = with_pieces (with_bytes m p.address p.bytes) rest
+
+-- ---- where the parts of a set stand
+
+-- none or one
+abbrev pub listed_option : {X : Type 0} → Option X → List X
+listed_option None = []
+listed_option (Some x) = x ∷ []
+
+-- the XSDT has 8 bytes for each table behind its header (5.2.8)
+abbrev pub xsdt_length : SetValue → ℕ
+xsdt_length v = 36 + 8 * length v.tables
+
+-- the parts' lengths: the RSDP, the XSDT, the FACS if there is one, the tables in the order of their slots
+abbrev pub part_lengths : SetValue → List ℕ
+part_lengths v = 36 ∷ xsdt_length v ∷ (map length (listed_option v.facs) ++ map encoded_length v.tables)
+
+abbrev pub part_places : SetValue → ℕ → List ℕ
+part_places v base = places base (part_lengths v)
+
+-- the place where there is a FACS, and 0 where there is none
+abbrev pub place_of_facs : Option (List ℕ) → ℕ → ℕ
+place_of_facs None place = 0
+place_of_facs (Some bytes) place = place
+
+-- the FACS's address, which the FADT names
+abbrev pub facs_place : SetValue → ℕ → ℕ
+facs_place v base = place_of_facs v.facs (slice_index (part_places v base) 2)
+
+-- the tables' addresses
+abbrev pub table_places : SetValue → ℕ → List ℕ
+table_places v base = drop (2 + length (listed_option v.facs)) (part_places v base)
+
+-- ---- what they hold
+
+-- the first 20 bytes of an RSDP of the extended form that names no RSDT, with this checksum (5.2.5.3)
+abbrev pub rsdp_head : List ℕ → ℕ → List ℕ
+rsdp_head oemid checksum = rsdp_signature ++ (checksum ∷ (oemid ++ (2 ∷ number_bytes 4 0)))
+
+-- the 16 bytes behind them: the Length, the XSDT's address, this extended checksum, and 3 that are reserved
+abbrev pub rsdp_tail : ℕ → ℕ → List ℕ
+rsdp_tail xsdt checksum = number_bytes 4 36 ++ (number_bytes 8 xsdt ++ (checksum ∷ 0 ∷ 0 ∷ 0 ∷ []))
+
+-- the whole, with the checksums that make both its sums 0
+unfoldable pub rsdp_bytes : List ℕ → ℕ → List ℕ
+rsdp_bytes oemid xsdt =
+    let head = rsdp_head oemid (closing (rsdp_head oemid 0)) in
+    head ++ rsdp_tail xsdt (closing (head ++ rsdp_tail xsdt 0))
+
+-- a table's bytes where the FACS stands at this address, which is 0 for none
+abbrev pub encoded_with : ℕ → TableValue → List ℕ
+encoded_with facs (Fadt head body) = table_bytes fadt_signature head (with_facs body facs)
+encoded_with facs v = encoded v
+
+-- the bytes of the parts
+abbrev pub part_bytes : SetValue → ℕ → List (List ℕ)
+part_bytes v base =
+    rsdp_bytes v.oemid (slice_index (part_places v base) 1)
+    ∷ table_bytes xsdt_signature v.root (flat_map (number_bytes 8) (table_places v base))
+    ∷ (listed_option v.facs ++ map (encoded_with (facs_place v base)) v.tables)
+
+-- the rebuilt image: it holds the parts and nothing else
+unfoldable pub rebuilt : SetValue → ℕ → Memory
+rebuilt v base = with_pieces empty (laid base (part_bytes v base))
+
+-- ---- a law
+
+-- the image holds the piece
+abbrev pub HoldsPiece : Memory → Piece → Type 0
+HoldsPiece m p = bytes_at m p.address (length p.bytes) ≡ Some p.bytes
+
+-- a rebuilt image holds each part at its place, whole
+abbrev pub RebuiltHoldsParts : Type 0
+RebuiltHoldsParts = (v : SetValue) (base : ℕ) → AllByRecursion (HoldsPiece (rebuilt v base)) (laid base (part_bytes v base))
