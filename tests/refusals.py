@@ -1,9 +1,10 @@
 #!/usr/bin/env python3
 """Refuses the built program its memory, request by request, and lets its input and its output fail, call by call.
 
-A run in which a request for memory was refused ends with status 4, writes nothing, and reports that it is out of memory; the
-usual answer comes only where none was refused. A run in which a read failed reports the device and writes nothing, save where
-a fault of the text stood before. A run in which a write failed reports the device, and what went out is a prefix.
+A run in which a request for memory was refused ends with status 4, writes nothing, and reports that it is out of memory;
+the usual answer comes only where none was refused. A run in which a read failed reports the device and writes nothing,
+save where a fault of the text stood before. A run in which a write failed reports the device, and what went out is a
+prefix.
 
 usage: refusals.py PROGRAM; the last line is 'refusals: N passed, M failed'. The object that is preloaded into the program is
 built from refusals.c, by the C compiler of the system or of the toolchain."""
@@ -85,7 +86,8 @@ ENTRIES = image_of(
 
 
 def clean_runs(name, text, address, found, shown):
-    """Each command on a clean set whose RSDP stands at this address, in hex. A line here is a command in all that follows."""
+    """Each command on a clean set whose RSDP stands at this address, in hex. A line added here puts a command to all tests;
+    STOPPED says what it answers of a text that stops."""
     rsdp = ["--rsdp", address]
     return [
         Run(f"check, {name}", text, ["check", *rsdp], 0, "yes\n"),
@@ -157,6 +159,8 @@ def scattered_run():
     return Run("find in 4,000 pieces", pieces.encode(), ["find"], 1, "rsdp none\n")
 
 
+A_FAULT = "a fault is one argument, as check writes it, such as '10 Overlap 0x30 0x58 0x0'"
+NOT_A_FAULT = "9 Overlap 0x30 0x58 0x0"
 # Arguments that are refused, with what is said of them.
 WRONG_WORDS = [
     ("unrecognized subcommand 'chek'", ["chek"]),
@@ -172,11 +176,8 @@ WRONG_WORDS = [
     ("an argument is not UTF-8", ["check", "--rsdp", b"\xff"]),
     ("usage:", ["--help"]),
     ("usage:", []),
-    ("confirm needs --witness FAULT: a fault is one argument, as check writes it, such as '10 Overlap 0x30 0x58 0x0'", ["confirm"]),
-    (
-        "--witness '9 Overlap 0x30 0x58 0x0': a fault is one argument, as check writes it, such as '10 Overlap 0x30 0x58 0x0'",
-        ["confirm", "--witness", "9 Overlap 0x30 0x58 0x0"],
-    ),
+    (f"confirm needs --witness FAULT: {A_FAULT}", ["confirm"]),
+    (f"--witness '{NOT_A_FAULT}': {A_FAULT}", ["confirm", "--witness", NOT_A_FAULT]),
     ("--rsdp 'xyz': an address is 1 to 16 hex digits, with 0x before them or without", ["show", "--rsdp", "xyz"]),
 ]
 
@@ -292,8 +293,8 @@ class Sweep:
 
 
 def wrong_sweep(sweep, answer, spared):
-    """What is wrong with a sweep over a run that has this answer, in which so many requests may be refused and the answer be
-    the usual one. They come before the input is read, and where not all requests were refused they may not be among those."""
+    """What is wrong with a sweep over a run that has this answer. So many requests may be refused and the answer be the
+    usual one: they come before the input is read. Where not all requests were refused, they need not be among these."""
     if not sweep.refused:
         return "no request was refused"
     if sweep.usual != answer:
@@ -302,7 +303,8 @@ def wrong_sweep(sweep, answer, spared):
     least = 0 if sweep.sampled() else spared
     if least <= len(others) <= spared and all((told.answer, told.refused) == (answer, 0) for told in others.values()):
         return ""
-    return "; ".join(f"request {number}: {told.answer}" for number, told in others.items()) or "the spared request is not there"
+    told = "; ".join(f"request {number}: {told.answer}" for number, told in others.items())
+    return told or "no request was spared"
 
 
 # Room for all arguments is asked for at once. Where this request alone is refused, room for one is asked for.
@@ -401,16 +403,18 @@ BAD_TEXTS = [
     ("half a pair at the end", GOOD_TEXT + b"0", None, f"line {GOOD_LINES + 1}: bad line"),
 ]
 LONGEST_LINE = 65_536
-LONG_LINE = ("a line that is too long", b"#" * (LONGEST_LINE + 100), LONGEST_LINE + 1, "too long")
+BAD_TEXTS.append(("a line that is too long", b"#" * (LONGEST_LINE + 100), LONGEST_LINE + 1, "too long"))
 
 
 def bad_text_tasks():
-    """Reads of bad texts that fail: of each text in a check, and of the first one by each command."""
-    for name, text, stands, message in [*BAD_TEXTS, LONG_LINE]:
+    """Reads of bad texts that fail, and requests for memory that are refused: of each text in a check, and of the first one
+    by each command."""
+    for place, (name, text, stands, message) in enumerate(BAD_TEXTS):
         most = LONGEST_LINE // 4 if len(text) > LONGEST_LINE else READ_SIZE
-        for asked in WHOLE_RUNS if text == BAD_TEXTS[0][1] else WHOLE_RUNS[:1]:
+        for asked in WHOLE_RUNS[:1] if place else WHOLE_RUNS:
             run = Run(f"{asked.words[0]}, {name}", text, asked.words, 3, "", f"acpiset: {message}\n")
             yield failing_reads, run, stands, most
+            yield starved, run, "REFUSE_AT"
 
 
 # ---- devices of the system
@@ -418,12 +422,12 @@ def bad_text_tasks():
 
 def failing_input(program, run):
     """An input that is closed, a folder, or open for writing alone."""
-    yield "closed", program.runs(run.words, None, preexec_fn=lambda: os.close(0)), device()
+    yield "an input that is closed", program.runs(run.words, None, preexec_fn=lambda: os.close(0)), device()
     folder = os.open(HERE, os.O_RDONLY)
-    yield "a folder", program.runs(run.words, folder), device()
+    yield "an input that is a folder", program.runs(run.words, folder), device()
     os.close(folder)
     writing = os.open("/dev/null", os.O_WRONLY)
-    yield "open for writing alone", program.runs(run.words, writing), device()
+    yield "an input that is open for writing alone", program.runs(run.words, writing), device()
     os.close(writing)
 
 
@@ -531,9 +535,9 @@ def cases(program):
     with ThreadPoolExecutor(2) as pool:
         for told in pool.map(lambda task: list(task[0](program, *task[1:])), tasks()):
             yield from told
-    for tests, runs in ((failing_input, WHOLE_RUNS), (failing_output, WHOLE_RUNS), (pipes, WHOLE_RUNS), (little_memory, LARGE_RUNS)):
-        for run in runs:
-            for name, answer, expected in tests(program, run):
+    for test in (failing_input, failing_output, pipes, little_memory):
+        for run in LARGE_RUNS if test == little_memory else WHOLE_RUNS:
+            for name, answer, expected in test(program, run):
                 yield f"{run.name}, {name}", wrong_answer(answer, expected)
 
 
