@@ -492,7 +492,7 @@ def pipes(program, run):
 # An image of 8 MiB, and sizes of memory, in MiB: those up to 8 do not hold it, and the last one is far more than is needed.
 LARGE_SIZE = 8
 LARGE_TEXT = text_of(WHOLE) + b"@1000000\n" + (b"00" * 16384 + b"\n") * (LARGE_SIZE << 6)
-SIZES = (4, 5, 6, 7, 8, 10, 12, 16, 20, 24, 80)
+SIZES = (5, 6, 7, 8, 10, 12, 14, 16, 20, 24, 80)
 LARGE_RUNS = clean_runs("an image of 8 MiB", LARGE_TEXT, "e0000", "0xe0000", shown(text_of(WHOLE), RSDP_AT))
 
 
@@ -547,9 +547,9 @@ def main():
     with tempfile.TemporaryDirectory() as scratch:
         program = Program(path, Path(scratch))
         if not program.preload:
+            failed = 1
             print("no C compiler to build tests/refusals.c")
-            sys.exit("refusals: 0 passed, 1 failed")
-        for name, wrong in cases(program):
+        for name, wrong in cases(program) if program.preload else ():
             if wrong:
                 failed += 1
                 print(f"{name}: {wrong}")
