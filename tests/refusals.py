@@ -56,7 +56,8 @@ def device(out=""):
 
 # ---- what the program is asked
 
-# A set with each of the tables that have entries, two processors of each kind in two domains, with a cache for each domain.
+# A set with all tables that stages look into, and entries of each kind: two domains, of two processors and a cache each. The
+# caches stand at 36 and 60, and the node above the processors' at 84.
 CACHES = [cache(), cache()]
 NODES = [node(flags=1), *(node(84, IS_ID_VALID | IS_LEAF, uid, [36 + 24 * (uid // 2)]) for uid in range(4))]
 ENTRIES = image_of(
@@ -70,6 +71,8 @@ ENTRIES = image_of(
         override(9, 47, 0b1101),
         nmi_source(25),
         lapic_nmi(255, 1),
+        lapic_address(0xFEE00000),
+        x2apic_nmi(0xFFFFFFFF, 1),
     ),
     srat(
         *(apic_domain(apic_id, 0) for apic_id in (0, 2)),
@@ -85,15 +88,15 @@ ENTRIES = image_of(
 )
 
 
-def clean_runs(name, text, address, found, shown):
-    """Each command on a clean set whose RSDP stands at this address, in hex. A line added here puts a command to all tests;
-    STOPPED says what it answers of a text that stops."""
+def clean_runs(name, text, address, found, lines):
+    """Each command on a clean set whose RSDP stands at this address, in hex: what a search says of it, and what is shown. A
+    line added here puts a command to all tests."""
     rsdp = ["--rsdp", address]
     return [
         Run(f"check, {name}", text, ["check", *rsdp], 0, "yes\n"),
         Run(f"confirm, {name}", text, ["confirm", *rsdp, "--witness", NO_FADT], 1, "false\n"),
         Run(f"find, {name}", text, ["find"], int(found == "none"), f"rsdp {found}\n"),
-        Run(f"show, {name}", text, ["show", *rsdp], 0, shown),
+        Run(f"show, {name}", text, ["show", *rsdp], 0, lines),
     ]
 
 
@@ -469,19 +472,18 @@ def fed(program, words, pieces):
     return answer
 
 
-# The whole set's text up to its root, and a byte more.
+# The whole set's text up to its root, and what commands write of it that do not write the verdict.
 STOPS = text_of({RSDP_AT: WHOLE[RSDP_AT]})
-NO_ROOT = "2 RootHeaderOut 0x1000 0x0 0x0"
-STOPPED = {"check": f"no {NO_ROOT}\n", "confirm": "false\n", "find": "rsdp 0xe0000\n", "show": f"no {NO_ROOT}\n"}
+NO_ROOT = "no 2 RootHeaderOut 0x1000 0x0 0x0\n"
+STOPPED = {"confirm": "false\n", "find": "rsdp 0xe0000\n"}
 LONGEST_TEXT = 67_108_864
 
 
 def pipes(program, run):
     """A pipe that pauses, one that stops, one that stops within a pair, and one that brings a byte too many."""
-    command = run.words[0]
     cut = len(run.text) // 2
     yield "a pipe that pauses", fed(program, run.words, [run.text[:cut], run.text[cut:]]), run.answer()
-    stopped = STOPPED[command]
+    stopped = STOPPED.get(run.words[0], NO_ROOT)
     yield "a pipe that stops", fed(program, run.words, [STOPS]), (int(not stopped.startswith("rsdp")), stopped, "")
     half = f"acpiset: line {STOPS.count(10) + 1}: bad line\n"
     yield "a pipe that stops within a pair", fed(program, run.words, [STOPS, b"0"]), (3, "", half)
