@@ -10,11 +10,14 @@ pub mod Lengths
 pub mod Listing
 pub mod MadtBytes
 pub mod NamedFacs
+pub mod NewImage
+pub mod NewRoot
 pub mod NodeBytes
 pub mod OneSetValue
 pub mod PpttBytes
 pub mod Reading
 pub mod RebuiltParts
+pub mod RsdpBytes
 pub mod Spelled
 pub mod Spelling
 pub mod SratBytes
