@@ -6,6 +6,7 @@ pub mod EntryReading
 pub mod FadtBodies
 pub mod KeptContents
 pub mod KeptEntries
+pub mod LaidBlocks
 pub mod Lengths
 pub mod Listing
 pub mod MadtBytes
@@ -14,6 +15,8 @@ pub mod NewImage
 pub mod NewRoot
 pub mod NodeBytes
 pub mod OneSetValue
+pub mod PartLengths
+pub mod Refusals
 pub mod PpttBytes
 pub mod Reading
 pub mod RebuiltParts

@@ -58,7 +58,7 @@ fn is_whole_table(bytes: &[u8]) -> bool
 
 /// How many bytes the table has. None where there are none for the value.
 #[tactic(auto, using(crate::proofs::EntryLists::encoded_sizes))]
-fn size_of(table: &TableValue<'_>) -> Option<u128>
+pub(crate) fn size_of(table: &TableValue<'_>) -> Option<u128>
     ensures { MatchOption result (¬ IsShaped table.now) (λ size. IsShaped table.now × (size ≡ encoded_length (table_value table.now))) }
 {
     match table {
