@@ -1,5 +1,5 @@
 -- A written RSDP is sound and says what it was written from.
-use Rattle.std.proofs.Common.{◌≡◌, ℕ, ◌+◌, ◌^◌, ◌<◌, List, [], ◌∷◌, ◌++◌, length, take, drop, sum, true, refl, arith}
+use Rattle.std.proofs.Common.{append_assoc, ◌∙◌, ◌≡◌, ℕ, ◌+◌, ◌^◌, ◌<◌, List, [], ◌∷◌, ◌++◌, length, take, drop, sum, true, refl, arith}
 use Rattle.acpi_base.specs.Number.{field, byte_sum, number_bytes}
 use Rattle.acpi_base.specs.Signature.{has_signature, rsdp_signature}
 use Rattle.acpi_base.specs.Rsdp.{revision_of, rsdp_length}
@@ -49,3 +49,14 @@ of_six xsdt a b c d e f fits =
 pub rsdp_written : (oemid : List ℕ) (xsdt : ℕ) → length oemid ≡ 6 → xsdt < 2 ^ 64 → IsWrittenRsdp oemid xsdt (rsdp_bytes oemid xsdt)
 rsdp_written (a ∷ b ∷ c ∷ d ∷ e ∷ f ∷ []) xsdt h fits = of_six xsdt a b c d e f fits
 rsdp_written _ xsdt h fits = absurd (omega arith)
+
+-- a head and its tail, as they are put together
+pub tail_appended : (xsdt checksum : ℕ) (head x1 x2 size address : List ℕ) → x1 ≡ head ++ size → size ≡ number_bytes 4 36 → x2 ≡ x1 ++ address → address ≡ number_bytes 8 xsdt
+    → x2 ++ checksum ∷ 0 ∷ 0 ∷ 0 ∷ [] ≡ head ++ rsdp_tail xsdt checksum
+tail_appended xsdt checksum head x1 x2 size address e s f a =
+    let last : List ℕ = checksum ∷ 0 ∷ 0 ∷ 0 ∷ [] in
+    (λ i. f i ++ last)
+    ∙ (λ i. (e i ++ a i) ++ last)
+    ∙ (λ i. ((head ++ s i) ++ number_bytes 8 xsdt) ++ last)
+    ∙ append_assoc (head ++ number_bytes 4 36) (number_bytes 8 xsdt) last
+    ∙ append_assoc head (number_bytes 4 36) (number_bytes 8 xsdt ++ last)

@@ -15,6 +15,7 @@ mod fadt_body;
 mod kinds;
 pub mod laws;
 mod placing;
+mod rsdp_writing;
 mod set_reading;
 mod set_value;
 mod table_reading;
