@@ -84,3 +84,5 @@ xsdt_written head xs fits size are =
           ∙ ap (λ (k : ℕ). listed_from whole 8 0 k) n
           ∙ listed_rest whole xs 0 (length xs) (omega arith) (λ j below. field_behind whole slots 36 (8 * j) 8 table.1 ∙ slot_number xs j below (are.fits j below)) are.some;
     }
+
+pub ruleset root_slots = (length-slots)

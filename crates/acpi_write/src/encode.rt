@@ -144,7 +144,7 @@ fn pptt_body(alloc: Global, entries: &[PpttEntry<'_>]) -> Result<Vec<u8>, AllocE
 
 /// The bytes of a table: its header, with the checksum that makes the sum 0, and its body.
 #[tactic(auto, using(crate::proofs::TableBytes::encoded_bytes))]
-fn with_header(
+pub(crate) fn with_header(
     alloc: Global,
     signature: [u8; 4],
     head: &Head,

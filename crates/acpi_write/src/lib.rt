@@ -20,6 +20,7 @@ mod set_reading;
 mod set_value;
 mod table_reading;
 mod table_value;
+mod xsdt_writing;
 
 pub use encode::{WriteFault, encode_table};
 pub use placing::RebuildFault;
