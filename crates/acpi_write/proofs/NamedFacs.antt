@@ -18,7 +18,7 @@ use Rattle.acpi_write.proofs.Tables.{fadt_table}
 
 -- ---- bytes put over others
 
-field_behind : (bytes body : List ℕ) (n offset width : ℕ) → drop n bytes ≡ body → field bytes (n + offset) width ≡ field body offset width
+pub field_behind : (bytes body : List ℕ) (n offset width : ℕ) → drop n bytes ≡ body → field bytes (n + offset) width ≡ field body offset width
 unfolding field
 field_behind bytes body n offset width e = rw (← e, drop-drop offset n bytes) refl
 

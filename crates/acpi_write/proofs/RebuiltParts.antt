@@ -38,7 +38,7 @@ unfolding with_pieces
 all_stand m bound [] r = tt
 all_stand m bound (p ∷ ps) r = (first_stands m p.address p.bytes ps r.1, all_stand (with_bytes m p.address p.bytes) (p.address + length p.bytes) ps r.1)
 
-aligned_from : (a : ℕ) → a ≤ aligned a
+pub aligned_from : (a : ℕ) → a ≤ aligned a
 unfolding aligned
 aligned_from a = omega arith
 

@@ -9,6 +9,10 @@ pub closing_of : (xs ys : List ℕ) → closing (xs ++ ys) ≡ (0 + (256 - (byte
 unfolding closing byte_sum
 closing_of xs ys = omega (arith, sum-append xs ys)
 
+pub closing_alone : (xs : List ℕ) → (0 + (256 - byte_sum xs)) % 256 ≡ closing xs
+unfolding closing
+closing_alone xs = omega arith
+
 pub encoded : (signature : List ℕ) (head : HeadValue) (body opened front items : List ℕ) (checksum : ℕ) → opened ≡ header_bytes (header_with signature (36 + length body) 0 head)
     → checksum ≡ closing (opened ++ body) → front ≡ header_bytes (header_with signature (36 + length body) checksum head) → items ≡ front ++ body → items ≡ table_bytes signature head body
 unfolding table_bytes

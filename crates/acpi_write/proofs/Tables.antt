@@ -3,7 +3,7 @@ use Rattle.std.proofs.Common.{◌≡◌, ℕ, ◌+◌, ◌^◌, ◌<◌, List, �
 use Rattle.acpi_base.specs.Number.{byte_sum, number_bytes}
 use Rattle.acpi_base.specs.Header.{HeadValue, HeaderValue, header_of, header_with, header_bytes, FitsHeader}
 use Rattle.acpi_base.specs.Listed.{fadt_signature, madt_signature, srat_signature, slit_signature, pptt_signature}
-use Rattle.acpi_base.specs.Signature.{has_signature}
+use Rattle.acpi_base.specs.Signature.{has_signature, xsdt_signature}
 use Rattle.acpi_base.proofs.Layouts.Headers.{header_of-header_bytes, head_of-header_bytes, drop-header_bytes, length-header_and_body}
 use Rattle.acpi_write.specs.Encoded.{closing, table_bytes, FitsHead}
 use Rattle.acpi_write.specs.Spells.{IsTableOf}
@@ -89,3 +89,8 @@ pub fadt_table : (head : HeadValue) (body : List ℕ) → FitsHead head → 36 +
     → IsTableOf fadt_signature head (table_bytes fadt_signature head body) × (drop 36 (table_bytes fadt_signature head body) ≡ body)
 unfolding has_signature
 fadt_table head body fits size = is_table fadt_signature head body (λ rest. refl) (record { name = refl; head_fits = fits; size = size })
+
+pub xsdt_table : (head : HeadValue) (body : List ℕ) → FitsHead head → 36 + length body < 2 ^ 32
+    → IsTableOf xsdt_signature head (table_bytes xsdt_signature head body) × (drop 36 (table_bytes xsdt_signature head body) ≡ body)
+unfolding has_signature
+xsdt_table head body fits size = is_table xsdt_signature head body (λ rest. refl) (record { name = refl; head_fits = fits; size = size })

@@ -2,6 +2,7 @@ pub mod Encoded
 pub mod EntryBytes
 pub mod FadtBody
 pub mod Laws
+pub mod Placed
 pub mod Readable
 pub mod Rebuilt
 pub mod SetValues

@@ -58,7 +58,7 @@ fn is_whole_table(bytes: &[u8]) -> bool
 
 /// How many bytes the table has. None where there are none for the value.
 #[tactic(auto, using(crate::proofs::EntryLists::encoded_sizes))]
-fn size_of(table: &TableValue<'_>) -> Option<u128>
+pub(crate) fn size_of(table: &TableValue<'_>) -> Option<u128>
     ensures { MatchOption result (¬ IsShaped table.now) (λ size. IsShaped table.now × (size ≡ encoded_length (table_value table.now))) }
 {
     match table {
@@ -144,7 +144,7 @@ fn pptt_body(alloc: Global, entries: &[PpttEntry<'_>]) -> Result<Vec<u8>, AllocE
 
 /// The bytes of a table: its header, with the checksum that makes the sum 0, and its body.
 #[tactic(auto, using(crate::proofs::TableBytes::encoded_bytes))]
-fn with_header(
+pub(crate) fn with_header(
     alloc: Global,
     signature: [u8; 4],
     head: &Head,

@@ -1,6 +1,7 @@
 //! Laws over the definitions alone: each function's contract is the law, and its body is empty.
 
 ghost use Rattle.acpi_write.specs.Laws.{ContentsAreKept, EntriesAreKept, FadtsNameFacs, WhatIsReadIsSpelled};
+ghost use Rattle.acpi_write.specs.Placed.{PlacedUnlessRefused, RebuiltLeadsToTables};
 ghost use Rattle.acpi_write.specs.Rebuilt.{RebuiltHoldsParts};
 ghost use Rattle.acpi_write.specs.SetValues.{OneSetValue};
 ghost use Rattle.acpi_write.specs.Spells.{OneValueSpelled};
@@ -40,4 +41,16 @@ pub fn fadts_name_facs()
 /// The rebuilt image of a set holds each of its parts, whole and at its place.
 pub fn rebuilt_holds_parts()
     ensures { RebuiltHoldsParts }
+{}
+
+/// Where what a set says can stand from a base address on, its rebuilt image leads from there to the tables: the RSDP
+/// at that address and the XSDT that it names are sound, and the XSDT lists the tables' places.
+pub fn rebuilt_leads_to_tables()
+    ensures { RebuiltLeadsToTables }
+{}
+
+/// What a set says can stand from each base address on that is a multiple of 64, save where the XSDT would be too long, a
+/// part would pass the last address, or the FADT has no room for the FACS's address.
+pub fn placed_unless_refused()
+    ensures { PlacedUnlessRefused }
 {}

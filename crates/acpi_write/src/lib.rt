@@ -14,12 +14,16 @@ mod entry_lists;
 mod fadt_body;
 mod kinds;
 pub mod laws;
+mod placing;
+mod rsdp_writing;
 mod set_reading;
 mod set_value;
 mod table_reading;
 mod table_value;
+mod xsdt_writing;
 
 pub use encode::{WriteFault, encode_table};
+pub use placing::RebuildFault;
 pub use set_reading::values;
 pub use set_value::{SetValue, ValuesFault};
 pub use table_value::{Head, TableValue};

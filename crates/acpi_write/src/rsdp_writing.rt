@@ -1,0 +1,50 @@
+//! The bytes of a rebuilt set's RSDP.
+
+ghost use Rattle.std.specs.Prelude.{◌≡◌, ◌++◌, IfOk};
+ghost use Rattle.acpi_write.specs.Encoded.{closing};
+ghost use Rattle.acpi_write.specs.Rebuilt.{rsdp_head, rsdp_tail, rsdp_bytes};
+
+use acpi_base::sum;
+use std::alloc::{AllocError, Global};
+
+/// The byte that makes the sum 0 of bytes that hold 0 in its place.
+fn closing(bytes: &[u8]) -> u8
+    ensures { result ≡ closing bytes.now }
+{
+    0u8.wrapping_sub(sum(bytes))
+}
+
+/// The first 20 bytes of an RSDP of the extended form that names no RSDT, with this checksum.
+#[tactic(auto, unfolding(acpi_base::specs::Number::number_bytes))]
+fn rsdp_head(alloc: Global, oemid: [u8; 6], checksum: u8) -> Result<Vec<u8>, AllocError>
+    ensures { IfOk result (λ bytes. bytes.items ≡ rsdp_head oemid checksum) }
+{
+    let mut bytes = Vec::from_slice(alloc, b"RSD PTR ")?;
+    bytes.push(checksum)?;
+    bytes.extend_from_slice(&oemid)?;
+    bytes.extend_from_slice(&[2, 0, 0, 0, 0])?;
+    Ok(bytes)
+}
+
+/// The head, and behind it the 16 bytes that name the XSDT, with this extended checksum.
+fn with_tail(alloc: Global, head: &[u8], xsdt: u64, checksum: u8) -> Result<Vec<u8>, AllocError>
+    ensures { IfOk result (λ bytes. bytes.items ≡ head.now ++ rsdp_tail xsdt checksum) }
+{
+    let mut bytes = Vec::from_slice(alloc, head)?;
+    bytes.extend_from_slice(&36u32.to_le_bytes())?;
+    bytes.extend_from_slice(&xsdt.to_le_bytes())?;
+    bytes.extend_from_slice(&[checksum, 0, 0, 0])?;
+    Ok(bytes)
+}
+
+/// The 36 bytes of an RSDP with this OEMID that names the XSDT at an address and no RSDT (ACPI 6.5, 5.2.5.3): its first
+/// 20 bytes sum to 0, and so do all.
+#[tactic(auto, unfolding(crate::specs::Rebuilt::rsdp_bytes))]
+pub(crate) fn rsdp_bytes(alloc: Global, oemid: [u8; 6], xsdt: u64) -> Result<Vec<u8>, AllocError>
+    ensures { IfOk result (λ bytes. bytes.items ≡ rsdp_bytes oemid xsdt) }
+{
+    let open_head = rsdp_head(alloc, oemid, 0)?;
+    let head = rsdp_head(alloc, oemid, closing(&open_head))?;
+    let open_bytes = with_tail(alloc, &head, xsdt, 0)?;
+    with_tail(alloc, &head, xsdt, closing(&open_bytes))
+}
