@@ -42,8 +42,8 @@ const PIECE: usize = 16_384;
 /// 4. `PastEnd`: its data passes the address 2^64 - 1, also where the data before it has reached that.
 /// 5. `Twice`: an address of its data is held already; the least one.
 ///
-/// `Memory`: out of memory for the line or the image. It can be returned in place of any other result.
-/// Once refused, the text is refused with the same fault for good.
+/// `Memory`: out of memory for the line or the image. Until the text is refused, it can be returned in place of any other
+/// result. Once refused, the text is refused with the same fault for good.
 #[derive(Drop)]
 pub struct ImageText {
     feeder: Feeder,
@@ -98,10 +98,12 @@ impl ImageText {
         }
     }
 
-    /// The text has ended: judges what has come of its last line, and returns the image of its data.
+    /// The text has ended: judges what has come of its last line, and returns the image of its data. After a refusal it
+    /// takes no memory.
     pub fn finish(self) -> Result<Image, TextFault>
         ensures ok { IfOk result (EndsAs self) }
         ensures err { IfErr result (λ fault. (fault ≡ TextFault.Memory) ⊎ (end_text self ≡ Err fault)) }
+        ensures stays { (fault : TextFault) → self ≡ Stopped fault → result ≡ Err fault }
         ensures image { IfOk result IsImage }
     {
         let ImageText {
