@@ -7,7 +7,6 @@ usage: run.py PROGRAM; the last line is 'show: N passed, M failed'."""
 import resource
 import subprocess
 import sys
-import time
 from pathlib import Path
 
 from reader import Unsound, shown
@@ -128,14 +127,15 @@ madt {MANY_AT:#x} lapic 0xfee00000 flags 0x1
 
 
 def seconds(cases, count):
-    """How long it takes to show so many entries, in at most ten times the image's memory."""
+    """How much processor time it takes to show so many entries, in at most ten times the image's memory."""
     pieces, expected = many(count)
     most = 10 * sum(len(piece) for piece in pieces.values())
     limit = lambda: resource.setrlimit(resource.RLIMIT_AS, (most, most))
     text = text_of(pieces)
-    start = time.monotonic()
+    before = resource.getrusage(resource.RUSAGE_CHILDREN)
     run = subprocess.run([cases.program, "show", "--rsdp", "e0000"], input=text, capture_output=True, preexec_fn=limit)
-    passed = time.monotonic() - start
+    after = resource.getrusage(resource.RUSAGE_CHILDREN)
+    passed = after.ru_utime + after.ru_stime - before.ru_utime - before.ru_stime
     right = run.returncode == 0 and run.stdout.decode() == expected
     cases.count(f"{count} entries", "" if right else f"status {run.returncode}, {run.stderr.decode()}")
     return passed
