@@ -33,6 +33,10 @@ abbrev pub with_input : PolicyValue → ℕ → ℕ → PolicyValue
 with_input q address count =
     if contains_key q.inputs address then q else record q { inputs = insert q.inputs address count }
 
+-- the policy with this address of the RSDP
+abbrev pub with_rsdp : PolicyValue → ℕ → PolicyValue
+with_rsdp q p = record q { rsdp = p }
+
 -- addresses are below 2^64, those of I/O APICs below 2^32, and counts lie from 1 to 256
 pub record IsPolicy (q : PolicyValue) : Type 0 where
   pub rsdp_fits : q.rsdp < 2 ^ 64

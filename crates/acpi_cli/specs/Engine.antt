@@ -2,7 +2,7 @@
 use Rattle.std.specs.Prelude.{◌≡◌, ◌≤◌, ◌⊎◌, ◌+◌, ◌++◌, ℕ, List, length, take, codes, Option, Some, None, Result, Ok, Err, true}
 use Rattle.std.specs.Io.KnownBytes.{Appends, Consumes, IsAtEnd, Keeps}
 use Rattle.acpi_base.specs.Memory.{Memory}
-use Rattle.acpi_base.specs.Policy.{PolicyValue, new_policy}
+use Rattle.acpi_base.specs.Policy.{PolicyValue, new_policy, with_rsdp}
 use Rattle.acpi_base.specs.ImageText.{IsText, max_text}
 use Rattle.acpi_base.specs.TextReading.{IsFaultlessPrefix, IsRefusal, is_of_text}
 use Rattle.acpi_base.specs.Tally.{Counted, CountsFailure}
@@ -124,10 +124,6 @@ IsRsdpAddress None m p = IsFound m p
 abbrev pub HasNoRsdp : Option ℕ → Memory → Type 0
 HasNoRsdp (Some given) m = ⊥
 HasNoRsdp None m = IsNowhere m
-
--- the policy with this address of the RSDP
-abbrev pub with_rsdp : PolicyValue → ℕ → PolicyValue
-with_rsdp q p = record q { rsdp = p }
 
 -- the outcome that goes with a verdict
 abbrev pub outcome_of : Verdict → Outcome
