@@ -93,6 +93,32 @@ for crate in $(sed -n 's/^\([a-z_]*\):.*/\1/p' crates.txt); do
   within "$crate: edits that are named for no function" "$edited" "$all"
 done
 
+# ---- public calls
+
+# calls CRATE: its public calls outside laws, each with its clauses; of a program those in `program`.
+calls() {
+  local names
+  if [ -e "crates/$1/src/lib.rt" ]; then
+    names="$(exports "$1") $(sed -n 's/^pub fn \([a-z0-9_]*\).*/\1/p' "crates/$1/src/lib.rt")"
+  else
+    names=$(cat "crates/$1"/src/*.rt | sed -n 's/^pub fn \([a-z0-9_]*\).*/\1/p' | grep -E "$program" | tr '\n' ' ')
+  fi
+  awk -v names="$names" -f tests/calls.awk $(find "crates/$1/src" -name '*.rt' ! -name laws.rt ! -path '*/tests*')
+}
+
+# calls_told CRATE: those in the table of PROMISES.md, in the same form.
+calls_told() {
+  sed -n '/^## Every public call$/,/^## Wrong/p' docs/PROMISES.md | sed -n "/^#### $1\$/,/^##/p" |
+    sed -n 's/^| `\([^`]*\)` | .* | \(.*\) |$/\1\t\2/p' | sed 's/one without a name/its one/; s/[`,]//g; s/$/ /'
+}
+
+for crate in $(sed -n 's/^\([a-z_]*\):.*/\1/p' crates.txt); do
+  same "$crate: public calls and their clauses (<) and those of PROMISES.md (>)" "$(calls "$crate")" "$(calls_told "$crate")"
+done
+refusals=$(sed -n '/^## Every public call$/,/^## Wrong/p' docs/PROMISES.md | sed -n 's/^| `[^`]*` | \(.*\) | .* |$/\1/p' | grep -o '`[A-Za-z]*`' | tr -d '`')
+known=$(cat $(find crates/*/src -name '*.rt' ! -path '*/tests*') | sed -n 's/^    \([A-Z][A-Za-z0-9]*\)\([ ({].*\)\{0,1\},\{0,1\}$/\1/p; s/^pub struct \([A-Za-z]*\).*/\1/p'; echo AllocError)
+within 'refusals that the code does not have' "$refusals" "$known"
+
 # ---- the documents
 codes=$(sed -n 's/^code_number code\.\([A-Za-z]*\) = \([0-9]*\)$/\2 \1/p' crates/acpi_base/specs/Codes.antt)
 described=$(sed -n 's/^### \([0-9]* [A-Za-z]*\)$/\1/p' docs/FAULTS.md)
