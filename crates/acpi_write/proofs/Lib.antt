@@ -4,6 +4,7 @@ pub mod EntryForms
 pub mod EntryLists
 pub mod EntryReading
 pub mod FadtBodies
+pub mod FirstTables
 pub mod KeptContents
 pub mod KeptEntries
 pub mod LaidBlocks
