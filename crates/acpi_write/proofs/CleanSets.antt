@@ -168,21 +168,21 @@ own_srat : (e : srat.SratEntry) → srat.IsSoundSratEntry e → srats.IsOfOwnLen
 own_srat (srat.Opaque e) sound = sound
 own_srat _ sound = tt
 
-readable_madt : (q : PolicyValue) (whole : List ℕ) → madt.IsSoundMadt q (madt.madt_contents whole) → IsReadableMadt whole
+pub readable_madt : (q : PolicyValue) (whole : List ℕ) → madt.IsSoundMadt q (madt.madt_contents whole) → IsReadableMadt whole
 unfolding madt.madt_contents
 readable_madt q whole sound = record { long = sound.long; filled = sound.filled; lengths = λ o e stands. own_madt q e (sound.entries o e stands) }
 
-readable_srat : (whole : List ℕ) → srat.IsSoundSrat (srat.srat_contents whole) → IsReadableSrat whole
+pub readable_srat : (whole : List ℕ) → srat.IsSoundSrat (srat.srat_contents whole) → IsReadableSrat whole
 unfolding srat.srat_contents
 readable_srat whole sound = record { long = sound.long; filled = sound.filled; lengths = λ o e stands. own_srat e (sound.entries o e stands) }
 
-readable_slit : (whole : List ℕ) → slit.IsSoundSlit (slit.slit_contents whole) → IsReadableSlit whole
+pub readable_slit : (whole : List ℕ) → slit.IsSoundSlit (slit.slit_contents whole) → IsReadableSlit whole
 unfolding slit.slit_contents
 readable_slit whole sound =
     let size : length whole ≡ 44 + field whole 36 8 * field whole 36 8 = sound.size in
     record { long = omega (arith, size); size = sound.size }
 
-readable_pptt : (whole : List ℕ) → pptt.IsCutPptt (pptt.pptt_contents whole) → IsReadablePptt whole
+pub readable_pptt : (whole : List ℕ) → pptt.IsCutPptt (pptt.pptt_contents whole) → IsReadablePptt whole
 unfolding pptt.pptt_contents
 readable_pptt whole sound = record { filled = sound.filled; lengths = sound.lengths }
 

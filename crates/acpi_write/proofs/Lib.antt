@@ -4,6 +4,7 @@ pub mod EntryForms
 pub mod EntryLists
 pub mod EntryReading
 pub mod FadtBodies
+pub mod FirstListed
 pub mod FirstTables
 pub mod KeptContents
 pub mod KeptEntries
@@ -15,6 +16,7 @@ pub mod NamedFacs
 pub mod NewImage
 pub mod NewRoot
 pub mod NodeBytes
+pub mod OldTables
 pub mod OneSetValue
 pub mod PartLengths
 pub mod Refusals

@@ -85,18 +85,18 @@ tables_are v base placed =
 -- ---- what stands at an address
 
 -- the image holds these bytes from an address on
-abbrev Holds : Memory → ℕ → List ℕ → Type 0
+abbrev pub Holds : Memory → ℕ → List ℕ → Type 0
 Holds m a bytes = bytes_at m a (length bytes) ≡ Some bytes
 
-front_held : (m : Memory) (a k : ℕ) (bytes : List ℕ) → Holds m a bytes → k ≤ length bytes → bytes_at m a k ≡ Some (take k bytes)
+pub front_held : (m : Memory) (a k : ℕ) (bytes : List ℕ) → Holds m a bytes → k ≤ length bytes → bytes_at m a k ≡ Some (take k bytes)
 front_held m a k bytes held h = run_of-take (byte_of m) a (length bytes) k bytes held h
 
-signed_front : (bytes signature : List ℕ) (k : ℕ) → length signature ≤ k → has_signature (take k bytes) signature ≡ has_signature bytes signature
+pub signed_front : (bytes signature : List ℕ) (k : ℕ) → length signature ≤ k → has_signature (take k bytes) signature ≡ has_signature bytes signature
 unfolding has_signature
 signed_front bytes signature k h = rw (take-take (length signature) k bytes h) refl
 
 -- a table
-table_held : (m : Memory) (a : ℕ) (signature : List ℕ) (head : HeadValue) (bytes : List ℕ) → Holds m a bytes → IsTableOf signature head bytes → IsTable m a (take 36 bytes) bytes
+pub table_held : (m : Memory) (a : ℕ) (signature : List ℕ) (head : HeadValue) (bytes : List ℕ) → Holds m a bytes → IsTableOf signature head bytes → IsTable m a (take 36 bytes) bytes
 table_held m a signature head bytes held table =
     let size : length_of (take 36 bytes) ≡ length bytes = field-take bytes 36 4 4 (omega arith) ∙ table.size in
     record {
