@@ -14,6 +14,7 @@ pub mod Listing
 pub mod MadtBytes
 pub mod NamedFacs
 pub mod NewImage
+pub mod NewParts
 pub mod NewRoot
 pub mod NodeBytes
 pub mod OldTables

@@ -75,7 +75,7 @@ behind_root v base placed =
     subst (λ (k : ℕ). AreTablePlaces (drop k (part_places v base)) (map encoded_length v.tables)) (sym two)
     (behind_facs v.facs behind (map encoded_length v.tables) (omega (arith, from)) placed.inside.1.1)
 
-tables_are : (v : SetValue) (base : ℕ) → IsPlaced v base → (length (table_places v base) ≡ length v.tables) × AreAddresses (table_places v base)
+pub tables_are : (v : SetValue) (base : ℕ) → IsPlaced v base → (length (table_places v base) ≡ length v.tables) × AreAddresses (table_places v base)
 tables_are v base placed =
     let from = behind_root v base placed in (
       ap length from.are ∙ length-places from.a (map encoded_length v.tables) ∙ length-map v.tables encoded_length,
