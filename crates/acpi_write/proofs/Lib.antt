@@ -14,6 +14,7 @@ pub mod MadtBytes
 pub mod NamedFacs
 pub mod NewImage
 pub mod NewRoot
+pub mod NewTables
 pub mod NodeBytes
 pub mod OneSetValue
 pub mod PartLengths
