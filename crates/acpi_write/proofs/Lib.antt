@@ -22,7 +22,9 @@ pub mod Refusals
 pub mod PpttBytes
 pub mod Reading
 pub mod RebuiltParts
+pub mod RewrittenTables
 pub mod RsdpBytes
+pub mod SaidBehind
 pub mod Spelled
 pub mod Spelling
 pub mod SratBytes
