@@ -16,6 +16,7 @@ pub mod NamedFacs
 pub mod NewImage
 pub mod NewParts
 pub mod NewRoot
+pub mod NewTables
 pub mod NodeBytes
 pub mod OldTables
 pub mod OneSetValue
@@ -24,7 +25,9 @@ pub mod Refusals
 pub mod PpttBytes
 pub mod Reading
 pub mod RebuiltParts
+pub mod RewrittenTables
 pub mod RsdpBytes
+pub mod SaidBehind
 pub mod Spelled
 pub mod Spelling
 pub mod SratBytes
