@@ -13,9 +13,11 @@ pub mod Lengths
 pub mod Listing
 pub mod MadtBytes
 pub mod NamedFacs
+pub mod NewFacs
 pub mod NewImage
 pub mod NewParts
 pub mod NewRoot
+pub mod NewSet
 pub mod NewTables
 pub mod NodeBytes
 pub mod OldTables
