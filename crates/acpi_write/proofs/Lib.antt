@@ -30,6 +30,7 @@ pub mod RebuiltParts
 pub mod RewrittenTables
 pub mod RsdpBytes
 pub mod SaidBehind
+pub mod SameStages
 pub mod Spelled
 pub mod Spelling
 pub mod SratBytes
