@@ -8,6 +8,7 @@ pub mod FirstListed
 pub mod FirstTables
 pub mod KeptContents
 pub mod KeptEntries
+pub mod KeptSets
 pub mod LaidBlocks
 pub mod Lengths
 pub mod Listing
