@@ -1,6 +1,6 @@
 -- The tables of a clean set can be read as those of their kinds.
 use Rattle.std.proofs.Common.{◌≡◌, ℕ, zero, suc, ◌+◌, ◌-◌, ◌*◌, ◌/◌, ◌<◌, ◌≤◌, Bool, true, false, List, [], ◌∷◌, length, take, get_or, Some, refl, sym, ap, ◌∙◌, subst, inl, inr, arith}
-use Rattle.std.specs.Prelude.{◌≢◌, not, ◌&&◌, ◌||◌}
+use Rattle.std.specs.Prelude.{◌≢◌, ◌||◌}
 use Rattle.std.specs.List.{AllZip}
 use Rattle.std.proofs.lemmas.Bool.{cases_Bool, cases_eq, both_ways}
 use Rattle.acpi_base.specs.Memory.{Memory}
@@ -27,6 +27,7 @@ use Rattle.acpi_read.specs.Madts as madts
 use Rattle.acpi_read.specs.Srats as srats
 use Rattle.acpi_write.specs.Readable.{IsReadableMadt, IsReadableSrat, IsReadableSlit, IsReadablePptt, AreReadable, kind_behind, is_among}
 use Rattle.acpi_write.specs.SetValues.{IsWholeAt, is_first}
+use Rattle.acpi_write.proofs.FirstTables.{first_parts}
 use Rattle.acpi_write.proofs.Listing.{listed_from, listed_is, listed_skip, listed_take}
 
 -- ---- the root
@@ -133,11 +134,6 @@ among (t ∷ ts) zero l none signature less below is = absurd (omega (arith, les
 among (t ∷ ts) (suc k) zero none signature less below is = rw is refl
 among (t ∷ ts) (suc k) (suc l) none signature less below is =
     rw (among ts k l none signature (omega (arith, less)) (omega (arith, below)) is) (or_true (has_signature t signature))
-
-first_parts : (a b : Bool) → (a && not b) ≡ true → (a ≡ true) × (b ≡ false)
-first_parts true false e = (refl, refl)
-first_parts true true e = absurd (cc)
-first_parts false b e = absurd (cc)
 
 -- the table that is the first with a signature is the first listed one
 pub first_listed : (m : Memory) (p r d : ℕ) (root : List ℕ) (ts : List (List ℕ)) (k : ℕ) (none signature : List ℕ) → IsRoot m p r d → IsRootTable m r d root → AllZip (IsWholeAt m) (listed root d) ts → k < length ts → length signature ≡ 4

@@ -1,9 +1,9 @@
 -- The rebuilt image of a clean set holds a clean set that says the same.
 use Rattle.std.proofs.Common.{◌≡◌, ℕ, List, length, refl, sym, ap, ◌∙◌, subst}
-use Rattle.acpi_base.specs.Memory.{Memory, IsImage}
-use Rattle.acpi_base.specs.Fadt.{facs_address, is_reduced, IsFadt, IsSoundFadt}
+use Rattle.acpi_base.specs.Memory.{Memory}
+use Rattle.acpi_base.specs.Fadt.{IsFadt, IsSoundFadt}
 use Rattle.acpi_base.specs.Facs.{HasSoundFacs, IsSoundFacs}
-use Rattle.acpi_base.specs.Listed.{fadt_signature, madt_signature, srat_signature, slit_signature, pptt_signature, IsListedTable}
+use Rattle.acpi_base.specs.Listed.{fadt_signature, madt_signature, srat_signature, slit_signature, pptt_signature}
 use Rattle.acpi_base.specs.Madt.{madt_contents}
 use Rattle.acpi_base.specs.Srat.{srat_contents}
 use Rattle.acpi_base.specs.Slit.{slit_contents}
@@ -13,7 +13,7 @@ use Rattle.acpi_base.specs.Statements.{IsClean}
 use Rattle.acpi_base.specs.declared.stage.Stage.TheVariants as stage
 use Rattle.acpi_base.proofs.Tables.Listed.{one_listed}
 use Rattle.acpi_write.specs.Placed.{IsPlaced}
-use Rattle.acpi_write.specs.Rebuilding.{IsKept, RebuiltSetsAreKept}
+use Rattle.acpi_write.specs.Rebuilding.{RebuiltSetsAreKept}
 use Rattle.acpi_write.specs.Rebuilt.{facs_place, rebuilt}
 use Rattle.acpi_write.specs.SetValues.{IsFacsOf, IsSetValue}
 use Rattle.acpi_write.specs.Values.{SetValue}
@@ -24,7 +24,7 @@ use Rattle.acpi_write.proofs.NewSet.{IsNewSet, new_set, new_listed, new_sound_ta
 use Rattle.acpi_write.proofs.NewTables.{KeepsFirst, values_again, madt_again, srat_again, slit_again, pptt_again}
 use Rattle.acpi_write.proofs.OldTables.{listed_of}
 use Rattle.acpi_write.proofs.OneSetValue.{value_is_one}
-use Rattle.acpi_write.proofs.SameStages.{SameListed, AreSameListed, IsSoundFront, clean_again}
+use Rattle.acpi_write.proofs.SameStages.{SameListed, AreSameListed, clean_again}
 
 -- ---- the first tables
 

@@ -14,7 +14,6 @@ use Rattle.acpi_base.proofs.Runs.{run_of-take}
 use Rattle.acpi_write.specs.Encoded.{encoded_length}
 use Rattle.acpi_write.specs.Placed.{ends, DoEndInside, IsPlaced, RebuiltLeadsToTables}
 use Rattle.acpi_write.specs.Rebuilt.{aligned, laid, places, listed_option, part_places, rsdp_bytes, table_places, xsdt_length, rebuilt, HoldsPiece}
-use Rattle.acpi_write.specs.Spells.{IsTableOf}
 use Rattle.acpi_write.specs.Values.{TableValue, SetValue}
 use Rattle.acpi_write.proofs.NewRoot.{AreAddresses, IsWrittenXsdt, xsdt_written}
 use Rattle.acpi_write.proofs.RebuiltParts.{aligned_from, parts_are_held}
@@ -96,12 +95,12 @@ unfolding has_signature
 signed_front bytes signature k h = rw (take-take (length signature) k bytes h) refl
 
 -- a table
-pub table_held : (m : Memory) (a : ℕ) (signature : List ℕ) (head : HeadValue) (bytes : List ℕ) → Holds m a bytes → IsTableOf signature head bytes → IsTable m a (take 36 bytes) bytes
-table_held m a signature head bytes held table =
-    let size : length_of (take 36 bytes) ≡ length bytes = field-take bytes 36 4 4 (omega arith) ∙ table.size in
+pub table_held : (m : Memory) (a : ℕ) (bytes : List ℕ) → Holds m a bytes → 36 ≤ length bytes → length_of bytes ≡ length bytes → IsTable m a (take 36 bytes) bytes
+table_held m a bytes held least count =
+    let size : length_of (take 36 bytes) ≡ length bytes = field-take bytes 36 4 4 (omega arith) ∙ count in
     record {
-      header_held = front_held m a 36 bytes held table.least;
-      least = omega (arith, size, table.least);
+      header_held = front_held m a 36 bytes held least;
+      least = omega (arith, size, least);
       held = ap (λ (k : ℕ). bytes_at m a k) size ∙ held;
     }
 
@@ -112,7 +111,7 @@ xsdt_held m a head xs bytes held xsdt =
     record {
       table = record {
         header = take 36 bytes;
-        table = table_held m a xsdt_signature head bytes held xsdt.table;
+        table = table_held m a bytes held xsdt.table.least xsdt.table.size;
         signed = signed_front bytes xsdt_signature 36 (omega arith) ∙ xsdt.table.signed;
       };
       slots = omega (arith, count);

@@ -1,51 +1,36 @@
 -- The tables of a rebuilt image.
-use Rattle.std.proofs.Common.{◌≡◌, ℕ, ◌^◌, ◌<◌, ◌≤◌, List, [], ◌∷◌, length, take, drop, map, Some, refl, sym, ap, ◌∙◌, subst, inr, arith}
+use Rattle.std.proofs.Common.{◌≡◌, ℕ, List, [], ◌∷◌, length, take, drop, map, refl, sym, ap, ◌∙◌, subst, inr, arith}
 use Rattle.std.specs.List.{AllByRecursion, AllZip, list_any}
-use Rattle.acpi_base.specs.Memory.{Memory, IsImage, bytes_at}
+use Rattle.acpi_base.specs.Memory.{Memory, IsImage}
 use Rattle.acpi_base.specs.Header.{head_of}
 use Rattle.acpi_base.specs.Listed.{listed, fadt_signature, IsListedTable}
 use Rattle.acpi_base.specs.Policy.{PolicyValue}
-use Rattle.acpi_base.specs.Tables.{IsTable, length_of}
 use Rattle.acpi_base.specs.Statements.{IsClean, AreSoundTables}
-use Rattle.acpi_base.specs.declared.stage.Stage.TheVariants as stage
-use Rattle.acpi_base.proofs.HeldBytes.{field-take}
 use Rattle.acpi_base.proofs.Root.Slots.{slot_of_root}
 use Rattle.acpi_write.specs.Encoded.{encoded_length, table_bytes}
 use Rattle.acpi_write.specs.FadtBody.{with_facs}
 use Rattle.acpi_write.specs.Laws.{NamesFacs}
 use Rattle.acpi_write.specs.Placed.{is_narrow, IsPlaced, LeadsToTables}
 use Rattle.acpi_write.specs.Rebuilt.{table_places, encoded_with, facs_place, rebuilt}
-use Rattle.acpi_write.specs.SetValues.{IsWholeAt, IsFacsOf, IsSetValue, values_of}
+use Rattle.acpi_write.specs.SetValues.{IsWholeAt, IsFacsOf, IsSetValue}
 use Rattle.acpi_write.specs.Values.{TableValue, SetValue}
 use Rattle.acpi_write.specs.Views.{IsWholeTable}
 use Rattle.acpi_write.proofs.FirstListed.{AreListed, slot_table, listed_first, first_of_listed}
-use Rattle.acpi_write.proofs.FirstTables.{first_with, AreCleanTables, new_tables, clean_first}
+use Rattle.acpi_write.proofs.FirstTables.{AreCleanTables, new_tables, clean_first}
 use Rattle.acpi_write.proofs.NamedFacs.{fadts_name_facs}
 use Rattle.acpi_write.proofs.NewFacs.{place_fits}
-use Rattle.acpi_write.proofs.NewImage.{Holds, front_held, leads_to_tables}
+use Rattle.acpi_write.proofs.NewImage.{Holds, table_held, leads_to_tables}
 use Rattle.acpi_write.proofs.NewParts.{HasFacsPlace, HaveTheirSizes, parts_stand, tables_stand, facs_stands}
 use Rattle.acpi_write.proofs.NewTables.{new_whole, sizes_again, fadt_again, narrow_first}
 use Rattle.acpi_write.proofs.OldTables.{listed_of, clean_tables, oemid_is_six, root_fits_head}
 
 -- ---- what stands
 
-whole_held : (n : Memory) (a : ℕ) (bytes : List ℕ) → Holds n a bytes → IsWholeTable bytes → IsWholeAt n a bytes
-whole_held n a bytes held whole =
-    let size : length_of (take 36 bytes) ≡ length bytes = field-take bytes 36 4 4 (omega arith) ∙ whole.size in
-    let least = whole.least in (
-      take 36 bytes,
-      record {
-        header_held = front_held n a 36 bytes held least;
-        least = omega (arith, size, least);
-        held = ap (λ (k : ℕ). bytes_at n a k) size ∙ held;
-      },
-    )
-
 all_held : (n : Memory) (xs : List ℕ) (blocks : List (List ℕ)) → AllZip (Holds n) xs blocks → AllByRecursion IsWholeTable blocks → AllZip (IsWholeAt n) xs blocks
 all_held n [] [] held whole = tt
 all_held n [] (b ∷ bs) held whole = absurd held
 all_held n (x ∷ xs) [] held whole = absurd held
-all_held n (x ∷ xs) (b ∷ bs) held whole = (whole_held n x b held.0 whole.0, all_held n xs bs held.1 whole.1)
+all_held n (x ∷ xs) (b ∷ bs) held whole = ((take 36 b, table_held n x b held.0 whole.0.least whole.0.size), all_held n xs bs held.1 whole.1)
 
 -- the rebuilt image of a set that lists these tables
 pub record IsNewSet (v : SetValue) (base : ℕ) (ts : List (List ℕ)) : Type 0 where

@@ -1,10 +1,9 @@
 -- What the tables, the root, the RSDP and the FACS of a clean set are.
-use Rattle.std.proofs.Common.{◌≡◌, ℕ, zero, suc, ◌+◌, ◌-◌, ◌^◌, ◌<◌, ◌≤◌, true, List, [], ◌∷◌, length, take, drop, get_or, Option, Some, None, refl, sym, ap, ◌∙◌, subst, arith, length-drop}
+use Rattle.std.proofs.Common.{◌≡◌, ℕ, zero, suc, ◌^◌, ◌<◌, ◌≤◌, true, List, [], ◌∷◌, length, take, drop, get_or, Some, refl, sym, ap, ◌∙◌, subst, arith, length-drop}
 use Rattle.std.specs.List.{AllByRecursion, AllZip}
 use Rattle.std.proofs.lemmas.List.{length-take-le}
 use Rattle.acpi_base.specs.Memory.{Memory, IsImage, byte_of}
-use Rattle.acpi_base.specs.Entries.{cut_of}
-use Rattle.acpi_base.specs.Fadt.{IsSoundFadtTable, facs_address}
+use Rattle.acpi_base.specs.Fadt.{IsSoundFadtTable}
 use Rattle.acpi_base.specs.Facs.{IsFacs, facs_signature, facs_length}
 use Rattle.acpi_base.specs.Listed.{listed, fadt_signature, madt_signature, srat_signature, slit_signature, pptt_signature}
 use Rattle.acpi_base.specs.Policy.{PolicyValue}
@@ -19,7 +18,7 @@ use Rattle.acpi_base.proofs.Tables.Whole.{length-table}
 use Rattle.acpi_write.specs.Encoded.{FitsHead}
 use Rattle.acpi_write.specs.Laws.{AreBytes}
 use Rattle.acpi_write.specs.Readable.{AreReadable}
-use Rattle.acpi_write.specs.SetValues.{IsWholeAt, IsFacsOf, IsSetValue}
+use Rattle.acpi_write.specs.SetValues.{IsWholeAt, IsSetValue}
 use Rattle.acpi_write.specs.Values.{SetValue}
 use Rattle.acpi_write.proofs.CleanSets.{clean_readable, readable_madt, readable_srat, readable_slit, readable_pptt}
 use Rattle.acpi_write.proofs.FirstListed.{AreListed, listed_first}
