@@ -1,6 +1,6 @@
 -- The tables of a clean set can be read as those of their kinds.
 use Rattle.std.proofs.Common.{◌≡◌, ℕ, zero, suc, ◌+◌, ◌-◌, ◌*◌, ◌/◌, ◌<◌, ◌≤◌, Bool, true, false, List, [], ◌∷◌, length, take, get_or, Some, refl, sym, ap, ◌∙◌, subst, inl, inr, arith}
-use Rattle.std.specs.Prelude.{◌≢◌, not, ◌&&◌, ◌||◌}
+use Rattle.std.specs.Prelude.{◌≢◌, ◌||◌}
 use Rattle.std.specs.List.{AllZip}
 use Rattle.std.proofs.lemmas.Bool.{cases_Bool, cases_eq, both_ways}
 use Rattle.acpi_base.specs.Memory.{Memory}
@@ -27,6 +27,7 @@ use Rattle.acpi_read.specs.Madts as madts
 use Rattle.acpi_read.specs.Srats as srats
 use Rattle.acpi_write.specs.Readable.{IsReadableMadt, IsReadableSrat, IsReadableSlit, IsReadablePptt, AreReadable, kind_behind, is_among}
 use Rattle.acpi_write.specs.SetValues.{IsWholeAt, is_first}
+use Rattle.acpi_write.proofs.FirstTables.{first_parts}
 use Rattle.acpi_write.proofs.Listing.{listed_from, listed_is, listed_skip, listed_take}
 
 -- ---- the root
@@ -134,11 +135,6 @@ among (t ∷ ts) (suc k) zero none signature less below is = rw is refl
 among (t ∷ ts) (suc k) (suc l) none signature less below is =
     rw (among ts k l none signature (omega (arith, less)) (omega (arith, below)) is) (or_true (has_signature t signature))
 
-first_parts : (a b : Bool) → (a && not b) ≡ true → (a ≡ true) × (b ≡ false)
-first_parts true false e = (refl, refl)
-first_parts true true e = absurd (cc)
-first_parts false b e = absurd (cc)
-
 -- the table that is the first with a signature is the first listed one
 pub first_listed : (m : Memory) (p r d : ℕ) (root : List ℕ) (ts : List (List ℕ)) (k : ℕ) (none signature : List ℕ) → IsRoot m p r d → IsRootTable m r d root → AllZip (IsWholeAt m) (listed root d) ts → k < length ts → length signature ≡ 4
     → is_first (take k ts) (get_or ts k none) signature ≡ true → IsListedTable m p signature (get_or ts k none)
@@ -168,21 +164,21 @@ own_srat : (e : srat.SratEntry) → srat.IsSoundSratEntry e → srats.IsOfOwnLen
 own_srat (srat.Opaque e) sound = sound
 own_srat _ sound = tt
 
-readable_madt : (q : PolicyValue) (whole : List ℕ) → madt.IsSoundMadt q (madt.madt_contents whole) → IsReadableMadt whole
+pub readable_madt : (q : PolicyValue) (whole : List ℕ) → madt.IsSoundMadt q (madt.madt_contents whole) → IsReadableMadt whole
 unfolding madt.madt_contents
 readable_madt q whole sound = record { long = sound.long; filled = sound.filled; lengths = λ o e stands. own_madt q e (sound.entries o e stands) }
 
-readable_srat : (whole : List ℕ) → srat.IsSoundSrat (srat.srat_contents whole) → IsReadableSrat whole
+pub readable_srat : (whole : List ℕ) → srat.IsSoundSrat (srat.srat_contents whole) → IsReadableSrat whole
 unfolding srat.srat_contents
 readable_srat whole sound = record { long = sound.long; filled = sound.filled; lengths = λ o e stands. own_srat e (sound.entries o e stands) }
 
-readable_slit : (whole : List ℕ) → slit.IsSoundSlit (slit.slit_contents whole) → IsReadableSlit whole
+pub readable_slit : (whole : List ℕ) → slit.IsSoundSlit (slit.slit_contents whole) → IsReadableSlit whole
 unfolding slit.slit_contents
 readable_slit whole sound =
     let size : length whole ≡ 44 + field whole 36 8 * field whole 36 8 = sound.size in
     record { long = omega (arith, size); size = sound.size }
 
-readable_pptt : (whole : List ℕ) → pptt.IsCutPptt (pptt.pptt_contents whole) → IsReadablePptt whole
+pub readable_pptt : (whole : List ℕ) → pptt.IsCutPptt (pptt.pptt_contents whole) → IsReadablePptt whole
 unfolding pptt.pptt_contents
 readable_pptt whole sound = record { filled = sound.filled; lengths = sound.lengths }
 

@@ -1,7 +1,7 @@
 -- The FACS address in a FADT's body: what is put together is the body with the address.
 use Rattle.std.proofs.Common.{◌≡◌, ℕ, ◌+◌, ◌-◌, ◌<◌, ◌≤◌, inl, inr, List, [], ◌++◌, append_assoc, length, take, drop, refl, sym, ap, ◌∙◌, arith, length-append, length-drop}
 use Rattle.std.proofs.lemmas.Bool.{cases_lt, le-leb, lt-leb}
-use Rattle.std.proofs.lemmas.List.{drop-drop, take_rest, length-take-le}
+use Rattle.std.proofs.lemmas.List.{drop-drop, take_at, drop_at, take_rest, length-take-le}
 use Rattle.acpi_base.specs.Number.{number_bytes}
 use Rattle.acpi_base.proofs.Layouts.RoundTrip.{length-number_bytes}
 use Rattle.acpi_write.specs.FadtBody.{put_over, with_facs}
@@ -60,3 +60,26 @@ wide_appended body facs x0 x1 x2 x3 x4 zeros wide long z w e0 e1 e2 e3 e4 =
 pub narrow_appended : (body : List ℕ) (facs : ℕ) (x0 x1 x2 narrow : List ℕ) → length body < 104 → narrow ≡ number_bytes 4 facs → x0 ≡ [] → x1 ≡ x0 ++ narrow → x2 ≡ x1 ++ take (length body - 4) (drop 4 body) → x2 ≡ with_facs body facs
 narrow_appended body facs x0 x1 x2 narrow short n e0 e1 e2 =
     e2 ∙ (λ i. (e1 ∙ ap (λ (l : List ℕ). l ++ narrow) e0) i ++ take_rest body 4 i) ∙ ap (λ (l : List ℕ). l ++ drop 4 body) n ∙ sym (narrow_parts body facs short)
+
+-- the last FACS address that was put in counts
+pub with_facs-with_facs : (body : List ℕ) (one other : ℕ) → 4 ≤ length body → with_facs (with_facs body one) other ≡ with_facs body other
+with_facs-with_facs body one other h =
+    let n = length-with_facs body one h in
+    let inner = with_facs body one in
+    elim (cases_lt (length body) 104) [
+      | inl narrow ↦
+          let behind : drop 4 inner ≡ drop 4 body = ap (drop 4) (narrow_parts body one narrow) ∙ drop_at (number_bytes 4 one) (drop 4 body) 4 (length-number_bytes 4 one) in
+          narrow_parts inner other (omega (arith, n, narrow)) ∙ ap (λ (back : List ℕ). number_bytes 4 other ++ back) behind ∙ sym (narrow_parts body other narrow)
+      | inr wide ↦
+          let middle = take 92 (drop 4 body) in
+          let back = drop 104 body in
+          let count : length middle ≡ 92 = length-take-le 92 (drop 4 body) (omega (arith, length-drop 4 body, wide)) in
+          let behind : drop 4 inner ≡ middle ++ (number_bytes 8 one ++ back) =
+          ap (drop 4) (wide_parts body one wide) ∙ drop_at (number_bytes 4 0) (middle ++ (number_bytes 8 one ++ back)) 4 (length-number_bytes 4 0) in
+          let same_middle : take 92 (drop 4 inner) ≡ middle = ap (take 92) behind ∙ take_at middle (number_bytes 8 one ++ back) 92 count in
+          let past_middle : drop 96 inner ≡ number_bytes 8 one ++ back = sym (drop-drop 92 4 inner) ∙ ap (drop 92) behind ∙ drop_at middle (number_bytes 8 one ++ back) 92 count in
+          let same_back : drop 104 inner ≡ back = sym (drop-drop 8 96 inner) ∙ ap (drop 8) past_middle ∙ drop_at (number_bytes 8 one) back 8 (length-number_bytes 8 one) in
+          wide_parts inner other (omega (arith, n, wide))
+          ∙ (λ i. number_bytes 4 0 ++ (same_middle i ++ (number_bytes 8 other ++ same_back i)))
+          ∙ sym (wide_parts body other wide)
+    ]

@@ -14,7 +14,6 @@ use Rattle.acpi_base.proofs.Runs.{run_of-take}
 use Rattle.acpi_write.specs.Encoded.{encoded_length}
 use Rattle.acpi_write.specs.Placed.{ends, DoEndInside, IsPlaced, RebuiltLeadsToTables}
 use Rattle.acpi_write.specs.Rebuilt.{aligned, laid, places, listed_option, part_places, rsdp_bytes, table_places, xsdt_length, rebuilt, HoldsPiece}
-use Rattle.acpi_write.specs.Spells.{IsTableOf}
 use Rattle.acpi_write.specs.Values.{TableValue, SetValue}
 use Rattle.acpi_write.proofs.NewRoot.{AreAddresses, IsWrittenXsdt, xsdt_written}
 use Rattle.acpi_write.proofs.RebuiltParts.{aligned_from, parts_are_held}
@@ -75,7 +74,7 @@ behind_root v base placed =
     subst (λ (k : ℕ). AreTablePlaces (drop k (part_places v base)) (map encoded_length v.tables)) (sym two)
     (behind_facs v.facs behind (map encoded_length v.tables) (omega (arith, from)) placed.inside.1.1)
 
-tables_are : (v : SetValue) (base : ℕ) → IsPlaced v base → (length (table_places v base) ≡ length v.tables) × AreAddresses (table_places v base)
+pub tables_are : (v : SetValue) (base : ℕ) → IsPlaced v base → (length (table_places v base) ≡ length v.tables) × AreAddresses (table_places v base)
 tables_are v base placed =
     let from = behind_root v base placed in (
       ap length from.are ∙ length-places from.a (map encoded_length v.tables) ∙ length-map v.tables encoded_length,
@@ -85,23 +84,23 @@ tables_are v base placed =
 -- ---- what stands at an address
 
 -- the image holds these bytes from an address on
-abbrev Holds : Memory → ℕ → List ℕ → Type 0
+abbrev pub Holds : Memory → ℕ → List ℕ → Type 0
 Holds m a bytes = bytes_at m a (length bytes) ≡ Some bytes
 
-front_held : (m : Memory) (a k : ℕ) (bytes : List ℕ) → Holds m a bytes → k ≤ length bytes → bytes_at m a k ≡ Some (take k bytes)
+pub front_held : (m : Memory) (a k : ℕ) (bytes : List ℕ) → Holds m a bytes → k ≤ length bytes → bytes_at m a k ≡ Some (take k bytes)
 front_held m a k bytes held h = run_of-take (byte_of m) a (length bytes) k bytes held h
 
-signed_front : (bytes signature : List ℕ) (k : ℕ) → length signature ≤ k → has_signature (take k bytes) signature ≡ has_signature bytes signature
+pub signed_front : (bytes signature : List ℕ) (k : ℕ) → length signature ≤ k → has_signature (take k bytes) signature ≡ has_signature bytes signature
 unfolding has_signature
 signed_front bytes signature k h = rw (take-take (length signature) k bytes h) refl
 
 -- a table
-table_held : (m : Memory) (a : ℕ) (signature : List ℕ) (head : HeadValue) (bytes : List ℕ) → Holds m a bytes → IsTableOf signature head bytes → IsTable m a (take 36 bytes) bytes
-table_held m a signature head bytes held table =
-    let size : length_of (take 36 bytes) ≡ length bytes = field-take bytes 36 4 4 (omega arith) ∙ table.size in
+pub table_held : (m : Memory) (a : ℕ) (bytes : List ℕ) → Holds m a bytes → 36 ≤ length bytes → length_of bytes ≡ length bytes → IsTable m a (take 36 bytes) bytes
+table_held m a bytes held least count =
+    let size : length_of (take 36 bytes) ≡ length bytes = field-take bytes 36 4 4 (omega arith) ∙ count in
     record {
-      header_held = front_held m a 36 bytes held table.least;
-      least = omega (arith, size, table.least);
+      header_held = front_held m a 36 bytes held least;
+      least = omega (arith, size, least);
       held = ap (λ (k : ℕ). bytes_at m a k) size ∙ held;
     }
 
@@ -112,7 +111,7 @@ xsdt_held m a head xs bytes held xsdt =
     record {
       table = record {
         header = take 36 bytes;
-        table = table_held m a xsdt_signature head bytes held xsdt.table;
+        table = table_held m a bytes held xsdt.table.least xsdt.table.size;
         signed = signed_front bytes xsdt_signature 36 (omega arith) ∙ xsdt.table.signed;
       };
       slots = omega (arith, count);

@@ -4,6 +4,7 @@ pub mod FadtBody
 pub mod Laws
 pub mod Placed
 pub mod Readable
+pub mod Rebuilding
 pub mod Rebuilt
 pub mod SetValues
 pub mod Spells

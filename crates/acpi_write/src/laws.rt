@@ -2,6 +2,7 @@
 
 ghost use Rattle.acpi_write.specs.Laws.{ContentsAreKept, EntriesAreKept, FadtsNameFacs, WhatIsReadIsSpelled};
 ghost use Rattle.acpi_write.specs.Placed.{PlacedUnlessRefused, RebuiltLeadsToTables};
+ghost use Rattle.acpi_write.specs.Rebuilding.{RebuiltSetsAreKept};
 ghost use Rattle.acpi_write.specs.Rebuilt.{RebuiltHoldsParts};
 ghost use Rattle.acpi_write.specs.SetValues.{OneSetValue};
 ghost use Rattle.acpi_write.specs.Spells.{OneValueSpelled};
@@ -53,4 +54,10 @@ pub fn rebuilt_leads_to_tables()
 /// part would pass the last address, or the FADT has no room for the FACS's address.
 pub fn placed_unless_refused()
     ensures { PlacedUnlessRefused }
+{}
+
+/// Where what a clean set says can stand from a base address on, its rebuilt image holds a clean set there, under the same
+/// policy with the RSDP at that address, and it says the same.
+pub fn rebuilt_sets_are_kept()
+    ensures { RebuiltSetsAreKept }
 {}

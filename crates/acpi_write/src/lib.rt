@@ -15,6 +15,7 @@ mod fadt_body;
 mod kinds;
 pub mod laws;
 mod placing;
+mod rebuilding;
 mod rsdp_writing;
 mod set_reading;
 mod set_value;
@@ -24,6 +25,7 @@ mod xsdt_writing;
 
 pub use encode::{WriteFault, encode_table};
 pub use placing::RebuildFault;
+pub use rebuilding::rebuild;
 pub use set_reading::values;
 pub use set_value::{SetValue, ValuesFault};
 pub use table_value::{Head, TableValue};

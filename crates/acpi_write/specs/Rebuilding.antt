@@ -1,0 +1,43 @@
+-- What rebuilding a set gives, and what it refuses.
+use Rattle.std.specs.Prelude.{◌≡◌, ℕ, ◌%◌}
+use Rattle.acpi_base.specs.Faults.{IsFirstFault}
+use Rattle.acpi_base.specs.Memory.{Memory, IsImage}
+use Rattle.acpi_base.specs.Policy.{PolicyValue, with_rsdp}
+use Rattle.acpi_base.specs.Statements.{IsClean, CleanTo}
+use Rattle.acpi_base.specs.declared.stage.Stage.TheVariants as stage
+use Rattle.acpi_write.specs.Placed.{IsPlaced, IsPlacingRefusal}
+use Rattle.acpi_write.specs.Rebuilt.{rebuilt}
+use Rattle.acpi_write.specs.SetValues.{IsSetValue}
+use Rattle.acpi_write.specs.Values.{SetValue}
+use Rattle.acpi_write.specs.declared.placing.RebuildFault.{RebuildFault}
+use Rattle.acpi_write.specs.declared.placing.RebuildFault.TheVariants as fault
+
+-- the image holds a clean set; what it says can stand from the base address on, and the new image is this rebuilt
+pub record IsRebuilt (m : Memory) (q : PolicyValue) (base : ℕ) (new : Memory) : Type 0 where
+  pub clean : IsClean m q
+  pub value : SetValue
+  pub said : IsSetValue m q.rsdp value
+  pub placed : IsPlaced value base
+  pub image : new ≡ rebuilt value base
+
+-- Why a set is not rebuilt: the base address is not a multiple of 64; or it is, and the set is not clean, of which this is
+-- the first fault; or the set is clean, and what it says cannot stand from the base address on. Out of memory, the base
+-- address is a multiple of 64 and the stages before the MADT's hold, which take no memory.
+abbrev pub IsRebuildRefusal : Memory → PolicyValue → ℕ → RebuildFault → Type 0
+IsRebuildRefusal m q base fault.Unaligned = ¬ (base % 64 ≡ 0)
+IsRebuildRefusal m q base (fault.NotClean w) = (base % 64 ≡ 0) × (¬ IsClean m q) × IsFirstFault m q w
+IsRebuildRefusal m q base fault.Memory = (base % 64 ≡ 0) × CleanTo stage.Madt m q
+IsRebuildRefusal m q base refused = (base % 64 ≡ 0) × IsClean m q × ((v : SetValue) × IsSetValue m q.rsdp v × IsPlacingRefusal v base refused)
+
+-- ---- a law
+
+-- The rebuilt image of what a clean set says holds a clean set, under the same policy with the RSDP at the base address,
+-- and it says the same. So whatever it says can stand at that base again, and its rebuilt image there is this one.
+pub record IsKept (q : PolicyValue) (v : SetValue) (base : ℕ) : Type 0 where
+  pub clean : IsClean (rebuilt v base) (with_rsdp q base)
+  pub value : IsSetValue (rebuilt v base) base v
+  pub again : (w : SetValue) → IsSetValue (rebuilt v base) base w → IsPlaced w base × (rebuilt w base ≡ rebuilt v base)
+
+-- wherever it can stand
+abbrev pub RebuiltSetsAreKept : Type 0
+RebuiltSetsAreKept = (m : Memory) (q : PolicyValue) (v : SetValue) (base : ℕ) → IsImage m → IsClean m q → IsSetValue m q.rsdp v → IsPlaced v base → IsKept q v base

@@ -1,0 +1,41 @@
+//! Sets at another address.
+
+ghost use Rattle.std.specs.Prelude.{IfOk, IfErr};
+ghost use Rattle.acpi_write.specs.Rebuilding.{IsRebuilt, IsRebuildRefusal};
+
+use crate::placing::RebuildFault;
+use crate::set_reading::values;
+use crate::set_value::ValuesFault;
+use acpi_base::{Image, Policy};
+use std::alloc::Global;
+
+/// The set of an image built anew from a base address on, in bytes: the RSDP at the base address, behind it the XSDT, the
+/// FACS if there is one, and the listed tables in the order of their slots, each part at the first multiple of 64 behind the
+/// one before. The new image holds nothing else. What the set says is kept, and it is clean under the same policy with the
+/// new RSDP's address: the law `rebuilt_sets_are_kept` says so.
+///
+/// Refuses, in this order:
+/// `Unaligned`, where the base address is not a multiple of 64;
+/// `NotClean`, where the set is not clean under the policy, with its first fault, which is that of `check`;
+/// `TableTooLong`, where the XSDT would have more than 4,294,967,295 bytes;
+/// `PastEnd`, where a part would pass the address 2^64 - 1;
+/// `NeedsLow`, where the FADT has fewer than 140 bytes and the FACS would stand at 2^32 or above;
+/// `Memory`, where the allocator is out of memory, which may come in the place of any but `Unaligned`.
+pub fn rebuild(
+    alloc: Global,
+    image: &Image,
+    policy: &Policy,
+    base: u64,
+) -> Result<Image, RebuildFault>
+    ensures rebuilt { IfOk result (λ new. IsRebuilt image.now policy.now base new) }
+    ensures refused { IfErr result (IsRebuildRefusal image.now policy.now base) }
+{
+    if base % 64 != 0 {
+        return Err(RebuildFault::Unaligned);
+    }
+    match values(alloc, image, policy) {
+        Ok(_) => Err(RebuildFault::Memory),
+        Err(ValuesFault::NotClean(fault)) => Err(RebuildFault::NotClean(fault)),
+        Err(ValuesFault::Memory) => Err(RebuildFault::Memory),
+    }
+}
