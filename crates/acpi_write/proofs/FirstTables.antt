@@ -3,6 +3,7 @@ use Rattle.std.proofs.Common.{◌≡◌, ℕ, ◌^◌, ◌<◌, ◌≤◌, Bool,
 use Rattle.std.specs.Prelude.{not, ◌&&◌, ◌||◌, if◌then◌else◌}
 use Rattle.std.specs.List.{AllByRecursion}
 use Rattle.std.proofs.lemmas.Bool.{cases_Bool}
+use Rattle.std.proofs.Math.Bool.{and-true}
 use Rattle.std.proofs.lemmas.List.Folds.{list_any-append}
 use Rattle.acpi_base.specs.Signature.{has_signature}
 use Rattle.acpi_base.specs.Entries.{cut_of}
@@ -63,11 +64,7 @@ first_is (b ∷ before) t rest signature is =
 
 -- of those behind others
 pub is_behind : (before : List (List ℕ)) (t signature : List ℕ) → is_among before signature ≡ false → is_first before t signature ≡ has_signature t signature
-is_behind before t signature none = rw none (and_true (has_signature t signature))
-  where
-    and_true : (b : Bool) → (b && true) ≡ b
-    and_true true = refl
-    and_true false = refl
+is_behind before t signature none = rw none (and-true (has_signature t signature))
 
 pub none_more : (before : List (List ℕ)) (t signature : List ℕ) → is_among before signature ≡ false → has_signature t signature ≡ false → is_among (before ++ t ∷ []) signature ≡ false
 none_more before t signature none other = list_any-append (λ x. has_signature x signature) before (t ∷ []) ∙ both none other

@@ -1,9 +1,10 @@
 -- The tables that are written for what the tables of a clean set say: they say the same, and the first of each kind is
 -- written for the first.
-use Rattle.std.proofs.Common.{◌≡◌, ℕ, suc, ◌<◌, ◌≤◌, ◌⊎◌, Bool, true, false, List, [], ◌∷◌, ◌++◌, length, map, drop, Some, None, refl, sym, ap, ◌∙◌, subst, inl, inr, arith, append_assoc, length-drop}
-use Rattle.std.specs.Prelude.{◌||◌, if◌then◌else◌}
+use Rattle.std.proofs.Common.{◌≡◌, ℕ, suc, ◌<◌, ◌≤◌, ◌⊎◌, true, false, List, [], ◌∷◌, ◌++◌, length, map, drop, Some, None, refl, sym, ap, ◌∙◌, subst, inl, inr, arith, append_assoc, length-drop}
+use Rattle.std.specs.Prelude.{if◌then◌else◌}
 use Rattle.std.specs.List.{AllByRecursion, list_any}
 use Rattle.std.proofs.lemmas.Bool.{cases_Bool, lt-ltb}
+use Rattle.std.proofs.Math.Bool.{or-true}
 use Rattle.std.proofs.lemmas.List.Folds.{list_any-append}
 use Rattle.acpi_base.specs.Header.{head_of}
 use Rattle.acpi_base.specs.Signature.{has_signature}
@@ -228,12 +229,8 @@ narrow_behind before (u ∷ ts) t none is least short =
           rw (said, narrow) refl
       | inr other ↦
           let rest = narrow_behind (before ++ u ∷ []) ts t (none_more before u fadt_signature none other) (subst (λ b. (if b then Some u else first_with fadt_signature ts) ≡ Some t) other is) least short in
-          rw rest (or_true (is_narrow (said_behind before u)))
+          rw rest (or-true (is_narrow (said_behind before u)))
     ]
-  where
-    or_true : (b : Bool) → (b || true) ≡ true
-    or_true true = refl
-    or_true false = refl
 
 pub narrow_first : (ts : List (List ℕ)) (t : List ℕ) → first_with fadt_signature ts ≡ Some t → 40 ≤ length t → length t < 140 → list_any is_narrow (values_of ts) ≡ true
 narrow_first ts t is least short = narrow_behind [] ts t refl is least short
