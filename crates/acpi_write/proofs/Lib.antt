@@ -16,6 +16,7 @@ pub mod NewRoot
 pub mod NodeBytes
 pub mod OneSetValue
 pub mod PartLengths
+pub mod PartPlaces
 pub mod Refusals
 pub mod PpttBytes
 pub mod Reading
