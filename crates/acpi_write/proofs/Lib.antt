@@ -24,6 +24,7 @@ pub mod NodeBytes
 pub mod OldTables
 pub mod OneSetValue
 pub mod PartLengths
+pub mod PartPlaces
 pub mod Refusals
 pub mod PpttBytes
 pub mod Reading

@@ -21,7 +21,7 @@ use Rattle.acpi_write.proofs.RsdpBytes.{IsWrittenRsdp, rsdp_written}
 
 -- ---- places
 
-length-places : (a : ℕ) (ns : List ℕ) → length (places a ns) ≡ length ns
+pub length-places : (a : ℕ) (ns : List ℕ) → length (places a ns) ≡ length ns
 unfolding places
 length-places a [] = refl
 length-places a (n ∷ ns) = ap suc (length-places (aligned (a + n)) ns)

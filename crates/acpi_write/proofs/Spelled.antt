@@ -1,17 +1,19 @@
 -- Bytes say the value that is read of them.
-use Rattle.std.proofs.Common.{◌≡◌, ℕ, zero, suc, ◌+◌, ◌≤◌, true, List, [], ◌∷◌, ◌++◌, length, take, drop, map, flat_map, Some, None, refl, sym, ap, ◌∙◌, arith, length-append, length-drop}
+use Rattle.std.proofs.Common.{◌≡◌, ℕ, zero, suc, ◌+◌, ◌≤◌, true, List, [], ◌∷◌, ◌++◌, length, get_or, take, drop, map, flat_map, Some, None, refl, sym, ap, ◌∙◌, arith, length-append, length-drop}
 use Rattle.std.specs.List.{All}
 use Rattle.std.proofs.lemmas.Bool.Decides.{nat_tests}
 use Rattle.std.proofs.lemmas.List.{get_or-take, take_at, drop_at}
-use Rattle.std.proofs.lemmas.List.Elements.{All-head, All-tail}
+use Rattle.std.proofs.lemmas.List.Elements.{All-head, All-tail, All-map, All-contains_itself}
 use Rattle.acpi_base.specs.Header.{head_of}
 use Rattle.acpi_base.specs.Signature.{has_signature}
-use Rattle.acpi_base.specs.Entries.{IsEntry, Standing, first_entry, entries_from, entries_of, cut_of, said_by}
+use Rattle.acpi_base.specs.Entries.{IsEntry, Standing, Stands, first_entry, entries_from, entries_of, cut_of, said_by}
 use Rattle.acpi_base.specs.Madt as madt
 use Rattle.acpi_base.specs.Srat as srat
 use Rattle.acpi_base.specs.Slit as slit
 use Rattle.acpi_base.specs.Pptt as pptt
 use Rattle.acpi_base.proofs.Entries.{no_cut_fault}
+use Rattle.acpi_read.specs.Madts as madts
+use Rattle.acpi_read.specs.Srats as srats
 use Rattle.acpi_write.specs.SetValues.{entries_in}
 use Rattle.acpi_write.specs.Spells.{IsTableOf, SpellEntries}
 use Rattle.acpi_write.specs.Views.{IsWholeTable}
@@ -61,16 +63,28 @@ few (e ∷ es) each =
     let rest = few es (All-tail IsEntry e es each) in
     omega (arith, least, rest, length-append e (flat_map (λ x. x) es))
 
+-- of each entry that stands, and so of each of the entries
+each_in : {E : Type 0} (P : E → Type 0) (entries : List (Standing E)) → ((o : ℕ) (e : E) → Stands entries o e → P e) → All P (entries_in entries)
+each_in {E} P entries own =
+    All-map P (λ (s : Standing E). s.entry) entries (λ k d h. own (get_or entries k d).offset (get_or entries k d).entry (All-contains_itself entries k d h))
+
 -- the entries that stand in a table that they fill are spelled by its bytes
-spelled_entries : {E : Type 0} (read : List ℕ → E) (first : ℕ) (whole : List ℕ) → cut_of first whole ≡ None → SpellEntries read first whole (entries_in (said_by read (entries_of first whole)))
+spelled_entries : {E : Type 0} (read : List ℕ → E) (Own : E → Type 0) (first : ℕ) (whole : List ℕ) → first ≤ length whole → cut_of first whole ≡ None
+    → ((o : ℕ) (e : E) → Stands (said_by read (entries_of first whole)) o e → Own e) → SpellEntries read Own first whole (entries_in (said_by read (entries_of first whole)))
 unfolding entries_of
-spelled_entries read first whole filled =
+spelled_entries {E} read Own first whole long filled own =
     let cut = (no_cut_fault first whole).0 filled in
     let es = cut.0 in
     let count = few es cut.1.each in
     let joined = ap length cut.1.joined in
     let stand = entries_again (length whole) first es (drop first whole) cut.1.each cut.1.joined (omega (arith, count, joined, length-drop first whole)) in
-    record { es = es; cut = cut.1; say = sym (ap (λ l. entries_in (said_by read l)) stand ∙ said_standing read first es) }
+    record {
+      long = long;
+      es = es;
+      cut = cut.1;
+      say = sym (ap (λ l. entries_in (said_by read l)) stand ∙ said_standing read first es);
+      lengths = each_in Own (said_by read (entries_of first whole)) own;
+    }
 
 -- ---- tables
 
@@ -80,8 +94,10 @@ table_of signature whole is signed = record { least = is.least; signed = signed;
 pub what_is_read : WhatIsReadIsSpelled
 unfolding madt.madt_contents srat.srat_contents slit.slit_contents pptt.pptt_contents
 what_is_read whole is = record {
-  madt = λ signed long filled. (table_of _ whole is signed, refl, refl, spelled_entries madt.madt_entry 44 whole filled);
-  srat = λ signed long filled. (table_of _ whole is signed, spelled_entries srat.srat_entry 48 whole filled);
-  slit = λ signed. (table_of _ whole is signed, refl, refl);
-  pptt = λ signed filled. (table_of _ whole is signed, spelled_entries pptt.pptt_entry 36 whole filled);
+  madt = λ signed can. (table_of _ whole is signed, refl, refl, spelled_entries madt.madt_entry madts.IsOfOwnLength 44 whole can.long can.filled can.lengths);
+  srat = λ signed can. (table_of _ whole is signed, spelled_entries srat.srat_entry srats.IsOfOwnLength 48 whole can.long can.filled can.lengths);
+  slit = λ signed can. (table_of _ whole is signed, can.size, refl, refl);
+  pptt = λ signed can. (table_of _ whole is signed, spelled_entries pptt.pptt_entry (λ e. ¬ pptt.HasOtherPpttLength e) 36 whole is.least can.filled can.lengths);
+  fadt = λ signed long. (table_of _ whole is signed, long, refl);
+  other = (is, refl);
 }

@@ -13,16 +13,19 @@ use Rattle.acpi_base.specs.Slit.{slit_contents}
 use Rattle.acpi_write.specs.EntryBytes.{madt_bytes, srat_bytes, pptt_bytes}
 use Rattle.acpi_write.specs.Encoded.{encoded, table_bytes}
 use Rattle.acpi_write.specs.FadtBody.{with_facs}
-use Rattle.acpi_write.specs.Spells.{Spells, SaysEntry, IsTableOf}
-use Rattle.acpi_write.specs.Values.{TableValue}
-use Rattle.acpi_write.specs.Views.{IsWholeTable}
+use Rattle.acpi_write.specs.Readable.{IsReadableMadt, IsReadableSrat, IsReadableSlit, IsReadablePptt}
+use Rattle.acpi_write.specs.Spells.{Spells, SaysEntry, IsTableOf, IsWholeTable}
+use Rattle.acpi_write.specs.Values.{TableValue, Fadt, Other}
 
--- a table's bytes say the value that is read of them: a MADT's, an SRAT's and a PPTT's where entries fill the table
+-- a table's bytes say the value that is read of them, where they can be read as those of its kind; a FADT's say what
+-- stands behind its header, FACS addresses and all
 pub record IsSpelled (whole : List ℕ) : Type 0 where
-  pub madt : has_signature whole madt_signature ≡ true → 44 ≤ length whole → cut_of 44 whole ≡ None → Spells (madt_said whole) whole
-  pub srat : has_signature whole srat_signature ≡ true → 48 ≤ length whole → cut_of 48 whole ≡ None → Spells (srat_said whole) whole
-  pub slit : has_signature whole slit_signature ≡ true → Spells (slit_said whole) whole
-  pub pptt : has_signature whole pptt_signature ≡ true → cut_of 36 whole ≡ None → Spells (pptt_said whole) whole
+  pub madt : has_signature whole madt_signature ≡ true → IsReadableMadt whole → Spells (madt_said whole) whole
+  pub srat : has_signature whole srat_signature ≡ true → IsReadableSrat whole → Spells (srat_said whole) whole
+  pub slit : has_signature whole slit_signature ≡ true → IsReadableSlit whole → Spells (slit_said whole) whole
+  pub pptt : has_signature whole pptt_signature ≡ true → IsReadablePptt whole → Spells (pptt_said whole) whole
+  pub fadt : has_signature whole fadt_signature ≡ true → 116 ≤ length whole → Spells (Fadt (head_of whole) (drop 36 whole)) whole
+  pub other : Spells (Other whole) whole
 
 -- of whole tables
 abbrev pub WhatIsReadIsSpelled : Type 0

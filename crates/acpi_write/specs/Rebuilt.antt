@@ -4,10 +4,13 @@ use Rattle.std.specs.List.{AllByRecursion}
 use Rattle.std.specs.FinMap.{empty}
 use Rattle.acpi_base.specs.Memory.{Memory, bytes_at, with_bytes}
 use Rattle.acpi_base.specs.Number.{number_bytes}
+use Rattle.acpi_base.specs.Policy.{PolicyValue}
 use Rattle.acpi_base.specs.Signature.{rsdp_signature, xsdt_signature}
 use Rattle.acpi_base.specs.Listed.{fadt_signature}
+use Rattle.acpi_base.specs.Statements.{IsClean}
 use Rattle.acpi_write.specs.Encoded.{closing, table_bytes, encoded, encoded_length}
 use Rattle.acpi_write.specs.FadtBody.{with_facs}
+use Rattle.acpi_write.specs.SetValues.{IsSetValue}
 use Rattle.acpi_write.specs.Values.{TableValue, Fadt, SetValue}
 
 -- ---- pieces of an image
@@ -100,7 +103,7 @@ part_bytes v base =
 unfoldable pub rebuilt : SetValue → ℕ → Memory
 rebuilt v base = with_pieces empty (laid base (part_bytes v base))
 
--- ---- a law
+-- ---- laws
 
 -- the image holds the piece
 abbrev pub HoldsPiece : Memory → Piece → Type 0
@@ -109,3 +112,12 @@ HoldsPiece m p = bytes_at m p.address (length p.bytes) ≡ Some p.bytes
 -- a rebuilt image holds each part at its place, whole
 abbrev pub RebuiltHoldsParts : Type 0
 RebuiltHoldsParts = (v : SetValue) (base : ℕ) → AllByRecursion (HoldsPiece (rebuilt v base)) (laid base (part_bytes v base))
+
+-- the parts have the lengths from which their places are counted, and are laid at these places
+pub record AreLaidAtPlaces (v : SetValue) (base : ℕ) : Type 0 where
+  pub lengths : map length (part_bytes v base) ≡ part_lengths v
+  pub places : map (λ p. p.address) (laid base (part_bytes v base)) ≡ part_places v base
+
+-- those of what a clean set says are
+abbrev pub CleanPartsAreLaid : Type 0
+CleanPartsAreLaid = (m : Memory) (q : PolicyValue) (v : SetValue) (base : ℕ) → IsClean m q → IsSetValue m q.rsdp v → AreLaidAtPlaces v base

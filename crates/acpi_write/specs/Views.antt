@@ -1,15 +1,13 @@
 -- Values of the program as plain values, and their shape.
-use Rattle.std.specs.Prelude.{◌≡◌, ℕ, ◌*◌, ◌^◌, ◌<◌, ◌≤◌, List, length, map, slice_index}
+use Rattle.std.specs.Prelude.{◌≡◌, ◌*◌, ◌^◌, ◌<◌, ◌≤◌, length, map, slice_index}
 use Rattle.std.specs.List.{All}
 use Rattle.std.specs.Option.{option_map}
 use Rattle.acpi_base.specs.Memory.{Memory}
-use Rattle.acpi_base.specs.Number.{byte_sum}
 use Rattle.acpi_base.specs.Policy.{PolicyValue}
 use Rattle.acpi_base.specs.Faults.{IsFirstFault}
 use Rattle.acpi_base.specs.Statements.{IsClean, CleanTo}
 use Rattle.acpi_base.specs.declared.stage.Stage.TheVariants as stage
 use Rattle.acpi_base.specs.Header.{HeadValue}
-use Rattle.acpi_base.specs.Tables.{length_of}
 use Rattle.acpi_base.specs.Entries.{IsEntry, IsTypeOf}
 use Rattle.acpi_base.specs.Madt.{madt_kinds, madt_entry}
 use Rattle.acpi_base.specs.Srat.{srat_kinds, srat_entry}
@@ -27,6 +25,7 @@ use Rattle.acpi_write.specs.Values as value
 use Rattle.acpi_write.specs.EntryBytes.{madt_bytes, srat_bytes, pptt_bytes}
 use Rattle.acpi_write.specs.Encoded.{encoded_length, FitsHead}
 use Rattle.acpi_write.specs.Spells.{DoEntriesSay}
+pub use Rattle.acpi_write.specs.Spells.{IsWholeTable}
 use Rattle.acpi_write.specs.declared.encode.WriteFault.{WriteFault}
 use Rattle.acpi_write.specs.declared.encode.WriteFault.TheVariants as fault
 use Rattle.acpi_write.specs.declared.set_value.SetValue.{SetValue}
@@ -85,12 +84,6 @@ IsShapedSrat _ = Unit {0}
 abbrev pub IsShapedPptt : PpttEntry → Type 0
 IsShapedPptt (pptt.Opaque bytes) = IsEntry bytes.now × (2 ≤ slice_index bytes.now 0)
 IsShapedPptt entry = HasReferences entry
-
--- the bytes are a whole table's
-pub record IsWholeTable (bytes : List ℕ) : Type 0 where
-  pub least : 36 ≤ length bytes
-  pub size : length_of bytes ≡ length bytes
-  pub zero_sum : byte_sum bytes ≡ 0
 
 -- the value can be written, save that it may be too long
 abbrev pub IsShaped : TableValue → Type 0

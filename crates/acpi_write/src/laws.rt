@@ -3,7 +3,7 @@
 ghost use Rattle.acpi_write.specs.Laws.{ContentsAreKept, EntriesAreKept, FadtsNameFacs, WhatIsReadIsSpelled};
 ghost use Rattle.acpi_write.specs.Placed.{PlacedUnlessRefused, RebuiltLeadsToTables};
 ghost use Rattle.acpi_write.specs.Rebuilding.{RebuiltSetsAreKept};
-ghost use Rattle.acpi_write.specs.Rebuilt.{RebuiltHoldsParts};
+ghost use Rattle.acpi_write.specs.Rebuilt.{CleanPartsAreLaid, RebuiltHoldsParts};
 ghost use Rattle.acpi_write.specs.SetValues.{OneSetValue};
 ghost use Rattle.acpi_write.specs.Spells.{OneValueSpelled};
 
@@ -42,6 +42,12 @@ pub fn fadts_name_facs()
 /// The rebuilt image of a set holds each of its parts, whole and at its place.
 pub fn rebuilt_holds_parts()
     ensures { RebuiltHoldsParts }
+{}
+
+/// The parts of what a clean set says are laid, from any base address on, at the places that are counted from the parts'
+/// lengths: `Rebuilt` puts each part where `Placed` asks for room.
+pub fn clean_parts_are_laid()
+    ensures { CleanPartsAreLaid }
 {}
 
 /// Where what a set says can stand from a base address on, its rebuilt image leads from there to the tables: the RSDP
