@@ -79,8 +79,9 @@ pub record ReadsFailed (input : Device) : Type 0 where
   pub faultless : IsFaultlessPrefix text
   pub failed : HasFailed input
 
--- What was read: a whole text of the image, or a text that is refused, or the prefix of one, where a read
--- failed. Out of memory, nothing is said of it but how much.
+-- What was read, by the result: a whole text, which is the image's; a text that has this fault; where a read failed,
+-- bytes in which no fault stood so far; and out of memory any bytes. It is never more than one byte beyond the longest
+-- text.
 abbrev pub ReadsInput : Device → Result Memory RunFault → Type 0
 ReadsInput input (Ok image) = ReadsImage input image
 ReadsInput input (Err (run.Image fault)) = ReadsRefused input fault

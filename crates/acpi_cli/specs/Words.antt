@@ -96,7 +96,9 @@ behind_word = after_first is_blank
 abbrev pub number_behind_0x : List ℕ → ℕ
 number_behind_0x word = hex_number 0 (drop 2 word)
 
--- the fault that a text's second word and its three numbers name: any text names one that has a fault's name in this place
+-- The fault that a text names whose second word is a fault's name, as `10 Overlap 0x90 0xb8 0x100000000` does: its
+-- numbers are read in hex, without two characters before each, from the third word, the fourth, and all that stands
+-- behind this one. Nothing else of the text is looked at.
 unfoldable pub fault_named : List ℕ → Option Witness
 fault_named text =
     option_map

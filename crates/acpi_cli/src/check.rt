@@ -66,8 +66,8 @@ fn check_output(
 ///
 /// Writes the verdict's line: `yes`, and returns `Yes`, or `no` with the first fault, and returns `No`.
 /// Where no address is given and none is found it writes `no rsdp` and returns `No`. Nothing is written
-/// before the image is read and judged. Refuses `Image` where the text is none, `Memory`, and `Device`
-/// where a read or a write failed; what was written then is a prefix of the line.
+/// before the image is read and judged. Refuses `Image` where the input is no image text, `Memory`, and
+/// `Device` where a read or a write failed; what was written then is a prefix of the line.
 pub fn run_check<R: Read, W: Write>(
     alloc: Global,
     reader: &mut Tally<R>,

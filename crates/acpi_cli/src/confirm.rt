@@ -41,8 +41,8 @@ fn confirm_output(
 ///
 /// Writes `true` and returns `Yes`, or writes `false` and returns `No`. Where no address is given and none is found it
 /// writes `no rsdp` and returns `No`. Nothing is written before the image is read and the fault is judged. Refuses
-/// `Image` where the text is none, `Memory`, and `Device` where a read or a write failed; what was written then is a
-/// prefix of the line.
+/// `Image` where the input is no image text, `Memory`, and `Device` where a read or a write failed; what was written
+/// then is a prefix of the line.
 pub fn run_confirm<R: Read, W: Write>(
     alloc: Global,
     reader: &mut Tally<R>,

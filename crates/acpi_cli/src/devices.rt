@@ -17,8 +17,8 @@ pub struct Output {
     pub outcome: Outcome,
 }
 
-/// The image whose text is on `reader`. Refuses `Image` where the text is none, `Memory`, and `Device`
-/// where a read failed.
+/// The image whose text is on `reader`. Refuses `Image` where the input is no image text, `Memory`, and
+/// `Device` where a read failed.
 pub fn read_input<R: Read>(alloc: Global, reader: &mut Tally<R>) -> Result<Image, RunFault>
     ensures { ReadsInput (device R.remaining reader.old reader.new) result }
 {

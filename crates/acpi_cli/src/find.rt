@@ -28,9 +28,9 @@ fn find_output(alloc: Global, image: &Image) -> Result<Output, AllocError>
 /// FFFF0h (ACPI 6.5, 5.2.5.1).
 ///
 /// Writes `rsdp` and the least address at which it is found, in hex, and returns `Yes`; or `rsdp none`,
-/// and returns `No`. Nothing is written before the image is read. Refuses `Image` where the text is
-/// none, `Memory`, and `Device` where a read or a write failed; what was written then is a prefix of
-/// the line.
+/// and returns `No`. Nothing is written before the image is read. Refuses `Image` where the input is no
+/// image text, `Memory`, and `Device` where a read or a write failed; what was written then is a prefix
+/// of the line.
 pub fn run_find<R: Read, W: Write>(
     alloc: Global,
     reader: &mut Tally<R>,

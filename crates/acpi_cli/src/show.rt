@@ -50,8 +50,8 @@ fn show_output(alloc: Global, image: &Image, given: Option<u64>) -> Result<Outpu
 ///
 /// Returns `Yes` where the stages up to the listed tables hold. Where they do not it writes the verdict's line, and where
 /// no address is given and none is found `no rsdp`, and returns `No`. Nothing is written before the image is read and
-/// judged and all lines are made. Refuses `Image` where the text is none, `Memory`, and `Device` where a read or a write
-/// failed; what was written then is a prefix of the lines.
+/// judged and all lines are made. Refuses `Image` where the input is no image text, `Memory`, and `Device` where a read
+/// or a write failed; what was written then is a prefix of the lines.
 pub fn run_show<R: Read, W: Write>(
     alloc: Global,
     reader: &mut Tally<R>,

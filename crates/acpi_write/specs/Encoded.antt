@@ -15,7 +15,7 @@ pub record FitsHead (head : HeadValue) : Type 0 where
   pub creator_id : head.creator_id < 2 ^ 32
   pub creator_revision : head.creator_revision < 2 ^ 32
 
--- the byte that makes the sum 0 of bytes that hold 0 in its place (5.2.6)
+-- the checksum of these bytes, which hold 0 in its place: with it there they sum to 0 modulo 256 (5.2.6)
 unfoldable pub closing : List ℕ → ℕ
 closing bytes = (256 - byte_sum bytes) % 256
 
@@ -57,7 +57,7 @@ body_of (Pptt head entries) = flat_map pptt_bytes entries
 body_of (Fadt head body) = body
 body_of (Other bytes) = drop 36 bytes
 
--- how many bytes it has
+-- how many bytes it has, with a header's 36; another table has them too, where it is whole
 abbrev pub encoded_length : TableValue → ℕ
 encoded_length v = 36 + length (body_of v)
 

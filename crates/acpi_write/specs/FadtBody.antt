@@ -6,8 +6,8 @@ use Rattle.acpi_base.specs.Number.{number_bytes}
 unfoldable pub put_over : List ℕ → ℕ → List ℕ → List ℕ
 put_over bytes offset new = take offset bytes ++ (new ++ drop (offset + length new) bytes)
 
--- the body with this FACS address: in X_FIRMWARE_CTRL, at 132 of the table, where the table has it, and else in
--- FIRMWARE_CTRL, at 36; the other field is 0
+-- the body with this FACS address: in X_FIRMWARE_CTRL, at 132 of the table and so at 96 of the body, where this has all 8
+-- bytes, and else in FIRMWARE_CTRL, at 36 and so at 0; where it has both fields the other one is 0
 unfoldable pub with_facs : List ℕ → ℕ → List ℕ
 with_facs body facs =
     if nat_le 104 (length body)

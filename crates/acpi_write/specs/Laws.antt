@@ -67,15 +67,16 @@ pub record AreContentsKept (whole : List ℕ) : Type 0 where
 abbrev pub ContentsAreKept : Type 0
 ContentsAreKept = (whole : List ℕ) → IsWholeTable whole → AreBytes whole → length whole < 2 ^ 32 → AreContentsKept whole
 
--- the FADT's bytes with this FACS address in the field that it has for it are a sound FADT that names this FACS, and that
--- says of the hardware what it said
+-- The FADT with another FACS address, in X_FIRMWARE_CTRL, at 132, where it has at least 140 bytes, and else in
+-- FIRMWARE_CTRL, at 36 (5.2.9): it has the same head, is sound, its FACS address is this one, and it is of reduced hardware
+-- where it was.
 pub record NamesFacs (whole : List ℕ) (facs : ℕ) : Type 0 where
   pub table : IsTableOf fadt_signature (head_of whole) (table_bytes fadt_signature (head_of whole) (with_facs (drop 36 whole) facs))
   pub sound : IsSoundFadtTable (table_bytes fadt_signature (head_of whole) (with_facs (drop 36 whole) facs))
   pub named : facs_address (table_bytes fadt_signature (head_of whole) (with_facs (drop 36 whole) facs)) ≡ facs
   pub reduced : is_reduced (table_bytes fadt_signature (head_of whole) (with_facs (drop 36 whole) facs)) ≡ is_reduced whole
 
--- of sound FADTs; one of fewer than 140 bytes has only 4 bytes for the address
+-- of sound FADTs, and of addresses that their field holds: below 2^64, and below 2^32 in 4 bytes, at 36
 abbrev pub FadtsNameFacs : Type 0
 FadtsNameFacs =
     (whole : List ℕ) (facs : ℕ) → IsWholeTable whole → AreBytes whole → length whole < 2 ^ 32 → IsSoundFadtTable whole → facs < 2 ^ 64

@@ -12,12 +12,13 @@ use Rattle.acpi_write.specs.Values.{TableValue, Fadt, SetValue}
 use Rattle.acpi_write.specs.declared.placing.RebuildFault.{RebuildFault}
 use Rattle.acpi_write.specs.declared.placing.RebuildFault.TheVariants as fault
 
--- where blocks of these lengths end, the first of which begins at an address
+-- where blocks of these lengths end, behind their last byte: the first begins at an address, each further one at the least
+-- multiple of 64 not below the end of the one before
 unfoldable pub ends : ℕ → List ℕ → List ℕ
 ends a [] = []
 ends a (n ∷ rest) = (a + n) ∷ ends (aligned (a + n)) rest
 
--- no address is past the last one, which is 2^64 - 1
+-- none of the blocks that end there passes the last address, which is 2^64 - 1
 abbrev pub DoEndInside : List ℕ → Type 0
 DoEndInside addresses = AllByRecursion (λ a. a ≤ 2 ^ 64) addresses
 

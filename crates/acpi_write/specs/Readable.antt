@@ -23,18 +23,18 @@ pub record IsReadableMadt (whole : List ℕ) : Type 0 where
   pub filled : cut_of 44 whole ≡ None
   pub lengths : (o : ℕ) (e : madt.MadtEntry) → Stands (madt.madt_contents whole).entries o e → madts.IsOfOwnLength e
 
--- an SRAT
+-- the same of an SRAT
 pub record IsReadableSrat (whole : List ℕ) : Type 0 where
   pub long : 48 ≤ length whole
   pub filled : cut_of 48 whole ≡ None
   pub lengths : (o : ℕ) (e : srat.SratEntry) → Stands (srat.srat_contents whole).entries o e → srats.IsOfOwnLength e
 
--- a SLIT has its cells
+-- a SLIT has its cells, and nothing behind them
 pub record IsReadableSlit (whole : List ℕ) : Type 0 where
   pub long : 44 ≤ length whole
   pub size : HasSlitSize (slit_contents whole)
 
--- a PPTT
+-- entries fill a PPTT that have a length of their type
 pub record IsReadablePptt (whole : List ℕ) : Type 0 where
   pub filled : cut_of 36 whole ≡ None
   pub lengths : (o : ℕ) (e : pptt.PpttEntry) → Stands (pptt.pptt_contents whole).entries o e → ¬ pptt.HasOtherPpttLength e

@@ -1,4 +1,5 @@
--- The rebuilt image of a set: what it says, put together anew from a base address on.
+-- The rebuilt image of what a set says: the RSDP at a base address, then an XSDT, the FACS if there is one, and the
+-- listed tables, each at the next multiple of 64.
 use Rattle.std.specs.Prelude.{◌≡◌, ℕ, ◌+◌, ◌*◌, ◌/◌, List, [], ◌∷◌, ◌++◌, length, drop, map, flat_map, slice_index, Option, Some, None}
 use Rattle.std.specs.List.{AllByRecursion}
 use Rattle.std.specs.FinMap.{empty}
@@ -58,30 +59,32 @@ part_lengths v = 36 ∷ xsdt_length v ∷ (map length (listed_option v.facs) ++ 
 abbrev pub part_places : SetValue → ℕ → List ℕ
 part_places v base = places base (part_lengths v)
 
--- the place where there is a FACS, and 0 where there is none
+-- this address where there is a FACS, and 0 where there is none
 abbrev pub place_of_facs : Option (List ℕ) → ℕ → ℕ
 place_of_facs None place = 0
 place_of_facs (Some bytes) place = place
 
--- the FACS's address, which the FADT names
+-- the FACS's address, which the FADT names: that of the part behind the RSDP and the XSDT
 abbrev pub facs_place : SetValue → ℕ → ℕ
 facs_place v base = place_of_facs v.facs (slice_index (part_places v base) 2)
 
--- the tables' addresses
+-- the tables' addresses: those of the parts behind these
 abbrev pub table_places : SetValue → ℕ → List ℕ
 table_places v base = drop (2 + length (listed_option v.facs)) (part_places v base)
 
 -- ---- what they hold
 
--- the first 20 bytes of an RSDP of the extended form that names no RSDT, with this checksum (5.2.5.3)
+-- An RSDP's first 20 bytes (5.2.5.3): the signature at 0, this checksum at 8, the OEMID at 9, Revision 2 at 15, and 0 for
+-- the RSDT's address at 16.
 abbrev pub rsdp_head : List ℕ → ℕ → List ℕ
 rsdp_head oemid checksum = rsdp_signature ++ (checksum ∷ (oemid ++ (2 ∷ number_bytes 4 0)))
 
--- the 16 bytes behind them: the Length, the XSDT's address, this extended checksum, and 3 that are reserved
+-- The 16 bytes behind them: Length 36 at 20, the XSDT's address at 24, this extended checksum at 32, and 3 reserved bytes,
+-- which are 0, at 33.
 abbrev pub rsdp_tail : ℕ → ℕ → List ℕ
 rsdp_tail xsdt checksum = number_bytes 4 36 ++ (number_bytes 8 xsdt ++ (checksum ∷ 0 ∷ 0 ∷ 0 ∷ []))
 
--- the whole, with the checksums that make both its sums 0
+-- an RSDP's 36 bytes, with the checksum that makes the first 20 sum to 0 and the extended one that makes all sum to 0
 unfoldable pub rsdp_bytes : List ℕ → ℕ → List ℕ
 rsdp_bytes oemid xsdt =
     let head = rsdp_head oemid (closing (rsdp_head oemid 0)) in
@@ -109,7 +112,7 @@ rebuilt v base = with_pieces empty (laid base (part_bytes v base))
 abbrev pub HoldsPiece : Memory → Piece → Type 0
 HoldsPiece m p = bytes_at m p.address (length p.bytes) ≡ Some p.bytes
 
--- a rebuilt image holds each part at its place, whole
+-- A rebuilt image holds all bytes of each part, from the address on at which the part is laid: none is laid over another.
 abbrev pub RebuiltHoldsParts : Type 0
 RebuiltHoldsParts = (v : SetValue) (base : ℕ) → AllByRecursion (HoldsPiece (rebuilt v base)) (laid base (part_bytes v base))
 

@@ -25,7 +25,8 @@ use Rattle.acpi_write.specs.Values.{TableValue, Madt, Srat, Slit, Pptt, Fadt, Ot
 abbrev pub entries_in : {E : Type 0} → List (Standing E) → List E
 entries_in entries = map (λ s. s.entry) entries
 
--- a FADT: its FACS addresses are left out, as the FACS may stand elsewhere (5.2.9)
+-- a FADT: its bytes from 36 on, with 0 for its FACS addresses, FIRMWARE_CTRL and X_FIRMWARE_CTRL, as the FACS may stand
+-- elsewhere (5.2.9)
 abbrev pub fadt_said : List ℕ → TableValue
 fadt_said whole = Fadt (head_of whole) (with_facs (drop 36 whole) 0)
 

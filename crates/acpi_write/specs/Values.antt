@@ -12,7 +12,7 @@ pub data TableValue : Type 0 where
   Slit : HeadValue → ℕ → List ℕ → TableValue  -- the number of localities, the cells row after row (5.2.17)
   Pptt : HeadValue → List PpttEntry → TableValue  -- the entries (5.2.30)
   Fadt : HeadValue → List ℕ → TableValue  -- the bytes from 36 on (5.2.9)
-  Other : List ℕ → TableValue  -- all bytes of another table
+  Other : List ℕ → TableValue  -- all bytes of any other table, also of a later one with such a signature
 
 -- what a set says: the RSDP's OEMID, the root's head, the listed tables in the order of their slots, and the FACS's
 -- bytes, where there is one

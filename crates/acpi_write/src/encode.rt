@@ -211,18 +211,20 @@ fn bytes_of(alloc: Global, table: &TableValue<'_>) -> Result<Vec<u8>, AllocError
     }
 }
 
-/// The bytes of a table that says the value. Reserved bytes are written as 0, save that the 4 at 36 of an SRAT are 1;
-/// the checksum makes the bytes sum to 0, and the Length is their number. Another table's bytes stay as they are. They
-/// say no other value of the kind.
+/// The bytes of a table that says the value, header and all: their number is its Length, and with its checksum they sum
+/// to 0 modulo 256. Reserved bytes are 0, save that the 4 at 36 of an SRAT are the number 1. The bytes of `Other` stay as
+/// they are. The bytes say no other value of the kind.
 ///
 /// Refuses, in this order:
-/// `Shape`, where there are no bytes for the value: an entry is kept as bytes whose type is one that its table gives a
-/// meaning (0 to 5, 9 and 10 in a MADT, 0 to 2 in an SRAT, 0 and 1 in a PPTT) or whose second byte is not their number;
-/// a node does not have 4 bytes for each of its references; a SLIT's cells are not as many as its rows times its
-/// columns; a FADT has fewer than 80 bytes behind its header; another table's bytes are not as many as its Length says,
-/// fewer than 36, or do not sum to 0;
-/// `TooLong`, where the table would have more than 4,294,967,295 bytes;
-/// `Memory`, where the allocator is out of memory. Where it returns one of the first two, it takes no memory.
+/// 1. `Shape`, where there are no bytes for the value:
+///    - an entry that is kept as bytes has a type that its table gives a meaning (0 to 5, 9 and 10 in a MADT, 0 to 2 in
+///      an SRAT, 0 and 1 in a PPTT), or its second byte is not the number of its bytes, which is 2 to 255;
+///    - the bytes of a node's references are not 4 for each of the references that its head counts, at most 58;
+///    - the cells of a SLIT are not `count` times `count` bytes;
+///    - the body of a FADT has fewer than 80 bytes;
+///    - the bytes of `Other` are fewer than 36, are not as many as their Length says, or do not sum to 0 modulo 256;
+/// 2. `TooLong`, where the table would have more than 4,294,967,295 bytes, which no Length says;
+/// 3. `Memory`, where the allocator is out of memory. It takes none where it refuses with one of the first two.
 #[tactic(auto, using(crate::proofs::Spelling::spelling))]
 pub fn encode_table(alloc: Global, table: &TableValue<'_>) -> Result<Vec<u8>, WriteFault>
     ensures spells { IfOk result (λ bytes. Spells (table_value table.now) bytes.items) }

@@ -17,8 +17,8 @@ pub fn one_set_value()
     ensures { OneSetValue }
 {}
 
-/// The value that is read of a table is the one that its bytes say: of a SLIT, and where entries fill it of a MADT, an SRAT
-/// and a PPTT.
+/// The value that is read of a table is the one that its bytes say: of a MADT, an SRAT and a PPTT where entries fill it
+/// that have lengths of their types, of a SLIT where it has its cells, of a FADT of at least 116 bytes, of any other.
 pub fn what_is_read()
     ensures { WhatIsReadIsSpelled }
 {}
@@ -44,8 +44,8 @@ pub fn rebuilt_holds_parts()
     ensures { RebuiltHoldsParts }
 {}
 
-/// The parts of what a clean set says are laid, from any base address on, at the places that are counted from the parts'
-/// lengths: `Rebuilt` puts each part where `Placed` asks for room.
+/// The parts of what a clean set says have the lengths from which their places are counted, and are laid at these places,
+/// from each base address on.
 pub fn clean_parts_are_laid()
     ensures { CleanPartsAreLaid }
 {}

@@ -120,8 +120,8 @@ fn clean_values<'a>(
 /// table and the FACS. `encode_table` writes each table of the value: it refuses none of them with `Shape` or `TooLong`.
 ///
 /// Refuses, in this order:
-/// `NotClean`, exactly where the set is not clean, with its first fault, which is that of `check`;
-/// `Memory`, where the allocator is out of memory.
+/// `NotClean`, memory aside exactly where the set is not clean, with its first fault, which is that of `check`;
+/// `Memory`, where the allocator is out of memory: only where the stages up to the MADT's hold, which take none.
 pub fn values<'a>(
     alloc: Global,
     image: &'a Image,
