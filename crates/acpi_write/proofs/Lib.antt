@@ -16,6 +16,7 @@ pub mod NewRoot
 pub mod NodeBytes
 pub mod OneSetValue
 pub mod PartLengths
+pub mod PartsInOrder
 pub mod Refusals
 pub mod PpttBytes
 pub mod Reading
@@ -26,4 +27,5 @@ pub mod Spelling
 pub mod SratBytes
 pub mod Sums
 pub mod TableBytes
+pub mod WrittenParts
 pub mod Tables
