@@ -1,5 +1,5 @@
 -- The parts of a set, put into an image one after another.
-use Rattle.std.proofs.Common.{◌≡◌, ℕ, zero, suc, ◌+◌, ◌-◌, ◌*◌, ◌^◌, ◌<◌, ◌≤◌, List, [], ◌∷◌, ◌++◌, length, get_or, drop, map, flat_map, Bool, true, Option, Some, None, refl, sym, ap, ◌∙◌, subst, arith, length-append, length-drop}
+use Rattle.std.proofs.Common.{◌≡◌, ℕ, suc, ◌+◌, ◌*◌, ◌^◌, ◌<◌, ◌≤◌, List, [], ◌∷◌, ◌++◌, length, get_or, drop, map, flat_map, Bool, true, Option, Some, None, refl, sym, ap, ◌∙◌, subst, arith, length-append, length-drop}
 use Rattle.std.specs.List.{list_any}
 use Rattle.std.specs.Prelude.{◌||◌}
 use Rattle.std.specs.FinMap.{empty, get-empty}
@@ -16,7 +16,7 @@ use Rattle.acpi_write.specs.Placed.{IsPlaced, is_narrow}
 use Rattle.acpi_write.specs.Rebuilt.{aligned, encoded_with, laid, places, place_of_facs, listed_option, part_bytes, part_lengths, part_places, rsdp_tail, table_places, with_pieces, rebuilt}
 use Rattle.acpi_write.specs.SetWriting.{Awaits, EndsBelow, HasRoom, table_blocks, table_lengths}
 use Rattle.acpi_write.specs.Values as value
-use Rattle.acpi_write.specs.Views.{set_value, table_value}
+use Rattle.acpi_write.specs.Views.{table_value}
 use Rattle.acpi_write.specs.declared.table_value.TableValue.{TableValue}
 use Rattle.acpi_write.proofs.KeptContents.{length_of_parts}
 use Rattle.acpi_write.proofs.NewRoot.{length-slots}

@@ -1,5 +1,5 @@
 -- How many bytes the tables of a rebuilt set have, and what stands behind parts that were put into its image.
-use Rattle.std.proofs.Common.{◌≡◌, ℕ, zero, suc, ◌+◌, ◌^◌, ◌<◌, ◌≤◌, List, [], ◌∷◌, ◌++◌, length, get_or, drop, map, flat_map, Option, None, refl, sym, ap, ◌∙◌, subst, inl, inr, arith}
+use Rattle.std.proofs.Common.{◌≡◌, ℕ, zero, suc, ◌+◌, ◌^◌, ◌<◌, ◌≤◌, List, [], ◌∷◌, ◌++◌, length, get_or, drop, map, flat_map, None, refl, sym, ap, ◌∙◌, subst, inr, arith}
 use Rattle.std.specs.Prelude.{Result, Ok, Err, IfOk}
 use Rattle.std.specs.Option.{option_map}
 use Rattle.std.specs.FinMap.{empty, get-empty}
@@ -10,7 +10,6 @@ use Rattle.acpi_base.specs.Header.{HeadValue}
 use Rattle.acpi_base.specs.Listed.{fadt_signature, madt_signature, srat_signature, slit_signature, pptt_signature}
 use Rattle.acpi_base.specs.Memory.{Memory, byte_of, with_bytes, first_held}
 use Rattle.acpi_base.specs.Number.{number_bytes}
-use Rattle.acpi_base.specs.Segments.{run_at}
 use Rattle.acpi_base.specs.declared.image.ImageFault.TheVariants.{Twice}
 use Rattle.acpi_base.proofs.Pieces.RunBytes.{byte_of-with_bytes_outside}
 use Rattle.acpi_base.proofs.Runs.{first_of_none}

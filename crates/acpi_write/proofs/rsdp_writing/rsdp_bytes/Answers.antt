@@ -1,6 +1,5 @@
-use Rattle.std.proofs.Common.{◌∙◌, ◌++◌, List, ℕ, ap, length}
+use Rattle.std.proofs.Common.{◌∙◌, ap, length}
 use Rattle.std.proofs.lemmas.Result.{IfOk-weaker}
-use Rattle.acpi_write.specs.Rebuilt.{rsdp_tail}
 use Rattle.acpi_write.proofs.PartsInOrder.{rsdp_count}
 use Rattle.acpi_write.proofs.rsdp_writing.rsdp_bytes.Goals as goal
 

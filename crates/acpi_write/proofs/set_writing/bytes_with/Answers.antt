@@ -1,9 +1,9 @@
-use Rattle.std.proofs.Common.{◌≡◌, ◌+◌, ◌<◌, ◌≤◌, ℕ, List, length, sym, ap, ◌∙◌, arith}
+use Rattle.std.proofs.Common.{◌≡◌, ℕ, List, length, sym, ap, ◌∙◌, arith}
 use Rattle.std.proofs.lemmas.Result.{IfOk-weaker}
 use Rattle.acpi_base.specs.Listed.{fadt_signature}
-use Rattle.acpi_write.specs.Encoded.{encoded_length, table_bytes}
+use Rattle.acpi_write.specs.Encoded.{table_bytes}
 use Rattle.acpi_write.specs.FadtBody.{with_facs}
-use Rattle.acpi_write.specs.Views.{head_value, table_value}
+use Rattle.acpi_write.specs.Views.{head_value}
 use Rattle.acpi_write.proofs.FadtBodies.{length-with_facs}
 use Rattle.acpi_write.proofs.WrittenParts.{IfOk-both, encoded_count, fadt_count, encoded_without}
 use Rattle.acpi_write.proofs.set_writing.bytes_with.Goals as goal

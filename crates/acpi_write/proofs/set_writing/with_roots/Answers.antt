@@ -1,10 +1,10 @@
-use Rattle.std.proofs.Common.{◌≡◌, ◌+◌, ◌*◌, ◌∷◌, ◌++◌, ◌<◌, ◌≤◌, ◌^◌, ℕ, List, length, get_or, drop, map, flat_map, sym, ap, ◌∙◌, subst, arith}
+use Rattle.std.proofs.Common.{◌≡◌, ◌+◌, ◌*◌, ◌∷◌, ◌++◌, ℕ, List, length, get_or, map, flat_map, sym, ap, ◌∙◌, subst, arith}
 use Rattle.std.specs.Prelude.{slice_index}
 use Rattle.acpi_base.specs.Memory.{with_bytes}
 use Rattle.acpi_base.specs.Number.{number_bytes}
 use Rattle.acpi_base.specs.Signature.{xsdt_signature}
 use Rattle.acpi_write.specs.Encoded.{encoded_length, table_bytes}
-use Rattle.acpi_write.specs.Rebuilt.{encoded_with, facs_place, listed_option, part_bytes, part_lengths, part_places, rebuilt, rsdp_bytes, table_places, xsdt_length}
+use Rattle.acpi_write.specs.Rebuilt.{encoded_with, facs_place, listed_option, part_lengths, part_places, rebuilt, rsdp_bytes, table_places, xsdt_length}
 use Rattle.acpi_write.specs.SetWriting.{Awaits, EndsBelow}
 use Rattle.acpi_write.specs.Views.{set_value}
 use Rattle.acpi_write.proofs.PartsInOrder.{part_count, listed_count, first_place, none_so_far, next_part, one_more}

@@ -1,12 +1,12 @@
-use Rattle.std.proofs.Common.{◌≡◌, true, ◌+◌, ◌∷◌, ◌++◌, ◌<◌, ◌≤◌, ◌^◌, ℕ, List, Option, length, get_or, drop, map, refl, sym, ap, ◌∙◌, subst, arith}
+use Rattle.std.proofs.Common.{◌≡◌, true, ◌+◌, ℕ, List, length, drop, map, sym, ap, ◌∙◌, subst, arith}
 use Rattle.std.specs.Option.{option_map}
 use Rattle.std.specs.List.{list_any}
 use Rattle.std.specs.Prelude.{slice_index}
 use Rattle.acpi_base.specs.Memory.{Memory, with_bytes}
 use Rattle.acpi_write.specs.Encoded.{encoded_length}
 use Rattle.acpi_write.specs.Placed.{is_narrow}
-use Rattle.acpi_write.specs.Rebuilt.{encoded_with, facs_place, listed_option, part_places, place_of_facs, rebuilt, table_places}
-use Rattle.acpi_write.specs.SetWriting.{Awaits, EndsBelow, HasRoom, table_blocks, table_lengths}
+use Rattle.acpi_write.specs.Rebuilt.{encoded_with, facs_place, listed_option, place_of_facs, rebuilt}
+use Rattle.acpi_write.specs.SetWriting.{Awaits, EndsBelow}
 use Rattle.acpi_write.specs.Views.{set_value, table_value}
 use Rattle.acpi_write.specs.declared.table_value.TableValue.{TableValue}
 use Rattle.acpi_write.proofs.PartsInOrder.{part_count, facs_part, facs_put, no_facs, tables_room, tables_put, narrow_there}

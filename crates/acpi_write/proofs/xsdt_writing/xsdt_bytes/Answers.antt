@@ -1,4 +1,4 @@
-use Rattle.std.proofs.Common.{List, ℕ, ap, length, ◌∙◌}
+use Rattle.std.proofs.Common.{ap, length, ◌∙◌}
 use Rattle.std.proofs.lemmas.Result.{IfOk-weaker}
 use Rattle.acpi_base.specs.Signature.{xsdt_signature}
 use Rattle.acpi_write.specs.Encoded.{table_bytes}
