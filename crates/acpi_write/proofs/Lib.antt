@@ -3,6 +3,7 @@ pub mod EncodedSizes
 pub mod EntryForms
 pub mod EntryLists
 pub mod EntryReading
+pub mod FacsLengths
 pub mod FadtBodies
 pub mod FirstListed
 pub mod FirstTables
@@ -25,6 +26,7 @@ pub mod OldTables
 pub mod OneSetValue
 pub mod PartLengths
 pub mod PartPlaces
+pub mod PartsInOrder
 pub mod Refusals
 pub mod PpttBytes
 pub mod Reading
@@ -38,4 +40,5 @@ pub mod Spelling
 pub mod SratBytes
 pub mod Sums
 pub mod TableBytes
+pub mod WrittenParts
 pub mod Tables

@@ -7,6 +7,7 @@ pub mod Readable
 pub mod Rebuilding
 pub mod Rebuilt
 pub mod SetValues
+pub mod SetWriting
 pub mod Spells
 pub mod Values
 pub mod Views

@@ -11,6 +11,8 @@ use Rattle.acpi_write.specs.SetValues.{IsSetValue}
 use Rattle.acpi_write.specs.Values.{SetValue}
 use Rattle.acpi_write.specs.declared.placing.RebuildFault.{RebuildFault}
 use Rattle.acpi_write.specs.declared.placing.RebuildFault.TheVariants as fault
+use Rattle.acpi_write.specs.declared.set_value.ValuesFault.{ValuesFault}
+use Rattle.acpi_write.specs.declared.set_value.ValuesFault.TheVariants as values_fault
 
 -- the image holds a clean set; what it says can stand from the base address on, and the new image is this rebuilt
 pub record IsRebuilt (m : Memory) (q : PolicyValue) (base : ℕ) (new : Memory) : Type 0 where
@@ -29,15 +31,20 @@ IsRebuildRefusal m q base (fault.NotClean w) = (base % 64 ≡ 0) × (¬ IsClean 
 IsRebuildRefusal m q base fault.Memory = (base % 64 ≡ 0) × CleanTo stage.Madt m q
 IsRebuildRefusal m q base refused = (base % 64 ≡ 0) × IsClean m q × ((v : SetValue) × IsSetValue m q.rsdp v × IsPlacingRefusal v base refused)
 
+-- a set without a value is refused as it was
+abbrev pub refused_value : ValuesFault → RebuildFault
+refused_value (values_fault.NotClean w) = fault.NotClean w
+refused_value values_fault.Memory = fault.Memory
+
 -- ---- a law
 
 -- The rebuilt image of what a clean set says holds a clean set, under the same policy with the RSDP at the base address,
 -- and it says the same. So whatever it says can stand at that base again, and its rebuilt image there is this one.
-pub record IsKept (q : PolicyValue) (v : SetValue) (base : ℕ) : Type 0 where
+pub record IsSetKept (q : PolicyValue) (v : SetValue) (base : ℕ) : Type 0 where
   pub clean : IsClean (rebuilt v base) (with_rsdp q base)
   pub value : IsSetValue (rebuilt v base) base v
   pub again : (w : SetValue) → IsSetValue (rebuilt v base) base w → IsPlaced w base × (rebuilt w base ≡ rebuilt v base)
 
 -- wherever it can stand
 abbrev pub RebuiltSetsAreKept : Type 0
-RebuiltSetsAreKept = (m : Memory) (q : PolicyValue) (v : SetValue) (base : ℕ) → IsImage m → IsClean m q → IsSetValue m q.rsdp v → IsPlaced v base → IsKept q v base
+RebuiltSetsAreKept = (m : Memory) (q : PolicyValue) (v : SetValue) (base : ℕ) → IsImage m → IsClean m q → IsSetValue m q.rsdp v → IsPlaced v base → IsSetKept q v base

@@ -19,6 +19,7 @@ mod rebuilding;
 mod rsdp_writing;
 mod set_reading;
 mod set_value;
+mod set_writing;
 mod table_reading;
 mod table_value;
 mod xsdt_writing;
