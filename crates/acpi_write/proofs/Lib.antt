@@ -27,10 +27,10 @@ pub mod OneSetValue
 pub mod PartLengths
 pub mod PartPlaces
 pub mod PartsInOrder
-pub mod Refusals
 pub mod PpttBytes
 pub mod Reading
 pub mod RebuiltParts
+pub mod Refusals
 pub mod RewrittenTables
 pub mod RsdpBytes
 pub mod SaidBehind
@@ -40,5 +40,5 @@ pub mod Spelling
 pub mod SratBytes
 pub mod Sums
 pub mod TableBytes
-pub mod WrittenParts
 pub mod Tables
+pub mod WrittenParts
