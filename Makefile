@@ -37,6 +37,7 @@ test:
 	tests/recipes.sh $(program)
 	tests/show/run.py $(program)
 	tests/refusals.py $(program)
+	tests/refused_calls.py crates/*/out/*_tests
 	tests/program.sh $(program)
 
 # Prints speed and memory beside other programs; not part of the tests.

@@ -105,6 +105,11 @@ def cache(next_level):
     return struct.pack("<BBHIIIIBBH", 1, 24, 0, 0, next_level, 0, 0, 0, 0, 64)
 
 
+def reserved(number):
+    """An entry of a type without a meaning, as short as an entry may be."""
+    return bytes((6, 2))
+
+
 def madt(*entries):
     return table(b"APIC", struct.pack("<II", 0xFEE00000, 1) + b"".join(entries))
 
@@ -150,8 +155,11 @@ def machine(count):
     ]
 
 
-# the tables of a kind, by the number of entries; each has all its entries in no order
+# the tables of a kind, by the number of entries, which stand in no order where they differ
 KINDS = {
+    "reserved-entries": lambda count: [madt(*map(reserved, range(count)))],
+    "empty-tables": lambda count: [table(b"DATA", b"")] * count,
+    "bytes-of-a-table": lambda count: [table(b"DATA", random.Random(1).randbytes(count))],
     "overrides": lambda count: [madt(*map(override, shuffled(count)))],
     "io-apics": lambda count: [madt(*map(io_apic, shuffled(count)))],
     "ranges": lambda count: [srat(*map(memory_range, shuffled(count)))],

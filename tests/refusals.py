@@ -11,7 +11,6 @@ built from refusals.c, by the C compiler of the system or of the toolchain."""
 
 import os
 import resource
-import shutil
 import subprocess
 import sys
 import tempfile
@@ -24,6 +23,7 @@ from pathlib import Path
 HERE = Path(__file__).parent
 sys.path += [str(HERE / "rows"), str(HERE / "show")]
 
+from preloaded import build_object, numbers
 from reader import shown
 from rows import OVERLAP, ROWS, SMALLEST, WHOLE
 from tables import *
@@ -188,21 +188,6 @@ WRONG_WORDS = [
 # ---- the program
 
 
-def build_object(scratch):
-    """Builds refusals.c, and returns the object's path, or nothing where that fails."""
-    compiler = next(filter(None, map(shutil.which, ("cc", "gcc", "clang"))), None)
-    flags = ["-shared", "-fPIC", "-nostdlib"]
-    if not compiler and (rt := shutil.which("rt")):
-        # The toolchain's compiler has no C library to link, and a linker of its own.
-        compiler = Path(rt).resolve().parent.parent / "toolchain" / "bin" / "clang"
-        flags.append("-fuse-ld=lld")
-    path = scratch / "refusals.so"
-    if not compiler or not Path(compiler).exists():
-        return None
-    built = subprocess.run([compiler, *flags, "-o", path, HERE / "refusals.c"])
-    return path if built.returncode == 0 else None
-
-
 @dataclass
 class Told:
     """What a run told: status, standard output and standard error. Where something was refused, `refused` is the number of
@@ -251,17 +236,6 @@ class Program:
 
 
 # ---- refused memory
-
-# So many requests are refused each in its turn, and those behind them in steps of a twentieth.
-EACH = 200
-
-
-def numbers():
-    number = 1
-    while True:
-        yield number
-        number += 1 if number < EACH else number // 20
-
 
 class Sweep:
     """What a run told where each of its requests for memory was refused, by its number."""

@@ -52,29 +52,27 @@ impl Read for Endless {
 }
 
 #[test]
-fn reads_each_byte(rt: HostRuntime) {
+fn reads_each_byte(rt: HostRuntime) -> Result<(), Fail> {
     let mut reader = Tally::new(TABLES);
-    let image = read_image(rt.alloc(), &mut reader).ok();
-    assert!(rt; image.is_some());
-    if let Some(image) = image {
-        for (address, byte) in [
-            (0xdffff, None),
-            (0xe0000, Some(0x52)),
-            (0xe0008, Some(0x4b)),
-            (0xe0013, Some(0)),
-            (0xe0014, None),
-            (0xfff, None),
-            (0x1000, Some(0x52)),
-            (0x1009, Some(0x0a)),
-            (0x1020, Some(1)),
-            (0x1023, Some(0)),
-            (0x1024, None),
-        ] {
-            assert_eq!(rt; image.byte_at(address), byte, "at {address:#x}");
-        }
+    let image = read_image(rt.alloc(), &mut reader)?;
+    for (address, byte) in [
+        (0xdffff, None),
+        (0xe0000, Some(0x52)),
+        (0xe0008, Some(0x4b)),
+        (0xe0013, Some(0)),
+        (0xe0014, None),
+        (0xfff, None),
+        (0x1000, Some(0x52)),
+        (0x1009, Some(0x0a)),
+        (0x1020, Some(1)),
+        (0x1023, Some(0)),
+        (0x1024, None),
+    ] {
+        assert_eq!(rt; image.byte_at(address), byte, "at {address:#x}");
     }
     assert_eq!(rt; reader.failures(), 0);
     assert!(rt; reader.into_inner().is_empty());
+    Ok(())
 }
 
 #[test]

@@ -113,7 +113,7 @@ fn writes_are_counted_where_they_fail(rt: HostRuntime) {
 #[test]
 fn passes_bytes_on(rt: HostRuntime) {
     let mut writer = Tally::new(Vec::new(rt.alloc()));
-    assert!(rt; writer.write(b"abc") == Ok(3));
+    assert_eq!(rt; writer.write(b"abc"), Ok(3));
     assert!(rt; writer.into_inner().as_slice() == b"abc".as_slice());
     let mut reader = Tally::new(b"abc".as_slice());
     let mut buffer = [7; 5];

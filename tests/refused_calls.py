@@ -1,0 +1,69 @@
+#!/usr/bin/env python3
+"""Runs the tests of libraries with their requests for memory refused, one in each run: a test ends well only where none was
+refused, and what it says otherwise is that the library is out of memory. So no call gives another answer, nor another
+fault, where memory is refused: also of those calls that no command of the program reaches alone.
+
+usage: refused_calls.py TESTS..; the last line is 'refused calls: N passed, M failed'. TESTS is what a crate's tests are built
+as, crates/NAME/out/NAME_tests, where `rt ci` and `rt test` leave it."""
+
+import re
+import subprocess
+import sys
+import tempfile
+from concurrent.futures import ThreadPoolExecutor
+from pathlib import Path
+
+from preloaded import build_object, numbers
+
+SECONDS = 60
+# How a test says that a call, of the library or of the standard library, was out of memory. A list that is written to as a
+# device fails then as a device does.
+OUT_OF_MEMORY = re.compile(rb"\b(AllocError|AllocFailed|Memory|DeviceFailed)\b")
+
+
+def names(tests):
+    """The names of its tests."""
+    told = subprocess.run([tests, "--list"], stdout=subprocess.PIPE, check=True).stdout.decode()
+    return re.findall(r"^(\S+): test$", told, re.M)
+
+
+def told(tests, name, preload, mark, number):
+    """Whether its request with this number was refused, and its status and all that it says."""
+    settings = {"LD_PRELOAD": str(preload), "REFUSED": str(mark), "REFUSE_AT": str(number)}
+    run = subprocess.run([tests, name], stdout=subprocess.PIPE, stderr=subprocess.STDOUT, env=settings, timeout=SECONDS)
+    is_refused = mark.exists()
+    mark.unlink(missing_ok=True)
+    return is_refused, run.returncode, run.stdout
+
+
+def starved(tests, name, preload, mark):
+    """How many of its requests for memory were refused, and what is wrong."""
+    refused = 0
+    for number in numbers():
+        is_refused, status, text = told(tests, name, preload, mark, number)
+        if not is_refused:
+            return refused, "" if status == 0 else f"status {status} where nothing is refused: {text}"
+        refused += 1
+        if status == 0 or not OUT_OF_MEMORY.search(text):
+            return refused, f"request {number}: status {status}: {text}"
+
+
+def main():
+    passed = failed = 0
+    with tempfile.TemporaryDirectory() as scratch, ThreadPoolExecutor(2) as pool:
+        preload = build_object(Path(scratch))
+        if not preload:
+            sys.exit("no C compiler to build tests/refusals.c")
+        tests = [(path, name) for path in map(Path, sys.argv[1:]) for name in names(path.resolve())]
+        tried = [(path.resolve(), name, preload, Path(scratch) / str(place)) for place, (path, name) in enumerate(tests)]
+        for (path, name, _, _), (refused, wrong) in zip(tried, pool.map(lambda case: starved(*case), tried)):
+            if wrong:
+                failed += 1
+                print(f"{path.name}, {name}: {wrong}")
+            else:
+                passed += refused
+    print(f"refused calls: {passed} passed, {failed} failed")
+    sys.exit(1 if failed else 0)
+
+
+main()
