@@ -24,7 +24,7 @@ pub record IsRebuilt (m : Memory) (q : PolicyValue) (base : ℕ) (new : Memory) 
 
 -- Why a set is not rebuilt: the base address is not a multiple of 64; or it is, and the set is not clean, of which this is
 -- the first fault; or the set is clean, and what it says cannot stand from the base address on. Out of memory, the base
--- address is a multiple of 64 and the stages before the MADT's hold, which take no memory.
+-- address is a multiple of 64 and the stages up to the MADT's hold, which take no memory.
 abbrev pub IsRebuildRefusal : Memory → PolicyValue → ℕ → RebuildFault → Type 0
 IsRebuildRefusal m q base fault.Unaligned = ¬ (base % 64 ≡ 0)
 IsRebuildRefusal m q base (fault.NotClean w) = (base % 64 ≡ 0) × (¬ IsClean m q) × IsFirstFault m q w
