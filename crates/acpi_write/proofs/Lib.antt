@@ -3,6 +3,7 @@ pub mod EncodedSizes
 pub mod EntryForms
 pub mod EntryLists
 pub mod EntryReading
+pub mod FacsLengths
 pub mod FadtBodies
 pub mod KeptContents
 pub mod KeptEntries
@@ -16,6 +17,7 @@ pub mod NewRoot
 pub mod NodeBytes
 pub mod OneSetValue
 pub mod PartLengths
+pub mod PartsInOrder
 pub mod Refusals
 pub mod PpttBytes
 pub mod Reading
@@ -26,4 +28,5 @@ pub mod Spelling
 pub mod SratBytes
 pub mod Sums
 pub mod TableBytes
+pub mod WrittenParts
 pub mod Tables

@@ -4,8 +4,10 @@ pub mod FadtBody
 pub mod Laws
 pub mod Placed
 pub mod Readable
+pub mod Rebuilding
 pub mod Rebuilt
 pub mod SetValues
+pub mod SetWriting
 pub mod Spells
 pub mod Values
 pub mod Views

@@ -11,6 +11,8 @@ use Rattle.acpi_write.specs.SetValues.{IsSetValue}
 use Rattle.acpi_write.specs.Values.{SetValue}
 use Rattle.acpi_write.specs.declared.placing.RebuildFault.{RebuildFault}
 use Rattle.acpi_write.specs.declared.placing.RebuildFault.TheVariants as fault
+use Rattle.acpi_write.specs.declared.set_value.ValuesFault.{ValuesFault}
+use Rattle.acpi_write.specs.declared.set_value.ValuesFault.TheVariants as values_fault
 
 -- the image holds a clean set; what it says can stand from the base address on, and the new image is this rebuilt
 pub record IsRebuilt (m : Memory) (q : PolicyValue) (base : ℕ) (new : Memory) : Type 0 where
@@ -28,6 +30,11 @@ IsRebuildRefusal m q base fault.Unaligned = ¬ (base % 64 ≡ 0)
 IsRebuildRefusal m q base (fault.NotClean w) = (base % 64 ≡ 0) × (¬ IsClean m q) × IsFirstFault m q w
 IsRebuildRefusal m q base fault.Memory = (base % 64 ≡ 0) × CleanTo stage.Madt m q
 IsRebuildRefusal m q base refused = (base % 64 ≡ 0) × IsClean m q × ((v : SetValue) × IsSetValue m q.rsdp v × IsPlacingRefusal v base refused)
+
+-- a set without a value is refused as it was
+abbrev pub refused_value : ValuesFault → RebuildFault
+refused_value (values_fault.NotClean w) = fault.NotClean w
+refused_value values_fault.Memory = fault.Memory
 
 -- ---- a law
 

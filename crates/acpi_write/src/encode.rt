@@ -178,7 +178,7 @@ pub(crate) fn with_header(
 }
 
 /// The bytes of a table of which there are some, and not too many.
-fn bytes_of(alloc: Global, table: &TableValue<'_>) -> Result<Vec<u8>, AllocError>
+pub(crate) fn bytes_of(alloc: Global, table: &TableValue<'_>) -> Result<Vec<u8>, AllocError>
     requires shaped { IsShaped table.now }
     requires short { encoded_length (table_value table.now) < 2 ^ 32 }
     ensures bytes { IfOk result (λ bytes. bytes.items ≡ encoded (table_value table.now)) }

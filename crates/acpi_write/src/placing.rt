@@ -9,7 +9,7 @@ ghost use Rattle.acpi_write.specs.Views.{set_value, table_value, IsShaped, IsSho
 ghost use Rattle.acpi_write.specs.declared.placing.RebuildFault.{RebuildFault};
 
 use crate::encode::size_of;
-use crate::set_value::SetValue;
+use crate::set_value::{SetValue, ValuesFault};
 use crate::table_value::TableValue;
 use acpi_base::Witness;
 use std::alloc::{AllocError, Global};
@@ -45,6 +45,19 @@ impl From<AllocError> for RebuildFault {
 
     fn from(_error: AllocError) -> RebuildFault {
         RebuildFault::Memory
+    }
+}
+
+impl From<ValuesFault> for RebuildFault {
+    ghost use Rattle.acpi_write.specs.Rebuilding.{refused_value};
+
+    ghost from_gives = { λ given fault. fault ≡ refused_value given };
+
+    fn from(fault: ValuesFault) -> RebuildFault {
+        match fault {
+            ValuesFault::NotClean(witness) => RebuildFault::NotClean(witness),
+            ValuesFault::Memory => RebuildFault::Memory,
+        }
     }
 }
 

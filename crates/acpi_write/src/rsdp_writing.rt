@@ -1,6 +1,6 @@
 //! The bytes of a rebuilt set's RSDP.
 
-ghost use Rattle.std.specs.Prelude.{◌≡◌, ◌++◌, IfOk};
+ghost use Rattle.std.specs.Prelude.{◌≡◌, ◌++◌, length, IfOk};
 ghost use Rattle.acpi_write.specs.Encoded.{closing};
 ghost use Rattle.acpi_write.specs.Rebuilt.{rsdp_head, rsdp_tail, rsdp_bytes};
 
@@ -17,7 +17,8 @@ fn closing(bytes: &[u8]) -> u8
 /// The first 20 bytes of an RSDP of the extended form that names no RSDT, with this checksum.
 #[tactic(auto, unfolding(acpi_base::specs::Number::number_bytes))]
 fn rsdp_head(alloc: Global, oemid: [u8; 6], checksum: u8) -> Result<Vec<u8>, AllocError>
-    ensures { IfOk result (λ bytes. bytes.items ≡ rsdp_head oemid checksum) }
+    ensures bytes { IfOk result (λ bytes. bytes.items ≡ rsdp_head oemid checksum) }
+    ensures count { IfOk result (λ bytes. length bytes.items ≡ 20) }
 {
     let mut bytes = Vec::from_slice(alloc, b"RSD PTR ")?;
     bytes.push(checksum)?;
@@ -41,7 +42,8 @@ fn with_tail(alloc: Global, head: &[u8], xsdt: u64, checksum: u8) -> Result<Vec<
 /// 20 bytes sum to 0, and so do all.
 #[tactic(auto, unfolding(crate::specs::Rebuilt::rsdp_bytes))]
 pub(crate) fn rsdp_bytes(alloc: Global, oemid: [u8; 6], xsdt: u64) -> Result<Vec<u8>, AllocError>
-    ensures { IfOk result (λ bytes. bytes.items ≡ rsdp_bytes oemid xsdt) }
+    ensures bytes { IfOk result (λ bytes. bytes.items ≡ rsdp_bytes oemid xsdt) }
+    ensures count { IfOk result (λ bytes. length bytes.items ≡ 36) }
 {
     let open_head = rsdp_head(alloc, oemid, 0)?;
     let head = rsdp_head(alloc, oemid, closing(&open_head))?;

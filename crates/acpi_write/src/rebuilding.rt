@@ -3,9 +3,9 @@
 ghost use Rattle.std.specs.Prelude.{IfOk, IfErr};
 ghost use Rattle.acpi_write.specs.Rebuilding.{IsRebuilt, IsRebuildRefusal};
 
-use crate::placing::RebuildFault;
+use crate::placing::{RebuildFault, placed};
 use crate::set_reading::values;
-use crate::set_value::ValuesFault;
+use crate::set_writing::written_set;
 use acpi_base::{Image, Policy};
 use std::alloc::Global;
 
@@ -33,9 +33,7 @@ pub fn rebuild(
     if base % 64 != 0 {
         return Err(RebuildFault::Unaligned);
     }
-    match values(alloc, image, policy) {
-        Ok(_) => Err(RebuildFault::Memory),
-        Err(ValuesFault::NotClean(fault)) => Err(RebuildFault::NotClean(fault)),
-        Err(ValuesFault::Memory) => Err(RebuildFault::Memory),
-    }
+    let value = values(alloc, image, policy)?;
+    let places = placed(alloc, &value, base)?;
+    Ok(written_set(alloc, &value, base, &places)?)
 }
