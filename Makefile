@@ -36,6 +36,7 @@ test:
 	tests/install.sh $(program)
 	tests/recipes.sh $(program)
 	tests/show/run.py $(program)
+	tests/rebuild/run.py $(program)
 	tests/refusals.py $(program)
 	tests/refused_calls.py crates/*/out/*_tests
 	tests/program.sh $(program)

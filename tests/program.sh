@@ -98,6 +98,14 @@ runs "no RSDP with a right sum to show" 1 'no rsdp\n' '' "$scratch/sum" show
 runs "nothing to show" 1 'no rsdp\n' '' /dev/null show
 runs "firmware sb-q35-default, its whole region, shown" 0 "$(cat show/images/sb-q35-default.txt)\n" '' "$scratch/region" show
 
+# ---- sets that are rebuilt: what is rebuilt of each is in tests/rebuild
+runs "the smallest set, rebuilt" 1 'no 4 NoFadt 0x0 0x0 0x0\n' '' "$smallest" rebuild --rsdp e0000 --base e0000
+runs "the smallest set, a wrong base address" 1 'refused Unaligned\n' '' "$smallest" rebuild --rsdp e0000 --base e0020
+runs "no RSDP with a right sum to rebuild, and a wrong base address" 1 'no rsdp\n' '' "$scratch/sum" rebuild --base e0020
+"$program" rebuild --rsdp f59e0 --base 7ffe0000 <images/sb-q35-default.img.txt >"$scratch/rebuilt"
+runs "firmware sb-q35-default, rebuilt and checked" 0 'yes\n' '' "$scratch/rebuilt" check --rsdp 7ffe0000
+runs "firmware sb-q35-default, its whole region, rebuilt" 0 "$(cat "$scratch/rebuilt")\n" '' "$scratch/region" rebuild --base 7ffe0000
+
 # ---- the search for the RSDP
 runs "the smallest set, found" 0 "rsdp 0xe0000\n" "" "$smallest" find
 runs "the smallest set, checked where it is found" 0 "yes\n" "" "$smallest" check --through 3
@@ -122,6 +130,7 @@ printf '\n' >>"$scratch/text"
 runs "a text of 67,108,865 bytes" 3 '' 'acpiset: too long\n' "$scratch/text" check --rsdp e0000
 rm "$scratch/text"
 runs "half a pair to show" 3 '' 'acpiset: line 2: bad line\n' "$scratch/half" show --rsdp e0000
+runs "half a pair to rebuild" 3 '' 'acpiset: line 2: bad line\n' "$scratch/half" rebuild --base e0020
 runs "half a pair, and a fault to confirm" 3 '' 'acpiset: line 2: bad line\n' "$scratch/half" confirm --rsdp e0000 --witness "$overlap"
 runs "half a pair, a fault to confirm, and no RSDP" 3 '' 'acpiset: line 2: bad line\n' "$scratch/half" confirm --witness "$overlap"
 
@@ -142,6 +151,7 @@ refuses() {
   grep -qxF '                [--hotplug counted|apart] [--processors enabled|usable]' "$scratch/err" || wrong="$wrong; no usage of settings"
   grep -qxF '  acpiset confirm --witness FAULT [--rsdp HEX]' "$scratch/err" || wrong="$wrong; no usage of confirm"
   grep -qF "'10 Overlap 0x30 0x58 0x0'" "$scratch/err" || wrong="$wrong; no fault as it is written"
+  grep -qxF '  acpiset rebuild --base HEX [--rsdp HEX]' "$scratch/err" || wrong="$wrong; no usage of rebuild"
   grep -qxF '  acpiset show [--rsdp HEX]' "$scratch/err" || wrong="$wrong; no usage of show"
   grep -qxF '  acpiset find' "$scratch/err" || wrong="$wrong; no usage of find"
   grep -qxF "  --through N  the last stage to check, 1 to $last, and $last if absent:" "$scratch/err" || wrong="$wrong; no last stage"
@@ -212,6 +222,7 @@ refuses "the argument '--rsdp <HEX>' cannot be used multiple times" show --rsdp 
 refuses "unexpected argument '--through' found" show --rsdp e0000 --through 3
 refuses "unexpected argument 'fec00000=24' found" show fec00000=24
 refuses '' show --help
+refuses '' rebuild --help
 refuses "an argument is not UTF-8" check --rsdp $'\xff'
 refuses "an argument is not UTF-8" check $'fec00000=24\xff'
 

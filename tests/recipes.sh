@@ -1,6 +1,6 @@
 #!/usr/bin/env bash
-# Runs the recipes of docs/RECIPES.md and docs/TROUBLESHOOTING.md whose tools are on the machine, and compares what they print
-# with the page.
+# Runs the recipes of docs/RECIPES.md, docs/REBUILD.md and docs/TROUBLESHOOTING.md whose tools are on the machine, and compares
+# what they print with the page.
 # usage: tests/recipes.sh PROGRAM; it names those that it left out, and the last line is 'recipes: N passed, M failed, L left out'.
 # A recipe that runs QEMU and fails is run once more with more time to boot.
 #
@@ -36,7 +36,7 @@ awk -v folder="$scratch/blocks" '
   }
   /^```/ { inside = 0; next }
   inside && target != "" { print > target }
-' docs/RECIPES.md docs/TROUBLESHOOTING.md
+' docs/RECIPES.md docs/REBUILD.md docs/TROUBLESHOOTING.md
 
 # lacks NEEDS: the words of what a recipe needs that this machine lacks.
 lacks() {

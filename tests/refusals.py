@@ -21,10 +21,11 @@ from itertools import count
 from pathlib import Path
 
 HERE = Path(__file__).parent
-sys.path += [str(HERE / "rows"), str(HERE / "show")]
+sys.path += [str(HERE / "rows"), str(HERE / "show"), str(HERE / "rebuild")]
 
 from preloaded import build_object, numbers
 from reader import shown
+from rebuilder import rebuilt
 from rows import OVERLAP, ROWS, SMALLEST, WHOLE
 from tables import *
 
@@ -88,13 +89,18 @@ ENTRIES = image_of(
 )
 
 
-def clean_runs(name, text, address, found, lines):
-    """Each command on a clean set whose RSDP stands at this address, in hex: what a search says of it, and what is shown. A
-    line added here puts a command to all tests."""
+# Where sets are rebuilt.
+BASE = 0x7FFE0000
+
+
+def clean_runs(name, text, address, found, lines, anew):
+    """Each command on a clean set whose RSDP stands at this address, in hex: what a search says of it, what is shown, and the
+    set rebuilt. A line added here puts a command to all tests."""
     rsdp = ["--rsdp", address]
     return [
         Run(f"check, {name}", text, ["check", *rsdp], 0, "yes\n"),
         Run(f"confirm, {name}", text, ["confirm", *rsdp, "--witness", NO_FADT], 1, "false\n"),
+        Run(f"rebuild, {name}", text, ["rebuild", *rsdp, "--base", f"{BASE:x}"], 0, anew),
         Run(f"find, {name}", text, ["find"], int(found == "none"), f"rsdp {found}\n"),
         Run(f"show, {name}", text, ["show", *rsdp], 0, lines),
     ]
@@ -102,12 +108,13 @@ def clean_runs(name, text, address, found, lines):
 
 def made(name, pieces):
     text = text_of(pieces)
-    return clean_runs(name, text, "e0000", "0xe0000", shown(text, RSDP_AT))
+    return clean_runs(name, text, "e0000", "0xe0000", shown(text, RSDP_AT), rebuilt(text, RSDP_AT, BASE))
 
 
 def firmware(name, address, found):
     text = (HERE / "images" / f"{name}.img.txt").read_bytes()
-    return clean_runs(name, text, address, found, (HERE / "show" / "images" / f"{name}.txt").read_text())
+    lines = (HERE / "show" / "images" / f"{name}.txt").read_text()
+    return clean_runs(name, text, address, found, lines, rebuilt(text, int(address, 16), BASE))
 
 
 WHOLE_RUNS = made("a whole set", WHOLE)
@@ -153,6 +160,7 @@ def wordy_runs():
     many = [f"{16 * place:x}={place % 256 + 1}" for place in range(400, 0, -1)]
     yield Run("check with all options", text, [*check, *settings], 0, "yes\n")
     yield Run("confirm with all options", text, ["confirm", "--rsdp", "e0000", "--witness", NO_FADT, *settings], 0, "true\n")
+    yield Run("rebuild with all options, refused", text, ["rebuild", "--base", "40", *settings], 1, f"no {NO_FADT}\n")
     yield Run("check with 400 counts of inputs", text, [*check, *many], 0, "yes\n")
 
 
@@ -181,6 +189,7 @@ WRONG_WORDS = [
     ("usage:", []),
     (f"confirm needs --witness FAULT: {A_FAULT}", ["confirm"]),
     (f"--witness '{NOT_A_FAULT}': {A_FAULT}", ["confirm", "--witness", NOT_A_FAULT]),
+    ("rebuild needs --base HEX: an address is 1 to 16 hex digits, with 0x before them or without", ["rebuild"]),
     ("--rsdp 'xyz': an address is 1 to 16 hex digits, with 0x before them or without", ["show", "--rsdp", "xyz"]),
 ]
 
@@ -469,7 +478,9 @@ def pipes(program, run):
 LARGE_SIZE = 8
 LARGE_TEXT = text_of(WHOLE) + b"@1000000\n" + (b"00" * 16384 + b"\n") * (LARGE_SIZE << 6)
 SIZES = (5, 6, 7, 8, 10, 12, 14, 16, 20, 24, 80)
-LARGE_RUNS = clean_runs("an image of 8 MiB", LARGE_TEXT, "e0000", "0xe0000", shown(text_of(WHOLE), RSDP_AT))
+WHOLE_TEXT = text_of(WHOLE)
+ANEW = rebuilt(WHOLE_TEXT, RSDP_AT, BASE)
+LARGE_RUNS = clean_runs("an image of 8 MiB", LARGE_TEXT, "e0000", "0xe0000", shown(WHOLE_TEXT, RSDP_AT), ANEW)
 
 
 def little_memory(program, run):

@@ -18,15 +18,18 @@ use Rattle.acpi_cli.proofs.Hyphens.{ArePlain, IsPlain}
 pub data Judging : Type 0 where
   checking : Judging
   confirming : Judging
+  rebuilding : Judging
 
 abbrev pub name_of : Judging → Text
 name_of checking = codes "check"
 name_of confirming = codes "confirm"
+name_of rebuilding = codes "rebuild"
 
 -- the arguments of such a command with what `clap` fills in, and its own `--help`
 unfoldable pub rules : Judging → List Rule
 rules checking = filled_from 1 (option_rule (codes "rsdp") ∷ option_rule (codes "through") ∷ option_rule (codes "default-inputs") ∷ option_rule (codes "hotplug") ∷ option_rule (codes "processors") ∷ inputs_rule ∷ help_rule ∷ [])
 rules confirming = filled_from 1 (option_rule (codes "witness") ∷ option_rule (codes "rsdp") ∷ option_rule (codes "default-inputs") ∷ option_rule (codes "hotplug") ∷ option_rule (codes "processors") ∷ inputs_rule ∷ help_rule ∷ [])
+rules rebuilding = filled_from 1 (option_rule (codes "base") ∷ option_rule (codes "rsdp") ∷ option_rule (codes "default-inputs") ∷ option_rule (codes "hotplug") ∷ option_rule (codes "processors") ∷ inputs_rule ∷ help_rule ∷ [])
 
 -- the command as `clap` builds it
 unfoldable pub shape : Judging → Shape
@@ -79,7 +82,7 @@ pub record IsOption (j : Judging) (id : Text) : Type 0 where
   pub settled : (rows : List Row) (value : Text)
       → settled_rows (rules j) (Some (id, value ∷ [])) rows ≡ with_values id AsWritten CommandLine (value ∷ []) (without id rows)
 
--- `--rsdp` is such an option of both
+-- `--rsdp` is such an option of each
 pub rsdp_option : (j : Judging) → IsOption j (codes "rsdp")
 unfolding rules shape clap_on_literals
 rsdp_option checking = record {
@@ -91,6 +94,14 @@ rsdp_option checking = record {
   settled = λ rows value. refl;
 }
 rsdp_option confirming = record {
+  opens = λ rows pending. refl;
+  is_known = λ rows pending e. rw e refl;
+  takes = λ rows first rest e. simp e;
+  may_take = λ rows first rest e. simp e;
+  settles = λ rows value e. rw e refl;
+  settled = λ rows value. refl;
+}
+rsdp_option rebuilding = record {
   opens = λ rows pending. refl;
   is_known = λ rows pending e. rw e refl;
   takes = λ rows first rest e. simp e;
@@ -111,10 +122,22 @@ through_option = record {
   settled = λ rows value. refl;
 }
 
--- `--witness` of the other
+-- `--witness` of another
 pub witness_option : IsOption confirming (codes "witness")
 unfolding rules shape clap_on_literals
 witness_option = record {
+  opens = λ rows pending. refl;
+  is_known = λ rows pending e. rw e refl;
+  takes = λ rows first rest e. simp e;
+  may_take = λ rows first rest e. simp e;
+  settles = λ rows value e. rw e refl;
+  settled = λ rows value. refl;
+}
+
+-- and `--base` of the third
+pub base_option : IsOption rebuilding (codes "base")
+unfolding rules shape clap_on_literals
+base_option = record {
   opens = λ rows pending. refl;
   is_known = λ rows pending e. rw e refl;
   takes = λ rows first rest e. simp e;
@@ -142,6 +165,14 @@ default_option confirming = record {
   settles = λ rows value e. rw e refl;
   settled = λ rows value. refl;
 }
+default_option rebuilding = record {
+  opens = λ rows pending. refl;
+  is_known = λ rows pending e. rw e refl;
+  takes = λ rows first rest e. simp e;
+  may_take = λ rows first rest e. simp e;
+  settles = λ rows value e. rw e refl;
+  settled = λ rows value. refl;
+}
 
 -- and `--hotplug`
 pub hotplug_option : (j : Judging) → IsOption j (codes "hotplug")
@@ -162,6 +193,14 @@ hotplug_option confirming = record {
   settles = λ rows value e. rw e refl;
   settled = λ rows value. refl;
 }
+hotplug_option rebuilding = record {
+  opens = λ rows pending. refl;
+  is_known = λ rows pending e. rw e refl;
+  takes = λ rows first rest e. simp e;
+  may_take = λ rows first rest e. simp e;
+  settles = λ rows value e. rw e refl;
+  settled = λ rows value. refl;
+}
 
 -- and `--processors`
 pub processors_option : (j : Judging) → IsOption j (codes "processors")
@@ -175,6 +214,14 @@ processors_option checking = record {
   settled = λ rows value. refl;
 }
 processors_option confirming = record {
+  opens = λ rows pending. refl;
+  is_known = λ rows pending e. rw e refl;
+  takes = λ rows first rest e. simp e;
+  may_take = λ rows first rest e. simp e;
+  settles = λ rows value e. rw e refl;
+  settled = λ rows value. refl;
+}
+processors_option rebuilding = record {
   opens = λ rows pending. refl;
   is_known = λ rows pending e. rw e refl;
   takes = λ rows first rest e. simp e;
@@ -244,6 +291,7 @@ word_is_next : (j : Judging) (rows : List Row) (pending : Option (Text × List T
 unfolding rules clap_on_literals
 word_is_next checking rows pending waiting first rest goes plain = rw (word_is_value checking waiting first rest (held rows pending) goes plain) (simp and-false)
 word_is_next confirming rows pending waiting first rest goes plain = rw (word_is_value confirming waiting first rest (held rows pending) goes plain) (simp and-false)
+word_is_next rebuilding rows pending waiting first rest goes plain = rw (word_is_value rebuilding waiting first rest (held rows pending) goes plain) (simp and-false)
 
 -- and may come where what is pending has no fault
 word_may_come : (j : Judging) (rows : List Row) (pending : Option (Text × List Text)) (waiting : Waiting) (first : ℕ) (rest : Text) → GoesOn j waiting → (first == 45) ≡ false
@@ -253,6 +301,8 @@ word_may_come checking rows pending waiting first rest goes plain settles =
     rw (word_is_value checking waiting first rest (held rows pending) goes plain, word_is_sound checking waiting first rest (held rows pending) goes plain) (simp (and-false, settles))
 word_may_come confirming rows pending waiting first rest goes plain settles =
     rw (word_is_value confirming waiting first rest (held rows pending) goes plain, word_is_sound confirming waiting first rest (held rows pending) goes plain) (simp (and-false, settles))
+word_may_come rebuilding rows pending waiting first rest goes plain settles =
+    rw (word_is_value rebuilding waiting first rest (held rows pending) goes plain, word_is_sound rebuilding waiting first rest (held rows pending) goes plain) (simp (and-false, settles))
 
 -- a word without a hyphen, and then the words behind it
 reads_word : (j : Judging) (text : Text) (words : List Text) (before rows : List Row) (pending : Option (Text × List Text)) (waiting : Waiting) → GoesOn j waiting → IsPlain text
@@ -269,6 +319,7 @@ word_settles : (j : Judging) (rows : List Row) (word : Text) → settle_fault (r
 unfolding rules
 word_settles checking rows word = refl
 word_settles confirming rows word = refl
+word_settles rebuilding rows word = refl
 
 -- one more word is put behind those that are read
 one_more_word : (j : Judging) (options : List Row) (read : List Text) (word : Text) → has_row (codes "inputs") options ≡ false
@@ -279,6 +330,9 @@ one_more_word checking options (first ∷ read) word other =
     at_row_behind (codes "inputs") (more_values CommandLine (word ∷ [])) (row (codes "inputs") (word ∷ []) ∷ []) options (word_rows (first ∷ read)) other
 one_more_word confirming options [] word other = at_row_behind (codes "inputs") (more_values CommandLine (word ∷ [])) _ options [] other
 one_more_word confirming options (first ∷ read) word other =
+    at_row_behind (codes "inputs") (more_values CommandLine (word ∷ [])) (row (codes "inputs") (word ∷ []) ∷ []) options (word_rows (first ∷ read)) other
+one_more_word rebuilding options [] word other = at_row_behind (codes "inputs") (more_values CommandLine (word ∷ [])) _ options [] other
+one_more_word rebuilding options (first ∷ read) word other =
     at_row_behind (codes "inputs") (more_values CommandLine (word ∷ [])) (row (codes "inputs") (word ∷ []) ∷ []) options (word_rows (first ∷ read)) other
 
 -- all words after the first
@@ -350,18 +404,21 @@ finished_rows : (j : Judging) (h : Held) → finished (rules j) h ≡ (settled (
 unfolding rules
 finished_rows checking h = simp either_way
 finished_rows confirming h = simp either_way
+finished_rows rebuilding h = simp either_way
 
 -- so none is refused
 no_default_fault : (j : Judging) (rows : List Row) → defaults_fault rows (rules j) ≡ []
 unfolding rules clap_on_literals
 no_default_fault checking rows = simp (or-true, either_way)
 no_default_fault confirming rows = simp (or-true, either_way)
+no_default_fault rebuilding rows = simp (or-true, either_way)
 
 -- `clap` takes the words
 pub taken : (j : Judging) (words : List Text) (rows : List Row) → Reads j (standing [] None idle) words rows → level_fault (shape j) [] nothing_held words false [] ≡ []
 unfolding shape rules
 taken checking words rows reads = rw (reads.no_fault, reads.settles, no_default_fault checking _) refl
 taken confirming words rows reads = rw (reads.no_fault, reads.settles, no_default_fault confirming _) refl
+taken rebuilding words rows reads = rw (reads.no_fault, reads.settles, no_default_fault rebuilding _) refl
 
 -- what it then has read
 pub given : (j : Judging) (words : List Text) (rows : List Row) → Reads j (standing [] None idle) words rows → rows_after (rules j) [] words ≡ rows

@@ -1,5 +1,5 @@
 -- Command lines whose arguments stand a space apart, and what they ask for.
-use Rattle.std.proofs.Common.{◌≡◌, ◌∙◌, ◌++◌, ℕ, List, [], ◌∷◌, Option, Some, None, true, false, codes, append_assoc, append-nil, refl, ap, sym}
+use Rattle.std.proofs.Common.{◌≡◌, ◌∙◌, ◌++◌, ℕ, List, [], ◌∷◌, Option, Some, None, true, false, codes, append_assoc, append-nil, refl, ap, subst, sym, ◌==◌}
 use Rattle.std.specs.Prelude.{IfSome, fold, is_some, option_and_then, option_map, unwrap_or}
 use Rattle.std.specs.Str.{bytes_eq}
 use Rattle.clap.specs.Words.{Row, Rule, Shape, Text, all_of, first_of}
@@ -11,14 +11,14 @@ use Rattle.clap.proofs.OnLiterals.{clap_on_literals}
 use Rattle.acpi_base.specs.Policy.{PolicyValue, new_policy}
 use Rattle.acpi_base.specs.declared.policy.HotPlug.{HotPlug}
 use Rattle.acpi_base.specs.declared.policy.Processors.{Processors}
-use Rattle.acpi_cli.specs.CommandLine.{are_none, asked, check, check_asked, check_line, check_words, command_line, command_of, confirm, confirm_asked, confirm_line, confirm_words, default_word, find, find_line, find_words, hotplug_word, is_taken, last_word, policy_words, processors_word, rsdp_word, show_line, with_inputs, with_settings}
+use Rattle.acpi_cli.specs.CommandLine.{are_none, asked, base_word, check, check_asked, check_line, check_words, command_line, command_of, confirm, confirm_asked, confirm_line, confirm_words, default_word, find, find_line, find_words, hotplug_word, is_taken, last_word, policy_words, processors_word, rebuild, rebuild_asked, rebuild_line, rebuild_words, rsdp_word, show, show_asked, show_line, show_words, with_inputs, with_settings}
 use Rattle.acpi_base.specs.declared.witness.Witness.{Witness}
 use Rattle.acpi_cli.specs.Words.{all_inputs, fault_written, hex_word}
 use Rattle.acpi_cli.proofs.FaultWords.{fault_is_plain}
 use Rattle.acpi_cli.specs.declared.policy_words.Inputs.{Inputs}
 use Rattle.acpi_cli.proofs.CheckRows.{AreDistinct, no_word_row, option_is_found, options_rows, word_rows, words_are_found}
 use Rattle.acpi_cli.proofs.Hyphens.{IsPlain, all_are_plain, count_is_plain, hex_is_plain, hotplug_is_plain, processors_are_plain, stage_is_plain}
-use Rattle.acpi_cli.proofs.JudgingArguments.{AreNew, AreOptions, Judging, Reads, checking, confirming, default_option, given, hotplug_option, name_of, processors_option, reads_options, rsdp_option, rules, shape, standing, taken, through_option, witness_option}
+use Rattle.acpi_cli.proofs.JudgingArguments.{AreNew, AreOptions, Judging, Reads, base_option, checking, confirming, default_option, given, hotplug_option, name_of, processors_option, reads_options, rebuilding, rsdp_option, rules, shape, standing, taken, through_option, witness_option}
 
 -- ---- what stands before the arguments of a command
 
@@ -47,26 +47,28 @@ after_walk : (a : App) (words : List Text) (w : Walk) → walk a.top.rules (name
     (check_fault a.top (finished a.top.rules w.held) (is_some (entered a w.stopped)))))
 after_walk a words w e fault = rw (fault, e) refl
 
--- the walk over `check WORDS..` or `confirm WORDS..`
+-- the walk over `COMMAND WORDS..`
 at_command : Judging → List Text → Walk
 at_command j words = record (walk_from nothing_held) { stopped = Some (name_of j, words) }
 
 -- the whole command line as `clap` builds it
 program_line : App
-unfolding command_line check_line confirm_line show_line find_line
+unfolding command_line check_line confirm_line rebuild_line show_line find_line
 program_line = built command_line
 
 -- the walk comes to the command
 walks_to : (j : Judging) (words : List Text) → walk program_line.top.rules (names_of program_line) nothing_held (name_of j ∷ words) ≡ at_command j words
-unfolding program_line command_line check_line confirm_line show_line find_line at_command clap_on_literals
+unfolding program_line command_line check_line confirm_line rebuild_line show_line find_line at_command clap_on_literals
 walks_to checking words = words_behind program_line.top.rules (names_of program_line) (walk_from nothing_held) (codes "check") [] words
 walks_to confirming words = words_behind program_line.top.rules (names_of program_line) (walk_from nothing_held) (codes "confirm") [] words
+walks_to rebuilding words = words_behind program_line.top.rules (names_of program_line) (walk_from nothing_held) (codes "rebuild") [] words
 
 -- and has no fault up to it
 no_fault_to : (j : Judging) (words : List Text) → walk_fault program_line.top (names_of program_line) (walk_from nothing_held) (name_of j ∷ words) ≡ []
-unfolding program_line command_line check_line confirm_line show_line find_line clap_on_literals
+unfolding program_line command_line check_line confirm_line rebuild_line show_line find_line clap_on_literals
 no_fault_to checking words = no_fault_behind program_line.top (names_of program_line) (walk_from nothing_held) (codes "check") [] words
 no_fault_to confirming words = no_fault_behind program_line.top (names_of program_line) (walk_from nothing_held) (codes "confirm") [] words
+no_fault_to rebuilding words = no_fault_behind program_line.top (names_of program_line) (walk_from nothing_held) (codes "rebuild") [] words
 
 -- the arguments of the command are all that is left to be judged, and have no fault
 command_has_no_fault : (j : Judging) (words : List Text) (rows : List Row) → Reads j (standing [] None idle) words rows
@@ -74,16 +76,18 @@ command_has_no_fault : (j : Judging) (words : List Text) (rows : List Row) → R
     (or_else (settle_fault program_line.top.rules program_line.top.args_override_self (at_command j words).held)
     (or_else (defaults_fault (settled program_line.top.rules (at_command j words).held).rows program_line.top.rules)
     (check_fault program_line.top (finished program_line.top.rules (at_command j words).held) (is_some (entered program_line (at_command j words).stopped))))) ≡ []
-unfolding program_line command_line check_line confirm_line show_line find_line at_command shape rules clap_on_literals
+unfolding program_line command_line check_line confirm_line rebuild_line show_line find_line at_command shape rules clap_on_literals
 command_has_no_fault checking words rows reads = ap (λ (kinds : Kinds). or_else kinds []) (taken checking words rows reads)
 command_has_no_fault confirming words rows reads = ap (λ (kinds : Kinds). or_else kinds []) (taken confirming words rows reads)
+command_has_no_fault rebuilding words rows reads = ap (λ (kinds : Kinds). or_else kinds []) (taken rebuilding words rows reads)
 
 -- and they come in these rows
 command_has_rows : (j : Judging) (words : List Text) (rows : List Row) → Reads j (standing [] None idle) words rows
     → entered program_line (at_command j words).stopped ≡ Some (name_of j, rows)
-unfolding program_line command_line check_line confirm_line show_line find_line at_command shape rules clap_on_literals
+unfolding program_line command_line check_line confirm_line rebuild_line show_line find_line at_command shape rules clap_on_literals
 command_has_rows checking words rows reads = ap (λ (r : List Row). Some (codes "check", r)) (given checking words rows reads)
 command_has_rows confirming words rows reads = ap (λ (r : List Row). Some (codes "confirm", r)) (given confirming words rows reads)
+command_has_rows rebuilding words rows reads = ap (λ (r : List Row). Some (codes "rebuild", r)) (given rebuilding words rows reads)
 
 -- `PROGRAM COMMAND WORDS..`, where the words are read
 command_is_taken : (j : Judging) (program : Text) (words : List Text) (rows : List Row) → Reads j (standing [] None idle) words rows → is_taken (program ∷ name_of j ∷ words) ≡ true
@@ -102,6 +106,9 @@ check_gives program words rows reads = rw (command_is_taken checking program wor
 
 confirm_gives : (program : Text) (words : List Text) (rows : List Row) → Reads confirming (standing [] None idle) words rows → asked (program ∷ codes "confirm" ∷ words) ≡ confirm_asked rows
 confirm_gives program words rows reads = rw (command_is_taken confirming program words rows reads, command_is_entered confirming program words rows reads) refl
+
+rebuild_gives : (program : Text) (words : List Text) (rows : List Row) → Reads rebuilding (standing [] None idle) words rows → asked (program ∷ codes "rebuild" ∷ words) ≡ rebuild_asked rows
+rebuild_gives program words rows reads = rw (command_is_taken rebuilding program words rows reads, command_is_entered rebuilding program words rows reads) refl
 
 -- ---- plain lines
 
@@ -259,7 +266,70 @@ confirm_words_asked program text hex inputs hotplug processors words w rsdp poli
     (found (codes "witness") refl) (found (codes "rsdp") refl) (found (codes "default-inputs") refl) (found (codes "hotplug") refl) (found (codes "processors") refl)
     (words_are_found options words refl) a b c
 
+-- the options of a plain line of `rebuild`
+abbrev rebuild_options : Text → Option Text → Option Text → Option Text → Option Text → List (Text × Option Text)
+rebuild_options base rsdp default_inputs hotplug processors =
+    (codes "base", Some base) ∷ (codes "rsdp", rsdp) ∷ (codes "default-inputs", default_inputs) ∷ (codes "hotplug", hotplug) ∷ (codes "processors", processors) ∷ []
+
+-- what `rebuild` is asked, from the values of its arguments
+asks_to_rebuild : (options : List Row) (text : Text) (hex inputs hotplug processors : Option Text) (words : List Text) (base : ℕ) (rsdp : Option ℕ) (policy : PolicyValue)
+    → first_of (codes "base") options ≡ Some text → first_of (codes "rsdp") options ≡ hex
+    → first_of (codes "default-inputs") options ≡ inputs → first_of (codes "hotplug") options ≡ hotplug → first_of (codes "processors") options ≡ processors
+    → unwrap_or (all_of (codes "inputs") options) [] ≡ words → base_word (Some text) ≡ Some base → rsdp_word hex ≡ Some rsdp → policy_words inputs hotplug processors words ≡ Some policy
+    → rebuild_asked options ≡ Some (rebuild rsdp policy base)
+unfolding rebuild_asked
+asks_to_rebuild options text hex inputs hotplug processors words base rsdp policy is_text is_hex is_inputs is_hotplug is_processors are_words a b c =
+    rw (is_text, is_hex, is_inputs, is_hotplug, is_processors, are_words, a, b, c) refl
+
+-- a plain line of `rebuild` asks for what its arguments say
+pub rebuild_words_asked : (program text : Text) (hex inputs hotplug processors : Option Text) (words : List Text) (base : ℕ) (rsdp : Option ℕ) (policy : PolicyValue)
+    → base_word (Some text) ≡ Some base → rsdp_word hex ≡ Some rsdp → policy_words inputs hotplug processors words ≡ Some policy
+    → asked (rebuild_words program text hex inputs hotplug processors words) ≡ Some (rebuild rsdp policy base)
+rebuild_words_asked program text hex inputs hotplug processors words base rsdp policy a b c =
+    let given = policy_is_given inputs hotplug processors words policy c in
+    let options = rebuild_options text hex inputs hotplug processors in
+    let are : AreOptions rebuilding options = (
+      (base_option, hex_is_plain 16 text base a),
+      (
+        (rsdp_option rebuilding, rsdp_is_plain hex rsdp b),
+        (
+          (default_option rebuilding, default_is_plain inputs given.count given.is_count),
+          (
+            (hotplug_option rebuilding, hotplug_begins_plain hotplug given.ranges given.is_hotplug),
+            ((processors_option rebuilding, processors_begin_plain processors given.who given.is_processors), tt),
+          ),
+        ),
+      ),
+    ) in
+    let new : AreNew [] options = (refl, (refl, (refl, (refl, (refl, tt))))) in
+    let distinct : AreDistinct options = (refl, (refl, (refl, (refl, (refl, tt))))) in
+    let found = λ (id : Text) (e : bytes_eq (codes "inputs") id ≡ false). option_is_found id options (word_rows words) distinct (no_word_row id words e) in
+    rebuild_gives program _ (options_rows options ++ word_rows words)
+    (reads_options rebuilding options words are new refl (all_are_plain words given.counts given.are_counts))
+    ∙ asks_to_rebuild (options_rows options ++ word_rows words) text hex inputs hotplug processors words base rsdp policy
+    (found (codes "base") refl) (found (codes "rsdp") refl) (found (codes "default-inputs") refl) (found (codes "hotplug") refl) (found (codes "processors") refl)
+    (words_are_found options words refl) a b c
+
+-- `PROGRAM show`
+show_is_asked : (program : Text) → asked (program ∷ codes "show" ∷ []) ≡ Some (show None)
+unfolding is_taken command_of command_line check_line confirm_line rebuild_line show_line find_line show_asked clap_on_literals
+show_is_asked program = refl
+
+-- `PROGRAM show --rsdp TEXT`, where the text begins with no hyphen
+show_is_asked_at : (program : Text) (first : ℕ) (rest : Text) (rsdp : Option ℕ) → (first == 45) ≡ false → rsdp_word (Some (first ∷ rest)) ≡ Some rsdp
+    → asked (program ∷ codes "show" ∷ codes "--rsdp" ∷ (first ∷ rest) ∷ []) ≡ Some (show rsdp)
+unfolding is_taken command_of command_line check_line confirm_line rebuild_line show_line find_line show_asked clap_on_literals
+show_is_asked_at program first rest rsdp plain e = simp (plain, e)
+
+-- a plain line of `show` asks for what its argument says
+pub show_words_asked : (program : Text) (hex : Option Text) (rsdp : Option ℕ) → rsdp_word hex ≡ Some rsdp → asked (show_words program hex) ≡ Some (show rsdp)
+show_words_asked program None rsdp e = show_is_asked program ∙ ap (option_map show) e
+show_words_asked program (Some text) rsdp e =
+    let plain = rsdp_is_plain (Some text) rsdp e in
+    subst (λ (t : Text). asked (program ∷ codes "show" ∷ codes "--rsdp" ∷ t ∷ []) ≡ Some (show rsdp)) (sym plain.is)
+    (show_is_asked_at program plain.first plain.rest rsdp plain.plain (ap (λ (t : Text). rsdp_word (Some t)) (sym plain.is) ∙ e))
+
 -- and one of `find` for a search
 pub find_words_asked : (program : Text) → asked (find_words program) ≡ Some find
-unfolding is_taken command_of command_line check_line confirm_line show_line find_line clap_on_literals
+unfolding is_taken command_of command_line check_line confirm_line rebuild_line show_line find_line clap_on_literals
 find_words_asked program = refl

@@ -3,7 +3,7 @@ use Rattle.std.proofs.Common.{◌≡◌, ℕ, List, [], Option, Some, None, Err,
 use Rattle.std.specs.Prelude.{IsSome, Result}
 use Rattle.std.specs.Io.KnownBytes.{Consumes, Keeps}
 use Rattle.acpi_base.specs.Memory.{Memory}
-use Rattle.acpi_cli.specs.CommandLine.{Asked, Does, DoesAsked, check, confirm, find, show}
+use Rattle.acpi_cli.specs.CommandLine.{Asked, Does, DoesAsked, check, confirm, find, rebuild, show}
 use Rattle.acpi_cli.specs.Engine.{Device, Reads, ReportsJob, Runs}
 use Rattle.acpi_cli.specs.Outcome.{exit_status}
 use Rattle.acpi_cli.specs.Program.{IsUntouched, Obeys, ReportsAsked}
@@ -11,7 +11,7 @@ use Rattle.acpi_cli.specs.declared.outcome.Outcome.{Outcome}
 use Rattle.acpi_cli.specs.declared.outcome.RunFault.{RunFault}
 use Rattle.acpi_cli.specs.declared.outcome.RunFault.TheVariants as run
 use Rattle.acpi_cli.specs.declared.words.Job.{Job}
-use Rattle.acpi_cli.specs.declared.words.Job.TheVariants.{Check, Confirm, Find, Show}
+use Rattle.acpi_cli.specs.declared.words.Job.TheVariants.{Check, Confirm, Find, Rebuild, Show}
 use Rattle.acpi_cli.specs.declared.words.WordFault.TheVariants as fault
 
 -- a job that does what is asked reports it
@@ -20,19 +20,29 @@ reports_asked : (what : Asked) (job : Job) → Does what job → (m : Memory) (b
 reports_asked (check rsdp policy last) (Check given held stage) does m bytes returned reports =
     (stage, does.2, rw (sym does.0, sym does.1) reports)
 reports_asked (check rsdp policy last) (Confirm given held witness) does m bytes returned reports = absurd does
+reports_asked (check rsdp policy last) (Rebuild given held at) does m bytes returned reports = absurd does
 reports_asked (check rsdp policy last) (Show given) does m bytes returned reports = absurd does
 reports_asked (check rsdp policy last) Find does m bytes returned reports = absurd does
 reports_asked (confirm rsdp policy w) (Confirm given held witness) does m bytes returned reports =
     rw (sym does.0, sym does.1, sym does.2) reports
 reports_asked (confirm rsdp policy w) (Check given held stage) does m bytes returned reports = absurd does
+reports_asked (confirm rsdp policy w) (Rebuild given held at) does m bytes returned reports = absurd does
 reports_asked (confirm rsdp policy w) (Show given) does m bytes returned reports = absurd does
 reports_asked (confirm rsdp policy w) Find does m bytes returned reports = absurd does
+reports_asked (rebuild rsdp policy base) (Rebuild given held at) does m bytes returned reports =
+    rw (sym does.0, sym does.1, sym does.2) reports
+reports_asked (rebuild rsdp policy base) (Check given held stage) does m bytes returned reports = absurd does
+reports_asked (rebuild rsdp policy base) (Confirm given held witness) does m bytes returned reports = absurd does
+reports_asked (rebuild rsdp policy base) (Show given) does m bytes returned reports = absurd does
+reports_asked (rebuild rsdp policy base) Find does m bytes returned reports = absurd does
 reports_asked (show rsdp) (Show given) does m bytes returned reports = rw (sym does) reports
 reports_asked (show rsdp) (Check given held stage) does m bytes returned reports = absurd does
 reports_asked (show rsdp) (Confirm given held witness) does m bytes returned reports = absurd does
+reports_asked (show rsdp) (Rebuild given held at) does m bytes returned reports = absurd does
 reports_asked (show rsdp) Find does m bytes returned reports = absurd does
 reports_asked find (Check given held stage) does m bytes returned reports = absurd does
 reports_asked find (Confirm given held witness) does m bytes returned reports = absurd does
+reports_asked find (Rebuild given held at) does m bytes returned reports = absurd does
 reports_asked find (Show given) does m bytes returned reports = absurd does
 reports_asked find Find does m bytes returned reports = reports
 

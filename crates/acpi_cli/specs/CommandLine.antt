@@ -15,7 +15,7 @@ use Rattle.acpi_base.specs.declared.witness.Witness.{Witness}
 use Rattle.acpi_cli.specs.Words.{all_inputs, count_word, decimal_word, fault_written, hex_word}
 use Rattle.acpi_cli.specs.declared.policy_words.Inputs.{Inputs}
 use Rattle.acpi_cli.specs.declared.words.Job.{Job}
-use Rattle.acpi_cli.specs.declared.words.Job.TheVariants.{Check, Confirm, Find, Show}
+use Rattle.acpi_cli.specs.declared.words.Job.TheVariants.{Check, Confirm, Find, Rebuild, Show}
 
 -- ---- the command line, as it is declared to `clap`
 
@@ -51,6 +51,18 @@ confirm_line =
     (option_rule (codes "processors")))
     inputs_rule
 
+-- `rebuild --base HEX --rsdp HEX --default-inputs N --hotplug SETTING --processors SETTING ADDRESS=COUNT..`
+unfoldable pub rebuild_line : App
+rebuild_line =
+    with_rule (with_rule (with_rule (with_rule (with_rule (with_rule
+    (new_app (codes "rebuild"))
+    (option_rule (codes "base")))
+    (option_rule (codes "rsdp")))
+    (option_rule (codes "default-inputs")))
+    (option_rule (codes "hotplug")))
+    (option_rule (codes "processors")))
+    inputs_rule
+
 -- `show --rsdp HEX`
 unfoldable pub show_line : App
 show_line = with_rule (new_app (codes "show")) (option_rule (codes "rsdp"))
@@ -62,10 +74,11 @@ find_line = new_app (codes "find")
 -- `acpiset COMMAND ..`
 unfoldable pub command_line : App
 command_line =
-    with_subcommand (with_subcommand (with_subcommand (with_subcommand
+    with_subcommand (with_subcommand (with_subcommand (with_subcommand (with_subcommand
     (new_app (codes "acpiset"))
     check_line.top)
     confirm_line.top)
+    rebuild_line.top)
     show_line.top)
     find_line.top
 
@@ -88,6 +101,8 @@ pub data Asked : Type 0 where
   check : Option ℕ → PolicyValue → ℕ → Asked
   -- the RSDP's address, where it is given, the policy, and the fault
   confirm : Option ℕ → PolicyValue → Witness → Asked
+  -- the RSDP's address, where it is given, the policy, and the base address
+  rebuild : Option ℕ → PolicyValue → ℕ → Asked
   -- the RSDP's address, where it is given
   show : Option ℕ → Asked
   find : Asked
@@ -110,6 +125,11 @@ last_word (Some text) = option_and_then stage_of_number (decimal_word 2 text)
 abbrev pub witness_word : Option Text → Option Witness
 witness_word None = None
 witness_word (Some text) = fault_written text
+
+-- `--base HEX`: there is no job without it
+abbrev pub base_word : Option Text → Option ℕ
+base_word None = None
+base_word (Some text) = hex_word 16 text
 
 -- `--default-inputs N`: without it an I/O APIC has 24 inputs
 abbrev pub default_word : Option Text → Option ℕ
@@ -188,6 +208,15 @@ confirm_asked options =
     (policy_asked options))
     (rsdp_word (first_of (codes "rsdp") options))
 
+-- the options of `rebuild`
+unfoldable pub rebuild_asked : List Row → Option Asked
+rebuild_asked options =
+    option_and_then
+    (λ rsdp. option_and_then
+    (λ policy. option_map (rebuild rsdp policy) (base_word (first_of (codes "base") options)))
+    (policy_asked options))
+    (rsdp_word (first_of (codes "rsdp") options))
+
 -- the options of `show`
 unfoldable pub show_asked : List Row → Option Asked
 show_asked options = option_map show (rsdp_word (first_of (codes "rsdp") options))
@@ -199,9 +228,11 @@ command_asked (Some command) =
     then check_asked command.1
     else (if bytes_eq command.0 (codes "confirm")
     then confirm_asked command.1
+    else (if bytes_eq command.0 (codes "rebuild")
+    then rebuild_asked command.1
     else (if bytes_eq command.0 (codes "show")
     then show_asked command.1
-    else (if bytes_eq command.0 (codes "find") then Some find else None)))
+    else (if bytes_eq command.0 (codes "find") then Some find else None))))
 
 -- what a whole command line asks for, where it is one
 abbrev pub asked : List Text → Option Asked
@@ -238,6 +269,20 @@ confirm_words program fault rsdp default_inputs hotplug processors words =
     ++ (option_words (codes "hotplug") hotplug
     ++ (option_words (codes "processors") processors ++ words)))))
 
+-- `PROGRAM rebuild`, the base address's text, the options that are given, and the words `ADDRESS=COUNT`
+abbrev pub rebuild_words : Text → Text → Option Text → Option Text → Option Text → Option Text → List Text → List Text
+rebuild_words program base rsdp default_inputs hotplug processors words =
+    program ∷ codes "rebuild"
+    ∷ (option_words (codes "base") (Some base)
+    ++ (option_words (codes "rsdp") rsdp
+    ++ (option_words (codes "default-inputs") default_inputs
+    ++ (option_words (codes "hotplug") hotplug
+    ++ (option_words (codes "processors") processors ++ words)))))
+
+-- `PROGRAM show`, and the option that it has, where it is given
+abbrev pub show_words : Text → Option Text → List Text
+show_words program rsdp = program ∷ codes "show" ∷ option_words (codes "rsdp") rsdp
+
 -- ---- the job that carries it
 
 abbrev pub Does : Asked → Job → Type 0
@@ -245,6 +290,8 @@ Does (check rsdp policy last) (Check given held stage) =
     (given ≡ rsdp) × (held ≡ policy) × (stage_number stage ≡ last)
 Does (confirm rsdp policy w) (Confirm given held witness) =
     (given ≡ rsdp) × (held ≡ policy) × (witness ≡ w)
+Does (rebuild rsdp policy base) (Rebuild given held at) =
+    (given ≡ rsdp) × (held ≡ policy) × (at ≡ base)
 Does (show rsdp) (Show given) = given ≡ rsdp
 Does find Find = Unit {0}
 Does _ _ = ⊥

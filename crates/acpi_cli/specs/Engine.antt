@@ -10,14 +10,18 @@ use Rattle.acpi_base.specs.Found.{IsFound, IsNowhere}
 use Rattle.acpi_base.specs.Faults.{Fault, IsVerdict}
 use Rattle.acpi_base.specs.Statements.{CleanTo}
 use Rattle.acpi_base.specs.WitnessText.{hex_text, verdict_line}
+use Rattle.acpi_base.specs.WrittenText.{IsWritten}
 use Rattle.acpi_base.specs.declared.stage.Stage.{Stage}
 use Rattle.acpi_base.specs.declared.stage.Stage.TheVariants as stage
 use Rattle.acpi_base.specs.declared.text.TextFault.{TextFault}
 use Rattle.acpi_base.specs.declared.verdict.Verdict.{Verdict}
 use Rattle.acpi_base.specs.declared.verdict.Verdict.TheVariants as verdict
 use Rattle.acpi_base.specs.declared.witness.Witness.{Witness}
+use Rattle.acpi_write.specs.Rebuilding.{IsRebuilt, IsRebuildRefusal}
+use Rattle.acpi_write.specs.declared.placing.RebuildFault.{RebuildFault}
+use Rattle.acpi_write.specs.declared.placing.RebuildFault.TheVariants as refusal
 use Rattle.acpi_cli.specs.declared.words.Job.{Job}
-use Rattle.acpi_cli.specs.declared.words.Job.TheVariants.{Check, Confirm, Find, Show}
+use Rattle.acpi_cli.specs.declared.words.Job.TheVariants.{Check, Confirm, Find, Rebuild, Show}
 use Rattle.acpi_cli.specs.declared.outcome.Outcome.{Outcome}
 use Rattle.acpi_cli.specs.declared.outcome.Outcome.TheVariants as outcome
 use Rattle.acpi_cli.specs.declared.outcome.RunFault.{RunFault}
@@ -166,6 +170,32 @@ pub record ReportsFault (given : Option ℕ) (q : PolicyValue) (w : Witness) (m 
 abbrev pub ReportsConfirm : Option ℕ → PolicyValue → Witness → Memory → List ℕ → Outcome → Type 0
 ReportsConfirm given q w m bytes returned = ReportsFault given q w m bytes returned ⊎ ReportsNoRsdp given m bytes returned
 
+-- the line of a refusal to rebuild a set: the verdict's where the set is not clean, else the refusal's name. Out of memory
+-- there is none.
+abbrev pub IsRefusalLine : RebuildFault → List ℕ → Type 0
+IsRefusalLine refusal.Unaligned bytes = bytes ≡ codes "refused Unaligned\n"
+IsRefusalLine (refusal.NotClean w) bytes = bytes ≡ verdict_line (verdict.No w)
+IsRefusalLine refusal.TableTooLong bytes = bytes ≡ codes "refused TableTooLong\n"
+IsRefusalLine refusal.PastEnd bytes = bytes ≡ codes "refused PastEnd\n"
+IsRefusalLine refusal.NeedsLow bytes = bytes ≡ codes "refused NeedsLow\n"
+IsRefusalLine refusal.Memory bytes = ⊥
+
+-- the written form of the rebuilt image is reported, or the line of a refusal, with the outcome that goes with it
+abbrev pub TellsRebuilt : Memory → PolicyValue → ℕ → List ℕ → Outcome → Type 0
+TellsRebuilt m q base bytes returned =
+    ((new : Memory) × IsRebuilt m q base new × IsWritten bytes new × (returned ≡ outcome.Yes))
+    ⊎ ((refused : RebuildFault) × IsRebuildRefusal m q base refused × IsRefusalLine refused bytes × (returned ≡ outcome.No))
+
+-- a set is rebuilt, with the RSDP at an address
+pub record ReportsRebuilt (given : Option ℕ) (q : PolicyValue) (base : ℕ) (m : Memory) (bytes : List ℕ) (returned : Outcome) : Type 0 where
+  pub address : ℕ
+  pub rsdp : IsRsdpAddress given m address
+  pub told : TellsRebuilt m (with_rsdp q address) base bytes returned
+
+-- what is reported on an image whose set is to be rebuilt from a base address on
+abbrev pub ReportsRebuild : Option ℕ → PolicyValue → ℕ → Memory → List ℕ → Outcome → Type 0
+ReportsRebuild given q base m bytes returned = ReportsRebuilt given q base m bytes returned ⊎ ReportsNoRsdp given m bytes returned
+
 -- the policy that a set is shown by: any serves, as the stages up to the listed tables ask for the RSDP's address alone
 abbrev pub shown_policy : PolicyValue
 shown_policy = new_policy 0 24
@@ -187,5 +217,6 @@ ReportsFound m bytes returned =
 abbrev pub ReportsJob : Job → Memory → List ℕ → Outcome → Type 0
 ReportsJob (Check given policy last) = ReportsCheck given policy last
 ReportsJob (Confirm given policy w) = ReportsConfirm given policy w
+ReportsJob (Rebuild given policy base) = ReportsRebuild given policy base
 ReportsJob (Show given) = ReportsShow given
 ReportsJob Find = ReportsFound

@@ -4,7 +4,7 @@ ghost use Rattle.std.specs.Prelude.{◌≡◌, ◌≢◌, [], IfErr, IfOk, false
 ghost use Rattle.std.specs.String.{string_bytes};
 ghost use Rattle.clap.specs.Words.{all_of, app_of, first_of, found_of, kind_of, rows_of, rule_of, subcommand_rows_of};
 ghost use Rattle.clap.specs.declared.builder.command.Command.TheViews.{out-Command};
-ghost use Rattle.acpi_cli.specs.CommandLine.{check_line, command_line, confirm_line, command_of, inputs_rule, is_taken, option_rule, show_line};
+ghost use Rattle.acpi_cli.specs.CommandLine.{check_line, command_line, confirm_line, command_of, inputs_rule, is_taken, option_rule, rebuild_line, show_line};
 
 use crate::words::WordFault;
 use clap::error::ErrorKind;
@@ -72,6 +72,7 @@ fn acpiset<'a>(alloc: Global) -> Result<Command<'a>, AllocError>
     Command::new(alloc, "acpiset")
         .subcommand(check(alloc)?)?
         .subcommand(confirm(alloc)?)?
+        .subcommand(rebuild(alloc)?)?
         .subcommand(show(alloc)?)?
         .subcommand(Command::new(alloc, "find"))
 }
@@ -95,6 +96,19 @@ fn confirm<'a>(alloc: Global) -> Result<Command<'a>, AllocError>
 {
     Command::new(alloc, "confirm")
         .arg(option(alloc, "witness", "FAULT"))?
+        .arg(option(alloc, "rsdp", "HEX"))?
+        .arg(option(alloc, "default-inputs", "N"))?
+        .arg(option(alloc, "hotplug", "SETTING"))?
+        .arg(option(alloc, "processors", "SETTING"))?
+        .arg(inputs(alloc))
+}
+
+fn rebuild<'a>(alloc: Global) -> Result<Command<'a>, AllocError>
+    ensures line { IfOk result (λ command. app_of command ≡ rebuild_line) }
+    ensures own { IfOk result (λ command. (out-Command command).has_globals ≡ false) }
+{
+    Command::new(alloc, "rebuild")
+        .arg(option(alloc, "base", "HEX"))?
         .arg(option(alloc, "rsdp", "HEX"))?
         .arg(option(alloc, "default-inputs", "N"))?
         .arg(option(alloc, "hotplug", "SETTING"))?

@@ -1,5 +1,5 @@
-//! The program: reads its arguments, and checks the image on standard input, confirms a fault of it, shows what its tables
-//! say, or looks for the RSDP in it.
+//! The program: reads its arguments, and checks the image on standard input, confirms a fault of it, rebuilds its set of
+//! tables at another address, shows what its tables say, or looks for the RSDP in it.
 #![tactic(auto)]
 
 mod check;
@@ -12,6 +12,7 @@ mod number_words;
 mod outcome;
 mod policy_words;
 mod program;
+mod rebuild;
 mod show;
 #[cfg(test)]
 mod tests;

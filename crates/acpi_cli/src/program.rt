@@ -10,6 +10,7 @@ use crate::check::run_check;
 use crate::confirm::run_confirm;
 use crate::find::run_find;
 use crate::outcome::{Outcome, RunFault, status_of};
+use crate::rebuild::run_rebuild;
 use crate::show::run_show;
 use crate::usage::Usage;
 use crate::words::{Job, WordFault, error_message, read_words};
@@ -69,6 +70,9 @@ pub fn do_job<R: Read, W: Write>(
             policy,
             witness,
         } => run_confirm(alloc, reader, writer, rsdp, policy, &witness),
+        Job::Rebuild { rsdp, policy, base } => {
+            run_rebuild(alloc, reader, writer, rsdp, policy, base)
+        }
         Job::Show { rsdp } => run_show(alloc, reader, writer, rsdp),
         Job::Find => run_find(alloc, reader, writer),
     }

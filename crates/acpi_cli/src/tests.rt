@@ -3,6 +3,7 @@
 use crate::check::run_check;
 use crate::find::run_find;
 use crate::outcome::{Outcome, RunFault, status_of};
+use crate::rebuild::run_rebuild;
 use acpi_base::{Policy, Stage, Tally, TextFault};
 use std::alloc::Global;
 use std::io::{self, Read, Write};
@@ -16,6 +17,27 @@ const SMALLEST: &str = "@e0000
 52 53 44 54 24 00 00 00 01 0a 41 41 41 41 41 41
 41 41 41 41 41 41 41 41 01 00 00 00 41 41 41 41
 01 00 00 00
+";
+
+/// A set of a FADT alone, as it is written where it is rebuilt from E0000h on: the RSDP, the XSDT and the FADT.
+const REBUILT: &str = "@e0000
+52 53 44 20 50 54 52 20 59 41 41 41 41 41 41 02
+00 00 00 00 24 00 00 00 40 00 0e 00 00 00 00 00
+8e 00 00 00
+@e0040
+58 53 44 54 2c 00 00 00 01 6e 41 41 41 41 41 41
+41 41 41 41 41 41 41 41 01 00 00 00 41 41 41 41
+01 00 00 00 80 00 0e 00 00 00 00 00
+@e0080
+46 41 43 50 74 00 00 00 01 cd 41 41 41 41 41 41
+41 41 41 41 41 41 41 41 01 00 00 00 41 41 41 41
+01 00 00 00 00 00 00 00 00 00 00 00 00 00 00 00
+00 00 00 00 00 00 00 00 00 00 00 00 00 00 00 00
+00 00 00 00 00 00 00 00 00 00 00 00 00 00 00 00
+00 00 00 00 00 00 00 00 00 00 00 00 00 00 00 00
+00 00 00 00 00 00 00 00 00 00 00 00 00 00 00 00
+00 00 00 00 00 00 00 00 00 00 00 00 00 00 00 00
+00 00 10 00
 ";
 
 /// What a check of the text through the stage `last` returns and writes.
@@ -69,6 +91,30 @@ fn sets_that_are_searched(rt: HostRuntime) -> Result<(), Fail> {
         let result = run_find(rt.alloc(), &mut reader, &mut writer);
         assert_eq!(rt; writer.into_inner().as_slice(), line.as_bytes(), "{line}");
         assert_eq!(rt; result, Ok(outcome), "{line}");
+    }
+    Ok(())
+}
+
+#[test]
+fn sets_that_are_rebuilt(rt: HostRuntime) -> Result<(), Fail> {
+    let rows = [
+        (REBUILT, 0xe0000, REBUILT, 0),
+        (REBUILT, 0xe0020, "refused Unaligned\n", 1),
+        (REBUILT, u64::MAX - 63, "refused PastEnd\n", 1),
+        (SMALLEST, 0xe0000, "no 4 NoFadt 0x0 0x0 0x0\n", 1),
+        ("", 0xe0020, "no rsdp\n", 1),
+    ];
+    for (text, base, written, status) in rows {
+        let policy = Policy::new(rt.alloc(), 0, 24).map_err(|_| "a policy")?;
+        let mut reader = Tally::new(text.as_bytes());
+        let mut writer = Tally::new(Vec::new(rt.alloc()));
+        let result = run_rebuild(rt.alloc(), &mut reader, &mut writer, None, policy, base);
+        assert_eq!(rt;
+            writer.into_inner().as_slice(),
+            written.as_bytes(),
+            "{base:x}"
+        );
+        assert_eq!(rt; status_of(&result), status, "{base:x}");
     }
     Ok(())
 }

@@ -11,6 +11,9 @@ const COMMANDS: &str = "usage:
   acpiset confirm --witness FAULT [--rsdp HEX]
                 [--default-inputs N] [ADDRESS=COUNT]..
                 [--hotplug counted|apart] [--processors enabled|usable]
+  acpiset rebuild --base HEX [--rsdp HEX]
+                [--default-inputs N] [ADDRESS=COUNT]..
+                [--hotplug counted|apart] [--processors enabled|usable]
   acpiset show [--rsdp HEX]
   acpiset find
 
@@ -21,13 +24,21 @@ fault. confirm judges one fault, apart from check, and writes `true` where the
 image has it, or `false`. show writes what the tables say, a line for each
 entry, where the first 3 stages hold, and else what check --through 3 writes.
 
+rebuild writes a set to which check says yes anew at another address, as the
+text of an image that holds this set and nothing else. Of any other set it
+writes what check writes. Where the set cannot stand at that address it writes
+`refused` and why: Unaligned, no multiple of 64; PastEnd, past the last address;
+NeedsLow, a FACS above 4 GiB and a FADT too short for its address; TableTooLong.
+
   --witness FAULT
                the fault that confirm judges, in one argument and as check
                writes it behind `no`, such as '10 Overlap 0x30 0x58 0x0'. It
                need not be the first one
+  --base HEX   where rebuild puts the new RSDP, and all else behind it: a
+               multiple of 64, in as many digits as --rsdp
   --rsdp HEX   the address of the RSDP: 1 to 16 hex digits, with 0x before
                them or without; if absent, the one that find finds, and where
-               there is none these three write `no rsdp`
+               there is none these four write `no rsdp`
 ";
 
 const POLICY: &str = "  --default-inputs N
@@ -71,11 +82,12 @@ For example:
   acpiset check --default-inputs 16 fec00000=32 0xfec01000=8 < image.txt
   acpiset check --hotplug apart --processors usable < image.txt
   acpiset show --rsdp f59e0 < image.txt
+  acpiset rebuild --rsdp f59e0 --base 7ffe0000 < image.txt > new.txt
   acpiset confirm --rsdp f59e0 --witness '3 TableSum 0x1 0x3000 0x0' < image.txt
 
-Exit statuses: 0 yes, true, shown or found, 1 no, false or not found, 2 the
-arguments are refused, 3 the text is no image, 4 out of memory, or a read or a
-write failed.";
+Exit statuses: 0 yes, true, rebuilt, shown or found, 1 no, false, refused or
+not found, 2 the arguments are refused, 3 the text is no image, 4 out of
+memory, or a read or a write failed.";
 
 /// The usage of the program, with all stages. It ends without a line end, and takes no
 /// memory to print.

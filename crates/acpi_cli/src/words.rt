@@ -8,8 +8,8 @@ ghost use Rattle.acpi_base.specs.Laws.{NumbersFit};
 ghost use Rattle.acpi_base.specs.Policy.{PolicyValue};
 ghost use Rattle.acpi_base.specs.WitnessText.{witness_line};
 ghost use Rattle.acpi_base.specs.declared.witness.Witness.{Witness};
-ghost use Rattle.acpi_cli.specs.CommandLine.{Asked, DoesAsked, asked, check_asked, check_words, confirm_asked, confirm_words};
-ghost use Rattle.acpi_cli.specs.CommandLine.{find_words, last_word, policy_words, rsdp_word, show_asked, witness_word};
+ghost use Rattle.acpi_cli.specs.CommandLine.{Asked, DoesAsked, asked, base_word, check_asked, check_words, confirm_asked, confirm_words};
+ghost use Rattle.acpi_cli.specs.CommandLine.{find_words, last_word, policy_words, rebuild_asked, rebuild_words, rsdp_word, show_asked, show_words, witness_word};
 ghost use Rattle.acpi_cli.specs.Words.{fault_written};
 
 use crate::command_line::{clap_message, parse, value};
@@ -23,6 +23,9 @@ use thiserror::Error;
 /// What a fault looks like, in an error message.
 const FAULTS: &str =
     "a fault is one argument, as check writes it, such as '10 Overlap 0x30 0x58 0x0'";
+
+/// What an address looks like, in an error message.
+const ADDRESSES: &str = "an address is 1 to 16 hex digits, with 0x before them or without";
 
 /// A command, with what its engine is called with.
 #[derive(Debug, Drop)]
@@ -40,6 +43,13 @@ pub enum Job {
         rsdp: Option<u64>,
         policy: Policy,
         witness: Witness,
+    },
+    /// Rebuild the set of tables that the RSDP leads to from the address `base` on: the RSDP at `rsdp`, or the one that is
+    /// found. The policy's own RSDP address is 0.
+    Rebuild {
+        rsdp: Option<u64>,
+        policy: Policy,
+        base: u64,
     },
     /// Show what the tables say that the RSDP leads to: the RSDP at `rsdp`, or the one that is found.
     Show {
@@ -63,9 +73,9 @@ pub enum WordFault {
 /// The job that the arguments `words` ask for, of which the first is the program's name.
 ///
 /// The commands are `find`, `show [--rsdp HEX]`, `check [--rsdp HEX] [--through N] [--default-inputs N] [--hotplug SETTING]
-/// [--processors SETTING] [ADDRESS=COUNT]..`, and `confirm` with the same options as `check`, save that it has
-/// `--witness FAULT`, which it needs, in the place of `--through N`. FAULT is a fault as `check` writes it
-/// (`parse_witness`), in one argument. HEX is an address of 1 to 16 hex digits, with `0x` before them
+/// [--processors SETTING] [ADDRESS=COUNT]..`, and `confirm` and `rebuild` with the same options as `check`, save that in the
+/// place of `--through N` the one has `--witness FAULT`, the other `--base HEX`, which they need. FAULT is a fault as
+/// `check` writes it (`parse_witness`), in one argument. HEX is an address of 1 to 16 hex digits, with `0x` before them
 /// or without. The N of `--through` is a stage of one or two decimal digits, from 1 to 18, which it also is
 /// if absent. The setting of `--hotplug` is `counted`, which it also is if absent, or `apart`
 /// (`HotPlug`); that of `--processors` is `enabled`, which it also is if absent, or `usable` (`Processors`).
@@ -86,6 +96,7 @@ pub fn read_words(alloc: Global, words: &[String]) -> Result<Job, WordFault>
     match matches.subcommand() {
         Some((name, options)) if name == "check" => check_job(alloc, options),
         Some((name, options)) if name == "confirm" => confirm_job(alloc, options),
+        Some((name, options)) if name == "rebuild" => rebuild_job(alloc, options),
         Some((name, options)) if name == "show" => show_job(options),
         Some((name, _)) if name == "find" => Ok(Job::Find),
         _ => Err(WordFault::Words),
@@ -130,6 +141,23 @@ fn confirm_job(alloc: Global, options: &ArgMatches) -> Result<Job, WordFault>
     })
 }
 
+/// The job of `rebuild` with these options.
+#[tactic(auto, unfolding(crate::specs::CommandLine::rebuild_asked))]
+fn rebuild_job(alloc: Global, options: &ArgMatches) -> Result<Job, WordFault>
+    ensures job { IfOk result (DoesAsked (rebuild_asked (rows_of (found_of options.now)))) }
+    ensures refused { IfErr result (λ fault.
+        IsSome (rebuild_asked (rows_of (found_of options.now))) → fault ≡ WordFault.Memory) }
+{
+    let Some(rsdp) = given_address(value(options, "rsdp")) else {
+        return Err(WordFault::Words);
+    };
+    let Some(base) = base_address(value(options, "base")) else {
+        return Err(WordFault::Words);
+    };
+    let policy = read_policy(alloc, options)?;
+    Ok(Job::Rebuild { rsdp, policy, base })
+}
+
 /// The job of `show` with these options.
 #[tactic(auto, unfolding(crate::specs::CommandLine::show_asked))]
 fn show_job(options: &ArgMatches) -> Result<Job, WordFault>
@@ -151,6 +179,9 @@ pub fn error_message(alloc: Global, words: &[String]) -> Option<String> {
             (name, options) if name == "confirm" && value(options, "witness").is_none() => {
                 format!(in alloc; "confirm needs --witness FAULT: {FAULTS}").ok()
             }
+            (name, options) if name == "rebuild" && value(options, "base").is_none() => {
+                format!(in alloc; "rebuild needs --base HEX: {ADDRESSES}").ok()
+            }
             (_, options) => value_message(alloc, options),
         },
         Err(_) => clap_message(alloc, words),
@@ -159,12 +190,12 @@ pub fn error_message(alloc: Global, words: &[String]) -> Option<String> {
 
 /// An error message on the values of the options of a command, in a line that names the first wrong one.
 fn value_message(alloc: Global, options: &ArgMatches) -> Option<String> {
-    if let Some(hex) = value(options, "rsdp")
-        && hex_number(hex, 16).is_none()
-    {
-        return format!(in alloc;
-            "--rsdp '{hex}': an address is 1 to 16 hex digits, with 0x before them or without"
-        ).ok();
+    for name in ["rsdp", "base"] {
+        if let Some(hex) = value(options, name)
+            && hex_number(hex, 16).is_none()
+        {
+            return format!(in alloc; "--{name} '{hex}': {ADDRESSES}").ok();
+        }
     }
     if let Some(text) = value(options, "witness")
         && given_witness(Some(text)).is_none()
@@ -188,6 +219,13 @@ fn given_address(word: Option<&str>) -> Option<Option<u64>>
         Some(text) => Some(Some(hex_number(text, 16)?)),
         None => Some(None),
     }
+}
+
+/// The address that `--base` gives. `None` where it is absent, or its value is no address.
+fn base_address(word: Option<&str>) -> Option<u64>
+    ensures { result ≡ base_word (option_map (λ text. text.now) word.entry) }
+{
+    hex_number(word?, 16)
 }
 
 /// The fault that `--witness` gives. `None` where it is absent, or its value is no fault.
@@ -226,7 +264,8 @@ pub fn fault_words_are_texts()
 {}
 
 /// Each plain command line with good values is read, and as one expects: `find`; `check` with each choice of its
-/// options, in this order, and then any number of words `ADDRESS=COUNT`; and so `confirm` of each fault, as it is written.
+/// options, in this order, and then any number of words `ADDRESS=COUNT`; so `confirm` of each fault, as it is written, and
+/// `rebuild` to each address; and `show`, with its option and without.
 pub fn plain_lines_are_read()
     ensures find { (program : List ℕ) → asked (find_words program) ≡ Some Asked.find }
     ensures check { (program : List ℕ) (hex number inputs hotplug processors : Option (List ℕ)) (words : List (List ℕ))
@@ -237,6 +276,12 @@ pub fn plain_lines_are_read()
         (rsdp : Option ℕ) (policy : PolicyValue) → NumbersFit w → rsdp_word hex ≡ Some rsdp
         → policy_words inputs hotplug processors words ≡ Some policy
         → asked (confirm_words program (witness_line w) hex inputs hotplug processors words) ≡ Some (Asked.confirm rsdp policy w) }
+    ensures rebuild { (program base : List ℕ) (at : ℕ) (hex inputs hotplug processors : Option (List ℕ)) (words : List (List ℕ))
+        (rsdp : Option ℕ) (policy : PolicyValue) → base_word (Some base) ≡ Some at → rsdp_word hex ≡ Some rsdp
+        → policy_words inputs hotplug processors words ≡ Some policy
+        → asked (rebuild_words program base hex inputs hotplug processors words) ≡ Some (Asked.rebuild rsdp policy at) }
+    ensures show { (program : List ℕ) (hex : Option (List ℕ)) (rsdp : Option ℕ) → rsdp_word hex ≡ Some rsdp
+        → asked (show_words program hex) ≡ Some (Asked.show rsdp) }
 {}
 
 #[cfg(test)]

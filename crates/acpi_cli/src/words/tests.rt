@@ -55,7 +55,7 @@ fn lines_that_are_read(rt: HostRuntime) {
 }
 
 /// Lines that are refused.
-const REFUSED: [&str; 80] = [
+const REFUSED: [&str; 85] = [
     "acpiset",
     "acpiset ",
     "acpiset --help",
@@ -136,6 +136,11 @@ const REFUSED: [&str; 80] = [
     "acpiset check --processors apart",
     "acpiset check --processors usable --processors usable",
     "acpiset find --processors usable",
+    "acpiset rebuild --rsdp e0000",
+    "acpiset rebuild --base",
+    "acpiset rebuild --base 10000000000000000",
+    "acpiset rebuild --base e0000 --through 3",
+    "acpiset check --base e0000",
 ];
 
 #[test]
@@ -278,6 +283,18 @@ fn a_line_that_looks_for_the_rsdp(rt: HostRuntime) {
 }
 
 #[test]
+fn a_line_that_rebuilds(rt: HostRuntime) {
+    let line = "acpiset rebuild --base 0x00000000000E0020 --hotplug apart fec00000=32";
+    let Job::Rebuild { rsdp, policy, base } = read(rt.alloc(), line).expect(&rt, line) else {
+        panic!(rt; "{line}");
+    };
+    assert_eq!(rt; rsdp, None);
+    assert_eq!(rt; base, 0xe0020);
+    assert_eq!(rt; policy.hotplug(), HotPlug::Apart);
+    assert_eq!(rt; policy.inputs_of(0xfec0_0000), 32);
+}
+
+#[test]
 fn no_arguments_at_all(rt: HostRuntime) {
     let words: [String; 0] = [];
     let job = read_words(rt.alloc(), words.as_slice());
@@ -324,6 +341,14 @@ fn what_is_wrong_with_a_line(rt: HostRuntime) {
         (
             "acpiset check --processors online",
             "--processors 'online': processors are enabled or usable",
+        ),
+        (
+            "acpiset rebuild --base e0000h",
+            "--base 'e0000h': an address is 1 to 16 hex digits, with 0x before them or without",
+        ),
+        (
+            "acpiset rebuild",
+            "rebuild needs --base HEX: an address is 1 to 16 hex digits, with 0x before them or without",
         ),
         // The first wrong word is named, and an option before any word.
         (

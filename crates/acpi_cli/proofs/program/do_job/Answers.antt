@@ -6,6 +6,9 @@ returns-in-Check g c = rw (c.in-Check.is) (c.run_check.ensures)
 pub returns-in-Confirm : goal.returns-in-Confirm
 returns-in-Confirm g c = rw (c.in-Confirm.is) (c.run_confirm.ensures)
 
+pub returns-in-Rebuild : goal.returns-in-Rebuild
+returns-in-Rebuild g c = rw (c.in-Rebuild.is) (c.run_rebuild.ensures)
+
 pub returns-in-Show : goal.returns-in-Show
 returns-in-Show g c = rw (c.in-Show.is) (c.run_show.ensures)
 

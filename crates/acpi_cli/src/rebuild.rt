@@ -1,0 +1,96 @@
+//! The engine of the command `rebuild`.
+
+ghost use Rattle.std.specs.Prelude.{◌≡◌, IfOk};
+ghost use Rattle.acpi_cli.specs.Engine.{device, IsRefusalLine, Runs, ReportsRebuild, TellsRebuilt};
+
+use crate::check::{no_rsdp, rsdp_address};
+use crate::devices::{Output, read_input, write_output};
+use crate::outcome::{Outcome, RunFault};
+use acpi_base::written_text::image_text;
+use acpi_base::{Image, Policy, Tally, Verdict, verdict_text};
+use acpi_write::{RebuildFault, rebuild};
+use std::alloc::{AllocError, Global};
+use std::io::{Read, Write};
+
+/// What is reported of a set that is not rebuilt.
+fn refused(alloc: Global, fault: RebuildFault) -> Result<Output, AllocError>
+    ensures { IfOk result (λ output. IsRefusalLine fault output.bytes.items × (output.outcome ≡ Outcome.No)) }
+{
+    let bytes = match fault {
+        RebuildFault::Unaligned => Vec::from_slice(alloc, b"refused Unaligned\n")?,
+        RebuildFault::NotClean(witness) => verdict_text(alloc, &Verdict::No(witness))?,
+        RebuildFault::TableTooLong => Vec::from_slice(alloc, b"refused TableTooLong\n")?,
+        RebuildFault::PastEnd => Vec::from_slice(alloc, b"refused PastEnd\n")?,
+        RebuildFault::NeedsLow => Vec::from_slice(alloc, b"refused NeedsLow\n")?,
+        RebuildFault::Memory => return Err(AllocError),
+    };
+    let outcome = Outcome::No;
+    Ok(Output { bytes, outcome })
+}
+
+/// What is reported of the image's set under the policy, rebuilt from the address `base` on.
+fn rebuilt_output(
+    alloc: Global,
+    image: &Image,
+    policy: &Policy,
+    base: u64,
+) -> Result<Output, AllocError>
+    ensures { IfOk result (λ output. TellsRebuilt image.now policy.now base output.bytes.items output.outcome) }
+{
+    match rebuild(alloc, image, policy, base) {
+        Ok(rebuilt) => {
+            let bytes = image_text(alloc, &rebuilt)?;
+            let outcome = Outcome::Yes;
+            Ok(Output { bytes, outcome })
+        }
+        Err(fault) => refused(alloc, fault),
+    }
+}
+
+/// What is reported on the image, whose set is to be rebuilt from the address `base` on.
+fn rebuild_output(
+    alloc: Global,
+    image: &Image,
+    given: Option<u64>,
+    mut policy: Policy,
+    base: u64,
+) -> Result<Output, AllocError>
+    ensures { IfOk result (λ output. ReportsRebuild given policy base image.now output.bytes.items output.outcome) }
+{
+    let Some(address) = rsdp_address(image, given) else {
+        return no_rsdp(alloc);
+    };
+    policy.set_rsdp(address);
+    rebuilt_output(alloc, image, &policy, base)
+}
+
+/// Rebuilds the set of tables of the image whose text is on `reader`, from the address `base` on. The set is the one that
+/// the RSDP at the address `rsdp` leads to, or where it is `None` the one that is found. The policy's own address is not
+/// looked at.
+///
+/// Writes the text of the new image, which holds the rebuilt set and nothing else (`image_text`), and returns `Yes`. Else
+/// it returns `No`, and writes, in this order: `no rsdp`, where no address is given and none is found; `refused
+/// Unaligned`, where `base` is not a multiple of 64; the verdict's line, where the set is not clean; `refused
+/// TableTooLong`, `refused PastEnd` or `refused NeedsLow`, where it cannot stand at that address (`RebuildFault`).
+///
+/// Nothing is written before the image is read, judged and rebuilt. Refuses `Image` where the text is none, `Memory`, and
+/// `Device` where a read or a write failed; what was written then is a prefix of the whole.
+pub fn run_rebuild<R: Read, W: Write>(
+    alloc: Global,
+    reader: &mut Tally<R>,
+    writer: &mut Tally<W>,
+    rsdp: Option<u64>,
+    policy: Policy,
+    base: u64,
+) -> Result<Outcome, RunFault>
+    ensures { Runs (ReportsRebuild rsdp policy base)
+        (device R.remaining reader.old reader.new)
+        (device W.contents writer.old writer.new)
+        result }
+{
+    let image = read_input(alloc, reader)?;
+    let Ok(output) = rebuild_output(alloc, &image, rsdp, policy, base) else {
+        return Err(RunFault::Memory);
+    };
+    write_output(writer, &output)
+}

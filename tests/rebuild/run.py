@@ -1,0 +1,259 @@
+#!/usr/bin/env python3
+"""Runs the built program's `rebuild`. Its text is compared with texts written by hand, and on seven images of real firmware
+and every set of tests/rows with what rebuilder.py makes of it. Each new image is checked, shown and rebuilt again.
+
+usage: run.py PROGRAM; the last line is 'rebuild: N passed, M failed'."""
+
+import re
+import subprocess
+import sys
+from pathlib import Path
+
+from rebuilder import Refused, rebuilt, runs_read
+
+from rows import FULL, ROWS, WINDOW
+from tables import *
+
+FIRMWARE = Path(__file__).parent.parent / "images"
+IMAGES = {
+    "sb-q35-default": "f59e0",
+    "sb-q35-numa4-dist": "f59c0",
+    "sb-pc-nvdimm-numa": "f59d0",
+    "ovmf-q35": "f77e014",
+    "mv-acpi": "f4a10",
+    "q10-efi-virt-smp4": "4f0b0018",
+    "q11-efi-virt-caches": "47fe0000",
+}
+# Below 1 MiB, below and above 4 GiB.
+BASES = ("e0000", "7ffe0000", "123456780")
+APART = ["--hotplug", "apart"]
+
+REDUCED_SET = image_of(fadt())
+# The FADT alone, which has no FACS, from E0000h on: the numbers are worked out by hand.
+REDUCED_TEXT = """@e0000
+52 53 44 20 50 54 52 20 59 41 41 41 41 41 41 02
+00 00 00 00 24 00 00 00 40 00 0e 00 00 00 00 00
+8e 00 00 00
+@e0040
+58 53 44 54 2c 00 00 00 01 6e 41 41 41 41 41 41
+41 41 41 41 41 41 41 41 01 00 00 00 41 41 41 41
+01 00 00 00 80 00 0e 00 00 00 00 00
+@e0080
+46 41 43 50 74 00 00 00 01 cd 41 41 41 41 41 41
+41 41 41 41 41 41 41 41 01 00 00 00 41 41 41 41
+01 00 00 00 00 00 00 00 00 00 00 00 00 00 00 00
+00 00 00 00 00 00 00 00 00 00 00 00 00 00 00 00
+00 00 00 00 00 00 00 00 00 00 00 00 00 00 00 00
+00 00 00 00 00 00 00 00 00 00 00 00 00 00 00 00
+00 00 00 00 00 00 00 00 00 00 00 00 00 00 00 00
+00 00 10 00
+"""
+LISTED_TWICE = image_of(fadt(), slots=(0x2000, 0x2000))
+LONG_FADT = image_of(full_fadt(length=244), others={FACS_AT: facs()})
+FAULTY = image_of(fadt(), srat(memory(0, 0x2000), memory(0x1000, 0x2000)))
+
+# A set, the words behind `rebuild`, the status, and what is written.
+BY_HAND = [
+    ("a FADT alone", REDUCED_SET, "--rsdp e0000 --base e0000", 0, REDUCED_TEXT),
+    ("a FADT alone, rebuilt again", REDUCED_TEXT.encode(), "--base e0000", 0, REDUCED_TEXT),
+    ("a base address not a multiple of 64", REDUCED_SET, "--rsdp e0000 --base e0020", 1, "refused Unaligned\n"),
+    ("a base address one above a multiple of 64", REDUCED_SET, "--rsdp e0000 --base 1", 1, "refused Unaligned\n"),
+    ("the topmost base address", REDUCED_SET, "--rsdp e0000 --base ffffffffffffffc0", 1, "refused PastEnd\n"),
+    # The RSDP, the XSDT and the FADT of 116 bytes need 64, 64 and 116 bytes: the last base address is 2^64 - 256.
+    ("one place above the last base address", REDUCED_SET, "--rsdp e0000 --base ffffffffffffff40", 1, "refused PastEnd\n"),
+    ("a FACS at 2^32", FULL, "--rsdp e0000 --base ffffff80", 1, "refused NeedsLow\n"),
+    ("a FACS at 2^32, and a table past the end", FULL, "--rsdp e0000 --base ffffffffffffffc0", 1, "refused PastEnd\n"),
+    ("two ranges that overlap", FAULTY, "--rsdp e0000 --base e0000", 1, "no 10 Overlap 0x30 0x58 0x1000\n"),
+    ("two ranges that overlap, and a wrong base address", FAULTY, "--rsdp e0000 --base e0020", 1, "refused Unaligned\n"),
+    ("two ranges that overlap, and the topmost address", FAULTY, "--base ffffffffffffffc0", 1, "no 10 Overlap 0x30 0x58 0x1000\n"),
+    ("a window over a range, counted", WINDOW, "--rsdp e0000 --base e0000 --hotplug counted", 1, "no 10 Overlap 0x30 0x58 0x0\n"),
+    ("no RSDP at the address", b"", "--rsdp e0000 --base e0000", 1, "no 1 RsdpOut 0xe0000 0x0 0x0\n"),
+    ("no RSDP to find", b"", "--base e0000", 1, "no rsdp\n"),
+    ("no RSDP to find, and a wrong base address", b"", "--base e0020", 1, "no rsdp\n"),
+]
+# Where lines of a set's text begin.
+FACS_PLACES = [
+    ("the last FACS below 2^32", FULL, "ffffff40", 0xFFFFFFC0),
+    ("a FADT of 244 bytes, and a FACS at 2^32", LONG_FADT, "ffffff80", 0x100000000),
+]
+
+
+class Cases:
+    """Counts the cases, and tells what failed."""
+
+    def __init__(self, program):
+        self.program = program
+        self.passed = self.failed = 0
+
+    def count(self, name, wrong):
+        if wrong:
+            self.failed += 1
+            print(f"{name}: {wrong}")
+        else:
+            self.passed += 1
+
+    def run(self, words, text):
+        """The program's status, standard output and standard error."""
+        run = subprocess.run([self.program, *words], input=text, capture_output=True, timeout=60)
+        return (run.returncode, run.stdout.decode(), run.stderr.decode())
+
+    def writes(self, name, words, text, status, expected):
+        """The program writes this text, ends with this status, and reports nothing else."""
+        told = self.run(words, text)
+        self.count(name, "" if told == (status, expected, "") else f"{told}, not {(status, expected, '')}")
+        return told[1]
+
+
+def text_in(pieces):
+    return pieces if isinstance(pieces, bytes) else text_of(pieces)
+
+
+def expected_of(text, address, base):
+    """The status and the text that the second rebuilder gives."""
+    try:
+        return 0, rebuilt(text, int(address, 16), int(base, 16))
+    except Refused as name:
+        return 1, f"refused {name}\n"
+
+
+def by_hand(cases):
+    for name, pieces, words, status, expected in BY_HAND:
+        cases.writes(name, ["rebuild", *words.split()], text_in(pieces), status, expected)
+    for name, pieces, base, place in FACS_PLACES:
+        _, text, _ = cases.run(["rebuild", "--rsdp", "e0000", "--base", base], text_of(pieces))
+        starts = [at + data.index(b"FACS") for at, data in runs_read(text)[0] or () if b"FACS" in data]
+        cases.count(name, "" if starts == [place] else f"{text}")
+    last = "ffffffffffffff00"
+    status, expected = expected_of(text_of(REDUCED_SET), "e0000", last)
+    cases.writes("the last base address", ["rebuild", "--base", last], text_of(REDUCED_SET), status, expected)
+    _, text, _ = cases.run(["rebuild", "--rsdp", "e0000", "--base", "e0000"], text_of(LISTED_TWICE))
+    places = [f"{at:x} {len(data)}" for at, data in runs_read(text)[0] or ()]
+    cases.count("a table in two slots", "" if places == ["e0000 36", "e0040 52", "e0080 116", "e0100 116"] else f"{places}")
+
+
+# ---- a new image
+
+# Lines of `show` that begin with a table's place, which differs, and those that differ as a whole.
+PLACED = re.compile(r"^(slot \d+|fadt|facs|madt|srat|slit|pptt) 0x[0-9a-f]+")
+HEADS = re.compile(r"^(rsdp|root) .*|^slot \d+ empty$")
+
+
+def contents(lines):
+    """Lines that are shown, without the places of tables, the RSDP's and the root's, and slots of 0."""
+    slots = 0
+    for line in lines.splitlines():
+        if HEADS.match(line):
+            continue
+        line = PLACED.sub(r"\1", line)
+        if line.startswith("slot"):
+            line = re.sub(r"^slot \d+", f"slot {slots}", line)
+            slots += 1
+        yield line
+
+
+def new_image(cases, name, text, old_words, base, settings):
+    """What the program makes of its own new image: a clean set that says the same, and the same text again."""
+    _, told, _ = cases.run(["rebuild", *old_words, "--base", base, *settings], text)
+    runs, wrong = runs_read(told)
+    cases.count(f"{name}, its form", wrong)
+    if wrong:
+        return
+    at = ["--rsdp", base]
+    cases.count(f"{name}, its first address", "" if runs[0][0] == int(base, 16) else f"{runs[0][0]:x}")
+    cases.writes(f"{name}, checked", ["check", *at, *settings], told.encode(), 0, "yes\n")
+    cases.writes(f"{name}, rebuilt again", ["rebuild", *at, "--base", base, *settings], told.encode(), 0, told)
+    _, before, _ = cases.run(["show", *old_words], text)
+    _, after, _ = cases.run(["show", *at], told.encode())
+    same = list(contents(before)) == list(contents(after))
+    cases.count(f"{name}, shown", "" if same else f"{before}and\n{after}")
+
+
+def firmware(cases):
+    """A set of SeaBIOS has a FADT of 116 bytes on the older machine: there it needs a FACS below 4 GiB."""
+    for name, address in IMAGES.items():
+        text = (FIRMWARE / f"{name}.img.txt").read_bytes()
+        settings = APART if name == "sb-pc-nvdimm-numa" else []
+        for base in BASES:
+            words = ["--rsdp", address]
+            status, expected = expected_of(text, address, base)
+            cases.writes(f"{name} at {base}", ["rebuild", *words, "--base", base, *settings], text, status, expected)
+            if status == 0:
+                new_image(cases, f"{name} at {base}", text, words, base, settings)
+    words = ["rebuild", "--rsdp", IMAGES["sb-pc-nvdimm-numa"], "--base", "e0000"]
+    text = (FIRMWARE / "sb-pc-nvdimm-numa.img.txt").read_bytes()
+    cases.writes("sb-pc-nvdimm-numa, counted", words, text, 1, "no 10 Overlap 0x90 0xb8 0x100000000\n")
+    words[-1] = "123456780"
+    cases.writes("sb-pc-nvdimm-numa, above 4 GiB", [*words, *APART], text, 1, "refused NeedsLow\n")
+
+
+# ---- all sets that are checked
+
+
+def rows(cases):
+    """Each set of tests/rows that a check judges whole: rebuilt as the second rebuilder does it, or the line of the check."""
+    for row in ROWS:
+        command, *words = row.words.split()
+        if command != "check" or words[:1] != ["--rsdp"] or "--through" in words:
+            continue
+        text = text_in(row.pieces)
+        status, expected = expected_of(text, words[1], "e0000") if row.answer == "yes" else (1, row.answer + "\n")
+        cases.writes(f"{row.name}, rebuilt", ["rebuild", *words, "--base", "e0000"], text, status, expected)
+        if status == 0:
+            new_image(cases, row.name, text, words[:2], "e0000", words[2:])
+
+
+# ---- arguments
+
+ADDRESSES = "an address is 1 to 16 hex digits, with 0x before them or without"
+REFUSED = [
+    (f"rebuild needs --base HEX: {ADDRESSES}", ["--rsdp", "e0000"]),
+    (f"--base '10000000000000000': {ADDRESSES}", ["--base", "10000000000000000"]),
+    (f"--base '0x': {ADDRESSES}", ["--base", "0x"]),
+    (f"--base '': {ADDRESSES}", ["--base", ""]),
+    (f"--base 'e0000h': {ADDRESSES}", ["--base", "e0000h"]),
+    (f"--rsdp 'g': {ADDRESSES}", ["--base", "g", "--rsdp", "g"]),
+    ("a value is required for '--base <HEX>' but none was supplied", ["--base"]),
+    ("the argument '--base <HEX>' cannot be used multiple times", ["--base", "0", "--base", "0"]),
+    ("unexpected argument '--through' found", ["--base", "0", "--through", "3"]),
+    ("--hotplug 'both': hot-pluggable ranges are counted or apart", ["--base", "0", "--hotplug", "both"]),
+    ("--processors 'all': processors are enabled or usable", ["--base", "0", "--processors", "all"]),
+    ("--default-inputs '0': an I/O APIC has 1 to 256 inputs, in 1 to 3 decimal digits", ["--base", "0", "--default-inputs", "0"]),
+    ("'fec00000=257': an I/O APIC has 1 to 256 inputs, in 1 to 3 decimal digits", ["--base", "0", "fec00000=257"]),
+]
+
+
+def arguments(cases):
+    for message, words in REFUSED:
+        status, out, err = cases.run(["rebuild", *words], text_of(REDUCED_SET))
+        told = (status, out, err.split("\n")[0])
+        cases.count(f"arguments {words}", "" if told == (2, "", f"acpiset: {message}") else f"{told}")
+    for base in ("0xE0000", "00000000000e0000", "E0000"):
+        words = ["rebuild", "--rsdp", "0xe0000", f"--base={base}", "--default-inputs", "16", "fec00000=32", "--processors", "usable"]
+        cases.writes(f"base address {base}", words, text_of(REDUCED_SET), 0, REDUCED_TEXT)
+
+
+# ---- many tables
+
+
+def many(cases):
+    """Ten thousand tables, and one of a MiB."""
+    slots = [TABLES_AT, *[0x8000] * 10_000, 0x1000000]
+    others = {0x8000: hpet(), 0x1000000: table(b"OEM1", bytes(range(256)) * 4096)}
+    pieces = image_of(fadt(), slots=slots, others=others)
+    pieces[RSDP_AT] = rsdp(0x2000000)
+    pieces[0x2000000] = pieces.pop(RSDT_AT)
+    text = text_of(pieces)
+    status, expected = expected_of(text, "e0000", "100000000000")
+    cases.writes("ten thousand tables", ["rebuild", "--rsdp", "e0000", "--base", "100000000000"], text, status, expected)
+
+
+def main():
+    _, program = sys.argv
+    cases = Cases(program)
+    for test in (by_hand, firmware, rows, arguments, many):
+        test(cases)
+    print(f"rebuild: {cases.passed} passed, {cases.failed} failed")
+    sys.exit(1 if cases.failed else 0)
+
+
+main()
