@@ -1,9 +1,11 @@
-//! What ACPI tables say, and their bytes: the value of a clean set, and tables written from what they say.
+//! What ACPI tables say, and their bytes: the value of a clean set, tables written from what they say, and whole sets built
+//! anew.
 //!
 //! - `values`: what a clean set says, apart from where its parts stand, or the first fault of a set that is not clean.
 //! - `TableValue`: what a table says: the MADT, the SRAT and the PPTT by their entries, the SLIT by its cells, the FADT
 //!   by its bytes behind the header, and any other table by all its bytes.
 //! - `encode_table`: the bytes of a table that says a value, with the checksum that makes them sum to 0.
+//! - `rebuild`: the set of an image built anew from a base address on, or why it cannot be.
 //! - `laws`: what holds of the definitions: bytes say at most one value of a kind, a table that is read and written again
 //!   has the same contents, and a clean set says one value.
 #![tactic(auto)]
@@ -22,6 +24,8 @@ mod set_value;
 mod set_writing;
 mod table_reading;
 mod table_value;
+#[cfg(test)]
+mod test_sets;
 mod xsdt_writing;
 
 pub use encode::{WriteFault, encode_table};

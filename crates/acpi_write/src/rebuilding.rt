@@ -1,5 +1,8 @@
 //! Sets at another address.
 
+#[cfg(test)]
+mod tests;
+
 ghost use Rattle.std.specs.Prelude.{IfOk, IfErr};
 ghost use Rattle.acpi_write.specs.Rebuilding.{IsRebuilt, IsRebuildRefusal};
 

@@ -44,6 +44,7 @@ fn put(image: &mut Image, place: u64, bytes: &[u8]) -> Result<(), AllocError>
     match image.add(place, bytes) {
         Ok(()) => Ok(()),
         Err(ImageFault::Memory) => Err(AllocError),
+        // The part ends inside, and meets none that is there.
         Err(ImageFault::PastEnd) => unreachable!(),
         Err(ImageFault::Twice { .. }) => unreachable!(),
     }
