@@ -211,15 +211,19 @@ def nested(count):
 SETS = {"one-table": one_table, "nested": nested}
 
 
+def behind(pieces):
+    """The first multiple of 64 behind the last piece, and behind the first MiB."""
+    address, whole = pieces[-1]
+    return max(0x100000, (address + len(whole) + 63) // 64 * 64)
+
+
 def set_of(kind, count):
     """An RSDP, an RSDT, a FADT of hardware-reduced ACPI, and the tables of the kind."""
-    fadt = table(b"FACP", bytes(76) + struct.pack("<I", 1 << 20))
-    pieces = [(0x2000, fadt)]
+    pieces = [(0x2000, table(b"FACP", bytes(76) + struct.pack("<I", 1 << 20)))]
     for whole in KINDS[kind](count):
-        last, before = pieces[-1]
-        pieces.append((max(0x100000, (last + len(before) + 63) // 64 * 64), whole))
+        pieces.append((behind(pieces), whole))
     rsdt = table(b"RSDT", b"".join(struct.pack("<I", address) for address, _ in pieces))
-    return pieces_text([(0x1000, rsdt), *pieces])
+    return pieces_text([(behind(pieces), rsdt), *pieces])
 
 
 def text_of(what):

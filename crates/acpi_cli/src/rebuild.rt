@@ -28,16 +28,19 @@ fn refused(alloc: Global, fault: RebuildFault) -> Result<Output, AllocError>
     Ok(Output { bytes, outcome })
 }
 
-/// What is reported of the image's set under the policy, rebuilt from the address `base` on.
+/// What is reported of the image's set under the policy, rebuilt from the address `base` on. The image is dropped before the
+/// new one's text is made, so that it takes no memory beside this text, which takes three times the new image's.
 fn rebuilt_output(
     alloc: Global,
-    image: &Image,
+    image: Image,
     policy: &Policy,
     base: u64,
 ) -> Result<Output, AllocError>
-    ensures { IfOk result (λ output. TellsRebuilt image.now policy.now base output.bytes.items output.outcome) }
+    ensures { IfOk result (λ output. TellsRebuilt image policy.now base output.bytes.items output.outcome) }
 {
-    match rebuild(alloc, image, policy, base) {
+    let rebuilt = rebuild(alloc, &image, policy, base);
+    drop(image);
+    match rebuilt {
         Ok(rebuilt) => {
             let bytes = image_text(alloc, &rebuilt)?;
             let outcome = Outcome::Yes;
@@ -50,14 +53,14 @@ fn rebuilt_output(
 /// What is reported on the image, whose set is to be rebuilt from the address `base` on.
 fn rebuild_output(
     alloc: Global,
-    image: &Image,
+    image: Image,
     given: Option<u64>,
     mut policy: Policy,
     base: u64,
 ) -> Result<Output, AllocError>
-    ensures { IfOk result (λ output. ReportsRebuild given policy base image.now output.bytes.items output.outcome) }
+    ensures { IfOk result (λ output. ReportsRebuild given policy base image output.bytes.items output.outcome) }
 {
-    let Some(address) = rsdp_address(image, given) else {
+    let Some(address) = rsdp_address(&image, given) else {
         return no_rsdp(alloc);
     };
     policy.set_rsdp(address);
@@ -73,7 +76,7 @@ fn rebuild_output(
 /// Unaligned`, where `base` is not a multiple of 64; the verdict's line, where the set is not clean; `refused
 /// TableTooLong`, `refused PastEnd` or `refused NeedsLow`, where it cannot stand at that address (`RebuildFault`).
 ///
-/// Nothing is written before the image is read, judged and rebuilt. Refuses `Image` where the text is none, `Memory`, and
+/// Nothing is written before the image is read, judged and rebuilt. Refuses `Image` where the input is no image text, `Memory`, and
 /// `Device` where a read or a write failed; what was written then is a prefix of the whole.
 pub fn run_rebuild<R: Read, W: Write>(
     alloc: Global,
@@ -89,7 +92,7 @@ pub fn run_rebuild<R: Read, W: Write>(
         result }
 {
     let image = read_input(alloc, reader)?;
-    let Ok(output) = rebuild_output(alloc, &image, rsdp, policy, base) else {
+    let Ok(output) = rebuild_output(alloc, image, rsdp, policy, base) else {
         return Err(RunFault::Memory);
     };
     write_output(writer, &output)
