@@ -13,8 +13,6 @@ mod outcome;
 mod policy_words;
 mod program;
 mod show;
-#[cfg(test)]
-mod tests;
 mod usage;
 mod words;
 

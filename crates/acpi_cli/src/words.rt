@@ -238,6 +238,3 @@ pub fn plain_lines_are_read()
         → policy_words inputs hotplug processors words ≡ Some policy
         → asked (confirm_words program (witness_line w) hex inputs hotplug processors words) ≡ Some (Asked.confirm rsdp policy w) }
 {}
-
-#[cfg(test)]
-mod tests;
