@@ -30,6 +30,7 @@ test:
 	tests/documents.sh
 	tests/rows/run.py $(program)
 	tests/rows/texts.py $(program)
+	tests/rows/words.py $(program)
 	tests/rows/confirm.py $(program)
 	tests/rows/examples.py $(program)
 	tests/tools.sh $(program)

@@ -109,6 +109,7 @@ runs "firmware sb-q35-default, its whole region, rebuilt" 0 "$(cat "$scratch/reb
 # ---- the search for the RSDP
 runs "the smallest set, found" 0 "rsdp 0xe0000\n" "" "$smallest" find
 runs "the smallest set, checked where it is found" 0 "yes\n" "" "$smallest" check --through 3
+runs "the smallest set, checked where it is found, all stages" 1 'no 4 NoFadt 0x0 0x0 0x0\n' "" "$smallest" check
 runs "nothing to find" 1 "rsdp none\n" "" /dev/null find
 runs "nothing to check" 1 "no rsdp\n" "" /dev/null check
 runs "no RSDP with a right sum to check" 1 "no rsdp\n" "" "$scratch/sum" check

@@ -9,6 +9,7 @@ import sys
 from concurrent.futures import ThreadPoolExecutor
 from dataclasses import dataclass
 
+from judged import JUDGED
 from rows import BOTH_KINDS, CHAIN, FULL, OVERLAP, RING, ROWS, SMALLEST, TWO_IO_APICS, TWO_SRATS, TWO_WINDOWS, WINDOW, two_domains
 from tables import *
 
@@ -159,6 +160,10 @@ for number, answer in ((TOP, "false"), ("0x100000000", "false"), ("0x2c", "true"
 # inside the entry of the unknown type stands what looks like an override of another bus
 INSIDE = image_of(fadt(), madt(bytes([11, 12]) + override(9, 9, bus=1)))
 asked("an entry inside another", INSIDE, "6 OverrideBus 0x2e 0x0 0x0", "false")
+
+for name, pieces, words, rows in JUDGED:
+    for kind, *numbers, stands in rows:
+        asked(name, pieces, written(*kind.split(), numbers), "true" if stands else "false", f"--rsdp e0000 {words}")
 
 
 def wrong(program, texts, question):

@@ -338,6 +338,18 @@ WHOLE = image_of(
     others={FACS_AT: facs()},
 )
 row("a whole set", WHOLE, "yes")
+# The number that an override names, the second domain of a processor, and the ID of a leaf. All stages up to the fault's take
+# the memory that they need.
+for gsi, domain, uid, answer in (
+    (9, 0, 5, "yes"),
+    (9, 0, 7, "no 18 LeafUnknown 0x24 0x0 0x7"),
+    (24, 0, 7, "no 17 GsiNowhere 0x40 0x0 0x18"),
+    (24, 1, 7, "no 16 TwoDomains 0x40 0x30 0x5"),
+):
+    processors = madt(lapic(5, 5), io_apic(0xFEC00000, 0), override(9, gsi))
+    domains = srat(apic_domain(5, 0), x2apic_domain(5, domain))
+    leaf = pptt(node(0, IS_ID_VALID | IS_LEAF, uid))
+    row(f"a set for all stages, {gsi} {domain} {uid}", image_of(fadt(), processors, domains, leaf), answer)
 
 
 def part(address, size):

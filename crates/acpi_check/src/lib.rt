@@ -41,7 +41,5 @@ mod srat;
 mod stages;
 mod subset;
 mod tables;
-#[cfg(test)]
-mod tests;
 
 pub use stages::{check, check_to};

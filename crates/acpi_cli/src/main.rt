@@ -14,8 +14,6 @@ mod policy_words;
 mod program;
 mod rebuild;
 mod show;
-#[cfg(test)]
-mod tests;
 mod usage;
 mod words;
 

@@ -283,6 +283,3 @@ pub fn plain_lines_are_read()
     ensures show { (program : List ℕ) (hex : Option (List ℕ)) (rsdp : Option ℕ) → rsdp_word hex ≡ Some rsdp
         → asked (show_words program hex) ≡ Some (Asked.show rsdp) }
 {}
-
-#[cfg(test)]
-mod tests;

@@ -296,6 +296,3 @@ pub(crate) fn is_leaf_fault(madt: &[u8], pptt: &[u8], witness: &Witness) -> bool
         _ => false,
     }
 }
-
-#[cfg(test)]
-mod tests;

@@ -45,8 +45,6 @@ mod rsdp;
 mod slit;
 mod srat;
 mod tables;
-#[cfg(test)]
-mod tests;
 
 use acpi_base::{Image, Policy, Stage, Witness};
 use facs::is_facs_fault;

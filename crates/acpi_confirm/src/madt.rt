@@ -318,6 +318,3 @@ pub(crate) fn is_madt_fault(madt: &[u8], policy: &Policy, witness: &Witness) -> 
         _ => false,
     }
 }
-
-#[cfg(test)]
-mod tests;

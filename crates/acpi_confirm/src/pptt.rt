@@ -203,6 +203,3 @@ pub(crate) fn is_pptt_fault(pptt: &[u8], witness: &Witness) -> bool
         _ => false,
     }
 }
-
-#[cfg(test)]
-mod tests;

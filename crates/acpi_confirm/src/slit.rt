@@ -87,6 +87,3 @@ pub(crate) fn is_slit_fault(slit: &[u8], witness: &Witness) -> bool
 {
     has_fault_at(slit, witness.code, witness.at) && witness.other == 0 && witness.point == 0
 }
-
-#[cfg(test)]
-mod tests;

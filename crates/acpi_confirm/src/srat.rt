@@ -222,6 +222,3 @@ pub(crate) fn is_srat_fault(srat: &[u8], policy: &Policy, witness: &Witness) -> 
         _ => false,
     }
 }
-
-#[cfg(test)]
-mod tests;
