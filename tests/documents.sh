@@ -135,13 +135,36 @@ listed=$(sed -n 's/^| \([0-9]*\) | .* | [0-9to, ]* |$/\1/p' docs/FAULTS.md)
 same 'stages (<) and those that FAULTS.md lists (>)' "$stages" "$listed"
 headline=$(sed -n '/^## The headline$/,/^## /{/^```rust$/,/^```$/p}' README.md | grep -v '^```')
 # contract FUNCTION FILE: what stands before the function's body.
-contract() { sed -n "/^pub fn $1(/,/^{\$/p" "$2" | grep -v '^{$'; }
+contract() { sed -n "/^pub fn $1[(<]/,/^{\$/p" "$2" | grep -v '^{$'; }
 contracts=$(
   contract check crates/acpi_check/src/stages.rt
   contract confirm crates/acpi_confirm/src/lib.rt
   contract check_and_confirm_agree crates/acpi_cli/src/laws.rt
+  contract run_check crates/acpi_cli/src/check.rt
 )
 same 'the contracts of the headline, as README has them (<) and in the code (>)' "$headline" "$contracts"
+
+# specs NAMES: the files of these definitions.
+specs() {
+  local name crate
+  for name in $1; do
+    for crate in acpi_base acpi_check acpi_cli; do
+      [ ! -e "crates/$crate/specs/$name.antt" ] || { printf '%s\n' "crates/$crate/specs/$name.antt"; break; }
+    done
+  done
+}
+counts=$(sed -n 's/^| \(`[A-Z][A-Za-z`, ]*`\) | \([0-9]*\) |.*/\2 \1/p' README.md | tr -d '`,')
+counted=$(while read -r lines names; do printf '%s %s\n' "$(cat $(specs "$names") | wc -l)" "$names"; done <<<"$counts")
+same 'lines of definitions, as README has them (<) and in the tree (>)' "$counts" "$counted"
+sums=$(awk '/^\| `[A-Z][A-Za-z`, ]*` \| [0-9]+ \|/ { split($0, part, " [|] "); sum += part[2] } /^\| together \|/ { print sum; sum = 0 }' README.md)
+same 'sums of these lines (<) and as README has them (>)' "$sums" "$(sed -n 's/^| together | \([0-9]*\) |.*/\1/p' README.md)"
+# What the headline rests on: its words, and what they name, and so on.
+needed='Faults
+Headline
+Statements'
+while more=$({ cat $(specs "$needed") | sed -n 's/^use Rattle\.acpi_[a-z]*\.specs\.\([A-Z][A-Za-z]*\)[. ].*/\1/p'; printf '%s\n' "$needed"; } | sort -u); [ "$more" != "$needed" ]; do needed=$more; done
+told=$(sed -n '/^## What the headline rests on$/,/^| together/s/^| \(`[A-Z][A-Za-z`, ]*`\) |.*/\1/p' README.md | tr -d '`' | tr ', ' '\n\n' | sed '/^$/d')
+same 'definitions of the headline, as README has them (<) and as they name each other (>)' "$told" "$needed"
 
 paths=$(cat README.md docs/*.md | grep -o '`\(crates\|docs\|tests\|bench\|tools\|man\)/[A-Za-z0-9_./-]*[A-Za-z0-9_]`' | tr -d '`' | sort -u)
 there=$(while read -r path; do [ -e "$path" ] && printf '%s\n' "$path"; done <<<"$paths")
@@ -151,6 +174,8 @@ there=$(while read -r part; do for crate in crates/*; do [ -e "$crate/$part" ] &
 same 'files of a crate that the documents name (<) and that are there (>)' "$parts" "$there"
 
 count 'man/acpiset-faults.7, made of docs/FAULTS.md (<) and as it is (>)' "$(awk -f man/faults.awk docs/FAULTS.md | diff - man/acpiset-faults.7 | grep '^[<>]')"
+version=$(sed -n 's/^const VERSION: &str = "\(.*\)";$/\1/p' crates/acpi_cli/src/reply.rt)
+same 'the version of the program (<) and the last one in CHANGELOG.md (>)' "$version" "$(sed -n 's/^## \([0-9.]*\).*/\1/p' CHANGELOG.md | head -n 1)"
 options=$(sed -n 's/.*option(alloc, "\([a-z-]*\)".*/--\1/p' crates/acpi_cli/src/command_line.rt)
 within 'options that man/acpiset.1 does not name' "$options" "$(sed 's/\\-/-/g' man/acpiset.1 | grep -o -- '--[a-z-]*[a-z]')"
 commands=$(sed -n 's/.*Command::new(alloc, "\([a-z]*\)").*/\1/p' crates/acpi_cli/src/command_line.rt)

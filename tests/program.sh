@@ -136,35 +136,72 @@ runs "half a pair, and a fault to confirm" 3 '' 'acpiset: line 2: bad line\n' "$
 runs "half a pair, a fault to confirm, and no RSDP" 3 '' 'acpiset: line 2: bad line\n' "$scratch/half" confirm --witness "$overlap"
 
 # ---- arguments that are refused
-# refuses MESSAGE ARGUMENTS..: the arguments are refused with this error message, '' for none, and the usage.
-refuses() {
-  local message=$1 wrong=""
+usage="usage: acpiset check [OPTION].. [ADDRESS=COUNT].. < IMAGE
+       acpiset confirm|show|find [OPTION].. < IMAGE
+For more: acpiset --help, man acpiset, or docs/TROUBLESHOOTING.md#words"
+
+# says TEXT ARGUMENTS..: the arguments are refused with this text.
+says() {
+  local text=$1 wrong=""
   shift
   "$program" "$@" <"$smallest" >"$scratch/out" 2>"$scratch/err"
   local got=$?
   [ "$got" = 2 ] || wrong="status $got, not 2"
   [ ! -s "$scratch/out" ] || wrong="$wrong; standard output $(cat "$scratch/out")"
-  local first="acpiset: usage:"
-  [ -z "$message" ] || first="acpiset: $message"
-  [ "$(head -n 1 "$scratch/err")" = "$first" ] || wrong="$wrong; standard error $(head -n 1 "$scratch/err")"
-  grep -qxF '  acpiset check [--rsdp HEX] [--through N]' "$scratch/err" || wrong="$wrong; no usage of check"
-  grep -qxF '                [--default-inputs N] [ADDRESS=COUNT]..' "$scratch/err" || wrong="$wrong; no usage of counts"
-  grep -qxF '                [--hotplug counted|apart] [--processors enabled|usable]' "$scratch/err" || wrong="$wrong; no usage of settings"
-  grep -qxF '  acpiset confirm --witness FAULT [--rsdp HEX]' "$scratch/err" || wrong="$wrong; no usage of confirm"
+  [ "$(cat "$scratch/err"; printf x)" = "acpiset: $text
+x" ] || wrong="$wrong; standard error $(cat "$scratch/err")"
+  count "arguments '$*'" "$wrong"
+}
+
+# refuses MESSAGE ARGUMENTS..: the arguments are refused with this error message, and the usage in short. hints MESSAGE TIP
+# ARGUMENTS..: with a tip between the two.
+refuses() { says "$1
+$usage" "${@:2}"; }
+hints() { says "$1
+  tip: $2
+$usage" "${@:3}"; }
+
+# helps ARGUMENTS..: the help begins with what the program is, and has the usage of each command and the stages.
+helps() {
+  local wrong="" line
+  "$program" "$@" <"$smallest" >"$scratch/out" 2>"$scratch/err"
+  local got=$?
+  [ "$got" = 2 ] || wrong="status $got, not 2"
+  [ ! -s "$scratch/out" ] || wrong="$wrong; standard output $(cat "$scratch/out")"
+  [[ $(head -n 1 "$scratch/err") == 'acpiset: checks the static ACPI tables '* ]] || wrong="$wrong; standard error $(head -n 1 "$scratch/err")"
+  while read -r line; do
+    grep -qxF -- "$line" <(sed 's/^ *//' "$scratch/err") || wrong="$wrong; no '$line'"
+  done <<LIST
+acpiset check [--rsdp HEX] [--through N]
+[--default-inputs N] [ADDRESS=COUNT]..
+[--hotplug counted|apart] [--processors enabled|usable]
+acpiset confirm --witness FAULT [--rsdp HEX]
+acpiset rebuild --base HEX [--rsdp HEX]
+acpiset show [--rsdp HEX]
+acpiset find
+--through N  the last stage to check, 1 to $last, and $last if absent:
+LIST
   grep -qF "'10 Overlap 0x30 0x58 0x0'" "$scratch/err" || wrong="$wrong; no fault as it is written"
-  grep -qxF '  acpiset rebuild --base HEX [--rsdp HEX]' "$scratch/err" || wrong="$wrong; no usage of rebuild"
-  grep -qxF '  acpiset show [--rsdp HEX]' "$scratch/err" || wrong="$wrong; no usage of show"
-  grep -qxF '  acpiset find' "$scratch/err" || wrong="$wrong; no usage of find"
-  grep -qxF "  --through N  the last stage to check, 1 to $last, and $last if absent:" "$scratch/err" || wrong="$wrong; no last stage"
   [ "$(sed -n '/^  --through/,/^$/s/^ \{15,\}\([0-9][0-9]*\) .*/\1/p' "$scratch/err" | tr '\n' ' ')" = "$(seq -s ' ' "$last") " ] || wrong="$wrong; no list of the stages"
   count "arguments '$*'" "$wrong"
 }
-refuses ''
-refuses '' --help
-refuses '' check --help
-refuses '' help
-refuses "unrecognized subcommand 'chek'" chek --rsdp e0000
-refuses "unexpected argument '--rspd' found" check --rspd e0000
+
+helps --help
+helps check --help
+helps show -h
+helps rebuild --help
+helps help
+helps help check
+says "version 0.1.0, $last stages" --version
+says "version 0.1.0, $last stages" -V
+says "$usage"
+hints "unrecognized subcommand 'chek'" "a similar subcommand exists: 'check'" chek --rsdp e0000
+hints "unexpected argument '--rspd' found" "a similar argument exists: '--rsdp'" check --rspd e0000
+path='the image is read from standard input: acpiset check <'
+hints "unrecognized subcommand 'image.txt'" "$path image.txt" image.txt
+hints "unexpected argument './image' found" "$path ./image" find ./image
+refuses "--hotplug './image': hot-pluggable ranges are counted or apart" check --hotplug ./image
+hints "'image.txt': what is no option is ADDRESS=COUNT, such as fec00000=24" "$path image.txt" check --rsdp e0000 image.txt
 refuses "unexpected argument 'fec00000=24' found" find fec00000=24
 refuses "a value is required for '--rsdp <HEX>' but none was supplied" check --rsdp
 refuses "a value is required for '--through <N>' but none was supplied" check --rsdp e0000 --through
@@ -205,7 +242,7 @@ refuses "confirm needs --witness FAULT: $a_fault" confirm --rsdp xyz
 refuses "a value is required for '--witness <FAULT>' but none was supplied" confirm --rsdp e0000 --witness
 refuses "the argument '--witness <FAULT>' cannot be used multiple times" confirm --witness "$overlap" --witness "$overlap"
 refuses "unexpected argument '--witness' found" check --rsdp e0000 --witness "$overlap"
-refuses "unexpected argument '--through' found" confirm --rsdp e0000 --witness "$overlap" --through 3
+hints "unexpected argument '--through' found" "a similar argument exists: '--hotplug'" confirm --rsdp e0000 --witness "$overlap" --through 3
 for word in '' '9 Overlap 0x30 0x58 0x0' '10 overlap 0x30 0x58 0x0' '10 Overlap 0x030 0x58 0x0' '10 Overlap 0X30 0x58 0x0' \
   '10 Overlap 0x3A 0x58 0x0' '10  Overlap 0x30 0x58 0x0' '10 Overlap 0x30 0x58' '10 Overlap 0x30 0x58 0x0 ' \
   ' 10 Overlap 0x30 0x58 0x0' 'no 10 Overlap 0x30 0x58 0x0' '10 Overlap 0x10000000000000000 0x58 0x0' '10 Overlap 30 58 0' 10; do
@@ -222,8 +259,6 @@ refuses "a value is required for '--rsdp <HEX>' but none was supplied" show --rs
 refuses "the argument '--rsdp <HEX>' cannot be used multiple times" show --rsdp e0000 --rsdp e0000
 refuses "unexpected argument '--through' found" show --rsdp e0000 --through 3
 refuses "unexpected argument 'fec00000=24' found" show fec00000=24
-refuses '' show --help
-refuses '' rebuild --help
 refuses "an argument is not UTF-8" check --rsdp $'\xff'
 refuses "an argument is not UTF-8" check $'fec00000=24\xff'
 

@@ -1,13 +1,14 @@
 #!/usr/bin/env bash
-# Runs the recipes of docs/RECIPES.md, docs/REBUILD.md and docs/TROUBLESHOOTING.md whose tools are on the machine, and compares
-# what they print with the page.
+# Runs the recipes of README.md, docs/RECIPES.md, docs/REBUILD.md and docs/TROUBLESHOOTING.md whose tools are on the machine, and
+# compares what they print with the page.
 # usage: tests/recipes.sh PROGRAM; it names those that it left out, and the last line is 'recipes: N passed, M failed, L left out'.
 # A recipe that runs QEMU and fails is run once more with more time to boot.
 #
-# A recipe is a block of sh behind a line '<!-- recipe NAME needs: WORDS -->', and the block of text behind it is what it prints.
-# A word is a command, root, or file:PATH. With 'own' it prints what the machine has: then only its end is looked at. A block
-# behind '<!-- file NAME -->' is a file that recipes use. All run in one folder and in one shell, so each finds what those
-# before it left.
+# A recipe is a block of sh behind a line '<!-- recipe NAME needs: WORDS -->', and the block of text behind it is what it prints;
+# or it is a block of console, whose lines with a '$ ' are the commands, and the others what they print. A word is a command, root,
+# file:PATH, command:NAME for a command of the program, or iasl:VERSION. With 'own' it prints what the machine has: then only its end
+# is looked at. A block behind '<!-- file NAME -->' is a file that recipes use. All run in one folder and in one shell, so each finds
+# what those before it left. The folder has ./acpiset, tools and tests, as the top of the repository.
 set -u
 program=$(realpath "${1:?usage: tests/recipes.sh PROGRAM}")
 [ -x "$program" ] || { printf '%s: no program\n' "$program" >&2; exit 1; }
@@ -16,6 +17,8 @@ SOURCE=$PWD
 scratch=$(mktemp -d)
 trap 'rm -rf "$scratch"' EXIT
 mkdir "$scratch/bin" "$scratch/blocks" "$scratch/work"
+ln -s "$program" "$scratch/work/acpiset"
+ln -s "$SOURCE/tools" "$SOURCE/tests" "$SOURCE/bench" "$scratch/work"
 ln -s "$program" "$scratch/bin/acpiset"
 for tool in tools/*; do ln -s "$SOURCE/$tool" "$scratch/bin/acpiset-${tool#tools/}"; done
 PATH="$scratch/bin:$PATH"
@@ -29,14 +32,16 @@ awk -v folder="$scratch/blocks" '
   /^```/ && !inside {
     inside = 1
     target = ""
-    if (kind == "recipe" && $0 == "```sh") { target = folder "/" name ".sh"; print needs > (folder "/" name ".needs"); kind = "printed" }
+    if (kind == "recipe" && $0 == "```console") { target = folder "/" name ".text"; commands = folder "/" name ".sh"; print needs > (folder "/" name ".needs"); kind = "" }
+    else if (kind == "recipe" && $0 == "```sh") { target = folder "/" name ".sh"; print needs > (folder "/" name ".needs"); kind = "printed" }
     else if (kind == "printed" && $0 == "```text") { target = folder "/" name ".text"; kind = "" }
     else if (kind == "file") { target = folder "/../work/" name; kind = "" }
     next
   }
-  /^```/ { inside = 0; next }
+  /^```/ { inside = 0; commands = ""; next }
+  inside && commands != "" && /^\$ / { print substr($0, 3) > commands; next }
   inside && target != "" { print > target }
-' docs/RECIPES.md docs/REBUILD.md docs/TROUBLESHOOTING.md
+' README.md docs/RECIPES.md docs/REBUILD.md docs/TROUBLESHOOTING.md
 
 # lacks NEEDS: the words of what a recipe needs that this machine lacks.
 lacks() {
@@ -46,6 +51,8 @@ lacks() {
       own) ;;
       root) [ "$(id -u)" = 0 ] || printf ' %s' "$word" ;;
       file:*) [ -r "${word#file:}" ] || printf ' %s' "$word" ;;
+      command:*) "$program" --help 2>&1 | grep -q "acpiset ${word#command:}" || printf ' %s' "$word" ;;
+      iasl:*) iasl -v 2>"$scratch/found" | grep -q "version ${word#iasl:}" || printf ' %s' "$word" ;;
       *) command -v "$word" >"$scratch/found" || printf ' %s' "$word" ;;
     esac
   done

@@ -171,6 +171,7 @@ def scattered_run():
 
 
 A_FAULT = "a fault is one argument, as check writes it, such as '10 Overlap 0x30 0x58 0x0'"
+USAGE = "usage: acpiset check [OPTION].. [ADDRESS=COUNT].. < IMAGE"
 NOT_A_FAULT = "9 Overlap 0x30 0x58 0x0"
 # Arguments that are refused, with what is said of them.
 WRONG_WORDS = [
@@ -185,8 +186,10 @@ WRONG_WORDS = [
     ("'fec00000=257': an I/O APIC has 1 to 256 inputs, in 1 to 3 decimal digits", ["check", "fec00000=24", "fec00000=257"]),
     ("'fec00000': what is no option is ADDRESS=COUNT, such as fec00000=24", ["check", "fec00000"]),
     ("an argument is not UTF-8", ["check", "--rsdp", b"\xff"]),
-    ("usage:", ["--help"]),
-    ("usage:", []),
+    ("checks the static ACPI tables that an operating system reaches from", ["--help"]),
+    ("version 0.1.0, 18 stages", ["--version"]),
+    (USAGE, []),
+    ("unrecognized subcommand 'image.txt'", ["image.txt"]),
     (f"confirm needs --witness FAULT: {A_FAULT}", ["confirm"]),
     (f"--witness '{NOT_A_FAULT}': {A_FAULT}", ["confirm", "--witness", NOT_A_FAULT]),
     ("rebuild needs --base HEX: an address is 1 to 16 hex digits, with 0x before them or without", ["rebuild"]),
@@ -309,7 +312,7 @@ def starved_refusal(program, message, words):
     """Each request for memory refused where the arguments are: the run is out of memory, or says no more than the usage."""
     sweep = Sweep(program, words, program.file(text_of(SMALLEST)), "REFUSE_AT")
     wrong = "" if sweep.refused else "no request was refused"
-    usage, usual = (2, "", "acpiset: usage:"), (2, "", f"acpiset: {message}")
+    usage, usual = (2, "", f"acpiset: {USAGE}"), (2, "", f"acpiset: {message}")
     if first_line(sweep.usual) != usual:
         wrong = f"nothing refused: {sweep.usual}"
     for number, told in sweep.refused.items():

@@ -32,13 +32,26 @@ pub fn parse<'a>(alloc: Global, words: &'a [String]) -> Result<ArgMatches<'a>, W
 /// that is repeated or that has no value. `None` where the command is missing, where help is asked for,
 /// or where the program is out of memory.
 pub fn clap_message(alloc: Global, words: &[String]) -> Option<String> {
+    let text = clap_text(alloc, words)?;
+    let line = text.lines().next()?;
+    String::from_str(alloc, line.strip_prefix("error: ")?).ok()
+}
+
+/// `clap`'s tip on arguments that it refuses, in a line: which argument that is known one of them is like. `None` where it
+/// has none, or where the program is out of memory.
+pub fn clap_tip(alloc: Global, words: &[String]) -> Option<String> {
+    let text = clap_text(alloc, words)?;
+    let line = text.lines().find(|line| line.starts_with("  tip: ") && line.contains("similar"))?;
+    String::from_str(alloc, line.trim_start()).ok()
+}
+
+/// All that `clap` says of arguments that it refuses. `None` where it takes them, or where the program is out of memory.
+fn clap_text(alloc: Global, words: &[String]) -> Option<String> {
     let error = acpiset(alloc).ok()?.try_get_matches_from(words).err()?;
     if fault_of(&error) == WordFault::Memory {
         return None;
     }
-    let text = format!(in alloc; "{error}").ok()?;
-    let line = text.lines().next()?;
-    String::from_str(alloc, line.strip_prefix("error: ")?).ok()
+    format!(in alloc; "{error}").ok()
 }
 
 /// The value that `--id` was given.

@@ -13,12 +13,14 @@ mod outcome;
 mod policy_words;
 mod program;
 mod rebuild;
+mod reply;
 mod show;
 mod usage;
 mod words;
 
 use acpi_base::Tally;
 use program::{obey, refuse, refuse_memory};
+use reply::Reply;
 use std::io::ErrorKind;
 use std::process::ExitCode;
 use words::WordFault;
@@ -45,7 +47,7 @@ fn main(rt: HostRuntime) -> std::io::Result<ExitCode> {
             &mut errors,
             words.as_slice(),
         ),
-        Err(WordFault::Words) => refuse(&mut errors, Some("an argument is not UTF-8")),
+        Err(WordFault::Words) => refuse(&mut errors, &Reply::NotUtf8),
         Err(WordFault::Memory) => refuse_memory(&mut errors),
     };
     Ok(ExitCode::from(status))

@@ -11,9 +11,9 @@ use crate::confirm::run_confirm;
 use crate::find::run_find;
 use crate::outcome::{Outcome, RunFault, status_of};
 use crate::rebuild::run_rebuild;
+use crate::reply::Reply;
 use crate::show::run_show;
-use crate::usage::Usage;
-use crate::words::{Job, WordFault, error_message, read_words};
+use crate::words::{Job, WordFault, read_words};
 use acpi_base::Tally;
 use std::alloc::Global;
 use std::io::{Read, Write};
@@ -49,7 +49,7 @@ pub fn obey<R: Read, W: Write, E: Write>(
             report(errors, &result);
             status_of(&result)
         }
-        Err(WordFault::Words) => refuse(errors, error_message(alloc, words).as_deref()),
+        Err(WordFault::Words) => refuse(errors, &Reply::new(alloc, words)),
         Err(WordFault::Memory) => refuse_memory(errors),
     }
 }
@@ -85,14 +85,11 @@ fn report<E: Write>(errors: &mut E, ended: &Result<Outcome, RunFault>) {
     }
 }
 
-/// Reports what is wrong with the arguments, where it can be said, and the usage.
-pub fn refuse<E: Write>(errors: &mut E, message: Option<&str>) -> u8
+/// Replies to arguments that ask for no job.
+pub fn refuse<E: Write>(errors: &mut E, reply: &Reply) -> u8
     ensures { result ≡ 2 }
 {
-    let _ = match message {
-        Some(message) => writeln!(errors, "acpiset: {message}\n\n{Usage}"),
-        None => writeln!(errors, "acpiset: {Usage}"),
-    };
+    let _ = writeln!(errors, "acpiset: {reply}");
     REFUSED
 }
 

@@ -1,0 +1,193 @@
+#!/usr/bin/env python3
+"""What the tools of ACPICA say of each fault that acpiset reports. Each example of docs/FAULTS.md is made of one sound set of
+tables by a change of some bytes; here its tables are written to files, one each, and handed to
+
+- iasl: each file is disassembled, and the text that comes of it compiled;
+- acpiexec: the files are loaded together.
+
+A tool tells of a fault where it writes an error, a warning or a remark, of any kind, that it does not write of the sound set,
+or fails otherwise. So that it has nothing else to tell of, the sum of each changed table is right again, unless the fault is a
+wrong sum.
+
+usage: others.py [--messages] PROGRAM; it prints a table, or with --messages what each tool wrote of each fault."""
+
+import os
+import re
+import subprocess
+import sys
+import tempfile
+
+TOP = os.path.join(os.path.dirname(os.path.abspath(__file__)), "..")
+sys.path.insert(0, os.path.join(TOP, "tests", "rows"))
+
+from examples import EXAMPLE, PART, changed, image_of, text_of
+from tables import number
+
+STAGE = re.compile(r"^## Stages? (\d+):", re.M)
+COMPLAINT = re.compile(
+    r"error|warning|remark|invalid|incorrect|unknown|unexpected|exceed|mismatch|fail|truncat|should be|zero.length"
+    r"|too (small|short|large|long)|could not|not contain|beyond|ignor|\*\*\*\*",
+    re.I,
+)
+# What differs from run to run, or from file to file, and is no complaint of its own.
+CHANGING = re.compile(r"0x0000[0-9A-Fa-f]{12}|[0-9a-f]+\.(dat|dsl|aml)")
+FADT_AT = 0x2000
+GROUPS = [
+    ("the RSDP", [1]),
+    ("the root", [2]),
+    ("header, length and sum of listed tables", [3]),
+    ("the FADT and the FACS", [4, 5]),
+    ("lengths and fields of entries: MADT, SRAT, SLIT, PPTT", [6, 9, 11, 12]),
+    ("two entries of the MADT or the SRAT", [7, 8, 10]),
+    ("what the PPTT names, and cycles of it", [13, 14, 15]),
+    ("two tables", [16, 17, 18]),
+]
+DSDT = 'DefinitionBlock ("dsdt.aml", "DSDT", 2, "AAAAAA", "AAAAAAAA", 1) {}\n'
+
+
+def pieces_of(image):
+    """The runs of bytes that are held, by their addresses."""
+    pieces = {}
+    for at in sorted(image):
+        if at - 1 in image:
+            pieces[start].append(image[at])
+        else:
+            start = at
+            pieces[start] = bytearray([image[at]])
+    return pieces
+
+
+def close_sum(piece):
+    """Sets the sum byte of a table that its Length bytes are there of."""
+    length = int.from_bytes(piece[4:8], "little")
+    if piece.startswith(b"RSD PTR ") or piece.startswith(b"FACS") or not 36 <= length <= len(piece):
+        return
+    piece[9] = 0
+    piece[9] = -sum(piece[:length]) % 256
+
+
+def closed(image, old):
+    """The image with the sums closed of those of its tables that are not among the old pieces."""
+    image = dict(image)
+    for at, piece in pieces_of(image).items():
+        if piece != old.get(at):
+            close_sum(piece)
+            image.update((at + place, byte) for place, byte in enumerate(piece))
+    return image
+
+
+def sound_image():
+    """The set of tables that the examples begin with. Its FADT names no ports and no DSDT, and has another Revision than its
+    length, of which these tools say much: here it has all of these."""
+    with open(f"{TOP}/tests/images/example.img.txt") as file:
+        image = image_of(file.read())
+    for offset, address in ((40, 0x8000), (56, 0x600), (64, 0x604), (76, 0x608), (80, 0x620)):
+        for place, byte in enumerate(number(address, 4)):
+            image[FADT_AT + offset + place] = byte
+    image[FADT_AT + 8] = 3
+    return closed(image, {})
+
+
+def run(words, folder):
+    """What a tool writes, without what changes from run to run, and how it ends where it is killed."""
+    try:
+        ended = subprocess.run(words, cwd=folder, stdin=subprocess.DEVNULL, capture_output=True, timeout=5)
+    except subprocess.TimeoutExpired:
+        return ["**** it did not end within 5 seconds"]
+    lines = (ended.stdout + ended.stderr).decode(errors="replace").splitlines()
+    return lines + ([f"**** killed by signal {-ended.returncode}"] if ended.returncode < 0 else [])
+
+
+def complaints(lines):
+    return {CHANGING.sub("", line).strip() for line in lines if COMPLAINT.search(line) and "0 Errors, 0 Warn" not in line}
+
+
+def iasl_on(folder, name):
+    lines = run(["iasl", "-d", f"{name}.dat"], folder)
+    text = os.path.join(folder, f"{name}.dsl")
+    if not os.path.exists(text):
+        return lines
+    with open(text, errors="replace") as file:
+        lines += file.read().splitlines()
+    return lines + run(["iasl", f"{name}.dsl"], folder)
+
+
+def iasl(folder, names):
+    """Each table, and the root; of no version that was tried is an RSDP in a file a table."""
+    return {f"{name}: {line}" for name in names if int(name, 16) < 0x8000 for line in complaints(iasl_on(folder, name))}
+
+
+def acpiexec(folder, names):
+    """The tables but the RSDP and the root, in the place of which acpiexec makes its own, and a DSDT, which it needs."""
+    with open(os.path.join(folder, "empty.asl"), "w") as file:
+        file.write(DSDT)
+    run(["iasl", "empty.asl"], folder)
+    tables = [f"{name}.dat" for name in names if int(name, 16) in range(FADT_AT, 0x8000)]
+    return complaints(run(["acpiexec", "-b", "quit", "dsdt.aml", *tables], folder))
+
+
+def told(tool, image):
+    """The complaints of a tool on the tables of an image, each in a file."""
+    with tempfile.TemporaryDirectory() as folder:
+        names = []
+        for at, piece in pieces_of(image).items():
+            names.append(f"{at:x}")
+            with open(os.path.join(folder, f"{at:x}.dat"), "wb") as file:
+                file.write(piece)
+        return tool(folder, names)
+
+
+def version(words):
+    return re.search(r"version (\d+)", "\n".join(run(words, "."))).group(1)
+
+
+def faults_of(document):
+    """Each fault's stage, name and example."""
+    stages = [(match.start(), int(match.group(1))) for match in STAGE.finditer(document)]
+    for part in PART.finditer(document):
+        stage = [stage for at, stage in stages if at < part.start()][-1]
+        yield stage, part.group(2), EXAMPLE.search(part.group(3)).group(1)
+
+
+def acpiset(program, image, name):
+    """The line of acpiset on an image, where it is that of the fault."""
+    run = subprocess.run([program, "check", "--rsdp", "e0000"], input=text_of(image), capture_output=True, timeout=60)
+    line = run.stdout.decode().strip()
+    return [line] if line.split()[2:3] == [name] else []
+
+
+def table(rows):
+    """A row for each group of stages: how many faults they have, and how many of them each tool tells of."""
+    heads = ["faults", "acpiset"] + [f"{tool} {version([tool, '-v'])}" for tool in ("iasl", "acpiexec")]
+    width = max(len(group) for group, _ in GROUPS)
+    print(f"{'of':{width}}  {'  '.join(heads)}")
+    for group, stages in [*GROUPS, ("all", range(1, 19))]:
+        of_group = [tells for stage, tells in rows if stage in stages]
+        counts = [len(of_group)] + [sum(tells[tool] for tells in of_group) for tool in range(3)]
+        print(f"{group:{width}}  {'  '.join(f'{count:{len(head)}}' for count, head in zip(counts, heads))}")
+
+
+def main():
+    program = sys.argv[-1]
+    sound = sound_image()
+    usual = {tool: told(tool, sound) for tool in (iasl, acpiexec)}
+    with open(f"{TOP}/docs/FAULTS.md") as file:
+        faults = faults_of(file.read())
+    rows = []
+    for stage, name, example in faults:
+        image = changed(sound, example)
+        if not name.endswith("Sum"):
+            image = closed(image, pieces_of(sound))
+        news = [acpiset(program, image, name)]
+        news += [sorted(told(tool, image) - usual[tool]) for tool in (iasl, acpiexec)]
+        rows.append((stage, [lines != [] for lines in news]))
+        if "--messages" in sys.argv:
+            print(f"{stage} {name}")
+            for label, lines in zip(("acpiset", "iasl", "acpiexec"), news):
+                print("".join(f"  {label}: {line}\n" for line in lines or ["-"]), end="")
+    if "--messages" not in sys.argv:
+        table(rows)
+
+
+if __name__ == "__main__":
+    main()
