@@ -137,7 +137,7 @@ runs "half a pair, a fault to confirm, and no RSDP" 3 '' 'acpiset: line 2: bad l
 
 # ---- arguments that are refused
 usage="usage: acpiset check [OPTION].. [ADDRESS=COUNT].. < IMAGE
-       acpiset confirm|show|find [OPTION].. < IMAGE
+       acpiset confirm|rebuild|show|find [OPTION].. < IMAGE
 For more: acpiset --help, man acpiset, or docs/TROUBLESHOOTING.md#words"
 
 # says TEXT ARGUMENTS..: the arguments are refused with this text.
