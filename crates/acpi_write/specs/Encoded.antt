@@ -39,7 +39,7 @@ signature_of (Pptt _ _) = pptt_signature
 signature_of (Fadt _ _) = fadt_signature
 signature_of (Other bytes) = take 4 bytes
 
--- what its header says besides
+-- what its header says beside its signature, length and checksum
 abbrev pub value_head : TableValue → HeadValue
 value_head (Madt head _ _ _) = head
 value_head (Srat head _) = head
@@ -57,7 +57,7 @@ body_of (Pptt head entries) = flat_map pptt_bytes entries
 body_of (Fadt head body) = body
 body_of (Other bytes) = drop 36 bytes
 
--- how many bytes it has, with a header's 36; another table has them too, where it is whole
+-- how many bytes `encoded` gives for it, the header's 36 counted; of another table this holds where it has at least 36
 abbrev pub encoded_length : TableValue → ℕ
 encoded_length v = 36 + length (body_of v)
 

@@ -18,7 +18,7 @@ unfoldable pub ends : ℕ → List ℕ → List ℕ
 ends a [] = []
 ends a (n ∷ rest) = (a + n) ∷ ends (aligned (a + n)) rest
 
--- none of the blocks that end there passes the last address, which is 2^64 - 1
+-- the blocks that end there lie below 2^64: the end of a block is behind its last byte, so it may be 2^64 itself
 abbrev pub DoEndInside : List ℕ → Type 0
 DoEndInside addresses = AllByRecursion (λ a. a ≤ 2 ^ 64) addresses
 
@@ -27,15 +27,16 @@ abbrev pub is_narrow : TableValue → Bool
 is_narrow (Fadt head body) = nat_lt (length body) 104
 is_narrow _ = false
 
--- what the set says can stand from the base address on: the XSDT's Length has 32 bits, no part passes the last address, and
--- the FADT has room for the FACS's address
+-- what the set says can stand from the base address on: this is a multiple of 64, the XSDT's Length has 32 bits, no part passes
+-- the last address, and the FADT has room for the FACS's address
 pub record IsPlaced (v : SetValue) (base : ℕ) : Type 0 where
   pub aligned : base % 64 ≡ 0
   pub size : xsdt_length v < 2 ^ 32
   pub inside : DoEndInside (ends base (part_lengths v))
   pub low : list_any is_narrow v.tables ≡ true → facs_place v base < 2 ^ 32
 
--- why the set cannot stand from a base address on that is a multiple of 64: the first of these that holds
+-- why the set cannot stand from a base address on that is a multiple of 64. At most one of these holds: each asks that those
+-- before it do not.
 abbrev pub IsPlacingRefusal : SetValue → ℕ → RebuildFault → Type 0
 IsPlacingRefusal v base fault.TableTooLong = 2 ^ 32 ≤ xsdt_length v
 IsPlacingRefusal v base fault.PastEnd = (xsdt_length v < 2 ^ 32) × ¬ DoEndInside (ends base (part_lengths v))

@@ -14,7 +14,8 @@ use Rattle.acpi_write.specs.declared.placing.RebuildFault.TheVariants as fault
 use Rattle.acpi_write.specs.declared.set_value.ValuesFault.{ValuesFault}
 use Rattle.acpi_write.specs.declared.set_value.ValuesFault.TheVariants as values_fault
 
--- the image holds a clean set; what it says can stand from the base address on, and the new image is this rebuilt
+-- The image holds a clean set, which says this value; the value can stand from the base address on, and the new image is its
+-- rebuilt image there. A clean set says one value (`OneSetValue`), so there is one such image.
 pub record IsRebuilt (m : Memory) (q : PolicyValue) (base : ℕ) (new : Memory) : Type 0 where
   pub clean : IsClean m q
   pub value : SetValue
@@ -22,29 +23,30 @@ pub record IsRebuilt (m : Memory) (q : PolicyValue) (base : ℕ) (new : Memory) 
   pub placed : IsPlaced value base
   pub image : new ≡ rebuilt value base
 
--- Why a set is not rebuilt: the base address is not a multiple of 64; or it is, and the set is not clean, of which this is
--- the first fault; or the set is clean, and what it says cannot stand from the base address on. Out of memory, the base
--- address is a multiple of 64 and the stages up to the MADT's hold, which take no memory.
+-- Why a set is not rebuilt: the base address is not a multiple of 64; or it is, and the set is not clean, and this is its
+-- first fault; or the set is clean, and what it says cannot stand from the base address on. Memory runs out only where
+-- the base address is a multiple of 64 and the stages up to the MADT's hold.
 abbrev pub IsRebuildRefusal : Memory → PolicyValue → ℕ → RebuildFault → Type 0
 IsRebuildRefusal m q base fault.Unaligned = ¬ (base % 64 ≡ 0)
 IsRebuildRefusal m q base (fault.NotClean w) = (base % 64 ≡ 0) × (¬ IsClean m q) × IsFirstFault m q w
 IsRebuildRefusal m q base fault.Memory = (base % 64 ≡ 0) × CleanTo stage.Madt m q
 IsRebuildRefusal m q base refused = (base % 64 ≡ 0) × IsClean m q × ((v : SetValue) × IsSetValue m q.rsdp v × IsPlacingRefusal v base refused)
 
--- a set without a value is refused as it was
-abbrev pub refused_value : ValuesFault → RebuildFault
-refused_value (values_fault.NotClean w) = fault.NotClean w
-refused_value values_fault.Memory = fault.Memory
+-- the refusal of `rebuild` where `values` refuses the set
+abbrev pub rebuild_fault_of : ValuesFault → RebuildFault
+rebuild_fault_of (values_fault.NotClean w) = fault.NotClean w
+rebuild_fault_of values_fault.Memory = fault.Memory
 
 -- ---- a law
 
--- The rebuilt image of what a clean set says holds a clean set, under the same policy with the RSDP at the base address,
--- and it says the same. So whatever it says can stand at that base again, and its rebuilt image there is this one.
+-- The rebuilt image of the value v at a base address is kept as a set: under the policy with the RSDP at that address it is
+-- clean, it says v, and whatever it says can stand at that address again, where its rebuilt image is this one.
 pub record IsSetKept (q : PolicyValue) (v : SetValue) (base : ℕ) : Type 0 where
   pub clean : IsClean (rebuilt v base) (with_rsdp q base)
   pub value : IsSetValue (rebuilt v base) base v
   pub again : (w : SetValue) → IsSetValue (rebuilt v base) base w → IsPlaced w base × (rebuilt w base ≡ rebuilt v base)
 
--- wherever it can stand
+-- it is, of the value that a clean set says, wherever this can stand. That the numbers of a lent image fit (`IsImage`) is what
+-- `Image::numbers_fit` states.
 abbrev pub RebuiltSetsAreKept : Type 0
 RebuiltSetsAreKept = (m : Memory) (q : PolicyValue) (v : SetValue) (base : ℕ) → IsImage m → IsClean m q → IsSetValue m q.rsdp v → IsPlaced v base → IsSetKept q v base

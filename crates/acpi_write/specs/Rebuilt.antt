@@ -1,5 +1,6 @@
 -- The rebuilt image of what a set says: the RSDP at a base address, then an XSDT, the FACS if there is one, and the
--- listed tables, each at the next multiple of 64.
+-- listed tables, each at the least multiple of 64 not below the end of the one before. These are the parts of the set; a block
+-- is the bytes of a part, and a piece is a block with its address.
 use Rattle.std.specs.Prelude.{◌≡◌, ℕ, ◌+◌, ◌*◌, ◌/◌, List, [], ◌∷◌, ◌++◌, length, drop, map, flat_map, slice_index, Option, Some, None}
 use Rattle.std.specs.List.{AllByRecursion}
 use Rattle.std.specs.FinMap.{empty}
@@ -43,7 +44,7 @@ with_pieces m (p ∷ rest) = with_pieces (with_bytes m p.address p.bytes) rest
 
 -- ---- where the parts of a set stand
 
--- none or one
+-- an option as a list of one element or of none
 abbrev pub listed_option : {X : Type 0} → Option X → List X
 listed_option None = []
 listed_option (Some x) = x ∷ []
@@ -52,10 +53,11 @@ listed_option (Some x) = x ∷ []
 abbrev pub xsdt_length : SetValue → ℕ
 xsdt_length v = 36 + 8 * length v.tables
 
--- the parts' lengths: the RSDP, the XSDT, the FACS if there is one, the tables in the order of their slots
+-- the parts' lengths, in the parts' order: the RSDP, the XSDT, the FACS if there is one, the tables in the order of their slots
 abbrev pub part_lengths : SetValue → List ℕ
 part_lengths v = 36 ∷ xsdt_length v ∷ (map length (listed_option v.facs) ++ map encoded_length v.tables)
 
+-- where they begin, the first at the base address
 abbrev pub part_places : SetValue → ℕ → List ℕ
 part_places v base = places base (part_lengths v)
 
@@ -68,11 +70,11 @@ place_of_facs (Some bytes) place = place
 abbrev pub facs_place : SetValue → ℕ → ℕ
 facs_place v base = place_of_facs v.facs (slice_index (part_places v base) 2)
 
--- the tables' addresses: those of the parts behind these
+-- the tables' addresses: those of all parts behind the RSDP, the XSDT and the FACS
 abbrev pub table_places : SetValue → ℕ → List ℕ
 table_places v base = drop (2 + length (listed_option v.facs)) (part_places v base)
 
--- ---- what they hold
+-- ---- what the parts hold
 
 -- An RSDP's first 20 bytes (5.2.5.3): the signature at 0, this checksum at 8, the OEMID at 9, Revision 2 at 15, and 0 for
 -- the RSDT's address at 16.
@@ -95,7 +97,7 @@ abbrev pub encoded_with : ℕ → TableValue → List ℕ
 encoded_with facs (Fadt head body) = table_bytes fadt_signature head (with_facs body facs)
 encoded_with facs v = encoded v
 
--- the bytes of the parts
+-- the bytes of the parts, in their order
 abbrev pub part_bytes : SetValue → ℕ → List (List ℕ)
 part_bytes v base =
     rsdp_bytes v.oemid (slice_index (part_places v base) 1)

@@ -52,8 +52,8 @@ pptt_said whole = Pptt (head_of whole) (entries_in (pptt_contents whole).entries
 abbrev pub is_first : List (List ℕ) → List ℕ → List ℕ → Bool
 is_first before whole signature = has_signature whole signature && not (list_any (λ t. has_signature t signature) before)
 
--- what a table says behind those before it: the first FADT, MADT, SRAT, SLIT and PPTT by their kind, any other table by
--- its bytes
+-- what a table says where these are listed before it: the first FADT, MADT, SRAT, SLIT and PPTT by their kind, any other
+-- table by its bytes
 unfoldable pub said_behind : List (List ℕ) → List ℕ → TableValue
 said_behind before whole =
     if is_first before whole fadt_signature then fadt_said whole
@@ -63,12 +63,12 @@ said_behind before whole =
     else if is_first before whole pptt_signature then pptt_said whole
     else Other whole
 
--- what tables say behind those before them, in their order
+-- what tables say, in their order, where these are listed before them
 unfoldable pub values_behind : List (List ℕ) → List (List ℕ) → List TableValue
 values_behind before [] = []
 values_behind before (whole ∷ rest) = said_behind before whole ∷ values_behind (before ++ whole ∷ []) rest
 
--- what tables say
+-- what all listed tables say, in the order of their slots
 abbrev pub values_of : List (List ℕ) → List TableValue
 values_of tables = values_behind [] tables
 

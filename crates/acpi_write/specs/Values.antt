@@ -5,7 +5,7 @@ use Rattle.acpi_base.specs.Madt.{MadtEntry}
 use Rattle.acpi_base.specs.Srat.{SratEntry}
 use Rattle.acpi_base.specs.Pptt.{PpttEntry}
 
--- what a table says
+-- what a table says; all but `Other` begin with what its header says beside its signature, length and checksum (5.2.6)
 pub data TableValue : Type 0 where
   Madt : HeadValue → ℕ → ℕ → List MadtEntry → TableValue  -- the local APICs' address, the flags, the entries (5.2.12)
   Srat : HeadValue → List SratEntry → TableValue  -- the entries (5.2.16)

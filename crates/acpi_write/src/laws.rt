@@ -63,7 +63,8 @@ pub fn placed_unless_refused()
 {}
 
 /// Where what a clean set says can stand from a base address on, its rebuilt image holds a clean set there, under the same
-/// policy with the RSDP at that address, and it says the same.
+/// policy with the RSDP at that address, and it says the same. Rebuilt there once more it is this image. A caller that is lent
+/// an image has the premise that its numbers fit from `Image::numbers_fit`.
 pub fn rebuilt_sets_are_kept()
     ensures { RebuiltSetsAreKept }
 {}

@@ -49,9 +49,9 @@ impl From<AllocError> for RebuildFault {
 }
 
 impl From<ValuesFault> for RebuildFault {
-    ghost use Rattle.acpi_write.specs.Rebuilding.{refused_value};
+    ghost use Rattle.acpi_write.specs.Rebuilding.{rebuild_fault_of};
 
-    ghost from_gives = { λ given fault. fault ≡ refused_value given };
+    ghost from_gives = { λ given fault. fault ≡ rebuild_fault_of given };
 
     fn from(fault: ValuesFault) -> RebuildFault {
         match fault {
@@ -170,6 +170,7 @@ pub(crate) fn placed(
     }
     let lengths = lengths_of(alloc, value)?;
     let found = places_of(alloc, base, &lengths)?;
+    // Behind the RSDP and the XSDT the FACS is the third part.
     if value.facs.is_some() && found[2] >= 1 << 32 && is_one_narrow(&value.tables) {
         return Err(RebuildFault::NeedsLow);
     }

@@ -12,10 +12,10 @@ use crate::set_writing::written_set;
 use acpi_base::{Image, Policy};
 use std::alloc::Global;
 
-/// The set of an image built anew from a base address on, in bytes: the RSDP at the base address, behind it the XSDT, the
-/// FACS if there is one, and the listed tables in the order of their slots, each part at the first multiple of 64 behind the
-/// one before. The new image holds nothing else. What the set says is kept, and it is clean under the same policy with the
-/// new RSDP's address: the law `rebuilt_sets_are_kept` says so.
+/// Builds the set of an image anew, from the address `base` on: the RSDP at `base`, behind it the XSDT, the FACS if there is
+/// one, and the listed tables in the order of their slots, each part at the least multiple of 64 not below the end of the one
+/// before. The new image holds nothing else. It is clean under the same policy with `base` as the RSDP's address, and says
+/// what the old set says: the law `rebuilt_sets_are_kept` states so of each image whose numbers fit (`Image::numbers_fit`).
 ///
 /// Refuses, in this order:
 /// `Unaligned`, where the base address is not a multiple of 64;
@@ -23,7 +23,8 @@ use std::alloc::Global;
 /// `TableTooLong`, where the XSDT would have more than 4,294,967,295 bytes;
 /// `PastEnd`, where a part would pass the address 2^64 - 1;
 /// `NeedsLow`, where the FADT has fewer than 140 bytes and the FACS would stand at 2^32 or above;
-/// `Memory`, where the allocator is out of memory, which may come in the place of any but `Unaligned`.
+/// `Memory`, where the allocator is out of memory, which may come in the place of any but `Unaligned`, and only where the
+/// stages up to the MADT's hold, which take none.
 pub fn rebuild(
     alloc: Global,
     image: &Image,
