@@ -4,8 +4,12 @@
 mod tests;
 
 ghost use Rattle.std.specs.Prelude.{IfOk, IfErr};
+ghost use Rattle.acpi_base.specs.Memory.{IsImage};
+ghost use Rattle.acpi_base.specs.Policy.{with_rsdp};
+ghost use Rattle.acpi_base.specs.Statements.{IsClean};
 ghost use Rattle.acpi_write.specs.Rebuilding.{IsRebuilt, IsRebuildRefusal};
 
+use crate::laws::rebuilt_sets_are_kept;
 use crate::placing::{RebuildFault, placed};
 use crate::set_reading::values;
 use crate::set_writing::written_set;
@@ -14,8 +18,9 @@ use std::alloc::Global;
 
 /// Builds the set of an image anew, from the address `base` on: the RSDP at `base`, behind it the XSDT, the FACS if there is
 /// one, and the listed tables in the order of their slots, each part at the least multiple of 64 not below the end of the one
-/// before. The new image holds nothing else. It is clean under the same policy with `base` as the RSDP's address, and says
-/// what the old set says: the law `rebuilt_sets_are_kept` states so of each image whose numbers fit (`Image::numbers_fit`).
+/// before. The new image holds nothing else. It is clean under the same policy with `base` as the RSDP's address. The law
+/// `rebuilt_sets_are_kept` states that it also says what the old set says, and is rebuilt at `base` to itself; its premise that
+/// an image's numbers fit is what `Image::numbers_fit` states.
 ///
 /// Refuses, in this order:
 /// `Unaligned`, where the base address is not a multiple of 64;
@@ -32,6 +37,8 @@ pub fn rebuild(
     base: u64,
 ) -> Result<Image, RebuildFault>
     ensures rebuilt { IfOk result (λ new. IsRebuilt image.now policy.now base new) }
+    ensures image { IfOk result IsImage }
+    ensures clean { IfOk result (λ new. IsClean new (with_rsdp policy.now base)) }
     ensures refused { IfErr result (IsRebuildRefusal image.now policy.now base) }
 {
     if base % 64 != 0 {
@@ -39,5 +46,10 @@ pub fn rebuild(
     }
     let value = values(alloc, image, policy)?;
     let places = placed(alloc, &value, base)?;
-    Ok(written_set(alloc, &value, base, &places)?)
+    // What the proof needs: the three calls that return nothing do nothing when they run.
+    image.numbers_fit();
+    rebuilt_sets_are_kept();
+    let new = written_set(alloc, &value, base, &places)?;
+    new.numbers_fit();
+    Ok(new)
 }
