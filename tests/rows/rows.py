@@ -263,6 +263,10 @@ row("a distance of 9 in the second row", image_of(fadt(), slit(2, [10, 20, 9, 10
 row("a cell too few", image_of(fadt(), slit(2, [10, 20, 20])), "no 11 SlitSize 0x24 0x0 0x0")
 row("a distance of 9", image_of(fadt(), slit(2, [10, 9, 20, 10])), "no 11 SlitLow 0x2d 0x0 0x0")
 row("a locality at 9 from itself", image_of(fadt(), slit(2, [9, 20, 20, 10])), "no 11 SlitDiagonal 0x2c 0x0 0x0")
+row("a SLIT of 43 bytes", image_of(fadt(), table(b"SLIT", bytes(7))), "no 11 SlitShort 0x0 0x0 0x0")
+row("a byte behind no localities", image_of(fadt(), slit(0, [0])), "no 11 SlitSize 0x24 0x0 0x0")
+row("a distance of 9 before a locality at 11 from itself", image_of(fadt(), slit(2, [10, 9, 20, 11])), "no 11 SlitLow 0x2d 0x0 0x0")
+row("a locality at 9 from itself before a distance of 9", image_of(fadt(), slit(2, [9, 9, 20, 10])), "no 11 SlitDiagonal 0x2c 0x0 0x0")
 row("a locality out of reach", image_of(fadt(), slit(2, [10, 255, 255, 10])), "yes")
 
 # ---- the PPTT

@@ -215,6 +215,29 @@ facs 0x7000 length 64 version 1
     x7000=facs(),
 )
 with_fadt(
+    "the FADT of PC firmware, cut behind Flags",
+    fadt(
+        0x84A5,
+        116,
+        _36=number(0x7000, 4) + number(0x7FE0040, 4),
+        _46=number(9, 2),
+        _56=number(0x600, 4),
+        _64=number(0x604, 4),
+        _76=number(0x608, 4) + number(0x620, 4),
+        _88=bytes([4, 2, 0, 4, 16]),
+    ),
+    """
+fadt 0x2000 length 116 profile 0 sci 9 flags 0x84a5 reduced no
+dsdt 0x7fe0040
+block PM1a_EVT port 4 0x600
+block PM1a_CNT port 2 0x604
+block PM_TMR port 4 0x608
+block GPE0 port 16 0x620
+facs 0x7000 length 64 version 1
+""",
+    x7000=facs(),
+)
+with_fadt(
     "all register blocks, by their 32-bit addresses",
     fadt(
         0x123400,
@@ -357,6 +380,24 @@ madt 0x3000 lapic 0xfee00000 flags 0x1
 0x140 entry type 9 length 12
 """,
 )
+# What stands behind the MADT's own fields, and the lines of it, up to where it is cut.
+for body, lines in (
+    ("", ""),
+    ("c1 03 a1 c2 02 c3 04 a2 a3", "0x2c entry type 193 length 3\n0x2f entry type 194 length 2\n0x31 entry type 195 length 4"),
+    ("07", "0x2c cut"),
+    ("c1 03 a1 07", "0x2c entry type 193 length 3\n0x2f cut"),
+    ("c1 03 a1 07 00", "0x2c entry type 193 length 3\n0x2f cut"),
+    ("c1 03 a1 07 01 c2 02", "0x2c entry type 193 length 3\n0x2f cut"),
+    ("c1 02 07 05 a1 a2", "0x2c entry type 193 length 2\n0x2e cut"),
+    ("c1 02 07 04 a1 a2", "0x2c entry type 193 length 2\n0x2e entry type 7 length 4"),
+):
+    entries = bytes.fromhex(body)
+    beside_fadt(
+        f"a MADT with the entries {body}",
+        madt(entries),
+        f"slot 1 0x3000 APIC length {44 + len(entries)} revision 1",
+        "madt 0x3000 lapic 0xfee00000 flags 0x1\n" + lines,
+    )
 beside_fadt(
     "a MADT that ends in one byte",
     madt(lapic(0, 0), b"\x07"),
@@ -435,6 +476,17 @@ srat 0x3000
 )
 beside_fadt("an SRAT of 47 bytes", table(b"SRAT", bytes(11)), "slot 1 0x3000 SRAT length 47 revision 1", "srat 0x3000 short")
 
+beside_fadt(
+    "an SRAT that is cut behind an entry of a type of its own",
+    srat(bytes.fromhex("c1 03 a1 07")),
+    "slot 1 0x3000 SRAT length 52 revision 1",
+    """
+srat 0x3000
+0x30 entry type 193 length 3
+0x33 cut
+""",
+)
+
 # ---- the SLIT
 
 beside_fadt(
@@ -446,6 +498,17 @@ slit 0x3000 count 3
 row 0 10 20 255
 row 1 21 10 11
 row 2 254 22 10
+""",
+)
+beside_fadt(
+    "a SLIT of other distances to each side",
+    slit(3, (10, 12, 13, 21, 10, 23, 255, 32, 10)),
+    "slot 1 0x3000 SLIT length 53 revision 1",
+    """
+slit 0x3000 count 3
+row 0 10 12 13
+row 1 21 10 23
+row 2 255 32 10
 """,
 )
 beside_fadt("a SLIT of no localities", slit(0), "slot 1 0x3000 SLIT length 44 revision 1", "slit 0x3000 count 0")
@@ -510,6 +573,16 @@ beside_fadt(
     "0x1 0x2 0x3 0x4 0x5 0x6 0x7 0x8 0x9 0xa 0xb 0xc 0xd 0xe 0xf 0x10 0x11 0x12 0x13 0x14 0x15 0x16 0x17 0x18 0x19 0x1a "
     "0x1b 0x1c 0x1d 0x1e 0x1f 0x20 0x21 0x22 0x23 0x24 0x25 0x26 0x27 0x28 0x29 0x2a 0x2b 0x2c 0x2d 0x2e 0x2f 0x30 0x31 "
     "0x32 0x33 0x34 0x35 0x36 0x37 0x38 0x39 0x3a",
+)
+beside_fadt(
+    "a PPTT of entries of other types",
+    pptt(bytes.fromhex("c1 03 a1 c2 02")),
+    "slot 1 0x3000 PPTT length 41 revision 2",
+    """
+pptt 0x3000
+0x24 entry type 193 length 3
+0x27 entry type 194 length 2
+""",
 )
 beside_fadt(
     "a PPTT that is cut off",

@@ -99,6 +99,3 @@ impl<'a> Facs<'a> {
         self.bytes
     }
 }
-
-#[cfg(test)]
-mod tests;

@@ -193,6 +193,3 @@ impl<'a> Root<'a> {
         self.width == 8
     }
 }
-
-#[cfg(test)]
-mod tests;

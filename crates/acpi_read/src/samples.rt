@@ -1,12 +1,11 @@
-//! Tables for the tests: those of the machine `q35` of QEMU 7.2, as its firmware SeaBIOS left them, and
-//! tables that are built here.
+//! Tables for the tests: those of the machine `q35` of QEMU 7.2, as its firmware SeaBIOS left them.
 
 ghost use Rattle.std.specs.Prelude.{◌≡◌, length, IsTrue};
 ghost use Rattle.acpi_base.specs.Entries.{IsEntry};
 
 use crate::header::Header;
 use crate::layout::{Layout, read_back};
-use acpi_base::{Image, sum};
+use acpi_base::Image;
 use std::alloc::Global;
 use std::fmt::Debug;
 use std::process::Abort;
@@ -81,11 +80,12 @@ pub(crate) const MADT: [u8; 120] = [
 ];
 
 /// At 7FE0000h.
-pub(crate) fn facs() -> [u8; 64] {
-    let mut facs = [0; 64];
-    facs[..5].copy_from_slice(b"FACS\x40");
-    facs
-}
+pub(crate) const FACS: [u8; 64] = [
+    0x46, 0x41, 0x43, 0x53, 0x40, 0x00, 0x00, 0x00, 0x00, 0x00, 0x00, 0x00, 0x00, 0x00, 0x00, 0x00,
+    0x00, 0x00, 0x00, 0x00, 0x00, 0x00, 0x00, 0x00, 0x00, 0x00, 0x00, 0x00, 0x00, 0x00, 0x00, 0x00,
+    0x00, 0x00, 0x00, 0x00, 0x00, 0x00, 0x00, 0x00, 0x00, 0x00, 0x00, 0x00, 0x00, 0x00, 0x00, 0x00,
+    0x00, 0x00, 0x00, 0x00, 0x00, 0x00, 0x00, 0x00, 0x00, 0x00, 0x00, 0x00, 0x00, 0x00, 0x00, 0x00,
+];
 
 /// An RSDP of revision 2, which names an RSDT at 1000h and an XSDT at 1100h.
 pub(crate) const EXTENDED: [u8; 36] = [
@@ -101,34 +101,6 @@ pub(crate) fn image_of(alloc: Global, pieces: &[(u64, &[u8])]) -> Result<Image, 
         image.add(*address, bytes)?;
     }
     Ok(image)
-}
-
-/// A table: a header with its Length and its Checksum, and the body.
-pub(crate) fn table(
-    alloc: Global,
-    signature: [u8; 4],
-    revision: u8,
-    body: &[u8],
-) -> Result<Vec<u8>, Fail> {
-    let mut header = Header {
-        signature,
-        length: u32::try_from(36 + body.len())?,
-        revision,
-        checksum: 0,
-        oemid: *b"MAKER ",
-        oem_table_id: *b"BUILT   ",
-        oem_revision: 1,
-        creator_id: 0,
-        creator_revision: 1,
-    };
-    let mut out = [0; 36];
-    header.write(&mut out);
-    header.checksum = sum(&out).wrapping_add(sum(body)).wrapping_neg();
-    header.write(&mut out);
-    let mut bytes = Vec::new(alloc);
-    bytes.extend_from_slice(&out)?;
-    bytes.extend_from_slice(body)?;
-    Ok(bytes)
 }
 
 /// The bytes are read as the value, and the value is written as `written`, where reserved bytes are 0. `out` is room

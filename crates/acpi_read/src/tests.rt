@@ -1,4 +1,4 @@
-use crate::samples::{FADT, MADT, RSDP, RSDT, facs, image_of};
+use crate::samples::{FACS, FADT, MADT, RSDP, RSDT, image_of};
 use crate::*;
 use acpi_base::{Code, Image};
 use std::test::*;
@@ -23,13 +23,12 @@ fn example(image: Image) -> Result<(), Code> {
 
 #[test]
 fn example_reads_a_machine(rt: HostRuntime) -> Result<(), Fail> {
-    let facs = facs();
     let pieces: [(u64, &[u8]); 5] = [
         (0xf59e0, &RSDP),
         (0x7fe223c, &RSDT),
         (0x7fe2034, &FADT),
         (0x7fe2128, &MADT),
-        (0x7fe0000, &facs),
+        (0x7fe0000, &FACS),
     ];
     assert!(rt; example(image_of(rt.alloc(), &pieces)?).is_ok());
     Ok(())
