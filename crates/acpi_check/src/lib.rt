@@ -4,13 +4,8 @@
 //! behind it, or reports the first fault of its own. `check` asks all eighteen in their order, `check_to`
 //! those up to one; stages 1 to 6 allocate no memory.
 //!
-//! ```rust
-//! let policy = Policy::new(alloc, 0xe0000, 24).unwrap(); // the RSDP's address, and the inputs of an I/O APIC
-//! match check(alloc, &image, &policy)? {
-//!     Verdict::Yes => {}         // all eighteen stages hold
-//!     Verdict::No(fault) => {}   // the first fault, in a fixed order
-//! }
-//! ```
+//! `check_output` in `crates/acpi_cli/src/check.rt` is an example: it has an image checked under a policy, and makes the
+//! verdict's line.
 #![tactic(auto)]
 
 mod chains;

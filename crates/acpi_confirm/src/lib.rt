@@ -4,11 +4,8 @@
 //! three numbers are. It needs no earlier stage to hold. It shares no code with the crates that check: it looks the
 //! bytes up in the image itself, and walks over the slots and the entries itself. It allocates no memory.
 //!
-//! ```rust
-//! let policy = Policy::new(alloc, 0xe0000, 24).unwrap(); // the RSDP's address, and the inputs of an I/O APIC
-//! let fault = parse_witness(b"4 NoFadt 0x0 0x0 0x0").unwrap(); // as the checker prints it
-//! assert!(rt; confirm(&image, &policy, &fault)); // the image's root is whole, and lists no FADT
-//! ```
+//! `confirm_output` in `crates/acpi_cli/src/confirm.rt` is an example: it has a fault judged that `parse_witness` has read from
+//! an argument, and makes the line.
 //!
 //! A file for each group of codes, in the order of `docs/FAULTS.md`:
 //!
