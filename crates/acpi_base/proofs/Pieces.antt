@@ -1,9 +1,10 @@
-pub mod Bases
 pub mod Firsts
 pub mod Gathers
+pub mod Holders
 pub mod Images
 pub mod Inserts
 pub mod Layings
+pub mod Marks
 pub mod RunBytes
 pub mod Searches
 pub mod Stores

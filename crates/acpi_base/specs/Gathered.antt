@@ -1,60 +1,49 @@
--- Pieces that are gathered in any order: one is open, and those that have ended are found by their bases.
-use Rattle.std.specs.Prelude.{◌≡◌, ◌⊎◌, ℕ, ◌+◌, ◌-◌, ◌^◌, ◌<◌, ◌≤◌, List, length, Option, Some, None, IsSome, MatchOption}
+-- Pieces that are gathered in any order: one is open, and those that have ended stand in the order in which they came.
+use Rattle.std.specs.Prelude.{◌≡◌, ◌⊎◌, ℕ, ◌+◌, ◌-◌, ◌^◌, ◌<◌, ◌≤◌, List, [], ◌∷◌, length, nat_lt, if◌then◌else◌}
 use Rattle.std.specs.List.{AllByRecursion}
-use Rattle.std.specs.Ordering.{nat_cmp}
-use Rattle.std.specs.Map.{lookup}
-use Rattle.std.specs.BTreeMap.{is_at}
 use Rattle.acpi_base.specs.declared.image.gathering.Gathering.{Gathering}
-use Rattle.acpi_base.specs.declared.image.span.Span.{Span}
+use Rattle.acpi_base.specs.declared.image.marks.Marks.{Marks}
+use Rattle.acpi_base.specs.Marked.{IsMarked}
 use Rattle.acpi_base.specs.Memory.{Memory}
-use Rattle.acpi_base.specs.Stored.{Piece, Rising, end_at, LiesBefore, held_by}
+use Rattle.acpi_base.specs.Stored.{Piece, end_at, LiesBefore, held_by}
 
--- the piece at a base
-abbrev pub at_base : List Piece → ℕ → Option Span
-at_base ps q = lookup (is_at (nat_cmp q)) ps
+-- 1 where the piece has the address, and else 0
+abbrev pub has : ℕ → Piece → ℕ
+has x p = if nat_lt x p.0 then 0 else (if nat_lt x (end_at p) then 1 else 0)
 
--- the piece has none of the n addresses from a on
-abbrev pub IsClearOf : ℕ → ℕ → Piece → Type 0
-IsClearOf a n p = (end_at p ≤ a) ⊎ (a + n ≤ p.0)
+-- how many pieces have the address
+abbrev pub holders : List Piece → ℕ → ℕ
+holders [] x = 0
+holders (p ∷ ps) x = has x p + holders ps x
 
-abbrev pub AllClear : ℕ → ℕ → List Piece → Type 0
-AllClear a n ps = AllByRecursion (IsClearOf a n) ps
+-- pieces that do not overlap, whose bytes are among the first n of a store
+pub record AreEnded (n : ℕ) (ps : List Piece) : Type 0 where
+  pub once : (x : ℕ) → holders ps x ≤ 1
+  pub filled : AllByRecursion (λ p. 0 < p.1.len) ps
+  pub lies : AllByRecursion (LiesBefore n) ps
 
--- some piece has the address
-abbrev pub IsWithin : List Piece → ℕ → Type 0
-IsWithin ps s = (q : ℕ) × (v : Span) × (at_base ps q ≡ Some v) × (q ≤ s) × (s < q + v.len)
-
--- the last piece that begins at an address or before it
-abbrev pub IsBefore : List Piece → ℕ → Option Piece → Type 0
-IsBefore ps a r =
-    MatchOption r
-    ((q : ℕ) → q ≤ a → at_base ps q ≡ None)
-    (λ p. (at_base ps p.0 ≡ Some p.1) × (p.0 ≤ a) × ((q : ℕ) → q ≤ a → IsSome (at_base ps q) → q ≤ p.0))
-
--- the first base from an address on
-abbrev pub IsFrom : List Piece → ℕ → Option ℕ → Type 0
-IsFrom ps a r =
-    MatchOption r
-    ((q : ℕ) → a ≤ q → at_base ps q ≡ None)
-    (λ s. IsSome (at_base ps s) × (a ≤ s) × ((q : ℕ) → a ≤ q → IsSome (at_base ps q) → s ≤ q))
-
--- the least of n addresses from a on that a piece has
-abbrev pub IsFirstHeld : List Piece → ℕ → ℕ → Option ℕ → Type 0
-IsFirstHeld ps a n r =
-    MatchOption r
-    (AllClear a n ps)
-    (λ s. (a ≤ s) × (s < a + n) × IsWithin ps s × (a < s → (q : ℕ) (v : Span) → at_base ps q ≡ Some v → (q + v.len ≤ a) ⊎ (s ≤ q)))
-
--- ended pieces, in the order of their bases, and an open one behind which `room` addresses are free
+-- ended pieces, and an open one behind which `room` addresses are free
 pub record AreGathered (store : List ℕ) (ps : List Piece) (base begin room : ℕ) : Type 0 where
-  pub rising : Rising ps
-  pub ended : AllByRecursion (LiesBefore begin) ps
+  pub ended : AreEnded begin ps
   pub within : begin ≤ length store
-  pub clear : AllClear base (length store - begin + room) ps
+  pub clear : (x : ℕ) → base ≤ x → x < base + (length store - begin + room) → holders ps x ≡ 0
   pub fits : base + (length store - begin + room) ≤ 2 ^ 64
 
+-- each address of an ended piece is marked, and no other one, save of an open piece with `count` bytes
+pub record AreMarked (marks : Marks) (ps : List Piece) (base count : ℕ) : Type 0 where
+  pub ended : (x : ℕ) → 0 < holders ps x → IsMarked marks x
+  pub only : (x : ℕ) → IsMarked marks x → (0 < holders ps x) ⊎ ((base ≤ x) × (x < base + count))
+
 abbrev pub gathered_memory : Gathering → Memory
-gathered_memory g = held_by g.store.items g.ended.entries g.base g.start
+gathered_memory g = held_by g.store.items g.ended.items g.base g.start
+
+-- the pieces are in order, whatever is marked
+abbrev pub AreInOrder : Gathering → Type 0
+AreInOrder g = AreGathered g.store.items g.ended.items g.base g.start g.room
 
 abbrev pub IsGathering : Gathering → Type 0
-IsGathering g = AreGathered g.store.items g.ended.entries g.base g.start g.room
+IsGathering g = AreInOrder g × AreMarked g.marks g.ended.items g.base (length g.store.items - g.start)
+
+-- the addresses of the open piece are marked
+abbrev pub IsOpenMarked : Gathering → Type 0
+IsOpenMarked g = (x : ℕ) → g.base ≤ x → x < g.base + (length g.store.items - g.start) → IsMarked g.marks x

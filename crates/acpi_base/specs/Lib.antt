@@ -19,6 +19,7 @@ pub mod Laws
 pub mod Layouts
 pub mod Listed
 pub mod Madt
+pub mod Marked
 pub mod Memory
 pub mod Number
 pub mod Policy

@@ -10,6 +10,7 @@ ghost use Rattle.acpi_base.specs.Segments.{lookup};
 ghost use Rattle.acpi_base.specs.Laid.{IsSound, runs_of};
 
 pub(crate) mod gathering;
+mod marks;
 mod runs;
 mod segments;
 mod span;

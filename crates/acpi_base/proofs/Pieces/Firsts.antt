@@ -1,115 +1,137 @@
 -- The least address that gathered pieces hold.
-use Rattle.std.proofs.Common.{◌≡◌, ◌⊎◌, inl, inr, ℕ, zero, suc, ◌+◌, ◌-◌, ◌^◌, ◌<◌, ◌≤◌, false, List, [], ◌∷◌, length, drop, Option, Some, None, IsSome, sym, ap, subst, ◌∙◌, refl, arith, length-drop}
+use Rattle.std.proofs.Common.{◌≡◌, ◌⊎◌, inl, inr, ℕ, ◌+◌, ◌-◌, ◌^◌, ◌<◌, ◌≤◌, min, false, List, length, drop, Option, Some, None, IsSome, is_some, refl, sym, ap, subst, ◌∙◌, arith, length-drop}
 use Rattle.std.specs.Prelude.{IfSome, nat_lt}
 use Rattle.std.specs.Option.{option_or}
-use Rattle.std.specs.List.{AllByRecursion}
 use Rattle.std.proofs.lemmas.Bool.{cases_lt, le-ltb}
-use Rattle.acpi_base.specs.declared.image.span.Span.{Span}
+use Rattle.acpi_base.specs.declared.image.marks.Marks.{Marks}
 use Rattle.acpi_base.specs.Adding.{add_refusal}
+use Rattle.acpi_base.specs.Gathered.{AreGathered, AreMarked, holders}
+use Rattle.acpi_base.specs.Marked.{IsFirst, IsMarked}
 use Rattle.acpi_base.specs.Memory.{Memory, byte_of, first_of, first_held}
 use Rattle.acpi_base.specs.Segments.{run_at, held, lookup, earlier}
-use Rattle.acpi_base.specs.Stored.{Piece, Rising, LiesBefore, run_in, runs_in, held_by}
-use Rattle.acpi_base.specs.Gathered.{at_base, IsClearOf, AllClear, IsFirstHeld, AreGathered}
-use Rattle.acpi_base.proofs.Runs.{first_of_none, first_of_at, first_of_from}
-use Rattle.acpi_base.proofs.Pieces.RunBytes.{held_none, held_some, first_of_held_above, first_of_held_within, first_of_held_outside}
-use Rattle.acpi_base.proofs.Pieces.Stores.{run_ends}
+use Rattle.acpi_base.specs.Stored.{Piece, all_runs, runs_in, held_by}
+use Rattle.acpi_base.proofs.Runs.{first_of_none, first_of_at}
+use Rattle.acpi_base.proofs.Pieces.Holders.{lookup_none, lookup_some}
 use Rattle.acpi_base.proofs.Pieces.Images.{first_held_by}
-use Rattle.acpi_base.proofs.Pieces.Bases.{from_bases, at_base-here, at_base-apart}
+use Rattle.acpi_base.proofs.Pieces.RunBytes.{held_none, held_some, held_inside}
 
--- the first at which f or g has something
-first_of-or : (f g : ℕ → Option ℕ) (a n : ℕ) → first_of (λ x. option_or (f x) (g x)) a n ≡ earlier (first_of f a n) (first_of g a n)
-unfolding first_of
-first_of-or f g a zero = refl
-first_of-or f g a (suc n) = grind (arith, first_of_from f (a + 1) n, first_of_from g (a + 1) n, first_of-or f g (a + 1) n)
+-- ---- the first of two
 
--- an empty run holds nothing
-empty_none : (at : ℕ) (bs : List ℕ) (x : ℕ) → length bs ≡ 0 → held (run_at at bs) x ≡ None
-empty_none at bs x e = elim (cases_lt x at) [ inl l ↦ held_none (run_at at bs) x (inl l) | inr l ↦ held_none (run_at at bs) x (inr (omega arith)) ]
+-- the first that f has something at
+first_is : (f : ℕ → Option ℕ) (a n s : ℕ) → a ≤ s → s < a + n → IsSome (f s) → ((x : ℕ) → a ≤ x → x < s → f x ≡ None) → Some s ≡ first_of f a n
+first_is f a n s l h some before =
+    let at : s ≡ a + (s - a) = omega arith in
+    ap Some at ∙ sym (first_of_at f a n (s - a) (omega arith) (subst (λ x. IsSome (f x)) at some) (λ j less. before (a + j) (omega arith) (omega arith)))
 
--- the first of n addresses that a run has
-pub first_in_run : (o : Option ℕ) (at : ℕ) (bs : List ℕ) (len a n : ℕ) → length bs ≡ len → 0 < n → (o ≡ None → (len ≡ 0) ⊎ (at + len ≤ a) ⊎ (a + n ≤ at))
-    → IfSome o (λ s. (0 < len) × (a ≤ s) × (s < a + n) × (at ≤ s) × (s < at + len) × ((s ≡ a) ⊎ (s ≡ at))) → o ≡ first_of (held (run_at at bs)) a n
-first_in_run None at bs len a n e l f g = elim (f refl) [
-  | inl z ↦ sym (first_of_none (held (run_at at bs)) a n (λ k h. empty_none at bs (a + k) (omega arith)))
-  | inr h ↦ elim h [ inl z ↦ sym (first_of_held_outside (run_at at bs) a n (inr (omega arith))) | inr z ↦ sym (first_of_held_outside (run_at at bs) a n (inl (omega arith))) ]
+none_unless : (o : Option ℕ) → (IsSome o → ⊥) → o ≡ None
+none_unless None never = refl
+none_unless (Some b) never = absurd (never refl)
+
+-- where f has something just at the numbers of which P or Q holds, its first is the earlier of both
+pub first_both : (f : ℕ → Option ℕ) (P Q : ℕ → Type 0) (a n : ℕ) (p q : Option ℕ) → IsFirst P a n p → IsFirst Q a n q
+    → ((x : ℕ) → IsSome (f x) → P x ⊎ Q x) → ((x : ℕ) → P x → IsSome (f x)) → ((x : ℕ) → Q x → IsSome (f x)) → earlier p q ≡ first_of f a n
+first_both f P Q a n None None u v either left right =
+    sym (first_of_none f a n (λ k h. none_unless (f (a + k)) (λ some. elim (either (a + k) some) [
+      | inl p ↦ u (a + k) (omega arith) (omega arith) p
+      | inr q ↦ v (a + k) (omega arith) (omega arith) q
+    ])))
+first_both f P Q a n None (Some t) u v either left right =
+    let high = v.1 in
+    first_is f a n t v.0 high (right t v.2) (λ x l h. none_unless (f x) (λ some. elim (either x some) [
+      | inl p ↦ u x l (omega arith) p
+      | inr q ↦ v.3 x l h q
+    ]))
+first_both f P Q a n (Some s) None u v either left right =
+    let high = u.1 in
+    first_is f a n s u.0 high (left s u.2) (λ x l h. none_unless (f x) (λ some. elim (either x some) [
+      | inl p ↦ u.3 x l h p
+      | inr q ↦ v x l (omega arith) q
+    ]))
+first_both f P Q a n (Some s) (Some t) u v either left right = elim (cases_lt s t) [
+  | inl less ↦
+      let is : min s t ≡ s = omega arith in
+      ap Some is ∙ first_is f a n s u.0 u.1 (left s u.2) (λ x l h. none_unless (f x) (λ some. elim (either x some) [
+        | inl p ↦ u.3 x l h p
+        | inr q ↦ v.3 x l (omega arith) q
+      ]))
+  | inr more ↦
+      let is : min s t ≡ t = omega arith in
+      ap Some is ∙ first_is f a n t v.0 v.1 (right t v.2) (λ x l h. none_unless (f x) (λ some. elim (either x some) [
+        | inl p ↦ u.3 x l (omega arith) p
+        | inr q ↦ v.3 x l h q
+      ]))
 ]
-first_in_run (Some s) at bs len a n e l f g =
-    let fill = g.0 in
-    let low = g.1 in
-    let high = g.2 in
-    let from = g.3 in
-    let to = g.4 in
-    elim (cases_lt a at) [
-      | inl m ↦ elim g.5 [
-        | inl i ↦ absurd (omega arith)
-        | inr i ↦ ap Some i ∙ sym (first_of_held_above (run_at at bs) a n m (omega arith) (omega arith))
-      ]
-      | inr m ↦ elim g.5 [
-        | inl i ↦ ap Some i ∙ sym (first_of_held_within (run_at at bs) a n m (omega arith) l)
-        | inr i ↦ (let j : s ≡ a = omega arith in ap Some j ∙ sym (first_of_held_within (run_at at bs) a n m (omega arith) l))
-      ]
+
+-- the first address of the open piece
+pub first_open : (o : Option ℕ) (at len a n : ℕ) → 0 < n → (o ≡ None → (len ≡ 0) ⊎ (at + len ≤ a) ⊎ (a + n ≤ at))
+    → IfSome o (λ s. (0 < len) × (a ≤ s) × (s < a + n) × (at ≤ s) × (s < at + len) × ((s ≡ a) ⊎ (s ≡ at))) → IsFirst (λ x. (at ≤ x) × (x < at + len)) a n o
+first_open None at len a n some f g = λ x l h (low, high). elim (f refl) [
+  | inl z ↦ absurd (omega arith)
+  | inr z ↦ elim z [ inl y ↦ absurd (omega arith) | inr y ↦ absurd (omega arith) ]
+]
+first_open (Some s) at len a n some f g =
+    (g.1, g.2, (g.3, g.4), λ x l h (low, high). elim g.5 [ inl y ↦ absurd (omega arith) | inr y ↦ absurd (omega arith) ])
+
+-- ---- what is held
+
+or_cases : (x y : Option ℕ) → IsSome (option_or x y) → IsSome x ⊎ IsSome y
+or_cases None y some = inr some
+or_cases (Some b) y some = inl refl
+
+or_left : (x y : Option ℕ) → IsSome x → IsSome (option_or x y)
+or_left x y some = grind arith
+
+or_right : (x y : Option ℕ) → IsSome y → IsSome (option_or x y)
+or_right x y some = grind arith
+
+-- an address that is held is one of the open piece, or a marked one
+pub open_or_marked : (store : List ℕ) (marks : Marks) (ps : List Piece) (base begin room : ℕ) → AreGathered store ps base begin room → AreMarked marks ps base (length store - begin)
+    → (x : ℕ) → IsSome (lookup (all_runs store ps base begin) x) → ((base ≤ x) × (x < base + (length store - begin))) ⊎ IsMarked marks x
+open_or_marked store marks ps base begin room s m x some =
+    let long : length (drop begin store) ≡ length store - begin = length-drop begin store in
+    elim (or_cases (held (run_at base (drop begin store)) x) (lookup (runs_in store ps) x) some) [
+      | inl here ↦ (let within = held_inside (run_at base (drop begin store)) x here in let low = within.0 in let high = within.1 in inl (low, omega arith))
+      | inr ended ↦ inr (m.ended x (elim (cases_lt 0 (holders ps x)) [
+        | inl l ↦ l
+        | inr l ↦ absurd (let none = lookup_none store begin ps x s.within s.ended.lies (omega arith) in let not = ap is_some (sym none) ∙ ended in cc)
+      ]))
     ]
 
--- pieces that are clear of the addresses hold nothing there
-lookup_clear : (store : List ℕ) (m : ℕ) (es : List Piece) (a n x : ℕ) → m ≤ length store → AllByRecursion (LiesBefore m) es → AllClear a n es → a ≤ x → x < a + n → lookup (runs_in store es) x ≡ None
-lookup_clear store m [] a n x l h c f g = refl
-lookup_clear store m (e ∷ es) a n x l h c f g =
-    let long = run_ends store e m l h.0 in
-    let none : held (run_in store e) x ≡ None = elim c.0 [ inl d ↦ held_none (run_in store e) x (inr (omega arith)) | inr d ↦ held_none (run_in store e) x (inl (omega arith)) ] in
-    rw none (lookup_clear store m es a n x l h.1 c.1 f g)
+-- each address of the open piece is held
+pub open_held : (store : List ℕ) (ps : List Piece) (base begin x : ℕ) → (base ≤ x) × (x < base + (length store - begin)) → IsSome (lookup (all_runs store ps base begin) x)
+open_held store ps base begin x (low, high) =
+    let long : length (drop begin store) ≡ length store - begin = length-drop begin store in
+    or_left _ _ (held_some (run_at base (drop begin store)) x low (omega arith))
 
--- what either has, one of both has
-or_some : (x y : Option ℕ) → IsSome y → IsSome (option_or x y)
-or_some x y some = grind arith
+-- and each that is marked
+pub marked_held : (store : List ℕ) (marks : Marks) (ps : List Piece) (base begin room : ℕ) → AreGathered store ps base begin room → AreMarked marks ps base (length store - begin)
+    → (x : ℕ) → IsMarked marks x → IsSome (lookup (all_runs store ps base begin) x)
+marked_held store marks ps base begin room s m x marked = elim (m.only x marked) [
+  | inl some ↦ or_right _ _ (lookup_some store begin ps x s.within s.ended.lies some)
+  | inr here ↦ open_held store ps base begin x here
+]
 
-some_or : (x y : Option ℕ) → IsSome x → IsSome (option_or x y)
-some_or x y some = grind arith
-
--- an address within a piece is held
-lookup_some : (store : List ℕ) (m : ℕ) (es : List Piece) (s q : ℕ) (v : Span) → m ≤ length store → AllByRecursion (LiesBefore m) es → at_base es q ≡ Some v → q ≤ s → s < q + v.len → IsSome (lookup (runs_in store es) s)
-lookup_some store m [] s q v l h e f g = absurd (cc)
-lookup_some store m (d ∷ es) s q v l h e f g =
-    elim (cases_lt q d.0) [
-      | inl o ↦ or_some (held (run_in store d) s) _ (lookup_some store m es s q v l h.1 (sym (at_base-apart d es q (inl o)) ∙ e) f g)
-      | inr o ↦ elim (cases_lt d.0 q) [
-        | inl p ↦ or_some (held (run_in store d) s) _ (lookup_some store m es s q v l h.1 (sym (at_base-apart d es q (inr p)) ∙ e) f g)
-        | inr p ↦
-            let k : q ≡ d.0 = omega arith in
-            let is : Some d.1 ≡ Some v = sym (at_base-here d es q k) ∙ e in
-            let w : d.1 ≡ v = cc in
-            let len : d.1.len ≡ v.len = ap (λ (u : Span). u.len) w in
-            let long = run_ends store d m l h.0 in
-            some_or (held (run_in store d) s) (lookup (runs_in store es) s) (held_some (run_in store d) s (omega arith) (omega arith))
-      ]
-    ]
-
--- the first of n addresses that a piece has
-pub first_in_pieces : (store : List ℕ) (m : ℕ) (es : List Piece) (a n : ℕ) (r : Option ℕ) → m ≤ length store → AllByRecursion (LiesBefore m) es → Rising es → IsFirstHeld es a n r → r ≡ first_of (lookup (runs_in store es)) a n
-first_in_pieces store m es a n None l h r f = sym (first_of_none (lookup (runs_in store es)) a n (λ k o. lookup_clear store m es a n (a + k) l h f (omega arith) (omega arith)))
-first_in_pieces store m es a n (Some s) l h r f =
-    let low = f.0 in
-    let high = f.1 in
-    let w = f.2 in
-    let there : s ≡ a + (s - a) = omega arith in
-    let some : IsSome (lookup (runs_in store es) (a + (s - a))) = subst (λ x. IsSome (lookup (runs_in store es) x)) there (lookup_some store m es s w.0 w.1 l h w.2 w.3 w.4) in
-    ap Some there ∙ sym (first_of_at (lookup (runs_in store es)) a n (s - a) (omega arith) some (λ j o.
-    lookup_clear store m es a (s - a) (a + j) l h (clear (omega arith)) (omega arith) (omega arith)))
-  where
-    clear : a < s → AllClear a (s - a) es
-    clear o = from_bases (IsClearOf a (s - a)) es r (λ q v g. elim (f.3 o q v g) [ inl d ↦ inl d | inr d ↦ inr (omega arith) ])
-
--- the first of n addresses that are held is that of the open piece or of the others
-pub first_in_all : (store : List ℕ) (ps : List Piece) (base begin a n : ℕ)
-    → first_held (held_by store ps base begin) a n ≡ earlier (first_of (held (run_at base (drop begin store))) a n) (first_of (lookup (runs_in store ps)) a n)
-first_in_all store ps base begin a n = first_held_by store ps base begin a n ∙ first_of-or (held (run_at base (drop begin store))) (lookup (runs_in store ps)) a n
+-- the first of n addresses that are held
+pub first_gathered : (store : List ℕ) (marks : Marks) (ps : List Piece) (base begin room a n : ℕ) (p q : Option ℕ) → AreGathered store ps base begin room
+    → AreMarked marks ps base (length store - begin) → IsFirst (λ x. (base ≤ x) × (x < base + (length store - begin))) a n p → IsFirst (IsMarked marks) a n q
+    → earlier p q ≡ first_held (held_by store ps base begin) a n
+first_gathered store marks ps base begin room a n p q s m u v =
+    first_both (lookup (all_runs store ps base begin)) (λ x. (base ≤ x) × (x < base + (length store - begin))) (IsMarked marks) a n p q u v
+    (open_or_marked store marks ps base begin room s m)
+    (open_held store ps base begin)
+    (marked_held store marks ps base begin room s m)
+    ∙ sym (first_held_by store ps base begin a n)
 
 -- bytes that follow the open piece hit nothing
-pub follows_free : (store : List ℕ) (es : List Piece) (base begin room a n : ℕ) → AreGathered store es base begin room → a ≡ base + (length store - begin) → n ≤ room → first_held (held_by store es base begin) a n ≡ None
-follows_free store es base begin room a n s e l =
+pub follows_free : (store : List ℕ) (ps : List Piece) (base begin room a n : ℕ) → AreGathered store ps base begin room → a ≡ base + (length store - begin) → n ≤ room
+    → first_held (held_by store ps base begin) a n ≡ None
+follows_free store ps base begin room a n s e l =
     let long : length (drop begin store) ≡ length store - begin = length-drop begin store in
-    first_in_all store es base begin a n
-    ∙ ap (λ o. earlier o (first_of (lookup (runs_in store es)) a n)) (first_of_held_outside (run_at base (drop begin store)) a n (inr (omega arith)))
-    ∙ first_of_none (lookup (runs_in store es)) a n (λ k o. lookup_clear store begin es base (length store - begin + room) (a + k) s.within s.ended s.clear (omega arith) (omega arith))
+    first_held_by store ps base begin a n
+    ∙ first_of_none (lookup (all_runs store ps base begin)) a n (λ k h.
+    rw (held_none (run_at base (drop begin store)) (a + k) (inr (omega arith))) (lookup_none store begin ps (a + k) s.within s.ended.lies (s.clear (a + k) (omega arith) (omega arith))))
+
+-- ---- refusals
 
 -- what is not held and fits is not refused
 pub not_refused : (m : Memory) (a : ℕ) (bs : List ℕ) → a + length bs ≤ 2 ^ 64 → first_held m a (length bs) ≡ None → add_refusal m a bs ≡ None
@@ -120,25 +142,3 @@ not_refused m a bs l e =
 -- nor are no bytes
 pub none_not_refused : (m : Memory) (a : ℕ) (bs : List ℕ) → a < 2 ^ 64 → length bs ≡ 0 → add_refusal m a bs ≡ None
 none_not_refused m a bs l e = not_refused m a bs (omega arith) (first_of_none (byte_of m) a (length bs) (λ k o. absurd (omega arith)))
-
--- where neither has a first, the one has none
-earlier_none : (x y : Option ℕ) → earlier x y ≡ None → x ≡ None
-earlier_none None y e = refl
-earlier_none (Some x) None e = absurd (cc)
-earlier_none (Some x) (Some y) e = absurd (cc)
-
--- addresses of which none is held are clear of the open piece
-pub clear_open : (store : List ℕ) (es : List Piece) (base begin a n : ℕ) → 0 < length store - begin → 0 < n → first_held (held_by store es base begin) a n ≡ None → (base + (length store - begin) ≤ a) ⊎ (a + n ≤ base)
-clear_open store es base begin a n o l e =
-    let long : length (drop begin store) ≡ length store - begin = length-drop begin store in
-    let none : first_of (held (run_at base (drop begin store))) a n ≡ None = earlier_none _ (first_of (lookup (runs_in store es)) a n) (sym (first_in_all store es base begin a n) ∙ e) in
-    elim (cases_lt a base) [
-      | inl p ↦ elim (cases_lt base (a + n)) [
-        | inl q ↦ absurd (let some = first_of_held_above (run_at base (drop begin store)) a n p q (omega arith) in let no : Some base ≡ None = sym some ∙ none in cc)
-        | inr q ↦ inr q
-      ]
-      | inr p ↦ elim (cases_lt a (base + (length store - begin))) [
-        | inl q ↦ absurd (let some = first_of_held_within (run_at base (drop begin store)) a n p (omega arith) l in let no : Some a ≡ None = sym some ∙ none in cc)
-        | inr q ↦ inl q
-      ]
-    ]

@@ -1,68 +1,37 @@
 //! An image that is being read: pieces of memory as they come, in any order.
 //!
 //! All bytes lie in one store. The piece that was begun last is open: it has the store's bytes from `start` on,
-//! and what follows it is only appended. Where that is empty, none is open. The pieces that have ended are found
-//! by their bases. Pieces that touch stay apart until all have come: `finish` lays them out once.
+//! and what follows it is only appended. Where that is empty, none is open. The pieces that have ended are kept as
+//! they came, and their addresses are marked. `finish` sorts the pieces, and lays them out once.
 
-ghost use Rattle.std.specs.Prelude.{◌≡◌, ℕ, ◌+◌, ◌-◌, ◌^◌, ◌<◌, ◌≤◌, ◌⊎◌, true, None, IsSome, IfSome, IfOk, IsOk, IsOkUnless, OnOk, OnErr, MatchOption, length};
-ghost use Rattle.std.specs.List.{AllByRecursion};
+ghost use Rattle.std.specs.Prelude.{◌≡◌, ℕ, ◌+◌, ◌-◌, ◌^◌, ◌<◌, ◌≤◌, ◌⊎◌, true, None, IfSome, IfOk, IsOk, IsOkUnless, OnOk, OnErr, MatchOption, length};
 ghost use Rattle.std.specs.FinMap.{empty};
 ghost use Rattle.acpi_base.specs.Adding.{add_refusal};
 ghost use Rattle.acpi_base.specs.Memory.{IsImage, with_bytes, first_held};
 ghost use Rattle.acpi_base.specs.Segments.{earlier, memory_of};
-ghost use Rattle.acpi_base.specs.Stored.{LiesBefore, Rising, runs_in};
+ghost use Rattle.acpi_base.specs.Stored.{runs_in};
 ghost use Rattle.acpi_base.specs.Laid.{IsSound, memory_in};
-ghost use Rattle.acpi_base.specs.Gathered.{AllClear, IsBefore, IsFirstHeld, IsFrom, IsGathering, at_base, gathered_memory};
+ghost use Rattle.acpi_base.specs.Marked.{IsMarked};
+ghost use Rattle.acpi_base.specs.Gathered.{AreEnded, AreInOrder, IsGathering, IsOpenMarked, gathered_memory};
 
+use super::marks::Marks;
 use super::segments::Segments;
 use super::span::Span;
 use super::{Image, ImageFault};
 use std::alloc::{AllocError, Global};
-use std::collections::BTreeMap;
 
-/// The last piece that begins at an address or before it.
-fn last_before(ended: &BTreeMap<u64, Span>, address: u64) -> Option<(u64, Span)>
-    ensures { IsBefore ended.now.entries address result }
+/// How many bytes may surely come from an address on before the next piece. Looks no further than it takes to answer
+/// for `count` bytes, or to the end of the block of 64 addresses.
+fn room_behind(marks: &Marks, base: u64, count: u64) -> u64
+    requires some { 0 < count }
+    requires count { base + count ≤ 2 ^ 64 }
+    ensures fits { base + result ≤ 2 ^ 64 }
+    ensures free { (x : ℕ) → base ≤ x → x < base + result → IsMarked marks.now x → ⊥ }
 {
-    let (base, span) = ended.range(..=address).next_back()?;
-    Some((*base, *span))
-}
-
-/// The first base from an address on.
-fn first_from(ended: &BTreeMap<u64, Span>, address: u64) -> Option<u64>
-    ensures { IsFrom ended.now.entries address result }
-{
-    let (base, _) = ended.range(address..).next()?;
-    Some(*base)
-}
-
-/// The least of the addresses from `base` to `last` that a piece has.
-fn first_in_ended(ended: &BTreeMap<u64, Span>, base: u64, last: u64) -> Option<u64>
-    requires rising { Rising ended.now.entries }
-    requires some { base ≤ last }
-    ensures { IsFirstHeld ended.now.entries base (last - base + 1) result }
-{
-    let (at, span) = last_before(ended, last)?;
-    if at < base && span.len as u64 <= base - at {
-        return None;
-    }
-    // Some address is held. Pieces that begin behind `base` may be several.
-    if let Some((at, span)) = last_before(ended, base) {
-        if base - at < span.len as u64 {
-            return Some(base);
-        }
-    }
-    first_from(ended, base)
-}
-
-/// How many bytes may surely come from an address on before the next piece.
-fn room_behind(ended: &BTreeMap<u64, Span>, end: u64) -> u64
-    ensures fits { end + result ≤ 2 ^ 64 }
-    ensures free { (q : ℕ) → end ≤ q → IsSome (at_base ended.now.entries q) → end + result ≤ q }
-{
-    match first_from(ended, end) {
-        Some(next) => next - end,
-        None => u64::MAX - end,
+    let wanted = count.max((64 - base % 64).min(u64::MAX - base));
+    match marks.first_marked(base, wanted) {
+        Some(next) => next - base,
+        None => wanted,
     }
 }
 
@@ -98,16 +67,18 @@ fn earlier_of(first: Option<u64>, second: Option<u64>) -> Option<u64>
 }
 
 /// The pieces' bytes in the order of their addresses.
-fn lay_out(alloc: Global, store: &[u8], ended: &BTreeMap<u64, Span>) -> Result<Segments, AllocError>
-    requires rising { Rising ended.now.entries }
-    requires lies { AllByRecursion (LiesBefore (length store.now)) ended.now.entries }
+fn lay_out(
+    alloc: Global,
+    store: &[u8],
+    mut pieces: Vec<(u64, Span)>,
+) -> Result<Segments, AllocError>
+    requires { AreEnded (length store.now) pieces.items }
     ensures sound { IfOk result IsSound }
-    ensures same { IfOk result (λ segments. memory_in segments ≡ memory_of (runs_in store.now ended.now.entries)) }
+    ensures same { IfOk result (λ segments. memory_in segments ≡ memory_of (runs_in store.now pieces.items)) }
 {
+    pieces.sort_unstable_by_key(|piece| piece.0);
     let mut segments = Segments::with_capacity(alloc, store.len())?;
-    for (base, span) in ended {
-        segments.take(*base, span.bytes(store))?;
-    }
+    segments.take_all(store, &pieces)?;
     Ok(segments)
 }
 
@@ -115,7 +86,8 @@ fn lay_out(alloc: Global, store: &[u8], ended: &BTreeMap<u64, Span>) -> Result<S
 #[derive(Drop)]
 pub struct Gathering {
     store: Vec<u8>,
-    ended: BTreeMap<u64, Span>,
+    ended: Vec<(u64, Span)>,
+    marks: Marks,
     base: u64,
     start: usize,
     room: u64,
@@ -129,7 +101,8 @@ impl Gathering {
     {
         Gathering {
             store: Vec::new(alloc),
-            ended: BTreeMap::new(alloc),
+            ended: Vec::new(alloc),
+            marks: Marks::new(alloc),
             base: 0,
             start: 0,
             room: 0,
@@ -138,7 +111,9 @@ impl Gathering {
 
     /// Whether bytes from `base` on follow the open piece, and surely hit no other.
     fn follows(&mut self, base: u64, count: u64) -> bool
-        requires { IsGathering self.old }
+        requires sound { IsGathering self.old }
+        requires some { 0 < count }
+        requires fits { base + count ≤ 2 ^ 64 }
         ensures sound { IsGathering self.new }
         ensures same { gathered_memory self.new ≡ gathered_memory self.old }
         ensures store { self.new.store ≡ self.old.store }
@@ -149,7 +124,7 @@ impl Gathering {
             return false;
         }
         if count > self.room {
-            self.room = room_behind(&self.ended, base);
+            self.room = room_behind(&self.marks, base, count);
         }
         count <= self.room
     }
@@ -167,14 +142,14 @@ impl Gathering {
         Ok(())
     }
 
-    /// Puts the open piece, where there is one, among those that have ended.
-    fn end(&mut self) -> Result<(), AllocError>
-        requires { IsGathering self.old }
-        ensures sound { IsGathering self.new }
+    /// Puts the open piece, where there is one, among those that have ended. Marks nothing.
+    fn close(&mut self) -> Result<(), AllocError>
+        requires { AreInOrder self.old }
+        ensures sound { AreInOrder self.new }
+        ensures marked { IsGathering self.old → IsOpenMarked self.old → IsGathering self.new }
         ensures same { gathered_memory self.new ≡ gathered_memory self.old }
         ensures store { self.new.store ≡ self.old.store }
         ensures ended { OnOk result (self.new.start ≡ length self.new.store.items) }
-        ensures clear { OnOk result ((a n : ℕ) → AllClear a n self.old.ended.entries → 0 < n → first_held (gathered_memory self.old) a n ≡ None → AllClear a n self.new.ended.entries) }
     {
         let len = self.store.len() - self.start;
         if len > 0 {
@@ -182,13 +157,25 @@ impl Gathering {
                 start: self.start,
                 len,
             };
-            if self.ended.insert(self.base, span).is_err() {
-                return Err(AllocError);
-            }
+            self.ended.push((self.base, span))?;
             self.start += len;
         }
         self.room = 0;
         Ok(())
+    }
+
+    /// Marks the addresses of the open piece. Where it is out of memory, some of them may be marked.
+    fn mark_open(&mut self) -> Result<(), AllocError>
+        requires { IsGathering self.old }
+        ensures sound { IsGathering self.new }
+        ensures same { gathered_memory self.new ≡ gathered_memory self.old }
+        ensures marked { OnOk result (IsOpenMarked self.new) }
+    {
+        let open = (self.store.len() - self.start) as u64;
+        if open == 0 {
+            return Ok(());
+        }
+        self.marks.mark(self.base, open)
     }
 
     /// Opens a piece.
@@ -196,7 +183,7 @@ impl Gathering {
         requires sound { IsGathering self.old }
         requires ended { self.old.start ≡ length self.old.store.items }
         requires fits { base + length bytes.now ≤ 2 ^ 64 }
-        requires free { AllClear base (length bytes.now) self.old.ended.entries }
+        requires free { first_held (gathered_memory self.old) base (length bytes.now) ≡ None }
         ensures sound { IsGathering self.new }
         ensures ok { OnOk result (gathered_memory self.new ≡ with_bytes (gathered_memory self.old) base bytes.now) }
         ensures err { OnErr result (gathered_memory self.new ≡ gathered_memory self.old) }
@@ -212,18 +199,17 @@ impl Gathering {
         requires sound { IsGathering self.now }
         requires some { 0 < count }
         requires fits { base + count ≤ 2 ^ 64 }
-        ensures first { result ≡ first_held (gathered_memory self.now) base count }
-        ensures free { result ≡ None → AllClear base count self.now.ended.entries }
+        ensures { result ≡ first_held (gathered_memory self.now) base count }
     {
         let open = (self.store.len() - self.start) as u64;
         earlier_of(
             first_in_open(self.base, open, base, count),
-            first_in_ended(&self.ended, base, base + (count - 1)),
+            self.marks.first_marked(base, count),
         )
     }
 
     /// Adds the bytes from `base` on, and refuses as `Image::add` does. Bytes that follow the ones that came last
-    /// are appended with no search, any others by one in the pieces that have ended.
+    /// are appended with no search, any others by one of the marks.
     pub fn add(&mut self, base: u64, bytes: &[u8]) -> Result<(), ImageFault>
         requires { IsGathering self.old }
         ensures sound { IsGathering self.new }
@@ -247,8 +233,9 @@ impl Gathering {
         if let Some(address) = self.first_taken(base, count) {
             return Err(ImageFault::Twice { address });
         }
-        // Only now, as it may want memory, which comes last of the refusals.
-        self.end()?;
+        // Only now, as they may want memory, which comes last of the refusals.
+        self.mark_open()?;
+        self.close()?;
         self.open(base, bytes)?;
         Ok(())
     }
@@ -260,8 +247,16 @@ impl Gathering {
         ensures image { IfOk result IsImage }
     {
         let mut pieces = self;
-        pieces.end()?;
-        let segments = lay_out(alloc, &pieces.store, &pieces.ended)?;
+        pieces.close()?;
+        let Gathering {
+            store,
+            ended,
+            marks,
+            ..
+        } = pieces;
+        // No bytes come any more, and sorting takes no memory: so the most that is held at once is less.
+        drop(marks);
+        let segments = lay_out(alloc, &store, ended)?;
         Ok(Image { segments, alloc })
     }
 }

@@ -229,7 +229,7 @@ impl Segments {
     }
 
     /// Appends the bytes of pieces in another store, which stand in the order of their addresses.
-    fn take_all(&mut self, store: &[u8], pieces: &[(u64, Span)]) -> Result<(), AllocError>
+    pub fn take_all(&mut self, store: &[u8], pieces: &[(u64, Span)]) -> Result<(), AllocError>
         requires sound { IsSound self.old }
         requires rising { Rising pieces.now }
         requires lies { AllByRecursion (LiesBefore (length store.now)) pieces.now }

@@ -7,9 +7,9 @@ use Rattle.acpi_base.proofs.image.gathering.Gathering.finish.Goals as goal
 
 pub returns-clause-same : goal.returns-clause-same
 returns-clause-same c =
-    let p = c.end.new.self in
-    let ended = c.in_ok-end.ensures.ended in
+    let p = c.close.new.self in
+    let ended = c.in_ok-close.ensures.ended in
     c.in_ok-segments.ensures.same
-    ∙ ap (λ store. memory_of (runs_in store p.ended.entries)) c.deref.ensures.value
-    ∙ no_bytes (memory_of (runs_in p.store.items p.ended.entries)) p.base (drop p.start p.store.items) (ap length (drop_all p.start p.store.items (omega arith)))
-    ∙ c.in_ok-end.ensures.same
+    ∙ ap (λ store. memory_of (runs_in store p.ended.items)) c.deref.ensures.value
+    ∙ no_bytes (memory_of (runs_in p.store.items p.ended.items)) p.base (drop p.start p.store.items) (ap length (drop_all p.start p.store.items (omega arith)))
+    ∙ c.in_ok-close.ensures.same

@@ -1,21 +1,17 @@
-use Rattle.std.proofs.Common.{◌≡◌, ◌+◌, ◌-◌, length, drop, sym, subst, ap, ◌∙◌, arith, length-drop}
-use Rattle.acpi_base.specs.Segments.{earlier, held, run_at}
-use Rattle.acpi_base.specs.Memory.{first_of}
-use Rattle.acpi_base.specs.Gathered.{IsFirstHeld}
-use Rattle.acpi_base.proofs.Pieces.Firsts.{first_in_run, first_in_pieces, first_in_all}
+use Rattle.std.proofs.Common.{◌≡◌, ◌+◌, ◌-◌, ◌<◌, ◌≤◌, length, subst, ◌∙◌, arith}
+use Rattle.acpi_base.specs.Marked.{IsFirst}
+use Rattle.acpi_base.proofs.Pieces.Firsts.{first_gathered, first_open}
 use Rattle.acpi_base.proofs.image.gathering.Gathering.first_taken.Goals as goal
 
-pub returns-clause-first : goal.returns-clause-first
-returns-clause-first c =
+pub returns : goal.returns
+returns c =
     let s = c.args.self.now in
     let a = c.args.base in
     let n = c.args.count in
-    let some = c.requires.some in
     let is = c.len.ensures in
-    let long : c.len.result ≡ length s.store.items = omega arith in
-    let same : a + (n - 1) - a + 1 ≡ n = omega arith in
-    let len : length (drop s.start s.store.items) ≡ c.len.result - s.start = length-drop s.start s.store.items ∙ ap (λ k. k - s.start) (sym long) in
+    let long : c.len.result - s.start ≡ length s.store.items - s.start = omega arith in
+    let first = first_open c.first_in_open.result s.base (c.len.result - s.start) a n c.requires.some c.first_in_open.ensures.none c.first_in_open.ensures.some in
     c.earlier_of.ensures
-    ∙ ap (λ o. earlier o c.first_in_ended.result) (first_in_run c.first_in_open.result s.base (drop s.start s.store.items) _ a n len some c.first_in_open.ensures.none c.first_in_open.ensures.some)
-    ∙ ap (earlier (first_of (held (run_at s.base (drop s.start s.store.items))) a n)) (first_in_pieces s.store.items s.start s.ended.entries a n c.first_in_ended.result c.requires.sound.within c.requires.sound.ended c.requires.sound.rising (subst (λ m. IsFirstHeld s.ended.entries a m c.first_in_ended.result) same c.first_in_ended.ensures))
-    ∙ sym (first_in_all s.store.items s.ended.entries s.base s.start a n)
+    ∙ first_gathered s.store.items s.marks s.ended.items s.base s.start s.room a n c.first_in_open.result c.first_marked.result c.requires.sound.0 c.requires.sound.1
+    (subst (λ k. IsFirst (λ x. (s.base ≤ x) × (x < s.base + k)) a n c.first_in_open.result) long first)
+    c.first_marked.ensures

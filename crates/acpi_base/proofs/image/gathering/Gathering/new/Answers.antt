@@ -1,9 +1,5 @@
 use Rattle.acpi_base.proofs.Pieces.Layings.{nothing_held_by}
-use Rattle.acpi_base.proofs.Pieces.Gathers.{nothing_gathered}
 use Rattle.acpi_base.proofs.image.gathering.Gathering.new.Goals as goal
 
-pub returns-clause-sound : goal.returns-clause-sound
-returns-clause-sound c = nothing_gathered _ _ c.new.ensures.items c.new-2.ensures.empty
-
 pub returns-clause-nothing : goal.returns-clause-nothing
-returns-clause-nothing c = nothing_held_by _ _ c.new.ensures.items c.new-2.ensures.empty
+returns-clause-nothing c = nothing_held_by _ _ c.new.ensures.items c.new-2.ensures.items
