@@ -1,16 +1,16 @@
 -- Pieces that are gathered: what they hold, and that they stay in order.
-use Rattle.std.proofs.Common.{◌≡◌, ◌⊎◌, inl, inr, ℕ, ◌+◌, ◌-◌, ◌^◌, ◌<◌, ◌≤◌, List, [], ◌∷◌, ◌++◌, length, take, drop, Option, None, is_some, true, refl, sym, ap, subst, ◌∙◌, arith, length-append, length-drop}
+use Rattle.std.proofs.Common.{◌≡◌, inl, inr, ℕ, ◌+◌, ◌-◌, ◌^◌, ◌<◌, ◌≤◌, List, [], ◌∷◌, ◌++◌, length, take, drop, Option, None, is_some, true, sym, ap, subst, ◌∙◌, arith, length-append, length-drop}
 use Rattle.std.specs.Option.{option_or}
 use Rattle.std.proofs.lemmas.Bool.{cases_lt}
 use Rattle.std.proofs.lemmas.List.{drop_all, take_all}
 use Rattle.acpi_base.specs.declared.image.marks.Marks.{Marks}
 use Rattle.acpi_base.specs.declared.image.span.Span.{Span}
-use Rattle.acpi_base.specs.Gathered.{AreEnded, AreGathered, AreMarked, has, holders}
+use Rattle.acpi_base.specs.Gathered.{AreGathered, AreMarked, holders}
 use Rattle.acpi_base.specs.Marked.{IsMarked}
 use Rattle.acpi_base.specs.Memory.{with_bytes, first_held}
 use Rattle.acpi_base.specs.Segments.{run_at, held, lookup, memory_of}
-use Rattle.acpi_base.specs.Stored.{Piece, LiesBefore, end_at, run_in, runs_in, all_runs, held_by}
-use Rattle.acpi_base.proofs.Pieces.Holders.{ended-push, has_or_not, has_within, holders-push, lookup-push, lookup_none, lookup_some}
+use Rattle.acpi_base.specs.Stored.{Piece, LiesBefore, runs_in, all_runs, held_by}
+use Rattle.acpi_base.proofs.Pieces.Holders.{ended-push, has_or_not, has_within, holders-push, lookup-push, lookup_some}
 use Rattle.acpi_base.proofs.Pieces.Images.{same_memory, no_bytes, first_held_by}
 use Rattle.acpi_base.proofs.Pieces.Layings.{more_held, moved_held}
 use Rattle.acpi_base.proofs.Pieces.RunBytes.{byte_of_memory_of}
@@ -23,21 +23,6 @@ use Rattle.acpi_base.proofs.Pieces.Stores.{all_weaker}
 pub extended : (store new more : List ℕ) (ps : List Piece) (base begin room : ℕ) → new ≡ store ++ more → AreGathered store ps base begin room
     → held_by new ps base begin ≡ with_bytes (held_by store ps base begin) (base + (length store - begin)) more
 extended store new more ps base begin room e s = more_held store new more ps base begin e s.within s.ended.lies
-
-pub extended_gathered : (store new more : List ℕ) (ps : List Piece) (base begin room left : ℕ) → new ≡ store ++ more → left + length more ≡ room → AreGathered store ps base begin room
-    → AreGathered new ps base begin left
-extended_gathered store new more ps base begin room left e l s =
-    let long : length new ≡ length store + length more = ap length e ∙ length-append store more in
-    let within = s.within in
-    let fits = s.fits in
-    record { ended = s.ended; within = omega arith; clear = λ x low high. s.clear x low (omega arith); fits = omega arith }
-
--- more of the open piece may be marked
-pub more_marked : (marks : Marks) (ps : List Piece) (base count more : ℕ) → count ≤ more → AreMarked marks ps base count → AreMarked marks ps base more
-more_marked marks ps base count more l m = record {
-  ended = m.ended;
-  only = λ x marked. elim (m.only x marked) [ inl some ↦ inl some | inr fresh ↦ (let high = fresh.1 in inr (fresh.0, omega arith)) ];
-}
 
 -- a piece opens where none was open
 pub opened : (store new more : List ℕ) (ps : List Piece) (old base begin room : ℕ) → new ≡ store ++ more → begin ≡ length store → AreGathered store ps old begin room
@@ -122,47 +107,10 @@ closed_marked marks ps qs base count v e n all m = subst (λ ts. AreMarked marks
   ];
 })
 
--- more is marked, all of it in the open piece
-pub marked_more : (marks new : Marks) (ps : List Piece) (base count : ℕ) → ((x : ℕ) → IsMarked marks x → IsMarked new x)
-    → ((x : ℕ) → IsMarked new x → IsMarked marks x ⊎ ((base ≤ x) × (x < base + count))) → AreMarked marks ps base count → AreMarked new ps base count
-marked_more marks new ps base count kept only m = record {
-  ended = λ x some. kept x (m.ended x some);
-  only = λ x marked. elim (only x marked) [ inl before ↦ m.only x before | inr fresh ↦ inr fresh ];
-}
-
 -- ---- the room behind the open piece
-
--- more was found
-pub room_gathered : (store : List ℕ) (marks : Marks) (ps : List Piece) (base begin room more last : ℕ) → AreGathered store ps base begin room
-    → AreMarked marks ps base (length store - begin) → last ≡ base + (length store - begin) → last + more ≤ 2 ^ 64
-    → ((x : ℕ) → last ≤ x → x < last + more → IsMarked marks x → ⊥) → AreGathered store ps base begin more
-room_gathered store marks ps base begin room more last s m e fits free = record {
-  ended = s.ended;
-  within = s.within;
-  clear = λ x low high. elim (cases_lt x last) [
-    | inl l ↦ s.clear x low (omega arith)
-    | inr l ↦ elim (cases_lt 0 (holders ps x)) [
-      | inl some ↦ absurd (free x l (omega arith) (m.ended x some))
-      | inr none ↦ omega arith
-    ]
-  ];
-  fits = omega arith;
-}
 
 -- less is left
 pub less_room : (store : List ℕ) (ps : List Piece) (base begin room less : ℕ) → less ≤ room → AreGathered store ps base begin room → AreGathered store ps base begin less
 less_room store ps base begin room less l s =
     let fits = s.fits in
     record { ended = s.ended; within = s.within; clear = λ x low high. s.clear x low (omega arith); fits = omega arith }
-
--- nothing is gathered
-pub nothing_gathered : (store : List ℕ) (ps : List Piece) → store ≡ [] → ps ≡ [] → AreGathered store ps 0 0 0
-nothing_gathered store ps e f = rw (e, f) (record {
-  ended = record { once = λ x. omega arith; filled = tt; lies = tt };
-  within = omega arith;
-  clear = λ x low high. refl;
-  fits = omega arith;
-})
-
-pub nothing_marked : (marks : Marks) (ps : List Piece) (count : ℕ) → ps ≡ [] → ((x : ℕ) → IsMarked marks x → ⊥) → AreMarked marks ps 0 count
-nothing_marked marks ps count e none = rw e (record { ended = λ x some. absurd (omega arith); only = λ x marked. absurd (none x marked) })

@@ -217,26 +217,3 @@ pub next_ends : (store : List ℕ) (s : Segments) (p : Piece) (bytes : List ℕ)
 next_ends store s p bytes end next same is =
     let inside = next.inside in
     is ∙ ap (λ (b : List ℕ). p.0 + length b) same ∙ run_ends store p (length store) (omega arith) (inside, next.fits)
-
--- nothing is left
-pub none_left : (store : List ℕ) (f : ℕ → Option ℕ) (s : Segments) (rest : List Piece) → rest ≡ [] → IsLeft store f s rest → (x : ℕ) → byte_of (memory_in s) x ≡ f x
-none_left store f s rest none left x = (let last = subst (IsLeft store f s) none left in grind (arith, last.whole x))
-
--- at first, all are left
-pub all_left : (store : List ℕ) (ps rest : List Piece) (s : Segments) → Rising ps → AllByRecursion (LiesBefore (length store)) ps → IsSound s → memory_in s ≡ empty → end_in s ≡ 0
-    → rest ≡ ps → IsLeft store (lookup (runs_in store ps)) s rest
-all_left store ps rest s rising lies sound nothing first same = subst (IsLeft store (lookup (runs_in store ps)) s) (sym same) (record {
-  sound = sound;
-  rising = rising;
-  lies = lies;
-  behind = subst (λ n. AllByRecursion (λ p. n ≤ p.0) ps) (sym first) (from_zero ps);
-  whole = λ x. ap (λ m. option_or (byte_of m x) (lookup (runs_in store ps) x)) nothing ∙ ap (λ o. option_or o (lookup (runs_in store ps) x)) (byte_of_memory_of [] x);
-})
-  where
-    from_zero : (qs : List Piece) → AllByRecursion (λ p. 0 ≤ p.0) qs
-    from_zero [] = tt
-    from_zero (q ∷ qs) = (omega arith, from_zero qs)
-
--- at last, they hold all
-pub left_none : (store : List ℕ) (ps rest : List Piece) (s : Segments) → rest ≡ [] → IsLeft store (lookup (runs_in store ps)) s rest → memory_in s ≡ memory_of (runs_in store ps)
-left_none store ps rest s none left = same_memory _ _ (λ x. none_left store (lookup (runs_in store ps)) s rest none left x ∙ sym (byte_of_memory_of (runs_in store ps) x))

@@ -9,9 +9,9 @@ use Rattle.std.specs.FinMap.{insert, get-insert, get-empty}
 use Rattle.std.proofs.lemmas.Bool.{cases_lt}
 use Rattle.std.proofs.lemmas.Bool.Decides.{nat_tests}
 use Rattle.std.proofs.lemmas.Option.{slice_get_past, slice_get-get_or}
-use Rattle.acpi_base.specs.Memory.{Memory, byte_of, run_of, first_of, with_bytes, cons_both}
+use Rattle.acpi_base.specs.Memory.{Memory, byte_of, run_of, with_bytes, cons_both}
 use Rattle.acpi_base.specs.Segments.{Run, held, end_of, lookup, memory_of, run_at}
-use Rattle.acpi_base.proofs.Runs.{run_of_none, first_of_none, first_of_at}
+use Rattle.acpi_base.proofs.Runs.{run_of_none}
 
 -- from its base on, a run holds its bytes
 pub held_from : (r : Run) (a : ℕ) → r.base ≤ a → held r a ≡ slice_get r.bytes (a - r.base)
@@ -70,21 +70,6 @@ run_of_held r a (suc n) l h = grind (arith, common_steps, held_at, drop-cons, ru
 -- where a run does not hold all n addresses from a on
 pub run_of_held_outside : (r : Run) (a n : ℕ) → 0 < n → ((a < r.base) ⊎ (end_of r < a + n)) → run_of (held r) a n ≡ None
 run_of_held_outside r a n h l = grind (arith, cases_lt, held_none, run_of_none (held r) a n 0, run_of_none (held r) a n (end_of r - a))
-
--- the first address of a run among n addresses from a on
-pub first_of_held_above : (r : Run) (a n : ℕ) → a < r.base → r.base < a + n → 0 < length r.bytes → first_of (held r) a n ≡ Some r.base
-first_of_held_above r a n l m f = grind (arith, held_some, held_none, first_of_at (held r) a n (r.base - a))
-
--- where the run holds a, this is the first
-pub first_of_held_within : (r : Run) (a n : ℕ) → r.base ≤ a → a < end_of r → 0 < n → first_of (held r) a n ≡ Some a
-first_of_held_within r a n l m h = grind (arith, held_some, first_of_at (held r) a n 0)
-
--- where the run holds none of them, there is no first
-pub first_of_held_outside : (r : Run) (a n : ℕ) → (a + n ≤ r.base) ⊎ (end_of r ≤ a) → first_of (held r) a n ≡ None
-first_of_held_outside r a n l = first_of_none (held r) a n (λ k h. held_none r (a + k) (grind arith))
-
--- the first held address of a run, in each of these cases
-pub ruleset first_of_held = (first_of_held_above, first_of_held_within, first_of_held_outside)
 
 -- ---- after bytes were put in
 

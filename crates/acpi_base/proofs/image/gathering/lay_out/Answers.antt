@@ -1,10 +1,8 @@
-use Rattle.std.proofs.Common.{rules, ◌≡◌, ◌≤◌, length, List, [], ◌∷◌, sym, ap, subst, ◌∙◌, arith}
+use Rattle.std.proofs.Common.{rules, ◌≤◌, length, List, [], ◌∷◌, sym, ap, subst, ◌∙◌, arith}
 use Rattle.std.specs.List.{AllByRecursion}
 use Rattle.std.specs.List.Sorted.{IsNonDecreasingBy}
 use Rattle.std.specs.Option.{option_or}
 use Rattle.std.proofs.lemmas.List.Sorted.{IsNonDecreasingBy-from_sort_by_key}
-use Rattle.acpi_base.specs.Gathered.{AreEnded}
-use Rattle.acpi_base.specs.Laid.{end_in}
 use Rattle.acpi_base.specs.Memory.{byte_of}
 use Rattle.acpi_base.specs.Segments.{lookup, memory_of}
 use Rattle.acpi_base.specs.Stored.{Piece, LiesBefore, Rising, runs_in}

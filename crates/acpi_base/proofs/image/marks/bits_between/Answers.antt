@@ -1,4 +1,4 @@
-use Rattle.std.proofs.Common.{◌≡◌, ◌⊎◌, inl, inr, ◌*◌, ◌+◌, ◌<◌, ◌≤◌, arith}
+use Rattle.std.proofs.Common.{inl, inr, arith}
 use Rattle.acpi_base.proofs.Pieces.Marks.{between, not_between}
 use Rattle.acpi_base.proofs.image.marks.bits_between.Goals as goal
 use Rattle.acpi_base.proofs.image.marks.bits_between.Goals.{then-block-first, else-block-first, then-block-last, else-block-last}

@@ -1,4 +1,4 @@
-use Rattle.std.proofs.Common.{◌≡◌, ◌+◌, ◌-◌, ◌/◌, ◌<◌, ◌≤◌, inl, inr, arith}
+use Rattle.std.proofs.Common.{◌+◌, ◌-◌, ◌/◌, inl, inr, arith}
 use Rattle.std.proofs.lemmas.Bool.{cases_lt}
 use Rattle.acpi_base.proofs.Pieces.Marks.{set_marks, set_keeps, set_only}
 use Rattle.acpi_base.proofs.image.marks.Marks.mark.Goals as goal
