@@ -30,20 +30,7 @@ acpiset: $(sources)
 # The gate, which proves everything from nothing, and then the documents and the built program.
 test:
 	rt ci
-	tests/documents.sh
-	tests/rows/run.py $(program)
-	tests/rows/texts.py $(program)
-	tests/rows/words.py $(program)
-	tests/rows/confirm.py $(program)
-	tests/rows/examples.py $(program)
-	tests/tools.sh $(program)
-	tests/install.sh $(program)
-	tests/recipes.sh $(program)
-	tests/show/run.py $(program)
-	tests/rebuild/run.py $(program)
-	tests/refusals.py $(program)
-	tests/refused_calls.py crates/*/out/*_tests
-	tests/program.sh $(program)
+	tests/all.sh $(program) crates/*/out/*_tests
 
 # Prints speed and memory beside other programs; not part of the tests.
 bench: build
