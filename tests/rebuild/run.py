@@ -5,25 +5,14 @@ and every set of tests/rows with what rebuilder.py makes of it. Each new image i
 usage: run.py PROGRAM; the last line is 'rebuild: N passed, M failed'."""
 
 import re
-import subprocess
 import sys
-from pathlib import Path
 
 from rebuilder import Refused, rebuilt, runs_read
 
+from cases import FIRMWARE, IMAGES, Cases, text_in
 from rows import FULL, ROWS, WINDOW
 from tables import *
 
-FIRMWARE = Path(__file__).parent.parent / "images"
-IMAGES = {
-    "sb-q35-default": "f59e0",
-    "sb-q35-numa4-dist": "f59c0",
-    "sb-pc-nvdimm-numa": "f59d0",
-    "ovmf-q35": "f77e014",
-    "mv-acpi": "f4a10",
-    "q10-efi-virt-smp4": "4f0b0018",
-    "q11-efi-virt-caches": "47fe0000",
-}
 # Below 1 MiB, below and above 4 GiB.
 BASES = ("e0000", "7ffe0000", "123456780")
 APART = ["--hotplug", "apart"]
@@ -76,36 +65,6 @@ FACS_PLACES = [
     ("the last FACS below 2^32", FULL, "ffffff40", 0xFFFFFFC0),
     ("a FADT of 244 bytes, and a FACS at 2^32", LONG_FADT, "ffffff80", 0x100000000),
 ]
-
-
-class Cases:
-    """Counts the cases, and tells what failed."""
-
-    def __init__(self, program):
-        self.program = program
-        self.passed = self.failed = 0
-
-    def count(self, name, wrong):
-        if wrong:
-            self.failed += 1
-            print(f"{name}: {wrong}")
-        else:
-            self.passed += 1
-
-    def run(self, words, text):
-        """The program's status, standard output and standard error."""
-        run = subprocess.run([self.program, *words], input=text, capture_output=True, timeout=60)
-        return (run.returncode, run.stdout.decode(), run.stderr.decode())
-
-    def writes(self, name, words, text, status, expected):
-        """The program writes this text, ends with this status, and reports nothing else."""
-        told = self.run(words, text)
-        self.count(name, "" if told == (status, expected, "") else f"{told}, not {(status, expected, '')}")
-        return told[1]
-
-
-def text_in(pieces):
-    return pieces if isinstance(pieces, bytes) else text_of(pieces)
 
 
 def expected_of(text, address, base):

@@ -12,19 +12,10 @@ from pathlib import Path
 from reader import Unsound, shown
 from sets import SHOWN, image_of, fadt, hpet, madt, rsdp, rsdt, table, text_of, x2apic, RSDP_AT, RSDT_AT, TABLES_AT
 
+from cases import FIRMWARE, IMAGES, Cases, text_in
 from rows import ROWS
 
 HERE = Path(__file__).parent
-FIRMWARE = HERE.parent / "images"
-IMAGES = {
-    "sb-q35-default": "f59e0",
-    "sb-q35-numa4-dist": "f59c0",
-    "sb-pc-nvdimm-numa": "f59d0",
-    "ovmf-q35": "f77e014",
-    "mv-acpi": "f4a10",
-    "q10-efi-virt-smp4": "4f0b0018",
-    "q11-efi-virt-caches": "47fe0000",
-}
 
 # Sets of which nothing is shown, with what is written of them instead.
 UNSOUND = [
@@ -39,34 +30,14 @@ UNSOUND = [
 ]
 
 
-class Cases:
-    """Counts the cases, and tells what failed."""
-
-    def __init__(self, program):
-        self.program = program
-        self.passed = self.failed = 0
-
-    def count(self, name, wrong):
-        if wrong:
-            self.failed += 1
-            print(f"{name}: {wrong}")
-        else:
-            self.passed += 1
-
+class ShownCases(Cases):
     def shows(self, name, words, text, expected, status=0):
-        """The program writes this text, ends with this status, and reports nothing else."""
-        run = subprocess.run([self.program, "show", *words.split()], input=text, capture_output=True, timeout=60)
-        told = (run.returncode, run.stdout.decode(), run.stderr.decode())
-        self.count(name, "" if told == (status, expected, "") else f"{told}, not {(status, expected, '')}")
+        self.writes(name, ["show", *words.split()], text, status, expected)
 
     def reads(self, name, text, address, expected):
         """The second reader tells the same."""
         told = shown(text, address)
         self.count(f"{name}, read", "" if told == expected else f"{told!r}, not {expected!r}")
-
-
-def text_in(pieces):
-    return pieces if isinstance(pieces, bytes) else text_of(pieces)
 
 
 def by_hand(cases):
@@ -150,7 +121,7 @@ def large(cases):
 
 def main():
     _, program = sys.argv
-    cases = Cases(program)
+    cases = ShownCases(program)
     for test in (by_hand, firmware, unsound, rows, large):
         test(cases)
     print(f"show: {cases.passed} passed, {cases.failed} failed")
