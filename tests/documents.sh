@@ -119,6 +119,20 @@ refusals=$(sed -n '/^## Every public call$/,/^## Wrong/p' docs/PROMISES.md | sed
 known=$(cat $(find crates/*/src -name '*.rt' ! -path '*/tests*') | sed -n 's/^    \([A-Z][A-Za-z0-9]*\)\([ ({].*\)\{0,1\},\{0,1\}$/\1/p; s/^pub struct \([A-Za-z]*\).*/\1/p'; echo AllocError)
 within 'refusals that the code does not have' "$refusals" "$known"
 
+# ---- examples at the heads of the libraries: their lines stand in code that is compiled
+
+# bare: code without indents, and without comments behind it.
+bare() { sed 's/^ *//; s/ *\/\/ .*$//'; }
+
+for head in crates/*/src/lib.rt; do
+  example=$(sed -n '/^\/\/! ```rust$/,/^\/\/! ```$/s/^\/\/! \{0,1\}//p' "$head" | grep -v '^```' | bare)
+  found=
+  for file in $(grep -rlF "$(tail -n 1 <<<"$example")" crates/*/src); do
+    [[ $'\n'$(grep -v '^//!' "$file" | bare)$'\n' != *$'\n'"$example"$'\n'* ]] || found=$file
+  done
+  count "$head: its example stands in no code" "$([ -n "$found" ] && [ -n "$example" ] || printf '%s\n' "${example:-no example}")"
+done
+
 # ---- the documents
 codes=$(sed -n 's/^code_number code\.\([A-Za-z]*\) = \([0-9]*\)$/\2 \1/p' crates/acpi_base/specs/Codes.antt)
 described=$(sed -n 's/^### \([0-9]* [A-Za-z]*\)$/\1/p' docs/FAULTS.md)

@@ -4,8 +4,13 @@
 //! behind it, or reports the first fault of its own. `check` asks all eighteen in their order, `check_to`
 //! those up to one; stages 1 to 6 allocate no memory.
 //!
-//! `check_output` in `crates/acpi_cli/src/check.rt` is an example: it has an image checked under a policy, and makes the
-//! verdict's line.
+//! An example, of `crates/acpi_cli/src/check.rt`, where the set at an address is checked under a policy up to a stage:
+//!
+//! ```rust
+//! policy.set_rsdp(address);
+//! let verdict = check_to(alloc, image, &policy, last)?; // `Verdict::Yes`, or `Verdict::No` with the first fault
+//! let bytes = verdict_text(alloc, &verdict)?;
+//! ```
 #![tactic(auto)]
 
 mod chains;

@@ -4,8 +4,16 @@
 //! three numbers are. It needs no earlier stage to hold. It shares no code with the crates that check: it looks the
 //! bytes up in the image itself, and walks over the slots and the entries itself. It allocates no memory.
 //!
-//! `confirm_output` in `crates/acpi_cli/src/confirm.rt` is an example: it has a fault judged that `parse_witness` has read from
-//! an argument, and makes the line.
+//! An example, of `crates/acpi_cli/src/confirm.rt`, where `parse_witness` has read the fault from an argument:
+//!
+//! ```rust
+//! policy.set_rsdp(address);
+//! if confirm(image, &policy, witness) {
+//!     let bytes = Vec::from_slice(alloc, b"true\n")?;
+//!     let outcome = Outcome::Yes;
+//!     return Ok(Output { bytes, outcome });
+//! }
+//! ```
 //!
 //! A file for each group of codes, in the order of `docs/FAULTS.md`:
 //!

@@ -11,10 +11,20 @@
 //! let high = Span::new(8, 12, 2).unwrap(); // 8 to 11, under the name 2
 //! let spans = vec![in alloc; low, high]?;
 //! let (clash, comparisons) = first_clash(alloc, spans)?;
-//! // clash is Clash::At { first: 1, second: 2, point: 8 }, found by one comparison
+//! let found = Clash::At {
+//!     first: 1,
+//!     second: 2,
+//!     point: 8,
+//! };
+//! assert!(rt; clash == found && comparisons == 1);
 //!
 //! let (stray, steps) = first_stray(alloc, &[None, Some(0), Some(3), Some(3)])?;
-//! // stray is Stray::Round { node: 2, lead: 1, round: 1 }, found in 4 steps
+//! let found = Stray::Round {
+//!     node: 2,
+//!     lead: 1,
+//!     round: 1,
+//! };
+//! assert!(rt; stray == found && steps == 4);
 //! ```
 //!
 //! Both return how many of their steps they took. The steps inside the sort are not counted.

@@ -8,6 +8,21 @@
 //! - `rebuild`: the set of an image built anew from a base address on, or why it cannot be.
 //! - `laws`: what holds of the definitions: bytes say at most one value of a kind, a table that is read and written again
 //!   has the same contents, and a clean set says one value.
+//!
+//! An example, of `crates/acpi_cli/src/rebuild.rt`:
+//!
+//! ```rust
+//! let rebuilt = rebuild(alloc, &image, policy, base);
+//! drop(image);
+//! match rebuilt {
+//!     Ok(rebuilt) => {
+//!         let bytes = image_text(alloc, &rebuilt)?;
+//!         let outcome = Outcome::Yes;
+//!         Ok(Output { bytes, outcome })
+//!     }
+//!     Err(fault) => refused(alloc, fault),
+//! }
+//! ```
 #![tactic(auto)]
 
 mod encode;
