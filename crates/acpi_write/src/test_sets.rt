@@ -27,7 +27,7 @@ pub(crate) const FADT_HEADER: [u8; 36] = [
 pub(crate) fn image_of(alloc: Global, parts: &[(u64, &[u8])]) -> Result<Image, Fail> {
     let mut image = Image::new(alloc);
     for (address, bytes) in parts {
-        image.add(*address, bytes).map_err(|_| "add")?;
+        image.add(*address, bytes)?;
     }
     Ok(image)
 }
@@ -46,5 +46,5 @@ pub(crate) fn reduced_set(alloc: Global) -> Result<Image, Fail> {
 
 /// The policy for it.
 pub(crate) fn policy(alloc: Global) -> Result<Policy, Fail> {
-    Ok(Policy::new(alloc, 0xe0000, 24).map_err(|_| "policy")?)
+    Ok(Policy::new(alloc, 0xe0000, 24)?)
 }

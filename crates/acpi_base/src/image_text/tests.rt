@@ -167,7 +167,7 @@ fn reads_the_example_of_the_crate(rt: HostRuntime) -> Result<(), Fail> {
     Ok(())
 }
 
-// Row 1's text in pieces of each of these sizes, also with CR LF for LF.
+// The text of `TABLES` in pieces of each of these sizes, also with CR LF for LF.
 #[test]
 fn text_comes_in_pieces(rt: HostRuntime) -> Result<(), Fail> {
     let mut with_crs = Vec::new(rt.alloc());

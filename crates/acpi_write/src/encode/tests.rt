@@ -27,14 +27,14 @@ fn a_slit_of_one_cell(rt: HostRuntime) -> Result<(), Fail> {
         0x41, 0x41, 0x41, 0x41, 0x41, 0x41, 0x41, 1, 0, 0, 0, 0x41, 0x41, 0x41, 0x41, 1, 0, 0, 0,
         1, 0, 0, 0, 0, 0, 0, 0, 0x0a,
     ];
-    let bytes = encode_table(rt.alloc(), &slit).map_err(|_| "refused")?;
+    let bytes = encode_table(rt.alloc(), &slit)?;
     assert_eq!(rt; bytes.as_slice(), expected.as_slice());
     Ok(())
 }
 
 /// The bytes behind the header, of a table that sums to 0.
 fn body_behind(alloc: Global, table: &TableValue<'_>) -> Result<Vec<u8>, Fail> {
-    let bytes = encode_table(alloc, table).map_err(|_| "refused")?;
+    let bytes = encode_table(alloc, table)?;
     if sum(&bytes) != 0 || bytes.len() < 36 {
         return Err(Fail::from("no table"));
     }

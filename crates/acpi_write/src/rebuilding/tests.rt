@@ -23,8 +23,7 @@ fn a_set_at_a_high_address(rt: HostRuntime) -> Result<(), Fail> {
         &image,
         &policy(rt.alloc())?,
         0x0123_4567_89ab_cdc0,
-    )
-    .map_err(|_| "refused")?;
+    )?;
     let rsdp = [
         0x52, 0x53, 0x44, 0x20, 0x50, 0x54, 0x52, 0x20, 0x59, 0x41, 0x41, 0x41, 0x41, 0x41, 0x41,
         2, 0, 0, 0, 0, 0x24, 0, 0, 0, 0, 0xce, 0xab, 0x89, 0x67, 0x45, 0x23, 1, 0x0a, 0, 0, 0,
@@ -76,7 +75,7 @@ fn set_with_facs(alloc: Global) -> Result<Image, Fail> {
         (0x7020, &[1]),
     ];
     let mut image = image_of(alloc, &parts)?;
-    image.add(0x7021, &[0; 31]).map_err(|_| "add")?;
+    image.add(0x7021, &[0; 31])?;
     Ok(image)
 }
 
@@ -86,7 +85,7 @@ fn set_with_facs(alloc: Global) -> Result<Image, Fail> {
 fn a_facs_below_4_gib(rt: HostRuntime) -> Result<(), Fail> {
     let image = set_with_facs(rt.alloc())?;
     let policy = policy(rt.alloc())?;
-    let new = rebuild(rt.alloc(), &image, &policy, 0xffff_ff40).map_err(|_| "refused")?;
+    let new = rebuild(rt.alloc(), &image, &policy, 0xffff_ff40)?;
     let parts: [(u64, &[u8]); 4] = [
         (0xffff_ffc0, &FACS_FRONT),
         (
