@@ -16,4 +16,4 @@ returns c =
     let n = c.loop-block.block-index in
     let all : n ≡ length bytes / 64 = (let l = c.loop-block-test.false in let m = c.loop-block.auto.block-index-end in let k = c.as_chunks.ensures.front_len in omega arith) in
     let behind = c.as_chunks.ensures.back ∙ ap (λ k. drop (k * 64) bytes) (sym all) in
-    rest_added c.loop-block.lanes bytes _ n _ all c.loop-block.invariant behind c.sum_of_rest.ensures
+    rest_added c.loop-block.lanes bytes _ n _ all c.loop-block.invariant behind c.sum_short.ensures

@@ -1,5 +1,5 @@
 use Rattle.std.proofs.Common.{◌≡◌, ◌%◌, take, sum}
-use Rattle.acpi_base.proofs.checksum.sum_of_rest.Given as goal
+use Rattle.acpi_base.proofs.checksum.sum_short.Given as goal
 
 -- the sum so far
 abbrev pub invariant-loop-byte : goal.invariant-loop-byte
