@@ -10,6 +10,7 @@ pub mod Faults
 pub mod FaultTexts
 pub mod HeldBytes
 pub mod HexTexts
+pub mod Lanes
 pub mod Layouts
 pub mod Madt
 pub mod Pieces
