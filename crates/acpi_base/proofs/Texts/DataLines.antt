@@ -1,37 +1,19 @@
--- Facts on lines that are data as a whole, with neither a comment nor a CR, and on pairs of digits in them.
-use Rattle.std.proofs.Common.{◌≡◌, ◌≢◌, ℕ, zero, suc, ◌+◌, ◌-◌, ◌*◌, ◌%◌, ◌<◌, ◌≤◌, if◌then◌else◌, List, [], ◌∷◌, ◌++◌, length, get_or, drop, Some, None, Option, Bool, refl, sym, ap, ◌∙◌, arith, true, false, bit_or}
+-- Facts on lines that are data as a whole, with neither a comment nor a CR.
+use Rattle.std.proofs.Common.{◌≡◌, ◌≢◌, ℕ, zero, suc, ◌+◌, ◌-◌, ◌*◌, ◌<◌, ◌≤◌, if◌then◌else◌, List, [], ◌∷◌, ◌++◌, length, get_or, drop, Some, None, Option, Bool, refl, sym, ap, ◌∙◌, arith, true, false}
 use Rattle.std.specs.Prelude.{◌==◌}
 use Rattle.std.specs.Option.{option_map_or}
 use Rattle.std.specs.List.{before_first, position_or_len}
-use Rattle.std.specs.Int.Bits.{bit_xor, xor_assoc, xor_self, xor_zero_l, xor_zero_r}
 use Rattle.std.proofs.lemmas.Bool.{ne_eqb}
 use Rattle.std.proofs.lemmas.Bool.Decides.{nat_tests}
-use Rattle.std.proofs.lemmas.Grind.{or_after_shift}
 use Rattle.std.proofs.lemmas.List.Sums.{position_or_len_is}
 use Rattle.std.proofs.lemmas.List.{drop_more, drop_all, take_all}
-use Rattle.std.proofs.lemmas.Nat.{le_or_l, le_or_r}
 use Rattle.acpi_base.specs.ImageText.{Data, Bad, digit_of, is_blank, skip_blanks, without_cr, without_comment, form_of, line_of, data_from}
 
--- ---- a pair of digits
-
--- what a shift and an or make of two digits
-pub joined : (high low : ℕ) → bit_or high low < 16 → bit_or (high * 16 % 256) low ≡ 16 * high + low
-joined high low both =
-    let h = le_or_l high low in
-    let l = le_or_r high low in
-    or_after_shift high 16 256 low refl (omega (arith, l, both)) (omega (arith, h, both)) ∙ omega arith
-
--- a pair is read as its byte
-pub pair_read : (high low h l : ℕ) (bytes rest : List ℕ) → Some h ≡ digit_of high → Some l ≡ digit_of low → data_from bytes None (high ∷ low ∷ rest) ≡ data_from (bytes ++ (16 * h + l) ∷ []) None rest
-unfolding data_from
-pair_read high low h l bytes rest eh el = rw (sym eh, sym el) refl
+-- ---- pairs of digits
 
 blank_read : (bytes rest : List ℕ) → data_from bytes None (32 ∷ rest) ≡ data_from bytes None rest
 unfolding data_from digit_of
 blank_read bytes rest = refl
-
-pub is_space : (b : ℕ) → bit_xor b 32 ≡ 0 → b ≡ 32
-is_space b e = sym (xor_zero_r b) ∙ ap (bit_xor b) (sym (xor_self 32)) ∙ sym (xor_assoc b 32 32) ∙ ap (λ (x : ℕ). bit_xor x 32) e ∙ xor_zero_l 32
 
 -- the next byte of a line
 next_byte : (line : List ℕ) (i j : ℕ) → j ≡ i + 1 → i < length line → drop i line ≡ get_or line i 0 ∷ drop j line

@@ -1,6 +1,6 @@
 //! Hex digits.
 
-ghost use Rattle.std.specs.Prelude.{◌≡◌, ◌<◌, ◌≤◌, Some, None, IfSome};
+ghost use Rattle.std.specs.Prelude.{◌≡◌, ◌<◌, IfSome};
 ghost use Rattle.acpi_base.specs.ImageText.{digit_of};
 
 /// The value of each byte that is a hex digit, in either case; 255 for all others.
@@ -21,19 +21,11 @@ static DIGITS: [u8; 256] = [
     255, 255, 255,
 ];
 
-/// A hex digit's value, in either case; 255 for any other byte.
-pub fn table_value(byte: u8) -> u8
-    ensures digit { result < 16 → Some result ≡ digit_of byte }
-    ensures other { 16 ≤ result → None ≡ digit_of byte }
-{
-    DIGITS[byte as usize]
-}
-
 /// A hex digit's value, in either case.
 pub fn digit_value(byte: u8) -> Option<u8>
     ensures value { result ≡ digit_of byte }
     ensures small { IfSome result (λ digit. digit < 16) }
 {
-    let value = table_value(byte);
+    let value = DIGITS[byte as usize];
     if value < 16 { Some(value) } else { None }
 }

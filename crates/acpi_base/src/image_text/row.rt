@@ -1,24 +1,22 @@
-//! Rows of 16 bytes as they are mostly written: pairs of hex digits, with one blank between neighbours.
+//! Rows of 16 bytes as most texts write them: pairs of hex digits, with one blank between neighbours.
 
-ghost use Rattle.std.specs.Prelude.{◌≡◌, ◌<◌, ◌++◌, ◌∷◌, ℕ, List, [], None, IfSome};
+ghost use Rattle.std.specs.Prelude.{◌≡◌, ◌++◌, ◌∷◌, ℕ, List, [], None, IfSome};
 ghost use Rattle.acpi_base.specs.ImageText.{Data, data_from, line_of};
 
-use super::digit::table_value;
+use super::digit::digit_value;
 
 /// How many bytes such a row has.
 const ROW: usize = 47;
 
-/// The byte that a pair of hex digits spells, and a number that is below 16 where both are digits.
-fn read_pair(high: u8, low: u8) -> (u8, u8)
-    ensures { (bytes rest : List ℕ) → result.1 < 16 → data_from bytes None (high ∷ low ∷ rest) ≡ data_from (bytes ++ result.0 ∷ []) None rest }
+/// The byte that a pair of hex digits spells.
+#[tactic(auto, unfolding(crate::specs::ImageText::data_from))]
+fn pair_value(high: u8, low: u8) -> Option<u8>
+    ensures { IfSome result (λ byte. (bytes rest : List ℕ) → data_from bytes None (high ∷ low ∷ rest) ≡ data_from (bytes ++ byte ∷ []) None rest) }
 {
-    let high_value = table_value(high);
-    let low_value = table_value(low);
-    (high_value << 4 | low_value, high_value | low_value)
+    Some(16 * digit_value(high)? + digit_value(low)?)
 }
 
-/// The bytes of such a row; `None` for any other line. What is wrong is gathered, and tested once at the end: a loop
-/// without a branch is faster.
+/// The bytes of such a row; `None` for any other line.
 pub fn parse_row(line: &[u8]) -> Option<[u8; 16]>
     ensures { IfSome result (λ row. line_of line.now ≡ Data row) }
 {
@@ -26,19 +24,12 @@ pub fn parse_row(line: &[u8]) -> Option<[u8; 16]>
         return None;
     }
     let mut row = [0; 16];
-    let mut digits = 0;
-    let mut gaps = 0;
     for k in 0..15 {
-        let (byte, pair) = read_pair(line[3 * k], line[3 * k + 1]);
-        row[k] = byte;
-        digits |= pair;
-        gaps |= line[3 * k + 2] ^ b' ';
+        row[k] = pair_value(line[3 * k], line[3 * k + 1])?;
+        if line[3 * k + 2] != b' ' {
+            return None;
+        }
     }
-    let (byte, pair) = read_pair(line[45], line[46]);
-    row[15] = byte;
-    if digits | pair < 16 && gaps == 0 {
-        Some(row)
-    } else {
-        None
-    }
+    row[15] = pair_value(line[45], line[46])?;
+    Some(row)
 }
