@@ -1,5 +1,6 @@
 pub mod ByteMachine
 pub mod DataImages
+pub mod DataLines
 pub mod DataPlaces
 pub mod DigitTable
 pub mod Feeding

@@ -4,6 +4,7 @@ mod digit;
 mod feeder;
 pub(crate) mod line;
 mod lines;
+mod row;
 #[cfg(test)]
 mod tests;
 

@@ -6,6 +6,7 @@ ghost use Rattle.acpi_base.specs.ImageText.{digit_of, is_blank, is_hex_digit, wi
 ghost use Rattle.acpi_base.specs.TextReading.{data_line, line_with};
 
 use super::digit::digit_value;
+use super::row::parse_row;
 use std::alloc::AllocError;
 
 /// What a line says.
@@ -140,6 +141,11 @@ fn parse_data(line: &[u8], bytes: &mut Vec<u8>) -> Result<bool, AllocError>
 pub fn parse_line(line: &[u8], bytes: &mut Vec<u8>) -> Result<Form, AllocError>
     ensures { IfOk result (λ form. line_with form bytes.new.items ≡ line_of line.now) }
 {
+    if let Some(row) = parse_row(line) {
+        bytes.clear();
+        bytes.extend_from_slice(&row)?;
+        return Ok(Form::Data);
+    }
     let rest = cut_blanks(cut_comment(cut_cr(line)));
     if rest.is_empty() {
         return Ok(Form::Blank);
