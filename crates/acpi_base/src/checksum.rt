@@ -19,8 +19,7 @@ pub fn sum(bytes: &[u8]) -> u8
     lanes.reduce_sum().wrapping_add(sum_short(rest))
 }
 
-/// The same of few bytes. The compiler makes code of this loop that it puts in place of a call, which up to some hundred
-/// bytes is faster than `sum`.
+/// The same, faster for up to some hundred bytes: the compiler puts so short a loop in place of a call.
 #[tactic(auto, unfolding(crate::specs::Number::byte_sum))]
 pub(crate) fn sum_short(bytes: &[u8]) -> u8
     ensures { result ≡ byte_sum bytes.now }
