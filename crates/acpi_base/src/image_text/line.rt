@@ -137,6 +137,7 @@ fn parse_data(line: &[u8], bytes: &mut Vec<u8>) -> Result<bool, AllocError>
 }
 
 /// What a line says, its LF left off. The bytes of a data line go into the vector, in place of what it had.
+/// A row as most texts write it is read first, at once.
 #[tactic(auto, unfolding(crate::specs::ImageText::line_of, crate::specs::ImageText::form_of))]
 pub fn parse_line(line: &[u8], bytes: &mut Vec<u8>) -> Result<Form, AllocError>
     ensures { IfOk result (λ form. line_with form bytes.new.items ≡ line_of line.now) }

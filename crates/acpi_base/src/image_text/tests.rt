@@ -1,3 +1,5 @@
+ghost use Rattle.std.specs.Prelude.{◌<◌, ◌≤◌, IfSome};
+
 use crate::{ImageText, Tally, TextFault, read_image};
 use std::io;
 use std::io::Read;
@@ -154,6 +156,102 @@ fn judges_what_came_before_a_failure(rt: HostRuntime) {
         assert_eq!(rt; read.err(), Some(fault), "{bytes:?}");
         assert_eq!(rt; reader.failures(), failures);
     }
+}
+
+// Lines as long as a row of 16 pairs with one blank between neighbours, the first of which is one.
+#[test]
+fn takes_lines_of_47_bytes(rt: HostRuntime) -> Result<(), Fail> {
+    let lines: [(&[u8; 47], &[u8]); 7] = [
+        (
+            b"0a 1B 2c 3D 4e 5F 60 71 82 93 a4 B5 c6 D7 e8 F9",
+            &[
+                0x0a, 0x1b, 0x2c, 0x3d, 0x4e, 0x5f, 0x60, 0x71, 0x82, 0x93, 0xa4, 0xb5, 0xc6, 0xd7,
+                0xe8, 0xf9,
+            ],
+        ),
+        (
+            b"0a1B  2c 3D 4e 5F 60 71 82 93 a4 B5 c6 D7 e8 F9",
+            &[
+                0x0a, 0x1b, 0x2c, 0x3d, 0x4e, 0x5f, 0x60, 0x71, 0x82, 0x93, 0xa4, 0xb5, 0xc6, 0xd7,
+                0xe8, 0xf9,
+            ],
+        ),
+        (
+            b"   0a 1B 2c 3D 4e 5F 60 71 82 93 a4 B5 c6 D7 e8",
+            &[
+                0x0a, 0x1b, 0x2c, 0x3d, 0x4e, 0x5f, 0x60, 0x71, 0x82, 0x93, 0xa4, 0xb5, 0xc6, 0xd7,
+                0xe8,
+            ],
+        ),
+        (
+            b"0a 1B 2c 3D 4e 5F 60 71 82 93 a4 B5 c6 D7 e8  \r",
+            &[
+                0x0a, 0x1b, 0x2c, 0x3d, 0x4e, 0x5f, 0x60, 0x71, 0x82, 0x93, 0xa4, 0xb5, 0xc6, 0xd7,
+                0xe8,
+            ],
+        ),
+        (b"01                                  # 03 04 05 ", &[1]),
+        (b"@0                                             ", &[]),
+        (
+            b"0102030405060708090a0b0c0d0e0f1011121314151617 ",
+            &[
+                1, 2, 3, 4, 5, 6, 7, 8, 9, 10, 11, 12, 13, 14, 15, 16, 17, 18, 19, 20, 21, 22, 23,
+            ],
+        ),
+    ];
+    for (line, bytes) in lines {
+        let mut reading = ImageText::new(rt.alloc());
+        assert_eq!(rt; reading.feed(b"@0\n"), Ok(()));
+        assert_eq!(rt; reading.feed(line), Ok(()));
+        let image = reading.finish()?;
+        let count = bytes.len() as u64;
+        assert_eq!(rt; image.window(0, count), Some(bytes), "{line:?}");
+        assert_eq!(rt; image.window(0, count + 1), None, "{line:?}");
+    }
+    Ok(())
+}
+
+// How many bytes a row says in which this byte stands at this place in place of another; none where the line is bad.
+fn count_said(place: usize, byte: u8) -> Option<usize>
+    requires { place < 47 }
+    ensures { IfSome result (λ count. count ≤ 16) }
+{
+    match (byte, place % 3) {
+        (b'#', 0) => Some(place / 3),
+        (b'#', 2) => Some(place / 3 + 1),
+        (b' ' | b'\t', 2) => Some(16),
+        _ => None,
+    }
+}
+
+#[test]
+fn reads_a_row_with_one_byte_changed(rt: HostRuntime) -> Result<(), Fail> {
+    for place in 0..47 {
+        for byte in [b'#', b' ', b'\t', b'\r', b'@', b'/', b'g', b'\xff'] {
+            let mut line = *b"00 11 22 33 44 55 66 77 88 99 aA Bb cC Dd eE Ff";
+            line[place] = byte;
+            let mut reading = ImageText::new(rt.alloc());
+            assert_eq!(rt; reading.feed(b"@0\n"), Ok(()));
+            assert_eq!(rt; reading.feed(&line), Ok(()));
+            let read = reading.finish();
+            let Some(count) = count_said(place, byte) else {
+                assert_eq!(rt;
+                    read.err(),
+                    Some(TextFault::BadLine { line: 2 }),
+                    "{line:?}"
+                );
+                continue;
+            };
+            let image = read?;
+            assert_eq!(rt;
+                image.window(0, count as u64).map(|bytes| bytes.len()),
+                Some(count),
+                "{line:?}"
+            );
+            assert_eq!(rt; image.byte_at(count as u64), None, "{line:?}");
+        }
+    }
+    Ok(())
 }
 
 // The example at the head of the crate's root file.
