@@ -1,7 +1,5 @@
 use Rattle.std.proofs.Common.{◌<◌, length, sym, inl, inr, true≢false}
 use Rattle.std.proofs.lemmas.Bool.{cases_lt}
-use Rattle.acpi_base.specs.Madt.{madt_contents, DoOverridesAgree, OverrideFault}
-use Rattle.acpi_base.specs.declared.stage.Stage.TheVariants as stage
 use Rattle.acpi_check.proofs.OverridesPass.{at_first, at_next, stops, ends_agree, short_agree}
 use Rattle.acpi_check.proofs.overrides.first_fault.Goals as goal
 
