@@ -1,6 +1,7 @@
 ghost use Rattle.std.specs.Prelude.{◌<◌, ◌≤◌, IfSome};
 
-use crate::{ImageText, Tally, TextFault, read_image};
+use crate::{Image, ImageText, Tally, TextFault, read_image};
+use std::alloc::{AllocError, Global};
 use std::io;
 use std::io::Read;
 use std::test::Fail;
@@ -265,27 +266,44 @@ fn reads_the_example_of_the_crate(rt: HostRuntime) -> Result<(), Fail> {
     Ok(())
 }
 
-// The text of `TABLES` in pieces of each of these sizes, also with CR LF for LF.
-#[test]
-fn text_comes_in_pieces(rt: HostRuntime) -> Result<(), Fail> {
-    let mut with_crs = Vec::new(rt.alloc());
+/// The text of `TABLES` with CR LF for each LF.
+fn tables_with_crs(alloc: Global) -> Result<Vec<u8>, AllocError> {
+    let mut text = Vec::new(alloc);
     for byte in TABLES {
         if *byte == b'\n' {
-            with_crs.push(b'\r')?;
+            text.push(b'\r')?;
         }
-        with_crs.push(*byte)?;
+        text.push(*byte)?;
     }
+    Ok(text)
+}
+
+/// The image of a text that comes in pieces of this size.
+fn read_in_pieces(alloc: Global, text: &[u8], size: usize) -> Result<Image, TextFault>
+    requires { 0 < size }
+{
+    let mut reading = ImageText::new(alloc);
+    for piece in text.chunks(size) {
+        reading.feed(piece)?;
+    }
+    reading.finish()
+}
+
+/// Whether the image has bytes of `TABLES` where they stand, and none behind the last.
+fn has_tables(image: &Image) -> bool {
+    image.byte_at(0xe0008) == Some(0x4b)
+        && image.byte_at(0xe0013) == Some(0)
+        && image.byte_at(0x1009) == Some(0x0a)
+        && image.byte_at(0x1024).is_none()
+}
+
+#[test]
+fn text_comes_in_pieces(rt: HostRuntime) -> Result<(), Fail> {
+    let with_crs = tables_with_crs(rt.alloc())?;
     for text in [TABLES, with_crs.as_slice()] {
         for size in [1, 2, 3, 7, 48, 1000] {
-            let mut reading = ImageText::new(rt.alloc());
-            for piece in text.chunks(size) {
-                assert_eq!(rt; reading.feed(piece), Ok(()));
-            }
-            let image = reading.finish()?;
-            assert_eq!(rt; image.byte_at(0xe0008), Some(0x4b));
-            assert_eq!(rt; image.byte_at(0xe0013), Some(0));
-            assert_eq!(rt; image.byte_at(0x1009), Some(0x0a));
-            assert_eq!(rt; image.byte_at(0x1024), None);
+            let image = read_in_pieces(rt.alloc(), text, size)?;
+            assert!(rt; has_tables(&image), "in pieces of {size}");
         }
     }
     Ok(())
