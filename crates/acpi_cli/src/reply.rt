@@ -22,7 +22,7 @@ const SHORT_USAGE: &str = "usage: acpiset check [OPTION].. [ADDRESS=COUNT].. < I
 For more: acpiset --help, man acpiset, or docs/TROUBLESHOOTING.md#words";
 
 /// A reply to arguments that ask for no job.
-#[derive(Debug, Drop)]
+#[derive(Drop)]
 pub enum Reply {
     /// What the program is, and its whole usage.
     Help,

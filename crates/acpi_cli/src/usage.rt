@@ -91,7 +91,7 @@ memory, or a read or a write failed.";
 
 /// The usage of the program, with all stages. It ends without a line end, and takes no
 /// memory to print.
-#[derive(Clone, Copy, Debug)]
+#[derive(Clone, Copy)]
 pub struct Usage;
 
 impl fmt::Display for Usage {

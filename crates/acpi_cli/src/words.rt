@@ -28,7 +28,7 @@ const FAULTS: &str =
 const ADDRESSES: &str = "an address is 1 to 16 hex digits, with 0x before them or without";
 
 /// A command, with what its engine is called with.
-#[derive(Debug, Drop)]
+#[derive(Drop)]
 pub enum Job {
     /// Check the tables that the RSDP leads to, up to the stage `last`: the RSDP at `rsdp`, or the one
     /// that is found. The policy's own RSDP address is 0.
