@@ -118,21 +118,26 @@ pub fn policy_message(alloc: Global, options: &ArgMatches) -> Option<String> {
     if let Some(number) = value(options, "default-inputs")
         && count(number).is_none()
     {
-        return format!(in alloc; "--default-inputs '{number}': {COUNTS}").ok();
+        return refused_value(alloc, "default-inputs", number, COUNTS);
     }
     if let Some(setting) = value(options, "hotplug")
         && hotplug_setting(Some(setting)).is_none()
     {
-        return format!(in alloc; "--hotplug '{setting}': {HOTPLUG_SETTINGS}").ok();
+        return refused_value(alloc, "hotplug", setting, HOTPLUG_SETTINGS);
     }
     if let Some(setting) = value(options, "processors")
         && processors_setting(Some(setting)).is_none()
     {
-        return format!(in alloc; "--processors '{setting}': {PROCESSORS_SETTINGS}").ok();
+        return refused_value(alloc, "processors", setting, PROCESSORS_SETTINGS);
     }
     let words = values(options, "inputs");
     let word = words.iter().find(|word| inputs_of_word(word).is_none())?;
     inputs_message(alloc, word)
+}
+
+/// An error message on the value of the option `--NAME`: `allowed` says what it may be.
+pub fn refused_value(alloc: Global, name: &str, value: &str, allowed: &str) -> Option<String> {
+    format!(in alloc; "--{name} '{value}': {allowed}").ok()
 }
 
 /// An error message on a word that is no `ADDRESS=COUNT`.
