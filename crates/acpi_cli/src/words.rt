@@ -93,12 +93,15 @@ pub fn read_words(alloc: Global, words: &[String]) -> Result<Job, WordFault>
         IsSome (asked (map string_bytes words.now)) → fault ≡ WordFault.Memory) }
 {
     let matches = parse(alloc, words)?;
-    match matches.subcommand() {
-        Some((name, options)) if name == "check" => check_job(alloc, options),
-        Some((name, options)) if name == "confirm" => confirm_job(alloc, options),
-        Some((name, options)) if name == "rebuild" => rebuild_job(alloc, options),
-        Some((name, options)) if name == "show" => show_job(options),
-        Some((name, _)) if name == "find" => Ok(Job::Find),
+    let Some((name, options)) = matches.subcommand() else {
+        return Err(WordFault::Words);
+    };
+    match name {
+        "check" => check_job(alloc, options),
+        "confirm" => confirm_job(alloc, options),
+        "rebuild" => rebuild_job(alloc, options),
+        "show" => show_job(options),
+        "find" => Ok(Job::Find),
         _ => Err(WordFault::Words),
     }
 }
