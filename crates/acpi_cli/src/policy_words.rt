@@ -170,9 +170,9 @@ fn hotplug_setting(word: Option<&str>) -> Option<HotPlug>
     let Some(text) = word else {
         return Some(HotPlug::Counted);
     };
-    match text.as_bytes() {
-        b"counted" => Some(HotPlug::Counted),
-        b"apart" => Some(HotPlug::Apart),
+    match text {
+        "counted" => Some(HotPlug::Counted),
+        "apart" => Some(HotPlug::Apart),
         _ => None,
     }
 }
@@ -184,9 +184,9 @@ fn processors_setting(word: Option<&str>) -> Option<Processors>
     let Some(text) = word else {
         return Some(Processors::Enabled);
     };
-    match text.as_bytes() {
-        b"enabled" => Some(Processors::Enabled),
-        b"usable" => Some(Processors::Usable),
+    match text {
+        "enabled" => Some(Processors::Enabled),
+        "usable" => Some(Processors::Usable),
         _ => None,
     }
 }
