@@ -5,6 +5,7 @@ ghost use Rattle.std.specs.String.{string_bytes};
 ghost use Rattle.clap.specs.Words.{all_of, app_of, first_of, found_of, kind_of, rows_of, rule_of, subcommand_rows_of};
 ghost use Rattle.clap.specs.declared.builder.command.Command.TheViews.{out-Command};
 ghost use Rattle.acpi_cli.specs.CommandLine.{check_line, command_line, confirm_line, command_of, inputs_rule, is_taken, option_rule, rebuild_line, show_line};
+ghost use Rattle.acpi_cli.specs.PolicyOptions.{with_policy_options};
 
 use crate::words::WordFault;
 use clap::error::ErrorKind;
@@ -94,35 +95,39 @@ fn check<'a>(alloc: Global) -> Result<Command<'a>, AllocError>
     ensures line { IfOk result (λ command. app_of command ≡ check_line) }
     ensures own { IfOk result (λ command. (out-Command command).has_globals ≡ false) }
 {
-    Command::new(alloc, "check")
+    let command = Command::new(alloc, "check")
         .arg(option(alloc, "rsdp", "HEX"))?
-        .arg(option(alloc, "through", "N"))?
-        .arg(option(alloc, "default-inputs", "N"))?
-        .arg(option(alloc, "hotplug", "SETTING"))?
-        .arg(option(alloc, "processors", "SETTING"))?
-        .arg(inputs(alloc))
+        .arg(option(alloc, "through", "N"))?;
+    with_policy(alloc, command)
 }
 
 fn confirm<'a>(alloc: Global) -> Result<Command<'a>, AllocError>
     ensures line { IfOk result (λ command. app_of command ≡ confirm_line) }
     ensures own { IfOk result (λ command. (out-Command command).has_globals ≡ false) }
 {
-    Command::new(alloc, "confirm")
+    let command = Command::new(alloc, "confirm")
         .arg(option(alloc, "witness", "FAULT"))?
-        .arg(option(alloc, "rsdp", "HEX"))?
-        .arg(option(alloc, "default-inputs", "N"))?
-        .arg(option(alloc, "hotplug", "SETTING"))?
-        .arg(option(alloc, "processors", "SETTING"))?
-        .arg(inputs(alloc))
+        .arg(option(alloc, "rsdp", "HEX"))?;
+    with_policy(alloc, command)
 }
 
 fn rebuild<'a>(alloc: Global) -> Result<Command<'a>, AllocError>
     ensures line { IfOk result (λ command. app_of command ≡ rebuild_line) }
     ensures own { IfOk result (λ command. (out-Command command).has_globals ≡ false) }
 {
-    Command::new(alloc, "rebuild")
+    let command = Command::new(alloc, "rebuild")
         .arg(option(alloc, "base", "HEX"))?
-        .arg(option(alloc, "rsdp", "HEX"))?
+        .arg(option(alloc, "rsdp", "HEX"))?;
+    with_policy(alloc, command)
+}
+
+/// The command with the options that `read_policy` reads behind its own.
+fn with_policy<'a>(alloc: Global, command: Command<'a>) -> Result<Command<'a>, AllocError>
+    requires { (out-Command command).has_globals ≡ false }
+    ensures line { IfOk result (λ whole. app_of whole ≡ with_policy_options (app_of command.entry)) }
+    ensures own { IfOk result (λ whole. (out-Command whole).has_globals ≡ false) }
+{
+    command
         .arg(option(alloc, "default-inputs", "N"))?
         .arg(option(alloc, "hotplug", "SETTING"))?
         .arg(option(alloc, "processors", "SETTING"))?

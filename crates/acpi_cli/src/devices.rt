@@ -11,7 +11,7 @@ use std::alloc::Global;
 use std::io::{Read, Write};
 
 /// What an engine is to write, and the outcome that it then returns.
-#[derive(Debug, Drop)]
+#[derive(Drop)]
 pub struct Output {
     pub bytes: Vec<u8>,
     pub outcome: Outcome,

@@ -118,21 +118,26 @@ pub fn policy_message(alloc: Global, options: &ArgMatches) -> Option<String> {
     if let Some(number) = value(options, "default-inputs")
         && count(number).is_none()
     {
-        return format!(in alloc; "--default-inputs '{number}': {COUNTS}").ok();
+        return refused_value(alloc, "default-inputs", number, COUNTS);
     }
     if let Some(setting) = value(options, "hotplug")
         && hotplug_setting(Some(setting)).is_none()
     {
-        return format!(in alloc; "--hotplug '{setting}': {HOTPLUG_SETTINGS}").ok();
+        return refused_value(alloc, "hotplug", setting, HOTPLUG_SETTINGS);
     }
     if let Some(setting) = value(options, "processors")
         && processors_setting(Some(setting)).is_none()
     {
-        return format!(in alloc; "--processors '{setting}': {PROCESSORS_SETTINGS}").ok();
+        return refused_value(alloc, "processors", setting, PROCESSORS_SETTINGS);
     }
     let words = values(options, "inputs");
     let word = words.iter().find(|word| inputs_of_word(word).is_none())?;
     inputs_message(alloc, word)
+}
+
+/// An error message on the value of the option `--NAME`: `allowed` says what it may be.
+pub fn refused_value(alloc: Global, name: &str, value: &str, allowed: &str) -> Option<String> {
+    format!(in alloc; "--{name} '{value}': {allowed}").ok()
 }
 
 /// An error message on a word that is no `ADDRESS=COUNT`.
@@ -165,9 +170,9 @@ fn hotplug_setting(word: Option<&str>) -> Option<HotPlug>
     let Some(text) = word else {
         return Some(HotPlug::Counted);
     };
-    match text.as_bytes() {
-        b"counted" => Some(HotPlug::Counted),
-        b"apart" => Some(HotPlug::Apart),
+    match text {
+        "counted" => Some(HotPlug::Counted),
+        "apart" => Some(HotPlug::Apart),
         _ => None,
     }
 }
@@ -179,9 +184,9 @@ fn processors_setting(word: Option<&str>) -> Option<Processors>
     let Some(text) = word else {
         return Some(Processors::Enabled);
     };
-    match text.as_bytes() {
-        b"enabled" => Some(Processors::Enabled),
-        b"usable" => Some(Processors::Usable),
+    match text {
+        "enabled" => Some(Processors::Enabled),
+        "usable" => Some(Processors::Usable),
         _ => None,
     }
 }

@@ -22,7 +22,7 @@ const SHORT_USAGE: &str = "usage: acpiset check [OPTION].. [ADDRESS=COUNT].. < I
 For more: acpiset --help, man acpiset, or docs/TROUBLESHOOTING.md#words";
 
 /// A reply to arguments that ask for no job.
-#[derive(Debug, Drop)]
+#[derive(Drop)]
 pub enum Reply {
     /// What the program is, and its whole usage.
     Help,
@@ -65,16 +65,23 @@ impl fmt::Display for Reply {
             Reply::Help => write!(f, "{ABOUT}\n{Usage}"),
             Reply::Version => write!(f, "version {VERSION}, {} stages", Stage::Leaves.number()),
             Reply::NotUtf8 => write!(f, "an argument is not UTF-8\n{SHORT_USAGE}"),
-            Reply::Refusal { message, tip } => {
-                writeln!(f, "{message}")?;
-                if let Some(tip) = tip {
-                    writeln!(f, "  {tip}")?;
-                }
-                f.write_str(SHORT_USAGE)
-            }
+            Reply::Refusal { message, tip } => write_refusal(f, message, tip.as_deref()),
             Reply::Usage => f.write_str(SHORT_USAGE),
         }
     }
+}
+
+/// Writes what is wrong with the arguments, a tip where there is one, and the usage in short.
+fn write_refusal<W: fmt::Write>(
+    f: &mut fmt::Formatter<W>,
+    message: &str,
+    tip: Option<&str>,
+) -> fmt::Result {
+    writeln!(f, "{message}")?;
+    if let Some(tip) = tip {
+        writeln!(f, "  {tip}")?;
+    }
+    f.write_str(SHORT_USAGE)
 }
 
 /// Whether `help` is the first of the arguments, or any of them is `--help` or `-h`.

@@ -91,7 +91,7 @@ memory, or a read or a write failed.";
 
 /// The usage of the program, with all stages. It ends without a line end, and takes no
 /// memory to print.
-#[derive(Clone, Copy, Debug)]
+#[derive(Clone, Copy)]
 pub struct Usage;
 
 impl fmt::Display for Usage {
@@ -102,14 +102,20 @@ impl fmt::Display for Usage {
             f,
             "  --through N  the last stage to check, 1 to {last}, and {last} if absent:"
         )?;
-        for number in 1..=last {
-            if let Some(stage) = Stage::new(number) {
-                writeln!(f, "{number:>17} {}", subject(stage))?;
-            }
-        }
+        write_stages(f, last)?;
         f.write_str(POLICY)?;
         f.write_str(TEXTS_AND_STATUSES)
     }
+}
+
+/// Writes a line for each stage up to the last.
+fn write_stages<W: fmt::Write>(f: &mut fmt::Formatter<W>, last: u8) -> fmt::Result {
+    for number in 1..=last {
+        if let Some(stage) = Stage::new(number) {
+            writeln!(f, "{number:>17} {}", subject(stage))?;
+        }
+    }
+    Ok(())
 }
 
 /// What a stage checks, in a few words.

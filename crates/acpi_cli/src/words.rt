@@ -14,7 +14,7 @@ ghost use Rattle.acpi_cli.specs.Words.{fault_written};
 
 use crate::command_line::{clap_message, parse, value};
 use crate::number_words::{decimal_number, hex_number};
-use crate::policy_words::{policy_message, read_policy};
+use crate::policy_words::{policy_message, read_policy, refused_value};
 use acpi_base::{Policy, Stage, Witness, parse_witness};
 use clap::ArgMatches;
 use std::alloc::Global;
@@ -28,7 +28,7 @@ const FAULTS: &str =
 const ADDRESSES: &str = "an address is 1 to 16 hex digits, with 0x before them or without";
 
 /// A command, with what its engine is called with.
-#[derive(Debug, Drop)]
+#[derive(Drop)]
 pub enum Job {
     /// Check the tables that the RSDP leads to, up to the stage `last`: the RSDP at `rsdp`, or the one
     /// that is found. The policy's own RSDP address is 0.
@@ -93,12 +93,15 @@ pub fn read_words(alloc: Global, words: &[String]) -> Result<Job, WordFault>
         IsSome (asked (map string_bytes words.now)) → fault ≡ WordFault.Memory) }
 {
     let matches = parse(alloc, words)?;
-    match matches.subcommand() {
-        Some((name, options)) if name == "check" => check_job(alloc, options),
-        Some((name, options)) if name == "confirm" => confirm_job(alloc, options),
-        Some((name, options)) if name == "rebuild" => rebuild_job(alloc, options),
-        Some((name, options)) if name == "show" => show_job(options),
-        Some((name, _)) if name == "find" => Ok(Job::Find),
+    let Some((name, options)) = matches.subcommand() else {
+        return Err(WordFault::Words);
+    };
+    match name {
+        "check" => check_job(alloc, options),
+        "confirm" => confirm_job(alloc, options),
+        "rebuild" => rebuild_job(alloc, options),
+        "show" => show_job(options),
+        "find" => Ok(Job::Find),
         _ => Err(WordFault::Words),
     }
 }
@@ -174,17 +177,18 @@ fn show_job(options: &ArgMatches) -> Result<Job, WordFault>
 /// An error message on arguments that are refused, in a line that names the wrong one. `None` where the
 /// command is missing, where help is asked for, or where the program is out of memory.
 pub fn error_message(alloc: Global, words: &[String]) -> Option<String> {
-    match parse(alloc, words) {
-        Ok(matches) => match matches.subcommand()? {
-            (name, options) if name == "confirm" && value(options, "witness").is_none() => {
-                format!(in alloc; "confirm needs --witness FAULT: {FAULTS}").ok()
-            }
-            (name, options) if name == "rebuild" && value(options, "base").is_none() => {
-                format!(in alloc; "rebuild needs --base HEX: {ADDRESSES}").ok()
-            }
-            (_, options) => value_message(alloc, options),
-        },
-        Err(_) => clap_message(alloc, words),
+    let Ok(matches) = parse(alloc, words) else {
+        return clap_message(alloc, words);
+    };
+    let (name, options) = matches.subcommand()?;
+    match name {
+        "confirm" if value(options, "witness").is_none() => {
+            format!(in alloc; "confirm needs --witness FAULT: {FAULTS}").ok()
+        }
+        "rebuild" if value(options, "base").is_none() => {
+            format!(in alloc; "rebuild needs --base HEX: {ADDRESSES}").ok()
+        }
+        _ => value_message(alloc, options),
     }
 }
 
@@ -194,21 +198,26 @@ fn value_message(alloc: Global, options: &ArgMatches) -> Option<String> {
         if let Some(hex) = value(options, name)
             && hex_number(hex, 16).is_none()
         {
-            return format!(in alloc; "--{name} '{hex}': {ADDRESSES}").ok();
+            return refused_value(alloc, name, hex, ADDRESSES);
         }
     }
     if let Some(text) = value(options, "witness")
         && given_witness(Some(text)).is_none()
     {
-        return format!(in alloc; "--witness '{text}': {FAULTS}").ok();
+        return refused_value(alloc, "witness", text, FAULTS);
     }
     if let Some(number) = value(options, "through")
         && last_stage(Some(number)).is_none()
     {
-        let last = Stage::Leaves.number();
-        return format!(in alloc; "--through '{number}': the stages are 1 to {last}").ok();
+        return stage_message(alloc, number);
     }
     policy_message(alloc, options)
+}
+
+/// An error message on a value of `--through` that is no stage.
+fn stage_message(alloc: Global, number: &str) -> Option<String> {
+    let last = Stage::Leaves.number();
+    format!(in alloc; "--through '{number}': the stages are 1 to {last}").ok()
 }
 
 /// The address that `--rsdp` gives, if it is there. `None` where its value is no address.

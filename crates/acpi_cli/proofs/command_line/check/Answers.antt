@@ -1,17 +1,21 @@
+use Rattle.std.proofs.Common.{◌∙◌, ap}
 use Rattle.std.proofs.lemmas.Result.{IfOk-weaker}
 use Rattle.acpi_cli.specs.CommandLine.{check_line}
+use Rattle.acpi_cli.specs.PolicyOptions.{with_policy_options}
 use Rattle.acpi_cli.proofs.Declared.{one_more}
 use Rattle.acpi_cli.proofs.command_line.check.Goals as goal
+
+pub with_policy-requires : goal.with_policy-requires
+with_policy-requires c =
+    let first = one_more _ _ _ _ _ (c.new.ensures.app, c.new.ensures.local) c.option.ensures.rule c.option.ensures.own c.in_ok-arg.ensures in
+    (one_more _ _ _ _ _ first c.option-2.ensures.rule c.option-2.ensures.own c.in_ok-command.ensures).1
 
 pub returns : goal.returns
 unfolding check_line
 returns c =
     let first = one_more _ _ _ _ _ (c.new.ensures.app, c.new.ensures.local) c.option.ensures.rule c.option.ensures.own c.in_ok-arg.ensures in
-    let second = one_more _ _ _ _ _ first c.option-2.ensures.rule c.option-2.ensures.own c.in_ok-arg-2.ensures in
-    let third = one_more _ _ _ _ _ second c.option-3.ensures.rule c.option-3.ensures.own c.in_ok-arg-3.ensures in
-    let fourth = one_more _ _ _ _ _ third c.option-4.ensures.rule c.option-4.ensures.own c.in_ok-arg-4.ensures in
-    let fifth = one_more _ _ _ _ _ fourth c.option-5.ensures.rule c.option-5.ensures.own c.in_ok-arg-5.ensures in
+    let second = one_more _ _ _ _ _ first c.option-2.ensures.rule c.option-2.ensures.own c.in_ok-command.ensures in
     record {
-      line = IfOk-weaker c.arg-6.result _ _ (λ command adds. (one_more _ _ command _ _ fifth c.inputs.ensures.rule c.inputs.ensures.own adds).0) c.arg-6.ensures;
-      own = IfOk-weaker c.arg-6.result _ _ (λ command adds. (one_more _ _ command _ _ fifth c.inputs.ensures.rule c.inputs.ensures.own adds).1) c.arg-6.ensures;
+      line = IfOk-weaker c.with_policy.result _ _ (λ command is. is ∙ ap with_policy_options second.0) c.with_policy.ensures.line;
+      own = c.with_policy.ensures.own;
     }
