@@ -1,13 +1,14 @@
 -- The texts of faults: their words, and that two faults have two texts.
-use Rattle.std.proofs.Common.{◌≡◌, ℕ, ◌^◌, ◌<◌, ◌==◌, Bool, true, false, cond, List, [], ◌∷◌, ◌++◌, refl, sym, ap, ◌∙◌, append_assoc, subst}
+use Rattle.std.proofs.Common.{◌≡◌, ℕ, ◌^◌, ◌+◌, ◌<◌, ◌==◌, Bool, true, false, cond, List, [], ◌∷◌, ◌++◌, IsTrue, ◌↔◌, refl, sym, ap, ◌∙◌, append_assoc, subst, inl, inr, arith}
 use Rattle.std.specs.Prelude.{◌&&◌, decimal}
 use Rattle.std.specs.Fmt.{digits}
 use Rattle.std.specs.List.{list_all}
+use Rattle.std.proofs.lemmas.Bool.{both_ways, cases_lt}
 use Rattle.std.proofs.lemmas.List.Folds.{list_all-append}
 use Rattle.acpi_base.specs.Codes.{code_number, code_name, stage_number, stage_of}
 use Rattle.acpi_base.specs.ImageText.{hex_number}
 use Rattle.acpi_base.specs.Laws.{NumbersFit, TextsDiffer}
-use Rattle.acpi_base.specs.WitnessText.{hex_text, witness_line, is_no_blank, AreWords}
+use Rattle.acpi_base.specs.WitnessText.{hex_text, witness_line, is_no_blank, AreWords, IsHead}
 use Rattle.acpi_base.specs.declared.code.Code.{Code}
 use Rattle.acpi_base.specs.declared.code.Code.TheVariants as code
 use Rattle.acpi_base.specs.declared.witness.Witness.{Witness}
@@ -73,6 +74,15 @@ pub stage_has_no_blank : (c : Code) → list_all is_no_blank (decimal (stage_num
 unfolding digits
 stage_has_no_blank code.RsdpOut = refl
 stage_has_no_blank _ = refl
+
+-- where no code with a lower number begins a text so, nor this one, none up to it does
+pub none_up_to : (stage name : List ℕ) (code : Code) (n : ℕ) (test : Bool) → code_number code ≡ n → (IsTrue test ↔ IsHead stage name code) → test ≡ false
+    → ((c : Code) → code_number c < n → ¬ IsHead stage name c) → (c : Code) → code_number c < n + 1 → ¬ IsHead stage name c
+none_up_to stage name code n test is same other below c less head =
+    elim (cases_lt (code_number c) n) [
+      | inl lower ↦ below c lower head
+      | inr up ↦ both_ways test other (same.1 (subst (λ (d : Code). IsHead stage name d) (same_code c code (omega arith)) head))
+    ]
 
 -- ---- numbers
 

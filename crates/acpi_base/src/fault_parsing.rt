@@ -33,7 +33,7 @@ pub fn parse_witness(text: &[u8]) -> Option<Witness>
 }
 
 /// The words of a fault's text.
-#[derive(Clone, Copy, Debug)]
+#[derive(Clone, Copy)]
 struct Words<'a> {
     stage: &'a [u8],
     name: &'a [u8],
@@ -78,14 +78,19 @@ fn code_with(stage: &[u8], name: &[u8]) -> Option<Code>
     ensures { MatchOption result ((code : Code) → ¬ IsHead stage.now name.now code) (IsHead stage.now name.now) }
 {
     for number in 1..60 {
-        if let Some(code) = Code::new(number)
-            && name == code.name().as_bytes()
-            && is_decimal(stage, code.stage().number())
-        {
+        let code = Code::new(number)?;
+        if is_head(stage, name, code) {
             return Some(code);
         }
     }
     None
+}
+
+/// Whether these are the first two words of a fault with this code.
+fn is_head(stage: &[u8], name: &[u8], code: Code) -> bool
+    ensures { IsTrue result ↔ IsHead stage.now name.now code }
+{
+    name == code.name().as_bytes() && is_decimal(stage, code.stage().number())
 }
 
 /// Whether a text is a number in decimal.

@@ -116,7 +116,7 @@ fn parse_data(line: &[u8], bytes: &mut Vec<u8>) -> Result<bool, AllocError>
 {
     bytes.clear();
     let mut rest = line;
-    while let [first, after @ ..] = rest {
+    while let Some((first, after)) = rest.split_first() {
         let Some(high) = digit_value(*first) else {
             if !is_blank_byte(*first) {
                 return Ok(false);
@@ -124,7 +124,7 @@ fn parse_data(line: &[u8], bytes: &mut Vec<u8>) -> Result<bool, AllocError>
             rest = after;
             continue;
         };
-        let [second, behind @ ..] = after else {
+        let Some((second, behind)) = after.split_first() else {
             return Ok(false);
         };
         let Some(low) = digit_value(*second) else {

@@ -4,8 +4,8 @@ use Rattle.acpi_base.specs.ImageText.{data_from}
 use Rattle.acpi_base.proofs.image_text.line.parse_data.Given as goal
 
 -- the line goes on so from the bytes so far
-abbrev pub invariant-loop-rest : goal.invariant-loop-rest
-invariant-loop-rest l = data_from (vec_items l.bytes) None l.rest ≡ data_from [] None l.line
+abbrev pub invariant-loop-first : goal.invariant-loop-first
+invariant-loop-first l = data_from (vec_items l.bytes) None l.rest ≡ data_from [] None l.line
 
-abbrev pub decreases-loop-rest : goal.decreases-loop-rest
-decreases-loop-rest l = length l.rest
+abbrev pub decreases-loop-first : goal.decreases-loop-first
+decreases-loop-first l = length l.rest
