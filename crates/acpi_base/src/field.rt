@@ -121,7 +121,7 @@ pub fn put_u64(out: &mut [u8], offset: usize, number: u64)
 }
 
 /// What is written into a part of a structure.
-#[derive(Clone, Copy)]
+#[derive(Clone, Copy, Debug)]
 pub enum Value<'a> {
     /// A byte.
     U8(u8),

@@ -64,7 +64,7 @@ fn refusal(segments: &Segments, base: u64, count: u64) -> Option<ImageFault>
 /// A memory image: bytes at 64-bit addresses, in pieces that may lie anywhere.
 ///
 /// Pieces that touch are joined into one. A search takes time that grows with the logarithm of their number.
-#[derive(Drop)]
+#[derive(Debug, Drop)]
 pub struct Image {
     segments: Segments,
     alloc: Global,

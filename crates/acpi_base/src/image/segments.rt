@@ -18,7 +18,7 @@ use super::summed::Summed;
 use std::alloc::{AllocError, Global};
 
 /// The bytes of an image.
-#[derive(Drop)]
+#[derive(Debug, Drop)]
 pub struct Segments {
     store: Summed,
     ended: Vec<(u64, Span)>,

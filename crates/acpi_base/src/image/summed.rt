@@ -52,7 +52,7 @@ fn sum_before(bytes: &[u8], sums: &[u8], end: usize) -> u8
 }
 
 /// Bytes to which more are appended. Contracts see the bytes.
-#[derive(Drop)]
+#[derive(Debug, Drop)]
 pub struct Summed {
     bytes: Vec<u8>,
     /// The sums of the first 128 bytes, the first 256 and so on, modulo 256.
