@@ -22,7 +22,7 @@ use acpi_read::{Entries, Entry, SratEntry, Table};
 use std::alloc::{AllocError, Global};
 
 /// A processor in a proximity domain. Placements compare by the processor's number, then by the domain.
-#[derive(Clone, Copy, Debug, PartialEq, Eq, PartialOrd, Ord)]
+#[derive(Clone, Copy, PartialEq, Eq, PartialOrd, Ord)]
 pub struct Placement {
     /// The APIC ID or x2APIC ID: they are one number space.
     pub processor: u32,

@@ -4,7 +4,7 @@ ghost use Rattle.std.specs.Prelude.{◌<◌, length};
 ghost use Rattle.acpi_check.specs.Firsts.{NotesValue};
 
 /// The first value of its kind.
-#[derive(Clone, Copy, Debug, PartialEq, Eq)]
+#[derive(Clone, Copy)]
 pub struct FirstValue {
     /// Where the entry that gives it stands, from the table's start.
     pub offset: u64,

@@ -10,7 +10,7 @@ use acpi_read::{Entries, Entry, MadtEntry, Table};
 use std::alloc::{AllocError, Global};
 
 /// `count` interrupt numbers from `first` on. Ranges compare by `first`, then by `count`.
-#[derive(Clone, Copy, Debug, PartialEq, Eq, PartialOrd, Ord)]
+#[derive(Clone, Copy, PartialEq, Eq, PartialOrd, Ord)]
 pub struct GsiRange {
     /// The least of them.
     pub first: u32,

@@ -1,7 +1,7 @@
 //! Nodes of chains in a PPTT.
 
 /// What the nodes of chains are, and how each names the next one.
-#[derive(Clone, Copy, Debug, PartialEq, Eq)]
+#[derive(Clone, Copy)]
 pub enum Chain {
     /// Processor hierarchy nodes, by their Parents.
     Parents,
@@ -10,7 +10,7 @@ pub enum Chain {
 }
 
 /// The nodes of chains, in the entries' order.
-#[derive(Debug, Drop)]
+#[derive(Drop)]
 pub struct Nodes {
     /// The offset of each.
     pub offsets: Vec<u64>,

@@ -1,7 +1,7 @@
 //! Where the entries of a PPTT stand.
 
 /// What an entry is.
-#[derive(Clone, Copy, Debug, PartialEq, Eq)]
+#[derive(Clone, Copy)]
 pub enum Kind {
     /// A processor hierarchy node.
     Node,
@@ -12,7 +12,7 @@ pub enum Kind {
 }
 
 /// The offsets at which the entries of a PPTT stand, by what may be named there. Each list is in rising order.
-#[derive(Debug, Drop)]
+#[derive(Drop)]
 pub struct Places {
     /// Those of nodes: what a Parent may name.
     pub nodes: Vec<u64>,

@@ -11,7 +11,7 @@ use acpi_read::{Entries, Entry, MadtEntry, Table};
 use std::alloc::{AllocError, Global};
 
 /// By which number processors are looked up.
-#[derive(Clone, Copy, Debug, PartialEq, Eq)]
+#[derive(Clone, Copy)]
 pub enum Key {
     /// All, enabled or not, by their UIDs.
     Uid,

@@ -1,7 +1,7 @@
 //! Kinds of ranges of addresses.
 
 /// The ranges of an SRAT that are compared with each other.
-#[derive(Clone, Copy, Debug, PartialEq, Eq)]
+#[derive(Clone, Copy)]
 pub enum RangeKind {
     /// All of them.
     Any,

@@ -3,7 +3,7 @@
 use acpi_base::{Code, Witness};
 
 /// Why a stage does not hand on what it checks.
-#[derive(Clone, Copy, Debug, PartialEq, Eq)]
+#[derive(Clone, Copy)]
 pub enum Refusal {
     /// The set's first fault, which is one of the stage's.
     Fault(Witness),

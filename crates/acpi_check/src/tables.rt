@@ -14,7 +14,7 @@ use acpi_base::{Code, Image, Policy, Witness, field};
 use acpi_read::{Root, Table};
 
 /// What the later stages look at: the root, and the first table that it lists with each of five signatures.
-#[derive(Debug, Drop)]
+#[derive(Drop)]
 pub struct Tables<'a> {
     /// The RSDT or XSDT.
     pub root: Root<'a>,
