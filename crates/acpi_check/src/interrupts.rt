@@ -54,7 +54,6 @@ pub fn served_spans(
 
 /// The least interrupt number that two I/O APICs of a MADT serve, and the first two that do. Spans, which name the I/O
 /// APICs, are sorted only where short ranges show that there are two.
-#[tactic(auto, using(crate::proofs::Clashes::is_found))]
 fn first_gsi_clash(alloc: Global, policy: &Policy, table: Table<'_>) -> Result<Clash, AllocError>
     ensures { IfOk result (IsFound (Serves policy.now (madt_contents table.entry))) }
 {

@@ -1,6 +1,6 @@
 use Rattle.std.proofs.Common.{refl}
 use Rattle.acpi_read.specs.Pptts.{node_value, cache24_value, cache28_value}
-use Rattle.acpi_check.proofs.NamedPlaces.{node_sound, resource_first, cache_link}
+use Rattle.acpi_check.proofs.NamedPlaces.{node_sound, parent_first, resource_first, cache_link}
 use Rattle.acpi_check.proofs.references.own_fault.Goals as goal
 
 pub returns-in-Some-first_dangling : goal.returns-in-Some-first_dangling
@@ -31,3 +31,10 @@ pub returns-in-Ok-Cache28 : goal.returns-in-Ok-Cache28
 returns-in-Ok-Cache28 c =
     rw (← c.in-Ok-Cache28.ensures.ok, c.in-Ok-Cache28.field-0-is)
     (cache_link c.args.places.now (cache28_value c.in-Ok-Cache28.cache) c.args.entry.now.offset c.link_fault-in-Ok-Cache28.result (rw c.deref-in-Ok-Cache28.ensures.value at c.link_fault-in-Ok-Cache28.ensures))
+
+pub returns-in-Some : goal.returns-in-Some
+returns-in-Some c =
+    let head = c.in-Ok-Node.head in
+    let found = rw c.deref.ensures.value at c.in-Some.ensures in
+    rw (← c.in-Ok-Node.ensures.ok, c.in-Ok-Node.field-0-is, found.0)
+    (refl, parent_first c.args.places.now (node_value head c.in-Ok-Node.references.now) c.args.entry.now.offset found.1 found.2)
