@@ -28,6 +28,7 @@ mod Searches
 mod ServedFaults
 mod ServedNumbers
 mod ServedSpans
+mod Skipped
 mod Slots
 mod SratPass
 mod TwoTables

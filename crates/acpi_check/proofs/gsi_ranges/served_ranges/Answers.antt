@@ -1,10 +1,11 @@
-use Rattle.std.proofs.Common.{◌≡◌, ◌<◌, map, length, arith}
+use Rattle.std.proofs.Common.{◌≡◌, ◌<◌, map, length, arith, sym, ◌∙◌}
 use Rattle.std.proofs.lemmas.List.{append-nil}
 use Rattle.std.proofs.lemmas.List.Sorted.{IsPermutation-refl}
-use Rattle.acpi_base.specs.Madt.{madt_contents}
+use Rattle.acpi_base.specs.Madt.{madt_entry, madt_contents}
 use Rattle.acpi_read.specs.Entries.{entry_value}
-use Rattle.acpi_check.specs.GsiRanges.{ranges_of}
+use Rattle.acpi_check.specs.GsiRanges.{served_range, ranges_of}
 use Rattle.acpi_check.proofs.GsiRanges.{gathered, no_ranges}
+use Rattle.acpi_check.proofs.Skipped.{none_kept, one_came}
 use Rattle.acpi_check.proofs.gsi_ranges.served_ranges.Goals as goal
 
 pub returns-in_default : goal.returns-in_default
@@ -17,3 +18,9 @@ returns c =
     let all : c.loop-entry.ranges.items ≡ ranges_of c.args.policy.now (madt_contents c.args.table).entries =
     gathered c.args.policy.now c.args.table (map entry_value c.loop-entry.yielded) c.loop-entry.ranges.items (grind (arith, append-nil, c.loop-entry.invariant.1, c.in-None.ensures.steps)) c.loop-entry.invariant.0 in
     rw (← all) c.sort_unstable.ensures.permutation
+
+pub loop-entry-preserved : goal.loop-entry-preserved
+loop-entry-preserved c =
+    let i = c.loop-entry.invariant in
+    let none = sym c.served_range.ensures ∙ c.in_default-served_range.is in
+    (i.0 ∙ none_kept entry_value madt_entry (λ s. served_range c.args.policy.now s.entry) c.loop-entry.yielded c.in-Some.entry none, one_came entry_value c.loop-entry.yielded c.in-Some.entry _ c.next.new.self.entries _ i.1 c.in-Some.ensures.steps.0)

@@ -1,8 +1,12 @@
-use Rattle.std.proofs.Common.{◌<◌, [], map, length, refl, sym, arith}
+use Rattle.std.proofs.Common.{◌<◌, [], map, length, refl, sym, arith, ◌∙◌, ap}
 use Rattle.std.proofs.lemmas.List.{append-nil}
 use Rattle.acpi_read.specs.Entries.{entry_value}
 use Rattle.acpi_check.proofs.Kept.{next_inside, none_of_short}
 use Rattle.acpi_check.proofs.ServedSpans.{served_spans}
+use Rattle.std.specs.Option.{option_map}
+use Rattle.acpi_base.specs.Madt.{madt_entry}
+use Rattle.acpi_check.specs.Gathered.{span_value, served}
+use Rattle.acpi_check.proofs.Skipped.{none_kept, one_came}
 use Rattle.acpi_check.proofs.interrupts.served_spans.Goals as goal
 
 pub served_span-requires : goal.served_span-requires
@@ -15,3 +19,9 @@ returns-in_default c =
 
 pub returns : goal.returns
 returns c = served_spans c.args.policy.now c.args.table (map entry_value c.loop-entry.yielded) c.loop-entry.spans.items (grind (arith, append-nil, c.loop-entry.invariant.1, c.in-None.ensures.steps)) c.loop-entry.invariant.0
+
+pub loop-entry-preserved : goal.loop-entry-preserved
+loop-entry-preserved c =
+    let i = c.loop-entry.invariant in
+    let none = sym c.served_span.ensures ∙ ap (option_map span_value) c.in_default-served_span.is in
+    (i.0 ∙ none_kept entry_value madt_entry (λ s. served c.args.policy.now s.offset s.entry) c.loop-entry.yielded c.in-Some.entry none, one_came entry_value c.loop-entry.yielded c.in-Some.entry _ c.next.new.self.entries _ i.1 c.in-Some.ensures.steps.0)

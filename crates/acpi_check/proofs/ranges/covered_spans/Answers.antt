@@ -1,8 +1,13 @@
-use Rattle.std.proofs.Common.{◌<◌, [], map, length, refl, sym, arith}
+use Rattle.std.proofs.Common.{◌<◌, [], map, length, refl, sym, arith, ◌∙◌, ap}
 use Rattle.std.proofs.lemmas.List.{append-nil}
 use Rattle.acpi_read.specs.Entries.{entry_value}
 use Rattle.acpi_check.proofs.Kept.{next_inside, none_of_short}
 use Rattle.acpi_check.proofs.RangeClashes.{kind_spans}
+use Rattle.std.specs.Option.{option_map}
+use Rattle.acpi_base.specs.Srat.{srat_entry}
+use Rattle.acpi_check.specs.Gathered.{span_value, covered}
+use Rattle.acpi_check.specs.RangeKinds.{counts}
+use Rattle.acpi_check.proofs.Skipped.{none_kept, one_came}
 use Rattle.acpi_check.proofs.ranges.covered_spans.Goals as goal
 
 pub covered_span-requires : goal.covered_span-requires
@@ -15,3 +20,9 @@ returns-in_default c =
 
 pub returns : goal.returns
 returns c = kind_spans c.args.kind c.args.table (map entry_value c.loop-entry.yielded) c.loop-entry.spans.items (grind (arith, append-nil, c.loop-entry.invariant.1, c.in-None.ensures.steps)) c.loop-entry.invariant.0
+
+pub loop-entry-preserved : goal.loop-entry-preserved
+loop-entry-preserved c =
+    let i = c.loop-entry.invariant in
+    let none = sym c.covered_span.ensures ∙ ap (option_map span_value) c.in_default-covered_span.is in
+    (i.0 ∙ none_kept entry_value srat_entry (λ s. covered (counts c.args.kind) s.offset s.entry) c.loop-entry.yielded c.in-Some.entry none, one_came entry_value c.loop-entry.yielded c.in-Some.entry _ c.next.new.self.entries _ i.1 c.in-Some.ensures.steps.0)
