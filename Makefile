@@ -23,7 +23,7 @@ build: acpiset
 acpiset: $(sources)
 	@echo 'Proving acpiset and the crates under it, for every input: that its verdicts are right by the definitions in specs, and'
 	@echo 'that nothing panics, reads outside a buffer or runs on (docs/PROMISES.md). Then it is built as ./acpiset.'
-	@echo 'From nothing this may take a quarter of an hour or more; later only seconds.'
+	@echo 'From nothing this may take twenty minutes; later only seconds.'
 	cd crates/acpi_cli && rt run -- check --rsdp e0000 --through 3 < stdin > /dev/null
 	cp $(program) acpiset
 
