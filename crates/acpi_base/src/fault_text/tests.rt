@@ -1,42 +1,50 @@
 use super::*;
 use crate::Code;
-use std::test::Fail;
+use std::process::Abort;
 
 /// A fault of the code with this number.
-fn fault(number: u8, at: u64, other: u64, point: u64) -> Result<Witness, Fail> {
-    let code = Code::new(number).ok_or("a code")?;
-    Ok(Witness {
-        code,
+fn fault(rt: &impl Abort, number: u8, at: u64, other: u64, point: u64) -> Witness {
+    Witness {
+        code: Code::new(number).expect(rt, "a code"),
         at,
         other,
         point,
-    })
+    }
 }
 
+/// Faults by the numbers of their codes, and the text of each.
+const FAULTS: [(u8, u64, u64, u64, &str); 4] = [
+    (45, 0x30, 0x58, 0, "10 Overlap 0x30 0x58 0x0"),
+    (1, 0xe0000, 0, 0, "1 RsdpOut 0xe0000 0x0 0x0"),
+    (19, 0, 0, 0, "4 NoFadt 0x0 0x0 0x0"),
+    (
+        59,
+        u64::MAX,
+        u64::MAX,
+        u64::MAX,
+        "18 LeafUnknown 0xffffffffffffffff 0xffffffffffffffff 0xffffffffffffffff",
+    ),
+];
+
 #[test]
-fn texts_of_faults(rt: HostRuntime) -> Result<(), Fail> {
-    let most = u64::MAX;
-    for (fault, wanted) in [
-        (fault(45, 0x30, 0x58, 0)?, "10 Overlap 0x30 0x58 0x0"),
-        (fault(1, 0xe0000, 0, 0)?, "1 RsdpOut 0xe0000 0x0 0x0"),
-        (fault(19, 0, 0, 0)?, "4 NoFadt 0x0 0x0 0x0"),
-        (
-            fault(59, most, most, most)?,
-            "18 LeafUnknown 0xffffffffffffffff 0xffffffffffffffff 0xffffffffffffffff",
-        ),
-    ] {
+fn texts_of_faults(rt: HostRuntime) -> Result<(), AllocError> {
+    for (number, at, other, point, wanted) in &FAULTS {
+        let fault = fault(&rt, *number, *at, *other, *point);
         let text = witness_text(rt.alloc(), &fault)?;
-        assert_eq!(rt; text.as_slice(), wanted.as_bytes());
+        assert!(rt; text.as_slice() == wanted.as_bytes(), "{text:?}");
     }
     Ok(())
 }
 
 #[test]
-fn lines_of_verdicts(rt: HostRuntime) -> Result<(), Fail> {
+fn lines_of_verdicts(rt: HostRuntime) -> Result<(), AllocError> {
+    let no = Verdict::No(fault(&rt, 39, 0x2c, 0x38, 0x18));
     let yes = verdict_text(rt.alloc(), &Verdict::Yes)?;
-    assert_eq!(rt; yes.as_slice(), b"yes\n".as_slice());
-    let fault = fault(39, 0x2c, 0x38, 0x18)?;
-    let no = verdict_text(rt.alloc(), &Verdict::No(fault))?;
-    assert_eq!(rt; no.as_slice(), b"no 7 GsiClash 0x2c 0x38 0x18\n".as_slice());
+    let no = verdict_text(rt.alloc(), &no)?;
+    assert!(rt; yes.as_slice() == b"yes\n".as_slice(), "{yes:?}");
+    assert!(rt;
+        no.as_slice() == b"no 7 GsiClash 0x2c 0x38 0x18\n".as_slice(),
+        "{no:?}"
+    );
     Ok(())
 }

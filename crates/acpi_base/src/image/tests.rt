@@ -1,6 +1,5 @@
 use super::*;
 use std::process::Abort;
-use std::test::Fail;
 
 /// Bytes that are added, the address of the first, and what `add` returns.
 type Added<'a> = (u64, &'a [u8], Result<(), ImageFault>);
@@ -12,13 +11,17 @@ type Window<'a> = (u64, u64, Option<&'a [u8]>);
 fn image_of(rt: &impl Abort, alloc: Global, pieces: &[Added]) -> Image {
     let mut image = Image::new(alloc);
     for (address, bytes, result) in pieces {
-        assert_eq!(rt; image.add(*address, bytes), *result, "{address:#x}");
+        let added = image.add(*address, bytes);
+        assert!(rt; added == *result, "{address:#x}: {added:?}");
     }
     image
 }
 
-/// Images, each with windows of it and a byte that is looked up.
-const IMAGES: [(&[Added], &[Window], (u64, Option<u8>)); 5] = [
+/// What is added to an image, windows of it, and a byte that is looked up.
+type Case<'a> = (&'a [Added<'a>], &'a [Window<'a>], (u64, Option<u8>));
+
+/// Images, and what is found in them.
+const IMAGES: [Case; 5] = [
     // Pieces that touch are one.
     (
         &[
@@ -81,13 +84,24 @@ const IMAGES: [(&[Added], &[Window], (u64, Option<u8>)); 5] = [
     ),
 ];
 
+/// Looks up each of the windows.
+fn check_windows(rt: &impl Abort, image: &Image, windows: &[Window]) {
+    for (address, count, bytes) in windows {
+        assert!(rt; image.window(*address, *count) == *bytes, "{address:#x}");
+    }
+}
+
+/// Builds an image, and looks into it.
+fn check_image(rt: &impl Abort, alloc: Global, case: &Case) {
+    let (pieces, windows, (address, byte)) = case;
+    let image = image_of(rt, alloc, pieces);
+    assert!(rt; image.byte_at(*address) == *byte, "{address:#x}");
+    check_windows(rt, &image, windows);
+}
+
 #[test]
 fn images_hold_what_was_added(rt: HostRuntime) {
-    for (pieces, windows, (address, byte)) in IMAGES {
-        let image = image_of(&rt, rt.alloc(), pieces);
-        assert!(rt; image.byte_at(address) == byte, "{address:#x}");
-        for (address, count, bytes) in windows {
-            assert_eq!(rt; image.window(*address, *count), *bytes, "{address:#x}");
-        }
+    for case in &IMAGES {
+        check_image(&rt, rt.alloc(), case);
     }
 }

@@ -1,5 +1,4 @@
 use super::*;
-use std::test::Fail;
 
 /// Addresses and counts that are added in turn, what `add_input` returns, and the count of the address from then on.
 const COUNTS: [(u32, u16, Result<(), PolicyFault>, u16); 9] = [
@@ -17,55 +16,60 @@ const COUNTS: [(u32, u16, Result<(), PolicyFault>, u16); 9] = [
 ];
 
 #[test]
-fn each_address_has_its_first_count(rt: HostRuntime) -> Result<(), Fail> {
+fn each_address_has_its_first_count(rt: HostRuntime) -> Result<(), PolicyFault> {
     let mut policy = Policy::new(rt.alloc(), 0xe0000, 24)?;
-    for (address, count, result, stands) in COUNTS {
-        let added = policy.add_input(address, count);
-        assert_eq!(rt;
-            (added, policy.inputs_of(address)),
-            (result, stands),
-            "{address:#x}={count}"
+    for (address, count, result, stands) in &COUNTS {
+        let added = policy.add_input(*address, *count);
+        let told = (added, policy.inputs_of(*address));
+        assert!(rt;
+            told == (*result, *stands),
+            "{address:#x}={count}: {told:?}"
         );
     }
-    assert_eq!(rt;
-        (policy.inputs_of(0xfec0_0001), policy.rsdp()),
-        (24, 0xe0000)
-    );
+    assert!(rt; policy.inputs_of(0xfec0_0001) == 24 && policy.rsdp() == 0xe0000);
     Ok(())
 }
 
+/// The address and the count of a step. An odd factor takes each step to another address, in no order.
+fn count_of(step: u32) -> (u32, u16) {
+    (step.wrapping_mul(0x9e37_79b1), (step % 256) as u16 + 1)
+}
+
 #[test]
-fn many_counts(rt: HostRuntime) -> Result<(), Fail> {
+fn many_counts(rt: HostRuntime) -> Result<(), PolicyFault> {
     let mut policy = Policy::new(rt.alloc(), 0xe0000, 24)?;
-    // An odd factor takes each step to another address, in no order.
-    for step in 0..2_000u32 {
-        let count = (step % 256) as u16 + 1;
-        policy.add_input(step.wrapping_mul(0x9e37_79b1), count)?;
+    for step in 0..2_000 {
+        let (address, count) = count_of(step);
+        policy.add_input(address, count)?;
     }
-    for step in 0..2_000u32 {
-        let count = (step % 256) as u16 + 1;
-        assert_eq!(rt; policy.inputs_of(step.wrapping_mul(0x9e37_79b1)), count);
+    for step in 0..2_000 {
+        let (address, count) = count_of(step);
+        let stands = policy.inputs_of(address);
+        assert!(rt; stands == count, "{address:#x}={count}: {stands}");
     }
     Ok(())
 }
 
+/// What the policy says of hot plug and of processors.
+fn settings(policy: &Policy) -> (HotPlug, Processors) {
+    (policy.hotplug(), policy.processors())
+}
+
 #[test]
-fn settings_are_independent(rt: HostRuntime) -> Result<(), Fail> {
+fn settings_are_independent(rt: HostRuntime) -> Result<(), PolicyFault> {
     let mut policy = Policy::new(rt.alloc(), 0xe0000, 24)?;
-    assert_eq!(rt;
-        (policy.hotplug(), policy.processors()),
-        (HotPlug::Counted, Processors::Enabled)
-    );
+    let new = settings(&policy);
     policy.set_hotplug(HotPlug::Apart);
-    assert_eq!(rt;
-        (policy.hotplug(), policy.processors()),
-        (HotPlug::Apart, Processors::Enabled)
-    );
+    let apart = settings(&policy);
     policy.set_processors(Processors::Usable);
     policy.set_hotplug(HotPlug::Counted);
     assert_eq!(rt;
-        (policy.hotplug(), policy.processors()),
-        (HotPlug::Counted, Processors::Usable)
+        [new, apart, settings(&policy)],
+        [
+            (HotPlug::Counted, Processors::Enabled),
+            (HotPlug::Apart, Processors::Enabled),
+            (HotPlug::Counted, Processors::Usable),
+        ]
     );
     Ok(())
 }

@@ -3,7 +3,6 @@ ghost use Rattle.std.specs.Prelude.{◌≤◌, IfOk};
 use crate::{DeviceFailed, Tally};
 use std::io;
 use std::io::{ErrorKind, Read, Write};
-use std::test::Fail;
 
 /// Answers its calls one after another with these counts of bytes and errors, and then with 0 bytes.
 #[derive(Drop)]
@@ -59,6 +58,26 @@ const ANSWERS: [Result<usize, ErrorKind>; 8] = [
     Ok(0),
 ];
 
+/// How many bytes there is room for, what is returned, and the failures from then on.
+const READS: [(usize, Result<usize, DeviceFailed>, u64); 9] = [
+    (5, Ok(3), 0),
+    (5, Ok(5), 0),
+    (5, Err(DeviceFailed), 1),
+    (5, Err(DeviceFailed), 2),
+    (0, Err(DeviceFailed), 3),
+    (5, Ok(2), 3),
+    (5, Err(DeviceFailed), 4),
+    (5, Ok(0), 4),
+    (0, Ok(0), 4),
+];
+
+/// What is returned where there is room for so many bytes, of 5 at most, and the failures from then on.
+fn read(tally: &mut Tally<Scripted>, room: usize) -> (Result<usize, DeviceFailed>, u64) {
+    let mut buffer = [0; 5];
+    let read = tally.read(&mut buffer[..room.min(5)]);
+    (read, tally.failures())
+}
+
 // No failed call is tried again, and each call makes one of what is inside.
 #[test]
 fn reads_are_counted_where_they_fail(rt: HostRuntime) {
@@ -66,24 +85,29 @@ fn reads_are_counted_where_they_fail(rt: HostRuntime) {
         answers: &ANSWERS,
         calls: 0,
     });
-    // How many bytes there is room for, what is returned, and the failures from then on.
-    for (room, result, failures) in [
-        (5, Ok(3), 0),
-        (5, Ok(5), 0),
-        (5, Err(DeviceFailed), 1),
-        (5, Err(DeviceFailed), 2),
-        (0, Err(DeviceFailed), 3),
-        (5, Ok(2), 3),
-        (5, Err(DeviceFailed), 4),
-        (5, Ok(0), 4),
-        (0, Ok(0), 4),
-    ] {
-        let mut buffer = [0; 5];
-        let read = tally.read(&mut buffer[..room.min(5)]);
-        assert_eq!(rt; (read, tally.failures()), (result, failures));
+    for (room, result, failures) in &READS {
+        let told = read(&mut tally, *room);
+        assert!(rt;
+            told == (*result, *failures),
+            "{told:?}, not {failures} failures"
+        );
     }
-    assert_eq!(rt; tally.into_inner().calls, 9);
+    assert!(rt; tally.into_inner().calls == 9);
 }
+
+/// The bytes, what is returned, and the failures from then on.
+const WRITES: [(&[u8], Result<usize, DeviceFailed>, u64); 9] = [
+    (b"abcde", Ok(3), 0),
+    (b"abcde", Ok(5), 0),
+    (b"abcde", Err(DeviceFailed), 1),
+    (b"abcde", Err(DeviceFailed), 2),
+    (b"", Err(DeviceFailed), 3),
+    (b"abcde", Ok(2), 3),
+    (b"abcde", Err(DeviceFailed), 4),
+    // A write that takes none of some bytes has failed.
+    (b"abcde", Err(DeviceFailed), 5),
+    (b"", Ok(0), 5),
+];
 
 #[test]
 fn writes_are_counted_where_they_fail(rt: HostRuntime) {
@@ -91,23 +115,15 @@ fn writes_are_counted_where_they_fail(rt: HostRuntime) {
         answers: &ANSWERS,
         calls: 0,
     });
-    // The bytes, what is returned, and the failures from then on.
-    for (bytes, result, failures) in [
-        (b"abcde".as_slice(), Ok(3), 0),
-        (b"abcde", Ok(5), 0),
-        (b"abcde", Err(DeviceFailed), 1),
-        (b"abcde", Err(DeviceFailed), 2),
-        (b"", Err(DeviceFailed), 3),
-        (b"abcde", Ok(2), 3),
-        (b"abcde", Err(DeviceFailed), 4),
-        // A write that takes none of some bytes has failed.
-        (b"abcde", Err(DeviceFailed), 5),
-        (b"", Ok(0), 5),
-    ] {
+    for (bytes, result, failures) in &WRITES {
         let written = tally.write(bytes);
-        assert_eq!(rt; (written, tally.failures()), (result, failures));
+        let told = (written, tally.failures());
+        assert!(rt;
+            told == (*result, *failures),
+            "{told:?}, not {failures} failures"
+        );
     }
-    assert_eq!(rt; tally.into_inner().calls, 9);
+    assert!(rt; tally.into_inner().calls == 9);
 }
 
 #[test]
