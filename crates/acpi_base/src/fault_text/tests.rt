@@ -31,7 +31,7 @@ fn texts_of_faults(rt: HostRuntime) -> Result<(), AllocError> {
     for (number, at, other, point, wanted) in &FAULTS {
         let fault = fault(&rt, *number, *at, *other, *point);
         let text = witness_text(rt.alloc(), &fault)?;
-        assert!(rt; text.as_slice() == wanted.as_bytes(), "{text:?}");
+        assert!(rt; text.as_slice() == wanted.as_bytes(), "{wanted}");
     }
     Ok(())
 }
@@ -41,10 +41,7 @@ fn lines_of_verdicts(rt: HostRuntime) -> Result<(), AllocError> {
     let no = Verdict::No(fault(&rt, 39, 0x2c, 0x38, 0x18));
     let yes = verdict_text(rt.alloc(), &Verdict::Yes)?;
     let no = verdict_text(rt.alloc(), &no)?;
-    assert!(rt; yes.as_slice() == b"yes\n".as_slice(), "{yes:?}");
-    assert!(rt;
-        no.as_slice() == b"no 7 GsiClash 0x2c 0x38 0x18\n".as_slice(),
-        "{no:?}"
-    );
+    assert!(rt; yes.as_slice() == b"yes\n".as_slice());
+    assert!(rt; no.as_slice() == b"no 7 GsiClash 0x2c 0x38 0x18\n".as_slice());
     Ok(())
 }

@@ -84,19 +84,14 @@ const IMAGES: [Case; 5] = [
     ),
 ];
 
-/// Looks up each of the windows.
-fn check_windows(rt: &impl Abort, image: &Image, windows: &[Window]) {
-    for (address, count, bytes) in windows {
-        assert!(rt; image.window(*address, *count) == *bytes, "{address:#x}");
-    }
-}
-
 /// Builds an image, and looks into it.
 fn check_image(rt: &impl Abort, alloc: Global, case: &Case) {
     let (pieces, windows, (address, byte)) = case;
     let image = image_of(rt, alloc, pieces);
     assert!(rt; image.byte_at(*address) == *byte, "{address:#x}");
-    check_windows(rt, &image, windows);
+    for (address, count, bytes) in *windows {
+        assert!(rt; image.window(*address, *count) == *bytes, "{address:#x}");
+    }
 }
 
 #[test]

@@ -316,13 +316,20 @@ fn reads_a_row_with_one_byte_changed(rt: HostRuntime) -> Result<(), TextFault> {
     Ok(())
 }
 
+/// Whether the image of a text that comes in pieces of this size is that of `TABLES`.
+fn is_right_in_pieces(alloc: Global, text: &[u8], size: usize) -> Result<bool, TextFault>
+    requires { 0 < size }
+{
+    let image = read_in_pieces(alloc, text, size)?;
+    Ok(first_wrong(&image).is_none())
+}
+
 #[test]
 fn text_comes_in_pieces(rt: HostRuntime) -> Result<(), TextFault> {
     for text in &[TABLES, TABLES_WITH_CRS] {
         for size in &[1, 2, 3, 7, 48, 1000] {
-            let image = read_in_pieces(rt.alloc(), text, *size)?;
-            let wrong = first_wrong(&image);
-            assert!(rt; wrong.is_none(), "{wrong:?} in pieces of {size}");
+            let is_right = is_right_in_pieces(rt.alloc(), text, *size)?;
+            assert!(rt; is_right, "in pieces of {size}");
         }
     }
     Ok(())

@@ -31,6 +31,6 @@ fn written(alloc: Global, pieces: &[(u64, &[u8])]) -> Result<Vec<u8>, ImageFault
 #[test]
 fn runs_are_written_in_rising_order(rt: HostRuntime) -> Result<(), ImageFault> {
     let text = written(rt.alloc(), &PIECES)?;
-    assert!(rt; text.as_slice() == WRITTEN, "{text:?}");
+    assert!(rt; text.as_slice() == WRITTEN);
     Ok(())
 }
