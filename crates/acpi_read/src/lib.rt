@@ -25,7 +25,7 @@
 //! differ by it.
 //!
 //! ```rust
-//! let rsdp = Rsdp::read(&image, 0xf59e0)?;
+//! let rsdp = Rsdp::read(&image, 0xe0000)?;
 //! let root = Root::read(&image, &rsdp)?;
 //! if let Some(address) = first(&image, &root, *b"FACP") {
 //!     let fadt = Fadt::new(Table::read(&image, address)?)?;

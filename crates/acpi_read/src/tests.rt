@@ -1,11 +1,11 @@
-use crate::samples::{FACS, FADT, MADT, RSDP, RSDT, image_of};
+use crate::samples::{set, table};
 use crate::*;
 use acpi_base::{Code, Image};
 use std::test::*;
 
 /// The lines of the example at the head of the crate.
 fn example(image: Image) -> Result<(), Code> {
-    let rsdp = Rsdp::read(&image, 0xf59e0)?;
+    let rsdp = Rsdp::read(&image, 0xe0000)?;
     let root = Root::read(&image, &rsdp)?;
     if let Some(address) = first(&image, &root, *b"FACP") {
         let fadt = Fadt::new(Table::read(&image, address)?)?;
@@ -23,13 +23,24 @@ fn example(image: Image) -> Result<(), Code> {
 
 #[test]
 fn example_reads_a_machine(rt: HostRuntime) -> Result<(), Fail> {
-    let pieces: [(u64, &[u8]); 5] = [
-        (0xf59e0, &RSDP),
-        (0x7fe223c, &RSDT),
-        (0x7fe2034, &FADT),
-        (0x7fe2128, &MADT),
-        (0x7fe0000, &FACS),
-    ];
-    assert!(rt; example(image_of(rt.alloc(), &pieces)?).is_ok());
+    let mut body = [0; 80];
+    body[..4].copy_from_slice(&0x7000u32.to_le_bytes());
+    let fadt = table(rt.alloc(), *b"FACP", 1, &body)?;
+    // The Local APICs' address, Flags, an I/O APIC and a Local APIC NMI.
+    let madt = table(
+        rt.alloc(),
+        *b"APIC",
+        1,
+        &[
+            0, 0, 0xe0, 0xfe, 1, 0, 0, 0, 1, 12, 0, 0, 0, 0, 0xc0, 0xfe, 0, 0, 0, 0, 4, 6, 0xff, 0,
+            0, 1,
+        ],
+    )?;
+    let mut image = set(rt.alloc(), &[(0x2000, &fadt), (0x3000, &madt)])?;
+    let mut facs = [0; 64];
+    facs[..4].copy_from_slice(b"FACS");
+    facs[4] = 64;
+    image.add(0x7000, &facs)?;
+    assert!(rt; example(image).is_ok());
     Ok(())
 }

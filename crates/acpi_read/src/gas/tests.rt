@@ -1,18 +1,20 @@
 use super::*;
-use crate::samples::{FADT, expect_layout};
+use crate::samples::expect_layout;
 use std::test::*;
 
 #[test]
 fn gas_is_read_and_written(rt: HostRuntime) {
-    let reset = Gas {
-        space: 1,
-        bit_width: 8,
-        bit_offset: 0,
-        access_size: 0,
-        address: 0xcf9,
+    let gas = Gas {
+        space: 0xa1,
+        bit_width: 0xb1,
+        bit_offset: 0xc1,
+        access_size: 0xd1,
+        address: 0xe8e7_e6e5_e4e3_e2e1,
     };
-    let bytes = &FADT[116..128];
-    expect_layout(&rt, reset, bytes, bytes, &mut [0xff; 12]);
-    assert!(rt; Gas::read(&FADT[116..129]).is_none());
-    assert!(rt; Gas::read(&FADT[116..127]).is_none());
+    let bytes = [
+        0xa1, 0xb1, 0xc1, 0xd1, 0xe1, 0xe2, 0xe3, 0xe4, 0xe5, 0xe6, 0xe7, 0xe8, 0xf1,
+    ];
+    expect_layout(&rt, gas, &bytes[..12], &bytes[..12], &mut [0xff; 12]);
+    assert!(rt; Gas::read(&bytes).is_none());
+    assert!(rt; Gas::read(&bytes[..11]).is_none());
 }

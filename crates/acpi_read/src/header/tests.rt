@@ -1,11 +1,24 @@
 use super::*;
-use crate::samples::{WAET, expect_layout, waet_header};
+use crate::samples::{expect_layout, header_before};
 use std::test::*;
+
+/// The header of the WAET of QEMU 7.2.
+const WAET: Header = Header {
+    signature: *b"WAET",
+    length: 40,
+    revision: 1,
+    checksum: 0x39,
+    oemid: *b"BOCHS ",
+    oem_table_id: *b"BXPC    ",
+    oem_revision: 1,
+    creator_id: 0x4350_5842,
+    creator_revision: 1,
+};
 
 #[test]
 fn header_is_read_and_written(rt: HostRuntime) {
-    let bytes = &WAET[..36];
-    expect_layout(&rt, waet_header(), bytes, bytes, &mut [0xff; 36]);
-    assert!(rt; Header::read(&WAET).is_none());
-    assert!(rt; Header::read(&WAET[..35]).is_none());
+    let bytes = header_before(&[2, 0, 0, 0], *b"WAET", 1);
+    expect_layout(&rt, WAET, &bytes, &bytes, &mut [0xff; 36]);
+    assert!(rt; Header::read(&bytes[..35]).is_none());
+    assert!(rt; Header::read(&[0; 37]).is_none());
 }
