@@ -53,8 +53,7 @@ fn clash_of(
     triples: &[Triple],
 ) -> Result<(Clash, usize), AllocError> {
     let spans = spans_of(alloc, triples)?;
-    assert_eq!(rt; spans.len(), triples.len());
-    assert!(rt; names_differ(&spans));
+    assert!(rt; spans.len() == triples.len() && names_differ(&spans));
     first_clash(alloc, spans)
 }
 
@@ -62,8 +61,7 @@ fn clash_of(
 fn a_span_has_a_number(rt: HostRuntime) -> Result<(), Fail> {
     let span = Span::new(5, 6, 7).ok_or("5 lies in it")?;
     assert!(rt; span.start == 5 && span.end == 6 && span.name == 7);
-    assert!(rt; Span::new(5, 5, 7).is_none());
-    assert!(rt; Span::new(6, 5, 7).is_none());
+    assert!(rt; Span::new(5, 5, 7).is_none() && Span::new(6, 5, 7).is_none());
     Ok(())
 }
 
@@ -89,11 +87,8 @@ fn first_clashes(rt: HostRuntime) -> Result<(), Fail> {
         (&[(top - 1, top, 1), (0, top, 2)], at(2, 1, top - 1), 1),
     ];
     for (triples, clash, comparisons) in table {
-        assert_eq!(rt;
-            clash_of(&rt, rt.alloc(), triples)?,
-            (clash, comparisons),
-            "{triples:?}"
-        );
+        let found = clash_of(&rt, rt.alloc(), triples)?;
+        assert!(rt; found == (clash, comparisons), "{triples:?}");
     }
     Ok(())
 }
@@ -133,8 +128,10 @@ fn plain_clash(spans: &[Span]) -> Clash {
 fn judge(rt: &impl Abort, alloc: Global, triples: &[Triple]) -> Result<(), AllocError> {
     let expected = plain_clash(&spans_of(alloc, triples)?);
     let (clash, comparisons) = clash_of(rt, alloc, triples)?;
-    assert_eq!(rt; clash, expected, "{triples:?}");
-    assert!(rt; comparisons < triples.len(), "{triples:?}");
+    assert!(rt;
+        clash == expected && comparisons < triples.len(),
+        "{triples:?}"
+    );
     Ok(())
 }
 
@@ -157,27 +154,42 @@ const RANGES: [(u128, u128); 15] = [
     (4, 5),
 ];
 
+/// The orders of three names.
+const ORDERS: [(u32, u32, u32); 6] = [
+    (1, 2, 3),
+    (1, 3, 2),
+    (2, 1, 3),
+    (2, 3, 1),
+    (3, 1, 2),
+    (3, 2, 1),
+];
+
+/// Judges the two ranges with each as a third, under each order of three names.
+fn judge_thirds(
+    rt: &impl Abort,
+    alloc: Global,
+    first: (u128, u128),
+    second: (u128, u128),
+) -> Result<(), AllocError> {
+    let (a, b) = first;
+    let (c, d) = second;
+    for (e, f) in RANGES {
+        for (x, y, z) in ORDERS {
+            judge(rt, alloc, &[(a, b, x), (c, d, y), (e, f, z)])?;
+        }
+    }
+    Ok(())
+}
+
 #[test]
 fn agrees_with_the_plain_search(rt: HostRuntime) -> Result<(), Fail> {
     let alloc = rt.alloc();
-    let orders = [
-        (1, 2, 3),
-        (1, 3, 2),
-        (2, 1, 3),
-        (2, 3, 1),
-        (3, 1, 2),
-        (3, 2, 1),
-    ];
     for (a, b) in RANGES {
         judge(&rt, alloc, &[(a, b, 1)])?;
         for (c, d) in RANGES {
             judge(&rt, alloc, &[(a, b, 1), (c, d, 2)])?;
             judge(&rt, alloc, &[(a, b, 2), (c, d, 1)])?;
-            for (e, f) in RANGES {
-                for (x, y, z) in orders {
-                    judge(&rt, alloc, &[(a, b, x), (c, d, y), (e, f, z)])?;
-                }
-            }
+            judge_thirds(&rt, alloc, (a, b), (c, d))?;
         }
     }
     Ok(())
@@ -200,23 +212,32 @@ fn shuffled(alloc: Global) -> Result<Vec<Span>, AllocError> {
     Ok(spans)
 }
 
+/// How many shuffled spans there are, with one more of a higher name if it is given, and their first overlap.
+fn shuffled_clash(
+    rt: &impl Abort,
+    alloc: Global,
+    more: Option<Span>,
+) -> Result<(usize, Clash, usize), AllocError> {
+    let mut spans = shuffled(alloc)?;
+    if let Some(span) = more {
+        spans.push(span)?;
+    }
+    assert!(rt; names_rise(&spans));
+    let count = spans.len();
+    let (clash, comparisons) = first_clash(alloc, spans)?;
+    Ok((count, clash, comparisons))
+}
+
 #[test]
 fn many_shuffled_spans(rt: HostRuntime) -> Result<(), Fail> {
     let alloc = rt.alloc();
-    let spans = shuffled(alloc)?;
-    assert_eq!(rt; spans.len(), 200_000);
-    assert!(rt; names_rise(&spans));
-    assert_eq!(rt; first_clash(alloc, spans)?, (Clash::None, 199_999));
+    let touching = shuffled_clash(&rt, alloc, None)?;
+    assert!(rt; touching == (200_000, Clash::None, 199_999));
 
     // 150,000 * 77,777 leaves 150,000 when divided by 200,000, so the span of that name stands at
     // that place, from 2,400,000 on. The pairs up to it and the span within it are compared.
-    let mut spans = shuffled(alloc)?;
-    let within = Span::new(2_400_007, 2_400_009, PLACES).ok_or("two numbers lie in it")?;
-    spans.push(within)?;
-    assert!(rt; names_rise(&spans));
-    assert_eq!(rt;
-        first_clash(alloc, spans)?,
-        (at(150_000, 200_000, 2_400_007), 150_001)
-    );
+    let within = Span::new(2_400_007, 2_400_009, PLACES);
+    let overlapping = shuffled_clash(&rt, alloc, within)?;
+    assert!(rt; overlapping == (200_001, at(150_000, 200_000, 2_400_007), 150_001));
     Ok(())
 }

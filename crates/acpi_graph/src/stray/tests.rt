@@ -50,11 +50,8 @@ fn first_strays(rt: HostRuntime) -> Result<(), Fail> {
         ),
     ];
     for (parents, stray, steps) in table {
-        assert_eq!(rt;
-            stray_of(&rt, rt.alloc(), parents)?,
-            (stray, steps),
-            "{parents:?}"
-        );
+        let found = stray_of(&rt, rt.alloc(), parents)?;
+        assert!(rt; found == (stray, steps), "{parents:?}");
     }
     Ok(())
 }
@@ -103,19 +100,30 @@ fn numbered(alloc: Global, count: u8, number: usize) -> Result<Vec<Option<usize>
     Ok(parents)
 }
 
+/// Compares the first stray of the list of that number with what the plain walk finds.
+fn judge(rt: &impl Abort, alloc: Global, count: u8, number: usize) -> Result<(), AllocError> {
+    let parents = numbered(alloc, count, number)?;
+    let (stray, steps) = stray_of(rt, alloc, &parents)?;
+    let agrees = stray == plain_stray(&parents) && steps <= parents.len();
+    assert!(rt;
+        agrees && parents.len() == usize::from(count),
+        "{parents:?}"
+    );
+    Ok(())
+}
+
 #[test]
 fn agrees_with_the_plain_walk(rt: HostRuntime) -> Result<(), Fail> {
     for (count, lists) in [(0, 1), (1, 2), (2, 9), (3, 64), (4, 625), (5, 7776)] {
         for number in 0..lists {
-            let parents = numbered(rt.alloc(), count, number)?;
-            assert_eq!(rt; parents.len(), usize::from(count));
-            let (stray, steps) = stray_of(&rt, rt.alloc(), &parents)?;
-            assert_eq!(rt; stray, plain_stray(&parents), "{parents:?}");
-            assert!(rt; steps <= parents.len(), "{parents:?}");
+            judge(&rt, rt.alloc(), count, number)?;
         }
     }
     Ok(())
 }
+
+/// How many nodes the chains have.
+const COUNT: usize = 200_000;
 
 /// Each node below `count` has the next as its parent, and the last has this one.
 fn chain(
@@ -131,37 +139,44 @@ fn chain(
     Ok(parents)
 }
 
+/// The first stray of that chain.
+fn chain_stray(
+    rt: &impl Abort,
+    alloc: Global,
+    last: Option<usize>,
+) -> Result<(Stray, usize), AllocError> {
+    let parents = chain(alloc, COUNT, last)?;
+    stray_of(rt, alloc, &parents)
+}
+
 #[test]
 fn many_nodes(rt: HostRuntime) -> Result<(), Fail> {
-    let count = 200_000;
-    for (last, stray) in [
+    let cases = [
         (None, Stray::None),
         (Some(0), round(0, 0, 200_000)),
         (Some(150_000), round(0, 150_000, 50_000)),
-    ] {
-        let parents = chain(rt.alloc(), count, last)?;
-        assert_eq!(rt;
-            stray_of(&rt, rt.alloc(), &parents)?,
-            (stray, count),
-            "to {last:?}"
-        );
+    ];
+    for (last, stray) in cases {
+        let found = chain_stray(&rt, rt.alloc(), last)?;
+        assert!(rt; found == (stray, COUNT), "to {last:?}");
     }
     Ok(())
 }
 
-#[test]
-fn many_rings(rt: HostRuntime) -> Result<(), Fail> {
-    // A chain of 50,000 nodes that ends, and then rings of three.
-    let mut parents = chain(rt.alloc(), 50_000, None)?;
+/// A chain of 50,000 nodes that ends, and then rings of three.
+fn rings(alloc: Global) -> Result<Vec<Option<usize>>, AllocError> {
+    let mut parents = chain(alloc, 50_000, None)?;
     for ring in 0..50_000 {
         let first = 50_000 + 3 * ring;
-        for parent in [first + 1, first + 2, first] {
-            parents.push(Some(parent))?;
-        }
+        parents.extend_from_slice(&[Some(first + 1), Some(first + 2), Some(first)])?;
     }
-    assert_eq!(rt;
-        stray_of(&rt, rt.alloc(), &parents)?,
-        (round(50_000, 0, 3), 50_003)
-    );
+    Ok(parents)
+}
+
+#[test]
+fn many_rings(rt: HostRuntime) -> Result<(), Fail> {
+    let parents = rings(rt.alloc())?;
+    let found = stray_of(&rt, rt.alloc(), &parents)?;
+    assert!(rt; found == (round(50_000, 0, 3), 50_003));
     Ok(())
 }
