@@ -1,5 +1,9 @@
+ghost use Rattle.std.specs.Prelude.{◌+◌, ◌^◌, ◌<◌, length};
+
 use super::*;
+use crate::test_sets::header_before;
 use acpi_read::{Cache24, IoApic, MemoryRange, NodeHead};
+use std::process::Abort;
 use std::test::Fail;
 
 /// A head whose names are all `A`, of revision 1.
@@ -32,13 +36,20 @@ fn a_slit_of_one_cell(rt: HostRuntime) -> Result<(), Fail> {
     Ok(())
 }
 
-/// The bytes behind the header, of a table that sums to 0.
-fn body_behind(alloc: Global, table: &TableValue<'_>) -> Result<Vec<u8>, Fail> {
-    let bytes = encode_table(alloc, table)?;
-    if sum(&bytes) != 0 || bytes.len() < 36 {
-        return Err(Fail::from("no table"));
-    }
-    Ok(Vec::from_slice(alloc, &bytes[36..])?)
+/// The value is written as the table of this signature with this body.
+fn expect_table(
+    rt: &impl Abort,
+    alloc: Global,
+    value: TableValue<'_>,
+    signature: [u8; 4],
+    body: &[u8],
+) -> Result<(), WriteFault>
+    requires { 36 + length body.now < 2 ^ 32 }
+{
+    let bytes = encode_table(alloc, &value)?;
+    let header = header_before(body, signature);
+    assert_eq!(rt; bytes.strip_prefix(&header), Some(body));
+    Ok(())
 }
 
 // Reserved bytes are 0; an entry of a type with no meaning is kept.
@@ -49,24 +60,18 @@ fn a_madt_of_two_entries(rt: HostRuntime) -> Result<(), Fail> {
         address: 0xfec0_0000,
         gsi_base: 24,
     };
-    let mut entries = Vec::new(rt.alloc());
-    entries.push(MadtEntry::IoApic(io_apic))?;
-    entries.push(MadtEntry::Opaque(&[0x0b, 4, 0xee, 0xff]))?;
+    let kept = MadtEntry::Opaque(&[0x0b, 4, 0xee, 0xff]);
     let madt = TableValue::Madt {
         head: head(),
         address: 0xfee0_0000,
         flags: 1,
-        entries,
+        entries: vec![in rt.alloc(); MadtEntry::IoApic(io_apic), kept]?,
     };
-    let expected = [
+    let body = [
         0, 0, 0xe0, 0xfe, 1, 0, 0, 0, 1, 12, 2, 0, 0, 0, 0xc0, 0xfe, 24, 0, 0, 0, 0x0b, 4, 0xee,
         0xff,
     ];
-    assert_eq!(rt;
-        body_behind(rt.alloc(), &madt)?.as_slice(),
-        expected.as_slice()
-    );
-    Ok(())
+    Ok(expect_table(&rt, rt.alloc(), madt, *b"APIC", &body)?)
 }
 
 // The SRAT's 4 reserved bytes at 36 are 1 (ACPI 6.5, 5.2.16).
@@ -78,21 +83,15 @@ fn an_srat_of_a_range(rt: HostRuntime) -> Result<(), Fail> {
         size: 0x2000,
         flags: 1,
     };
-    let mut entries = Vec::new(rt.alloc());
-    entries.push(SratEntry::MemoryRange(range))?;
     let srat = TableValue::Srat {
         head: head(),
-        entries,
+        entries: vec![in rt.alloc(); SratEntry::MemoryRange(range)]?,
     };
-    let expected = [
+    let body = [
         1, 0, 0, 0, 0, 0, 0, 0, 0, 0, 0, 0, 1, 40, 3, 0, 0, 0, 0, 0, 0, 0, 0x10, 0, 0, 0, 0, 0, 0,
         0x20, 0, 0, 0, 0, 0, 0, 0, 0, 0, 0, 1, 0, 0, 0, 0, 0, 0, 0, 0, 0, 0, 0,
     ];
-    assert_eq!(rt;
-        body_behind(rt.alloc(), &srat)?.as_slice(),
-        expected.as_slice()
-    );
-    Ok(())
+    Ok(expect_table(&rt, rt.alloc(), srat, *b"SRAT", &body)?)
 }
 
 #[test]
@@ -112,60 +111,56 @@ fn a_pptt_of_a_node_and_a_cache(rt: HostRuntime) -> Result<(), Fail> {
         attributes: 2,
         line_size: 64,
     };
-    let mut entries = Vec::new(rt.alloc());
-    entries.push(PpttEntry::Node(node, &[60, 0, 0, 0]))?;
-    entries.push(PpttEntry::Cache24(cache))?;
+    let node = PpttEntry::Node(node, &[60, 0, 0, 0]);
     let pptt = TableValue::Pptt {
         head: head(),
-        entries,
+        entries: vec![in rt.alloc(); node, PpttEntry::Cache24(cache)]?,
     };
-    let expected = [
+    let body = [
         0, 24, 0, 0, 10, 0, 0, 0, 0, 0, 0, 0, 5, 0, 0, 0, 1, 0, 0, 0, 60, 0, 0, 0, 1, 24, 0, 0,
         0x7f, 0, 0, 0, 0, 0, 0, 0, 0, 0x80, 0, 0, 64, 0, 0, 0, 8, 2, 64, 0,
     ];
-    assert_eq!(rt;
-        body_behind(rt.alloc(), &pptt)?.as_slice(),
-        expected.as_slice()
-    );
-    Ok(())
+    Ok(expect_table(&rt, rt.alloc(), pptt, *b"PPTT", &body)?)
+}
+
+/// Why the value is not written, if it is not.
+fn fault_of(alloc: Global, value: TableValue<'_>) -> Option<WriteFault> {
+    encode_table(alloc, &value).err()
+}
+
+/// The fault of a MADT with an entry that is kept as these bytes.
+fn fault_of_kept(alloc: Global, bytes: &[u8]) -> Result<Option<WriteFault>, AllocError> {
+    let madt = TableValue::Madt {
+        head: head(),
+        address: 0,
+        flags: 0,
+        entries: vec![in alloc; MadtEntry::Opaque(bytes)]?,
+    };
+    Ok(fault_of(alloc, madt))
 }
 
 #[test]
 fn values_of_another_shape(rt: HostRuntime) -> Result<(), Fail> {
+    let alloc = rt.alloc();
+    let kept = [
+        fault_of_kept(alloc, &[0, 8, 0, 0, 0, 0, 0, 0])?,
+        fault_of_kept(alloc, &[0x0b, 3])?,
+    ];
+    let fadt = TableValue::Fadt {
+        head: head(),
+        body: Vec::from_slice(alloc, &[0; 79])?,
+    };
     let slit = TableValue::Slit {
         head: head(),
         count: 2,
         cells: &[10, 20, 20],
     };
-    assert_eq!(rt;
-        encode_table(rt.alloc(), &slit).err(),
-        Some(WriteFault::Shape)
-    );
-    let kept: [&[u8]; 2] = [&[0, 8, 0, 0, 0, 0, 0, 0], &[0x0b, 3]];
-    for bytes in kept {
-        let mut entries = Vec::new(rt.alloc());
-        entries.push(MadtEntry::Opaque(bytes))?;
-        let madt = TableValue::Madt {
-            head: head(),
-            address: 0,
-            flags: 0,
-            entries,
-        };
-        assert_eq!(rt;
-            encode_table(rt.alloc(), &madt).err(),
-            Some(WriteFault::Shape)
-        );
-    }
-    let body = Vec::from_slice(rt.alloc(), &[0; 79])?;
-    let fadt = TableValue::Fadt { head: head(), body };
-    assert_eq!(rt;
-        encode_table(rt.alloc(), &fadt).err(),
-        Some(WriteFault::Shape)
-    );
-    let other = TableValue::Other { bytes: b"HPET" };
-    assert_eq!(rt;
-        encode_table(rt.alloc(), &other).err(),
-        Some(WriteFault::Shape)
-    );
+    let others = [
+        fault_of(alloc, fadt),
+        fault_of(alloc, slit),
+        fault_of(alloc, TableValue::Other { bytes: b"HPET" }),
+    ];
+    let shape = Some(WriteFault::Shape);
+    assert_eq!(rt; (kept, others), ([shape; 2], [shape; 3]));
     Ok(())
 }

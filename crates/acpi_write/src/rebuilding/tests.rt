@@ -1,5 +1,6 @@
 use super::*;
-use crate::test_sets::{extended_rsdp, facs, fadt_body, policy, reduced_body, set, table};
+use crate::test_sets::{extended_rsdp, facs, fadt_body, header_before, policy, reduced_body, set};
+use acpi_base::ImageFault;
 use std::test::Fail;
 
 /// Whether the image holds these bytes at these addresses.
@@ -12,71 +13,104 @@ fn holds(image: &Image, parts: &[(u64, &[u8])]) -> bool {
     true
 }
 
+/// Whether the image holds no byte at these addresses.
+fn is_clear_at(image: &Image, addresses: &[u64]) -> bool {
+    for address in addresses {
+        if image.byte_at(*address).is_some() {
+            return false;
+        }
+    }
+    true
+}
+
+/// The image that the set is rebuilt to.
+fn rebuilt(alloc: Global, image: Image, base: u64) -> Result<Image, Fail> {
+    let policy = policy(alloc)?;
+    Ok(rebuild(alloc, &image, &policy, base)?)
+}
+
+/// Why the set is not rebuilt, if it is not.
+fn refused(alloc: Global, image: Image, base: u64) -> Result<Option<RebuildFault>, Fail> {
+    let policy = policy(alloc)?;
+    Ok(rebuild(alloc, &image, &policy, base).err())
+}
+
 #[test]
 fn a_set_at_a_high_address(rt: HostRuntime) -> Result<(), Fail> {
     let alloc = rt.alloc();
-    let image = set(alloc, &reduced_body())?;
-    let new = rebuild(alloc, &image, &policy(alloc)?, 0x0123_4567_89ab_cdc0)?;
-    let xsdt = table(alloc, *b"XSDT", &0x0123_4567_89ab_ce40u64.to_le_bytes())?;
-    let fadt = table(alloc, *b"FACP", &reduced_body())?;
-    let parts: [(u64, &[u8]); 3] = [
+    let new = rebuilt(alloc, set(alloc, &reduced_body())?, 0x0123_4567_89ab_cdc0)?;
+    let slots = 0x0123_4567_89ab_ce40u64.to_le_bytes();
+    let body = reduced_body();
+    let parts: [(u64, &[u8]); 5] = [
         (0x0123_4567_89ab_cdc0, &extended_rsdp(0x0123_4567_89ab_ce00)),
-        (0x0123_4567_89ab_ce00, &xsdt),
-        (0x0123_4567_89ab_ce40, &fadt),
+        (0x0123_4567_89ab_ce00, &header_before(&slots, *b"XSDT")),
+        (0x0123_4567_89ab_ce24, &slots),
+        (0x0123_4567_89ab_ce40, &header_before(&body, *b"FACP")),
+        (0x0123_4567_89ab_ce64, &body),
     ];
     assert!(rt; holds(&new, &parts));
-    for address in [
+    let around = [
         0xe0000,
         0x1000,
         0x2000,
         0x0123_4567_89ab_cde4,
         0x0123_4567_89ab_ce2c,
         0x0123_4567_89ab_ceb4,
-    ] {
-        assert_eq!(rt; new.byte_at(address), None);
-    }
+    ];
+    assert!(rt; is_clear_at(&new, &around));
     Ok(())
 }
 
 /// The lengths of register blocks that a FADT has to name where the hardware is not reduced.
 const LENGTHS: [u8; 4] = [4, 2, 0, 4];
 
+/// A set with a FACS at 7000h.
+fn set_with_facs(alloc: Global) -> Result<Image, ImageFault> {
+    let mut image = set(alloc, &fadt_body(0x7000, LENGTHS, 0))?;
+    image.add(0x7000, &facs())?;
+    Ok(image)
+}
+
 // A FADT of 116 bytes has 4 for the FACS's address.
 #[test]
 fn a_facs_below_4_gib(rt: HostRuntime) -> Result<(), Fail> {
     let alloc = rt.alloc();
-    let mut image = set(alloc, &fadt_body(0x7000, LENGTHS, 0))?;
-    image.add(0x7000, &facs())?;
-    let policy = policy(alloc)?;
-    let new = rebuild(alloc, &image, &policy, 0xffff_ff40)?;
-    let fadt = table(alloc, *b"FACP", &fadt_body(0xffff_ffc0, LENGTHS, 0))?;
-    let parts: [(u64, &[u8]); 2] = [(0xffff_ffc0, &facs()), (0x1_0000_0000, &fadt)];
+    let fault = refused(alloc, set_with_facs(alloc)?, 0xffff_ff80)?;
+    assert_eq!(rt; fault, Some(RebuildFault::NeedsLow));
+
+    let new = rebuilt(alloc, set_with_facs(alloc)?, 0xffff_ff40)?;
+    let body = fadt_body(0xffff_ffc0, LENGTHS, 0);
+    let parts: [(u64, &[u8]); 3] = [
+        (0xffff_ffc0, &facs()),
+        (0x1_0000_0000, &header_before(&body, *b"FACP")),
+        (0x1_0000_0024, &body),
+    ];
     assert!(rt; holds(&new, &parts));
-    assert_eq!(rt;
-        rebuild(alloc, &image, &policy, 0xffff_ff80).err(),
-        Some(RebuildFault::NeedsLow)
-    );
     Ok(())
 }
 
 // The parts have 36, 44 and 116 bytes.
 #[test]
 fn refusals_by_the_address(rt: HostRuntime) -> Result<(), Fail> {
-    let image = set(rt.alloc(), &reduced_body())?;
-    let policy = policy(rt.alloc())?;
-    let nothing = Image::new(rt.alloc());
-    let refused = |image: &Image, base| rebuild(rt.alloc(), image, &policy, base).err();
-    assert_eq!(rt; refused(&nothing, 0x20), Some(RebuildFault::Unaligned));
-    assert!(rt; matches!(refused(&nothing, 0), Some(RebuildFault::NotClean(_))));
-    assert_eq!(rt; refused(&image, 0xffff_ffff_ffff_ff00), None);
-    assert_eq!(rt;
-        refused(&image, 0xffff_ffff_ffff_ff40),
-        Some(RebuildFault::PastEnd)
-    );
-    assert_eq!(rt;
-        refused(&image, 0xffff_ffff_ffff_ffc0),
-        Some(RebuildFault::PastEnd)
-    );
+    let cases = [
+        (0xffff_ffff_ffff_ff00, None),
+        (0xffff_ffff_ffff_ff40, Some(RebuildFault::PastEnd)),
+        (0xffff_ffff_ffff_ffc0, Some(RebuildFault::PastEnd)),
+    ];
+    for (base, fault) in cases {
+        let image = set(rt.alloc(), &reduced_body())?;
+        assert_eq!(rt; refused(rt.alloc(), image, base)?, fault, "{base:x}");
+    }
+    Ok(())
+}
+
+#[test]
+fn refusals_of_nothing(rt: HostRuntime) -> Result<(), Fail> {
+    let alloc = rt.alloc();
+    let unaligned = refused(alloc, Image::new(alloc), 0x20)?;
+    assert!(rt; matches!(unaligned, Some(RebuildFault::Unaligned)));
+    let aligned = refused(alloc, Image::new(alloc), 0)?;
+    assert!(rt; matches!(aligned, Some(RebuildFault::NotClean(_))));
     Ok(())
 }
 
