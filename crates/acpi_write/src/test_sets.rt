@@ -42,8 +42,8 @@ pub(crate) fn extended_rsdp(xsdt: u64) -> [u8; 36] {
     bytes
 }
 
-/// The body of a FADT of 116 bytes: the FACS's address at 36, the lengths of PM1_EVT, PM1_CNT, PM2_CNT and PM_TMR at 88,
-/// and Flags at 112.
+/// The body of a FADT of 116 bytes: the FACS's address at 36, the lengths of PM1_EVT, PM1_CNT, PM2_CNT and PM_TMR at
+/// 88, and Flags at 112.
 pub(crate) fn fadt_body(facs: u32, lengths: [u8; 4], flags: u32) -> [u8; 80] {
     let mut body = [0; 80];
     put_u32(&mut body, 0, facs);

@@ -139,28 +139,30 @@ fn fault_of_kept(alloc: Global, bytes: &[u8]) -> Result<Option<WriteFault>, Allo
     Ok(fault_of(alloc, madt))
 }
 
+/// The fault of a FADT with this body.
+fn fault_of_body(alloc: Global, body: &[u8]) -> Result<Option<WriteFault>, AllocError> {
+    let fadt = TableValue::Fadt {
+        head: head(),
+        body: Vec::from_slice(alloc, body)?,
+    };
+    Ok(fault_of(alloc, fadt))
+}
+
 #[test]
 fn values_of_another_shape(rt: HostRuntime) -> Result<(), Fail> {
     let alloc = rt.alloc();
-    let kept = [
-        fault_of_kept(alloc, &[0, 8, 0, 0, 0, 0, 0, 0])?,
-        fault_of_kept(alloc, &[0x0b, 3])?,
-    ];
-    let fadt = TableValue::Fadt {
-        head: head(),
-        body: Vec::from_slice(alloc, &[0; 79])?,
-    };
     let slit = TableValue::Slit {
         head: head(),
         count: 2,
         cells: &[10, 20, 20],
     };
-    let others = [
-        fault_of(alloc, fadt),
+    let faults = [
         fault_of(alloc, slit),
         fault_of(alloc, TableValue::Other { bytes: b"HPET" }),
+        fault_of_kept(alloc, &[0, 8, 0, 0, 0, 0, 0, 0])?,
+        fault_of_kept(alloc, &[0x0b, 3])?,
+        fault_of_body(alloc, &[0; 79])?,
     ];
-    let shape = Some(WriteFault::Shape);
-    assert_eq!(rt; (kept, others), ([shape; 2], [shape; 3]));
+    assert_eq!(rt; faults, [Some(WriteFault::Shape); 5]);
     Ok(())
 }

@@ -1,16 +1,21 @@
+ghost use Rattle.std.specs.Prelude.{◌+◌, ◌^◌, ◌<◌, length};
+
 use super::*;
 use crate::test_sets::{extended_rsdp, facs, fadt_body, header_before, policy, reduced_body, set};
 use acpi_base::ImageFault;
 use std::test::Fail;
 
-/// Whether the image holds these bytes at these addresses.
-fn holds(image: &Image, parts: &[(u64, &[u8])]) -> bool {
-    for (address, bytes) in parts {
-        if image.window(*address, bytes.len() as u64) != Some(*bytes) {
-            return false;
-        }
-    }
-    true
+/// Whether the image holds these bytes at the address.
+fn holds(image: &Image, address: u64, bytes: &[u8]) -> bool {
+    image.window(address, bytes.len() as u64) == Some(bytes)
+}
+
+/// Whether the image holds the table of this signature with this body at the address.
+fn holds_table(image: &Image, address: u64, signature: [u8; 4], body: &[u8]) -> bool
+    requires { 36 + length body.now < 2 ^ 32 }
+{
+    let header = header_before(body, signature);
+    holds(image, address, &header) && holds(image, address.wrapping_add(36), body)
 }
 
 /// Whether the image holds no byte at these addresses.
@@ -39,16 +44,11 @@ fn refused(alloc: Global, image: Image, base: u64) -> Result<Option<RebuildFault
 fn a_set_at_a_high_address(rt: HostRuntime) -> Result<(), Fail> {
     let alloc = rt.alloc();
     let new = rebuilt(alloc, set(alloc, &reduced_body())?, 0x0123_4567_89ab_cdc0)?;
+    let rsdp = extended_rsdp(0x0123_4567_89ab_ce00);
     let slots = 0x0123_4567_89ab_ce40u64.to_le_bytes();
-    let body = reduced_body();
-    let parts: [(u64, &[u8]); 5] = [
-        (0x0123_4567_89ab_cdc0, &extended_rsdp(0x0123_4567_89ab_ce00)),
-        (0x0123_4567_89ab_ce00, &header_before(&slots, *b"XSDT")),
-        (0x0123_4567_89ab_ce24, &slots),
-        (0x0123_4567_89ab_ce40, &header_before(&body, *b"FACP")),
-        (0x0123_4567_89ab_ce64, &body),
-    ];
-    assert!(rt; holds(&new, &parts));
+    let holds_parts = holds(&new, 0x0123_4567_89ab_cdc0, &rsdp)
+        && holds_table(&new, 0x0123_4567_89ab_ce00, *b"XSDT", &slots)
+        && holds_table(&new, 0x0123_4567_89ab_ce40, *b"FACP", &reduced_body());
     let around = [
         0xe0000,
         0x1000,
@@ -57,7 +57,7 @@ fn a_set_at_a_high_address(rt: HostRuntime) -> Result<(), Fail> {
         0x0123_4567_89ab_ce2c,
         0x0123_4567_89ab_ceb4,
     ];
-    assert!(rt; is_clear_at(&new, &around));
+    assert!(rt; holds_parts && is_clear_at(&new, &around));
     Ok(())
 }
 
@@ -80,37 +80,29 @@ fn a_facs_below_4_gib(rt: HostRuntime) -> Result<(), Fail> {
 
     let new = rebuilt(alloc, set_with_facs(alloc)?, 0xffff_ff40)?;
     let body = fadt_body(0xffff_ffc0, LENGTHS, 0);
-    let parts: [(u64, &[u8]); 3] = [
-        (0xffff_ffc0, &facs()),
-        (0x1_0000_0000, &header_before(&body, *b"FACP")),
-        (0x1_0000_0024, &body),
-    ];
-    assert!(rt; holds(&new, &parts));
+    let holds_facs = holds(&new, 0xffff_ffc0, &facs());
+    assert!(rt; holds_facs && holds_table(&new, 0x1_0000_0000, *b"FACP", &body));
     Ok(())
 }
 
 // The parts have 36, 44 and 116 bytes.
 #[test]
 fn refusals_by_the_address(rt: HostRuntime) -> Result<(), Fail> {
+    let alloc = rt.alloc();
+    let unaligned = refused(alloc, Image::new(alloc), 0x20)?;
+    assert!(rt; matches!(unaligned, Some(RebuildFault::Unaligned)));
+    let unclean = refused(alloc, Image::new(alloc), 0)?;
+    assert!(rt; matches!(unclean, Some(RebuildFault::NotClean(_))));
+
     let cases = [
         (0xffff_ffff_ffff_ff00, None),
         (0xffff_ffff_ffff_ff40, Some(RebuildFault::PastEnd)),
         (0xffff_ffff_ffff_ffc0, Some(RebuildFault::PastEnd)),
     ];
     for (base, fault) in cases {
-        let image = set(rt.alloc(), &reduced_body())?;
-        assert_eq!(rt; refused(rt.alloc(), image, base)?, fault, "{base:x}");
+        let image = set(alloc, &reduced_body())?;
+        assert_eq!(rt; refused(alloc, image, base)?, fault, "{base:x}");
     }
-    Ok(())
-}
-
-#[test]
-fn refusals_of_nothing(rt: HostRuntime) -> Result<(), Fail> {
-    let alloc = rt.alloc();
-    let unaligned = refused(alloc, Image::new(alloc), 0x20)?;
-    assert!(rt; matches!(unaligned, Some(RebuildFault::Unaligned)));
-    let aligned = refused(alloc, Image::new(alloc), 0)?;
-    assert!(rt; matches!(aligned, Some(RebuildFault::NotClean(_))));
     Ok(())
 }
 
@@ -124,7 +116,7 @@ fn names_of_refusals(rt: HostRuntime) -> Result<(), Fail> {
         (RebuildFault::Memory, "out of memory"),
     ];
     for (fault, name) in names {
-        let text = format!(in rt.alloc(); "{fault}")?;
+        let text = fault.to_string(rt.alloc())?;
         assert_eq!(rt; text.as_str(), name);
     }
     Ok(())
