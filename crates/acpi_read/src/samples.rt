@@ -3,6 +3,7 @@
 ghost use Rattle.std.specs.Prelude.{◌≡◌, length, IsTrue};
 ghost use Rattle.acpi_base.specs.Entries.{IsEntry};
 
+use crate::header::Header;
 use crate::layout::{Layout, read_back};
 use acpi_base::{Image, sum};
 use std::alloc::Global;
@@ -15,28 +16,30 @@ fn checksum(sum: u8) -> u8 {
     0u8.wrapping_sub(sum)
 }
 
-/// A header of the machine `q35` of QEMU 7.2, whose signature, length, revision and checksum are 0.
-const HEADER: [u8; 36] = *b"\0\0\0\0\0\0\0\0\0\0BOCHS BXPC    \x01\0\0\0BXPC\x01\0\0\0";
-
-/// The header of a table of this signature and revision, with this body behind it.
-pub(crate) fn header_before(body: &[u8], signature: [u8; 4], revision: u8) -> [u8; 36] {
-    let mut header = HEADER;
-    let length = 36u32.wrapping_add(body.len() as u32);
-    header[..4].copy_from_slice(&signature);
-    header[4..8].copy_from_slice(&length.to_le_bytes());
-    header[8] = revision;
-    header[9] = checksum(sum(&header).wrapping_add(sum(body)));
-    header
-}
-
-/// A table of this signature and revision, with this body behind its header.
+/// A table of this signature and revision with this body behind its header, whose names are those of the machine `q35`
+/// of QEMU 7.2.
 pub(crate) fn table(
     alloc: Global,
     signature: [u8; 4],
     revision: u8,
     body: &[u8],
 ) -> Result<Vec<u8>, Fail> {
-    let mut bytes = Vec::from_slice(alloc, &header_before(body, signature, revision))?;
+    let mut header = Header {
+        signature,
+        length: u32::try_from(body.len().wrapping_add(36)).or(Err("the body is too long"))?,
+        revision,
+        checksum: 0,
+        oemid: *b"BOCHS ",
+        oem_table_id: *b"BXPC    ",
+        oem_revision: 1,
+        creator_id: u32::from_le_bytes(*b"BXPC"),
+        creator_revision: 1,
+    };
+    let mut front = [0; 36];
+    header.write(&mut front);
+    header.checksum = checksum(sum(&front).wrapping_add(sum(body)));
+    header.write(&mut front);
+    let mut bytes = Vec::from_slice(alloc, &front)?;
     bytes.extend_from_slice(body)?;
     Ok(bytes)
 }

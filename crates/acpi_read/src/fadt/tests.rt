@@ -1,74 +1,79 @@
 use super::*;
 use crate::samples::table;
 use acpi_base::Image;
+use std::alloc::Global;
+use std::process::Abort;
 use std::test::*;
 
-/// The fields of a FADT by their numbers (ACPI 6.5, table 5.9): the bytes of each, and its value. RESET_REG_SUP is set, and
-/// behind Flags stands RESET_REG: an I/O port, 8 bits wide from bit 0 on, read by bytes.
-const FIELDS: [(&[u8], u64); 41] = [
-    (&[0x00, 0x00, 0xfe, 0x07], 0x07fe_0000), // 0 FIRMWARE_CTRL
-    (&[0x40, 0x00, 0xfe, 0x07], 0x07fe_0040), // 1 DSDT
-    (&[0xa1], 0xa1), // 2 reserved
-    (&[0xa2], 0xa2), // 3 Preferred_PM_Profile
-    (&[0x09, 0x00], 9), // 4 SCI_INT
-    (&[0xb2, 0x00, 0x00, 0x00], 0xb2), // 5 SMI_CMD
-    (&[0x02], 2), // 6 ACPI_ENABLE
-    (&[0x03], 3), // 7 ACPI_DISABLE
-    (&[0xb3], 0xb3), // 8 S4BIOS_REQ
-    (&[0xb4], 0xb4), // 9 PSTATE_CNT
-    (&[0x00, 0x06, 0x00, 0x00], 0x600), // 10 PM1a_EVT_BLK
-    (&[0x00, 0x16, 0x00, 0x00], 0x1600), // 11 PM1b_EVT_BLK
-    (&[0x04, 0x06, 0x00, 0x00], 0x604), // 12 PM1a_CNT_BLK
-    (&[0x04, 0x16, 0x00, 0x00], 0x1604), // 13 PM1b_CNT_BLK
-    (&[0x50, 0x06, 0x00, 0x00], 0x650), // 14 PM2_CNT_BLK
-    (&[0x08, 0x06, 0x00, 0x00], 0x608), // 15 PM_TMR_BLK
-    (&[0x20, 0x06, 0x00, 0x00], 0x620), // 16 GPE0_BLK
-    (&[0x30, 0x06, 0x00, 0x00], 0x630), // 17 GPE1_BLK
-    (&[0x05], 5), // 18 PM1_EVT_LEN
-    (&[0x02], 2), // 19 PM1_CNT_LEN
-    (&[0x01], 1), // 20 PM2_CNT_LEN
-    (&[0x04], 4), // 21 PM_TMR_LEN
-    (&[0x10], 0x10), // 22 GPE0_BLK_LEN
-    (&[0x08], 8), // 23 GPE1_BLK_LEN
-    (&[0x40], 0x40), // 24 GPE1_BASE
-    (&[0x07], 7), // 25 CST_CNT
-    (&[0xff, 0x0f], 0xfff), // 26 P_LVL2_LAT
-    (&[0xfe, 0x0f], 0xffe), // 27 P_LVL3_LAT
-    (&[0x00, 0x04], 0x400), // 28 FLUSH_SIZE
-    (&[0x10, 0x00], 0x10), // 29 FLUSH_STRIDE
-    (&[0x03], 3), // 30 DUTY_OFFSET
-    (&[0x06], 6), // 31 DUTY_WIDTH
-    (&[0x0d], 0xd), // 32 DAY_ALRM
-    (&[0x0e], 0xe), // 33 MON_ALRM
-    (&[0x32], 0x32), // 34 CENTURY
-    (&[0x02, 0x01], 0x102), // 35 IAPC_BOOT_ARCH
-    (&[0xc1], 0xc1), // 36 reserved
-    (
-        &[
-            0xa5, 0x84, 0x00, 0x01, 1, 8, 0, 1, 0xf9, 0x0c, 0, 0, 0, 0, 0, 0,
-        ],
-        0x0100_84a5,
-    ), // 37 Flags
-    (&[0x0f], 0xf), // 38 RESET_VALUE
-    (&[0x03, 0x02], 0x203), // 39 ARM_BOOT_ARCH
-    (&[0x05], 5), // 40 minor version
+/// The fields of a FADT of 116 bytes: the number of each, its length in bytes and its value (ACPI 6.5, table 5.9).
+const FIELDS: [(u8, u8, u64); 38] = [
+    (0, 4, 0x07fe_0000), // FIRMWARE_CTRL
+    (1, 4, 0x07fe_0040), // DSDT
+    (2, 1, 0xa1), // reserved
+    (3, 1, 0xa2), // Preferred_PM_Profile
+    (4, 2, 0x1409), // SCI_INT
+    (5, 4, 0xb2), // SMI_CMD
+    (6, 1, 2), // ACPI_ENABLE
+    (7, 1, 3), // ACPI_DISABLE
+    (8, 1, 0xb3), // S4BIOS_REQ
+    (9, 1, 0xb4), // PSTATE_CNT
+    (10, 4, 0x600), // PM1a_EVT_BLK
+    (11, 4, 0x1600), // PM1b_EVT_BLK
+    (12, 4, 0x604), // PM1a_CNT_BLK
+    (13, 4, 0x1604), // PM1b_CNT_BLK
+    (14, 4, 0x650), // PM2_CNT_BLK
+    (15, 4, 0x608), // PM_TMR_BLK
+    (16, 4, 0x620), // GPE0_BLK
+    (17, 4, 0x630), // GPE1_BLK
+    (18, 1, 5), // PM1_EVT_LEN
+    (19, 1, 2), // PM1_CNT_LEN
+    (20, 1, 1), // PM2_CNT_LEN
+    (21, 1, 4), // PM_TMR_LEN
+    (22, 1, 0x10), // GPE0_BLK_LEN
+    (23, 1, 8), // GPE1_BLK_LEN
+    (24, 1, 0x40), // GPE1_BASE
+    (25, 1, 7), // CST_CNT
+    (26, 2, 0xfff), // P_LVL2_LAT
+    (27, 2, 0xffe), // P_LVL3_LAT
+    (28, 2, 0x400), // FLUSH_SIZE
+    (29, 2, 0x110), // FLUSH_STRIDE
+    (30, 1, 3), // DUTY_OFFSET
+    (31, 1, 6), // DUTY_WIDTH
+    (32, 1, 0xd), // DAY_ALRM
+    (33, 1, 0xe), // MON_ALRM
+    (34, 1, 0x32), // CENTURY
+    (35, 2, 0x102), // IAPC_BOOT_ARCH
+    (36, 1, 0xc1), // reserved
+    (37, 4, 0x0100_80a5), // Flags
 ];
+
+/// The bytes of the fields, one behind the other.
+fn body_of(alloc: Global, fields: &[(u8, u8, u64)]) -> Result<Vec<u8>, Fail> {
+    let mut body = Vec::new(alloc);
+    for (_, length, value) in fields {
+        body.extend_from_slice(&value.to_le_bytes()[..usize::from(*length).min(8)])?;
+    }
+    Ok(body)
+}
+
+/// The fields have these values.
+fn expect_fields(rt: &impl Abort, fadt: &Fadt<'_>, fields: &[(u8, u8, u64)]) {
+    for (number, _, value) in fields {
+        assert!(rt; *number < 41);
+        assert_eq!(rt; fadt.field(*number), Some(*value), "{number}");
+    }
+}
 
 // What else it says is shown by tests/show.
 #[test]
-fn fields_of_a_machine(rt: HostRuntime) -> Result<(), Fail> {
-    let mut body = Vec::new(rt.alloc());
-    for (bytes, _) in FIELDS {
-        body.extend_from_slice(bytes)?;
-    }
-    let bytes = table(rt.alloc(), *b"FACP", 6, &body)?;
+fn fields_have_their_numbers(rt: HostRuntime) -> Result<(), Fail> {
+    let body = body_of(rt.alloc(), &FIELDS)?;
+    let bytes = table(rt.alloc(), *b"FACP", 1, &body)?;
     let mut image = Image::new(rt.alloc());
     image.add(0x2000, &bytes)?;
     let fadt = Fadt::new(Table::read(&image, 0x2000)?)?;
-    for index in 0..41 {
-        let (_, value) = FIELDS[usize::from(index)];
-        assert_eq!(rt; fadt.field(index), Some(value), "{index}");
-    }
+    expect_fields(&rt, &fadt, &FIELDS);
+    assert!(rt; fadt.field(38).is_none());
     assert!(rt; fadt.bytes() == bytes.as_slice());
     assert!(rt; fadt.header().signature == *b"FACP");
     assert!(rt; fadt.fault().is_none() && !fadt.reduced());
