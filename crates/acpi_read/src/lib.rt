@@ -25,14 +25,14 @@
 //! differ by it.
 //!
 //! ```rust
-//! let rsdp = Rsdp::read(&image, 0xe0000)?;
-//! let root = Root::read(&image, &rsdp)?;
-//! if let Some(address) = first(&image, &root, *b"FACP") {
-//!     let fadt = Fadt::new(Table::read(&image, address)?)?;
-//!     let facs = Facs::read(&image, &fadt)?;
+//! let rsdp = Rsdp::read(image, 0xe0000)?;
+//! let root = Root::read(image, &rsdp)?;
+//! if let Some(address) = first(image, &root, *b"FACP") {
+//!     let fadt = Fadt::new(Table::read(image, address)?)?;
+//!     let facs = Facs::read(image, &fadt)?;
 //! }
-//! if let Some(address) = first(&image, &root, *b"APIC") {
-//!     let mut entries = Entries::madt(Table::read(&image, address)?)?;
+//! if let Some(address) = first(image, &root, *b"APIC") {
+//!     let mut entries = Entries::madt(Table::read(image, address)?)?;
 //!     while let Some(entry) = entries.next() {
 //!         if let MadtEntry::IoApic(io_apic) = MadtEntry::read(entry.bytes)? {}
 //!     }

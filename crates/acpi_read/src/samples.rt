@@ -62,16 +62,24 @@ pub(crate) fn extended_rsdp(rsdt: u32, xsdt: u64) -> [u8; 36] {
     bytes
 }
 
-/// An image with an RSDP at E0000h and an RSDT at 1000h, which lists these tables, each at its address.
-pub(crate) fn set(alloc: Global, tables: &[(u32, &[u8])]) -> Result<Image, Fail> {
-    let mut image = Image::new(alloc);
+/// The addresses, as the slots of an RSDT.
+fn slots(alloc: Global, tables: &[(u32, &[u8])]) -> Result<Vec<u8>, Fail> {
     let mut slots = Vec::new(alloc);
-    for (address, bytes) in tables {
-        image.add(u64::from(*address), bytes)?;
+    for (address, _) in tables {
         slots.extend_from_slice(&address.to_le_bytes())?;
     }
+    Ok(slots)
+}
+
+/// An image with an RSDP at E0000h and an RSDT at 1000h, which lists these tables, each at its address.
+pub(crate) fn set(alloc: Global, tables: &[(u32, &[u8])]) -> Result<Image, Fail> {
+    let rsdt = table(alloc, *b"RSDT", 1, &slots(alloc, tables)?)?;
+    let mut image = Image::new(alloc);
     image.add(0xe0000, &rsdp(0x1000))?;
-    image.add(0x1000, &table(alloc, *b"RSDT", 1, &slots)?)?;
+    image.add(0x1000, &rsdt)?;
+    for (address, bytes) in tables {
+        image.add(u64::from(*address), bytes)?;
+    }
     Ok(image)
 }
 

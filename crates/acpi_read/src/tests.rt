@@ -4,15 +4,15 @@ use acpi_base::{Code, Image};
 use std::test::*;
 
 /// The lines of the example at the head of the crate.
-fn example(image: Image) -> Result<(), Code> {
-    let rsdp = Rsdp::read(&image, 0xe0000)?;
-    let root = Root::read(&image, &rsdp)?;
-    if let Some(address) = first(&image, &root, *b"FACP") {
-        let fadt = Fadt::new(Table::read(&image, address)?)?;
-        let facs = Facs::read(&image, &fadt)?;
+fn example(image: &Image) -> Result<(), Code> {
+    let rsdp = Rsdp::read(image, 0xe0000)?;
+    let root = Root::read(image, &rsdp)?;
+    if let Some(address) = first(image, &root, *b"FACP") {
+        let fadt = Fadt::new(Table::read(image, address)?)?;
+        let facs = Facs::read(image, &fadt)?;
     }
-    if let Some(address) = first(&image, &root, *b"APIC") {
-        let mut entries = Entries::madt(Table::read(&image, address)?)?;
+    if let Some(address) = first(image, &root, *b"APIC") {
+        let mut entries = Entries::madt(Table::read(image, address)?)?;
         while let Some(entry) = entries.next() {
             if let MadtEntry::IoApic(io_apic) = MadtEntry::read(entry.bytes)? {}
         }
@@ -41,6 +41,6 @@ fn example_reads_a_machine(rt: HostRuntime) -> Result<(), Fail> {
     facs[..4].copy_from_slice(b"FACS");
     facs[4] = 64;
     image.add(0x7000, &facs)?;
-    assert!(rt; example(image).is_ok());
+    assert!(rt; example(&image).is_ok());
     Ok(())
 }

@@ -53,22 +53,24 @@ fn node(length: u8, count: u8) -> [u8; 20] {
     ]
 }
 
+/// Whether a node of this length and count of resources is read.
+fn is_node_read(rt: &impl Abort, length: u8, count: u8) -> bool {
+    let bytes = node(length, count);
+    let is_read = NodeHead::read(&bytes).is_some();
+    if is_entry(&bytes) {
+        assert_eq!(rt; PpttEntry::read(&bytes).is_ok(), is_read, "{count}");
+    }
+    is_read
+}
+
 #[test]
 fn node_has_the_length_of_its_resources(rt: HostRuntime) {
     // 20 and 4 for each of 64 are 276, whose lowest byte is 14h.
-    for (length, count, is_read) in [
-        (0x14, 0, true),
-        (0x14, 1, false),
-        (0x14, 64, false),
-        (0x18, 0, false),
-        (0x18, 1, true),
-    ] {
-        let bytes = node(length, count);
-        let read = NodeHead::read(&bytes);
-        assert_eq!(rt; read.is_some(), is_read, "{length} {count}");
-        if is_entry(&bytes) {
-            assert_eq!(rt; PpttEntry::read(&bytes).is_ok(), is_read, "{count}");
-        }
+    for (length, count) in [(0x14, 1), (0x14, 64), (0x18, 0)] {
+        assert!(rt; !is_node_read(&rt, length, count), "{length} {count}");
+    }
+    for (length, count) in [(0x14, 0), (0x18, 1)] {
+        assert!(rt; is_node_read(&rt, length, count), "{length} {count}");
     }
 }
 
