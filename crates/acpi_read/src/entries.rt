@@ -125,3 +125,6 @@ impl<'a> Iterator for Entries<'a> {
         Some(Entry { offset, bytes })
     }
 }
+
+#[cfg(test)]
+mod tests;

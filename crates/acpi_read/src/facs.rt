@@ -99,3 +99,6 @@ impl<'a> Facs<'a> {
         self.bytes
     }
 }
+
+#[cfg(test)]
+mod tests;

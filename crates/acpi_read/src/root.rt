@@ -193,3 +193,6 @@ impl<'a> Root<'a> {
         self.width == 8
     }
 }
+
+#[cfg(test)]
+mod tests;

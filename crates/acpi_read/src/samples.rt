@@ -62,6 +62,32 @@ pub(crate) fn extended_rsdp(rsdt: u32, xsdt: u64) -> [u8; 36] {
     bytes
 }
 
+/// An image that holds one table, at 1000h.
+pub(crate) fn image_of_table(
+    alloc: Global,
+    signature: [u8; 4],
+    body: &[u8],
+) -> Result<Image, Fail> {
+    let mut image = Image::new(alloc);
+    image.add(0x1000, &table(alloc, signature, 1, body)?)?;
+    Ok(image)
+}
+
+/// A FACS of 64 bytes, of which those behind its length are 0.
+pub(crate) fn facs() -> [u8; 64] {
+    let mut bytes = [0; 64];
+    bytes[..4].copy_from_slice(b"FACS");
+    bytes[4] = 64;
+    bytes
+}
+
+/// The body of a FADT of 116 bytes that names this FACS.
+pub(crate) fn fadt_body(facs: u32) -> [u8; 80] {
+    let mut body = [0; 80];
+    body[..4].copy_from_slice(&facs.to_le_bytes());
+    body
+}
+
 /// The addresses, as the slots of an RSDT.
 fn slots(alloc: Global, tables: &[(u32, &[u8])]) -> Result<Vec<u8>, Fail> {
     let mut slots = Vec::new(alloc);

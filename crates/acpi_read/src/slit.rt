@@ -116,3 +116,6 @@ impl<'a> Slit<'a> {
         self.bytes[44 + count * i as usize + j as usize]
     }
 }
+
+#[cfg(test)]
+mod tests;

@@ -1,4 +1,4 @@
-use crate::samples::{set, table};
+use crate::samples::{facs, fadt_body, set, table};
 use crate::*;
 use acpi_base::{Code, Image};
 use std::test::*;
@@ -23,24 +23,16 @@ fn example(image: &Image) -> Result<(), Code> {
 
 #[test]
 fn example_reads_a_machine(rt: HostRuntime) -> Result<(), Fail> {
-    let mut body = [0; 80];
-    body[..4].copy_from_slice(&0x7000u32.to_le_bytes());
-    let fadt = table(rt.alloc(), *b"FACP", 1, &body)?;
+    let fadt = table(rt.alloc(), *b"FACP", 1, &fadt_body(0x7000))?;
     // The Local APICs' address, Flags, an I/O APIC and a Local APIC NMI.
-    let madt = table(
-        rt.alloc(),
-        *b"APIC",
+    let body = [
+        0, 0, 0xe0, 0xfe, 1, 0, 0, 0, 1, 12, 0, 0, 0, 0, 0xc0, 0xfe, 0, 0, 0, 0, 4, 6, 0xff, 0, 0,
         1,
-        &[
-            0, 0, 0xe0, 0xfe, 1, 0, 0, 0, 1, 12, 0, 0, 0, 0, 0xc0, 0xfe, 0, 0, 0, 0, 4, 6, 0xff, 0,
-            0, 1,
-        ],
-    )?;
-    let mut image = set(rt.alloc(), &[(0x2000, &fadt), (0x3000, &madt)])?;
-    let mut facs = [0; 64];
-    facs[..4].copy_from_slice(b"FACS");
-    facs[4] = 64;
-    image.add(0x7000, &facs)?;
+    ];
+    let madt = table(rt.alloc(), *b"APIC", 1, &body)?;
+    let tables: [(u32, &[u8]); 2] = [(0x2000, &fadt), (0x3000, &madt)];
+    let mut image = set(rt.alloc(), &tables)?;
+    image.add(0x7000, &facs())?;
     assert!(rt; example(&image).is_ok());
     Ok(())
 }

@@ -1,0 +1,43 @@
+use super::*;
+use crate::samples::{extended_rsdp, set, table};
+use std::process::Abort;
+use std::test::*;
+
+/// The root stands at this address, with these slots.
+fn expect_root(
+    rt: &impl Abort,
+    image: &Image,
+    address: u64,
+    wide: bool,
+    slots: &[u64],
+) -> Result<(), Code> {
+    let rsdp = Rsdp::read(image, 0xe0000)?;
+    let root = Root::read(image, &rsdp)?;
+    assert_eq!(rt; (root.address(), root.wide()), (address, wide));
+    let mut k = 0;
+    for slot in slots {
+        assert!(rt; k < root.slots());
+        assert_eq!(rt; root.slot(k), *slot);
+        k += 1;
+    }
+    assert_eq!(rt; k, root.slots());
+    Ok(())
+}
+
+#[test]
+fn slots_of_an_rsdt(rt: HostRuntime) -> Result<(), Fail> {
+    let image = set(rt.alloc(), &[(0x2000, &[]), (0x7fe_2214, &[])])?;
+    expect_root(&rt, &image, 0x1000, false, &[0x2000, 0x7fe_2214])?;
+    Ok(())
+}
+
+// The image holds no RSDT. One slot is 0, and one lies above 4 GiB.
+#[test]
+fn xsdt_goes_before_the_rsdt(rt: HostRuntime) -> Result<(), Fail> {
+    let body = [0, 0, 0, 0, 0, 0, 0, 0, 0x14, 0x22, 0xfe, 7, 1, 0, 0, 0];
+    let mut image = Image::new(rt.alloc());
+    image.add(0xe0000, &extended_rsdp(0x1000, 0x1_0000_1100))?;
+    image.add(0x1_0000_1100, &table(rt.alloc(), *b"XSDT", 1, &body)?)?;
+    expect_root(&rt, &image, 0x1_0000_1100, true, &[0, 0x1_07fe_2214])?;
+    Ok(())
+}
