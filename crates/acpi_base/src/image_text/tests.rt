@@ -131,7 +131,7 @@ fn reads_each_byte(rt: HostRuntime) -> Result<(), TextFault> {
 }
 
 /// Texts, and where the only bytes stand that each says.
-const TEXTS: [(&[u8], u64, &[u8]); 8] = [
+const TEXTS: [(&[u8], u64, &[u8]); 7] = [
     (b"", 0, &[]),
     (b"\n\r\n \t\n# @0 x\n", 0, &[]),
     (
@@ -143,8 +143,6 @@ const TEXTS: [(&[u8], u64, &[u8]); 8] = [
     (b"@FFFFFFFFFFFFFFFF\n01", u64::MAX, &[1]),
     (b"@0123456789abcdef \n", 0x0123_4567_89ab_cdef, &[]),
     (b"@10\n01\n@8\n@20 \n\n02 03\n04", 0x20, &[2, 3, 4]),
-    // The example at the head of the crate's root file.
-    (b"@1000\n01 02\n03 # the last byte\n", 0x1000, &[1, 2, 3]),
 ];
 
 #[test]
@@ -313,6 +311,17 @@ fn reads_a_row_with_one_byte_changed(rt: HostRuntime) -> Result<(), TextFault> {
             assert!(rt; is_read, "{line:?}");
         }
     }
+    Ok(())
+}
+
+// The example at the head of the crate's root file.
+#[test]
+fn reads_the_example_of_the_crate(rt: HostRuntime) -> Result<(), TextFault> {
+    let alloc = rt.alloc();
+    let mut reader = Tally::new(b"@1000\n01 02\n03 # the last byte\n".as_slice());
+    let image = read_image(alloc, &mut reader)?;
+    assert_eq!(rt; image.window(0x1000, 3), Some([1, 2, 3].as_slice()));
+    assert_eq!(rt; image.window(0x1000, 4), None);
     Ok(())
 }
 
