@@ -1,7 +1,10 @@
-# acpiset: build, run, test, install. The toolchain's `rt` must be on the PATH.
+# acpiset: try, build, run, test, install. To try, build and test, the toolchain's `rt` must be on the PATH.
 PREFIX ?= /usr/local
 program := crates/acpi_cli/out/acpi_cli
-sources := crates.txt $(shell find crates -path '*/out' -prune -o -type f -print)
+
+# What `try` runs the program on, beside the example, and the program's arguments for it.
+IMAGE ?=
+ARGUMENTS ?= check
 
 # What is installed: the program that `build` leaves, or another one that is there already.
 BINARY ?= acpiset
@@ -11,26 +14,35 @@ bin = $(DESTDIR)$(PREFIX)/bin
 man = $(DESTDIR)$(PREFIX)/share/man
 doc = $(DESTDIR)$(PREFIX)/share/doc/acpiset
 
-.PHONY: run build test bench install uninstall dist clean
+# A second make in this checkout waits until the first one has ended.
+alone := scripts/alone
+
+# Ends make in one line where the toolchain is missing. It is expanded where a recipe begins.
+needs_toolchain = $(if $(shell command -v rt),,$(error the Rattle toolchain is missing: put the folder of its command `rt` on the PATH, or take the archive of a release, which needs no toolchain (README.md)))
+
+.PHONY: try run build test gate bench install uninstall dist clean
+
+# Builds the program without a proof, and runs it on the example and on IMAGE.
+try:
+	$(needs_toolchain)@scripts/try $(if $(IMAGE),'$(IMAGE)' $(ARGUMENTS))
 
 # Proves and builds the program, and checks the smallest set of tables.
 run: build
 	./acpiset check --rsdp e0000 --through 3 < crates/acpi_cli/stdin
 
 # Proves the program and leaves it as ./acpiset.
-build: acpiset
+build:
+	$(needs_toolchain)@$(alone) scripts/prove program
 
-acpiset: $(sources)
-	@echo 'Proving acpiset and the crates under it, for every input: that its verdicts are right by the definitions in specs, and'
-	@echo 'that nothing panics, reads outside a buffer or runs on (docs/PROMISES.md). Then it is built as ./acpiset.'
-	@echo 'From nothing this may take twenty minutes; later only seconds.'
-	cd crates/acpi_cli && rt run -- check --rsdp e0000 --through 3 < stdin > /dev/null
-	cp $(program) acpiset
+acpiset: build
 
-# The gate, which proves everything from nothing, and then the documents and the built program.
+# Goes on from what `build` or `gate` left: proves and builds what is not, and runs all tests.
 test:
-	rt ci
-	tests/all.sh $(program) crates/*/out/*_tests
+	$(needs_toolchain)@$(alone) sh -c 'scripts/prove tests && tests/all.sh $(program) crates/*/out/*_tests'
+
+# Proves everything from nothing, tries each wrong body that must be refused, and runs all tests.
+gate:
+	$(needs_toolchain)@$(alone) sh -c 'scripts/prove gate && tests/all.sh $(program) crates/*/out/*_tests'
 
 # Prints speed and memory beside other programs; not part of the tests.
 bench: build
@@ -50,14 +62,9 @@ uninstall:
 	rm -f $(addprefix $(doc)/,$(documents))
 	-rmdir $(doc)/docs $(doc)
 
-# An archive of what `install` puts, with the sum of each file. It may be unpacked anywhere. The program needs x86-64
-# Linux and the C library alone: glibc 2.34 or later.
+# An archive for machines without the toolchain, the same bytes each time: dist/acpiset-VERSION-x86_64-linux.tar.gz.
 dist: $(BINARY)
-	rm -rf dist
-	$(MAKE) install DESTDIR=dist/ PREFIX=acpiset
-	cd dist/acpiset && find . -type f ! -name SHA256SUMS | LC_ALL=C sort | xargs sha256sum > SHA256SUMS
-	cd dist && tar -czf acpiset-x86_64-linux.tar.gz acpiset
-	cd dist && sha256sum acpiset-x86_64-linux.tar.gz > acpiset-x86_64-linux.tar.gz.sha256
+	@$(alone) scripts/archive $(BINARY)
 
 clean:
-	rm -rf crates/*/out acpiset dist
+	$(alone) rm -rf crates/*/out acpiset dist out

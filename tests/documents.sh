@@ -180,7 +180,7 @@ while more=$({ cat $(specs "$needed") | sed -n 's/^use Rattle\.acpi_[a-z]*\.spec
 told=$(sed -n '/^## What the headline rests on$/,/^| together/s/^| \(`[A-Z][A-Za-z`, ]*`\) |.*/\1/p' README.md | tr -d '`' | tr ', ' '\n\n' | sed '/^$/d')
 same 'definitions of the headline, as README has them (<) and as they name each other (>)' "$told" "$needed"
 
-paths=$(cat README.md docs/*.md | grep -o '`\(crates\|docs\|tests\|bench\|tools\|man\)/[A-Za-z0-9_./-]*[A-Za-z0-9_]`' | tr -d '`' | sort -u)
+paths=$(cat README.md docs/*.md | grep -o '`\(crates\|docs\|tests\|bench\|tools\|man\|scripts\|release\)/[A-Za-z0-9_./-]*[A-Za-z0-9_]`' | tr -d '`' | sort -u)
 there=$(while read -r path; do [ -e "$path" ] && printf '%s\n' "$path"; done <<<"$paths")
 same 'files that the documents name (<) and that are there (>)' "$paths" "$there"
 parts=$(cat README.md docs/*.md | grep -o '`\(src\|specs\)/[A-Za-z0-9_/]*\.\(rt\|antt\)`' | tr -d '`' | sort -u)

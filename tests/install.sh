@@ -22,8 +22,9 @@ same() {
 
 # A copy, so that no archive is left in the tree.
 mkdir "$scratch/tree"
-cp -r Makefile README.md CHANGELOG.md CONTRIBUTING.md crates.txt docs man tools "$scratch/tree"
-mkdir "$scratch/tree/crates"
+cp -r Makefile README.md CHANGELOG.md CONTRIBUTING.md crates.txt docs man release scripts tools "$scratch/tree"
+mkdir "$scratch/tree/crates" "$scratch/tree/tests"
+cp -r tests/images "$scratch/tree/tests"
 make="make -s -C $scratch/tree BINARY=$program"
 
 $make install DESTDIR="$scratch/root" PREFIX=/usr >"$scratch/log" 2>&1
@@ -44,14 +45,63 @@ ln -s "$usr/bin/acpiset-explain" "$scratch/link"
 same 'acpiset-explain by a link' "$(echo 'no rsdp' | "$scratch/link" | head -n 1)" 'no rsdp'
 same 'acpiset-tables2image without files' "$("$usr/bin/acpiset-tables2image" 2>&1 | sed 's/ FILE.*//')" 'acpiset-tables2image: usage: acpiset-tables2image'
 
+# ---- the archive: unpacked elsewhere, with the base system's commands alone
 $make dist >"$scratch/log" 2>&1
-same 'make dist' "$? $(cat "$scratch/log")" '0 '
-same 'the sum of the archive' "$(cd "$scratch/tree/dist" && sha256sum -c acpiset-x86_64-linux.tar.gz.sha256)" 'acpiset-x86_64-linux.tar.gz: OK'
+same 'make dist' "$? $(sed 's/-[0-9.]*-/-VERSION-/' "$scratch/log")" '0 dist/acpiset-VERSION-x86_64-linux.tar.gz'
+version=$(sed -n 's/^## \([0-9.]*\).*/\1/p' CHANGELOG.md | head -n 1)
+name=acpiset-$version-x86_64-linux
+archive=$scratch/tree/dist/$name.tar.gz
+same 'the sum of the archive' "$(cd "$scratch/tree/dist" && sha256sum -c "$name.tar.gz.sha256")" "$name.tar.gz: OK"
+mv "$scratch/tree/dist" "$scratch/first"
+$make dist >"$scratch/log" 2>&1
+same 'the archive, made again' "$(sha256sum <"$archive")" "$(sha256sum <"$scratch/first/$name.tar.gz")"
+same 'owners and times in the archive' "$(tar --numeric-owner --full-time -tvzf "$archive" | awk '{ print $2, $4, $5 }' | sort -u | wc -l)" 1
 mkdir "$scratch/unpacked"
-tar -xzf "$scratch/tree/dist/acpiset-x86_64-linux.tar.gz" -C "$scratch/unpacked"
-same 'the sums of its files' "$(cd "$scratch/unpacked/acpiset" && sha256sum -c SHA256SUMS 2>&1 | grep -v ': OK$')" ''
-same 'files in the archive' "$(cd "$scratch/unpacked/acpiset" && find . -type f ! -name SHA256SUMS | sed 's|^\./||' | LC_ALL=C sort)" "$wanted"
-same 'acpiset-explain of the archive' "$(echo yes | "$scratch/unpacked/acpiset/bin/acpiset-explain" | head -n 1)" yes
+tar -xzf "$archive" -C "$scratch/unpacked"
+unpacked=$scratch/unpacked/$name
+wanted=$({
+  printf '%s\n' README.md PROVED.md
+  for image in tests/images/*; do echo "images/${image##*/}"; done
+  for file in $wanted; do echo "$file"; done
+} | LC_ALL=C sort)
+same 'files in the archive' "$(cd "$unpacked" && find . -type f ! -name SHA256SUMS ! -name acpiset.o | sed 's|^\./||' | LC_ALL=C sort)" "$wanted"
+same 'files that the list of sums has' "$(sed 's/^[0-9a-f]*  //' "$unpacked/SHA256SUMS")" "$(cd "$unpacked" && find . -type f ! -name SHA256SUMS | sed 's|^\./||' | LC_ALL=C sort)"
+same 'paths of the tree in the archive' "$(grep -rlaF -e "$scratch/tree" -e "$PWD" "$unpacked")" ''
+same 'places to fill in the pages' "$(grep -n '@[A-Z]*@' "$unpacked/README.md" "$unpacked/PROVED.md")" ''
+same 'the sum of the program in PROVED.md' "$(grep -c "$(sha256sum "$unpacked/bin/acpiset" | cut -d ' ' -f 1)" "$unpacked/PROVED.md")" 1
+same 'the version of the program' "$("$unpacked/bin/acpiset" --version 2>&1)" "acpiset: version $version, 18 stages"
+
+# Each command of its README prints what the page says.
+page=$unpacked/README.md
+sed -n '/^```console$/,/^```$/p' "$page" | sed -n 's/^\$ //p' >"$scratch/commands"
+(cd "$unpacked" && env -i PATH=/usr/bin:/bin sh "$scratch/commands") >"$scratch/printed" 2>&1
+same 'the commands of its README' "$(cat "$scratch/printed")" "$(sed -n '/^```console$/,/^```$/p' "$page" | grep -v '^\$ \|^```')"
+same 'commands in its README' "$([ "$(wc -l <"$scratch/commands")" -ge 5 ] && echo yes)" yes
+if [ -e "$unpacked/lib/acpiset.o" ]; then
+  same 'libraries that its program asks for' "$(readelf -d "$unpacked/bin/acpiset" | grep -c NEEDED)" 0
+  same 'its program on the sets of tests/rows' "$(tests/rows/run.py "$unpacked/bin/acpiset" | grep -c ' 0 failed$')" 1
+else
+  printf 'left out: the program of the archive with the C library inside, which could not be linked here\n'
+fi
+
+# ---- without the toolchain: one line, and status 2
+mkdir "$scratch/path"
+for tool in make sh dirname; do ln -s "$(command -v "$tool")" "$scratch/path"; done
+for target in run test build gate try; do
+  PATH="$scratch/path" make -s -C "$scratch/tree" "$target" >"$scratch/log" 2>&1
+  same "make $target without the toolchain" "$? $(wc -l <"$scratch/log") $(grep -c 'the Rattle toolchain is missing' "$scratch/log")" '2 1 1'
+done
+
+# ---- two at one time: the second one says that it waits
+if command -v flock >"$scratch/log"; then
+  (
+    flock 9
+    sleep 1
+  ) 9<"$scratch/tree/crates" &
+  sleep 0.3
+  same 'a second make' "$($make clean 2>&1 | grep -c 'waiting for it')" 1
+  wait
+fi
 
 $make uninstall DESTDIR="$scratch/root" PREFIX=/usr >"$scratch/log" 2>&1
 same 'make uninstall' "$? $(cat "$scratch/log")" '0 '
@@ -64,11 +114,11 @@ if command -v nm >"$scratch/log"; then
     "$(nm -D --undefined-only "$program" | awk '{ sub(/@.*/, "", $2); print $2 }' | sort -u | comm -23 - <(printf '%s\n' "$named"))" ''
 fi
 
-# The program needs the C library alone, of no later version than the Makefile says.
+# The program needs the C library alone, of no later version than README says.
 if command -v objdump >"$scratch/log"; then
   same 'libraries of the program' "$(objdump -p "$program" | awk '$1 == "NEEDED" { print $2 }')" libc.so.6
   newest=$(objdump -T "$program" | grep -o 'GLIBC_[0-9.]*' | sed 's/GLIBC_//' | sort -uV | tail -n 1)
-  same 'version of the C library' "$newest" "$(sed -n 's/.*glibc \([0-9.]*\) or later.*/\1/p' Makefile)"
+  same 'version of the C library' "$newest" "$(sed -n 's/.*`.\/acpiset` itself needs glibc \([0-9.]*\) or later.*/\1/p' README.md)"
 fi
 
 printf 'install: %d passed, %d failed\n' "$passed" "$failed"
