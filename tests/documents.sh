@@ -158,27 +158,13 @@ contracts=$(
 )
 same 'the contracts of the headline, as README has them (<) and in the code (>)' "$headline" "$contracts"
 
-# specs NAMES: the files of these definitions.
-specs() {
-  local name crate
-  for name in $1; do
-    for crate in acpi_base acpi_check acpi_cli; do
-      [ ! -e "crates/$crate/specs/$name.antt" ] || { printf '%s\n' "crates/$crate/specs/$name.antt"; break; }
-    done
-  done
-}
-counts=$(sed -n 's/^| \(`[A-Z][A-Za-z`, ]*`\) | \([0-9]*\) |.*/\2 \1/p' README.md | tr -d '`,')
-counted=$(while read -r lines names; do printf '%s %s\n' "$(cat $(specs "$names") | wc -l)" "$names"; done <<<"$counts")
-same 'lines of definitions, as README has them (<) and in the tree (>)' "$counts" "$counted"
-sums=$(awk '/^\| `[A-Z][A-Za-z`, ]*` \| [0-9]+ \|/ { split($0, part, " [|] "); sum += part[2] } /^\| together \|/ { print sum; sum = 0 }' README.md)
-same 'sums of these lines (<) and as README has them (>)' "$sums" "$(sed -n 's/^| together | \([0-9]*\) |.*/\1/p' README.md)"
-# What the headline rests on: its words, and what they name, and so on.
-needed='Faults
-Headline
-Statements'
-while more=$({ cat $(specs "$needed") | sed -n 's/^use Rattle\.acpi_[a-z]*\.specs\.\([A-Z][A-Za-z]*\)[. ].*/\1/p'; printf '%s\n' "$needed"; } | sort -u); [ "$more" != "$needed" ]; do needed=$more; done
-told=$(sed -n '/^## What the headline rests on$/,/^| together/s/^| \(`[A-Z][A-Za-z`, ]*`\) |.*/\1/p' README.md | tr -d '`' | tr ', ' '\n\n' | sed '/^$/d')
-same 'definitions of the headline, as README has them (<) and as they name each other (>)' "$told" "$needed"
+count 'definitions that public contracts rest on' "$(tests/definitions.py 2>&1)"
+for crate in $(sed -n 's/^\([a-z_]*\):.*/\1/p' crates.txt); do
+  files=$(for file in "crates/$crate"/specs/*.antt; do basename "$file" .antt; done | grep -vx Lib)
+  part=$(sed -n '/^## Definitions$/,/^## /p' docs/ARCHITECTURE.md)
+  [ "$crate" = acpi_base ] || part=$(grep "^| \`$crate\` |" <<<"$part")
+  within "$crate: files of definitions that ARCHITECTURE.md does not name" "$files" "$(grep -o '`[A-Z][A-Za-z]*`' <<<"$part" | tr -d '`')"
+done
 
 paths=$(cat README.md docs/*.md | grep -o '`\(crates\|docs\|tests\|bench\|tools\|man\|scripts\|release\)/[A-Za-z0-9_./-]*[A-Za-z0-9_]`' | tr -d '`' | sort -u)
 there=$(while read -r path; do [ -e "$path" ] && printf '%s\n' "$path"; done <<<"$paths")

@@ -1,12 +1,12 @@
 -- What a reader of a text in pieces keeps, and what it stands for.
-use Rattle.std.specs.Prelude.{◌≡◌, ◌+◌, ◌≤◌, length, Option, Some, None, Ok, false}
+use Rattle.std.specs.Prelude.{◌≡◌, ◌+◌, ◌≤◌, ℕ, List, length, Option, Some, None, false}
+use Rattle.std.specs.Io.KnownBytes.{Consumes}
 use Rattle.acpi_base.specs.declared.image_text.feeder.Feeder.{Feeder}
 use Rattle.acpi_base.specs.declared.text.TextFault.{TextFault}
 use Rattle.acpi_base.specs.Gathered.{IsGathering}
-use Rattle.acpi_base.specs.ImageText.{Reading, is_too_long}
-use Rattle.acpi_base.specs.Memory.{Memory}
-use Rattle.acpi_base.specs.TextMachine.{Standing, Going, Stopped, end_text}
-use Rattle.acpi_base.specs.TextReading.{reading_of}
+use Rattle.acpi_base.specs.ImageText.{is_too_long}
+use Rattle.acpi_base.specs.Lines.{reading_of}
+use Rattle.acpi_base.specs.TextMachine.{Standing, Going, Stopped, beginning, run}
 
 -- where a reader stands that has met no fault
 abbrev pub standing_in : Feeder → Standing
@@ -27,11 +27,9 @@ abbrev pub IsReading : Option TextFault → Feeder → Type 0
 IsReading None f = IsFeeding f
 IsReading (Some fault) f = Unit {0}
 
--- it has met no fault
-abbrev pub IsGoing : Standing → Type 0
-IsGoing (Going r line) = Unit {0}
-IsGoing (Stopped fault) = ⊥
-
--- the text of which this stands has no fault at its end, and its data is this image
-abbrev pub EndsAs : Standing → Memory → Type 0
-EndsAs s m = (r : Reading) × (end_text s ≡ Ok r) × (r.image ≡ m)
+-- The reader has brought a text of so many bytes, and the machine stands for it.
+pub record HasBrought (before left : Option (List ℕ)) (standing : Standing) (count : ℕ) : Type 0 where
+  pub text : List ℕ
+  pub consumed : Consumes before left text
+  pub long : length text ≡ count
+  pub stands : run beginning text ≡ standing

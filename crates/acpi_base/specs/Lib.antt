@@ -17,6 +17,7 @@ pub mod ImageText
 pub mod Laid
 pub mod Laws
 pub mod Layouts
+pub mod Lines
 pub mod Listed
 pub mod Madt
 pub mod Marked

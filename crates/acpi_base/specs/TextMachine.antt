@@ -1,7 +1,8 @@
 -- Reading a text byte by byte: what a reader of text in pieces keeps. `acpi_base::laws::machine_reads_lines`
 -- says that it agrees with reading by lines.
-use Rattle.std.specs.Prelude.{ℕ, ◌+◌, List, [], ◌∷◌, ◌++◌, length, Result, Ok, Err, ◌==◌, if◌then◌else◌}
+use Rattle.std.specs.Prelude.{◌≡◌, ℕ, ◌+◌, List, [], ◌∷◌, ◌++◌, length, Result, Ok, Err, ◌==◌, if◌then◌else◌}
 use Rattle.acpi_base.specs.ImageText.{Reading, start, read_line, is_too_long}
+use Rattle.acpi_base.specs.Memory.{Memory}
 use Rattle.acpi_base.specs.declared.text.TextFault.{TextFault}
 use Rattle.acpi_base.specs.declared.text.TextFault.TheVariants as text
 
@@ -41,3 +42,12 @@ end_text (Stopped fault) = Err fault
 abbrev pub standing_of : Standing → Result Reading TextFault
 standing_of (Going r line) = Ok r
 standing_of (Stopped fault) = Err fault
+
+-- no fault stands in what has come
+abbrev pub IsGoing : Standing → Type 0
+IsGoing (Going r line) = Unit {0}
+IsGoing (Stopped fault) = ⊥
+
+-- the text for which this stands has no fault at its end, and its data is this image
+abbrev pub EndsAs : Standing → Memory → Type 0
+EndsAs s m = (r : Reading) × (end_text s ≡ Ok r) × (r.image ≡ m)

@@ -12,9 +12,8 @@ ghost use Rattle.std.specs.Prelude.{◌≡◌, ◌≤◌, ◌+◌, ◌⊎◌, �
 ghost use Rattle.std.specs.Io.KnownBytes.{Consumes, IsAtEnd};
 ghost use Rattle.acpi_base.specs.Memory.{IsImage};
 ghost use Rattle.acpi_base.specs.ImageText.{IsText, max_text};
-ghost use Rattle.acpi_base.specs.TextMachine.{Standing, Stopped, beginning, end_text, run};
+ghost use Rattle.acpi_base.specs.TextMachine.{Standing, Stopped, EndsAs, IsGoing, beginning, end_text, run};
 ghost use Rattle.acpi_base.specs.TextReading.{IsRefusal, CountsRead};
-ghost use Rattle.acpi_base.specs.Feeding.{EndsAs, IsGoing};
 
 use crate::image::Image;
 use crate::tally::Tally;

@@ -1,15 +1,9 @@
 -- What the views of a FADT and a FACS return, as the plain values that definitions speak of.
 use Rattle.std.specs.Prelude.{ℕ, List}
 use Rattle.acpi_base.specs.Fadt.{BlockValue, NoBlock, GasBlock, PortBlock}
-use Rattle.acpi_base.specs.Fadt as fadt
 use Rattle.acpi_read.specs.Gases.{gas_value}
-use Rattle.acpi_read.specs.declared.fadt.Place.{Place}
 use Rattle.acpi_read.specs.declared.fadt.Block.{Block}
 use Rattle.acpi_read.specs.declared.fadt.Block.TheVariants as block
-
--- where a field begins, and how many bytes it has
-abbrev pub place_value : Place → fadt.Place
-place_value p = record { offset = p.0; width = p.1 }
 
 -- what is said of a register block
 abbrev pub block_said : Block → BlockValue

@@ -5,6 +5,7 @@ pub mod Gases
 pub mod Headers
 pub mod Madts
 pub mod NodeHeads
+pub mod Places
 pub mod Pptts
 pub mod Roots
 pub mod Slits

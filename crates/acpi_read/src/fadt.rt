@@ -8,9 +8,10 @@ ghost use Rattle.acpi_base.specs.Fadt.{fadt_places, field_number, has_flag, is_r
 ghost use Rattle.acpi_base.specs.Number.{field};
 ghost use Rattle.acpi_base.specs.Tables.{length_of};
 ghost use Rattle.acpi_base.specs.declared.code.Code.{Code};
-ghost use Rattle.acpi_read.specs.Fadts.{place_value, block_said};
+ghost use Rattle.acpi_read.specs.Fadts.{block_said};
 ghost use Rattle.acpi_read.specs.Gases.{gas_value};
 ghost use Rattle.acpi_read.specs.Headers.{header_value};
+ghost use Rattle.acpi_read.specs.Places.{place_value};
 
 use crate::gas::{Gas, gas_in};
 use crate::header::Header;

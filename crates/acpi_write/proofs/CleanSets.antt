@@ -25,7 +25,8 @@ use Rattle.acpi_base.proofs.Tables.Whole.{one_table, signed_table}
 use Rattle.acpi_read.specs.Roots.{RootValue, IsSoundNamedRoot}
 use Rattle.acpi_read.specs.Madts as madts
 use Rattle.acpi_read.specs.Srats as srats
-use Rattle.acpi_write.specs.Readable.{IsReadableMadt, IsReadableSrat, IsReadableSlit, IsReadablePptt, AreReadable, kind_behind, is_among}
+use Rattle.acpi_write.specs.Kinds.{AreReadable, kind_behind, is_among}
+use Rattle.acpi_write.specs.Readable.{IsReadableMadt, IsReadableSrat, IsReadableSlit, IsReadablePptt}
 use Rattle.acpi_write.specs.SetValues.{IsWholeAt, is_first}
 use Rattle.acpi_write.proofs.FirstTables.{first_parts}
 use Rattle.acpi_write.proofs.Listing.{listed_from, listed_is, listed_skip, listed_take}

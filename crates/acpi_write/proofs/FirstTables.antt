@@ -10,7 +10,7 @@ use Rattle.acpi_base.specs.Entries.{cut_of}
 use Rattle.acpi_base.specs.Fadt.{IsSoundFadtTable}
 use Rattle.acpi_base.specs.Listed.{fadt_signature, madt_signature, srat_signature, slit_signature, pptt_signature}
 use Rattle.acpi_write.specs.Laws.{AreBytes}
-use Rattle.acpi_write.specs.Readable.{is_among}
+use Rattle.acpi_write.specs.Kinds.{is_among}
 use Rattle.acpi_write.specs.Rebuilt.{encoded_with}
 use Rattle.acpi_write.specs.SetValues.{is_first, values_of}
 use Rattle.acpi_write.specs.Views.{IsWholeTable}

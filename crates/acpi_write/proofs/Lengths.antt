@@ -17,7 +17,7 @@ use Rattle.acpi_base.proofs.HeldBytes.{cases_Option}
 use Rattle.acpi_base.proofs.Layouts.RoundTrip.{length-number_bytes}
 use Rattle.acpi_write.specs.Encoded.{encoded_length, srat_reserved}
 use Rattle.acpi_write.specs.EntryBytes.{madt_bytes, srat_bytes, pptt_bytes}
-use Rattle.acpi_write.specs.Readable.{IsReadableAs, said_as}
+use Rattle.acpi_write.specs.Kinds.{IsReadableAs, said_as}
 use Rattle.acpi_write.specs.SetValues.{entries_in}
 use Rattle.acpi_write.specs.Values.{TableValue}
 use Rattle.acpi_write.specs.declared.kinds.Kind.{Kind}

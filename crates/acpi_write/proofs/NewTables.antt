@@ -16,7 +16,7 @@ use Rattle.acpi_base.specs.Pptt.{pptt_contents}
 use Rattle.acpi_write.specs.Encoded.{encoded_length, table_bytes}
 use Rattle.acpi_write.specs.FadtBody.{with_facs}
 use Rattle.acpi_write.specs.Placed.{is_narrow}
-use Rattle.acpi_write.specs.Readable.{is_among}
+use Rattle.acpi_write.specs.Kinds.{is_among}
 use Rattle.acpi_write.specs.Rebuilt.{encoded_with}
 use Rattle.acpi_write.specs.SetValues.{is_first, said_behind, values_behind, values_of}
 use Rattle.acpi_write.specs.Views.{IsWholeTable}

@@ -17,7 +17,7 @@ use Rattle.acpi_base.proofs.Tables.Listed.{one_listed}
 use Rattle.acpi_base.proofs.Tables.Whole.{length-table}
 use Rattle.acpi_write.specs.Encoded.{FitsHead}
 use Rattle.acpi_write.specs.Laws.{AreBytes}
-use Rattle.acpi_write.specs.Readable.{AreReadable}
+use Rattle.acpi_write.specs.Kinds.{AreReadable}
 use Rattle.acpi_write.specs.SetValues.{IsWholeAt, IsSetValue}
 use Rattle.acpi_write.specs.Values.{SetValue}
 use Rattle.acpi_write.proofs.CleanSets.{clean_readable, readable_madt, readable_srat, readable_slit, readable_pptt}

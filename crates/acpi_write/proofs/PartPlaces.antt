@@ -15,7 +15,7 @@ use Rattle.acpi_base.proofs.Layouts.RoundTrip.{length-number_bytes}
 use Rattle.acpi_base.proofs.Tables.Whole.{length-table}
 use Rattle.acpi_write.specs.Encoded.{table_bytes, body_of, encoded_length}
 use Rattle.acpi_write.specs.FadtBody.{with_facs}
-use Rattle.acpi_write.specs.Readable.{IsReadableAs, said_as, kind_behind}
+use Rattle.acpi_write.specs.Kinds.{IsReadableAs, said_as, kind_behind}
 use Rattle.acpi_write.specs.Rebuilt.{aligned, laid, places, listed_option, part_lengths, part_places, part_bytes, facs_place, table_places, rsdp_bytes, encoded_with, CleanPartsAreLaid}
 use Rattle.acpi_write.specs.SetValues.{IsWholeAt, said_behind, values_behind}
 use Rattle.acpi_write.specs.Values.{TableValue, SetValue}

@@ -6,7 +6,7 @@ use Rattle.std.proofs.lemmas.List.Folds.{list_any-append}
 use Rattle.std.proofs.Math.Seq.{take-suc}
 use Rattle.acpi_base.specs.Signature.{has_signature}
 use Rattle.acpi_base.specs.Listed.{fadt_signature, madt_signature, srat_signature, slit_signature, pptt_signature}
-use Rattle.acpi_write.specs.Readable.{said_as, first_by, kind_behind, is_among, HasSeen}
+use Rattle.acpi_write.specs.Kinds.{said_as, first_by, kind_behind, is_among, HasSeen}
 use Rattle.acpi_write.specs.SetValues.{is_first, said_behind, values_behind, values_of}
 use Rattle.acpi_write.specs.declared.kinds.Kind.{Kind}
 use Rattle.acpi_write.specs.declared.kinds.Seen.{Seen}

@@ -8,7 +8,7 @@ use Rattle.acpi_base.specs.Signature.{has_signature}
 use Rattle.acpi_base.specs.Listed.{fadt_signature, madt_signature, srat_signature, slit_signature, pptt_signature}
 use Rattle.acpi_base.proofs.Tables.Whole.{other_signature}
 use Rattle.acpi_write.specs.Encoded.{encoded_length}
-use Rattle.acpi_write.specs.Readable.{is_among}
+use Rattle.acpi_write.specs.Kinds.{is_among}
 use Rattle.acpi_write.specs.SetValues.{fadt_said, madt_said, srat_said, slit_said, pptt_said, is_first, said_behind}
 use Rattle.acpi_write.specs.Spells.{IsTableOf}
 use Rattle.acpi_write.specs.Values.{TableValue, Other}

@@ -1,6 +1,7 @@
 pub mod Encoded
 pub mod EntryBytes
 pub mod FadtBody
+pub mod Kinds
 pub mod Laws
 pub mod Placed
 pub mod Readable

@@ -3,7 +3,7 @@
 ghost use Rattle.std.specs.Prelude.{◌≡◌, not, ◌&&◌, ◌||◌, false};
 ghost use Rattle.acpi_base.specs.Listed.{fadt_signature, madt_signature, srat_signature, slit_signature, pptt_signature};
 ghost use Rattle.acpi_base.specs.Signature.{has_signature};
-ghost use Rattle.acpi_write.specs.Readable.{first_by};
+ghost use Rattle.acpi_write.specs.Kinds.{first_by};
 
 use acpi_base::field::is_signed;
 

@@ -8,7 +8,8 @@ ghost use Rattle.acpi_base.specs.Number.{byte_sum};
 ghost use Rattle.acpi_base.specs.Root.{HasSlot};
 ghost use Rattle.acpi_base.specs.Tables.{IsSoundTable};
 ghost use Rattle.acpi_read.specs.Headers.{header_value};
-ghost use Rattle.acpi_write.specs.Readable.{IsReadableAs, IsReadableMadt, IsReadableSrat, IsReadableSlit, IsReadablePptt, said_as, AreReadable};
+ghost use Rattle.acpi_write.specs.Kinds.{IsReadableAs, said_as, AreReadable};
+ghost use Rattle.acpi_write.specs.Readable.{IsReadableMadt, IsReadableSrat, IsReadableSlit, IsReadablePptt};
 ghost use Rattle.acpi_write.specs.SetValues.{fadt_said, madt_said, srat_said, slit_said, pptt_said, values_of, IsWholeAt};
 ghost use Rattle.acpi_write.specs.Views.{head_value, table_value, IsShaped, IsShort};
 

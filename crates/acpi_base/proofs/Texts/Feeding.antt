@@ -6,7 +6,7 @@ use Rattle.std.proofs.lemmas.List.{append-nil}
 use Rattle.std.specs.Prelude.{Ok, Err}
 use Rattle.acpi_base.specs.ImageText.{Reading, read_line, is_too_long, max_text, max_line}
 use Rattle.acpi_base.specs.TextMachine.{Standing, Going, Stopped, step, run}
-use Rattle.acpi_base.specs.TextReading.{Refuses}
+use Rattle.acpi_base.specs.Lines.{Refuses}
 use Rattle.acpi_base.specs.declared.text.TextFault.{TextFault}
 use Rattle.acpi_base.specs.declared.text.TextFault.TheVariants.{TooLong, Memory}
 use Rattle.acpi_base.proofs.Texts.ByteMachine.{after, step_after, run_stopped, take_line_keeps}

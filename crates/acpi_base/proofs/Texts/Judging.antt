@@ -6,9 +6,9 @@ use Rattle.std.proofs.KnownBytes.{Consumes-trans, Consumes-kept}
 use Rattle.std.proofs.lemmas.Bool.Decides.{nat_tests}
 use Rattle.acpi_base.specs.Memory.{Memory}
 use Rattle.acpi_base.specs.ImageText.{Reading, on_ok, read_lines, ended_from, last_from, start, max_text, is_too_long, IsText, IsRefused, IsRefusedPrefix}
-use Rattle.acpi_base.specs.TextMachine.{Standing, Going, Stopped, beginning, run, end_text, standing_of}
-use Rattle.acpi_base.specs.TextReading.{IsRefusal, CountsRead, HasBrought}
-use Rattle.acpi_base.specs.Feeding.{EndsAs, IsGoing}
+use Rattle.acpi_base.specs.TextMachine.{Standing, Going, Stopped, EndsAs, IsGoing, beginning, run, end_text, standing_of}
+use Rattle.acpi_base.specs.TextReading.{IsRefusal, CountsRead}
+use Rattle.acpi_base.specs.Feeding.{HasBrought}
 use Rattle.acpi_base.specs.declared.text.TextFault.{TextFault}
 use Rattle.acpi_base.specs.declared.text.TextFault.TheVariants as text
 use Rattle.acpi_base.proofs.Texts.ByteMachine.{after, run_after, run_append, run_reads_text, run_reads_prefix, refused_where_stopped, prefix_is_decided}

@@ -4,9 +4,9 @@ ghost use Rattle.std.specs.Prelude.{◌≡◌, ◌≤◌, ◌<◌, ◌≢◌, �
 ghost use Rattle.acpi_base.specs.Memory.{IsImage};
 ghost use Rattle.acpi_base.specs.Gathered.{IsGathering};
 ghost use Rattle.acpi_base.specs.ImageText.{read_line, start};
-ghost use Rattle.acpi_base.specs.TextMachine.{run, Stopped};
-ghost use Rattle.acpi_base.specs.TextReading.{Refuses, reading_of};
-ghost use Rattle.acpi_base.specs.Feeding.{EndsAs, IsFeeding, standing_in};
+ghost use Rattle.acpi_base.specs.TextMachine.{run, EndsAs, Stopped};
+ghost use Rattle.acpi_base.specs.Lines.{Refuses, reading_of};
+ghost use Rattle.acpi_base.specs.Feeding.{IsFeeding, standing_in};
 
 use super::MAX_TEXT;
 use super::lines::{MAX_LINE, Progress};

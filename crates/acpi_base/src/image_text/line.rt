@@ -3,7 +3,7 @@
 ghost use Rattle.std.specs.Prelude.{◌≡◌, ◌≤◌, ◌<◌, ℕ, List, [], length, IfOk, IfSome, take_while};
 ghost use Rattle.std.specs.List.{list_all};
 ghost use Rattle.acpi_base.specs.ImageText.{digit_of, is_blank, is_hex_digit, without_cr, without_comment, skip_blanks, hex_number, address_of, data_from, line_of};
-ghost use Rattle.acpi_base.specs.TextReading.{data_line, line_with};
+ghost use Rattle.acpi_base.specs.Lines.{data_line, line_with};
 
 use super::digit::digit_value;
 use super::row::parse_row;

@@ -4,7 +4,7 @@ ghost use Rattle.std.specs.Prelude.{◌≡◌, ◌≤◌, ◌<◌, ◌+◌, leng
 ghost use Rattle.acpi_base.specs.Memory.{IsImage};
 ghost use Rattle.acpi_base.specs.Gathered.{IsGathering};
 ghost use Rattle.acpi_base.specs.ImageText.{start, max_text, data_fault, put_data, take_line, read_line};
-ghost use Rattle.acpi_base.specs.TextReading.{Refuses, line_with, reading_of};
+ghost use Rattle.acpi_base.specs.Lines.{Refuses, line_with, reading_of};
 
 use super::MAX_TEXT;
 use super::line::{Form, parse_line};

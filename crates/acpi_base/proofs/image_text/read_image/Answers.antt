@@ -2,8 +2,7 @@ use Rattle.std.proofs.Common.{inl, inr, ℕ, length-take, ◌+◌, ◌<◌, ◌�
 use Rattle.std.specs.Io.KnownBytes.{Consumes}
 use Rattle.std.proofs.KnownBytes.{Consumes-nil}
 use Rattle.std.proofs.lemmas.List.{take-append-le}
-use Rattle.acpi_base.specs.Feeding.{IsGoing}
-use Rattle.acpi_base.specs.TextMachine.{run}
+use Rattle.acpi_base.specs.TextMachine.{IsGoing, run}
 use Rattle.acpi_base.proofs.Texts.Judging.{nothing_brought, more_brought, brought_fits, returned_whole, count_whole, returned_fault, count_fault, returned_read}
 use Rattle.acpi_base.proofs.image_text.read_image.Goals as goal
 

@@ -1,6 +1,6 @@
 use Rattle.std.proofs.Common.{◌≡◌, ◌-◌}
-use Rattle.acpi_base.specs.Feeding.{IsGoing}
-use Rattle.acpi_base.specs.TextReading.{HasBrought}
+use Rattle.acpi_base.specs.Feeding.{HasBrought}
+use Rattle.acpi_base.specs.TextMachine.{IsGoing}
 use Rattle.acpi_base.proofs.image_text.read_image.Given as goal
 
 -- what the reader has brought was fed, no fault stands in it, and no read has failed

@@ -1,7 +1,7 @@
 use Rattle.std.proofs.Common.{◌≡◌, ◌+◌, ◌^◌, ◌<◌, ◌≤◌, ◌∙◌, ◌++◌, ◌∷◌, [], ℕ, List, Option, length, take, map, refl, ap, sym, subst}
 use Rattle.std.proofs.lemmas.List.{map-append, get_or_default}
 use Rattle.std.proofs.lemmas.List.Elements.{All-nil, All-push}
-use Rattle.acpi_write.specs.Readable.{IsReadableAs, IsReadableBehind, kind_behind, said_as}
+use Rattle.acpi_write.specs.Kinds.{IsReadableAs, IsReadableBehind, kind_behind, said_as}
 use Rattle.acpi_write.specs.SetValues.{said_behind}
 use Rattle.acpi_write.specs.Views.{table_value, IsShaped, IsShort}
 use Rattle.acpi_write.proofs.Lengths.{said_short}

@@ -1,6 +1,6 @@
 use Rattle.std.proofs.Common.{◌≡◌, map, take}
 use Rattle.std.specs.List.{All}
-use Rattle.acpi_write.specs.Readable.{HasSeen}
+use Rattle.acpi_write.specs.Kinds.{HasSeen}
 use Rattle.acpi_write.specs.SetValues.{values_of}
 use Rattle.acpi_write.specs.Views.{table_value, IsShaped, IsShort}
 use Rattle.acpi_write.proofs.table_reading.table_values.Given as goal

@@ -1,5 +1,5 @@
 use Rattle.std.proofs.Common.{inr, refl, ◌+◌, length, arith}
-use Rattle.acpi_base.specs.TextReading.{reading_of}
+use Rattle.acpi_base.specs.Lines.{reading_of}
 use Rattle.acpi_base.proofs.Texts.Feeding.{line_too_long, short_bounds}
 use Rattle.acpi_base.proofs.image_text.feeder.Feeder.end_line.Goals as goal
 

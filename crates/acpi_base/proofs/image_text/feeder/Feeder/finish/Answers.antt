@@ -1,7 +1,7 @@
 use Rattle.std.proofs.Common.{ap, sym, ◌∙◌}
 use Rattle.std.proofs.lemmas.Result.{IfOk-weaker}
 use Rattle.acpi_base.specs.ImageText.{read_line}
-use Rattle.acpi_base.specs.TextReading.{reading_of}
+use Rattle.acpi_base.specs.Lines.{reading_of}
 use Rattle.acpi_base.proofs.image_text.feeder.Feeder.finish.Goals as goal
 
 pub returns-clause-ok : goal.returns-clause-ok

@@ -2,7 +2,7 @@ use Rattle.std.proofs.Common.{inl, inr, ◌+◌, ◌∙◌, length, ap, sym, ari
 use Rattle.std.proofs.lemmas.Bool.{cases_lt}
 use Rattle.acpi_base.specs.ImageText.{max_line}
 use Rattle.acpi_base.specs.TextMachine.{Going}
-use Rattle.acpi_base.specs.TextReading.{reading_of}
+use Rattle.acpi_base.specs.Lines.{reading_of}
 use Rattle.acpi_base.proofs.Texts.Feeding.{kept, kept_too_long, short_bounds}
 use Rattle.acpi_base.proofs.image_text.feeder.Feeder.keep.Goals as goal
 

@@ -4,7 +4,7 @@ use Rattle.std.proofs.lemmas.List.{drop-drop}
 use Rattle.std.proofs.lemmas.Slice.{between_to_end}
 use Rattle.acpi_base.specs.ImageText.{read_line}
 use Rattle.acpi_base.specs.TextMachine.{Going, run}
-use Rattle.acpi_base.specs.TextReading.{Refuses, reading_of}
+use Rattle.acpi_base.specs.Lines.{Refuses, reading_of}
 use Rattle.acpi_base.proofs.Texts.Feeding.{line_passed, line_refused, short_bounds}
 use Rattle.acpi_base.proofs.image_text.feeder.Feeder.take.Goals as goal
 

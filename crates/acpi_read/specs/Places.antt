@@ -1,0 +1,7 @@
+-- Where the code has the fields of a FADT, as the plain values that definitions speak of.
+use Rattle.acpi_base.specs.Fadt as fadt
+use Rattle.acpi_read.specs.declared.fadt.Place.{Place}
+
+-- where a field begins, and how many bytes it has
+abbrev pub place_value : Place → fadt.Place
+place_value p = record { offset = p.0; width = p.1 }

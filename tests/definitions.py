@@ -1,0 +1,241 @@
+#!/usr/bin/env python3
+"""Compares the tables of definitions in README with what public contracts rest on: each file of definitions that the
+contract of a public call names, and each that such a file imports, stands in one of these tables with its number of
+lines, and no other file does. The first table has exactly those of the headline, a file stands behind those that it
+imports, and none names a private type of a library.
+
+usage: tests/definitions.py [--write]; prints what differs and what to write in its place, and nothing where all agrees.
+With --write it puts the right numbers of lines and sums into README."""
+
+import re
+import sys
+from dataclasses import dataclass
+from functools import cache
+from pathlib import Path
+
+TOP = Path(__file__).resolve().parent.parent
+README = TOP / "README.md"
+CRATES = re.findall(r"^([a-z_]+):", (TOP / "crates.txt").read_text(), re.M)
+# A name without a crate in README's tables is of this one.
+BASE = "acpi_base"
+# The public calls of the program, which exports nothing, as tests/documents.sh has them; and its laws.
+PROGRAM = re.compile(r"do_job|obey|read_words|run_[a-z]+|status_of")
+# The calls whose definitions the first table has.
+HEADLINE = {"acpi_check::check", "acpi_confirm::confirm", "acpi_cli::check_and_confirm_agree"}
+
+IMPORT = re.compile(r"^ *(?:ghost |pub )?use Rattle\.(\w+)\.specs\.([\w.]+?)(?:\.\{(.*)\}| as (\w+))?;?$", re.M)
+# An item at the left margin, up to the line that ends it.
+ITEM = re.compile(r"^(?:pub )?(?:fn|impl|struct|trait)\b(?:[^\n]*(?:;|\{\})$|.*?^(?:\}|\{\})$)", re.M | re.S)
+# A function's name and what stands before its body.
+HEAD = re.compile(r"^ *(pub )?fn (\w+)(.*?)(?:^ *\{\}?$|;$| \{$)", re.M | re.S)
+# What a trait, an impl or a struct says in ghost code, save proofs: what they prove stands in the trait.
+GHOST = re.compile(r"^ *(?:pub )?ghost (?!use|counted =|one_value =)(\w+)(.*?)[;,]$", re.M | re.S)
+
+
+# ---- files of definitions
+
+
+def path_of(crate, module):
+    """The file of a module of definitions; none of the types that the code declares."""
+    parts = module.split(".")
+    for count in range(len(parts), 0, -1):
+        path = TOP.joinpath("crates", crate, "specs", *parts[:count]).with_suffix(".antt")
+        if path.exists():
+            return path
+    return None
+
+
+def imports(text):
+    """The files that are imported, each with the names that come from it."""
+    for crate, module, names, alias in IMPORT.findall(text):
+        path = path_of(crate, module) if crate in CRATES else None
+        if path:
+            yield path, re.findall(r"[\w']+(?=\s*(?:,|$))", names) or [alias or module.split(".")[-1]]
+
+
+def private_types(path):
+    """The types that it imports and that their library does not export."""
+    for crate, module, _, _ in IMPORT.findall(path.read_text()):
+        if crate in CRATES and module.startswith("declared.") and library_of(crate).exists():
+            name = re.search(r"\.([A-Z]\w*)", module)[1]
+            if name not in exported(crate):
+                yield name
+
+
+def name_of(path):
+    """The file's name in README."""
+    crate, _, *parts = path.relative_to(TOP / "crates").with_suffix("").parts
+    return "/".join(parts if crate == BASE else [crate, *parts])
+
+
+def lines_of(path):
+    return path.read_text().count("\n")
+
+
+# ---- public contracts
+
+
+def library_of(crate):
+    return TOP / "crates" / crate / "src" / "lib.rt"
+
+
+@cache
+def exported(crate):
+    """The names that a library exports, and its public functions; of the program its public calls and its laws."""
+    library = library_of(crate)
+    if not library.exists():
+        items = [(path, item) for path in sources(crate) for item in ITEM.findall(path.read_text())]
+        calls = [(path, item, re.match(r"pub fn (\w+)", item)) for path, item in items]
+        is_law = lambda path, item: path.stem == "laws" or item.endswith("\n{}")
+        return {call[1] for path, item, call in calls if call and (PROGRAM.fullmatch(call[1]) or is_law(path, item))}
+    text = library.read_text()
+    names = set(re.findall(r"\w+", " ".join(re.findall(r"^pub use [a-z_:]*::([^;]*);", text, re.M))))
+    modules = [library.with_name(f"{module}.rt").read_text() for module in re.findall(r"^pub mod (\w+);", text, re.M)]
+    return names.union(*(re.findall(r"^pub (?:fn|struct|enum|trait) (\w+)", module, re.M) for module in [text, *modules]))
+
+
+def sources(crate):
+    return [path for path in (TOP / "crates" / crate / "src").rglob("*.rt") if "tests" not in (path.stem, path.parent.name)]
+
+
+def clauses(head):
+    """What the clauses of a function say, without their names."""
+    start = re.search(r"^ *(?:requires|ensures) ", head, re.M)
+    return re.sub(r"^ *(?:requires|ensures) \w* *\{", "{", head[start.start() :], flags=re.M) if start else ""
+
+
+def promises(item, names):
+    """The public functions and ghost parts of an item, each with what it says. Of a model a caller sees its type alone."""
+    free = re.match(r"pub fn (\w+)", item)
+    block = re.match(r"(?:pub (?:struct|trait)|impl(?:<[^>]*>)?) (?:(\w+)(?:<.*>)? for )?(\w+)", item)
+    if free and free[1] in names:
+        yield free[1], clauses(HEAD.match(item)[3])
+    if not block or block[2] not in names:
+        return
+    is_open = block[1] or item.startswith("pub trait")
+    for public, name, head in HEAD.findall(item):
+        if public or is_open:
+            yield f"{block[2]}::{name}", clauses(head)
+    for name, said in GHOST.findall(item):
+        if block[1] != "Model" or name == "Value":
+            yield f"{block[2]}::{name}", said
+
+
+def named():
+    """For each public contract the files of definitions that it names."""
+    for crate in CRATES:
+        names = exported(crate)
+        for path in sources(crate):
+            text = path.read_text()
+            head = "\n".join(re.findall(r"^ghost use .*", text, re.M))
+            for item in ITEM.findall(text):
+                scope = [*imports(head), *imports(item)]
+                for call, said in promises(item, names):
+                    words = set(re.findall(r"(?<![.\w])[\w']+", said))
+                    yield f"{crate}::{call}", {file for file, known in scope if words.intersection(known)}
+
+
+def closure(contracts):
+    """The files that these contracts rest on, each with what leads to it."""
+    found = {}
+    for call, files in contracts:
+        for file in files:
+            found.setdefault(file, f"the contract of {call}")
+    open_ones = list(found)
+    for file in open_ones:
+        for imported, _ in imports(file.read_text()):
+            if imported not in found:
+                found[imported] = f"`{name_of(file)}`, and so {found[file].split(', and so ')[-1]}"
+                open_ones.append(imported)
+    return found
+
+
+# ---- the tables of README
+
+
+def file_named(name):
+    crate, _, rest = name.partition("/")
+    crate, module = (crate, rest) if crate in CRATES else (BASE, name)
+    return TOP.joinpath("crates", crate, "specs", module).with_suffix(".antt")
+
+
+@dataclass
+class Row:
+    """A row of a table: the place of its line, and the files that it names."""
+
+    place: int
+    files: list
+
+    def lines(self):
+        return sum(lines_of(file) for file in self.files if file.exists())
+
+
+def tables(lines):
+    """The tables, each as its rows and the place of its sum."""
+    rows = []
+    start, end = lines.index("## What the contracts rest on"), lines.index("## What is proved")
+    for place in range(start, end):
+        if names := re.match(r"\| (`[^|]*`) \| \d+ \|", lines[place]):
+            rows.append(Row(place, [file_named(name) for name in re.findall(r"`([^`]+)`", names[1])]))
+        if lines[place].startswith("| together |"):
+            yield rows, place
+            rows = []
+
+
+def right_lines(lines):
+    """The lines of README whose numbers are wrong, by place, as they have to be."""
+    right = {}
+    for rows, place in tables(lines):
+        counts = {row.place: row.lines() for row in rows}
+        for at, count in [*counts.items(), (place, sum(counts.values()))]:
+            right[at] = re.sub(r"\| \d+ \|", f"| {count} |", lines[at], count=1)
+    return {place: line for place, line in right.items() if line != lines[place]}
+
+
+def row_for(file):
+    """A row for a file, which says what its first comment says."""
+    says = re.match(r"-- (.*)", file.read_text())
+    return f"| `{name_of(file)}` | {lines_of(file)} | {says[1].rstrip('.') if says else '..'} | |"
+
+
+def differences(lines):
+    contracts = list(named())
+    needed = closure(contracts)
+    headline = closure((call, files) for call, files in contracts if call in HEADLINE)
+    told = [[file for row in rows for file in row.files] for rows, _ in tables(lines)]
+    listed = sum(told, [])
+    for file in sorted(needed.keys() - set(listed)):
+        yield f"no row for {name_of(file)}, which is asked for by {needed[file]}; such as\n{row_for(file)}"
+    for file in sorted(set(listed) - needed.keys()):
+        yield f"a row for {name_of(file)}, on which no public contract rests"
+    for file in sorted({file for file in listed if listed.count(file) > 1}):
+        yield f"{name_of(file)} stands in two rows"
+    for file in sorted(headline.keys() ^ set(told[0])):
+        where = "asked for by " + headline[file] if file in headline else "not asked for by the headline"
+        yield f"the first table and {name_of(file)}, {where}"
+    rows = [row for table, _ in tables(lines) for row in table]
+    places = {file: place for place, row in enumerate(rows) for file in row.files if file.exists()}
+    for file, place in places.items():
+        for imported, _ in imports(file.read_text()):
+            if places.get(imported, 0) > place:
+                yield f"{name_of(file)} stands before {name_of(imported)}, which it imports"
+    for file in sorted(needed):
+        for name in sorted(set(private_types(file))):
+            yield f"{name_of(file)} names the private type {name}: what names it is to stand apart from what contracts name"
+    for place, line in right_lines(lines).items():
+        yield f"line {place + 1} has to be\n{line}"
+
+
+def main():
+    lines = README.read_text().split("\n")
+    if sys.argv[1:] == ["--write"]:
+        for place, line in right_lines(lines).items():
+            lines[place] = line
+        README.write_text("\n".join(lines))
+    told = list(differences(lines))
+    for line in told:
+        print(f"README: {line}")
+    sys.exit(1 if told else 0)
+
+
+main()
