@@ -18,11 +18,10 @@ IsRefusal bytes left text.Read = IsFaultlessPrefix bytes
 IsRefusal bytes left text.Memory = Unit {0}
 IsRefusal bytes left fault = IsRefusedPrefix bytes fault ⊎ (IsAtEnd left × IsRefused bytes fault)
 
--- The reader's count of failures, before and after: a failure is counted where the fault is one. Another
--- fault may have been found in what had come before a failure.
+-- the reader's count of failures, before and after: with `Read` a failure is counted, and with any other fault none
 abbrev pub CountsRead : ℕ → ℕ → TextFault → Type 0
 CountsRead old new text.Read = CountsFailure old new
-CountsRead old new fault = (new ≡ old) ⊎ CountsFailure old new
+CountsRead old new fault = new ≡ old
 
 -- whether the fault is one of a text, and not of its reader or of memory
 abbrev pub is_of_text : TextFault → Bool

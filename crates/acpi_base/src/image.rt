@@ -21,15 +21,19 @@ mod tests;
 use segments::Segments;
 use std::alloc::{AllocError, Global};
 use std::marker::Model;
+use thiserror::Error;
 
 /// Why bytes could not be added to an image.
-#[derive(Clone, Copy, Debug, PartialEq, Eq)]
+#[derive(Clone, Copy, Debug, PartialEq, Eq, Error)]
 pub enum ImageFault {
     /// The bytes pass the address 2^64 - 1.
+    #[error("past the end")]
     PastEnd,
     /// An address is held already; this is the least such address.
+    #[error("address {address:#x} twice")]
     Twice { address: u64 },
     /// Out of memory.
+    #[error("out of memory")]
     Memory,
 }
 

@@ -120,7 +120,8 @@ impl ImageText {
 
 /// Reads a text to its end or to its first fault, and returns the image of its data. A read of no bytes is
 /// the end. Refuses as `ImageText` does, and with
-/// `Read`, where a read failed, and neither the lines that had ended nor the lengths so far have a fault.
+/// `Read`, where a read failed, and neither the lines that had ended nor the lengths so far have a fault. A read that
+/// failed is told by `Read` alone: with any other result the reader's count of failures is as it was.
 ///
 /// At most 67,108,865 bytes are read, so a reader that never ends is refused. What was read is gone from
 /// the reader, whatever is returned.

@@ -80,4 +80,4 @@ pub starved : (a : Option Asked) (input output : Device) (status : ℕ) → IsUn
 starved None input output status nothing_read nothing_written e = (nothing_read, nothing_written, inr e)
 starved (Some what) input output status nothing_read nothing_written e =
     let reads : Reads input [] = record { consumed = consumes_nothing input.bytes_before input.bytes_after nothing_read.0; bounded = omega arith } in
-    (Err run.Memory, inr (run.Memory, refl, ([], reads), nothing_written), e)
+    (Err run.Memory, inr (run.Memory, refl, record { text = []; read = reads; sound = nothing_read.1 }, nothing_written), e)

@@ -68,13 +68,20 @@ pub record ReadsImage (input : Device) (m : Memory) : Type 0 where
   pub spells : IsText text m
   pub sound : HasNotFailed input
 
--- the text that was read is refused with this fault, which is one of a text's own: no failed read, and not
--- out of memory
+-- no read failed, and the text that was read is refused with this fault, which is one of a text's own: not out of
+-- memory
 pub record ReadsRefused (input : Device) (fault : TextFault) : Type 0 where
   pub text : List ℕ
   pub read : Reads input text
   pub refused : IsRefusal text input.bytes_after fault
   pub own : is_of_text fault ≡ true
+  pub sound : HasNotFailed input
+
+-- no read failed, and memory ran out, whatever had come
+pub record ReadsOutOfMemory (input : Device) : Type 0 where
+  pub text : List ℕ
+  pub read : Reads input text
+  pub sound : HasNotFailed input
 
 -- a read failed, and no fault stood in what had come
 pub record ReadsFailed (input : Device) : Type 0 where
@@ -85,11 +92,11 @@ pub record ReadsFailed (input : Device) : Type 0 where
 
 -- What was read, by the result: a whole text, which is the image's; a text that has this fault; where a read failed,
 -- bytes in which no fault stood so far; and out of memory any bytes. It is never more than one byte beyond the longest
--- text.
+-- text. With any result but `Device` no read failed.
 abbrev pub ReadsInput : Device → Result Memory RunFault → Type 0
 ReadsInput input (Ok image) = ReadsImage input image
 ReadsInput input (Err (run.Image fault)) = ReadsRefused input fault
-ReadsInput input (Err run.Memory) = (text : List ℕ) × Reads input text
+ReadsInput input (Err run.Memory) = ReadsOutOfMemory input
 ReadsInput input (Err run.Device) = ReadsFailed input
 
 -- ---- writing

@@ -86,13 +86,13 @@ brought_fits before left (Stopped fault) count b go = absurd go
 
 -- a fault that is no failed read leaves the count as it is
 same_count : (old new : ℕ) (fault : TextFault) → new ≡ old → (fault ≡ text.Read → ⊥) → CountsRead old new fault
-same_count old new (text.BadLine line) same other = inl same
-same_count old new (text.NoAddress line) same other = inl same
-same_count old new (text.Twice address) same other = inl same
-same_count old new (text.PastEnd line) same other = inl same
-same_count old new text.TooLong same other = inl same
+same_count old new (text.BadLine line) same other = same
+same_count old new (text.NoAddress line) same other = same
+same_count old new (text.Twice address) same other = same
+same_count old new (text.PastEnd line) same other = same
+same_count old new text.TooLong same other = same
 same_count old new text.Read same other = absurd (other refl)
-same_count old new text.Memory same other = inl same
+same_count old new text.Memory same other = same
 
 -- ---- how reading ends
 

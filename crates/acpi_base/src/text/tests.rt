@@ -1,4 +1,4 @@
-use crate::{DeviceFailed, TextFault};
+use crate::{DeviceFailed, ImageFault, TextFault};
 use std::alloc::AllocError;
 
 /// Faults of each kind, and how each is told.
@@ -33,5 +33,26 @@ fn texts_of_text_faults(rt: HostRuntime) -> Result<(), AllocError> {
     }
     let text = format!(in rt.alloc(); "{DeviceFailed}")?;
     assert!(rt; text.as_str() == "device");
+    Ok(())
+}
+
+/// Why bytes cannot be added, and how each is told.
+const IMAGE_FAULTS: [(ImageFault, &str); 3] = [
+    (ImageFault::PastEnd, "past the end"),
+    (
+        ImageFault::Twice {
+            address: 0xfec0_abcd,
+        },
+        "address 0xfec0abcd twice",
+    ),
+    (ImageFault::Memory, "out of memory"),
+];
+
+#[test]
+fn texts_of_image_faults(rt: HostRuntime) -> Result<(), AllocError> {
+    for (fault, wanted) in &IMAGE_FAULTS {
+        let text = format!(in rt.alloc(); "{fault}")?;
+        assert!(rt; text.as_str() == *wanted, "{text}");
+    }
     Ok(())
 }
