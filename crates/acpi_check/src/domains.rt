@@ -153,7 +153,10 @@ fn first_two_domains(
 
 /// Whether the SRAT puts no processor of the MADT that counts as enabled in two domains, or the set lists no MADT or no
 /// SRAT. A fault is at the first entry of the SRAT that puts a processor in another domain than the first entry that is of
-/// it, whose offset is `other`; `point` is the processor's APIC ID or x2APIC ID. Takes memory for each processor.
+/// it, whose offset is `other`; `point` is the processor's APIC ID or x2APIC ID.
+///
+/// Takes memory for each enabled entry of the SRAT that puts a processor in a domain; and where some processor is put in two,
+/// also for each processor that counts as enabled.
 pub fn one_domain(alloc: Global, set: &Set<'_>) -> Result<(), Refusal>
     requires clean { CleanBefore Stage.Domains set.now.image.now set.now.policy.now }
     requires set { IsSet set.now }

@@ -1,4 +1,4 @@
-//! Stage 18: the leaves of the PPTT among the processors of the MADT.
+//! Stage 18: the IDs of the PPTT's leaves among the UIDs of the MADT's processors.
 
 ghost use Rattle.std.specs.Prelude.{◌≡◌, ◌<◌, ⊤, AllPairs, Contains, IfOk, MatchBool, MatchOption};
 ghost use Rattle.acpi_base.specs.Across.{AreLeavesKnown, LeafFault};
@@ -23,7 +23,8 @@ use acpi_base::{Code, Witness};
 use acpi_read::{Entries, Entry, MadtEntry, PpttEntry, Table};
 use std::alloc::{AllocError, Global};
 
-/// Whether an entry of a MADT is of a type that is read here: another one may be of a processor.
+/// Whether an entry of a MADT is read here: it is of one of the eight types that are, and has the length of its type. Another
+/// one may be of a processor.
 fn is_typed(entry: &Entry<'_>) -> bool
     ensures { result ≡ is_typed (madt_entry entry.now.bytes.now) }
 {
@@ -34,7 +35,8 @@ fn is_typed(entry: &Entry<'_>) -> bool
     }
 }
 
-/// Whether typed entries fill a MADT, so that all its processors are known.
+/// Whether entries that are read here fill a MADT, so that all its processors are known: not where it is shorter than 44
+/// bytes, or cut.
 fn is_wholly_typed(table: Table<'_>) -> bool
     ensures { MatchBool result (IsWhollyTyped (madt_contents table.entry)) (¬ IsWhollyTyped (madt_contents table.entry)) }
 {
@@ -50,7 +52,7 @@ fn is_wholly_typed(table: Table<'_>) -> bool
 }
 
 /// The ID of a leaf: of a node whose flags say that the ID is valid, in bit 1, and that it is a leaf, in bit 3. None for
-/// another entry.
+/// another entry, and for a leaf whose ID is not valid.
 #[tactic(auto, unfolding(acpi_base::specs::Number::has_bit))]
 fn leaf_id(entry: &Entry<'_>) -> Option<u32>
     ensures { result ≡ leaf_id (pptt_entry entry.now.bytes.now) }
@@ -77,7 +79,7 @@ fn leaf_ids(alloc: Global, table: Table<'_>) -> Result<Vec<u64>, AllocError>
     Ok(ids)
 }
 
-/// The fault of a leaf whose ID is not among the UIDs, which rise.
+/// The fault of a leaf whose ID is not among the UIDs, which rise. None for an entry that is no leaf.
 fn own_fault(uids: &[u64], entry: &Entry<'_>) -> Option<Witness>
     requires { AllPairs (λ i j. i < j) uids.now }
     ensures { MatchOption result (IsKnown (Contains uids.now) (leaf_id (pptt_entry entry.now.bytes.now)))
@@ -112,9 +114,9 @@ fn first_unknown(uids: &[u64], table: Table<'_>) -> Option<Witness>
 /// The Revision of the PPTT that first has the flag of a leaf.
 const HAS_LEAVES: u8 = 2;
 
-/// The fault of the first leaf of a PPTT that is no processor of a MADT. A PPTT before revision 2 has none, and of a MADT
-/// that is not wholly typed nothing is said. Leaves are looked up one by one only where their sorted IDs are not all seen
-/// among the UIDs.
+/// The fault of the first leaf of a PPTT whose ID is no UID of a MADT, where the PPTT's Revision is at least 2 and the MADT is
+/// wholly typed, which are asked in this order before any memory is taken. Then the UIDs and the leaves' IDs are sorted and
+/// gone over together; only where not all IDs are seen among the UIDs are the leaves looked up one by one.
 fn first_unknown_leaf(
     alloc: Global,
     madt: Table<'_>,
@@ -134,9 +136,13 @@ fn first_unknown_leaf(
     Ok(first_unknown(&uids, pptt))
 }
 
-/// Whether the ID of each leaf of the PPTT is the UID of a processor of the MADT, or the PPTT's Revision is below 2, or
-/// the MADT has an entry of a type that is not read here, or the set lists no MADT or no PPTT. A fault is at the leaf's
-/// offset, and `point` is its ID. Takes memory for each processor.
+/// Whether the ID of each leaf of the PPTT is the UID of a processor of the MADT, enabled or not, or the set lists no MADT or
+/// no PPTT, or the PPTT's Revision is below 2, or the MADT has an entry of a type that is not read here. A leaf is a node
+/// whose flags say that it is one and that its ID is valid. A fault is at the offset of the first leaf whose ID is no UID;
+/// `other` is 0, and `point` is the ID.
+///
+/// What exempts a set is asked first, in this order, and takes no memory. Behind it memory is taken for the UID of each
+/// processor and the ID of each leaf.
 pub fn known_leaves(alloc: Global, set: &Set<'_>) -> Result<(), Refusal>
     requires clean { CleanBefore Stage.Leaves set.now.image.now set.now.policy.now }
     requires set { IsSet set.now }

@@ -1,4 +1,4 @@
-//! Stage 17: the interrupt numbers that entries of the MADT name.
+//! Stage 17: the interrupt numbers that overrides and NMI sources of the MADT name, among those that its I/O APICs serve.
 
 ghost use Rattle.std.specs.Prelude.{◌≡◌, ⊤, IfOk, IsTrue, MatchBool, MatchOption};
 ghost use Rattle.acpi_base.specs.Across.{AreNamedServed, ServedFault};
@@ -54,8 +54,9 @@ fn named_gsis(alloc: Global, table: Table<'_>) -> Result<Vec<u64>, AllocError>
     Ok(numbers)
 }
 
-/// Whether I/O APICs of a MADT are seen to serve all interrupt numbers that entries name. It costs two sorts of short
-/// records and one walk over both, and no search.
+/// Whether I/O APICs of a MADT are seen to serve all interrupt numbers that entries name; a `false` says nothing. What they
+/// serve, as short records, and the numbers are sorted and gone over together, with no search. Takes memory for one record
+/// for each I/O APIC, and for one number for each override and each NMI source.
 fn are_all_served(alloc: Global, policy: &Policy, table: Table<'_>) -> Result<bool, AllocError>
     ensures { IfOk result (λ all. IsTrue all → AreNamedServed policy.now (madt_contents table.entry)) }
 {
@@ -64,7 +65,7 @@ fn are_all_served(alloc: Global, policy: &Policy, table: Table<'_>) -> Result<bo
     Ok(are_held(&ranges, &numbers))
 }
 
-/// The interrupt numbers that each I/O APIC of a MADT serves, in rising order.
+/// The interrupt numbers that each I/O APIC of a MADT serves, as spans in rising order. Takes memory for one span for each.
 fn rising_spans(alloc: Global, policy: &Policy, table: Table<'_>) -> Result<Vec<Span>, AllocError>
     requires { AreInterruptsApart policy.now (madt_contents table) }
     ensures { IfOk result (λ spans. AreServed policy.now (madt_contents table.entry) spans.items) }
@@ -76,7 +77,8 @@ fn rising_spans(alloc: Global, policy: &Policy, table: Table<'_>) -> Result<Vec<
     Ok(spans)
 }
 
-/// Whether one of the spans holds a number. Each ends before the next begins.
+/// Whether one of the spans holds a number: each ends before the next begins, so only the last one that begins at the number
+/// or below it can. It is found by binary search.
 fn is_held(spans: &[Span], number: u128) -> bool
     requires { DoSpansRise spans.now }
     ensures { MatchBool result (IsHeld spans.now number) (¬ IsHeld spans.now number) }
@@ -85,7 +87,7 @@ fn is_held(spans: &[Span], number: u128) -> bool
     begun > 0 && number < spans[begun - 1].end
 }
 
-/// The fault of an entry that names an interrupt number that none of the spans holds.
+/// The fault of an entry that names an interrupt number that none of the spans holds. None for an entry that names none.
 fn own_fault(spans: &[Span], entry: &Entry<'_>) -> Option<Witness>
     requires { DoSpansRise spans.now }
     ensures { MatchOption result (IsKnown (IsHeld spans.now) (named_gsi (madt_entry entry.now.bytes.now)))
@@ -120,7 +122,7 @@ fn first_unheld(spans: &[Span], table: Table<'_>) -> Option<Witness>
 }
 
 /// The fault of the first entry of a MADT that names an interrupt number that no I/O APIC serves, where there is an
-/// I/O APIC.
+/// I/O APIC. Spans are sorted, and the numbers looked up one by one, only where not all are seen to be served.
 fn first_unserved(
     alloc: Global,
     policy: &Policy,
@@ -141,8 +143,12 @@ fn first_unserved(
 }
 
 /// Whether an I/O APIC of the MADT serves each interrupt number that an override or an NMI source names, or the MADT has
-/// no I/O APIC, or the set lists no MADT. A fault is at the offset of the entry that names the number, which is `point`.
-/// Takes memory for each I/O APIC.
+/// no I/O APIC, or the set lists no MADT. A fault is at the offset of the first entry that names a number that none serves;
+/// `other` is 0, and `point` is the number.
+///
+/// First it is asked whether all numbers are seen to be served, which takes memory for one short record for each I/O APIC and
+/// one number for each override and each NMI source. Only where they are not, the first that is not served is looked for, which
+/// takes memory for one span for each I/O APIC. A set that lists no MADT takes none.
 pub fn named_served(alloc: Global, set: &Set<'_>) -> Result<(), Refusal>
     requires clean { CleanBefore Stage.Served set.now.image.now set.now.policy.now }
     requires set { IsSet set.now }

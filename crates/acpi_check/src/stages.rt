@@ -101,7 +101,7 @@ fn set_to<'a>(image: &'a Image, policy: &'a Policy, last: Stage) -> Result<Optio
     Ok(Some(sound_fadt(image, policy, tables)?))
 }
 
-/// Asks one stage from the FACS on.
+/// Asks one stage from the FACS on. Those that take memory are handed `alloc`; the others take none.
 fn ask(alloc: Global, set: &Set<'_>, stage: Stage) -> Result<(), Refusal>
     requires clean { CleanBefore stage set.now.image.now set.now.policy.now }
     requires set { IsSet set.now }

@@ -1,5 +1,5 @@
 -- What rebuilding a set gives, and what it refuses.
-use Rattle.std.specs.Prelude.{◌≡◌, ℕ, ◌%◌}
+use Rattle.std.specs.Prelude.{◌≡◌, ◌≢◌, ℕ, ◌%◌}
 use Rattle.acpi_base.specs.Faults.{IsFirstFault}
 use Rattle.acpi_base.specs.Memory.{Memory, IsImage}
 use Rattle.acpi_base.specs.Policy.{PolicyValue, with_rsdp}
@@ -37,7 +37,12 @@ abbrev pub rebuild_fault_of : ValuesFault → RebuildFault
 rebuild_fault_of (values_fault.NotClean w) = fault.NotClean w
 rebuild_fault_of values_fault.Memory = fault.Memory
 
--- ---- a law
+-- ---- laws
+
+-- Memory aside, a set that is refused at a base address is not rebuilt there, and one that is rebuilt is not refused. So `rebuild`,
+-- whose contract names these two alone, is refused exactly where a refusal stands.
+abbrev pub RefusedSetsAreNotRebuilt : Type 0
+RefusedSetsAreNotRebuilt = (m : Memory) (q : PolicyValue) (base : ℕ) (new : Memory) (refused : RebuildFault) → refused ≢ fault.Memory → IsRebuildRefusal m q base refused → ¬ IsRebuilt m q base new
 
 -- The rebuilt image of the value v at a base address is kept as a set: under the policy with the RSDP at that address it is
 -- clean, it says v, and whatever it says can stand at that address again, where its rebuilt image is this one.

@@ -2,7 +2,7 @@
 
 ghost use Rattle.acpi_write.specs.Laws.{ContentsAreKept, EntriesAreKept, FadtsNameFacs, WhatIsReadIsSpelled};
 ghost use Rattle.acpi_write.specs.Placed.{PlacedUnlessRefused, RebuiltLeadsToTables};
-ghost use Rattle.acpi_write.specs.Rebuilding.{RebuiltSetsAreKept};
+ghost use Rattle.acpi_write.specs.Rebuilding.{RebuiltSetsAreKept, RefusedSetsAreNotRebuilt};
 ghost use Rattle.acpi_write.specs.Rebuilt.{CleanPartsAreLaid, RebuiltHoldsParts};
 ghost use Rattle.acpi_write.specs.SetValues.{OneSetValue};
 ghost use Rattle.acpi_write.specs.Spells.{OneValueSpelled};
@@ -60,6 +60,12 @@ pub fn rebuilt_leads_to_tables()
 /// part would pass the last address, or the FADT has no room for the FACS's address.
 pub fn placed_unless_refused()
     ensures { PlacedUnlessRefused }
+{}
+
+/// No set is both refused and rebuilt at one base address: where this is not a multiple of 64, where the set is not clean, or
+/// where what it says cannot stand there, there is no rebuilt image. That memory runs out is no such reason.
+pub fn refused_sets_are_not_rebuilt()
+    ensures { RefusedSetsAreNotRebuilt }
 {}
 
 /// Where what a clean set says can stand from a base address on, its rebuilt image holds a clean set there, under the same

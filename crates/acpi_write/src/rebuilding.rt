@@ -30,6 +30,7 @@ use std::alloc::Global;
 /// `NeedsLow`, where the FADT has fewer than 140 bytes and the FACS would stand at 2^32 or above;
 /// `Memory`, where the allocator is out of memory, which may come in the place of any but `Unaligned`, and only where the
 /// stages up to the MADT's hold, which take none.
+/// By the law `refused_sets_are_not_rebuilt` none of them but `Memory` stands beside a rebuilt image.
 pub fn rebuild(
     alloc: Global,
     image: &Image,
