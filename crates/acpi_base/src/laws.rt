@@ -4,6 +4,7 @@ ghost use Rattle.std.specs.Prelude.{◌≡◌, ℕ, ◌↔◌, List, Some, IsSom
 ghost use Rattle.acpi_base.specs.Memory.{Memory, bytes_at, Has, AreBytes};
 ghost use Rattle.acpi_base.specs.Policy.{PolicyValue};
 ghost use Rattle.acpi_base.specs.Entries.{OneCut, EntriesStand, CutIsStart, NoCutFault, CutsWhereAllStand, NoneInShort};
+ghost use Rattle.acpi_base.specs.Examples.AlteredSets.{AreRsdpFaults, AreRootFaults, AreTableFaults, AreFadtFaults, AreFacsFaults};
 ghost use Rattle.acpi_base.specs.Examples.Madts.{AreMadtContents, AreMadtFaults, IsFirstInterrupt, HasNoMadtFault};
 ghost use Rattle.acpi_base.specs.Examples.Pptts.{ArePpttContents, ArePpttFaults, AreCycleFaults, HasNoPpttFault};
 ghost use Rattle.acpi_base.specs.Examples.Sets.{AreListedTables, AreSetFaults};
@@ -150,6 +151,15 @@ pub fn slit_and_pptt_examples()
 pub fn set_examples()
     ensures listed { AreListedTables }
     ensures faults { AreSetFaults }
+{}
+
+/// Examples of the faults of the first five stages, one of each code: a clean set with one byte changed or missing.
+pub fn altered_set_examples()
+    ensures rsdp_faults { AreRsdpFaults }
+    ensures root_faults { AreRootFaults }
+    ensures table_faults { AreTableFaults }
+    ensures fadt_faults { AreFadtFaults }
+    ensures facs_faults { AreFacsFaults }
 {}
 
 /// The written form of an image is read as the image, where a text may be so long, and an image has one written form.

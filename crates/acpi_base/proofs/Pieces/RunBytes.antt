@@ -5,7 +5,7 @@ use Rattle.std.specs.Prelude.{◌==◌}
 use Rattle.std.specs.Option.{option_or}
 use Rattle.std.specs.Ordering.{nat_cmp, eq_by_cmp}
 use Rattle.std.specs.Cmp.{nat_cmp_total}
-use Rattle.std.specs.FinMap.{insert, get-insert, get-empty}
+use Rattle.std.specs.FinMap.{insert, remove, get-insert, get-remove, get-empty}
 use Rattle.std.proofs.lemmas.Bool.{cases_lt}
 use Rattle.std.proofs.lemmas.Bool.Decides.{nat_tests}
 use Rattle.std.proofs.lemmas.Option.{slice_get_past, slice_get-get_or}
@@ -48,6 +48,10 @@ same_number x a = grind (arith, nat_tests)
 -- what an image with one byte put in at a has at an address
 pub byte_of-insert : (m : Memory) (a b x : ℕ) → byte_of (insert m a b) x ≡ cond (x == a) (Some b) (byte_of m x)
 byte_of-insert m a b x = get-insert nat_cmp_total m a b x ∙ ap (λ t. cond t (Some b) (byte_of m x)) (same_number x a)
+
+-- what an image with the byte at a taken out has at an address
+pub byte_of-remove : (m : Memory) (a x : ℕ) → byte_of (remove m a) x ≡ cond (x == a) None (byte_of m x)
+byte_of-remove m a x = get-remove nat_cmp_total m a x ∙ ap (λ t. cond t None (byte_of m x)) (same_number x a)
 
 -- what an image with bytes put in from a on has at an address
 pub byte_of-with_bytes : (m : Memory) (a : ℕ) (bs : List ℕ) (x : ℕ) → byte_of (with_bytes m a bs) x ≡ option_or (held (run_at a bs) x) (byte_of m x)
