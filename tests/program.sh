@@ -161,28 +161,14 @@ hints() { says "$1
   tip: $2
 $usage" "${@:3}"; }
 
-# helps ARGUMENTS..: the help begins with what the program is, and has the usage of each command and the stages.
+# helps ARGUMENTS..: the whole help is written, byte by byte as it stands in help.txt.
 helps() {
-  local wrong="" line
+  local wrong=""
   "$program" "$@" <"$smallest" >"$scratch/out" 2>"$scratch/err"
   local got=$?
   [ "$got" = 2 ] || wrong="status $got, not 2"
   [ ! -s "$scratch/out" ] || wrong="$wrong; standard output $(cat "$scratch/out")"
-  [[ $(head -n 1 "$scratch/err") == 'acpiset: checks the static ACPI tables '* ]] || wrong="$wrong; standard error $(head -n 1 "$scratch/err")"
-  while read -r line; do
-    grep -qxF -- "$line" <(sed 's/^ *//' "$scratch/err") || wrong="$wrong; no '$line'"
-  done <<LIST
-acpiset check [--rsdp HEX] [--through N]
-[--default-inputs N] [ADDRESS=COUNT]..
-[--hotplug counted|apart] [--processors enabled|usable]
-acpiset confirm --witness FAULT [--rsdp HEX]
-acpiset rebuild --base HEX [--rsdp HEX]
-acpiset show [--rsdp HEX]
-acpiset find
---through N  the last stage to check, 1 to $last, and $last if absent:
-LIST
-  grep -qF "'10 Overlap 0x30 0x58 0x0'" "$scratch/err" || wrong="$wrong; no fault as it is written"
-  [ "$(sed -n '/^  --through/,/^$/s/^ \{15,\}\([0-9][0-9]*\) .*/\1/p' "$scratch/err" | tr '\n' ' ')" = "$(seq -s ' ' "$last") " ] || wrong="$wrong; no list of the stages"
+  cmp -s help.txt "$scratch/err" || wrong="$wrong; standard error, beside help.txt: $(diff help.txt "$scratch/err")"
   count "arguments '$*'" "$wrong"
 }
 

@@ -594,3 +594,144 @@ pptt 0x3000
 0x3c cut
 """,
 )
+
+# ---- each number that no set above has from 10 on: below 10 its digits are the same in hex and in decimal
+
+shown(
+    "an RSDP, a root and slots with numbers from 10 on",
+    {
+        RSDP_AT: changed(extended_rsdp(), {15: 18}, (8, 20), (32, 36)),
+        XSDT_AT: xsdt(*[0] * 11, TABLES_AT),
+        TABLES_AT: table(b"HPET", bytes(20), 30),
+    },
+    """
+rsdp 0xe0000 revision 18
+root 0x1100 XSDT length 132 slots 12
+slot 0 empty
+slot 1 empty
+slot 2 empty
+slot 3 empty
+slot 4 empty
+slot 5 empty
+slot 6 empty
+slot 7 empty
+slot 8 empty
+slot 9 empty
+slot 10 empty
+slot 11 0x2000 HPET length 56 revision 30
+""",
+)
+with_fadt(
+    "a FADT, its register blocks and its FACS with numbers from 10 on",
+    fadt(
+        0xA5C,
+        244,
+        _36=number(FACS_AT, 4) + number(0xD5D70000, 4),
+        _45=bytes([200]) + number(300, 2),
+        _64=number(0x604, 4),
+        _89=bytes([20]),
+        _148=gas(127, 48, 16, 20, 0x1234),
+    ),
+    """
+fadt 0x2000 length 244 profile 200 sci 300 flags 0xa5c reduced no
+dsdt 0xd5d70000
+block PM1a_EVT gas 127 48 16 20 0x1234
+block PM1a_CNT port 20 0x604
+facs 0x7000 length 64 version 18
+""",
+    x7000=changed(facs(), {32: 18}),
+)
+beside_fadt(
+    "a MADT with all kinds of entries, and numbers from 10 on",
+    table(
+        b"APIC",
+        number(0xFEE00000, 4)
+        + number(0x1B, 4)
+        + lapic(18, 27, 0x1A2B3C4D)
+        + bytes([1, 12, 16, 0])
+        + number(0xFEC00000, 4)
+        + number(240, 4)
+        + override(14, 30, 0xD)
+        + nmi_source(12, 0xD)
+        + lapic_nmi(254, 17, 0xE)
+        + lapic_address(0x1FEE00000)
+        + x2apic(4000, 3000, 0xC)
+        + x2apic_nmi(2000, 31, 0xB),
+    ),
+    "slot 1 0x3000 APIC length 128 revision 1",
+    """
+madt 0x3000 lapic 0xfee00000 flags 0x1b
+0x2c lapic uid 18 id 27 flags 0x1a2b3c4d
+0x34 ioapic id 16 address 0xfec00000 base 240
+0x40 override source 14 gsi 30 flags 0xd
+0x4a nmi gsi 12 flags 0xd
+0x52 lapic-nmi uid 254 flags 0xe lint 17
+0x58 lapic-address 0x1fee00000
+0x64 x2apic uid 4000 id 3000 flags 0xc
+0x74 x2apic-nmi uid 2000 flags 0xb lint 31
+""",
+)
+beside_fadt(
+    "an SRAT with numbers from 10 on",
+    srat(
+        apic_domain(200, 0x0B0C0D, 0x1A),
+        changed(memory(0x100000000, 0xA0000, 0x1F), {2: 30}),
+        x2apic_domain(70000, 20, 0x2B),
+    ),
+    "slot 1 0x3000 SRAT length 128 revision 1",
+    """
+srat 0x3000
+0x30 cpu id 200 domain 723981 flags 0x1a
+0x40 memory domain 30 base 0x100000000 length 0xa0000 flags 0x1f
+0x68 cpu id 70000 domain 20 flags 0x2b
+""",
+)
+beside_fadt(
+    "a SLIT of eleven localities",
+    slit(11, [10 if row == column else 20 for row in range(11) for column in range(11)]),
+    "slot 1 0x3000 SLIT length 165 revision 1",
+    """
+slit 0x3000 count 11
+row 0 10 20 20 20 20 20 20 20 20 20 20
+row 1 20 10 20 20 20 20 20 20 20 20 20
+row 2 20 20 10 20 20 20 20 20 20 20 20
+row 3 20 20 20 10 20 20 20 20 20 20 20
+row 4 20 20 20 20 10 20 20 20 20 20 20
+row 5 20 20 20 20 20 10 20 20 20 20 20
+row 6 20 20 20 20 20 20 10 20 20 20 20
+row 7 20 20 20 20 20 20 20 10 20 20 20
+row 8 20 20 20 20 20 20 20 20 10 20 20
+row 9 20 20 20 20 20 20 20 20 20 10 20
+row 10 20 20 20 20 20 20 20 20 20 20 10
+""",
+)
+beside_fadt(
+    "a PPTT with numbers from 10 on",
+    pptt(
+        node(0x3C, 0x1B, 70, resources=[0x50]),
+        node(0, 0x1A, 80),
+        bytes([1, 24, 0, 0])
+        + number(0xAB, 4)
+        + number(0x68, 4)
+        + number(4096, 4)
+        + number(32, 4)
+        + bytes([16, 0x1C])
+        + number(128, 2),
+        bytes([1, 28, 0, 0])
+        + number(0xCD, 4)
+        + number(0, 4)
+        + number(8192, 4)
+        + number(512, 4)
+        + bytes([12, 0x1E])
+        + number(256, 2)
+        + number(90, 4),
+    ),
+    "slot 1 0x3000 PPTT length 132 revision 2",
+    """
+pptt 0x3000
+0x24 node flags 0x1b parent 0x3c id 70 resources 0x50
+0x3c node flags 0x1a parent 0x0 id 80 resources
+0x50 cache flags 0xab next 0x68 size 4096 sets 32 ways 16 attributes 0x1c line 128
+0x68 cache flags 0xcd next 0x0 size 8192 sets 512 ways 12 attributes 0x1e line 256 id 90
+""",
+)
