@@ -10,6 +10,7 @@ import sys
 from rebuilder import Refused, rebuilt, runs_read
 
 from cases import FIRMWARE, IMAGES, Cases, text_in
+from many import MANY
 from rows import FULL, ROWS, WINDOW
 from tables import *
 
@@ -150,7 +151,7 @@ def firmware(cases):
 
 def rows(cases):
     """Each set of tests/rows that a check judges whole: rebuilt as the second rebuilder does it, or the line of the check."""
-    for row in ROWS:
+    for row in [*ROWS, *MANY]:
         command, *words = row.words.split()
         if command != "check" or words[:1] != ["--rsdp"] or "--through" in words:
             continue

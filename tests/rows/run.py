@@ -6,6 +6,7 @@ usage: run.py PROGRAM; the last line is 'rows: N passed, M failed'."""
 import subprocess
 import sys
 
+from many import MANY
 from rows import ROWS
 from tables import text_of
 
@@ -25,12 +26,12 @@ def wrong(program, row):
 def main():
     _, program = sys.argv
     failed = 0
-    for row in ROWS:
+    for row in [*ROWS, *MANY]:
         fault = wrong(program, row)
         if fault:
             failed += 1
             print(f"{row.name}: {fault}")
-    print(f"rows: {len(ROWS) - failed} passed, {failed} failed")
+    print(f"rows: {len(ROWS) + len(MANY) - failed} passed, {failed} failed")
     sys.exit(1 if failed else 0)
 
 
