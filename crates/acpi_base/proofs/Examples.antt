@@ -1,6 +1,6 @@
 -- What holds of each entry of an example, and what of none.
 pub mod AlteredSets
-pub mod CleanSets
+pub mod WholeSets
 pub mod Madts
 pub mod Pptts
 pub mod Sets

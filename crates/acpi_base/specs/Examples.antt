@@ -1,6 +1,6 @@
 -- Examples of tables, each worked out by hand from the rules: their bytes, what they say, and their faults.
 pub mod AlteredSets
-pub mod CleanSets
+pub mod WholeSets
 pub mod Madts
 pub mod Pptts
 pub mod Sets

@@ -153,7 +153,7 @@ pub fn set_examples()
     ensures faults { AreSetFaults }
 {}
 
-/// Examples of the faults of the first five stages, one of each code: a clean set with one byte changed or missing.
+/// Examples of the faults of the first five stages, one of each code: a set with one byte changed or missing.
 pub fn altered_set_examples()
     ensures rsdp_faults { AreRsdpFaults }
     ensures root_faults { AreRootFaults }

@@ -14,14 +14,14 @@ use Rattle.acpi_base.specs.Listed.{fadt_signature, ListsNone}
 use Rattle.acpi_base.specs.Fadt.{IsFadt, FadtTableFault, facs_address, has_flag, wide_address}
 use Rattle.acpi_base.specs.Facs.{NamedFacsFault}
 use Rattle.acpi_base.specs.Faults.{FaultCondition, FaultOfStage}
-use Rattle.acpi_base.specs.Examples.CleanSets.{fadt_bytes, clean_runs, clean_set, clean_policy}
+use Rattle.acpi_base.specs.Examples.WholeSets.{fadt_bytes, whole_runs, whole_set, example_policy}
 use Rattle.acpi_base.specs.Examples.AlteredSets.{altered, HasFaultWith, AreRsdpFaults, AreRootFaults, AreTableFaults, AreFadtFaults, AreFacsFaults}
 use Rattle.acpi_base.specs.Examples.Sets.{rsdp_at, HasFault}
 use Rattle.acpi_base.specs.declared.code.Code.{Code}
 use Rattle.acpi_base.specs.declared.code.Code.TheVariants as code
 use Rattle.acpi_base.specs.declared.stage.Stage.{Stage}
 use Rattle.acpi_base.specs.declared.stage.Stage.TheVariants as stage
-use Rattle.acpi_base.proofs.Examples.CleanSets.{byte_of_clean_set, HasRoot, clean_has_root, root_of, root_of_held, root_table_of, first_slot, each_slot, tables, not_signed}
+use Rattle.acpi_base.proofs.Examples.WholeSets.{byte_of_whole_set, HasRoot, whole_has_root, root_of, root_of_held, root_table_of, first_slot, each_slot, tables, not_signed}
 use Rattle.acpi_base.proofs.Faults.Least.{witness}
 use Rattle.acpi_base.proofs.Root.Slots.{root_slot}
 use Rattle.acpi_base.proofs.Tables.Listed.{listed_in_root, none_in_root}
@@ -30,40 +30,40 @@ use Rattle.acpi_base.proofs.Runs.{run_of-agree}
 
 -- ---- the bytes of an altered set
 
--- those of the clean set's runs, but for one
+-- those of the whole set's runs, but for one
 abbrev with_one : ℕ → Option ℕ → ℕ → Option ℕ
-with_one a byte x = cond (x == a) byte (lookup clean_runs x)
+with_one a byte x = cond (x == a) byte (lookup whole_runs x)
 
 byte_of_altered : (a : ℕ) (byte : Option ℕ) (x : ℕ) → byte_of (altered a byte) x ≡ with_one a byte x
-byte_of_altered a (Some b) x = byte_of-insert clean_set a b x ∙ ap (cond (x == a) (Some b)) (byte_of_clean_set x)
-byte_of_altered a None x = byte_of-remove clean_set a x ∙ ap (cond (x == a) None) (byte_of_clean_set x)
+byte_of_altered a (Some b) x = byte_of-insert whole_set a b x ∙ ap (cond (x == a) (Some b)) (byte_of_whole_set x)
+byte_of_altered a None x = byte_of-remove whole_set a x ∙ ap (cond (x == a) None) (byte_of_whole_set x)
 
 bytes_at_altered : (a : ℕ) (byte : Option ℕ) (p n : ℕ) → bytes_at (altered a byte) p n ≡ run_of (with_one a byte) p n
 bytes_at_altered a byte p n = λ i. run_of (λ x. byte_of_altered a byte x i) p n
 
--- away from that one they are the clean set's
-byte_kept : (a : ℕ) (byte : Option ℕ) (x : ℕ) → x ≢ a → byte_of (altered a byte) x ≡ byte_of clean_set x
+-- away from that one they are the whole set's
+byte_kept : (a : ℕ) (byte : Option ℕ) (x : ℕ) → x ≢ a → byte_of (altered a byte) x ≡ byte_of whole_set x
 byte_kept a byte x other = altered_is byte ∙ rw differs refl
   where
     differs : (x == a) ≡ false
     differs = grind (arith, nat_tests)
 
-    altered_is : (byte : Option ℕ) → byte_of (altered a byte) x ≡ cond (x == a) byte (byte_of clean_set x)
-    altered_is (Some b) = byte_of-insert clean_set a b x
-    altered_is None = byte_of-remove clean_set a x
+    altered_is : (byte : Option ℕ) → byte_of (altered a byte) x ≡ cond (x == a) byte (byte_of whole_set x)
+    altered_is (Some b) = byte_of-insert whole_set a b x
+    altered_is None = byte_of-remove whole_set a x
 
 kept : (a : ℕ) (byte : Option ℕ) (p n : ℕ) → (a < p) ⊎ (p + n ≤ a)
-    → bytes_at (altered a byte) p n ≡ bytes_at clean_set p n
-kept a byte p n away = run_of-agree (byte_of (altered a byte)) (byte_of clean_set) p n (λ k less. byte_kept a byte (p + k) (other k less))
+    → bytes_at (altered a byte) p n ≡ bytes_at whole_set p n
+kept a byte p n away = run_of-agree (byte_of (altered a byte)) (byte_of whole_set) p n (λ k less. byte_kept a byte (p + k) (other k less))
   where
     other : (k : ℕ) → k < n → p + k ≢ a
     other k less = elim away [ inl below ↦ λ same. omega arith | inr above ↦ λ same. omega arith ]
 
 -- a fault of a stage is one of the set
 of_stage : {m : Memory} {fault : Code} {at other : ℕ} {s : Stage} → stage_of fault ≡ s
-    → FaultCondition s m clean_policy (witness fault at other 0) → HasFault m clean_policy fault at other 0
+    → FaultCondition s m example_policy (witness fault at other 0) → HasFault m example_policy fault at other 0
 of_stage {m} {fault} {at} {other} own holds =
-    subst (λ (s : Stage). FaultOfStage s m clean_policy (witness fault at other 0)) (sym own) (record { own = own; holds = holds })
+    subst (λ (s : Stage). FaultOfStage s m example_policy (witness fault at other 0)) (sym own) (record { own = own; holds = holds })
 
 -- ---- the RSDP
 
@@ -105,7 +105,7 @@ rsdp_faults = record {
 -- with another byte in the XSDT the RSDP names it as before
 names_root : (a : ℕ) (byte : Option ℕ) → 0x1000 ≤ a → a < 0x104c → IsRoot (altered a byte) rsdp_at 0x1000 8
 names_root a byte from to =
-    root_of (kept a byte rsdp_at 20 (inl (omega arith)) ∙ clean_has_root.head_held) (kept a byte rsdp_at 36 (inl (omega arith)) ∙ clean_has_root.rsdp_held)
+    root_of (kept a byte rsdp_at 20 (inl (omega arith)) ∙ whole_has_root.head_held) (kept a byte rsdp_at 36 (inl (omega arith)) ∙ whole_has_root.rsdp_held)
 
 -- so that a fault of the XSDT is one of the set
 of_root : (a : ℕ) (byte : Option ℕ) (fault : Code) → 0x1000 ≤ a → a < 0x104c → stage_of fault ≡ stage.Root
@@ -143,13 +143,13 @@ root_faults = record {
 
 -- ---- the first table
 
--- with another byte behind the XSDT the root is the clean set's
+-- with another byte behind the XSDT the root is the whole set's
 keeps_root : (a : ℕ) (byte : Option ℕ) → 0x2000 ≤ a → a < 0xe0000 → HasRoot (altered a byte)
 keeps_root a byte from to = record {
-  head_held = kept a byte rsdp_at 20 (inl (omega arith)) ∙ clean_has_root.head_held;
-  rsdp_held = kept a byte rsdp_at 36 (inl (omega arith)) ∙ clean_has_root.rsdp_held;
-  header_held = kept a byte 0x1000 36 (inr (omega arith)) ∙ clean_has_root.header_held;
-  xsdt_held = kept a byte 0x1000 76 (inr (omega arith)) ∙ clean_has_root.xsdt_held;
+  head_held = kept a byte rsdp_at 20 (inl (omega arith)) ∙ whole_has_root.head_held;
+  rsdp_held = kept a byte rsdp_at 36 (inl (omega arith)) ∙ whole_has_root.rsdp_held;
+  header_held = kept a byte 0x1000 36 (inr (omega arith)) ∙ whole_has_root.header_held;
+  xsdt_held = kept a byte 0x1000 76 (inr (omega arith)) ∙ whole_has_root.xsdt_held;
 }
 
 -- the bytes at 2000h
@@ -208,7 +208,7 @@ no_fadt =
     (other 0x4000 (omega arith) tables.madt refl) (other 0x5000 (omega arith) tables.srat refl)
     (other 0x6000 (omega arith) tables.slit refl) (other 0x7000 (omega arith) tables.pptt refl))
   where
-    other : (a : ℕ) {header whole : List ℕ} → 0x2000 < a → IsTable clean_set a header whole
+    other : (a : ℕ) {header whole : List ℕ} → 0x2000 < a → IsTable whole_set a header whole
         → has_signature header fadt_signature ≡ false → ¬ IsSigned (altered 0x2000 (Some 0x47)) a fadt_signature
     other a {header} behind table differs =
         not_signed header fadt_signature (kept 0x2000 (Some 0x47) a 36 (inl behind) ∙ table.header_held) differs
@@ -248,7 +248,7 @@ of_facs : (a : ℕ) (byte : Option ℕ) (fault : Code) (at : ℕ) {header whole 
 of_facs a byte fault at {whole = whole} from to own table signed long wrong =
     of_stage own ((whole, is_fadt a byte from to table signed, long, wrong), refl, refl)
 
--- with another byte behind it the FADT is the clean set's
+-- with another byte behind it the FADT is the whole set's
 keeps_fadt : (a : ℕ) (byte : Option ℕ) → 0x2081 ≤ a → IsTable (altered a byte) 0x2000 (take 36 fadt_bytes) fadt_bytes
 unfolding field
 keeps_fadt a byte behind = record {

@@ -1,21 +1,21 @@
--- Examples of the faults 1 to 31: the clean set with one byte changed or missing, which then has the fault. Worked out by hand
+-- Examples of the faults 1 to 31: the whole set with one byte changed or missing, which then has the fault. Worked out by hand
 -- from the rules.
 use Rattle.std.specs.Prelude.{ℕ, Option, Some, None}
 use Rattle.std.specs.FinMap.{insert, remove}
 use Rattle.acpi_base.specs.Memory.{Memory}
-use Rattle.acpi_base.specs.Examples.CleanSets.{clean_set, clean_policy}
+use Rattle.acpi_base.specs.Examples.WholeSets.{whole_set, example_policy}
 use Rattle.acpi_base.specs.Examples.Sets.{rsdp_at, HasFault}
 use Rattle.acpi_base.specs.declared.code.Code.{Code}
 use Rattle.acpi_base.specs.declared.code.Code.TheVariants as code
 
--- the clean set with this byte at an address, or with none there
+-- the whole set with this byte at an address, or with none there
 abbrev pub altered : ℕ → Option ℕ → Memory
-altered address (Some byte) = insert clean_set address byte
-altered address None = remove clean_set address
+altered address (Some byte) = insert whole_set address byte
+altered address None = remove whole_set address
 
 -- it has this fault, whose third number is 0
 abbrev pub HasFaultWith : ℕ → Option ℕ → Code → ℕ → ℕ → Type 0
-HasFaultWith address byte fault at other = HasFault (altered address byte) clean_policy fault at other 0
+HasFaultWith address byte fault at other = HasFault (altered address byte) example_policy fault at other 0
 
 -- the faults of the RSDP at E0000h
 pub record AreRsdpFaults : Type 0 where

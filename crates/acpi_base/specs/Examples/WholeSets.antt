@@ -1,5 +1,5 @@
--- A clean set, worked out by hand from the rules: an image with an RSDP, an XSDT, a FADT with its FACS, a MADT, an SRAT, a SLIT
--- and a PPTT.
+-- A set with each table that is looked into, worked out by hand from the rules: an image with an RSDP, an XSDT, a FADT with its
+-- FACS, a MADT, an SRAT, a SLIT and a PPTT.
 use Rattle.std.specs.Prelude.{ℕ, List, [], ◌∷◌, ◌++◌, replicate}
 use Rattle.acpi_base.specs.Memory.{Memory}
 use Rattle.acpi_base.specs.Policy.{PolicyValue, new_policy}
@@ -73,8 +73,8 @@ srat_bytes =
 -- ---- the set
 
 -- where its parts stand
-abbrev pub clean_runs : List Run
-clean_runs =
+abbrev pub whole_runs : List Run
+whole_runs =
     run_at rsdp_at rsdp_bytes
     ∷ run_at 0x1000 xsdt_bytes
     ∷ run_at 0x2000 fadt_bytes
@@ -86,9 +86,9 @@ clean_runs =
     ∷ []
 
 -- the image of these and nothing else
-unfoldable pub clean_set : Memory
-clean_set = memory_of clean_runs
+unfoldable pub whole_set : Memory
+whole_set = memory_of whole_runs
 
 -- a check of it, with 24 inputs of each I/O APIC
-abbrev pub clean_policy : PolicyValue
-clean_policy = new_policy rsdp_at 24
+abbrev pub example_policy : PolicyValue
+example_policy = new_policy rsdp_at 24

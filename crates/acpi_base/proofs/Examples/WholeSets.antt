@@ -1,4 +1,4 @@
--- The clean set, by computing.
+-- The whole set, by computing.
 use Rattle.std.proofs.Common.{◌≡◌, ℕ, zero, suc, List, take, Some, true, false, refl, subst, arith}
 use Rattle.std.proofs.lemmas.Bool.{both_ways}
 use Rattle.acpi_base.specs.Memory.{Memory, byte_of, run_of, cons_both, bytes_at}
@@ -8,19 +8,19 @@ use Rattle.acpi_base.specs.Signature.{has_signature}
 use Rattle.acpi_base.specs.Rsdp.{addresses_at}
 use Rattle.acpi_base.specs.Root.{chosen_root, IsRoot, IsRootTable, HasSlot}
 use Rattle.acpi_base.specs.Tables.{IsTable, IsSigned}
-use Rattle.acpi_base.specs.Examples.CleanSets.{rsdp_bytes, xsdt_bytes, fadt_bytes, madt_bytes, srat_bytes, clean_runs, clean_set}
+use Rattle.acpi_base.specs.Examples.WholeSets.{rsdp_bytes, xsdt_bytes, fadt_bytes, madt_bytes, srat_bytes, whole_runs, whole_set}
 use Rattle.acpi_base.specs.Examples.Sets.{rsdp_at, new_leaf_bytes}
 use Rattle.acpi_base.specs.Examples.Slits.{one_locality_bytes}
 use Rattle.acpi_base.proofs.HeldBytes.{same_value}
 use Rattle.acpi_base.proofs.Pieces.RunBytes.{byte_of_memory_of}
 
 -- its bytes are those of its runs
-pub byte_of_clean_set : (a : ℕ) → byte_of clean_set a ≡ lookup clean_runs a
-unfolding clean_set
-byte_of_clean_set a = byte_of_memory_of clean_runs a
+pub byte_of_whole_set : (a : ℕ) → byte_of whole_set a ≡ lookup whole_runs a
+unfolding whole_set
+byte_of_whole_set a = byte_of_memory_of whole_runs a
 
-pub bytes_at_clean_set : (a n : ℕ) → bytes_at clean_set a n ≡ run_of (lookup clean_runs) a n
-bytes_at_clean_set a n = λ i. run_of (λ x. byte_of_clean_set x i) a n
+pub bytes_at_whole_set : (a n : ℕ) → bytes_at whole_set a n ≡ run_of (lookup whole_runs) a n
+bytes_at_whole_set a n = λ i. run_of (λ x. byte_of_whole_set x i) a n
 
 -- ---- the root
 
@@ -30,7 +30,7 @@ pub root_of : {m : Memory} → bytes_at m rsdp_at 20 ≡ Some (take 20 rsdp_byte
 unfolding addresses_at chosen_root field
 root_of head rsdp = record { named = record { rsdt = 0; xsdt = 0x1000 }; read = rw head (rw rsdp refl); chosen = refl }
 
--- the image holds the clean set's RSDP and its XSDT
+-- the image holds the whole set's RSDP and its XSDT
 pub record HasRoot (m : Memory) : Type 0 where
   pub head_held : bytes_at m rsdp_at 20 ≡ Some (take 20 rsdp_bytes)
   pub rsdp_held : bytes_at m rsdp_at 36 ≡ Some rsdp_bytes
@@ -49,14 +49,14 @@ root_table_of has = record {
   signed = refl;
 }
 
--- so it is of the clean set
-pub clean_has_root : HasRoot clean_set
+-- so it is of the whole set
+pub whole_has_root : HasRoot whole_set
 unfolding run_of cons_both
-clean_has_root = record {
-  head_held = bytes_at_clean_set rsdp_at 20;
-  rsdp_held = bytes_at_clean_set rsdp_at 36;
-  header_held = bytes_at_clean_set 0x1000 36;
-  xsdt_held = bytes_at_clean_set 0x1000 76;
+whole_has_root = record {
+  head_held = bytes_at_whole_set rsdp_at 20;
+  rsdp_held = bytes_at_whole_set rsdp_at 36;
+  header_held = bytes_at_whole_set 0x1000 36;
+  xsdt_held = bytes_at_whole_set 0x1000 76;
 }
 
 -- its first slot
@@ -79,9 +79,9 @@ each_slot P first second third fourth fifth (suc (suc (suc (suc (suc k))))) a sl
 
 -- the table in a slot, with its header
 abbrev IsAt : ℕ → List ℕ → Type 0
-IsAt a whole = IsTable clean_set a (take 36 whole) whole
+IsAt a whole = IsTable whole_set a (take 36 whole) whole
 
--- each stands in the clean set
+-- each stands in the whole set
 pub record AreTables : Type 0 where
   pub fadt : IsAt 0x2000 fadt_bytes
   pub madt : IsAt 0x4000 madt_bytes
@@ -92,11 +92,11 @@ pub record AreTables : Type 0 where
 pub tables : AreTables
 unfolding run_of cons_both field
 tables = record {
-  fadt = record { header_held = bytes_at_clean_set 0x2000 36; least = omega arith; held = bytes_at_clean_set 0x2000 129 };
-  madt = record { header_held = bytes_at_clean_set 0x4000 36; least = omega arith; held = bytes_at_clean_set 0x4000 74 };
-  srat = record { header_held = bytes_at_clean_set 0x5000 36; least = omega arith; held = bytes_at_clean_set 0x5000 104 };
-  slit = record { header_held = bytes_at_clean_set 0x6000 36; least = omega arith; held = bytes_at_clean_set 0x6000 45 };
-  pptt = record { header_held = bytes_at_clean_set 0x7000 36; least = omega arith; held = bytes_at_clean_set 0x7000 56 };
+  fadt = record { header_held = bytes_at_whole_set 0x2000 36; least = omega arith; held = bytes_at_whole_set 0x2000 129 };
+  madt = record { header_held = bytes_at_whole_set 0x4000 36; least = omega arith; held = bytes_at_whole_set 0x4000 74 };
+  srat = record { header_held = bytes_at_whole_set 0x5000 36; least = omega arith; held = bytes_at_whole_set 0x5000 104 };
+  slit = record { header_held = bytes_at_whole_set 0x6000 36; least = omega arith; held = bytes_at_whole_set 0x6000 45 };
+  pptt = record { header_held = bytes_at_whole_set 0x7000 36; least = omega arith; held = bytes_at_whole_set 0x7000 56 };
 }
 
 -- a header without the signature is none that has it
