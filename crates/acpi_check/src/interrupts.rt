@@ -8,11 +8,11 @@ ghost use Rattle.acpi_check.specs.Gathered.{span_value, served, AreSpansOf, IsFo
 ghost use Rattle.acpi_check.specs.Settled.{Settles};
 ghost use Rattle.acpi_check.specs.Set.{IsSet};
 
-use crate::gsi_ranges::{do_rise, served_ranges};
+use crate::gsi_ranges::served_ranges;
 use crate::refusal::Refusal;
 use crate::set::Set;
 use acpi_base::{Code, Policy, Witness};
-use acpi_graph::{Clash, Span, first_clash};
+use acpi_graph::{Clash, Span, are_apart, first_clash};
 use acpi_read::{Entries, Entry, MadtEntry, Table};
 use std::alloc::{AllocError, Global};
 
@@ -53,12 +53,13 @@ pub fn served_spans(
 }
 
 /// The least interrupt number that two I/O APICs of a MADT serve, and the first two that do. Spans, which name the I/O
-/// APICs, are sorted only where short ranges show that there are two.
+/// APICs, are searched only where compact ones are not apart.
 fn first_gsi_clash(alloc: Global, policy: &Policy, table: Table<'_>) -> Result<Clash, AllocError>
     ensures { IfOk result (IsFound (Serves policy.now (madt_contents table.entry))) }
 {
     let ranges = served_ranges(alloc, policy, table.copied())?;
-    if do_rise(&ranges) {
+    let (is_apart, _) = are_apart(ranges);
+    if is_apart {
         return Ok(Clash::None);
     }
     let spans = served_spans(alloc, policy, table)?;
@@ -68,7 +69,8 @@ fn first_gsi_clash(alloc: Global, policy: &Policy, table: Table<'_>) -> Result<C
 
 /// Whether no interrupt number is served by two I/O APICs of the MADT, or the set lists no MADT. A fault names the
 /// least number that two serve, and the first two that serve it, by their first number and then by their offset.
-/// Takes memory for each I/O APIC.
+///
+/// Takes memory for one compact span for each I/O APIC; and where two serve one number, for one span for each.
 pub fn apart_interrupts(alloc: Global, set: &Set<'_>) -> Result<(), Refusal>
     requires clean { CleanBefore Stage.Interrupts set.now.image.now set.now.policy.now }
     requires set { IsSet set.now }

@@ -55,12 +55,13 @@ fn named_gsis(alloc: Global, table: Table<'_>) -> Result<Vec<u64>, AllocError>
 }
 
 /// Whether I/O APICs of a MADT are seen to serve all interrupt numbers that entries name; a `false` says nothing. What they
-/// serve, as short records, and the numbers are sorted and gone over together, with no search. Takes memory for one record
+/// serve, as compact spans, and the numbers are sorted and gone over together, with no search. Takes memory for one such span
 /// for each I/O APIC, and for one number for each override and each NMI source.
 fn are_all_served(alloc: Global, policy: &Policy, table: Table<'_>) -> Result<bool, AllocError>
     ensures { IfOk result (λ all. IsTrue all → AreNamedServed policy.now (madt_contents table.entry)) }
 {
-    let ranges = served_ranges(alloc, policy, table.copied())?;
+    let mut ranges = served_ranges(alloc, policy, table.copied())?;
+    ranges.sort_unstable();
     let numbers = in_rising_order(named_gsis(alloc, table)?);
     Ok(are_held(&ranges, &numbers))
 }
@@ -146,7 +147,7 @@ fn first_unserved(
 /// no I/O APIC, or the set lists no MADT. A fault is at the offset of the first entry that names a number that none serves;
 /// `other` is 0, and `point` is the number.
 ///
-/// First it is asked whether all numbers are seen to be served, which takes memory for one short record for each I/O APIC and
+/// First it is asked whether all numbers are seen to be served, which takes memory for one compact span for each I/O APIC and
 /// one number for each override and each NMI source. Only where they are not, the first that is not served is looked for, which
 /// takes memory for one span for each I/O APIC. A set that lists no MADT takes none.
 pub fn named_served(alloc: Global, set: &Set<'_>) -> Result<(), Refusal>

@@ -1,5 +1,6 @@
-use Rattle.std.specs.Prelude.{◌≡◌, ◌≢◌, ℕ, ◌<◌, ◌≤◌, ◌⊎◌, List, AllPairs, Contains}
+use Rattle.std.specs.Prelude.{◌≡◌, ◌≢◌, ℕ, ◌+◌, ◌<◌, ◌≤◌, ◌⊎◌, List, AllPairs, Contains}
 use Rattle.acpi_graph.specs.declared.span.Span.{Span}
+use Rattle.acpi_graph.specs.declared.span.CompactSpan.{CompactSpan}
 use Rattle.acpi_graph.specs.declared.clash.Clash.{Clash}
 use Rattle.acpi_graph.specs.declared.clash.Clash.TheVariants as clash
 
@@ -55,3 +56,21 @@ pub record IsFirstClash (spans : List Span) (first second point : ℕ) : Type 0 
 abbrev pub IfAt : Clash → (ℕ → ℕ → ℕ → Type 0) → Type 0
 IfAt clash.None P = Unit {0}
 IfAt (clash.At first second point) P = P first second point
+
+-- ---- compact spans, which have no names
+
+-- the number behind the last one of the span
+abbrev pub end_of : CompactSpan → ℕ
+end_of span = span.start + span.length
+
+-- the one span ends before the other begins
+abbrev pub EndsBefore : CompactSpan → CompactSpan → Type 0
+EndsBefore a b = end_of a ≤ b.start
+
+-- of each two spans of the list the one ends before the other begins, in one order or the other: so no number lies in both
+abbrev pub AreApart : List CompactSpan → Type 0
+AreApart spans = AllPairs (λ a b. EndsBefore a b ⊎ EndsBefore b a) spans
+
+-- each span of the list ends before all behind it begin
+abbrev pub DoRise : List CompactSpan → Type 0
+DoRise spans = AllPairs EndsBefore spans

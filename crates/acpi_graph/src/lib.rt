@@ -1,6 +1,7 @@
-//! Two searches that a checker of tables needs. Each returns the first case in a fixed order, so that the
-//! result does not depend on how the tables list their entries.
+//! Two searches that a checker of tables needs, and a question that saves most calls of the first one. Each search returns the
+//! first case in a fixed order, so that the result does not depend on how the tables list their entries.
 //!
+//! - `are_apart`: of spans of numbers in 8 bytes each, whether no two overlap.
 //! - `first_clash`: of spans of numbers, such as memory ranges, the first overlap: the least number that
 //!   lies in two, and the first two spans that hold it.
 //! - `first_stray`: of nodes that name their parents, the first whose chain of parents leads into a cycle
@@ -27,15 +28,17 @@
 //! assert!(rt; stray == found && steps == 4);
 //! ```
 //!
-//! Both return how many of their steps they took. The steps inside the sort are not counted.
+//! All three return how many of their steps they took. The steps inside a sort are not counted.
 #![tactic(auto)]
 
+mod apart;
 mod clash;
 mod span;
 mod stray;
 #[cfg(test)]
 mod tests;
 
+pub use apart::are_apart;
 pub use clash::{Clash, first_clash};
-pub use span::Span;
+pub use span::{CompactSpan, Span};
 pub use stray::{Stray, first_stray};

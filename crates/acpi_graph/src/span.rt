@@ -1,6 +1,6 @@
 //! Spans of numbers.
 
-ghost use Rattle.std.specs.Prelude.{◌≡◌, ◌<◌, ◌↔◌, IsSome, IfSome};
+ghost use Rattle.std.specs.Prelude.{◌≡◌, ◌+◌, ◌<◌, ◌↔◌, IsSome, IfSome};
 
 /// The numbers from `start` on and below `end`: at least one. Results name the span by `name`.
 ///
@@ -26,5 +26,23 @@ impl Span {
         } else {
             None
         }
+    }
+}
+
+/// The numbers from `start` on, `length` of them, in 8 bytes and without a name: many are sorted much sooner than as `Span`s.
+///
+/// Compact spans compare by `start`, then by `length`.
+#[derive(Clone, Copy, Debug, PartialEq, Eq, Hash, PartialOrd, Ord)]
+pub struct CompactSpan {
+    pub start: u32,
+    pub length: u16,
+}
+
+impl CompactSpan {
+    /// The number behind the last one.
+    pub fn end(&self) -> u64
+        ensures { result ≡ self.now.start + self.now.length }
+    {
+        u64::from(self.start) + u64::from(self.length)
     }
 }

@@ -1,9 +1,8 @@
-use Rattle.std.proofs.Common.{◌≡◌, ◌<◌, map, length, arith, sym, ◌∙◌}
+use Rattle.std.proofs.Common.{◌<◌, map, length, arith, sym, ◌∙◌}
 use Rattle.std.proofs.lemmas.List.{append-nil}
-use Rattle.std.proofs.lemmas.List.Sorted.{IsPermutation-refl}
-use Rattle.acpi_base.specs.Madt.{madt_entry, madt_contents}
+use Rattle.acpi_base.specs.Madt.{madt_entry}
 use Rattle.acpi_read.specs.Entries.{entry_value}
-use Rattle.acpi_check.specs.GsiRanges.{served_range, ranges_of}
+use Rattle.acpi_check.specs.GsiRanges.{served_range}
 use Rattle.acpi_check.proofs.GsiRanges.{gathered, no_ranges}
 use Rattle.acpi_check.proofs.Skipped.{none_kept, one_came}
 use Rattle.acpi_check.proofs.gsi_ranges.served_ranges.Goals as goal
@@ -11,13 +10,11 @@ use Rattle.acpi_check.proofs.gsi_ranges.served_ranges.Goals as goal
 pub returns-in_default : goal.returns-in_default
 returns-in_default c =
     let short : length c.args.table < 44 = grind (arith, c.in_default.ensures.ok, c.in_default.not-Ok) in
-    rw (← no_ranges c.args.policy.now c.args.table c.new-ranges.result.items short c.new-ranges.ensures.items) (IsPermutation-refl c.new-ranges.result.items)
+    no_ranges c.args.policy.now c.args.table c.new-ranges.result.items short c.new-ranges.ensures.items
 
 pub returns : goal.returns
 returns c =
-    let all : c.loop-entry.ranges.items ≡ ranges_of c.args.policy.now (madt_contents c.args.table).entries =
-    gathered c.args.policy.now c.args.table (map entry_value c.loop-entry.yielded) c.loop-entry.ranges.items (grind (arith, append-nil, c.loop-entry.invariant.1, c.in-None.ensures.steps)) c.loop-entry.invariant.0 in
-    rw (← all) c.sort_unstable.ensures.permutation
+    gathered c.args.policy.now c.args.table (map entry_value c.loop-entry.yielded) c.loop-entry.ranges.items (grind (arith, append-nil, c.loop-entry.invariant.1, c.in-None.ensures.steps)) c.loop-entry.invariant.0
 
 pub loop-entry-preserved : goal.loop-entry-preserved
 loop-entry-preserved c =
