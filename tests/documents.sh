@@ -119,6 +119,10 @@ refusals=$(sed -n '/^## Every public call$/,/^## Wrong/p' docs/PROMISES.md | sed
 known=$(cat $(find crates/*/src -name '*.rt' ! -path '*/tests*') | sed -n 's/^    \([A-Z][A-Za-z0-9]*\)\([ ({].*\)\{0,1\},\{0,1\}$/\1/p; s/^pub struct \([A-Za-z]*\).*/\1/p'; echo AllocError)
 within 'refusals that the code does not have' "$refusals" "$known"
 
+samples=$(sed -n '/^SAMPLED = {$/,/^}$/s/^    "\(.*\)",$/\1/p' tests/refusals.py tests/refused_calls.py)
+named=$(sed -n '/^## By test alone$/,/^## /p' docs/PROMISES.md | grep -o '`[^`]*`' | tr -d '`')
+within 'runs of which a sample of requests is refused, and that PROMISES.md does not name' "$samples" "$named"
+
 # ---- examples at the heads of the libraries: their lines stand in code that is compiled
 
 # bare: code without indents, and without comments behind it.

@@ -296,6 +296,23 @@ def wrong_sweep(sweep, answer, spared):
     return told or "no request was spared"
 
 
+# The runs that make more requests than are refused each in its turn, beside those whose arguments are refused.
+# docs/PROMISES.md names them.
+SAMPLED = {
+    "rebuild, a set of entries of each kind",
+    "rebuild, sb-q35-numa4-dist",
+    "rebuild, q11-efi-virt-caches",
+    "check with 400 counts of inputs",
+}
+
+
+def wrong_extent(sweep, name=""):
+    """All requests of a run are refused, or a sample of them, as SAMPLED has it."""
+    if bool(sweep.sampled()) == (name in SAMPLED):
+        return ""
+    return sweep.sampled() or "all requests were refused, and not a sample"
+
+
 # Room for all arguments is asked for at once. Where this request alone is refused, room for one is asked for.
 SPARED = {"REFUSE_AT": 1, "REFUSE_FROM": 0}
 
@@ -305,7 +322,7 @@ def starved(program, run, setting):
     sweep = Sweep(program, run.words, program.file(run.text), setting)
     if sweep.sampled():
         print(f"{run.name}, {setting}: {sweep.sampled()}")
-    yield f"{run.name}, {setting}", wrong_sweep(sweep, run.answer(), SPARED[setting])
+    yield f"{run.name}, {setting}", wrong_sweep(sweep, run.answer(), SPARED[setting]) or wrong_extent(sweep, run.name)
 
 
 def starved_refusal(program, message, words):
@@ -332,7 +349,7 @@ def same_requests(program, runs):
     lasts = {}
     for run in runs:
         sweep = Sweep(program, run.words, program.file(run.text), "REFUSE_AT")
-        yield run.name, wrong_sweep(sweep, run.answer(), 1)
+        yield run.name, wrong_sweep(sweep, run.answer(), 1) or wrong_extent(sweep)
         lasts.setdefault(run.text, set()).add(sweep.last)
     yield "requests for memory up to each early stage", "" if all(len(last) == 1 for last in lasts.values()) else str(lasts)
 

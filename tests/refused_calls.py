@@ -13,12 +13,18 @@ import tempfile
 from concurrent.futures import ThreadPoolExecutor
 from pathlib import Path
 
-from preloaded import build_object, numbers
+from preloaded import EACH, build_object, numbers
 
 SECONDS = 60
 # How a test says that a call, of the library or of the standard library, was out of memory. A list that is written to as a
 # device fails then as a device does.
 OUT_OF_MEMORY = re.compile(rb'\b(AllocError|AllocFailed|Memory|DeviceFailed)\b')
+# The tests that make more requests than are refused each in its turn. docs/PROMISES.md names them.
+SAMPLED = {
+    "image_text::tests::reads_a_row_with_one_byte_changed",
+    "clash::tests::agrees_with_the_plain_search",
+    "stray::tests::agrees_with_the_plain_walk",
+}
 
 
 def names(tests):
@@ -41,8 +47,11 @@ def starved(tests, name, preload, mark):
     refused = 0
     for number in numbers():
         is_refused, status, text = told(tests, name, preload, mark, number)
+        if not is_refused and status == 0:
+            is_right = (refused >= EACH) == (name in SAMPLED)
+            return refused, "" if is_right else f"{refused} requests refused, which is {'a sample' if refused >= EACH else 'all'}"
         if not is_refused:
-            return refused, "" if status == 0 else f"status {status} where nothing is refused: {text}"
+            return refused, f"status {status} where nothing is refused: {text}"
         refused += 1
         if status == 0 or not OUT_OF_MEMORY.search(text):
             return refused, f"request {number}: status {status}: {text}"
