@@ -109,7 +109,7 @@ same 'files that are left' "$(find "$scratch/root" -type f)" ''
 
 # What the program takes from the C library is what README names, no more and no less.
 if command -v nm >"$scratch/log"; then
-  named=$(sed -n '/^- The functions that the built program takes/,/^- The linker/p' README.md | grep -o '`[A-Za-z0-9_]*`' | tr -d '`' | sort -u)
+  named=$(sed -n '/^- The functions that the built program takes/,/^- What the last line/p' README.md | grep -o '`[A-Za-z0-9_]*`' | tr -d '`' | sort -u)
   same 'functions that the program takes from the C library' \
     "$(nm -D --undefined-only "$program" | awk '{ sub(/@.*/, "", $2); print $2 }' | sort -u)" "$named"
 fi
