@@ -18,7 +18,7 @@ doc = $(DESTDIR)$(PREFIX)/share/doc/acpiset
 alone := scripts/alone
 
 # Ends make in one line where the toolchain is missing. It is expanded where a recipe begins.
-needs_toolchain = $(if $(shell command -v rt),,$(error the Rattle toolchain is missing: put the folder of its command `rt` on the PATH, or take the archive of a release, which needs no toolchain (README.md)))
+needs_toolchain = $(if $(shell command -v rt || :),,$(error the Rattle toolchain is missing: put the folder of its command `rt` on the PATH, or take the archive of a release, which needs no toolchain (README.md)))
 
 .PHONY: try run build test gate bench install uninstall dist clean
 
