@@ -3,8 +3,7 @@
 #[cfg(test)]
 mod tests;
 
-ghost use Rattle.std.specs.Prelude.{◌≡◌, ◌<◌, ◌≤◌, ◌++◌, IfOk, OnOk, false};
-ghost use Rattle.std.specs.Fmt.{digit_glyph};
+ghost use Rattle.std.specs.Prelude.{◌≡◌, ◌++◌, IfOk, OnOk};
 ghost use Rattle.acpi_base.specs.WrittenText.{pair, row, rows, row_count, ended, text_of, address_line, run_lines, IsWritten};
 
 use crate::image::Image;
@@ -13,23 +12,14 @@ use std::alloc::{AllocError, Global};
 /// How many bytes a line has at most.
 const ROW: usize = 16;
 
-/// A hex digit of a value below 16.
-fn digit(value: u8) -> u8
-    requires { value < 16 }
-    ensures { result ≡ digit_glyph false value }
-{
-    if value < 10 {
-        b'0' + value
-    } else {
-        b'a' - 10 + value
-    }
-}
-
 /// Adds a byte as two digits.
+#[tactic(auto, using(crate::proofs::Written::Pairs::pair_encoded))]
 fn write_pair(text: &mut Vec<u8>, byte: u8) -> Result<(), AllocError>
     ensures { OnOk result (text.new.items ≡ text.old.items ++ pair byte) }
 {
-    text.extend_from_slice(&[digit(byte / 16), digit(byte % 16)])
+    let mut digits = [0; 2];
+    hex::encode_to_slice([byte], &mut digits).unwrap();
+    text.extend_from_slice(&digits)
 }
 
 /// Adds a line of bytes.
