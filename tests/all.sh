@@ -1,7 +1,7 @@
 #!/usr/bin/env bash
-# Runs all scripts that test the documents, the tools, the built program and the libraries' tests, as many beside each other as
+# Runs all scripts that test the documents, the tools, the built program and the crates' tests, as many beside each other as
 # there are processors, the longest first. Prints what each says, and at the end which of them failed.
-# usage: tests/all.sh PROGRAM TESTS..; TESTS are the libraries' tests as they were built (see refused_calls.py).
+# usage: tests/all.sh PROGRAM TESTS..; TESTS are the crates' tests as they were built (see refused_calls.py).
 set -u
 cd "$(dirname "$0")/.."
 program=$1

@@ -182,6 +182,8 @@ says "version 0.1.0, $last stages" --version
 says "version 0.1.0, $last stages" -V
 says "$usage"
 hints "unrecognized subcommand 'chek'" "a similar subcommand exists: 'check'" chek --rsdp e0000
+# By Jaro's measure c is 0.714 like confirm and 0.733 like check. What is above 0.7 is named, the least like first.
+hints "unrecognized subcommand 'c'" "some similar subcommands exist: 'confirm', 'check'" c
 hints "unexpected argument '--rspd' found" "a similar argument exists: '--rsdp'" check --rspd e0000
 path='the image is read from standard input: acpiset check <'
 hints "unrecognized subcommand 'image.txt'" "$path image.txt" image.txt

@@ -1,6 +1,6 @@
 #!/usr/bin/env python3
-"""Runs the tests of libraries with their requests for memory refused, one in each run: a test ends well only where none was
-refused, and what it says otherwise is that the library is out of memory. So no call gives another answer, nor another
+"""Runs the tests of crates with their requests for memory refused, one in each run: a test ends well only where none was
+refused, and what it says otherwise is that the crate is out of memory. So no call gives another answer, nor another
 fault, where memory is refused: also of those calls that no command of the program reaches alone.
 
 usage: refused_calls.py TESTS..; the last line is 'refused calls: N passed, M failed'. TESTS is what a crate's tests are built

@@ -15,6 +15,8 @@ mod program;
 mod rebuild;
 mod reply;
 mod show;
+#[cfg(test)]
+mod tests;
 mod usage;
 mod words;
 

@@ -166,3 +166,17 @@ fn values_of_another_shape(rt: HostRuntime) -> Result<(), Fail> {
     assert_eq!(rt; faults, [Some(WriteFault::Shape); 5]);
     Ok(())
 }
+
+#[test]
+fn texts_of_faults(rt: HostRuntime) -> Result<(), Fail> {
+    let texts = [
+        (WriteFault::Shape, "no bytes for the value"),
+        (WriteFault::TooLong, "table too long"),
+        (WriteFault::Memory, "out of memory"),
+    ];
+    for (fault, wanted) in texts {
+        let text = fault.to_string(rt.alloc())?;
+        assert_eq!(rt; text.as_str(), wanted);
+    }
+    Ok(())
+}

@@ -1,6 +1,7 @@
 use super::*;
 use crate::table_value::TableValue;
 use crate::test_sets::{policy, reduced_body, set};
+use acpi_base::{Code, Witness};
 use std::test::Fail;
 
 /// Why an image that holds nothing has no value, if it has none.
@@ -24,5 +25,19 @@ fn a_set_of_a_fadt(rt: HostRuntime) -> Result<(), Fail> {
     let image = set(rt.alloc(), &reduced_body())?;
     let value = values(rt.alloc(), &image, &policy)?;
     assert!(rt; is_of_a_fadt(&value));
+    Ok(())
+}
+
+#[test]
+fn texts_of_faults(rt: HostRuntime) -> Result<(), Fail> {
+    let no_fadt = Witness::at(Code::NoFadt, 0);
+    let texts = [
+        (ValuesFault::NotClean(no_fadt), "the set is not clean"),
+        (ValuesFault::Memory, "out of memory"),
+    ];
+    for (fault, wanted) in texts {
+        let text = fault.to_string(rt.alloc())?;
+        assert_eq!(rt; text.as_str(), wanted);
+    }
     Ok(())
 }
