@@ -1,13 +1,16 @@
 -- What holds of each entry of an example, and what of none.
 pub mod AlteredSets
+pub mod CleanSet
 pub mod WholeSets
 pub mod Madts
 pub mod Pptts
 pub mod Sets
 pub mod Slits
 pub mod Srats
-use Rattle.std.specs.List.{AllByRecursion}
-use Rattle.std.proofs.Common.{◌≡◌, ℕ, List, refl}
+use Rattle.std.specs.Prelude.{nat_lt}
+use Rattle.std.specs.List.{list_all, AllByRecursion}
+use Rattle.std.proofs.Common.{◌≡◌, ℕ, ◌<◌, List, [], ◌∷◌, true, refl}
+use Rattle.std.proofs.lemmas.Bool.{and_parts, ltb-true}
 use Rattle.std.proofs.lemmas.List.Elements.{All-from_recursion, All-contains}
 use Rattle.acpi_base.specs.Entries.{Standing, Stands, StandsWith}
 
@@ -26,3 +29,10 @@ none_at entries o P none (e, stands, holds) = each_entry entries (λ p e. ¬ ((p
 -- from a contradiction anything follows
 pub never : {A : Type 0} → ⊥ → A
 never h = absurd h
+
+-- each of these is below 256 where the test of all says so
+pub all_below : (bytes : List ℕ) → list_all (λ b. nat_lt b 256) bytes ≡ true → AllByRecursion (λ b. b < 256) bytes
+all_below [] is = tt
+all_below (b ∷ rest) is =
+    let parts = and_parts (nat_lt b 256) (list_all (λ b. nat_lt b 256) rest) is in
+    (ltb-true b 256 parts.0, all_below rest parts.1)

@@ -1,8 +1,8 @@
 //! Laws over the definitions alone: each function's contract is the law, and its body is empty.
 
 ghost use Rattle.std.specs.Prelude.{◌≡◌, ℕ, ◌↔◌, List, Some, IsSome};
-ghost use Rattle.acpi_base.specs.Memory.{Memory, bytes_at, Has, AreBytes};
-ghost use Rattle.acpi_base.specs.Policy.{PolicyValue};
+ghost use Rattle.acpi_base.specs.Memory.{Memory, IsImage, bytes_at, Has, AreBytes};
+ghost use Rattle.acpi_base.specs.Policy.{PolicyValue, IsPolicy};
 ghost use Rattle.acpi_base.specs.Entries.{OneCut, EntriesStand, CutIsStart, NoCutFault, CutsWhereAllStand, NoneInShort};
 ghost use Rattle.acpi_base.specs.Examples.AlteredSets.{AreRsdpFaults, AreRootFaults, AreTableFaults, AreFadtFaults, AreFacsFaults};
 ghost use Rattle.acpi_base.specs.Examples.Madts.{AreMadtContents, AreMadtFaults, IsFirstInterrupt, HasNoMadtFault};
@@ -10,8 +10,10 @@ ghost use Rattle.acpi_base.specs.Examples.Pptts.{ArePpttContents, ArePpttFaults,
 ghost use Rattle.acpi_base.specs.Examples.Sets.{AreListedTables, AreSetFaults};
 ghost use Rattle.acpi_base.specs.Examples.Slits.{AreSlitContents, AreSlitFaults, AreSoundSlits};
 ghost use Rattle.acpi_base.specs.Examples.Srats.{AreSratContents, AreSratFaults, AreFirstOverlaps, HasNoSratFault};
+ghost use Rattle.acpi_base.specs.Examples.WholeSets.{whole_set, example_policy};
 ghost use Rattle.acpi_base.specs.Laws.{FaultsExcludeClean, FaultsFit, CleanOrFaulty, CleanOrFirstFault, OneFirstFault, OneVerdict, RootsListSlots, TextsDiffer};
 ghost use Rattle.acpi_base.specs.Pptt.{ParentsEndOrGoRound, CachesEndOrGoRound};
+ghost use Rattle.acpi_base.specs.Statements.{IsClean};
 ghost use Rattle.acpi_base.specs.WrittenText.{WrittenIsText, OneWritten};
 ghost use Rattle.acpi_base.specs.TextLaws.{RunReadsText, RunReadsPrefix, RunStopsAtFaults, RunGoesOn, PrefixDecides, TextMeans, TextOrFault, NeverBoth, OneImage, OneTextFault, RefusalsAreOwn, LinesMean};
 
@@ -153,7 +155,14 @@ pub fn set_examples()
     ensures faults { AreSetFaults }
 {}
 
-/// Examples of the faults of the first five stages, one of each code: a set with one byte changed or missing.
+/// An example of a clean set: an image with each table that is looked into, of which every stage holds.
+pub fn clean_set_example()
+    ensures image { IsImage whole_set }
+    ensures policy { IsPolicy example_policy }
+    ensures clean { IsClean whole_set example_policy }
+{}
+
+/// Examples of the faults of the first five stages, one of each code: the clean set with one byte changed or missing.
 pub fn altered_set_examples()
     ensures rsdp_faults { AreRsdpFaults }
     ensures root_faults { AreRootFaults }

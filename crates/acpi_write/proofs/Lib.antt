@@ -3,6 +3,7 @@ pub mod EncodedSizes
 pub mod EntryForms
 pub mod EntryLists
 pub mod EntryReading
+pub mod Examples
 pub mod FacsLengths
 pub mod FadtBodies
 pub mod FirstListed

@@ -1,10 +1,12 @@
 //! Laws over the definitions alone: each function's contract is the law, and its body is empty.
 
+ghost use Rattle.acpi_base.specs.Examples.WholeSets.{whole_set, example_policy};
+ghost use Rattle.acpi_write.specs.Examples.{whole_value, new_base, new_image};
 ghost use Rattle.acpi_write.specs.Laws.{ContentsAreKept, EntriesAreKept, FadtsNameFacs, WhatIsReadIsSpelled};
 ghost use Rattle.acpi_write.specs.Placed.{PlacedUnlessRefused, RebuiltLeadsToTables};
-ghost use Rattle.acpi_write.specs.Rebuilding.{RebuiltSetsAreKept, RefusedSetsAreNotRebuilt};
+ghost use Rattle.acpi_write.specs.Rebuilding.{IsRebuilt, RebuiltSetsAreKept, RefusedSetsAreNotRebuilt};
 ghost use Rattle.acpi_write.specs.Rebuilt.{CleanPartsAreLaid, RebuiltHoldsParts};
-ghost use Rattle.acpi_write.specs.SetValues.{OneSetValue};
+ghost use Rattle.acpi_write.specs.SetValues.{IsSetValue, OneSetValue};
 ghost use Rattle.acpi_write.specs.Spells.{OneValueSpelled};
 
 /// Bytes say at most one value of a kind, so what is written can be read in one way.
@@ -73,4 +75,10 @@ pub fn refused_sets_are_not_rebuilt()
 /// an image has the premise that its numbers fit from `Image::numbers_fit`.
 pub fn rebuilt_sets_are_kept()
     ensures { RebuiltSetsAreKept }
+{}
+
+/// An example: what the clean set of `acpi_base` says, and its rebuilt image from F0000h on, byte by byte.
+pub fn rebuilt_set_example()
+    ensures value { IsSetValue whole_set example_policy.rsdp whole_value }
+    ensures rebuilt { IsRebuilt whole_set example_policy new_base new_image }
 {}

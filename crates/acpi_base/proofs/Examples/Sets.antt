@@ -5,7 +5,7 @@ use Rattle.std.specs.Prelude.{◌≢◌, nat_lt}
 use Rattle.std.specs.List.{list_all, AllByRecursion}
 use Rattle.std.specs.Ordering.{nat_cmp}
 use Rattle.std.specs.FinMap.{get-empty}
-use Rattle.std.proofs.lemmas.Bool.{both_ways, and_parts, ltb-true}
+use Rattle.std.proofs.lemmas.Bool.{both_ways}
 use Rattle.acpi_base.specs.Policy.{PolicyValue, inputs_of, counts_as_enabled}
 use Rattle.acpi_base.specs.Entries.{Stands, first_entry, entries_from, entries_of, end_of_entries, cut_of, has_form}
 use Rattle.acpi_base.specs.Madt.{LocalApic, IoApic, Override, Opaque, MadtContents, madt_entry, madt_contents, IsEnabledProcessor, HasUid, ServesFrom}
@@ -28,7 +28,7 @@ use Rattle.acpi_base.specs.Examples.Pptts.{said_pptt}
 use Rattle.acpi_base.specs.declared.policy.Processors.{Processors}
 use Rattle.acpi_base.specs.declared.policy.Processors.TheVariants.{Enabled, Usable}
 use Rattle.acpi_base.specs.declared.code.Code.TheVariants as code
-use Rattle.acpi_base.proofs.Examples.{each_entry, none_stands, never}
+use Rattle.acpi_base.proofs.Examples.{each_entry, none_stands, never, all_below}
 use Rattle.acpi_base.proofs.Examples.Srats.{srat_said}
 use Rattle.acpi_base.proofs.HeldBytes.{same_value}
 use Rattle.acpi_base.proofs.Pieces.RunBytes.{byte_of_memory_of}
@@ -45,11 +45,6 @@ runs one other = run_at rsdp_at rsdp_bytes ∷ run_at 0x1000 rsdt_bytes ∷ run_
 -- its bytes are those of its runs
 bytes_of_runs : (one other : List ℕ) (a n : ℕ) → bytes_at (set_of one other) a n ≡ run_of (lookup (runs one other)) a n
 bytes_of_runs one other a n = λ i. run_of (λ x. byte_of_memory_of (runs one other) x i) a n
-
--- each of these is below 256 where the test of all says so
-all_below : (bytes : List ℕ) → list_all (λ b. nat_lt b 256) bytes ≡ true → AllByRecursion (λ b. b < 256) bytes
-all_below [] is = tt
-all_below (b ∷ rest) is = (let parts = and_parts (nat_lt b 256) (list_all (λ b. nat_lt b 256) rest) is in (ltb-true b 256 parts.0, all_below rest parts.1))
 
 -- it is an image where the two tables are bytes, fewer than 1000h each
 is_image : (one other : List ℕ) → (0 < length one) × (length one < 0x1000) → (0 < length other) × (length other < 0x1000)
@@ -201,7 +196,7 @@ named =
 abbrev uid : MadtContents
 uid = said_madt 52 (standing 44 (LocalApic (record { uid = 5; apic_id = 0; flags = 0 })) ∷ [])
 
-abbrev leaf : PpttContents
+abbrev pub leaf : PpttContents
 leaf = said_pptt 56 (standing 36 (Node (record { flags = 10; parent = 0; id = 7; resources = [] })) ∷ [])
 
 -- the bytes of the tables say this
@@ -295,7 +290,7 @@ unfolding pptt_contents field
 of_revision_1 fault = omega (arith, fault.0)
 
 -- an I/O APIC has as many inputs as the policy says of all
-inputs_are : (n : ℕ) → inputs_of (policy n Enabled) 0xfec00000 ≡ n
+pub inputs_are : (n : ℕ) → inputs_of (policy n Enabled) 0xfec00000 ≡ n
 unfolding inputs_of
 inputs_are n = rw (get-empty {X = ℕ} nat_cmp 0xfec00000) refl
 

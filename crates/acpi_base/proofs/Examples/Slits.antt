@@ -62,7 +62,7 @@ without_fault bytes c says sound fault at other point wrong = excludes c fault a
 empty : IsSoundSlit (said_slit 44 0 [])
 empty = record { size = refl; least = λ i j row column. omega arith; diagonal = λ i row. omega arith }
 
-one : IsSoundSlit (said_slit 45 1 (10 ∷ []))
+pub one : IsSoundSlit (said_slit 45 1 (10 ∷ []))
 one = record { size = refl; least = least; diagonal = diagonal }
   where
     least : (i j : ℕ) → i < 1 → j < 1 → 10 ≤ distance (said_slit 45 1 (10 ∷ [])) i j

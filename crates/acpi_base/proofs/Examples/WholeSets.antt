@@ -1,6 +1,8 @@
 -- The whole set, by computing.
-use Rattle.std.proofs.Common.{◌≡◌, ℕ, zero, suc, List, take, Some, true, false, refl, subst, arith}
+use Rattle.std.proofs.Common.{◌≡◌, ℕ, zero, suc, ◌<◌, List, [], ◌∷◌, take, Some, true, false, refl, ◌∙◌, subst, arith}
+use Rattle.std.specs.Prelude.{◌==◌}
 use Rattle.std.proofs.lemmas.Bool.{both_ways}
+use Rattle.std.proofs.lemmas.Bool.Decides.{nat_tests}
 use Rattle.acpi_base.specs.Memory.{Memory, byte_of, run_of, cons_both, bytes_at}
 use Rattle.acpi_base.specs.Number.{field}
 use Rattle.acpi_base.specs.Segments.{lookup}
@@ -8,11 +10,22 @@ use Rattle.acpi_base.specs.Signature.{has_signature}
 use Rattle.acpi_base.specs.Rsdp.{addresses_at}
 use Rattle.acpi_base.specs.Root.{chosen_root, IsRoot, IsRootTable, HasSlot}
 use Rattle.acpi_base.specs.Tables.{IsTable, IsSigned}
+use Rattle.acpi_base.specs.Listed.{fadt_signature, madt_signature, srat_signature, slit_signature, pptt_signature, IsListedTable}
+use Rattle.acpi_base.specs.Entries.{first_entry, entries_from, entries_of, end_of_entries, cut_of, has_form}
+use Rattle.acpi_base.specs.Madt.{LocalApic, IoApic, Override, MadtContents, madt_entry, madt_contents}
+use Rattle.acpi_base.specs.Srat.{ApicDomain, MemoryRange, SratContents, srat_entry, srat_contents}
+use Rattle.acpi_base.specs.Slit.{SlitContents, slit_contents}
+use Rattle.acpi_base.specs.Pptt.{has_node_form, has_cache_form, pptt_entry, pptt_contents}
+use Rattle.acpi_base.specs.Examples.{standing}
 use Rattle.acpi_base.specs.Examples.WholeSets.{rsdp_bytes, xsdt_bytes, fadt_bytes, madt_bytes, srat_bytes, whole_runs, whole_set}
 use Rattle.acpi_base.specs.Examples.Sets.{rsdp_at, new_leaf_bytes}
-use Rattle.acpi_base.specs.Examples.Slits.{one_locality_bytes}
+use Rattle.acpi_base.specs.Examples.Madts.{said_madt}
+use Rattle.acpi_base.specs.Examples.Srats.{said_srat}
+use Rattle.acpi_base.specs.Examples.Slits.{said_slit, one_locality_bytes}
+use Rattle.acpi_base.proofs.Examples.Sets.{leaf}
 use Rattle.acpi_base.proofs.HeldBytes.{same_value}
 use Rattle.acpi_base.proofs.Pieces.RunBytes.{byte_of_memory_of}
+use Rattle.acpi_base.proofs.Tables.Listed.{listed_in_root}
 
 -- its bytes are those of its runs
 pub byte_of_whole_set : (a : ℕ) → byte_of whole_set a ≡ lookup whole_runs a
@@ -78,7 +91,7 @@ each_slot P first second third fourth fifth (suc (suc (suc (suc (suc k))))) a sl
 -- ---- the listed tables
 
 -- the table in a slot, with its header
-abbrev IsAt : ℕ → List ℕ → Type 0
+abbrev pub IsAt : ℕ → List ℕ → Type 0
 IsAt a whole = IsTable whole_set a (take 36 whole) whole
 
 -- each stands in the whole set
@@ -105,3 +118,95 @@ pub not_signed : {m : Memory} {a : ℕ} (header signature : List ℕ) → bytes_
 not_signed header signature held differs found =
     let same = same_value found.header header found.header_held held in
     both_ways (has_signature header signature) differs (subst (λ (h : List ℕ). has_signature h signature ≡ true) same found.signed)
+
+-- A slot of the root lists the first table with a signature where each of the five has it exactly in that slot.
+listed_at : (k a : ℕ) (whole signature : List ℕ) → HasSlot xsdt_bytes 8 k a → IsAt a whole
+    → has_signature (take 36 whole) signature ≡ true
+    → has_signature (take 36 fadt_bytes) signature ≡ (0 == k)
+    → has_signature (take 36 madt_bytes) signature ≡ (1 == k)
+    → has_signature (take 36 srat_bytes) signature ≡ (2 == k)
+    → has_signature (take 36 one_locality_bytes) signature ≡ (3 == k)
+    → has_signature (take 36 new_leaf_bytes) signature ≡ (4 == k)
+    → IsListedTable whole_set rsdp_at signature whole
+listed_at k a whole signature slot stands signed fadt madt srat slit pptt =
+    listed_in_root (root_of_held whole_has_root) (root_table_of whole_has_root)
+    (record {
+      k = k;
+      slot = slot;
+      signed = record { header = take 36 whole; header_held = stands.header_held; signed = signed };
+      none_before = λ j b less here. before j b here less;
+    })
+    stands
+  where
+    at : (j : ℕ) {b : ℕ} (table : List ℕ) → IsAt b table → has_signature (take 36 table) signature ≡ (j == k) → j < k
+        → ¬ IsSigned whole_set b signature
+    at j table held is less =
+        let differs : (j == k) ≡ false = grind (arith, nat_tests) in
+        not_signed (take 36 table) signature held.header_held (is ∙ differs)
+
+    before : (j b : ℕ) → HasSlot xsdt_bytes 8 j b → j < k → ¬ IsSigned whole_set b signature
+    before =
+        each_slot (λ j b. j < k → ¬ IsSigned whole_set b signature)
+        (at 0 fadt_bytes tables.fadt fadt) (at 1 madt_bytes tables.madt madt) (at 2 srat_bytes tables.srat srat)
+        (at 3 one_locality_bytes tables.slit slit) (at 4 new_leaf_bytes tables.pptt pptt)
+
+-- so the whole set lists each of the five
+pub record AreListed : Type 0 where
+  pub fadt : IsListedTable whole_set rsdp_at fadt_signature fadt_bytes
+  pub madt : IsListedTable whole_set rsdp_at madt_signature madt_bytes
+  pub srat : IsListedTable whole_set rsdp_at srat_signature srat_bytes
+  pub slit : IsListedTable whole_set rsdp_at slit_signature one_locality_bytes
+  pub pptt : IsListedTable whole_set rsdp_at pptt_signature new_leaf_bytes
+
+pub listed : AreListed
+unfolding has_signature field
+listed = record {
+  fadt = listed_at 0 0x2000 fadt_bytes fadt_signature first_slot tables.fadt refl refl refl refl refl refl;
+  madt = listed_at 1 0x4000 madt_bytes madt_signature slot_1 tables.madt refl refl refl refl refl refl;
+  srat = listed_at 2 0x5000 srat_bytes srat_signature slot_2 tables.srat refl refl refl refl refl refl;
+  slit = listed_at 3 0x6000 one_locality_bytes slit_signature slot_3 tables.slit refl refl refl refl refl refl;
+  pptt = listed_at 4 0x7000 new_leaf_bytes pptt_signature slot_4 tables.pptt refl refl refl refl refl refl;
+}
+  where
+    slot_1 : HasSlot xsdt_bytes 8 1 0x4000
+    slot_1 = record { inside = omega arith; address = refl; listed = λ same. omega arith }
+
+    slot_2 : HasSlot xsdt_bytes 8 2 0x5000
+    slot_2 = record { inside = omega arith; address = refl; listed = λ same. omega arith }
+
+    slot_3 : HasSlot xsdt_bytes 8 3 0x6000
+    slot_3 = record { inside = omega arith; address = refl; listed = λ same. omega arith }
+
+    slot_4 : HasSlot xsdt_bytes 8 4 0x7000
+    slot_4 = record { inside = omega arith; address = refl; listed = λ same. omega arith }
+
+-- ---- what the listed tables say; the SLIT has one locality, and the PPTT is that of the leaf
+
+abbrev pub madt : MadtContents
+madt =
+    said_madt 74
+    (standing 44 (LocalApic (record { uid = 7; apic_id = 5; flags = 1 }))
+    ∷ standing 52 (IoApic (record { id = 0; address = 0xfec00000; gsi_base = 0 }))
+    ∷ standing 64 (Override (record { bus = 0; source = 0; gsi = 2; flags = 0 }))
+    ∷ [])
+
+abbrev pub srat : SratContents
+srat =
+    said_srat 104
+    (standing 48 (ApicDomain (record { domain = 0; apic_id = 5; flags = 1; eid = 0; clock_domain = 0 }))
+    ∷ standing 64 (MemoryRange (record { domain = 0; base = 0; size = 0x100000; flags = 1 }))
+    ∷ [])
+
+abbrev pub slit : SlitContents
+slit = said_slit 45 1 (10 ∷ [])
+
+pub record AreContents : Type 0 where
+  pub madt : madt_contents madt_bytes ≡ madt
+  pub srat : srat_contents srat_bytes ≡ srat
+  pub slit : slit_contents one_locality_bytes ≡ slit
+  pub pptt : pptt_contents new_leaf_bytes ≡ leaf
+
+pub said : AreContents
+unfolding first_entry entries_from entries_of end_of_entries cut_of has_form field madt_entry madt_contents srat_entry
+    srat_contents slit_contents has_node_form has_cache_form pptt_entry pptt_contents
+said = record { madt = refl; srat = refl; slit = refl; pptt = refl }

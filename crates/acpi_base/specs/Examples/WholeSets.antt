@@ -1,5 +1,5 @@
--- A set with each table that is looked into, worked out by hand from the rules: an image with an RSDP, an XSDT, a FADT with its
--- FACS, a MADT, an SRAT, a SLIT and a PPTT.
+-- A clean set with each table that is looked into, worked out by hand from the rules: an image with an RSDP, an XSDT, a FADT
+-- with its FACS, a MADT, an SRAT, a SLIT and a PPTT. `acpi_base::laws::clean_set_example` states that it is clean.
 use Rattle.std.specs.Prelude.{ℕ, List, [], ◌∷◌, ◌++◌, replicate}
 use Rattle.acpi_base.specs.Memory.{Memory}
 use Rattle.acpi_base.specs.Policy.{PolicyValue, new_policy}
@@ -33,19 +33,22 @@ xsdt_bytes =
     ∷ 0 ∷ 0x70 ∷ 0 ∷ 0 ∷ 0 ∷ 0 ∷ 0 ∷ 0
     ∷ [])
 
--- a FADT with a FACS at 3000h, PM1 event and control blocks of 4 and 2 bytes, a timer of 4, no other block, and a reset
--- register of 8 bits at the port CF9h
-abbrev pub fadt_bytes : List ℕ
-fadt_bytes =
-    table fadt_signature 129 2 124
-    (0 ∷ 0x30 ∷ 0 ∷ 0
-    ∷ replicate 48 0
+-- a FADT's bytes from 36 on, where these 4 are FIRMWARE_CTRL: PM1 event and control blocks of 4 and 2 bytes, a timer of 4, no
+-- other block, and a reset register of 8 bits at the port CF9h
+abbrev pub fadt_body : List ℕ → List ℕ
+fadt_body firmware_ctrl =
+    firmware_ctrl
+    ++ replicate 48 0
     ++ 4 ∷ 2 ∷ 0 ∷ 4 ∷ 0 ∷ 0
     ∷ replicate 18 0
     ++ 0 ∷ 4 ∷ 0 ∷ 0
     ∷ 1 ∷ 8 ∷ 0 ∷ 1 ∷ 0xf9 ∷ 0xc ∷ 0 ∷ 0 ∷ 0 ∷ 0 ∷ 0 ∷ 0
     ∷ 6
-    ∷ [])
+    ∷ []
+
+-- a FADT with a FACS at 3000h
+abbrev pub fadt_bytes : List ℕ
+fadt_bytes = table fadt_signature 129 2 124 (fadt_body (0 ∷ 0x30 ∷ 0 ∷ 0 ∷ []))
 
 -- a FACS
 abbrev pub facs_bytes : List ℕ

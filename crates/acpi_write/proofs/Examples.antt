@@ -1,0 +1,99 @@
+-- The example of a rebuilt set, by computing.
+use Rattle.std.proofs.Common.{◌≡◌, ℕ, List, [], ◌∷◌, take, Some, refl, ap, subst, arith}
+use Rattle.std.specs.List.{AllZip}
+use Rattle.std.specs.FinMap.{empty}
+use Rattle.acpi_base.specs.Number.{field, number_bytes, byte_sum}
+use Rattle.acpi_base.specs.Signature.{has_signature}
+use Rattle.acpi_base.specs.Header.{header_of, header_bytes}
+use Rattle.acpi_base.specs.Listed.{listed, fadt_signature}
+use Rattle.acpi_base.specs.Fadt.{IsFadt}
+use Rattle.acpi_base.specs.Entries.{first_entry, entries_from, entries_of, end_of_entries, cut_of, has_form}
+use Rattle.acpi_base.specs.Madt.{madt_entry, madt_contents}
+use Rattle.acpi_base.specs.Srat.{srat_entry, srat_contents}
+use Rattle.acpi_base.specs.Slit.{slit_contents}
+use Rattle.acpi_base.specs.Pptt.{has_node_form, has_cache_form, pptt_entry, pptt_contents}
+use Rattle.acpi_base.specs.Examples.Sets.{rsdp_at, new_leaf_bytes}
+use Rattle.acpi_base.specs.Examples.Slits.{one_locality_bytes}
+use Rattle.acpi_base.specs.Examples.WholeSets.{xsdt_bytes, fadt_bytes, facs_bytes, madt_bytes, srat_bytes, whole_set, example_policy}
+use Rattle.acpi_base.specs.Examples.WholeSets as old
+use Rattle.acpi_base.proofs.Examples.CleanSet.{is_clean, names_facs, named_facs}
+use Rattle.acpi_base.proofs.Examples.WholeSets.{whole_has_root, root_of_held, root_table_of, tables}
+use Rattle.acpi_base.proofs.Examples.WholeSets as whole
+use Rattle.acpi_base.proofs.Tables.Listed.{one_listed}
+use Rattle.acpi_write.specs.Encoded.{closing, table_bytes}
+use Rattle.acpi_write.specs.Examples.{whole_tables, whole_value, new_base, new_pieces, new_image}
+use Rattle.acpi_write.specs.FadtBody.{put_over, with_facs}
+use Rattle.acpi_write.specs.Placed.{ends, IsPlaced}
+use Rattle.acpi_write.specs.Rebuilding.{IsRebuilt}
+use Rattle.acpi_write.specs.Rebuilt.{aligned, laid, places, rsdp_bytes, part_bytes, with_pieces, rebuilt}
+use Rattle.acpi_write.specs.SetValues.{said_behind, values_behind, values_of, IsWholeAt, IsFacsOf, IsSetValue}
+
+-- ---- what the set says
+
+-- the bytes of its tables, in the order of their slots
+abbrev table_list : List (List ℕ)
+table_list = fadt_bytes ∷ madt_bytes ∷ srat_bytes ∷ one_locality_bytes ∷ new_leaf_bytes ∷ []
+
+-- its root lists them
+each_whole : AllZip (IsWholeAt whole_set) (listed xsdt_bytes 8) table_list
+unfolding listed field
+each_whole = ((_, tables.fadt), ((_, tables.madt), ((_, tables.srat), ((_, tables.slit), ((_, tables.pptt), tt)))))
+
+-- they say this
+values_said : whole_tables ≡ values_of table_list
+unfolding said_behind values_behind has_signature header_of field number_bytes put_over with_facs first_entry
+    entries_from entries_of end_of_entries cut_of has_form madt_entry madt_contents srat_entry srat_contents
+    slit_contents has_node_form has_cache_form pptt_entry pptt_contents
+values_said = refl
+
+-- and the FADT names the FACS
+facs_said : (fadt : List ℕ) → IsFadt whole_set rsdp_at fadt → IsFacsOf whole_set fadt (Some facs_bytes)
+facs_said fadt is =
+    subst (λ (f : List ℕ). IsFacsOf whole_set f (Some facs_bytes))
+    (one_listed whole_set rsdp_at fadt_signature fadt_bytes fadt whole.listed.fadt is) (names_facs, named_facs)
+
+pub is_said : IsSetValue whole_set rsdp_at whole_value
+unfolding header_of field
+is_said = record {
+  head = take 20 old.rsdp_bytes;
+  head_held = whole_has_root.head_held;
+  oemid = refl;
+  r = 0x1000;
+  d = 8;
+  root_bytes = xsdt_bytes;
+  root = root_of_held whole_has_root;
+  root_table = root_table_of whole_has_root;
+  root_head = refl;
+  tables = table_list;
+  each = each_whole;
+  values = values_said;
+  facs = facs_said;
+}
+
+-- ---- its new image
+
+pub is_placed : IsPlaced whole_value new_base
+unfolding ends aligned places number_bytes
+is_placed = record {
+  aligned = refl;
+  size = omega arith;
+  inside = (
+    omega arith,
+    (omega arith, (omega arith, (omega arith, (omega arith, (omega arith, (omega arith, (omega arith, tt))))))),
+  );
+  low = λ _. omega arith;
+}
+
+pieces : new_pieces ≡ laid new_base (part_bytes whole_value new_base)
+unfolding laid aligned places rsdp_bytes closing table_bytes header_bytes number_bytes byte_sum put_over with_facs
+pieces = refl
+
+pub is_rebuilt : IsRebuilt whole_set example_policy new_base new_image
+unfolding new_image rebuilt
+is_rebuilt = record {
+  clean = is_clean;
+  value = whole_value;
+  said = is_said;
+  placed = is_placed;
+  image = ap (with_pieces empty) pieces;
+}
