@@ -1,26 +1,22 @@
--- From processors that an SRAT puts in two domains to the first fault of a set.
+-- From processors that an SRAT puts in two domains to the first fault of the two tables.
 use Rattle.std.proofs.Common.{◌≡◌, ℕ, List, Option, Some, None, refl, ap}
-use Rattle.std.specs.Prelude.{◌↔◌, Contains, IfOk, Result, Ok, Err}
+use Rattle.std.specs.Prelude.{◌↔◌, Contains}
 use Rattle.std.proofs.lemmas.Option.{none-some, cond_some}
 use Rattle.acpi_base.specs.Across.{IsEnabled, HaveOneDomain, DomainFault}
 use Rattle.acpi_base.specs.Codes.{stage_of}
-use Rattle.acpi_base.specs.Faults.{NotAfter, IsFirstFault}
-use Rattle.acpi_base.specs.Listed.{madt_signature, srat_signature, IsListedTable, ListsNone}
-use Rattle.acpi_base.specs.Madt.{MadtEntry, LocalApic, X2apic, MadtContents, madt_contents, IsEnabledProcessor}
-use Rattle.acpi_base.specs.Memory.{Memory}
-use Rattle.acpi_base.specs.Policy.{PolicyValue, counts_as_enabled}
-use Rattle.acpi_base.specs.Srat.{SratContents, srat_contents}
-use Rattle.acpi_base.specs.Statements.{Holds, CleanBefore}
+use Rattle.acpi_base.specs.Faults.{NotAfter}
+use Rattle.acpi_base.specs.Madt.{MadtEntry, LocalApic, X2apic, MadtContents, IsEnabledProcessor}
+use Rattle.acpi_base.specs.Policy.{counts_as_enabled}
+use Rattle.acpi_base.specs.Srat.{SratContents}
 use Rattle.acpi_base.specs.declared.code.Code.{Code}
 use Rattle.acpi_base.specs.declared.code.Code.TheVariants as code
 use Rattle.acpi_base.specs.declared.policy.Processors.{Processors}
 use Rattle.acpi_base.specs.declared.stage.Stage.TheVariants as stage
 use Rattle.acpi_base.specs.declared.witness.Witness.{Witness}
 use Rattle.acpi_check.specs.Domains.{FindsDomains}
-use Rattle.acpi_check.specs.Passed.{IsFirstOfTable, FindsFault}
+use Rattle.acpi_check.specs.Passed.{FindsFault}
 use Rattle.acpi_check.specs.Processors.{number_of, AreNumbers}
 use Rattle.acpi_check.specs.declared.processors.Key.TheVariants as key
-use Rattle.acpi_check.proofs.TwoTables.{without_first, without_second, for_both, both_first}
 
 -- ---- processors
 
@@ -40,7 +36,7 @@ are_enabled p madt numbers are i = (from, λ (o, (e, stands, is)). (are.all i).1
 -- ---- the tables
 
 -- what is found of the domains is so of the tables
-domains_found : (p : Processors) (madt : MadtContents) (srat : SratContents) (numbers : List ℕ) → AreNumbers (key.Enabled p) madt numbers
+pub domains_found : (p : Processors) (madt : MadtContents) (srat : SratContents) (numbers : List ℕ) → AreNumbers (key.Enabled p) madt numbers
     → (found : Option Witness) → FindsDomains numbers srat found → FindsFault stage.Domains (HaveOneDomain p madt srat) (DomainFault p madt srat) found
 domains_found p madt srat numbers are None all = λ i enabled o r d f one other. all i o r d f ((are_enabled p madt numbers are i).1 enabled) one other
 domains_found p madt srat numbers are (Some w) first =
@@ -52,29 +48,3 @@ domains_found p madt srat numbers are (Some w) first =
     least : (c : Code) (at other point : ℕ) → DomainFault p madt srat c at other point → NotAfter w (record { code = c; at = at; other = other; point = point })
     least code.TwoDomains at other point (enabled, d, f, one, two, before, differ) = first.first at other point ((are_enabled p madt numbers are point).1 enabled) (d, f, one, two, before, differ)
     least _ at other point wrong = absurd wrong
-
--- where memory did not run out
-pub all_found : {E : Type 0} (p : Processors) (madt : MadtContents) (srat : SratContents) (numbers : List ℕ) → AreNumbers (key.Enabled p) madt numbers → (result : Result (Option Witness) E)
-    → IfOk result (FindsDomains numbers srat) → IfOk result (FindsFault stage.Domains (HaveOneDomain p madt srat) (DomainFault p madt srat))
-all_found p madt srat numbers are (Ok found) finds = domains_found p madt srat numbers are found finds
-all_found p madt srat numbers are (Err refused) finds = finds
-
--- ---- the set
-
-abbrev One : PolicyValue → List ℕ → List ℕ → Type 0
-One q madt srat = HaveOneDomain q.processors (madt_contents madt) (srat_contents srat)
-
-pub no_madt : (m : Memory) (q : PolicyValue) → ListsNone m q.rsdp madt_signature → Holds stage.Domains m q
-no_madt m q none = without_first (One q) none
-
-pub no_srat : (m : Memory) (q : PolicyValue) → ListsNone m q.rsdp srat_signature → Holds stage.Domains m q
-no_srat m q none = without_second (One q) none
-
-pub domains_hold : (m : Memory) (q : PolicyValue) (madt srat : List ℕ) → IsListedTable m q.rsdp madt_signature madt → IsListedTable m q.rsdp srat_signature srat
-    → HaveOneDomain q.processors (madt_contents madt) (srat_contents srat) → Holds stage.Domains m q
-domains_hold m q madt srat is also one = for_both (One q) is also one
-
-pub domains_first : (m : Memory) (q : PolicyValue) (madt srat : List ℕ) (w : Witness) → CleanBefore stage.Domains m q → IsListedTable m q.rsdp madt_signature madt → IsListedTable m q.rsdp srat_signature srat
-    → IsFirstOfTable stage.Domains (DomainFault q.processors (madt_contents madt) (srat_contents srat)) w → IsFirstFault m q w × (stage_of w.code ≡ stage.Domains)
-domains_first m q madt srat w clean is also first =
-    both_first (λ one other. DomainFault q.processors (madt_contents one) (srat_contents other)) (λ v. (λ h. h, λ h. h)) (λ v least. least) clean is also w first

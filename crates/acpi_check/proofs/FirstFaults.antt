@@ -1,6 +1,6 @@
 -- From what a view reports to the first fault of a set.
 use Rattle.std.proofs.Common.{◌≡◌, ◌<◌, ◌≤◌, ℕ, List, Some, refl, sym, ◌∙◌, subst, inl, inr, arith}
-use Rattle.std.specs.Prelude.{◌⊎◌, ◌≢◌, ◌↔◌}
+use Rattle.std.specs.Prelude.{◌⊎◌, ◌≢◌}
 use Rattle.std.proofs.lemmas.Bool.{cases_order}
 use Rattle.acpi_base.specs.Memory.{Memory}
 use Rattle.acpi_base.specs.Policy.{PolicyValue}
@@ -8,20 +8,15 @@ use Rattle.acpi_base.specs.Codes.{code_number, stage_of}
 use Rattle.acpi_base.specs.Rsdp.{Addresses, addresses_at, RsdpValue, RsdpFault, IsRsdp}
 use Rattle.acpi_base.specs.Root.{HasSlot, IsSlot, RootFault, RootTableFault, NamedRootFault, chosen_root}
 use Rattle.acpi_base.specs.Tables.{IsSoundTable, TableFault}
-use Rattle.acpi_base.specs.Listed.{fadt_signature, madt_signature, srat_signature, slit_signature, IsListedTable, HasListed, ListsNone}
-use Rattle.acpi_base.specs.Madt.{madt_contents, IsSoundMadt, MadtFault, DoOverridesAgree, OverrideFault}
-use Rattle.acpi_base.specs.Srat.{srat_contents, IsSoundSrat, SratFault}
-use Rattle.acpi_base.specs.Slit.{slit_contents, IsSoundSlit, SlitFault}
+use Rattle.acpi_base.specs.Listed.{fadt_signature}
 use Rattle.acpi_base.specs.Fadt.{facs_address, IsFadt, IsSoundFadt, FadtTableFault, FadtFault}
 use Rattle.acpi_base.specs.Facs.{HasSoundFacs, IsSoundFacs, NamedFacsFault}
-use Rattle.acpi_base.specs.Statements.{Holds, CleanBefore}
-use Rattle.acpi_base.specs.Faults.{FaultCondition, FaultOfStage, NotAfter, IsLeastOfStage, IsFirstFault}
+use Rattle.acpi_base.specs.Statements.{CleanBefore}
+use Rattle.acpi_base.specs.Faults.{NotAfter, IsFirstFault}
 use Rattle.acpi_base.specs.declared.code.Code.{Code}
 use Rattle.acpi_base.specs.declared.code.Code.TheVariants as code
-use Rattle.acpi_base.specs.declared.stage.Stage.{Stage}
 use Rattle.acpi_base.specs.declared.stage.Stage.TheVariants as stage
 use Rattle.acpi_base.specs.declared.witness.Witness.{Witness}
-use Rattle.acpi_base.proofs.Faults.ListedTables.{of_listed, for_listed}
 use Rattle.acpi_base.proofs.Faults.Numbers.{stage_from_1}
 use Rattle.acpi_base.proofs.Faults.Order.{not_after}
 use Rattle.acpi_base.proofs.Faults.Settling.{IsFirstOfStage, first_of_set}
@@ -32,8 +27,6 @@ use Rattle.acpi_base.proofs.Tables.Faults.{excludes}
 use Rattle.acpi_base.proofs.Tables.Listed.{none_and_listed, one_listed}
 use Rattle.acpi_base.proofs.Facs.Faults.{place}
 use Rattle.acpi_read.specs.Roots.{RootValue}
-use Rattle.acpi_read.specs.Slits.{IsFirstSlitFault}
-use Rattle.acpi_check.specs.Passed.{IsFirstOfTable}
 use Rattle.acpi_check.specs.Tables.{IsRootOf}
 
 -- the least fault of the RSDP
@@ -127,91 +120,3 @@ facs_first m q fadt c clean own fault least =
 -- a FACS that is sound for the set's FADT is sound
 pub facs_sound : (m : Memory) (p : ℕ) (fadt : List ℕ) → IsFadt m p fadt → HasSoundFacs m fadt → IsSoundFacs m p
 facs_sound m p fadt is sound = λ whole also. rw (one_listed m p fadt_signature whole fadt also is) sound
-
--- ---- one table
-
--- the first fault of the table that the set lists first is the set's, where the stage's faults are those of this table
-pub table_first : {s : Stage} {m : Memory} {q : PolicyValue} {signature whole : List ℕ} (IsFault : List ℕ → Code → ℕ → ℕ → ℕ → Type 0)
-    → ((v : Witness) → FaultCondition s m q v ↔ HasListed m q.rsdp signature (λ bytes. IsFault bytes v.code v.at v.other v.point)) → ((w : Witness) → ((v : Witness) → FaultOfStage s m q v → NotAfter w v) → IsLeastOfStage s m q w)
-    → CleanBefore s m q → IsListedTable m q.rsdp signature whole → (w : Witness) → IsFirstOfTable s (IsFault whole) w → IsFirstFault m q w × (stage_of w.code ≡ s)
-table_first {whole = whole} IsFault condition order clean is w first = (
-  first_of_set clean (record {
-    holds = record { own = first.own; holds = (condition w).1 (whole, is, first.fault) };
-    least = order w (λ v here. first.least v (of_listed (λ bytes. IsFault bytes v.code v.at v.other v.point) is ((condition v).0 here.holds)));
-  }),
-  first.own,
-)
-
--- a set without a MADT has nothing to say of one
-pub no_madt : (m : Memory) (q : PolicyValue) → ListsNone m q.rsdp madt_signature → Holds stage.Madt m q
-no_madt m q none whole is = absurd (none_and_listed none is)
-
--- a sound MADT that the set lists first is what the stage states
-pub madt_holds : (m : Memory) (q : PolicyValue) (whole : List ℕ) → IsListedTable m q.rsdp madt_signature whole → IsSoundMadt q (madt_contents whole) → Holds stage.Madt m q
-madt_holds m q whole is sound = for_listed (λ bytes. IsSoundMadt q (madt_contents bytes)) is sound
-
--- the first fault of its entries is the set's
-pub madt_first : (m : Memory) (q : PolicyValue) (whole : List ℕ) (w : Witness) → CleanBefore stage.Madt m q → IsListedTable m q.rsdp madt_signature whole
-    → IsFirstOfTable stage.Madt (MadtFault q (madt_contents whole)) w → IsFirstFault m q w × (stage_of w.code ≡ stage.Madt)
-madt_first m q whole w clean is first = (
-  first_of_set clean (record {
-    holds = record { own = first.own; holds = (whole, is, first.fault) };
-    least = λ v here. first.least v (of_listed (λ bytes. MadtFault q (madt_contents bytes) v.code v.at v.other v.point) is here.holds);
-  }),
-  first.own,
-)
-
--- a set without a MADT has no overrides
-pub no_overrides : (m : Memory) (q : PolicyValue) → ListsNone m q.rsdp madt_signature → Holds stage.Overrides m q
-no_overrides m q none whole is = absurd (none_and_listed none is)
-
--- a MADT whose overrides agree is what the stage states where the set lists it first
-pub overrides_hold : (m : Memory) (q : PolicyValue) (whole : List ℕ) → IsListedTable m q.rsdp madt_signature whole → DoOverridesAgree (madt_contents whole) → Holds stage.Overrides m q
-overrides_hold m q whole is agree = for_listed (λ bytes. DoOverridesAgree (madt_contents bytes)) is agree
-
--- the first clash of its overrides is the set's first fault
-pub overrides_first : (m : Memory) (q : PolicyValue) (whole : List ℕ) (w : Witness) → CleanBefore stage.Overrides m q → IsListedTable m q.rsdp madt_signature whole
-    → IsFirstOfTable stage.Overrides (OverrideFault (madt_contents whole)) w → IsFirstFault m q w × (stage_of w.code ≡ stage.Overrides)
-overrides_first m q whole w clean is first = (
-  first_of_set clean (record {
-    holds = record { own = first.own; holds = (whole, is, first.fault) };
-    least = λ v here. first.least v (of_listed (λ bytes. OverrideFault (madt_contents bytes) v.code v.at v.other v.point) is here.holds);
-  }),
-  first.own,
-)
-
--- the same of the SRAT's entries
-pub no_srat : (m : Memory) (q : PolicyValue) → ListsNone m q.rsdp srat_signature → Holds stage.Srat m q
-no_srat m q none whole is = absurd (none_and_listed none is)
-
-pub srat_holds : (m : Memory) (q : PolicyValue) (whole : List ℕ) → IsListedTable m q.rsdp srat_signature whole → IsSoundSrat (srat_contents whole) → Holds stage.Srat m q
-srat_holds m q whole is sound = for_listed (λ bytes. IsSoundSrat (srat_contents bytes)) is sound
-
-pub srat_first : (m : Memory) (q : PolicyValue) (whole : List ℕ) (w : Witness) → CleanBefore stage.Srat m q → IsListedTable m q.rsdp srat_signature whole
-    → IsFirstOfTable stage.Srat (SratFault (srat_contents whole)) w → IsFirstFault m q w × (stage_of w.code ≡ stage.Srat)
-srat_first m q whole w clean is first = (
-  first_of_set clean (record {
-    holds = record { own = first.own; holds = (whole, is, first.fault) };
-    least = λ v here. first.least v (of_listed (λ bytes. SratFault (srat_contents bytes) v.code v.at v.other v.point) is here.holds);
-  }),
-  first.own,
-)
-
--- and of the SLIT
-pub no_slit : (m : Memory) (q : PolicyValue) → ListsNone m q.rsdp slit_signature → Holds stage.Slit m q
-no_slit m q none whole is = absurd (none_and_listed none is)
-
-pub slit_holds : (m : Memory) (q : PolicyValue) (whole : List ℕ) → IsListedTable m q.rsdp slit_signature whole → IsSoundSlit (slit_contents whole) → Holds stage.Slit m q
-slit_holds m q whole is sound = for_listed (λ bytes. IsSoundSlit (slit_contents bytes)) is sound
-
-pub slit_first : (m : Memory) (q : PolicyValue) (whole : List ℕ) (w : Witness) → CleanBefore stage.Slit m q → IsListedTable m q.rsdp slit_signature whole
-    → IsFirstSlitFault (slit_contents whole) w → IsFirstFault m q w × (stage_of w.code ≡ stage.Slit)
-slit_first m q whole w clean is first = (
-  first_of_set clean (record {
-    holds = record { own = first.stage; holds = (whole, is, first.fault) };
-    least = λ v here.
-        let fault = of_listed (λ bytes. SlitFault (slit_contents bytes) v.code v.at v.other v.point) is here.holds in
-        not_after w v (first.least v.code v.at v.other v.point fault) (first.fault.1 ∙ sym fault.1) (first.fault.2 ∙ sym fault.2);
-  }),
-  first.stage,
-)

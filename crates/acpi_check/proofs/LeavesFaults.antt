@@ -1,30 +1,25 @@
--- From the leaves of a PPTT that are no processors of a MADT to the first fault of a set.
+-- From the leaves of a PPTT that are no processors of a MADT to the first fault of the two tables.
 use Rattle.std.proofs.Common.{◌≡◌, ℕ, ◌≤◌, List, Option, Some, None, refl, sym, ap, subst}
 use Rattle.std.specs.Prelude.{◌↔◌, ◌&&◌, Contains}
 use Rattle.std.proofs.lemmas.Bool.{and_parts, and_from}
 use Rattle.std.proofs.lemmas.Option.{same_Some, none-some, cond_some}
 use Rattle.acpi_base.specs.Across.{IsLeaf, IsUid, AreLeavesKnown, LeafFault}
 use Rattle.acpi_base.specs.Codes.{stage_of}
-use Rattle.acpi_base.specs.Faults.{NotAfter, IsFirstFault}
+use Rattle.acpi_base.specs.Faults.{NotAfter}
 use Rattle.acpi_base.specs.Header.{header_of}
-use Rattle.acpi_base.specs.Listed.{madt_signature, pptt_signature, IsListedTable, ListsNone}
-use Rattle.acpi_base.specs.Madt.{MadtEntry, LocalApic, X2apic, MadtContents, madt_contents, HasUid, IsWhollyTyped}
-use Rattle.acpi_base.specs.Memory.{Memory}
+use Rattle.acpi_base.specs.Madt.{MadtEntry, LocalApic, X2apic, MadtContents, HasUid, IsWhollyTyped}
 use Rattle.acpi_base.specs.Number.{has_bit}
-use Rattle.acpi_base.specs.Policy.{PolicyValue}
 use Rattle.acpi_base.specs.Pptt.{PpttEntry, Node, PpttContents, pptt_contents}
-use Rattle.acpi_base.specs.Statements.{Holds, CleanBefore}
 use Rattle.acpi_base.specs.declared.code.Code.{Code}
 use Rattle.acpi_base.specs.declared.code.Code.TheVariants as code
 use Rattle.acpi_base.specs.declared.stage.Stage.TheVariants as stage
 use Rattle.acpi_base.specs.declared.witness.Witness.{Witness}
 use Rattle.acpi_check.specs.Leaves.{leaf_id}
 use Rattle.acpi_check.specs.Named.{FindsUnknown}
-use Rattle.acpi_check.specs.Passed.{IsFirstOfTable, FindsFault}
+use Rattle.acpi_check.specs.Passed.{FindsFault}
 use Rattle.acpi_check.specs.Processors.{number_of, numbers_in, AreNumbers}
 use Rattle.acpi_check.specs.declared.processors.Key.TheVariants as key
 use Rattle.acpi_check.proofs.GatheredNumbers.{in_entries}
-use Rattle.acpi_check.proofs.TwoTables.{without_first, without_second, for_both, both_first}
 
 -- ---- entries
 
@@ -82,23 +77,3 @@ pub all_known : (madt : MadtContents) (pptt : PpttContents) (uids named ids : Li
     → ((n : ℕ) → Contains ids n → Contains uids n) → AreLeavesKnown madt pptt
 all_known madt pptt uids named ids are is same among recent typed o id (e, stands, leaf) =
     (are_uids madt uids are id).0 (among id ((same id).1 (subst (λ (ns : List ℕ). Contains ns id) (sym is) ((in_entries leaf_id pptt.entries id).1 (o, (e, stands, (is_leaf id e).0 leaf))))))
-
--- ---- the set
-
-abbrev Known : List ℕ → List ℕ → Type 0
-Known madt pptt = AreLeavesKnown (madt_contents madt) (pptt_contents pptt)
-
-pub no_madt : (m : Memory) (q : PolicyValue) → ListsNone m q.rsdp madt_signature → Holds stage.Leaves m q
-no_madt m q none = without_first Known none
-
-pub no_pptt : (m : Memory) (q : PolicyValue) → ListsNone m q.rsdp pptt_signature → Holds stage.Leaves m q
-no_pptt m q none = without_second Known none
-
-pub leaves_hold : (m : Memory) (q : PolicyValue) (madt pptt : List ℕ) → IsListedTable m q.rsdp madt_signature madt → IsListedTable m q.rsdp pptt_signature pptt
-    → AreLeavesKnown (madt_contents madt) (pptt_contents pptt) → Holds stage.Leaves m q
-leaves_hold m q madt pptt is also known = for_both Known is also known
-
-pub leaves_first : (m : Memory) (q : PolicyValue) (madt pptt : List ℕ) (w : Witness) → CleanBefore stage.Leaves m q → IsListedTable m q.rsdp madt_signature madt → IsListedTable m q.rsdp pptt_signature pptt
-    → IsFirstOfTable stage.Leaves (LeafFault (madt_contents madt) (pptt_contents pptt)) w → IsFirstFault m q w × (stage_of w.code ≡ stage.Leaves)
-leaves_first m q madt pptt w clean is also first =
-    both_first (λ one other. LeafFault (madt_contents one) (pptt_contents other)) (λ v. (λ h. h, λ h. h)) (λ v least. least) clean is also w first

@@ -31,6 +31,6 @@ mod ServedSpans
 mod Skipped
 mod Slots
 mod SratPass
-mod TwoTables
+mod TablesLifted
 mod TypedPass
 mod ValuesPass

@@ -1,6 +1,6 @@
 -- A pass over the entries of a table, which stand at rising offsets.
-use Rattle.std.proofs.Common.{◌≡◌, ℕ, suc, ◌<◌, ◌≤◌, List, [], ◌∷◌, length, Some, sym, ◌∙◌, ap, subst, inl, inr, arith}
-use Rattle.std.specs.Prelude.{◌⊎◌, ⊤, Result, Ok, Err}
+use Rattle.std.proofs.Common.{◌≡◌, ℕ, suc, ◌<◌, ◌≤◌, List, [], ◌∷◌, length, Option, Some, None, sym, ◌∙◌, ap, subst, inl, inr, arith}
+use Rattle.std.specs.Prelude.{◌⊎◌, ⊤, Result, Ok, Err, MatchOption}
 use Rattle.std.specs.Result.{IsErr, IsErrAnd}
 use Rattle.acpi_base.specs.Codes.{code_number}
 use Rattle.acpi_base.specs.Entries.{Standing, Stands, StandsWith, AreUnused, entries_of, cut_of, said_by}
@@ -12,7 +12,9 @@ use Rattle.acpi_base.proofs.Standings.{cut_behind, said_from}
 use Rattle.acpi_base.specs.declared.code.Code.{Code}
 use Rattle.acpi_base.specs.declared.stage.Stage.{Stage}
 use Rattle.acpi_base.specs.declared.witness.Witness.{Witness}
-use Rattle.acpi_check.specs.Passed.{IsFirstOfTable, FindsFirst}
+use Rattle.acpi_check.specs.Passed.{IsFirstOfTable, FindsFirst, FindsFault}
+use Rattle.acpi_check.specs.declared.refusal.Refusal.{Refusal}
+use Rattle.acpi_check.specs.declared.refusal.Refusal.TheVariants.{Fault}
 use Rattle.acpi_check.proofs.Kept.{AreRising, rising}
 
 -- of these entries those left are still to come, and all others came before them and have P
@@ -114,6 +116,13 @@ none_said read first whole short o e stands =
     (none_in_short first whole short).1 o bytes here
 
 -- a result that is this fault says what the fault does
-pub reported : (s : Stage) (Sound : Type 0) (IsFault : Code → ℕ → ℕ → ℕ → Type 0) (w : Witness) (r : Result ⊤ Witness) → IsErr r → IsErrAnd r (λ v. v ≡ w) → IsFirstOfTable s IsFault w → FindsFirst s Sound IsFault r
+pub reported : (s : Stage) (Sound : Type 0) (IsFault : Code → ℕ → ℕ → ℕ → Type 0) (w : Witness) (r : Result ⊤ Refusal)
+    → IsErr r → IsErrAnd r (λ v. v ≡ Fault w) → IsFirstOfTable s IsFault w → FindsFirst s Sound IsFault r
 reported s Sound IsFault w (Ok _) err is first = absurd cc
-reported s Sound IsFault w (Err v) err is first = subst (IsFirstOfTable s IsFault) (sym is) first
+reported s Sound IsFault w (Err v) err is first = rw is first
+
+-- a refusal for the fault that was found, where one was, says what this says
+pub refused : (s : Stage) (Sound : Type 0) (IsFault : Code → ℕ → ℕ → ℕ → Type 0) (found : Option Witness) (r : Result ⊤ Refusal)
+    → MatchOption found (r ≡ Ok tt) (λ w. r ≡ Err (Fault w)) → FindsFault s Sound IsFault found → FindsFirst s Sound IsFault r
+refused s Sound IsFault None r is sound = rw is sound
+refused s Sound IsFault (Some w) r is first = rw is first

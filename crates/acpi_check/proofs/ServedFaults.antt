@@ -1,27 +1,21 @@
--- From the interrupt numbers that entries of a MADT name to the first fault of a set.
+-- From the interrupt numbers that entries of a MADT name to its first fault.
 use Rattle.std.proofs.Common.{◌≡◌, ℕ, ◌<◌, List, [], ◌∷◌, length, Option, Some, None, sym, ap, subst, arith}
 use Rattle.std.specs.Prelude.{◌↔◌}
 use Rattle.std.proofs.lemmas.Option.{same_Some, none-some}
 use Rattle.acpi_base.specs.Across.{HasIoApic, IsIoApic, AreNamedServed, ServedFault}
 use Rattle.acpi_base.specs.Codes.{stage_of}
-use Rattle.acpi_base.specs.Faults.{NotAfter, IsFirstFault}
-use Rattle.acpi_base.specs.Listed.{madt_signature, IsListedTable, ListsNone}
-use Rattle.acpi_base.specs.Madt.{MadtEntry, IoApic, Override, NmiSource, MadtContents, madt_contents, ServesFrom, NamesGsi}
-use Rattle.acpi_base.specs.Memory.{Memory}
+use Rattle.acpi_base.specs.Faults.{NotAfter}
+use Rattle.acpi_base.specs.Madt.{MadtEntry, IoApic, Override, NmiSource, MadtContents, ServesFrom, NamesGsi}
 use Rattle.acpi_base.specs.Policy.{PolicyValue}
-use Rattle.acpi_base.specs.Statements.{Holds, CleanBefore}
 use Rattle.acpi_base.specs.declared.code.Code.{Code}
 use Rattle.acpi_base.specs.declared.code.Code.TheVariants as code
 use Rattle.acpi_base.specs.declared.stage.Stage.TheVariants as stage
 use Rattle.acpi_base.specs.declared.witness.Witness.{Witness}
 use Rattle.acpi_base.proofs.Elements.{first_element}
-use Rattle.acpi_base.proofs.Faults.ListedTables.{for_listed}
-use Rattle.acpi_base.proofs.Tables.Listed.{none_and_listed}
 use Rattle.acpi_graph.specs.declared.span.Span.{Span}
 use Rattle.acpi_check.specs.Named.{FindsUnknown}
-use Rattle.acpi_check.specs.Passed.{IsFirstOfTable, FindsFault}
+use Rattle.acpi_check.specs.Passed.{FindsFault}
 use Rattle.acpi_check.specs.Served.{IsHeld, AreServed, named_gsi}
-use Rattle.acpi_check.proofs.FirstFaults.{table_first}
 
 -- ---- entries
 
@@ -66,17 +60,3 @@ served_found q c spans are some (Some w) first =
         subst (λ (k : ℕ). NotAfter w (record { code = code.GsiNowhere; at = at; other = k; point = point })) (sym zero)
         (first.first at point (e, stands, (names point e).0 named) (λ held. nowhere ((are.held point).0 held)))
     least _ at other point wrong = absurd wrong
-
--- ---- the set
-
--- a set without a MADT names no interrupt number
-pub none_named : (m : Memory) (q : PolicyValue) → ListsNone m q.rsdp madt_signature → Holds stage.Served m q
-none_named m q none whole is = absurd (none_and_listed none is)
-
--- what is found of the MADT that the set lists first is so of the set
-pub served_holds : (m : Memory) (q : PolicyValue) (whole : List ℕ) → IsListedTable m q.rsdp madt_signature whole → AreNamedServed q (madt_contents whole) → Holds stage.Served m q
-served_holds m q whole is served = for_listed (λ bytes. AreNamedServed q (madt_contents bytes)) is served
-
-pub served_first : (m : Memory) (q : PolicyValue) (whole : List ℕ) (w : Witness) → CleanBefore stage.Served m q → IsListedTable m q.rsdp madt_signature whole
-    → IsFirstOfTable stage.Served (ServedFault q (madt_contents whole)) w → IsFirstFault m q w × (stage_of w.code ≡ stage.Served)
-served_first m q whole w clean is first = table_first (λ bytes. ServedFault q (madt_contents bytes)) (λ v. (λ h. h, λ h. h)) (λ v least. least) clean is w first

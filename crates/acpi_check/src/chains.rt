@@ -1,19 +1,16 @@
 //! Stages 14 and 15: the chains of Parents and of Next Levels in the PPTT.
 
-ghost use Rattle.std.specs.Prelude.{◌≡◌, ◌⊎◌, ⊤, AllPairs, Contains, IfOk, ◌<◌};
+ghost use Rattle.std.specs.Prelude.{◌≡◌, ◌⊎◌, AllPairs, Contains, IfOk, ◌<◌};
 ghost use Rattle.acpi_base.specs.Chains.{NoneDangles};
-ghost use Rattle.acpi_base.specs.Pptt.{pptt_entry, pptt_contents};
-ghost use Rattle.acpi_base.specs.Statements.{CleanBefore};
+ghost use Rattle.acpi_base.specs.Pptt.{pptt_entry, pptt_contents, AreReferencesSound, DoParentsEnd, DoCachesEnd, ParentFault, CacheFault};
 ghost use Rattle.acpi_base.specs.declared.stage.Stage.{Stage};
 ghost use Rattle.acpi_check.specs.Indexed.{IsIndexOf};
+ghost use Rattle.acpi_check.specs.Passed.{FindsFirst};
 ghost use Rattle.acpi_check.specs.Linked.{named_by, code_of, Names, AreNodesOf, AreLinked, AreIndices, FindsCycle};
-ghost use Rattle.acpi_check.specs.Settled.{Settles};
-ghost use Rattle.acpi_check.specs.Set.{IsSet};
 
 use crate::nodes::{Chain, Nodes};
-use crate::refusal::Refusal;
+use crate::refusal::{Refusal, refuse};
 use crate::search::find;
-use crate::set::Set;
 use acpi_base::{Code, Witness};
 use acpi_graph::{Stray, first_stray};
 use acpi_read::{Entries, Entry, PpttEntry, Table};
@@ -103,36 +100,20 @@ fn first_cycle(alloc: Global, chain: Chain, table: Table<'_>) -> Result<Option<W
     }
 }
 
-/// Whether the chain of Parents from every node of the PPTT ends, or the set lists no PPTT. A fault is at the offset of
-/// the first node whose chain does not. Takes memory for each node.
-pub fn parents_end(alloc: Global, set: &Set<'_>) -> Result<(), Refusal>
-    requires clean { CleanBefore Stage.Parents set.now.image.now set.now.policy.now }
-    requires set { IsSet set.now }
-    ensures { Settles Stage.Parents set.now.image.now set.now.policy.now (λ _. ⊤) result }
+/// Whether the chain of Parents from every node of a PPTT ends. The first fault is at the offset of the first node whose chain
+/// does not. Takes memory for each node.
+pub fn parents_end(alloc: Global, table: Table<'_>) -> Result<(), Refusal>
+    requires { AreReferencesSound (pptt_contents table) }
+    ensures { FindsFirst Stage.Parents (DoParentsEnd (pptt_contents table.entry)) (ParentFault (pptt_contents table.entry)) result }
 {
-    match &set.pptt {
-        None => Ok(()),
-        Some(table) => match first_cycle(alloc, Chain::Parents, table.copied()) {
-            Ok(None) => Ok(()),
-            Ok(Some(fault)) => Err(Refusal::Fault(fault)),
-            Err(AllocError) => Err(Refusal::OutOfMemory),
-        },
-    }
+    refuse(first_cycle(alloc, Chain::Parents, table)?)
 }
 
-/// Whether the chain of Next Levels from every cache of the PPTT ends, or the set lists no PPTT. A fault is at the offset
-/// of the first cache whose chain does not. Takes memory for each cache.
-pub fn caches_end(alloc: Global, set: &Set<'_>) -> Result<(), Refusal>
-    requires clean { CleanBefore Stage.Caches set.now.image.now set.now.policy.now }
-    requires set { IsSet set.now }
-    ensures { Settles Stage.Caches set.now.image.now set.now.policy.now (λ _. ⊤) result }
+/// Whether the chain of Next Levels from every cache of a PPTT ends. The first fault is at the offset of the first cache whose
+/// chain does not. Takes memory for each cache.
+pub fn caches_end(alloc: Global, table: Table<'_>) -> Result<(), Refusal>
+    requires { AreReferencesSound (pptt_contents table) }
+    ensures { FindsFirst Stage.Caches (DoCachesEnd (pptt_contents table.entry)) (CacheFault (pptt_contents table.entry)) result }
 {
-    match &set.pptt {
-        None => Ok(()),
-        Some(table) => match first_cycle(alloc, Chain::NextLevels, table.copied()) {
-            Ok(None) => Ok(()),
-            Ok(Some(fault)) => Err(Refusal::Fault(fault)),
-            Err(AllocError) => Err(Refusal::OutOfMemory),
-        },
-    }
+    refuse(first_cycle(alloc, Chain::NextLevels, table)?)
 }

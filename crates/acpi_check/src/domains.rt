@@ -1,21 +1,17 @@
 //! Stage 16: the proximity domains in which the SRAT puts the processors of the MADT.
 
-ghost use Rattle.std.specs.Prelude.{◌≡◌, ◌<◌, ◌≤◌, ⊤, AllPairs, IfOk, MatchBool, length};
+ghost use Rattle.std.specs.Prelude.{◌≡◌, ◌<◌, ◌≤◌, AllPairs, IfOk, MatchBool, length};
 ghost use Rattle.acpi_base.specs.Across.{HaveOneDomain, DomainFault};
 ghost use Rattle.acpi_base.specs.Madt.{madt_contents};
 ghost use Rattle.acpi_base.specs.Srat.{srat_entry, srat_contents};
-ghost use Rattle.acpi_base.specs.Statements.{CleanBefore};
 ghost use Rattle.acpi_base.specs.declared.stage.Stage.{Stage};
 ghost use Rattle.acpi_check.specs.Domains.{placement_of, ArePlacements, DoAgree, PassesPlacement, FindsDomains};
-ghost use Rattle.acpi_check.specs.Passed.{FindsFault};
-ghost use Rattle.acpi_check.specs.Settled.{Settles};
-ghost use Rattle.acpi_check.specs.Set.{IsSet};
+ghost use Rattle.acpi_check.specs.Passed.{FindsFirst};
 
 use crate::firsts::{FirstValue, note_value};
 use crate::processors::{Key, numbers_of};
-use crate::refusal::Refusal;
+use crate::refusal::{Refusal, refuse};
 use crate::search::find;
-use crate::set::Set;
 use crate::srat::is_enabled;
 use acpi_base::{Code, Processors, Witness};
 use acpi_read::{Entries, Entry, SratEntry, Table};
@@ -131,47 +127,26 @@ fn do_agree(placements: &[Placement]) -> bool
     true
 }
 
-/// The fault of the first entry of an SRAT that puts a processor of a MADT that counts as enabled in another domain than
-/// an earlier entry. Where no processor at all is put in two domains, there is none.
-fn first_two_domains(
+/// Whether an SRAT puts no processor of a MADT that counts as enabled in two domains. The first fault is at the first entry of
+/// the SRAT that puts a processor in another domain than the first entry that is of it, whose offset is `other`; `point` is the
+/// processor's APIC ID or x2APIC ID.
+///
+/// Takes memory for each enabled entry of the SRAT that puts a processor in a domain; and where some processor is put in two,
+/// also for each processor that counts as enabled.
+pub fn one_domain(
     alloc: Global,
     processors: Processors,
     madt: Table<'_>,
     srat: Table<'_>,
-) -> Result<Option<Witness>, AllocError>
-    ensures { IfOk result (FindsFault Stage.Domains (HaveOneDomain processors (madt_contents madt.entry) (srat_contents srat.entry))
-        (DomainFault processors (madt_contents madt.entry) (srat_contents srat.entry))) }
+) -> Result<(), Refusal>
+    ensures { FindsFirst Stage.Domains (HaveOneDomain processors (madt_contents madt.entry) (srat_contents srat.entry))
+        (DomainFault processors (madt_contents madt.entry) (srat_contents srat.entry)) result }
 {
     let mut placements = placements_of(alloc, srat.copied())?;
     placements.sort_unstable();
     if do_agree(&placements) {
-        return Ok(None);
+        return Ok(());
     }
     let numbers = numbers_of(alloc, Key::Enabled(processors), madt)?;
-    first_other_domain(alloc, &numbers, srat)
-}
-
-/// Whether the SRAT puts no processor of the MADT that counts as enabled in two domains, or the set lists no MADT or no
-/// SRAT. A fault is at the first entry of the SRAT that puts a processor in another domain than the first entry that is of
-/// it, whose offset is `other`; `point` is the processor's APIC ID or x2APIC ID.
-///
-/// Takes memory for each enabled entry of the SRAT that puts a processor in a domain; and where some processor is put in two,
-/// also for each processor that counts as enabled.
-pub fn one_domain(alloc: Global, set: &Set<'_>) -> Result<(), Refusal>
-    requires clean { CleanBefore Stage.Domains set.now.image.now set.now.policy.now }
-    requires set { IsSet set.now }
-    ensures { Settles Stage.Domains set.now.image.now set.now.policy.now (λ _. ⊤) result }
-{
-    let Some(madt) = &set.madt else {
-        return Ok(());
-    };
-    let Some(srat) = &set.srat else {
-        return Ok(());
-    };
-    let processors = set.policy.processors();
-    match first_two_domains(alloc, processors, madt.copied(), srat.copied()) {
-        Ok(None) => Ok(()),
-        Ok(Some(fault)) => Err(Refusal::Fault(fault)),
-        Err(AllocError) => Err(Refusal::OutOfMemory),
-    }
+    refuse(first_other_domain(alloc, &numbers, srat)?)
 }

@@ -1,10 +1,7 @@
 //! Stage 5: the FACS.
 
-ghost use Rattle.std.specs.Prelude.{⊤};
-ghost use Rattle.acpi_base.specs.Statements.{CleanBefore};
 ghost use Rattle.acpi_base.specs.declared.stage.Stage.{Stage};
-ghost use Rattle.acpi_check.specs.Settled.{Settles};
-ghost use Rattle.acpi_check.specs.Set.{IsSet};
+ghost use Rattle.acpi_check.specs.Set.{IsReady, SettlesSet};
 
 use crate::refusal::Refusal;
 use crate::set::Set;
@@ -14,9 +11,8 @@ use acpi_read::Facs;
 /// Whether the FACS that the FADT names is sound, or none is needed; its faults are at its address, and at
 /// 0 where none is named.
 pub fn sound_facs(set: &Set<'_>) -> Result<(), Refusal>
-    requires clean { CleanBefore Stage.Facs set.now.image.now set.now.policy.now }
-    requires set { IsSet set.now }
-    ensures { Settles Stage.Facs set.now.image.now set.now.policy.now (λ _. ⊤) result }
+    requires { IsReady Stage.Facs set.now }
+    ensures { SettlesSet Stage.Facs set.now result }
 {
     match Facs::read(set.image, &set.fadt) {
         Ok(_) => Ok(()),

@@ -1,16 +1,14 @@
 //! Stage 7: the interrupt numbers that I/O APICs serve.
 
-ghost use Rattle.std.specs.Prelude.{◌≡◌, ◌<◌, ◌^◌, ⊤, IfOk, option_map};
-ghost use Rattle.acpi_base.specs.Madt.{madt_entry, madt_contents, Serves};
-ghost use Rattle.acpi_base.specs.Statements.{CleanBefore};
+ghost use Rattle.std.specs.Prelude.{◌≡◌, ◌<◌, ◌^◌, IfOk, option_map};
+ghost use Rattle.acpi_base.specs.Madt.{madt_entry, madt_contents, Serves, IsSoundMadt, AreInterruptsApart, IsFirstGsiClash};
+ghost use Rattle.acpi_base.specs.declared.code.Code.{Code};
 ghost use Rattle.acpi_base.specs.declared.stage.Stage.{Stage};
+ghost use Rattle.acpi_check.specs.Passed.{Finds, IsOverlap};
 ghost use Rattle.acpi_check.specs.Gathered.{span_value, served, AreSpansOf, IsFound};
-ghost use Rattle.acpi_check.specs.Settled.{Settles};
-ghost use Rattle.acpi_check.specs.Set.{IsSet};
 
 use crate::gsi_ranges::served_ranges;
 use crate::refusal::Refusal;
-use crate::set::Set;
 use acpi_base::{Code, Policy, Witness};
 use acpi_graph::{Clash, Span, are_apart, first_clash};
 use acpi_read::{Entries, Entry, MadtEntry, Table};
@@ -67,32 +65,26 @@ fn first_gsi_clash(alloc: Global, policy: &Policy, table: Table<'_>) -> Result<C
     Ok(clash)
 }
 
-/// Whether no interrupt number is served by two I/O APICs of the MADT, or the set lists no MADT. A fault names the
-/// least number that two serve, and the first two that serve it, by their first number and then by their offset.
+/// Whether no interrupt number is served by two I/O APICs of a MADT. The first fault names the least number that two serve, and
+/// the first two that serve it, by their first number and then by their offset.
 ///
 /// Takes memory for one compact span for each I/O APIC; and where two serve one number, for one span for each.
-pub fn apart_interrupts(alloc: Global, set: &Set<'_>) -> Result<(), Refusal>
-    requires clean { CleanBefore Stage.Interrupts set.now.image.now set.now.policy.now }
-    requires set { IsSet set.now }
-    ensures { Settles Stage.Interrupts set.now.image.now set.now.policy.now (λ _. ⊤) result }
+pub fn apart_interrupts(alloc: Global, policy: &Policy, table: Table<'_>) -> Result<(), Refusal>
+    requires { IsSoundMadt policy.now (madt_contents table) }
+    ensures { Finds Stage.Interrupts (AreInterruptsApart policy.now (madt_contents table.entry))
+        (IsOverlap Code.GsiClash (IsFirstGsiClash policy.now (madt_contents table.entry))) result }
 {
-    match &set.madt {
-        None => Ok(()),
-        Some(table) => match first_gsi_clash(alloc, set.policy, table.copied()) {
-            Ok(Clash::None) => Ok(()),
-            Ok(
-                Clash::At {
-                    first,
-                    second,
-                    point,
-                },
-            ) => Err(Refusal::Fault(Witness {
-                code: Code::GsiClash,
-                at: u64::from(first),
-                other: u64::from(second),
-                point: point as u64,
-            })),
-            Err(AllocError) => Err(Refusal::OutOfMemory),
-        },
+    match first_gsi_clash(alloc, policy, table)? {
+        Clash::None => Ok(()),
+        Clash::At {
+            first,
+            second,
+            point,
+        } => Err(Refusal::Fault(Witness {
+            code: Code::GsiClash,
+            at: u64::from(first),
+            other: u64::from(second),
+            point: point as u64,
+        })),
     }
 }

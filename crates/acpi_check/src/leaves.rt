@@ -4,20 +4,16 @@ ghost use Rattle.std.specs.Prelude.{◌≡◌, ◌<◌, ⊤, AllPairs, Contains,
 ghost use Rattle.acpi_base.specs.Across.{AreLeavesKnown, LeafFault};
 ghost use Rattle.acpi_base.specs.Madt.{madt_entry, madt_contents, IsWhollyTyped};
 ghost use Rattle.acpi_base.specs.Pptt.{pptt_entry, pptt_contents};
-ghost use Rattle.acpi_base.specs.Statements.{CleanBefore};
 ghost use Rattle.acpi_base.specs.declared.code.Code.{Code};
 ghost use Rattle.acpi_base.specs.declared.stage.Stage.{Stage};
 ghost use Rattle.acpi_check.specs.Leaves.{is_typed, leaf_id};
 ghost use Rattle.acpi_check.specs.Named.{IsKnown, IsUnknown, FindsUnknown};
-ghost use Rattle.acpi_check.specs.Passed.{FindsFault};
+ghost use Rattle.acpi_check.specs.Passed.{FindsFirst};
 ghost use Rattle.acpi_check.specs.Processors.{numbers_in};
-ghost use Rattle.acpi_check.specs.Settled.{Settles};
-ghost use Rattle.acpi_check.specs.Set.{IsSet};
 
 use crate::processors::{Key, numbers_of};
-use crate::refusal::Refusal;
+use crate::refusal::{Refusal, refuse};
 use crate::search::{has, in_rising_order};
-use crate::set::Set;
 use crate::subset::are_among;
 use acpi_base::{Code, Witness};
 use acpi_read::{Entries, Entry, MadtEntry, PpttEntry, Table};
@@ -114,49 +110,24 @@ fn first_unknown(uids: &[u64], table: Table<'_>) -> Option<Witness>
 /// The Revision of the PPTT that first has the flag of a leaf.
 const HAS_LEAVES: u8 = 2;
 
-/// The fault of the first leaf of a PPTT whose ID is no UID of a MADT, where the PPTT's Revision is at least 2 and the MADT is
-/// wholly typed, which are asked in this order before any memory is taken. Then the UIDs and the leaves' IDs are sorted and
-/// gone over together; only where not all IDs are seen among the UIDs are the leaves looked up one by one.
-fn first_unknown_leaf(
-    alloc: Global,
-    madt: Table<'_>,
-    pptt: Table<'_>,
-) -> Result<Option<Witness>, AllocError>
-    ensures { IfOk result (FindsFault Stage.Leaves (AreLeavesKnown (madt_contents madt.entry) (pptt_contents pptt.entry))
-        (LeafFault (madt_contents madt.entry) (pptt_contents pptt.entry))) }
+/// Whether the ID of each leaf of a PPTT is the UID of a processor of a MADT, enabled or not, or the PPTT's Revision is below
+/// 2, or the MADT has an entry of a type that is not read here. A leaf is a node whose flags say that it is one and that its ID
+/// is valid. The first fault is at the offset of the first leaf whose ID is no UID; `other` is 0, and `point` is the ID.
+///
+/// What exempts a set is asked first, in this order, and takes no memory. Behind it memory is taken for the UID of each
+/// processor and the ID of each leaf, which are sorted and gone over together; only where not all IDs are seen among the UIDs
+/// are the leaves looked up one by one.
+pub fn known_leaves(alloc: Global, madt: Table<'_>, pptt: Table<'_>) -> Result<(), Refusal>
+    ensures { FindsFirst Stage.Leaves (AreLeavesKnown (madt_contents madt.entry) (pptt_contents pptt.entry))
+        (LeafFault (madt_contents madt.entry) (pptt_contents pptt.entry)) result }
 {
     if pptt.header().revision < HAS_LEAVES || !is_wholly_typed(madt.copied()) {
-        return Ok(None);
+        return Ok(());
     }
     let uids = numbers_of(alloc, Key::Uid, madt)?;
     let ids = in_rising_order(leaf_ids(alloc, pptt.copied())?);
     if are_among(&ids, &uids) {
-        return Ok(None);
-    }
-    Ok(first_unknown(&uids, pptt))
-}
-
-/// Whether the ID of each leaf of the PPTT is the UID of a processor of the MADT, enabled or not, or the set lists no MADT or
-/// no PPTT, or the PPTT's Revision is below 2, or the MADT has an entry of a type that is not read here. A leaf is a node
-/// whose flags say that it is one and that its ID is valid. A fault is at the offset of the first leaf whose ID is no UID;
-/// `other` is 0, and `point` is the ID.
-///
-/// What exempts a set is asked first, in this order, and takes no memory. Behind it memory is taken for the UID of each
-/// processor and the ID of each leaf.
-pub fn known_leaves(alloc: Global, set: &Set<'_>) -> Result<(), Refusal>
-    requires clean { CleanBefore Stage.Leaves set.now.image.now set.now.policy.now }
-    requires set { IsSet set.now }
-    ensures { Settles Stage.Leaves set.now.image.now set.now.policy.now (λ _. ⊤) result }
-{
-    let Some(madt) = &set.madt else {
         return Ok(());
-    };
-    let Some(pptt) = &set.pptt else {
-        return Ok(());
-    };
-    match first_unknown_leaf(alloc, madt.copied(), pptt.copied()) {
-        Ok(None) => Ok(()),
-        Ok(Some(fault)) => Err(Refusal::Fault(fault)),
-        Err(AllocError) => Err(Refusal::OutOfMemory),
     }
+    refuse(first_unknown(&uids, pptt))
 }

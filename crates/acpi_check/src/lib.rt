@@ -21,6 +21,7 @@ mod firsts;
 mod gsi_ranges;
 mod interrupts;
 mod leaves;
+mod listed;
 mod madt;
 mod nodes;
 mod overrides;

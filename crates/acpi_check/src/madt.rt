@@ -4,16 +4,12 @@ ghost use Rattle.std.specs.Prelude.{◌≡◌, ⊤, ℕ, ◌+◌, ◌^◌, ◌�
 ghost use Rattle.acpi_base.specs.Codes.{code_number};
 ghost use Rattle.acpi_base.specs.Entries.{AreUnused};
 ghost use Rattle.acpi_base.specs.Madt.{madt_entry, madt_contents, IsReservedInti, IsSoundMadt, IsSoundMadtEntry, IsAddressOverride, MadtEntryFault, MadtFault};
-ghost use Rattle.acpi_base.specs.Statements.{CleanBefore};
 ghost use Rattle.acpi_base.specs.declared.code.Code.{Code};
 ghost use Rattle.acpi_base.specs.declared.stage.Stage.{Stage};
 ghost use Rattle.acpi_read.specs.Madts.{madt_value, IsOfOwnLength};
 ghost use Rattle.acpi_check.specs.Passed.{FindsFirst, PassesMadtEntry};
-ghost use Rattle.acpi_check.specs.Settled.{Settles};
-ghost use Rattle.acpi_check.specs.Set.{IsSet};
 
 use crate::refusal::Refusal;
-use crate::set::Set;
 use acpi_base::{Code, Policy, Witness};
 use acpi_read::{Entries, Entry, MadtEntry, Table};
 
@@ -77,37 +73,22 @@ fn pass_entry(
     }
 }
 
-/// The first fault of a MADT: of its entries in their order, or of the bytes behind them.
+/// Whether a MADT's entries are sound. The first fault is at an entry's offset, at that of the bytes behind the entries, or
+/// at 0 for a MADT that is too short.
 #[tactic(auto, using(crate::proofs::MadtPass::passing))]
-fn first_fault(policy: &Policy, table: Table<'_>) -> Result<(), Witness>
+pub fn sound_madt(policy: &Policy, table: Table<'_>) -> Result<(), Refusal>
     ensures { FindsFirst Stage.Madt (IsSoundMadt policy.now (madt_contents table.entry)) (MadtFault policy.now (madt_contents table.entry)) result }
 {
     let mut entries = match Entries::madt(table) {
         Ok(entries) => entries,
-        Err(code) => return Err(Witness::at(code, 0)),
+        Err(code) => return Err(Refusal::Fault(Witness::at(code, 0))),
     };
     let mut address_override = None;
     while let Some(entry) = entries.next() {
         address_override = pass_entry(policy, &entry, address_override)?;
     }
     match entries.cut() {
-        Some(offset) => Err(Witness::at(Code::MadtEntryCut, offset)),
+        Some(offset) => Err(Refusal::Fault(Witness::at(Code::MadtEntryCut, offset))),
         None => Ok(()),
-    }
-}
-
-/// Whether the MADT's entries are sound, or the set lists no MADT. Faults are at an entry's offset, at that of the bytes
-/// behind the entries, or at 0 for a MADT that is too short.
-pub fn sound_madt(set: &Set<'_>) -> Result<(), Refusal>
-    requires clean { CleanBefore Stage.Madt set.now.image.now set.now.policy.now }
-    requires set { IsSet set.now }
-    ensures { Settles Stage.Madt set.now.image.now set.now.policy.now (λ _. ⊤) result }
-{
-    match &set.madt {
-        None => Ok(()),
-        Some(table) => match first_fault(set.policy, table.copied()) {
-            Ok(()) => Ok(()),
-            Err(fault) => Err(Refusal::Fault(fault)),
-        },
     }
 }

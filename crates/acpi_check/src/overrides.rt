@@ -1,18 +1,14 @@
 //! Stage 8: the MADT's overrides of ISA interrupts.
 
-ghost use Rattle.std.specs.Prelude.{⊤, ◌≢◌, IfErr};
+ghost use Rattle.std.specs.Prelude.{◌≢◌, IfErr};
 ghost use Rattle.acpi_base.specs.Madt.{madt_entry, madt_contents, DoOverridesAgree, OverrideFault};
-ghost use Rattle.acpi_base.specs.Statements.{CleanBefore};
 ghost use Rattle.acpi_base.specs.declared.stage.Stage.{Stage};
 ghost use Rattle.acpi_check.specs.Overrides.{PassesOverride};
 ghost use Rattle.acpi_check.specs.Passed.{FindsFirst};
-ghost use Rattle.acpi_check.specs.Settled.{Settles};
-ghost use Rattle.acpi_check.specs.Set.{IsSet};
 ghost use Rattle.acpi_check.specs.declared.refusal.Refusal.{Refusal};
 
 use crate::firsts::{FirstValue, note_value};
 use crate::refusal::Refusal;
-use crate::set::Set;
 use acpi_base::{Code, Witness};
 use acpi_read::{Entries, Entry, MadtEntry, Table};
 
@@ -37,9 +33,12 @@ fn pass_entry(firsts: &mut [Option<FirstValue>; 256], entry: &Entry<'_>) -> Opti
     })
 }
 
-/// The first fault of a MADT's overrides. One of fewer than 44 bytes has none.
-fn first_fault(table: Table<'_>) -> Result<(), Witness>
-    ensures { FindsFirst Stage.Overrides (DoOverridesAgree (madt_contents table.entry)) (OverrideFault (madt_contents table.entry)) result }
+/// Whether a MADT's overrides give each Source one interrupt number. The first fault is at the first override that gives its
+/// Source another number than the first override of this Source, whose offset is `other`; `point` is the Source. A MADT of
+/// fewer than 44 bytes has none.
+pub fn agreeing_overrides(table: Table<'_>) -> Result<(), Refusal>
+    ensures settled { FindsFirst Stage.Overrides (DoOverridesAgree (madt_contents table.entry)) (OverrideFault (madt_contents table.entry)) result }
+    ensures memory { IfErr result (λ refusal. refusal ≢ Refusal.OutOfMemory) }
 {
     let Ok(mut entries) = Entries::madt(table) else {
         return Ok(());
@@ -47,26 +46,8 @@ fn first_fault(table: Table<'_>) -> Result<(), Witness>
     let mut firsts = [None; 256];
     while let Some(entry) = entries.next() {
         if let Some(fault) = pass_entry(&mut firsts, &entry) {
-            return Err(fault);
+            return Err(Refusal::Fault(fault));
         }
     }
     Ok(())
-}
-
-/// Whether the MADT's overrides give each Source one interrupt number, or the set lists no MADT. A fault is at the first
-/// override that gives its Source another number than the first override of this Source, whose offset is `other`; `point`
-/// is the Source.
-pub fn agreeing_overrides(set: &Set<'_>) -> Result<(), Refusal>
-    requires clean { CleanBefore Stage.Overrides set.now.image.now set.now.policy.now }
-    requires set { IsSet set.now }
-    ensures settled { Settles Stage.Overrides set.now.image.now set.now.policy.now (λ _. ⊤) result }
-    ensures memory { IfErr result (λ refusal. refusal ≢ Refusal.OutOfMemory) }
-{
-    match &set.madt {
-        None => Ok(()),
-        Some(table) => match first_fault(table.copied()) {
-            Ok(()) => Ok(()),
-            Err(fault) => Err(Refusal::Fault(fault)),
-        },
-    }
 }

@@ -1,18 +1,16 @@
 //! Stage 10: the addresses that the SRAT's enabled ranges cover.
 
-ghost use Rattle.std.specs.Prelude.{◌≡◌, ◌<◌, ◌^◌, ⊤, IfOk, option_map};
+ghost use Rattle.std.specs.Prelude.{◌≡◌, ◌<◌, ◌^◌, IfOk, option_map};
 ghost use Rattle.acpi_base.specs.Srat as srat;
-ghost use Rattle.acpi_base.specs.Srat.{srat_entry, srat_contents, Covers};
-ghost use Rattle.acpi_base.specs.Statements.{CleanBefore};
+ghost use Rattle.acpi_base.specs.Srat.{srat_entry, srat_contents, Covers, IsSoundSrat, AreRangesApart, IsFirstOverlap};
+ghost use Rattle.acpi_base.specs.declared.code.Code.{Code};
 ghost use Rattle.acpi_base.specs.declared.stage.Stage.{Stage};
+ghost use Rattle.acpi_check.specs.Passed.{Finds, IsOverlap};
 ghost use Rattle.acpi_check.specs.Gathered.{span_value, covered, earlier_clash, AreSpansOf, IsFound, IsFoundOverlap};
 ghost use Rattle.acpi_check.specs.RangeKinds.{counts, IsOfKind};
-ghost use Rattle.acpi_check.specs.Settled.{Settles};
-ghost use Rattle.acpi_check.specs.Set.{IsSet};
 
 use crate::range_kind::RangeKind;
 use crate::refusal::Refusal;
-use crate::set::Set;
 use crate::srat::is_enabled;
 use acpi_base::{Code, HotPlug, Witness};
 use acpi_graph::{Clash, Span, first_clash};
@@ -111,30 +109,24 @@ fn first_overlap(alloc: Global, hotplug: HotPlug, table: Table<'_>) -> Result<Cl
     }
 }
 
-/// Whether no address is covered by two enabled ranges of the SRAT that are compared, or the set lists no SRAT. A fault
-/// is at the offset of the first two that cover the least such address. Takes memory for each range that is compared.
-pub fn apart_ranges(alloc: Global, set: &Set<'_>) -> Result<(), Refusal>
-    requires clean { CleanBefore Stage.Ranges set.now.image.now set.now.policy.now }
-    requires set { IsSet set.now }
-    ensures { Settles Stage.Ranges set.now.image.now set.now.policy.now (λ _. ⊤) result }
+/// Whether no address is covered by two enabled ranges of an SRAT that are compared. The first fault is at the offset of the
+/// first two that cover the least such address. Takes memory for each range that is compared.
+pub fn apart_ranges(alloc: Global, hotplug: HotPlug, table: Table<'_>) -> Result<(), Refusal>
+    requires { IsSoundSrat (srat_contents table) }
+    ensures { Finds Stage.Ranges (AreRangesApart hotplug (srat_contents table.entry))
+        (IsOverlap Code.Overlap (IsFirstOverlap hotplug (srat_contents table.entry))) result }
 {
-    match &set.srat {
-        None => Ok(()),
-        Some(table) => match first_overlap(alloc, set.policy.hotplug(), table.copied()) {
-            Ok(Clash::None) => Ok(()),
-            Ok(
-                Clash::At {
-                    first,
-                    second,
-                    point,
-                },
-            ) => Err(Refusal::Fault(Witness {
-                code: Code::Overlap,
-                at: u64::from(first),
-                other: u64::from(second),
-                point: point as u64,
-            })),
-            Err(AllocError) => Err(Refusal::OutOfMemory),
-        },
+    match first_overlap(alloc, hotplug, table)? {
+        Clash::None => Ok(()),
+        Clash::At {
+            first,
+            second,
+            point,
+        } => Err(Refusal::Fault(Witness {
+            code: Code::Overlap,
+            at: u64::from(first),
+            other: u64::from(second),
+            point: point as u64,
+        })),
     }
 }

@@ -1,19 +1,15 @@
 //! Stage 13: what the PPTT's entries name.
 
-ghost use Rattle.std.specs.Prelude.{◌≡◌, ◌≢◌, ◌+◌, ◌*◌, ◌<◌, ◌⊎◌, ℕ, ⊤, AllPairs, Contains, IfOk, MatchOption, length};
+ghost use Rattle.std.specs.Prelude.{◌≡◌, ◌≢◌, ◌+◌, ◌*◌, ◌<◌, ◌⊎◌, ℕ, AllPairs, Contains, IfOk, MatchOption, length};
 ghost use Rattle.acpi_base.specs.Number.{field};
 ghost use Rattle.acpi_base.specs.Pptt.{pptt_entry, pptt_contents, IsCutPptt, AreReferencesSound, ReferenceFault};
-ghost use Rattle.acpi_base.specs.Statements.{CleanBefore};
 ghost use Rattle.acpi_base.specs.declared.stage.Stage.{Stage};
 ghost use Rattle.acpi_check.specs.Passed.{FindsFirst};
 ghost use Rattle.acpi_check.specs.NamedPlaces.{kind_of, ArePlaces, DoPlacesRise, NamesPlaces, IsFirstReference};
-ghost use Rattle.acpi_check.specs.Settled.{Settles};
-ghost use Rattle.acpi_check.specs.Set.{IsSet};
 
 use crate::places::{Kind, Places};
 use crate::refusal::Refusal;
 use crate::search::has;
-use crate::set::Set;
 use acpi_base::field::u32_at;
 use acpi_base::{Code, Witness};
 use acpi_read::{Entries, Entry, PpttEntry, Table};
@@ -33,7 +29,7 @@ fn kind_of(entry: &Entry<'_>) -> Kind
 
 /// Where the entries of a PPTT stand, by what they are.
 #[tactic(auto, using(crate::proofs::Gathered::gathering))]
-pub fn places_of(alloc: Global, table: Table<'_>) -> Result<Places, AllocError>
+fn places_of(alloc: Global, table: Table<'_>) -> Result<Places, AllocError>
     requires { IsCutPptt (pptt_contents table) }
     ensures { IfOk result (ArePlaces (pptt_contents table.entry)) }
 {
@@ -125,34 +121,25 @@ fn own_fault(places: &Places, entry: &Entry<'_>) -> Option<Witness>
 
 /// The first fault of what the entries of a PPTT name, in the entries' order.
 #[tactic(auto, using(crate::proofs::ReferencePass::passing))]
-pub fn first_fault(places: &Places, table: Table<'_>) -> Result<(), Witness>
+fn first_fault(places: &Places, table: Table<'_>) -> Result<(), Refusal>
     requires { ArePlaces (pptt_contents table) places.now }
     ensures { FindsFirst Stage.References (AreReferencesSound (pptt_contents table.entry)) (ReferenceFault (pptt_contents table.entry)) result }
 {
     let mut entries = Entries::pptt(table);
     while let Some(entry) = entries.next() {
         if let Some(fault) = own_fault(places, &entry) {
-            return Err(fault);
+            return Err(Refusal::Fault(fault));
         }
     }
     Ok(())
 }
 
-/// Whether an entry stands at each offset that the PPTT's entries name, of the kind that is named there, or the set lists no
-/// PPTT. Faults are at the offset of the entry that names it. Takes memory for each entry.
-pub fn sound_references(alloc: Global, set: &Set<'_>) -> Result<(), Refusal>
-    requires clean { CleanBefore Stage.References set.now.image.now set.now.policy.now }
-    requires set { IsSet set.now }
-    ensures { Settles Stage.References set.now.image.now set.now.policy.now (λ _. ⊤) result }
+/// Whether an entry stands at each offset that a PPTT's entries name, of the kind that is named there. The first fault is at
+/// the offset of the entry that names it. Takes memory for each entry.
+pub fn sound_references(alloc: Global, table: Table<'_>) -> Result<(), Refusal>
+    requires { IsCutPptt (pptt_contents table) }
+    ensures { FindsFirst Stage.References (AreReferencesSound (pptt_contents table.entry)) (ReferenceFault (pptt_contents table.entry)) result }
 {
-    match &set.pptt {
-        None => Ok(()),
-        Some(table) => match places_of(alloc, table.copied()) {
-            Err(AllocError) => Err(Refusal::OutOfMemory),
-            Ok(places) => match first_fault(&places, table.copied()) {
-                Ok(()) => Ok(()),
-                Err(fault) => Err(Refusal::Fault(fault)),
-            },
-        },
-    }
+    let places = places_of(alloc, table.copied())?;
+    first_fault(&places, table)
 }

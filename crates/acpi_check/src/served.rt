@@ -3,21 +3,17 @@
 ghost use Rattle.std.specs.Prelude.{◌≡◌, ⊤, IfOk, IsTrue, MatchBool, MatchOption};
 ghost use Rattle.acpi_base.specs.Across.{AreNamedServed, ServedFault};
 ghost use Rattle.acpi_base.specs.Madt.{madt_entry, madt_contents, AreInterruptsApart};
-ghost use Rattle.acpi_base.specs.Statements.{CleanBefore};
 ghost use Rattle.acpi_base.specs.declared.code.Code.{Code};
 ghost use Rattle.acpi_base.specs.declared.stage.Stage.{Stage};
 ghost use Rattle.acpi_check.specs.Named.{IsKnown, IsUnknown, FindsUnknown};
-ghost use Rattle.acpi_check.specs.Passed.{FindsFault};
+ghost use Rattle.acpi_check.specs.Passed.{FindsFirst};
 ghost use Rattle.acpi_check.specs.Processors.{numbers_in};
 ghost use Rattle.acpi_check.specs.Served.{named_gsi, AreServed, DoSpansRise, IsHeld};
-ghost use Rattle.acpi_check.specs.Settled.{Settles};
-ghost use Rattle.acpi_check.specs.Set.{IsSet};
 
 use crate::gsi_ranges::{are_held, served_ranges};
 use crate::interrupts::served_spans;
-use crate::refusal::Refusal;
+use crate::refusal::{Refusal, refuse};
 use crate::search::in_rising_order;
-use crate::set::Set;
 use acpi_base::{Code, Policy, Witness};
 use acpi_graph::Span;
 use acpi_read::{Entries, Entry, MadtEntry, Table};
@@ -122,45 +118,24 @@ fn first_unheld(spans: &[Span], table: Table<'_>) -> Option<Witness>
     None
 }
 
-/// The fault of the first entry of a MADT that names an interrupt number that no I/O APIC serves, where there is an
-/// I/O APIC. Spans are sorted, and the numbers looked up one by one, only where not all are seen to be served.
-fn first_unserved(
-    alloc: Global,
-    policy: &Policy,
-    table: Table<'_>,
-) -> Result<Option<Witness>, AllocError>
-    requires { AreInterruptsApart policy.now (madt_contents table) }
-    ensures { IfOk result (FindsFault Stage.Served (AreNamedServed policy.now (madt_contents table.entry)) (ServedFault policy.now (madt_contents table.entry))) }
-{
-    let all_served = are_all_served(alloc, policy, table.copied())?;
-    if all_served {
-        return Ok(None);
-    }
-    let spans = rising_spans(alloc, policy, table.copied())?;
-    if spans.is_empty() {
-        return Ok(None);
-    }
-    Ok(first_unheld(&spans, table))
-}
-
-/// Whether an I/O APIC of the MADT serves each interrupt number that an override or an NMI source names, or the MADT has
-/// no I/O APIC, or the set lists no MADT. A fault is at the offset of the first entry that names a number that none serves;
-/// `other` is 0, and `point` is the number.
+/// Whether an I/O APIC of a MADT serves each interrupt number that an override or an NMI source names, or the MADT has no I/O
+/// APIC. The first fault is at the offset of the first entry that names a number that none serves; `other` is 0, and `point`
+/// is the number.
 ///
 /// First it is asked whether all numbers are seen to be served, which takes memory for one compact span for each I/O APIC and
 /// one number for each override and each NMI source. Only where they are not, the first that is not served is looked for, which
-/// takes memory for one span for each I/O APIC. A set that lists no MADT takes none.
-pub fn named_served(alloc: Global, set: &Set<'_>) -> Result<(), Refusal>
-    requires clean { CleanBefore Stage.Served set.now.image.now set.now.policy.now }
-    requires set { IsSet set.now }
-    ensures { Settles Stage.Served set.now.image.now set.now.policy.now (λ _. ⊤) result }
+/// takes memory for one span for each I/O APIC.
+pub fn named_served(alloc: Global, policy: &Policy, table: Table<'_>) -> Result<(), Refusal>
+    requires { AreInterruptsApart policy.now (madt_contents table) }
+    ensures { FindsFirst Stage.Served (AreNamedServed policy.now (madt_contents table.entry)) (ServedFault policy.now (madt_contents table.entry)) result }
 {
-    match &set.madt {
-        None => Ok(()),
-        Some(table) => match first_unserved(alloc, set.policy, table.copied()) {
-            Ok(None) => Ok(()),
-            Ok(Some(fault)) => Err(Refusal::Fault(fault)),
-            Err(AllocError) => Err(Refusal::OutOfMemory),
-        },
+    let all_served = are_all_served(alloc, policy, table.copied())?;
+    if all_served {
+        return Ok(());
     }
+    let spans = rising_spans(alloc, policy, table.copied())?;
+    if spans.is_empty() {
+        return Ok(());
+    }
+    refuse(first_unheld(&spans, table))
 }

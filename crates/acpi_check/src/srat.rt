@@ -5,16 +5,12 @@ ghost use Rattle.acpi_base.specs.Codes.{code_number};
 ghost use Rattle.acpi_base.specs.Entries.{AreUnused};
 ghost use Rattle.acpi_base.specs.Srat as srat;
 ghost use Rattle.acpi_base.specs.Srat.{srat_entry, srat_contents, IsSoundSrat, IsSoundSratEntry, SratEntryFault, SratFault};
-ghost use Rattle.acpi_base.specs.Statements.{CleanBefore};
 ghost use Rattle.acpi_base.specs.declared.code.Code.{Code};
 ghost use Rattle.acpi_base.specs.declared.stage.Stage.{Stage};
 ghost use Rattle.acpi_read.specs.Srats.{srat_value, IsOfOwnLength};
 ghost use Rattle.acpi_check.specs.Passed.{FindsFirst, PassesSratEntry};
-ghost use Rattle.acpi_check.specs.Settled.{Settles};
-ghost use Rattle.acpi_check.specs.Set.{IsSet};
 
 use crate::refusal::Refusal;
-use crate::set::Set;
 use acpi_base::{Code, Witness};
 use acpi_read::{Entries, Entry, SratEntry, Table};
 
@@ -53,36 +49,21 @@ fn pass_entry(entry: &Entry<'_>) -> Result<(), Witness>
     }
 }
 
-/// The first fault of an SRAT: of its entries in their order, or of the bytes behind them.
+/// Whether an SRAT's entries are sound. The first fault is at an entry's offset, at that of the bytes behind the entries, or
+/// at 0 for an SRAT that is too short.
 #[tactic(auto, using(crate::proofs::SratPass::passing))]
-fn first_fault(table: Table<'_>) -> Result<(), Witness>
+pub fn sound_srat(table: Table<'_>) -> Result<(), Refusal>
     ensures { FindsFirst Stage.Srat (IsSoundSrat (srat_contents table.entry)) (SratFault (srat_contents table.entry)) result }
 {
     let mut entries = match Entries::srat(table) {
         Ok(entries) => entries,
-        Err(code) => return Err(Witness::at(code, 0)),
+        Err(code) => return Err(Refusal::Fault(Witness::at(code, 0))),
     };
     while let Some(entry) = entries.next() {
         pass_entry(&entry)?;
     }
     match entries.cut() {
-        Some(offset) => Err(Witness::at(Code::SratEntryCut, offset)),
+        Some(offset) => Err(Refusal::Fault(Witness::at(Code::SratEntryCut, offset))),
         None => Ok(()),
-    }
-}
-
-/// Whether the SRAT's entries are sound, or the set lists no SRAT. Faults are at an entry's offset, at that of the bytes
-/// behind the entries, or at 0 for an SRAT that is too short.
-pub fn sound_srat(set: &Set<'_>) -> Result<(), Refusal>
-    requires clean { CleanBefore Stage.Srat set.now.image.now set.now.policy.now }
-    requires set { IsSet set.now }
-    ensures { Settles Stage.Srat set.now.image.now set.now.policy.now (λ _. ⊤) result }
-{
-    match &set.srat {
-        None => Ok(()),
-        Some(table) => match first_fault(table.copied()) {
-            Ok(()) => Ok(()),
-            Err(fault) => Err(Refusal::Fault(fault)),
-        },
     }
 }

@@ -1,33 +1,22 @@
 //! A check of all stages, or of those up to one.
 
-ghost use Rattle.std.specs.Prelude.{◌≡◌, ◌≤◌, ◌↔◌, ⊤, IfOk, IsOk, OnErr, MatchOption};
+ghost use Rattle.std.specs.Prelude.{◌≡◌, ◌≤◌, ◌↔◌, IfOk, IsOk, OnErr, MatchOption};
 ghost use Rattle.acpi_base.specs.Codes.{stage_number};
-ghost use Rattle.acpi_base.specs.Statements.{IsClean, CleanBefore, CleanTo};
+ghost use Rattle.acpi_base.specs.Statements.{IsClean, CleanTo};
 ghost use Rattle.acpi_base.specs.Faults.{IsFirstFault, IsVerdict};
 ghost use Rattle.acpi_base.specs.declared.stage.Stage.{Stage};
 ghost use Rattle.acpi_base.specs.declared.verdict.Verdict.{Verdict};
 ghost use Rattle.acpi_check.specs.Headline.{IfNo};
-ghost use Rattle.acpi_check.specs.Settled.{Settles, SettlesTo};
-ghost use Rattle.acpi_check.specs.Set.{IsSet, IsSetOf};
+ghost use Rattle.acpi_check.specs.Settled.{SettlesTo};
+ghost use Rattle.acpi_check.specs.Set.{IsSetOf, IsReady, SettlesSet};
 
-use crate::chains::{caches_end, parents_end};
-use crate::domains::one_domain;
 use crate::facs::sound_facs;
 use crate::fadt::sound_fadt;
-use crate::interrupts::apart_interrupts;
-use crate::leaves::known_leaves;
-use crate::madt::sound_madt;
-use crate::overrides::agreeing_overrides;
-use crate::pptt::sound_pptt;
-use crate::ranges::apart_ranges;
-use crate::references::sound_references;
+use crate::listed;
 use crate::refusal::Refusal;
 use crate::root::sound_root;
 use crate::rsdp::sound_rsdp;
-use crate::served::named_served;
 use crate::set::Set;
-use crate::slit::sound_slit;
-use crate::srat::sound_srat;
 use crate::tables::sound_tables;
 use acpi_base::{Image, Policy, Stage, Verdict};
 use std::alloc::{AllocError, Global};
@@ -74,7 +63,7 @@ fn stages_to(alloc: Global, image: &Image, policy: &Policy, last: Stage) -> Resu
     };
     for number in Stage::Facs.number()..last.number() + 1 {
         if let Some(stage) = Stage::new(number) {
-            ask(alloc, &set, stage)?;
+            run_stage(alloc, &set, stage)?;
         }
     }
     Ok(())
@@ -102,26 +91,25 @@ fn set_to<'a>(image: &'a Image, policy: &'a Policy, last: Stage) -> Result<Optio
 }
 
 /// Asks one stage from the FACS on. Those that take memory are handed `alloc`; the others take none.
-fn ask(alloc: Global, set: &Set<'_>, stage: Stage) -> Result<(), Refusal>
-    requires clean { CleanBefore stage set.now.image.now set.now.policy.now }
-    requires set { IsSet set.now }
-    ensures { Settles stage set.now.image.now set.now.policy.now (λ _. ⊤) result }
+fn run_stage(alloc: Global, set: &Set<'_>, stage: Stage) -> Result<(), Refusal>
+    requires { IsReady stage set.now }
+    ensures { SettlesSet stage set.now result }
 {
     match stage {
         Stage::Facs => sound_facs(set),
-        Stage::Madt => sound_madt(set),
-        Stage::Interrupts => apart_interrupts(alloc, set),
-        Stage::Overrides => agreeing_overrides(set),
-        Stage::Srat => sound_srat(set),
-        Stage::Ranges => apart_ranges(alloc, set),
-        Stage::Slit => sound_slit(set),
-        Stage::Pptt => sound_pptt(set),
-        Stage::References => sound_references(alloc, set),
-        Stage::Parents => parents_end(alloc, set),
-        Stage::Caches => caches_end(alloc, set),
-        Stage::Domains => one_domain(alloc, set),
-        Stage::Served => named_served(alloc, set),
-        Stage::Leaves => known_leaves(alloc, set),
+        Stage::Madt => listed::madt(set),
+        Stage::Interrupts => listed::interrupts(alloc, set),
+        Stage::Overrides => listed::overrides(set),
+        Stage::Srat => listed::srat(set),
+        Stage::Ranges => listed::ranges(alloc, set),
+        Stage::Slit => listed::slit(set),
+        Stage::Pptt => listed::pptt(set),
+        Stage::References => listed::references(alloc, set),
+        Stage::Parents => listed::parents(alloc, set),
+        Stage::Caches => listed::caches(alloc, set),
+        Stage::Domains => listed::domains(alloc, set),
+        Stage::Served => listed::served(alloc, set),
+        Stage::Leaves => listed::leaves(alloc, set),
         // These hold of every set.
         Stage::Rsdp | Stage::Root | Stage::Tables | Stage::Fadt => Ok(()),
     }

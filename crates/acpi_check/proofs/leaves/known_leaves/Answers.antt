@@ -1,26 +1,29 @@
-use Rattle.acpi_check.proofs.LeavesFaults.{no_madt, no_pptt, leaves_hold, leaves_first}
+use Rattle.std.proofs.Common.{◌≡◌, refl, ◌∙◌, ap, arith}
+use Rattle.acpi_base.specs.Header.{HeaderValue}
+use Rattle.acpi_base.specs.Madt.{madt_contents}
+use Rattle.acpi_base.specs.Pptt.{pptt_contents}
+use Rattle.acpi_check.proofs.LeavesFaults.{revision, leaves_found, all_known}
+use Rattle.acpi_check.proofs.Passes.{refused}
 use Rattle.acpi_check.proofs.leaves.known_leaves.Goals as goal
+use Rattle.acpi_check.proofs.leaves.known_leaves.Goals.{then-header-lt-HAS_LEAVES-via-then-header-lt-HAS_LEAVES, then-header-lt-HAS_LEAVES-via-else-header-lt-HAS_LEAVES+then-not-is_wholly_typed}
 
-pub returns-in_default : goal.returns-in_default
-returns-in_default c =
-    let set = c.args.set.now in
-    (no_madt set.image.now set.policy.now (rw c.in_default.is at c.requires.set.madt), tt)
+pub returns-then-header-lt-HAS_LEAVES : goal.returns-then-header-lt-HAS_LEAVES
+returns-then-header-lt-HAS_LEAVES c =
+    let is : c.header.result.revision ≡ (pptt_contents c.args.pptt).revision = ap (λ (h : HeaderValue). h.revision) c.header.ensures.fields ∙ revision c.args.pptt in
+    λ recent typed.
+    elim c.then-header-lt-HAS_LEAVES.branch [
+      | then-header-lt-HAS_LEAVES-via-then-header-lt-HAS_LEAVES w ↦ absurd (omega (arith, w.if-header-lt-HAS_LEAVES.true))
+      | then-header-lt-HAS_LEAVES-via-else-header-lt-HAS_LEAVES+then-not-is_wholly_typed w ↦ absurd ((rw w.copied.ensures at w.if-not-is_wholly_typed.ensures) typed)
+    ]
 
-pub returns-in_default-pptt : goal.returns-in_default-pptt
-returns-in_default-pptt c =
-    let set = c.args.set.now in
-    (no_pptt set.image.now set.policy.now (rw c.in_default-pptt.is at c.requires.set.pptt), tt)
+pub returns-then-are_among : goal.returns-then-are_among
+returns-then-are_among c =
+    all_known (madt_contents c.args.madt) (pptt_contents c.args.pptt) c.in_ok-uids.uids.items c.in_ok-leaf_ids.field-0.items c.in_rising_order-ids.result.items c.in_ok-uids.ensures (rw c.copied-2.ensures at c.in_ok-leaf_ids.ensures) c.in_rising_order-ids.ensures.same
+    ((rw (c.deref.ensures.value, c.deref-2.ensures.value) at c.if-are_among.ensures) refl)
 
-pub returns-in-Ok-None : goal.returns-in-Ok-None
-returns-in-Ok-None c =
-    let set = c.args.set.now in
-    let madt = rw (c.in-Some.is, ← c.copied.ensures) at c.requires.set.madt in
-    let pptt = rw (c.in-Some-pptt.is, ← c.copied-2.ensures) at c.requires.set.pptt in
-    (leaves_hold set.image.now set.policy.now c.copied.result c.copied-2.result madt pptt (rw c.in-Ok-None.field-0-is at c.in-Ok-None.ensures), tt)
-
-pub returns-in-Ok-Some : goal.returns-in-Ok-Some
-returns-in-Ok-Some c =
-    let set = c.args.set.now in
-    let madt = rw (c.in-Some.is, ← c.copied.ensures) at c.requires.set.madt in
-    let pptt = rw (c.in-Some-pptt.is, ← c.copied-2.ensures) at c.requires.set.pptt in
-    leaves_first set.image.now set.policy.now c.copied.result c.copied-2.result c.in-Ok-Some.fault c.requires.clean madt pptt (rw c.in-Ok-Some.field-0-is at c.in-Ok-Some.ensures)
+pub returns : goal.returns
+returns c =
+    let is : c.header.result.revision ≡ (pptt_contents c.args.pptt).revision = ap (λ (h : HeaderValue). h.revision) c.header.ensures.fields ∙ revision c.args.pptt in
+    refused _ _ _ c.first_unknown.result c.refuse.result c.refuse.ensures
+    (leaves_found (madt_contents c.args.madt) (pptt_contents c.args.pptt) c.in_ok-uids.uids.items c.in_ok-uids.ensures (omega (arith, c.if-header-lt-HAS_LEAVES.false)) (rw c.copied.ensures at c.if-not-is_wholly_typed.ensures) c.first_unknown.result
+    (rw c.deref-3.ensures.value at c.first_unknown.ensures))

@@ -1,20 +1,16 @@
-use Rattle.acpi_base.specs.Pptt.{IsCutPptt}
-use Rattle.acpi_check.proofs.PpttFaults.{no_pptt, for_pptt, pptt_first}
+use Rattle.std.proofs.Common.{◌∙◌, subst}
+use Rattle.acpi_base.specs.Pptt.{HasOtherPpttLength}
+use Rattle.acpi_check.proofs.PpttPass.{at_next, stops}
 use Rattle.acpi_check.proofs.pptt.sound_pptt.Goals as goal
-
-pub returns-in-None : goal.returns-in-None
-returns-in-None c =
-    let set = c.args.set.now in
-    (no_pptt set.image.now set.policy.now IsCutPptt (rw c.in-None.is at c.requires.set.pptt), tt)
-
-pub returns-in-Ok : goal.returns-in-Ok
-returns-in-Ok c =
-    let set = c.args.set.now in
-    let listed = rw (c.in-Some.is, ← c.copied.ensures) at c.requires.set.pptt in
-    (for_pptt set.image.now set.policy.now IsCutPptt c.copied.result listed c.in-Ok.ensures, tt)
 
 pub returns-in-Err : goal.returns-in-Err
 returns-in-Err c =
-    let set = c.args.set.now in
-    let listed = rw (c.in-Some.is, ← c.copied.ensures) at c.requires.set.pptt in
-    pptt_first set.image.now set.policy.now c.copied.result c.in-Err.fault c.requires.clean listed c.in-Err.ensures
+    let steps = c.in-Some.ensures.steps in
+    let err = c.in-Err.ensures.err in
+    rw (c.at.ensures, err.0) (stops c.args.table _ c.next.new.self.entries (rw steps.0 at c.loop-entry.invariant.0) err.1 err.2)
+
+pub loop-entry-preserved : goal.loop-entry-preserved
+loop-entry-preserved c =
+    let steps = c.in-Some.ensures.steps in
+    let sound = c.in_default-read.ensures in
+    (at_next c.args.table _ c.next.new.self.entries (rw steps.0 at c.loop-entry.invariant.0) (subst (λ e. ¬ HasOtherPpttLength e) sound.ok sound.length), steps.1 ∙ c.loop-entry.invariant.1)

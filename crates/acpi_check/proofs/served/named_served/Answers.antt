@@ -1,26 +1,25 @@
-use Rattle.std.proofs.Common.{arith}
-use Rattle.acpi_base.specs.declared.stage.Stage.TheVariants as stage
-use Rattle.acpi_check.proofs.ServedFaults.{none_named, served_holds, served_first}
+use Rattle.std.proofs.Common.{◌≡◌, ◌<◌, length, arith}
+use Rattle.std.proofs.lemmas.Bool.Decides.{nat_tests}
+use Rattle.acpi_base.specs.Madt.{madt_contents}
+use Rattle.acpi_check.proofs.ServedFaults.{none_served, served_found}
+use Rattle.acpi_check.proofs.Passes.{refused}
 use Rattle.acpi_check.proofs.served.named_served.Goals as goal
 
-pub first_unserved-requires : goal.first_unserved-requires
-first_unserved-requires c =
-    let listed = rw (c.in-Some.is, ← c.copied.ensures) at c.requires.set.madt in
-    c.requires.clean stage.Interrupts (omega arith) c.copied.result listed
+pub rising_spans-requires : goal.rising_spans-requires
+rising_spans-requires c = rw c.copied-2.ensures c.requires
 
-pub returns-in-None : goal.returns-in-None
-returns-in-None c =
-    let set = c.args.set.now in
-    (none_named set.image.now set.policy.now (rw c.in-None.is at c.requires.set.madt), tt)
+pub returns-then-is_empty : goal.returns-then-is_empty
+returns-then-is_empty c =
+    let spans = c.in_ok-spans.spans in
+    let none : length spans.items ≡ 0 = grind (arith, nat_tests, c.is_empty.ensures, c.if-is_empty.true, spans.ok.0) in
+    none_served c.args.policy.now (madt_contents c.args.table) spans.items (rw c.copied-2.ensures at c.in_ok-spans.ensures) none
 
-pub returns-in-Ok-None : goal.returns-in-Ok-None
-returns-in-Ok-None c =
-    let set = c.args.set.now in
-    let listed = rw (c.in-Some.is, ← c.copied.ensures) at c.requires.set.madt in
-    (served_holds set.image.now set.policy.now c.copied.result listed (rw c.in-Ok-None.field-0-is at c.in-Ok-None.ensures), tt)
+pub returns : goal.returns
+returns c =
+    let spans = c.in_ok-spans.spans in
+    let some : 0 < length spans.items = grind (arith, nat_tests, c.is_empty.ensures, c.if-is_empty.false, spans.ok.0) in
+    refused _ _ _ c.first_unheld.result c.refuse.result c.refuse.ensures
+    (served_found c.args.policy.now (madt_contents c.args.table) spans.items (rw c.copied-2.ensures at c.in_ok-spans.ensures) some c.first_unheld.result (rw c.deref.ensures.value at c.first_unheld.ensures))
 
-pub returns-in-Ok-Some : goal.returns-in-Ok-Some
-returns-in-Ok-Some c =
-    let set = c.args.set.now in
-    let listed = rw (c.in-Some.is, ← c.copied.ensures) at c.requires.set.madt in
-    served_first set.image.now set.policy.now c.copied.result c.in-Ok-Some.fault c.requires.clean listed (rw c.in-Ok-Some.field-0-is at c.in-Ok-Some.ensures)
+pub returns-then-all_served : goal.returns-then-all_served
+returns-then-all_served c = rw c.copied.ensures at (c.in_ok-all_served.ensures c.if-all_served.true)

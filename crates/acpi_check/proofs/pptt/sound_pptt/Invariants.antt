@@ -1,7 +1,7 @@
 use Rattle.std.proofs.Common.{◌≡◌}
 use Rattle.acpi_base.specs.Entries.{cut_of}
 use Rattle.acpi_check.proofs.PpttPass.{IsAt}
-use Rattle.acpi_check.proofs.pptt.first_fault.Given as goal
+use Rattle.acpi_check.proofs.pptt.sound_pptt.Given as goal
 
 -- the entries so far have a length of their type, and those left are the rest of the table's
 abbrev pub invariant-loop-entry : goal.invariant-loop-entry

@@ -1,5 +1,5 @@
 use Rattle.acpi_check.proofs.OverridesPass.{IsAt}
-use Rattle.acpi_check.proofs.overrides.first_fault.Given as goal
+use Rattle.acpi_check.proofs.overrides.agreeing_overrides.Given as goal
 
 -- of the overrides so far the first ones are kept, which the others agree with; the entries left are the rest of the table's
 abbrev pub invariant-loop-entry : goal.invariant-loop-entry

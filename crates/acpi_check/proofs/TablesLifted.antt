@@ -1,0 +1,85 @@
+-- What is found of the tables that a set lists first is so of the set.
+use Rattle.std.proofs.Common.{◌≡◌, ℕ, List, Result, Ok, Err}
+use Rattle.std.specs.Prelude.{◌↔◌, ⊤}
+use Rattle.acpi_base.specs.Memory.{Memory}
+use Rattle.acpi_base.specs.Policy.{PolicyValue}
+use Rattle.acpi_base.specs.Codes.{stage_of}
+use Rattle.acpi_base.specs.Listed.{IsListedTable, ForListed, HasListed, ListsNone}
+use Rattle.acpi_base.specs.Statements.{Holds, CleanBefore}
+use Rattle.acpi_base.specs.Faults.{FaultCondition, FaultOfStage, NotAfter, IsLeastOfStage, IsFirstFault}
+use Rattle.acpi_base.specs.declared.code.Code.{Code}
+use Rattle.acpi_base.specs.declared.stage.Stage.{Stage}
+use Rattle.acpi_base.specs.declared.witness.Witness.{Witness}
+use Rattle.acpi_base.proofs.Faults.ListedTables.{of_listed, for_listed}
+use Rattle.acpi_base.proofs.Faults.Settling.{first_of_set}
+use Rattle.acpi_base.proofs.Tables.Listed.{none_and_listed}
+use Rattle.acpi_check.specs.Passed.{IsFirstOfTable, Finds, FindsFirst}
+use Rattle.acpi_check.specs.Settled.{Settles}
+use Rattle.acpi_check.specs.declared.refusal.Refusal.{Refusal}
+use Rattle.acpi_check.specs.declared.refusal.Refusal.TheVariants.{Fault, OutOfMemory}
+
+-- ---- one table
+
+-- nothing is stated of a table that the set does not list
+pub of_none : {m : Memory} {p : ℕ} {signature : List ℕ} (P : List ℕ → Type 0) → ListsNone m p signature → ForListed m p signature P
+of_none P none whole is = absurd (none_and_listed none is)
+
+-- what is found of the table that it lists first is so of the set, where the stage states this of the table, and the first fault
+-- of the table is the set's
+pub of_one : (s : Stage) {m : Memory} {q : PolicyValue} {signature : List ℕ} (Sound : List ℕ → Type 0) (IsFirst : List ℕ → Witness → Type 0)
+    → (ForListed m q.rsdp signature Sound → Holds s m q)
+    → ((whole : List ℕ) → IsListedTable m q.rsdp signature whole → (w : Witness) → IsFirst whole w → IsFirstFault m q w × (stage_of w.code ≡ s))
+    → {whole : List ℕ} → IsListedTable m q.rsdp signature whole → (result : Result ⊤ Refusal) → Finds s (Sound whole) (IsFirst whole) result
+    → Settles s m q (λ _. ⊤) result
+of_one s Sound IsFirst holds first is (Ok _) found = (holds (for_listed Sound is found), tt)
+of_one s Sound IsFirst holds first {whole} is (Err (Fault w)) found = first whole is w found
+of_one s Sound IsFirst holds first is (Err OutOfMemory) found = found
+
+-- the first fault of a table is the set's, where the stage's faults are those of this table
+pub table_first : {s : Stage} {m : Memory} {q : PolicyValue} {signature : List ℕ} (IsFault : List ℕ → Code → ℕ → ℕ → ℕ → Type 0)
+    → ((v : Witness) → FaultCondition s m q v ↔ HasListed m q.rsdp signature (λ bytes. IsFault bytes v.code v.at v.other v.point))
+    → ((w : Witness) → ((v : Witness) → FaultOfStage s m q v → NotAfter w v) → IsLeastOfStage s m q w)
+    → CleanBefore s m q → (whole : List ℕ) → IsListedTable m q.rsdp signature whole → (w : Witness) → IsFirstOfTable s (IsFault whole) w
+    → IsFirstFault m q w × (stage_of w.code ≡ s)
+table_first IsFault condition order clean whole is w first = (
+  first_of_set clean (record {
+    holds = record { own = first.own; holds = (condition w).1 (whole, is, first.fault) };
+    least = order w (λ v here. first.least v (of_listed (λ bytes. IsFault bytes v.code v.at v.other v.point) is ((condition v).0 here.holds)));
+  }),
+  first.own,
+)
+
+-- so it is where the stage's faults are those of the table
+pub of_faults : (s : Stage) {m : Memory} {q : PolicyValue} {signature : List ℕ} (Sound : List ℕ → Type 0) (IsFault : List ℕ → Code → ℕ → ℕ → ℕ → Type 0)
+    → (ForListed m q.rsdp signature Sound → Holds s m q)
+    → ((v : Witness) → FaultCondition s m q v ↔ HasListed m q.rsdp signature (λ bytes. IsFault bytes v.code v.at v.other v.point))
+    → ((w : Witness) → ((v : Witness) → FaultOfStage s m q v → NotAfter w v) → IsLeastOfStage s m q w)
+    → CleanBefore s m q → {whole : List ℕ} → IsListedTable m q.rsdp signature whole → (result : Result ⊤ Refusal)
+    → FindsFirst s (Sound whole) (IsFault whole) result → Settles s m q (λ _. ⊤) result
+of_faults s Sound IsFault holds condition order clean is result found =
+    of_one s Sound (λ whole. IsFirstOfTable s (IsFault whole)) holds (table_first IsFault condition order clean) is result found
+
+-- ---- two tables
+
+-- the first fault of two tables is the set's, where the stage's faults are those of these tables
+pub both_first : {s : Stage} {m : Memory} {q : PolicyValue} {one other : List ℕ} (IsFault : List ℕ → List ℕ → Code → ℕ → ℕ → ℕ → Type 0)
+    → ((v : Witness) → FaultCondition s m q v ↔ HasListed m q.rsdp one (λ x. HasListed m q.rsdp other (λ y. IsFault x y v.code v.at v.other v.point)))
+    → ((w : Witness) → ((v : Witness) → FaultOfStage s m q v → NotAfter w v) → IsLeastOfStage s m q w)
+    → CleanBefore s m q → (x y : List ℕ) → IsListedTable m q.rsdp one x → IsListedTable m q.rsdp other y → (w : Witness)
+    → IsFirstOfTable s (IsFault x y) w → IsFirstFault m q w × (stage_of w.code ≡ s)
+both_first {m = m} {q = q} {other = other} IsFault condition order clean x y is also w first =
+    table_first (IsFault x)
+    (λ v. (λ h. of_listed (λ z. HasListed m q.rsdp other (λ bytes. IsFault z bytes v.code v.at v.other v.point)) is ((condition v).0 h), λ h. (condition v).1 (x, is, h)))
+    order clean y also w first
+
+-- so it is of two tables
+pub of_two : (s : Stage) {m : Memory} {q : PolicyValue} {one other : List ℕ} (Sound : List ℕ → List ℕ → Type 0) (IsFault : List ℕ → List ℕ → Code → ℕ → ℕ → ℕ → Type 0)
+    → (ForListed m q.rsdp one (λ x. ForListed m q.rsdp other (Sound x)) → Holds s m q)
+    → ((v : Witness) → FaultCondition s m q v ↔ HasListed m q.rsdp one (λ x. HasListed m q.rsdp other (λ y. IsFault x y v.code v.at v.other v.point)))
+    → ((w : Witness) → ((v : Witness) → FaultOfStage s m q v → NotAfter w v) → IsLeastOfStage s m q w)
+    → CleanBefore s m q → {x y : List ℕ} → IsListedTable m q.rsdp one x → IsListedTable m q.rsdp other y → (result : Result ⊤ Refusal)
+    → FindsFirst s (Sound x y) (IsFault x y) result → Settles s m q (λ _. ⊤) result
+of_two s {m} {q} {one} {other} Sound IsFault holds condition order clean {x} {y} is also (Ok _) found =
+    (holds (for_listed (λ z. ForListed m q.rsdp other (Sound z)) is (for_listed (Sound x) also found)), tt)
+of_two s Sound IsFault holds condition order clean {x} {y} is also (Err (Fault w)) found = both_first IsFault condition order clean x y is also w found
+of_two s Sound IsFault holds condition order clean is also (Err OutOfMemory) found = found

@@ -1,0 +1,170 @@
+//! The stages on the tables that a set lists. Each has nothing to say of a set that does not list its table, or one of its
+//! two; else what is found of the tables is its verdict on the set.
+
+ghost use Rattle.acpi_base.specs.declared.stage.Stage.{Stage};
+ghost use Rattle.acpi_check.specs.Set.{IsReady, SettlesSet};
+
+use crate::chains::{caches_end, parents_end};
+use crate::domains::one_domain;
+use crate::interrupts::apart_interrupts;
+use crate::leaves::known_leaves;
+use crate::madt::sound_madt;
+use crate::overrides::agreeing_overrides;
+use crate::pptt::sound_pptt;
+use crate::ranges::apart_ranges;
+use crate::references::sound_references;
+use crate::refusal::Refusal;
+use crate::served::named_served;
+use crate::set::Set;
+use crate::slit::sound_slit;
+use crate::srat::sound_srat;
+use std::alloc::Global;
+
+/// Stage 6, on the MADT.
+pub fn madt(set: &Set<'_>) -> Result<(), Refusal>
+    requires { IsReady Stage.Madt set.now }
+    ensures { SettlesSet Stage.Madt set.now result }
+{
+    let Some(madt) = &set.madt else {
+        return Ok(());
+    };
+    sound_madt(set.policy, madt.copied())
+}
+
+/// Stage 7, on the MADT.
+pub fn interrupts(alloc: Global, set: &Set<'_>) -> Result<(), Refusal>
+    requires { IsReady Stage.Interrupts set.now }
+    ensures { SettlesSet Stage.Interrupts set.now result }
+{
+    let Some(madt) = &set.madt else {
+        return Ok(());
+    };
+    apart_interrupts(alloc, set.policy, madt.copied())
+}
+
+/// Stage 8, on the MADT.
+pub fn overrides(set: &Set<'_>) -> Result<(), Refusal>
+    requires { IsReady Stage.Overrides set.now }
+    ensures { SettlesSet Stage.Overrides set.now result }
+{
+    let Some(madt) = &set.madt else {
+        return Ok(());
+    };
+    agreeing_overrides(madt.copied())
+}
+
+/// Stage 9, on the SRAT.
+pub fn srat(set: &Set<'_>) -> Result<(), Refusal>
+    requires { IsReady Stage.Srat set.now }
+    ensures { SettlesSet Stage.Srat set.now result }
+{
+    let Some(srat) = &set.srat else {
+        return Ok(());
+    };
+    sound_srat(srat.copied())
+}
+
+/// Stage 10, on the SRAT.
+pub fn ranges(alloc: Global, set: &Set<'_>) -> Result<(), Refusal>
+    requires { IsReady Stage.Ranges set.now }
+    ensures { SettlesSet Stage.Ranges set.now result }
+{
+    let Some(srat) = &set.srat else {
+        return Ok(());
+    };
+    apart_ranges(alloc, set.policy.hotplug(), srat.copied())
+}
+
+/// Stage 11, on the SLIT.
+pub fn slit(set: &Set<'_>) -> Result<(), Refusal>
+    requires { IsReady Stage.Slit set.now }
+    ensures { SettlesSet Stage.Slit set.now result }
+{
+    let Some(slit) = &set.slit else {
+        return Ok(());
+    };
+    sound_slit(slit.copied())
+}
+
+/// Stage 12, on the PPTT.
+pub fn pptt(set: &Set<'_>) -> Result<(), Refusal>
+    requires { IsReady Stage.Pptt set.now }
+    ensures { SettlesSet Stage.Pptt set.now result }
+{
+    let Some(pptt) = &set.pptt else {
+        return Ok(());
+    };
+    sound_pptt(pptt.copied())
+}
+
+/// Stage 13, on the PPTT.
+pub fn references(alloc: Global, set: &Set<'_>) -> Result<(), Refusal>
+    requires { IsReady Stage.References set.now }
+    ensures { SettlesSet Stage.References set.now result }
+{
+    let Some(pptt) = &set.pptt else {
+        return Ok(());
+    };
+    sound_references(alloc, pptt.copied())
+}
+
+/// Stage 14, on the PPTT.
+pub fn parents(alloc: Global, set: &Set<'_>) -> Result<(), Refusal>
+    requires { IsReady Stage.Parents set.now }
+    ensures { SettlesSet Stage.Parents set.now result }
+{
+    let Some(pptt) = &set.pptt else {
+        return Ok(());
+    };
+    parents_end(alloc, pptt.copied())
+}
+
+/// Stage 15, on the PPTT.
+pub fn caches(alloc: Global, set: &Set<'_>) -> Result<(), Refusal>
+    requires { IsReady Stage.Caches set.now }
+    ensures { SettlesSet Stage.Caches set.now result }
+{
+    let Some(pptt) = &set.pptt else {
+        return Ok(());
+    };
+    caches_end(alloc, pptt.copied())
+}
+
+/// Stage 16, on the MADT and the SRAT.
+pub fn domains(alloc: Global, set: &Set<'_>) -> Result<(), Refusal>
+    requires { IsReady Stage.Domains set.now }
+    ensures { SettlesSet Stage.Domains set.now result }
+{
+    let Some(madt) = &set.madt else {
+        return Ok(());
+    };
+    let Some(srat) = &set.srat else {
+        return Ok(());
+    };
+    one_domain(alloc, set.policy.processors(), madt.copied(), srat.copied())
+}
+
+/// Stage 17, on the MADT.
+pub fn served(alloc: Global, set: &Set<'_>) -> Result<(), Refusal>
+    requires { IsReady Stage.Served set.now }
+    ensures { SettlesSet Stage.Served set.now result }
+{
+    let Some(madt) = &set.madt else {
+        return Ok(());
+    };
+    named_served(alloc, set.policy, madt.copied())
+}
+
+/// Stage 18, on the MADT and the PPTT.
+pub fn leaves(alloc: Global, set: &Set<'_>) -> Result<(), Refusal>
+    requires { IsReady Stage.Leaves set.now }
+    ensures { SettlesSet Stage.Leaves set.now result }
+{
+    let Some(madt) = &set.madt else {
+        return Ok(());
+    };
+    let Some(pptt) = &set.pptt else {
+        return Ok(());
+    };
+    known_leaves(alloc, madt.copied(), pptt.copied())
+}
