@@ -1,8 +1,10 @@
 //! The stages on the tables that a set lists. Each has nothing to say of a set that does not list its table, or one of its
 //! two; else what is found of the tables is its verdict on the set.
 
+ghost use Rattle.std.specs.Prelude.{◌≢◌, IfErr};
 ghost use Rattle.acpi_base.specs.declared.stage.Stage.{Stage};
 ghost use Rattle.acpi_check.specs.Set.{IsReady, SettlesSet};
+ghost use Rattle.acpi_check.specs.declared.refusal.Refusal.{Refusal};
 
 use crate::chains::{caches_end, parents_end};
 use crate::domains::one_domain;
@@ -45,7 +47,8 @@ pub fn interrupts(alloc: Global, set: &Set<'_>) -> Result<(), Refusal>
 /// Stage 8, on the MADT.
 pub fn overrides(set: &Set<'_>) -> Result<(), Refusal>
     requires { IsReady Stage.Overrides set.now }
-    ensures { SettlesSet Stage.Overrides set.now result }
+    ensures settled { SettlesSet Stage.Overrides set.now result }
+    ensures memory { IfErr result (λ refusal. refusal ≢ Refusal.OutOfMemory) }
 {
     let Some(madt) = &set.madt else {
         return Ok(());
