@@ -37,6 +37,7 @@ pub mod StandingCode
 pub mod Statements
 pub mod Stored
 pub mod Sums
+pub mod TableKinds
 pub mod Tables
 pub mod Tally
 pub mod TextLaws

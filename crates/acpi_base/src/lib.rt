@@ -7,6 +7,7 @@
 //! - `field`: numbers and bytes at an offset in a table, read and written.
 //! - `Code`, `Stage`, `Witness`, `Verdict`: what can be wrong, in which part of the check, where, and the
 //!   result of a check. `witness_text` and `verdict_text` write them.
+//! - `TableKind`: the five kinds of tables whose contents are read, with their signatures.
 //! - `Policy`: the settings of a check.
 //! - `Tally`: a reader or writer that counts its failures.
 //! - `laws`: what holds of the definitions, such as that an image has one first fault or none.
@@ -32,6 +33,7 @@ mod image_text;
 pub mod laws;
 mod policy;
 mod stage;
+mod table_kind;
 mod tally;
 mod text;
 mod verdict;
@@ -47,6 +49,7 @@ pub use image::{Image, ImageFault};
 pub use image_text::{ImageText, read_image};
 pub use policy::{HotPlug, Policy, PolicyFault, Processors};
 pub use stage::Stage;
+pub use table_kind::TableKind;
 pub use tally::{DeviceFailed, Tally};
 pub use text::TextFault;
 pub use verdict::Verdict;

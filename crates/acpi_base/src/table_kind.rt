@@ -1,0 +1,91 @@
+//! The kinds of tables whose contents are read.
+
+ghost use Rattle.std.specs.Prelude.{◌≡◌};
+
+use crate::field::is_signed;
+
+/// A kind of table whose contents are read. Sections are those of ACPI 6.5.
+#[derive(Clone, Copy, Debug, PartialEq, Eq)]
+pub enum TableKind {
+    /// `FACP`, the FADT (5.2.9).
+    Fadt,
+    /// `APIC`, the MADT (5.2.12).
+    Madt,
+    /// `SRAT` (5.2.16).
+    Srat,
+    /// `SLIT` (5.2.17).
+    Slit,
+    /// `PPTT` (5.2.30).
+    Pptt,
+}
+
+impl TableKind {
+    ghost use Rattle.acpi_base.specs.TableKinds.{signature_of, place_of, IsKindOf};
+
+    /// How many kinds there are.
+    pub const COUNT: usize = 5;
+
+    /// The kind of a table with these bytes, by the signature that they begin with; none where it is no
+    /// kind's, or where there are fewer than its 4 bytes.
+    pub fn of(bytes: &[u8]) -> Option<TableKind>
+        ensures { IsKindOf bytes.now result }
+    {
+        if is_signed(bytes, TableKind::Fadt.signature()) {
+            Some(TableKind::Fadt)
+        } else if is_signed(bytes, TableKind::Madt.signature()) {
+            Some(TableKind::Madt)
+        } else if is_signed(bytes, TableKind::Srat.signature()) {
+            Some(TableKind::Srat)
+        } else if is_signed(bytes, TableKind::Slit.signature()) {
+            Some(TableKind::Slit)
+        } else if is_signed(bytes, TableKind::Pptt.signature()) {
+            Some(TableKind::Pptt)
+        } else {
+            None
+        }
+    }
+
+    /// The signature that its tables begin with.
+    pub fn signature(self) -> &'static [u8; 4]
+        ensures { result.now ≡ signature_of self }
+    {
+        match self {
+            TableKind::Fadt => b"FACP",
+            TableKind::Madt => b"APIC",
+            TableKind::Srat => b"SRAT",
+            TableKind::Slit => b"SLIT",
+            TableKind::Pptt => b"PPTT",
+        }
+    }
+
+    /// Its place among the kinds, from 0 to `COUNT` - 1.
+    pub fn place(self) -> usize
+        ensures { result ≡ place_of self }
+    {
+        match self {
+            TableKind::Fadt => 0,
+            TableKind::Madt => 1,
+            TableKind::Srat => 2,
+            TableKind::Slit => 3,
+            TableKind::Pptt => 4,
+        }
+    }
+}
+
+#[cfg(test)]
+mod tests {
+    use super::*;
+    use std::test::*;
+
+    #[test]
+    fn kinds_are_known_by_their_signatures(rt: HostRuntime) {
+        assert_eq!(rt; TableKind::of(b"FACP\xf4\0\0\0"), Some(TableKind::Fadt));
+        assert_eq!(rt; TableKind::of(b"APIC"), Some(TableKind::Madt));
+        assert_eq!(rt; TableKind::of(b"SRAT"), Some(TableKind::Srat));
+        assert_eq!(rt; TableKind::of(b"SLIT"), Some(TableKind::Slit));
+        assert_eq!(rt; TableKind::of(b"PPTT"), Some(TableKind::Pptt));
+        assert_eq!(rt; TableKind::of(b"FACS"), None);
+        assert_eq!(rt; TableKind::of(b"APIc"), None);
+        assert_eq!(rt; TableKind::of(b"SLI"), None);
+    }
+}
