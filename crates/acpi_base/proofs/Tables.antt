@@ -1,4 +1,5 @@
 -- System description tables.
 pub mod Faults
+pub mod Kinds
 pub mod Listed
 pub mod Whole

@@ -13,14 +13,6 @@ signature_of kind.Srat = srat_signature
 signature_of kind.Slit = slit_signature
 signature_of kind.Pptt = pptt_signature
 
--- a kind's place among the five
-abbrev pub place_of : TableKind → ℕ
-place_of kind.Fadt = 0
-place_of kind.Madt = 1
-place_of kind.Srat = 2
-place_of kind.Slit = 3
-place_of kind.Pptt = 4
-
 -- the kind of a table with these bytes; none where they begin with no kind's signature
 abbrev pub IsKindOf : List ℕ → Option TableKind → Type 0
 IsKindOf bytes (Some kind) = has_signature bytes (signature_of kind) ≡ true

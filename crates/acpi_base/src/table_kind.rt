@@ -20,10 +20,7 @@ pub enum TableKind {
 }
 
 impl TableKind {
-    ghost use Rattle.acpi_base.specs.TableKinds.{signature_of, place_of, IsKindOf};
-
-    /// How many kinds there are.
-    pub const COUNT: usize = 5;
+    ghost use Rattle.acpi_base.specs.TableKinds.{signature_of, IsKindOf};
 
     /// The kind of a table with these bytes, by the signature that they begin with; none where it is no
     /// kind's, or where there are fewer than its 4 bytes.
@@ -55,19 +52,6 @@ impl TableKind {
             TableKind::Srat => b"SRAT",
             TableKind::Slit => b"SLIT",
             TableKind::Pptt => b"PPTT",
-        }
-    }
-
-    /// Its place among the kinds, from 0 to `COUNT` - 1.
-    pub fn place(self) -> usize
-        ensures { result ≡ place_of self }
-    {
-        match self {
-            TableKind::Fadt => 0,
-            TableKind::Madt => 1,
-            TableKind::Srat => 2,
-            TableKind::Slit => 3,
-            TableKind::Pptt => 4,
         }
     }
 }

@@ -1,6 +1,7 @@
 pub mod Entries
 pub mod EntryKinds
 pub mod Fadts
+pub mod FirstTables
 pub mod Gases
 pub mod Headers
 pub mod Madts
