@@ -8,7 +8,7 @@ use Rattle.acpi_base.specs.Codes.{code_number, stage_of}
 use Rattle.acpi_base.specs.Rsdp.{Addresses, addresses_at, RsdpValue, RsdpFault, IsRsdp}
 use Rattle.acpi_base.specs.Root.{HasSlot, IsSlot, RootFault, RootTableFault, NamedRootFault, chosen_root}
 use Rattle.acpi_base.specs.Tables.{IsSoundTable, TableFault}
-use Rattle.acpi_base.specs.Listed.{fadt_signature}
+use Rattle.acpi_base.specs.Listed.{fadt_signature, ListsNone}
 use Rattle.acpi_base.specs.Fadt.{facs_address, IsFadt, IsSoundFadt, FadtTableFault, FadtFault}
 use Rattle.acpi_base.specs.Facs.{HasSoundFacs, IsSoundFacs, NamedFacsFault}
 use Rattle.acpi_base.specs.Statements.{CleanBefore}
@@ -94,6 +94,18 @@ first_table_fault m q root c k a clean is slot own fault least before =
           | inr (inl less) ↦ inl less
           | inr (inr more) ↦ absurd (excludes m v.other v.code stands (before v.at v.other more there))
         ]
+
+-- the fault of a set that lists no FADT
+pub no_fadt_first : (m : Memory) (q : PolicyValue) → CleanBefore stage.Fadt m q → ListsNone m q.rsdp fadt_signature → IsFirstFault m q (record { code = code.NoFadt; at = 0; other = 0; point = 0 })
+no_fadt_first m q clean none =
+    first_of_set clean (record {
+      holds = record { own = refl; holds = (inl (none, refl, refl), refl, refl) };
+      least = λ v here. not_after (record { code = code.NoFadt; at = 0; other = 0; point = 0 }) v (inr (alone v.code v.at here.holds.0)) (sym here.holds.1) (sym here.holds.2);
+    })
+  where
+    alone : (d : Code) (at : ℕ) → FadtFault m q.rsdp d at → (0 ≡ at) × (code_number code.NoFadt ≤ code_number d)
+    alone d at (inl (also, is, zero)) = (sym zero, rw is (omega arith))
+    alone d at (inr (whole, is, stands)) = absurd (none_and_listed none is)
 
 -- the first fault of the FADT's bytes
 pub fadt_first : (m : Memory) (q : PolicyValue) (whole : List ℕ) (w : Witness) → CleanBefore stage.Fadt m q → IsFadt m q.rsdp whole → stage_of w.code ≡ stage.Fadt

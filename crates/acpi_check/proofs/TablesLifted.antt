@@ -1,24 +1,39 @@
 -- What is found of the tables that a set lists first is so of the set.
-use Rattle.std.proofs.Common.{◌≡◌, ℕ, List, Result, Ok, Err}
+use Rattle.std.proofs.Common.{◌≡◌, ℕ, List, Option, Some, None, Result, Ok, Err, sym, ◌∙◌, subst}
 use Rattle.std.specs.Prelude.{◌↔◌, ⊤}
 use Rattle.acpi_base.specs.Memory.{Memory}
 use Rattle.acpi_base.specs.Policy.{PolicyValue}
 use Rattle.acpi_base.specs.Codes.{stage_of}
-use Rattle.acpi_base.specs.Listed.{IsListedTable, ForListed, HasListed, ListsNone}
+use Rattle.acpi_base.specs.Listed.{IsListed, IsListedTable, ForListed, HasListed, ListsNone}
 use Rattle.acpi_base.specs.Statements.{Holds, CleanBefore}
 use Rattle.acpi_base.specs.Faults.{FaultCondition, FaultOfStage, NotAfter, IsLeastOfStage, IsFirstFault}
 use Rattle.acpi_base.specs.declared.code.Code.{Code}
 use Rattle.acpi_base.specs.declared.stage.Stage.{Stage}
+use Rattle.acpi_base.specs.TableKinds.{signature_of}
+use Rattle.acpi_base.specs.declared.table_kind.TableKind.{TableKind}
+use Rattle.acpi_read.specs.FirstTables.{first_of}
+use Rattle.acpi_read.specs.declared.first_tables.FirstTables.{FirstTables}
 use Rattle.acpi_base.specs.declared.witness.Witness.{Witness}
 use Rattle.acpi_base.proofs.Faults.ListedTables.{of_listed, for_listed}
 use Rattle.acpi_base.proofs.Faults.Settling.{first_of_set}
 use Rattle.acpi_base.proofs.Tables.Listed.{none_and_listed}
 use Rattle.acpi_check.specs.Passed.{IsFirstOfTable, Finds, FindsFirst}
 use Rattle.acpi_check.specs.Settled.{Settles}
+use Rattle.acpi_check.specs.Tables.{AreFirstTables}
 use Rattle.acpi_check.specs.declared.refusal.Refusal.{Refusal}
 use Rattle.acpi_check.specs.declared.refusal.Refusal.TheVariants.{Fault, OutOfMemory}
 
 -- ---- one table
+
+-- the first table of a kind is the listed one, where the set lists it
+pub first_listed : {m : Memory} {p : ℕ} {firsts : FirstTables} → AreFirstTables m p firsts → (kind : TableKind) → {found : Option (List ℕ)} → found ≡ first_of firsts kind
+    → {whole : List ℕ} → found ≡ Some whole → IsListedTable m p (signature_of kind) whole
+first_listed {m} {p} all kind same is = subst (IsListed m p (signature_of kind)) (sym same ∙ is) (all kind)
+
+-- where there is no first, it lists none
+pub none_listed : {m : Memory} {p : ℕ} {firsts : FirstTables} → AreFirstTables m p firsts → (kind : TableKind) → {found : Option (List ℕ)} → found ≡ first_of firsts kind
+    → found ≡ None → ListsNone m p (signature_of kind)
+none_listed {m} {p} all kind same is = subst (IsListed m p (signature_of kind)) (sym same ∙ is) (all kind)
 
 -- nothing is stated of a table that the set does not list
 pub of_none : {m : Memory} {p : ℕ} {signature : List ℕ} (P : List ℕ → Type 0) → ListsNone m p signature → ForListed m p signature P

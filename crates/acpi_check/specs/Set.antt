@@ -2,12 +2,12 @@
 use Rattle.std.specs.Prelude.{◌≡◌, ⊤, Result}
 use Rattle.acpi_base.specs.Memory.{Memory}
 use Rattle.acpi_base.specs.Policy.{PolicyValue}
-use Rattle.acpi_base.specs.Listed.{madt_signature, srat_signature, slit_signature, pptt_signature, IsListed}
 use Rattle.acpi_base.specs.Fadt.{IsFadt}
 use Rattle.acpi_base.specs.Statements.{CleanBefore, CleanTo}
 use Rattle.acpi_base.specs.declared.stage.Stage.{Stage}
 use Rattle.acpi_base.specs.declared.stage.Stage.TheVariants as stage
 use Rattle.acpi_check.specs.Settled.{Settles}
+use Rattle.acpi_check.specs.Tables.{AreFirstTables}
 use Rattle.acpi_check.specs.declared.refusal.Refusal.{Refusal}
 use Rattle.acpi_check.specs.declared.set.Set.{Set}
 
@@ -17,10 +17,7 @@ pub record IsSetOf (m : Memory) (q : PolicyValue) (set : Set) : Type 0 where
   pub policy : set.policy.now ≡ q
   pub clean : CleanTo stage.Fadt m q
   pub fadt : IsFadt m q.rsdp set.fadt
-  pub madt : IsListed m q.rsdp madt_signature set.madt
-  pub srat : IsListed m q.rsdp srat_signature set.srat
-  pub slit : IsListed m q.rsdp slit_signature set.slit
-  pub pptt : IsListed m q.rsdp pptt_signature set.pptt
+  pub tables : AreFirstTables m q.rsdp set.tables
 
 -- the same of its own image and policy
 abbrev pub IsSet : Set → Type 0

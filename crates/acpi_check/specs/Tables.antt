@@ -1,26 +1,23 @@
 -- The tables that a stage is handed.
-use Rattle.std.specs.Prelude.{◌<◌, ℕ, List, Option, Some, None, is_none, ◌&&◌, if◌then◌else◌}
+use Rattle.std.specs.Prelude.{◌<◌, ℕ, List, Option, Some, None}
 use Rattle.acpi_base.specs.Memory.{Memory}
-use Rattle.acpi_base.specs.Signature.{has_signature}
 use Rattle.acpi_base.specs.Root.{HasSlot, IsRoot, IsSoundRootTable}
 use Rattle.acpi_base.specs.Tables.{IsSigned, IsSoundTable, IsTable}
-use Rattle.acpi_base.specs.Listed.{fadt_signature, madt_signature, srat_signature, slit_signature, pptt_signature, IsFirstListed, IsListed}
+use Rattle.acpi_base.specs.Listed.{IsFirstListed, IsListed}
+use Rattle.acpi_base.specs.TableKinds.{signature_of}
+use Rattle.acpi_base.specs.declared.table_kind.TableKind.{TableKind}
+use Rattle.acpi_read.specs.FirstTables.{first_of}
 use Rattle.acpi_read.specs.Roots.{RootValue}
-use Rattle.acpi_check.specs.declared.tables.Tables.{Tables}
+use Rattle.acpi_read.specs.declared.first_tables.FirstTables.{FirstTables}
 
 -- the set's root
 pub record IsRootOf (m : Memory) (p : ℕ) (root : RootValue) : Type 0 where
   pub named : IsRoot m p root.address root.width
   pub sound : IsSoundRootTable m root.address root.width root.bytes
 
--- the set's root, and the first listed table with each of five signatures
-pub record AreTablesOf (m : Memory) (p : ℕ) (tables : Tables) : Type 0 where
-  pub root : IsRootOf m p tables.root
-  pub fadt : IsListed m p fadt_signature tables.fadt
-  pub madt : IsListed m p madt_signature tables.madt
-  pub srat : IsListed m p srat_signature tables.srat
-  pub slit : IsListed m p slit_signature tables.slit
-  pub pptt : IsListed m p pptt_signature tables.pptt
+-- the first table of each kind that the set lists
+abbrev pub AreFirstTables : Memory → ℕ → FirstTables → Type 0
+AreFirstTables m p firsts = (kind : TableKind) → IsListed m p (signature_of kind) (first_of firsts kind)
 
 -- ---- while the slots are gone through
 
@@ -29,15 +26,7 @@ abbrev pub IsFirstBelow : Memory → List ℕ → ℕ → ℕ → List ℕ → O
 IsFirstBelow m bytes d k signature None = (j a : ℕ) → j < k → HasSlot bytes d j a → ¬ IsSigned m a signature
 IsFirstBelow m bytes d k signature (Some whole) = (a : ℕ) × (header : List ℕ) × IsFirstListed m bytes d signature a × IsTable m a header whole
 
--- the same of the five signatures; and the tables of these slots are sound
-pub record AreFirstBelow (m : Memory) (k : ℕ) (tables : Tables) : Type 0 where
-  pub sound : (j a : ℕ) → j < k → HasSlot tables.root.bytes tables.root.width j a → IsSoundTable m a
-  pub fadt : IsFirstBelow m tables.root.bytes tables.root.width k fadt_signature tables.fadt
-  pub madt : IsFirstBelow m tables.root.bytes tables.root.width k madt_signature tables.madt
-  pub srat : IsFirstBelow m tables.root.bytes tables.root.width k srat_signature tables.srat
-  pub slit : IsFirstBelow m tables.root.bytes tables.root.width k slit_signature tables.slit
-  pub pptt : IsFirstBelow m tables.root.bytes tables.root.width k pptt_signature tables.pptt
-
--- the first with a signature, where a table comes behind those before it
-abbrev pub first_with : List ℕ → Option (List ℕ) → List ℕ → Option (List ℕ)
-first_with signature found whole = if has_signature whole signature && is_none found then Some whole else found
+-- the same of each kind; and the tables of these slots are sound
+pub record AreFirstBelow (m : Memory) (root : RootValue) (k : ℕ) (firsts : FirstTables) : Type 0 where
+  pub sound : (j a : ℕ) → j < k → HasSlot root.bytes root.width j a → IsSoundTable m a
+  pub first : (kind : TableKind) → IsFirstBelow m root.bytes root.width k (signature_of kind) (first_of firsts kind)

@@ -3,35 +3,26 @@
 ghost use Rattle.acpi_base.specs.Statements.{CleanBefore};
 ghost use Rattle.acpi_base.specs.declared.stage.Stage.{Stage};
 ghost use Rattle.acpi_check.specs.Settled.{Settles};
-ghost use Rattle.acpi_check.specs.Tables.{AreTablesOf};
+ghost use Rattle.acpi_check.specs.Tables.{AreFirstTables};
 ghost use Rattle.acpi_check.specs.Set.{IsSetOf};
 
 use crate::refusal::Refusal;
 use crate::set::Set;
-use crate::tables::Tables;
-use acpi_base::{Code, Image, Policy, Witness};
-use acpi_read::Fadt;
+use acpi_base::{Code, Image, Policy, TableKind, Witness};
+use acpi_read::{Fadt, FirstTables};
 
 /// The set with its FADT, which is sound; its faults are at an offset from the FADT's start, and at 0 where
 /// there is none or it is too short.
 pub fn sound_fadt<'a>(
     image: &'a Image,
     policy: &'a Policy,
-    tables: Tables<'a>,
+    tables: FirstTables<'a>,
 ) -> Result<Set<'a>, Refusal>
     requires clean { CleanBefore Stage.Fadt image.now policy.now }
-    requires tables { AreTablesOf image.now policy.now.rsdp tables }
+    requires tables { AreFirstTables image.now policy.now.rsdp tables }
     ensures { Settles Stage.Fadt image.now policy.now (IsSetOf image.now policy.now) result }
 {
-    let Tables {
-        root: _,
-        fadt,
-        madt,
-        srat,
-        slit,
-        pptt,
-    } = tables;
-    let Some(table) = fadt else {
+    let Some(table) = tables.first(TableKind::Fadt) else {
         return Err(Refusal::Fault(Witness::at(Code::NoFadt, 0)));
     };
     let fadt = match Fadt::new(table) {
@@ -44,10 +35,7 @@ pub fn sound_fadt<'a>(
             image,
             policy,
             fadt,
-            madt,
-            srat,
-            slit,
-            pptt,
+            tables,
         }),
     }
 }

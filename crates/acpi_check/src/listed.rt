@@ -20,6 +20,7 @@ use crate::served::named_served;
 use crate::set::Set;
 use crate::slit::sound_slit;
 use crate::srat::sound_srat;
+use acpi_base::TableKind;
 use std::alloc::Global;
 
 /// Stage 6, on the MADT.
@@ -27,10 +28,10 @@ pub fn madt(set: &Set<'_>) -> Result<(), Refusal>
     requires { IsReady Stage.Madt set.now }
     ensures { SettlesSet Stage.Madt set.now result }
 {
-    let Some(madt) = &set.madt else {
+    let Some(madt) = set.tables.first(TableKind::Madt) else {
         return Ok(());
     };
-    sound_madt(set.policy, madt.copied())
+    sound_madt(set.policy, madt)
 }
 
 /// Stage 7, on the MADT.
@@ -38,10 +39,10 @@ pub fn interrupts(alloc: Global, set: &Set<'_>) -> Result<(), Refusal>
     requires { IsReady Stage.Interrupts set.now }
     ensures { SettlesSet Stage.Interrupts set.now result }
 {
-    let Some(madt) = &set.madt else {
+    let Some(madt) = set.tables.first(TableKind::Madt) else {
         return Ok(());
     };
-    apart_interrupts(alloc, set.policy, madt.copied())
+    apart_interrupts(alloc, set.policy, madt)
 }
 
 /// Stage 8, on the MADT.
@@ -50,10 +51,10 @@ pub fn overrides(set: &Set<'_>) -> Result<(), Refusal>
     ensures settled { SettlesSet Stage.Overrides set.now result }
     ensures memory { IfErr result (λ refusal. refusal ≢ Refusal.OutOfMemory) }
 {
-    let Some(madt) = &set.madt else {
+    let Some(madt) = set.tables.first(TableKind::Madt) else {
         return Ok(());
     };
-    agreeing_overrides(madt.copied())
+    agreeing_overrides(madt)
 }
 
 /// Stage 9, on the SRAT.
@@ -61,10 +62,10 @@ pub fn srat(set: &Set<'_>) -> Result<(), Refusal>
     requires { IsReady Stage.Srat set.now }
     ensures { SettlesSet Stage.Srat set.now result }
 {
-    let Some(srat) = &set.srat else {
+    let Some(srat) = set.tables.first(TableKind::Srat) else {
         return Ok(());
     };
-    sound_srat(srat.copied())
+    sound_srat(srat)
 }
 
 /// Stage 10, on the SRAT.
@@ -72,10 +73,10 @@ pub fn ranges(alloc: Global, set: &Set<'_>) -> Result<(), Refusal>
     requires { IsReady Stage.Ranges set.now }
     ensures { SettlesSet Stage.Ranges set.now result }
 {
-    let Some(srat) = &set.srat else {
+    let Some(srat) = set.tables.first(TableKind::Srat) else {
         return Ok(());
     };
-    apart_ranges(alloc, set.policy.hotplug(), srat.copied())
+    apart_ranges(alloc, set.policy.hotplug(), srat)
 }
 
 /// Stage 11, on the SLIT.
@@ -83,10 +84,10 @@ pub fn slit(set: &Set<'_>) -> Result<(), Refusal>
     requires { IsReady Stage.Slit set.now }
     ensures { SettlesSet Stage.Slit set.now result }
 {
-    let Some(slit) = &set.slit else {
+    let Some(slit) = set.tables.first(TableKind::Slit) else {
         return Ok(());
     };
-    sound_slit(slit.copied())
+    sound_slit(slit)
 }
 
 /// Stage 12, on the PPTT.
@@ -94,10 +95,10 @@ pub fn pptt(set: &Set<'_>) -> Result<(), Refusal>
     requires { IsReady Stage.Pptt set.now }
     ensures { SettlesSet Stage.Pptt set.now result }
 {
-    let Some(pptt) = &set.pptt else {
+    let Some(pptt) = set.tables.first(TableKind::Pptt) else {
         return Ok(());
     };
-    sound_pptt(pptt.copied())
+    sound_pptt(pptt)
 }
 
 /// Stage 13, on the PPTT.
@@ -105,10 +106,10 @@ pub fn references(alloc: Global, set: &Set<'_>) -> Result<(), Refusal>
     requires { IsReady Stage.References set.now }
     ensures { SettlesSet Stage.References set.now result }
 {
-    let Some(pptt) = &set.pptt else {
+    let Some(pptt) = set.tables.first(TableKind::Pptt) else {
         return Ok(());
     };
-    sound_references(alloc, pptt.copied())
+    sound_references(alloc, pptt)
 }
 
 /// Stage 14, on the PPTT.
@@ -116,10 +117,10 @@ pub fn parents(alloc: Global, set: &Set<'_>) -> Result<(), Refusal>
     requires { IsReady Stage.Parents set.now }
     ensures { SettlesSet Stage.Parents set.now result }
 {
-    let Some(pptt) = &set.pptt else {
+    let Some(pptt) = set.tables.first(TableKind::Pptt) else {
         return Ok(());
     };
-    parents_end(alloc, pptt.copied())
+    parents_end(alloc, pptt)
 }
 
 /// Stage 15, on the PPTT.
@@ -127,10 +128,10 @@ pub fn caches(alloc: Global, set: &Set<'_>) -> Result<(), Refusal>
     requires { IsReady Stage.Caches set.now }
     ensures { SettlesSet Stage.Caches set.now result }
 {
-    let Some(pptt) = &set.pptt else {
+    let Some(pptt) = set.tables.first(TableKind::Pptt) else {
         return Ok(());
     };
-    caches_end(alloc, pptt.copied())
+    caches_end(alloc, pptt)
 }
 
 /// Stage 16, on the MADT and the SRAT.
@@ -138,13 +139,13 @@ pub fn domains(alloc: Global, set: &Set<'_>) -> Result<(), Refusal>
     requires { IsReady Stage.Domains set.now }
     ensures { SettlesSet Stage.Domains set.now result }
 {
-    let Some(madt) = &set.madt else {
+    let Some(madt) = set.tables.first(TableKind::Madt) else {
         return Ok(());
     };
-    let Some(srat) = &set.srat else {
+    let Some(srat) = set.tables.first(TableKind::Srat) else {
         return Ok(());
     };
-    one_domain(alloc, set.policy.processors(), madt.copied(), srat.copied())
+    one_domain(alloc, set.policy.processors(), madt, srat)
 }
 
 /// Stage 17, on the MADT.
@@ -152,10 +153,10 @@ pub fn served(alloc: Global, set: &Set<'_>) -> Result<(), Refusal>
     requires { IsReady Stage.Served set.now }
     ensures { SettlesSet Stage.Served set.now result }
 {
-    let Some(madt) = &set.madt else {
+    let Some(madt) = set.tables.first(TableKind::Madt) else {
         return Ok(());
     };
-    named_served(alloc, set.policy, madt.copied())
+    named_served(alloc, set.policy, madt)
 }
 
 /// Stage 18, on the MADT and the PPTT.
@@ -163,11 +164,11 @@ pub fn leaves(alloc: Global, set: &Set<'_>) -> Result<(), Refusal>
     requires { IsReady Stage.Leaves set.now }
     ensures { SettlesSet Stage.Leaves set.now result }
 {
-    let Some(madt) = &set.madt else {
+    let Some(madt) = set.tables.first(TableKind::Madt) else {
         return Ok(());
     };
-    let Some(pptt) = &set.pptt else {
+    let Some(pptt) = set.tables.first(TableKind::Pptt) else {
         return Ok(());
     };
-    known_leaves(alloc, madt.copied(), pptt.copied())
+    known_leaves(alloc, madt, pptt)
 }

@@ -1,7 +1,7 @@
 //! The set of tables that the stages from the FACS on look at.
 
 use acpi_base::{Image, Policy};
-use acpi_read::{Fadt, Table};
+use acpi_read::{Fadt, FirstTables};
 
 /// A set whose RSDP, root, listed tables and FADT are sound: what the stages from the FACS on look at. Each
 /// table is the first listed one with its signature, which was read and summed once.
@@ -11,14 +11,8 @@ pub struct Set<'a> {
     pub image: &'a Image,
     /// What the check is given beside it.
     pub policy: &'a Policy,
-    /// `FACP`.
+    /// The FADT.
     pub fadt: Fadt<'a>,
-    /// `APIC`.
-    pub madt: Option<Table<'a>>,
-    /// `SRAT`.
-    pub srat: Option<Table<'a>>,
-    /// `SLIT`.
-    pub slit: Option<Table<'a>>,
-    /// `PPTT`.
-    pub pptt: Option<Table<'a>>,
+    /// The first listed table of each kind.
+    pub tables: FirstTables<'a>,
 }

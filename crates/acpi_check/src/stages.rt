@@ -83,7 +83,7 @@ fn set_to<'a>(image: &'a Image, policy: &'a Policy, last: Stage) -> Result<Optio
     if last.number() <= Stage::Root.number() {
         return Ok(None);
     }
-    let tables = sound_tables(image, policy, root)?;
+    let tables = sound_tables(image, policy, &root)?;
     if last.number() <= Stage::Tables.number() {
         return Ok(None);
     }

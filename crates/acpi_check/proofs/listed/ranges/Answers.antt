@@ -2,22 +2,23 @@ use Rattle.std.proofs.Common.{arith}
 use Rattle.acpi_base.specs.Srat.{srat_contents, AreRangesApart, IsFirstOverlap}
 use Rattle.acpi_base.specs.declared.code.Code.TheVariants as code
 use Rattle.acpi_base.specs.declared.stage.Stage.TheVariants as stage
+use Rattle.acpi_base.specs.declared.table_kind.TableKind.TheVariants as kind
 use Rattle.acpi_check.specs.Passed.{IsOverlap}
 use Rattle.acpi_check.proofs.RangeClashes.{overlap_first}
-use Rattle.acpi_check.proofs.TablesLifted.{of_none, of_one}
+use Rattle.acpi_check.proofs.TablesLifted.{first_listed, none_listed, of_none, of_one}
 use Rattle.acpi_check.proofs.listed.ranges.Goals as goal
 
 pub returns-in_default : goal.returns-in_default
-returns-in_default c = (of_none _ (rw c.in_default.is at c.requires.tables.srat), tt)
+returns-in_default c = (of_none _ (none_listed c.requires.tables.tables kind.Srat c.first.ensures c.in_default.is), tt)
 
 pub apart_ranges-requires : goal.apart_ranges-requires
 apart_ranges-requires c =
-    let listed = rw (c.in-Some.is, ← c.copied.ensures) at c.requires.tables.srat in
-    c.requires.clean stage.Srat (omega arith) c.copied.result listed
+    let listed = first_listed c.requires.tables.tables kind.Srat c.first.ensures c.in-Some.is in
+    c.requires.clean stage.Srat (omega arith) c.in-Some.srat listed
 
 pub returns : goal.returns
 returns c =
     let set = c.args.set.now in
     of_one stage.Ranges (λ whole. AreRangesApart set.policy.now.hotplug (srat_contents whole))
     (λ whole. IsOverlap code.Overlap (IsFirstOverlap set.policy.now.hotplug (srat_contents whole))) (λ all. all)
-    (overlap_first set.image.now set.policy.now c.requires.clean) (rw (c.in-Some.is, ← c.copied.ensures) at c.requires.tables.srat) c.apart_ranges.result (rw c.hotplug.ensures.value at c.apart_ranges.ensures)
+    (overlap_first set.image.now set.policy.now c.requires.clean) (first_listed c.requires.tables.tables kind.Srat c.first.ensures c.in-Some.is) c.apart_ranges.result (rw c.hotplug.ensures.value at c.apart_ranges.ensures)
