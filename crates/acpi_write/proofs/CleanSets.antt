@@ -1,5 +1,5 @@
 -- The tables of a clean set can be read as those of their kinds.
-use Rattle.std.proofs.Common.{◌≡◌, ℕ, zero, suc, ◌+◌, ◌-◌, ◌*◌, ◌/◌, ◌<◌, ◌≤◌, Bool, true, false, List, [], ◌∷◌, length, take, get_or, Some, refl, sym, ap, ◌∙◌, subst, inl, inr, arith}
+use Rattle.std.proofs.Common.{◌≡◌, ℕ, zero, suc, ◌+◌, ◌-◌, ◌*◌, ◌/◌, ◌<◌, ◌≤◌, Bool, true, false, List, [], ◌∷◌, length, take, get_or, Option, Some, None, refl, sym, ap, ◌∙◌, subst, inl, inr, arith}
 use Rattle.std.specs.Prelude.{◌≢◌, ◌||◌}
 use Rattle.std.specs.List.{AllZip}
 use Rattle.std.proofs.lemmas.Bool.{cases_Bool, cases_eq, both_ways}
@@ -10,22 +10,26 @@ use Rattle.acpi_base.specs.Signature.{has_signature}
 use Rattle.acpi_base.specs.Rsdp.{RsdpValue, IsRsdp}
 use Rattle.acpi_base.specs.Root.{chosen_root, IsSlotWidth, IsRoot, IsRootTable, IsSoundRoot, HasSlot}
 use Rattle.acpi_base.specs.Tables.{IsSigned, IsSoundTable}
-use Rattle.acpi_base.specs.Listed.{listed, fadt_signature, madt_signature, srat_signature, slit_signature, pptt_signature, IsFirstListed, IsListedTable}
+use Rattle.acpi_base.specs.Listed.{listed, fadt_signature, IsFirstListed, IsListedTable}
 use Rattle.acpi_base.specs.Madt as madt
 use Rattle.acpi_base.specs.Srat as srat
 use Rattle.acpi_base.specs.Slit as slit
 use Rattle.acpi_base.specs.Pptt as pptt
 use Rattle.acpi_base.specs.Statements.{IsClean}
+use Rattle.acpi_base.specs.TableKinds.{signature_of}
 use Rattle.acpi_base.specs.declared.stage.Stage.TheVariants as stage
+use Rattle.acpi_base.specs.declared.table_kind.TableKind.{TableKind}
+use Rattle.acpi_base.specs.declared.table_kind.TableKind.TheVariants as kind
 use Rattle.acpi_base.proofs.HeldBytes.{same_value}
 use Rattle.acpi_base.proofs.Root.Slots.{root_slot}
 use Rattle.acpi_base.proofs.Root.Named.{root_width}
+use Rattle.acpi_base.proofs.Tables.Kinds.{length-signature_of}
 use Rattle.acpi_base.proofs.Tables.Listed.{listed_in_root, listed_of_root, one_listed}
 use Rattle.acpi_base.proofs.Tables.Whole.{one_table, signed_table}
 use Rattle.acpi_read.specs.Roots.{RootValue, IsSoundNamedRoot}
 use Rattle.acpi_read.specs.Madts as madts
 use Rattle.acpi_read.specs.Srats as srats
-use Rattle.acpi_write.specs.Kinds.{AreReadable, kind_behind, is_among}
+use Rattle.acpi_write.specs.Kinds.{AreReadable, IsReadableAs, IsKindBehind, is_among}
 use Rattle.acpi_write.specs.Readable.{IsReadableMadt, IsReadableSrat, IsReadableSlit, IsReadablePptt}
 use Rattle.acpi_write.specs.SetValues.{IsWholeAt, is_first}
 use Rattle.acpi_write.proofs.FirstTables.{first_parts}
@@ -191,36 +195,31 @@ zero_sum m a whole sound stands =
 pub sound_slots : (m : Memory) (q : PolicyValue) (r d : ℕ) (root : List ℕ) → IsClean m q → IsRoot m q.rsdp r d → IsRootTable m r d root → (k a : ℕ) → HasSlot root d k a → IsSoundTable m a
 sound_slots m q r d root clean named table k a slot = clean stage.Tables k a (root_slot named table slot)
 
+-- so is a table of a clean set, as the first of its kind
+readable_first : (m : Memory) (q : PolicyValue) (whole : List ℕ) → IsClean m q → (kind : TableKind) → IsListedTable m q.rsdp (signature_of kind) whole → IsReadableAs (Some kind) whole
+readable_first m q whole clean kind.Fadt is =
+    let fadt = clean stage.Fadt in
+    subst (λ (b : List ℕ). 116 ≤ length b) (one_listed m q.rsdp fadt_signature fadt.whole whole fadt.fadt is) fadt.sound.long
+readable_first m q whole clean kind.Madt is = readable_madt q whole (clean stage.Madt whole is)
+readable_first m q whole clean kind.Srat is = readable_srat whole (clean stage.Srat whole is)
+readable_first m q whole clean kind.Slit is = readable_slit whole (clean stage.Slit whole is)
+readable_first m q whole clean kind.Pptt is = readable_pptt whole (clean stage.Pptt whole is)
+
 pub clean_readable : (m : Memory) (q : PolicyValue) (r d : ℕ) (root : List ℕ) (ts : List (List ℕ)) → IsClean m q → IsRoot m q.rsdp r d → IsRootTable m r d root → AllZip (IsWholeAt m) (listed root d) ts → AreReadable ts
-unfolding kind_behind
-clean_readable m q r d root ts clean named table zip k none below =
-    let here = at_listed m root d ts k none (root_width named) zip below in
-    let whole = get_or ts k none in
-    let sum = zero_sum m here.a whole (sound_slots m q r d root clean named table here.i here.a here.slot) here.table in
-    let first = λ (signature : List ℕ) (four : length signature ≡ 4) (is : is_first (take k ts) whole signature ≡ true). first_listed m q.rsdp r d root ts k none signature named table zip below four is in
-    record {
-      readable =
-          elim (cases_Bool (is_first (take k ts) whole fadt_signature)) [
-            | inl is ↦
-                let fadt = clean stage.Fadt in
-                let same = one_listed m q.rsdp fadt_signature fadt.whole whole fadt.fadt (first fadt_signature refl is) in
-                rw is (subst (λ (b : List ℕ). 116 ≤ length b) same fadt.sound.long)
-            | inr no_fadt ↦ rw no_fadt (elim (cases_Bool (is_first (take k ts) whole madt_signature)) [
-              | inl is ↦ rw is (readable_madt q whole (clean stage.Madt whole (first madt_signature refl is)))
-              | inr no_madt ↦ rw no_madt (elim (cases_Bool (is_first (take k ts) whole srat_signature)) [
-                | inl is ↦ rw is (readable_srat whole (clean stage.Srat whole (first srat_signature refl is)))
-                | inr no_srat ↦ rw no_srat (elim (cases_Bool (is_first (take k ts) whole slit_signature)) [
-                  | inl is ↦ rw is (readable_slit whole (clean stage.Slit whole (first slit_signature refl is)))
-                  | inr no_slit ↦ rw no_slit (elim (cases_Bool (is_first (take k ts) whole pptt_signature)) [
-                    | inl is ↦ rw is (readable_pptt whole (clean stage.Pptt whole (first pptt_signature refl is)))
-                    | inr no_pptt ↦ rw no_pptt sum
-                  ])
-                ])
-              ])
-            ])
-          ];
-      zero_sum = sum;
-    }
+clean_readable m q r d root ts clean named table zip k none below = record { readable = readable; zero_sum = sum }
+  where
+    whole : List ℕ
+    whole = get_or ts k none
+
+    sum : byte_sum whole ≡ 0
+    sum =
+        let here = at_listed m root d ts k none (root_width named) zip below in
+        zero_sum m here.a whole (sound_slots m q r d root clean named table here.i here.a here.slot) here.table
+
+    readable : (kind : Option TableKind) → IsKindBehind (take k ts) whole kind → IsReadableAs kind whole
+    readable None first = sum
+    readable (Some kind) first =
+        readable_first m q whole clean kind (first_listed m q.rsdp r d root ts k none (signature_of kind) named table zip below (length-signature_of kind) first)
 
 -- ---- the FADT
 

@@ -1,6 +1,6 @@
 -- A table is written in as many bytes as it was read from.
-use Rattle.std.proofs.Common.{◌≡◌, ℕ, zero, suc, ◌+◌, ◌*◌, ◌^◌, ◌<◌, ◌≤◌, true, false, cond, List, [], ◌∷◌, ◌++◌, length, drop, flat_map, replicate, Option, Some, None, refl, sym, ap, ◌∙◌, inl, inr, arith, length-append, length-drop}
-use Rattle.std.specs.Prelude.{◌⊎◌, ◌==◌, nat_lt, slice_index, sum_by}
+use Rattle.std.proofs.Common.{◌≡◌, ℕ, zero, suc, ◌+◌, ◌*◌, ◌^◌, ◌<◌, ◌≤◌, true, false, cond, List, [], ◌∷◌, ◌++◌, length, drop, flat_map, replicate, Option, Some, None, Result, Ok, Err, refl, sym, ap, ◌∙◌, inl, inr, arith, length-append, length-drop}
+use Rattle.std.specs.Prelude.{IfOk, ◌⊎◌, ◌==◌, nat_lt, slice_index, sum_by}
 use Rattle.std.proofs.lemmas.Bool.{cases_Bool, cases_lt, eqb-true, eq-eqb, ne_eqb, and_parts}
 use Rattle.std.proofs.lemmas.Bool.Decides.{nat_tests}
 use Rattle.std.proofs.lemmas.List.{length-replicate, length-take-le}
@@ -20,8 +20,10 @@ use Rattle.acpi_write.specs.EntryBytes.{madt_bytes, srat_bytes, pptt_bytes}
 use Rattle.acpi_write.specs.Kinds.{IsReadableAs, said_as}
 use Rattle.acpi_write.specs.SetValues.{entries_in}
 use Rattle.acpi_write.specs.Values.{TableValue}
-use Rattle.acpi_write.specs.declared.kinds.Kind.{Kind}
-use Rattle.acpi_write.specs.declared.kinds.Kind.TheVariants as kind
+use Rattle.acpi_write.specs.Views.{table_value, IsShort}
+use Rattle.acpi_write.specs.declared.table_value.TableValue as read
+use Rattle.acpi_base.specs.declared.table_kind.TableKind.{TableKind}
+use Rattle.acpi_base.specs.declared.table_kind.TableKind.TheVariants as kind
 use Rattle.acpi_write.proofs.FadtBodies.{length-with_facs}
 
 -- ---- entries
@@ -197,7 +199,7 @@ slit_table whole long =
     omega (arith, length-append (number_bytes 8 (field whole 36 8)) (drop 44 whole), length-number_bytes 8 (field whole 36 8), length-drop 44 whole, long)
 
 -- what the table says is written in as many bytes
-pub said_length : (o : Option Kind) (whole : List ℕ) → 36 ≤ length whole → IsReadableAs o whole → encoded_length (said_as o whole) ≡ length whole
+pub said_length : (o : Option TableKind) (whole : List ℕ) → 36 ≤ length whole → IsReadableAs o whole → encoded_length (said_as o whole) ≡ length whole
 said_length (Some kind.Fadt) whole least readable =
     let behind = length-drop 36 whole in
     omega (arith, behind, length-with_facs (drop 36 whole) 0 (omega (arith, behind, readable)), readable)
@@ -207,7 +209,13 @@ said_length (Some kind.Slit) whole least readable = slit_table whole readable.lo
 said_length (Some kind.Pptt) whole least readable = pptt_table whole least readable.filled
 said_length None whole least readable = omega (arith, least, length-drop 36 whole)
 
-pub said_short : (v : TableValue) (o : Option Kind) (whole : List ℕ) → v ≡ said_as o whole → (36 ≤ length whole) × (length whole < 2 ^ 32) → IsReadableAs o whole → encoded_length v < 2 ^ 32
+pub said_short : (v : TableValue) (o : Option TableKind) (whole : List ℕ) → v ≡ said_as o whole → (36 ≤ length whole) × (length whole < 2 ^ 32) → IsReadableAs o whole → encoded_length v < 2 ^ 32
 said_short v o whole is count readable =
     let same = ap encoded_length is ∙ said_length o whole count.0 readable in
     omega (arith, same, count.1)
+
+-- so it is of the value that was read
+pub read_short : {E : Type 0} (r : Result read.TableValue E) (o : Option TableKind) (whole : List ℕ) → IfOk r (λ v. table_value v ≡ said_as o whole) → (36 ≤ length whole) × (length whole < 2 ^ 32)
+    → IsReadableAs o whole → IfOk r IsShort
+read_short (Ok v) o whole is count readable = said_short (table_value v) o whole is count readable
+read_short (Err e) o whole is count readable = tt

@@ -13,6 +13,7 @@ use Rattle.acpi_base.specs.Madt.{madt_contents}
 use Rattle.acpi_base.specs.Srat.{srat_contents}
 use Rattle.acpi_base.specs.Slit.{slit_contents}
 use Rattle.acpi_base.specs.Pptt.{pptt_contents}
+use Rattle.acpi_base.specs.declared.table_kind.TableKind.TheVariants as kind
 use Rattle.acpi_write.specs.Encoded.{encoded_length, table_bytes}
 use Rattle.acpi_write.specs.FadtBody.{with_facs}
 use Rattle.acpi_write.specs.Placed.{is_narrow}
@@ -23,7 +24,7 @@ use Rattle.acpi_write.specs.Views.{IsWholeTable}
 use Rattle.acpi_write.proofs.FadtBodies.{length-with_facs}
 use Rattle.acpi_write.proofs.FirstTables.{first_with, IsCleanTable, AreCleanTables, new_tables, first_is, is_behind, none_more}
 use Rattle.acpi_write.proofs.RewrittenTables.{IsCleanBehind, new_of, rewritten, new_fadt, new_madt, new_srat, new_slit, new_pptt}
-use Rattle.acpi_write.proofs.SaidBehind.{AmongAlike, says_fadt}
+use Rattle.acpi_write.proofs.SaidBehind.{AmongAlike, says}
 
 -- ---- of each, behind those before it
 
@@ -222,7 +223,7 @@ narrow_behind before (u ∷ ts) t none is least short =
     elim (cases_Bool (has_signature u fadt_signature)) [
       | inl has ↦
           let same : u ≡ t = one_some u t (subst (λ b. (if b then Some u else first_with fadt_signature ts) ≡ Some t) has is) in
-          let said = says_fadt before u (is_behind before u fadt_signature none ∙ has) in
+          let said = says before u (Some kind.Fadt) (is_behind before u fadt_signature none ∙ has) in
           let size = ap length same in
           let n = length-with_facs (drop 36 u) 0 (omega (arith, length-drop 36 u, size, least)) in
           let narrow = lt-ltb (length (with_facs (drop 36 u) 0)) 104 (omega (arith, n, length-drop 36 u, size, least, short)) in

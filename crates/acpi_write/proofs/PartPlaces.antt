@@ -15,17 +15,17 @@ use Rattle.acpi_base.proofs.Layouts.RoundTrip.{length-number_bytes}
 use Rattle.acpi_base.proofs.Tables.Whole.{length-table}
 use Rattle.acpi_write.specs.Encoded.{table_bytes, body_of, encoded_length}
 use Rattle.acpi_write.specs.FadtBody.{with_facs}
-use Rattle.acpi_write.specs.Kinds.{IsReadableAs, said_as, kind_behind}
+use Rattle.acpi_write.specs.Kinds.{IsReadableAs, said_as, IsKindBehind}
 use Rattle.acpi_write.specs.Rebuilt.{aligned, laid, places, listed_option, part_lengths, part_places, part_bytes, facs_place, table_places, rsdp_bytes, encoded_with, CleanPartsAreLaid}
 use Rattle.acpi_write.specs.SetValues.{IsWholeAt, said_behind, values_behind}
 use Rattle.acpi_write.specs.Values.{TableValue, SetValue}
-use Rattle.acpi_write.specs.declared.kinds.Kind.{Kind}
-use Rattle.acpi_write.specs.declared.kinds.Kind.TheVariants as kind
+use Rattle.acpi_base.specs.declared.table_kind.TableKind.{TableKind}
+use Rattle.acpi_base.specs.declared.table_kind.TableKind.TheVariants as kind
 use Rattle.acpi_write.proofs.CleanSets.{clean_readable}
 use Rattle.acpi_write.proofs.FadtBodies.{length-with_facs}
 use Rattle.acpi_write.proofs.NewImage.{length-places}
 use Rattle.acpi_write.proofs.NewRoot.{length-slots}
-use Rattle.acpi_write.proofs.Reading.{said_by_kind}
+use Rattle.acpi_write.proofs.SaidBehind.{kind_found}
 
 -- blocks are laid at the places that are counted from their lengths
 laid_at_places : (a : ℕ) (blocks : List (List ℕ)) → map (λ p. p.address) (laid a blocks) ≡ places a (map length blocks)
@@ -52,7 +52,7 @@ unfolding table_bytes header_bytes
 length-table_bytes signature head body four widths = simp (length-append, length-number_bytes, four, widths.oemid, widths.oem_table_id) (omega arith)
 
 -- what a table says is written in as many bytes as are counted on, wherever the FACS stands
-length-encoded_with : (facs : ℕ) (o : Option Kind) (whole : List ℕ) → 36 ≤ length whole → IsReadableAs o whole → length (encoded_with facs (said_as o whole)) ≡ encoded_length (said_as o whole)
+length-encoded_with : (facs : ℕ) (o : Option TableKind) (whole : List ℕ) → 36 ≤ length whole → IsReadableAs o whole → length (encoded_with facs (said_as o whole)) ≡ encoded_length (said_as o whole)
 length-encoded_with facs (Some kind.Fadt) whole long readable =
     let body = with_facs (drop 36 whole) 0 in
     let behind = length-drop 36 whole in
@@ -67,17 +67,18 @@ length-encoded_with facs None whole long readable = omega (arith, long, length-d
 
 -- of tables behind others
 lengths_behind : (facs : ℕ) (before ts : List (List ℕ)) → All (λ t. 36 ≤ length t) ts
-    → ((k : ℕ) (none : List ℕ) → k < length ts → IsReadableAs (kind_behind (before ++ take k ts) (get_or ts k none)) (get_or ts k none))
+    → ((k : ℕ) (none : List ℕ) → k < length ts → (kind : Option TableKind) → IsKindBehind (before ++ take k ts) (get_or ts k none) kind → IsReadableAs kind (get_or ts k none))
     → map length (map (encoded_with facs) (values_behind before ts)) ≡ map encoded_length (values_behind before ts)
 unfolding values_behind
 lengths_behind facs before [] long readable = refl
 lengths_behind facs before (t ∷ ts) long readable =
     let Fits : TableValue → Type 0 = λ v. length (encoded_with facs v) ≡ encoded_length v in
     let alone : before ++ [] ≡ before = append-nil before in
-    let first : IsReadableAs (kind_behind before t) t = subst (λ (b : List (List ℕ)). IsReadableAs (kind_behind b t) t) alone (readable 0 t (omega arith)) in
-    let here : Fits (said_behind before t) = subst Fits (said_by_kind before t) (length-encoded_with facs (kind_behind before t) t (long 0 t (omega arith)) first) in
-    let rest = lengths_behind facs (before ++ t ∷ []) ts (λ k d h. long (suc k) d (omega (arith, h))) (λ k none h.
-    subst (λ (b : List (List ℕ)). IsReadableAs (kind_behind b (get_or ts k none)) (get_or ts k none)) (sym (append_assoc before (t ∷ []) (take k ts))) (readable (suc k) none (omega (arith, h)))) in
+    let found = kind_found before t in
+    let first = readable 0 t (omega arith) found.0 (subst (λ (b : List (List ℕ)). IsKindBehind b t found.0) (sym alone) found.1) in
+    let here : Fits (said_behind before t) = subst Fits (sym found.2) (length-encoded_with facs found.0 t (long 0 t (omega arith)) first) in
+    let rest = lengths_behind facs (before ++ t ∷ []) ts (λ k d h. long (suc k) d (omega (arith, h))) (λ k none h kind is.
+    readable (suc k) none (omega (arith, h)) kind (subst (λ (b : List (List ℕ)). IsKindBehind b (get_or ts k none) kind) (append_assoc before (t ∷ []) (take k ts)) is)) in
     λ i. here i ∷ rest i
 
 table_long : (m : Memory) (a : ℕ) (header whole : List ℕ) → IsTable m a header whole → 36 ≤ length whole

@@ -1,21 +1,15 @@
 -- Which tables are read as those of a kind, and what tables say, from table to table.
-use Rattle.std.proofs.Common.{◌≡◌, ℕ, suc, ◌+◌, ◌<◌, Bool, true, false, List, [], ◌∷◌, ◌++◌, length, take, get_or, Option, refl, sym, ap, ◌∙◌, inl, inr, arith, append_assoc}
-use Rattle.std.specs.Prelude.{not, ◌&&◌, ◌||◌}
-use Rattle.std.proofs.lemmas.Bool.{cases_Bool}
+use Rattle.std.proofs.Common.{◌≡◌, ℕ, suc, ◌+◌, ◌<◌, Bool, true, false, List, [], ◌∷◌, ◌++◌, length, take, get_or, Option, Some, None, refl, sym, ap, ◌∙◌, arith, append_assoc}
+use Rattle.std.specs.Prelude.{not, ◌&&◌, ◌||◌, is_none, if◌then◌else◌}
 use Rattle.std.proofs.lemmas.List.Folds.{list_any-append}
 use Rattle.std.proofs.Math.Seq.{take-suc}
 use Rattle.acpi_base.specs.Signature.{has_signature}
-use Rattle.acpi_base.specs.Listed.{fadt_signature, madt_signature, srat_signature, slit_signature, pptt_signature}
-use Rattle.acpi_write.specs.Kinds.{said_as, first_by, kind_behind, is_among, HasSeen}
-use Rattle.acpi_write.specs.SetValues.{is_first, said_behind, values_behind, values_of}
-use Rattle.acpi_write.specs.declared.kinds.Kind.{Kind}
-use Rattle.acpi_write.specs.declared.kinds.Seen.{Seen}
-
--- a table says what it says as one of its kind
-pub said_by_kind : (before : List (List ℕ)) (whole : List ℕ) → said_as (kind_behind before whole) whole ≡ said_behind before whole
-unfolding kind_behind said_behind
-said_by_kind before whole =
-    elim (cases_Bool (is_first before whole fadt_signature)) [ inl is ↦ rw is refl | inr not_fadt ↦ rw not_fadt (elim (cases_Bool (is_first before whole madt_signature)) [ inl is ↦ rw is refl | inr not_madt ↦ rw not_madt (elim (cases_Bool (is_first before whole srat_signature)) [ inl is ↦ rw is refl | inr not_srat ↦ rw not_srat (elim (cases_Bool (is_first before whole slit_signature)) [ inl is ↦ rw is refl | inr not_slit ↦ rw not_slit (elim (cases_Bool (is_first before whole pptt_signature)) [ inl is ↦ rw is refl | inr not_pptt ↦ rw not_pptt (refl) ]) ]) ]) ]) ]
+use Rattle.acpi_base.specs.TableKinds.{signature_of}
+use Rattle.acpi_base.specs.declared.table_kind.TableKind.{TableKind}
+use Rattle.acpi_read.specs.FirstTables.{first_of, first_with, IsFirstOf}
+use Rattle.acpi_read.specs.declared.first_tables.FirstTables.{FirstTables}
+use Rattle.acpi_write.specs.Kinds.{is_among, HasFirsts, IsKindBehind}
+use Rattle.acpi_write.specs.SetValues.{said_behind, values_behind, values_of}
 
 -- ---- what was seen
 
@@ -27,29 +21,27 @@ among_more tables whole signature =
     or_false true = refl
     or_false false = refl
 
-pub seen_none : (seen : Seen) (tables : List (List ℕ)) → seen ≡ record { fadt = false; madt = false; srat = false; slit = false; pptt = false } → tables ≡ [] → HasSeen tables seen
-seen_none seen tables same none =
-    rw (same, none) (record { fadt = refl; madt = refl; srat = refl; slit = refl; pptt = refl })
+pub firsts_none : (tables : List (List ℕ)) (firsts : FirstTables) → ((kind : TableKind) → first_of firsts kind ≡ None) → tables ≡ [] → HasFirsts tables firsts
+firsts_none tables firsts none empty kind = rw (none kind, empty) refl
 
-pub seen_more : (tables next : List (List ℕ)) (whole : List ℕ) (old new : Seen) → next ≡ tables ++ whole ∷ [] → HasSeen tables old
-    → new.fadt ≡ (old.fadt || has_signature whole fadt_signature) → new.madt ≡ (old.madt || has_signature whole madt_signature) → new.srat ≡ (old.srat || has_signature whole srat_signature)
-    → new.slit ≡ (old.slit || has_signature whole slit_signature) → new.pptt ≡ (old.pptt || has_signature whole pptt_signature) → HasSeen next new
-seen_more tables next whole old new is has fadt madt srat slit pptt =
-    rw is (record {
-      fadt = fadt ∙ ap (λ b. b || has_signature whole fadt_signature) has.fadt ∙ sym (among_more tables whole fadt_signature);
-      madt = madt ∙ ap (λ b. b || has_signature whole madt_signature) has.madt ∙ sym (among_more tables whole madt_signature);
-      srat = srat ∙ ap (λ b. b || has_signature whole srat_signature) has.srat ∙ sym (among_more tables whole srat_signature);
-      slit = slit ∙ ap (λ b. b || has_signature whole slit_signature) has.slit ∙ sym (among_more tables whole slit_signature);
-      pptt = pptt ∙ ap (λ b. b || has_signature whole pptt_signature) has.pptt ∙ sym (among_more tables whole pptt_signature);
-    })
+kept_or_not : (found : Option (List ℕ)) (whole : List ℕ) (has among : Bool) → is_none found ≡ not among → is_none (if has && is_none found then Some whole else found) ≡ not (among || has)
+kept_or_not (Some first) whole true true same = refl
+kept_or_not (Some first) whole false true same = refl
+kept_or_not (Some first) whole has false same = absurd cc
+kept_or_not None whole true false same = refl
+kept_or_not None whole false false same = refl
+kept_or_not None whole has true same = absurd cc
 
--- so the kind is told from it
-pub kind_seen : (tables : List (List ℕ)) (whole : List ℕ) (seen : Seen) (kind : Option Kind) → HasSeen tables seen
-    → kind ≡ first_by (has_signature whole fadt_signature && not seen.fadt) (has_signature whole madt_signature && not seen.madt) (has_signature whole srat_signature && not seen.srat) (has_signature whole slit_signature && not seen.slit) (has_signature whole pptt_signature && not seen.pptt)
-    → kind ≡ kind_behind tables whole
-unfolding kind_behind
-kind_seen tables whole seen kind has is =
-    is ∙ (λ i. first_by (has_signature whole fadt_signature && not (has.fadt i)) (has_signature whole madt_signature && not (has.madt i)) (has_signature whole srat_signature && not (has.srat i)) (has_signature whole slit_signature && not (has.slit i)) (has_signature whole pptt_signature && not (has.pptt i)))
+pub firsts_more : (tables next : List (List ℕ)) (whole : List ℕ) (old new : FirstTables) → next ≡ tables ++ whole ∷ [] → HasFirsts tables old
+    → ((kind : TableKind) → first_of new kind ≡ first_with (signature_of kind) (first_of old kind) whole) → HasFirsts next new
+firsts_more tables next whole old new is has added kind =
+    rw (is, added kind, among_more tables whole (signature_of kind))
+    (kept_or_not (first_of old kind) whole (has_signature whole (signature_of kind)) (is_among tables (signature_of kind)) (has kind))
+
+-- so the kind is that of the table behind them
+pub kind_behind : (tables : List (List ℕ)) (whole : List ℕ) (firsts : FirstTables) (kind : Option TableKind) → HasFirsts tables firsts → IsFirstOf firsts whole kind → IsKindBehind tables whole kind
+kind_behind tables whole firsts (Some kind) has (signed, none) = rw (signed, ← has kind, none) refl
+kind_behind tables whole firsts None has none = λ kind. rw (← has kind) (none kind)
 
 -- ---- what tables say
 

@@ -1,6 +1,5 @@
 -- The table that is written for what a table of a clean set says: it has the same contents, and says the same.
-use Rattle.std.proofs.Common.{◌≡◌, ℕ, ◌≤◌, true, List, length, drop, None, refl, sym, ap, ◌∙◌, subst, inl, inr, arith, length-drop}
-use Rattle.std.proofs.lemmas.Bool.{cases_Bool}
+use Rattle.std.proofs.Common.{◌≡◌, ℕ, ◌≤◌, true, List, length, drop, Option, Some, None, refl, sym, ap, ◌∙◌, subst, arith, length-drop}
 use Rattle.acpi_base.specs.Header.{head_of}
 use Rattle.acpi_base.specs.Entries.{cut_of}
 use Rattle.acpi_base.specs.Fadt.{IsSoundFadtTable}
@@ -9,8 +8,11 @@ use Rattle.acpi_base.specs.Madt.{MadtContents, madt_contents}
 use Rattle.acpi_base.specs.Srat.{SratContents, srat_contents}
 use Rattle.acpi_base.specs.Slit.{SlitContents, slit_contents}
 use Rattle.acpi_base.specs.Pptt.{PpttContents, pptt_contents}
+use Rattle.acpi_base.specs.declared.table_kind.TableKind.{TableKind}
+use Rattle.acpi_base.specs.declared.table_kind.TableKind.TheVariants as kind
 use Rattle.acpi_write.specs.Encoded.{encoded, encoded_length, table_bytes}
 use Rattle.acpi_write.specs.FadtBody.{with_facs}
+use Rattle.acpi_write.specs.Kinds.{IsKindBehind}
 use Rattle.acpi_write.specs.Laws.{KeepsContents}
 use Rattle.acpi_write.specs.Rebuilt.{encoded_with}
 use Rattle.acpi_write.specs.SetValues.{entries_in, fadt_said, madt_said, srat_said, slit_said, pptt_said, is_first, said_behind}
@@ -19,7 +21,7 @@ use Rattle.acpi_write.proofs.FadtBodies.{length-with_facs, with_facs-with_facs}
 use Rattle.acpi_write.proofs.FirstTables.{IsCleanTable}
 use Rattle.acpi_write.proofs.KeptContents.{contents_are_kept, fits_head, length_of_parts}
 use Rattle.acpi_write.proofs.Lengths as lengths
-use Rattle.acpi_write.proofs.SaidBehind.{says_fadt, says_madt, says_srat, says_slit, says_pptt, says_all, IsFirstOfNone, IsRewritten, as_first, as_it_was}
+use Rattle.acpi_write.proofs.SaidBehind.{says, kind_found, IsRewritten, as_first, as_it_was}
 use Rattle.acpi_write.proofs.Tables.{fadt_table}
 
 -- ---- what a table needs for it, behind others
@@ -56,22 +58,22 @@ abbrev pub new_of : ℕ → List (List ℕ) → List ℕ → List ℕ
 new_of facs before old = encoded_with facs (said_behind before old)
 
 pub new_madt : (facs : ℕ) (before : List (List ℕ)) (old : List ℕ) → IsCleanBehind before old → is_first before old madt_signature ≡ true → madt_contents (new_of facs before old) ≡ madt_contents old
-new_madt facs before old is first = ap (λ v. madt_contents (encoded_with facs v)) (says_madt before old first) ∙ (kept_madt before old is first).contents
+new_madt facs before old is first = ap (λ v. madt_contents (encoded_with facs v)) (says before old (Some kind.Madt) first) ∙ (kept_madt before old is first).contents
 
 pub new_srat : (facs : ℕ) (before : List (List ℕ)) (old : List ℕ) → IsCleanBehind before old → is_first before old srat_signature ≡ true → srat_contents (new_of facs before old) ≡ srat_contents old
-new_srat facs before old is first = ap (λ v. srat_contents (encoded_with facs v)) (says_srat before old first) ∙ (kept_srat before old is first).contents
+new_srat facs before old is first = ap (λ v. srat_contents (encoded_with facs v)) (says before old (Some kind.Srat) first) ∙ (kept_srat before old is first).contents
 
 pub new_slit : (facs : ℕ) (before : List (List ℕ)) (old : List ℕ) → IsCleanBehind before old → is_first before old slit_signature ≡ true → slit_contents (new_of facs before old) ≡ slit_contents old
-new_slit facs before old is first = ap (λ v. slit_contents (encoded_with facs v)) (says_slit before old first) ∙ (kept_slit before old is first).contents
+new_slit facs before old is first = ap (λ v. slit_contents (encoded_with facs v)) (says before old (Some kind.Slit) first) ∙ (kept_slit before old is first).contents
 
 pub new_pptt : (facs : ℕ) (before : List (List ℕ)) (old : List ℕ) → IsCleanBehind before old → is_first before old pptt_signature ≡ true → pptt_contents (new_of facs before old) ≡ pptt_contents old
-new_pptt facs before old is first = ap (λ v. pptt_contents (encoded_with facs v)) (says_pptt before old first) ∙ (kept_pptt before old is first).contents
+new_pptt facs before old is first = ap (λ v. pptt_contents (encoded_with facs v)) (says before old (Some kind.Pptt) first) ∙ (kept_pptt before old is first).contents
 
 pub new_fadt : (facs : ℕ) (before : List (List ℕ)) (old : List ℕ) → IsCleanBehind before old → is_first before old fadt_signature ≡ true
     → new_of facs before old ≡ table_bytes fadt_signature (head_of old) (with_facs (drop 36 old) facs)
 new_fadt facs before old is first =
     let long = (is.fadt first).long in
-    ap (encoded_with facs) (says_fadt before old first)
+    ap (encoded_with facs) (says before old (Some kind.Fadt) first)
     ∙ ap (table_bytes fadt_signature (head_of old)) (with_facs-with_facs (drop 36 old) 0 facs (omega (arith, length-drop 36 old, long)))
 
 -- ---- it says the same, by kind
@@ -96,7 +98,7 @@ rewritten_madt facs before old is first =
     let size : length new ≡ length old = ap (λ (c : MadtContents). c.size) kept.contents in
     let count = size ∙ sym (lengths.madt_table old (is.madt first).0 (is.madt first).1) in
     let same = madt_same new old kept.table.head_is kept.contents in
-    subst (λ v. IsRewritten before old (encoded_with facs v)) (sym (says_madt before old first)) (as_first madt_signature madt_said before old new refl says_madt first kept.table same count)
+    subst (λ v. IsRewritten before old (encoded_with facs v)) (sym (says before old (Some kind.Madt) first)) (as_first kind.Madt before old new first kept.table same count)
 
 rewritten_srat : (facs : ℕ) (before : List (List ℕ)) (old : List ℕ) → IsCleanBehind before old → is_first before old srat_signature ≡ true → IsRewritten before old (new_of facs before old)
 unfolding srat_contents
@@ -106,7 +108,7 @@ rewritten_srat facs before old is first =
     let size : length new ≡ length old = ap (λ (c : SratContents). c.size) kept.contents in
     let count = size ∙ sym (lengths.srat_table old (is.srat first).0 (is.srat first).1) in
     let same = srat_same new old kept.table.head_is kept.contents in
-    subst (λ v. IsRewritten before old (encoded_with facs v)) (sym (says_srat before old first)) (as_first srat_signature srat_said before old new refl says_srat first kept.table same count)
+    subst (λ v. IsRewritten before old (encoded_with facs v)) (sym (says before old (Some kind.Srat) first)) (as_first kind.Srat before old new first kept.table same count)
 
 rewritten_slit : (facs : ℕ) (before : List (List ℕ)) (old : List ℕ) → IsCleanBehind before old → is_first before old slit_signature ≡ true → IsRewritten before old (new_of facs before old)
 unfolding slit_contents
@@ -116,7 +118,7 @@ rewritten_slit facs before old is first =
     let size : length new ≡ length old = ap (λ (c : SlitContents). c.size) kept.contents in
     let count = size ∙ sym (lengths.slit_table old (is.slit first)) in
     let same = slit_same new old kept.table.head_is kept.contents in
-    subst (λ v. IsRewritten before old (encoded_with facs v)) (sym (says_slit before old first)) (as_first slit_signature slit_said before old new refl says_slit first kept.table same count)
+    subst (λ v. IsRewritten before old (encoded_with facs v)) (sym (says before old (Some kind.Slit) first)) (as_first kind.Slit before old new first kept.table same count)
 
 rewritten_pptt : (facs : ℕ) (before : List (List ℕ)) (old : List ℕ) → IsCleanBehind before old → is_first before old pptt_signature ≡ true → IsRewritten before old (new_of facs before old)
 unfolding pptt_contents
@@ -126,7 +128,7 @@ rewritten_pptt facs before old is first =
     let size : length new ≡ length old = ap (λ (c : PpttContents). c.size) kept.contents in
     let count = size ∙ sym (lengths.pptt_table old is.clean.table.least (is.pptt first)) in
     let same = pptt_same new old kept.table.head_is kept.contents in
-    subst (λ v. IsRewritten before old (encoded_with facs v)) (sym (says_pptt before old first)) (as_first pptt_signature pptt_said before old new refl says_pptt first kept.table same count)
+    subst (λ v. IsRewritten before old (encoded_with facs v)) (sym (says before old (Some kind.Pptt) first)) (as_first kind.Pptt before old new first kept.table same count)
 
 rewritten_fadt : (facs : ℕ) (before : List (List ℕ)) (old : List ℕ) → IsCleanBehind before old → is_first before old fadt_signature ≡ true → IsRewritten before old (new_of facs before old)
 rewritten_fadt facs before old is first =
@@ -143,27 +145,20 @@ rewritten_fadt facs before old is first =
     let count : length new ≡ encoded_length (fadt_said old) = omega (arith, size, n, zero) in
     let body_is : with_facs (drop 36 new) 0 ≡ with_facs body 0 = ap (λ (b : List ℕ). with_facs b 0) table.1 ∙ with_facs-with_facs body facs 0 room in
     let same : fadt_said new ≡ fadt_said old = λ i. Fadt (table.0.head_is i) (body_is i) in
-    subst (IsRewritten before old) (sym (new_fadt facs before old is first)) (as_first fadt_signature fadt_said before old new refl says_fadt first table.0 same count)
+    subst (IsRewritten before old) (sym (new_fadt facs before old is first)) (as_first kind.Fadt before old new first table.0 same count)
 
 -- ---- of each table
 
+rewritten_as : (facs : ℕ) (before : List (List ℕ)) (old : List ℕ) → IsCleanBehind before old → (kind : Option TableKind) → IsKindBehind before old kind → IsRewritten before old (new_of facs before old)
+rewritten_as facs before old is (Some kind.Fadt) first = rewritten_fadt facs before old is first
+rewritten_as facs before old is (Some kind.Madt) first = rewritten_madt facs before old is first
+rewritten_as facs before old is (Some kind.Srat) first = rewritten_srat facs before old is first
+rewritten_as facs before old is (Some kind.Slit) first = rewritten_slit facs before old is first
+rewritten_as facs before old is (Some kind.Pptt) first = rewritten_pptt facs before old is first
+rewritten_as facs before old is None none =
+    subst (λ v. IsRewritten before old (encoded_with facs v)) (sym (says before old None none)) (as_it_was before old none is.clean.table)
+
 pub rewritten : (facs : ℕ) (before : List (List ℕ)) (old : List ℕ) → IsCleanBehind before old → IsRewritten before old (new_of facs before old)
 rewritten facs before old is =
-    elim (cases_Bool (is_first before old fadt_signature)) [
-      | inl fadt ↦ rewritten_fadt facs before old is fadt
-      | inr no_fadt ↦ elim (cases_Bool (is_first before old madt_signature)) [
-        | inl madt ↦ rewritten_madt facs before old is madt
-        | inr no_madt ↦ elim (cases_Bool (is_first before old srat_signature)) [
-          | inl srat ↦ rewritten_srat facs before old is srat
-          | inr no_srat ↦ elim (cases_Bool (is_first before old slit_signature)) [
-            | inl slit ↦ rewritten_slit facs before old is slit
-            | inr no_slit ↦ elim (cases_Bool (is_first before old pptt_signature)) [
-              | inl pptt ↦ rewritten_pptt facs before old is pptt
-              | inr no_pptt ↦
-                  let none : IsFirstOfNone before old = record { fadt = no_fadt; madt = no_madt; srat = no_srat; slit = no_slit; pptt = no_pptt } in
-                  subst (λ v. IsRewritten before old (encoded_with facs v)) (sym (says_all before old none)) (as_it_was before old none is.clean.table)
-            ]
-          ]
-        ]
-      ]
-    ]
+    let found = kind_found before old in
+    rewritten_as facs before old is found.0 found.1

@@ -1,73 +1,67 @@
 -- What a table says behind others, and when another table says the same there.
-use Rattle.std.proofs.Common.{◌≡◌, ℕ, ◌+◌, true, false, List, length, take, drop, refl, sym, ap, ◌∙◌, arith, length-drop}
-use Rattle.std.specs.Prelude.{nat_eq}
+use Rattle.std.proofs.Common.{◌≡◌, ℕ, ◌+◌, true, false, List, length, take, drop, Option, Some, None, refl, sym, ap, ◌∙◌, subst, inl, inr, arith, length-drop}
 use Rattle.std.specs.Cmp.Lexicographic.{same_text}
-use Rattle.std.specs.List.{starts_with}
+use Rattle.std.proofs.lemmas.Bool.{cases_Bool, both_ways}
 use Rattle.acpi_base.specs.Header.{head_of}
 use Rattle.acpi_base.specs.Signature.{has_signature}
 use Rattle.acpi_base.specs.Listed.{fadt_signature, madt_signature, srat_signature, slit_signature, pptt_signature}
-use Rattle.acpi_base.proofs.Tables.Whole.{other_signature}
+use Rattle.acpi_base.specs.TableKinds.{signature_of}
+use Rattle.acpi_base.specs.declared.table_kind.TableKind.{TableKind}
+use Rattle.acpi_base.specs.declared.table_kind.TableKind.TheVariants as kind
+use Rattle.acpi_base.proofs.Tables.Kinds.{one_kind, length-signature_of}
 use Rattle.acpi_write.specs.Encoded.{encoded_length}
-use Rattle.acpi_write.specs.Kinds.{is_among}
-use Rattle.acpi_write.specs.SetValues.{fadt_said, madt_said, srat_said, slit_said, pptt_said, is_first, said_behind}
+use Rattle.acpi_write.specs.Kinds.{said_as, is_among, IsKindBehind}
+use Rattle.acpi_write.specs.SetValues.{is_first, said_behind}
 use Rattle.acpi_write.specs.Spells.{IsTableOf}
-use Rattle.acpi_write.specs.Values.{TableValue, Other}
 use Rattle.acpi_write.specs.Views.{IsWholeTable}
 use Rattle.acpi_write.proofs.FirstTables.{first_parts}
 
 -- ---- what a table says behind others
 
--- a table that is the first with a signature is not the first with another one
-not_first : (before : List (List ℕ)) (whole one other : List ℕ) → length one ≡ length other → starts_with nat_eq one other ≡ false → is_first before whole one ≡ true → is_first before whole other ≡ false
-not_first before whole one other same differ is =
-    let has = (first_parts (has_signature whole one) (is_among before one) is).0 in
-    rw (other_signature whole one other same differ has) refl
+-- a table is the first of one kind
+one_behind : (before : List (List ℕ)) (whole : List ℕ) (one other : Option TableKind) → IsKindBehind before whole one → IsKindBehind before whole other → one ≡ other
+one_behind before whole None None is also = refl
+one_behind before whole None (Some kind) is also = absurd (both_ways (is_first before whole (signature_of kind)) (is kind) also)
+one_behind before whole (Some kind) None is also = absurd (both_ways (is_first before whole (signature_of kind)) (also kind) is)
+one_behind before whole (Some one) (Some other) is also =
+    ap Some (one_kind whole one other
+      (first_parts (has_signature whole (signature_of one)) (is_among before (signature_of one)) is).0
+      (first_parts (has_signature whole (signature_of other)) (is_among before (signature_of other)) also).0)
 
-pub says_fadt : (before : List (List ℕ)) (whole : List ℕ) → is_first before whole fadt_signature ≡ true → said_behind before whole ≡ fadt_said whole
+-- the first of none of the five
+none_behind : (before : List (List ℕ)) (whole : List ℕ) → is_first before whole fadt_signature ≡ false → is_first before whole madt_signature ≡ false → is_first before whole srat_signature ≡ false
+    → is_first before whole slit_signature ≡ false → is_first before whole pptt_signature ≡ false → IsKindBehind before whole None
+none_behind before whole fadt madt srat slit pptt kind.Fadt = fadt
+none_behind before whole fadt madt srat slit pptt kind.Madt = madt
+none_behind before whole fadt madt srat slit pptt kind.Srat = srat
+none_behind before whole fadt madt srat slit pptt kind.Slit = slit
+none_behind before whole fadt madt srat slit pptt kind.Pptt = pptt
+
+-- every table is the first of a kind or of none, and says what it says as such
+pub kind_found : (before : List (List ℕ)) (whole : List ℕ) → (kind : Option TableKind) × IsKindBehind before whole kind × (said_behind before whole ≡ said_as kind whole)
 unfolding said_behind
-says_fadt before whole is = rw is refl
+kind_found before whole =
+    elim (cases_Bool (is_first before whole fadt_signature)) [
+      | inl is ↦ (Some kind.Fadt, is, rw is refl)
+      | inr fadt ↦ elim (cases_Bool (is_first before whole madt_signature)) [
+        | inl is ↦ (Some kind.Madt, is, rw (fadt, is) refl)
+        | inr madt ↦ elim (cases_Bool (is_first before whole srat_signature)) [
+          | inl is ↦ (Some kind.Srat, is, rw (fadt, madt, is) refl)
+          | inr srat ↦ elim (cases_Bool (is_first before whole slit_signature)) [
+            | inl is ↦ (Some kind.Slit, is, rw (fadt, madt, srat, is) refl)
+            | inr slit ↦ elim (cases_Bool (is_first before whole pptt_signature)) [
+              | inl is ↦ (Some kind.Pptt, is, rw (fadt, madt, srat, slit, is) refl)
+              | inr pptt ↦ (None, none_behind before whole fadt madt srat slit pptt, rw (fadt, madt, srat, slit, pptt) refl)
+            ]
+          ]
+        ]
+      ]
+    ]
 
-pub says_madt : (before : List (List ℕ)) (whole : List ℕ) → is_first before whole madt_signature ≡ true → said_behind before whole ≡ madt_said whole
-unfolding said_behind
-says_madt before whole is =
-    let fadt = not_first before whole madt_signature fadt_signature refl refl is in
-    rw (fadt, is) refl
-
-pub says_srat : (before : List (List ℕ)) (whole : List ℕ) → is_first before whole srat_signature ≡ true → said_behind before whole ≡ srat_said whole
-unfolding said_behind
-says_srat before whole is =
-    let fadt = not_first before whole srat_signature fadt_signature refl refl is in
-    let madt = not_first before whole srat_signature madt_signature refl refl is in
-    rw (fadt, madt, is) refl
-
-pub says_slit : (before : List (List ℕ)) (whole : List ℕ) → is_first before whole slit_signature ≡ true → said_behind before whole ≡ slit_said whole
-unfolding said_behind
-says_slit before whole is =
-    let fadt = not_first before whole slit_signature fadt_signature refl refl is in
-    let madt = not_first before whole slit_signature madt_signature refl refl is in
-    let srat = not_first before whole slit_signature srat_signature refl refl is in
-    rw (fadt, madt, srat, is) refl
-
-pub says_pptt : (before : List (List ℕ)) (whole : List ℕ) → is_first before whole pptt_signature ≡ true → said_behind before whole ≡ pptt_said whole
-unfolding said_behind
-says_pptt before whole is =
-    let fadt = not_first before whole pptt_signature fadt_signature refl refl is in
-    let madt = not_first before whole pptt_signature madt_signature refl refl is in
-    let srat = not_first before whole pptt_signature srat_signature refl refl is in
-    let slit = not_first before whole pptt_signature slit_signature refl refl is in
-    rw (fadt, madt, srat, slit, is) refl
-
--- the first of none of the five kinds
-pub record IsFirstOfNone (before : List (List ℕ)) (whole : List ℕ) : Type 0 where
-  pub fadt : is_first before whole fadt_signature ≡ false
-  pub madt : is_first before whole madt_signature ≡ false
-  pub srat : is_first before whole srat_signature ≡ false
-  pub slit : is_first before whole slit_signature ≡ false
-  pub pptt : is_first before whole pptt_signature ≡ false
-
-pub says_all : (before : List (List ℕ)) (whole : List ℕ) → IsFirstOfNone before whole → said_behind before whole ≡ Other whole
-unfolding said_behind
-says_all before whole none = rw (none.fadt, none.madt, none.srat, none.slit, none.pptt) refl
+pub says : (before : List (List ℕ)) (whole : List ℕ) (kind : Option TableKind) → IsKindBehind before whole kind → said_behind before whole ≡ said_as kind whole
+says before whole kind is =
+    let found = kind_found before whole in
+    subst (λ (k : Option TableKind). said_behind before whole ≡ said_as k whole) (one_behind before whole found.0 kind found.1 is) found.2
 
 -- ---- a table that is written anew
 
@@ -94,32 +88,28 @@ first_same : (others before : List (List ℕ)) (new old s : List ℕ) → is_amo
 first_same others before new old s among has = rw (among, has) refl
 
 -- of a kind
-pub as_first : (signature : List ℕ) (says : List ℕ → TableValue) (before : List (List ℕ)) (old new : List ℕ) → length signature ≡ 4
-    → ((b : List (List ℕ)) (t : List ℕ) → is_first b t signature ≡ true → said_behind b t ≡ says t)
-    → is_first before old signature ≡ true → IsTableOf signature (head_of old) new → says new ≡ says old → length new ≡ encoded_length (says old) → IsRewritten before old new
-as_first signature says before old new four said is table same count =
+pub as_first : (kind : TableKind) (before : List (List ℕ)) (old new : List ℕ) → is_first before old (signature_of kind) ≡ true → IsTableOf (signature_of kind) (head_of old) new
+    → said_as (Some kind) new ≡ said_as (Some kind) old → length new ≡ encoded_length (said_as (Some kind) old) → IsRewritten before old new
+as_first kind before old new is table same count =
+    let signature = signature_of kind in
+    let four = length-signature_of kind in
     let has = (first_parts (has_signature old signature) (is_among before signature) is).0 in
     let letters : take 4 new ≡ take 4 old = first_letters new signature four table.signed ∙ sym (first_letters old signature four has) in
     record {
       table = record { least = table.least; size = table.size; zero_sum = table.zero_sum };
       signature = has_same new old letters;
-      said = λ others alike. said others new (first_same others before new old signature (alike signature four) (has_same new old letters signature four) ∙ is) ∙ same ∙ sym (said before old is);
-      count = count ∙ ap encoded_length (sym (said before old is));
+      said = λ others alike.
+          says others new (Some kind) (first_same others before new old signature (alike signature four) (has_same new old letters signature four) ∙ is) ∙ same ∙ sym (says before old (Some kind) is);
+      count = count ∙ ap encoded_length (sym (says before old (Some kind) is));
     }
 
 -- any other
-pub as_it_was : (before : List (List ℕ)) (old : List ℕ) → IsFirstOfNone before old → IsWholeTable old → IsRewritten before old old
+pub as_it_was : (before : List (List ℕ)) (old : List ℕ) → IsKindBehind before old None → IsWholeTable old → IsRewritten before old old
 as_it_was before old none whole =
     record {
       table = whole;
       signature = λ s four. refl;
       said = λ others alike.
-          says_all others old (record {
-            fadt = first_same others before old old fadt_signature (alike fadt_signature refl) refl ∙ none.fadt;
-            madt = first_same others before old old madt_signature (alike madt_signature refl) refl ∙ none.madt;
-            srat = first_same others before old old srat_signature (alike srat_signature refl) refl ∙ none.srat;
-            slit = first_same others before old old slit_signature (alike slit_signature refl) refl ∙ none.slit;
-            pptt = first_same others before old old pptt_signature (alike pptt_signature refl) refl ∙ none.pptt;
-          }) ∙ sym (says_all before old none);
-      count = (let behind = length-drop 36 old in let least = whole.least in let same : length old ≡ 36 + length (drop 36 old) = omega (arith, behind, least) in same) ∙ ap encoded_length (sym (says_all before old none));
+          says others old None (λ kind. first_same others before old old (signature_of kind) (alike (signature_of kind) (length-signature_of kind)) refl ∙ none kind) ∙ sym (says before old None none);
+      count = (let behind = length-drop 36 old in let least = whole.least in let same : length old ≡ 36 + length (drop 36 old) = omega (arith, behind, least) in same) ∙ ap encoded_length (sym (says before old None none));
     }

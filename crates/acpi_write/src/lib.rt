@@ -29,7 +29,6 @@ mod encode;
 mod entry_bytes;
 mod entry_lists;
 mod fadt_body;
-mod kinds;
 pub mod laws;
 mod placing;
 mod rebuilding;

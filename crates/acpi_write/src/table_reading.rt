@@ -15,11 +15,10 @@ ghost use Rattle.acpi_write.specs.Views.{head_value, table_value, IsShaped, IsSh
 
 use crate::entry_lists::{madt_entries, pptt_entries, srat_entries};
 use crate::fadt_body::with_facs;
-use crate::kinds::{Kind, Seen};
 use crate::table_value::{Head, TableValue};
-use acpi_base::Image;
+use acpi_base::{Image, TableKind};
 use acpi_base::field::{u32_at, u64_at};
-use acpi_read::{Header, Root, Table};
+use acpi_read::{FirstTables, Header, Root, Table};
 use std::alloc::{AllocError, Global};
 
 /// What a header says beside its signature, its length and its checksum.
@@ -132,22 +131,22 @@ fn read_pptt<'a>(alloc: Global, table: &Table<'a>) -> Result<TableValue<'a>, All
 fn value_as<'a>(
     alloc: Global,
     table: &Table<'a>,
-    kind: Option<Kind>,
+    kind: Option<TableKind>,
 ) -> Result<TableValue<'a>, AllocError>
     requires readable { IsReadableAs kind table.now }
     requires zero_sum { byte_sum table.now ≡ 0 }
     ensures value { IfOk result (λ value. table_value value ≡ said_as kind table.now) }
     ensures shaped { IfOk result IsShaped }
+    ensures short { IfOk result IsShort }
 {
+    let bytes = table.bytes();
     match kind {
-        None => Ok(TableValue::Other {
-            bytes: table.bytes(),
-        }),
-        Some(Kind::Fadt) => read_fadt(alloc, table),
-        Some(Kind::Madt) => read_madt(alloc, table),
-        Some(Kind::Srat) => read_srat(alloc, table),
-        Some(Kind::Slit) => Ok(read_slit(table)),
-        Some(Kind::Pptt) => read_pptt(alloc, table),
+        None => Ok(TableValue::Other { bytes }),
+        Some(TableKind::Fadt) => read_fadt(alloc, table),
+        Some(TableKind::Madt) => read_madt(alloc, table),
+        Some(TableKind::Srat) => read_srat(alloc, table),
+        Some(TableKind::Slit) => Ok(read_slit(table)),
+        Some(TableKind::Pptt) => read_pptt(alloc, table),
     }
 }
 
@@ -162,10 +161,10 @@ pub(crate) fn table_values<'a>(
     ensures shaped { IfOk result (λ found. All IsShaped found.items) }
     ensures short { IfOk result (λ found. All IsShort found.items) }
 {
-    let mut seen = Seen::new();
+    let mut firsts = FirstTables::new();
     let mut found = Vec::new(alloc);
     for k in 0..tables.len() {
-        let kind = seen.kind_of(tables[k].bytes());
+        let kind = firsts.add(tables[k].copied());
         let value = value_as(alloc, &tables[k], kind)?;
         found.push(value)?;
     }
