@@ -1,8 +1,8 @@
-//! The tables that are shown line by line: the first listed one with each of five signatures.
+//! The tables that are shown line by line: the first listed one of each kind.
 
 ghost use Rattle.acpi_cli.specs.Shown.{ListsSound};
 
-use acpi_base::Image;
+use acpi_base::{Image, TableKind};
 use acpi_read::{Root, Table, first};
 use std::alloc::AllocError;
 use std::fmt::{self, Write};
@@ -14,11 +14,15 @@ pub struct Listed<'a> {
     pub table: Table<'a>,
 }
 
-/// The first listed table with the signature.
-pub fn first_listed<'a>(image: &'a Image, root: &Root<'_>, signature: [u8; 4]) -> Option<Listed<'a>>
+/// The first listed table of a kind.
+pub fn first_listed<'a>(
+    image: &'a Image,
+    root: &Root<'_>,
+    kind: TableKind,
+) -> Option<Listed<'a>>
     requires { ListsSound image.now root.now }
 {
-    let address = first(image, root, signature)?;
+    let address = first(image, root, *kind.signature())?;
     let table = Table::read(image, address).unwrap();
     Some(Listed { address, table })
 }

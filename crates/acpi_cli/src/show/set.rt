@@ -14,7 +14,7 @@ use crate::show::pptt::add_pptt;
 use crate::show::root::{EmptySlotLine, RootLine, RsdpLine, SlotLine};
 use crate::show::slit::add_slit;
 use crate::show::srat::add_srat;
-use acpi_base::Image;
+use acpi_base::{Image, TableKind};
 use acpi_read::{Root, Rsdp, Table};
 use std::alloc::{AllocError, Global};
 use std::fmt::Write;
@@ -65,23 +65,23 @@ fn add_slot(text: &mut String, image: &Image, root: &Root<'_>, slot: u32) -> Res
     writeln!(text, "{line}")
 }
 
-/// Adds the lines of the first listed table with each of five signatures, and of the FACS that the FADT names.
+/// Adds the lines of the first listed table of each kind, and of the FACS that the FADT names.
 fn add_tables(text: &mut String, image: &Image, root: &Root<'_>) -> Result<(), AllocError>
     requires { ListsSound image.now root.now }
 {
-    if let Some(fadt) = first_listed(image, root, *b"FACP") {
+    if let Some(fadt) = first_listed(image, root, TableKind::Fadt) {
         add_fadt(text, image, fadt)?;
     }
-    if let Some(madt) = first_listed(image, root, *b"APIC") {
+    if let Some(madt) = first_listed(image, root, TableKind::Madt) {
         add_madt(text, madt)?;
     }
-    if let Some(srat) = first_listed(image, root, *b"SRAT") {
+    if let Some(srat) = first_listed(image, root, TableKind::Srat) {
         add_srat(text, srat)?;
     }
-    if let Some(slit) = first_listed(image, root, *b"SLIT") {
+    if let Some(slit) = first_listed(image, root, TableKind::Slit) {
         add_slit(text, slit)?;
     }
-    if let Some(pptt) = first_listed(image, root, *b"PPTT") {
+    if let Some(pptt) = first_listed(image, root, TableKind::Pptt) {
         add_pptt(text, pptt)?;
     }
     Ok(())
