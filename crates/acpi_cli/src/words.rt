@@ -216,7 +216,7 @@ fn value_message(alloc: Global, options: &ArgMatches) -> Option<String> {
 
 /// An error message on a value of `--through` that is no stage.
 fn stage_message(alloc: Global, number: &str) -> Option<String> {
-    let last = Stage::Leaves.number();
+    let last = Stage::LAST.number();
     format!(in alloc; "--through '{number}': the stages are 1 to {last}").ok()
 }
 
@@ -261,7 +261,7 @@ fn last_stage(word: Option<&str>) -> Option<Stage>
     ensures { option_map stage_number result ≡ last_word (option_map (λ text. text.now) word.entry) }
 {
     let Some(text) = word else {
-        return Some(Stage::Leaves);
+        return Some(Stage::LAST);
     };
     let number = u8::try_from(decimal_number(text, 2)?).ok()?;
     Stage::new(number)
