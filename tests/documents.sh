@@ -180,10 +180,17 @@ same 'files of a crate that the documents name (<) and that are there (>)' "$par
 count 'man/acpiset-faults.7, made of docs/FAULTS.md (<) and as it is (>)' "$(awk -f man/faults.awk docs/FAULTS.md | diff - man/acpiset-faults.7 | grep '^[<>]')"
 version=$(sed -n 's/^const VERSION: &str = "\(.*\)";$/\1/p' crates/acpi_cli/src/reply.rt)
 same 'the version of the program (<) and the last one in CHANGELOG.md (>)' "$version" "$(sed -n 's/^## \([0-9.]*\).*/\1/p' CHANGELOG.md | head -n 1)"
+# page SECTION: the lines of a section of the manual page, with plain hyphens.
+page() { sed -n "/^\.SH $1\$/,/^\.SH /p" man/acpiset.1 | sed 's/\\-/-/g'; }
+# terms SECTION: the terms that a section of the manual page explains, each line behind a `.TP`.
+terms() { page "$1" | sed -n '/^\.TP$/{n;p;}'; }
 options=$(sed -n 's/.*option(alloc, "\([a-z-]*\)".*/--\1/p' crates/acpi_cli/src/command_line.rt)
-within 'options that man/acpiset.1 does not name' "$options" "$(sed 's/\\-/-/g' man/acpiset.1 | grep -o -- '--[a-z-]*[a-z]')"
-commands=$(sed -n 's/.*Command::new(alloc, "\([a-z]*\)").*/\1/p' crates/acpi_cli/src/command_line.rt)
-within 'commands that man/acpiset.1 does not name' "$commands" "$(grep -o '[a-z]*' man/acpiset.1)"
+option_names() { grep -o -- '--[a-z-]*[a-z]'; }
+within 'options that the synopsis of man/acpiset.1 does not name' "$options" "$(page SYNOPSIS | option_names)"
+within 'options that man/acpiset.1 does not explain' "$options" "$(terms OPTIONS | option_names)"
+commands=$(sed -n 's/.*Command::new(alloc, "\([a-z]*\)").*/\1/p' crates/acpi_cli/src/command_line.rt | grep -vx acpiset)
+same 'commands (<) and those in the synopsis of man/acpiset.1 (>)' "$commands" "$(page SYNOPSIS | sed -n 's/^\.B acpiset //p')"
+same 'commands (<) and those that man/acpiset.1 explains (>)' "$commands" "$(terms DESCRIPTION | sed -n 's/^\.B //p')"
 
 printf 'documents: %d passed, %d failed\n' "$passed" "$failed"
 [ "$failed" = 0 ]

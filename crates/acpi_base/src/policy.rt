@@ -54,9 +54,6 @@ pub struct Policy {
     processors: Processors,
 }
 
-/// The most inputs that an I/O APIC can have.
-const MOST_INPUTS: u16 = 256;
-
 impl Model for Policy {
     ghost use Rattle.acpi_base.specs.Policy.{PolicyValue, policy_code};
     ghost use Rattle.acpi_base.specs.contracts.policy.HotPlug.{the_row as hotplug_row};
@@ -77,6 +74,9 @@ impl Policy {
     ghost use Rattle.acpi_base.specs.Policy.{IsPolicy, inputs_of, new_policy, with_input};
     ghost use Rattle.acpi_base.specs.declared.policy.PolicyFault.TheVariants.{BadCount, Memory};
 
+    /// The most inputs that an I/O APIC can have.
+    pub const MOST_INPUTS: u16 = 256;
+
     /// A policy with no count of its own for any I/O APIC, and the settings `HotPlug::Counted` and
     /// `Processors::Enabled`. `rsdp` is an address in bytes. Takes no memory.
     ///
@@ -87,7 +87,7 @@ impl Policy {
         ensures policy { IfOk result IsPolicy }
         ensures refused { IfErr result (λ fault. fault ≡ BadCount) }
     {
-        if default_inputs == 0 || default_inputs > MOST_INPUTS {
+        if default_inputs == 0 || default_inputs > Policy::MOST_INPUTS {
             return Err(PolicyFault::BadCount);
         }
         Ok(Policy {
@@ -130,7 +130,7 @@ impl Policy {
         ensures bad { (result ≡ Err BadCount) ↔ ¬ ((1 ≤ count) × (count ≤ 256)) }
         ensures memory { result ≡ Err Memory → get self.old.inputs address ≡ None }
     {
-        if count == 0 || count > MOST_INPUTS {
+        if count == 0 || count > Policy::MOST_INPUTS {
             return Err(PolicyFault::BadCount);
         }
         if self.inputs.contains_key(&address) {

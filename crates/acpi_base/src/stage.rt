@@ -46,6 +46,9 @@ pub enum Stage {
 }
 
 impl Stage {
+    /// The last stage: a check that names none goes up to it.
+    pub const LAST: Stage = Stage::Leaves;
+
     /// The stage with this number, from 1 to 18.
     pub fn new(number: u8) -> Option<Stage>
         ensures some { IsSome result ↔ ((1 ≤ number) × (number ≤ 18)) }

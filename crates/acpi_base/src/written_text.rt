@@ -66,6 +66,7 @@ fn write_run(
 pub fn image_text(alloc: Global, image: &Image) -> Result<Vec<u8>, AllocError>
     ensures { IfOk result (λ text. IsWritten text.items image.now) }
 {
+    // Opens the invariant of `Image` to the proof, and does nothing when it runs.
     image.numbers_fit();
     let mut text = Vec::new(alloc);
     let mut from = 0;

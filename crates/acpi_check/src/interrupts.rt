@@ -36,7 +36,8 @@ pub fn served_spans(
 ) -> Result<Vec<Span>, AllocError>
     ensures { IfOk result (λ spans. AreSpansOf (Serves policy.now (madt_contents table.entry)) spans.items) }
 {
-    // A table has fewer than 2^32 bytes, so an offset fits the name of a span.
+    // Opens the invariant of `Table` to the proof, and does nothing when it runs: a table has fewer than 2^32 bytes, so
+    // an offset fits the name of a span.
     let _ = table.bytes();
     let mut spans = Vec::new(alloc);
     let Ok(entries) = Entries::madt(table) else {

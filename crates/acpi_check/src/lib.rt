@@ -1,8 +1,9 @@
 //! The check: whether the tables of an image are sound, and else the first fault.
 //!
-//! Each stage is one function. Where the earlier stages hold, it returns what it has read, for the stages
-//! behind it, or reports the first fault of its own. `check` asks all eighteen in their order, `check_to`
-//! those up to one; stages 1 to 6 allocate no memory.
+//! Each stage is one function, which is called only where the earlier stages hold, and reports the first fault of its
+//! own. The first four hand on what they have read: the RSDP, the root, the listed tables, the FADT. The others look at
+//! that, and hand on nothing. `check` asks all eighteen in their order, `check_to` those up to one. Stages 7, 10 and 13
+//! to 18 take memory; the others take none.
 //!
 //! An example, of `crates/acpi_cli/src/check.rt`, where the set at an address is checked under a policy up to a stage:
 //!

@@ -12,9 +12,12 @@ use crate::refusal::Refusal;
 use acpi_base::{Code, Witness};
 use acpi_read::{Entries, Entry, MadtEntry, Table};
 
+/// How many Sources there are: an override names one by a byte.
+const SOURCES: usize = 256;
+
 /// Looks at an entry, where `firsts` has of each Source the number of the first override before it: counts it in, or
 /// returns the fault where it is an override that gives its Source another number.
-fn pass_entry(firsts: &mut [Option<FirstValue>; 256], entry: &Entry<'_>) -> Option<Witness>
+fn pass_entry(firsts: &mut [Option<FirstValue>; SOURCES], entry: &Entry<'_>) -> Option<Witness>
     ensures { PassesOverride entry.now.offset (madt_entry entry.now.bytes.now) firsts.old firsts.new result }
 {
     let Ok(MadtEntry::Override(read)) = MadtEntry::read(entry.bytes) else {
@@ -43,7 +46,7 @@ pub fn agreeing_overrides(table: Table<'_>) -> Result<(), Refusal>
     let Ok(mut entries) = Entries::madt(table) else {
         return Ok(());
     };
-    let mut firsts = [None; 256];
+    let mut firsts = [None; SOURCES];
     while let Some(entry) = entries.next() {
         if let Some(fault) = pass_entry(&mut firsts, &entry) {
             return Err(Refusal::Fault(fault));

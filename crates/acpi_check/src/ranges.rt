@@ -52,7 +52,8 @@ fn covered_span(kind: RangeKind, entry: &Entry<'_>) -> Option<Span>
 fn covered_spans(alloc: Global, kind: RangeKind, table: Table<'_>) -> Result<Vec<Span>, AllocError>
     ensures { IfOk result (λ spans. AreSpansOf (Covers (IsOfKind kind) (srat_contents table.entry)) spans.items) }
 {
-    // A table has fewer than 2^32 bytes, so an offset fits the name of a span.
+    // Opens the invariant of `Table` to the proof, and does nothing when it runs: a table has fewer than 2^32 bytes, so
+    // an offset fits the name of a span.
     let _ = table.bytes();
     let mut spans = Vec::new(alloc);
     let Ok(entries) = Entries::srat(table) else {

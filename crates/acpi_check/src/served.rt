@@ -67,7 +67,8 @@ fn rising_spans(alloc: Global, policy: &Policy, table: Table<'_>) -> Result<Vec<
     requires { AreInterruptsApart policy.now (madt_contents table) }
     ensures { IfOk result (λ spans. AreServed policy.now (madt_contents table.entry) spans.items) }
 {
-    // A policy gives each I/O APIC an input at least, so each serves a number.
+    // Opens the invariant of `Policy` to the proof, and does nothing when it runs: a policy gives each I/O APIC an input
+    // at least, so each serves a number.
     let _ = policy.rsdp();
     let mut spans = served_spans(alloc, policy, table)?;
     spans.sort_unstable();

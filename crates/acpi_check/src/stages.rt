@@ -30,7 +30,7 @@ pub fn check(alloc: Global, image: &Image, policy: &Policy) -> Result<Verdict, A
     ensures no { IfOk result (IfNo (IsFirstFault image.now policy.now)) }
     ensures memory { OnErr result (CleanTo Stage.Madt image.now policy.now) }
 {
-    check_to(alloc, image, policy, Stage::Leaves)
+    check_to(alloc, image, policy, Stage::LAST)
 }
 
 /// The verdict on the image's tables over the stages up to `last`: `Yes` where all of them hold, else

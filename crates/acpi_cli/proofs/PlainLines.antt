@@ -11,7 +11,7 @@ use Rattle.clap.proofs.OnLiterals.{clap_on_literals}
 use Rattle.acpi_base.specs.Policy.{PolicyValue, new_policy}
 use Rattle.acpi_base.specs.declared.policy.HotPlug.{HotPlug}
 use Rattle.acpi_base.specs.declared.policy.Processors.{Processors}
-use Rattle.acpi_cli.specs.CommandLine.{are_none, asked, base_word, check, check_asked, check_line, check_words, command_line, command_of, confirm, confirm_asked, confirm_line, confirm_words, default_word, find, find_line, find_words, hotplug_word, is_taken, last_word, policy_words, processors_word, rebuild, rebuild_asked, rebuild_line, rebuild_words, rsdp_word, show, show_asked, show_line, show_words, with_inputs, with_settings}
+use Rattle.acpi_cli.specs.CommandLine.{PolicyTexts, are_none, asked, base_word, check, check_asked, check_line, check_words, command_line, command_of, confirm, confirm_asked, confirm_line, confirm_words, default_word, find, find_line, find_words, hotplug_word, is_taken, last_word, policy_words, processors_word, rebuild, rebuild_asked, rebuild_line, rebuild_words, rsdp_word, show, show_asked, show_line, show_words, with_inputs, with_settings}
 use Rattle.acpi_base.specs.declared.witness.Witness.{Witness}
 use Rattle.acpi_cli.specs.Words.{all_inputs, fault_written, hex_word}
 use Rattle.acpi_cli.proofs.FaultWords.{fault_is_plain}
@@ -142,27 +142,26 @@ processors_begin_plain None setting e = tt
 processors_begin_plain (Some text) setting e = processors_are_plain text setting e
 
 -- what a policy is made from
-record Given (inputs hotplug processors : Option Text) (words : List Text) : Type 0 where
+record Given (texts : PolicyTexts) : Type 0 where
   pub count : ℕ
   pub ranges : HotPlug
   pub who : Processors
   pub counts : List Inputs
-  pub is_count : default_word inputs ≡ Some count
-  pub is_hotplug : hotplug_word hotplug ≡ Some ranges
-  pub is_processors : processors_word processors ≡ Some who
-  pub are_counts : all_inputs words ≡ Some counts
+  pub is_count : default_word texts.default_inputs ≡ Some count
+  pub is_hotplug : hotplug_word texts.hotplug ≡ Some ranges
+  pub is_processors : processors_word texts.processors ≡ Some who
+  pub are_counts : all_inputs texts.inputs ≡ Some counts
 
 -- a policy is made from a default, two settings and counts
-policy_is_given : (inputs hotplug processors : Option Text) (words : List Text) (policy : PolicyValue)
-    → policy_words inputs hotplug processors words ≡ Some policy → Given inputs hotplug processors words
-policy_is_given inputs hotplug processors words policy e =
-    go (default_word inputs) (hotplug_word hotplug) (processors_word processors) (all_inputs words) refl refl refl refl e
+policy_is_given : (texts : PolicyTexts) (policy : PolicyValue) → policy_words texts ≡ Some policy → Given texts
+policy_is_given texts policy e =
+    go (default_word texts.default_inputs) (hotplug_word texts.hotplug) (processors_word texts.processors) (all_inputs texts.inputs) refl refl refl refl e
   where
     go : (count : Option ℕ) (ranges : Option HotPlug) (who : Option Processors) (counts : Option (List Inputs))
-        → default_word inputs ≡ count → hotplug_word hotplug ≡ ranges → processors_word processors ≡ who → all_inputs words ≡ counts
+        → default_word texts.default_inputs ≡ count → hotplug_word texts.hotplug ≡ ranges → processors_word texts.processors ≡ who → all_inputs texts.inputs ≡ counts
         → option_and_then
         (λ (h : HotPlug). option_and_then (λ (p : Processors). option_map (with_settings h p) (option_and_then (λ (count : ℕ). option_map (with_inputs (new_policy 0 count)) counts) count)) who)
-        ranges ≡ Some policy → Given inputs hotplug processors words
+        ranges ≡ Some policy → Given texts
     go count None who counts a b c d e = absurd (cc)
     go count (Some ranges) None counts a b c d e = absurd (cc)
     go None (Some ranges) (Some who) counts a b c d e = absurd (cc)
@@ -178,137 +177,138 @@ policy_is_given inputs hotplug processors words policy e =
       are_counts = d;
     }
 
+-- the options of the policy
+abbrev policy_options : PolicyTexts → List (Text × Option Text)
+policy_options texts = (codes "default-inputs", texts.default_inputs) ∷ (codes "hotplug", texts.hotplug) ∷ (codes "processors", texts.processors) ∷ []
+
 -- the options of a plain line
-abbrev plain_options : Option Text → Option Text → Option Text → Option Text → Option Text → List (Text × Option Text)
-plain_options rsdp through default_inputs hotplug processors =
-    (codes "rsdp", rsdp) ∷ (codes "through", through) ∷ (codes "default-inputs", default_inputs) ∷ (codes "hotplug", hotplug) ∷ (codes "processors", processors) ∷ []
+abbrev plain_options : Option Text → Option Text → PolicyTexts → List (Text × Option Text)
+plain_options rsdp through texts = (codes "rsdp", rsdp) ∷ (codes "through", through) ∷ policy_options texts
 
 -- what `check` is asked, from the values of its arguments
-asks : (options : List Row) (hex number inputs hotplug processors : Option Text) (words : List Text) (rsdp : Option ℕ) (policy : PolicyValue) (last : ℕ)
+asks : (options : List Row) (hex number : Option Text) (texts : PolicyTexts) (rsdp : Option ℕ) (policy : PolicyValue) (last : ℕ)
     → first_of (codes "rsdp") options ≡ hex → first_of (codes "through") options ≡ number
-    → first_of (codes "default-inputs") options ≡ inputs → first_of (codes "hotplug") options ≡ hotplug → first_of (codes "processors") options ≡ processors
-    → unwrap_or (all_of (codes "inputs") options) [] ≡ words → rsdp_word hex ≡ Some rsdp → policy_words inputs hotplug processors words ≡ Some policy → last_word number ≡ Some last
+    → first_of (codes "default-inputs") options ≡ texts.default_inputs → first_of (codes "hotplug") options ≡ texts.hotplug → first_of (codes "processors") options ≡ texts.processors
+    → unwrap_or (all_of (codes "inputs") options) [] ≡ texts.inputs → rsdp_word hex ≡ Some rsdp → policy_words texts ≡ Some policy → last_word number ≡ Some last
     → check_asked options ≡ Some (check rsdp policy last)
 unfolding check_asked
-asks options hex number inputs hotplug processors words rsdp policy last is_hex is_number is_inputs is_hotplug is_processors are_words a b c =
+asks options hex number texts rsdp policy last is_hex is_number is_inputs is_hotplug is_processors are_words a b c =
     rw (is_hex, is_number, is_inputs, is_hotplug, is_processors, are_words, a, b, c) refl
 
 -- a plain line of `check` asks for what its arguments say
-pub check_words_asked : (program : Text) (hex number inputs hotplug processors : Option Text) (words : List Text) (rsdp : Option ℕ) (policy : PolicyValue) (last : ℕ)
-    → rsdp_word hex ≡ Some rsdp → policy_words inputs hotplug processors words ≡ Some policy → last_word number ≡ Some last
-    → asked (check_words program hex number inputs hotplug processors words) ≡ Some (check rsdp policy last)
-check_words_asked program hex number inputs hotplug processors words rsdp policy last a b c =
-    let given = policy_is_given inputs hotplug processors words policy b in
-    let options = plain_options hex number inputs hotplug processors in
+pub check_words_asked : (program : Text) (hex number : Option Text) (texts : PolicyTexts) (rsdp : Option ℕ) (policy : PolicyValue) (last : ℕ)
+    → rsdp_word hex ≡ Some rsdp → policy_words texts ≡ Some policy → last_word number ≡ Some last
+    → asked (check_words program hex number texts) ≡ Some (check rsdp policy last)
+check_words_asked program hex number texts rsdp policy last a b c =
+    let given = policy_is_given texts policy b in
+    let options = plain_options hex number texts in
     let are : AreOptions checking options = (
       (rsdp_option checking, rsdp_is_plain hex rsdp a),
       (
         (through_option, through_is_plain number last c),
         (
-          (default_option checking, default_is_plain inputs given.count given.is_count),
+          (default_option checking, default_is_plain texts.default_inputs given.count given.is_count),
           (
-            (hotplug_option checking, hotplug_begins_plain hotplug given.ranges given.is_hotplug),
-            ((processors_option checking, processors_begin_plain processors given.who given.is_processors), tt),
+            (hotplug_option checking, hotplug_begins_plain texts.hotplug given.ranges given.is_hotplug),
+            ((processors_option checking, processors_begin_plain texts.processors given.who given.is_processors), tt),
           ),
         ),
       ),
     ) in
     let new : AreNew [] options = (refl, (refl, (refl, (refl, (refl, tt))))) in
     let distinct : AreDistinct options = (refl, (refl, (refl, (refl, (refl, tt))))) in
-    let found = λ (id : Text) (e : bytes_eq (codes "inputs") id ≡ false). option_is_found id options (word_rows words) distinct (no_word_row id words e) in
-    check_gives program _ (options_rows options ++ word_rows words)
-    (reads_options checking options words are new refl (all_are_plain words given.counts given.are_counts))
-    ∙ asks (options_rows options ++ word_rows words) hex number inputs hotplug processors words rsdp policy last
+    let found = λ (id : Text) (e : bytes_eq (codes "inputs") id ≡ false). option_is_found id options (word_rows texts.inputs) distinct (no_word_row id texts.inputs e) in
+    check_gives program _ (options_rows options ++ word_rows texts.inputs)
+    (reads_options checking options texts.inputs are new refl (all_are_plain texts.inputs given.counts given.are_counts))
+    ∙ asks (options_rows options ++ word_rows texts.inputs) hex number texts rsdp policy last
     (found (codes "rsdp") refl) (found (codes "through") refl) (found (codes "default-inputs") refl) (found (codes "hotplug") refl) (found (codes "processors") refl)
-    (words_are_found options words refl) a b c
+    (words_are_found options texts.inputs refl) a b c
 
 -- the options of a plain line of `confirm`
-abbrev confirm_options : Text → Option Text → Option Text → Option Text → Option Text → List (Text × Option Text)
-confirm_options witness rsdp default_inputs hotplug processors =
-    (codes "witness", Some witness) ∷ (codes "rsdp", rsdp) ∷ (codes "default-inputs", default_inputs) ∷ (codes "hotplug", hotplug) ∷ (codes "processors", processors) ∷ []
+abbrev confirm_options : Text → Option Text → PolicyTexts → List (Text × Option Text)
+confirm_options witness rsdp texts = (codes "witness", Some witness) ∷ (codes "rsdp", rsdp) ∷ policy_options texts
 
 -- what `confirm` is asked, from the values of its arguments
-asks_to_confirm : (options : List Row) (text : Text) (hex inputs hotplug processors : Option Text) (words : List Text) (w : Witness) (rsdp : Option ℕ) (policy : PolicyValue)
+asks_to_confirm : (options : List Row) (text : Text) (hex : Option Text) (texts : PolicyTexts) (w : Witness) (rsdp : Option ℕ) (policy : PolicyValue)
     → first_of (codes "witness") options ≡ Some text → first_of (codes "rsdp") options ≡ hex
-    → first_of (codes "default-inputs") options ≡ inputs → first_of (codes "hotplug") options ≡ hotplug → first_of (codes "processors") options ≡ processors
-    → unwrap_or (all_of (codes "inputs") options) [] ≡ words → fault_written text ≡ Some w → rsdp_word hex ≡ Some rsdp → policy_words inputs hotplug processors words ≡ Some policy
+    → first_of (codes "default-inputs") options ≡ texts.default_inputs → first_of (codes "hotplug") options ≡ texts.hotplug → first_of (codes "processors") options ≡ texts.processors
+    → unwrap_or (all_of (codes "inputs") options) [] ≡ texts.inputs → fault_written text ≡ Some w → rsdp_word hex ≡ Some rsdp → policy_words texts ≡ Some policy
     → confirm_asked options ≡ Some (confirm rsdp policy w)
 unfolding confirm_asked
-asks_to_confirm options text hex inputs hotplug processors words w rsdp policy is_text is_hex is_inputs is_hotplug is_processors are_words a b c =
+asks_to_confirm options text hex texts w rsdp policy is_text is_hex is_inputs is_hotplug is_processors are_words a b c =
     rw (is_text, is_hex, is_inputs, is_hotplug, is_processors, are_words, a, b, c) refl
 
 -- a plain line of `confirm` asks for what its arguments say
-pub confirm_words_asked : (program text : Text) (hex inputs hotplug processors : Option Text) (words : List Text) (w : Witness) (rsdp : Option ℕ) (policy : PolicyValue)
-    → fault_written text ≡ Some w → rsdp_word hex ≡ Some rsdp → policy_words inputs hotplug processors words ≡ Some policy
-    → asked (confirm_words program text hex inputs hotplug processors words) ≡ Some (confirm rsdp policy w)
-confirm_words_asked program text hex inputs hotplug processors words w rsdp policy a b c =
-    let given = policy_is_given inputs hotplug processors words policy c in
-    let options = confirm_options text hex inputs hotplug processors in
+pub confirm_words_asked : (program text : Text) (hex : Option Text) (texts : PolicyTexts) (w : Witness) (rsdp : Option ℕ) (policy : PolicyValue)
+    → fault_written text ≡ Some w → rsdp_word hex ≡ Some rsdp → policy_words texts ≡ Some policy
+    → asked (confirm_words program text hex texts) ≡ Some (confirm rsdp policy w)
+confirm_words_asked program text hex texts w rsdp policy a b c =
+    let given = policy_is_given texts policy c in
+    let options = confirm_options text hex texts in
     let are : AreOptions confirming options = (
       (witness_option, fault_is_plain text w a),
       (
         (rsdp_option confirming, rsdp_is_plain hex rsdp b),
         (
-          (default_option confirming, default_is_plain inputs given.count given.is_count),
+          (default_option confirming, default_is_plain texts.default_inputs given.count given.is_count),
           (
-            (hotplug_option confirming, hotplug_begins_plain hotplug given.ranges given.is_hotplug),
-            ((processors_option confirming, processors_begin_plain processors given.who given.is_processors), tt),
+            (hotplug_option confirming, hotplug_begins_plain texts.hotplug given.ranges given.is_hotplug),
+            ((processors_option confirming, processors_begin_plain texts.processors given.who given.is_processors), tt),
           ),
         ),
       ),
     ) in
     let new : AreNew [] options = (refl, (refl, (refl, (refl, (refl, tt))))) in
     let distinct : AreDistinct options = (refl, (refl, (refl, (refl, (refl, tt))))) in
-    let found = λ (id : Text) (e : bytes_eq (codes "inputs") id ≡ false). option_is_found id options (word_rows words) distinct (no_word_row id words e) in
-    confirm_gives program _ (options_rows options ++ word_rows words)
-    (reads_options confirming options words are new refl (all_are_plain words given.counts given.are_counts))
-    ∙ asks_to_confirm (options_rows options ++ word_rows words) text hex inputs hotplug processors words w rsdp policy
+    let found = λ (id : Text) (e : bytes_eq (codes "inputs") id ≡ false). option_is_found id options (word_rows texts.inputs) distinct (no_word_row id texts.inputs e) in
+    confirm_gives program _ (options_rows options ++ word_rows texts.inputs)
+    (reads_options confirming options texts.inputs are new refl (all_are_plain texts.inputs given.counts given.are_counts))
+    ∙ asks_to_confirm (options_rows options ++ word_rows texts.inputs) text hex texts w rsdp policy
     (found (codes "witness") refl) (found (codes "rsdp") refl) (found (codes "default-inputs") refl) (found (codes "hotplug") refl) (found (codes "processors") refl)
-    (words_are_found options words refl) a b c
+    (words_are_found options texts.inputs refl) a b c
 
 -- the options of a plain line of `rebuild`
-abbrev rebuild_options : Text → Option Text → Option Text → Option Text → Option Text → List (Text × Option Text)
-rebuild_options base rsdp default_inputs hotplug processors =
-    (codes "base", Some base) ∷ (codes "rsdp", rsdp) ∷ (codes "default-inputs", default_inputs) ∷ (codes "hotplug", hotplug) ∷ (codes "processors", processors) ∷ []
+abbrev rebuild_options : Text → Option Text → PolicyTexts → List (Text × Option Text)
+rebuild_options base rsdp texts = (codes "base", Some base) ∷ (codes "rsdp", rsdp) ∷ policy_options texts
 
 -- what `rebuild` is asked, from the values of its arguments
-asks_to_rebuild : (options : List Row) (text : Text) (hex inputs hotplug processors : Option Text) (words : List Text) (base : ℕ) (rsdp : Option ℕ) (policy : PolicyValue)
+asks_to_rebuild : (options : List Row) (text : Text) (hex : Option Text) (texts : PolicyTexts) (base : ℕ) (rsdp : Option ℕ) (policy : PolicyValue)
     → first_of (codes "base") options ≡ Some text → first_of (codes "rsdp") options ≡ hex
-    → first_of (codes "default-inputs") options ≡ inputs → first_of (codes "hotplug") options ≡ hotplug → first_of (codes "processors") options ≡ processors
-    → unwrap_or (all_of (codes "inputs") options) [] ≡ words → base_word (Some text) ≡ Some base → rsdp_word hex ≡ Some rsdp → policy_words inputs hotplug processors words ≡ Some policy
+    → first_of (codes "default-inputs") options ≡ texts.default_inputs → first_of (codes "hotplug") options ≡ texts.hotplug → first_of (codes "processors") options ≡ texts.processors
+    → unwrap_or (all_of (codes "inputs") options) [] ≡ texts.inputs → base_word (Some text) ≡ Some base → rsdp_word hex ≡ Some rsdp → policy_words texts ≡ Some policy
     → rebuild_asked options ≡ Some (rebuild rsdp policy base)
 unfolding rebuild_asked
-asks_to_rebuild options text hex inputs hotplug processors words base rsdp policy is_text is_hex is_inputs is_hotplug is_processors are_words a b c =
+asks_to_rebuild options text hex texts base rsdp policy is_text is_hex is_inputs is_hotplug is_processors are_words a b c =
     rw (is_text, is_hex, is_inputs, is_hotplug, is_processors, are_words, a, b, c) refl
 
 -- a plain line of `rebuild` asks for what its arguments say
-pub rebuild_words_asked : (program text : Text) (hex inputs hotplug processors : Option Text) (words : List Text) (base : ℕ) (rsdp : Option ℕ) (policy : PolicyValue)
-    → base_word (Some text) ≡ Some base → rsdp_word hex ≡ Some rsdp → policy_words inputs hotplug processors words ≡ Some policy
-    → asked (rebuild_words program text hex inputs hotplug processors words) ≡ Some (rebuild rsdp policy base)
-rebuild_words_asked program text hex inputs hotplug processors words base rsdp policy a b c =
-    let given = policy_is_given inputs hotplug processors words policy c in
-    let options = rebuild_options text hex inputs hotplug processors in
+pub rebuild_words_asked : (program text : Text) (hex : Option Text) (texts : PolicyTexts) (base : ℕ) (rsdp : Option ℕ) (policy : PolicyValue)
+    → base_word (Some text) ≡ Some base → rsdp_word hex ≡ Some rsdp → policy_words texts ≡ Some policy
+    → asked (rebuild_words program text hex texts) ≡ Some (rebuild rsdp policy base)
+rebuild_words_asked program text hex texts base rsdp policy a b c =
+    let given = policy_is_given texts policy c in
+    let options = rebuild_options text hex texts in
     let are : AreOptions rebuilding options = (
       (base_option, hex_is_plain 16 text base a),
       (
         (rsdp_option rebuilding, rsdp_is_plain hex rsdp b),
         (
-          (default_option rebuilding, default_is_plain inputs given.count given.is_count),
+          (default_option rebuilding, default_is_plain texts.default_inputs given.count given.is_count),
           (
-            (hotplug_option rebuilding, hotplug_begins_plain hotplug given.ranges given.is_hotplug),
-            ((processors_option rebuilding, processors_begin_plain processors given.who given.is_processors), tt),
+            (hotplug_option rebuilding, hotplug_begins_plain texts.hotplug given.ranges given.is_hotplug),
+            ((processors_option rebuilding, processors_begin_plain texts.processors given.who given.is_processors), tt),
           ),
         ),
       ),
     ) in
     let new : AreNew [] options = (refl, (refl, (refl, (refl, (refl, tt))))) in
     let distinct : AreDistinct options = (refl, (refl, (refl, (refl, (refl, tt))))) in
-    let found = λ (id : Text) (e : bytes_eq (codes "inputs") id ≡ false). option_is_found id options (word_rows words) distinct (no_word_row id words e) in
-    rebuild_gives program _ (options_rows options ++ word_rows words)
-    (reads_options rebuilding options words are new refl (all_are_plain words given.counts given.are_counts))
-    ∙ asks_to_rebuild (options_rows options ++ word_rows words) text hex inputs hotplug processors words base rsdp policy
+    let found = λ (id : Text) (e : bytes_eq (codes "inputs") id ≡ false). option_is_found id options (word_rows texts.inputs) distinct (no_word_row id texts.inputs e) in
+    rebuild_gives program _ (options_rows options ++ word_rows texts.inputs)
+    (reads_options rebuilding options texts.inputs are new refl (all_are_plain texts.inputs given.counts given.are_counts))
+    ∙ asks_to_rebuild (options_rows options ++ word_rows texts.inputs) text hex texts base rsdp policy
     (found (codes "base") refl) (found (codes "rsdp") refl) (found (codes "default-inputs") refl) (found (codes "hotplug") refl) (found (codes "processors") refl)
-    (words_are_found options words refl) a b c
+    (words_are_found options texts.inputs refl) a b c
 
 -- `PROGRAM show`
 show_is_asked : (program : Text) → asked (program ∷ codes "show" ∷ []) ≡ Some (show None)

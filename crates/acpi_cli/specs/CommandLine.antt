@@ -172,23 +172,31 @@ processors_word (Some text) =
 abbrev pub with_settings : HotPlug → Processors → PolicyValue → PolicyValue
 with_settings hotplug processors q = record q { hotplug = hotplug; processors = processors }
 
+-- what a command line says of the policy: the value of each option, where it is given, and the words `ADDRESS=COUNT`
+pub record PolicyTexts : Type 0 where
+  pub default_inputs : Option Text
+  pub hotplug : Option Text
+  pub processors : Option Text
+  pub inputs : List Text
+
 -- The policy of all words that say how to judge, where each of them is right: the inputs of I/O APICs, and the settings.
-abbrev pub policy_words : Option Text → Option Text → Option Text → List Text → Option PolicyValue
-policy_words default_inputs hotplug processors words =
+abbrev pub policy_words : PolicyTexts → Option PolicyValue
+policy_words texts =
     option_and_then
     (λ h. option_and_then
-    (λ p. option_map (with_settings h p) (inputs_policy default_inputs words))
-    (processors_word processors))
-    (hotplug_word hotplug)
+    (λ p. option_map (with_settings h p) (inputs_policy texts.default_inputs texts.inputs))
+    (processors_word texts.processors))
+    (hotplug_word texts.hotplug)
 
 -- the policy among the options of a command
 abbrev pub policy_asked : List Row → Option PolicyValue
 policy_asked options =
-    policy_words
-    (first_of (codes "default-inputs") options)
-    (first_of (codes "hotplug") options)
-    (first_of (codes "processors") options)
-    (unwrap_or (all_of (codes "inputs") options) [])
+    policy_words (record {
+      default_inputs = first_of (codes "default-inputs") options;
+      hotplug = first_of (codes "hotplug") options;
+      processors = first_of (codes "processors") options;
+      inputs = unwrap_or (all_of (codes "inputs") options) [];
+    })
 
 -- the options of `check`
 unfoldable pub check_asked : List Row → Option Asked
@@ -249,35 +257,33 @@ abbrev pub option_words : Text → Option Text → List Text
 option_words name None = []
 option_words name (Some value) = (codes "--" ++ name) ∷ value ∷ []
 
--- `PROGRAM check`, the options that are given, and the words `ADDRESS=COUNT`
-abbrev pub check_words : Text → Option Text → Option Text → Option Text → Option Text → Option Text → List Text → List Text
-check_words program rsdp through default_inputs hotplug processors words =
+-- the options of the policy that are given, and the words `ADDRESS=COUNT`
+abbrev pub options_of_policy : PolicyTexts → List Text
+options_of_policy texts =
+    option_words (codes "default-inputs") texts.default_inputs
+    ++ (option_words (codes "hotplug") texts.hotplug
+    ++ (option_words (codes "processors") texts.processors ++ texts.inputs))
+
+-- `PROGRAM check`, the options that are given, and what is said of the policy
+abbrev pub check_words : Text → Option Text → Option Text → PolicyTexts → List Text
+check_words program rsdp through texts =
     program ∷ codes "check"
     ∷ (option_words (codes "rsdp") rsdp
-    ++ (option_words (codes "through") through
-    ++ (option_words (codes "default-inputs") default_inputs
-    ++ (option_words (codes "hotplug") hotplug
-    ++ (option_words (codes "processors") processors ++ words)))))
+    ++ (option_words (codes "through") through ++ options_of_policy texts))
 
--- `PROGRAM confirm`, the fault's text, the options that are given, and the words `ADDRESS=COUNT`
-abbrev pub confirm_words : Text → Text → Option Text → Option Text → Option Text → Option Text → List Text → List Text
-confirm_words program fault rsdp default_inputs hotplug processors words =
+-- `PROGRAM confirm`, the fault's text, the options that are given, and what is said of the policy
+abbrev pub confirm_words : Text → Text → Option Text → PolicyTexts → List Text
+confirm_words program fault rsdp texts =
     program ∷ codes "confirm"
     ∷ (option_words (codes "witness") (Some fault)
-    ++ (option_words (codes "rsdp") rsdp
-    ++ (option_words (codes "default-inputs") default_inputs
-    ++ (option_words (codes "hotplug") hotplug
-    ++ (option_words (codes "processors") processors ++ words)))))
+    ++ (option_words (codes "rsdp") rsdp ++ options_of_policy texts))
 
--- `PROGRAM rebuild`, the base address's text, the options that are given, and the words `ADDRESS=COUNT`
-abbrev pub rebuild_words : Text → Text → Option Text → Option Text → Option Text → Option Text → List Text → List Text
-rebuild_words program base rsdp default_inputs hotplug processors words =
+-- `PROGRAM rebuild`, the base address's text, the options that are given, and what is said of the policy
+abbrev pub rebuild_words : Text → Text → Option Text → PolicyTexts → List Text
+rebuild_words program base rsdp texts =
     program ∷ codes "rebuild"
     ∷ (option_words (codes "base") (Some base)
-    ++ (option_words (codes "rsdp") rsdp
-    ++ (option_words (codes "default-inputs") default_inputs
-    ++ (option_words (codes "hotplug") hotplug
-    ++ (option_words (codes "processors") processors ++ words)))))
+    ++ (option_words (codes "rsdp") rsdp ++ options_of_policy texts))
 
 -- `PROGRAM show`, and the option that it has, where it is given
 abbrev pub show_words : Text → Option Text → List Text

@@ -5,11 +5,10 @@ use Rattle.std.specs.List.{after_first, before_first, list_all, starts_with}
 use Rattle.std.specs.Char.{is_digit}
 use Rattle.std.specs.Str.{bytes_eq}
 use Rattle.std.specs.Str.Parse.{digits_value}
-use Rattle.acpi_base.specs.Codes.{code_name}
+use Rattle.acpi_base.specs.Codes.{all_codes, code_name}
 use Rattle.acpi_base.specs.ImageText.{hex_number}
 use Rattle.acpi_base.specs.WitnessText.{witness_line}
 use Rattle.acpi_base.specs.declared.code.Code.{Code}
-use Rattle.acpi_base.specs.declared.code.Code.TheVariants as code
 use Rattle.acpi_base.specs.declared.witness.Witness.{Witness}
 use Rattle.acpi_cli.specs.declared.policy_words.Inputs.{Inputs}
 
@@ -60,23 +59,6 @@ all_inputs (word ∷ words) =
     option_and_then (λ first. option_map (λ rest. first ∷ rest) (all_inputs words)) (inputs_word word)
 
 -- ---- faults
-
--- the codes of all faults
-abbrev pub all_codes : List Code
-all_codes =
-    code.RsdpOut ∷ code.RsdpSignature ∷ code.RsdpSum ∷ code.RsdpTailOut ∷ code.RsdpLength ∷
-    code.RsdpLongOut ∷ code.RsdpExtendedSum ∷ code.NoRoot ∷ code.RootHeaderOut ∷
-    code.RootSignature ∷ code.RootLength ∷ code.RootOut ∷ code.RootRagged ∷ code.RootSum ∷
-    code.TableHeaderOut ∷ code.TableLength ∷ code.TableOut ∷ code.TableSum ∷ code.NoFadt ∷
-    code.FadtShort ∷ code.PmEventLength ∷ code.PmControlLength ∷ code.PmTimerLength ∷
-    code.GpeLength ∷ code.ResetRegister ∷ code.NoFacs ∷ code.FacsAlign ∷ code.FacsHeaderOut ∷
-    code.FacsSignature ∷ code.FacsLength ∷ code.FacsOut ∷ code.MadtShort ∷ code.MadtEntryCut ∷
-    code.MadtEntryLength ∷ code.OverrideBus ∷ code.ReservedInti ∷ code.SecondAddressOverride ∷
-    code.GsiPastEnd ∷ code.GsiClash ∷ code.OverrideClash ∷ code.SratShort ∷ code.SratEntryCut ∷
-    code.SratEntryLength ∷ code.RangePastEnd ∷ code.Overlap ∷ code.SlitShort ∷ code.SlitSize ∷
-    code.SlitDiagonal ∷ code.SlitLow ∷ code.PpttEntryCut ∷ code.PpttEntryLength ∷
-    code.DanglingParent ∷ code.DanglingResource ∷ code.DanglingCache ∷ code.ParentCycle ∷
-    code.CacheCycle ∷ code.TwoDomains ∷ code.GsiNowhere ∷ code.LeafUnknown ∷ []
 
 -- the code with this name
 unfoldable pub code_named : List ℕ → Option Code

@@ -14,11 +14,8 @@ use acpi_base::{HotPlug, Policy, Processors};
 use clap::ArgMatches;
 use std::alloc::Global;
 
-/// The number of inputs of each I/O APIC without a count of its own.
-const DEFAULT_INPUTS: u16 = 24;
-
-/// The most inputs that an I/O APIC can have.
-const MOST_INPUTS: u64 = 256;
+/// The number of inputs of each I/O APIC without a count of its own, where no option gives another.
+pub const DEFAULT_INPUTS: u16 = 24;
 
 /// What a count of inputs may be, in an error message.
 const COUNTS: &str = "an I/O APIC has 1 to 256 inputs, in 1 to 3 decimal digits";
@@ -206,7 +203,7 @@ fn count(text: &str) -> Option<u16>
     ensures { result ≡ count_word text.now }
 {
     let number = decimal_number(text, 3)?;
-    if number == 0 || number > MOST_INPUTS {
+    if number == 0 || number > u64::from(Policy::MOST_INPUTS) {
         return None;
     }
     Some(number as u16)

@@ -63,7 +63,7 @@ impl fmt::Display for Reply {
     fn fmt<W: fmt::Write>(&self, f: &mut fmt::Formatter<W>) -> fmt::Result {
         match self {
             Reply::Help => write!(f, "{ABOUT}\n{Usage}"),
-            Reply::Version => write!(f, "version {VERSION}, {} stages", Stage::Leaves.number()),
+            Reply::Version => write!(f, "version {VERSION}, {} stages", Stage::LAST.number()),
             Reply::NotUtf8 => write!(f, "an argument is not UTF-8\n{SHORT_USAGE}"),
             Reply::Refusal { message, tip } => write_refusal(f, message, tip.as_deref()),
             Reply::Usage => f.write_str(SHORT_USAGE),

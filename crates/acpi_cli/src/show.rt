@@ -16,14 +16,12 @@ ghost use Rattle.acpi_cli.specs.Engine.{device, Runs, ReportsShow};
 use crate::check::{no_rsdp, rsdp_address};
 use crate::devices::{Output, read_input, write_output};
 use crate::outcome::{Outcome, RunFault};
+use crate::policy_words::DEFAULT_INPUTS;
 use crate::show::set::set_text;
 use acpi_base::{Image, Policy, Stage, Tally, Verdict, verdict_text};
 use acpi_check::check_to;
 use std::alloc::{AllocError, Global};
 use std::io::{Read, Write};
-
-/// How many inputs an I/O APIC has: the stages up to the listed tables do not ask.
-const INPUTS: u16 = 24;
 
 /// What is shown of the image.
 fn show_output(alloc: Global, image: &Image, given: Option<u64>) -> Result<Output, AllocError>
@@ -32,7 +30,8 @@ fn show_output(alloc: Global, image: &Image, given: Option<u64>) -> Result<Outpu
     let Some(address) = rsdp_address(image, given) else {
         return no_rsdp(alloc);
     };
-    let policy = Policy::new(alloc, address, INPUTS).unwrap();
+    // How many inputs an I/O APIC has, the stages up to the listed tables do not ask.
+    let policy = Policy::new(alloc, address, DEFAULT_INPUTS).unwrap();
     let verdict = check_to(alloc, image, &policy, Stage::Tables)?;
     if let Verdict::No(_) = verdict {
         let bytes = verdict_text(alloc, &verdict)?;

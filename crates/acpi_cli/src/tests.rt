@@ -105,16 +105,16 @@ fn expect_report(
 
 /// Texts, the address that is given, the last stage, and the outcome and the line.
 const CHECKS: [(&[u8], Option<u64>, Stage, Outcome, &[u8]); 4] = [
-    (CLEAN, Some(0xe0000), Stage::Leaves, Outcome::Yes, b"yes\n"),
+    (CLEAN, Some(0xe0000), Stage::LAST, Outcome::Yes, b"yes\n"),
     (LISTS_NOTHING, None, Stage::Tables, Outcome::Yes, b"yes\n"),
     (
         LISTS_NOTHING,
         None,
-        Stage::Leaves,
+        Stage::LAST,
         Outcome::No,
         b"no 4 NoFadt 0x0 0x0 0x0\n",
     ),
-    (b"", None, Stage::Leaves, Outcome::No, b"no rsdp\n"),
+    (b"", None, Stage::LAST, Outcome::No, b"no rsdp\n"),
 ];
 
 #[test]

@@ -97,7 +97,7 @@ pub struct Usage;
 impl fmt::Display for Usage {
     fn fmt<W: fmt::Write>(&self, f: &mut fmt::Formatter<W>) -> fmt::Result {
         f.write_str(COMMANDS)?;
-        let last = Stage::Leaves.number();
+        let last = Stage::LAST.number();
         writeln!(
             f,
             "  --through N  the last stage to check, 1 to {last}, and {last} if absent:"

@@ -8,7 +8,7 @@ ghost use Rattle.acpi_base.specs.Laws.{NumbersFit};
 ghost use Rattle.acpi_base.specs.Policy.{PolicyValue};
 ghost use Rattle.acpi_base.specs.WitnessText.{witness_line};
 ghost use Rattle.acpi_base.specs.declared.witness.Witness.{Witness};
-ghost use Rattle.acpi_cli.specs.CommandLine.{Asked, DoesAsked, asked, base_word, check_asked, check_words, confirm_asked, confirm_words};
+ghost use Rattle.acpi_cli.specs.CommandLine.{Asked, DoesAsked, PolicyTexts, asked, base_word, check_asked, check_words, confirm_asked, confirm_words};
 ghost use Rattle.acpi_cli.specs.CommandLine.{find_words, last_word, policy_words, rebuild_asked, rebuild_words, rsdp_word, show_asked, show_words, witness_word};
 ghost use Rattle.acpi_cli.specs.Words.{fault_written};
 
@@ -216,7 +216,7 @@ fn value_message(alloc: Global, options: &ArgMatches) -> Option<String> {
 
 /// An error message on a value of `--through` that is no stage.
 fn stage_message(alloc: Global, number: &str) -> Option<String> {
-    let last = Stage::Leaves.number();
+    let last = Stage::LAST.number();
     format!(in alloc; "--through '{number}': the stages are 1 to {last}").ok()
 }
 
@@ -261,7 +261,7 @@ fn last_stage(word: Option<&str>) -> Option<Stage>
     ensures { option_map stage_number result ≡ last_word (option_map (λ text. text.now) word.entry) }
 {
     let Some(text) = word else {
-        return Some(Stage::Leaves);
+        return Some(Stage::LAST);
     };
     let number = u8::try_from(decimal_number(text, 2)?).ok()?;
     Stage::new(number)
@@ -277,18 +277,18 @@ pub fn fault_words_are_texts()
 /// `rebuild` to each address; and `show`, with its option and without.
 pub fn plain_lines_are_read()
     ensures find { (program : List ℕ) → asked (find_words program) ≡ Some Asked.find }
-    ensures check { (program : List ℕ) (hex number inputs hotplug processors : Option (List ℕ)) (words : List (List ℕ))
+    ensures check { (program : List ℕ) (hex number : Option (List ℕ)) (texts : PolicyTexts)
         (rsdp : Option ℕ) (policy : PolicyValue) (last : ℕ) → rsdp_word hex ≡ Some rsdp
-        → policy_words inputs hotplug processors words ≡ Some policy → last_word number ≡ Some last
-        → asked (check_words program hex number inputs hotplug processors words) ≡ Some (Asked.check rsdp policy last) }
-    ensures confirm { (program : List ℕ) (w : Witness) (hex inputs hotplug processors : Option (List ℕ)) (words : List (List ℕ))
+        → policy_words texts ≡ Some policy → last_word number ≡ Some last
+        → asked (check_words program hex number texts) ≡ Some (Asked.check rsdp policy last) }
+    ensures confirm { (program : List ℕ) (w : Witness) (hex : Option (List ℕ)) (texts : PolicyTexts)
         (rsdp : Option ℕ) (policy : PolicyValue) → NumbersFit w → rsdp_word hex ≡ Some rsdp
-        → policy_words inputs hotplug processors words ≡ Some policy
-        → asked (confirm_words program (witness_line w) hex inputs hotplug processors words) ≡ Some (Asked.confirm rsdp policy w) }
-    ensures rebuild { (program base : List ℕ) (at : ℕ) (hex inputs hotplug processors : Option (List ℕ)) (words : List (List ℕ))
+        → policy_words texts ≡ Some policy
+        → asked (confirm_words program (witness_line w) hex texts) ≡ Some (Asked.confirm rsdp policy w) }
+    ensures rebuild { (program base : List ℕ) (at : ℕ) (hex : Option (List ℕ)) (texts : PolicyTexts)
         (rsdp : Option ℕ) (policy : PolicyValue) → base_word (Some base) ≡ Some at → rsdp_word hex ≡ Some rsdp
-        → policy_words inputs hotplug processors words ≡ Some policy
-        → asked (rebuild_words program base hex inputs hotplug processors words) ≡ Some (Asked.rebuild rsdp policy at) }
+        → policy_words texts ≡ Some policy
+        → asked (rebuild_words program base hex texts) ≡ Some (Asked.rebuild rsdp policy at) }
     ensures show { (program : List ℕ) (hex : Option (List ℕ)) (rsdp : Option ℕ) → rsdp_word hex ≡ Some rsdp
         → asked (show_words program hex) ≡ Some (Asked.show rsdp) }
 {}

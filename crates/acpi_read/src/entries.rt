@@ -68,16 +68,25 @@ fn entries_from<'a>(table: Table<'a>, first: usize) -> Entries<'a>
 }
 
 impl<'a> Entries<'a> {
+    /// Where a MADT's first entry stands: behind its header, the local APICs' address and Flags (ACPI 6.5, 5.2.12).
+    pub const MADT_START: usize = 44;
+
+    /// Where an SRAT's first entry stands: behind its header and 12 reserved bytes (5.2.16).
+    pub const SRAT_START: usize = 48;
+
+    /// Where a PPTT's first entry stands: behind its header (5.2.30).
+    pub const PPTT_START: usize = 36;
+
     /// Those of a MADT, from offset 44 on. Refuses one of fewer than 44 bytes with `MadtShort`.
     pub fn madt(table: Table<'a>) -> Result<Entries<'a>, Code>
         ensures ok { IsOk result ↔ (44 ≤ length table.entry) }
         ensures entries { IfOk result (λ entries. entries ≡ entries_from_place 44 table.entry) }
         ensures fault { IfErr result (λ code. code ≡ Code.MadtShort) }
     {
-        if table.bytes().len() < 44 {
+        if table.bytes().len() < Entries::MADT_START {
             return Err(Code::MadtShort);
         }
-        Ok(entries_from(table, 44))
+        Ok(entries_from(table, Entries::MADT_START))
     }
 
     /// Those of an SRAT, from offset 48 on. Refuses one of fewer than 48 bytes with `SratShort`.
@@ -86,17 +95,17 @@ impl<'a> Entries<'a> {
         ensures entries { IfOk result (λ entries. entries ≡ entries_from_place 48 table.entry) }
         ensures fault { IfErr result (λ code. code ≡ Code.SratShort) }
     {
-        if table.bytes().len() < 48 {
+        if table.bytes().len() < Entries::SRAT_START {
             return Err(Code::SratShort);
         }
-        Ok(entries_from(table, 48))
+        Ok(entries_from(table, Entries::SRAT_START))
     }
 
     /// Those of a PPTT, from offset 36 on.
     pub fn pptt(table: Table<'a>) -> Entries<'a>
         ensures { result ≡ entries_from_place 36 table.entry }
     {
-        entries_from(table, 36)
+        entries_from(table, Entries::PPTT_START)
     }
 
     /// Where no entry is still to come, the offset of the bytes that are left, if there are any: no entry

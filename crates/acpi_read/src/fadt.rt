@@ -1,5 +1,7 @@
 //! The fixed ACPI description table.
 
+mod offsets;
+
 ghost use Rattle.std.specs.Prelude.{◌≡◌, ◌≤◌, ◌<◌, ◌+◌, ◌^◌, ◌⊎◌, ◌↔◌, ℕ, length, slice_get, Some, IsTrue, IsOk, IsNone, IfOk, IfErr, IfSome, false};
 ghost use Rattle.acpi_base.specs.Codes.{code_number, stage_of};
 ghost use Rattle.acpi_base.specs.declared.stage.Stage.{Stage};
@@ -13,8 +15,10 @@ ghost use Rattle.acpi_read.specs.Gases.{gas_value};
 ghost use Rattle.acpi_read.specs.Headers.{header_value};
 ghost use Rattle.acpi_read.specs.Places.{place_value};
 
+use crate::fadt::offsets::*;
 use crate::gas::{Gas, gas_in};
 use crate::header::Header;
+use crate::layout::Layout;
 use crate::table::Table;
 use acpi_base::field::{number_at, u8_at, u32_at, u64_at};
 use acpi_base::{Code, Witness};
@@ -76,7 +80,16 @@ const RESET_REG_SUP: u32 = 10;
 const HW_REDUCED_ACPI: u32 = 20;
 
 /// The offsets of the blocks' length bytes.
-const BLOCK_LENGTHS: [u8; 8] = [88, 88, 89, 89, 90, 91, 92, 93];
+const BLOCK_LENGTHS: [usize; 8] = [
+    PM1_EVT_LEN,
+    PM1_EVT_LEN,
+    PM1_CNT_LEN,
+    PM1_CNT_LEN,
+    PM2_CNT_LEN,
+    PM_TMR_LEN,
+    GPE0_BLK_LEN,
+    GPE1_BLK_LEN,
+];
 
 /// Where a field is.
 fn field_place(index: u8) -> Place
@@ -94,7 +107,7 @@ fn has_flag(bytes: &[u8], bit: u32) -> bool
     requires room { 116 ≤ length bytes.now }
     ensures { result ≡ has_flag bytes.now bit }
 {
-    (u32_at(bytes, 112) >> bit) % 2 == 1
+    (u32_at(bytes, FLAGS) >> bit) % 2 == 1
 }
 
 /// The address of 8 bytes at an offset, of a field that ends at `end`, where the table has that field and
@@ -136,21 +149,21 @@ fn length_fault(bytes: &[u8]) -> Option<Witness>
     ensures stage { IfSome result (λ w. stage_of w.code ≡ Stage.Fadt) }
     ensures least { IfSome result (λ w. (other : Code) (at : ℕ) → FadtTableFault bytes.now other at → (w.at < at) ⊎ ((w.at ≡ at) × (code_number w.code ≤ code_number other))) }
 {
-    if u8_at(bytes, 88) < 4 {
-        return Some(Witness::at(Code::PmEventLength, 88));
+    if u8_at(bytes, PM1_EVT_LEN) < 4 {
+        return Some(Witness::at(Code::PmEventLength, PM1_EVT_LEN as u64));
     }
-    if u8_at(bytes, 89) < 2 {
-        return Some(Witness::at(Code::PmControlLength, 89));
+    if u8_at(bytes, PM1_CNT_LEN) < 2 {
+        return Some(Witness::at(Code::PmControlLength, PM1_CNT_LEN as u64));
     }
-    let timer = u8_at(bytes, 91);
+    let timer = u8_at(bytes, PM_TMR_LEN);
     if timer != 0 && timer != 4 {
-        return Some(Witness::at(Code::PmTimerLength, 91));
+        return Some(Witness::at(Code::PmTimerLength, PM_TMR_LEN as u64));
     }
-    if u8_at(bytes, 92) % 2 != 0 {
-        return Some(Witness::at(Code::GpeLength, 92));
+    if u8_at(bytes, GPE0_BLK_LEN) % 2 != 0 {
+        return Some(Witness::at(Code::GpeLength, GPE0_BLK_LEN as u64));
     }
-    if u8_at(bytes, 93) % 2 != 0 {
-        return Some(Witness::at(Code::GpeLength, 93));
+    if u8_at(bytes, GPE1_BLK_LEN) % 2 != 0 {
+        return Some(Witness::at(Code::GpeLength, GPE1_BLK_LEN as u64));
     }
     None
 }
@@ -200,6 +213,9 @@ impl<'a> Model for Fadt<'a> {
 }
 
 impl<'a> Fadt<'a> {
+    /// How many bytes it has at least: those up to the end of Flags.
+    pub const LEAST_LENGTH: usize = 116;
+
     /// A table's bytes as a FADT's. Its signature is not checked.
     ///
     /// Refuses `FadtShort`, where it has fewer than 116 bytes.
@@ -210,7 +226,7 @@ impl<'a> Fadt<'a> {
         ensures fault { IfErr result (λ code. FadtTableFault table.entry code 0) }
         ensures least { IfErr result (λ code. (other : Code) (at : ℕ) → FadtTableFault table.entry other at → (0 < at) ⊎ ((0 ≡ at) × (code_number code ≤ code_number other))) }
     {
-        if table.bytes().len() < 116 {
+        if table.bytes().len() < Fadt::LEAST_LENGTH {
             return Err(Code::FadtShort);
         }
         Ok(Fadt { table })
@@ -240,10 +256,10 @@ impl<'a> Fadt<'a> {
             return Some(w);
         }
         if has_flag(bytes, RESET_REG_SUP)
-            && bytes.len() >= 129
-            && !is_reset_register(gas_in(bytes, 116))
+            && bytes.len() > RESET_VALUE
+            && !is_reset_register(gas_in(bytes, RESET_REG))
         {
-            return Some(Witness::at(Code::ResetRegister, 116));
+            return Some(Witness::at(Code::ResetRegister, RESET_REG as u64));
         }
         None
     }
@@ -284,14 +300,15 @@ impl<'a> Fadt<'a> {
     pub fn facs_address(&self) -> u64
         ensures { result ≡ facs_address self.now }
     {
-        address_of(self.bytes(), 140, 132, 36)
+        let bytes = self.bytes();
+        address_of(bytes, X_FIRMWARE_CTRL + 8, X_FIRMWARE_CTRL, FIRMWARE_CTRL)
     }
 
     /// The DSDT's address, from X_DSDT at 140 or DSDT at 40; 0 for none.
     pub fn dsdt_address(&self) -> u64
         ensures { result ≡ dsdt_address self.now }
     {
-        address_of(self.bytes(), 148, 140, 40)
+        address_of(self.bytes(), X_DSDT + 8, X_DSDT, DSDT)
     }
 
     /// Register block k, which is below 8: PM1a_EVT, PM1b_EVT, PM1a_CNT, PM1b_CNT, PM2_CNT, PM_TMR, GPE0
@@ -306,17 +323,17 @@ impl<'a> Fadt<'a> {
         ensures { block_said result ≡ block_value self.now k }
     {
         let bytes = self.bytes();
-        let step = 12 * k as usize;
-        if wide_address(bytes, 160 + step, 152 + step).is_some() {
-            return Block::Gas(gas_in(bytes, 148 + step));
+        let structure = X_PM1A_EVT_BLK + Gas::LEN * k as usize;
+        if wide_address(bytes, structure + Gas::LEN, structure + 4).is_some() {
+            return Block::Gas(gas_in(bytes, structure));
         }
-        let address = u32_at(bytes, 56 + 4 * k as usize);
+        let address = u32_at(bytes, PM1A_EVT_BLK + 4 * k as usize);
         if address == 0 {
             return Block::None;
         }
         Block::Port {
             address,
-            bytes: u8_at(bytes, BLOCK_LENGTHS[k as usize] as usize),
+            bytes: u8_at(bytes, BLOCK_LENGTHS[k as usize]),
         }
     }
 

@@ -75,7 +75,8 @@ pub use header::Header;
 pub use layout::{Layout, read_back};
 pub use listed::first;
 pub use madt::{
-    AddressOverride, IoApic, LocalApic, LocalNmi, MadtEntry, NmiSource, Override, X2apic, X2apicNmi,
+    AddressOverride, IoApic, LocalApic, LocalNmi, MADT_FLAGS, MADT_LOCAL_APIC_ADDRESS, MadtEntry,
+    NmiSource, Override, X2apic, X2apicNmi,
 };
 pub use pptt::{Cache24, Cache28, NodeHead, PpttEntry};
 pub use root::Root;

@@ -6,6 +6,8 @@ ghost use Rattle.acpi_base.specs.Listed.{IsFirstListed};
 ghost use Rattle.acpi_base.specs.Tables.{IsSigned};
 ghost use Rattle.acpi_read.specs.Roots.{slots_of};
 
+use crate::header::Header;
+use crate::layout::Layout;
 use crate::root::Root;
 use acpi_base::Image;
 use acpi_base::field::is_signed;
@@ -14,7 +16,7 @@ use acpi_base::field::is_signed;
 fn has_header(image: &Image, address: u64, signature: &[u8]) -> bool
     ensures { IsTrue result ↔ IsSigned image.now address signature.now }
 {
-    match image.window(address, 36) {
+    match image.window(address, Header::LEN as u64) {
         Some(header) => is_signed(header, signature),
         None => false,
     }

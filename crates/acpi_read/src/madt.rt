@@ -20,6 +20,12 @@ pub use source_override::Override;
 pub use x2apic::X2apic;
 pub use x2apic_nmi::X2apicNmi;
 
+/// The offset of Local Interrupt Controller Address in a MADT (ACPI 6.5, 5.2.12).
+pub const MADT_LOCAL_APIC_ADDRESS: usize = 36;
+
+/// The offset of Flags in a MADT.
+pub const MADT_FLAGS: usize = 40;
+
 /// What an entry of a MADT says (ACPI 6.5, 5.2.12).
 #[derive(Clone, Copy, Debug, PartialEq, Eq)]
 pub enum MadtEntry<'a> {

@@ -14,6 +14,7 @@ ghost use Rattle.acpi_read.specs.Headers.{header_value};
 ghost use Rattle.acpi_read.specs.Roots.{RootValue, slots_of, IsSoundNamedRoot};
 
 use crate::header::{Header, header_at};
+use crate::layout::Layout;
 use crate::rsdp::Rsdp;
 use acpi_base::field::{is_signed, u32_at, u64_at};
 use acpi_base::{Code, Image, sum};
@@ -63,13 +64,13 @@ fn place_of(rsdp: &Rsdp) -> Option<Place>
     if rsdp.xsdt() != 0 {
         return Some(Place {
             address: rsdp.xsdt(),
-            width: 8,
+            width: Root::XSDT_SLOT,
         });
     }
     if rsdp.rsdt() != 0 {
         return Some(Place {
             address: u64::from(rsdp.rsdt()),
-            width: 4,
+            width: Root::RSDT_SLOT,
         });
     }
     None
@@ -86,21 +87,25 @@ fn read_at(image: &Image, place: Place) -> Result<Root<'_>, Code>
     ensures least { IfErr result (λ code. (other : Code) → RootTableFault image.now place.address place.width other → code_number code ≤ code_number other) }
 {
     let Place { address, width } = place;
-    let Some(header) = image.window(address, 36) else {
+    let Some(header) = image.window(address, Header::LEN as u64) else {
         return Err(Code::RootHeaderOut);
     };
-    let signature = if width == 8 { b"XSDT" } else { b"RSDT" };
+    let signature = if width == Root::XSDT_SLOT {
+        b"XSDT"
+    } else {
+        b"RSDT"
+    };
     if !is_signed(header, signature) {
         return Err(Code::RootSignature);
     }
     let length = u32_at(header, 4);
-    if length < 36 {
+    if length < Header::LEN as u32 {
         return Err(Code::RootLength);
     }
     let Some(bytes) = image.window(address, u64::from(length)) else {
         return Err(Code::RootOut);
     };
-    if (length - 36) % width != 0 {
+    if (length - Header::LEN as u32) % width != 0 {
         return Err(Code::RootRagged);
     }
     if sum(bytes) != 0 {
@@ -114,6 +119,12 @@ fn read_at(image: &Image, place: Place) -> Result<Root<'_>, Code>
 }
 
 impl<'a> Root<'a> {
+    /// How many bytes a slot of an XSDT has (ACPI 6.5, 5.2.8).
+    pub const XSDT_SLOT: u32 = 8;
+
+    /// How many bytes a slot of an RSDT has (5.2.7).
+    pub const RSDT_SLOT: u32 = 4;
+
     /// The root that an RSDP names: the XSDT where it names one, else the RSDT. The RSDT is
     /// not read where an XSDT is named. The RSDP may come from another image: only its addresses are used.
     ///
@@ -143,7 +154,7 @@ impl<'a> Root<'a> {
         ensures slots { result ≡ slots_of self.now }
         ensures inside { (k : ℕ) → (k < result) ↔ (36 + self.now.width * (k + 1) ≤ length self.now.bytes) }
     {
-        (self.bytes.len() as u32 - 36) / self.width
+        (self.bytes.len() - Header::LEN) as u32 / self.width
     }
 
     /// The number in slot k, which lies below `slots`. Slots count from 0, and begin at offset 36. A slot
@@ -152,8 +163,8 @@ impl<'a> Root<'a> {
         requires { k < slots_of self.now }
         ensures { result ≡ field self.now.bytes (36 + self.now.width * k) self.now.width }
     {
-        let offset = (36 + self.width * k) as usize;
-        if self.width == 8 {
+        let offset = Header::LEN + (self.width * k) as usize;
+        if self.width == Root::XSDT_SLOT {
             u64_at(self.bytes, offset)
         } else {
             u64::from(u32_at(self.bytes, offset))
@@ -190,7 +201,7 @@ impl<'a> Root<'a> {
         ensures width { IsSlotWidth self.now.width }
         ensures wide { IsTrue result ↔ (self.now.width ≡ 8) }
     {
-        self.width == 8
+        self.width == Root::XSDT_SLOT
     }
 }
 

@@ -52,6 +52,12 @@ fn short_form(address: u64, head: &[u8]) -> Rsdp
 }
 
 impl Rsdp {
+    /// How many bytes the short form has, which are also the first ones of the extended form.
+    pub const SHORT_LENGTH: u64 = 20;
+
+    /// How many bytes the extended form has at least.
+    pub const EXTENDED_LENGTH: u64 = 36;
+
     /// The RSDP at an address. Any address is allowed.
     ///
     /// Refuses, in this order:
@@ -71,7 +77,7 @@ impl Rsdp {
         ensures stage { IfErr result (λ code. stage_of code ≡ Stage.Rsdp) }
         ensures least { IfErr result (λ code. (other : Code) → RsdpFault image.now address other → code_number code ≤ code_number other) }
     {
-        let Some(head) = image.window(address, 20) else {
+        let Some(head) = image.window(address, Rsdp::SHORT_LENGTH) else {
             return Err(Code::RsdpOut);
         };
         if !is_signed(head, b"RSD PTR ") {
@@ -84,11 +90,11 @@ impl Rsdp {
         if rsdp.revision < 2 {
             return Ok(rsdp);
         }
-        let Some(extended) = image.window(address, 36) else {
+        let Some(extended) = image.window(address, Rsdp::EXTENDED_LENGTH) else {
             return Err(Code::RsdpTailOut);
         };
         let length = u32_at(extended, 20);
-        if length < 36 {
+        if u64::from(length) < Rsdp::EXTENDED_LENGTH {
             return Err(Code::RsdpLength);
         }
         let Some(whole) = image.window(address, u64::from(length)) else {

@@ -26,7 +26,9 @@ pub(crate) fn table(
 ) -> Result<Vec<u8>, Fail> {
     let mut header = Header {
         signature,
-        length: u32::try_from(body.len().wrapping_add(36)).or(Err("the body is too long"))?,
+        length: u32::try_from(body.len().wrapping_add(Header::LEN)).or(Err(
+            "the body is too long",
+        ))?,
         revision,
         checksum: 0,
         oemid: *b"BOCHS ",
@@ -35,7 +37,7 @@ pub(crate) fn table(
         creator_id: u32::from_le_bytes(*b"BXPC"),
         creator_revision: 1,
     };
-    let mut front = [0; 36];
+    let mut front = [0; Header::LEN];
     header.write(&mut front);
     header.checksum = checksum(sum(&front).wrapping_add(sum(body)));
     header.write(&mut front);

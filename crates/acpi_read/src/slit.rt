@@ -40,7 +40,7 @@ fn cell_fault(bytes: &[u8], count: usize, i: usize, j: usize) -> Option<Witness>
     requires before { AreSoundTo (slit_contents bytes.now) i j }
     ensures { MatchOption result (AreSoundTo (slit_contents bytes.now) i (j + 1)) (IsFirstSlitFault (slit_contents bytes.now)) }
 {
-    let at = 44 + count * i + j;
+    let at = Slit::CELLS + count * i + j;
     let distance = bytes[at];
     if i == j && distance != 10 {
         return Some(Witness::at(Code::SlitDiagonal, at as u64));
@@ -68,6 +68,12 @@ fn cells_fault(bytes: &[u8], count: usize) -> Option<Witness>
 }
 
 impl<'a> Slit<'a> {
+    /// The offset of N, Number of System Localities.
+    pub const COUNT: usize = 36;
+
+    /// The offset of the first cell; the cells of a row stand one after another, and so do the rows.
+    pub const CELLS: usize = 44;
+
     /// A table's bytes as a SLIT's. Its signature is not checked. Refuses the first fault by its offset, which
     /// is reported as `at`; the other two numbers are 0:
     /// `SlitShort` at 0, where it has fewer than 44 bytes;
@@ -81,12 +87,12 @@ impl<'a> Slit<'a> {
         ensures fault { IfErr result (IsFirstSlitFault (slit_contents table.entry)) }
     {
         let bytes = table.bytes();
-        if bytes.len() < 44 {
+        if bytes.len() < Slit::CELLS {
             return Err(Witness::at(Code::SlitShort, 0));
         }
-        let count = u64_at(bytes, 36);
-        if 44 + u128::from(count) * u128::from(count) != bytes.len() as u128 {
-            return Err(Witness::at(Code::SlitSize, 36));
+        let count = u64_at(bytes, Slit::COUNT);
+        if Slit::CELLS as u128 + u128::from(count) * u128::from(count) != bytes.len() as u128 {
+            return Err(Witness::at(Code::SlitSize, Slit::COUNT as u64));
         }
         if let Some(fault) = cells_fault(bytes, count as usize) {
             return Err(fault);
@@ -113,7 +119,7 @@ impl<'a> Slit<'a> {
         ensures { result ≡ distance self.now i j }
     {
         let count = self.count() as usize;
-        self.bytes[44 + count * i as usize + j as usize]
+        self.bytes[Slit::CELLS + count * i as usize + j as usize]
     }
 }
 

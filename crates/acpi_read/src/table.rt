@@ -9,6 +9,7 @@ ghost use Rattle.acpi_base.specs.declared.code.Code.{Code};
 ghost use Rattle.acpi_read.specs.Headers.{header_value};
 
 use crate::header::{Header, header_at};
+use crate::layout::Layout;
 use acpi_base::field::u32_at;
 use acpi_base::{Code, Image};
 use std::marker::Model;
@@ -49,11 +50,11 @@ impl<'a> Table<'a> {
         ensures stage { IfErr result (λ code. stage_of code ≡ Stage.Tables) }
         ensures least { IfErr result (λ code. (other : Code) → TableFault image.now address other → code_number code ≤ code_number other) }
     {
-        let Some(header) = image.window(address, 36) else {
+        let Some(header) = image.window(address, Header::LEN as u64) else {
             return Err(Code::TableHeaderOut);
         };
         let length = u32_at(header, 4);
-        if length < 36 {
+        if length < Header::LEN as u32 {
             return Err(Code::TableLength);
         }
         let Some(bytes) = image.window(address, u64::from(length)) else {

@@ -21,7 +21,7 @@ use crate::entry_bytes::{append_all, sizes};
 use crate::table_value::{Head, TableValue};
 use acpi_base::field::u32_at;
 use acpi_base::sum;
-use acpi_read::{Header, Layout, MadtEntry, PpttEntry, SratEntry};
+use acpi_read::{Entries, Fadt, Header, Layout, MadtEntry, PpttEntry, Slit, SratEntry};
 use std::alloc::{AllocError, Global};
 use thiserror::Error;
 
@@ -53,7 +53,7 @@ impl From<AllocError> for WriteFault {
 fn is_whole_table(bytes: &[u8]) -> bool
     ensures { IsTrue result ↔ IsWholeTable bytes.now }
 {
-    bytes.len() >= 36 && u32_at(bytes, 4) as usize == bytes.len() && sum(bytes) == 0
+    bytes.len() >= Header::LEN && u32_at(bytes, 4) as usize == bytes.len() && sum(bytes) == 0
 }
 
 /// How many bytes the table has. None where there are none for the value.
@@ -62,20 +62,20 @@ pub(crate) fn size_of(table: &TableValue<'_>) -> Option<u128>
     ensures { MatchOption result (¬ IsShaped table.now) (λ size. IsShaped table.now × (size ≡ encoded_length (table_value table.now))) }
 {
     match table {
-        TableValue::Madt { entries, .. } => Some(44 + sizes(entries)?),
-        TableValue::Srat { entries, .. } => Some(48 + sizes(entries)?),
+        TableValue::Madt { entries, .. } => Some(Entries::MADT_START as u128 + sizes(entries)?),
+        TableValue::Srat { entries, .. } => Some(Entries::SRAT_START as u128 + sizes(entries)?),
         TableValue::Slit { count, cells, .. } => {
             if u128::from(*count) * u128::from(*count) != cells.len() as u128 {
                 return None;
             }
-            Some(44 + cells.len() as u128)
+            Some(Slit::CELLS as u128 + cells.len() as u128)
         }
-        TableValue::Pptt { entries, .. } => Some(36 + sizes(entries)?),
+        TableValue::Pptt { entries, .. } => Some(Entries::PPTT_START as u128 + sizes(entries)?),
         TableValue::Fadt { body, .. } => {
-            if body.len() < 80 {
+            if body.len() < Fadt::LEAST_LENGTH - Header::LEN {
                 return None;
             }
-            Some(36 + body.len() as u128)
+            Some(Header::LEN as u128 + body.len() as u128)
         }
         TableValue::Other { bytes } => {
             if !is_whole_table(bytes) {
@@ -159,7 +159,7 @@ pub(crate) fn with_header(
     let oem_table_id = head.oem_table_id;
     let mut header = Header {
         signature,
-        length: 36 + body.len() as u32,
+        length: (Header::LEN + body.len()) as u32,
         revision: head.revision,
         checksum: 0,
         oemid,
@@ -168,7 +168,7 @@ pub(crate) fn with_header(
         creator_id: head.creator_id,
         creator_revision: head.creator_revision,
     };
-    let mut front = [0; 36];
+    let mut front = [0; Header::LEN];
     header.write(&mut front);
     header.checksum = 0u8.wrapping_sub(sum(&front).wrapping_add(sum(body)));
     header.write(&mut front);

@@ -14,7 +14,11 @@ ghost use Rattle.acpi_write.specs.EntryBytes.{madt_bytes, srat_bytes, pptt_bytes
 ghost use Rattle.acpi_write.specs.Spells.{SaysEntry};
 ghost use Rattle.acpi_write.specs.Views.{IsShapedMadt, IsShapedSrat, IsShapedPptt};
 
-use acpi_read::{Layout, MadtEntry, NodeHead, PpttEntry, SratEntry};
+use acpi_read::{
+    AddressOverride, ApicDomain, Cache24, Cache28, IoApic, Layout, LocalApic, LocalNmi, MadtEntry,
+    MemoryRange, NmiSource, NodeHead, Override, PpttEntry, SratEntry, X2apic, X2apicDomain,
+    X2apicNmi,
+};
 use std::alloc::AllocError;
 
 /// The most bytes that a structure of a fixed layout has.
@@ -51,7 +55,7 @@ fn node_size(head: &NodeHead, references: &[u8]) -> Option<usize>
     if references.len() as u64 != 4 * u64::from(head.count) {
         return None;
     }
-    Some(20 + references.len())
+    Some(NodeHead::LEN + references.len())
 }
 
 /// Adds the bytes of a node.
@@ -97,14 +101,14 @@ impl<'a> EntryBytes for MadtEntry<'a> {
     #[tactic(auto, using(crate::proofs::MadtBytes::madt_sizes))]
     fn size(&self) -> Option<usize> {
         match self {
-            MadtEntry::LocalApic(_) => Some(8),
-            MadtEntry::IoApic(_) => Some(12),
-            MadtEntry::Override(_) => Some(10),
-            MadtEntry::NmiSource(_) => Some(8),
-            MadtEntry::LocalNmi(_) => Some(6),
-            MadtEntry::AddressOverride(_) => Some(12),
-            MadtEntry::X2apic(_) => Some(16),
-            MadtEntry::X2apicNmi(_) => Some(12),
+            MadtEntry::LocalApic(_) => Some(LocalApic::LEN),
+            MadtEntry::IoApic(_) => Some(IoApic::LEN),
+            MadtEntry::Override(_) => Some(Override::LEN),
+            MadtEntry::NmiSource(_) => Some(NmiSource::LEN),
+            MadtEntry::LocalNmi(_) => Some(LocalNmi::LEN),
+            MadtEntry::AddressOverride(_) => Some(AddressOverride::LEN),
+            MadtEntry::X2apic(_) => Some(X2apic::LEN),
+            MadtEntry::X2apicNmi(_) => Some(X2apicNmi::LEN),
             MadtEntry::Opaque(bytes) => {
                 let size = kept_size(bytes)?;
                 if matches!(bytes[0], 0..=5 | 9 | 10) {
@@ -141,9 +145,9 @@ impl<'a> EntryBytes for SratEntry<'a> {
     #[tactic(auto, using(crate::proofs::SratBytes::srat_sizes))]
     fn size(&self) -> Option<usize> {
         match self {
-            SratEntry::ApicDomain(_) => Some(16),
-            SratEntry::MemoryRange(_) => Some(40),
-            SratEntry::X2apicDomain(_) => Some(24),
+            SratEntry::ApicDomain(_) => Some(ApicDomain::LEN),
+            SratEntry::MemoryRange(_) => Some(MemoryRange::LEN),
+            SratEntry::X2apicDomain(_) => Some(X2apicDomain::LEN),
             SratEntry::Opaque(bytes) => {
                 let size = kept_size(bytes)?;
                 if bytes[0] <= 2 {
@@ -176,8 +180,8 @@ impl<'a> EntryBytes for PpttEntry<'a> {
     fn size(&self) -> Option<usize> {
         match self {
             PpttEntry::Node(head, references) => node_size(head, references),
-            PpttEntry::Cache24(_) => Some(24),
-            PpttEntry::Cache28(_) => Some(28),
+            PpttEntry::Cache24(_) => Some(Cache24::LEN),
+            PpttEntry::Cache28(_) => Some(Cache28::LEN),
             PpttEntry::Opaque(bytes) => {
                 let size = kept_size(bytes)?;
                 if bytes[0] <= 1 {

@@ -1,6 +1,6 @@
 //! Where the parts of a rebuilt set stand.
 
-ghost use Rattle.std.specs.Prelude.{◌≡◌, ◌++◌, ◌<◌, ◌^◌, ◌%◌, ◌⊎◌, length, map, IfOk, IfErr, OnOk};
+ghost use Rattle.std.specs.Prelude.{◌≡◌, ◌+◌, ◌*◌, ◌++◌, ◌<◌, ◌^◌, ◌%◌, ◌⊎◌, length, map, IfOk, IfErr, OnOk};
 ghost use Rattle.std.specs.List.{All, list_any};
 ghost use Rattle.acpi_write.specs.Encoded.{encoded_length};
 ghost use Rattle.acpi_write.specs.Placed.{ends, DoEndInside, IsPlaced, IsPlacingRefusal, is_narrow};
@@ -9,9 +9,11 @@ ghost use Rattle.acpi_write.specs.Views.{set_value, table_value, IsShaped, IsSho
 ghost use Rattle.acpi_write.specs.declared.placing.RebuildFault.{RebuildFault};
 
 use crate::encode::size_of;
+use crate::fadt_body::X_FIRMWARE_CTRL_END;
 use crate::set_value::{SetValue, ValuesFault};
 use crate::table_value::TableValue;
 use acpi_base::Witness;
+use acpi_read::{Header, Layout, Root, Rsdp};
 use std::alloc::{AllocError, Global};
 use thiserror::Error;
 
@@ -108,6 +110,13 @@ fn places_of(alloc: Global, base: u64, lengths: &[u64]) -> Result<Vec<u64>, Rebu
     Ok(found)
 }
 
+/// How many bytes an XSDT has that lists so many tables (ACPI 6.5, 5.2.8).
+fn xsdt_length(tables: usize) -> u128
+    ensures { result ≡ 36 + 8 * tables }
+{
+    Header::LEN as u128 + u128::from(Root::XSDT_SLOT) * tables as u128
+}
+
 /// How many bytes each part of a set has: the RSDP, the XSDT, the FACS if there is one, the tables in their order.
 fn lengths_of(alloc: Global, value: &SetValue<'_>) -> Result<Vec<u64>, AllocError>
     requires shaped { All IsShaped value.now.tables.items }
@@ -116,8 +125,8 @@ fn lengths_of(alloc: Global, value: &SetValue<'_>) -> Result<Vec<u64>, AllocErro
     ensures { IfOk result (λ lengths. lengths.items ≡ part_lengths (set_value value.now)) }
 {
     let mut lengths = Vec::new(alloc);
-    lengths.push(36)?;
-    lengths.push(36 + 8 * value.tables.len() as u64)?;
+    lengths.push(Rsdp::EXTENDED_LENGTH)?;
+    lengths.push(xsdt_length(value.tables.len()) as u64)?;
     if let Some(facs) = value.facs {
         lengths.push(facs.len() as u64)?;
     }
@@ -130,7 +139,7 @@ fn is_narrow(table: &TableValue<'_>) -> bool
     ensures { result ≡ is_narrow (table_value table.now) }
 {
     match table {
-        TableValue::Fadt { body, .. } => body.len() < 104,
+        TableValue::Fadt { body, .. } => body.len() < X_FIRMWARE_CTRL_END,
         _ => false,
     }
 }
@@ -165,7 +174,7 @@ pub(crate) fn placed(
     ensures placed { IfOk result (λ _. IsPlaced (set_value value.now) base) }
     ensures refused { IfErr result (λ fault. (fault ≡ RebuildFault.Memory) ⊎ IsPlacingRefusal (set_value value.now) base fault) }
 {
-    if 36 + 8 * (value.tables.len() as u128) > u128::from(u32::MAX) {
+    if xsdt_length(value.tables.len()) > u128::from(u32::MAX) {
         return Err(RebuildFault::TableTooLong);
     }
     let lengths = lengths_of(alloc, value)?;

@@ -5,6 +5,7 @@ ghost use Rattle.acpi_write.specs.Encoded.{closing};
 ghost use Rattle.acpi_write.specs.Rebuilt.{rsdp_head, rsdp_tail, rsdp_bytes};
 
 use acpi_base::sum;
+use acpi_read::Rsdp;
 use std::alloc::{AllocError, Global};
 
 /// The byte that makes the sum 0 of bytes that hold 0 in its place.
@@ -32,7 +33,7 @@ fn with_tail(alloc: Global, head: &[u8], xsdt: u64, checksum: u8) -> Result<Vec<
     ensures { IfOk result (λ bytes. bytes.items ≡ head.now ++ rsdp_tail xsdt checksum) }
 {
     let mut bytes = Vec::from_slice(alloc, head)?;
-    bytes.extend_from_slice(&36u32.to_le_bytes())?;
+    bytes.extend_from_slice(&(Rsdp::EXTENDED_LENGTH as u32).to_le_bytes())?;
     bytes.extend_from_slice(&xsdt.to_le_bytes())?;
     bytes.extend_from_slice(&[checksum, 0, 0, 0])?;
     Ok(bytes)

@@ -18,7 +18,9 @@ use crate::fadt_body::with_facs;
 use crate::table_value::{Head, TableValue};
 use acpi_base::{Image, TableKind};
 use acpi_base::field::{u32_at, u64_at};
-use acpi_read::{FirstTables, Header, Root, Table};
+use acpi_read::{
+    FirstTables, Header, Layout, MADT_FLAGS, MADT_LOCAL_APIC_ADDRESS, Root, Slit, Table,
+};
 use std::alloc::{AllocError, Global};
 
 /// What a header says beside its signature, its length and its checksum.
@@ -69,7 +71,7 @@ fn read_fadt<'a>(alloc: Global, table: &Table<'a>) -> Result<TableValue<'a>, All
 {
     let head = head_in(table.header());
     let bytes = table.bytes();
-    let body = with_facs(alloc, &bytes[36..], 0)?;
+    let body = with_facs(alloc, &bytes[Header::LEN..], 0)?;
     Ok(TableValue::Fadt { head, body })
 }
 
@@ -81,8 +83,8 @@ fn read_madt<'a>(alloc: Global, table: &Table<'a>) -> Result<TableValue<'a>, All
 {
     let head = head_in(table.header());
     let bytes = table.bytes();
-    let address = u32_at(bytes, 36);
-    let flags = u32_at(bytes, 40);
+    let address = u32_at(bytes, MADT_LOCAL_APIC_ADDRESS);
+    let flags = u32_at(bytes, MADT_FLAGS);
     let entries = madt_entries(alloc, table.copied())?;
     Ok(TableValue::Madt {
         head,
@@ -111,8 +113,8 @@ fn read_slit<'a>(table: &Table<'a>) -> TableValue<'a>
 {
     let head = head_in(table.header());
     let bytes = table.bytes();
-    let count = u64_at(bytes, 36);
-    let cells = &bytes[44..];
+    let count = u64_at(bytes, Slit::COUNT);
+    let cells = &bytes[Slit::CELLS..];
     TableValue::Slit { head, count, cells }
 }
 

@@ -4,7 +4,7 @@ use Rattle.std.specs.Prelude.{◌⊎◌}
 use Rattle.std.specs.List.{slice_get}
 use Rattle.std.proofs.lemmas.Bool.{cases_eq}
 use Rattle.std.proofs.lemmas.Option.{same_Some}
-use Rattle.acpi_base.specs.Codes.{code_number, stage_number}
+use Rattle.acpi_base.specs.Codes.{all_codes, code_number, stage_number}
 use Rattle.acpi_base.specs.declared.code.Code.{Code}
 use Rattle.acpi_base.specs.declared.code.Code.TheVariants as code
 use Rattle.acpi_base.specs.declared.stage.Stage.{Stage}
@@ -13,21 +13,7 @@ use Rattle.acpi_base.proofs.HeldBytes.{cases_Option, none_and_some}
 
 -- the codes by their numbers; the first also stands at 0, which is no code's number
 abbrev pub codes_by_number : List Code
-codes_by_number =
-    code.RsdpOut ∷
-    code.RsdpOut ∷ code.RsdpSignature ∷ code.RsdpSum ∷ code.RsdpTailOut ∷ code.RsdpLength ∷
-    code.RsdpLongOut ∷ code.RsdpExtendedSum ∷ code.NoRoot ∷ code.RootHeaderOut ∷
-    code.RootSignature ∷ code.RootLength ∷ code.RootOut ∷ code.RootRagged ∷ code.RootSum ∷
-    code.TableHeaderOut ∷ code.TableLength ∷ code.TableOut ∷ code.TableSum ∷ code.NoFadt ∷
-    code.FadtShort ∷ code.PmEventLength ∷ code.PmControlLength ∷ code.PmTimerLength ∷
-    code.GpeLength ∷ code.ResetRegister ∷ code.NoFacs ∷ code.FacsAlign ∷ code.FacsHeaderOut ∷
-    code.FacsSignature ∷ code.FacsLength ∷ code.FacsOut ∷ code.MadtShort ∷ code.MadtEntryCut ∷
-    code.MadtEntryLength ∷ code.OverrideBus ∷ code.ReservedInti ∷ code.SecondAddressOverride ∷
-    code.GsiPastEnd ∷ code.GsiClash ∷ code.OverrideClash ∷ code.SratShort ∷ code.SratEntryCut ∷
-    code.SratEntryLength ∷ code.RangePastEnd ∷ code.Overlap ∷ code.SlitShort ∷ code.SlitSize ∷
-    code.SlitDiagonal ∷ code.SlitLow ∷ code.PpttEntryCut ∷ code.PpttEntryLength ∷
-    code.DanglingParent ∷ code.DanglingResource ∷ code.DanglingCache ∷ code.ParentCycle ∷
-    code.CacheCycle ∷ code.TwoDomains ∷ code.GsiNowhere ∷ code.LeafUnknown ∷ []
+codes_by_number = code.RsdpOut ∷ all_codes
 
 -- the stages by their numbers; the first also stands at 0, which is no stage's number
 abbrev pub stages_by_number : List Stage

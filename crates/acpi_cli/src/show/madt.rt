@@ -4,17 +4,11 @@ use crate::show::entries::{Owner, add_entries, write_other};
 use crate::show::listed::{Listed, Unread, add_unread};
 use acpi_base::field::u32_at;
 use acpi_read::{
-    AddressOverride, Entries, Entry, IoApic, LocalApic, LocalNmi, MadtEntry, NmiSource, Override,
-    X2apic, X2apicNmi,
+    AddressOverride, Entries, Entry, IoApic, LocalApic, LocalNmi, MADT_FLAGS,
+    MADT_LOCAL_APIC_ADDRESS, MadtEntry, NmiSource, Override, X2apic, X2apicNmi,
 };
 use std::alloc::AllocError;
 use std::fmt::{self, Write};
-
-/// The offset of Local Interrupt Controller Address in a MADT (ACPI 6.5, 5.2.12).
-const LOCAL_APIC_ADDRESS: usize = 36;
-
-/// The offset of Flags in a MADT.
-const FLAGS: usize = 40;
 
 /// Adds the lines of the MADT.
 pub fn add_madt(text: &mut String, listed: Listed<'_>) -> Result<(), AllocError> {
@@ -23,8 +17,8 @@ pub fn add_madt(text: &mut String, listed: Listed<'_>) -> Result<(), AllocError>
         return add_unread(text, "madt", address, Unread::Short);
     };
     let bytes = table.bytes();
-    let local_apic = u32_at(bytes, LOCAL_APIC_ADDRESS);
-    let flags = u32_at(bytes, FLAGS);
+    let local_apic = u32_at(bytes, MADT_LOCAL_APIC_ADDRESS);
+    let flags = u32_at(bytes, MADT_FLAGS);
     let line = MadtLine {
         address,
         local_apic,

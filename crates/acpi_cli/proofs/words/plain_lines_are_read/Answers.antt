@@ -8,9 +8,9 @@ pub returns : goal.returns
 returns c = record {
   find = find_words_asked;
   check = check_words_asked;
-  confirm = λ program w hex inputs hotplug processors words rsdp policy fits a b.
-      confirm_words_asked program (witness_line w) hex inputs hotplug processors words w rsdp policy (is_read (witness_line w) w fits refl) a b;
-  rebuild = λ program base at hex inputs hotplug processors words rsdp policy a b c.
-      rebuild_words_asked program base hex inputs hotplug processors words at rsdp policy a b c;
+  confirm = λ program w hex texts rsdp policy fits a b.
+      confirm_words_asked program (witness_line w) hex texts w rsdp policy (is_read (witness_line w) w fits refl) a b;
+  rebuild = λ program base at hex texts rsdp policy a b c.
+      rebuild_words_asked program base hex texts at rsdp policy a b c;
   show = show_words_asked;
 }

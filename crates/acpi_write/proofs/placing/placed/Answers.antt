@@ -29,7 +29,8 @@ returns-then-is_one_narrow-clause-refused c =
     let found : c.in_ok-found.found.items ≡ part_places (set_value v) c.args.base = c.in_ok-found.ensures.places ∙ ap (places c.args.base) lengths in
     let count = length-map v.tables.items table_value in
     let all = v.tables.ok in
-    let short = c.if-len-from.false in
+    let short = c.if-xsdt_length-from.false in
+    let size = c.xsdt_length.ensures in
     let n = c.len.ensures in
     let high = c.if-index.true in
     let some = sym c.is_some.ensures ∙ c.if-is_some.true in
@@ -39,7 +40,7 @@ returns-then-is_one_narrow-clause-refused c =
     let place : c.index.result.now ≡ facs_place (set_value v) c.args.base =
     c.index.ensures ∙ any_default c.in_ok-found.found.items 2 c.index.result.now 0 inside ∙ ap (λ (xs : List ℕ). slice_index xs 2) found ∙ sym (facs_place_is v c.args.base (sym c.is_some.ensures ∙ c.if-is_some.true)) in
     inr (
-      omega (arith, count, all, short, n),
+      omega (arith, count, all, short, size, n),
       subst (λ (ns : List ℕ). DoEndInside (ends c.args.base ns)) lengths c.in_ok-found.ensures.inside,
       ap (λ ts. list_any is_narrow (map table_value ts)) (sym c.deref-then-index.ensures.value) ∙ sym c.is_one_narrow.ensures ∙ c.if-is_one_narrow.true,
       omega (arith, place, high),
