@@ -2,7 +2,7 @@
 use Rattle.std.proofs.Common.{◌≡◌, ℕ, List, [], ◌∷◌, Option, Some, None, refl, sym, ap, ◌∙◌, subst, inl, inr, arith, nat_eq}
 use denote.Ref.{Bor}
 use Rattle.std.specs.Prelude.{◌↔◌, IsTrue, Bool, true, false}
-use Rattle.std.specs.Option.{option_eq, is_some}
+use Rattle.std.specs.Option.{option_eq, option_map, is_some, MatchOption}
 use Rattle.std.proofs.lemmas.Bool.{eqb-true}
 use Rattle.std.proofs.lemmas.Bool.Decides.{nat_tests}
 use Rattle.std.proofs.lemmas.Option.{same_Some}
@@ -38,23 +38,29 @@ none_with read entries o P there (v, stands, holds) =
     let (d, here, says) = said_from read entries o v stands in
     none_and_some refl ((there.is d).0 here)
 
--- whether P holds of what the entry at an offset says
-pub some_at : {E : Type 0} (read : List ℕ → E) (entries : List (Standing (List ℕ))) (o : ℕ) (e : List ℕ) (P : E → Type 0) (b : Bool) → IsThere entries o (Some e) → (IsTrue b ↔ P (read e)) → IsTrue b ↔ StandsWith (said_by read entries) o P
-some_at read entries o e P b there is =
-    let with = some_with read entries o e P there in
+-- what is said of the entry at an offset, and false where none stands there
+pub test_at : {E : Type 0} (read : List ℕ → E) (entries : List (Standing (List ℕ))) (o : ℕ) (P : E → Type 0) (Says : Bor (List ℕ) → Type 0) (found : Option (Bor (List ℕ))) (test : Bool)
+    → IsThere entries o (option_map (λ entry. entry.now) found) → MatchOption found (test ≡ false) Says
+    → ((entry : Bor (List ℕ)) → Says entry → (IsTrue test ↔ P (read entry.now))) → IsTrue test ↔ StandsWith (said_by read entries) o P
+test_at read entries o P Says None test there is decides = rw is (λ true. absurd (cc), λ stands. absurd (none_with read entries o P there stands))
+test_at read entries o P Says (Some entry) test there says decides =
+    let with = some_with read entries o entry.now P there in
+    let is = decides entry says in
     (λ true. with.0 (is.0 true), λ stands. is.1 (with.1 stands))
 
-pub none_at : {E : Type 0} (read : List ℕ → E) (entries : List (Standing (List ℕ))) (o : ℕ) (P : E → Type 0) → IsThere entries o None → IsTrue false ↔ StandsWith (said_by read entries) o P
-none_at read entries o P there = (λ true. absurd (cc), λ stands. absurd (none_with read entries o P there stands))
+-- the one value of which the entry at an offset says R, and none where no entry stands there
+pub only_at : {E X : Type 0} (read : List ℕ → E) (entries : List (Standing (List ℕ))) (o : ℕ) (R : X → E → Type 0) (Says : Bor (List ℕ) → Type 0) (found : Option (Bor (List ℕ))) (only : Option X)
+    → IsThere entries o (option_map (λ entry. entry.now) found) → MatchOption found (only ≡ None) Says
+    → ((entry : Bor (List ℕ)) → Says entry → IsOnly (λ x. R x (read entry.now)) only) → IsOnly (λ x. StandsWith (said_by read entries) o (R x)) only
+only_at read entries o R Says None only there is says_one =
+    record { is = λ x. (λ stands. absurd (none_with read entries o (R x) there stands), λ same. absurd (none_and_some is same)) }
+only_at read entries o R Says (Some entry) only there says says_one =
+    let one = says_one entry says in
+    record { is = λ x. (let with = some_with read entries o entry.now (R x) there in (λ stands. (one.is x).0 (with.1 stands), λ same. with.0 ((one.is x).1 same))) }
 
--- the one number of which the entry at an offset says R
-pub some_only : {E X : Type 0} (read : List ℕ → E) (entries : List (Standing (List ℕ))) (o : ℕ) (e : List ℕ) (R : X → E → Type 0) (only : Option X) → IsThere entries o (Some e) → IsOnly (λ x. R x (read e)) only → IsOnly (λ x. StandsWith (said_by read entries) o (R x)) only
-some_only read entries o e R only there is =
-    record { is = λ x. (λ stands. (is.is x).0 ((some_with read entries o e (R x) there).1 stands), λ same. (some_with read entries o e (R x) there).0 ((is.is x).1 same)) }
-
-pub none_only : {E X : Type 0} (read : List ℕ → E) (entries : List (Standing (List ℕ))) (o : ℕ) (R : X → E → Type 0) → IsThere entries o None → IsOnly (λ x. StandsWith (said_by read entries) o (R x)) None
-none_only read entries o R there =
-    record { is = λ x. (λ stands. absurd (none_with read entries o (R x) there stands), λ same. absurd (none_and_some refl same)) }
+-- what equals an option has the same value alone
+pub only_of : {X : Type 0} (P : X → Type 0) (is only : Option X) → IsOnly P is → only ≡ is → IsOnly P only
+only_of P is only one same = record { is = λ x. (λ holds. same ∙ (one.is x).0 holds, λ some. (one.is x).1 (sym same ∙ some)) }
 
 -- an option that is this one has its value alone
 pub only_same : {X : Type 0} (is only : Option X) → only ≡ is → IsOnly (λ x. is ≡ Some x) only

@@ -84,10 +84,7 @@ fn domain(entry: &[u8], number: u64) -> Option<u64>
 fn domain_at(srat: &[u8], at: u64, number: u64) -> Option<u64>
     ensures { IsOnly (λ domain. StandsWith (srat_contents srat.now).entries at (PutsIn number domain)) result }
 {
-    match entry_at(srat, srat::FIRST_ENTRY, at) {
-        Some(entry) => domain(entry, number),
-        None => None,
-    }
+    entry_at(srat, srat::FIRST_ENTRY, at).and_then(|entry| domain(entry, number))
 }
 
 /// Whether two entries of the SRAT, the second of them earlier, put a processor, which counts as enabled, in two
@@ -179,10 +176,7 @@ fn names_gsi(entry: &[u8], number: u64) -> bool
 fn names_gsi_at(madt: &[u8], at: u64, number: u64) -> bool
     ensures { IsTrue result ↔ StandsWith (madt_contents madt.now).entries at (NamesGsi number) }
 {
-    match entry_at(madt, madt::FIRST_ENTRY, at) {
-        Some(entry) => names_gsi(entry, number),
-        None => false,
-    }
+    entry_at(madt, madt::FIRST_ENTRY, at).is_some_and(|entry| names_gsi(entry, number))
 }
 
 /// Code 58: whether the MADT has this fault.
@@ -267,10 +261,7 @@ fn is_leaf(entry: &[u8], id: u64) -> bool
 fn is_leaf_at(pptt: &[u8], at: u64, id: u64) -> bool
     ensures { IsTrue result ↔ StandsWith (pptt_contents pptt.now).entries at (IsLeaf id) }
 {
-    match entry_at(pptt, pptt::FIRST_ENTRY, at) {
-        Some(entry) => is_leaf(entry, id),
-        None => false,
-    }
+    entry_at(pptt, pptt::FIRST_ENTRY, at).is_some_and(|entry| is_leaf(entry, id))
 }
 
 /// Whether the PPTT's Revision is at least 2.

@@ -164,10 +164,7 @@ fn has_own_fault(policy: &Policy, entry: &[u8], code: Code) -> bool
 fn has_own_fault_at(policy: &Policy, madt: &[u8], at: u64, code: Code) -> bool
     ensures { IsTrue result ↔ StandsWith (madt_contents madt.now).entries at (MadtEntryFault policy.now code) }
 {
-    match entry_at(madt, FIRST_ENTRY, at) {
-        Some(entry) => has_own_fault(policy, entry, code),
-        None => false,
-    }
+    entry_at(madt, FIRST_ENTRY, at).is_some_and(|entry| has_own_fault(policy, entry, code))
 }
 
 /// Whether an entry is an address override.
@@ -182,10 +179,7 @@ fn is_address_override(entry: &[u8]) -> bool
 fn is_address_override_at(madt: &[u8], at: u64) -> bool
     ensures { IsTrue result ↔ StandsWith (madt_contents madt.now).entries at IsAddressOverride }
 {
-    match entry_at(madt, FIRST_ENTRY, at) {
-        Some(entry) => is_address_override(entry),
-        None => false,
-    }
+    entry_at(madt, FIRST_ENTRY, at).is_some_and(|entry| is_address_override(entry))
 }
 
 /// Whether the two numbers are 0 that most faults do not use.
@@ -235,10 +229,7 @@ pub(crate) fn serves(policy: &Policy, entry: &[u8], number: u64) -> bool
 fn serves_at(policy: &Policy, madt: &[u8], at: u64, number: u64) -> bool
     ensures { IsTrue result ↔ StandsWith (madt_contents madt.now).entries at (ServesGsi policy.now number) }
 {
-    match entry_at(madt, FIRST_ENTRY, at) {
-        Some(entry) => serves(policy, entry, number),
-        None => false,
-    }
+    entry_at(madt, FIRST_ENTRY, at).is_some_and(|entry| serves(policy, entry, number))
 }
 
 /// Code 39: whether two I/O APICs serve one interrupt number.
@@ -275,10 +266,7 @@ fn overriding(entry: &[u8], source: u64) -> Option<u32>
 fn overriding_at(madt: &[u8], at: u64, source: u64) -> Option<u32>
     ensures { IsOnly (λ gsi. StandsWith (madt_contents madt.now).entries at (Overrides source gsi)) result }
 {
-    match entry_at(madt, FIRST_ENTRY, at) {
-        Some(entry) => overriding(entry, source),
-        None => None,
-    }
+    entry_at(madt, FIRST_ENTRY, at).and_then(|entry| overriding(entry, source))
 }
 
 /// Whether two overrides, the second of them earlier, give one source two interrupt numbers.

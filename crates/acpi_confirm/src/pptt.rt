@@ -70,10 +70,7 @@ fn named(entry: &[u8], link: Link) -> Option<u64>
 fn named_at(pptt: &[u8], link: Link, at: u64) -> Option<u64>
     ensures { IsOnly (Names link (pptt_contents pptt.now) at) result }
 {
-    match entry_at(pptt, FIRST_ENTRY, at) {
-        Some(entry) => named(entry, link),
-        None => None,
-    }
+    entry_at(pptt, FIRST_ENTRY, at).and_then(|entry| named(entry, link))
 }
 
 /// Whether an entry is not typed though it has type 0 or 1.
@@ -89,10 +86,7 @@ fn has_other_length(entry: &[u8]) -> bool
 fn has_other_length_at(pptt: &[u8], at: u64) -> bool
     ensures { IsTrue result ↔ StandsWith (pptt_contents pptt.now).entries at HasOtherPpttLength }
 {
-    match entry_at(pptt, FIRST_ENTRY, at) {
-        Some(entry) => has_other_length(entry),
-        None => false,
-    }
+    entry_at(pptt, FIRST_ENTRY, at).is_some_and(|entry| has_other_length(entry))
 }
 
 /// Whether the PPTT has this fault of an entry by itself at this offset.
@@ -130,10 +124,7 @@ fn resource(entry: &[u8], index: u64) -> Option<u64>
 fn resource_at(pptt: &[u8], at: u64, index: u64) -> Option<u64>
     ensures { IsOnly (NamesResource (pptt_contents pptt.now) at index) result }
 {
-    match entry_at(pptt, FIRST_ENTRY, at) {
-        Some(entry) => resource(entry, index),
-        None => None,
-    }
+    entry_at(pptt, FIRST_ENTRY, at).and_then(|entry| resource(entry, index))
 }
 
 /// Whether an entry, typed or not, has another type than 0.
@@ -149,10 +140,7 @@ fn is_resource(entry: &[u8]) -> bool
 fn is_resource_at(pptt: &[u8], at: u64) -> bool
     ensures { IsTrue result ↔ IsResourceAt (pptt_contents pptt.now) at }
 {
-    match entry_at(pptt, FIRST_ENTRY, at) {
-        Some(entry) => is_resource(entry),
-        None => false,
-    }
+    entry_at(pptt, FIRST_ENTRY, at).is_some_and(|entry| is_resource(entry))
 }
 
 /// Whether an entry of the link's kind stands at an offset.

@@ -127,10 +127,7 @@ fn has_own_fault(entry: &[u8], code: Code) -> bool
 fn has_own_fault_at(srat: &[u8], at: u64, code: Code) -> bool
     ensures { IsTrue result ↔ StandsWith (srat_contents srat.now).entries at (SratEntryFault code) }
 {
-    match entry_at(srat, FIRST_ENTRY, at) {
-        Some(entry) => has_own_fault(entry, code),
-        None => false,
-    }
+    entry_at(srat, FIRST_ENTRY, at).is_some_and(|entry| has_own_fault(entry, code))
 }
 
 /// Codes 41 to 44: the table and each entry by itself.
@@ -170,10 +167,7 @@ fn covering(entry: &[u8], address: u64) -> Option<u32>
 fn covering_at(srat: &[u8], at: u64, address: u64) -> Option<u32>
     ensures { IsOnly (λ flags. StandsWith (srat_contents srat.now).entries at (CoversWith address flags)) result }
 {
-    match entry_at(srat, FIRST_ENTRY, at) {
-        Some(entry) => covering(entry, address),
-        None => None,
-    }
+    entry_at(srat, FIRST_ENTRY, at).and_then(|entry| covering(entry, address))
 }
 
 /// Whether two ranges with these flags must not overlap.
