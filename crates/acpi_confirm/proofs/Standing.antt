@@ -1,8 +1,8 @@
 -- What stands at an offset of a table, by what its entries say.
-use Rattle.std.proofs.Common.{◌≡◌, ℕ, List, [], ◌∷◌, Option, Some, None, refl, sym, ap, ◌∙◌, subst, inl, inr, arith, nat_eq}
+use Rattle.std.proofs.Common.{◌≡◌, ◌≢◌, ℕ, List, [], ◌∷◌, Option, Some, None, refl, sym, ap, ◌∙◌, subst, inl, inr, arith, nat_eq}
 use denote.Ref.{Bor}
 use Rattle.std.specs.Prelude.{◌↔◌, IsTrue, Bool, true, false}
-use Rattle.std.specs.Option.{option_eq, option_map, is_some, MatchOption}
+use Rattle.std.specs.Option.{option_eq, option_map, option_zip, is_some, MatchOption}
 use Rattle.std.proofs.lemmas.Bool.{eqb-true}
 use Rattle.std.proofs.lemmas.Bool.Decides.{nat_tests}
 use Rattle.std.proofs.lemmas.Option.{same_Some}
@@ -62,6 +62,30 @@ only_at read entries o R Says (Some entry) only there says says_one =
 pub only_of : {X : Type 0} (P : X → Type 0) (is only : Option X) → IsOnly P is → only ≡ is → IsOnly P only
 only_of P is only one same = record { is = λ x. (λ holds. same ∙ (one.is x).0 holds, λ some. (one.is x).1 (sym same ∙ some)) }
 
+-- what is said of the only values of which P and Q hold, and false where either has none
+pub test_of_two : {X : Type 0} (P Q : X → Type 0) (R : X → X → Type 0) (Says : X × X → Type 0) (one other : Option X) (both : Option (X × X)) (test : Bool)
+    → IsOnly P one → IsOnly Q other → both ≡ option_zip one other → MatchOption both (test ≡ false) Says
+    → ((pair : X × X) → Says pair → (IsTrue test ↔ R pair.0 pair.1)) → IsTrue test ↔ ((x : X) × (y : X) × P x × Q y × R x y)
+test_of_two P Q R Says None other both test none only is says decides =
+    rw (rw is at says) (λ true. absurd (cc), λ (x, y, first, second, related). absurd (none_and_some refl ((none.is x).0 first)))
+test_of_two P Q R Says (Some f) None both test only none is says decides =
+    rw (rw is at says) (λ true. absurd (cc), λ (x, y, first, second, related). absurd (none_and_some refl ((none.is y).0 second)))
+test_of_two {X} P Q R Says (Some f) (Some g) both test one other is says decides =
+    let with = decides (f, g) (rw is at says) in (
+      λ true. (f, g, (one.is f).1 refl, (other.is g).1 refl, with.0 true),
+      λ (x, y, first, second, related).
+          let same : f ≡ x = same_Some _ _ ((one.is x).0 first) in
+          let also : g ≡ y = same_Some _ _ ((other.is y).0 second) in
+          with.1 (subst (λ (v : X). R v g) (sym same) (subst (λ (v : X). R x v) (sym also) related)),
+    )
+
+-- two values that differ, where what is known besides stands among what is asked
+pub differ : {X : Type 0} {Known : Type 0} {P Q : X → Type 0} {test : Bool} → Known → (IsTrue test ↔ ((x : X) × (y : X) × P x × Q y × (x ≢ y))) → IsTrue test ↔ ((x : X) × (y : X) × P x × Q y × Known × (x ≢ y))
+differ known is = (
+  λ true. (let (x, y, first, second, apart) = is.0 true in (x, y, first, second, known, apart)),
+  λ (x, y, first, second, _, apart). is.1 (x, y, first, second, apart),
+)
+
 -- an option that is this one has its value alone
 pub only_same : {X : Type 0} (is only : Option X) → only ≡ is → IsOnly (λ x. is ≡ Some x) only
 only_same is only same = record { is = λ x. (λ some. same ∙ some, λ some. sym same ∙ some) }
@@ -77,10 +101,6 @@ only_eq P (Some n) x is = (
 pub only_some : {X : Type 0} (P : X → Type 0) (only : Option X) → IsOnly P only → IsTrue (is_some only) ↔ ((x : X) × P x)
 only_some P None is = (λ true. absurd (cc), λ (x, holds). absurd (none_and_some refl ((is.is x).0 holds)))
 only_some P (Some x) is = (λ _. (x, (is.is x).1 refl), λ _. refl)
-
--- what is not so is not true
-pub not_so : (P : Type 0) → ¬ P → IsTrue false ↔ P
-not_so P not = (λ true. absurd (cc), λ holds. absurd (not holds))
 
 -- ---- of all entries
 

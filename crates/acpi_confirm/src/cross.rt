@@ -1,13 +1,12 @@
 //! Codes 57 to 59: rules across tables.
 
-ghost use Rattle.std.specs.Prelude.{◌≡◌, ◌≤◌, ◌↔◌, ℕ, length, IsTrue};
-ghost use Rattle.acpi_base.specs.Across.{DomainFault, ServedFault, LeafFault, IsEnabled, IsIoApic, HasIoApic, IsServed, IsLeaf, IsUid};
+ghost use Rattle.std.specs.Prelude.{◌≡◌, ◌≢◌, ◌≤◌, ◌<◌, ◌↔◌, ℕ, length, IsTrue};
+ghost use Rattle.acpi_base.specs.Across.{DomainFault, ServedFault, LeafFault, IsEnabled, IsIoApic, HasIoApic, IsServed, IsLeaf, IsUid, PutsAt};
 ghost use Rattle.acpi_base.specs.Entries.{IsEntry, StandsWith};
 ghost use Rattle.acpi_base.specs.Madt.{IsEnabledProcessor, HasUid, NamesGsi, IsWhollyTyped, madt_entry, madt_contents};
 ghost use Rattle.acpi_base.specs.Policy.{counts_as_enabled};
 ghost use Rattle.acpi_base.specs.Pptt.{pptt_entry, pptt_contents};
 ghost use Rattle.acpi_base.specs.Srat.{PutsIn, srat_entry, srat_contents};
-ghost use Rattle.acpi_base.specs.declared.code.Code.{Code};
 ghost use Rattle.acpi_confirm.specs.Madts.{IsOpaque, ServesGsi};
 ghost use Rattle.acpi_confirm.specs.Walks.{IsOnly};
 
@@ -87,31 +86,14 @@ fn domain_at(srat: &[u8], at: u64, number: u64) -> Option<u64>
     entry_at(srat, srat::FIRST_ENTRY, at).and_then(|entry| domain(entry, number))
 }
 
-/// Whether two entries of the SRAT, the second of them earlier, put a processor, which counts as enabled, in two
-/// domains.
-fn has_two_domains(
-    processors: Processors,
-    madt: &[u8],
-    srat: &[u8],
-    at: u64,
-    earlier: u64,
-    number: u64,
-) -> bool
-    ensures { IsTrue result ↔ DomainFault processors (madt_contents madt.now) (srat_contents srat.now) Code.TwoDomains at earlier number }
+/// Whether two entries of the SRAT, the second of them earlier, put the processor with this number in two domains.
+fn do_domains_differ(srat: &[u8], at: u64, earlier: u64, number: u64) -> bool
+    ensures { IsTrue result ↔ ((d f : ℕ) × PutsAt (srat_contents srat.now) at number d × PutsAt (srat_contents srat.now) earlier number f × (earlier < at) × (d ≢ f)) }
 {
-    if earlier >= at {
-        return false;
-    }
-    let Some(one) = domain_at(srat, at, number) else {
-        return false;
-    };
-    let Some(other) = domain_at(srat, earlier, number) else {
-        return false;
-    };
-    if one == other {
-        return false;
-    }
-    has_enabled(processors, madt, number)
+    earlier < at
+        && domain_at(srat, at, number)
+            .zip(domain_at(srat, earlier, number))
+            .is_some_and(|(one, other)| one != other)
 }
 
 /// Code 57: whether the MADT and the SRAT have this fault.
@@ -119,14 +101,10 @@ pub(crate) fn is_domain_fault(madt: &[u8], srat: &[u8], policy: &Policy, witness
     ensures { IsTrue result ↔ DomainFault policy.now.processors (madt_contents madt.now) (srat_contents srat.now) witness.now.code witness.now.at witness.now.other witness.now.point }
 {
     match witness.code {
-        Code::TwoDomains => has_two_domains(
-            policy.processors(),
-            madt,
-            srat,
-            witness.at,
-            witness.other,
-            witness.point,
-        ),
+        Code::TwoDomains => {
+            do_domains_differ(srat, witness.at, witness.other, witness.point)
+                && has_enabled(policy.processors(), madt, witness.point)
+        }
         _ => false,
     }
 }

@@ -273,16 +273,10 @@ fn overriding_at(madt: &[u8], at: u64, source: u64) -> Option<u32>
 fn do_overrides_differ(madt: &[u8], at: u64, earlier: u64, source: u64) -> bool
     ensures { IsTrue result ↔ OverrideFault (madt_contents madt.now) Code.OverrideClash at earlier source }
 {
-    if earlier >= at {
-        return false;
-    }
-    let Some(one) = overriding_at(madt, at, source) else {
-        return false;
-    };
-    let Some(other) = overriding_at(madt, earlier, source) else {
-        return false;
-    };
-    one != other
+    earlier < at
+        && overriding_at(madt, at, source)
+            .zip(overriding_at(madt, earlier, source))
+            .is_some_and(|(one, other)| one != other)
 }
 
 /// Code 40: two overrides.

@@ -184,16 +184,10 @@ fn are_compared(hotplug: HotPlug, one: u32, other: u32) -> bool
 fn is_overlap(srat: &[u8], hotplug: HotPlug, at: u64, other: u64, address: u64) -> bool
     ensures { IsTrue result ↔ IsOverlap hotplug (srat_contents srat.now) at other address }
 {
-    if at == other {
-        return false;
-    }
-    let Some(one) = covering_at(srat, at, address) else {
-        return false;
-    };
-    let Some(other) = covering_at(srat, other, address) else {
-        return false;
-    };
-    are_compared(hotplug, one, other)
+    at != other
+        && covering_at(srat, at, address)
+            .zip(covering_at(srat, other, address))
+            .is_some_and(|(one, other)| are_compared(hotplug, one, other))
 }
 
 /// Code 45: two ranges.

@@ -1,9 +1,8 @@
 use Rattle.std.proofs.Common.{rules, tests}
-use Rattle.acpi_base.specs.Entries.{entries_of}
 use Rattle.acpi_base.specs.Madt.{madt_entry, madt_contents}
 use Rattle.acpi_confirm.proofs.Standing.{test_at}
 use Rattle.acpi_confirm.proofs.cross.names_gsi_at.Goals as goal
 
 pub returns : goal.returns
 unfolding madt_contents
-returns c = test_at madt_entry (entries_of 44 c.args.madt.now) c.args.at _ _ c.entry_at.result c.is_some_and.result c.entry_at.ensures.there c.is_some_and.ensures (λ entry says. search (rules, tests))
+returns c = test_at madt_entry _ _ _ _ c.entry_at.result c.is_some_and.result c.entry_at.ensures.there c.is_some_and.ensures (λ entry says. search (rules, tests))

@@ -1,9 +1,8 @@
 use Rattle.std.proofs.Common.{rules, tests}
-use Rattle.acpi_base.specs.Entries.{entries_of}
 use Rattle.acpi_base.specs.Madt.{madt_entry, madt_contents}
 use Rattle.acpi_confirm.proofs.Standing.{only_at, only_of}
 use Rattle.acpi_confirm.proofs.madt.overriding_at.Goals as goal
 
 pub returns : goal.returns
 unfolding madt_contents
-returns c = only_at madt_entry (entries_of 44 c.args.madt.now) c.args.at _ _ c.entry_at.result c.and_then.result c.entry_at.ensures.there c.and_then.ensures (λ entry says. search (rules, tests, only_of))
+returns c = only_at madt_entry _ _ _ _ c.entry_at.result c.and_then.result c.entry_at.ensures.there c.and_then.ensures (λ entry says. search (rules, tests, only_of))
