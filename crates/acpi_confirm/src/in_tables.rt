@@ -1,6 +1,6 @@
 //! Codes 32 to 59: the first listed tables that the codes speak of, each judged by its bytes.
 
-ghost use Rattle.std.specs.Prelude.{◌≡◌, ◌↔◌, IsTrue};
+ghost use Rattle.std.specs.Prelude.{◌↔◌, IsTrue};
 ghost use Rattle.acpi_base.specs.Across.{DomainFault, ServedFault, LeafFault};
 ghost use Rattle.acpi_base.specs.Codes.{stage_of};
 ghost use Rattle.acpi_base.specs.Contents.{HasMadt, HasSrat, HasSlit, HasPptt};

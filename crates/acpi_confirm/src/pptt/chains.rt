@@ -1,6 +1,6 @@
 //! Codes 55 and 56: chains of parents and of next levels.
 
-ghost use Rattle.std.specs.Prelude.{◌≡◌, ◌≤◌, ◌+◌, ◌↔◌, ℕ, Some, IsTrue, IfSome, MatchOption};
+ghost use Rattle.std.specs.Prelude.{◌≤◌, ◌+◌, ◌↔◌, ℕ, Some, IsTrue, IfSome, MatchOption};
 ghost use Rattle.std.specs.Option.{option_map};
 ghost use Rattle.acpi_base.specs.Chains.{IsStep, LeadsTo, IsCycle};
 ghost use Rattle.acpi_base.specs.Entries.{IsEntry, entries_of};
