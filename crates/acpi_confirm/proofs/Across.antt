@@ -1,44 +1,15 @@
 -- Faults across tables.
-use Rattle.std.proofs.Common.{◌≡◌, ◌≢◌, ◌<◌, ◌≤◌, ℕ, List, length, Option, Some, None, refl, sym, ◌∙◌, arith, true≢false}
+use Rattle.std.proofs.Common.{◌≡◌, ◌≤◌, ℕ, List, length, None, refl, sym, ◌∙◌, arith, true≢false}
 use Rattle.std.specs.Prelude.{◌↔◌, IsTrue, Bool, true, false, not}
 use Rattle.std.proofs.lemmas.List.{get_or-drop, get_or_past}
-use Rattle.std.proofs.lemmas.Option.{same_Some}
-use Rattle.acpi_base.specs.Across.{DomainFault, IsEnabled, IsServed}
+use Rattle.acpi_base.specs.Across.{IsServed}
 use Rattle.acpi_base.specs.Entries.{Stands, StandsWith, cut_of}
 use Rattle.acpi_base.specs.Madt.{MadtContents, MadtEntry, Opaque, IsWhollyTyped, madt_contents}
 use Rattle.acpi_base.specs.Number.{field}
 use Rattle.acpi_base.specs.Policy.{PolicyValue}
 use Rattle.acpi_base.specs.Pptt.{pptt_contents}
-use Rattle.acpi_base.specs.Srat.{SratContents, PutsIn}
-use Rattle.acpi_base.proofs.HeldBytes.{none_and_some}
-use Rattle.acpi_base.specs.declared.code.Code.TheVariants as code
-use Rattle.acpi_base.specs.declared.policy.Processors.{Processors}
 use Rattle.acpi_confirm.specs.Madts.{IsOpaque, ServesGsi}
-use Rattle.acpi_confirm.specs.Walks.{IsOnly}
 use Rattle.acpi_confirm.proofs.MadtFaults.{serves_from, serves_gsi, madt_size, madt_cut}
-
--- ---- domains
-
-abbrev IsOnlyAt : SratContents → ℕ → ℕ → Option ℕ → Type 0
-IsOnlyAt c o i found = IsOnly (λ d. StandsWith c.entries o (PutsIn i d)) found
-
-pub differ : (p : Processors) (madt : MadtContents) (c : SratContents) (o r i f g : ℕ) → IsOnlyAt c o i (Some f) → IsOnlyAt c r i (Some g) → r < o → DomainFault p madt c code.TwoDomains o r i ↔ (IsEnabled p madt i × (f ≢ g))
-differ p madt c o r i f g one other before = (
-  λ (enabled, d, e, first, second, _, apart).
-      let same : f ≡ d = same_Some _ _ ((one.is d).0 first) in
-      let also : g ≡ e = same_Some _ _ ((other.is e).0 second) in
-      (enabled, λ equal. apart (sym same ∙ equal ∙ also)),
-  λ (enabled, apart). (enabled, f, g, (one.is f).1 refl, (other.is g).1 refl, before, apart),
-)
-
-pub no_first : (p : Processors) (madt : MadtContents) (c : SratContents) (o r i : ℕ) → IsOnlyAt c o i None → ¬ DomainFault p madt c code.TwoDomains o r i
-no_first p madt c o r i none (enabled, d, e, first, second, _, _) = none_and_some refl ((none.is d).0 first)
-
-pub no_second : (p : Processors) (madt : MadtContents) (c : SratContents) (o r i : ℕ) → IsOnlyAt c r i None → ¬ DomainFault p madt c code.TwoDomains o r i
-no_second p madt c o r i none (enabled, d, e, first, second, _, _) = none_and_some refl ((none.is e).0 second)
-
-pub not_before : (p : Processors) (madt : MadtContents) (c : SratContents) (o r i : ℕ) → o ≤ r → ¬ DomainFault p madt c code.TwoDomains o r i
-not_before p madt c o r i after (enabled, d, e, first, second, before, _) = omega arith
 
 -- ---- interrupt numbers
 

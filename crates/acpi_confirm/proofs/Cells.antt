@@ -1,6 +1,6 @@
 -- The cells of a SLIT.
 use Rattle.std.proofs.Common.{◌≡◌, ◌<◌, ◌≤◌, ◌+◌, ◌*◌, ◌-◌, ◌/◌, ◌%◌, ℕ, List, length, refl, inl, inr, subst, sym, ap, ◌∙◌, arith}
-use Rattle.std.specs.Prelude.{◌↔◌, IsTrue, Bool, false, slice_index}
+use Rattle.std.specs.Prelude.{◌↔◌, Option, Some, None, MatchOption, IsTrue, Bool, false, slice_index}
 use Rattle.std.proofs.lemmas.Bool.{cases_lt}
 use Rattle.std.proofs.lemmas.List.{get_or-drop}
 use Rattle.std.proofs.Math.Nat.{mul-le-mul_left}
@@ -44,7 +44,7 @@ one_cell c at i j a b here there =
     record { row = row; column = grind (arith, here.place, there.place) }
 
 -- P of the row and the column of the cell at an offset is P of some cell there
-pub some_cell : (c : SlitContents) (at : ℕ) (cell : Cell) (P : ℕ → ℕ → Type 0) (b : Bool) → HasCell c at cell → (IsTrue b ↔ P cell.row cell.column) → IsTrue b ↔ (HasSlitSize c × SomeCell c at P)
+some_cell : (c : SlitContents) (at : ℕ) (cell : Cell) (P : ℕ → ℕ → Type 0) (b : Bool) → HasCell c at cell → (IsTrue b ↔ P cell.row cell.column) → IsTrue b ↔ (HasSlitSize c × SomeCell c at P)
 some_cell c at cell P b here is = (
   λ true. (here.size, (cell.row, cell.column, here.place, is.0 true)),
   λ (_, (i, j, there, holds)).
@@ -52,8 +52,11 @@ some_cell c at cell P b here is = (
       is.1 (subst (λ (k : ℕ). P k cell.column) one.row (subst (P i) one.column holds)),
 )
 
-pub no_cell : (c : SlitContents) (at : ℕ) (P : ℕ → ℕ → Type 0) → HasNoCell c at → IsTrue false ↔ (HasSlitSize c × SomeCell c at P)
-no_cell c at P none = (λ true. absurd (cc), λ (size, (i, j, here, _)). absurd (none size i j here))
+-- what is said of the cell at an offset, and false where none stands there
+pub test_of_cell : (c : SlitContents) (at : ℕ) (P : ℕ → ℕ → Type 0) (Says : Cell → Type 0) (found : Option Cell) (test : Bool) → MatchOption found (HasNoCell c at) (HasCell c at) → MatchOption found (test ≡ false) Says
+    → ((cell : Cell) → Says cell → HasCell c at cell → (IsTrue test ↔ P cell.row cell.column)) → IsTrue test ↔ (HasSlitSize c × SomeCell c at P)
+test_of_cell c at P Says None test none is decides = rw is (λ true. absurd (cc), λ (size, (i, j, here, _)). absurd (none size i j here))
+test_of_cell c at P Says (Some cell) test here says decides = some_cell c at cell P test here (decides cell says here)
 
 -- a cell stands behind the first 44 bytes, and within the table
 cell_inside : (c : SlitContents) (at i j : ℕ) → HasSlitSize c → IsCell c i j at → (44 ≤ at) × (at < c.size)

@@ -118,6 +118,3 @@ cycle Named most from lead round there back b once again some fits is = (
       let same : there ≡ c.there = same_Some _ _ ((once.is c.there).0 c.once) in
       is.1 ((again.is there).0 (subst (λ (x : ℕ). LeadsTo Named round x x) (sym same) c.back)),
 )
-
-pub no_cycle : (Named : ℕ → ℕ → Type 0) (most from lead round : ℕ) → IsOnly (LeadsTo Named lead from) None → ¬ IsCycle Named most from lead round
-no_cycle Named most from lead round none c = none_and_some refl ((none.is c.there).0 c.once)

@@ -1,5 +1,7 @@
 -- What a root's slots list first is what the set lists.
 use Rattle.std.proofs.Common.{◌≡◌, ◌≤◌, ◌↔◌, ℕ, Bool, true, false, not, Option, Some, None, is_some, List, length, IsTrue, MatchOption, inl, inr, refl, subst}
+use denote.Ref.{Bor}
+use Rattle.std.specs.Option.{option_zip}
 use Rattle.acpi_base.specs.Memory.{Memory}
 use Rattle.acpi_base.specs.Tables.{IsTable}
 use Rattle.acpi_base.specs.Facs.{NamedFacsFault, FacsFault}
@@ -57,6 +59,23 @@ test_of_listed {m} {p} {signature} {whole} P listed decides =
 -- a set that does not list the table has none
 pub none_has_listed : {m : Memory} {p : ℕ} {signature : List ℕ} (P : List ℕ → Type 0) → ((whole : List ℕ) → ¬ IsListedTable m p signature whole) → IsTrue false ↔ HasListed m p signature P
 none_has_listed P none = (λ yes. absurd cc, λ has. absurd (none has.0 has.1))
+
+-- what is said of the listed table's bytes, and false where none is listed
+pub test_of_found : {m : Memory} {p : ℕ} {signature : List ℕ} (P : List ℕ → Type 0) (Says : Bor (List ℕ) → Type 0) (found : Option (Bor (List ℕ))) (test : Bool)
+    → MatchOption found ((whole : List ℕ) → ¬ IsListedTable m p signature whole) (λ whole. IsListedTable m p signature whole.now)
+    → MatchOption found (test ≡ false) Says → ((whole : Bor (List ℕ)) → Says whole → (IsTrue test ↔ P whole.now)) → IsTrue test ↔ HasListed m p signature P
+test_of_found P Says None test none is decides = rw is (none_has_listed P none)
+test_of_found P Says (Some whole) test listed says decides = test_of_listed P listed (decides whole says)
+
+-- the same of two tables
+pub test_of_both : {m : Memory} {p : ℕ} {first second : List ℕ} (P : List ℕ → List ℕ → Type 0) (Says : Bor (List ℕ) × Bor (List ℕ) → Type 0) (one other : Option (Bor (List ℕ))) (both : Option (Bor (List ℕ) × Bor (List ℕ))) (test : Bool)
+    → MatchOption one ((whole : List ℕ) → ¬ IsListedTable m p first whole) (λ whole. IsListedTable m p first whole.now)
+    → MatchOption other ((whole : List ℕ) → ¬ IsListedTable m p second whole) (λ whole. IsListedTable m p second whole.now)
+    → both ≡ option_zip one other → MatchOption both (test ≡ false) Says
+    → ((pair : Bor (List ℕ) × Bor (List ℕ)) → Says pair → (IsTrue test ↔ P pair.0.now pair.1.now)) → IsTrue test ↔ HasListed m p first (λ x. HasListed m p second (P x))
+test_of_both {m} {p} {first} {second} P Says None other both test none found is says decides = rw (rw is at says) (none_has_listed (λ x. HasListed m p second (P x)) none)
+test_of_both {m} {p} {first} {second} P Says (Some x) None both test listed none is says decides = test_of_listed (λ x. HasListed m p second (P x)) listed (rw (rw is at says) (none_has_listed (P x.now) none))
+test_of_both {m} {p} {first} {second} P Says (Some x) (Some y) both test listed also is says decides = test_of_listed (λ x. HasListed m p second (P x)) listed (test_of_listed (P x.now) also (decides (x, y) (rw is at says)))
 
 -- ---- the FADT and the FACS
 

@@ -1,16 +1,12 @@
 -- The faults of a MADT.
-use Rattle.std.proofs.Common.{◌≡◌, ◌≢◌, ◌<◌, ◌≤◌, ℕ, List, length, Option, Some, None, refl, sym, ◌∙◌, arith}
-use Rattle.std.specs.Prelude.{◌↔◌, IsTrue, Bool}
-use Rattle.std.proofs.lemmas.Option.{same_Some}
+use Rattle.std.proofs.Common.{◌≡◌, ◌≢◌, ℕ, List, length, refl}
 use Rattle.acpi_base.specs.Entries.{StandsWith, AreUnused, cut_of}
-use Rattle.acpi_base.specs.Madt.{MadtContents, IoApic, madt_contents, MadtFault, MadtEntryFault, OverrideFault, Serves, Overrides}
+use Rattle.acpi_base.specs.Madt.{MadtContents, IoApic, madt_contents, MadtFault, MadtEntryFault, Serves}
 use Rattle.acpi_base.specs.Clashes.{IsClash}
 use Rattle.acpi_base.specs.Policy.{PolicyValue}
-use Rattle.acpi_base.proofs.HeldBytes.{none_and_some}
 use Rattle.acpi_base.specs.declared.code.Code.{Code}
 use Rattle.acpi_base.specs.declared.code.Code.TheVariants as code
 use Rattle.acpi_confirm.specs.Madts.{ServesGsi}
-use Rattle.acpi_confirm.specs.Walks.{IsOnly}
 
 pub madt_size : (madt : List ℕ) → (madt_contents madt).size ≡ length madt
 unfolding madt_contents
@@ -56,26 +52,3 @@ pub are_two : (q : PolicyValue) (c : MadtContents) (o p g : ℕ) → IsClash (Se
 are_two q c o p g clash = clash.two
 
 pub ruleset gsi_clash = (clash_of, first_serves, second_serves, are_two)
-
--- ---- two overrides
-
-abbrev IsOnlyAt : MadtContents → ℕ → ℕ → Option ℕ → Type 0
-IsOnlyAt c o source found = IsOnly (λ g. StandsWith c.entries o (Overrides source g)) found
-
-pub differ : (c : MadtContents) (o p source f g : ℕ) (b : Bool) → IsOnlyAt c o source (Some f) → IsOnlyAt c p source (Some g) → p < o → (IsTrue b ↔ (f ≢ g)) → IsTrue b ↔ OverrideFault c code.OverrideClash o p source
-differ c o p source f g b one other before is = (
-  λ true. (f, g, (one.is f).1 refl, (other.is g).1 refl, before, is.0 true),
-  λ (h, i, first, second, _, apart).
-      let same : f ≡ h = same_Some _ _ ((one.is h).0 first) in
-      let also : g ≡ i = same_Some _ _ ((other.is i).0 second) in
-      is.1 (λ equal. apart (sym same ∙ equal ∙ also)),
-)
-
-pub no_first : (c : MadtContents) (o p source : ℕ) → IsOnlyAt c o source None → ¬ OverrideFault c code.OverrideClash o p source
-no_first c o p source none (h, i, first, second, _, _) = none_and_some refl ((none.is h).0 first)
-
-pub no_second : (c : MadtContents) (o p source : ℕ) → IsOnlyAt c p source None → ¬ OverrideFault c code.OverrideClash o p source
-no_second c o p source none (h, i, first, second, _, _) = none_and_some refl ((none.is i).0 second)
-
-pub not_before : (c : MadtContents) (o p source : ℕ) → o ≤ p → ¬ OverrideFault c code.OverrideClash o p source
-not_before c o p source after (h, i, first, second, before, _) = omega arith

@@ -6,7 +6,7 @@ use Rattle.std.proofs.lemmas.Option.{slice_get-get_or, slice_get_past}
 use Rattle.std.proofs.lemmas.List.FromFn.{length-map-range_with_len, get_or-map-range_with_len}
 use Rattle.acpi_base.specs.Number.{field}
 use Rattle.acpi_base.specs.Entries.{StandsWith, has_form, cut_of}
-use Rattle.acpi_base.specs.Pptt.{has_node_form, has_cache_form, resource_count, resources_of, PpttContents, pptt_contents}
+use Rattle.acpi_base.specs.Pptt.{pptt_entry, pptt_type, has_node_form, has_cache_form, resource_count, resources_of, PpttContents, pptt_contents}
 use Rattle.acpi_confirm.specs.Links.{Names, named_by}
 use Rattle.acpi_confirm.specs.Walks.{IsOnly}
 use Rattle.acpi_confirm.specs.declared.pptt.Link.{Link}
@@ -33,6 +33,11 @@ not_true false not = refl
 -- so a cache is no node
 pub cache_no_node : (e : List ℕ) → has_cache_form e ≡ true → has_node_form e ≡ false
 cache_no_node e cache = not_true (has_node_form e) (λ node. omega (arith, node_type e node, cache_type e cache))
+
+-- the type of an entry, typed or not, is its first byte
+pub type_of : (e : List ℕ) → pptt_type (pptt_entry e) ≡ slice_index e 0
+unfolding pptt_entry
+type_of e = grind (arith, node_type, cache_type)
 
 pub ruleset kinds = (node_type, cache_type, cache_no_node)
 

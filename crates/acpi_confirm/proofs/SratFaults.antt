@@ -1,17 +1,14 @@
 -- The faults of an SRAT.
-use Rattle.std.proofs.Common.{◌≡◌, ◌≢◌, ◌≤◌, ℕ, List, length, Option, Some, None, refl, sym, ap, ◌∙◌, inl, inr, ◌+◌, ◌*◌, arith}
-use Rattle.std.specs.Prelude.{◌↔◌, IsTrue, Bool, true, false}
+use Rattle.std.proofs.Common.{◌≡◌, ◌≢◌, ◌≤◌, ℕ, List, length, refl, sym, ap, ◌∙◌, inl, inr, ◌+◌, ◌*◌, arith}
+use Rattle.std.specs.Prelude.{◌↔◌, Bool, true, false}
 use Rattle.std.proofs.lemmas.List.{get_or-drop}
-use Rattle.std.proofs.lemmas.Option.{same_Some}
 use Rattle.acpi_base.specs.Number.{field}
 use Rattle.acpi_base.specs.Entries.{StandsWith, AreUnused, cut_of}
 use Rattle.acpi_base.specs.Srat.{SratContents, MemoryValue, MemoryRange, srat_contents, SratFault, SratEntryFault, IsAny, IsHotPluggable, IsNotHotPluggable, is_hot_pluggable, Covers, IsOverlap}
 use Rattle.acpi_base.specs.Clashes.{IsClash}
-use Rattle.acpi_base.proofs.HeldBytes.{none_and_some}
 use Rattle.acpi_base.specs.declared.policy.HotPlug.{HotPlug}
 use Rattle.acpi_base.specs.declared.policy.HotPlug.TheVariants.{Counted, Apart}
 use Rattle.acpi_confirm.specs.Srats.{CoversWith, AreCompared}
-use Rattle.acpi_confirm.specs.Walks.{IsOnly}
 use Rattle.acpi_base.specs.declared.code.Code.{Code}
 use Rattle.acpi_base.specs.declared.code.Code.TheVariants as code
 
@@ -59,61 +56,40 @@ covered P c o s x (MemoryRange v, stands, (enabled, kind, base, from, below)) =
     record { range = v; there = (MemoryRange v, stands, (enabled, least, most, refl)); kind = kind }
 covered P c o s x (_, stands, not) = absurd not
 
-abbrev IsOnlyAt : SratContents → ℕ → ℕ → Option ℕ → Type 0
-IsOnlyAt c o x found = IsOnly (λ flags. CoversAt c o x flags) found
-
 -- two ranges of one kind clash where both cover the address
-clash : (P : MemoryValue → Type 0) (c : SratContents) (o p x f g : ℕ) → IsOnlyAt c o x (Some f) → IsOnlyAt c p x (Some g) → o ≢ p → ((v : MemoryValue) → v.flags ≡ f → P v) → ((v : MemoryValue) → v.flags ≡ g → P v) → IsClash (Covers P c) o p x
+clash : (P : MemoryValue → Type 0) (c : SratContents) (o p x f g : ℕ) → CoversAt c o x f → CoversAt c p x g → o ≢ p → ((v : MemoryValue) → v.flags ≡ f → P v) → ((v : MemoryValue) → v.flags ≡ g → P v) → IsClash (Covers P c) o p x
 clash P c o p x f g one other apart mine its =
-    let first = covers P c o x f mine ((one.is f).1 refl) in
-    let second = covers P c p x g its ((other.is g).1 refl) in
+    let first = covers P c o x f mine one in
+    let second = covers P c p x g its other in
     record { s = first.0; t = second.0; one_holds = first.1; other_holds = second.1; two = apart }
-
--- and are of the kind where they clash
-kind_of : (P : MemoryValue → Type 0) (kind : Bool) → ((v : MemoryValue) → P v → is_hot_pluggable v.flags ≡ kind) → (c : SratContents) (o s x f : ℕ) → IsOnlyAt c o x (Some f) → Covers P c o s x → is_hot_pluggable f ≡ kind
-kind_of P kind is c o s x f only holds =
-    let by = covered P c o s x holds in
-    let same : f ≡ by.range.flags = same_Some _ _ ((only.is by.range.flags).0 by.there) in
-    ap is_hot_pluggable same ∙ is by.range by.kind
 
 of_kind : (kind : Bool) (f : ℕ) → is_hot_pluggable f ≡ kind → (v : MemoryValue) → v.flags ≡ f → is_hot_pluggable v.flags ≡ kind
 of_kind kind f is v same = ap is_hot_pluggable same ∙ is
 
-compared_apart : (c : SratContents) (o p x f g : ℕ) (kind : Bool) → is_hot_pluggable f ≡ kind → IsOnlyAt c o x (Some f) → IsOnlyAt c p x (Some g) → o ≢ p → is_hot_pluggable f ≡ is_hot_pluggable g → IsOverlap Apart c o p x
+compared_apart : (c : SratContents) (o p x f g : ℕ) (kind : Bool) → is_hot_pluggable f ≡ kind → CoversAt c o x f → CoversAt c p x g → o ≢ p → is_hot_pluggable f ≡ is_hot_pluggable g → IsOverlap Apart c o p x
 compared_apart c o p x f g true is one other apart same = inr (clash IsHotPluggable c o p x f g one other apart (of_kind true f is) (of_kind true g (sym same ∙ is)))
 compared_apart c o p x f g false is one other apart same = inl (clash IsNotHotPluggable c o p x f g one other apart (of_kind false f is) (of_kind false g (sym same ∙ is)))
 
--- two ranges that cover the address overlap where they are compared
-pub overlap : (h : HotPlug) (c : SratContents) (o p x f g : ℕ) (b : Bool) → IsOnlyAt c o x (Some f) → IsOnlyAt c p x (Some g) → o ≢ p → (IsTrue b ↔ AreCompared h f g) → IsTrue b ↔ IsOverlap h c o p x
-overlap Counted c o p x f g b one other apart is = (λ true. clash IsAny c o p x f g one other apart (λ v same. tt) (λ v same. tt), λ _. is.1 tt)
-overlap Apart c o p x f g b one other apart is = (
-  λ true. compared_apart c o p x f g (is_hot_pluggable f) refl one other apart (is.0 true),
-  λ clashes. is.1 (elim clashes [
-    | inl clash ↦
-        kind_of IsNotHotPluggable false (λ v holds. holds) c o clash.s x f one clash.one_holds ∙ sym (kind_of IsNotHotPluggable false (λ v holds. holds) c p clash.t x g other clash.other_holds)
-    | inr clash ↦
-        kind_of IsHotPluggable true (λ v holds. holds) c o clash.s x f one clash.one_holds ∙ sym (kind_of IsHotPluggable true (λ v holds. holds) c p clash.t x g other clash.other_holds)
-  ]),
+-- two ranges that are compared cover the address
+abbrev CoverBoth : HotPlug → SratContents → ℕ → ℕ → ℕ → Type 0
+CoverBoth h c o p x = (f : ℕ) × (g : ℕ) × CoversAt c o x f × CoversAt c p x g × AreCompared h f g
+
+cover_both : (h : HotPlug) (P : MemoryValue → Type 0) (c : SratContents) (o p x : ℕ) → ((v w : MemoryValue) → P v → P w → AreCompared h v.flags w.flags) → IsClash (Covers P c) o p x → CoverBoth h c o p x
+cover_both h P c o p x compared clash =
+    let one = covered P c o clash.s x clash.one_holds in
+    let other = covered P c p clash.t x clash.other_holds in
+    (one.range.flags, other.range.flags, one.there, other.there, compared one.range other.range one.kind other.kind)
+
+-- which is what an overlap of two offsets is
+pub overlap : (h : HotPlug) (c : SratContents) (o p x : ℕ) → o ≢ p → CoverBoth h c o p x ↔ IsOverlap h c o p x
+overlap Counted c o p x apart = (
+  λ (f, g, one, other, _). clash IsAny c o p x f g one other apart (λ v same. tt) (λ v same. tt),
+  cover_both Counted IsAny c o p x (λ v w one other. tt),
 )
-
--- a range that overlaps covers the address
-none_covers : (P : MemoryValue → Type 0) (c : SratContents) (o s x : ℕ) → IsOnlyAt c o x None → ¬ Covers P c o s x
-none_covers P c o s x none holds =
-    let by = covered P c o s x holds in
-    none_and_some refl ((none.is by.range.flags).0 by.there)
-
--- no range that covers the address stands at the one offset, or at the other; or the two are one
-pub no_first : (h : HotPlug) (c : SratContents) (o p x : ℕ) → IsOnlyAt c o x None → ¬ IsOverlap h c o p x
-no_first Counted c o p x none clash = none_covers IsAny c o clash.s x none clash.one_holds
-no_first Apart c o p x none (inl clash) = none_covers IsNotHotPluggable c o clash.s x none clash.one_holds
-no_first Apart c o p x none (inr clash) = none_covers IsHotPluggable c o clash.s x none clash.one_holds
-
-pub no_second : (h : HotPlug) (c : SratContents) (o p x : ℕ) → IsOnlyAt c p x None → ¬ IsOverlap h c o p x
-no_second Counted c o p x none clash = none_covers IsAny c p clash.t x none clash.other_holds
-no_second Apart c o p x none (inl clash) = none_covers IsNotHotPluggable c p clash.t x none clash.other_holds
-no_second Apart c o p x none (inr clash) = none_covers IsHotPluggable c p clash.t x none clash.other_holds
-
-pub one_offset : (h : HotPlug) (c : SratContents) (o p x : ℕ) → o ≡ p → ¬ IsOverlap h c o p x
-one_offset Counted c o p x same clash = clash.two same
-one_offset Apart c o p x same (inl clash) = clash.two same
-one_offset Apart c o p x same (inr clash) = clash.two same
+overlap Apart c o p x apart = (
+  λ (f, g, one, other, same). compared_apart c o p x f g (is_hot_pluggable f) refl one other apart same,
+  λ clashes. elim clashes [
+    | inl clash ↦ cover_both Apart IsNotHotPluggable c o p x (λ v w one other. one ∙ sym other) clash
+    | inr clash ↦ cover_both Apart IsHotPluggable c o p x (λ v w one other. one ∙ sym other) clash
+  ],
+)

@@ -164,9 +164,6 @@ pub record IsOver (No : List ℕ → Type 0) (first start : ℕ) (whole : List �
   pub listed : (o : ℕ) (e : List ℕ) → Stands (entries_of start whole) o e → Stands (entries_of first whole) o e
   pub passed : (o : ℕ) (e : List ℕ) → Stands (entries_of first whole) o e → Stands (entries_of start whole) o e ⊎ No e
 
-pub over_none : (No : List ℕ → Type 0) (first : ℕ) (whole : List ℕ) → IsOver No first first whole
-over_none No first whole = record { listed = λ o e stands. stands; passed = λ o e stands. inl stands }
-
 pub over_next : (No : List ℕ → Type 0) (first start : ℕ) (whole e : List ℕ) → IsOver No first start whole → IsNext start whole e → No e → IsOver No first (start + length e) whole
 over_next No first start whole e over next passes =
     record {
@@ -180,9 +177,6 @@ over_next No first start whole e over next passes =
             ]
       ];
     }
-
-pub over_here : (No : List ℕ → Type 0) (first start : ℕ) (whole e : List ℕ) → IsOver No first start whole → IsNext start whole e → Stands (entries_of first whole) start e
-over_here No first start whole e over next = over.listed start e (rw next.first (first_element _ _))
 
 pub over_all : (No : List ℕ → Type 0) (first start : ℕ) (whole : List ℕ) → IsOver No first start whole → IsEnd start whole → (o : ℕ) (e : List ℕ) → Stands (entries_of first whole) o e → No e
 over_all No first start whole over end o e stands =

@@ -1,14 +1,13 @@
 //! Codes 57 to 59: rules across tables.
 
-ghost use Rattle.std.specs.Prelude.{◌≡◌, ◌≤◌, ◌↔◌, ℕ, length, IsTrue};
-ghost use Rattle.acpi_base.specs.Across.{DomainFault, ServedFault, LeafFault, IsEnabled, IsIoApic, HasIoApic, IsServed, IsLeaf, IsUid};
+ghost use Rattle.std.specs.Prelude.{◌≡◌, ◌≢◌, ◌≤◌, ◌<◌, ◌↔◌, ℕ, IsTrue};
+ghost use Rattle.acpi_base.specs.Across.{DomainFault, ServedFault, LeafFault, IsEnabled, HasIoApic, IsServed, IsLeaf, IsUid, PutsAt};
 ghost use Rattle.acpi_base.specs.Entries.{IsEntry, StandsWith};
-ghost use Rattle.acpi_base.specs.Madt.{IsEnabledProcessor, HasUid, NamesGsi, IsWhollyTyped, madt_entry, madt_contents};
+ghost use Rattle.acpi_base.specs.Madt.{NamesGsi, IsWhollyTyped, madt_contents};
 ghost use Rattle.acpi_base.specs.Policy.{counts_as_enabled};
 ghost use Rattle.acpi_base.specs.Pptt.{pptt_entry, pptt_contents};
-ghost use Rattle.acpi_base.specs.Srat.{PutsIn, srat_entry, srat_contents};
-ghost use Rattle.acpi_base.specs.declared.code.Code.{Code};
-ghost use Rattle.acpi_confirm.specs.Madts.{IsOpaque, ServesGsi};
+ghost use Rattle.acpi_base.specs.Srat.{PutsIn, srat_contents};
+ghost use Rattle.acpi_confirm.specs.Madts.{IsOpaque};
 ghost use Rattle.acpi_confirm.specs.Walks.{IsOnly};
 
 use crate::entries::{cut, entry_at, has_bit, has_entry};
@@ -31,12 +30,11 @@ fn counts_as_enabled(processors: Processors, flags: u32) -> bool
     }
 }
 
-/// Whether an entry is of the processor with this number, which counts as enabled.
-fn is_enabled_processor(processors: Processors, entry: &[u8], number: u64) -> bool
-    requires { IsEntry entry.now }
-    ensures { IsTrue result ↔ IsEnabledProcessor processors number (madt_entry entry.now) }
+/// Whether the MADT has a processor with this number that counts as enabled.
+fn has_enabled(processors: Processors, madt: &[u8], number: u64) -> bool
+    ensures { IsTrue result ↔ IsEnabled processors (madt_contents madt.now) number }
 {
-    match madt::read(entry) {
+    has_entry(madt, madt::FIRST_ENTRY, |entry| match madt::read(entry) {
         MadtEntry::LocalApic { apic_id, flags, .. } => {
             u64::from(apic_id) == number && counts_as_enabled(processors, flags)
         }
@@ -46,24 +44,14 @@ fn is_enabled_processor(processors: Processors, entry: &[u8], number: u64) -> bo
             ..
         } => u64::from(x2apic_id) == number && counts_as_enabled(processors, flags),
         _ => false,
-    }
-}
-
-/// Whether the MADT has a processor with this number that counts as enabled.
-fn has_enabled(processors: Processors, madt: &[u8], number: u64) -> bool
-    ensures { IsTrue result ↔ IsEnabled processors (madt_contents madt.now) number }
-{
-    has_entry(madt, madt::FIRST_ENTRY, |entry| {
-        is_enabled_processor(processors, entry, number)
     })
 }
 
-/// The domain in which an enabled entry of the SRAT puts the processor with this number.
-fn domain(entry: &[u8], number: u64) -> Option<u64>
-    requires { IsEntry entry.now }
-    ensures { IsOnly (λ domain. PutsIn number domain (srat_entry entry.now)) result }
+/// The domain in which the entry at an offset puts the processor with this number.
+fn domain_at(srat: &[u8], at: u64, number: u64) -> Option<u64>
+    ensures { IsOnly (λ domain. StandsWith (srat_contents srat.now).entries at (PutsIn number domain)) result }
 {
-    match srat::read(entry) {
+    entry_at(srat, srat::FIRST_ENTRY, at).and_then(|entry| match srat::read(entry) {
         SratEntry::ApicDomain {
             domain,
             apic_id,
@@ -77,44 +65,17 @@ fn domain(entry: &[u8], number: u64) -> Option<u64>
             ..
         } if u64::from(x2apic_id) == number && is_enabled(flags) => Some(u64::from(domain)),
         _ => None,
-    }
+    })
 }
 
-/// The domain in which the entry at an offset puts the processor with this number.
-fn domain_at(srat: &[u8], at: u64, number: u64) -> Option<u64>
-    ensures { IsOnly (λ domain. StandsWith (srat_contents srat.now).entries at (PutsIn number domain)) result }
+/// Whether two entries of the SRAT, the second of them earlier, put the processor with this number in two domains.
+fn do_domains_differ(srat: &[u8], at: u64, earlier: u64, number: u64) -> bool
+    ensures { IsTrue result ↔ ((d f : ℕ) × PutsAt (srat_contents srat.now) at number d × PutsAt (srat_contents srat.now) earlier number f × (earlier < at) × (d ≢ f)) }
 {
-    match entry_at(srat, srat::FIRST_ENTRY, at) {
-        Some(entry) => domain(entry, number),
-        None => None,
-    }
-}
-
-/// Whether two entries of the SRAT, the second of them earlier, put a processor, which counts as enabled, in two
-/// domains.
-fn has_two_domains(
-    processors: Processors,
-    madt: &[u8],
-    srat: &[u8],
-    at: u64,
-    earlier: u64,
-    number: u64,
-) -> bool
-    ensures { IsTrue result ↔ DomainFault processors (madt_contents madt.now) (srat_contents srat.now) Code.TwoDomains at earlier number }
-{
-    if earlier >= at {
-        return false;
-    }
-    let Some(one) = domain_at(srat, at, number) else {
-        return false;
-    };
-    let Some(other) = domain_at(srat, earlier, number) else {
-        return false;
-    };
-    if one == other {
-        return false;
-    }
-    has_enabled(processors, madt, number)
+    earlier < at
+        && domain_at(srat, at, number)
+            .zip(domain_at(srat, earlier, number))
+            .is_some_and(|(one, other)| one != other)
 }
 
 /// Code 57: whether the MADT and the SRAT have this fault.
@@ -122,33 +83,25 @@ pub(crate) fn is_domain_fault(madt: &[u8], srat: &[u8], policy: &Policy, witness
     ensures { IsTrue result ↔ DomainFault policy.now.processors (madt_contents madt.now) (srat_contents srat.now) witness.now.code witness.now.at witness.now.other witness.now.point }
 {
     match witness.code {
-        Code::TwoDomains => has_two_domains(
-            policy.processors(),
-            madt,
-            srat,
-            witness.at,
-            witness.other,
-            witness.point,
-        ),
+        Code::TwoDomains => {
+            do_domains_differ(srat, witness.at, witness.other, witness.point)
+                && has_enabled(policy.processors(), madt, witness.point)
+        }
         _ => false,
     }
 }
 
 // ---- Code 58: interrupt numbers
 
-/// Whether an entry is an I/O APIC.
-fn is_io_apic(entry: &[u8]) -> bool
-    requires { IsEntry entry.now }
-    ensures { IsTrue result ↔ IsIoApic (madt_entry entry.now) }
-{
-    matches!(madt::read(entry), MadtEntry::IoApic { .. })
-}
-
 /// Whether the MADT has an I/O APIC.
 fn has_io_apic(madt: &[u8]) -> bool
     ensures { IsTrue result ↔ HasIoApic (madt_contents madt.now) }
 {
-    has_entry(madt, madt::FIRST_ENTRY, |entry| is_io_apic(entry))
+    has_entry(
+        madt,
+        madt::FIRST_ENTRY,
+        |entry| matches!(madt::read(entry), MadtEntry::IoApic { .. }),
+    )
 }
 
 /// Whether an I/O APIC serves the interrupt number.
@@ -162,27 +115,16 @@ fn is_served(policy: &Policy, madt: &[u8], number: u64) -> bool
     )
 }
 
-/// Whether an entry is an override or an NMI source, and names the interrupt number.
-fn names_gsi(entry: &[u8], number: u64) -> bool
-    requires { IsEntry entry.now }
-    ensures { IsTrue result ↔ NamesGsi number (madt_entry entry.now) }
-{
-    match madt::read(entry) {
-        MadtEntry::Override { gsi, .. } | MadtEntry::NmiSource { gsi, .. } => {
-            u64::from(gsi) == number
-        }
-        _ => false,
-    }
-}
-
 /// Whether the entry at an offset names the interrupt number.
 fn names_gsi_at(madt: &[u8], at: u64, number: u64) -> bool
     ensures { IsTrue result ↔ StandsWith (madt_contents madt.now).entries at (NamesGsi number) }
 {
-    match entry_at(madt, madt::FIRST_ENTRY, at) {
-        Some(entry) => names_gsi(entry, number),
-        None => false,
-    }
+    entry_at(madt, madt::FIRST_ENTRY, at).is_some_and(|entry| match madt::read(entry) {
+        MadtEntry::Override { gsi, .. } | MadtEntry::NmiSource { gsi, .. } => {
+            u64::from(gsi) == number
+        }
+        _ => false,
+    })
 }
 
 /// Code 58: whether the MADT has this fault.
@@ -202,19 +144,15 @@ pub(crate) fn is_served_fault(madt: &[u8], policy: &Policy, witness: &Witness) -
 
 // ---- Code 59: leaves
 
-/// Whether an entry is not typed.
-fn is_opaque(entry: &[u8]) -> bool
-    requires { IsEntry entry.now }
-    ensures { IsTrue result ↔ IsOpaque (madt_entry entry.now) }
-{
-    matches!(madt::read(entry), MadtEntry::Opaque(_))
-}
-
 /// Whether the MADT has an entry that is not typed.
 fn has_opaque(madt: &[u8]) -> bool
     ensures { IsTrue result ↔ ((o : ℕ) × StandsWith (madt_contents madt.now).entries o IsOpaque) }
 {
-    has_entry(madt, madt::FIRST_ENTRY, |entry| is_opaque(entry))
+    has_entry(
+        madt,
+        madt::FIRST_ENTRY,
+        |entry| matches!(madt::read(entry), MadtEntry::Opaque(_)),
+    )
 }
 
 /// Whether the MADT has at least 44 bytes, and typed entries fill the rest of it.
@@ -231,23 +169,15 @@ fn is_wholly_typed(madt: &[u8]) -> bool
     }
 }
 
-/// Whether an entry is of a processor, enabled or not, with this UID.
-fn has_uid(entry: &[u8], uid: u64) -> bool
-    requires { IsEntry entry.now }
-    ensures { IsTrue result ↔ HasUid uid (madt_entry entry.now) }
-{
-    match madt::read(entry) {
-        MadtEntry::LocalApic { uid: own, .. } => u64::from(own) == uid,
-        MadtEntry::X2apic { uid: own, .. } => u64::from(own) == uid,
-        _ => false,
-    }
-}
-
 /// Whether a processor of the MADT has this UID.
 fn is_uid(madt: &[u8], uid: u64) -> bool
     ensures { IsTrue result ↔ IsUid (madt_contents madt.now) uid }
 {
-    has_entry(madt, madt::FIRST_ENTRY, |entry| has_uid(entry, uid))
+    has_entry(madt, madt::FIRST_ENTRY, |entry| match madt::read(entry) {
+        MadtEntry::LocalApic { uid: own, .. } => u64::from(own) == uid,
+        MadtEntry::X2apic { uid: own, .. } => u64::from(own) == uid,
+        _ => false,
+    })
 }
 
 /// Whether an entry of the PPTT is a node that is a leaf and has this ID, which its flags say is valid.
@@ -267,10 +197,7 @@ fn is_leaf(entry: &[u8], id: u64) -> bool
 fn is_leaf_at(pptt: &[u8], at: u64, id: u64) -> bool
     ensures { IsTrue result ↔ StandsWith (pptt_contents pptt.now).entries at (IsLeaf id) }
 {
-    match entry_at(pptt, pptt::FIRST_ENTRY, at) {
-        Some(entry) => is_leaf(entry, id),
-        None => false,
-    }
+    entry_at(pptt, pptt::FIRST_ENTRY, at).is_some_and(|entry| is_leaf(entry, id))
 }
 
 /// Whether the PPTT's Revision is at least 2.

@@ -1,6 +1,6 @@
 //! Codes 19 to 25: the FADT (ACPI 6.5, 5.2.9).
 
-ghost use Rattle.std.specs.Prelude.{◌≡◌, ◌+◌, ◌≤◌, ◌<◌, ◌↔◌, IsTrue, length};
+ghost use Rattle.std.specs.Prelude.{◌≡◌, ◌≤◌, ◌<◌, ◌↔◌, IsTrue, length};
 ghost use Rattle.acpi_base.specs.Fadt.{has_flag, is_reduced, gas_at, IsNoResetRegister, FadtTableFault};
 ghost use Rattle.acpi_base.specs.Faults.{FaultCondition};
 ghost use Rattle.acpi_base.specs.declared.stage.Stage.{Stage};

@@ -1,6 +1,6 @@
 //! The first listed table with a signature (ACPI 6.5, 5.2.6 to 5.2.8).
 
-ghost use Rattle.std.specs.Prelude.{◌≡◌, ◌↔◌, ◌≤◌, ◌<◌, ◌^◌, ℕ, List, IsTrue, IfSome, MatchOption, length};
+ghost use Rattle.std.specs.Prelude.{◌↔◌, ◌≤◌, ◌<◌, ◌^◌, ℕ, List, IsTrue, IfSome, MatchOption, length};
 ghost use Rattle.acpi_base.specs.Listed.{IsListedTable, ListsNone, IsFirstListed, IsNoneListed};
 ghost use Rattle.acpi_base.specs.Root.{HasSlot};
 ghost use Rattle.acpi_base.specs.Tables.{IsSigned};

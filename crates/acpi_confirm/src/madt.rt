@@ -133,12 +133,11 @@ fn is_madt_type(number: u8) -> bool
     matches!(number, 0..=5 | 9 | 10)
 }
 
-/// Codes 34 to 36 and 38: whether an entry has this fault by itself.
-fn has_own_fault(policy: &Policy, entry: &[u8], code: Code) -> bool
-    requires { IsEntry entry.now }
-    ensures { IsTrue result ↔ MadtEntryFault policy.now code (madt_entry entry.now) }
+/// Codes 34 to 36 and 38: whether the entry at an offset has this fault by itself.
+fn has_own_fault_at(policy: &Policy, madt: &[u8], at: u64, code: Code) -> bool
+    ensures { IsTrue result ↔ StandsWith (madt_contents madt.now).entries at (MadtEntryFault policy.now code) }
 {
-    match (code, read(entry)) {
+    entry_at(madt, FIRST_ENTRY, at).is_some_and(|entry| match (code, read(entry)) {
         (Code::MadtEntryLength, MadtEntry::Opaque(bytes)) => is_madt_type(bytes[0]),
         (Code::OverrideBus, MadtEntry::Override { bus, .. }) => bus != 0,
         (
@@ -157,35 +156,17 @@ fn has_own_fault(policy: &Policy, entry: &[u8], code: Code) -> bool
             },
         ) => u64::from(gsi_base) + u64::from(policy.inputs_of(address)) > 1 << 32,
         _ => false,
-    }
-}
-
-/// Codes 34 to 36 and 38: whether the entry at an offset has this fault by itself.
-fn has_own_fault_at(policy: &Policy, madt: &[u8], at: u64, code: Code) -> bool
-    ensures { IsTrue result ↔ StandsWith (madt_contents madt.now).entries at (MadtEntryFault policy.now code) }
-{
-    match entry_at(madt, FIRST_ENTRY, at) {
-        Some(entry) => has_own_fault(policy, entry, code),
-        None => false,
-    }
-}
-
-/// Whether an entry is an address override.
-fn is_address_override(entry: &[u8]) -> bool
-    requires { IsEntry entry.now }
-    ensures { IsTrue result ↔ IsAddressOverride (madt_entry entry.now) }
-{
-    matches!(read(entry), MadtEntry::AddressOverride { .. })
+    })
 }
 
 /// Whether the entry at an offset is an address override.
 fn is_address_override_at(madt: &[u8], at: u64) -> bool
     ensures { IsTrue result ↔ StandsWith (madt_contents madt.now).entries at IsAddressOverride }
 {
-    match entry_at(madt, FIRST_ENTRY, at) {
-        Some(entry) => is_address_override(entry),
-        None => false,
-    }
+    entry_at(madt, FIRST_ENTRY, at).is_some_and(|entry| matches!(
+        read(entry),
+        MadtEntry::AddressOverride { .. }
+    ))
 }
 
 /// Whether the two numbers are 0 that most faults do not use.
@@ -235,10 +216,7 @@ pub(crate) fn serves(policy: &Policy, entry: &[u8], number: u64) -> bool
 fn serves_at(policy: &Policy, madt: &[u8], at: u64, number: u64) -> bool
     ensures { IsTrue result ↔ StandsWith (madt_contents madt.now).entries at (ServesGsi policy.now number) }
 {
-    match entry_at(madt, FIRST_ENTRY, at) {
-        Some(entry) => serves(policy, entry, number),
-        None => false,
-    }
+    entry_at(madt, FIRST_ENTRY, at).is_some_and(|entry| serves(policy, entry, number))
 }
 
 /// Code 39: whether two I/O APICs serve one interrupt number.
@@ -256,45 +234,28 @@ fn has_interrupt_fault(madt: &[u8], policy: &Policy, witness: &Witness) -> bool
     }
 }
 
-/// The interrupt number that an entry gives the source, where it is an override of it.
-fn overriding(entry: &[u8], source: u64) -> Option<u32>
-    requires { IsEntry entry.now }
-    ensures { IsOnly (λ gsi. Overrides source gsi (madt_entry entry.now)) result }
+/// The interrupt number that the entry at an offset gives the source, where it is an override of it.
+fn overriding_at(madt: &[u8], at: u64, source: u64) -> Option<u32>
+    ensures { IsOnly (λ gsi. StandsWith (madt_contents madt.now).entries at (Overrides source gsi)) result }
 {
-    match read(entry) {
+    entry_at(madt, FIRST_ENTRY, at).and_then(|entry| match read(entry) {
         MadtEntry::Override {
             source: own,
             gsi,
             ..
         } if u64::from(own) == source => Some(gsi),
         _ => None,
-    }
-}
-
-/// The interrupt number that the entry at an offset gives the source, where it is an override of it.
-fn overriding_at(madt: &[u8], at: u64, source: u64) -> Option<u32>
-    ensures { IsOnly (λ gsi. StandsWith (madt_contents madt.now).entries at (Overrides source gsi)) result }
-{
-    match entry_at(madt, FIRST_ENTRY, at) {
-        Some(entry) => overriding(entry, source),
-        None => None,
-    }
+    })
 }
 
 /// Whether two overrides, the second of them earlier, give one source two interrupt numbers.
 fn do_overrides_differ(madt: &[u8], at: u64, earlier: u64, source: u64) -> bool
     ensures { IsTrue result ↔ OverrideFault (madt_contents madt.now) Code.OverrideClash at earlier source }
 {
-    if earlier >= at {
-        return false;
-    }
-    let Some(one) = overriding_at(madt, at, source) else {
-        return false;
-    };
-    let Some(other) = overriding_at(madt, earlier, source) else {
-        return false;
-    };
-    one != other
+    earlier < at
+        && overriding_at(madt, at, source)
+            .zip(overriding_at(madt, earlier, source))
+            .is_some_and(|(one, other)| one != other)
 }
 
 /// Code 40: two overrides.

@@ -2,12 +2,12 @@
 
 mod chains;
 
-ghost use Rattle.std.specs.Prelude.{◌≡◌, ◌≢◌, ◌≤◌, ◌↔◌, length, IsTrue};
+ghost use Rattle.std.specs.Prelude.{◌≡◌, ◌≤◌, ◌↔◌, length, IsTrue};
 ghost use Rattle.std.specs.Bool.{OnTrue};
 ghost use Rattle.acpi_base.specs.Chains.{IsAt, Dangles};
 ghost use Rattle.acpi_base.specs.Codes.{stage_of};
-ghost use Rattle.acpi_base.specs.Entries.{IsEntry, StandsWith};
-ghost use Rattle.acpi_base.specs.Pptt.{PpttFaultAt, PpttFault, ReferenceFault, HasOtherPpttLength, NamesResource, IsResourceAt, has_node_form, has_cache_form, pptt_contents, pptt_entry, pptt_type, resource_of};
+ghost use Rattle.acpi_base.specs.Entries.{IsEntry};
+ghost use Rattle.acpi_base.specs.Pptt.{PpttFaultAt, PpttFault, ReferenceFault, HasOtherPpttLength, NamesResource, IsResourceAt, has_node_form, has_cache_form, pptt_contents, pptt_entry, resource_of};
 ghost use Rattle.acpi_confirm.specs.Conditions.{PpttCondition};
 ghost use Rattle.acpi_confirm.specs.Links.{Names, named_by};
 ghost use Rattle.acpi_confirm.specs.Walks.{IsOnly};
@@ -70,10 +70,7 @@ fn named(entry: &[u8], link: Link) -> Option<u64>
 fn named_at(pptt: &[u8], link: Link, at: u64) -> Option<u64>
     ensures { IsOnly (Names link (pptt_contents pptt.now) at) result }
 {
-    match entry_at(pptt, FIRST_ENTRY, at) {
-        Some(entry) => named(entry, link),
-        None => None,
-    }
+    entry_at(pptt, FIRST_ENTRY, at).and_then(|entry| named(entry, link))
 }
 
 /// Whether an entry is not typed though it has type 0 or 1.
@@ -85,16 +82,6 @@ fn has_other_length(entry: &[u8]) -> bool
     entry[0] <= 1 && !is_node(entry) && !is_cache(entry)
 }
 
-/// Whether the entry at an offset is not typed though it has type 0 or 1.
-fn has_other_length_at(pptt: &[u8], at: u64) -> bool
-    ensures { IsTrue result ↔ StandsWith (pptt_contents pptt.now).entries at HasOtherPpttLength }
-{
-    match entry_at(pptt, FIRST_ENTRY, at) {
-        Some(entry) => has_other_length(entry),
-        None => false,
-    }
-}
-
 /// Whether the PPTT has this fault of an entry by itself at this offset.
 #[tactic(auto, using(crate::proofs::PpttEntries::pptt_cut))]
 fn has_entry_fault_at(pptt: &[u8], code: Code, at: u64) -> bool
@@ -102,7 +89,9 @@ fn has_entry_fault_at(pptt: &[u8], code: Code, at: u64) -> bool
 {
     match code {
         Code::PpttEntryCut => cut(pptt, FIRST_ENTRY) == Some(at),
-        Code::PpttEntryLength => has_other_length_at(pptt, at),
+        Code::PpttEntryLength => {
+            entry_at(pptt, FIRST_ENTRY, at).is_some_and(|entry| has_other_length(entry))
+        }
         _ => false,
     }
 }
@@ -116,7 +105,7 @@ fn has_entry_fault(pptt: &[u8], witness: &Witness) -> bool
 
 /// The private resource `index` of an entry, from 0 on, where it is a node that has so many.
 #[tactic(auto, unfolding(acpi_base::specs::Pptt::pptt_entry), using(crate::proofs::PpttEntries::resources))]
-fn resource(entry: &[u8], index: u64) -> Option<u64>
+fn private_resource(entry: &[u8], index: u64) -> Option<u64>
     requires { IsEntry entry.now }
     ensures { result ≡ resource_of index (pptt_entry entry.now) }
 {
@@ -126,33 +115,11 @@ fn resource(entry: &[u8], index: u64) -> Option<u64>
     Some(u64::from(u32_at(entry, 20 + 4 * index as usize)))
 }
 
-/// The private resource `index` of the entry at an offset.
-fn resource_at(pptt: &[u8], at: u64, index: u64) -> Option<u64>
-    ensures { IsOnly (NamesResource (pptt_contents pptt.now) at index) result }
-{
-    match entry_at(pptt, FIRST_ENTRY, at) {
-        Some(entry) => resource(entry, index),
-        None => None,
-    }
-}
-
-/// Whether an entry, typed or not, has another type than 0.
-#[tactic(auto, unfolding(acpi_base::specs::Pptt::pptt_entry), using(crate::proofs::PpttEntries::kinds))]
-fn is_resource(entry: &[u8]) -> bool
-    requires { IsEntry entry.now }
-    ensures { IsTrue result ↔ (pptt_type (pptt_entry entry.now) ≢ 0) }
-{
-    entry[0] != 0
-}
-
 /// Whether an entry of another type than 0 stands at an offset.
 fn is_resource_at(pptt: &[u8], at: u64) -> bool
     ensures { IsTrue result ↔ IsResourceAt (pptt_contents pptt.now) at }
 {
-    match entry_at(pptt, FIRST_ENTRY, at) {
-        Some(entry) => is_resource(entry),
-        None => false,
-    }
+    entry_at(pptt, FIRST_ENTRY, at).is_some_and(|entry| entry[0] != 0)
 }
 
 /// Whether an entry of the link's kind stands at an offset.
@@ -173,7 +140,8 @@ fn dangles(pptt: &[u8], link: Link, at: u64, other: u64) -> bool
 fn names_resource(pptt: &[u8], at: u64, index: u64, resource: u64) -> bool
     ensures { IsTrue result ↔ NamesResource (pptt_contents pptt.now) at index resource }
 {
-    resource_at(pptt, at, index) == Some(resource)
+    entry_at(pptt, FIRST_ENTRY, at).is_some_and(|entry| private_resource(entry, index)
+        == Some(resource))
 }
 
 /// Codes 52 to 54: what entries name.

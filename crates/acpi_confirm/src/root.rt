@@ -1,10 +1,10 @@
 //! Codes 8 to 14: the root, which is the XSDT or the RSDT (ACPI 6.5, 5.2.7, 5.2.8).
 
-ghost use Rattle.std.specs.Prelude.{◌≡◌, ◌+◌, ◌*◌, ◌≤◌, ◌<◌, ◌^◌, ◌↔◌, ℕ, List, IsTrue, IfSome, MatchOption, Some, length};
+ghost use Rattle.std.specs.Prelude.{◌≡◌, ◌+◌, ◌*◌, ◌≤◌, ◌<◌, ◌↔◌, ℕ, List, IsTrue, IfSome, MatchOption, Some, length};
 ghost use Rattle.std.specs.Option.{option_map};
 ghost use Rattle.acpi_base.specs.Faults.{FaultCondition};
 ghost use Rattle.acpi_base.specs.Rsdp.{addresses_at};
-ghost use Rattle.acpi_base.specs.Root.{chosen_root, root_signature, IsSlotWidth, HasNoRoot, IsRoot, IsRootTable, HasSlot, RootTableFault};
+ghost use Rattle.acpi_base.specs.Root.{chosen_root, root_signature, IsSlotWidth, HasNoRoot, IsRoot, HasSlot, RootTableFault};
 ghost use Rattle.acpi_base.specs.declared.stage.Stage.{Stage};
 ghost use Rattle.acpi_confirm.specs.Roots.{IsWholeRoot, HasSlots};
 

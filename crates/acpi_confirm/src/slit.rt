@@ -51,20 +51,14 @@ fn cell_at(slit: &[u8], at: u64) -> Option<Cell>
 fn is_wrong_diagonal(slit: &[u8], at: u64) -> bool
     ensures { IsTrue result ↔ (HasSlitSize (slit_contents slit.now) × SomeCell (slit_contents slit.now) at (λ i j. (i ≡ j) × (distance (slit_contents slit.now) i j ≢ 10))) }
 {
-    match cell_at(slit, at) {
-        Some(cell) => cell.row == cell.column && cell.distance != 10,
-        None => false,
-    }
+    cell_at(slit, at).is_some_and(|cell| cell.row == cell.column && cell.distance != 10)
 }
 
 /// Whether the distance in the cell at an offset is below 10.
 fn is_low(slit: &[u8], at: u64) -> bool
     ensures { IsTrue result ↔ (HasSlitSize (slit_contents slit.now) × SomeCell (slit_contents slit.now) at (λ i j. distance (slit_contents slit.now) i j < 10)) }
 {
-    match cell_at(slit, at) {
-        Some(cell) => cell.distance < 10,
-        None => false,
-    }
+    cell_at(slit, at).is_some_and(|cell| cell.distance < 10)
 }
 
 /// Whether the table has this fault at this offset.

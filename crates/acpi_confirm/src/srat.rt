@@ -2,7 +2,7 @@
 
 ghost use Rattle.std.specs.Prelude.{◌≡◌, ◌≤◌, ◌+◌, ◌*◌, ◌↔◌, length, IsTrue};
 ghost use Rattle.acpi_base.specs.Codes.{stage_of};
-ghost use Rattle.acpi_base.specs.Entries.{IsEntry, StandsWith};
+ghost use Rattle.acpi_base.specs.Entries.{StandsWith};
 ghost use Rattle.acpi_base.specs.Number.{field};
 ghost use Rattle.acpi_base.specs.Srat as srat;
 ghost use Rattle.acpi_base.specs.Srat.{SratFault, SratEntryFault, RangeFault, IsOverlap, srat_entry, srat_contents};
@@ -103,12 +103,11 @@ fn is_hot_pluggable(flags: u32) -> bool
     has_bit(flags, 1)
 }
 
-/// Codes 43 and 44: whether an entry has this fault by itself.
-fn has_own_fault(entry: &[u8], code: Code) -> bool
-    requires { IsEntry entry.now }
-    ensures { IsTrue result ↔ SratEntryFault code (srat_entry entry.now) }
+/// Codes 43 and 44: whether the entry at an offset has this fault by itself.
+fn has_own_fault_at(srat: &[u8], at: u64, code: Code) -> bool
+    ensures { IsTrue result ↔ StandsWith (srat_contents srat.now).entries at (SratEntryFault code) }
 {
-    match (code, read(entry)) {
+    entry_at(srat, FIRST_ENTRY, at).is_some_and(|entry| match (code, read(entry)) {
         (Code::SratEntryLength, SratEntry::Opaque(bytes)) => bytes[0] <= 2,
         (
             Code::RangePastEnd,
@@ -120,17 +119,7 @@ fn has_own_fault(entry: &[u8], code: Code) -> bool
             },
         ) => is_enabled(flags) && u128::from(base) + u128::from(size) > 1 << 64,
         _ => false,
-    }
-}
-
-/// Codes 43 and 44: whether the entry at an offset has this fault by itself.
-fn has_own_fault_at(srat: &[u8], at: u64, code: Code) -> bool
-    ensures { IsTrue result ↔ StandsWith (srat_contents srat.now).entries at (SratEntryFault code) }
-{
-    match entry_at(srat, FIRST_ENTRY, at) {
-        Some(entry) => has_own_fault(entry, code),
-        None => false,
-    }
+    })
 }
 
 /// Codes 41 to 44: the table and each entry by itself.
@@ -148,12 +137,11 @@ fn has_entry_fault(srat: &[u8], witness: &Witness) -> bool
     }
 }
 
-/// The flags of an entry that is an enabled range and covers the address.
-fn covering(entry: &[u8], address: u64) -> Option<u32>
-    requires { IsEntry entry.now }
-    ensures { IsOnly (λ flags. CoversWith address flags (srat_entry entry.now)) result }
+/// The flags of the enabled range at an offset that covers the address.
+fn covering_at(srat: &[u8], at: u64, address: u64) -> Option<u32>
+    ensures { IsOnly (λ flags. StandsWith (srat_contents srat.now).entries at (CoversWith address flags)) result }
 {
-    match read(entry) {
+    entry_at(srat, FIRST_ENTRY, at).and_then(|entry| match read(entry) {
         SratEntry::MemoryRange {
             base,
             size,
@@ -163,17 +151,7 @@ fn covering(entry: &[u8], address: u64) -> Option<u32>
             && base <= address
             && u128::from(address) < u128::from(base) + u128::from(size) => { Some(flags) }
         _ => None,
-    }
-}
-
-/// The flags of the enabled range at an offset that covers the address.
-fn covering_at(srat: &[u8], at: u64, address: u64) -> Option<u32>
-    ensures { IsOnly (λ flags. StandsWith (srat_contents srat.now).entries at (CoversWith address flags)) result }
-{
-    match entry_at(srat, FIRST_ENTRY, at) {
-        Some(entry) => covering(entry, address),
-        None => None,
-    }
+    })
 }
 
 /// Whether two ranges with these flags must not overlap.
@@ -190,16 +168,10 @@ fn are_compared(hotplug: HotPlug, one: u32, other: u32) -> bool
 fn is_overlap(srat: &[u8], hotplug: HotPlug, at: u64, other: u64, address: u64) -> bool
     ensures { IsTrue result ↔ IsOverlap hotplug (srat_contents srat.now) at other address }
 {
-    if at == other {
-        return false;
-    }
-    let Some(one) = covering_at(srat, at, address) else {
-        return false;
-    };
-    let Some(other) = covering_at(srat, other, address) else {
-        return false;
-    };
-    are_compared(hotplug, one, other)
+    at != other
+        && covering_at(srat, at, address)
+            .zip(covering_at(srat, other, address))
+            .is_some_and(|(one, other)| are_compared(hotplug, one, other))
 }
 
 /// Code 45: two ranges.

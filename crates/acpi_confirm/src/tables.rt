@@ -1,6 +1,6 @@
 //! Codes 15 to 18: the listed tables (ACPI 6.5, 5.2.6).
 
-ghost use Rattle.std.specs.Prelude.{◌≡◌, ◌≤◌, ◌<◌, ◌^◌, ◌↔◌, ℕ, List, IsTrue, IfSome, MatchOption, Some, length};
+ghost use Rattle.std.specs.Prelude.{◌≤◌, ◌<◌, ◌^◌, ◌↔◌, ℕ, List, IsTrue, IfSome, MatchOption, Some, length};
 ghost use Rattle.acpi_base.specs.Faults.{FaultCondition};
 ghost use Rattle.acpi_base.specs.Tables.{IsTable, TableFault};
 ghost use Rattle.acpi_base.specs.Root.{IsSlot};

@@ -1,6 +1,6 @@
 //! Codes 55 and 56: chains of parents and of next levels.
 
-ghost use Rattle.std.specs.Prelude.{◌≡◌, ◌≤◌, ◌+◌, ◌↔◌, ℕ, Some, IsTrue, IfSome, MatchOption};
+ghost use Rattle.std.specs.Prelude.{◌≤◌, ◌+◌, ◌↔◌, ℕ, Some, IsTrue, IfSome, MatchOption};
 ghost use Rattle.std.specs.Option.{option_map};
 ghost use Rattle.acpi_base.specs.Chains.{IsStep, LeadsTo, IsCycle};
 ghost use Rattle.acpi_base.specs.Entries.{IsEntry, entries_of};
@@ -37,10 +37,7 @@ fn named_next(pptt: &[u8], link: Link, here: Linked) -> Option<u64>
     requires { IsOnly (Names link (pptt_contents pptt.now) here.at) (Some here.names) }
     ensures { IsOnly (Names link (pptt_contents pptt.now) here.names) result }
 {
-    match entry_named(pptt, link, here) {
-        Some(entry) => named(entry, link),
-        None => None,
-    }
+    entry_named(pptt, link, here).and_then(|entry| named(entry, link))
 }
 
 /// One step: from a node to its Parent, or from a cache to its Next Level.

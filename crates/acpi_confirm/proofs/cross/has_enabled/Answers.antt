@@ -1,9 +1,8 @@
 use Rattle.std.proofs.Common.{rules, tests}
-use Rattle.acpi_base.specs.Entries.{entries_of}
 use Rattle.acpi_base.specs.Madt.{IsEnabledProcessor, madt_entry, madt_contents}
 use Rattle.acpi_confirm.proofs.Standing.{found}
 use Rattle.acpi_confirm.proofs.cross.has_enabled.Goals as goal
 
 pub returns : goal.returns
 unfolding madt_contents
-returns c = found madt_entry (entries_of 44 c.args.madt.now) (IsEnabledProcessor c.args.processors c.args.number) _ c.has_entry.result c.has_entry.ensures (λ entry b answer. search (rules, tests))
+returns c = found madt_entry _ (IsEnabledProcessor c.args.processors c.args.number) _ c.has_entry.result c.has_entry.ensures (λ entry b answer. search (rules, tests))

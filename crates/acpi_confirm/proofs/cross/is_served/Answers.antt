@@ -1,5 +1,4 @@
 use Rattle.std.proofs.Common.{rules, tests}
-use Rattle.acpi_base.specs.Entries.{entries_of}
 use Rattle.acpi_base.specs.Madt.{madt_entry, madt_contents}
 use Rattle.acpi_confirm.specs.Madts.{ServesGsi}
 use Rattle.acpi_confirm.proofs.Across.{served}
@@ -8,4 +7,4 @@ use Rattle.acpi_confirm.proofs.cross.is_served.Goals as goal
 
 pub returns : goal.returns
 unfolding madt_contents
-returns c = served c.args.policy.now (madt_contents c.args.madt.now) c.args.number c.has_entry.result (found madt_entry (entries_of 44 c.args.madt.now) (ServesGsi c.args.policy.now c.args.number) _ c.has_entry.result c.has_entry.ensures (λ entry b answer. search (rules, tests)))
+returns c = served c.args.policy.now (madt_contents c.args.madt.now) c.args.number c.has_entry.result (found madt_entry _ (ServesGsi c.args.policy.now c.args.number) _ c.has_entry.result c.has_entry.ensures (λ entry b answer. search (rules, tests)))

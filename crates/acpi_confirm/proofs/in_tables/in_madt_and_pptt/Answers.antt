@@ -1,24 +1,6 @@
-use Rattle.std.proofs.Common.{ℕ, List}
-use Rattle.acpi_base.specs.Across.{LeafFault}
-use Rattle.acpi_base.specs.Contents.{HasPptt}
-use Rattle.acpi_base.specs.Madt.{madt_contents}
-use Rattle.acpi_base.specs.Pptt.{pptt_contents}
-use Rattle.acpi_confirm.proofs.ListedTables.{test_of_listed, none_has_listed}
+use Rattle.std.proofs.Common.{rules, tests}
+use Rattle.acpi_confirm.proofs.ListedTables.{test_of_both}
 use Rattle.acpi_confirm.proofs.in_tables.in_madt_and_pptt.Goals as goal
 
-pub returns-in-Some-listed : goal.returns-in-Some-listed
-returns-in-Some-listed c =
-    let w = c.args.witness.now in
-    let inner = test_of_listed (λ (whole : List ℕ). LeafFault (madt_contents c.in-Some.madt.now) (pptt_contents whole) w.code w.at w.other w.point) c.in-Some-listed.ensures.found c.is_leaf_fault.ensures in
-    test_of_listed (λ (whole : List ℕ). HasPptt c.args.image.now c.args.policy.now (λ pptt. LeafFault (madt_contents whole) pptt w.code w.at w.other w.point)) c.in-Some.ensures.found inner
-
-pub returns-in-None-listed : goal.returns-in-None-listed
-returns-in-None-listed c =
-    let w = c.args.witness.now in
-    let inner = none_has_listed (λ (whole : List ℕ). LeafFault (madt_contents c.in-Some.madt.now) (pptt_contents whole) w.code w.at w.other w.point) c.in-None-listed.ensures.found in
-    test_of_listed (λ (whole : List ℕ). HasPptt c.args.image.now c.args.policy.now (λ pptt. LeafFault (madt_contents whole) pptt w.code w.at w.other w.point)) c.in-Some.ensures.found inner
-
-pub returns-in-None : goal.returns-in-None
-returns-in-None c =
-    let w = c.args.witness.now in
-    none_has_listed (λ (whole : List ℕ). HasPptt c.args.image.now c.args.policy.now (λ pptt. LeafFault (madt_contents whole) pptt w.code w.at w.other w.point)) c.in-None.ensures.found
+pub returns : goal.returns
+returns c = test_of_both _ _ c.listed.result c.listed-2.result c.zip.result c.is_some_and.result c.listed.ensures.found c.listed-2.ensures.found c.zip.ensures c.is_some_and.ensures (λ pair says. search (rules, tests))

@@ -1,16 +1,6 @@
-use Rattle.std.proofs.Common.{ℕ, List}
-use Rattle.acpi_base.specs.Codes.{stage_of}
-use Rattle.acpi_base.specs.Pptt.{pptt_contents}
-use Rattle.acpi_confirm.specs.Conditions.{PpttCondition}
-use Rattle.acpi_confirm.proofs.ListedTables.{test_of_listed, none_has_listed}
+use Rattle.std.proofs.Common.{rules, tests}
+use Rattle.acpi_confirm.proofs.ListedTables.{test_of_found}
 use Rattle.acpi_confirm.proofs.in_tables.in_pptt.Goals as goal
 
-pub returns-in-Some : goal.returns-in-Some
-returns-in-Some c =
-    let w = c.args.witness.now in
-    test_of_listed (λ (whole : List ℕ). PpttCondition (stage_of w.code) (pptt_contents whole) w) c.in-Some.ensures.found c.is_pptt_fault.ensures
-
-pub returns-in-None : goal.returns-in-None
-returns-in-None c =
-    let w = c.args.witness.now in
-    none_has_listed (λ (whole : List ℕ). PpttCondition (stage_of w.code) (pptt_contents whole) w) c.in-None.ensures.found
+pub returns : goal.returns
+returns c = test_of_found _ _ c.listed.result c.is_some_and.result c.listed.ensures.found c.is_some_and.ensures (λ whole says. search (rules, tests))

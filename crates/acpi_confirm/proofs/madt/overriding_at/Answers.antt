@@ -1,12 +1,8 @@
-use Rattle.acpi_base.specs.Entries.{entries_of}
-use Rattle.acpi_base.specs.Madt.{Overrides, madt_entry, madt_contents}
-use Rattle.acpi_confirm.proofs.Standing.{some_only, none_only}
+use Rattle.std.proofs.Common.{rules, tests}
+use Rattle.acpi_base.specs.Madt.{madt_entry, madt_contents}
+use Rattle.acpi_confirm.proofs.Standing.{only_at, only_of}
 use Rattle.acpi_confirm.proofs.madt.overriding_at.Goals as goal
 
-pub returns-in-Some : goal.returns-in-Some
+pub returns : goal.returns
 unfolding madt_contents
-returns-in-Some c = some_only madt_entry (entries_of 44 c.args.madt.now) c.args.at c.in-Some.entry.now (λ gsi. Overrides c.args.source gsi) c.overriding.result c.in-Some.ensures.there c.overriding.ensures
-
-pub returns-in-None : goal.returns-in-None
-unfolding madt_contents
-returns-in-None c = none_only madt_entry (entries_of 44 c.args.madt.now) c.args.at (λ gsi. Overrides c.args.source gsi) c.in-None.ensures.there
+returns c = only_at madt_entry _ _ _ _ c.entry_at.result c.and_then.result c.entry_at.ensures.there c.and_then.ensures (λ entry says. search (rules, tests, only_of))

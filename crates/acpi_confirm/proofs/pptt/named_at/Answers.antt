@@ -1,18 +1,10 @@
-use Rattle.std.proofs.Common.{◌≡◌, Some, None}
-use Rattle.acpi_base.specs.Entries.{entries_of}
+use Rattle.std.proofs.Common.{◌≡◌, Some, rules, tests}
 use Rattle.acpi_base.specs.Pptt.{pptt_entry, pptt_contents}
 use Rattle.acpi_confirm.specs.Links.{named_by}
 use Rattle.acpi_confirm.proofs.PpttEntries.{names_of}
-use Rattle.acpi_confirm.proofs.Standing.{some_only, none_only, only_same}
+use Rattle.acpi_confirm.proofs.Standing.{only_at, only_same}
 use Rattle.acpi_confirm.proofs.pptt.named_at.Goals as goal
 
-pub returns-in-Some : goal.returns-in-Some
+pub returns : goal.returns
 unfolding pptt_contents
-returns-in-Some c =
-    names_of c.args.link _ c.args.at c.named.result
-    (some_only pptt_entry (entries_of 36 c.args.pptt.now) c.args.at c.in-Some.entry.now (λ p e. named_by c.args.link e ≡ Some p) c.named.result c.in-Some.ensures.there (only_same (named_by c.args.link (pptt_entry c.in-Some.entry.now)) c.named.result c.named.ensures))
-
-pub returns-in-None : goal.returns-in-None
-unfolding pptt_contents
-returns-in-None c =
-    names_of c.args.link _ c.args.at None (none_only pptt_entry (entries_of 36 c.args.pptt.now) c.args.at (λ p e. named_by c.args.link e ≡ Some p) c.in-None.ensures.there)
+returns c = names_of c.args.link _ c.args.at c.and_then.result (only_at pptt_entry _ _ (λ p e. named_by c.args.link e ≡ Some p) _ c.entry_at.result c.and_then.result c.entry_at.ensures.there c.and_then.ensures (λ entry says. only_same _ _ (search (rules, tests))))

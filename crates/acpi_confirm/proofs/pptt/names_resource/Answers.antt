@@ -1,6 +1,8 @@
-use Rattle.acpi_base.specs.Pptt.{NamesResource, pptt_contents}
-use Rattle.acpi_confirm.proofs.Standing.{only_eq}
+use Rattle.std.proofs.Common.{◌≡◌, Some, rules, tests}
+use Rattle.acpi_base.specs.Pptt.{resource_of, pptt_entry, pptt_contents}
+use Rattle.acpi_confirm.proofs.Standing.{test_at}
 use Rattle.acpi_confirm.proofs.pptt.names_resource.Goals as goal
 
 pub returns : goal.returns
-returns c = rw c.eq.ensures (only_eq (NamesResource (pptt_contents c.args.pptt.now) c.args.at c.args.index) c.resource_at.result c.args.resource c.resource_at.ensures)
+unfolding pptt_contents
+returns c = test_at pptt_entry _ _ (λ e. resource_of c.args.index e ≡ Some c.args.resource) _ c.entry_at.result c.is_some_and.result c.entry_at.ensures.there c.is_some_and.ensures (λ entry says. search (rules, tests))

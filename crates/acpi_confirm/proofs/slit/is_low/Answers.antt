@@ -1,7 +1,10 @@
-use Rattle.std.proofs.Common.{◌<◌}
+use Rattle.std.proofs.Common.{◌<◌, arith}
+use Rattle.std.proofs.lemmas.Bool.Decides.{nat_tests}
 use Rattle.acpi_base.specs.Slit.{slit_contents, distance}
-use Rattle.acpi_confirm.proofs.Cells.{no_cell}
+use Rattle.acpi_confirm.proofs.Cells.{test_of_cell}
 use Rattle.acpi_confirm.proofs.slit.is_low.Goals as goal
 
-pub returns-in-None : goal.returns-in-None
-returns-in-None c = no_cell (slit_contents c.args.slit.now) c.args.at (λ i j. distance (slit_contents c.args.slit.now) i j < 10) c.in-None.ensures
+pub returns : goal.returns
+returns c =
+    test_of_cell (slit_contents c.args.slit.now) c.args.at (λ i j. distance (slit_contents c.args.slit.now) i j < 10) _ c.cell_at.result c.is_some_and.result c.cell_at.ensures c.is_some_and.ensures
+    (λ cell says here. let is = here.says in grind (arith, nat_tests))

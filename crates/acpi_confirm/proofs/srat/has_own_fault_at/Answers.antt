@@ -1,12 +1,8 @@
-use Rattle.acpi_base.specs.Entries.{entries_of}
-use Rattle.acpi_base.specs.Srat.{SratEntryFault, srat_entry, srat_contents}
-use Rattle.acpi_confirm.proofs.Standing.{some_at, none_at}
+use Rattle.std.proofs.Common.{rules, tests}
+use Rattle.acpi_base.specs.Srat.{srat_entry, srat_contents}
+use Rattle.acpi_confirm.proofs.Standing.{test_at}
 use Rattle.acpi_confirm.proofs.srat.has_own_fault_at.Goals as goal
 
-pub returns-in-Some : goal.returns-in-Some
+pub returns : goal.returns
 unfolding srat_contents
-returns-in-Some c = some_at srat_entry (entries_of 48 c.args.srat.now) c.args.at c.in-Some.entry.now (SratEntryFault c.args.code) c.has_own_fault.result c.in-Some.ensures.there c.has_own_fault.ensures
-
-pub returns-in-None : goal.returns-in-None
-unfolding srat_contents
-returns-in-None c = none_at srat_entry (entries_of 48 c.args.srat.now) c.args.at (SratEntryFault c.args.code) c.in-None.ensures.there
+returns c = test_at srat_entry _ _ _ _ c.entry_at.result c.is_some_and.result c.entry_at.ensures.there c.is_some_and.ensures (λ entry says. search (rules, tests))
