@@ -32,7 +32,7 @@ fn named_by(chain: Chain, entry: &Entry<'_>) -> Option<u32>
 }
 
 /// The nodes of a PPTT's chains.
-#[tactic(auto, using(crate::proofs::Gathered::gathering))]
+#[tactic(auto, using(crate::proofs::Spans::Gathered::gathering))]
 fn nodes_of(alloc: Global, chain: Chain, table: Table<'_>) -> Result<Nodes, AllocError>
     ensures { IfOk result (AreNodesOf chain table.entry) }
 {

@@ -95,7 +95,7 @@ fn first_other_domain(
 }
 
 /// What the enabled entries of an SRAT place, in the entries' order.
-#[tactic(auto, using(crate::proofs::Gathered::gathering))]
+#[tactic(auto, using(crate::proofs::Spans::Gathered::gathering))]
 fn placements_of(alloc: Global, table: Table<'_>) -> Result<Vec<Placement>, AllocError>
     ensures { IfOk result (λ placements. ArePlacements (srat_contents table.entry) placements.items) }
 {

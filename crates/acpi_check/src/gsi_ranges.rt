@@ -30,7 +30,7 @@ fn served_range(policy: &Policy, entry: &Entry<'_>) -> Option<CompactSpan>
 }
 
 /// The interrupt numbers that each I/O APIC of a MADT serves, in the entries' order.
-#[tactic(auto, using(crate::proofs::Gathered::gathering))]
+#[tactic(auto, using(crate::proofs::Spans::Gathered::gathering))]
 pub fn served_ranges(
     alloc: Global,
     policy: &Policy,

@@ -28,7 +28,7 @@ fn served_span(policy: &Policy, entry: &Entry<'_>) -> Option<Span>
 }
 
 /// The interrupt numbers that each I/O APIC of a MADT serves, in the entries' order.
-#[tactic(auto, using(crate::proofs::Gathered::gathering))]
+#[tactic(auto, using(crate::proofs::Spans::Gathered::gathering))]
 pub fn served_spans(
     alloc: Global,
     policy: &Policy,

@@ -62,7 +62,7 @@ fn leaf_id(entry: &Entry<'_>) -> Option<u32>
 }
 
 /// The IDs of a PPTT's leaves, in the entries' order.
-#[tactic(auto, using(crate::proofs::Gathered::gathering))]
+#[tactic(auto, using(crate::proofs::Spans::Gathered::gathering))]
 fn leaf_ids(alloc: Global, table: Table<'_>) -> Result<Vec<u64>, AllocError>
     ensures { IfOk result (λ ids. ids.items ≡ numbers_in leaf_id (pptt_contents table.entry).entries) }
 {

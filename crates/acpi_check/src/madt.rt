@@ -75,7 +75,7 @@ fn pass_entry(
 
 /// Whether a MADT's entries are sound. The first fault is at an entry's offset, at that of the bytes behind the entries, or
 /// at 0 for a MADT that is too short.
-#[tactic(auto, using(crate::proofs::MadtPass::passing))]
+#[tactic(auto, using(crate::proofs::EntryPasses::MadtPass::passing))]
 pub fn sound_madt(policy: &Policy, table: Table<'_>) -> Result<(), Refusal>
     ensures { FindsFirst Stage.Madt (IsSoundMadt policy.now (madt_contents table.entry)) (MadtFault policy.now (madt_contents table.entry)) result }
 {

@@ -53,7 +53,7 @@ fn number_of(key: Key, entry: &Entry<'_>) -> Option<u32>
 }
 
 /// The numbers of the processors of a MADT, in rising order and each once.
-#[tactic(auto, using(crate::proofs::Gathered::gathering))]
+#[tactic(auto, using(crate::proofs::Spans::Gathered::gathering))]
 pub fn numbers_of(alloc: Global, key: Key, table: Table<'_>) -> Result<Vec<u64>, AllocError>
     ensures { IfOk result (λ numbers. AreNumbers key (madt_contents table.entry) numbers.items) }
 {

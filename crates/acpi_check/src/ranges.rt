@@ -48,7 +48,7 @@ fn covered_span(kind: RangeKind, entry: &Entry<'_>) -> Option<Span>
 }
 
 /// The addresses that each enabled range of the kind covers, in the entries' order.
-#[tactic(auto, using(crate::proofs::Gathered::gathering))]
+#[tactic(auto, using(crate::proofs::Spans::Gathered::gathering))]
 fn covered_spans(alloc: Global, kind: RangeKind, table: Table<'_>) -> Result<Vec<Span>, AllocError>
     ensures { IfOk result (λ spans. AreSpansOf (Covers (IsOfKind kind) (srat_contents table.entry)) spans.items) }
 {
@@ -68,7 +68,7 @@ fn covered_spans(alloc: Global, kind: RangeKind, table: Table<'_>) -> Result<Vec
 }
 
 /// The least address that two enabled ranges of the kind cover, and the first two that do.
-#[tactic(auto, using(crate::proofs::Clashes::is_found))]
+#[tactic(auto, using(crate::proofs::Spans::Clashes::is_found))]
 fn first_of_kind(alloc: Global, kind: RangeKind, table: Table<'_>) -> Result<Clash, AllocError>
     ensures { IfOk result (IsFound (Covers (IsOfKind kind) (srat_contents table.entry))) }
 {
@@ -96,7 +96,7 @@ fn earlier(other: Clash, hot: Clash) -> Clash
 
 /// The overlap of an SRAT's enabled ranges that is reported, if there is one. Either any two are compared, or only two
 /// that both are hot-pluggable or both are not.
-#[tactic(auto, using(crate::proofs::CoveredSpans::counted, crate::proofs::CoveredSpans::apart))]
+#[tactic(auto, using(crate::proofs::Spans::CoveredSpans::counted, crate::proofs::Spans::CoveredSpans::apart))]
 fn first_overlap(alloc: Global, hotplug: HotPlug, table: Table<'_>) -> Result<Clash, AllocError>
     ensures { IfOk result (IsFoundOverlap hotplug (srat_contents table.entry)) }
 {

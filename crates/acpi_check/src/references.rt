@@ -28,7 +28,7 @@ fn kind_of(entry: &Entry<'_>) -> Kind
 }
 
 /// Where the entries of a PPTT stand, by what they are.
-#[tactic(auto, using(crate::proofs::Gathered::gathering))]
+#[tactic(auto, using(crate::proofs::Spans::Gathered::gathering))]
 fn places_of(alloc: Global, table: Table<'_>) -> Result<Places, AllocError>
     requires { IsCutPptt (pptt_contents table) }
     ensures { IfOk result (ArePlaces (pptt_contents table.entry)) }
@@ -120,7 +120,7 @@ fn own_fault(places: &Places, entry: &Entry<'_>) -> Option<Witness>
 }
 
 /// The first fault of what the entries of a PPTT name, in the entries' order.
-#[tactic(auto, using(crate::proofs::ReferencePass::passing))]
+#[tactic(auto, using(crate::proofs::NodeLinks::ReferencePass::passing))]
 fn first_fault(places: &Places, table: Table<'_>) -> Result<(), Refusal>
     requires { ArePlaces (pptt_contents table) places.now }
     ensures { FindsFirst Stage.References (AreReferencesSound (pptt_contents table.entry)) (ReferenceFault (pptt_contents table.entry)) result }

@@ -34,7 +34,7 @@ fn named_gsi(entry: &Entry<'_>) -> Option<u32>
 }
 
 /// The interrupt numbers that overrides and NMI sources of a MADT name, in the entries' order.
-#[tactic(auto, using(crate::proofs::Gathered::gathering))]
+#[tactic(auto, using(crate::proofs::Spans::Gathered::gathering))]
 fn named_gsis(alloc: Global, table: Table<'_>) -> Result<Vec<u64>, AllocError>
     ensures { IfOk result (λ numbers. numbers.items ≡ numbers_in named_gsi (madt_contents table.entry).entries) }
 {

@@ -51,7 +51,7 @@ fn pass_entry(entry: &Entry<'_>) -> Result<(), Witness>
 
 /// Whether an SRAT's entries are sound. The first fault is at an entry's offset, at that of the bytes behind the entries, or
 /// at 0 for an SRAT that is too short.
-#[tactic(auto, using(crate::proofs::SratPass::passing))]
+#[tactic(auto, using(crate::proofs::EntryPasses::SratPass::passing))]
 pub fn sound_srat(table: Table<'_>) -> Result<(), Refusal>
     ensures { FindsFirst Stage.Srat (IsSoundSrat (srat_contents table.entry)) (SratFault (srat_contents table.entry)) result }
 {

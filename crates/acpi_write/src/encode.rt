@@ -57,7 +57,7 @@ fn is_whole_table(bytes: &[u8]) -> bool
 }
 
 /// How many bytes the table has. None where there are none for the value.
-#[tactic(auto, using(crate::proofs::EntryLists::encoded_sizes))]
+#[tactic(auto, using(crate::proofs::EntryBytes::EntryLists::encoded_sizes))]
 pub(crate) fn size_of(table: &TableValue<'_>) -> Option<u128>
     ensures { MatchOption result (¬ IsShaped table.now) (λ size. IsShaped table.now × (size ≡ encoded_length (table_value table.now))) }
 {
@@ -90,7 +90,7 @@ pub(crate) fn size_of(table: &TableValue<'_>) -> Option<u128>
 const SRAT_RESERVED: [u8; 12] = [1, 0, 0, 0, 0, 0, 0, 0, 0, 0, 0, 0];
 
 /// The bytes of a MADT behind its header.
-#[tactic(auto, using(crate::proofs::EntryLists::bodies), unfolding(acpi_base::specs::Number::number_bytes))]
+#[tactic(auto, using(crate::proofs::EntryBytes::EntryLists::bodies), unfolding(acpi_base::specs::Number::number_bytes))]
 fn madt_body(
     alloc: Global,
     address: u32,
@@ -108,7 +108,7 @@ fn madt_body(
 }
 
 /// The bytes of an SRAT behind its header.
-#[tactic(auto, using(crate::proofs::EntryLists::bodies), unfolding(acpi_base::specs::Number::number_bytes))]
+#[tactic(auto, using(crate::proofs::EntryBytes::EntryLists::bodies), unfolding(acpi_base::specs::Number::number_bytes))]
 fn srat_body(alloc: Global, entries: &[SratEntry<'_>]) -> Result<Vec<u8>, AllocError>
     requires { All IsShapedSrat entries.now }
     ensures bytes { IfOk result (λ bytes. bytes.items ≡ srat_reserved ++ flat_map srat_bytes (map srat_value entries.now)) }
@@ -131,7 +131,7 @@ fn slit_body(alloc: Global, count: u64, cells: &[u8]) -> Result<Vec<u8>, AllocEr
 }
 
 /// The bytes of a PPTT behind its header.
-#[tactic(auto, using(crate::proofs::EntryLists::bodies))]
+#[tactic(auto, using(crate::proofs::EntryBytes::EntryLists::bodies))]
 fn pptt_body(alloc: Global, entries: &[PpttEntry<'_>]) -> Result<Vec<u8>, AllocError>
     requires { All IsShapedPptt entries.now }
     ensures bytes { IfOk result (λ bytes. bytes.items ≡ flat_map pptt_bytes (map pptt_value entries.now)) }
@@ -143,7 +143,7 @@ fn pptt_body(alloc: Global, entries: &[PpttEntry<'_>]) -> Result<Vec<u8>, AllocE
 }
 
 /// The bytes of a table: its header, with the checksum that makes the sum 0, and its body.
-#[tactic(auto, using(crate::proofs::TableBytes::encoded_bytes))]
+#[tactic(auto, using(crate::proofs::TablesWritten::TableBytes::encoded_bytes))]
 pub(crate) fn with_header(
     alloc: Global,
     signature: [u8; 4],
@@ -225,7 +225,7 @@ pub(crate) fn bytes_of(alloc: Global, table: &TableValue<'_>) -> Result<Vec<u8>,
 ///    - the bytes of `Other` are fewer than 36, are not as many as their Length says, or do not sum to 0 modulo 256;
 /// 2. `TooLong`, where the table would have more than 4,294,967,295 bytes, which no Length says;
 /// 3. `Memory`, where the allocator is out of memory. It takes none where it refuses with one of the first two.
-#[tactic(auto, using(crate::proofs::Spelling::spelling))]
+#[tactic(auto, using(crate::proofs::TablesWritten::Spelling::spelling))]
 pub fn encode_table(alloc: Global, table: &TableValue<'_>) -> Result<Vec<u8>, WriteFault>
     ensures spells { IfOk result (λ bytes. Spells (table_value table.now) bytes.items) }
     ensures bytes { IfOk result (λ bytes. bytes.items ≡ encoded (table_value table.now)) }

@@ -47,7 +47,7 @@ fn kept_size(bytes: &[u8]) -> Option<usize>
 }
 
 /// How many bytes a node has. None where it does not have 4 bytes for each of its references.
-#[tactic(auto, using(crate::proofs::NodeBytes::node_sizes))]
+#[tactic(auto, using(crate::proofs::EntryBytes::NodeBytes::node_sizes))]
 fn node_size(head: &NodeHead, references: &[u8]) -> Option<usize>
     ensures { MatchOption result (length references.now ≢ 4 * head.now.count) (λ size. (length references.now ≡ 4 * head.now.count) × (size ≡ length (pptt_bytes (Node (node_value head.now references.now)))) × (size ≤ 255)) }
 {
@@ -59,7 +59,7 @@ fn node_size(head: &NodeHead, references: &[u8]) -> Option<usize>
 }
 
 /// Adds the bytes of a node.
-#[tactic(auto, using(crate::proofs::NodeBytes::nodes))]
+#[tactic(auto, using(crate::proofs::EntryBytes::NodeBytes::nodes))]
 fn append_node(bytes: &mut Vec<u8>, head: &NodeHead, references: &[u8]) -> Result<(), AllocError>
     requires { length references.now ≡ 4 * head.now.count }
     ensures bytes { OnOk result (bytes.new.items ≡ bytes.old.items ++ pptt_bytes (Node (node_value head.now references.now))) }
@@ -98,7 +98,7 @@ impl<'a> EntryBytes for MadtEntry<'a> {
 
     ghost said_by = { λ entry bytes. SaysEntry madt_entry bytes (madt_value entry) };
 
-    #[tactic(auto, using(crate::proofs::MadtBytes::madt_sizes))]
+    #[tactic(auto, using(crate::proofs::EntryBytes::MadtBytes::madt_sizes))]
     fn size(&self) -> Option<usize> {
         match self {
             MadtEntry::LocalApic(_) => Some(LocalApic::LEN),
@@ -119,7 +119,7 @@ impl<'a> EntryBytes for MadtEntry<'a> {
         }
     }
 
-    #[tactic(auto, using(crate::proofs::MadtBytes::madt_says))]
+    #[tactic(auto, using(crate::proofs::EntryBytes::MadtBytes::madt_says))]
     fn append(&self, bytes: &mut Vec<u8>) -> Result<(), AllocError> {
         match self {
             MadtEntry::LocalApic(entry) => append_layout(bytes, entry),
@@ -142,7 +142,7 @@ impl<'a> EntryBytes for SratEntry<'a> {
 
     ghost said_by = { λ entry bytes. SaysEntry srat_entry bytes (srat_value entry) };
 
-    #[tactic(auto, using(crate::proofs::SratBytes::srat_sizes))]
+    #[tactic(auto, using(crate::proofs::EntryBytes::SratBytes::srat_sizes))]
     fn size(&self) -> Option<usize> {
         match self {
             SratEntry::ApicDomain(_) => Some(ApicDomain::LEN),
@@ -158,7 +158,7 @@ impl<'a> EntryBytes for SratEntry<'a> {
         }
     }
 
-    #[tactic(auto, using(crate::proofs::SratBytes::srat_says))]
+    #[tactic(auto, using(crate::proofs::EntryBytes::SratBytes::srat_says))]
     fn append(&self, bytes: &mut Vec<u8>) -> Result<(), AllocError> {
         match self {
             SratEntry::ApicDomain(entry) => append_layout(bytes, entry),
@@ -176,7 +176,7 @@ impl<'a> EntryBytes for PpttEntry<'a> {
 
     ghost said_by = { λ entry bytes. SaysEntry pptt_entry bytes (pptt_value entry) };
 
-    #[tactic(auto, using(crate::proofs::PpttBytes::pptt_sizes))]
+    #[tactic(auto, using(crate::proofs::EntryBytes::PpttBytes::pptt_sizes))]
     fn size(&self) -> Option<usize> {
         match self {
             PpttEntry::Node(head, references) => node_size(head, references),
@@ -192,7 +192,7 @@ impl<'a> EntryBytes for PpttEntry<'a> {
         }
     }
 
-    #[tactic(auto, using(crate::proofs::PpttBytes::pptt_says))]
+    #[tactic(auto, using(crate::proofs::EntryBytes::PpttBytes::pptt_says))]
     fn append(&self, bytes: &mut Vec<u8>) -> Result<(), AllocError> {
         match self {
             PpttEntry::Node(head, references) => append_node(bytes, head, references),
@@ -204,7 +204,7 @@ impl<'a> EntryBytes for PpttEntry<'a> {
 }
 
 /// How many bytes the entries have together. None where there are none for one of them.
-#[tactic(auto, using(crate::proofs::EntryLists::entry_lists))]
+#[tactic(auto, using(crate::proofs::EntryBytes::EntryLists::entry_lists))]
 pub(crate) fn sizes<E: EntryBytes>(entries: &[E]) -> Option<u128>
     ensures { MatchOption result (¬ All E.shaped entries.now) (λ size. All E.shaped entries.now × (size ≡ length (flat_map E.spelled entries.now)) × (size ≤ 255 * 2 ^ 64)) }
 {
@@ -216,7 +216,7 @@ pub(crate) fn sizes<E: EntryBytes>(entries: &[E]) -> Option<u128>
 }
 
 /// Adds the bytes of the entries, one after another.
-#[tactic(auto, using(crate::proofs::EntryLists::entry_lists))]
+#[tactic(auto, using(crate::proofs::EntryBytes::EntryLists::entry_lists))]
 pub(crate) fn append_all<E: EntryBytes>(
     bytes: &mut Vec<u8>,
     entries: &[E],

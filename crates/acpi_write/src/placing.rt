@@ -145,7 +145,7 @@ fn is_narrow(table: &TableValue<'_>) -> bool
 }
 
 /// Whether one of the tables is.
-#[tactic(auto, using(crate::proofs::PartLengths::narrow_tables))]
+#[tactic(auto, using(crate::proofs::SetParts::PartLengths::narrow_tables))]
 fn is_one_narrow(tables: &[TableValue<'_>]) -> bool
     ensures { result ≡ list_any is_narrow (map table_value tables.now) }
 {

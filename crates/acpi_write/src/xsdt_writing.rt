@@ -11,7 +11,7 @@ use crate::table_value::Head;
 use std::alloc::{AllocError, Global};
 
 /// A slot of 8 bytes for each address.
-#[tactic(auto, using(crate::proofs::EntryLists::entry_lists), unfolding(acpi_base::specs::Number::number_bytes))]
+#[tactic(auto, using(crate::proofs::EntryBytes::EntryLists::entry_lists), unfolding(acpi_base::specs::Number::number_bytes))]
 fn slots(alloc: Global, addresses: &[u64]) -> Result<Vec<u8>, AllocError>
     ensures { IfOk result (λ bytes. bytes.items ≡ flat_map (number_bytes 8) addresses.now) }
 {
@@ -23,7 +23,7 @@ fn slots(alloc: Global, addresses: &[u64]) -> Result<Vec<u8>, AllocError>
 }
 
 /// The bytes of an XSDT with this head that lists the addresses (ACPI 6.5, 5.2.8).
-#[tactic(auto, using(crate::proofs::NewRoot::root_slots))]
+#[tactic(auto, using(crate::proofs::NewSets::NewRoot::root_slots))]
 pub(crate) fn xsdt_bytes(
     alloc: Global,
     head: &Head,

@@ -1,6 +1,6 @@
 use Rattle.std.proofs.Common.{◌∙◌}
 use Rattle.std.proofs.lemmas.List.{get_or_default}
-use Rattle.acpi_check.proofs.LinkedNodes.{linked, ready, cycle_found, has_offset}
+use Rattle.acpi_check.proofs.NodeLinks.LinkedNodes.{linked, ready, cycle_found, has_offset}
 use Rattle.acpi_check.proofs.chains.first_cycle.Goals as goal
 
 pub parents_of-requires : goal.parents_of-requires

@@ -1,5 +1,5 @@
 use Rattle.std.proofs.Common.{◌-◌, arith}
-use Rattle.acpi_check.proofs.Placements.{all_agree, two_differ}
+use Rattle.acpi_check.proofs.ProcessorNumbers.Placements.{all_agree, two_differ}
 use Rattle.acpi_check.proofs.domains.do_agree.Goals as goal
 
 pub returns-then-before-after-2 : goal.returns-then-before-after-2

@@ -1,5 +1,5 @@
 use Rattle.std.specs.List.{AllAdjacentBelow}
-use Rattle.acpi_check.proofs.Placements.{Agree}
+use Rattle.acpi_check.proofs.ProcessorNumbers.Placements.{Agree}
 use Rattle.acpi_check.proofs.domains.do_agree.Given as goal
 
 -- neighbours so far agree

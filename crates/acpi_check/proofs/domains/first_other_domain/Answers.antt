@@ -2,7 +2,7 @@ use Rattle.std.proofs.Common.{◌≡◌, ◌<◌, ◌++◌, length, take, drop, 
 use Rattle.std.proofs.Math.Seq.{take-append_seam}
 use Rattle.std.proofs.lemmas.List.{length-replicate}
 use Rattle.acpi_read.specs.Entries.{entry_value}
-use Rattle.acpi_check.proofs.DomainsPass.{at_first, at_next, stops, ends, short_srat}
+use Rattle.acpi_check.proofs.ProcessorNumbers.DomainsPass.{at_first, at_next, stops, ends, short_srat}
 use Rattle.acpi_check.proofs.domains.first_other_domain.Goals as goal
 
 pub returns-in_default : goal.returns-in_default

@@ -1,5 +1,5 @@
 use Rattle.std.proofs.Common.{◌≡◌, length}
-use Rattle.acpi_check.proofs.DomainsPass.{IsAt}
+use Rattle.acpi_check.proofs.ProcessorNumbers.DomainsPass.{IsAt}
 use Rattle.acpi_check.proofs.domains.first_other_domain.Given as goal
 
 -- of the processors with the numbers the first domains are kept, with which other entries so far agree; the entries left

@@ -1,8 +1,8 @@
 use Rattle.acpi_base.specs.Madt.{madt_contents}
 use Rattle.acpi_base.specs.Srat.{srat_contents}
-use Rattle.acpi_check.proofs.DomainsFaults.{domains_found}
-use Rattle.acpi_check.proofs.Passes.{refused}
-use Rattle.acpi_check.proofs.Placements.{processors_rise, one_domain}
+use Rattle.acpi_check.proofs.ProcessorNumbers.DomainsFaults.{domains_found}
+use Rattle.acpi_check.proofs.EntryPasses.Passes.{refused}
+use Rattle.acpi_check.proofs.ProcessorNumbers.Placements.{processors_rise, one_domain}
 use Rattle.acpi_check.proofs.domains.one_domain.Goals as goal
 
 pub do_agree-requires : goal.do_agree-requires

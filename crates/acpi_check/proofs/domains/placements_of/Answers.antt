@@ -1,10 +1,10 @@
 use Rattle.std.proofs.Common.{◌<◌, map, length, arith, sym, ◌∙◌}
 use Rattle.std.proofs.lemmas.List.{append-nil}
 use Rattle.acpi_read.specs.Entries.{entry_value}
-use Rattle.acpi_check.proofs.Placements.{are_placements, no_placements}
+use Rattle.acpi_check.proofs.ProcessorNumbers.Placements.{are_placements, no_placements}
 use Rattle.acpi_base.specs.Srat.{srat_entry}
 use Rattle.acpi_check.specs.Domains.{placement_of}
-use Rattle.acpi_check.proofs.Skipped.{none_kept, one_came}
+use Rattle.acpi_check.proofs.EntryPasses.Skipped.{none_kept, one_came}
 use Rattle.acpi_check.proofs.domains.placements_of.Goals as goal
 
 pub returns-in_default : goal.returns-in_default

@@ -5,8 +5,8 @@ use Rattle.acpi_base.specs.Policy.{PolicyValue}
 use Rattle.acpi_base.specs.Statements.{CleanBefore, CleanTo}
 use Rattle.acpi_base.specs.declared.stage.Stage.TheVariants as stage
 use Rattle.acpi_base.specs.declared.table_kind.TableKind.TheVariants as kind
-use Rattle.acpi_check.proofs.FirstFaults.{fadt_first, no_fadt_first}
-use Rattle.acpi_check.proofs.TablesLifted.{first_listed, none_listed}
+use Rattle.acpi_check.proofs.WholeSets.FirstFaults.{fadt_first, no_fadt_first}
+use Rattle.acpi_check.proofs.WholeSets.TablesLifted.{first_listed, none_listed}
 use Rattle.acpi_check.proofs.fadt.sound_fadt.Goals as goal
 
 -- the stages before the FADT's hold, and so does its own

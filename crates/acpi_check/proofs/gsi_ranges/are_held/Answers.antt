@@ -1,7 +1,7 @@
 use Rattle.std.proofs.Common.{inl, inr, arith}
 use Rattle.std.proofs.lemmas.Bool.{cases_lt}
 use Rattle.std.proofs.lemmas.Bool.Decides.{nat_tests}
-use Rattle.acpi_check.proofs.GsiRanges.{in_this, all_held}
+use Rattle.acpi_check.proofs.Spans.GsiRanges.{in_this, all_held}
 use Rattle.acpi_check.proofs.gsi_ranges.are_held.Goals as goal
 
 pub loop-range-preserved : goal.loop-range-preserved

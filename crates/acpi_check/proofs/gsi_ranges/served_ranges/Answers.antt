@@ -3,8 +3,8 @@ use Rattle.std.proofs.lemmas.List.{append-nil}
 use Rattle.acpi_base.specs.Madt.{madt_entry}
 use Rattle.acpi_read.specs.Entries.{entry_value}
 use Rattle.acpi_check.specs.GsiRanges.{served_range}
-use Rattle.acpi_check.proofs.GsiRanges.{gathered, no_ranges}
-use Rattle.acpi_check.proofs.Skipped.{none_kept, one_came}
+use Rattle.acpi_check.proofs.Spans.GsiRanges.{gathered, no_ranges}
+use Rattle.acpi_check.proofs.EntryPasses.Skipped.{none_kept, one_came}
 use Rattle.acpi_check.proofs.gsi_ranges.served_ranges.Goals as goal
 
 pub returns-in_default : goal.returns-in_default

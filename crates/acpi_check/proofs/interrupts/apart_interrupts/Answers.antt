@@ -1,6 +1,6 @@
 use Rattle.std.proofs.Common.{arith}
 use Rattle.acpi_base.specs.Madt.{madt_contents}
-use Rattle.acpi_check.proofs.GsiClashes.{gsi_clash_fits}
+use Rattle.acpi_check.proofs.Spans.GsiClashes.{gsi_clash_fits}
 use Rattle.acpi_check.proofs.interrupts.apart_interrupts.Goals as goal
 
 pub overflow_cast-result : goal.overflow_cast-result

@@ -1,6 +1,6 @@
 use Rattle.acpi_base.specs.Madt.{madt_contents}
-use Rattle.acpi_check.proofs.Clashes.{is_found}
-use Rattle.acpi_check.proofs.GsiRanges.{are_apart}
+use Rattle.acpi_check.proofs.Spans.Clashes.{is_found}
+use Rattle.acpi_check.proofs.Spans.GsiRanges.{are_apart}
 use Rattle.acpi_check.proofs.interrupts.first_gsi_clash.Goals as goal
 
 pub returns-then-is_apart : goal.returns-then-is_apart

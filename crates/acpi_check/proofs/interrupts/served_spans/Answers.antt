@@ -1,12 +1,12 @@
 use Rattle.std.proofs.Common.{◌<◌, [], map, length, refl, sym, arith, ◌∙◌, ap}
 use Rattle.std.proofs.lemmas.List.{append-nil}
 use Rattle.acpi_read.specs.Entries.{entry_value}
-use Rattle.acpi_check.proofs.Kept.{next_inside, none_of_short}
-use Rattle.acpi_check.proofs.ServedSpans.{served_spans}
+use Rattle.acpi_check.proofs.EntryPasses.Kept.{next_inside, none_of_short}
+use Rattle.acpi_check.proofs.Spans.ServedSpans.{served_spans}
 use Rattle.std.specs.Option.{option_map}
 use Rattle.acpi_base.specs.Madt.{madt_entry}
 use Rattle.acpi_check.specs.Gathered.{span_value, served}
-use Rattle.acpi_check.proofs.Skipped.{none_kept, one_came}
+use Rattle.acpi_check.proofs.EntryPasses.Skipped.{none_kept, one_came}
 use Rattle.acpi_check.proofs.interrupts.served_spans.Goals as goal
 
 pub served_span-requires : goal.served_span-requires

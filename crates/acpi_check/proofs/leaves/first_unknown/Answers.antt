@@ -1,7 +1,7 @@
 use Rattle.std.specs.Prelude.{Contains}
 use Rattle.acpi_base.specs.declared.code.Code.TheVariants as code
 use Rattle.acpi_check.specs.Leaves.{leaf_id}
-use Rattle.acpi_check.proofs.NamedPass.{pptt_at_first, at_next, stops, ends}
+use Rattle.acpi_check.proofs.ProcessorNumbers.NamedPass.{pptt_at_first, at_next, stops, ends}
 use Rattle.acpi_check.proofs.leaves.first_unknown.Goals as goal
 
 pub loop-entry-init : goal.loop-entry-init

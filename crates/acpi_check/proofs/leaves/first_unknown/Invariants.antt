@@ -2,7 +2,7 @@ use Rattle.std.specs.Prelude.{Contains}
 use Rattle.acpi_base.specs.Entries.{said_by}
 use Rattle.acpi_base.specs.Pptt.{pptt_entry, pptt_contents}
 use Rattle.acpi_check.specs.Leaves.{leaf_id}
-use Rattle.acpi_check.proofs.NamedPass.{IsAt}
+use Rattle.acpi_check.proofs.ProcessorNumbers.NamedPass.{IsAt}
 use Rattle.acpi_check.proofs.leaves.first_unknown.Given as goal
 
 -- the leaves so far are known, and the entries left are the rest of the table's

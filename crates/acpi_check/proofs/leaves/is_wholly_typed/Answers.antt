@@ -1,6 +1,6 @@
 use Rattle.std.proofs.Common.{◌<◌, length, refl, sym, ◌∙◌, arith}
 use Rattle.acpi_read.specs.Entries.{entry_value}
-use Rattle.acpi_check.proofs.TypedPass.{at_first, at_next, stops, ends, short_untyped}
+use Rattle.acpi_check.proofs.EntryPasses.TypedPass.{at_first, at_next, stops, ends, short_untyped}
 use Rattle.acpi_check.proofs.leaves.is_wholly_typed.Goals as goal
 
 pub returns-in_default : goal.returns-in_default

@@ -1,6 +1,6 @@
 use Rattle.std.proofs.Common.{◌≡◌}
 use Rattle.acpi_base.specs.Entries.{cut_of}
-use Rattle.acpi_check.proofs.TypedPass.{IsAt}
+use Rattle.acpi_check.proofs.EntryPasses.TypedPass.{IsAt}
 use Rattle.acpi_check.proofs.leaves.is_wholly_typed.Given as goal
 
 -- the entries so far are typed, and those left are the rest of the table's

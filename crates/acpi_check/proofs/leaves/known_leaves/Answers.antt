@@ -2,8 +2,8 @@ use Rattle.std.proofs.Common.{◌≡◌, refl, ◌∙◌, ap, arith}
 use Rattle.acpi_base.specs.Header.{HeaderValue}
 use Rattle.acpi_base.specs.Madt.{madt_contents}
 use Rattle.acpi_base.specs.Pptt.{pptt_contents}
-use Rattle.acpi_check.proofs.LeavesFaults.{revision, leaves_found, all_known}
-use Rattle.acpi_check.proofs.Passes.{refused}
+use Rattle.acpi_check.proofs.ProcessorNumbers.LeavesFaults.{revision, leaves_found, all_known}
+use Rattle.acpi_check.proofs.EntryPasses.Passes.{refused}
 use Rattle.acpi_check.proofs.leaves.known_leaves.Goals as goal
 use Rattle.acpi_check.proofs.leaves.known_leaves.Goals.{then-header-lt-HAS_LEAVES-via-then-header-lt-HAS_LEAVES, then-header-lt-HAS_LEAVES-via-else-header-lt-HAS_LEAVES+then-not-is_wholly_typed}
 

@@ -2,9 +2,9 @@ use Rattle.std.proofs.Common.{map, arith, sym, ◌∙◌}
 use Rattle.std.proofs.lemmas.List.{append-nil}
 use Rattle.acpi_read.specs.Entries.{entry_value}
 use Rattle.acpi_check.specs.Leaves.{leaf_id}
-use Rattle.acpi_check.proofs.GatheredNumbers.{pptt_numbers}
+use Rattle.acpi_check.proofs.ProcessorNumbers.GatheredNumbers.{pptt_numbers}
 use Rattle.acpi_base.specs.Pptt.{pptt_entry}
-use Rattle.acpi_check.proofs.Skipped.{none_kept, one_came}
+use Rattle.acpi_check.proofs.EntryPasses.Skipped.{none_kept, one_came}
 use Rattle.acpi_check.proofs.leaves.leaf_ids.Goals as goal
 
 pub returns : goal.returns

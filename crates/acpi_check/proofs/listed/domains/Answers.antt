@@ -3,7 +3,7 @@ use Rattle.acpi_base.specs.Madt.{madt_contents}
 use Rattle.acpi_base.specs.Srat.{srat_contents}
 use Rattle.acpi_base.specs.declared.stage.Stage.TheVariants as stage
 use Rattle.acpi_base.specs.declared.table_kind.TableKind.TheVariants as kind
-use Rattle.acpi_check.proofs.TablesLifted.{first_listed, none_listed, of_none, of_two}
+use Rattle.acpi_check.proofs.WholeSets.TablesLifted.{first_listed, none_listed, of_none, of_two}
 use Rattle.acpi_check.proofs.listed.domains.Goals as goal
 
 pub returns-in_default : goal.returns-in_default

@@ -4,8 +4,8 @@ use Rattle.acpi_base.specs.declared.code.Code.TheVariants as code
 use Rattle.acpi_base.specs.declared.stage.Stage.TheVariants as stage
 use Rattle.acpi_base.specs.declared.table_kind.TableKind.TheVariants as kind
 use Rattle.acpi_check.specs.Passed.{IsOverlap}
-use Rattle.acpi_check.proofs.GsiClashes.{gsi_clash_first}
-use Rattle.acpi_check.proofs.TablesLifted.{first_listed, none_listed, of_none, of_one}
+use Rattle.acpi_check.proofs.Spans.GsiClashes.{gsi_clash_first}
+use Rattle.acpi_check.proofs.WholeSets.TablesLifted.{first_listed, none_listed, of_none, of_one}
 use Rattle.acpi_check.proofs.listed.interrupts.Goals as goal
 
 pub returns-in_default : goal.returns-in_default

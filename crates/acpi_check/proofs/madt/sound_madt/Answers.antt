@@ -2,8 +2,8 @@ use Rattle.std.proofs.Common.{◌<◌, length, sym, ◌∙◌, inl, inr, true≢
 use Rattle.std.proofs.lemmas.Bool.{cases_lt}
 use Rattle.acpi_base.specs.Madt.{madt_contents, IsSoundMadt, MadtFault}
 use Rattle.acpi_base.specs.declared.stage.Stage.TheVariants as stage
-use Rattle.acpi_check.proofs.MadtPass.{at_next, stops, ends_sound, ends_cut, short_first}
-use Rattle.acpi_check.proofs.Passes.{reported}
+use Rattle.acpi_check.proofs.EntryPasses.MadtPass.{at_next, stops, ends_sound, ends_cut, short_first}
+use Rattle.acpi_check.proofs.EntryPasses.Passes.{reported}
 use Rattle.acpi_check.proofs.madt.sound_madt.Goals as goal
 
 pub returns-in_err-address_override : goal.returns-in_err-address_override

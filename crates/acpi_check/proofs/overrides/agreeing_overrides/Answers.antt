@@ -1,6 +1,6 @@
 use Rattle.std.proofs.Common.{◌<◌, length, sym, inl, inr, true≢false}
 use Rattle.std.proofs.lemmas.Bool.{cases_lt}
-use Rattle.acpi_check.proofs.OverridesPass.{at_first, at_next, stops, ends_agree, short_agree}
+use Rattle.acpi_check.proofs.EntryPasses.OverridesPass.{at_first, at_next, stops, ends_agree, short_agree}
 use Rattle.acpi_check.proofs.overrides.agreeing_overrides.Goals as goal
 
 pub returns-in_default-clause-settled : goal.returns-in_default-clause-settled

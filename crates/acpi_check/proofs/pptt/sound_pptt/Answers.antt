@@ -1,6 +1,6 @@
 use Rattle.std.proofs.Common.{◌∙◌, subst}
 use Rattle.acpi_base.specs.Pptt.{HasOtherPpttLength}
-use Rattle.acpi_check.proofs.PpttPass.{at_next, stops}
+use Rattle.acpi_check.proofs.EntryPasses.PpttPass.{at_next, stops}
 use Rattle.acpi_check.proofs.pptt.sound_pptt.Goals as goal
 
 pub returns-in-Err : goal.returns-in-Err

@@ -1,6 +1,6 @@
 use Rattle.std.proofs.Common.{arith}
 use Rattle.acpi_base.specs.Srat.{srat_contents}
-use Rattle.acpi_check.proofs.RangeClashes.{overlap_fits}
+use Rattle.acpi_check.proofs.Spans.RangeClashes.{overlap_fits}
 use Rattle.acpi_check.proofs.ranges.apart_ranges.Goals as goal
 
 pub overflow_cast-result : goal.overflow_cast-result

@@ -1,13 +1,13 @@
 use Rattle.std.proofs.Common.{◌<◌, [], map, length, refl, sym, arith, ◌∙◌, ap}
 use Rattle.std.proofs.lemmas.List.{append-nil}
 use Rattle.acpi_read.specs.Entries.{entry_value}
-use Rattle.acpi_check.proofs.Kept.{next_inside, none_of_short}
-use Rattle.acpi_check.proofs.RangeClashes.{kind_spans}
+use Rattle.acpi_check.proofs.EntryPasses.Kept.{next_inside, none_of_short}
+use Rattle.acpi_check.proofs.Spans.RangeClashes.{kind_spans}
 use Rattle.std.specs.Option.{option_map}
 use Rattle.acpi_base.specs.Srat.{srat_entry}
 use Rattle.acpi_check.specs.Gathered.{span_value, covered}
 use Rattle.acpi_check.specs.RangeKinds.{counts}
-use Rattle.acpi_check.proofs.Skipped.{none_kept, one_came}
+use Rattle.acpi_check.proofs.EntryPasses.Skipped.{none_kept, one_came}
 use Rattle.acpi_check.proofs.ranges.covered_spans.Goals as goal
 
 pub covered_span-requires : goal.covered_span-requires

@@ -1,5 +1,5 @@
 use Rattle.acpi_base.specs.Srat.{srat_contents}
-use Rattle.acpi_check.proofs.CoveredSpans.{apart}
+use Rattle.acpi_check.proofs.Spans.CoveredSpans.{apart}
 use Rattle.acpi_check.proofs.ranges.first_overlap.Goals as goal
 
 pub returns-in_ok-hot-in-Apart : goal.returns-in_ok-hot-in-Apart

@@ -1,4 +1,4 @@
-use Rattle.acpi_check.proofs.ReferencePass.{at_next, stops, ends_sound}
+use Rattle.acpi_check.proofs.NodeLinks.ReferencePass.{at_next, stops, ends_sound}
 use Rattle.acpi_check.proofs.references.first_fault.Goals as goal
 
 pub returns-in-Some-own_fault : goal.returns-in-Some-own_fault

@@ -1,4 +1,4 @@
-use Rattle.acpi_check.proofs.ReferencePass.{IsAt}
+use Rattle.acpi_check.proofs.NodeLinks.ReferencePass.{IsAt}
 use Rattle.acpi_check.proofs.references.first_fault.Given as goal
 
 -- what the entries so far name is there, and those left are the rest of the table's

@@ -1,6 +1,6 @@
 use Rattle.std.proofs.Common.{refl}
 use Rattle.acpi_read.specs.Pptts.{node_value, cache24_value, cache28_value}
-use Rattle.acpi_check.proofs.NamedPlaces.{node_sound, parent_first, resource_first, cache_link}
+use Rattle.acpi_check.proofs.NodeLinks.NamedPlaces.{node_sound, parent_first, resource_first, cache_link}
 use Rattle.acpi_check.proofs.references.own_fault.Goals as goal
 
 pub returns-in-Some-first_dangling : goal.returns-in-Some-first_dangling

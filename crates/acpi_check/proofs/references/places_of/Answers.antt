@@ -1,7 +1,7 @@
 use Rattle.std.proofs.Common.{map, arith}
 use Rattle.std.proofs.lemmas.List.{append-nil}
 use Rattle.acpi_read.specs.Entries.{entry_value}
-use Rattle.acpi_check.proofs.KindPlaces.{are_places}
+use Rattle.acpi_check.proofs.NodeLinks.KindPlaces.{are_places}
 use Rattle.acpi_check.proofs.references.places_of.Goals as goal
 
 pub returns : goal.returns

@@ -1,4 +1,4 @@
-use Rattle.acpi_check.proofs.FirstFaults.{rsdp_first}
+use Rattle.acpi_check.proofs.WholeSets.FirstFaults.{rsdp_first}
 use Rattle.acpi_check.proofs.rsdp.sound_rsdp.Goals as goal
 
 pub returns-in-Err : goal.returns-in-Err

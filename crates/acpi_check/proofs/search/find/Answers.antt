@@ -1,5 +1,5 @@
 use Rattle.std.proofs.lemmas.List.Sorted.{searched}
-use Rattle.acpi_check.proofs.Searches.{never_falls, found}
+use Rattle.acpi_check.proofs.ProcessorNumbers.Searches.{never_falls, found}
 use Rattle.acpi_check.proofs.search.find.Goals as goal
 
 pub returns : goal.returns

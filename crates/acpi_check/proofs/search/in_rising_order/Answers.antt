@@ -1,6 +1,6 @@
 use Rattle.std.proofs.Common.{eqb}
 use Rattle.std.proofs.lemmas.List.Filters.{dedup_is}
-use Rattle.acpi_check.proofs.Searches.{in_order}
+use Rattle.acpi_check.proofs.ProcessorNumbers.Searches.{in_order}
 use Rattle.acpi_check.proofs.search.in_rising_order.Goals as goal
 
 pub returns-clause-rise : goal.returns-clause-rise

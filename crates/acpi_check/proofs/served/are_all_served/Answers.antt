@@ -1,5 +1,5 @@
 use Rattle.acpi_base.specs.Madt.{madt_contents}
-use Rattle.acpi_check.proofs.GsiRanges.{named_served}
+use Rattle.acpi_check.proofs.Spans.GsiRanges.{named_served}
 use Rattle.acpi_check.proofs.served.are_all_served.Goals as goal
 
 pub returns : goal.returns

@@ -1,7 +1,7 @@
 use Rattle.std.proofs.Common.{◌<◌, length, arith}
 use Rattle.acpi_base.specs.declared.code.Code.TheVariants as code
 use Rattle.acpi_check.specs.Served.{IsHeld, named_gsi}
-use Rattle.acpi_check.proofs.NamedPass.{madt_at_first, short_madt, at_next, stops, ends}
+use Rattle.acpi_check.proofs.ProcessorNumbers.NamedPass.{madt_at_first, short_madt, at_next, stops, ends}
 use Rattle.acpi_check.proofs.served.first_unheld.Goals as goal
 
 pub returns-in_default : goal.returns-in_default

@@ -2,7 +2,7 @@ use Rattle.std.proofs.Common.{leb, rules, arith}
 use Rattle.std.proofs.lemmas.Bool.{le-ltb}
 use Rattle.std.proofs.lemmas.List.Sorted.{IsPartitionPoint-from_clause, IsPartitionedBy-leb}
 use Rattle.acpi_graph.specs.declared.span.Span.{Span}
-use Rattle.acpi_check.proofs.ServedNumbers.{starts_rise, none_begun, held}
+use Rattle.acpi_check.proofs.Spans.ServedNumbers.{starts_rise, none_begun, held}
 use Rattle.acpi_check.proofs.served.is_held.Goals as goal
 
 pub returns-then-begun-gt0 : goal.returns-then-begun-gt0

@@ -2,9 +2,9 @@ use Rattle.std.proofs.Common.{◌<◌, map, length, arith, sym, ◌∙◌}
 use Rattle.std.proofs.lemmas.List.{append-nil}
 use Rattle.acpi_read.specs.Entries.{entry_value}
 use Rattle.acpi_check.specs.Served.{named_gsi}
-use Rattle.acpi_check.proofs.GatheredNumbers.{madt_numbers, no_madt_numbers}
+use Rattle.acpi_check.proofs.ProcessorNumbers.GatheredNumbers.{madt_numbers, no_madt_numbers}
 use Rattle.acpi_base.specs.Madt.{madt_entry}
-use Rattle.acpi_check.proofs.Skipped.{none_kept, one_came}
+use Rattle.acpi_check.proofs.EntryPasses.Skipped.{none_kept, one_came}
 use Rattle.acpi_check.proofs.served.named_gsis.Goals as goal
 
 pub returns-in_default : goal.returns-in_default

@@ -1,8 +1,8 @@
 use Rattle.std.proofs.Common.{◌≡◌, ◌<◌, length, arith}
 use Rattle.std.proofs.lemmas.Bool.Decides.{nat_tests}
 use Rattle.acpi_base.specs.Madt.{madt_contents}
-use Rattle.acpi_check.proofs.ServedFaults.{none_served, served_found}
-use Rattle.acpi_check.proofs.Passes.{refused}
+use Rattle.acpi_check.proofs.Spans.ServedFaults.{none_served, served_found}
+use Rattle.acpi_check.proofs.EntryPasses.Passes.{refused}
 use Rattle.acpi_check.proofs.served.named_served.Goals as goal
 
 pub rising_spans-requires : goal.rising_spans-requires

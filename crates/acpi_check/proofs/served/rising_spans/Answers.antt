@@ -1,5 +1,5 @@
 use Rattle.acpi_base.specs.Madt.{madt_contents}
-use Rattle.acpi_check.proofs.ServedNumbers.{are_served}
+use Rattle.acpi_check.proofs.Spans.ServedNumbers.{are_served}
 use Rattle.acpi_check.proofs.served.rising_spans.Goals as goal
 
 pub returns : goal.returns

@@ -2,8 +2,8 @@ use Rattle.std.proofs.Common.{◌<◌, length, sym, ◌∙◌, inl, inr, true≢
 use Rattle.std.proofs.lemmas.Bool.{cases_lt}
 use Rattle.acpi_base.specs.Srat.{srat_contents, IsSoundSrat, SratFault}
 use Rattle.acpi_base.specs.declared.stage.Stage.TheVariants as stage
-use Rattle.acpi_check.proofs.SratPass.{at_next, stops, ends_sound, ends_cut, short_first}
-use Rattle.acpi_check.proofs.Passes.{reported}
+use Rattle.acpi_check.proofs.EntryPasses.SratPass.{at_next, stops, ends_sound, ends_cut, short_first}
+use Rattle.acpi_check.proofs.EntryPasses.Passes.{reported}
 use Rattle.acpi_check.proofs.srat.sound_srat.Goals as goal
 
 pub returns-in_err-pass_entry : goal.returns-in_err-pass_entry

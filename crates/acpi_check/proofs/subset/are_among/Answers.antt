@@ -1,6 +1,6 @@
 use Rattle.std.proofs.Common.{arith}
 use Rattle.std.proofs.lemmas.Bool.Decides.{nat_tests}
-use Rattle.acpi_check.proofs.Searches.{one_more, all_among}
+use Rattle.acpi_check.proofs.ProcessorNumbers.Searches.{one_more, all_among}
 use Rattle.acpi_check.proofs.subset.are_among.Goals as goal
 use Rattle.acpi_check.proofs.subset.are_among.Goals.{then-place-asked+then-asked-place, else-place-asked}
 

@@ -4,8 +4,8 @@ use Rattle.acpi_base.specs.Root.{HasSlot}
 use Rattle.acpi_base.specs.Tables.{IsSoundTable}
 use Rattle.acpi_base.proofs.Root.Slots.{slot_of_root}
 use Rattle.acpi_read.specs.Roots.{RootValue}
-use Rattle.acpi_check.proofs.FirstFaults.{first_table_fault}
-use Rattle.acpi_check.proofs.Slots.{none_below, firsts_skip, firsts_more, firsts_all}
+use Rattle.acpi_check.proofs.WholeSets.FirstFaults.{first_table_fault}
+use Rattle.acpi_check.proofs.WholeSets.Slots.{none_below, firsts_skip, firsts_more, firsts_all}
 use Rattle.acpi_check.proofs.tables.sound_tables.Goals as goal
 
 -- slot k of a root, which holds an address

@@ -1,5 +1,5 @@
 use Rattle.std.proofs.Common.{refl}
-use Rattle.acpi_write.proofs.EncodedSizes.{madt_size, srat_size, other_size}
+use Rattle.acpi_write.proofs.TablesWritten.EncodedSizes.{madt_size, srat_size, other_size}
 use Rattle.acpi_write.proofs.encode.size_of.Goals as goal
 
 pub returns-in_ok-sizes-in-Madt : goal.returns-in_ok-sizes-in-Madt

@@ -1,6 +1,6 @@
 use Rattle.std.proofs.Common.{arith}
-use Rattle.acpi_write.proofs.EntryLists.{on_ok}
-use Rattle.acpi_write.proofs.NodeBytes.{node_says}
+use Rattle.acpi_write.proofs.EntryBytes.EntryLists.{on_ok}
+use Rattle.acpi_write.proofs.EntryBytes.NodeBytes.{node_says}
 use Rattle.acpi_write.proofs.entry_bytes.append_node.Goals as goal
 
 pub returns-clause-says : goal.returns-clause-says

@@ -1,5 +1,5 @@
 use Rattle.std.proofs.Common.{ap, arith, length}
-use Rattle.acpi_write.proofs.EntryLists.{all_of, joined_all}
+use Rattle.acpi_write.proofs.EntryBytes.EntryLists.{all_of, joined_all}
 use Rattle.acpi_write.proofs.entry_bytes.sizes.Goals as goal
 
 pub returns : goal.returns

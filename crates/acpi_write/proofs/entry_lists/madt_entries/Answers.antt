@@ -4,7 +4,7 @@ use Rattle.acpi_base.specs.Madt.{madt_entry, madt_contents}
 use Rattle.acpi_read.specs.Entries.{entry_value}
 use Rattle.acpi_read.specs.Madts.{madt_value}
 use Rattle.acpi_write.specs.Views.{IsShapedMadt}
-use Rattle.acpi_write.proofs.EntryReading.{stands_next, read_more, left_more, read_all, madt_shaped}
+use Rattle.acpi_write.proofs.EntryBytes.EntryReading.{stands_next, read_more, left_more, read_all, madt_shaped}
 use Rattle.acpi_write.proofs.entry_lists.madt_entries.Goals as goal
 
 pub unreachable-requires-in_default-read : goal.unreachable-requires-in_default-read

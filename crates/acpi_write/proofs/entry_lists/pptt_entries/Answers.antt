@@ -4,7 +4,7 @@ use Rattle.acpi_base.specs.Pptt.{pptt_entry, pptt_contents}
 use Rattle.acpi_read.specs.Entries.{entry_value}
 use Rattle.acpi_read.specs.Pptts.{pptt_value}
 use Rattle.acpi_write.specs.Views.{IsShapedPptt}
-use Rattle.acpi_write.proofs.EntryReading.{stands_next, read_more, left_more, read_all, pptt_shaped}
+use Rattle.acpi_write.proofs.EntryBytes.EntryReading.{stands_next, read_more, left_more, read_all, pptt_shaped}
 use Rattle.acpi_write.proofs.entry_lists.pptt_entries.Goals as goal
 
 pub unreachable-requires : goal.unreachable-requires

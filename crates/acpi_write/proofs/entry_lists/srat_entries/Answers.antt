@@ -4,7 +4,7 @@ use Rattle.acpi_base.specs.Srat.{srat_entry, srat_contents}
 use Rattle.acpi_read.specs.Entries.{entry_value}
 use Rattle.acpi_read.specs.Srats.{srat_value}
 use Rattle.acpi_write.specs.Views.{IsShapedSrat}
-use Rattle.acpi_write.proofs.EntryReading.{stands_next, read_more, left_more, read_all, srat_shaped}
+use Rattle.acpi_write.proofs.EntryBytes.EntryReading.{stands_next, read_more, left_more, read_all, srat_shaped}
 use Rattle.acpi_write.proofs.entry_lists.srat_entries.Goals as goal
 
 pub unreachable-requires-in_default-read : goal.unreachable-requires-in_default-read

@@ -1,6 +1,6 @@
 use Rattle.std.proofs.Common.{refl}
 use Rattle.acpi_base.specs.Number.{number_bytes}
-use Rattle.acpi_write.proofs.FadtBodies.{wide_appended, narrow_appended}
+use Rattle.acpi_write.proofs.TablesWritten.FadtBodies.{wide_appended, narrow_appended}
 use Rattle.acpi_write.proofs.fadt_body.with_facs.Goals as goal
 
 pub returns-then-body-lt-X_FIRMWARE_CTRL_END : goal.returns-then-body-lt-X_FIRMWARE_CTRL_END

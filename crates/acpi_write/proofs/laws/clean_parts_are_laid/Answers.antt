@@ -1,4 +1,4 @@
-use Rattle.acpi_write.proofs.PartPlaces.{clean_parts_are_laid}
+use Rattle.acpi_write.proofs.SetParts.PartPlaces.{clean_parts_are_laid}
 use Rattle.acpi_write.proofs.laws.clean_parts_are_laid.Goals as goal
 
 pub returns : goal.returns

@@ -1,4 +1,4 @@
-use Rattle.acpi_write.proofs.KeptEntries.{entries_are_kept}
+use Rattle.acpi_write.proofs.EntryBytes.KeptEntries.{entries_are_kept}
 use Rattle.acpi_write.proofs.laws.entries_are_kept.Goals as goal
 
 pub returns : goal.returns

@@ -1,4 +1,4 @@
-use Rattle.acpi_write.proofs.Refusals.{placed_unless_refused}
+use Rattle.acpi_write.proofs.SetParts.Refusals.{placed_unless_refused}
 use Rattle.acpi_write.proofs.laws.placed_unless_refused.Goals as goal
 
 pub returns : goal.returns

@@ -1,4 +1,4 @@
-use Rattle.acpi_write.proofs.RebuiltParts.{parts_are_held}
+use Rattle.acpi_write.proofs.NewSets.RebuiltParts.{parts_are_held}
 use Rattle.acpi_write.proofs.laws.rebuilt_holds_parts.Goals as goal
 
 pub returns : goal.returns

@@ -1,4 +1,4 @@
-use Rattle.acpi_write.proofs.NewImage.{leads_to_tables}
+use Rattle.acpi_write.proofs.NewSets.NewImage.{leads_to_tables}
 use Rattle.acpi_write.proofs.laws.rebuilt_leads_to_tables.Goals as goal
 
 pub returns : goal.returns

@@ -3,7 +3,7 @@ use Rattle.std.specs.Option.{option_map}
 use Rattle.acpi_write.specs.Encoded.{encoded_length}
 use Rattle.acpi_write.specs.Rebuilt.{listed_option}
 use Rattle.acpi_write.specs.Views.{table_value}
-use Rattle.acpi_write.proofs.PartLengths.{lengths_are}
+use Rattle.acpi_write.proofs.SetParts.PartLengths.{lengths_are}
 use Rattle.acpi_write.proofs.placing.lengths_of.Goals as goal
 use Rattle.acpi_write.proofs.placing.lengths_of.Goals.{in-Some+in_ok-push-3, in_default}
 

@@ -5,7 +5,7 @@ use Rattle.std.proofs.lemmas.List.{length-map}
 use Rattle.acpi_write.specs.Placed.{ends, DoEndInside, is_narrow}
 use Rattle.acpi_write.specs.Rebuilt.{places, part_lengths, part_places, facs_place}
 use Rattle.acpi_write.specs.Views.{set_value, table_value}
-use Rattle.acpi_write.proofs.PartLengths.{parts_some, facs_is_placed, facs_place_is, any_default}
+use Rattle.acpi_write.proofs.SetParts.PartLengths.{parts_some, facs_is_placed, facs_place_is, any_default}
 use Rattle.acpi_write.proofs.placing.placed.Goals as goal
 
 pub places_of-requires : goal.places_of-requires

@@ -1,6 +1,6 @@
 use Rattle.std.proofs.Common.{◌∙◌, ap, length}
 use Rattle.std.proofs.lemmas.Result.{IfOk-weaker}
-use Rattle.acpi_write.proofs.PartsInOrder.{rsdp_count}
+use Rattle.acpi_write.proofs.SetParts.PartsInOrder.{rsdp_count}
 use Rattle.acpi_write.proofs.rsdp_writing.rsdp_bytes.Goals as goal
 
 pub returns-clause-count : goal.returns-clause-count

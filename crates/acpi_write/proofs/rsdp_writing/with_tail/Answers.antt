@@ -1,6 +1,6 @@
 use Rattle.std.proofs.Common.{◌++◌, ℕ, List, ap, ◌∙◌}
 use Rattle.acpi_base.specs.Number.{number_bytes}
-use Rattle.acpi_write.proofs.RsdpBytes.{tail_appended}
+use Rattle.acpi_write.proofs.TablesWritten.RsdpBytes.{tail_appended}
 use Rattle.acpi_write.proofs.rsdp_writing.with_tail.Goals as goal
 
 pub returns : goal.returns

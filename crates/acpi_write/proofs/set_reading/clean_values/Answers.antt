@@ -7,7 +7,7 @@ use Rattle.acpi_base.specs.declared.stage.Stage.TheVariants as stage
 use Rattle.acpi_base.proofs.Tables.Listed.{listed_in_root, one_listed}
 use Rattle.acpi_write.specs.Kinds.{AreReadable}
 use Rattle.acpi_write.specs.SetValues.{IsFacsOf, values_of}
-use Rattle.acpi_write.proofs.CleanSets.{named_root, sound_root, sound_slots, clean_readable, clean_fadt, fadt_sound_at, fadt_long}
+use Rattle.acpi_write.proofs.OldSets.CleanSets.{named_root, sound_root, sound_slots, clean_readable, clean_fadt, fadt_sound_at, fadt_long}
 use Rattle.acpi_write.proofs.set_reading.clean_values.Goals as goal
 
 pub sound_rsdp-rsdp-requires : goal.sound_rsdp-rsdp-requires

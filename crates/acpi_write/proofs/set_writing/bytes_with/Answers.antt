@@ -4,8 +4,8 @@ use Rattle.acpi_base.specs.Listed.{fadt_signature}
 use Rattle.acpi_write.specs.Encoded.{table_bytes}
 use Rattle.acpi_write.specs.FadtBody.{with_facs}
 use Rattle.acpi_write.specs.Views.{head_value}
-use Rattle.acpi_write.proofs.FadtBodies.{length-with_facs}
-use Rattle.acpi_write.proofs.WrittenParts.{IfOk-both, encoded_count, fadt_count, encoded_without}
+use Rattle.acpi_write.proofs.TablesWritten.FadtBodies.{length-with_facs}
+use Rattle.acpi_write.proofs.SetParts.WrittenParts.{IfOk-both, encoded_count, fadt_count, encoded_without}
 use Rattle.acpi_write.proofs.set_writing.bytes_with.Goals as goal
 
 pub with_header-requires : goal.with_header-requires

@@ -1,7 +1,7 @@
 use Rattle.std.proofs.Common.{◌≡◌, sym, ◌∙◌}
 use Rattle.std.proofs.lemmas.Result.{IfErr-at_err}
 use Rattle.acpi_base.specs.declared.image.ImageFault.TheVariants as fault
-use Rattle.acpi_write.proofs.WrittenParts.{never_refused}
+use Rattle.acpi_write.proofs.SetParts.WrittenParts.{never_refused}
 use Rattle.acpi_write.proofs.set_writing.put.Goals as goal
 
 pub unreachable-requires : goal.unreachable-requires

@@ -3,7 +3,7 @@ use Rattle.acpi_base.specs.Memory.{Memory, with_bytes}
 use Rattle.acpi_write.specs.Rebuilt.{aligned, encoded_with, laid, with_pieces}
 use Rattle.acpi_write.specs.SetWriting.{EndsBelow, HasRoom, table_lengths, table_blocks}
 use Rattle.acpi_write.specs.Views.{table_value}
-use Rattle.acpi_write.proofs.WrittenParts.{table_step, blocks_step, laid_none, mapped_none}
+use Rattle.acpi_write.proofs.SetParts.WrittenParts.{table_step, blocks_step, laid_none, mapped_none}
 use Rattle.acpi_write.proofs.set_writing.put_tables.Goals as goal
 
 pub bounds-places-k : goal.bounds-places-k

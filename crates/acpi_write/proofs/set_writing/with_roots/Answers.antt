@@ -7,7 +7,7 @@ use Rattle.acpi_write.specs.Encoded.{encoded_length, table_bytes}
 use Rattle.acpi_write.specs.Rebuilt.{encoded_with, facs_place, listed_option, part_lengths, part_places, rebuilt, rsdp_bytes, table_places, xsdt_length}
 use Rattle.acpi_write.specs.SetWriting.{Awaits, EndsBelow}
 use Rattle.acpi_write.specs.Views.{set_value}
-use Rattle.acpi_write.proofs.PartsInOrder.{part_count, listed_count, first_place, none_so_far, next_part, one_more}
+use Rattle.acpi_write.proofs.SetParts.PartsInOrder.{part_count, listed_count, first_place, none_so_far, next_part, one_more}
 use Rattle.acpi_write.proofs.set_writing.with_roots.Goals as goal
 
 pub bounds-places-1 : goal.bounds-places-1

@@ -9,7 +9,7 @@ use Rattle.acpi_write.specs.Rebuilt.{encoded_with, facs_place, listed_option, pl
 use Rattle.acpi_write.specs.SetWriting.{Awaits, EndsBelow}
 use Rattle.acpi_write.specs.Views.{set_value, table_value}
 use Rattle.acpi_write.specs.declared.table_value.TableValue.{TableValue}
-use Rattle.acpi_write.proofs.PartsInOrder.{part_count, facs_part, facs_put, no_facs, tables_room, tables_put, narrow_there}
+use Rattle.acpi_write.proofs.SetParts.PartsInOrder.{part_count, facs_part, facs_put, no_facs, tables_room, tables_put, narrow_there}
 use Rattle.acpi_write.proofs.set_writing.written_set.Goals as goal
 use Rattle.acpi_write.proofs.set_writing.written_set.Goals.{in-Some+in_ok-put, in_default}
 

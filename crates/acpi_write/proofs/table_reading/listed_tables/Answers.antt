@@ -2,7 +2,7 @@ use Rattle.std.proofs.Common.{◌≡◌, ◌+◌, ◌*◌, ℕ, Result, Ok, Err,
 use Rattle.acpi_base.specs.Number.{field}
 use Rattle.acpi_base.specs.Root.{HasSlot}
 use Rattle.acpi_write.specs.SetValues.{IsWholeAt}
-use Rattle.acpi_write.proofs.Listing.{begins, skips, takes, completed}
+use Rattle.acpi_write.proofs.OldSets.Listing.{begins, skips, takes, completed}
 use Rattle.acpi_write.proofs.table_reading.listed_tables.Goals as goal
 
 pub loop-k-init : goal.loop-k-init

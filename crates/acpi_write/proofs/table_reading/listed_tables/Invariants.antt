@@ -1,5 +1,5 @@
 use Rattle.std.proofs.Common.{◌-◌, ◌/◌, length}
-use Rattle.acpi_write.proofs.Listing.{Completes}
+use Rattle.acpi_write.proofs.OldSets.Listing.{Completes}
 use Rattle.acpi_write.proofs.table_reading.listed_tables.Given as goal
 
 -- the tables found and those of the slots left are all tables

@@ -2,7 +2,7 @@ use Rattle.std.proofs.Common.{◌∙◌, ap, arith, List, ℕ, length, drop, len
 use Rattle.std.proofs.lemmas.List.{take_rest}
 use Rattle.acpi_write.specs.FadtBody.{with_facs}
 use Rattle.acpi_write.specs.Values.{Fadt}
-use Rattle.acpi_write.proofs.FadtBodies.{length-with_facs}
+use Rattle.acpi_write.proofs.TablesWritten.FadtBodies.{length-with_facs}
 use Rattle.acpi_write.proofs.table_reading.read_fadt.Goals as goal
 
 pub returns-clause-value : goal.returns-clause-value

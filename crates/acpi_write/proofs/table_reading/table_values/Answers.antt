@@ -4,8 +4,8 @@ use Rattle.std.proofs.lemmas.List.Elements.{All-nil, All-push}
 use Rattle.acpi_write.specs.Kinds.{IsReadableBehind, IsKindBehind}
 use Rattle.acpi_write.specs.SetValues.{said_behind}
 use Rattle.acpi_write.specs.Views.{table_value, IsShaped, IsShort}
-use Rattle.acpi_write.proofs.Reading.{firsts_none, firsts_more, kind_behind, values_none, values_next, next_take}
-use Rattle.acpi_write.proofs.SaidBehind.{says}
+use Rattle.acpi_write.proofs.OldSets.Reading.{firsts_none, firsts_more, kind_behind, values_none, values_next, next_take}
+use Rattle.acpi_write.proofs.OldSets.SaidBehind.{says}
 use Rattle.acpi_write.proofs.table_reading.table_values.Goals as goal
 
 pub loop-k-init : goal.loop-k-init

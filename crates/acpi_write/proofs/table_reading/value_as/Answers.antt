@@ -4,7 +4,7 @@ use Rattle.acpi_base.specs.declared.table_kind.TableKind.TheVariants as kind
 use Rattle.acpi_write.specs.Kinds.{IsReadableAs}
 use Rattle.acpi_write.specs.Values as value
 use Rattle.acpi_write.specs.Views.{table_value}
-use Rattle.acpi_write.proofs.Lengths.{read_short, said_short}
+use Rattle.acpi_write.proofs.TablesWritten.Lengths.{read_short, said_short}
 use Rattle.acpi_write.proofs.table_reading.value_as.Goals as goal
 
 -- a table that is read as one of its kind, which is this one

@@ -3,7 +3,7 @@ use Rattle.std.proofs.lemmas.Result.{IfOk-weaker}
 use Rattle.acpi_base.specs.Signature.{xsdt_signature}
 use Rattle.acpi_write.specs.Encoded.{table_bytes}
 use Rattle.acpi_write.specs.Views.{head_value}
-use Rattle.acpi_write.proofs.PartsInOrder.{xsdt_count}
+use Rattle.acpi_write.proofs.SetParts.PartsInOrder.{xsdt_count}
 use Rattle.acpi_write.proofs.xsdt_writing.xsdt_bytes.Goals as goal
 
 pub returns-clause-count : goal.returns-clause-count

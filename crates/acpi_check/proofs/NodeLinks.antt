@@ -1,0 +1,8 @@
+-- What the entries of a PPTT name, and the chains that they form.
+pub mod Indexed
+pub mod IndexedNodes
+pub mod KindPlaces
+pub mod LinkedNodes
+pub mod NamedPlaces
+pub mod PpttFaults
+pub mod ReferencePass

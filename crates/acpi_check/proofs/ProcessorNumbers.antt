@@ -1,0 +1,8 @@
+-- The numbers of processors: their proximity domains, and the leaves that name them.
+pub mod DomainsFaults
+pub mod DomainsPass
+pub mod GatheredNumbers
+pub mod LeavesFaults
+pub mod NamedPass
+pub mod Placements
+pub mod Searches

@@ -1,0 +1,10 @@
+-- Ranges of addresses and of interrupt numbers, as spans.
+pub mod Clashes
+pub mod CoveredSpans
+pub mod Gathered
+pub mod GsiClashes
+pub mod GsiRanges
+pub mod RangeClashes
+pub mod ServedFaults
+pub mod ServedNumbers
+pub mod ServedSpans

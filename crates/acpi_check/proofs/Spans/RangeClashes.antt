@@ -1,0 +1,49 @@
+-- From the addresses that ranges cover to the first fault of a set.
+use Rattle.std.proofs.Common.{◌≡◌, ℕ, ◌^◌, ◌<◌, List, map, ap, arith}
+use Rattle.acpi_base.specs.Codes.{stage_of}
+use Rattle.acpi_base.specs.Memory.{Memory}
+use Rattle.acpi_base.specs.Policy.{PolicyValue}
+use Rattle.acpi_base.specs.Entries.{Standing, entries_of, said_by}
+use Rattle.acpi_base.specs.Listed.{srat_signature, IsListedTable}
+use Rattle.acpi_base.specs.Srat.{srat_entry, SratContents, srat_contents, IsSoundSrat, Covers, IsFirstOverlap, RangeFault}
+use Rattle.acpi_base.specs.Statements.{CleanBefore}
+use Rattle.acpi_base.specs.Faults.{IsFirstFault}
+use Rattle.acpi_base.specs.declared.code.Code.TheVariants as code
+use Rattle.acpi_base.specs.declared.policy.HotPlug.{HotPlug}
+use Rattle.acpi_base.specs.declared.stage.Stage.TheVariants as stage
+use Rattle.acpi_base.specs.declared.witness.Witness.{Witness}
+use Rattle.acpi_base.proofs.Faults.Settling.{first_of_set}
+use Rattle.acpi_base.proofs.Srat.Ranges.{is_fault}
+use Rattle.acpi_graph.specs.declared.span.Span.{Span}
+use Rattle.acpi_check.specs.Gathered.{AreSpansOf, span_value, covered, spans_of}
+use Rattle.acpi_check.specs.Passed.{IsOverlap}
+use Rattle.acpi_check.specs.RangeKinds.{counts, IsOfKind}
+use Rattle.acpi_check.specs.declared.range_kind.RangeKind.{RangeKind}
+use Rattle.acpi_check.specs.declared.range_kind.RangeKind.TheVariants as kind
+use Rattle.acpi_check.proofs.Spans.CoveredSpans.{Tests, tests_any, tests_hot, tests_other, covered_spans}
+
+-- the test of a kind tells which ranges are of it
+tests : (k : RangeKind) → Tests (counts k) (IsOfKind k)
+tests kind.Any = tests_any
+tests kind.HotPluggable = tests_hot
+tests kind.NotHotPluggable = tests_other
+
+-- the spans of a kind that are gathered of all entries are the ranges of this kind
+pub kind_spans : (k : RangeKind) (whole : List ℕ) (entries : List (Standing (List ℕ))) (spans : List Span) → entries ≡ entries_of 48 whole
+    → map span_value spans ≡ spans_of (covered (counts k)) (said_by srat_entry entries) → AreSpansOf (Covers (IsOfKind k) (srat_contents whole)) spans
+kind_spans k = covered_spans (counts k) (IsOfKind k) (tests k)
+
+-- the first overlap of them is the first fault of the set
+pub overlap_first : (m : Memory) (q : PolicyValue) → CleanBefore stage.Ranges m q → (whole : List ℕ) → IsListedTable m q.rsdp srat_signature whole
+    → (w : Witness) → IsOverlap code.Overlap (IsFirstOverlap q.hotplug (srat_contents whole)) w → IsFirstFault m q w × (stage_of w.code ≡ stage.Ranges)
+overlap_first m q clean whole is w found = (first_of_set clean (record { holds = record { own = own; holds = (whole, is, fault) }; least = (whole, is, found.first) }), own)
+  where
+    own : stage_of w.code ≡ stage.Ranges
+    own = ap stage_of found.code
+
+    fault : RangeFault q.hotplug (srat_contents whole) w.code w.at w.other w.point
+    fault = rw found.code (is_fault q.hotplug (srat_contents whole) (clean stage.Srat (omega arith) whole is) w.at w.other w.point found.first)
+
+-- and its address fits a witness
+pub overlap_fits : (h : HotPlug) (c : SratContents) (at other point : ℕ) → IsSoundSrat c → IsFirstOverlap h c at other point → point < 2 ^ 64
+overlap_fits h c at other point sound first = (is_fault h c sound at other point first).0

@@ -1,0 +1,5 @@
+-- From what is found of a table to the first fault of a set.
+pub mod FirstFaults
+pub mod Headlines
+pub mod Slots
+pub mod TablesLifted

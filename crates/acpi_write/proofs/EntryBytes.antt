@@ -1,0 +1,9 @@
+-- The bytes of entries: what is written for an entry, and what it says.
+pub mod EntryForms
+pub mod EntryLists
+pub mod EntryReading
+pub mod KeptEntries
+pub mod MadtBytes
+pub mod NodeBytes
+pub mod PpttBytes
+pub mod SratBytes

@@ -1,0 +1,187 @@
+-- What stands in a rebuilt image.
+use Rattle.std.proofs.Common.{◌≡◌, ℕ, zero, suc, ◌+◌, ◌^◌, ◌<◌, ◌≤◌, List, [], ◌∷◌, ◌++◌, length, get_or, take, drop, map, Option, Some, None, refl, sym, ap, ◌∙◌, subst, arith}
+use Rattle.std.proofs.lemmas.Bool.{ne_eqb}
+use Rattle.std.proofs.lemmas.List.{length-map, take-take}
+use Rattle.std.specs.List.{AllByRecursion}
+use Rattle.acpi_base.specs.Memory.{Memory, byte_of, bytes_at}
+use Rattle.acpi_base.specs.Header.{HeadValue}
+use Rattle.acpi_base.specs.Rsdp.{addresses_at, extended_addresses, IsSoundRsdp}
+use Rattle.acpi_base.specs.Root.{chosen_root, IsRoot, IsSoundRootTable}
+use Rattle.acpi_base.specs.Signature.{has_signature, xsdt_signature}
+use Rattle.acpi_base.specs.Tables.{IsTable, length_of}
+use Rattle.acpi_base.proofs.HeldBytes.{field-take}
+use Rattle.acpi_base.proofs.Runs.{run_of-take}
+use Rattle.acpi_write.specs.Encoded.{encoded_length}
+use Rattle.acpi_write.specs.Placed.{ends, DoEndInside, IsPlaced, RebuiltLeadsToTables}
+use Rattle.acpi_write.specs.Rebuilt.{aligned, laid, places, listed_option, part_places, rsdp_bytes, table_places, xsdt_length, rebuilt, HoldsPiece}
+use Rattle.acpi_write.specs.Values.{TableValue, SetValue}
+use Rattle.acpi_write.proofs.NewSets.NewRoot.{AreAddresses, IsWrittenXsdt, xsdt_written}
+use Rattle.acpi_write.proofs.NewSets.RebuiltParts.{aligned_from, parts_are_held}
+use Rattle.acpi_write.proofs.TablesWritten.RsdpBytes.{IsWrittenRsdp, rsdp_written}
+
+-- ---- places
+
+pub length-places : (a : ℕ) (ns : List ℕ) → length (places a ns) ≡ length ns
+unfolding places
+length-places a [] = refl
+length-places a (n ∷ ns) = ap suc (length-places (aligned (a + n)) ns)
+
+-- no place is below the first, and one of some length is an address
+place_within : (a : ℕ) (ns : List ℕ) (k : ℕ) → k < length ns → 0 < get_or ns k 0 → DoEndInside (ends a ns) → (a ≤ get_or (places a ns) k 0) × (get_or (places a ns) k 0 < 2 ^ 64)
+unfolding places ends
+place_within a [] k h some inside = absurd (omega arith)
+place_within a (n ∷ ns) zero h some inside = (omega arith, omega (arith, some, inside.0))
+place_within a (n ∷ ns) (suc k) h some inside =
+    let from = aligned_from (a + n) in
+    let rest = place_within (aligned (a + n)) ns k (omega arith) some inside.1 in
+    (omega (arith, from, rest.0), rest.1)
+
+places_are : (a : ℕ) (ns : List ℕ) → 0 < a → ((k : ℕ) → k < length ns → 0 < get_or ns k 0) → DoEndInside (ends a ns) → AreAddresses (places a ns)
+places_are a ns above some inside =
+    let count = length-places a ns in
+    record {
+      some = λ k h. (let within = place_within a ns k (omega (arith, count, h)) (some k (omega (arith, count, h))) inside in omega (arith, above, within.0));
+      fits = λ k h. (place_within a ns k (omega (arith, count, h)) (some k (omega (arith, count, h))) inside).1;
+    }
+
+lengths_some : (tables : List TableValue) (k : ℕ) → k < length (map encoded_length tables) → 0 < get_or (map encoded_length tables) k 0
+lengths_some [] k h = absurd (omega arith)
+lengths_some (t ∷ ts) zero h = omega arith
+lengths_some (t ∷ ts) (suc k) h = lengths_some ts k (omega arith)
+
+-- the tables' places are those of blocks laid from some place on
+record AreTablePlaces (xs : List ℕ) (ns : List ℕ) : Type 0 where
+  a : ℕ
+  above : 0 < a
+  are : xs ≡ places a ns
+  inside : DoEndInside (ends a ns)
+
+behind_facs : (facs : Option (List ℕ)) (a : ℕ) (ns : List ℕ) → 0 < a → DoEndInside (ends a (map length (listed_option facs) ++ ns))
+    → AreTablePlaces (drop (length (listed_option facs)) (places a (map length (listed_option facs) ++ ns))) ns
+unfolding places ends
+behind_facs None a ns above inside = record { a = a; above = above; are = refl; inside = inside }
+behind_facs (Some bytes) a ns above inside =
+    let from = aligned_from (a + length bytes) in
+    record { a = aligned (a + length bytes); above = omega (arith, from, above); are = refl; inside = inside.1 }
+
+behind_root : (v : SetValue) (base : ℕ) → IsPlaced v base → AreTablePlaces (table_places v base) (map encoded_length v.tables)
+unfolding places ends
+behind_root v base placed =
+    let xsdt = aligned (base + 36) in
+    let behind = aligned (xsdt + xsdt_length v) in
+    let from = aligned_from (xsdt + xsdt_length v) in
+    let two : 2 + length (listed_option v.facs) ≡ suc (suc (length (listed_option v.facs))) = omega arith in
+    subst (λ (k : ℕ). AreTablePlaces (drop k (part_places v base)) (map encoded_length v.tables)) (sym two)
+    (behind_facs v.facs behind (map encoded_length v.tables) (omega (arith, from)) placed.inside.1.1)
+
+pub tables_are : (v : SetValue) (base : ℕ) → IsPlaced v base → (length (table_places v base) ≡ length v.tables) × AreAddresses (table_places v base)
+tables_are v base placed =
+    let from = behind_root v base placed in (
+      ap length from.are ∙ length-places from.a (map encoded_length v.tables) ∙ length-map v.tables encoded_length,
+      subst AreAddresses (sym from.are) (places_are from.a (map encoded_length v.tables) from.above (lengths_some v.tables) from.inside),
+    )
+
+-- ---- what stands at an address
+
+-- the image holds these bytes from an address on
+abbrev pub Holds : Memory → ℕ → List ℕ → Type 0
+Holds m a bytes = bytes_at m a (length bytes) ≡ Some bytes
+
+pub front_held : (m : Memory) (a k : ℕ) (bytes : List ℕ) → Holds m a bytes → k ≤ length bytes → bytes_at m a k ≡ Some (take k bytes)
+front_held m a k bytes held h = run_of-take (byte_of m) a (length bytes) k bytes held h
+
+pub signed_front : (bytes signature : List ℕ) (k : ℕ) → length signature ≤ k → has_signature (take k bytes) signature ≡ has_signature bytes signature
+unfolding has_signature
+signed_front bytes signature k h = rw (take-take (length signature) k bytes h) refl
+
+-- a table
+pub table_held : (m : Memory) (a : ℕ) (bytes : List ℕ) → Holds m a bytes → 36 ≤ length bytes → length_of bytes ≡ length bytes → IsTable m a (take 36 bytes) bytes
+table_held m a bytes held least count =
+    let size : length_of (take 36 bytes) ≡ length bytes = field-take bytes 36 4 4 (omega arith) ∙ count in
+    record {
+      header_held = front_held m a 36 bytes held least;
+      least = omega (arith, size, least);
+      held = ap (λ (k : ℕ). bytes_at m a k) size ∙ held;
+    }
+
+-- an XSDT
+xsdt_held : (m : Memory) (a : ℕ) (head : HeadValue) (xs bytes : List ℕ) → Holds m a bytes → IsWrittenXsdt head xs bytes → IsSoundRootTable m a 8 bytes
+xsdt_held m a head xs bytes held xsdt =
+    let count = xsdt.count in
+    record {
+      table = record {
+        header = take 36 bytes;
+        table = table_held m a bytes held xsdt.table.least xsdt.table.size;
+        signed = signed_front bytes xsdt_signature 36 (omega arith) ∙ xsdt.table.signed;
+      };
+      slots = omega (arith, count);
+      zero_sum = xsdt.table.zero_sum;
+    }
+
+-- an RSDP
+rsdp_held : (m : Memory) (a xsdt : ℕ) (oemid bytes : List ℕ) → Holds m a bytes → IsWrittenRsdp oemid xsdt bytes → IsSoundRsdp m a
+rsdp_held m a xsdt oemid bytes held rsdp =
+    let count = rsdp.count in
+    let size = rsdp.size in
+    record {
+      head = take 20 bytes;
+      head_held = front_held m a 20 bytes held (omega (arith, count));
+      signed = rsdp.signed;
+      zero_sum = rsdp.head_sum;
+      extended = λ _. record {
+        prefix = bytes;
+        prefix_held = ap (λ (k : ℕ). bytes_at m a k) (sym count) ∙ held;
+        least = omega (arith, size);
+        whole = bytes;
+        held = ap (λ (k : ℕ). bytes_at m a k) (size ∙ sym count) ∙ held;
+        zero_sum = rsdp.zero_sum;
+      };
+    }
+
+rsdp_names : (m : Memory) (a xsdt : ℕ) (oemid bytes : List ℕ) → Holds m a bytes → IsWrittenRsdp oemid xsdt bytes → addresses_at m a ≡ Some (record { rsdt = 0; xsdt = xsdt })
+unfolding addresses_at
+rsdp_names m a xsdt oemid bytes held rsdp =
+    let count = rsdp.count in
+    let named : extended_addresses bytes ≡ record { rsdt = 0; xsdt = xsdt } = λ i. record { rsdt = rsdp.rsdt_is i; xsdt = rsdp.xsdt_is i } in
+    let head = front_held m a 20 bytes held (omega (arith, count)) in
+    let prefix : bytes_at m a 36 ≡ Some bytes = ap (λ (k : ℕ). bytes_at m a k) (sym count) ∙ held in
+    rw (head, rsdp.revision, prefix, named) refl
+
+names_root : (m : Memory) (a xsdt : ℕ) → addresses_at m a ≡ Some (record { rsdt = 0; xsdt = xsdt }) → 0 < xsdt → IsRoot m a xsdt 8
+unfolding chosen_root
+names_root m a xsdt names above = record {
+  named = record { rsdt = 0; xsdt = xsdt };
+  read = names;
+  chosen = rw (ne_eqb xsdt 0 (λ nil. absurd (omega (arith, above, nil)))) refl;
+}
+
+-- the image holds the first two parts
+first_parts : (v : SetValue) (base : ℕ) (oemid_bytes xsdt_bytes : List ℕ) (rest : List (List ℕ)) (m : Memory) → length oemid_bytes ≡ 36
+    → AllByRecursion (HoldsPiece m) (laid base (oemid_bytes ∷ xsdt_bytes ∷ rest)) → Holds m base oemid_bytes × Holds m (aligned (base + 36)) xsdt_bytes
+unfolding laid
+first_parts v base oemid_bytes xsdt_bytes rest m count held =
+    (held.0, subst (λ (n : ℕ). Holds m (aligned (base + n)) xsdt_bytes) count held.1.0)
+
+pub leads_to_tables : RebuiltLeadsToTables
+unfolding places ends
+leads_to_tables v base oemid head placed =
+    let m = rebuilt v base in
+    let xsdt = aligned (base + 36) in
+    let from = aligned_from (base + 36) in
+    let end = placed.inside.1.0 in
+    let tables = tables_are v base placed in
+    let rsdp = rsdp_written v.oemid xsdt oemid (omega (arith, end)) in
+    let root = xsdt_written v.root (table_places v base) head (omega (arith, tables.0, placed.size)) tables.1 in
+    let held = first_parts v base _ _ _ m rsdp.count (parts_are_held v base) in
+    record {
+      rsdp = rsdp_held m base xsdt v.oemid _ held.0 rsdp;
+      head = take 20 (rsdp_bytes v.oemid xsdt);
+      head_held = front_held m base 20 _ held.0 (omega (arith, rsdp.count));
+      oemid = rsdp.oemid_is;
+      r = xsdt;
+      root_bytes = _;
+      root = names_root m base xsdt (rsdp_names m base xsdt v.oemid _ held.0 rsdp) (omega (arith, from));
+      sound = xsdt_held m xsdt v.root (table_places v base) _ held.1 root;
+      root_head = root.table.head_is;
+      lists = root.lists;
+    }

@@ -1,0 +1,164 @@
+-- The table that is written for what a table of a clean set says: it has the same contents, and says the same.
+use Rattle.std.proofs.Common.{◌≡◌, ℕ, ◌≤◌, true, List, length, drop, Option, Some, None, refl, sym, ap, ◌∙◌, subst, arith, length-drop}
+use Rattle.acpi_base.specs.Header.{head_of}
+use Rattle.acpi_base.specs.Entries.{cut_of}
+use Rattle.acpi_base.specs.Fadt.{IsSoundFadtTable}
+use Rattle.acpi_base.specs.Listed.{fadt_signature, madt_signature, srat_signature, slit_signature, pptt_signature}
+use Rattle.acpi_base.specs.Madt.{MadtContents, madt_contents}
+use Rattle.acpi_base.specs.Srat.{SratContents, srat_contents}
+use Rattle.acpi_base.specs.Slit.{SlitContents, slit_contents}
+use Rattle.acpi_base.specs.Pptt.{PpttContents, pptt_contents}
+use Rattle.acpi_base.specs.declared.table_kind.TableKind.{TableKind}
+use Rattle.acpi_base.specs.declared.table_kind.TableKind.TheVariants as kind
+use Rattle.acpi_write.specs.Encoded.{encoded, encoded_length, table_bytes}
+use Rattle.acpi_write.specs.FadtBody.{with_facs}
+use Rattle.acpi_write.specs.Kinds.{IsKindBehind}
+use Rattle.acpi_write.specs.Laws.{KeepsContents}
+use Rattle.acpi_write.specs.Rebuilt.{encoded_with}
+use Rattle.acpi_write.specs.SetValues.{entries_in, fadt_said, madt_said, srat_said, slit_said, pptt_said, is_first, said_behind}
+use Rattle.acpi_write.specs.Values.{Madt, Srat, Slit, Pptt, Fadt}
+use Rattle.acpi_write.proofs.TablesWritten.FadtBodies.{length-with_facs, with_facs-with_facs}
+use Rattle.acpi_write.proofs.OldSets.FirstTables.{IsCleanTable}
+use Rattle.acpi_write.proofs.TablesWritten.KeptContents.{contents_are_kept, fits_head, length_of_parts}
+use Rattle.acpi_write.proofs.TablesWritten.Lengths as lengths
+use Rattle.acpi_write.proofs.OldSets.SaidBehind.{says, kind_found, IsRewritten, as_first, as_it_was}
+use Rattle.acpi_write.proofs.TablesWritten.WholeTables.{fadt_table}
+
+-- ---- what a table needs for it, behind others
+
+pub record IsCleanBehind (before : List (List ℕ)) (whole : List ℕ) : Type 0 where
+  pub clean : IsCleanTable whole
+  pub fadt : is_first before whole fadt_signature ≡ true → IsSoundFadtTable whole
+  pub madt : is_first before whole madt_signature ≡ true → (44 ≤ length whole) × (cut_of 44 whole ≡ None)
+  pub srat : is_first before whole srat_signature ≡ true → (48 ≤ length whole) × (cut_of 48 whole ≡ None)
+  pub slit : is_first before whole slit_signature ≡ true → 44 ≤ length whole
+  pub pptt : is_first before whole pptt_signature ≡ true → cut_of 36 whole ≡ None
+
+-- ---- contents, by kind
+
+kept_madt : (before : List (List ℕ)) (whole : List ℕ) → IsCleanBehind before whole → is_first before whole madt_signature ≡ true → KeepsContents madt_signature madt_contents (madt_said whole) whole
+kept_madt before whole is first =
+    let parts = is.madt first in
+    (contents_are_kept whole is.clean.table is.clean.bytes is.clean.small).madt parts.0 parts.1
+
+kept_srat : (before : List (List ℕ)) (whole : List ℕ) → IsCleanBehind before whole → is_first before whole srat_signature ≡ true → KeepsContents srat_signature srat_contents (srat_said whole) whole
+kept_srat before whole is first =
+    let parts = is.srat first in
+    (contents_are_kept whole is.clean.table is.clean.bytes is.clean.small).srat parts.0 parts.1
+
+kept_slit : (before : List (List ℕ)) (whole : List ℕ) → IsCleanBehind before whole → is_first before whole slit_signature ≡ true → KeepsContents slit_signature slit_contents (slit_said whole) whole
+kept_slit before whole is first = (contents_are_kept whole is.clean.table is.clean.bytes is.clean.small).slit (is.slit first)
+
+kept_pptt : (before : List (List ℕ)) (whole : List ℕ) → IsCleanBehind before whole → is_first before whole pptt_signature ≡ true → KeepsContents pptt_signature pptt_contents (pptt_said whole) whole
+kept_pptt before whole is first = (contents_are_kept whole is.clean.table is.clean.bytes is.clean.small).pptt (is.pptt first)
+
+-- ---- the table that is written for what one says
+
+abbrev pub new_of : ℕ → List (List ℕ) → List ℕ → List ℕ
+new_of facs before old = encoded_with facs (said_behind before old)
+
+pub new_madt : (facs : ℕ) (before : List (List ℕ)) (old : List ℕ) → IsCleanBehind before old → is_first before old madt_signature ≡ true → madt_contents (new_of facs before old) ≡ madt_contents old
+new_madt facs before old is first = ap (λ v. madt_contents (encoded_with facs v)) (says before old (Some kind.Madt) first) ∙ (kept_madt before old is first).contents
+
+pub new_srat : (facs : ℕ) (before : List (List ℕ)) (old : List ℕ) → IsCleanBehind before old → is_first before old srat_signature ≡ true → srat_contents (new_of facs before old) ≡ srat_contents old
+new_srat facs before old is first = ap (λ v. srat_contents (encoded_with facs v)) (says before old (Some kind.Srat) first) ∙ (kept_srat before old is first).contents
+
+pub new_slit : (facs : ℕ) (before : List (List ℕ)) (old : List ℕ) → IsCleanBehind before old → is_first before old slit_signature ≡ true → slit_contents (new_of facs before old) ≡ slit_contents old
+new_slit facs before old is first = ap (λ v. slit_contents (encoded_with facs v)) (says before old (Some kind.Slit) first) ∙ (kept_slit before old is first).contents
+
+pub new_pptt : (facs : ℕ) (before : List (List ℕ)) (old : List ℕ) → IsCleanBehind before old → is_first before old pptt_signature ≡ true → pptt_contents (new_of facs before old) ≡ pptt_contents old
+new_pptt facs before old is first = ap (λ v. pptt_contents (encoded_with facs v)) (says before old (Some kind.Pptt) first) ∙ (kept_pptt before old is first).contents
+
+pub new_fadt : (facs : ℕ) (before : List (List ℕ)) (old : List ℕ) → IsCleanBehind before old → is_first before old fadt_signature ≡ true
+    → new_of facs before old ≡ table_bytes fadt_signature (head_of old) (with_facs (drop 36 old) facs)
+new_fadt facs before old is first =
+    let long = (is.fadt first).long in
+    ap (encoded_with facs) (says before old (Some kind.Fadt) first)
+    ∙ ap (table_bytes fadt_signature (head_of old)) (with_facs-with_facs (drop 36 old) 0 facs (omega (arith, length-drop 36 old, long)))
+
+-- ---- it says the same, by kind
+
+madt_same : (one other : List ℕ) → head_of one ≡ head_of other → madt_contents one ≡ madt_contents other → madt_said one ≡ madt_said other
+madt_same one other head contents = λ i. Madt (head i) (contents i).address (contents i).flags (entries_in (contents i).entries)
+
+srat_same : (one other : List ℕ) → head_of one ≡ head_of other → srat_contents one ≡ srat_contents other → srat_said one ≡ srat_said other
+srat_same one other head contents = λ i. Srat (head i) (entries_in (contents i).entries)
+
+slit_same : (one other : List ℕ) → head_of one ≡ head_of other → slit_contents one ≡ slit_contents other → slit_said one ≡ slit_said other
+slit_same one other head contents = λ i. Slit (head i) (contents i).count (contents i).cells
+
+pptt_same : (one other : List ℕ) → head_of one ≡ head_of other → pptt_contents one ≡ pptt_contents other → pptt_said one ≡ pptt_said other
+pptt_same one other head contents = λ i. Pptt (head i) (entries_in (contents i).entries)
+
+rewritten_madt : (facs : ℕ) (before : List (List ℕ)) (old : List ℕ) → IsCleanBehind before old → is_first before old madt_signature ≡ true → IsRewritten before old (new_of facs before old)
+unfolding madt_contents
+rewritten_madt facs before old is first =
+    let kept = kept_madt before old is first in
+    let new = encoded (madt_said old) in
+    let size : length new ≡ length old = ap (λ (c : MadtContents). c.size) kept.contents in
+    let count = size ∙ sym (lengths.madt_table old (is.madt first).0 (is.madt first).1) in
+    let same = madt_same new old kept.table.head_is kept.contents in
+    subst (λ v. IsRewritten before old (encoded_with facs v)) (sym (says before old (Some kind.Madt) first)) (as_first kind.Madt before old new first kept.table same count)
+
+rewritten_srat : (facs : ℕ) (before : List (List ℕ)) (old : List ℕ) → IsCleanBehind before old → is_first before old srat_signature ≡ true → IsRewritten before old (new_of facs before old)
+unfolding srat_contents
+rewritten_srat facs before old is first =
+    let kept = kept_srat before old is first in
+    let new = encoded (srat_said old) in
+    let size : length new ≡ length old = ap (λ (c : SratContents). c.size) kept.contents in
+    let count = size ∙ sym (lengths.srat_table old (is.srat first).0 (is.srat first).1) in
+    let same = srat_same new old kept.table.head_is kept.contents in
+    subst (λ v. IsRewritten before old (encoded_with facs v)) (sym (says before old (Some kind.Srat) first)) (as_first kind.Srat before old new first kept.table same count)
+
+rewritten_slit : (facs : ℕ) (before : List (List ℕ)) (old : List ℕ) → IsCleanBehind before old → is_first before old slit_signature ≡ true → IsRewritten before old (new_of facs before old)
+unfolding slit_contents
+rewritten_slit facs before old is first =
+    let kept = kept_slit before old is first in
+    let new = encoded (slit_said old) in
+    let size : length new ≡ length old = ap (λ (c : SlitContents). c.size) kept.contents in
+    let count = size ∙ sym (lengths.slit_table old (is.slit first)) in
+    let same = slit_same new old kept.table.head_is kept.contents in
+    subst (λ v. IsRewritten before old (encoded_with facs v)) (sym (says before old (Some kind.Slit) first)) (as_first kind.Slit before old new first kept.table same count)
+
+rewritten_pptt : (facs : ℕ) (before : List (List ℕ)) (old : List ℕ) → IsCleanBehind before old → is_first before old pptt_signature ≡ true → IsRewritten before old (new_of facs before old)
+unfolding pptt_contents
+rewritten_pptt facs before old is first =
+    let kept = kept_pptt before old is first in
+    let new = encoded (pptt_said old) in
+    let size : length new ≡ length old = ap (λ (c : PpttContents). c.size) kept.contents in
+    let count = size ∙ sym (lengths.pptt_table old is.clean.table.least (is.pptt first)) in
+    let same = pptt_same new old kept.table.head_is kept.contents in
+    subst (λ v. IsRewritten before old (encoded_with facs v)) (sym (says before old (Some kind.Pptt) first)) (as_first kind.Pptt before old new first kept.table same count)
+
+rewritten_fadt : (facs : ℕ) (before : List (List ℕ)) (old : List ℕ) → IsCleanBehind before old → is_first before old fadt_signature ≡ true → IsRewritten before old (new_of facs before old)
+rewritten_fadt facs before old is first =
+    let long = (is.fadt first).long in
+    let small = is.clean.small in
+    let body = drop 36 old in
+    let behind = length-drop 36 old in
+    let room : 4 ≤ length body = omega (arith, behind, long) in
+    let n = length-with_facs body facs room in
+    let zero = length-with_facs body 0 room in
+    let new = table_bytes fadt_signature (head_of old) (with_facs body facs) in
+    let table = fadt_table (head_of old) (with_facs body facs) (fits_head old is.clean.bytes is.clean.table.least) (omega (arith, n, behind, small, long)) in
+    let size = length_of_parts new (with_facs body facs) table.0.least table.1 in
+    let count : length new ≡ encoded_length (fadt_said old) = omega (arith, size, n, zero) in
+    let body_is : with_facs (drop 36 new) 0 ≡ with_facs body 0 = ap (λ (b : List ℕ). with_facs b 0) table.1 ∙ with_facs-with_facs body facs 0 room in
+    let same : fadt_said new ≡ fadt_said old = λ i. Fadt (table.0.head_is i) (body_is i) in
+    subst (IsRewritten before old) (sym (new_fadt facs before old is first)) (as_first kind.Fadt before old new first table.0 same count)
+
+-- ---- of each table
+
+rewritten_as : (facs : ℕ) (before : List (List ℕ)) (old : List ℕ) → IsCleanBehind before old → (kind : Option TableKind) → IsKindBehind before old kind → IsRewritten before old (new_of facs before old)
+rewritten_as facs before old is (Some kind.Fadt) first = rewritten_fadt facs before old is first
+rewritten_as facs before old is (Some kind.Madt) first = rewritten_madt facs before old is first
+rewritten_as facs before old is (Some kind.Srat) first = rewritten_srat facs before old is first
+rewritten_as facs before old is (Some kind.Slit) first = rewritten_slit facs before old is first
+rewritten_as facs before old is (Some kind.Pptt) first = rewritten_pptt facs before old is first
+rewritten_as facs before old is None none =
+    subst (λ v. IsRewritten before old (encoded_with facs v)) (sym (says before old None none)) (as_it_was before old none is.clean.table)
+
+pub rewritten : (facs : ℕ) (before : List (List ℕ)) (old : List ℕ) → IsCleanBehind before old → IsRewritten before old (new_of facs before old)
+rewritten facs before old is =
+    let found = kind_found before old in
+    rewritten_as facs before old is found.0 found.1

@@ -1,0 +1,115 @@
+-- What the tables, the root, the RSDP and the FACS of a clean set are.
+use Rattle.std.proofs.Common.{◌≡◌, ℕ, zero, suc, ◌^◌, ◌<◌, ◌≤◌, true, List, [], ◌∷◌, length, take, drop, get_or, Some, refl, sym, ap, ◌∙◌, subst, arith, length-drop}
+use Rattle.std.specs.List.{AllByRecursion, AllZip}
+use Rattle.std.proofs.lemmas.List.{length-take-le}
+use Rattle.acpi_base.specs.Memory.{Memory, IsImage, byte_of}
+use Rattle.acpi_base.specs.Fadt.{IsSoundFadtTable}
+use Rattle.acpi_base.specs.Facs.{IsFacs, facs_signature, facs_length}
+use Rattle.acpi_base.specs.Listed.{listed, fadt_signature, madt_signature, srat_signature, slit_signature, pptt_signature}
+use Rattle.acpi_base.specs.Policy.{PolicyValue}
+use Rattle.acpi_base.specs.Signature.{has_signature}
+use Rattle.acpi_base.specs.Tables.{length_of}
+use Rattle.acpi_base.specs.Statements.{IsClean}
+use Rattle.acpi_base.specs.declared.stage.Stage.TheVariants as stage
+use Rattle.acpi_base.proofs.HeldBytes.{bytes_below, held_field_below, says_length, length-bytes_at, same_value}
+use Rattle.acpi_base.proofs.Runs.{run_of-take}
+use Rattle.acpi_base.proofs.Tables.Listed.{one_listed}
+use Rattle.acpi_base.proofs.Tables.Whole.{length-table}
+use Rattle.acpi_write.specs.Encoded.{FitsHead}
+use Rattle.acpi_write.specs.Laws.{AreBytes}
+use Rattle.acpi_write.specs.Kinds.{AreReadable}
+use Rattle.acpi_write.specs.SetValues.{IsWholeAt, IsSetValue}
+use Rattle.acpi_write.specs.Values.{SetValue}
+use Rattle.acpi_write.proofs.OldSets.CleanSets.{clean_readable, readable_madt, readable_srat, readable_slit, readable_pptt}
+use Rattle.acpi_write.proofs.OldSets.FirstListed.{AreListed, listed_first}
+use Rattle.acpi_write.proofs.OldSets.FirstTables.{first_with, IsCleanTable, AreCleanTables}
+use Rattle.acpi_write.proofs.TablesWritten.KeptContents.{fits_head}
+use Rattle.acpi_write.proofs.NewSets.NewImage.{signed_front}
+
+-- ---- of two lists
+
+pub zip_at : (R : ℕ → List ℕ → Type 0) (xs : List ℕ) (ys : List (List ℕ)) (k : ℕ) → AllZip R xs ys → k < length ys → R (get_or xs k 0) (get_or ys k [])
+zip_at R [] [] k z h = absurd (omega arith)
+zip_at R [] (y ∷ ys) k z h = absurd z
+zip_at R (x ∷ xs) [] k z h = absurd z
+zip_at R (x ∷ xs) (y ∷ ys) zero z h = z.0
+zip_at R (x ∷ xs) (y ∷ ys) (suc k) z h = zip_at R xs ys k z.1 (omega arith)
+
+each_is : (P : List ℕ → Type 0) (ts : List (List ℕ)) → ((k : ℕ) → k < length ts → P (get_or ts k [])) → AllByRecursion P ts
+each_is P [] h = tt
+each_is P (t ∷ ts) h = (h zero (omega arith), each_is P ts (λ k below. h (suc k) (omega arith)))
+
+-- ---- a table that stands in an image
+
+pub held_bytes : (m : Memory) (a : ℕ) (whole : List ℕ) → IsImage m → IsWholeAt m a whole → AreBytes whole
+held_bytes m a whole image (header, table) = bytes_below m image a (length_of header) whole table.held
+
+pub held_least : (m : Memory) (a : ℕ) (whole : List ℕ) → IsWholeAt m a whole → 36 ≤ length whole
+held_least m a whole (header, table) = omega (arith, length-table m a header whole table, table.least)
+
+held_size : (m : Memory) (a : ℕ) (whole : List ℕ) → IsWholeAt m a whole → length_of whole ≡ length whole
+held_size m a whole (header, table) = says_length m a 36 header whole (omega arith) table.least table.header_held table.held
+
+held_small : (m : Memory) (a : ℕ) (whole : List ℕ) → IsImage m → IsWholeAt m a whole → length whole < 2 ^ 32
+held_small m a whole image (header, table) =
+    omega (arith, length-table m a header whole table, held_field_below m image a 36 header table.header_held 4 4)
+
+-- ---- the tables of a clean set
+
+pub listed_of : (m : Memory) (p : ℕ) (v : SetValue) → (is : IsSetValue m p v) → AreListed m p is.tables
+listed_of m p v is = record { r = is.r; d = is.d; root_bytes = is.root_bytes; root = is.root; table = is.root_table; each = is.each }
+
+clean_each : (m : Memory) (q : PolicyValue) (ts : List (List ℕ)) → IsImage m → IsClean m q → AreListed m q.rsdp ts → AllByRecursion IsCleanTable ts
+clean_each m q ts image clean are =
+    let readable : AreReadable ts = clean_readable m q are.r are.d are.root_bytes ts clean are.root are.table are.each in
+    each_is IsCleanTable ts (λ k below.
+    let a = get_or (listed are.root_bytes are.d) k 0 in
+    let t = get_or ts k [] in
+    let at = zip_at (IsWholeAt m) (listed are.root_bytes are.d) ts k are.each below in
+    record {
+      table = record { least = held_least m a t at; size = held_size m a t at; zero_sum = (readable k [] below).zero_sum };
+      bytes = held_bytes m a t image at;
+      small = held_small m a t image at;
+    })
+
+pub clean_tables : (m : Memory) (q : PolicyValue) (ts : List (List ℕ)) → IsImage m → IsClean m q → AreListed m q.rsdp ts → AreCleanTables ts
+clean_tables m q ts image clean are =
+    let first = λ (signature : List ℕ) (t : List ℕ) (four : length signature ≡ 4) (is : first_with signature ts ≡ Some t). listed_first m q.rsdp ts signature t are four is in
+    record {
+      each = clean_each m q ts image clean are;
+      fadt = λ t is. subst IsSoundFadtTable (one_listed m q.rsdp fadt_signature (clean stage.Fadt).whole t (clean stage.Fadt).fadt (first fadt_signature t refl is)) (clean stage.Fadt).sound;
+      madt = λ t is. (let can = readable_madt q t (clean stage.Madt t (first madt_signature t refl is)) in (can.long, can.filled));
+      srat = λ t is. (let can = readable_srat t (clean stage.Srat t (first srat_signature t refl is)) in (can.long, can.filled));
+      slit = λ t is. (readable_slit t (clean stage.Slit t (first slit_signature t refl is))).long;
+      pptt = λ t is. (readable_pptt t (clean stage.Pptt t (first pptt_signature t refl is))).filled;
+    }
+
+-- ---- the RSDP and the root
+
+pub oemid_is_six : (m : Memory) (p : ℕ) (v : SetValue) → IsSetValue m p v → length v.oemid ≡ 6
+oemid_is_six m p v is =
+    let count = length-bytes_at m p 20 is.head is.head_held in
+    ap length is.oemid ∙ length-take-le 6 (drop 9 is.head) (omega (arith, count, length-drop 9 is.head))
+
+pub root_fits_head : (m : Memory) (p : ℕ) (v : SetValue) → IsImage m → IsSetValue m p v → FitsHead v.root
+root_fits_head m p v image is =
+    let at : IsWholeAt m is.r is.root_bytes = (is.root_table.header, is.root_table.table) in
+    subst FitsHead (sym is.root_head) (fits_head is.root_bytes (held_bytes m is.r is.root_bytes image at) (held_least m is.r is.root_bytes at))
+
+-- ---- the FACS
+
+-- all bytes of a FACS
+pub record IsFacsBytes (bytes : List ℕ) : Type 0 where
+  pub signed : has_signature bytes facs_signature ≡ true
+  pub size : facs_length bytes ≡ length bytes
+  pub least : 64 ≤ length bytes
+
+pub facs_bytes : (m : Memory) (f : ℕ) (bytes : List ℕ) → IsFacs m f bytes → IsFacsBytes bytes
+facs_bytes m f bytes is =
+    let front : is.prefix ≡ take 8 bytes = same_value is.prefix (take 8 bytes) is.prefix_held (run_of-take (byte_of m) f (facs_length is.prefix) 8 bytes is.held (omega (arith, is.least))) in
+    let count = length-bytes_at m f (facs_length is.prefix) bytes is.held in
+    record {
+      signed = sym (signed_front bytes facs_signature 8 (omega arith)) ∙ ap (λ (h : List ℕ). has_signature h facs_signature) (sym front) ∙ is.signed;
+      size = says_length m f 8 is.prefix bytes (omega arith) (omega (arith, is.least)) is.prefix_held is.held;
+      least = omega (arith, count, is.least);
+    }
