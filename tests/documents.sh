@@ -177,6 +177,24 @@ parts=$(cat README.md docs/*.md | grep -o '`\(src\|specs\)/[A-Za-z0-9_/]*\.\(rt\
 there=$(while read -r part; do for crate in crates/*; do [ -e "$crate/$part" ] && printf '%s\n' "$part"; done; done <<<"$parts")
 same 'files of a crate that the documents name (<) and that are there (>)' "$parts" "$there"
 
+# touched CHANGE EXAMPLE: what ARCHITECTURE.md says that a change touches are the files that name the example, a pattern: all of
+# those in the crates, and some of the others.
+touched() {
+  local told
+  told=$(sed -n "/^### $1\$/,/^##/p" docs/ARCHITECTURE.md | awk -F ' [|] ' '/^[|] `/ {
+    sub(/^[|] /, "", $1)
+    count = split($2, files, /, /)
+    for (i = 1; i <= count; i++) print $1 "/" files[i]
+  }' | tr -d '` |')
+  within "$1: files that name $2, and that ARCHITECTURE.md does not list" "$(grep -rlE "$2" crates/*/src crates/*/specs crates/*/proofs)" "$told"
+  count "$1: listed files that do not name $2" "$(grep -LE "$2" ${told:-none-is-listed} 2>&1)"
+}
+touched 'A fault code' '\bGsiPastEnd\b'
+touched 'A kind of entry of the MADT' 'X2apicNmi|x2apic[_-]nmi'
+touched 'A stage' '\b[Ss]tage(::|\.)Overrides\b'
+touched 'An option' '(--|")hotplug\b|hotplug_|_hotplug|hotplug = '
+touched 'A line of show' '\bx2apic-nmi\b'
+
 count 'man/acpiset-faults.7, made of docs/FAULTS.md (<) and as it is (>)' "$(awk -f man/faults.awk docs/FAULTS.md | diff - man/acpiset-faults.7 | grep '^[<>]')"
 version=$(sed -n 's/^const VERSION: &str = "\(.*\)";$/\1/p' crates/acpi_cli/src/reply.rt)
 same 'the version of the program (<) and the last one in CHANGELOG.md (>)' "$version" "$(sed -n 's/^## \([0-9.]*\).*/\1/p' CHANGELOG.md | head -n 1)"
