@@ -183,25 +183,24 @@ abbrev pub KeepsFirst : {C : Type 0} → ℕ → List (List ℕ) → List ℕ �
 KeepsFirst facs ts signature contents_of =
     (new : List ℕ) → first_with signature (new_tables facs ts) ≡ Some new → (old : List ℕ) × (first_with signature ts ≡ Some old) × (contents_of new ≡ contents_of old)
 
+again : {C : Type 0} (contents_of : List ℕ → C) (facs : ℕ) (ts : List (List ℕ)) (signature : List ℕ) → length signature ≡ 4
+    → ((before : List (List ℕ)) (old : List ℕ) → IsCleanBehind before old → is_first before old signature ≡ true → contents_of (new_of facs before old) ≡ contents_of old)
+    → AreCleanTables ts → KeepsFirst facs ts signature contents_of
+again contents_of facs ts signature four same clean new is =
+    let from = written_for facs ts signature new four clean is in
+    (from.old, from.is_old, ap contents_of from.is_new ∙ same from.passed from.old from.clean from.first)
+
 pub madt_again : (facs : ℕ) (ts : List (List ℕ)) → AreCleanTables ts → KeepsFirst facs ts madt_signature madt_contents
-madt_again facs ts clean new is =
-    let from = written_for facs ts madt_signature new refl clean is in
-    (from.old, from.is_old, ap madt_contents from.is_new ∙ new_madt facs from.passed from.old from.clean from.first)
+madt_again facs ts = again madt_contents facs ts madt_signature refl (new_madt facs)
 
 pub srat_again : (facs : ℕ) (ts : List (List ℕ)) → AreCleanTables ts → KeepsFirst facs ts srat_signature srat_contents
-srat_again facs ts clean new is =
-    let from = written_for facs ts srat_signature new refl clean is in
-    (from.old, from.is_old, ap srat_contents from.is_new ∙ new_srat facs from.passed from.old from.clean from.first)
+srat_again facs ts = again srat_contents facs ts srat_signature refl (new_srat facs)
 
 pub slit_again : (facs : ℕ) (ts : List (List ℕ)) → AreCleanTables ts → KeepsFirst facs ts slit_signature slit_contents
-slit_again facs ts clean new is =
-    let from = written_for facs ts slit_signature new refl clean is in
-    (from.old, from.is_old, ap slit_contents from.is_new ∙ new_slit facs from.passed from.old from.clean from.first)
+slit_again facs ts = again slit_contents facs ts slit_signature refl (new_slit facs)
 
 pub pptt_again : (facs : ℕ) (ts : List (List ℕ)) → AreCleanTables ts → KeepsFirst facs ts pptt_signature pptt_contents
-pptt_again facs ts clean new is =
-    let from = written_for facs ts pptt_signature new refl clean is in
-    (from.old, from.is_old, ap pptt_contents from.is_new ∙ new_pptt facs from.passed from.old from.clean from.first)
+pptt_again facs ts = again pptt_contents facs ts pptt_signature refl (new_pptt facs)
 
 -- the first FADT names the FACS at this address
 pub fadt_again : (facs : ℕ) (ts : List (List ℕ)) (old : List ℕ) → AreCleanTables ts → first_with fadt_signature ts ≡ Some old

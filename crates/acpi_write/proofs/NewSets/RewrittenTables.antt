@@ -8,11 +8,12 @@ use Rattle.acpi_base.specs.Madt.{MadtContents, madt_contents}
 use Rattle.acpi_base.specs.Srat.{SratContents, srat_contents}
 use Rattle.acpi_base.specs.Slit.{SlitContents, slit_contents}
 use Rattle.acpi_base.specs.Pptt.{PpttContents, pptt_contents}
+use Rattle.acpi_base.specs.TableKinds.{signature_of}
 use Rattle.acpi_base.specs.declared.table_kind.TableKind.{TableKind}
 use Rattle.acpi_base.specs.declared.table_kind.TableKind.TheVariants as kind
 use Rattle.acpi_write.specs.Encoded.{encoded, encoded_length, table_bytes}
 use Rattle.acpi_write.specs.FadtBody.{with_facs}
-use Rattle.acpi_write.specs.Kinds.{IsKindBehind}
+use Rattle.acpi_write.specs.Kinds.{said_as, IsKindBehind}
 use Rattle.acpi_write.specs.Laws.{KeepsContents}
 use Rattle.acpi_write.specs.Rebuilt.{encoded_with}
 use Rattle.acpi_write.specs.SetValues.{entries_in, fadt_said, madt_said, srat_said, slit_said, pptt_said, is_first, said_behind}
@@ -57,17 +58,23 @@ kept_pptt before whole is first = (contents_are_kept whole is.clean.table is.cle
 abbrev pub new_of : ℕ → List (List ℕ) → List ℕ → List ℕ
 new_of facs before old = encoded_with facs (said_behind before old)
 
+-- it has the contents of the table, where those of a table of its kind are kept
+pub new_contents : {C : Type 0} (contents_of : List ℕ → C) (facs : ℕ) (before : List (List ℕ)) (old : List ℕ) (kind : TableKind) → is_first before old (signature_of kind) ≡ true
+    → encoded_with facs (said_as (Some kind) old) ≡ encoded (said_as (Some kind) old) → KeepsContents (signature_of kind) contents_of (said_as (Some kind) old) old
+    → contents_of (new_of facs before old) ≡ contents_of old
+new_contents contents_of facs before old kind first plain kept = ap contents_of (ap (encoded_with facs) (says before old (Some kind) first) ∙ plain) ∙ kept.contents
+
 pub new_madt : (facs : ℕ) (before : List (List ℕ)) (old : List ℕ) → IsCleanBehind before old → is_first before old madt_signature ≡ true → madt_contents (new_of facs before old) ≡ madt_contents old
-new_madt facs before old is first = ap (λ v. madt_contents (encoded_with facs v)) (says before old (Some kind.Madt) first) ∙ (kept_madt before old is first).contents
+new_madt facs before old is first = new_contents madt_contents facs before old kind.Madt first refl (kept_madt before old is first)
 
 pub new_srat : (facs : ℕ) (before : List (List ℕ)) (old : List ℕ) → IsCleanBehind before old → is_first before old srat_signature ≡ true → srat_contents (new_of facs before old) ≡ srat_contents old
-new_srat facs before old is first = ap (λ v. srat_contents (encoded_with facs v)) (says before old (Some kind.Srat) first) ∙ (kept_srat before old is first).contents
+new_srat facs before old is first = new_contents srat_contents facs before old kind.Srat first refl (kept_srat before old is first)
 
 pub new_slit : (facs : ℕ) (before : List (List ℕ)) (old : List ℕ) → IsCleanBehind before old → is_first before old slit_signature ≡ true → slit_contents (new_of facs before old) ≡ slit_contents old
-new_slit facs before old is first = ap (λ v. slit_contents (encoded_with facs v)) (says before old (Some kind.Slit) first) ∙ (kept_slit before old is first).contents
+new_slit facs before old is first = new_contents slit_contents facs before old kind.Slit first refl (kept_slit before old is first)
 
 pub new_pptt : (facs : ℕ) (before : List (List ℕ)) (old : List ℕ) → IsCleanBehind before old → is_first before old pptt_signature ≡ true → pptt_contents (new_of facs before old) ≡ pptt_contents old
-new_pptt facs before old is first = ap (λ v. pptt_contents (encoded_with facs v)) (says before old (Some kind.Pptt) first) ∙ (kept_pptt before old is first).contents
+new_pptt facs before old is first = new_contents pptt_contents facs before old kind.Pptt first refl (kept_pptt before old is first)
 
 pub new_fadt : (facs : ℕ) (before : List (List ℕ)) (old : List ℕ) → IsCleanBehind before old → is_first before old fadt_signature ≡ true
     → new_of facs before old ≡ table_bytes fadt_signature (head_of old) (with_facs (drop 36 old) facs)
@@ -78,57 +85,45 @@ new_fadt facs before old is first =
 
 -- ---- it says the same, by kind
 
-madt_same : (one other : List ℕ) → head_of one ≡ head_of other → madt_contents one ≡ madt_contents other → madt_said one ≡ madt_said other
-madt_same one other head contents = λ i. Madt (head i) (contents i).address (contents i).flags (entries_in (contents i).entries)
-
-srat_same : (one other : List ℕ) → head_of one ≡ head_of other → srat_contents one ≡ srat_contents other → srat_said one ≡ srat_said other
-srat_same one other head contents = λ i. Srat (head i) (entries_in (contents i).entries)
-
-slit_same : (one other : List ℕ) → head_of one ≡ head_of other → slit_contents one ≡ slit_contents other → slit_said one ≡ slit_said other
-slit_same one other head contents = λ i. Slit (head i) (contents i).count (contents i).cells
-
-pptt_same : (one other : List ℕ) → head_of one ≡ head_of other → pptt_contents one ≡ pptt_contents other → pptt_said one ≡ pptt_said other
-pptt_same one other head contents = λ i. Pptt (head i) (entries_in (contents i).entries)
+-- of a kind whose contents are kept, and which says no more than its head and its contents
+rewritten_with : {C : Type 0} (contents_of : List ℕ → C) (size : C → ℕ) (facs : ℕ) (before : List (List ℕ)) (old : List ℕ) (kind : TableKind)
+    → ((whole : List ℕ) → size (contents_of whole) ≡ length whole)
+    → ((one other : List ℕ) → head_of one ≡ head_of other → contents_of one ≡ contents_of other → said_as (Some kind) one ≡ said_as (Some kind) other)
+    → encoded_with facs (said_as (Some kind) old) ≡ encoded (said_as (Some kind) old) → is_first before old (signature_of kind) ≡ true
+    → KeepsContents (signature_of kind) contents_of (said_as (Some kind) old) old → encoded_length (said_as (Some kind) old) ≡ length old → IsRewritten before old (new_of facs before old)
+rewritten_with contents_of size facs before old kind sized same plain first kept count =
+    let new = encoded (said_as (Some kind) old) in
+    let length_is : length new ≡ length old = sym (sized new) ∙ ap size kept.contents ∙ sized old in
+    subst (IsRewritten before old) (sym (ap (encoded_with facs) (says before old (Some kind) first) ∙ plain))
+    (as_first kind before old new first kept.table (same new old kept.table.head_is kept.contents) (length_is ∙ sym count))
 
 rewritten_madt : (facs : ℕ) (before : List (List ℕ)) (old : List ℕ) → IsCleanBehind before old → is_first before old madt_signature ≡ true → IsRewritten before old (new_of facs before old)
 unfolding madt_contents
 rewritten_madt facs before old is first =
-    let kept = kept_madt before old is first in
-    let new = encoded (madt_said old) in
-    let size : length new ≡ length old = ap (λ (c : MadtContents). c.size) kept.contents in
-    let count = size ∙ sym (lengths.madt_table old (is.madt first).0 (is.madt first).1) in
-    let same = madt_same new old kept.table.head_is kept.contents in
-    subst (λ v. IsRewritten before old (encoded_with facs v)) (sym (says before old (Some kind.Madt) first)) (as_first kind.Madt before old new first kept.table same count)
+    rewritten_with madt_contents (λ c. c.size) facs before old kind.Madt (λ whole. refl)
+    (λ one other head contents. (λ i. Madt (head i) (contents i).address (contents i).flags (entries_in (contents i).entries)))
+    refl first (kept_madt before old is first) (lengths.madt_table old (is.madt first).0 (is.madt first).1)
 
 rewritten_srat : (facs : ℕ) (before : List (List ℕ)) (old : List ℕ) → IsCleanBehind before old → is_first before old srat_signature ≡ true → IsRewritten before old (new_of facs before old)
 unfolding srat_contents
 rewritten_srat facs before old is first =
-    let kept = kept_srat before old is first in
-    let new = encoded (srat_said old) in
-    let size : length new ≡ length old = ap (λ (c : SratContents). c.size) kept.contents in
-    let count = size ∙ sym (lengths.srat_table old (is.srat first).0 (is.srat first).1) in
-    let same = srat_same new old kept.table.head_is kept.contents in
-    subst (λ v. IsRewritten before old (encoded_with facs v)) (sym (says before old (Some kind.Srat) first)) (as_first kind.Srat before old new first kept.table same count)
+    rewritten_with srat_contents (λ c. c.size) facs before old kind.Srat (λ whole. refl)
+    (λ one other head contents. (λ i. Srat (head i) (entries_in (contents i).entries)))
+    refl first (kept_srat before old is first) (lengths.srat_table old (is.srat first).0 (is.srat first).1)
 
 rewritten_slit : (facs : ℕ) (before : List (List ℕ)) (old : List ℕ) → IsCleanBehind before old → is_first before old slit_signature ≡ true → IsRewritten before old (new_of facs before old)
 unfolding slit_contents
 rewritten_slit facs before old is first =
-    let kept = kept_slit before old is first in
-    let new = encoded (slit_said old) in
-    let size : length new ≡ length old = ap (λ (c : SlitContents). c.size) kept.contents in
-    let count = size ∙ sym (lengths.slit_table old (is.slit first)) in
-    let same = slit_same new old kept.table.head_is kept.contents in
-    subst (λ v. IsRewritten before old (encoded_with facs v)) (sym (says before old (Some kind.Slit) first)) (as_first kind.Slit before old new first kept.table same count)
+    rewritten_with slit_contents (λ c. c.size) facs before old kind.Slit (λ whole. refl)
+    (λ one other head contents. (λ i. Slit (head i) (contents i).count (contents i).cells))
+    refl first (kept_slit before old is first) (lengths.slit_table old (is.slit first))
 
 rewritten_pptt : (facs : ℕ) (before : List (List ℕ)) (old : List ℕ) → IsCleanBehind before old → is_first before old pptt_signature ≡ true → IsRewritten before old (new_of facs before old)
 unfolding pptt_contents
 rewritten_pptt facs before old is first =
-    let kept = kept_pptt before old is first in
-    let new = encoded (pptt_said old) in
-    let size : length new ≡ length old = ap (λ (c : PpttContents). c.size) kept.contents in
-    let count = size ∙ sym (lengths.pptt_table old is.clean.table.least (is.pptt first)) in
-    let same = pptt_same new old kept.table.head_is kept.contents in
-    subst (λ v. IsRewritten before old (encoded_with facs v)) (sym (says before old (Some kind.Pptt) first)) (as_first kind.Pptt before old new first kept.table same count)
+    rewritten_with pptt_contents (λ c. c.size) facs before old kind.Pptt (λ whole. refl)
+    (λ one other head contents. (λ i. Pptt (head i) (entries_in (contents i).entries)))
+    refl first (kept_pptt before old is first) (lengths.pptt_table old is.clean.table.least (is.pptt first))
 
 rewritten_fadt : (facs : ℕ) (before : List (List ℕ)) (old : List ℕ) → IsCleanBehind before old → is_first before old fadt_signature ≡ true → IsRewritten before old (new_of facs before old)
 rewritten_fadt facs before old is first =
