@@ -16,8 +16,8 @@ ghost use Rattle.acpi_write.specs.Views.{head_value, table_value, IsShaped, IsSh
 use crate::entry_lists::{madt_entries, pptt_entries, srat_entries};
 use crate::fadt_body::with_facs;
 use crate::table_value::{Head, TableValue};
-use acpi_base::{Image, TableKind};
 use acpi_base::field::{u32_at, u64_at};
+use acpi_base::{Image, TableKind};
 use acpi_read::{
     FirstTables, Header, Layout, MADT_FLAGS, MADT_LOCAL_APIC_ADDRESS, Root, Slit, Table,
 };

@@ -95,7 +95,7 @@ firsts_more m root k a header whole old new slot sound table added below = recor
         subst (λ (x : ℕ). IsSoundTable m x) (one_slot root.bytes root.width k a b slot here) sound
   ];
   first = λ kind.
-    rw (added kind) (below_more m root.bytes root.width k a header whole (signature_of kind) (first_of old kind) (length-signature_of kind) slot table (below.first kind));
+      rw (added kind) (below_more m root.bytes root.width k a header whole (signature_of kind) (first_of old kind) (length-signature_of kind) slot table (below.first kind));
 }
 
 -- what all slots list first are the set's tables

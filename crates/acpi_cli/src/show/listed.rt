@@ -15,11 +15,7 @@ pub struct Listed<'a> {
 }
 
 /// The first listed table of a kind.
-pub fn first_listed<'a>(
-    image: &'a Image,
-    root: &Root<'_>,
-    kind: TableKind,
-) -> Option<Listed<'a>>
+pub fn first_listed<'a>(image: &'a Image, root: &Root<'_>, kind: TableKind) -> Option<Listed<'a>>
     requires { ListsSound image.now root.now }
 {
     let address = first(image, root, *kind.signature())?;

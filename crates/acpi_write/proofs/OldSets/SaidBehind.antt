@@ -25,8 +25,8 @@ one_behind before whole None (Some kind) is also = absurd (both_ways (is_first b
 one_behind before whole (Some kind) None is also = absurd (both_ways (is_first before whole (signature_of kind)) (also kind) is)
 one_behind before whole (Some one) (Some other) is also =
     ap Some (one_kind whole one other
-      (first_parts (has_signature whole (signature_of one)) (is_among before (signature_of one)) is).0
-      (first_parts (has_signature whole (signature_of other)) (is_among before (signature_of other)) also).0)
+    (first_parts (has_signature whole (signature_of one)) (is_among before (signature_of one)) is).0
+    (first_parts (has_signature whole (signature_of other)) (is_among before (signature_of other)) also).0)
 
 -- the first of none of the five
 none_behind : (before : List (List ℕ)) (whole : List ℕ) → is_first before whole fadt_signature ≡ false → is_first before whole madt_signature ≡ false → is_first before whole srat_signature ≡ false
