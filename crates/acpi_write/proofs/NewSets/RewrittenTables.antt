@@ -4,10 +4,10 @@ use Rattle.acpi_base.specs.Header.{head_of}
 use Rattle.acpi_base.specs.Entries.{cut_of}
 use Rattle.acpi_base.specs.Fadt.{IsSoundFadtTable}
 use Rattle.acpi_base.specs.Listed.{fadt_signature, madt_signature, srat_signature, slit_signature, pptt_signature}
-use Rattle.acpi_base.specs.Madt.{MadtContents, madt_contents}
-use Rattle.acpi_base.specs.Srat.{SratContents, srat_contents}
-use Rattle.acpi_base.specs.Slit.{SlitContents, slit_contents}
-use Rattle.acpi_base.specs.Pptt.{PpttContents, pptt_contents}
+use Rattle.acpi_base.specs.Madt.{madt_contents}
+use Rattle.acpi_base.specs.Srat.{srat_contents}
+use Rattle.acpi_base.specs.Slit.{slit_contents}
+use Rattle.acpi_base.specs.Pptt.{pptt_contents}
 use Rattle.acpi_base.specs.TableKinds.{signature_of}
 use Rattle.acpi_base.specs.declared.table_kind.TableKind.{TableKind}
 use Rattle.acpi_base.specs.declared.table_kind.TableKind.TheVariants as kind
