@@ -29,7 +29,7 @@ ITEM = re.compile(r"^(?:pub )?(?:fn|impl|struct|trait)\b(?:[^\n]*(?:;|\{\})$|.*?
 # A function's name and what stands before its body.
 HEAD = re.compile(r"^ *(pub )?fn (\w+)(.*?)(?:^ *\{\}?$|;$| \{$)", re.M | re.S)
 # What a trait, an impl or a struct says in ghost code, save proofs: what they prove stands in the trait.
-GHOST = re.compile(r"^ *(?:pub )?ghost (?!use|counted =|one_value =)(\w+)(.*?)[;,]$", re.M | re.S)
+GHOST = re.compile(r"^ *(?:pub )?ghost (?!use|counted =|one_value =|laid =)(\w+)(.*?)[;,]$", re.M | re.S)
 
 
 # ---- files of definitions
@@ -90,7 +90,8 @@ def exported(crate):
         return {call[1] for path, item, call in calls if call and (PROGRAM.fullmatch(call[1]) or is_law(path, item))}
     text = library.read_text()
     names = set(re.findall(r"\w+", " ".join(re.findall(r"^pub use [a-z_:]*::([^;]*);", text, re.M))))
-    modules = [library.with_name(f"{module}.rt").read_text() for module in re.findall(r"^pub mod (\w+);", text, re.M)]
+    files = [file for module in [*names, *re.findall(r"^pub mod (\w+);", text, re.M)] for file in library.parent.rglob(f"{module}.rt")]
+    modules = [file.read_text() for file in files]
     return names.union(*(re.findall(r"^pub (?:fn|struct|enum|trait) (\w+)", module, re.M) for module in [text, *modules]))
 
 

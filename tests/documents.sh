@@ -27,9 +27,11 @@ within() { count "$1" "$(comm -23 <(sort -u <<<"$2") <(sort -u <<<"$3"))"; }
 # exports CRATE: the names that a library exports: those in `pub use` of src/lib.rt, and the functions of its public
 # modules. Laws stand apart.
 exports() {
-  sed -n '/^pub use /,/;/p' "crates/$1"/src/lib.rt | sed 's/^pub use [a-z_:]*:://' | tr -cs 'A-Za-z0-9_' ' '
-  for module in $(sed -n 's/^pub mod \([a-z_]*\);$/\1/p' "crates/$1"/src/lib.rt | grep -vx laws); do
-    sed -n 's/^pub fn \([a-z0-9_]*\).*/\1/p' "crates/$1/src/$module.rt" | tr '\n' ' '
+  local names module
+  names=$(sed -n '/^pub use /,/;/p' "crates/$1"/src/lib.rt | sed 's/^pub use [a-z_:]*:://' | tr -cs 'A-Za-z0-9_' ' ')
+  printf '%s ' "$names"
+  for module in $names $(sed -n 's/^pub mod \([a-z_]*\);$/\1/p' "crates/$1"/src/lib.rt | grep -vx laws); do
+    find "crates/$1/src" -name "$module.rt" -exec sed -n 's/^pub fn \([a-z0-9_]*\).*/\1/p' {} + | tr '\n' ' '
   done
 }
 

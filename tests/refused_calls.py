@@ -21,7 +21,7 @@ SECONDS = 60
 OUT_OF_MEMORY = re.compile(rb'\b(AllocError|AllocFailed|Memory|DeviceFailed)\b')
 # The tests that make more requests than are refused each in its turn. docs/PROMISES.md names them.
 SAMPLED = {
-    "image_text::tests::reads_a_row_with_one_byte_changed",
+    "text::image_text::tests::reads_a_row_with_one_byte_changed",
     "clash::tests::agrees_with_the_plain_search",
     "stray::tests::agrees_with_the_plain_walk",
 }

@@ -9,8 +9,8 @@ use Rattle.std.proofs.lemmas.List.{length-take, length-take-le, take-append-drop
 use Rattle.std.proofs.lemmas.List.Elements.{All-from_recursion, recursion_from_All}
 use Rattle.std.proofs.lemmas.List.Sums.{sum_by-cons}
 use Rattle.acpi_base.proofs.Elements.{first_or_later}
-use Rattle.acpi_base.proofs.HeldBytes.{cases_Option, none_and_some, same_value}
-use Rattle.acpi_base.specs.Entries.{IsEntry, Standing, Stands, first_entry, entries_from, entries_of, end_of_entries, cut_of, IsCut, IsStart, StandsAt, OneCut, CutsWhereAllStand, EntriesStand, CutIsStart, NoCutFault, NoneInShort}
+use Rattle.acpi_base.proofs.Images.HeldBytes.{cases_Option, none_and_some, same_value}
+use Rattle.acpi_base.specs.Entries.{IsEntry, PlacedEntry, Stands, first_entry, entries_from, entries_of, end_of_entries, cut_of, IsCut, IsStart, StandsAt, OneCut, CutsWhereAllStand, EntriesStand, CutIsStart, NoCutFault, NoneInShort}
 
 -- ---- the first entry
 
@@ -97,7 +97,7 @@ one_path (e ∷ es) (d ∷ ds) left more rest path other ended none =
 
 -- ---- the list of entries
 
-abbrev standing : ℕ → List ℕ → Standing (List ℕ)
+abbrev standing : ℕ → List ℕ → PlacedEntry (List ℕ)
 standing o e = record { offset = o; entry = e }
 
 -- the entry e stands behind a path
@@ -133,8 +133,8 @@ behind_path (suc n) offset left o e stands =
       | inl (d, here) ↦
           elim (first_or_later (standing offset d) (standing o e) (entries_from n (offset + length d) (drop (length d) left)) (rw here at stands)) [
             | inl same ↦
-                let place : offset ≡ o = ap (λ (s : Standing (List ℕ)). s.offset) same in
-                let entry : d ≡ e = ap (λ (s : Standing (List ℕ)). s.entry) same in
+                let place : offset ≡ o = ap (λ (s : PlacedEntry (List ℕ)). s.offset) same in
+                let entry : d ≡ e = ap (λ (s : PlacedEntry (List ℕ)). s.entry) same in
                 record { es = []; more = left; path = refl; here = here ∙ ap Some entry; place = omega arith }
             | inr rest ↦
                 let found = behind_path n (offset + length d) (drop (length d) left) o e rest in
@@ -143,11 +143,11 @@ behind_path (suc n) offset left o e stands =
           ]
     ]
 
-abbrev bytes_of : List (Standing (List ℕ)) → List (List ℕ)
+abbrev bytes_of : List (PlacedEntry (List ℕ)) → List (List ℕ)
 bytes_of xs = map (λ s. s.entry) xs
 
 -- the entries of the list are a path behind which no entry stands
-record IsLast (left : List ℕ) (xs : List (Standing (List ℕ))) : Type 0 where
+record IsLast (left : List ℕ) (xs : List (PlacedEntry (List ℕ))) : Type 0 where
   more : List ℕ
   path : Path (bytes_of xs) left more
   none : first_entry more ≡ None
@@ -166,9 +166,9 @@ last_of (suc n) offset left enough =
           rw here (record { more = rest.more; path = (here, rest.path); none = rest.none })
     ]
 
-size_of : (xs : List (Standing (List ℕ))) → sum_by (λ s. length s.entry) xs ≡ length (joined (bytes_of xs))
+size_of : (xs : List (PlacedEntry (List ℕ))) → sum_by (λ s. length s.entry) xs ≡ length (joined (bytes_of xs))
 size_of [] = refl
-size_of (x ∷ xs) = grind (arith, sum_by-cons (λ (s : Standing (List ℕ)). length s.entry) x xs, length-append, size_of xs)
+size_of (x ∷ xs) = grind (arith, sum_by-cons (λ (s : PlacedEntry (List ℕ)). length s.entry) x xs, length-append, size_of xs)
 
 -- ---- starts
 

@@ -5,7 +5,7 @@ use Rattle.std.specs.Simd.Lanes.{zip2, fold_l}
 use Rattle.std.proofs.lemmas.List.{take_all, drop-drop, length-take-le}
 use Rattle.std.proofs.lemmas.List.Sums.{sum_by-cons}
 use Rattle.acpi_base.specs.Number.{byte_sum}
-use Rattle.acpi_base.proofs.Pieces.Sums.{sum_both}
+use Rattle.acpi_base.proofs.Images.Sums.{sum_both}
 
 -- what one lane becomes
 abbrev pub lane_sum : ℕ → ℕ → ℕ

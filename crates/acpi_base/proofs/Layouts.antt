@@ -1,3 +1,4 @@
 pub mod Gases
 pub mod Headers
+pub mod Kinds
 pub mod RoundTrip

@@ -1,4 +1,5 @@
 -- The PPTT.
+pub mod CacheValues
 pub mod Chains
 pub mod Faults
 pub mod Fits

@@ -1,3 +1,4 @@
 -- The SRAT.
+pub mod DomainBytes
 pub mod Faults
 pub mod Ranges

@@ -3,9 +3,12 @@ pub mod DataImages
 pub mod DataLines
 pub mod DataPlaces
 pub mod DigitTable
-pub mod Feeding
+pub mod FaultTexts
 pub mod GoodTexts
+pub mod HexTexts
 pub mod Judging
+pub mod LineBuffers
 pub mod LineParsing
 pub mod LineSplitting
 pub mod OwnFaults
+pub mod Written

@@ -11,7 +11,7 @@ pub record IsEntry (e : List ℕ) : Type 0 where
 -- ---- the entries of a table, as far as they stand
 
 -- an entry and the offset at which it stands: its bytes, or what they say
-pub record Standing (E : Type 0) : Type 0 where
+pub record PlacedEntry (E : Type 0) : Type 0 where
   pub offset : ℕ
   pub entry : E
 
@@ -24,7 +24,7 @@ first_entry left =
     else None
 
 -- the entries, at most n, that stand one after another in the bytes left from an offset on
-unfoldable pub entries_from : ℕ → ℕ → List ℕ → List (Standing (List ℕ))
+unfoldable pub entries_from : ℕ → ℕ → List ℕ → List (PlacedEntry (List ℕ))
 entries_from zero offset left = []
 entries_from (suc n) offset left =
     option_map_or
@@ -33,7 +33,7 @@ entries_from (suc n) offset left =
     []
 
 -- the entries that stand one after another from `first` on; there are no more of them than bytes
-unfoldable pub entries_of : ℕ → List ℕ → List (Standing (List ℕ))
+unfoldable pub entries_of : ℕ → List ℕ → List (PlacedEntry (List ℕ))
 entries_of first whole = entries_from (length whole) first (drop first whole)
 
 -- the offset behind the last of them, which is `first` where there is none
@@ -47,27 +47,20 @@ cut_of first whole =
     if nat_lt (end_of_entries first whole) (length whole) then Some (end_of_entries first whole) else None
 
 -- the same entries, as what their bytes say
-abbrev pub said_by : {E : Type 0} → (List ℕ → E) → List (Standing (List ℕ)) → List (Standing E)
-said_by read entries = map (λ s. record { offset = s.offset; entry = read s.entry }) entries
+abbrev pub entries_read_by : {E : Type 0} → (List ℕ → E) → List (PlacedEntry (List ℕ)) → List (PlacedEntry E)
+entries_read_by read entries = map (λ s. record { offset = s.offset; entry = read s.entry }) entries
 
 -- this entry stands at the offset o
-abbrev pub Stands : {E : Type 0} → List (Standing E) → ℕ → E → Type 0
+abbrev pub Stands : {E : Type 0} → List (PlacedEntry E) → ℕ → E → Type 0
 Stands entries o e = Contains entries (record { offset = o; entry = e })
 
 -- P of an entry that stands at the offset o
-abbrev pub StandsWith : {E : Type 0} → List (Standing E) → ℕ → (E → Type 0) → Type 0
+abbrev pub StandsWith : {E : Type 0} → List (PlacedEntry E) → ℕ → (E → Type 0) → Type 0
 StandsWith {E} entries o P = (e : E) × Stands entries o e × P e
 
 -- whether an entry's bytes have this type and this length
 unfoldable pub has_form : List ℕ → ℕ → ℕ → Bool
 has_form e type size = (slice_index e 0 == type) && (length e == size)
-
--- these are the bytes of an entry of this type and length that says v
-pub record IsEntryOf {V : Type 0} (type size : ℕ) (read : List ℕ → V) (e : List ℕ) (v : V) : Type 0 where
-  pub count : length e ≡ size
-  pub typed : slice_index e 0 ≡ type
-  pub said : slice_index e 1 ≡ size
-  pub value : read e ≡ v
 
 -- numbers that a fault does not use are 0
 abbrev pub AreUnused : ℕ → ℕ → Type 0
@@ -85,10 +78,21 @@ pub record Kind (E : Type 0) : Type 0 where
 abbrev pub kind : {E : Type 0} → ℕ → ℕ → (List ℕ → E) → Kind E
 kind type size read = record { type = type; size = size; read = read }
 
+-- the same kind, whose entries say what they say as one of all that a table's entries can say
+abbrev pub kind_as : {V E : Type 0} → (V → E) → Kind V → Kind E
+kind_as variant k = kind k.type k.size (λ e. variant (k.read e))
+
+-- these are the bytes of an entry of the kind that says v
+pub record IsEntryOf {V : Type 0} (k : Kind V) (e : List ℕ) (v : V) : Type 0 where
+  pub count : length e ≡ k.size
+  pub typed : slice_index e 0 ≡ k.type
+  pub said : slice_index e 1 ≡ k.size
+  pub value : k.read e ≡ v
+
 -- what an entry says: as the kind with its type and length does, and where there is none as `opaque` does
-abbrev pub read_by : {E : Type 0} → List (Kind E) → (List ℕ → E) → List ℕ → E
-read_by [] opaque e = opaque e
-read_by (k ∷ kinds) opaque e = if has_form e k.type k.size then k.read e else read_by kinds opaque e
+abbrev pub value_of_kind : {E : Type 0} → List (Kind E) → (List ℕ → E) → List ℕ → E
+value_of_kind [] opaque e = opaque e
+value_of_kind (k ∷ kinds) opaque e = if has_form e k.type k.size then k.read e else value_of_kind kinds opaque e
 
 -- one of the kinds has this type
 abbrev pub IsTypeOf : {E : Type 0} → List (Kind E) → ℕ → Type 0

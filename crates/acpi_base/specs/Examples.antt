@@ -8,7 +8,7 @@ pub mod Slits
 pub mod Srats
 use Rattle.std.specs.Prelude.{◌≡◌, ℕ, List, ◌∷◌, ◌++◌, length, replicate}
 use Rattle.acpi_base.specs.Number.{field, byte_sum}
-use Rattle.acpi_base.specs.Entries.{Standing}
+use Rattle.acpi_base.specs.Entries.{PlacedEntry}
 
 -- a table with this signature, Length, Revision and checksum
 abbrev pub table : List ℕ → ℕ → ℕ → ℕ → List ℕ → List ℕ
@@ -19,8 +19,8 @@ table signature size revision checksum body =
     ∷ body
 
 -- an entry that says this stands at the offset
-abbrev pub standing : {E : Type 0} → ℕ → E → Standing E
-standing offset entry = record { offset = offset; entry = entry }
+abbrev pub placed_entry : {E : Type 0} → ℕ → E → PlacedEntry E
+placed_entry offset entry = record { offset = offset; entry = entry }
 
 -- the bytes sum to 0 and are as many as Length says
 abbrev pub IsSoundExample : List ℕ → Type 0

@@ -5,10 +5,10 @@ use Rattle.acpi_base.specs.Memory.{Memory, IsImage}
 use Rattle.acpi_base.specs.Policy.{PolicyValue, IsPolicy}
 use Rattle.acpi_base.specs.Codes.{stage_number, stage_of}
 use Rattle.acpi_base.specs.Root.{IsSlotWidth, HasSlot}
-use Rattle.acpi_base.specs.Listed.{listed}
+use Rattle.acpi_base.specs.Listed.{listed_addresses}
 use Rattle.acpi_base.specs.Statements.{CleanTo}
 use Rattle.acpi_base.specs.Faults.{Fault, IsFirstFault, IsVerdict}
-use Rattle.acpi_base.specs.WitnessText.{witness_line}
+use Rattle.acpi_base.specs.Text.WitnessText.{witness_line}
 use Rattle.acpi_base.specs.declared.stage.Stage.{Stage}
 use Rattle.acpi_base.specs.declared.witness.Witness.{Witness}
 use Rattle.acpi_base.specs.declared.verdict.Verdict.{Verdict}
@@ -48,7 +48,7 @@ OneVerdict =
 -- the addresses that a root's bytes list are those that stand in its slots
 abbrev pub RootsListSlots : Type 0
 RootsListSlots =
-    (whole : List ℕ) (d a : ℕ) → IsSlotWidth d → Contains (listed whole d) a ↔ ((k : ℕ) × HasSlot whole d k a)
+    (whole : List ℕ) (d a : ℕ) → IsSlotWidth d → Contains (listed_addresses whole d) a ↔ ((k : ℕ) × HasSlot whole d k a)
 
 -- two faults have two texts
 abbrev pub TextsDiffer : Type 0

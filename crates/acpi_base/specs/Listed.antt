@@ -35,8 +35,8 @@ abbrev pub slot_numbers : List ℕ → ℕ → List ℕ
 slot_numbers whole d = map (λ k. field whole (36 + d * k) d) (range_with_len 0 ((length whole - 36) / d))
 
 -- the addresses that a root's bytes list, in the order of their slots; 0 lists nothing
-unfoldable pub listed : List ℕ → ℕ → List ℕ
-listed whole d = filter (λ a. not (a == 0)) (slot_numbers whole d)
+unfoldable pub listed_addresses : List ℕ → ℕ → List ℕ
+listed_addresses whole d = filter (λ a. not (a == 0)) (slot_numbers whole d)
 
 -- a is the first address with this signature in the slots, of d bytes each, of a root's bytes, in their
 -- order: a held header is all that is asked there

@@ -3,8 +3,8 @@
 use Rattle.std.specs.Prelude.{◌≡◌, ◌≢◌, ℕ, ◌+◌, ◌/◌, ◌%◌, ◌^◌, ◌<◌, ◌≤◌, ◌⊎◌, List, [], ◌∷◌, length, slice_index, Option, Some, None, true}
 use Rattle.acpi_base.specs.Number.{field}
 use Rattle.acpi_base.specs.Policy.{PolicyValue, inputs_of, counts_as_enabled}
-use Rattle.acpi_base.specs.Entries.{Standing, Stands, StandsWith, entries_of, cut_of, said_by, Kind, kind, read_by, IsTypeOf, AreUnused}
-use Rattle.acpi_base.specs.Clashes.{IsClash, AreApart, IsFirstClash}
+use Rattle.acpi_base.specs.Entries.{PlacedEntry, Stands, StandsWith, entries_of, cut_of, entries_read_by, Kind, kind, kind_as, value_of_kind, IsTypeOf, AreUnused}
+use Rattle.acpi_base.specs.Overlaps.{IsIntervalOverlap, AreApart, IsFirstIntervalOverlap}
 use Rattle.acpi_base.specs.declared.policy.Processors.{Processors}
 use Rattle.acpi_base.specs.declared.code.Code.{Code}
 use Rattle.acpi_base.specs.declared.code.Code.TheVariants as code
@@ -17,8 +17,8 @@ pub record LocalApicValue : Type 0 where
   pub apic_id : ℕ
   pub flags : ℕ
 
-abbrev pub local_apic_of : List ℕ → LocalApicValue
-local_apic_of e = record { uid = field e 2 1; apic_id = field e 3 1; flags = field e 4 4 }
+abbrev pub local_apic : Kind LocalApicValue
+local_apic = kind 0 8 (λ e. record { uid = field e 2 1; apic_id = field e 3 1; flags = field e 4 4 })
 
 -- I/O APIC (5.2.12.3); `gsi_base` is the first interrupt number that it serves
 pub record IoApicValue : Type 0 where
@@ -26,8 +26,8 @@ pub record IoApicValue : Type 0 where
   pub address : ℕ
   pub gsi_base : ℕ
 
-abbrev pub io_apic_of : List ℕ → IoApicValue
-io_apic_of e = record { id = field e 2 1; address = field e 4 4; gsi_base = field e 8 4 }
+abbrev pub io_apic : Kind IoApicValue
+io_apic = kind 1 12 (λ e. record { id = field e 2 1; address = field e 4 4; gsi_base = field e 8 4 })
 
 -- Interrupt Source Override (5.2.12.5): the interrupt number of an ISA interrupt
 pub record OverrideValue : Type 0 where
@@ -36,16 +36,16 @@ pub record OverrideValue : Type 0 where
   pub gsi : ℕ
   pub flags : ℕ
 
-abbrev pub override_of : List ℕ → OverrideValue
-override_of e = record { bus = field e 2 1; source = field e 3 1; gsi = field e 4 4; flags = field e 8 2 }
+abbrev pub override : Kind OverrideValue
+override = kind 2 10 (λ e. record { bus = field e 2 1; source = field e 3 1; gsi = field e 4 4; flags = field e 8 2 })
 
 -- NMI Source (5.2.12.6): an interrupt number that is an NMI
 pub record NmiSourceValue : Type 0 where
   pub flags : ℕ
   pub gsi : ℕ
 
-abbrev pub nmi_source_of : List ℕ → NmiSourceValue
-nmi_source_of e = record { flags = field e 2 2; gsi = field e 4 4 }
+abbrev pub nmi_source : Kind NmiSourceValue
+nmi_source = kind 3 8 (λ e. record { flags = field e 2 2; gsi = field e 4 4 })
 
 -- Local APIC NMI (5.2.12.7); the UID FFh means all processors
 pub record LocalNmiValue : Type 0 where
@@ -53,15 +53,15 @@ pub record LocalNmiValue : Type 0 where
   pub flags : ℕ
   pub lint : ℕ
 
-abbrev pub local_nmi_of : List ℕ → LocalNmiValue
-local_nmi_of e = record { uid = field e 2 1; flags = field e 3 2; lint = field e 5 1 }
+abbrev pub local_nmi : Kind LocalNmiValue
+local_nmi = kind 4 6 (λ e. record { uid = field e 2 1; flags = field e 3 2; lint = field e 5 1 })
 
 -- Local APIC Address Override (5.2.12.8): the address in 64 bits
 pub record AddressOverrideValue : Type 0 where
   pub address : ℕ
 
-abbrev pub address_override_of : List ℕ → AddressOverrideValue
-address_override_of e = record { address = field e 4 8 }
+abbrev pub address_override : Kind AddressOverrideValue
+address_override = kind 5 12 (λ e. record { address = field e 4 8 })
 
 -- Processor Local x2APIC (5.2.12.12)
 pub record X2apicValue : Type 0 where
@@ -69,8 +69,8 @@ pub record X2apicValue : Type 0 where
   pub flags : ℕ
   pub uid : ℕ
 
-abbrev pub x2apic_of : List ℕ → X2apicValue
-x2apic_of e = record { x2apic_id = field e 4 4; flags = field e 8 4; uid = field e 12 4 }
+abbrev pub x2apic : Kind X2apicValue
+x2apic = kind 9 16 (λ e. record { x2apic_id = field e 4 4; flags = field e 8 4; uid = field e 12 4 })
 
 -- Local x2APIC NMI (5.2.12.13); the UID FFFFFFFFh means all processors
 pub record X2apicNmiValue : Type 0 where
@@ -78,8 +78,8 @@ pub record X2apicNmiValue : Type 0 where
   pub uid : ℕ
   pub lint : ℕ
 
-abbrev pub x2apic_nmi_of : List ℕ → X2apicNmiValue
-x2apic_nmi_of e = record { flags = field e 2 2; uid = field e 4 4; lint = field e 8 1 }
+abbrev pub x2apic_nmi : Kind X2apicNmiValue
+x2apic_nmi = kind 10 12 (λ e. record { flags = field e 2 2; uid = field e 4 4; lint = field e 8 1 })
 
 -- ---- entries
 
@@ -96,22 +96,22 @@ pub data MadtEntry : Type 0 where
   X2apicNmi : X2apicNmiValue → MadtEntry
   Opaque : List ℕ → MadtEntry
 
--- their types and lengths
+-- their kinds
 abbrev pub madt_kinds : List (Kind MadtEntry)
 madt_kinds =
-    kind 0 8 (λ e. LocalApic (local_apic_of e)) ∷
-    kind 1 12 (λ e. IoApic (io_apic_of e)) ∷
-    kind 2 10 (λ e. Override (override_of e)) ∷
-    kind 3 8 (λ e. NmiSource (nmi_source_of e)) ∷
-    kind 4 6 (λ e. LocalNmi (local_nmi_of e)) ∷
-    kind 5 12 (λ e. AddressOverride (address_override_of e)) ∷
-    kind 9 16 (λ e. X2apic (x2apic_of e)) ∷
-    kind 10 12 (λ e. X2apicNmi (x2apic_nmi_of e)) ∷
+    kind_as LocalApic local_apic ∷
+    kind_as IoApic io_apic ∷
+    kind_as Override override ∷
+    kind_as NmiSource nmi_source ∷
+    kind_as LocalNmi local_nmi ∷
+    kind_as AddressOverride address_override ∷
+    kind_as X2apic x2apic ∷
+    kind_as X2apicNmi x2apic_nmi ∷
     []
 
 -- what the bytes of an entry say
 unfoldable pub madt_entry : List ℕ → MadtEntry
-madt_entry e = read_by madt_kinds Opaque e
+madt_entry e = value_of_kind madt_kinds Opaque e
 
 -- ---- the table
 
@@ -121,7 +121,7 @@ pub record MadtContents : Type 0 where
   pub size : ℕ
   pub address : ℕ
   pub flags : ℕ
-  pub entries : List (Standing MadtEntry)
+  pub entries : List (PlacedEntry MadtEntry)
   pub cut : Option ℕ
 
 -- what the bytes of a MADT say; entries stand from 44 on
@@ -131,7 +131,7 @@ madt_contents whole =
       size = length whole;
       address = field whole 36 4;
       flags = field whole 40 4;
-      entries = said_by madt_entry (entries_of 44 whole);
+      entries = entries_read_by madt_entry (entries_of 44 whole);
       cut = cut_of 44 whole;
     }
 
@@ -206,12 +206,12 @@ AreInterruptsApart q c = AreApart (Serves q c)
 
 -- The fault of stage 7: the I/O APICs at `at` and `other` both serve the interrupt number `point`.
 abbrev pub InterruptFault : PolicyValue → MadtContents → Code → ℕ → ℕ → ℕ → Type 0
-InterruptFault q c code.GsiClash at other point = IsClash (Serves q c) at other point
+InterruptFault q c code.GsiClash at other point = IsIntervalOverlap (Serves q c) at other point
 InterruptFault q c _ at other point = ⊥
 
 -- the fault of stage 7 that is reported
 abbrev pub IsFirstGsiClash : PolicyValue → MadtContents → ℕ → ℕ → ℕ → Type 0
-IsFirstGsiClash q c at other point = IsFirstClash (Serves q c) at other point
+IsFirstGsiClash q c at other point = IsFirstIntervalOverlap (Serves q c) at other point
 
 -- ---- stage 8: overrides
 

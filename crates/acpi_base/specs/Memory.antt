@@ -47,10 +47,10 @@ with_bytes m a [] = m
 with_bytes m a (b ∷ bs) = insert (with_bytes m (a + 1) bs) a b
 
 -- the least of n numbers from a on at which f has something
-unfoldable pub first_of : (ℕ → Option ℕ) → ℕ → ℕ → Option ℕ
-first_of f a zero = None
-first_of f a (suc n) = if is_some (f a) then Some a else first_of f (a + 1) n
+unfoldable pub least_defined : (ℕ → Option ℕ) → ℕ → ℕ → Option ℕ
+least_defined f a zero = None
+least_defined f a (suc n) = if is_some (f a) then Some a else least_defined f (a + 1) n
 
 -- the least of the n addresses from a on that is held
 abbrev pub first_held : Memory → ℕ → ℕ → Option ℕ
-first_held m a n = first_of (byte_of m) a n
+first_held m a n = least_defined (byte_of m) a n

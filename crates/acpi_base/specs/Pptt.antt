@@ -3,7 +3,7 @@
 use Rattle.std.specs.Prelude.{◌≡◌, ◌≢◌, ℕ, ◌+◌, ◌*◌, ◌/◌, ◌≤◌, Bool, List, length, map, slice_get, slice_index, Option, Some, None, ◌||◌, ◌==◌, if◌then◌else◌}
 use Rattle.std.specs.List.{range_with_len}
 use Rattle.acpi_base.specs.Number.{field}
-use Rattle.acpi_base.specs.Entries.{Standing, Stands, entries_of, cut_of, said_by, has_form}
+use Rattle.acpi_base.specs.Entries.{PlacedEntry, Stands, entries_of, cut_of, entries_read_by, has_form, Kind, kind}
 use Rattle.acpi_base.specs.Chains.{IsAt, Dangles, NoneDangles, AllEnd, IsCycle, EndOrGoRound}
 use Rattle.acpi_base.specs.declared.code.Code.{Code}
 use Rattle.acpi_base.specs.declared.code.Code.TheVariants as code
@@ -52,6 +52,12 @@ cache_of e =
       id = if length e == 28 then Some (field e 24 4) else None;
     }
 
+abbrev pub cache24 : Kind CacheValue
+cache24 = kind 1 24 cache_of
+
+abbrev pub cache28 : Kind CacheValue
+cache28 = kind 1 28 cache_of
+
 -- what an entry says: one of the above, which is a typed entry, or any other bytes, also those of type 0 or 1 with
 -- another length
 pub data PpttEntry : Type 0 where
@@ -65,7 +71,7 @@ has_node_form e = has_form e 0 (20 + 4 * resource_count e)
 
 -- whether these are the bytes of a cache
 unfoldable pub has_cache_form : List ℕ → Bool
-has_cache_form e = has_form e 1 24 || has_form e 1 28
+has_cache_form e = has_form e cache24.type cache24.size || has_form e cache28.type cache28.size
 
 -- an entry is typed where it has one of these types and a length of that type
 unfoldable pub pptt_entry : List ℕ → PpttEntry
@@ -105,7 +111,7 @@ HasOtherPpttLength _ = ⊥
 pub record PpttContents : Type 0 where
   pub size : ℕ
   pub revision : ℕ
-  pub entries : List (Standing PpttEntry)
+  pub entries : List (PlacedEntry PpttEntry)
   pub cut : Option ℕ
 
 unfoldable pub pptt_contents : List ℕ → PpttContents
@@ -113,7 +119,7 @@ pptt_contents whole =
     record {
       size = length whole;
       revision = field whole 8 1;
-      entries = said_by pptt_entry (entries_of 36 whole);
+      entries = entries_read_by pptt_entry (entries_of 36 whole);
       cut = cut_of 36 whole;
     }
 

@@ -2,8 +2,8 @@
 -- start of the table or of the entry.
 use Rattle.std.specs.Prelude.{◌≡◌, ℕ, suc, ◌+◌, ◌*◌, ◌^◌, ◌<◌, ◌≤◌, ◌⊎◌, Bool, true, false, List, [], ◌∷◌, length, slice_index, Option, Some, None}
 use Rattle.acpi_base.specs.Number.{field, has_bit}
-use Rattle.acpi_base.specs.Entries.{Standing, Stands, StandsWith, entries_of, cut_of, said_by, Kind, kind, read_by, IsTypeOf, AreUnused}
-use Rattle.acpi_base.specs.Clashes.{IsClash, AreApartBelow, IsFirstClash}
+use Rattle.acpi_base.specs.Entries.{PlacedEntry, Stands, StandsWith, entries_of, cut_of, entries_read_by, Kind, kind, kind_as, value_of_kind, IsTypeOf, AreUnused}
+use Rattle.acpi_base.specs.Overlaps.{IsIntervalOverlap, AreApartBelow, IsFirstIntervalOverlap}
 use Rattle.acpi_base.specs.declared.policy.HotPlug.{HotPlug}
 use Rattle.acpi_base.specs.declared.policy.HotPlug.TheVariants.{Counted, Apart}
 use Rattle.acpi_base.specs.declared.code.Code.{Code}
@@ -19,15 +19,14 @@ pub record ApicDomainValue : Type 0 where
   pub eid : ℕ
   pub clock_domain : ℕ
 
-abbrev pub apic_domain_of : List ℕ → ApicDomainValue
-apic_domain_of e =
-    record {
-      domain = field e 2 1 + 256 * field e 9 3;
-      apic_id = field e 3 1;
-      flags = field e 4 4;
-      eid = field e 8 1;
-      clock_domain = field e 12 4;
-    }
+abbrev pub apic_domain : Kind ApicDomainValue
+apic_domain = kind 0 16 (λ e. record {
+  domain = field e 2 1 + 256 * field e 9 3;
+  apic_id = field e 3 1;
+  flags = field e 4 4;
+  eid = field e 8 1;
+  clock_domain = field e 12 4;
+})
 
 -- Memory Affinity (5.2.16.2): a range of addresses
 pub record MemoryValue : Type 0 where
@@ -36,8 +35,8 @@ pub record MemoryValue : Type 0 where
   pub size : ℕ
   pub flags : ℕ
 
-abbrev pub memory_of : List ℕ → MemoryValue
-memory_of e = record { domain = field e 2 4; base = field e 8 8; size = field e 16 8; flags = field e 28 4 }
+abbrev pub memory_range : Kind MemoryValue
+memory_range = kind 1 40 (λ e. record { domain = field e 2 4; base = field e 8 8; size = field e 16 8; flags = field e 28 4 })
 
 -- Processor Local x2APIC Affinity (5.2.16.3)
 pub record X2apicDomainValue : Type 0 where
@@ -46,9 +45,8 @@ pub record X2apicDomainValue : Type 0 where
   pub flags : ℕ
   pub clock_domain : ℕ
 
-abbrev pub x2apic_domain_of : List ℕ → X2apicDomainValue
-x2apic_domain_of e =
-    record { domain = field e 4 4; x2apic_id = field e 8 4; flags = field e 12 4; clock_domain = field e 16 4 }
+abbrev pub x2apic_domain : Kind X2apicDomainValue
+x2apic_domain = kind 2 24 (λ e. record { domain = field e 4 4; x2apic_id = field e 8 4; flags = field e 12 4; clock_domain = field e 16 4 })
 
 -- ---- entries
 
@@ -60,17 +58,17 @@ pub data SratEntry : Type 0 where
   X2apicDomain : X2apicDomainValue → SratEntry
   Opaque : List ℕ → SratEntry
 
--- their types and lengths
+-- their kinds
 abbrev pub srat_kinds : List (Kind SratEntry)
 srat_kinds =
-    kind 0 16 (λ e. ApicDomain (apic_domain_of e)) ∷
-    kind 1 40 (λ e. MemoryRange (memory_of e)) ∷
-    kind 2 24 (λ e. X2apicDomain (x2apic_domain_of e)) ∷
+    kind_as ApicDomain apic_domain ∷
+    kind_as MemoryRange memory_range ∷
+    kind_as X2apicDomain x2apic_domain ∷
     []
 
 -- what the bytes of an entry say
 unfoldable pub srat_entry : List ℕ → SratEntry
-srat_entry e = read_by srat_kinds Opaque e
+srat_entry e = value_of_kind srat_kinds Opaque e
 
 -- Enabled is set in the flags of an entry of any of the three types
 abbrev pub is_enabled : ℕ → Bool
@@ -86,13 +84,13 @@ is_hot_pluggable flags = has_bit flags 1
 -- which none stands
 pub record SratContents : Type 0 where
   pub size : ℕ
-  pub entries : List (Standing SratEntry)
+  pub entries : List (PlacedEntry SratEntry)
   pub cut : Option ℕ
 
 -- what the bytes of an SRAT say; entries stand from 48 on
 unfoldable pub srat_contents : List ℕ → SratContents
 srat_contents whole =
-    record { size = length whole; entries = said_by srat_entry (entries_of 48 whole); cut = cut_of 48 whole }
+    record { size = length whole; entries = entries_read_by srat_entry (entries_of 48 whole); cut = cut_of 48 whole }
 
 -- ---- stage 9: each entry by itself
 
@@ -148,8 +146,8 @@ Covers P c o start x = StandsWith c.entries o (CoversFrom P start x)
 -- two enabled ranges that are compared both cover the address x: any two, or by kind, two that both are hot-pluggable or
 -- both are not
 abbrev pub IsOverlap : HotPlug → SratContents → ℕ → ℕ → ℕ → Type 0
-IsOverlap Counted c o p x = IsClash (Covers IsAny c) o p x
-IsOverlap Apart c o p x = IsClash (Covers IsNotHotPluggable c) o p x ⊎ IsClash (Covers IsHotPluggable c) o p x
+IsOverlap Counted c o p x = IsIntervalOverlap (Covers IsAny c) o p x
+IsOverlap Apart c o p x = IsIntervalOverlap (Covers IsNotHotPluggable c) o p x ⊎ IsIntervalOverlap (Covers IsHotPluggable c) o p x
 
 -- Stage 10: no address is covered by two enabled ranges that are compared.
 abbrev pub AreRangesApart : HotPlug → SratContents → Type 0
@@ -164,10 +162,10 @@ RangeFault h c _ at other point = ⊥
 -- The fault of stage 10 that is reported. Where ranges are compared by kind, it is the first of one kind: of both kinds'
 -- firsts the one with the lesser `point`, and at one `point` that of the ranges that are not hot-pluggable.
 abbrev pub IsFirstOverlap : HotPlug → SratContents → ℕ → ℕ → ℕ → Type 0
-IsFirstOverlap Counted c at other point = IsFirstClash (Covers IsAny c) at other point
+IsFirstOverlap Counted c at other point = IsFirstIntervalOverlap (Covers IsAny c) at other point
 IsFirstOverlap Apart c at other point =
-    (IsFirstClash (Covers IsNotHotPluggable c) at other point × AreApartBelow (Covers IsHotPluggable c) point)
-    ⊎ (IsFirstClash (Covers IsHotPluggable c) at other point × AreApartBelow (Covers IsNotHotPluggable c) (suc point))
+    (IsFirstIntervalOverlap (Covers IsNotHotPluggable c) at other point × AreApartBelow (Covers IsHotPluggable c) point)
+    ⊎ (IsFirstIntervalOverlap (Covers IsHotPluggable c) at other point × AreApartBelow (Covers IsNotHotPluggable c) (suc point))
 
 -- ---- for the rules across tables
 

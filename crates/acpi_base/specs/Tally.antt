@@ -3,12 +3,12 @@ use Rattle.std.specs.Prelude.{◌≡◌, ◌⊎◌, ℕ, ◌+◌, ◌-◌, ◌^�
 use Rattle.std.specs.Coded.{Coded, code_by, coded×, coded_ℕ}
 
 -- the reader or writer, and how many of its calls have failed
-pub record Counted (T : Type 0) : Type 0 where
+pub record CountedDevice (T : Type 0) : Type 0 where
   pub inner : T
   pub failures : ℕ
 
 -- it is stored as the pair of its fields
-abbrev pub counted_code : {T : Type 0} → Coded T → Coded (Counted T)
+abbrev pub counted_code : {T : Type 0} → Coded T → Coded (CountedDevice T)
 counted_code {T} code =
     code_by (T × ℕ) (coded× code coded_ℕ) (λ t. (t.inner, t.failures)) (λ p. record { inner = p.0; failures = p.1 }) (λ _. refl)
 

@@ -1,7 +1,7 @@
 //! Finding the RSDP.
 
 ghost use Rattle.std.specs.Prelude.{◌≡◌, ◌↔◌, ℕ, IfSome, IsNone, IsTrue, Some};
-ghost use Rattle.acpi_base.specs.Found.{IsFound, IsNowhere, LooksLikeRsdp};
+ghost use Rattle.acpi_base.specs.RsdpSearch.{IsFound, IsNowhere, LooksLikeRsdp};
 
 use crate::checksum::sum;
 use crate::image::Image;

@@ -3,18 +3,18 @@
 ghost use Rattle.std.specs.Prelude.{◌≡◌, ◌+◌, ◌^◌, nat_lt, if◌then◌else◌, IsOk, IsOkUnless, OnOk, OnErr, IfSome, MatchOption, length};
 ghost use Rattle.std.specs.Option.{option_map};
 ghost use Rattle.std.specs.FinMap.{empty};
-ghost use Rattle.acpi_base.specs.Memory.{IsImage, first_of, byte_of, bytes_at, with_bytes};
-ghost use Rattle.acpi_base.specs.Adding.{add_refusal};
+ghost use Rattle.acpi_base.specs.Memory.{IsImage, least_defined, byte_of, bytes_at, with_bytes};
+ghost use Rattle.acpi_base.specs.Image.Adding.{add_refusal};
 ghost use Rattle.acpi_base.specs.Number.{byte_sum};
-ghost use Rattle.acpi_base.specs.Segments.{lookup};
-ghost use Rattle.acpi_base.specs.Laid.{IsSound, runs_of};
+ghost use Rattle.acpi_base.specs.Image.Runs.{lookup};
+ghost use Rattle.acpi_base.specs.Image.Segments.{IsSound, runs_of};
 
-pub(crate) mod gathering;
-mod marks;
+mod address_bitmap;
+pub(crate) mod builder;
+mod prefix_sums;
 mod runs;
 mod segments;
 mod span;
-mod summed;
 #[cfg(test)]
 mod tests;
 
@@ -48,10 +48,10 @@ impl From<AllocError> for ImageFault {
 }
 
 /// Why `count` bytes cannot be added from an address on.
-#[tactic(auto, using(crate::proofs::Pieces::Images::no_refusal))]
+#[tactic(auto, using(crate::proofs::Images::RunMemory::no_refusal))]
 fn refusal(segments: &Segments, base: u64, count: u64) -> Option<ImageFault>
     requires { IsSound segments.now }
-    ensures { result ≡ (if nat_lt (2 ^ 64) (base + count) then Some ImageFault.PastEnd else option_map (λ address. ImageFault.Twice address) (first_of (lookup (runs_of segments.now)) base count)) }
+    ensures { result ≡ (if nat_lt (2 ^ 64) (base + count) then Some ImageFault.PastEnd else option_map (λ address. ImageFault.Twice address) (least_defined (lookup (runs_of segments.now)) base count)) }
 {
     if count == 0 {
         return None;
@@ -83,7 +83,7 @@ impl Model for Image {
 
     ghost coded = { code coded_ℕ coded_ℕ };
 
-    ghost use Rattle.acpi_base.specs.Laid.{IsSound, memory_in};
+    ghost use Rattle.acpi_base.specs.Image.Segments.{IsSound, memory_in};
 
     ghost view = { λ image. memory_in image.segments };
 
@@ -111,7 +111,7 @@ impl Image {
     ///
     /// Bytes behind all that are held are appended, without a look at the others. Elsewhere all bytes of the image
     /// are copied once.
-    #[tactic(auto, using(crate::proofs::Pieces::Images::adding))]
+    #[tactic(auto, using(crate::proofs::Images::RunMemory::adding))]
     pub fn add(&mut self, base: u64, bytes: &[u8]) -> Result<(), ImageFault>
         ensures refused { MatchOption (add_refusal self.old base bytes.now) (IsOkUnless result ImageFault.Memory) (λ fault. result ≡ Err fault) }
         ensures ok { OnOk result (self.new ≡ with_bytes self.old base bytes.now) }
@@ -141,7 +141,7 @@ impl Image {
     }
 
     /// Returns the byte at an address, or `None` where the address is not held. Takes no memory.
-    #[tactic(auto, using(crate::proofs::Pieces::Images::byte_of_held_by))]
+    #[tactic(auto, using(crate::proofs::Images::RunMemory::byte_of_held_by))]
     pub fn byte_at(&self, address: u64) -> Option<u8>
         ensures { result ≡ byte_of self.now address }
     {
@@ -150,7 +150,7 @@ impl Image {
 
     /// Returns the `count` bytes from an address on, or `None` where one of these addresses is not held. The bytes
     /// may have been added in several calls. For a count of 0 it returns no bytes, at every address. Takes no memory.
-    #[tactic(auto, using(crate::proofs::Pieces::Images::bytes_at_held_by), unfolding(crate::specs::Memory::run_of))]
+    #[tactic(auto, using(crate::proofs::Images::RunMemory::bytes_at_held_by), unfolding(crate::specs::Memory::run_of))]
     pub fn window(&self, address: u64, count: u64) -> Option<&[u8]>
         ensures bytes { option_map (λ bytes. bytes.now) result ≡ bytes_at self.now address count }
         ensures count { IfSome result (λ bytes. length bytes.now ≡ count) }
@@ -164,7 +164,7 @@ impl Image {
     /// Returns the sum modulo 256 of the `count` bytes from an address on, or `None` where one of these addresses is
     /// not held. It is 0 where a checksum is right, and for a count of 0, at every address. However many the bytes
     /// are, fewer than 256 of them are looked at. Takes no memory.
-    #[tactic(auto, using(crate::proofs::Pieces::Images::bytes_at_held_by), unfolding(crate::specs::Memory::run_of, crate::specs::Number::byte_sum))]
+    #[tactic(auto, using(crate::proofs::Images::RunMemory::bytes_at_held_by), unfolding(crate::specs::Memory::run_of, crate::specs::Number::byte_sum))]
     pub fn window_sum(&self, address: u64, count: u64) -> Option<u8>
         ensures { result ≡ option_map byte_sum (bytes_at self.now address count) }
     {

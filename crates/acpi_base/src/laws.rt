@@ -14,8 +14,8 @@ ghost use Rattle.acpi_base.specs.Examples.WholeSets.{whole_set, example_policy};
 ghost use Rattle.acpi_base.specs.Laws.{FaultsExcludeClean, FaultsFit, CleanOrFaulty, CleanOrFirstFault, OneFirstFault, OneVerdict, RootsListSlots, TextsDiffer};
 ghost use Rattle.acpi_base.specs.Pptt.{ParentsEndOrGoRound, CachesEndOrGoRound};
 ghost use Rattle.acpi_base.specs.Statements.{IsClean};
-ghost use Rattle.acpi_base.specs.WrittenText.{WrittenIsText, OneWritten};
-ghost use Rattle.acpi_base.specs.TextLaws.{RunReadsText, RunReadsPrefix, RunStopsAtFaults, RunGoesOn, PrefixDecides, TextMeans, TextOrFault, NeverBoth, OneImage, OneTextFault, RefusalsAreOwn, LinesMean};
+ghost use Rattle.acpi_base.specs.Text.WrittenText.{WrittenIsText, OneWritten};
+ghost use Rattle.acpi_base.specs.Text.TextLaws.{RunReadsText, RunReadsPrefix, RunStopsAtFaults, RunGoesOn, PrefixDecides, TextMeans, TextOrFault, NeverBoth, OneImage, OneTextFault, RefusalsAreOwn, LinesMean};
 
 /// An image with a fault of a stage is not clean to that stage or a later one: a fault that is reported is
 /// always a reason to refuse the image.

@@ -24,12 +24,9 @@
 
 mod checksum;
 mod code;
-mod fault_parsing;
-mod fault_text;
 pub mod field;
 mod find;
 mod image;
-mod image_text;
 pub mod laws;
 mod policy;
 mod stage;
@@ -38,19 +35,18 @@ mod tally;
 mod text;
 mod verdict;
 mod witness;
-pub mod written_text;
 
 pub use checksum::sum;
 pub use code::Code;
-pub use fault_parsing::parse_witness;
-pub use fault_text::{verdict_text, witness_text};
 pub use find::find_rsdp;
 pub use image::{Image, ImageFault};
-pub use image_text::{ImageText, read_image};
 pub use policy::{HotPlug, Policy, PolicyFault, Processors};
 pub use stage::Stage;
 pub use table_kind::TableKind;
 pub use tally::{DeviceFailed, Tally};
-pub use text::TextFault;
+pub use text::fault_parsing::parse_witness;
+pub use text::fault_text::{verdict_text, witness_text};
+pub use text::image_text::{ImageText, read_image};
+pub use text::{TextFault, written_text};
 pub use verdict::Verdict;
 pub use witness::Witness;

@@ -26,9 +26,9 @@ pub struct Tally<T> {
 }
 
 impl<T> Model for Tally<T> {
-    ghost use Rattle.acpi_base.specs.Tally.{Counted, counted_code};
+    ghost use Rattle.acpi_base.specs.Tally.{CountedDevice, counted_code};
 
-    ghost Value = { Counted T };
+    ghost Value = { CountedDevice T };
 
     ghost coded = { counted_code T.code };
 

@@ -1,7 +1,11 @@
-//! Why an image text could not be read.
+//! Texts: images and faults as text, read and written; and why an image text could not be read.
 
+pub(crate) mod fault_parsing;
+pub(crate) mod fault_text;
+pub(crate) mod image_text;
 #[cfg(test)]
 mod tests;
+pub mod written_text;
 
 ghost use Rattle.std.specs.Prelude.{◌≡◌};
 

@@ -1,4 +1,5 @@
 mod EntryPasses
+pub mod ListedSets
 mod NodeLinks
 mod ProcessorNumbers
 mod Spans

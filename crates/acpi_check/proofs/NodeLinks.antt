@@ -4,5 +4,4 @@ pub mod IndexedNodes
 pub mod KindPlaces
 pub mod LinkedNodes
 pub mod NamedPlaces
-pub mod PpttFaults
 pub mod ReferencePass

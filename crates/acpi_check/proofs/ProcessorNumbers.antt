@@ -1,7 +1,7 @@
 -- The numbers of processors: their proximity domains, and the leaves that name them.
 pub mod DomainsFaults
 pub mod DomainsPass
-pub mod GatheredNumbers
+pub mod EntryNumbers
 pub mod LeavesFaults
 pub mod NamedPass
 pub mod Placements

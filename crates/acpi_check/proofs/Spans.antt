@@ -1,7 +1,7 @@
 -- Ranges of addresses and of interrupt numbers, as spans.
 pub mod Clashes
 pub mod CoveredSpans
-pub mod Gathered
+pub mod EntrySpans
 pub mod GsiClashes
 pub mod GsiRanges
 pub mod RangeClashes

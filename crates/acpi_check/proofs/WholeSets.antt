@@ -2,4 +2,5 @@
 pub mod FirstFaults
 pub mod Headlines
 pub mod Slots
+pub mod StageByStage
 pub mod TablesLifted

@@ -1,7 +1,7 @@
 -- The interrupt numbers that a MADT's I/O APICs serve, as compact spans.
 use Rattle.std.specs.Prelude.{ℕ, ◌<◌, ◌≤◌, List, Contains, slice_index, Option, Some, None}
 use Rattle.std.specs.List.{filter_map}
-use Rattle.acpi_base.specs.Entries.{Standing}
+use Rattle.acpi_base.specs.Entries.{PlacedEntry}
 use Rattle.acpi_base.specs.Madt.{MadtEntry, IoApic}
 use Rattle.acpi_base.specs.Policy.{PolicyValue, inputs_of}
 use Rattle.acpi_graph.specs.Spans.{end_of}
@@ -13,7 +13,7 @@ served_range q (IoApic v) = Some (record { start = v.gsi_base; length = inputs_o
 served_range q _ = None
 
 -- those of the I/O APICs among the entries, in their order
-abbrev pub ranges_of : PolicyValue → List (Standing MadtEntry) → List CompactSpan
+abbrev pub ranges_of : PolicyValue → List (PlacedEntry MadtEntry) → List CompactSpan
 ranges_of q entries = filter_map (λ s. served_range q s.entry) entries
 
 -- the number is in the range

@@ -2,7 +2,7 @@
 use Rattle.std.specs.Prelude.{◌≡◌, ◌≢◌, ◌↔◌, ℕ, ◌<◌, List, AllPairs, Contains, length, map, slice_index, slice_index_or, option_map, Option, Some, None}
 use Rattle.std.specs.List.{filter_map}
 use Rattle.acpi_base.specs.Chains.{IsAt, IsCycle, AllEnd}
-use Rattle.acpi_base.specs.Entries.{Standing}
+use Rattle.acpi_base.specs.Entries.{PlacedEntry}
 use Rattle.acpi_base.specs.Faults.{NotAfter}
 use Rattle.acpi_base.specs.declared.code.Code.{Code}
 use Rattle.acpi_graph.specs.Parents.{parent_of}
@@ -28,28 +28,28 @@ pub record IsFirstCycle (Names : ℕ → ℕ → Type 0) (most : ℕ) (fault : C
   pub least : (p l r : ℕ) → IsCycle Names most p l r → NotAfter (record { code = fault; at = o; other = lead; point = round }) (record { code = fault; at = p; other = l; point = r })
 
 -- what is found of the chains over these offsets: that all end, or the cycle that is reported
-abbrev pub IsFoundCycle : (ℕ → ℕ → Type 0) → ℕ → Code → List ℕ → Stray → Type 0
-IsFoundCycle Names most fault offsets stray.None = AllEnd Names
-IsFoundCycle Names most fault offsets (stray.Round node lead round) =
+abbrev pub IsCycleResult : (ℕ → ℕ → Type 0) → ℕ → Code → List ℕ → Stray → Type 0
+IsCycleResult Names most fault offsets stray.None = AllEnd Names
+IsCycleResult Names most fault offsets (stray.Round node lead round) =
     IsFirstCycle Names most fault (slice_index offsets node) lead round
 
--- ---- how they are gathered
+-- ---- how they are collected
 
 -- one of the kind: the offset at which it stands, and that which it names
-pub record NodeValue : Type 0 where
+pub record ChainNode : Type 0 where
   pub offset : ℕ
   pub named : ℕ
 
 -- those of entries, in their order
-abbrev pub nodes_of : {E : Type 0} → (E → Option ℕ) → List (Standing E) → List NodeValue
+abbrev pub nodes_of : {E : Type 0} → (E → Option ℕ) → List (PlacedEntry E) → List ChainNode
 nodes_of read entries =
     filter_map (λ s. option_map (λ p. record { offset = s.offset; named = p }) (read s.entry)) entries
 
 -- the offsets at which they stand
-abbrev pub offsets_of : List NodeValue → List ℕ
-offsets_of nodes = map (λ n. n.offset) nodes
+abbrev pub node_offsets : List ChainNode → List ℕ
+node_offsets nodes = map (λ n. n.offset) nodes
 
 -- each parent is the index of what the node at its place names
-pub record AreParents (nodes : List NodeValue) (parents : List (Option ℕ)) : Type 0 where
+pub record AreParents (nodes : List ChainNode) (parents : List (Option ℕ)) : Type 0 where
   pub count : length parents ≡ length nodes
-  pub each : (i : ℕ) (n : NodeValue) → i < length nodes → IsIndexOf (offsets_of nodes) (slice_index_or nodes i n).named (slice_index_or parents i None)
+  pub each : (i : ℕ) (n : ChainNode) → i < length nodes → IsIndexOf (node_offsets nodes) (slice_index_or nodes i n).named (slice_index_or parents i None)

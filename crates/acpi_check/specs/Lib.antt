@@ -1,8 +1,10 @@
 -- What the contracts of the checker cite.
+pub mod Collected
 pub mod Domains
-pub mod Firsts
-pub mod Gathered
+pub mod FirstBelow
+pub mod FirstSeen
 pub mod GsiRanges
+pub mod HandedOn
 pub mod Headline
 pub mod Indexed
 pub mod Leaves
@@ -13,7 +15,8 @@ pub mod Overrides
 pub mod Passed
 pub mod Processors
 pub mod RangeKinds
+pub mod RangeSpans
 pub mod Served
 pub mod Set
-pub mod Settled
+pub mod StageResults
 pub mod Tables

@@ -1,12 +1,11 @@
--- Nodes of chains as they are gathered from a PPTT, and what is found of their chains.
+-- Nodes of chains as they are collected from a PPTT, and what is found of their chains.
 use Rattle.std.specs.Prelude.{◌≡◌, ◌<◌, ◌⊎◌, ℕ, List, AllPairs, Contains, length, map, slice_index, slice_index_or, Option, Some, None}
 use Rattle.acpi_base.specs.Chains.{AllEnd}
-use Rattle.acpi_base.specs.Entries.{entries_of, said_by}
-use Rattle.acpi_base.specs.Pptt.{PpttEntry, PpttContents, pptt_entry, parent_of, next_level_of, Says, most_nodes, most_caches}
+use Rattle.acpi_base.specs.Pptt.{PpttEntry, PpttContents, parent_of, next_level_of, Says, most_nodes, most_caches}
 use Rattle.acpi_base.specs.declared.code.Code.{Code}
 use Rattle.acpi_base.specs.declared.code.Code.TheVariants as code
 use Rattle.acpi_base.specs.declared.witness.Witness.{Witness}
-use Rattle.acpi_check.specs.Indexed.{IsIndexOf, IsFirstCycle, NodeValue, nodes_of, offsets_of}
+use Rattle.acpi_check.specs.Indexed.{IsIndexOf, IsFirstCycle, ChainNode, nodes_of, node_offsets}
 use Rattle.acpi_check.specs.declared.nodes.Chain.{Chain}
 use Rattle.acpi_check.specs.declared.nodes.Chain.TheVariants as chain
 use Rattle.acpi_check.specs.declared.nodes.Nodes.{Nodes}
@@ -14,13 +13,13 @@ use Rattle.acpi_check.specs.declared.nodes.Nodes.{Nodes}
 -- ---- kinds of chains
 
 -- the offset that an entry names, where it is a node of such chains
-abbrev pub named_by : Chain → PpttEntry → Option ℕ
-named_by chain.Parents = parent_of
-named_by chain.NextLevels = next_level_of
+abbrev pub named_offset : Chain → PpttEntry → Option ℕ
+named_offset chain.Parents = parent_of
+named_offset chain.NextLevels = next_level_of
 
 -- a node stands at o and names p
 abbrev pub Names : Chain → PpttContents → ℕ → ℕ → Type 0
-Names links c = Says (named_by links) c
+Names links c = Says (named_offset links) c
 
 -- no table of this size has more nodes
 abbrev pub most_of : Chain → PpttContents → ℕ
@@ -32,16 +31,16 @@ abbrev pub code_of : Chain → Code
 code_of chain.Parents = code.ParentCycle
 code_of chain.NextLevels = code.CacheCycle
 
--- ---- how they are gathered
+-- ---- how they are collected
 
 -- the nodes of a table
-abbrev pub nodes_in : Chain → List ℕ → List NodeValue
-nodes_in links whole = nodes_of (named_by links) (said_by pptt_entry (entries_of 36 whole))
+abbrev pub nodes_in : Chain → PpttContents → List ChainNode
+nodes_in links c = nodes_of (named_offset links) c.entries
 
 -- these are they
-pub record AreNodesOf (links : Chain) (whole : List ℕ) (nodes : Nodes) : Type 0 where
-  pub offsets : nodes.offsets.items ≡ offsets_of (nodes_in links whole)
-  pub named : nodes.named.items ≡ map (λ n. n.named) (nodes_in links whole)
+pub record AreNodesOf (links : Chain) (c : PpttContents) (nodes : Nodes) : Type 0 where
+  pub offsets : nodes.offsets.items ≡ node_offsets (nodes_in links c)
+  pub named : nodes.named.items ≡ map (λ n. n.named) (nodes_in links c)
 
 -- the offsets rise, and each node names none, or one of them
 pub record AreLinked (nodes : Nodes) : Type 0 where

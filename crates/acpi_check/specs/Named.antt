@@ -1,6 +1,6 @@
 -- Numbers that the entries of a table name, and the first of them that is not known.
 use Rattle.std.specs.Prelude.{◌≡◌, ℕ, List, Option, Some, None}
-use Rattle.acpi_base.specs.Entries.{Standing, StandsWith}
+use Rattle.acpi_base.specs.Entries.{PlacedEntry, StandsWith}
 use Rattle.acpi_base.specs.Faults.{NotAfter}
 use Rattle.acpi_base.specs.declared.code.Code.{Code}
 use Rattle.acpi_base.specs.declared.witness.Witness.{Witness}
@@ -22,11 +22,11 @@ pub record IsUnknown (Known : ℕ → Type 0) (fault : Code) (o : ℕ) (number :
 -- ---- all entries
 
 -- an entry at o names the number n
-abbrev pub NamesAt : {E : Type 0} → (E → Option ℕ) → List (Standing E) → ℕ → ℕ → Type 0
+abbrev pub NamesAt : {E : Type 0} → (E → Option ℕ) → List (PlacedEntry E) → ℕ → ℕ → Type 0
 NamesAt read entries o n = StandsWith entries o (λ e. read e ≡ Some n)
 
 -- w is the fault, under this code, of the first entry of which this is so
-pub record IsFirstUnknown {E : Type 0} (Known : ℕ → Type 0) (read : E → Option ℕ) (fault : Code) (entries : List (Standing E)) (w : Witness) : Type 0 where
+pub record IsFirstUnknown {E : Type 0} (Known : ℕ → Type 0) (read : E → Option ℕ) (fault : Code) (entries : List (PlacedEntry E)) (w : Witness) : Type 0 where
   pub code : w.code ≡ fault
   pub other : w.other ≡ 0
   pub names : NamesAt read entries w.at w.point
@@ -34,6 +34,6 @@ pub record IsFirstUnknown {E : Type 0} (Known : ℕ → Type 0) (read : E → Op
   pub first : (o n : ℕ) → NamesAt read entries o n → ¬ Known n → NotAfter w (record { code = fault; at = o; other = 0; point = n })
 
 -- all numbers that entries name are known, or this is the fault of the first that is not
-abbrev pub FindsUnknown : {E : Type 0} → (ℕ → Type 0) → (E → Option ℕ) → Code → List (Standing E) → Option Witness → Type 0
+abbrev pub FindsUnknown : {E : Type 0} → (ℕ → Type 0) → (E → Option ℕ) → Code → List (PlacedEntry E) → Option Witness → Type 0
 FindsUnknown Known read fault entries None = (o n : ℕ) → NamesAt read entries o n → Known n
 FindsUnknown Known read fault entries (Some w) = IsFirstUnknown Known read fault entries w

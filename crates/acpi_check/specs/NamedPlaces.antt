@@ -2,7 +2,7 @@
 use Rattle.std.specs.Prelude.{◌≡◌, ◌≢◌, ◌<◌, ◌⊎◌, ◌↔◌, ℕ, Bool, true, false, List, AllPairs, Contains, Some, None, if◌then◌else◌}
 use Rattle.std.specs.List.{filter_map}
 use Rattle.acpi_base.specs.Codes.{stage_of}
-use Rattle.acpi_base.specs.Entries.{Standing}
+use Rattle.acpi_base.specs.Entries.{PlacedEntry}
 use Rattle.acpi_base.specs.Faults.{NotAfter}
 use Rattle.acpi_base.specs.Pptt.{PpttEntry, Node, Cache, Opaque, PpttContents, parent_of, resource_of, next_level_of, IsNodeAt, IsCacheAt, IsResourceAt}
 use Rattle.acpi_base.specs.declared.code.Code.{Code}
@@ -16,19 +16,19 @@ use Rattle.acpi_check.specs.declared.places.Places.{Places}
 -- ---- offsets
 
 -- the offsets of each kind rise
-pub record DoPlacesRise (places : Places) : Type 0 where
+pub record ArePlacesSorted (places : Places) : Type 0 where
   pub nodes : AllPairs (λ o p. o < p) places.nodes.items
   pub caches : AllPairs (λ o p. o < p) places.caches.items
   pub resources : AllPairs (λ o p. o < p) places.resources.items
 
 -- these are the offsets at which a node, a cache or a private resource stands
 pub record ArePlaces (c : PpttContents) (places : Places) : Type 0 where
-  pub rise : DoPlacesRise places
+  pub rise : ArePlacesSorted places
   pub nodes : (o : ℕ) → Contains places.nodes.items o ↔ IsNodeAt c o
   pub caches : (o : ℕ) → Contains places.caches.items o ↔ IsCacheAt c o
   pub resources : (o : ℕ) → Contains places.resources.items o ↔ IsResourceAt c o
 
--- ---- how they are gathered
+-- ---- how they are collected
 
 -- what an entry is
 abbrev pub kind_of : PpttEntry → Kind
@@ -49,8 +49,8 @@ is_resource kind.Node = false
 is_resource _ = true
 
 -- the offsets at which entries of the kinds stand, in their order
-abbrev pub offsets_of : (Kind → Bool) → List (Standing PpttEntry) → List ℕ
-offsets_of kinds entries = filter_map (λ s. if kinds (kind_of s.entry) then Some s.offset else None) entries
+abbrev pub kind_offsets : (Kind → Bool) → List (PlacedEntry PpttEntry) → List ℕ
+kind_offsets kinds entries = filter_map (λ s. if kinds (kind_of s.entry) then Some s.offset else None) entries
 
 -- ---- what an entry names
 

@@ -1,7 +1,7 @@
--- Numbers of processors that are gathered from the entries of a MADT.
+-- Numbers of processors that are collected from the entries of a MADT.
 use Rattle.std.specs.Prelude.{ℕ, ◌<◌, ◌↔◌, List, AllPairs, Contains, Option, Some, None, if◌then◌else◌}
 use Rattle.std.specs.List.{filter_map}
-use Rattle.acpi_base.specs.Entries.{Standing}
+use Rattle.acpi_base.specs.Entries.{PlacedEntry}
 use Rattle.acpi_base.specs.Madt.{MadtEntry, LocalApic, X2apic, MadtContents}
 use Rattle.acpi_base.specs.Policy.{counts_as_enabled}
 use Rattle.acpi_check.specs.Named.{NamesAt}
@@ -17,7 +17,7 @@ number_of (key.Enabled p) (X2apic v) = if counts_as_enabled p v.flags then Some 
 number_of _ _ = None
 
 -- the numbers of entries, in their order
-abbrev pub numbers_in : {E : Type 0} → (E → Option ℕ) → List (Standing E) → List ℕ
+abbrev pub numbers_in : {E : Type 0} → (E → Option ℕ) → List (PlacedEntry E) → List ℕ
 numbers_in read entries = filter_map (λ s. read s.entry) entries
 
 -- the numbers rise, and are those of the processors of the MADT

@@ -3,21 +3,21 @@ use Rattle.std.specs.Prelude.{ℕ, ◌<◌, ◌≤◌, ◌↔◌, List, AllPairs
 use Rattle.acpi_base.specs.Across.{HasIoApic, IsServed}
 use Rattle.acpi_base.specs.Madt.{MadtEntry, Override, NmiSource, MadtContents}
 use Rattle.acpi_base.specs.Policy.{PolicyValue}
-use Rattle.acpi_graph.specs.Spans.{Holds}
+use Rattle.acpi_graph.specs.Spans.{HasNumber}
 use Rattle.acpi_graph.specs.declared.span.Span.{Span}
 
 -- each span ends before those behind it begin
-abbrev pub DoSpansRise : List Span → Type 0
-DoSpansRise spans = AllPairs (λ a b. a.end ≤ b.start) spans
+abbrev pub AreSortedDisjoint : List Span → Type 0
+AreSortedDisjoint spans = AllPairs (λ a b. a.end ≤ b.start) spans
 
 -- a span of the list holds the number
-abbrev pub IsHeld : List Span → ℕ → Type 0
-IsHeld spans x = (span : Span) × Contains spans span × Holds span x
+abbrev pub IsInSpans : List Span → ℕ → Type 0
+IsInSpans spans x = (span : Span) × Contains spans span × HasNumber span x
 
 -- these are the interrupt numbers that the I/O APICs serve; each serves some
-pub record AreServed (q : PolicyValue) (c : MadtContents) (spans : List Span) : Type 0 where
-  pub rise : DoSpansRise spans
-  pub held : (g : ℕ) → IsHeld spans g ↔ IsServed q c g
+pub record AreServedSpans (q : PolicyValue) (c : MadtContents) (spans : List Span) : Type 0 where
+  pub rise : AreSortedDisjoint spans
+  pub covers : (g : ℕ) → IsInSpans spans g ↔ IsServed q c g
   pub some : HasIoApic c → 0 < length spans
 
 -- the interrupt number that an override or an NMI source names

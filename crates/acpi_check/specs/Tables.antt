@@ -1,12 +1,11 @@
 -- The tables that a stage is handed.
-use Rattle.std.specs.Prelude.{◌<◌, ℕ, List, Option, Some, None}
+use Rattle.std.specs.Prelude.{ℕ}
 use Rattle.acpi_base.specs.Memory.{Memory}
-use Rattle.acpi_base.specs.Root.{HasSlot, IsRoot, IsSoundRootTable}
-use Rattle.acpi_base.specs.Tables.{IsSigned, IsSoundTable, IsTable}
-use Rattle.acpi_base.specs.Listed.{IsFirstListed, IsListed}
+use Rattle.acpi_base.specs.Root.{IsRoot, IsSoundRootTable}
+use Rattle.acpi_base.specs.Listed.{IsListed}
 use Rattle.acpi_base.specs.TableKinds.{signature_of}
 use Rattle.acpi_base.specs.declared.table_kind.TableKind.{TableKind}
-use Rattle.acpi_read.specs.FirstTables.{first_of}
+use Rattle.acpi_read.specs.FirstTables.{first_table}
 use Rattle.acpi_read.specs.Roots.{RootValue}
 use Rattle.acpi_read.specs.declared.first_tables.FirstTables.{FirstTables}
 
@@ -16,17 +15,5 @@ pub record IsRootOf (m : Memory) (p : ℕ) (root : RootValue) : Type 0 where
   pub sound : IsSoundRootTable m root.address root.width root.bytes
 
 -- the first table of each kind that the set lists
-abbrev pub AreFirstTables : Memory → ℕ → FirstTables → Type 0
-AreFirstTables m p firsts = (kind : TableKind) → IsListed m p (signature_of kind) (first_of firsts kind)
-
--- ---- while the slots are gone through
-
--- what the slots below k, of d bytes each, of a root's bytes list first with a signature
-abbrev pub IsFirstBelow : Memory → List ℕ → ℕ → ℕ → List ℕ → Option (List ℕ) → Type 0
-IsFirstBelow m bytes d k signature None = (j a : ℕ) → j < k → HasSlot bytes d j a → ¬ IsSigned m a signature
-IsFirstBelow m bytes d k signature (Some whole) = (a : ℕ) × (header : List ℕ) × IsFirstListed m bytes d signature a × IsTable m a header whole
-
--- the same of each kind; and the tables of these slots are sound
-pub record AreFirstBelow (m : Memory) (root : RootValue) (k : ℕ) (firsts : FirstTables) : Type 0 where
-  pub sound : (j a : ℕ) → j < k → HasSlot root.bytes root.width j a → IsSoundTable m a
-  pub first : (kind : TableKind) → IsFirstBelow m root.bytes root.width k (signature_of kind) (first_of firsts kind)
+pub record AreFirstTables (m : Memory) (p : ℕ) (firsts : FirstTables) : Type 0 where
+  pub each : (kind : TableKind) → IsListed m p (signature_of kind) (first_table firsts kind)

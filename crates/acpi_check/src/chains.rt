@@ -2,28 +2,26 @@
 
 ghost use Rattle.std.specs.Prelude.{◌≡◌, ◌⊎◌, AllPairs, Contains, IfOk, ◌<◌};
 ghost use Rattle.acpi_base.specs.Chains.{NoneDangles};
-ghost use Rattle.acpi_base.specs.Pptt.{pptt_entry, pptt_contents, AreReferencesSound, DoParentsEnd, DoCachesEnd, ParentFault, CacheFault};
+ghost use Rattle.acpi_base.specs.Pptt.{pptt_contents, AreReferencesSound, DoParentsEnd, DoCachesEnd, ParentFault, CacheFault};
 ghost use Rattle.acpi_base.specs.declared.stage.Stage.{Stage};
+ghost use Rattle.acpi_read.specs.Pptts.{pptt_value};
 ghost use Rattle.acpi_check.specs.Indexed.{IsIndexOf};
 ghost use Rattle.acpi_check.specs.Passed.{FindsFirst};
-ghost use Rattle.acpi_check.specs.Linked.{named_by, code_of, Names, AreNodesOf, AreLinked, AreIndices, FindsCycle};
+ghost use Rattle.acpi_check.specs.Linked.{named_offset, code_of, Names, AreNodesOf, AreLinked, AreIndices, FindsCycle};
 
 use crate::nodes::{Chain, Nodes};
 use crate::refusal::{Refusal, refuse};
-use crate::search::find;
+use crate::search::binary_search;
 use acpi_base::{Code, Witness};
 use acpi_graph::{Stray, first_stray};
-use acpi_read::{Entries, Entry, PpttEntry, Table};
+use acpi_read::{Pptt, PpttEntry};
 use std::alloc::{AllocError, Global};
 
 /// The offset that an entry names, where it is a node of such chains.
-fn named_by(chain: Chain, entry: &Entry<'_>) -> Option<u32>
-    ensures { result ≡ named_by chain (pptt_entry entry.now.bytes.now) }
+fn named_offset(chain: Chain, entry: &PpttEntry<'_>) -> Option<u32>
+    ensures { result ≡ named_offset chain (pptt_value entry.now) }
 {
-    let Ok(read) = PpttEntry::read(entry.bytes) else {
-        return None;
-    };
-    match (chain, read) {
+    match (chain, entry) {
         (Chain::Parents, PpttEntry::Node(head, _)) => Some(head.parent),
         (Chain::NextLevels, PpttEntry::Cache24(cache)) => Some(cache.next_level),
         (Chain::NextLevels, PpttEntry::Cache28(cache)) => Some(cache.next_level),
@@ -32,15 +30,15 @@ fn named_by(chain: Chain, entry: &Entry<'_>) -> Option<u32>
 }
 
 /// The nodes of a PPTT's chains.
-#[tactic(auto, using(crate::proofs::Spans::Gathered::gathering))]
-fn nodes_of(alloc: Global, chain: Chain, table: Table<'_>) -> Result<Nodes, AllocError>
-    ensures { IfOk result (AreNodesOf chain table.entry) }
+#[tactic(auto, using(crate::proofs::EntryPasses::Collecting::gathering))]
+fn nodes_of(alloc: Global, chain: Chain, pptt: &Pptt<'_>) -> Result<Nodes, AllocError>
+    ensures { IfOk result (AreNodesOf chain (pptt_contents pptt.now)) }
 {
     let mut offsets = Vec::new(alloc);
     let mut named = Vec::new(alloc);
-    for entry in Entries::pptt(table) {
-        if let Some(offset) = named_by(chain, &entry) {
-            offsets.push(entry.offset)?;
+    for at in pptt.entries() {
+        if let Some(offset) = named_offset(chain, &at.entry) {
+            offsets.push(at.offset)?;
             named.push(offset)?;
         }
     }
@@ -56,7 +54,7 @@ fn index_of(offsets: &[u64], named: u32) -> Option<usize>
     if named == 0 {
         return None;
     }
-    find(offsets, u64::from(named))
+    binary_search(offsets, u64::from(named))
 }
 
 /// For each node the index of what it names.
@@ -82,11 +80,11 @@ fn code_of(chain: Chain) -> Code
 }
 
 /// The fault of the first node of a PPTT whose chain does not end.
-fn first_cycle(alloc: Global, chain: Chain, table: Table<'_>) -> Result<Option<Witness>, AllocError>
-    requires { NoneDangles (Names chain (pptt_contents table)) }
-    ensures { IfOk result (FindsCycle chain (pptt_contents table.entry)) }
+fn first_cycle(alloc: Global, chain: Chain, pptt: &Pptt<'_>) -> Result<Option<Witness>, AllocError>
+    requires { NoneDangles (Names chain (pptt_contents pptt.now)) }
+    ensures { IfOk result (FindsCycle chain (pptt_contents pptt.now)) }
 {
-    let nodes = nodes_of(alloc, chain, table)?;
+    let nodes = nodes_of(alloc, chain, pptt)?;
     let parents = parents_of(alloc, &nodes)?;
     let (found, _) = first_stray(alloc, &parents)?;
     match found {
@@ -102,18 +100,18 @@ fn first_cycle(alloc: Global, chain: Chain, table: Table<'_>) -> Result<Option<W
 
 /// Whether the chain of Parents from every node of a PPTT ends. The first fault is at the offset of the first node whose chain
 /// does not. Takes memory for each node.
-pub fn parents_end(alloc: Global, table: Table<'_>) -> Result<(), Refusal>
-    requires { AreReferencesSound (pptt_contents table) }
-    ensures { FindsFirst Stage.Parents (DoParentsEnd (pptt_contents table.entry)) (ParentFault (pptt_contents table.entry)) result }
+pub fn parents_end(alloc: Global, pptt: &Pptt<'_>) -> Result<(), Refusal>
+    requires { AreReferencesSound (pptt_contents pptt.now) }
+    ensures { FindsFirst Stage.Parents (DoParentsEnd (pptt_contents pptt.now)) (ParentFault (pptt_contents pptt.now)) result }
 {
-    refuse(first_cycle(alloc, Chain::Parents, table)?)
+    refuse(first_cycle(alloc, Chain::Parents, pptt)?)
 }
 
 /// Whether the chain of Next Levels from every cache of a PPTT ends. The first fault is at the offset of the first cache whose
 /// chain does not. Takes memory for each cache.
-pub fn caches_end(alloc: Global, table: Table<'_>) -> Result<(), Refusal>
-    requires { AreReferencesSound (pptt_contents table) }
-    ensures { FindsFirst Stage.Caches (DoCachesEnd (pptt_contents table.entry)) (CacheFault (pptt_contents table.entry)) result }
+pub fn caches_end(alloc: Global, pptt: &Pptt<'_>) -> Result<(), Refusal>
+    requires { AreReferencesSound (pptt_contents pptt.now) }
+    ensures { FindsFirst Stage.Caches (DoCachesEnd (pptt_contents pptt.now)) (CacheFault (pptt_contents pptt.now)) result }
 {
-    refuse(first_cycle(alloc, Chain::NextLevels, table)?)
+    refuse(first_cycle(alloc, Chain::NextLevels, pptt)?)
 }

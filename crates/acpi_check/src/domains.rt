@@ -3,18 +3,20 @@
 ghost use Rattle.std.specs.Prelude.{◌≡◌, ◌<◌, ◌≤◌, AllPairs, IfOk, MatchBool, length};
 ghost use Rattle.acpi_base.specs.Across.{HaveOneDomain, DomainFault};
 ghost use Rattle.acpi_base.specs.Madt.{madt_contents};
-ghost use Rattle.acpi_base.specs.Srat.{srat_entry, srat_contents};
+ghost use Rattle.acpi_base.specs.Srat.{srat_contents};
 ghost use Rattle.acpi_base.specs.declared.stage.Stage.{Stage};
+ghost use Rattle.acpi_read.specs.Srats.{srat_value};
 ghost use Rattle.acpi_check.specs.Domains.{placement_of, ArePlacements, DoAgree, PassesPlacement, FindsDomains};
 ghost use Rattle.acpi_check.specs.Passed.{FindsFirst};
 
-use crate::firsts::{FirstValue, note_value};
+use crate::collected::collected;
+use crate::first_seen::{FirstSeen, record_first_seen};
 use crate::processors::{Key, numbers_of};
 use crate::refusal::{Refusal, refuse};
-use crate::search::find;
+use crate::search::binary_search;
 use crate::srat::is_enabled;
 use acpi_base::{Code, Processors, Witness};
-use acpi_read::{Entries, Entry, SratEntry, Table};
+use acpi_read::{EntryAt, Madt, Srat, SratEntry};
 use std::alloc::{AllocError, Global};
 
 /// A processor in a proximity domain. Placements compare by the processor's number, then by the domain.
@@ -27,13 +29,10 @@ pub struct Placement {
 }
 
 /// The processor that an enabled entry of an SRAT puts in a domain. None for another entry.
-fn placement_of(entry: &Entry<'_>) -> Option<Placement>
-    ensures { result ≡ placement_of (srat_entry entry.now.bytes.now) }
+fn placement_of(entry: &SratEntry<'_>) -> Option<Placement>
+    ensures { result ≡ placement_of (srat_value entry.now) }
 {
-    let Ok(read) = SratEntry::read(entry.bytes) else {
-        return None;
-    };
-    match read {
+    match entry {
         SratEntry::ApicDomain(put) => is_enabled(put.flags).then_some(Placement {
             processor: u32::from(put.apic_id),
             domain: put.domain,
@@ -50,23 +49,23 @@ fn placement_of(entry: &Entry<'_>) -> Option<Placement>
 /// fault where it puts a processor with one of the numbers in another domain.
 fn pass_entry(
     numbers: &[u64],
-    firsts: &mut [Option<FirstValue>],
-    entry: &Entry<'_>,
+    firsts: &mut [Option<FirstSeen>],
+    at: &EntryAt<SratEntry<'_>>,
 ) -> Option<Witness>
     requires rise { AllPairs (λ i j. i < j) numbers.now }
     requires count { length firsts.old ≡ length numbers.now }
-    ensures { PassesPlacement numbers.now entry.now.offset (placement_of (srat_entry entry.now.bytes.now)) firsts.old firsts.new result }
+    ensures { PassesPlacement numbers.now at.now.offset (placement_of (srat_value at.now.entry)) firsts.old firsts.new result }
 {
-    let put = placement_of(entry)?;
-    let place = find(numbers, u64::from(put.processor))?;
-    let now = FirstValue {
-        offset: entry.offset,
+    let put = placement_of(&at.entry)?;
+    let place = binary_search(numbers, u64::from(put.processor))?;
+    let now = FirstSeen {
+        offset: at.offset,
         value: put.domain,
     };
-    let first = note_value(firsts, place, now)?;
+    let first = record_first_seen(firsts, place, now)?;
     Some(Witness {
         code: Code::TwoDomains,
-        at: entry.offset,
+        at: at.offset,
         other: first.offset,
         point: u64::from(put.processor),
     })
@@ -77,17 +76,15 @@ fn pass_entry(
 fn first_other_domain(
     alloc: Global,
     numbers: &[u64],
-    table: Table<'_>,
+    srat: &Srat<'_>,
 ) -> Result<Option<Witness>, AllocError>
     requires { AllPairs (λ i j. i < j) numbers.now }
-    ensures { IfOk result (FindsDomains numbers.now (srat_contents table.entry)) }
+    ensures { IfOk result (FindsDomains numbers.now (srat_contents srat.now)) }
 {
-    let Ok(mut entries) = Entries::srat(table) else {
-        return Ok(None);
-    };
+    let mut entries = srat.entries();
     let mut firsts = vec![in alloc; None; numbers.len()]?;
-    while let Some(entry) = entries.next() {
-        if let Some(fault) = pass_entry(numbers, &mut firsts, &entry) {
+    while let Some(at) = entries.next() {
+        if let Some(fault) = pass_entry(numbers, &mut firsts, &at) {
             return Ok(Some(fault));
         }
     }
@@ -95,20 +92,10 @@ fn first_other_domain(
 }
 
 /// What the enabled entries of an SRAT place, in the entries' order.
-#[tactic(auto, using(crate::proofs::Spans::Gathered::gathering))]
-fn placements_of(alloc: Global, table: Table<'_>) -> Result<Vec<Placement>, AllocError>
-    ensures { IfOk result (λ placements. ArePlacements (srat_contents table.entry) placements.items) }
+fn placements_of(alloc: Global, srat: &Srat<'_>) -> Result<Vec<Placement>, AllocError>
+    ensures { IfOk result (λ placements. ArePlacements (srat_contents srat.now) placements.items) }
 {
-    let mut placements = Vec::new(alloc);
-    let Ok(entries) = Entries::srat(table) else {
-        return Ok(placements);
-    };
-    for entry in entries {
-        if let Some(put) = placement_of(&entry) {
-            placements.push(put)?;
-        }
-    }
-    Ok(placements)
+    collected(alloc, srat.entries(), |at| placement_of(&at.entry))
 }
 
 /// Whether placements put no processor in two domains. Those of one processor stand side by side, so neighbours are
@@ -136,13 +123,13 @@ fn do_agree(placements: &[Placement]) -> bool
 pub fn one_domain(
     alloc: Global,
     processors: Processors,
-    madt: Table<'_>,
-    srat: Table<'_>,
+    madt: &Madt<'_>,
+    srat: &Srat<'_>,
 ) -> Result<(), Refusal>
-    ensures { FindsFirst Stage.Domains (HaveOneDomain processors (madt_contents madt.entry) (srat_contents srat.entry))
-        (DomainFault processors (madt_contents madt.entry) (srat_contents srat.entry)) result }
+    ensures { FindsFirst Stage.Domains (HaveOneDomain processors (madt_contents madt.now) (srat_contents srat.now))
+        (DomainFault processors (madt_contents madt.now) (srat_contents srat.now)) result }
 {
-    let mut placements = placements_of(alloc, srat.copied())?;
+    let mut placements = placements_of(alloc, srat)?;
     placements.sort_unstable();
     if do_agree(&placements) {
         return Ok(());

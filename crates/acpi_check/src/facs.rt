@@ -1,21 +1,23 @@
 //! Stage 5: the FACS.
 
+ghost use Rattle.acpi_base.specs.Fadt.{IsFadt};
+ghost use Rattle.acpi_base.specs.Policy.{PolicyValue};
+ghost use Rattle.acpi_base.specs.Statements.{CleanBefore};
 ghost use Rattle.acpi_base.specs.declared.stage.Stage.{Stage};
-ghost use Rattle.acpi_check.specs.Set.{IsReady, SettlesSet};
+ghost use Rattle.acpi_check.specs.HandedOn.{IsFacsNamed};
+ghost use Rattle.acpi_check.specs.StageResults.{Reads};
 
-use crate::refusal::Refusal;
-use crate::set::Set;
-use acpi_base::Witness;
-use acpi_read::Facs;
+use acpi_base::{Image, Witness};
+use acpi_read::{Facs, Fadt};
 
-/// Whether the FACS that the FADT names is sound, or none is needed; its faults are at its address, and at
-/// 0 where none is named.
-pub fn sound_facs(set: &Set<'_>) -> Result<(), Refusal>
-    requires { IsReady Stage.Facs set.now }
-    ensures { SettlesSet Stage.Facs set.now result }
+/// The FACS that the FADT names, which is sound, or none where none is needed; its faults are at its address, and at 0
+/// where none is named.
+pub fn sound_facs<'a>(image: &'a Image, fadt: &Fadt<'_>) -> Result<Option<Facs<'a>>, Witness>
+    ensures { (q : PolicyValue) → CleanBefore Stage.Facs image.now q → IsFadt image.now q.rsdp fadt.now
+        → Reads Stage.Facs image.now q (IsFacsNamed image.now fadt.now) result }
 {
-    match Facs::read(set.image, &set.fadt) {
-        Ok(_) => Ok(()),
-        Err(code) => Err(Refusal::Fault(Witness::at(code, set.fadt.facs_address()))),
+    match Facs::read(image, fadt) {
+        Ok(facs) => Ok(facs),
+        Err(code) => Err(Witness::at(code, fadt.facs_address())),
     }
 }

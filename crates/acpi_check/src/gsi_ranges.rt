@@ -1,12 +1,14 @@
 //! The interrupt numbers that I/O APICs serve, as compact spans.
 
 ghost use Rattle.std.specs.Prelude.{◌≡◌, ◌≤◌, ◌↔◌, ℕ, Contains, IfOk, IsTrue, length};
-ghost use Rattle.acpi_base.specs.Madt.{madt_entry, madt_contents};
+ghost use Rattle.acpi_base.specs.Madt.{madt_contents};
+ghost use Rattle.acpi_read.specs.Madts.{madt_value};
 ghost use Rattle.acpi_check.specs.GsiRanges.{served_range, ranges_of, IsInRange, IsInRanges, AreInRange};
 
+use crate::collected::collected;
 use acpi_base::Policy;
 use acpi_graph::CompactSpan;
-use acpi_read::{Entries, Entry, MadtEntry, Table};
+use acpi_read::{Madt, MadtEntry};
 use std::alloc::{AllocError, Global};
 
 /// Whether the number is one of the span's.
@@ -17,10 +19,10 @@ fn holds(span: &CompactSpan, number: u64) -> bool
 }
 
 /// The interrupt numbers that an I/O APIC serves. None for another entry.
-fn served_range(policy: &Policy, entry: &Entry<'_>) -> Option<CompactSpan>
-    ensures { result ≡ served_range policy.now (madt_entry entry.now.bytes.now) }
+fn served_range(policy: &Policy, entry: &MadtEntry<'_>) -> Option<CompactSpan>
+    ensures { result ≡ served_range policy.now (madt_value entry.now) }
 {
-    let Ok(MadtEntry::IoApic(io_apic)) = MadtEntry::read(entry.bytes) else {
+    let MadtEntry::IoApic(io_apic) = entry else {
         return None;
     };
     Some(CompactSpan {
@@ -30,31 +32,23 @@ fn served_range(policy: &Policy, entry: &Entry<'_>) -> Option<CompactSpan>
 }
 
 /// The interrupt numbers that each I/O APIC of a MADT serves, in the entries' order.
-#[tactic(auto, using(crate::proofs::Spans::Gathered::gathering))]
 pub fn served_ranges(
     alloc: Global,
     policy: &Policy,
-    table: Table<'_>,
+    madt: &Madt<'_>,
 ) -> Result<Vec<CompactSpan>, AllocError>
-    ensures { IfOk result (λ ranges. ranges.items ≡ ranges_of policy.now (madt_contents table.entry).entries) }
+    ensures { IfOk result (λ ranges. ranges.items ≡ ranges_of policy.now (madt_contents madt.now).entries) }
 {
-    let mut ranges = Vec::new(alloc);
-    let Ok(entries) = Entries::madt(table) else {
-        return Ok(ranges);
-    };
-    for entry in entries {
-        if let Some(range) = served_range(policy, &entry) {
-            ranges.push(range)?;
-        }
-    }
-    Ok(ranges)
+    collected(alloc, madt.entries(), |at| {
+        served_range(policy, &at.entry)
+    })
 }
 
 /// How far the numbers go on, from the place `from`, that are in the range.
-fn held_to(numbers: &[u64], from: usize, range: &CompactSpan) -> usize
+fn end_in_range(numbers: &[u64], from: usize, range: &CompactSpan) -> usize
     requires { from ≤ length numbers.now }
     ensures bound { (from ≤ result) × (result ≤ length numbers.now) }
-    ensures held { AreInRange range.now numbers.now from result }
+    ensures covers { AreInRange range.now numbers.now from result }
 {
     for place in from..numbers.len() {
         if !holds(range, numbers[place]) {
@@ -65,12 +59,12 @@ fn held_to(numbers: &[u64], from: usize, range: &CompactSpan) -> usize
 }
 
 /// Whether all numbers are in ranges, where both are sorted and no two ranges share a number: it goes over both once.
-pub fn are_held(ranges: &[CompactSpan], numbers: &[u64]) -> bool
+pub fn are_in_ranges(ranges: &[CompactSpan], numbers: &[u64]) -> bool
     ensures { IsTrue result → ((n : ℕ) → Contains numbers.now n → IsInRanges ranges.now n) }
 {
     let mut place = 0;
     for range in ranges {
-        place = held_to(numbers, place, range);
+        place = end_in_range(numbers, place, range);
     }
     place == numbers.len()
 }

@@ -2,58 +2,56 @@
 
 ghost use Rattle.std.specs.Prelude.{◌≡◌, ◌<◌, ⊤, AllPairs, Contains, IfOk, MatchBool, MatchOption};
 ghost use Rattle.acpi_base.specs.Across.{AreLeavesKnown, LeafFault};
-ghost use Rattle.acpi_base.specs.Madt.{madt_entry, madt_contents, IsWhollyTyped};
-ghost use Rattle.acpi_base.specs.Pptt.{pptt_entry, pptt_contents};
+ghost use Rattle.acpi_base.specs.Madt.{madt_contents, IsWhollyTyped};
+ghost use Rattle.acpi_base.specs.Pptt.{pptt_contents};
 ghost use Rattle.acpi_base.specs.declared.code.Code.{Code};
 ghost use Rattle.acpi_base.specs.declared.stage.Stage.{Stage};
+ghost use Rattle.acpi_read.specs.Madts.{madt_value};
+ghost use Rattle.acpi_read.specs.Pptts.{pptt_value};
 ghost use Rattle.acpi_check.specs.Leaves.{is_typed, leaf_id};
 ghost use Rattle.acpi_check.specs.Named.{IsKnown, IsUnknown, FindsUnknown};
 ghost use Rattle.acpi_check.specs.Passed.{FindsFirst};
 ghost use Rattle.acpi_check.specs.Processors.{numbers_in};
 
+use crate::collected::collected;
 use crate::processors::{Key, numbers_of};
 use crate::refusal::{Refusal, refuse};
-use crate::search::{has, in_rising_order};
-use crate::subset::are_among;
+use crate::search::{has, sorted_unique};
+use crate::subset::is_sorted_subset;
 use acpi_base::{Code, Witness};
-use acpi_read::{Entries, Entry, MadtEntry, PpttEntry, Table};
+use acpi_read::{EntryAt, Madt, MadtEntry, Pptt, PpttEntry};
 use std::alloc::{AllocError, Global};
 
-/// Whether an entry of a MADT is read here: it is of one of the eight types that are, and has the length of its type. Another
-/// one may be of a processor.
-fn is_typed(entry: &Entry<'_>) -> bool
-    ensures { result ≡ is_typed (madt_entry entry.now.bytes.now) }
+/// Whether an entry of a MADT is of one of the eight types that are read here: another one may be of a processor.
+fn is_typed(entry: &MadtEntry<'_>) -> bool
+    ensures { result ≡ is_typed (madt_value entry.now) }
 {
-    match MadtEntry::read(entry.bytes) {
-        Ok(MadtEntry::Opaque(_)) => false,
-        Ok(_) => true,
-        Err(_) => false,
+    match entry {
+        MadtEntry::Opaque(_) => false,
+        _ => true,
     }
 }
 
-/// Whether entries that are read here fill a MADT, so that all its processors are known: not where it is shorter than 44
-/// bytes, or cut.
-fn is_wholly_typed(table: Table<'_>) -> bool
-    ensures { MatchBool result (IsWhollyTyped (madt_contents table.entry)) (¬ IsWhollyTyped (madt_contents table.entry)) }
+/// Whether each entry of a MADT is of such a type, so that all its processors are known.
+fn is_wholly_typed(madt: &Madt<'_>) -> bool
+    ensures { MatchBool result (IsWhollyTyped (madt_contents madt.now)) (¬ IsWhollyTyped (madt_contents madt.now)) }
 {
-    let Ok(mut entries) = Entries::madt(table) else {
-        return false;
-    };
-    while let Some(entry) = entries.next() {
-        if !is_typed(&entry) {
+    let mut entries = madt.entries();
+    while let Some(at) = entries.next() {
+        if !is_typed(&at.entry) {
             return false;
         }
     }
-    entries.cut().is_none()
+    true
 }
 
 /// The ID of a leaf: of a node whose flags say that the ID is valid, in bit 1, and that it is a leaf, in bit 3. None for
 /// another entry, and for a leaf whose ID is not valid.
 #[tactic(auto, unfolding(acpi_base::specs::Number::has_bit))]
-fn leaf_id(entry: &Entry<'_>) -> Option<u32>
-    ensures { result ≡ leaf_id (pptt_entry entry.now.bytes.now) }
+fn leaf_id(entry: &PpttEntry<'_>) -> Option<u32>
+    ensures { result ≡ leaf_id (pptt_value entry.now) }
 {
-    let Ok(PpttEntry::Node(head, _)) = PpttEntry::read(entry.bytes) else {
+    let PpttEntry::Node(head, _) = entry else {
         return None;
     };
     let is_valid = head.flags >> 1 & 1 == 1;
@@ -62,45 +60,42 @@ fn leaf_id(entry: &Entry<'_>) -> Option<u32>
 }
 
 /// The IDs of a PPTT's leaves, in the entries' order.
-#[tactic(auto, using(crate::proofs::Spans::Gathered::gathering))]
-fn leaf_ids(alloc: Global, table: Table<'_>) -> Result<Vec<u64>, AllocError>
-    ensures { IfOk result (λ ids. ids.items ≡ numbers_in leaf_id (pptt_contents table.entry).entries) }
+fn leaf_ids(alloc: Global, pptt: &Pptt<'_>) -> Result<Vec<u64>, AllocError>
+    ensures { IfOk result (λ ids. ids.items ≡ numbers_in leaf_id (pptt_contents pptt.now).entries) }
 {
-    let mut ids = Vec::new(alloc);
-    for entry in Entries::pptt(table) {
-        if let Some(id) = leaf_id(&entry) {
-            ids.push(u64::from(id))?;
-        }
-    }
-    Ok(ids)
+    collected(
+        alloc,
+        pptt.entries(),
+        |at| leaf_id(&at.entry).map(u64::from),
+    )
 }
 
 /// The fault of a leaf whose ID is not among the UIDs, which rise. None for an entry that is no leaf.
-fn own_fault(uids: &[u64], entry: &Entry<'_>) -> Option<Witness>
+fn own_fault(uids: &[u64], at: &EntryAt<PpttEntry<'_>>) -> Option<Witness>
     requires { AllPairs (λ i j. i < j) uids.now }
-    ensures { MatchOption result (IsKnown (Contains uids.now) (leaf_id (pptt_entry entry.now.bytes.now)))
-        (IsUnknown (Contains uids.now) Code.LeafUnknown entry.now.offset (leaf_id (pptt_entry entry.now.bytes.now))) }
+    ensures { MatchOption result (IsKnown (Contains uids.now) (leaf_id (pptt_value at.now.entry)))
+        (IsUnknown (Contains uids.now) Code.LeafUnknown at.now.offset (leaf_id (pptt_value at.now.entry))) }
 {
-    let id = leaf_id(entry)?;
+    let id = leaf_id(&at.entry)?;
     if has(uids, id) {
         return None;
     }
     Some(Witness {
         code: Code::LeafUnknown,
-        at: entry.offset,
+        at: at.offset,
         other: 0,
         point: u64::from(id),
     })
 }
 
 /// The fault of the first leaf of a PPTT whose ID is not among the UIDs.
-fn first_unknown(uids: &[u64], table: Table<'_>) -> Option<Witness>
+fn first_unknown(uids: &[u64], pptt: &Pptt<'_>) -> Option<Witness>
     requires { AllPairs (λ i j. i < j) uids.now }
-    ensures { FindsUnknown (Contains uids.now) leaf_id Code.LeafUnknown (pptt_contents table.entry).entries result }
+    ensures { FindsUnknown (Contains uids.now) leaf_id Code.LeafUnknown (pptt_contents pptt.now).entries result }
 {
-    let mut entries = Entries::pptt(table);
-    while let Some(entry) = entries.next() {
-        if let Some(fault) = own_fault(uids, &entry) {
+    let mut entries = pptt.entries();
+    while let Some(at) = entries.next() {
+        if let Some(fault) = own_fault(uids, &at) {
             return Some(fault);
         }
     }
@@ -117,16 +112,16 @@ const HAS_LEAVES: u8 = 2;
 /// What exempts a set is asked first, in this order, and takes no memory. Behind it memory is taken for the UID of each
 /// processor and the ID of each leaf, which are sorted and gone over together; only where not all IDs are seen among the UIDs
 /// are the leaves looked up one by one.
-pub fn known_leaves(alloc: Global, madt: Table<'_>, pptt: Table<'_>) -> Result<(), Refusal>
-    ensures { FindsFirst Stage.Leaves (AreLeavesKnown (madt_contents madt.entry) (pptt_contents pptt.entry))
-        (LeafFault (madt_contents madt.entry) (pptt_contents pptt.entry)) result }
+pub fn known_leaves(alloc: Global, madt: &Madt<'_>, pptt: &Pptt<'_>) -> Result<(), Refusal>
+    ensures { FindsFirst Stage.Leaves (AreLeavesKnown (madt_contents madt.now) (pptt_contents pptt.now))
+        (LeafFault (madt_contents madt.now) (pptt_contents pptt.now)) result }
 {
-    if pptt.header().revision < HAS_LEAVES || !is_wholly_typed(madt.copied()) {
+    if pptt.header().revision < HAS_LEAVES || !is_wholly_typed(madt) {
         return Ok(());
     }
     let uids = numbers_of(alloc, Key::Uid, madt)?;
-    let ids = in_rising_order(leaf_ids(alloc, pptt.copied())?);
-    if are_among(&ids, &uids) {
+    let ids = sorted_unique(leaf_ids(alloc, pptt)?);
+    if is_sorted_subset(&ids, &uids) {
         return Ok(());
     }
     refuse(first_unknown(&uids, pptt))

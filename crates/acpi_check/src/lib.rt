@@ -1,9 +1,10 @@
 //! The check: whether the tables of an image are sound, and else the first fault.
 //!
 //! Each stage is one function, which is called only where the earlier stages hold, and reports the first fault of its
-//! own. The first four hand on what they have read: the RSDP, the root, the listed tables, the FADT. The others look at
-//! that, and hand on nothing. `check` asks all eighteen in their order, `check_to` those up to one. Stages 7, 10 and 13
-//! to 18 take memory; the others take none.
+//! own. The first five hand on what they have read: the RSDP, the root, the listed tables, the FADT, the FACS. The
+//! others look at that, and hand on nothing. `check` asks all eighteen in their order, `check_to` those up to one.
+//! `read_set` and `check_set` hand on the set of which stages 1 to 3, or all eighteen, hold. Stages 7, 10 and 13 to 18
+//! take memory; the others take none.
 //!
 //! An example, of `crates/acpi_cli/src/check.rt`, where the set at an address is checked under a policy up to a stage:
 //!
@@ -15,10 +16,11 @@
 #![tactic(auto)]
 
 mod chains;
+mod collected;
 mod domains;
 mod facs;
 mod fadt;
-mod firsts;
+mod first_seen;
 mod gsi_ranges;
 mod interrupts;
 mod leaves;
@@ -38,10 +40,13 @@ mod rsdp;
 mod search;
 mod served;
 mod set;
+mod set_views;
 mod slit;
 mod srat;
 mod stages;
 mod subset;
 mod tables;
 
-pub use stages::{check, check_to};
+pub use refusal::Refusal;
+pub use set::{CleanSet, ListedSet};
+pub use stages::{check, check_set, check_to, read_set};

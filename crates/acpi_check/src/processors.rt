@@ -1,13 +1,15 @@
 //! Numbers of the MADT's processors, to be looked up.
 
 ghost use Rattle.std.specs.Prelude.{◌≡◌, IfOk};
-ghost use Rattle.acpi_base.specs.Madt.{madt_entry, madt_contents};
+ghost use Rattle.acpi_base.specs.Madt.{madt_contents};
 ghost use Rattle.acpi_base.specs.Policy.{counts_as_enabled};
+ghost use Rattle.acpi_read.specs.Madts.{madt_value};
 ghost use Rattle.acpi_check.specs.Processors.{number_of, AreNumbers};
 
-use crate::search::in_rising_order;
+use crate::collected::collected;
+use crate::search::sorted_unique;
 use acpi_base::Processors;
-use acpi_read::{Entries, Entry, MadtEntry, Table};
+use acpi_read::{Madt, MadtEntry};
 use std::alloc::{AllocError, Global};
 
 /// By which number processors are looked up.
@@ -33,13 +35,10 @@ fn counts_as_enabled(processors: Processors, flags: u32) -> bool
 }
 
 /// The number of the processor of which an entry is. None for another entry.
-fn number_of(key: Key, entry: &Entry<'_>) -> Option<u32>
-    ensures { result ≡ number_of key (madt_entry entry.now.bytes.now) }
+fn number_of(key: Key, entry: &MadtEntry<'_>) -> Option<u32>
+    ensures { result ≡ number_of key (madt_value entry.now) }
 {
-    let Ok(read) = MadtEntry::read(entry.bytes) else {
-        return None;
-    };
-    match (key, read) {
+    match (key, entry) {
         (Key::Uid, MadtEntry::LocalApic(processor)) => Some(u32::from(processor.uid)),
         (Key::Uid, MadtEntry::X2apic(processor)) => Some(processor.uid),
         (Key::Enabled(processors), MadtEntry::LocalApic(processor)) => {
@@ -53,18 +52,11 @@ fn number_of(key: Key, entry: &Entry<'_>) -> Option<u32>
 }
 
 /// The numbers of the processors of a MADT, in rising order and each once.
-#[tactic(auto, using(crate::proofs::Spans::Gathered::gathering))]
-pub fn numbers_of(alloc: Global, key: Key, table: Table<'_>) -> Result<Vec<u64>, AllocError>
-    ensures { IfOk result (λ numbers. AreNumbers key (madt_contents table.entry) numbers.items) }
+pub fn numbers_of(alloc: Global, key: Key, madt: &Madt<'_>) -> Result<Vec<u64>, AllocError>
+    ensures { IfOk result (λ numbers. AreNumbers key (madt_contents madt.now) numbers.items) }
 {
-    let mut numbers = Vec::new(alloc);
-    let Ok(entries) = Entries::madt(table) else {
-        return Ok(numbers);
-    };
-    for entry in entries {
-        if let Some(number) = number_of(key, &entry) {
-            numbers.push(u64::from(number))?;
-        }
-    }
-    Ok(in_rising_order(numbers))
+    let numbers = collected(alloc, madt.entries(), |at| {
+        number_of(key, &at.entry).map(u64::from)
+    })?;
+    Ok(sorted_unique(numbers))
 }

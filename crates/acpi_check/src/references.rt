@@ -2,48 +2,48 @@
 
 ghost use Rattle.std.specs.Prelude.{◌≡◌, ◌≢◌, ◌+◌, ◌*◌, ◌<◌, ◌⊎◌, ℕ, AllPairs, Contains, IfOk, MatchOption, length};
 ghost use Rattle.acpi_base.specs.Number.{field};
-ghost use Rattle.acpi_base.specs.Pptt.{pptt_entry, pptt_contents, IsCutPptt, AreReferencesSound, ReferenceFault};
+ghost use Rattle.acpi_base.specs.Pptt.{pptt_contents, IsCutPptt, AreReferencesSound, ReferenceFault};
 ghost use Rattle.acpi_base.specs.declared.stage.Stage.{Stage};
+ghost use Rattle.acpi_read.specs.Pptts.{pptt_value, HasReferences};
 ghost use Rattle.acpi_check.specs.Passed.{FindsFirst};
-ghost use Rattle.acpi_check.specs.NamedPlaces.{kind_of, ArePlaces, DoPlacesRise, NamesPlaces, IsFirstReference};
+ghost use Rattle.acpi_check.specs.NamedPlaces.{kind_of, ArePlaces, ArePlacesSorted, NamesPlaces, IsFirstReference};
 
 use crate::places::{Kind, Places};
 use crate::refusal::Refusal;
 use crate::search::has;
 use acpi_base::field::u32_at;
 use acpi_base::{Code, Witness};
-use acpi_read::{Entries, Entry, PpttEntry, Table};
+use acpi_read::{EntryAt, Pptt, PpttEntry};
 use std::alloc::{AllocError, Global};
 
 /// What an entry is.
-fn kind_of(entry: &Entry<'_>) -> Kind
-    ensures { result ≡ kind_of (pptt_entry entry.now.bytes.now) }
+fn kind_of(entry: &PpttEntry<'_>) -> Kind
+    ensures { result ≡ kind_of (pptt_value entry.now) }
 {
-    match PpttEntry::read(entry.bytes) {
-        Ok(PpttEntry::Node(..)) => Kind::Node,
-        Ok(PpttEntry::Cache24(_)) => Kind::Cache,
-        Ok(PpttEntry::Cache28(_)) => Kind::Cache,
-        _ => Kind::Other,
+    match entry {
+        PpttEntry::Node(..) => Kind::Node,
+        PpttEntry::Cache24(_) | PpttEntry::Cache28(_) => Kind::Cache,
+        PpttEntry::Opaque(_) => Kind::Other,
     }
 }
 
 /// Where the entries of a PPTT stand, by what they are.
-#[tactic(auto, using(crate::proofs::Spans::Gathered::gathering))]
-fn places_of(alloc: Global, table: Table<'_>) -> Result<Places, AllocError>
-    requires { IsCutPptt (pptt_contents table) }
-    ensures { IfOk result (ArePlaces (pptt_contents table.entry)) }
+#[tactic(auto, using(crate::proofs::EntryPasses::Collecting::gathering))]
+fn places_of(alloc: Global, pptt: &Pptt<'_>) -> Result<Places, AllocError>
+    requires { IsCutPptt (pptt_contents pptt.now) }
+    ensures { IfOk result (ArePlaces (pptt_contents pptt.now)) }
 {
     let mut nodes = Vec::new(alloc);
     let mut caches = Vec::new(alloc);
     let mut resources = Vec::new(alloc);
-    for entry in Entries::pptt(table) {
-        match kind_of(&entry) {
-            Kind::Node => nodes.push(entry.offset)?,
+    for at in pptt.entries() {
+        match kind_of(&at.entry) {
+            Kind::Node => nodes.push(at.offset)?,
             Kind::Cache => {
-                caches.push(entry.offset)?;
-                resources.push(entry.offset)?;
+                caches.push(at.offset)?;
+                resources.push(at.offset)?;
             }
-            Kind::Other => resources.push(entry.offset)?,
+            Kind::Other => resources.push(at.offset)?,
         }
     }
     Ok(Places {
@@ -88,14 +88,15 @@ fn link_fault(code: Code, at: u64, offsets: &[u64], offset: u32) -> Option<Witne
 }
 
 /// The first fault of what an entry names: of a node its Parent comes before its private resources.
-fn own_fault(places: &Places, entry: &Entry<'_>) -> Option<Witness>
-    requires { DoPlacesRise places.now }
-    ensures { MatchOption result (NamesPlaces places.now (pptt_entry entry.now.bytes.now))
-        (λ w. (w.at ≡ entry.now.offset) × IsFirstReference places.now (pptt_entry entry.now.bytes.now) w) }
+fn own_fault(places: &Places, at: &EntryAt<PpttEntry<'_>>) -> Option<Witness>
+    requires rise { ArePlacesSorted places.now }
+    requires references { HasReferences at.now.entry }
+    ensures { MatchOption result (NamesPlaces places.now (pptt_value at.now.entry))
+        (λ w. (w.at ≡ at.now.offset) × IsFirstReference places.now (pptt_value at.now.entry) w) }
 {
-    let at = entry.offset;
-    match PpttEntry::read(entry.bytes) {
-        Ok(PpttEntry::Node(head, references)) => {
+    let EntryAt { offset: at, entry } = *at;
+    match entry {
+        PpttEntry::Node(head, references) => {
             if let Some(fault) = link_fault(Code::DanglingParent, at, &places.nodes, head.parent) {
                 return Some(fault);
             }
@@ -109,25 +110,24 @@ fn own_fault(places: &Places, entry: &Entry<'_>) -> Option<Witness>
                 None => None,
             }
         }
-        Ok(PpttEntry::Cache24(cache)) => {
+        PpttEntry::Cache24(cache) => {
             link_fault(Code::DanglingCache, at, &places.caches, cache.next_level)
         }
-        Ok(PpttEntry::Cache28(cache)) => {
+        PpttEntry::Cache28(cache) => {
             link_fault(Code::DanglingCache, at, &places.caches, cache.next_level)
         }
-        _ => None,
+        PpttEntry::Opaque(_) => None,
     }
 }
 
 /// The first fault of what the entries of a PPTT name, in the entries' order.
-#[tactic(auto, using(crate::proofs::NodeLinks::ReferencePass::passing))]
-fn first_fault(places: &Places, table: Table<'_>) -> Result<(), Refusal>
-    requires { ArePlaces (pptt_contents table) places.now }
-    ensures { FindsFirst Stage.References (AreReferencesSound (pptt_contents table.entry)) (ReferenceFault (pptt_contents table.entry)) result }
+fn first_fault(places: &Places, pptt: &Pptt<'_>) -> Result<(), Refusal>
+    requires { ArePlaces (pptt_contents pptt.now) places.now }
+    ensures { FindsFirst Stage.References (AreReferencesSound (pptt_contents pptt.now)) (ReferenceFault (pptt_contents pptt.now)) result }
 {
-    let mut entries = Entries::pptt(table);
-    while let Some(entry) = entries.next() {
-        if let Some(fault) = own_fault(places, &entry) {
+    let mut entries = pptt.entries();
+    while let Some(at) = entries.next() {
+        if let Some(fault) = own_fault(places, &at) {
             return Err(Refusal::Fault(fault));
         }
     }
@@ -136,10 +136,10 @@ fn first_fault(places: &Places, table: Table<'_>) -> Result<(), Refusal>
 
 /// Whether an entry stands at each offset that a PPTT's entries name, of the kind that is named there. The first fault is at
 /// the offset of the entry that names it. Takes memory for each entry.
-pub fn sound_references(alloc: Global, table: Table<'_>) -> Result<(), Refusal>
-    requires { IsCutPptt (pptt_contents table) }
-    ensures { FindsFirst Stage.References (AreReferencesSound (pptt_contents table.entry)) (ReferenceFault (pptt_contents table.entry)) result }
+pub fn sound_references(alloc: Global, pptt: &Pptt<'_>) -> Result<(), Refusal>
+    requires { IsCutPptt (pptt_contents pptt.now) }
+    ensures { FindsFirst Stage.References (AreReferencesSound (pptt_contents pptt.now)) (ReferenceFault (pptt_contents pptt.now)) result }
 {
-    let places = places_of(alloc, table.copied())?;
-    first_fault(&places, table)
+    let places = places_of(alloc, pptt)?;
+    first_fault(&places, pptt)
 }

@@ -1,28 +1,27 @@
 //! Stage 2: the root.
 
 ghost use Rattle.std.specs.Prelude.{◌≡◌, ◌≢◌, ℕ, Some};
+ghost use Rattle.acpi_base.specs.Policy.{PolicyValue};
 ghost use Rattle.acpi_base.specs.Rsdp.{IsRsdp};
 ghost use Rattle.acpi_base.specs.Root.{chosen_root};
 ghost use Rattle.acpi_base.specs.Statements.{CleanBefore};
 ghost use Rattle.acpi_base.specs.declared.stage.Stage.{Stage};
 ghost use Rattle.acpi_base.specs.declared.code.Code.{Code};
-ghost use Rattle.acpi_check.specs.Settled.{Settles};
+ghost use Rattle.acpi_check.specs.StageResults.{Reads};
 ghost use Rattle.acpi_check.specs.Tables.{IsRootOf};
 
-use crate::refusal::Refusal;
-use acpi_base::{Code, Image, Policy, Witness};
+use acpi_base::{Code, Image, Witness};
 use acpi_read::{Root, Rsdp};
 
 /// The root that the RSDP names; its faults are at the RSDP's address where it names none, else at the
 /// root's.
-pub fn sound_root<'a>(image: &'a Image, policy: &Policy, rsdp: &Rsdp) -> Result<Root<'a>, Refusal>
-    requires clean { CleanBefore Stage.Root image.now policy.now }
-    requires rsdp { IsRsdp image.now policy.now.rsdp rsdp.now }
-    ensures { Settles Stage.Root image.now policy.now (IsRootOf image.now policy.now.rsdp) result }
+pub fn sound_root<'a>(image: &'a Image, rsdp: &Rsdp) -> Result<Root<'a>, Witness>
+    ensures { (q : PolicyValue) → CleanBefore Stage.Root image.now q → IsRsdp image.now q.rsdp rsdp.now
+        → Reads Stage.Root image.now q (IsRootOf image.now q.rsdp) result }
 {
     match Root::read(image, rsdp) {
         Ok(root) => Ok(root),
-        Err(code) => Err(Refusal::Fault(Witness::at(code, place_of_fault(rsdp, code)))),
+        Err(code) => Err(Witness::at(code, place_of_fault(rsdp, code))),
     }
 }
 

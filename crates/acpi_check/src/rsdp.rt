@@ -1,20 +1,20 @@
 //! Stage 1: the RSDP.
 
+ghost use Rattle.std.specs.Prelude.{◌≡◌};
+ghost use Rattle.acpi_base.specs.Policy.{PolicyValue};
 ghost use Rattle.acpi_base.specs.Rsdp.{IsRsdp};
 ghost use Rattle.acpi_base.specs.declared.stage.Stage.{Stage};
-ghost use Rattle.acpi_check.specs.Settled.{Settles};
+ghost use Rattle.acpi_check.specs.StageResults.{Reads};
 
-use crate::refusal::Refusal;
-use acpi_base::{Image, Policy, Witness};
+use acpi_base::{Image, Witness};
 use acpi_read::Rsdp;
 
-/// The RSDP at the policy's address; its faults are at that address.
-pub fn sound_rsdp(image: &Image, policy: &Policy) -> Result<Rsdp, Refusal>
-    ensures { Settles Stage.Rsdp image.now policy.now (IsRsdp image.now policy.now.rsdp) result }
+/// The RSDP at an address; its faults are at that address.
+pub fn sound_rsdp(image: &Image, address: u64) -> Result<Rsdp, Witness>
+    ensures { (q : PolicyValue) → q.rsdp ≡ address → Reads Stage.Rsdp image.now q (IsRsdp image.now q.rsdp) result }
 {
-    let address = policy.rsdp();
     match Rsdp::read(image, address) {
         Ok(rsdp) => Ok(rsdp),
-        Err(code) => Err(Refusal::Fault(Witness::at(code, address))),
+        Err(code) => Err(Witness::at(code, address)),
     }
 }

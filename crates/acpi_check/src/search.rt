@@ -15,7 +15,7 @@ fn interpolated_place(offsets: &[u64], offset: u64) -> usize {
 
 /// The place of an offset among offsets that rise, or none where it is not among them. Where they rise evenly, as those
 /// of entries of one length do, it looks at one of them.
-pub fn find(offsets: &[u64], offset: u64) -> Option<usize>
+pub fn binary_search(offsets: &[u64], offset: u64) -> Option<usize>
     requires { AllPairs (λ o p. o < p) offsets.now }
     ensures { MatchOption result (¬ Contains offsets.now offset) (λ k. (k < length offsets.now) × (slice_index offsets.now k ≡ offset)) }
 {
@@ -31,14 +31,14 @@ pub fn has(offsets: &[u64], offset: u32) -> bool
     requires { AllPairs (λ o p. o < p) offsets.now }
     ensures { MatchBool result (Contains offsets.now offset) (¬ Contains offsets.now offset) }
 {
-    match find(offsets, u64::from(offset)) {
+    match binary_search(offsets, u64::from(offset)) {
         Some(_) => true,
         None => false,
     }
 }
 
 /// The numbers in rising order, each once.
-pub fn in_rising_order(mut numbers: Vec<u64>) -> Vec<u64>
+pub fn sorted_unique(mut numbers: Vec<u64>) -> Vec<u64>
     ensures rise { AllPairs (λ i j. i < j) result.items }
     ensures same { (n : ℕ) → Contains result.items n ↔ Contains numbers.items n }
 {

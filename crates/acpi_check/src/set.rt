@@ -1,18 +1,64 @@
-//! The set of tables that the stages from the FACS on look at.
+//! Sets of tables, as far as they were found sound: what stages hand on.
+
+ghost use Rattle.std.specs.Prelude.{◌≡◌, ◌<◌, ◌+◌, ◌*◌, IfSome, IsNone};
+ghost use Rattle.acpi_base.specs.Number.{field};
+ghost use Rattle.acpi_read.specs.Roots.{slots_of};
+ghost use Rattle.acpi_check.specs.HandedOn.{IsListedSet, IsListedIn};
 
 use acpi_base::{Image, Policy};
-use acpi_read::{Fadt, FirstTables};
+use acpi_read::{Facs, Fadt, FirstTables, Listed, Root, Rsdp, Table};
 
-/// A set whose RSDP, root, listed tables and FADT are sound: what the stages from the FACS on look at. Each
-/// table is the first listed one with its signature, which was read and summed once.
+/// A set whose RSDP, root and listed tables are sound: what stages 1 to 3 hand on. Each table was read and summed once.
 #[derive(Drop)]
-pub struct Set<'a> {
+pub struct ListedSet<'a> {
     /// The image that holds the set.
     pub image: &'a Image,
-    /// What the check is given beside it.
-    pub policy: &'a Policy,
-    /// The FADT.
-    pub fadt: Fadt<'a>,
+    /// The RSDP.
+    pub rsdp: Rsdp,
+    /// The root that it names.
+    pub root: Root<'a>,
     /// The first listed table of each kind.
     pub tables: FirstTables<'a>,
+}
+
+impl<'a> ListedSet<'a> {
+    /// The table that a slot of the root lists, slots being counted from 0. None where the slot holds 0. Its bytes are
+    /// not summed again.
+    pub fn table(&self, slot: u32) -> Option<Listed<'a>>
+        requires set { IsListedSet self.now }
+        requires inside { slot < slots_of self.now.root }
+        ensures none { IsNone result → field self.now.root.bytes (36 + self.now.root.width * slot) self.now.root.width ≡ 0 }
+        ensures some { IfSome result (IsListedIn self.now slot) }
+    {
+        let address = self.root.slot(slot);
+        if address == 0 {
+            return None;
+        }
+        let table = Table::sound(self.image, address);
+        Some(Listed { address, table })
+    }
+}
+
+/// A set whose RSDP, root, listed tables, FADT and FACS are sound: what the stages from the MADT's on look at.
+#[derive(Drop)]
+pub struct Set<'a, 'p> {
+    /// Its RSDP, root and listed tables.
+    pub listed: ListedSet<'a>,
+    /// What the check is given beside the image.
+    pub policy: &'p Policy,
+    /// The FADT.
+    pub fadt: Fadt<'a>,
+    /// The FACS that the FADT names, where it names one.
+    pub facs: Option<Facs<'a>>,
+}
+
+/// A set of which all eighteen statements hold.
+#[derive(Drop)]
+pub struct CleanSet<'a> {
+    /// Its RSDP, root and listed tables.
+    pub listed: ListedSet<'a>,
+    /// The FADT.
+    pub fadt: Fadt<'a>,
+    /// The FACS that the FADT names, where it names one.
+    pub facs: Option<Facs<'a>>,
 }

@@ -1,14 +1,16 @@
 //! A check of all stages, or of those up to one.
 
-ghost use Rattle.std.specs.Prelude.{◌≡◌, ◌≤◌, ◌↔◌, IfOk, IsOk, OnErr, MatchOption};
-ghost use Rattle.acpi_base.specs.Codes.{stage_number};
+ghost use Rattle.std.specs.Prelude.{◌≡◌, ◌≤◌, ◌↔◌, IfOk, IfErr, IsOk, OnErr};
+ghost use Rattle.acpi_base.specs.Codes.{stage_number, stage_of};
 ghost use Rattle.acpi_base.specs.Statements.{IsClean, CleanTo};
 ghost use Rattle.acpi_base.specs.Faults.{IsFirstFault, IsVerdict};
+ghost use Rattle.acpi_base.specs.Policy.{PolicyValue};
 ghost use Rattle.acpi_base.specs.declared.stage.Stage.{Stage};
 ghost use Rattle.acpi_base.specs.declared.verdict.Verdict.{Verdict};
 ghost use Rattle.acpi_check.specs.Headline.{IfNo};
-ghost use Rattle.acpi_check.specs.Settled.{SettlesTo};
-ghost use Rattle.acpi_check.specs.Set.{IsSetOf, IsReady, SettlesSet};
+ghost use Rattle.acpi_check.specs.StageResults.{ReadsTo, IsResultTo};
+ghost use Rattle.acpi_check.specs.HandedOn.{IsListedSetOf, IsCleanSetOf};
+ghost use Rattle.acpi_check.specs.Set.{IsSetOf, IsSet, IsReady, IsSetResult};
 
 use crate::facs::sound_facs;
 use crate::fadt::sound_fadt;
@@ -16,9 +18,9 @@ use crate::listed;
 use crate::refusal::Refusal;
 use crate::root::sound_root;
 use crate::rsdp::sound_rsdp;
-use crate::set::Set;
+use crate::set::{CleanSet, ListedSet, Set};
 use crate::tables::sound_tables;
-use acpi_base::{Image, Policy, Stage, Verdict};
+use acpi_base::{Image, Policy, Stage, Verdict, Witness};
 use std::alloc::{AllocError, Global};
 
 /// The verdict on the image's tables: `Yes` exactly where all eighteen statements hold of the image and the
@@ -54,49 +56,86 @@ pub fn check_to(
     }
 }
 
-/// Asks the stages up to `last` in their order.
+/// Asks the stages up to `last` in their order. Those up to the FACS take no memory and are asked in any case: where the
+/// first fault is of one behind `last`, the stages up to `last` hold.
 fn stages_to(alloc: Global, image: &Image, policy: &Policy, last: Stage) -> Result<(), Refusal>
-    ensures { SettlesTo last image.now policy.now (λ _. CleanTo last image.now policy.now) result }
+    ensures { IsResultTo last image.now policy.now (λ _. CleanTo last image.now policy.now) result }
 {
-    let Some(set) = set_to(image, policy, last)? else {
-        return Ok(());
-    };
-    for number in Stage::Facs.number()..last.number() + 1 {
+    match sound_set(image, policy) {
+        Ok(set) => later_stages(alloc, &set, last),
+        Err(fault) if fault.code.stage().number() <= last.number() => Err(Refusal::Fault(fault)),
+        Err(_) => Ok(()),
+    }
+}
+
+/// The set that the RSDP at an address leads to, where its RSDP, its root and the tables that it lists are sound; else
+/// its first fault, which is one of stages 1 to 3. They ask for nothing of a policy but the RSDP's address.
+pub fn read_set<'a>(image: &'a Image, rsdp: u64) -> Result<ListedSet<'a>, Witness>
+    ensures { (q : PolicyValue) → q.rsdp ≡ rsdp → ReadsTo Stage.Tables image.now q (IsListedSetOf image.now q.rsdp) result }
+{
+    let rsdp = sound_rsdp(image, rsdp)?;
+    let root = sound_root(image, &rsdp)?;
+    let tables = sound_tables(image, &root)?;
+    Ok(ListedSet {
+        image,
+        rsdp,
+        root,
+        tables,
+    })
+}
+
+/// The set of which the stages up to the FACS hold, or its first fault, which is one of theirs.
+fn sound_set<'a, 'p>(image: &'a Image, policy: &'p Policy) -> Result<Set<'a, 'p>, Witness>
+    ensures { ReadsTo Stage.Facs image.now policy.now (IsSetOf image.now policy.now) result }
+{
+    let listed = read_set(image, policy.rsdp())?;
+    let fadt = sound_fadt(&listed.tables)?;
+    let facs = sound_facs(image, &fadt)?;
+    Ok(Set {
+        listed,
+        policy,
+        fadt,
+        facs,
+    })
+}
+
+/// Asks the stages behind the FACS, up to `last`, in their order.
+fn later_stages(alloc: Global, set: &Set<'_, '_>, last: Stage) -> Result<(), Refusal>
+    requires { IsSet set.now }
+    ensures { IsResultTo last set.now.listed.image.now set.now.policy.now (λ _. CleanTo last set.now.listed.image.now set.now.policy.now) result }
+{
+    for number in Stage::Madt.number()..last.number() + 1 {
         if let Some(stage) = Stage::new(number) {
-            run_stage(alloc, &set, stage)?;
+            run_stage(alloc, set, stage)?;
         }
     }
     Ok(())
 }
 
-/// Asks the stages up to the FADT, each of which hands on what the next one looks at; none where `last`
-/// comes before the FADT.
-fn set_to<'a>(image: &'a Image, policy: &'a Policy, last: Stage) -> Result<Option<Set<'a>>, Refusal>
-    ensures { SettlesTo last image.now policy.now
-        (λ found. MatchOption found (CleanTo last image.now policy.now) (IsSetOf image.now policy.now)) result }
+/// The set that the policy's RSDP leads to, where all eighteen statements hold; else its first fault, or
+/// `OutOfMemory`, which is said only where stages 1 to 6 hold.
+pub fn check_set<'a>(
+    alloc: Global,
+    image: &'a Image,
+    policy: &Policy,
+) -> Result<CleanSet<'a>, Refusal>
+    ensures { IsResultTo Stage.Leaves image.now policy.now (IsCleanSetOf image.now policy.now) result }
 {
-    let rsdp = sound_rsdp(image, policy)?;
-    if last.number() <= Stage::Rsdp.number() {
-        return Ok(None);
-    }
-    let root = sound_root(image, policy, &rsdp)?;
-    if last.number() <= Stage::Root.number() {
-        return Ok(None);
-    }
-    let tables = sound_tables(image, policy, &root)?;
-    if last.number() <= Stage::Tables.number() {
-        return Ok(None);
-    }
-    Ok(Some(sound_fadt(image, policy, tables)?))
+    let set = sound_set(image, policy)?;
+    later_stages(alloc, &set, Stage::LAST)?;
+    Ok(CleanSet {
+        listed: set.listed,
+        fadt: set.fadt,
+        facs: set.facs,
+    })
 }
 
-/// Asks one stage from the FACS on. Those that take memory are handed `alloc`; the others take none.
-fn run_stage(alloc: Global, set: &Set<'_>, stage: Stage) -> Result<(), Refusal>
+/// Asks one stage from the MADT's on. Those that take memory are handed `alloc`; the others take none.
+fn run_stage(alloc: Global, set: &Set<'_, '_>, stage: Stage) -> Result<(), Refusal>
     requires { IsReady stage set.now }
-    ensures { SettlesSet stage set.now result }
+    ensures { IsSetResult stage set.now result }
 {
     match stage {
-        Stage::Facs => sound_facs(set),
         Stage::Madt => listed::madt(set),
         Stage::Interrupts => listed::interrupts(alloc, set),
         Stage::Overrides => listed::overrides(set),
@@ -111,6 +150,6 @@ fn run_stage(alloc: Global, set: &Set<'_>, stage: Stage) -> Result<(), Refusal>
         Stage::Served => listed::served(alloc, set),
         Stage::Leaves => listed::leaves(alloc, set),
         // These hold of every set.
-        Stage::Rsdp | Stage::Root | Stage::Tables | Stage::Fadt => Ok(()),
+        Stage::Rsdp | Stage::Root | Stage::Tables | Stage::Fadt | Stage::Facs => Ok(()),
     }
 }

@@ -3,7 +3,7 @@
 ghost use Rattle.std.specs.Prelude.{ℕ, Contains, IsTrue};
 
 /// Whether the numbers that are asked for are seen among the known ones. Where both rise, one walk over them sees it.
-pub fn are_among(asked: &[u64], known: &[u64]) -> bool
+pub fn is_sorted_subset(asked: &[u64], known: &[u64]) -> bool
     ensures { IsTrue result → ((n : ℕ) → Contains asked.now n → Contains known.now n) }
 {
     let mut place = 0;

@@ -1,9 +1,9 @@
 -- The rows in which `clap` hands on the arguments of `check`, and where each is found.
-use Rattle.std.proofs.Common.{◌≡◌, ◌∙◌, ◌++◌, Bool, List, [], ◌∷◌, Option, Some, None, true, false, cond, codes, append_assoc, append-nil, refl, ap, sym, unwrap_or}
-use Rattle.std.specs.Prelude.{find}
+use Rattle.std.proofs.Common.{◌≡◌, ◌∙◌, ◌++◌, ◌&&◌, Bool, List, [], ◌∷◌, Option, Some, None, true, false, cond, codes, append_assoc, append-nil, refl, ap, sym, unwrap_or}
+use Rattle.std.specs.Prelude.{find, not}
 use Rattle.std.specs.List.{list_any}
 use Rattle.std.specs.Str.{bytes_eq}
-use Rattle.std.proofs.lemmas.Bool.{or_parts}
+use Rattle.std.proofs.lemmas.Bool.{and_parts, not-true, or_parts}
 use Rattle.std.proofs.lemmas.List.Folds.{find-append, list_any-append}
 use Rattle.std.proofs.lemmas.Slice.Eq.{bytes_eq-Decides}
 use Rattle.clap.specs.Words.{Row, Text, all_of, first_of}
@@ -80,9 +80,9 @@ no_word_row id (word ∷ words) e = rw e refl
 -- ---- where the arguments are found
 
 -- no two of the options have one id
-abbrev pub AreDistinct : List (Text × Option Text) → Type 0
-AreDistinct [] = Unit {0}
-AreDistinct (choice ∷ options) = (has_option choice.0 options ≡ false) × AreDistinct options
+abbrev pub are_distinct : List (Text × Option Text) → Bool
+are_distinct [] = true
+are_distinct (choice ∷ options) = not (has_option choice.0 options) && are_distinct options
 
 -- the value of the option with this id
 abbrev pub value_of : Text → List (Text × Option Text) → Option Text
@@ -97,16 +97,19 @@ finds_none id (r ∷ rs) e =
     rw others.0 (finds_none id rs others.1)
 
 -- an option is found under its id
-pub option_is_found : (id : Text) (options : List (Text × Option Text)) (behind : List Row) → AreDistinct options → has_row id behind ≡ false
+pub option_is_found : (id : Text) (options : List (Text × Option Text)) (behind : List Row) → are_distinct options ≡ true → has_row id behind ≡ false
     → first_of id (options_rows options ++ behind) ≡ value_of id options
 option_is_found id [] behind distinct other = rw (finds_none id behind other) refl
 option_is_found id (choice ∷ options) behind distinct other =
-    go (bytes_eq choice.0 id) refl choice.1 (option_is_found id options behind distinct.1 other)
+    go (bytes_eq choice.0 id) refl choice.1 (option_is_found id options behind parts.1 other)
   where
+    parts : (not (has_option choice.0 options) ≡ true) × (are_distinct options ≡ true)
+    parts = and_parts (not (has_option choice.0 options)) (are_distinct options) distinct
+
     none_behind : bytes_eq choice.0 id ≡ true → has_row id (options_rows options ++ behind) ≡ false
     none_behind is =
         let same : choice.0 ≡ id = (bytes_eq-Decides choice.0 id).0 is in
-        no_row_in_both id (options_rows options) behind (no_option_row id options (ap (λ (i : Text). has_option i options) (sym same) ∙ distinct.0)) other
+        no_row_in_both id (options_rows options) behind (no_option_row id options (ap (λ (i : Text). has_option i options) (sym same) ∙ not-true _ parts.0)) other
 
     go : (is : Bool) → bytes_eq choice.0 id ≡ is → (value : Option Text) → first_of id (options_rows options ++ behind) ≡ value_of id options
         → first_of id (option_rows choice.0 value ++ options_rows options ++ behind) ≡ cond is value (value_of id options)

@@ -1,47 +1,39 @@
 -- The texts of faults on the command line: each is read as its fault, and no other text is read.
-use Rattle.std.proofs.Common.{◌≡◌, ◌≢◌, ◌<◌, ◌∙◌, ◌^◌, ◌&&◌, ◌++◌, ◌==◌, ℕ, Bool, true, false, List, [], ◌∷◌, Option, Some, None, cond, get_or, length, append_assoc, refl, ap, sym, subst, true≢false}
-use Rattle.std.specs.Prelude.{decimal, nat_lt, not, option_and_then}
+use Rattle.std.proofs.Common.{◌≡◌, ◌<◌, ◌∙◌, ◌^◌, ◌&&◌, ◌++◌, ℕ, true, List, ◌∷◌, Option, Some, None, append_assoc, refl, ap, sym, subst}
+use Rattle.std.specs.Prelude.{decimal, nat_lt}
 use Rattle.std.specs.Fmt.{digits}
 use Rattle.std.specs.List.{list_all}
 use Rattle.std.specs.Str.{bytes_eq}
 use Rattle.std.proofs.lemmas.Bool.{and_parts, lt-ltb, ltb-true}
-use Rattle.std.proofs.lemmas.List.Folds.{list_all_at}
+use Rattle.std.proofs.lemmas.Option.{cond_some, option_and_then_some}
 use Rattle.std.proofs.lemmas.Slice.Eq.{bytes_eq-Decides}
 use Rattle.clap.proofs.CutLemmas.{after_first-at, before_first-at}
 use Rattle.acpi_base.specs.Codes.{code_name, stage_number, stage_of}
 use Rattle.acpi_base.specs.Laws.{NumbersFit}
-use Rattle.acpi_base.specs.WitnessText.{hex_text, is_no_blank, witness_line}
+use Rattle.acpi_base.specs.Text.WitnessText.{hex_text, is_no_blank, witness_line}
 use Rattle.acpi_base.specs.declared.code.Code.{Code}
 use Rattle.acpi_base.specs.declared.code.Code.TheVariants as code
 use Rattle.acpi_base.specs.declared.witness.Witness.{Witness}
-use Rattle.acpi_base.proofs.FaultTexts.{name_has_no_blank, stage_has_no_blank}
-use Rattle.acpi_base.proofs.HexTexts.{hex_has_no_blank, hex_reads_back}
+use Rattle.acpi_base.proofs.Texts.FaultTexts.{name_has_no_blank, stage_has_no_blank}
+use Rattle.acpi_base.proofs.Texts.HexTexts.{hex_has_no_blank, hex_reads_back}
 use Rattle.acpi_cli.proofs.Hyphens.{IsPlain, plain_with_more}
-use Rattle.acpi_cli.specs.Words.{behind_word, code_named, fault_named, fault_written, number_behind_0x, numbers_fit, word_of}
+use Rattle.acpi_cli.proofs.Spellings.{lacks}
+use Rattle.acpi_cli.specs.Words.{behind_word, code_by_name, named_fault, written_fault, number_behind_0x, numbers_fit, word_of}
 
 -- ---- words
 
--- no byte of a word is a blank
-abbrev LacksBlank : List ℕ → Type 0
-LacksBlank text = (i : ℕ) → i < length text → get_or text i 0 ≢ 32
-
-lacks_blank : (text : List ℕ) → list_all is_no_blank text ≡ true → LacksBlank text
-lacks_blank text none i inside is =
-    let not_all : list_all is_no_blank text ≡ false = list_all_at is_no_blank text i 0 inside (rw is refl) in
-    true≢false (sym none ∙ not_all)
-
 -- a word and a blank are what stands before and behind the first blank
 first_is : (word rest : List ℕ) → list_all is_no_blank word ≡ true → word_of (word ++ 32 ∷ rest) ≡ word
-first_is word rest none = before_first-at 32 word rest (lacks_blank word none)
+first_is word rest none = before_first-at 32 word rest (lacks is_no_blank 32 word refl none)
 
 rest_is : (word rest : List ℕ) → list_all is_no_blank word ≡ true → behind_word (word ++ 32 ∷ rest) ≡ rest
-rest_is word rest none = after_first-at 32 word rest (lacks_blank word none)
+rest_is word rest none = after_first-at 32 word rest (lacks is_no_blank 32 word refl none)
 
 -- ---- what the words say
 
 -- each code is found by its name
-code_is_named : (c : Code) → code_named (code_name c) ≡ Some c
-unfolding code_named
+code_is_named : (c : Code) → code_by_name (code_name c) ≡ Some c
+unfolding code_by_name
 code_is_named code.RsdpOut = refl
 code_is_named _ = refl
 
@@ -65,8 +57,8 @@ unfolding witness_line behind_stage behind_name behind_at
 line_is w = simp append_assoc
 
 -- the words of a fault's text name it
-names_itself : (w : Witness) → NumbersFit w → fault_named (witness_line w) ≡ Some w
-unfolding fault_named behind_stage behind_name behind_at
+names_itself : (w : Witness) → NumbersFit w → named_fault (witness_line w) ≡ Some w
+unfolding named_fault behind_stage behind_name behind_at
 names_itself w fits =
     let one : behind_word (witness_line w) ≡ behind_stage w = ap behind_word (line_is w) ∙ rest_is (decimal (stage_number (stage_of w.code))) (behind_stage w) (stage_has_no_blank w.code) in
     let name : word_of (behind_stage w) ≡ code_name w.code = first_is (code_name w.code) (behind_name w) (name_has_no_blank w.code) in
@@ -84,64 +76,43 @@ fit_is_true : (w : Witness) → NumbersFit w → numbers_fit w ≡ true
 fit_is_true w fits = rw (lt-ltb _ _ fits.0, lt-ltb _ _ fits.1, lt-ltb _ _ fits.2) refl
 
 -- its text is read as it
-pub is_read : (text : List ℕ) (w : Witness) → NumbersFit w → text ≡ witness_line w → fault_written text ≡ Some w
-unfolding fault_written
+pub is_read : (text : List ℕ) (w : Witness) → NumbersFit w → text ≡ witness_line w → written_fault text ≡ Some w
+unfolding written_fault
 is_read text w fits line =
-    let named : fault_named text ≡ Some w = ap fault_named line ∙ names_itself w fits in
+    let named : named_fault text ≡ Some w = ap named_fault line ∙ names_itself w fits in
     let same : bytes_eq (witness_line w) text ≡ true = (bytes_eq-Decides (witness_line w) text).1 (sym line) in
     rw (named, same, fit_is_true w fits) refl
 
 -- and what is read as a fault is its text
-pub read_is_written : (text : List ℕ) (w : Witness) → fault_written text ≡ Some w → NumbersFit w × (text ≡ witness_line w)
-unfolding fault_written
-read_is_written text w = go (fault_named text)
-  where
-    by : (v : Witness) (same fit : Bool) → bytes_eq (witness_line v) text ≡ same → numbers_fit v ≡ fit → cond (same && fit) (Some v) None ≡ Some w → NumbersFit w × (text ≡ witness_line w)
-    by v true true is_same is_fit e =
-        let v_is_w : v ≡ w = cc in
-        let parts = and_parts (nat_lt v.at (2 ^ 64)) (nat_lt v.other (2 ^ 64) && nat_lt v.point (2 ^ 64)) is_fit in
-        let others = and_parts (nat_lt v.other (2 ^ 64)) (nat_lt v.point (2 ^ 64)) parts.1 in
-        subst (λ (u : Witness). NumbersFit u × (text ≡ witness_line u)) v_is_w
-        ((ltb-true _ _ parts.0, ltb-true _ _ others.0, ltb-true _ _ others.1), sym ((bytes_eq-Decides (witness_line v) text).0 is_same))
-    by v true false is_same is_fit e = absurd (cc)
-    by v false fit is_same is_fit e = absurd (cc)
-
-    go : (named : Option Witness) → option_and_then (λ (v : Witness). cond (bytes_eq (witness_line v) text && numbers_fit v) (Some v) None) named ≡ Some w → NumbersFit w × (text ≡ witness_line w)
-    go None e = absurd (cc)
-    go (Some v) e = by v (bytes_eq (witness_line v) text) (numbers_fit v) refl refl e
+pub read_is_written : (text : List ℕ) (w : Witness) → written_fault text ≡ Some w → NumbersFit w × (text ≡ witness_line w)
+unfolding written_fault
+read_is_written text w e =
+    option_and_then_some _ (named_fault text) w e (λ v named e.
+    let same = cond_some (bytes_eq (witness_line v) text && numbers_fit v) v w e in
+    let is = and_parts (bytes_eq (witness_line v) text) (numbers_fit v) same.0 in
+    let parts = and_parts (nat_lt v.at (2 ^ 64)) (nat_lt v.other (2 ^ 64) && nat_lt v.point (2 ^ 64)) is.1 in
+    let others = and_parts (nat_lt v.other (2 ^ 64)) (nat_lt v.point (2 ^ 64)) parts.1 in
+    subst (λ (u : Witness). NumbersFit u × (text ≡ witness_line u)) same.1
+    ((ltb-true _ _ parts.0, ltb-true _ _ others.0, ltb-true _ _ others.1), sym ((bytes_eq-Decides (witness_line v) text).0 is.0)))
 
 -- a text that is of no fault is not read
-pub none_is_read : (text : List ℕ) → ((w : Witness) → NumbersFit w → text ≡ witness_line w → ⊥) → None ≡ fault_written text
-none_is_read text none = go (fault_written text) refl
+pub none_is_read : (text : List ℕ) → ((w : Witness) → NumbersFit w → text ≡ witness_line w → ⊥) → None ≡ written_fault text
+none_is_read text none = go (written_fault text) refl
   where
-    go : (read : Option Witness) → fault_written text ≡ read → None ≡ fault_written text
+    go : (read : Option Witness) → written_fault text ≡ read → None ≡ written_fault text
     go None e = sym e
     go (Some w) e = (let is = read_is_written text w e in absurd (none w is.0 is.1))
 
 -- ---- its first byte
 
-begins_plain : List ℕ → Bool
-begins_plain [] = false
-begins_plain (c ∷ cs) = not (c == 45)
-
-is_plain : (text : List ℕ) → begins_plain text ≡ true → IsPlain text
-unfolding begins_plain
-is_plain [] e = absurd (cc)
-is_plain (c ∷ cs) e = record { first = c; rest = cs; is = refl; plain = by (c == 45) e }
-  where
-    by : (b : Bool) → not b ≡ true → b ≡ false
-    by true e = absurd (cc)
-    by false e = refl
-
 -- a fault's text begins with a digit
-stage_begins_plain : (c : Code) → begins_plain (decimal (stage_number (stage_of c))) ≡ true
-unfolding digits begins_plain
-stage_begins_plain code.RsdpOut = refl
-stage_begins_plain _ = refl
+stage_is_plain : (c : Code) → IsPlain (decimal (stage_number (stage_of c)))
+unfolding digits
+stage_is_plain code.RsdpOut = refl
+stage_is_plain _ = refl
 
 -- so with no hyphen
-pub fault_is_plain : (text : List ℕ) (w : Witness) → fault_written text ≡ Some w → IsPlain text
+pub fault_is_plain : (text : List ℕ) (w : Witness) → written_fault text ≡ Some w → IsPlain text
 fault_is_plain text w e =
     let is = read_is_written text w e in
-    let stage : IsPlain (decimal (stage_number (stage_of w.code))) = is_plain _ (stage_begins_plain w.code) in
-    subst IsPlain (sym (is.1 ∙ line_is w)) (plain_with_more (decimal (stage_number (stage_of w.code))) (32 ∷ behind_stage w) stage)
+    subst IsPlain (sym (is.1 ∙ line_is w)) (plain_with_more (decimal (stage_number (stage_of w.code))) (32 ∷ behind_stage w) (stage_is_plain w.code))

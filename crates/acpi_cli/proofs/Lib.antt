@@ -8,5 +8,4 @@ pub mod FirstCounts
 pub mod InputsWords
 pub mod Statuses
 mod Sent
-pub mod SoundSets
 pub mod Spellings

@@ -1,24 +1,27 @@
 -- Command lines whose arguments stand a space apart, and what they ask for.
-use Rattle.std.proofs.Common.{◌≡◌, ◌∙◌, ◌++◌, ℕ, List, [], ◌∷◌, Option, Some, None, true, false, codes, append_assoc, append-nil, refl, ap, subst, sym, ◌==◌}
-use Rattle.std.specs.Prelude.{IfSome, fold, is_some, option_and_then, option_map, unwrap_or}
+use Rattle.std.proofs.Common.{◌≡◌, ◌∙◌, ◌++◌, ℕ, List, [], ◌∷◌, Option, Some, None, true, false, true≢false, codes, append_assoc, append-nil, refl, ap, sym, ◌==◌}
+use Rattle.std.specs.Prelude.{IfSome, find as find_first, fold, is_some, option_and_then, option_map}
+use Rattle.std.specs.List.{list_all}
 use Rattle.std.specs.Str.{bytes_eq}
-use Rattle.clap.specs.Words.{Row, Rule, Shape, Text, all_of, first_of}
-use Rattle.clap.specs.Simple.{App, built, entered, names_of}
-use Rattle.clap.specs.Walk.{Names, Walk, finished, idle, nothing_held, settled, walk, walk_from, walked}
-use Rattle.clap.specs.Kinds.{Kinds, or_else}
+use Rattle.std.proofs.lemmas.Bool.{not-true}
+use Rattle.std.proofs.lemmas.Option.{option_and_then_some}
+use Rattle.clap.specs.Words.{Row, Rule, Shape, Text}
+use Rattle.clap.specs.Simple.{App, built, entered, label_of, names_of}
+use Rattle.clap.specs.Walk.{Names, Walk, answers_to, finished, idle, nothing_held, settled, subcommand_met, walk, walk_from, walked}
+use Rattle.clap.specs.Kinds.{or_else}
 use Rattle.clap.specs.Faults.{built_fault, check_fault, defaults_fault, entered_fault, settle_fault, walk_fault}
 use Rattle.clap.proofs.OnLiterals.{clap_on_literals}
-use Rattle.acpi_base.specs.Policy.{PolicyValue, new_policy}
-use Rattle.acpi_base.specs.declared.policy.HotPlug.{HotPlug}
-use Rattle.acpi_base.specs.declared.policy.Processors.{Processors}
-use Rattle.acpi_cli.specs.CommandLine.{PolicyTexts, are_none, asked, base_word, check, check_asked, check_line, check_words, command_line, command_of, confirm, confirm_asked, confirm_line, confirm_words, default_word, find, find_line, find_words, hotplug_word, is_taken, last_word, policy_words, processors_word, rebuild, rebuild_asked, rebuild_line, rebuild_words, rsdp_word, show, show_asked, show_line, show_words, with_inputs, with_settings}
+use Rattle.acpi_base.specs.Laws.{NumbersFit}
+use Rattle.acpi_base.specs.Policy.{PolicyValue}
+use Rattle.acpi_base.specs.Text.WitnessText.{witness_line}
 use Rattle.acpi_base.specs.declared.witness.Witness.{Witness}
-use Rattle.acpi_cli.specs.Words.{all_inputs, fault_written, hex_word}
-use Rattle.acpi_cli.proofs.FaultWords.{fault_is_plain}
-use Rattle.acpi_cli.specs.declared.policy_words.Inputs.{Inputs}
-use Rattle.acpi_cli.proofs.CheckRows.{AreDistinct, no_word_row, option_is_found, options_rows, word_rows, words_are_found}
-use Rattle.acpi_cli.proofs.Hyphens.{IsPlain, all_are_plain, count_is_plain, hex_is_plain, hotplug_is_plain, processors_are_plain, stage_is_plain}
-use Rattle.acpi_cli.proofs.JudgingArguments.{AreNew, AreOptions, Judging, Reads, base_option, checking, confirming, default_option, given, hotplug_option, name_of, processors_option, reads_options, rebuilding, rsdp_option, rules, shape, standing, taken, through_option, witness_option}
+use Rattle.acpi_cli.specs.CommandLine.{Asked, PolicyTexts, are_none, asked_job, base_word, check, asked_check, check_line, check_words, asked_command, command_line, command_of, confirm, asked_confirm, confirm_line, confirm_words, default_word, find, find_line, find_words, hotplug_word, inputs_policy, is_taken, judging_asked, last_word, options_words, policy_options, policy_words, processors_word, rebuild, asked_rebuild, rebuild_line, rebuild_words, rsdp_word, show, asked_show, show_line, show_words, values_of, witness_word, words_of}
+use Rattle.acpi_cli.specs.Words.{all_inputs}
+use Rattle.acpi_cli.proofs.FaultWords.{fault_is_plain, is_read}
+use Rattle.acpi_cli.proofs.CheckRows.{are_distinct, no_word_row, option_is_found, options_rows, value_of, word_rows, words_are_found}
+use Rattle.acpi_cli.proofs.Hyphens.{ArePlain, IsPlain, all_are_plain, no_number, value_is_plain}
+use Rattle.acpi_cli.proofs.Spellings.{made_of}
+use Rattle.acpi_cli.proofs.JudgingArguments.{AllPlain, Line, Reads, are_new, given, is_option, reads_options, rules, shape, standing, taken}
 
 -- ---- what stands before the arguments of a command
 
@@ -47,289 +50,149 @@ after_walk : (a : App) (words : List Text) (w : Walk) → walk a.top.rules (name
     (check_fault a.top (finished a.top.rules w.held) (is_some (entered a w.stopped)))))
 after_walk a words w e fault = rw (fault, e) refl
 
--- the walk over `COMMAND WORDS..`
-at_command : Judging → List Text → Walk
-at_command j words = record (walk_from nothing_held) { stopped = Some (name_of j, words) }
-
 -- the whole command line as `clap` builds it
 program_line : App
 unfolding command_line check_line confirm_line rebuild_line show_line find_line
 program_line = built command_line
 
+-- the program has the command of such a line
+record HasCommand (l : Line) : Type 0 where
+  pub no_help : bytes_eq l.name (codes "help") ≡ false
+  pub met : subcommand_met (names_of program_line) idle l.name ≡ Some l.name
+  pub is : find_first (λ (s : Shape). answers_to l.name (label_of s)) program_line.subs ≡ Some (shape l)
+
+-- the walk over `COMMAND WORDS..`
+at_command : Line → List Text → Walk
+at_command l words = record (walk_from nothing_held) { stopped = Some (l.name, words) }
+
 -- the walk comes to the command
-walks_to : (j : Judging) (words : List Text) → walk program_line.top.rules (names_of program_line) nothing_held (name_of j ∷ words) ≡ at_command j words
-unfolding program_line command_line check_line confirm_line rebuild_line show_line find_line at_command clap_on_literals
-walks_to checking words = words_behind program_line.top.rules (names_of program_line) (walk_from nothing_held) (codes "check") [] words
-walks_to confirming words = words_behind program_line.top.rules (names_of program_line) (walk_from nothing_held) (codes "confirm") [] words
-walks_to rebuilding words = words_behind program_line.top.rules (names_of program_line) (walk_from nothing_held) (codes "rebuild") [] words
+walks_to : (l : Line) (words : List Text) → HasCommand l → walk program_line.top.rules (names_of program_line) nothing_held (l.name ∷ words) ≡ at_command l words
+unfolding walked at_command
+walks_to l words has = rw has.met (words_behind program_line.top.rules (names_of program_line) (walk_from nothing_held) l.name [] words)
 
 -- and has no fault up to it
-no_fault_to : (j : Judging) (words : List Text) → walk_fault program_line.top (names_of program_line) (walk_from nothing_held) (name_of j ∷ words) ≡ []
-unfolding program_line command_line check_line confirm_line rebuild_line show_line find_line clap_on_literals
-no_fault_to checking words = no_fault_behind program_line.top (names_of program_line) (walk_from nothing_held) (codes "check") [] words
-no_fault_to confirming words = no_fault_behind program_line.top (names_of program_line) (walk_from nothing_held) (codes "confirm") [] words
-no_fault_to rebuilding words = no_fault_behind program_line.top (names_of program_line) (walk_from nothing_held) (codes "rebuild") [] words
+no_fault_to : (l : Line) (words : List Text) → HasCommand l → walk_fault program_line.top (names_of program_line) (walk_from nothing_held) (l.name ∷ words) ≡ []
+unfolding walked walk_fault
+no_fault_to l words has = rw (has.met, has.no_help) (no_fault_behind program_line.top (names_of program_line) (walk_from nothing_held) l.name [] words)
 
--- the arguments of the command are all that is left to be judged, and have no fault
-command_has_no_fault : (j : Judging) (words : List Text) (rows : List Row) → Reads j (standing [] None idle) words rows
-    → or_else (entered_fault program_line (at_command j words).stopped)
-    (or_else (settle_fault program_line.top.rules program_line.top.args_override_self (at_command j words).held)
-    (or_else (defaults_fault (settled program_line.top.rules (at_command j words).held).rows program_line.top.rules)
-    (check_fault program_line.top (finished program_line.top.rules (at_command j words).held) (is_some (entered program_line (at_command j words).stopped))))) ≡ []
-unfolding program_line command_line check_line confirm_line rebuild_line show_line find_line at_command shape rules clap_on_literals
-command_has_no_fault checking words rows reads = ap (λ (kinds : Kinds). or_else kinds []) (taken checking words rows reads)
-command_has_no_fault confirming words rows reads = ap (λ (kinds : Kinds). or_else kinds []) (taken confirming words rows reads)
-command_has_no_fault rebuilding words rows reads = ap (λ (kinds : Kinds). or_else kinds []) (taken rebuilding words rows reads)
+-- nor is there one in what stands before it
+no_fault_before : (l : Line) (words : List Text)
+    → or_else (settle_fault program_line.top.rules program_line.top.args_override_self (at_command l words).held)
+    (or_else (defaults_fault (settled program_line.top.rules (at_command l words).held).rows program_line.top.rules)
+    (check_fault program_line.top (finished program_line.top.rules (at_command l words).held) true)) ≡ []
+unfolding program_line command_line check_line confirm_line rebuild_line show_line find_line at_command clap_on_literals
+no_fault_before l words = refl
 
--- and they come in these rows
-command_has_rows : (j : Judging) (words : List Text) (rows : List Row) → Reads j (standing [] None idle) words rows
-    → entered program_line (at_command j words).stopped ≡ Some (name_of j, rows)
-unfolding program_line command_line check_line confirm_line rebuild_line show_line find_line at_command shape rules clap_on_literals
-command_has_rows checking words rows reads = ap (λ (r : List Row). Some (codes "check", r)) (given checking words rows reads)
-command_has_rows confirming words rows reads = ap (λ (r : List Row). Some (codes "confirm", r)) (given confirming words rows reads)
-command_has_rows rebuilding words rows reads = ap (λ (r : List Row). Some (codes "rebuild", r)) (given rebuilding words rows reads)
+-- `PROGRAM COMMAND WORDS..`, where the words are read, is taken
+command_is_taken : (l : Line) (program : Text) (words : List Text) (rows : List Row) → HasCommand l → Reads l (standing [] None idle) words rows → is_taken (program ∷ l.name ∷ words) ≡ true
+unfolding is_taken program_line at_command
+command_is_taken l program words rows has reads =
+    ap are_none {y = []} (after_walk program_line (l.name ∷ words) (at_command l words) (walks_to l words has) (no_fault_to l words has)
+    ∙ rw (has.is, taken l words rows reads) (no_fault_before l words))
 
--- `PROGRAM COMMAND WORDS..`, where the words are read
-command_is_taken : (j : Judging) (program : Text) (words : List Text) (rows : List Row) → Reads j (standing [] None idle) words rows → is_taken (program ∷ name_of j ∷ words) ≡ true
-unfolding is_taken program_line
-command_is_taken j program words rows reads =
-    ap are_none (after_walk program_line (name_of j ∷ words) (at_command j words) (walks_to j words) (no_fault_to j words) ∙ command_has_no_fault j words rows reads)
-
--- the command is this one
-command_is_entered : (j : Judging) (program : Text) (words : List Text) (rows : List Row) → Reads j (standing [] None idle) words rows → command_of (program ∷ name_of j ∷ words) ≡ Some (name_of j, rows)
-unfolding command_of program_line
-command_is_entered j program words rows reads = ap (λ (w : Walk). entered program_line w.stopped) (walks_to j words) ∙ command_has_rows j words rows reads
-
--- so it asks for what its arguments say
-check_gives : (program : Text) (words : List Text) (rows : List Row) → Reads checking (standing [] None idle) words rows → asked (program ∷ codes "check" ∷ words) ≡ check_asked rows
-check_gives program words rows reads = rw (command_is_taken checking program words rows reads, command_is_entered checking program words rows reads) refl
-
-confirm_gives : (program : Text) (words : List Text) (rows : List Row) → Reads confirming (standing [] None idle) words rows → asked (program ∷ codes "confirm" ∷ words) ≡ confirm_asked rows
-confirm_gives program words rows reads = rw (command_is_taken confirming program words rows reads, command_is_entered confirming program words rows reads) refl
-
-rebuild_gives : (program : Text) (words : List Text) (rows : List Row) → Reads rebuilding (standing [] None idle) words rows → asked (program ∷ codes "rebuild" ∷ words) ≡ rebuild_asked rows
-rebuild_gives program words rows reads = rw (command_is_taken rebuilding program words rows reads, command_is_entered rebuilding program words rows reads) refl
+-- and the command comes with these rows
+command_is_entered : (l : Line) (program : Text) (words : List Text) (rows : List Row) → HasCommand l → Reads l (standing [] None idle) words rows
+    → command_of (program ∷ l.name ∷ words) ≡ Some (l.name, rows)
+unfolding command_of program_line at_command shape
+command_is_entered l program words rows has reads =
+    ap (λ (w : Walk). entered program_line w.stopped) (walks_to l words has) ∙ rw (has.is, given l words rows reads) refl
 
 -- ---- plain lines
 
 -- a good value of `--rsdp` begins with no hyphen
 rsdp_is_plain : (text : Option Text) (rsdp : Option ℕ) → rsdp_word text ≡ Some rsdp → IfSome text IsPlain
-rsdp_is_plain None rsdp e = tt
-rsdp_is_plain (Some text) rsdp e = go (hex_word 16 text) refl e
-  where
-    go : (address : Option ℕ) → hex_word 16 text ≡ address → option_map (λ a. Some a) address ≡ Some rsdp → IsPlain text
-    go None is e = absurd (cc)
-    go (Some address) is e = hex_is_plain 16 text address is
+rsdp_is_plain text rsdp e = value_is_plain rsdp_word text rsdp refl (λ rest. ap (option_map _) (no_number _ _ _)) e
 
--- nor does a good value of `--through`
-through_is_plain : (text : Option Text) (last : ℕ) → last_word text ≡ Some last → IfSome text IsPlain
-through_is_plain None last e = tt
-through_is_plain (Some text) last e = stage_is_plain text last e
+-- nor do those of the options of the policy, and the words `ADDRESS=COUNT`
+policy_is_plain : (texts : PolicyTexts) (policy : PolicyValue) → policy_words texts ≡ Some policy → AllPlain (policy_options texts) × ArePlain texts.inputs
+policy_is_plain texts policy e =
+    option_and_then_some _ (hotplug_word texts.hotplug) policy e (λ ranges is_hotplug e.
+    option_and_then_some _ (processors_word texts.processors) policy e (λ who is_processors e.
+    made_of _ (inputs_policy texts.default_inputs texts.inputs) policy e (λ q e same.
+    option_and_then_some _ (default_word texts.default_inputs) q e (λ count is_count e.
+    made_of _ (all_inputs texts.inputs) q e (λ counts are_counts same. (
+      (
+        value_is_plain default_word texts.default_inputs count refl (λ rest. ap (option_and_then _) (no_number _ _ _)) is_count,
+        (
+          value_is_plain hotplug_word texts.hotplug ranges refl (λ rest. refl) is_hotplug,
+          (value_is_plain processors_word texts.processors who refl (λ rest. refl) is_processors, tt),
+        ),
+      ),
+      all_are_plain texts.inputs counts are_counts,
+    ))))))
 
--- nor one of `--default-inputs`
-default_is_plain : (text : Option Text) (count : ℕ) → default_word text ≡ Some count → IfSome text IsPlain
-default_is_plain None count e = tt
-default_is_plain (Some text) count e = count_is_plain text count e
+-- a command asks for the same where its options have the same values
+asks_same : {T : Type 0} (make : Option ℕ → PolicyValue → T → Asked) (id : Text) (word : Option Text → Option T) (value given : Text → Option Text) (words inputs : List Text)
+    → ((id : Text) → bytes_eq (codes "inputs") id ≡ false → value id ≡ given id) → bytes_eq (codes "inputs") id ≡ false → words ≡ inputs
+    → judging_asked make id word value words ≡ judging_asked make id word given inputs
+asks_same make id word value given words inputs same other e =
+    rw (same (codes "rsdp") refl, same (codes "default-inputs") refl, same (codes "hotplug") refl, same (codes "processors") refl, same id other, e) refl
 
--- nor does a setting for hot-pluggable ranges
-hotplug_begins_plain : (text : Option Text) (setting : HotPlug) → hotplug_word text ≡ Some setting → IfSome text IsPlain
-hotplug_begins_plain None setting e = tt
-hotplug_begins_plain (Some text) setting e = hotplug_is_plain text setting e
-
--- nor one for processors
-processors_begin_plain : (text : Option Text) (setting : Processors) → processors_word text ≡ Some setting → IfSome text IsPlain
-processors_begin_plain None setting e = tt
-processors_begin_plain (Some text) setting e = processors_are_plain text setting e
-
--- what a policy is made from
-record Given (texts : PolicyTexts) : Type 0 where
-  pub count : ℕ
-  pub ranges : HotPlug
-  pub who : Processors
-  pub counts : List Inputs
-  pub is_count : default_word texts.default_inputs ≡ Some count
-  pub is_hotplug : hotplug_word texts.hotplug ≡ Some ranges
-  pub is_processors : processors_word texts.processors ≡ Some who
-  pub are_counts : all_inputs texts.inputs ≡ Some counts
-
--- a policy is made from a default, two settings and counts
-policy_is_given : (texts : PolicyTexts) (policy : PolicyValue) → policy_words texts ≡ Some policy → Given texts
-policy_is_given texts policy e =
-    go (default_word texts.default_inputs) (hotplug_word texts.hotplug) (processors_word texts.processors) (all_inputs texts.inputs) refl refl refl refl e
-  where
-    go : (count : Option ℕ) (ranges : Option HotPlug) (who : Option Processors) (counts : Option (List Inputs))
-        → default_word texts.default_inputs ≡ count → hotplug_word texts.hotplug ≡ ranges → processors_word texts.processors ≡ who → all_inputs texts.inputs ≡ counts
-        → option_and_then
-        (λ (h : HotPlug). option_and_then (λ (p : Processors). option_map (with_settings h p) (option_and_then (λ (count : ℕ). option_map (with_inputs (new_policy 0 count)) counts) count)) who)
-        ranges ≡ Some policy → Given texts
-    go count None who counts a b c d e = absurd (cc)
-    go count (Some ranges) None counts a b c d e = absurd (cc)
-    go None (Some ranges) (Some who) counts a b c d e = absurd (cc)
-    go (Some count) (Some ranges) (Some who) None a b c d e = absurd (cc)
-    go (Some count) (Some ranges) (Some who) (Some counts) a b c d e = record {
-      count = count;
-      ranges = ranges;
-      who = who;
-      counts = counts;
-      is_count = a;
-      is_hotplug = b;
-      is_processors = c;
-      are_counts = d;
-    }
-
--- the options of the policy
-abbrev policy_options : PolicyTexts → List (Text × Option Text)
-policy_options texts = (codes "default-inputs", texts.default_inputs) ∷ (codes "hotplug", texts.hotplug) ∷ (codes "processors", texts.processors) ∷ []
-
--- the options of a plain line
-abbrev plain_options : Option Text → Option Text → PolicyTexts → List (Text × Option Text)
-plain_options rsdp through texts = (codes "rsdp", rsdp) ∷ (codes "through", through) ∷ policy_options texts
-
--- what `check` is asked, from the values of its arguments
-asks : (options : List Row) (hex number : Option Text) (texts : PolicyTexts) (rsdp : Option ℕ) (policy : PolicyValue) (last : ℕ)
-    → first_of (codes "rsdp") options ≡ hex → first_of (codes "through") options ≡ number
-    → first_of (codes "default-inputs") options ≡ texts.default_inputs → first_of (codes "hotplug") options ≡ texts.hotplug → first_of (codes "processors") options ≡ texts.processors
-    → unwrap_or (all_of (codes "inputs") options) [] ≡ texts.inputs → rsdp_word hex ≡ Some rsdp → policy_words texts ≡ Some policy → last_word number ≡ Some last
-    → check_asked options ≡ Some (check rsdp policy last)
-unfolding check_asked
-asks options hex number texts rsdp policy last is_hex is_number is_inputs is_hotplug is_processors are_words a b c =
-    rw (is_hex, is_number, is_inputs, is_hotplug, is_processors, are_words, a, b, c) refl
+-- a plain line asks for what the values of its options say
+line_is_asked : {T : Type 0} (make : Option ℕ → PolicyValue → T → Asked) (id : Text) (word : Option Text → Option T) (l : Line) (program : Text) (words : List Text)
+    → HasCommand l → ((rows : List Row) → asked_command (Some (l.name, rows)) ≡ judging_asked make id word (values_of rows) (words_of rows)) → bytes_eq (codes "inputs") id ≡ false
+    → list_all (λ choice. is_option l.options choice.0) l.options ≡ true → are_new [] l.options ≡ true → are_distinct l.options ≡ true → AllPlain l.options → ArePlain words
+    → asked_job (program ∷ l.name ∷ options_words l.options words) ≡ judging_asked make id word (λ id. value_of id l.options) words
+line_is_asked make id word l program words has asks other are new distinct begin plain =
+    let rows : List Row = options_rows l.options ++ word_rows words in
+    let reads = reads_options l words are new begin plain in
+    let taken : is_taken (program ∷ l.name ∷ options_words l.options words) ≡ true = command_is_taken l program _ rows has reads in
+    let entered : command_of (program ∷ l.name ∷ options_words l.options words) ≡ Some (l.name, rows) = command_is_entered l program _ rows has reads in
+    rw (taken, entered) (asks rows)
+    ∙ asks_same make id word (values_of rows) (λ id. value_of id l.options) (words_of rows) words
+    (λ id other. option_is_found id l.options (word_rows words) distinct (no_word_row id words other)) other (words_are_found l.options words l.no_inputs)
 
 -- a plain line of `check` asks for what its arguments say
 pub check_words_asked : (program : Text) (hex number : Option Text) (texts : PolicyTexts) (rsdp : Option ℕ) (policy : PolicyValue) (last : ℕ)
     → rsdp_word hex ≡ Some rsdp → policy_words texts ≡ Some policy → last_word number ≡ Some last
-    → asked (check_words program hex number texts) ≡ Some (check rsdp policy last)
+    → asked_job (check_words program hex number texts) ≡ Some (check rsdp policy last)
+unfolding program_line command_line check_line confirm_line rebuild_line show_line find_line shape rules asked_check
 check_words_asked program hex number texts rsdp policy last a b c =
-    let given = policy_is_given texts policy b in
-    let options = plain_options hex number texts in
-    let are : AreOptions checking options = (
-      (rsdp_option checking, rsdp_is_plain hex rsdp a),
-      (
-        (through_option, through_is_plain number last c),
-        (
-          (default_option checking, default_is_plain texts.default_inputs given.count given.is_count),
-          (
-            (hotplug_option checking, hotplug_begins_plain texts.hotplug given.ranges given.is_hotplug),
-            ((processors_option checking, processors_begin_plain texts.processors given.who given.is_processors), tt),
-          ),
-        ),
-      ),
-    ) in
-    let new : AreNew [] options = (refl, (refl, (refl, (refl, (refl, tt))))) in
-    let distinct : AreDistinct options = (refl, (refl, (refl, (refl, (refl, tt))))) in
-    let found = λ (id : Text) (e : bytes_eq (codes "inputs") id ≡ false). option_is_found id options (word_rows texts.inputs) distinct (no_word_row id texts.inputs e) in
-    check_gives program _ (options_rows options ++ word_rows texts.inputs)
-    (reads_options checking options texts.inputs are new refl (all_are_plain texts.inputs given.counts given.are_counts))
-    ∙ asks (options_rows options ++ word_rows texts.inputs) hex number texts rsdp policy last
-    (found (codes "rsdp") refl) (found (codes "through") refl) (found (codes "default-inputs") refl) (found (codes "hotplug") refl) (found (codes "processors") refl)
-    (words_are_found options texts.inputs refl) a b c
-
--- the options of a plain line of `confirm`
-abbrev confirm_options : Text → Option Text → PolicyTexts → List (Text × Option Text)
-confirm_options witness rsdp texts = (codes "witness", Some witness) ∷ (codes "rsdp", rsdp) ∷ policy_options texts
-
--- what `confirm` is asked, from the values of its arguments
-asks_to_confirm : (options : List Row) (text : Text) (hex : Option Text) (texts : PolicyTexts) (w : Witness) (rsdp : Option ℕ) (policy : PolicyValue)
-    → first_of (codes "witness") options ≡ Some text → first_of (codes "rsdp") options ≡ hex
-    → first_of (codes "default-inputs") options ≡ texts.default_inputs → first_of (codes "hotplug") options ≡ texts.hotplug → first_of (codes "processors") options ≡ texts.processors
-    → unwrap_or (all_of (codes "inputs") options) [] ≡ texts.inputs → fault_written text ≡ Some w → rsdp_word hex ≡ Some rsdp → policy_words texts ≡ Some policy
-    → confirm_asked options ≡ Some (confirm rsdp policy w)
-unfolding confirm_asked
-asks_to_confirm options text hex texts w rsdp policy is_text is_hex is_inputs is_hotplug is_processors are_words a b c =
-    rw (is_text, is_hex, is_inputs, is_hotplug, is_processors, are_words, a, b, c) refl
+    let plain = policy_is_plain texts policy b in
+    let l : Line = record { name = codes "check"; options = (codes "rsdp", hex) ∷ (codes "through", number) ∷ policy_options texts; no_inputs = refl } in
+    let stage = value_is_plain last_word number last refl (λ rest. ap (option_and_then _) (no_number _ _ _)) c in
+    line_is_asked check (codes "through") last_word l program texts.inputs (record { no_help = refl; met = refl; is = refl }) (λ rows. refl) refl refl refl refl
+    (rsdp_is_plain hex rsdp a, (stage, plain.0)) plain.1
+    ∙ rw (a, b, c) refl
 
 -- a plain line of `confirm` asks for what its arguments say
-pub confirm_words_asked : (program text : Text) (hex : Option Text) (texts : PolicyTexts) (w : Witness) (rsdp : Option ℕ) (policy : PolicyValue)
-    → fault_written text ≡ Some w → rsdp_word hex ≡ Some rsdp → policy_words texts ≡ Some policy
-    → asked (confirm_words program text hex texts) ≡ Some (confirm rsdp policy w)
-confirm_words_asked program text hex texts w rsdp policy a b c =
-    let given = policy_is_given texts policy c in
-    let options = confirm_options text hex texts in
-    let are : AreOptions confirming options = (
-      (witness_option, fault_is_plain text w a),
-      (
-        (rsdp_option confirming, rsdp_is_plain hex rsdp b),
-        (
-          (default_option confirming, default_is_plain texts.default_inputs given.count given.is_count),
-          (
-            (hotplug_option confirming, hotplug_begins_plain texts.hotplug given.ranges given.is_hotplug),
-            ((processors_option confirming, processors_begin_plain texts.processors given.who given.is_processors), tt),
-          ),
-        ),
-      ),
-    ) in
-    let new : AreNew [] options = (refl, (refl, (refl, (refl, (refl, tt))))) in
-    let distinct : AreDistinct options = (refl, (refl, (refl, (refl, (refl, tt))))) in
-    let found = λ (id : Text) (e : bytes_eq (codes "inputs") id ≡ false). option_is_found id options (word_rows texts.inputs) distinct (no_word_row id texts.inputs e) in
-    confirm_gives program _ (options_rows options ++ word_rows texts.inputs)
-    (reads_options confirming options texts.inputs are new refl (all_are_plain texts.inputs given.counts given.are_counts))
-    ∙ asks_to_confirm (options_rows options ++ word_rows texts.inputs) text hex texts w rsdp policy
-    (found (codes "witness") refl) (found (codes "rsdp") refl) (found (codes "default-inputs") refl) (found (codes "hotplug") refl) (found (codes "processors") refl)
-    (words_are_found options texts.inputs refl) a b c
-
--- the options of a plain line of `rebuild`
-abbrev rebuild_options : Text → Option Text → PolicyTexts → List (Text × Option Text)
-rebuild_options base rsdp texts = (codes "base", Some base) ∷ (codes "rsdp", rsdp) ∷ policy_options texts
-
--- what `rebuild` is asked, from the values of its arguments
-asks_to_rebuild : (options : List Row) (text : Text) (hex : Option Text) (texts : PolicyTexts) (base : ℕ) (rsdp : Option ℕ) (policy : PolicyValue)
-    → first_of (codes "base") options ≡ Some text → first_of (codes "rsdp") options ≡ hex
-    → first_of (codes "default-inputs") options ≡ texts.default_inputs → first_of (codes "hotplug") options ≡ texts.hotplug → first_of (codes "processors") options ≡ texts.processors
-    → unwrap_or (all_of (codes "inputs") options) [] ≡ texts.inputs → base_word (Some text) ≡ Some base → rsdp_word hex ≡ Some rsdp → policy_words texts ≡ Some policy
-    → rebuild_asked options ≡ Some (rebuild rsdp policy base)
-unfolding rebuild_asked
-asks_to_rebuild options text hex texts base rsdp policy is_text is_hex is_inputs is_hotplug is_processors are_words a b c =
-    rw (is_text, is_hex, is_inputs, is_hotplug, is_processors, are_words, a, b, c) refl
+pub confirm_words_asked : (program : Text) (w : Witness) (hex : Option Text) (texts : PolicyTexts) (rsdp : Option ℕ) (policy : PolicyValue)
+    → NumbersFit w → rsdp_word hex ≡ Some rsdp → policy_words texts ≡ Some policy
+    → asked_job (confirm_words program (witness_line w) hex texts) ≡ Some (confirm rsdp policy w)
+unfolding program_line command_line check_line confirm_line rebuild_line show_line find_line shape rules asked_confirm
+confirm_words_asked program w hex texts rsdp policy fits a b =
+    let plain = policy_is_plain texts policy b in
+    let l : Line = record { name = codes "confirm"; options = (codes "witness", Some (witness_line w)) ∷ (codes "rsdp", hex) ∷ policy_options texts; no_inputs = refl } in
+    let fault = is_read (witness_line w) w fits refl in
+    line_is_asked confirm (codes "witness") witness_word l program texts.inputs (record { no_help = refl; met = refl; is = refl }) (λ rows. refl) refl refl refl refl
+    (fault_is_plain (witness_line w) w fault, (rsdp_is_plain hex rsdp a, plain.0)) plain.1
+    ∙ rw (a, b, fault) refl
 
 -- a plain line of `rebuild` asks for what its arguments say
-pub rebuild_words_asked : (program text : Text) (hex : Option Text) (texts : PolicyTexts) (base : ℕ) (rsdp : Option ℕ) (policy : PolicyValue)
-    → base_word (Some text) ≡ Some base → rsdp_word hex ≡ Some rsdp → policy_words texts ≡ Some policy
-    → asked (rebuild_words program text hex texts) ≡ Some (rebuild rsdp policy base)
-rebuild_words_asked program text hex texts base rsdp policy a b c =
-    let given = policy_is_given texts policy c in
-    let options = rebuild_options text hex texts in
-    let are : AreOptions rebuilding options = (
-      (base_option, hex_is_plain 16 text base a),
-      (
-        (rsdp_option rebuilding, rsdp_is_plain hex rsdp b),
-        (
-          (default_option rebuilding, default_is_plain texts.default_inputs given.count given.is_count),
-          (
-            (hotplug_option rebuilding, hotplug_begins_plain texts.hotplug given.ranges given.is_hotplug),
-            ((processors_option rebuilding, processors_begin_plain texts.processors given.who given.is_processors), tt),
-          ),
-        ),
-      ),
-    ) in
-    let new : AreNew [] options = (refl, (refl, (refl, (refl, (refl, tt))))) in
-    let distinct : AreDistinct options = (refl, (refl, (refl, (refl, (refl, tt))))) in
-    let found = λ (id : Text) (e : bytes_eq (codes "inputs") id ≡ false). option_is_found id options (word_rows texts.inputs) distinct (no_word_row id texts.inputs e) in
-    rebuild_gives program _ (options_rows options ++ word_rows texts.inputs)
-    (reads_options rebuilding options texts.inputs are new refl (all_are_plain texts.inputs given.counts given.are_counts))
-    ∙ asks_to_rebuild (options_rows options ++ word_rows texts.inputs) text hex texts base rsdp policy
-    (found (codes "base") refl) (found (codes "rsdp") refl) (found (codes "default-inputs") refl) (found (codes "hotplug") refl) (found (codes "processors") refl)
-    (words_are_found options texts.inputs refl) a b c
+pub rebuild_words_asked : (program base : Text) (at : ℕ) (hex : Option Text) (texts : PolicyTexts) (rsdp : Option ℕ) (policy : PolicyValue)
+    → base_word (Some base) ≡ Some at → rsdp_word hex ≡ Some rsdp → policy_words texts ≡ Some policy
+    → asked_job (rebuild_words program base hex texts) ≡ Some (rebuild rsdp policy at)
+unfolding program_line command_line check_line confirm_line rebuild_line show_line find_line shape rules asked_rebuild
+rebuild_words_asked program base at hex texts rsdp policy a b c =
+    let plain = policy_is_plain texts policy c in
+    let l : Line = record { name = codes "rebuild"; options = (codes "base", Some base) ∷ (codes "rsdp", hex) ∷ policy_options texts; no_inputs = refl } in
+    let address = value_is_plain base_word (Some base) at refl (λ rest. no_number _ _ _) a in
+    line_is_asked rebuild (codes "base") base_word l program texts.inputs (record { no_help = refl; met = refl; is = refl }) (λ rows. refl) refl refl refl refl
+    (address, (rsdp_is_plain hex rsdp b, plain.0)) plain.1
+    ∙ rw (a, b, c) refl
 
--- `PROGRAM show`
-show_is_asked : (program : Text) → asked (program ∷ codes "show" ∷ []) ≡ Some (show None)
-unfolding is_taken command_of command_line check_line confirm_line rebuild_line show_line find_line show_asked clap_on_literals
-show_is_asked program = refl
-
--- `PROGRAM show --rsdp TEXT`, where the text begins with no hyphen
-show_is_asked_at : (program : Text) (first : ℕ) (rest : Text) (rsdp : Option ℕ) → (first == 45) ≡ false → rsdp_word (Some (first ∷ rest)) ≡ Some rsdp
-    → asked (program ∷ codes "show" ∷ codes "--rsdp" ∷ (first ∷ rest) ∷ []) ≡ Some (show rsdp)
-unfolding is_taken command_of command_line check_line confirm_line rebuild_line show_line find_line show_asked clap_on_literals
-show_is_asked_at program first rest rsdp plain e = simp (plain, e)
+-- a line of `show`, where a value begins with no hyphen
+show_is_asked : (program : Text) (hex : Option Text) (rsdp : Option ℕ) → IfSome hex IsPlain → rsdp_word hex ≡ Some rsdp → asked_job (show_words program hex) ≡ Some (show rsdp)
+unfolding is_taken command_of command_line check_line confirm_line rebuild_line show_line find_line asked_show clap_on_literals
+show_is_asked program None rsdp plain e = ap (option_map show) e
+show_is_asked program (Some []) rsdp plain e = absurd (true≢false (sym plain))
+show_is_asked program (Some (c ∷ cs)) rsdp plain e = simp (not-true (c == 45) plain, e)
 
 -- a plain line of `show` asks for what its argument says
-pub show_words_asked : (program : Text) (hex : Option Text) (rsdp : Option ℕ) → rsdp_word hex ≡ Some rsdp → asked (show_words program hex) ≡ Some (show rsdp)
-show_words_asked program None rsdp e = show_is_asked program ∙ ap (option_map show) e
-show_words_asked program (Some text) rsdp e =
-    let plain = rsdp_is_plain (Some text) rsdp e in
-    subst (λ (t : Text). asked (program ∷ codes "show" ∷ codes "--rsdp" ∷ t ∷ []) ≡ Some (show rsdp)) (sym plain.is)
-    (show_is_asked_at program plain.first plain.rest rsdp plain.plain (ap (λ (t : Text). rsdp_word (Some t)) (sym plain.is) ∙ e))
+pub show_words_asked : (program : Text) (hex : Option Text) (rsdp : Option ℕ) → rsdp_word hex ≡ Some rsdp → asked_job (show_words program hex) ≡ Some (show rsdp)
+show_words_asked program hex rsdp e = show_is_asked program hex rsdp (rsdp_is_plain hex rsdp e) e
 
 -- and one of `find` for a search
-pub find_words_asked : (program : Text) → asked (find_words program) ≡ Some find
+pub find_words_asked : (program : Text) → asked_job (find_words program) ≡ Some find
 unfolding is_taken command_of command_line check_line confirm_line rebuild_line show_line find_line clap_on_literals
 find_words_asked program = refl

@@ -1,48 +1,48 @@
 -- How a word `ADDRESS=COUNT` is spelled.
-use Rattle.std.proofs.Common.{◌≡◌, ◌≢◌, ◌<◌, ◌∙◌, ◌++◌, ℕ, Bool, true, false, List, [], ◌∷◌, Option, Some, None, cond, zero, suc, drop, get_or, length, option_map, codes, append_assoc, refl, ap, sym, subst, true≢false, inl, inr, arith}
-use Rattle.std.specs.Prelude.{nat_eq, option_and_then}
+use Rattle.std.proofs.Common.{◌≡◌, ◌<◌, ◌∙◌, ◌++◌, ℕ, Bool, true, false, List, [], ◌∷◌, Option, Some, None, cond, zero, suc, drop, get_or, length, option_map, codes, append_assoc, refl, ap, sym, subst, true≢false, inl, inr, arith}
+use Rattle.std.specs.Prelude.{nat_eq}
 use Rattle.std.specs.Char.{is_digit}
 use Rattle.std.specs.List.{after_first, before_first, list_all, position_or_len, starts_with}
 use Rattle.std.proofs.lemmas.Bool.{and_parts, cases_lt}
-use Rattle.std.proofs.lemmas.Option.{cond_some}
+use Rattle.std.proofs.lemmas.Option.{cond_some, none-some, option_and_then_some, same_Some}
 use Rattle.std.proofs.lemmas.Bool.Decides.{Decides-eqb}
 use Rattle.std.proofs.lemmas.List.{drop_all}
 use Rattle.std.proofs.lemmas.List.Folds.{list_all_at}
 use Rattle.std.proofs.lemmas.List.Sums.{passes_at_first, split_at_first}
 use Rattle.std.proofs.lemmas.Slice.Eq.{starts_is}
-use Rattle.clap.proofs.CutLemmas.{after_first-at, before_first-at}
+use Rattle.clap.proofs.CutLemmas.{Lacks, after_first-at, before_first-at}
 use Rattle.acpi_cli.specs.Words.{count_word, hex_word, inputs_word, is_equals_sign, number_word}
 use Rattle.acpi_cli.specs.declared.policy_words.Inputs.{Inputs}
 
 -- ---- a hex address has no `=`
 
--- no byte of the text is a `=`
-abbrev LacksEquals : List ℕ → Type 0
-LacksEquals text = (i : ℕ) → i < length text → get_or text i 0 ≢ 61
-
--- a number has none
-number_lacks : (text : List ℕ) (a : ℕ) → number_word 16 8 text ≡ Some a → LacksEquals text
-number_lacks text a e i inside is =
-    let all = (and_parts _ (list_all (λ c. is_digit c 16) text) (and_parts _ _ (cond_some _ _ _ e).0).1).1 in
-    let not_all : list_all (λ c. is_digit c 16) text ≡ false = list_all_at (λ c. is_digit c 16) text i 0 inside (rw is refl) in
+-- a byte that fails a test is in no text of which all bytes pass it
+pub lacks : (test : ℕ → Bool) (c : ℕ) (text : List ℕ) → test c ≡ false → list_all test text ≡ true → Lacks c text
+lacks test c text fails all i inside is =
+    let not_all : list_all test text ≡ false = list_all_at test text i 0 inside (rw is fails) in
     true≢false (sym all ∙ not_all)
 
+-- a number has no `=`
+number_lacks : (text : List ℕ) (a : ℕ) → number_word 16 8 text ≡ Some a → Lacks 61 text
+number_lacks text a e =
+    lacks (λ c. is_digit c 16) 61 text refl (and_parts _ (list_all (λ c. is_digit c 16) text) (and_parts _ _ (cond_some _ _ _ e).0).1).1
+
 -- nor one with `0x` before it
-prefixed_lacks : (text : List ℕ) → LacksEquals text → LacksEquals (48 ∷ 120 ∷ text)
+prefixed_lacks : (text : List ℕ) → Lacks 61 text → Lacks 61 (48 ∷ 120 ∷ text)
 prefixed_lacks text lacks zero inside = λ e. absurd (omega arith)
 prefixed_lacks text lacks (suc zero) inside = λ e. absurd (omega arith)
 prefixed_lacks text lacks (suc (suc i)) inside = lacks i (omega arith)
 
 -- nor an address
-address_lacks : (address : List ℕ) (a : ℕ) → hex_word 8 address ≡ Some a → LacksEquals address
+address_lacks : (address : List ℕ) (a : ℕ) → hex_word 8 address ≡ Some a → Lacks 61 address
 address_lacks address a = go (starts_with nat_eq address (codes "0x")) refl
   where
     go : (prefixed : Bool) → starts_with nat_eq address (codes "0x") ≡ prefixed
-        → number_word 16 8 (cond prefixed (drop 2 address) address) ≡ Some a → LacksEquals address
+        → number_word 16 8 (cond prefixed (drop 2 address) address) ≡ Some a → Lacks 61 address
     go false is e = number_lacks address a e
     go true is e =
         let whole : address ≡ 48 ∷ 120 ∷ drop 2 address = (starts_is Decides-eqb address (codes "0x") _ refl).0 is in
-        subst LacksEquals (sym whole) (prefixed_lacks (drop 2 address) (number_lacks (drop 2 address) a e))
+        subst (Lacks 61) (sym whole) (prefixed_lacks (drop 2 address) (number_lacks (drop 2 address) a e))
 
 -- ---- an address, a `=` and a count
 
@@ -86,18 +86,19 @@ parts word inside =
     ∙ ap (λ byte. before_first is_equals_sign word ++ byte ∷ after_first is_equals_sign word) here
     ∙ sym (append_assoc (before_first is_equals_sign word) (codes "=") (after_first is_equals_sign word))
 
+-- what is made of a value is made of one that is there
+pub made_of : {A B P : Type 0} (f : A → B) (o : Option A) (y : B) → option_map f o ≡ Some y → ((x : A) → o ≡ Some x → f x ≡ y → P) → P
+made_of f None y e made = absurd (none-some y e)
+made_of f (Some x) y e made = made x refl (same_Some (f x) y e)
+
 -- a word that is read is so spelled
 pub spelling : (word : List ℕ) (inputs : Inputs) → inputs_word word ≡ Some inputs → Spelling word inputs
-spelling word inputs = go (hex_word 8 (before_first is_equals_sign word)) (count_word (after_first is_equals_sign word)) refl refl
-  where
-    go : (address count : Option ℕ) → hex_word 8 (before_first is_equals_sign word) ≡ address → count_word (after_first is_equals_sign word) ≡ count
-        → option_and_then (λ a. option_map (λ n. record { address = a; count = n }) count) address ≡ Some inputs → Spelling word inputs
-    go None count is_address is_count e = absurd (cc)
-    go (Some a) None is_address is_count e = absurd (cc)
-    go (Some a) (Some n) is_address is_count e = record {
+spelling word inputs e =
+    option_and_then_some _ (hex_word 8 (before_first is_equals_sign word)) inputs e (λ a is_address e.
+    made_of _ (count_word (after_first is_equals_sign word)) inputs e (λ n is_count e. record {
       address = before_first is_equals_sign word;
       count = after_first is_equals_sign word;
       is = parts word (has_equals word n is_count);
-      is_address = cc;
-      is_count = cc;
-    }
+      is_address = is_address ∙ ap (λ (i : Inputs). Some i.address) e;
+      is_count = is_count ∙ ap (λ (i : Inputs). Some i.count) e;
+    }))

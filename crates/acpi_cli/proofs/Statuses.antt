@@ -19,32 +19,13 @@ reports_asked : (what : Asked) (job : Job) → Does what job → (m : Memory) (b
     → ReportsJob job m bytes returned → ReportsAsked what m bytes returned
 reports_asked (check rsdp policy last) (Check given held stage) does m bytes returned reports =
     (stage, does.2, rw (sym does.0, sym does.1) reports)
-reports_asked (check rsdp policy last) (Confirm given held witness) does m bytes returned reports = absurd does
-reports_asked (check rsdp policy last) (Rebuild given held at) does m bytes returned reports = absurd does
-reports_asked (check rsdp policy last) (Show given) does m bytes returned reports = absurd does
-reports_asked (check rsdp policy last) Find does m bytes returned reports = absurd does
 reports_asked (confirm rsdp policy w) (Confirm given held witness) does m bytes returned reports =
     rw (sym does.0, sym does.1, sym does.2) reports
-reports_asked (confirm rsdp policy w) (Check given held stage) does m bytes returned reports = absurd does
-reports_asked (confirm rsdp policy w) (Rebuild given held at) does m bytes returned reports = absurd does
-reports_asked (confirm rsdp policy w) (Show given) does m bytes returned reports = absurd does
-reports_asked (confirm rsdp policy w) Find does m bytes returned reports = absurd does
 reports_asked (rebuild rsdp policy base) (Rebuild given held at) does m bytes returned reports =
     rw (sym does.0, sym does.1, sym does.2) reports
-reports_asked (rebuild rsdp policy base) (Check given held stage) does m bytes returned reports = absurd does
-reports_asked (rebuild rsdp policy base) (Confirm given held witness) does m bytes returned reports = absurd does
-reports_asked (rebuild rsdp policy base) (Show given) does m bytes returned reports = absurd does
-reports_asked (rebuild rsdp policy base) Find does m bytes returned reports = absurd does
 reports_asked (show rsdp) (Show given) does m bytes returned reports = rw (sym does) reports
-reports_asked (show rsdp) (Check given held stage) does m bytes returned reports = absurd does
-reports_asked (show rsdp) (Confirm given held witness) does m bytes returned reports = absurd does
-reports_asked (show rsdp) (Rebuild given held at) does m bytes returned reports = absurd does
-reports_asked (show rsdp) Find does m bytes returned reports = absurd does
-reports_asked find (Check given held stage) does m bytes returned reports = absurd does
-reports_asked find (Confirm given held witness) does m bytes returned reports = absurd does
-reports_asked find (Rebuild given held at) does m bytes returned reports = absurd does
-reports_asked find (Show given) does m bytes returned reports = absurd does
 reports_asked find Find does m bytes returned reports = reports
+reports_asked _ _ does m bytes returned reports = absurd does
 
 -- so an engine that does the job does what is asked
 pub obeyed : (a : Option Asked) (job : Job) (input output : Device) (result : Result Outcome RunFault) (status : ℕ) → DoesAsked a job

@@ -12,7 +12,7 @@ use Rattle.acpi_base.specs.declared.policy.HotPlug.TheVariants.{Apart, Counted}
 use Rattle.acpi_base.specs.declared.policy.Processors.{Processors}
 use Rattle.acpi_base.specs.declared.policy.Processors.TheVariants.{Enabled, Usable}
 use Rattle.acpi_base.specs.declared.witness.Witness.{Witness}
-use Rattle.acpi_cli.specs.Words.{all_inputs, count_word, decimal_word, fault_written, hex_word}
+use Rattle.acpi_cli.specs.Words.{all_inputs, count_word, decimal_word, written_fault, hex_word}
 use Rattle.acpi_cli.specs.declared.policy_words.Inputs.{Inputs}
 use Rattle.acpi_cli.specs.declared.words.Job.{Job}
 use Rattle.acpi_cli.specs.declared.words.Job.TheVariants.{Check, Confirm, Find, Rebuild, Show}
@@ -27,41 +27,31 @@ option_rule name = record (new_rule name) { long = Some name; action = Some Set;
 abbrev pub inputs_rule : Rule
 inputs_rule = record (new_rule (codes "inputs")) { action = Some Append; value_names = 1 }
 
--- `check --rsdp HEX --through N --default-inputs N --hotplug SETTING --processors SETTING ADDRESS=COUNT..`
-unfoldable pub check_line : App
-check_line =
-    with_rule (with_rule (with_rule (with_rule (with_rule (with_rule
-    (new_app (codes "check"))
-    (option_rule (codes "rsdp")))
-    (option_rule (codes "through")))
+-- `.. --default-inputs N --hotplug SETTING --processors SETTING ADDRESS=COUNT..`, behind a command's own options
+abbrev pub with_policy_options : App → App
+with_policy_options line =
+    with_rule (with_rule (with_rule (with_rule
+    line
     (option_rule (codes "default-inputs")))
     (option_rule (codes "hotplug")))
     (option_rule (codes "processors")))
     inputs_rule
+
+-- a command with two options of its own, and those of the policy
+abbrev pub judging_line : App → Rule → Rule → App
+judging_line line first second = with_policy_options (with_rule (with_rule line first) second)
+
+-- `check --rsdp HEX --through N --default-inputs N --hotplug SETTING --processors SETTING ADDRESS=COUNT..`
+unfoldable pub check_line : App
+check_line = judging_line (new_app (codes "check")) (option_rule (codes "rsdp")) (option_rule (codes "through"))
 
 -- `confirm --witness FAULT --rsdp HEX --default-inputs N --hotplug SETTING --processors SETTING ADDRESS=COUNT..`
 unfoldable pub confirm_line : App
-confirm_line =
-    with_rule (with_rule (with_rule (with_rule (with_rule (with_rule
-    (new_app (codes "confirm"))
-    (option_rule (codes "witness")))
-    (option_rule (codes "rsdp")))
-    (option_rule (codes "default-inputs")))
-    (option_rule (codes "hotplug")))
-    (option_rule (codes "processors")))
-    inputs_rule
+confirm_line = judging_line (new_app (codes "confirm")) (option_rule (codes "witness")) (option_rule (codes "rsdp"))
 
 -- `rebuild --base HEX --rsdp HEX --default-inputs N --hotplug SETTING --processors SETTING ADDRESS=COUNT..`
 unfoldable pub rebuild_line : App
-rebuild_line =
-    with_rule (with_rule (with_rule (with_rule (with_rule (with_rule
-    (new_app (codes "rebuild"))
-    (option_rule (codes "base")))
-    (option_rule (codes "rsdp")))
-    (option_rule (codes "default-inputs")))
-    (option_rule (codes "hotplug")))
-    (option_rule (codes "processors")))
-    inputs_rule
+rebuild_line = judging_line (new_app (codes "rebuild")) (option_rule (codes "base")) (option_rule (codes "rsdp"))
 
 -- `show --rsdp HEX`
 unfoldable pub show_line : App
@@ -124,7 +114,7 @@ last_word (Some text) = option_and_then stage_of_number (decimal_word 2 text)
 -- `--witness FAULT`: there is no job without it
 abbrev pub witness_word : Option Text → Option Witness
 witness_word None = None
-witness_word (Some text) = fault_written text
+witness_word (Some text) = written_fault text
 
 -- `--base HEX`: there is no job without it
 abbrev pub base_word : Option Text → Option ℕ
@@ -188,63 +178,68 @@ policy_words texts =
     (processors_word texts.processors))
     (hotplug_word texts.hotplug)
 
+-- what is said of the policy, where this is the value of each option, and these are the words `ADDRESS=COUNT`
+abbrev pub texts_of : (Text → Option Text) → List Text → PolicyTexts
+texts_of value words = record {
+  default_inputs = value (codes "default-inputs");
+  hotplug = value (codes "hotplug");
+  processors = value (codes "processors");
+  inputs = words;
+}
+
+-- the values of the options of a command, and its words `ADDRESS=COUNT`
+abbrev pub values_of : List Row → Text → Option Text
+values_of options id = first_of id options
+
+abbrev pub words_of : List Row → List Text
+words_of options = unwrap_or (all_of (codes "inputs") options) []
+
 -- the policy among the options of a command
-abbrev pub policy_asked : List Row → Option PolicyValue
-policy_asked options =
-    policy_words (record {
-      default_inputs = first_of (codes "default-inputs") options;
-      hotplug = first_of (codes "hotplug") options;
-      processors = first_of (codes "processors") options;
-      inputs = unwrap_or (all_of (codes "inputs") options) [];
-    })
+abbrev pub asked_policy : List Row → Option PolicyValue
+asked_policy options = policy_words (texts_of (values_of options) (words_of options))
+
+-- what a command with a policy asks for: the RSDP's address, the policy, and the value of one more option
+abbrev pub judging_asked : {T : Type 0} → (Option ℕ → PolicyValue → T → Asked) → Text → (Option Text → Option T)
+    → (Text → Option Text) → List Text → Option Asked
+judging_asked make id word value words =
+    option_and_then
+    (λ rsdp. option_and_then
+    (λ policy. option_map (make rsdp policy) (word (value id)))
+    (policy_words (texts_of value words)))
+    (rsdp_word (value (codes "rsdp")))
 
 -- the options of `check`
-unfoldable pub check_asked : List Row → Option Asked
-check_asked options =
-    option_and_then
-    (λ rsdp. option_and_then
-    (λ policy. option_map (check rsdp policy) (last_word (first_of (codes "through") options)))
-    (policy_asked options))
-    (rsdp_word (first_of (codes "rsdp") options))
+unfoldable pub asked_check : List Row → Option Asked
+asked_check options = judging_asked check (codes "through") last_word (values_of options) (words_of options)
 
 -- the options of `confirm`
-unfoldable pub confirm_asked : List Row → Option Asked
-confirm_asked options =
-    option_and_then
-    (λ rsdp. option_and_then
-    (λ policy. option_map (confirm rsdp policy) (witness_word (first_of (codes "witness") options)))
-    (policy_asked options))
-    (rsdp_word (first_of (codes "rsdp") options))
+unfoldable pub asked_confirm : List Row → Option Asked
+asked_confirm options = judging_asked confirm (codes "witness") witness_word (values_of options) (words_of options)
 
 -- the options of `rebuild`
-unfoldable pub rebuild_asked : List Row → Option Asked
-rebuild_asked options =
-    option_and_then
-    (λ rsdp. option_and_then
-    (λ policy. option_map (rebuild rsdp policy) (base_word (first_of (codes "base") options)))
-    (policy_asked options))
-    (rsdp_word (first_of (codes "rsdp") options))
+unfoldable pub asked_rebuild : List Row → Option Asked
+asked_rebuild options = judging_asked rebuild (codes "base") base_word (values_of options) (words_of options)
 
 -- the options of `show`
-unfoldable pub show_asked : List Row → Option Asked
-show_asked options = option_map show (rsdp_word (first_of (codes "rsdp") options))
+unfoldable pub asked_show : List Row → Option Asked
+asked_show options = option_map show (rsdp_word (first_of (codes "rsdp") options))
 
-abbrev pub command_asked : Option (Text × List Row) → Option Asked
-command_asked None = None
-command_asked (Some command) =
+abbrev pub asked_command : Option (Text × List Row) → Option Asked
+asked_command None = None
+asked_command (Some command) =
     if bytes_eq command.0 (codes "check")
-    then check_asked command.1
+    then asked_check command.1
     else (if bytes_eq command.0 (codes "confirm")
-    then confirm_asked command.1
+    then asked_confirm command.1
     else (if bytes_eq command.0 (codes "rebuild")
-    then rebuild_asked command.1
+    then asked_rebuild command.1
     else (if bytes_eq command.0 (codes "show")
-    then show_asked command.1
+    then asked_show command.1
     else (if bytes_eq command.0 (codes "find") then Some find else None))))
 
 -- what a whole command line asks for, where it is one
-abbrev pub asked : List Text → Option Asked
-asked words = if is_taken words then command_asked (command_of words) else None
+abbrev pub asked_job : List Text → Option Asked
+asked_job words = if is_taken words then asked_command (command_of words) else None
 
 -- ---- plain command lines
 
@@ -257,33 +252,36 @@ abbrev pub option_words : Text → Option Text → List Text
 option_words name None = []
 option_words name (Some value) = (codes "--" ++ name) ∷ value ∷ []
 
--- the options of the policy that are given, and the words `ADDRESS=COUNT`
-abbrev pub options_of_policy : PolicyTexts → List Text
-options_of_policy texts =
-    option_words (codes "default-inputs") texts.default_inputs
-    ++ (option_words (codes "hotplug") texts.hotplug
-    ++ (option_words (codes "processors") texts.processors ++ texts.inputs))
+-- the words of several options, and those behind them
+abbrev pub options_words : List (Text × Option Text) → List Text → List Text
+options_words [] words = words
+options_words (choice ∷ options) words = option_words choice.0 choice.1 ++ options_words options words
+
+-- the options of the policy, each with its value, where it is given
+abbrev pub policy_options : PolicyTexts → List (Text × Option Text)
+policy_options texts =
+    (codes "default-inputs", texts.default_inputs)
+    ∷ (codes "hotplug", texts.hotplug)
+    ∷ (codes "processors", texts.processors)
+    ∷ []
 
 -- `PROGRAM check`, the options that are given, and what is said of the policy
 abbrev pub check_words : Text → Option Text → Option Text → PolicyTexts → List Text
 check_words program rsdp through texts =
     program ∷ codes "check"
-    ∷ (option_words (codes "rsdp") rsdp
-    ++ (option_words (codes "through") through ++ options_of_policy texts))
+    ∷ options_words ((codes "rsdp", rsdp) ∷ (codes "through", through) ∷ policy_options texts) texts.inputs
 
 -- `PROGRAM confirm`, the fault's text, the options that are given, and what is said of the policy
 abbrev pub confirm_words : Text → Text → Option Text → PolicyTexts → List Text
 confirm_words program fault rsdp texts =
     program ∷ codes "confirm"
-    ∷ (option_words (codes "witness") (Some fault)
-    ++ (option_words (codes "rsdp") rsdp ++ options_of_policy texts))
+    ∷ options_words ((codes "witness", Some fault) ∷ (codes "rsdp", rsdp) ∷ policy_options texts) texts.inputs
 
 -- `PROGRAM rebuild`, the base address's text, the options that are given, and what is said of the policy
 abbrev pub rebuild_words : Text → Text → Option Text → PolicyTexts → List Text
 rebuild_words program base rsdp texts =
     program ∷ codes "rebuild"
-    ∷ (option_words (codes "base") (Some base)
-    ++ (option_words (codes "rsdp") rsdp ++ options_of_policy texts))
+    ∷ options_words ((codes "base", Some base) ∷ (codes "rsdp", rsdp) ∷ policy_options texts) texts.inputs
 
 -- `PROGRAM show`, and the option that it has, where it is given
 abbrev pub show_words : Text → Option Text → List Text
@@ -292,12 +290,12 @@ show_words program rsdp = program ∷ codes "show" ∷ option_words (codes "rsdp
 -- ---- the job that carries it
 
 abbrev pub Does : Asked → Job → Type 0
-Does (check rsdp policy last) (Check given held stage) =
-    (given ≡ rsdp) × (held ≡ policy) × (stage_number stage ≡ last)
-Does (confirm rsdp policy w) (Confirm given held witness) =
-    (given ≡ rsdp) × (held ≡ policy) × (witness ≡ w)
-Does (rebuild rsdp policy base) (Rebuild given held at) =
-    (given ≡ rsdp) × (held ≡ policy) × (at ≡ base)
+Does (check rsdp policy last) (Check given carried stage) =
+    (given ≡ rsdp) × (carried ≡ policy) × (stage_number stage ≡ last)
+Does (confirm rsdp policy w) (Confirm given carried witness) =
+    (given ≡ rsdp) × (carried ≡ policy) × (witness ≡ w)
+Does (rebuild rsdp policy base) (Rebuild given carried at) =
+    (given ≡ rsdp) × (carried ≡ policy) × (at ≡ base)
 Does (show rsdp) (Show given) = given ≡ rsdp
 Does find Find = Unit {0}
 Does _ _ = ⊥

@@ -3,14 +3,14 @@ use Rattle.std.specs.Prelude.{◌≡◌, ◌≤◌, ◌⊎◌, ◌+◌, ◌++◌
 use Rattle.std.specs.Io.KnownBytes.{Appends, Consumes, IsAtEnd, Keeps}
 use Rattle.acpi_base.specs.Memory.{Memory}
 use Rattle.acpi_base.specs.Policy.{PolicyValue, new_policy, with_rsdp}
-use Rattle.acpi_base.specs.ImageText.{IsText, max_text}
-use Rattle.acpi_base.specs.TextReading.{IsFaultlessPrefix, IsRefusal, is_of_text}
-use Rattle.acpi_base.specs.Tally.{Counted, CountsFailure}
-use Rattle.acpi_base.specs.Found.{IsFound, IsNowhere}
+use Rattle.acpi_base.specs.Text.ImageText.{IsText, max_text}
+use Rattle.acpi_base.specs.Text.TextReading.{IsFaultlessPrefix, IsRefusal, is_of_text}
+use Rattle.acpi_base.specs.Tally.{CountedDevice, CountsFailure}
+use Rattle.acpi_base.specs.RsdpSearch.{IsFound, IsNowhere}
 use Rattle.acpi_base.specs.Faults.{Fault, IsVerdict}
 use Rattle.acpi_base.specs.Statements.{CleanTo}
-use Rattle.acpi_base.specs.WitnessText.{hex_text, verdict_line}
-use Rattle.acpi_base.specs.WrittenText.{IsWritten}
+use Rattle.acpi_base.specs.Text.WitnessText.{hex_text, verdict_line}
+use Rattle.acpi_base.specs.Text.WrittenText.{IsWritten}
 use Rattle.acpi_base.specs.declared.stage.Stage.{Stage}
 use Rattle.acpi_base.specs.declared.stage.Stage.TheVariants as stage
 use Rattle.acpi_base.specs.declared.text.TextFault.{TextFault}
@@ -36,7 +36,7 @@ pub record Device : Type 0 where
   pub failures_after : ℕ
 
 -- a counted one, whose bytes `bytes` gives
-abbrev pub device : {T : Type 0} → (T → Option (List ℕ)) → Counted T → Counted T → Device
+abbrev pub device : {T : Type 0} → (T → Option (List ℕ)) → CountedDevice T → CountedDevice T → Device
 device bytes before after =
     record {
       bytes_before = bytes before.inner;

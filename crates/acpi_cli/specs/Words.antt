@@ -6,8 +6,8 @@ use Rattle.std.specs.Char.{is_digit}
 use Rattle.std.specs.Str.{bytes_eq}
 use Rattle.std.specs.Str.Parse.{digits_value}
 use Rattle.acpi_base.specs.Codes.{all_codes, code_name}
-use Rattle.acpi_base.specs.ImageText.{hex_number}
-use Rattle.acpi_base.specs.WitnessText.{witness_line}
+use Rattle.acpi_base.specs.Text.ImageText.{hex_number}
+use Rattle.acpi_base.specs.Text.WitnessText.{witness_line}
 use Rattle.acpi_base.specs.declared.code.Code.{Code}
 use Rattle.acpi_base.specs.declared.witness.Witness.{Witness}
 use Rattle.acpi_cli.specs.declared.policy_words.Inputs.{Inputs}
@@ -61,18 +61,18 @@ all_inputs (word ∷ words) =
 -- ---- faults
 
 -- the code with this name
-unfoldable pub code_named : List ℕ → Option Code
-code_named name = find_first (λ c. bytes_eq (code_name c) name) all_codes
+unfoldable pub code_by_name : List ℕ → Option Code
+code_by_name name = find_first (λ c. bytes_eq (code_name c) name) all_codes
 
 -- what stands before the first blank, and what stands behind it
-abbrev pub is_blank : ℕ → Bool
-is_blank byte = byte == 32
+abbrev pub is_space : ℕ → Bool
+is_space byte = byte == 32
 
 abbrev pub word_of : List ℕ → List ℕ
-word_of = before_first is_blank
+word_of = before_first is_space
 
 abbrev pub behind_word : List ℕ → List ℕ
-behind_word = after_first is_blank
+behind_word = after_first is_space
 
 -- the number with these hex digits behind its `0x`
 abbrev pub number_behind_0x : List ℕ → ℕ
@@ -81,8 +81,8 @@ number_behind_0x word = hex_number 0 (drop 2 word)
 -- The fault that a text names whose second word is a fault's name, as `10 Overlap 0x90 0xb8 0x100000000` does: its
 -- numbers are read in hex, without two characters before each, from the third word, the fourth, and all that stands
 -- behind this one. Nothing else of the text is looked at.
-unfoldable pub fault_named : List ℕ → Option Witness
-fault_named text =
+unfoldable pub named_fault : List ℕ → Option Witness
+named_fault text =
     option_map
     (λ c. record {
       code = c;
@@ -90,15 +90,15 @@ fault_named text =
       other = number_behind_0x (word_of (behind_word (behind_word (behind_word text))));
       point = number_behind_0x (behind_word (behind_word (behind_word (behind_word text))));
     })
-    (code_named (word_of (behind_word text)))
+    (code_by_name (word_of (behind_word text)))
 
 -- its three numbers have 64 bits
 abbrev pub numbers_fit : Witness → Bool
 numbers_fit w = nat_lt w.at (2 ^ 64) && (nat_lt w.other (2 ^ 64) && nat_lt w.point (2 ^ 64))
 
 -- the fault whose text this is: it is written so, and in no other way
-unfoldable pub fault_written : List ℕ → Option Witness
-fault_written text =
+unfoldable pub written_fault : List ℕ → Option Witness
+written_fault text =
     option_and_then
     (λ w. if bytes_eq (witness_line w) text && numbers_fit w then Some w else None)
-    (fault_named text)
+    (named_fault text)

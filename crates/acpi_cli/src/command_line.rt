@@ -4,8 +4,7 @@ ghost use Rattle.std.specs.Prelude.{◌≡◌, ◌≢◌, [], IfErr, IfOk, false
 ghost use Rattle.std.specs.String.{string_bytes};
 ghost use Rattle.clap.specs.Words.{all_of, app_of, first_of, found_of, kind_of, rows_of, rule_of, subcommand_rows_of};
 ghost use Rattle.clap.specs.declared.builder.command.Command.TheViews.{out-Command};
-ghost use Rattle.acpi_cli.specs.CommandLine.{check_line, command_line, confirm_line, command_of, inputs_rule, is_taken, option_rule, rebuild_line, show_line};
-ghost use Rattle.acpi_cli.specs.PolicyOptions.{with_policy_options};
+ghost use Rattle.acpi_cli.specs.CommandLine.{check_line, command_line, confirm_line, command_of, inputs_rule, is_taken, judging_line, option_rule, rebuild_line, show_line};
 
 use crate::words::WordFault;
 use clap::error::ErrorKind;
@@ -91,43 +90,55 @@ fn acpiset<'a>(alloc: Global) -> Result<Command<'a>, AllocError>
         .subcommand(Command::new(alloc, "find"))
 }
 
+#[tactic(auto, unfolding(crate::specs::CommandLine::check_line))]
 fn check<'a>(alloc: Global) -> Result<Command<'a>, AllocError>
     ensures line { IfOk result (λ command. app_of command ≡ check_line) }
     ensures own { IfOk result (λ command. (out-Command command).has_globals ≡ false) }
 {
-    let command = Command::new(alloc, "check")
-        .arg(option(alloc, "rsdp", "HEX"))?
-        .arg(option(alloc, "through", "N"))?;
-    with_policy(alloc, command)
+    let command = Command::new(alloc, "check");
+    let rsdp = option(alloc, "rsdp", "HEX");
+    let through = option(alloc, "through", "N");
+    judging(alloc, command, rsdp, through)
 }
 
+#[tactic(auto, unfolding(crate::specs::CommandLine::confirm_line))]
 fn confirm<'a>(alloc: Global) -> Result<Command<'a>, AllocError>
     ensures line { IfOk result (λ command. app_of command ≡ confirm_line) }
     ensures own { IfOk result (λ command. (out-Command command).has_globals ≡ false) }
 {
-    let command = Command::new(alloc, "confirm")
-        .arg(option(alloc, "witness", "FAULT"))?
-        .arg(option(alloc, "rsdp", "HEX"))?;
-    with_policy(alloc, command)
+    let command = Command::new(alloc, "confirm");
+    let witness = option(alloc, "witness", "FAULT");
+    let rsdp = option(alloc, "rsdp", "HEX");
+    judging(alloc, command, witness, rsdp)
 }
 
+#[tactic(auto, unfolding(crate::specs::CommandLine::rebuild_line))]
 fn rebuild<'a>(alloc: Global) -> Result<Command<'a>, AllocError>
     ensures line { IfOk result (λ command. app_of command ≡ rebuild_line) }
     ensures own { IfOk result (λ command. (out-Command command).has_globals ≡ false) }
 {
-    let command = Command::new(alloc, "rebuild")
-        .arg(option(alloc, "base", "HEX"))?
-        .arg(option(alloc, "rsdp", "HEX"))?;
-    with_policy(alloc, command)
+    let command = Command::new(alloc, "rebuild");
+    let base = option(alloc, "base", "HEX");
+    let rsdp = option(alloc, "rsdp", "HEX");
+    judging(alloc, command, base, rsdp)
 }
 
-/// The command with the options that `read_policy` reads behind its own.
-fn with_policy<'a>(alloc: Global, command: Command<'a>) -> Result<Command<'a>, AllocError>
-    requires { (out-Command command).has_globals ≡ false }
-    ensures line { IfOk result (λ whole. app_of whole ≡ with_policy_options (app_of command.entry)) }
+/// The command with two options of its own, and those that `read_policy` reads behind them.
+fn judging<'a>(
+    alloc: Global,
+    command: Command<'a>,
+    first: Arg<'a>,
+    second: Arg<'a>,
+) -> Result<Command<'a>, AllocError>
+    requires command { (out-Command command).has_globals ≡ false }
+    requires first { first.global ≡ false }
+    requires second { second.global ≡ false }
+    ensures line { IfOk result (λ whole. app_of whole ≡ judging_line (app_of command.entry) (rule_of first.entry) (rule_of second.entry)) }
     ensures own { IfOk result (λ whole. (out-Command whole).has_globals ≡ false) }
 {
     command
+        .arg(first)?
+        .arg(second)?
         .arg(option(alloc, "default-inputs", "N"))?
         .arg(option(alloc, "hotplug", "SETTING"))?
         .arg(option(alloc, "processors", "SETTING"))?

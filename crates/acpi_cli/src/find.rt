@@ -10,7 +10,7 @@ use std::alloc::{AllocError, Global};
 use std::io::{Read, Write};
 
 /// What a search reports on the image.
-#[tactic(auto, unfolding(acpi_base::specs::WitnessText::hex_text))]
+#[tactic(auto, unfolding(acpi_base::specs::Text::WitnessText::hex_text))]
 fn find_output(alloc: Global, image: &Image) -> Result<Output, AllocError>
     ensures { IfOk result (λ output. ReportsFound image.now output.bytes.items output.outcome) }
 {

@@ -4,7 +4,7 @@
 ghost use Rattle.std.specs.Prelude.{◌≡◌, ◌++◌, ℕ, List, IfErr, IfOk, IsSome, Some, codes, map, option_map, unwrap_or};
 ghost use Rattle.clap.specs.Words.{found_of, rows_of};
 ghost use Rattle.acpi_base.specs.Policy.{PolicyValue, inputs_of, new_policy};
-ghost use Rattle.acpi_cli.specs.CommandLine.{default_word, first_count, hotplug_word, inputs_policy, policy_asked, processors_word, with_inputs};
+ghost use Rattle.acpi_cli.specs.CommandLine.{default_word, first_count, hotplug_word, inputs_policy, asked_policy, processors_word, with_inputs};
 ghost use Rattle.acpi_cli.specs.Words.{count_word, hex_word, inputs_word};
 
 use crate::command_line::{value, values};
@@ -15,7 +15,7 @@ use clap::ArgMatches;
 use std::alloc::Global;
 
 /// The number of inputs of each I/O APIC without a count of its own, where no option gives another.
-pub const DEFAULT_INPUTS: u16 = 24;
+const DEFAULT_INPUTS: u16 = 24;
 
 /// What a count of inputs may be, in an error message.
 const COUNTS: &str = "an I/O APIC has 1 to 256 inputs, in 1 to 3 decimal digits";
@@ -41,16 +41,12 @@ struct Inputs {
 ///
 /// Refuses `Words` where a word is wrong; `Memory` may be returned in place of a policy or of `Words`.
 pub fn read_policy(alloc: Global, options: &ArgMatches) -> Result<Policy, WordFault>
-    ensures policy { IfOk result (λ policy. policy_asked (rows_of (found_of options.now)) ≡ Some policy) }
+    ensures policy { IfOk result (λ policy. asked_policy (rows_of (found_of options.now)) ≡ Some policy) }
     ensures refused { IfErr result (λ fault.
-        IsSome (policy_asked (rows_of (found_of options.now))) → fault ≡ WordFault.Memory) }
+        IsSome (asked_policy (rows_of (found_of options.now))) → fault ≡ WordFault.Memory) }
 {
-    let Some(hotplug) = hotplug_setting(value(options, "hotplug")) else {
-        return Err(WordFault::Words);
-    };
-    let Some(processors) = processors_setting(value(options, "processors")) else {
-        return Err(WordFault::Words);
-    };
+    let hotplug = hotplug_setting(value(options, "hotplug")).ok_or(WordFault::Words)?;
+    let processors = processors_setting(value(options, "processors")).ok_or(WordFault::Words)?;
     let mut policy = read_inputs(
         alloc,
         value(options, "default-inputs"),
@@ -75,14 +71,10 @@ fn read_inputs(
         IsSome (inputs_policy (option_map (λ text. text.now) default_inputs.entry) (map (λ text. text.now) words.now))
         → fault ≡ WordFault.Memory) }
 {
-    let Some(default_inputs) = default_count(default_inputs) else {
-        return Err(WordFault::Words);
-    };
+    let default_inputs = default_count(default_inputs).ok_or(WordFault::Words)?;
     let mut policy = Policy::new(alloc, 0, default_inputs).unwrap();
     for word in words {
-        let Some(inputs) = inputs_of_word(word) else {
-            return Err(WordFault::Words);
-        };
+        let inputs = inputs_of_word(word).ok_or(WordFault::Words)?;
         if policy.add_input(inputs.address, inputs.count).is_err() {
             return Err(WordFault::Memory);
         }
@@ -112,20 +104,17 @@ pub fn inputs_are_address_and_count()
 
 /// An error message on the options that `read_policy` reads, in a line that names the first wrong one.
 pub fn policy_message(alloc: Global, options: &ArgMatches) -> Option<String> {
-    if let Some(number) = value(options, "default-inputs")
-        && count(number).is_none()
-    {
-        return refused_value(alloc, "default-inputs", number, COUNTS);
-    }
-    if let Some(setting) = value(options, "hotplug")
-        && hotplug_setting(Some(setting)).is_none()
-    {
-        return refused_value(alloc, "hotplug", setting, HOTPLUG_SETTINGS);
-    }
-    if let Some(setting) = value(options, "processors")
-        && processors_setting(Some(setting)).is_none()
-    {
-        return refused_value(alloc, "processors", setting, PROCESSORS_SETTINGS);
+    let default_inputs = default_count(value(options, "default-inputs"));
+    let hotplug = hotplug_setting(value(options, "hotplug"));
+    let processors = processors_setting(value(options, "processors"));
+    for (name, is_right, allowed) in [
+        ("default-inputs", default_inputs.is_some(), COUNTS),
+        ("hotplug", hotplug.is_some(), HOTPLUG_SETTINGS),
+        ("processors", processors.is_some(), PROCESSORS_SETTINGS),
+    ] {
+        if !is_right {
+            return refused_value(alloc, name, value(options, name)?, allowed);
+        }
     }
     let words = values(options, "inputs");
     let word = words.iter().find(|word| inputs_of_word(word).is_none())?;

@@ -2,7 +2,7 @@
 
 ghost use Rattle.std.specs.Prelude.{◌≡◌, map};
 ghost use Rattle.std.specs.String.{string_bytes};
-ghost use Rattle.acpi_cli.specs.CommandLine.{asked};
+ghost use Rattle.acpi_cli.specs.CommandLine.{asked_job};
 ghost use Rattle.acpi_cli.specs.Engine.{device, Runs, ReportsJob};
 ghost use Rattle.acpi_cli.specs.Program.{Obeys};
 
@@ -38,7 +38,7 @@ pub fn obey<R: Read, W: Write, E: Write>(
     errors: &mut E,
     words: &[String],
 ) -> u8
-    ensures { Obeys (asked (map string_bytes words.now))
+    ensures { Obeys (asked_job (map string_bytes words.now))
         (device R.remaining reader.old reader.new)
         (device W.contents writer.old writer.new)
         result }

@@ -16,10 +16,9 @@ ghost use Rattle.acpi_cli.specs.Engine.{device, Runs, ReportsShow};
 use crate::check::{no_rsdp, rsdp_address};
 use crate::devices::{Output, read_input, write_output};
 use crate::outcome::{Outcome, RunFault};
-use crate::policy_words::DEFAULT_INPUTS;
 use crate::show::set::set_text;
-use acpi_base::{Image, Policy, Stage, Tally, Verdict, verdict_text};
-use acpi_check::check_to;
+use acpi_base::{Image, Tally, Verdict, verdict_text};
+use acpi_check::read_set;
 use std::alloc::{AllocError, Global};
 use std::io::{Read, Write};
 
@@ -30,15 +29,15 @@ fn show_output(alloc: Global, image: &Image, given: Option<u64>) -> Result<Outpu
     let Some(address) = rsdp_address(image, given) else {
         return no_rsdp(alloc);
     };
-    // How many inputs an I/O APIC has, the stages up to the listed tables do not ask.
-    let policy = Policy::new(alloc, address, DEFAULT_INPUTS).unwrap();
-    let verdict = check_to(alloc, image, &policy, Stage::Tables)?;
-    if let Verdict::No(_) = verdict {
-        let bytes = verdict_text(alloc, &verdict)?;
-        let outcome = Outcome::No;
-        return Ok(Output { bytes, outcome });
-    }
-    let bytes = set_text(alloc, image, address)?.into_bytes();
+    let set = match read_set(image, address) {
+        Ok(set) => set,
+        Err(fault) => {
+            let bytes = verdict_text(alloc, &Verdict::No(fault))?;
+            let outcome = Outcome::No;
+            return Ok(Output { bytes, outcome });
+        }
+    };
+    let bytes = set_text(alloc, &set)?.into_bytes();
     let outcome = Outcome::Yes;
     Ok(Output { bytes, outcome })
 }

@@ -6,11 +6,11 @@ ghost use Rattle.clap.specs.Words.{found_of, rows_of};
 ghost use Rattle.acpi_base.specs.Codes.{stage_number};
 ghost use Rattle.acpi_base.specs.Laws.{NumbersFit};
 ghost use Rattle.acpi_base.specs.Policy.{PolicyValue};
-ghost use Rattle.acpi_base.specs.WitnessText.{witness_line};
+ghost use Rattle.acpi_base.specs.Text.WitnessText.{witness_line};
 ghost use Rattle.acpi_base.specs.declared.witness.Witness.{Witness};
-ghost use Rattle.acpi_cli.specs.CommandLine.{Asked, DoesAsked, PolicyTexts, asked, base_word, check_asked, check_words, confirm_asked, confirm_words};
-ghost use Rattle.acpi_cli.specs.CommandLine.{find_words, last_word, policy_words, rebuild_asked, rebuild_words, rsdp_word, show_asked, show_words, witness_word};
-ghost use Rattle.acpi_cli.specs.Words.{fault_written};
+ghost use Rattle.acpi_cli.specs.CommandLine.{Asked, DoesAsked, PolicyTexts, asked_job, base_word, asked_check, check_words, asked_confirm, confirm_words};
+ghost use Rattle.acpi_cli.specs.CommandLine.{find_words, last_word, policy_words, asked_rebuild, rebuild_words, rsdp_word, asked_show, show_words, witness_word};
+ghost use Rattle.acpi_cli.specs.Words.{written_fault};
 
 use crate::command_line::{clap_message, parse, value};
 use crate::number_words::{decimal_number, hex_number};
@@ -88,14 +88,12 @@ pub enum WordFault {
 /// Refuses `Words` where the arguments are anything else, `--help` among them; `Memory` may be
 /// returned in place of a job or of `Words`.
 pub fn read_words(alloc: Global, words: &[String]) -> Result<Job, WordFault>
-    ensures job { IfOk result (DoesAsked (asked (map string_bytes words.now))) }
+    ensures job { IfOk result (DoesAsked (asked_job (map string_bytes words.now))) }
     ensures refused { IfErr result (λ fault.
-        IsSome (asked (map string_bytes words.now)) → fault ≡ WordFault.Memory) }
+        IsSome (asked_job (map string_bytes words.now)) → fault ≡ WordFault.Memory) }
 {
     let matches = parse(alloc, words)?;
-    let Some((name, options)) = matches.subcommand() else {
-        return Err(WordFault::Words);
-    };
+    let (name, options) = matches.subcommand().ok_or(WordFault::Words)?;
     match name {
         "check" => check_job(alloc, options),
         "confirm" => confirm_job(alloc, options),
@@ -107,35 +105,27 @@ pub fn read_words(alloc: Global, words: &[String]) -> Result<Job, WordFault>
 }
 
 /// The job of `check` with these options.
-#[tactic(auto, unfolding(crate::specs::CommandLine::check_asked))]
+#[tactic(auto, unfolding(crate::specs::CommandLine::asked_check))]
 fn check_job(alloc: Global, options: &ArgMatches) -> Result<Job, WordFault>
-    ensures job { IfOk result (DoesAsked (check_asked (rows_of (found_of options.now)))) }
+    ensures job { IfOk result (DoesAsked (asked_check (rows_of (found_of options.now)))) }
     ensures refused { IfErr result (λ fault.
-        IsSome (check_asked (rows_of (found_of options.now))) → fault ≡ WordFault.Memory) }
+        IsSome (asked_check (rows_of (found_of options.now))) → fault ≡ WordFault.Memory) }
 {
-    let Some(rsdp) = given_address(value(options, "rsdp")) else {
-        return Err(WordFault::Words);
-    };
-    let Some(last) = last_stage(value(options, "through")) else {
-        return Err(WordFault::Words);
-    };
+    let rsdp = given_address(value(options, "rsdp")).ok_or(WordFault::Words)?;
+    let last = last_stage(value(options, "through")).ok_or(WordFault::Words)?;
     let policy = read_policy(alloc, options)?;
     Ok(Job::Check { rsdp, policy, last })
 }
 
 /// The job of `confirm` with these options.
-#[tactic(auto, unfolding(crate::specs::CommandLine::confirm_asked))]
+#[tactic(auto, unfolding(crate::specs::CommandLine::asked_confirm))]
 fn confirm_job(alloc: Global, options: &ArgMatches) -> Result<Job, WordFault>
-    ensures job { IfOk result (DoesAsked (confirm_asked (rows_of (found_of options.now)))) }
+    ensures job { IfOk result (DoesAsked (asked_confirm (rows_of (found_of options.now)))) }
     ensures refused { IfErr result (λ fault.
-        IsSome (confirm_asked (rows_of (found_of options.now))) → fault ≡ WordFault.Memory) }
+        IsSome (asked_confirm (rows_of (found_of options.now))) → fault ≡ WordFault.Memory) }
 {
-    let Some(rsdp) = given_address(value(options, "rsdp")) else {
-        return Err(WordFault::Words);
-    };
-    let Some(witness) = given_witness(value(options, "witness")) else {
-        return Err(WordFault::Words);
-    };
+    let rsdp = given_address(value(options, "rsdp")).ok_or(WordFault::Words)?;
+    let witness = given_witness(value(options, "witness")).ok_or(WordFault::Words)?;
     let policy = read_policy(alloc, options)?;
     Ok(Job::Confirm {
         rsdp,
@@ -145,33 +135,27 @@ fn confirm_job(alloc: Global, options: &ArgMatches) -> Result<Job, WordFault>
 }
 
 /// The job of `rebuild` with these options.
-#[tactic(auto, unfolding(crate::specs::CommandLine::rebuild_asked))]
+#[tactic(auto, unfolding(crate::specs::CommandLine::asked_rebuild))]
 fn rebuild_job(alloc: Global, options: &ArgMatches) -> Result<Job, WordFault>
-    ensures job { IfOk result (DoesAsked (rebuild_asked (rows_of (found_of options.now)))) }
+    ensures job { IfOk result (DoesAsked (asked_rebuild (rows_of (found_of options.now)))) }
     ensures refused { IfErr result (λ fault.
-        IsSome (rebuild_asked (rows_of (found_of options.now))) → fault ≡ WordFault.Memory) }
+        IsSome (asked_rebuild (rows_of (found_of options.now))) → fault ≡ WordFault.Memory) }
 {
-    let Some(rsdp) = given_address(value(options, "rsdp")) else {
-        return Err(WordFault::Words);
-    };
-    let Some(base) = base_address(value(options, "base")) else {
-        return Err(WordFault::Words);
-    };
+    let rsdp = given_address(value(options, "rsdp")).ok_or(WordFault::Words)?;
+    let base = base_address(value(options, "base")).ok_or(WordFault::Words)?;
     let policy = read_policy(alloc, options)?;
     Ok(Job::Rebuild { rsdp, policy, base })
 }
 
 /// The job of `show` with these options.
-#[tactic(auto, unfolding(crate::specs::CommandLine::show_asked))]
+#[tactic(auto, unfolding(crate::specs::CommandLine::asked_show))]
 fn show_job(options: &ArgMatches) -> Result<Job, WordFault>
-    ensures job { IfOk result (DoesAsked (show_asked (rows_of (found_of options.now)))) }
+    ensures job { IfOk result (DoesAsked (asked_show (rows_of (found_of options.now)))) }
     ensures refused { IfErr result (λ fault.
-        IsSome (show_asked (rows_of (found_of options.now))) → fault ≡ WordFault.Memory) }
+        IsSome (asked_show (rows_of (found_of options.now))) → fault ≡ WordFault.Memory) }
 {
-    match given_address(value(options, "rsdp")) {
-        Some(rsdp) => Ok(Job::Show { rsdp }),
-        None => Err(WordFault::Words),
-    }
+    let rsdp = given_address(value(options, "rsdp")).ok_or(WordFault::Words)?;
+    Ok(Job::Show { rsdp })
 }
 
 /// An error message on arguments that are refused, in a line that names the wrong one. `None` where the
@@ -269,26 +253,26 @@ fn last_stage(word: Option<&str>) -> Option<Stage>
 
 /// A value of `--witness` is read as a fault exactly where it is this fault's text, with numbers of 64 bits.
 pub fn fault_words_are_texts()
-    ensures { (text : List ℕ) (w : Witness) → (fault_written text ≡ Some w) ↔ (NumbersFit w × (text ≡ witness_line w)) }
+    ensures { (text : List ℕ) (w : Witness) → (written_fault text ≡ Some w) ↔ (NumbersFit w × (text ≡ witness_line w)) }
 {}
 
 /// Each plain command line with good values is read, and as one expects: `find`; `check` with each choice of its
 /// options, in this order, and then any number of words `ADDRESS=COUNT`; so `confirm` of each fault, as it is written, and
 /// `rebuild` to each address; and `show`, with its option and without.
 pub fn plain_lines_are_read()
-    ensures find { (program : List ℕ) → asked (find_words program) ≡ Some Asked.find }
+    ensures find { (program : List ℕ) → asked_job (find_words program) ≡ Some Asked.find }
     ensures check { (program : List ℕ) (hex number : Option (List ℕ)) (texts : PolicyTexts)
         (rsdp : Option ℕ) (policy : PolicyValue) (last : ℕ) → rsdp_word hex ≡ Some rsdp
         → policy_words texts ≡ Some policy → last_word number ≡ Some last
-        → asked (check_words program hex number texts) ≡ Some (Asked.check rsdp policy last) }
+        → asked_job (check_words program hex number texts) ≡ Some (Asked.check rsdp policy last) }
     ensures confirm { (program : List ℕ) (w : Witness) (hex : Option (List ℕ)) (texts : PolicyTexts)
         (rsdp : Option ℕ) (policy : PolicyValue) → NumbersFit w → rsdp_word hex ≡ Some rsdp
         → policy_words texts ≡ Some policy
-        → asked (confirm_words program (witness_line w) hex texts) ≡ Some (Asked.confirm rsdp policy w) }
+        → asked_job (confirm_words program (witness_line w) hex texts) ≡ Some (Asked.confirm rsdp policy w) }
     ensures rebuild { (program base : List ℕ) (at : ℕ) (hex : Option (List ℕ)) (texts : PolicyTexts)
         (rsdp : Option ℕ) (policy : PolicyValue) → base_word (Some base) ≡ Some at → rsdp_word hex ≡ Some rsdp
         → policy_words texts ≡ Some policy
-        → asked (rebuild_words program base hex texts) ≡ Some (Asked.rebuild rsdp policy at) }
+        → asked_job (rebuild_words program base hex texts) ≡ Some (Asked.rebuild rsdp policy at) }
     ensures show { (program : List ℕ) (hex : Option (List ℕ)) (rsdp : Option ℕ) → rsdp_word hex ≡ Some rsdp
-        → asked (show_words program hex) ≡ Some (Asked.show rsdp) }
+        → asked_job (show_words program hex) ≡ Some (Asked.show rsdp) }
 {}

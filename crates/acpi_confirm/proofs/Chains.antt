@@ -3,11 +3,11 @@ use Rattle.std.proofs.Common.{◌≡◌, ◌≢◌, ◌+◌, ◌-◌, ◌<◌, �
 use Rattle.std.specs.Prelude.{◌↔◌, IsTrue, Bool}
 use Rattle.std.proofs.lemmas.Option.{same_Some}
 use Rattle.acpi_base.specs.Chains.{IsStep, LeadsTo, IsCycle}
-use Rattle.acpi_base.specs.Entries.{Standing, Stands, first_entry, entries_of}
+use Rattle.acpi_base.specs.Entries.{PlacedEntry, Stands, first_entry, entries_of}
 use Rattle.acpi_base.specs.Pptt.{pptt_entry, pptt_contents}
 use Rattle.acpi_base.proofs.Elements.{first_or_later, no_element}
-use Rattle.acpi_base.proofs.HeldBytes.{cases_Option, none_and_some}
-use Rattle.acpi_base.proofs.Standings.{entry_within, said_from}
+use Rattle.acpi_base.proofs.Images.HeldBytes.{cases_Option, none_and_some}
+use Rattle.acpi_base.proofs.EntryOffsets.{entry_within, said_from}
 use Rattle.acpi_confirm.specs.Links.{Names, IsStepTo}
 use Rattle.acpi_confirm.specs.Walks.{IsThere, IsOnly}
 use Rattle.acpi_confirm.specs.declared.pptt.Link.{Link}
@@ -26,7 +26,7 @@ ahead (suc n) first start whole at e few stands behind =
           let next = is_next first whole d is in
           let least = next.entry.least in
           elim (first_or_later _ _ _ (rw next.first at stands)) [
-            | inl same ↦ subst (λ (k : ℕ). IsOnWay first k whole at) (ap (λ (s : Standing (List ℕ)). s.offset) same) (at_first first whole at)
+            | inl same ↦ subst (λ (k : ℕ). IsOnWay first k whole at) (ap (λ (s : PlacedEntry (List ℕ)). s.offset) same) (at_first first whole at)
             | inr later ↦
                 let here = entry_within (first + length d) whole start e later in
                 let way = at_next first first whole at d (at_first first whole at) next (omega arith) in

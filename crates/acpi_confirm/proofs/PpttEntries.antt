@@ -7,7 +7,7 @@ use Rattle.std.proofs.lemmas.List.FromFn.{length-map-range_with_len, get_or-map-
 use Rattle.acpi_base.specs.Number.{field}
 use Rattle.acpi_base.specs.Entries.{StandsWith, has_form, cut_of}
 use Rattle.acpi_base.specs.Pptt.{pptt_entry, pptt_type, has_node_form, has_cache_form, resource_count, resources_of, PpttContents, pptt_contents}
-use Rattle.acpi_confirm.specs.Links.{Names, named_by}
+use Rattle.acpi_confirm.specs.Links.{Names, named_offset}
 use Rattle.acpi_confirm.specs.Walks.{IsOnly}
 use Rattle.acpi_confirm.specs.declared.pptt.Link.{Link}
 use Rattle.acpi_confirm.specs.declared.pptt.Link.TheVariants.{Parent, NextLevel}
@@ -70,6 +70,6 @@ pub ruleset resources = (resource_is, no_resource, node_size)
 -- ---- what entries name
 
 -- what an entry names by a link is all that is named there
-pub names_of : (link : Link) (c : PpttContents) (at : ℕ) (only : Option ℕ) → IsOnly (λ p. StandsWith c.entries at (λ e. named_by link e ≡ Some p)) only → IsOnly (Names link c at) only
+pub names_of : (link : Link) (c : PpttContents) (at : ℕ) (only : Option ℕ) → IsOnly (λ p. StandsWith c.entries at (λ e. named_offset link e ≡ Some p)) only → IsOnly (Names link c at) only
 names_of Parent c at only is = is
 names_of NextLevel c at only is = is

@@ -5,7 +5,7 @@ use Rattle.std.proofs.lemmas.List.{get_or-drop}
 use Rattle.acpi_base.specs.Number.{field}
 use Rattle.acpi_base.specs.Entries.{StandsWith, AreUnused, cut_of}
 use Rattle.acpi_base.specs.Srat.{SratContents, MemoryValue, MemoryRange, srat_contents, SratFault, SratEntryFault, IsAny, IsHotPluggable, IsNotHotPluggable, is_hot_pluggable, Covers, IsOverlap}
-use Rattle.acpi_base.specs.Clashes.{IsClash}
+use Rattle.acpi_base.specs.Overlaps.{IsIntervalOverlap}
 use Rattle.acpi_base.specs.declared.policy.HotPlug.{HotPlug}
 use Rattle.acpi_base.specs.declared.policy.HotPlug.TheVariants.{Counted, Apart}
 use Rattle.acpi_confirm.specs.Srats.{CoversWith, AreCompared}
@@ -57,7 +57,7 @@ covered P c o s x (MemoryRange v, stands, (enabled, kind, base, from, below)) =
 covered P c o s x (_, stands, not) = absurd not
 
 -- two ranges of one kind clash where both cover the address
-clash : (P : MemoryValue → Type 0) (c : SratContents) (o p x f g : ℕ) → CoversAt c o x f → CoversAt c p x g → o ≢ p → ((v : MemoryValue) → v.flags ≡ f → P v) → ((v : MemoryValue) → v.flags ≡ g → P v) → IsClash (Covers P c) o p x
+clash : (P : MemoryValue → Type 0) (c : SratContents) (o p x f g : ℕ) → CoversAt c o x f → CoversAt c p x g → o ≢ p → ((v : MemoryValue) → v.flags ≡ f → P v) → ((v : MemoryValue) → v.flags ≡ g → P v) → IsIntervalOverlap (Covers P c) o p x
 clash P c o p x f g one other apart mine its =
     let first = covers P c o x f mine one in
     let second = covers P c p x g its other in
@@ -74,7 +74,7 @@ compared_apart c o p x f g false is one other apart same = inl (clash IsNotHotPl
 abbrev CoverBoth : HotPlug → SratContents → ℕ → ℕ → ℕ → Type 0
 CoverBoth h c o p x = (f : ℕ) × (g : ℕ) × CoversAt c o x f × CoversAt c p x g × AreCompared h f g
 
-cover_both : (h : HotPlug) (P : MemoryValue → Type 0) (c : SratContents) (o p x : ℕ) → ((v w : MemoryValue) → P v → P w → AreCompared h v.flags w.flags) → IsClash (Covers P c) o p x → CoverBoth h c o p x
+cover_both : (h : HotPlug) (P : MemoryValue → Type 0) (c : SratContents) (o p x : ℕ) → ((v w : MemoryValue) → P v → P w → AreCompared h v.flags w.flags) → IsIntervalOverlap (Covers P c) o p x → CoverBoth h c o p x
 cover_both h P c o p x compared clash =
     let one = covered P c o clash.s x clash.one_holds in
     let other = covered P c p clash.t x clash.other_holds in

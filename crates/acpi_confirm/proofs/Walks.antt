@@ -7,10 +7,10 @@ use Rattle.std.proofs.lemmas.List.Sums.{sum_by-cons}
 use Rattle.std.proofs.lemmas.Option.{cond_some, same_Some}
 use denote.Ref.{Bor}
 use Rattle.std.specs.Option.{option_map, MatchOption}
-use Rattle.acpi_base.specs.Entries.{IsEntry, Standing, Stands, first_entry, entries_from, entries_of, end_of_entries}
+use Rattle.acpi_base.specs.Entries.{IsEntry, PlacedEntry, Stands, first_entry, entries_from, entries_of, end_of_entries}
 use Rattle.acpi_base.proofs.Elements.{first_element, later_element, first_or_later, no_element}
-use Rattle.acpi_base.proofs.HeldBytes.{cases_Option, none_and_some}
-use Rattle.acpi_base.proofs.Standings.{entry_within}
+use Rattle.acpi_base.proofs.Images.HeldBytes.{cases_Option, none_and_some}
+use Rattle.acpi_base.proofs.EntryOffsets.{entry_within}
 use Rattle.acpi_confirm.specs.Walks.{IsThere, IsEnd, IsNext}
 
 -- ---- what the definitions say of the first entry
@@ -49,7 +49,7 @@ enough (suc n) (suc m) offset left few small =
           let first = first_says left e is in
           let least = first.entry.least in
           let rest = enough n m (offset + length e) (drop (length e) left) (omega (arith, length-drop (length e) left)) (omega (arith, length-drop (length e) left)) in
-          rw is (ap (λ (more : List (Standing (List ℕ))). record { offset = offset; entry = e } ∷ more) rest)
+          rw is (ap (λ (more : List (PlacedEntry (List ℕ))). record { offset = offset; entry = e } ∷ more) rest)
     ]
 
 from_none : (n offset : ℕ) (left : List ℕ) → first_entry left ≡ None → entries_from n offset left ≡ []
@@ -65,7 +65,7 @@ from_some (suc n) offset left e few is =
     let first = first_says left e is in
     let least = first.entry.least in
     let rest = enough n (suc n) (offset + length e) (drop (length e) left) (omega (arith, length-drop (length e) left)) (omega (arith, length-drop (length e) left)) in
-    rw is (ap (λ (more : List (Standing (List ℕ))). record { offset = offset; entry = e } ∷ more) rest)
+    rw is (ap (λ (more : List (PlacedEntry (List ℕ))). record { offset = offset; entry = e } ∷ more) rest)
 
 -- ---- a step of the walk
 
@@ -83,7 +83,7 @@ is_next start whole e is =
     let some = from_some (length whole) start (drop start whole) e (omega (arith, length-drop start whole)) is in
     let rest = ap (λ (left : List ℕ). record { offset = start; entry = e } ∷ entries_from (length whole) (start + length e) left) (drop-drop (length e) start whole) in
     let all = some ∙ rest in
-    let count : Standing (List ℕ) → ℕ = λ s. length s.entry in
+    let count : PlacedEntry (List ℕ) → ℕ = λ s. length s.entry in
     record {
       entry = here.entry;
       fits = omega (arith, here.fits, length-drop start whole);
@@ -120,7 +120,7 @@ at_next first start whole at e way next before =
     record {
       same = λ d. (
         λ stands. elim (first_or_later _ _ _ (rw next.first at ((way.same d).0 stands))) [
-          | inl is ↦ absurd (omega (arith, ap (λ (s : Standing (List ℕ)). s.offset) is))
+          | inl is ↦ absurd (omega (arith, ap (λ (s : PlacedEntry (List ℕ)). s.offset) is))
           | inr later ↦ later
         ],
         λ later. (way.same d).1 (rw next.first (later_element _ _ _ later)),
@@ -148,7 +148,7 @@ is_there first whole at (Some e) way next =
     record {
       is = λ d. (
         λ stands. elim (first_or_later _ _ _ (rw next.first at ((way.same d).0 stands))) [
-          | inl is ↦ ap (λ (s : Standing (List ℕ)). Some s.entry) is
+          | inl is ↦ ap (λ (s : PlacedEntry (List ℕ)). Some s.entry) is
           | inr later ↦ let least = next.entry.least in absurd (none_before (at + length e.now) whole at d (omega arith) later)
         ],
         λ is. (way.same d).1 (rw next.first (subst (λ (x : List ℕ). Stands entries at x) (same_Some _ _ is) (first_element _ _))),
@@ -172,7 +172,7 @@ over_next No first start whole e over next passes =
         | inr passed ↦ inr passed
         | inl left ↦
             elim (first_or_later _ _ _ (rw next.first at left)) [
-              | inl is ↦ inr (subst No (ap (λ (s : Standing (List ℕ)). s.entry) is) passes)
+              | inl is ↦ inr (subst No (ap (λ (s : PlacedEntry (List ℕ)). s.entry) is) passes)
               | inr later ↦ inl later
             ]
       ];

@@ -8,9 +8,9 @@ use Rattle.acpi_confirm.specs.declared.pptt.Link.TheVariants.{Parent, NextLevel}
 use Rattle.acpi_confirm.specs.declared.pptt.chains.Linked.{Linked}
 
 -- the offset that an entry names
-abbrev pub named_by : Link → PpttEntry → Option ℕ
-named_by Parent e = parent_of e
-named_by NextLevel e = next_level_of e
+abbrev pub named_offset : Link → PpttEntry → Option ℕ
+named_offset Parent e = parent_of e
+named_offset NextLevel e = next_level_of e
 
 -- the entry at o names p
 abbrev pub Names : Link → PpttContents → ℕ → ℕ → Type 0

@@ -1,10 +1,10 @@
 -- A walk over the entries of a table: each stands where the one before it ends.
 use Rattle.std.specs.Prelude.{◌≡◌, ℕ, ◌+◌, ◌≤◌, ◌↔◌, List, [], ◌∷◌, length, Option, Some, Bool, true, false}
 use denote.Ref.{Bor}
-use Rattle.acpi_base.specs.Entries.{IsEntry, Standing, Stands, entries_of, end_of_entries}
+use Rattle.acpi_base.specs.Entries.{IsEntry, PlacedEntry, Stands, entries_of, end_of_entries}
 
 -- what stands at the offset o: this entry, or none
-pub record IsThere {E : Type 0} (entries : List (Standing E)) (o : ℕ) (there : Option E) : Type 0 where
+pub record IsThere {E : Type 0} (entries : List (PlacedEntry E)) (o : ℕ) (there : Option E) : Type 0 where
   pub is : (e : E) → Stands entries o e ↔ (there ≡ Some e)
 
 -- P holds of this alone, or of none
@@ -24,9 +24,9 @@ pub record IsNext (start : ℕ) (whole e : List ℕ) : Type 0 where
   pub end : end_of_entries start whole ≡ end_of_entries (start + length e) whole
 
 -- by what it answers at an entry's bytes a search has found one among these entries, or no entry is one
-abbrev pub FindsOne : (Bor (List ℕ) → Bool → Type 0) → List (Standing (List ℕ)) → Bool → Type 0
+abbrev pub FindsOne : (Bor (List ℕ) → Bool → Type 0) → List (PlacedEntry (List ℕ)) → Bool → Type 0
 FindsOne Answers entries true = (o : ℕ) × (entry : Bor (List ℕ)) × Stands entries o entry.now × Answers entry true
 FindsOne Answers entries false = (o : ℕ) (e : List ℕ) → Stands entries o e → (entry : Bor (List ℕ)) × (entry.now ≡ e) × Answers entry false
 
-pub record FindsAny (Answers : Bor (List ℕ) → Bool → Type 0) (entries : List (Standing (List ℕ))) (r : Bool) : Type 0 where
+pub record FindsAny (Answers : Bor (List ℕ) → Bool → Type 0) (entries : List (PlacedEntry (List ℕ))) (r : Bool) : Type 0 where
   pub one : FindsOne Answers entries r

@@ -9,7 +9,7 @@ ghost use Rattle.acpi_base.specs.Codes.{stage_of};
 ghost use Rattle.acpi_base.specs.Entries.{IsEntry};
 ghost use Rattle.acpi_base.specs.Pptt.{PpttFaultAt, PpttFault, ReferenceFault, HasOtherPpttLength, NamesResource, IsResourceAt, has_node_form, has_cache_form, pptt_contents, pptt_entry, resource_of};
 ghost use Rattle.acpi_confirm.specs.Conditions.{PpttCondition};
-ghost use Rattle.acpi_confirm.specs.Links.{Names, named_by};
+ghost use Rattle.acpi_confirm.specs.Links.{Names, named_offset};
 ghost use Rattle.acpi_confirm.specs.Walks.{IsOnly};
 
 use crate::entries::{cut, entry_at};
@@ -57,7 +57,7 @@ fn is_cache(entry: &[u8]) -> bool
 #[tactic(auto, unfolding(acpi_base::specs::Pptt::pptt_entry), using(crate::proofs::PpttEntries::kinds))]
 fn named(entry: &[u8], link: Link) -> Option<u64>
     requires { IsEntry entry.now }
-    ensures { result ≡ named_by link (pptt_entry entry.now) }
+    ensures { result ≡ named_offset link (pptt_entry entry.now) }
 {
     match link {
         Link::Parent if is_node(entry) => Some(u64::from(u32_at(entry, 8))),

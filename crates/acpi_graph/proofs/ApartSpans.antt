@@ -11,7 +11,7 @@ use Rattle.std.proofs.lemmas.Bool.Decides.{nat_tests}
 use Rattle.std.proofs.lemmas.Cmp.{nat_cmp_total, on_total, then_total}
 use Rattle.std.proofs.lemmas.List.Sorted.{ranks_by, sorted_far, IsPermutation-sym}
 use Rattle.std.proofs.lemmas.Map.Keys.{apart_from_distinct, IsDistinct-from_apart, IsDistinct-IsPermutation}
-use Rattle.acpi_graph.specs.Spans.{end_of, EndsBefore, AreApart, DoRise}
+use Rattle.acpi_graph.specs.Spans.{end_of, EndsBefore, AreApart, AreSortedDisjoint}
 use Rattle.acpi_graph.specs.declared.span.CompactSpan.{CompactSpan}
 use Rattle.acpi_graph.proofs.ClearOfNeighbours.{ends_before_later}
 
@@ -50,24 +50,24 @@ ends_first : (s l t m : ℕ) → is_lt (ordering_then (nat_cmp t s) (nat_cmp m l
 ends_first s l t m upto either = grind (arith, nat_tests)
 
 -- sorted spans that are apart rise
-pub rise_where_apart : (xs : List CompactSpan) → IsSorted span_cmp xs → AreApart xs → DoRise xs
+pub rise_where_apart : (xs : List CompactSpan) → IsSorted span_cmp xs → AreApart xs → AreSortedDisjoint xs
 rise_where_apart xs sorted apart i j d before within =
     ends_first (get_or xs i d).start (get_or xs i d).length (get_or xs j d).start (get_or xs j d).length
     (sorted_far (λ a b. is_lt (span_cmp a b)) (ranks_by span_cmp_total (λ s. s)) xs sorted i j d (omega arith) within)
     (apart i j d before within)
 
 -- spans that rise are apart
-pub apart_where_rise : (xs : List CompactSpan) → DoRise xs → AreApart xs
+pub apart_where_rise : (xs : List CompactSpan) → AreSortedDisjoint xs → AreApart xs
 apart_where_rise xs rise i j d before within = inl (rise i j d before within)
 
 -- where each ends before its neighbour begins, all rise
-pub all_rise : (xs : List CompactSpan) → AllAdjacentBelow EndsBefore xs (length xs) → DoRise xs
+pub all_rise : (xs : List CompactSpan) → AllAdjacentBelow EndsBefore xs (length xs) → AreSortedDisjoint xs
 all_rise xs near i j d before within = ends_before_later (λ s. s.start) end_of xs (length xs) (omega arith) (λ k e inside. omega arith) near i j d before within
 
 -- ---- what is found
 
 -- whether spans rise once they are sorted says whether they are apart
-pub apart_as_found : (xs sorted : List CompactSpan) (found : Bool) → IsPermutation xs sorted → IsSorted span_cmp sorted → MatchBool found (DoRise sorted) (¬ DoRise sorted) → IsTrue found ↔ AreApart xs
+pub apart_as_found : (xs sorted : List CompactSpan) (found : Bool) → IsPermutation xs sorted → IsSorted span_cmp sorted → MatchBool found (AreSortedDisjoint sorted) (¬ AreSortedDisjoint sorted) → IsTrue found ↔ AreApart xs
 apart_as_found xs sorted true moved order rise = (λ _. apart_permuted sorted xs (IsPermutation-sym xs sorted moved) (apart_where_rise sorted rise), λ _. refl)
 apart_as_found xs sorted false moved order not = (
   λ is. absurd (true≢false (sym is)),

@@ -3,18 +3,18 @@ use Rattle.std.specs.Prelude.{option_and_then, IfSome}
 use Rattle.std.proofs.Math.Nat.{add-suc}
 use Rattle.std.proofs.lemmas.Bool.{cases_lt}
 use Rattle.std.proofs.lemmas.Option.{slice_get_cases}
-use Rattle.acpi_graph.specs.Parents.{AreNodes, parent_of, after, Ends}
+use Rattle.acpi_graph.specs.Parents.{AreNodes, parent_of, node_after, Ends}
 
 -- steps on from the node that stands after the first ones
-pub after-add : (parents : List (Option ℕ)) (node steps there : ℕ) → after parents node steps ≡ Some there
-    → (more : ℕ) → after parents node (steps + more) ≡ after parents there more
-after-add parents node steps there stands zero = rw add-zero stands
-after-add parents node steps there stands (suc more) =
-    rw add-suc (ap (option_and_then (parent_of parents)) (after-add parents node steps there stands more))
+pub node_after-add : (parents : List (Option ℕ)) (node steps there : ℕ) → node_after parents node steps ≡ Some there
+    → (more : ℕ) → node_after parents node (steps + more) ≡ node_after parents there more
+node_after-add parents node steps there stands zero = rw add-zero stands
+node_after-add parents node steps there stands (suc more) =
+    rw add-suc (ap (option_and_then (parent_of parents)) (node_after-add parents node steps there stands more))
 
 -- a chain that is over stays over
-pub stays_over : (parents : List (Option ℕ)) (node steps : ℕ) → after parents node steps ≡ None
-    → (more : ℕ) → after parents node (steps + more) ≡ None
+pub stays_over : (parents : List (Option ℕ)) (node steps : ℕ) → node_after parents node steps ≡ None
+    → (more : ℕ) → node_after parents node (steps + more) ≡ None
 stays_over parents node steps over zero = rw add-zero over
 stays_over parents node steps over (suc more) =
     rw add-suc (ap (option_and_then (parent_of parents)) (stays_over parents node steps over more))
@@ -25,33 +25,33 @@ over_or_there None = inl refl
 over_or_there (Some there) = inr (there, refl)
 
 -- where a chain goes on, it went on before
-pub went_on : (parents : List (Option ℕ)) (node steps later there : ℕ) → steps ≤ later → after parents node later ≡ Some there
-    → (before : ℕ) × (after parents node steps ≡ Some before)
-went_on parents node steps later there earlier stands = elim (over_or_there (after parents node steps)) [
+pub went_on : (parents : List (Option ℕ)) (node steps later there : ℕ) → steps ≤ later → node_after parents node later ≡ Some there
+    → (before : ℕ) × (node_after parents node steps ≡ Some before)
+went_on parents node steps later there earlier stands = elim (over_or_there (node_after parents node steps)) [
   | inl over ↦
-      let still : after parents node (steps + (later - steps)) ≡ None = stays_over parents node steps over (later - steps) in
+      let still : node_after parents node (steps + (later - steps)) ≡ None = stays_over parents node steps over (later - steps) in
       let at : steps + (later - steps) ≡ later = omega arith in
-      let never : after parents node later ≡ None = subst (λ k. after parents node k ≡ None) at still in
+      let never : node_after parents node later ≡ None = subst (λ k. node_after parents node k ≡ None) at still in
       absurd cc
   | inr found ↦ found
 ]
 
 -- where a node on a chain has a chain that ends, the chain ends
-pub ends_before : (parents : List (Option ℕ)) (node steps there : ℕ) → after parents node steps ≡ Some there
+pub ends_before : (parents : List (Option ℕ)) (node steps there : ℕ) → node_after parents node steps ≡ Some there
     → Ends parents there → Ends parents node
-ends_before parents node steps there stands (more, over) = (steps + more, after-add parents node steps there stands more ∙ over)
+ends_before parents node steps there stands (more, over) = (steps + more, node_after-add parents node steps there stands more ∙ over)
 
 -- where a chain ends, so does that of each node on it
-pub ends_later : (parents : List (Option ℕ)) (node steps there : ℕ) → after parents node steps ≡ Some there
+pub ends_later : (parents : List (Option ℕ)) (node steps there : ℕ) → node_after parents node steps ≡ Some there
     → Ends parents node → Ends parents there
 ends_later parents node steps there stands (last, over) = elim (cases_lt steps last) [
   | inl before ↦
       let at : steps + (last - steps) ≡ last = omega arith in
-      (last - steps, sym (after-add parents node steps there stands (last - steps)) ∙ ap (after parents node) at ∙ over)
+      (last - steps, sym (node_after-add parents node steps there stands (last - steps)) ∙ ap (node_after parents node) at ∙ over)
   | inr past ↦
       let at : last + (steps - last) ≡ steps = omega arith in
-      let none : after parents node (last + (steps - last)) ≡ None = stays_over parents node last over (steps - last) in
-      let gone : after parents node steps ≡ None = subst (λ k. after parents node k ≡ None) at none in
+      let none : node_after parents node (last + (steps - last)) ≡ None = stays_over parents node last over (steps - last) in
+      let gone : node_after parents node steps ≡ None = subst (λ k. node_after parents node k ≡ None) at none in
       absurd cc
 ]
 
@@ -70,10 +70,10 @@ parent_is_node parents nodes node parent up = elim (slice_get_cases parents node
 
 -- a chain that begins at a node keeps to the nodes
 pub after_is_node : (parents : List (Option ℕ)) → AreNodes parents → (node : ℕ) → node < length parents
-    → (steps there : ℕ) → after parents node steps ≡ Some there → there < length parents
+    → (steps there : ℕ) → node_after parents node steps ≡ Some there → there < length parents
 after_is_node parents nodes node is_node zero there stands = let same : node ≡ there = cc in
     omega arith
-after_is_node parents nodes node is_node (suc steps) there stands = elim (over_or_there (after parents node steps)) [
+after_is_node parents nodes node is_node (suc steps) there stands = elim (over_or_there (node_after parents node steps)) [
   | inl over ↦
       let none : None ≡ Some there = subst (λ o. option_and_then (parent_of parents) o ≡ Some there) over stands in
       absurd cc

@@ -4,7 +4,7 @@ use Rattle.std.proofs.lemmas.List.{get_or_default}
 use Rattle.std.proofs.lemmas.Bool.{cases_lt}
 use Rattle.std.proofs.Math.Nat.{eq-or-lt_of_le}
 use Rattle.acpi_graph.specs.declared.span.Span.{Span}
-use Rattle.acpi_graph.specs.Spans.{NamesDiffer, Holds, LiesInTwo, IsClear, ComesBefore, IsFirstClash}
+use Rattle.acpi_graph.specs.Spans.{NamesDiffer, HasNumber, LiesInTwo, IsClear, ComesBefore, IsFirstClash}
 use Rattle.acpi_graph.proofs.ClearOfNeighbours.{ends_before_later}
 
 -- the one span ends by the start of the other
@@ -46,7 +46,7 @@ ends_by xs high within next i j a b at_a at_b before below =
 
 none_shared : (xs : List Span) (high : ℕ) → high ≤ length xs → AllAdjacentBelow EndsBy xs high
     → (i j : ℕ) (a b : Span) → StandsAt xs i a → StandsAt xs j b → i < j → j < high
-    → (number : ℕ) → Holds a number → Holds b number → ⊥
+    → (number : ℕ) → HasNumber a number → HasNumber b number → ⊥
 none_shared xs high within next i j a b at_a at_b before below number in_a in_b =
     let ends : a.end ≤ b.start = ends_by xs high within next i j a b at_a at_b before below in
     let inside : number < a.end = in_a.below_end in
@@ -118,7 +118,7 @@ pub record Overlaps (xs : List Span) (k : ℕ) (a b : Span) : Type 0 where
 -- no number below the overlap lies in two spans
 no_lower : (xs : List Span) → AllPairs ComesBefore xs → (k : ℕ) (a b : Span) → Overlaps xs k a b
     → (i j : ℕ) (one other : Span) → StandsAt xs i one → StandsAt xs j other → i < j
-    → (number : ℕ) → Holds one number → Holds other number → b.start ≤ number
+    → (number : ℕ) → HasNumber one number → HasNumber other number → b.start ≤ number
 no_lower xs ordered k a b overlaps i j one other at_one at_other before number in_one in_other = elim (cases_lt j (suc k)) [
   | inl below ↦
       let inside : k < length xs = overlaps.at_a.within in
@@ -140,7 +140,7 @@ least_shared xs ordered k a b overlaps number shared =
 
 -- a span that holds the point of the overlap is one of the two that overlap, or comes after them
 later_holder : (xs : List Span) → AllPairs ComesBefore xs → (k : ℕ) (a b : Span) → Overlaps xs k a b
-    → (s : Span) → Contains xs s → Holds s b.start → s.name ≢ a.name → s.name ≢ b.name → ComesBefore b s
+    → (s : Span) → Contains xs s → HasNumber s b.start → s.name ≢ a.name → s.name ≢ b.name → ComesBefore b s
 later_holder xs ordered k a b overlaps s found holds not_a not_b =
     let at_s = stands xs s found in
     let inside : k < length xs = overlaps.at_a.within in

@@ -2,7 +2,7 @@ use Rattle.std.proofs.Common.{◌≡◌, ◌≢◌, ℕ, ◌+◌, ◌-◌, ◌<�
 use Rattle.std.specs.Prelude.{option_and_then}
 use Rattle.std.proofs.Math.Nat.{add-suc}
 use Rattle.std.proofs.lemmas.Bool.{cases_lt}
-use Rattle.acpi_graph.specs.Parents.{parent_of, after, Ends, Returns, IsRound}
+use Rattle.acpi_graph.specs.Parents.{parent_of, node_after, Ends, Returns, IsRound}
 use Rattle.acpi_graph.proofs.Chains.{went_on}
 
 -- from the lead on each place of a chain has the node of a place before the end of the first pass of the cycle
@@ -10,7 +10,7 @@ pub record FoldsBack (parents : List (Option ℕ)) (node lead round steps : ℕ)
   pub place : ℕ
   pub from_lead : lead ≤ place
   pub in_round : place < lead + round
-  pub same : after parents node (lead + steps) ≡ after parents node place
+  pub same : node_after parents node (lead + steps) ≡ node_after parents node place
 
 pub fold_back : (parents : List (Option ℕ)) (node lead round : ℕ) → Returns parents node lead round
     → (steps : ℕ) → FoldsBack parents node lead round steps
@@ -22,7 +22,7 @@ fold_back parents node lead round returns (suc steps) =
     let moves : 1 ≤ round = returns.moves in
     let low : lead ≤ folded.place = folded.from_lead in
     let high : folded.place < lead + round = folded.in_round in
-    let next : after parents node (lead + suc steps) ≡ after parents node (suc folded.place) =
+    let next : node_after parents node (lead + suc steps) ≡ node_after parents node (suc folded.place) =
     rw add-suc (ap (option_and_then (parent_of parents)) folded.same) in
     elim (cases_lt (suc folded.place) (lead + round)) [
       | inl inside ↦ record { place = suc folded.place; from_lead = omega arith; in_round = inside; same = next }
@@ -32,7 +32,7 @@ fold_back parents node lead round returns (suc steps) =
             place = lead;
             from_lead = omega arith;
             in_round = omega arith;
-            same = next ∙ ap (after parents node) top ∙ returns.again ∙ sym returns.stands;
+            same = next ∙ ap (node_after parents node) top ∙ returns.again ∙ sym returns.stands;
           }
     ]
 
@@ -41,22 +41,22 @@ pub never_ends : (parents : List (Option ℕ)) (node lead round : ℕ) → Retur
 never_ends parents node lead round returns (steps, over) = elim (cases_lt steps lead) [
   | inl before ↦
       let going = went_on parents node steps lead returns.there (omega arith) returns.stands in
-      let here : after parents node steps ≡ Some going.0 = going.1 in
+      let here : node_after parents node steps ≡ Some going.0 = going.1 in
       cc
   | inr not_before ↦
       let folded : FoldsBack parents node lead round (steps - lead) = fold_back parents node lead round returns (steps - lead) in
       let at : lead + (steps - lead) ≡ steps = omega arith in
       let high : folded.place < lead + round = folded.in_round in
       let going = went_on parents node folded.place (lead + round) returns.there (omega arith) returns.again in
-      let here : after parents node folded.place ≡ Some going.0 = going.1 in
-      let there : after parents node steps ≡ after parents node folded.place =
-      subst (λ k. after parents node k ≡ after parents node folded.place) at folded.same in
+      let here : node_after parents node folded.place ≡ Some going.0 = going.1 in
+      let there : node_after parents node steps ≡ node_after parents node folded.place =
+      subst (λ k. node_after parents node k ≡ node_after parents node folded.place) at folded.same in
       cc
 ]
 
 -- the node that a chain has come back to for the first time: until then no node stood twice
 pub is_round : (parents : List (Option ℕ)) (node lead round : ℕ) → Returns parents node lead round
-    → ((i j : ℕ) → i < j → j < lead + round → after parents node i ≢ after parents node j)
+    → ((i j : ℕ) → i < j → j < lead + round → node_after parents node i ≢ node_after parents node j)
     → IsRound parents node lead round
 is_round parents node lead round returns distinct =
     record { returns = returns; least_lead = least_lead; least_round = least_round }
@@ -80,8 +80,8 @@ is_round parents node lead round returns distinct =
                 let folded : FoldsBack parents node lead round (steps + more - lead) = fold_back parents node lead round returns (steps + more - lead) in
                 let low : lead ≤ folded.place = folded.from_lead in
                 let at : lead + (steps + more - lead) ≡ steps + more = omega arith in
-                let same : after parents node (steps + more) ≡ after parents node folded.place =
-                subst (λ k. after parents node k ≡ after parents node folded.place) at folded.same in
+                let same : node_after parents node (steps + more) ≡ node_after parents node folded.place =
+                subst (λ k. node_after parents node k ≡ node_after parents node folded.place) at folded.same in
                 absurd (distinct steps folded.place (omega arith) folded.in_round (other.stands ∙ sym other.again ∙ same))
           ]
     ]

@@ -3,19 +3,19 @@ use Rattle.std.specs.Prelude.{count_by, nat_lt, cond, option_and_then}
 use Rattle.std.proofs.lemmas.Bool.{cases_lt, cases_eq, lt-ltb}
 use Rattle.std.proofs.lemmas.List.{get_or-set_same, get_or-set_other, get_or-replicate, get_or_past, length-set, length-replicate}
 use Rattle.std.proofs.lemmas.List.Sums.{sum_by-set, count_by-le-length}
-use Rattle.acpi_graph.specs.Parents.{AreNodes, parent_of, after, Ends, IsRound, IsFirstStray, IfRound}
+use Rattle.acpi_graph.specs.Parents.{AreNodes, parent_of, node_after, Ends, IsRound, IsFirstStray, IfRound}
 use Rattle.std.proofs.lemmas.List.Folds.{sum_by-replicate}
 use Rattle.std.proofs.Math.Nat.{mul-zero}
 use Rattle.acpi_graph.specs.declared.stray.Stray.{Stray}
 use Rattle.acpi_graph.specs.declared.stray.Stray.TheVariants as stray
-use Rattle.acpi_graph.specs.Walks.{AreSettled}
+use Rattle.acpi_graph.specs.Walks.{AreMarksOfEnded}
 use Rattle.acpi_graph.proofs.Chains.{parent_is_node, ends_before, ends_later}
 use Rattle.acpi_graph.proofs.Rounds.{never_ends, is_round}
 
 -- the node that the walk left after it had taken so many steps
 pub record Left (parents : List (Option ℕ)) (marks : List ℕ) (start base taken : ℕ) : Type 0 where
   pub there : ℕ
-  pub stands : after parents start taken ≡ Some there
+  pub stands : node_after parents start taken ≡ Some there
   pub mark : get_or marks there 0 ≡ suc (base + taken)
 
 -- What the marks say in a walk from start that began when base steps had been taken, and now steps.
@@ -25,16 +25,16 @@ pub record Trail (parents : List (Option ℕ)) (marks : List ℕ) (start base st
   pub from_base : base ≤ steps
   pub numbered : (node : ℕ) → get_or marks node 0 ≤ steps
   pub settled : (node : ℕ) → 0 < get_or marks node 0 → get_or marks node 0 ≤ base → Ends parents node
-  pub own : (node : ℕ) → base < get_or marks node 0 → after parents start (get_or marks node 0 - suc base) ≡ Some node
+  pub own : (node : ℕ) → base < get_or marks node 0 → node_after parents start (get_or marks node 0 - suc base) ≡ Some node
   pub left : (taken : ℕ) → base + taken < steps → Left parents marks start base taken
 
 -- the walk stands at a node
 pub record StandsAt (parents : List (Option ℕ)) (start base steps node : ℕ) : Type 0 where
   pub is_node : node < length parents
-  pub stands : after parents start (steps - base) ≡ Some node
+  pub stands : node_after parents start (steps - base) ≡ Some node
 
 -- a walk begins
-pub begin : (parents : List (Option ℕ)) (marks : List ℕ) (start steps : ℕ) → AreSettled parents marks steps → Trail parents marks start steps steps
+pub begin : (parents : List (Option ℕ)) (marks : List ℕ) (start steps : ℕ) → AreMarksOfEnded parents marks steps → Trail parents marks start steps steps
 begin parents marks start steps s = record {
   same_length = s.same_length;
   one_a_step = s.one_a_step;
@@ -67,8 +67,8 @@ mark_more parents marks start base steps node t at blank = record {
     | inl same ↦
         let mark : get_or (set marks node (suc steps)) other 0 ≡ suc steps = rw same here in
         let taken : get_or (set marks node (suc steps)) other 0 - suc base ≡ steps - base = omega arith in
-        ap (after parents start) taken ∙ at.stands ∙ ap Some (sym same)
-    | inr differ ↦ subst (λ m. after parents start (m - suc base) ≡ Some other) (sym (elsewhere other differ))
+        ap (node_after parents start) taken ∙ at.stands ∙ ap Some (sym same)
+    | inr differ ↦ subst (λ m. node_after parents start (m - suc base) ≡ Some other) (sym (elsewhere other differ))
         (t.own other (subst (λ m. base < m) (elsewhere other differ) above))
   ];
   left = λ taken below. elim (cases_lt (base + taken) steps) [
@@ -83,7 +83,7 @@ mark_more parents marks start base steps node t at blank = record {
         let low : base ≤ steps = t.from_base in
         let all : taken ≡ steps - base = omega arith in
         let sum : steps ≡ base + taken = omega arith in
-        record { there = node; stands = ap (after parents start) all ∙ at.stands; mark = here ∙ ap suc sum }
+        record { there = node; stands = ap (node_after parents start) all ∙ at.stands; mark = here ∙ ap suc sum }
   ];
 }
   where
@@ -140,7 +140,7 @@ stands_on parents start base steps node next parent nodes low at counted up =
     let one_more : next - base ≡ suc (steps - base) = omega arith in
     record {
       is_node = parent_is_node parents nodes node parent up;
-      stands = ap (after parents start) one_more ∙ ap (option_and_then (parent_of parents)) at.stands ∙ up;
+      stands = ap (node_after parents start) one_more ∙ ap (option_and_then (parent_of parents)) at.stands ∙ up;
     }
 
 -- the walk has come to a root
@@ -157,7 +157,7 @@ settled_ends parents marks start base steps node t at marked old =
 
 -- a walk whose chain ends leaves all settled
 pub settle : (parents : List (Option ℕ)) (marks : List ℕ) (start base steps : ℕ) → Trail parents marks start base steps
-    → Ends parents start → AreSettled parents marks steps
+    → Ends parents start → AreMarksOfEnded parents marks steps
 settle parents marks start base steps t ends = record {
   same_length = t.same_length;
   one_a_step = t.one_a_step;
@@ -170,7 +170,7 @@ settle parents marks start base steps t ends = record {
 
 -- in one walk no node is left twice
 left_once : (parents : List (Option ℕ)) (marks : List ℕ) (start base steps : ℕ) → Trail parents marks start base steps
-    → (i j : ℕ) → i < j → base + j < steps → after parents start i ≢ after parents start j
+    → (i j : ℕ) → i < j → base + j < steps → node_after parents start i ≢ node_after parents start j
 left_once parents marks start base steps t i j before below same =
     let first : Left parents marks start base i = t.left i (omega arith) in
     let second : Left parents marks start base j = t.left j below in
@@ -194,8 +194,8 @@ round_found parents marks start base steps node lead round t at lead_is round_is
     (record {
       moves = omega arith;
       there = node;
-      stands = subst (λ k. after parents start k ≡ Some node) lead_at (t.own node (omega arith));
-      again = ap (after parents start) round_at ∙ at.stands;
+      stands = subst (λ k. node_after parents start k ≡ Some node) lead_at (t.own node (omega arith));
+      again = ap (node_after parents start) round_at ∙ at.stands;
     })
     (λ i j before below. left_once parents marks start base steps t i j before (omega arith))
 
@@ -222,7 +222,7 @@ no_mark parents marks blank node = elim (cases_lt node (length parents)) [
       get_or_past marks node 0 (omega arith)
 ]
 
-pub fresh : (parents : List (Option ℕ)) (marks : List ℕ) → marks ≡ replicate (length parents) 0 → AreSettled parents marks 0
+pub fresh : (parents : List (Option ℕ)) (marks : List ℕ) → marks ≡ replicate (length parents) 0 → AreMarksOfEnded parents marks 0
 fresh parents marks blank = record {
   same_length = ap length blank ∙ length-replicate (length parents) 0;
   one_a_step = rw blank (sum_by-replicate (λ mark. cond (nat_lt 0 mark) 1 0) (length parents) 0 ∙ mul-zero (length parents));

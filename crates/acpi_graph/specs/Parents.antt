@@ -13,13 +13,13 @@ abbrev pub parent_of : List (Option ℕ) → ℕ → Option ℕ
 parent_of parents node = option_and_then (λ parent. parent) (slice_get parents node)
 
 -- the node that so many steps lead to, each from a node to its parent; None where the chain is over
-abbrev pub after : List (Option ℕ) → ℕ → ℕ → Option ℕ
-after parents node zero = Some node
-after parents node (suc steps) = option_and_then (parent_of parents) (after parents node steps)
+abbrev pub node_after : List (Option ℕ) → ℕ → ℕ → Option ℕ
+node_after parents node zero = Some node
+node_after parents node (suc steps) = option_and_then (parent_of parents) (node_after parents node steps)
 
 -- the chain that begins at the node ends
 abbrev pub Ends : List (Option ℕ) → ℕ → Type 0
-Ends parents node = (steps : ℕ) × (after parents node steps ≡ None)
+Ends parents node = (steps : ℕ) × (node_after parents node steps ≡ None)
 
 -- every chain ends
 abbrev pub AllEnd : List (Option ℕ) → Type 0
@@ -29,8 +29,8 @@ AllEnd parents = (node : ℕ) → node < length parents → Ends parents node
 pub record Returns (parents : List (Option ℕ)) (node lead round : ℕ) : Type 0 where
   pub moves : 1 ≤ round
   pub there : ℕ
-  pub stands : after parents node lead ≡ Some there
-  pub again : after parents node (lead + round) ≡ Some there
+  pub stands : node_after parents node lead ≡ Some there
+  pub again : node_after parents node (lead + round) ≡ Some there
 
 -- of all returns of the chain, lead is the least, and round is the least for it
 pub record IsRound (parents : List (Option ℕ)) (node lead round : ℕ) : Type 0 where

@@ -9,7 +9,7 @@ abbrev pub NamesDiffer : List Span → Type 0
 NamesDiffer spans = AllPairs (λ a b. a.name ≢ b.name) spans
 
 -- the number lies in the span: at its start or above, and below its end
-pub record Holds (span : Span) (number : ℕ) : Type 0 where
+pub record HasNumber (span : Span) (number : ℕ) : Type 0 where
   pub from_start : span.start ≤ number
   pub below_end : number < span.end
 
@@ -20,8 +20,8 @@ pub record LiesInTwo (spans : List Span) (number : ℕ) : Type 0 where
   pub one_listed : Contains spans one
   pub other_listed : Contains spans other
   pub two : one.name ≢ other.name
-  pub one_holds : Holds one number
-  pub other_holds : Holds other number
+  pub one_holds : HasNumber one number
+  pub other_holds : HasNumber other number
 
 -- no number lies in two spans of the list
 abbrev pub IsClear : List Span → Type 0
@@ -40,10 +40,10 @@ pub record AreFirstTwo (spans : List Span) (number first second : ℕ) : Type 0 
   pub earlier_name : earlier.name ≡ first
   pub later_name : later.name ≡ second
   pub two : first ≢ second
-  pub earlier_holds : Holds earlier number
-  pub later_holds : Holds later number
+  pub earlier_holds : HasNumber earlier number
+  pub later_holds : HasNumber later number
   pub in_order : ComesBefore earlier later
-  pub others_after : (span : Span) → Contains spans span → Holds span number
+  pub others_after : (span : Span) → Contains spans span → HasNumber span number
       → span.name ≢ first → span.name ≢ second → ComesBefore later span
 
 -- point is the least number that lies in two spans of the list, and first and second are the names
@@ -72,5 +72,5 @@ abbrev pub AreApart : List CompactSpan → Type 0
 AreApart spans = AllPairs (λ a b. EndsBefore a b ⊎ EndsBefore b a) spans
 
 -- each span of the list ends before all behind it begin
-abbrev pub DoRise : List CompactSpan → Type 0
-DoRise spans = AllPairs EndsBefore spans
+abbrev pub AreSortedDisjoint : List CompactSpan → Type 0
+AreSortedDisjoint spans = AllPairs EndsBefore spans

@@ -1,7 +1,7 @@
 //! Whether spans are apart.
 
 ghost use Rattle.std.specs.Prelude.{◌≡◌, ◌+◌, ◌-◌, ◌<◌, ◌≤◌, ◌↔◌, IsTrue, MatchBool, length, vec_len};
-ghost use Rattle.acpi_graph.specs.Spans.{end_of, AreApart, DoRise};
+ghost use Rattle.acpi_graph.specs.Spans.{end_of, AreApart, AreSortedDisjoint};
 
 use crate::span::CompactSpan;
 
@@ -14,12 +14,12 @@ pub fn are_apart(mut spans: Vec<CompactSpan>) -> (bool, usize)
     ensures comparisons { result.1 ≤ vec_len spans - 1 }
 {
     spans.sort_unstable();
-    do_rise(&spans)
+    is_sorted_disjoint(&spans)
 }
 
 /// Whether each span ends before all behind it begin, and how many neighbours were compared.
-fn do_rise(spans: &[CompactSpan]) -> (bool, usize)
-    ensures rise { MatchBool result.0 (DoRise spans.now) (¬ DoRise spans.now) }
+fn is_sorted_disjoint(spans: &[CompactSpan]) -> (bool, usize)
+    ensures rise { MatchBool result.0 (AreSortedDisjoint spans.now) (¬ AreSortedDisjoint spans.now) }
     ensures comparisons { result.1 ≤ length spans.now - 1 }
 {
     let mut comparisons = 0;

@@ -2,7 +2,7 @@
 
 ghost use Rattle.std.specs.Prelude.{◌≡◌, ◌+◌, ◌<◌, ◌≤◌, ◌↔◌, [], IsOk, IfOk, length, replicate};
 ghost use Rattle.acpi_graph.specs.Parents.{AreNodes, parent_of, Ends, AllEnd, IsRound, IsFirstStray, IfRound};
-ghost use Rattle.acpi_graph.specs.Walks.{AreSettled};
+ghost use Rattle.acpi_graph.specs.Walks.{AreMarksOfEnded};
 
 use std::alloc::{AllocError, Global};
 
@@ -72,8 +72,8 @@ fn walk_all(parents: &[Option<usize>], marks: &mut [usize]) -> (Stray, usize)
 fn walk(parents: &[Option<usize>], marks: &mut [usize], steps: &mut usize, start: usize) -> Stray
     requires nodes { AreNodes parents.now }
     requires start { start < length parents.now }
-    requires settled { AreSettled parents.now marks.old steps.old }
-    ensures settled { result ≡ Stray.None → AreSettled parents.now marks.new steps.new }
+    requires settled { AreMarksOfEnded parents.now marks.old steps.old }
+    ensures settled { result ≡ Stray.None → AreMarksOfEnded parents.now marks.new steps.new }
     ensures end { result ≡ Stray.None → Ends parents.now start }
     ensures round { IfRound result (λ node lead round.
         (node ≡ start) × IsRound parents.now start lead round × (lead + round ≤ length parents.now)) }

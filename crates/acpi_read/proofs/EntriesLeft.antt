@@ -8,8 +8,8 @@ use Rattle.std.proofs.lemmas.Option.{cond_some}
 use denote.Ref.{Bor}
 use Rattle.std.specs.Option.{option_map, MatchOption}
 use Rattle.acpi_read.specs.Entries.{IsLast, IsNext}
-use Rattle.acpi_base.proofs.HeldBytes.{cases_Option}
-use Rattle.acpi_base.specs.Entries.{IsEntry, Standing, first_entry, entries_from, entries_of, end_of_entries, cut_of}
+use Rattle.acpi_base.proofs.Images.HeldBytes.{cases_Option}
+use Rattle.acpi_base.specs.Entries.{IsEntry, PlacedEntry, first_entry, entries_from, entries_of, end_of_entries, cut_of}
 
 -- the entry that bytes begin with is one, and fits them
 record BeginsWith (left e : List ℕ) : Type 0 where
@@ -45,7 +45,7 @@ entries_from-enough (suc n) (suc m) offset left few small =
           let first = first_says left e is in
           let least = first.entry.least in
           let rest = entries_from-enough n m (offset + length e) (drop (length e) left) (omega (arith, length-drop (length e) left)) (omega (arith, length-drop (length e) left)) in
-          rw is (ap (λ (more : List (Standing (List ℕ))). record { offset = offset; entry = e } ∷ more) rest)
+          rw is (ap (λ (more : List (PlacedEntry (List ℕ))). record { offset = offset; entry = e } ∷ more) rest)
     ]
 
 -- where no entry stands there are none
@@ -63,7 +63,7 @@ entries_from-some (suc n) offset left e few is =
     let first = first_says left e is in
     let least = first.entry.least in
     let rest = entries_from-enough n (suc n) (offset + length e) (drop (length e) left) (omega (arith, length-drop (length e) left)) (omega (arith, length-drop (length e) left)) in
-    rw is (ap (λ (more : List (Standing (List ℕ))). record { offset = offset; entry = e } ∷ more) rest)
+    rw is (ap (λ (more : List (PlacedEntry (List ℕ))). record { offset = offset; entry = e } ∷ more) rest)
 
 -- the same of a table
 entries_of-none : (first : ℕ) (whole : List ℕ) → first_entry (drop first whole) ≡ None → entries_of first whole ≡ []
@@ -85,7 +85,7 @@ end_of_entries-none first whole none = grind (arith, entries_of-none first whole
 end_of_entries-some : (first : ℕ) (whole e : List ℕ) → first_entry (drop first whole) ≡ Some e → end_of_entries first whole ≡ end_of_entries (first + length e) whole
 unfolding end_of_entries
 end_of_entries-some first whole e is =
-    let count : Standing (List ℕ) → ℕ = λ s. length s.entry in
+    let count : PlacedEntry (List ℕ) → ℕ = λ s. length s.entry in
     grind (arith, entries_of-some first whole e is, sum_by-cons count (record { offset = first; entry = e }) (entries_of (first + length e) whole))
 
 -- what is left where no entry stands, and where one does

@@ -2,11 +2,17 @@
 use Rattle.std.proofs.Common.{◌≡◌, ℕ, List, Option, Some, None, true, false, refl, sym, subst, inl, inr}
 use Rattle.std.specs.Prelude.{is_none, is_some, ◌&&◌, if◌then◌else◌}
 use Rattle.std.proofs.lemmas.Bool.{cases_Bool, both_ways}
+use Rattle.std.specs.Option.{option_map}
 use Rattle.acpi_base.specs.Signature.{has_signature}
 use Rattle.acpi_base.specs.TableKinds.{signature_of}
 use Rattle.acpi_base.specs.declared.table_kind.TableKind.{TableKind}
 use Rattle.acpi_base.proofs.Tables.Kinds.{one_kind}
-use Rattle.acpi_read.specs.FirstTables.{first_with}
+use Rattle.acpi_read.specs.FirstTables.{first_signed_table}
+
+-- there is a value where one was made of it
+pub some_of_map : {X Y : Type 0} (f : X → Y) (o : Option X) → is_some (option_map f o) ≡ is_some o
+some_of_map f (Some x) = refl
+some_of_map f None = refl
 
 none_of_some : (found : Option (List ℕ)) → is_some found ≡ true → is_none found ≡ false
 none_of_some (Some whole) some = refl
@@ -28,7 +34,7 @@ first_of_none whole one kind firsts has some =
 -- the first of its own kind is kept, and those of the others stay
 pub first_kept : (whole : List ℕ) (one kind : TableKind) (old new : TableKind → Option (List ℕ)) → has_signature whole (signature_of one) ≡ true
     → is_some (old one) ≡ false → new one ≡ Some whole → ((other : TableKind) → ¬ (other ≡ one) → new other ≡ old other)
-    → new kind ≡ first_with (signature_of kind) (old kind) whole
+    → new kind ≡ first_signed_table (signature_of kind) (old kind) whole
 first_kept whole one kind old new has none kept others =
     elim (cases_Bool (has_signature whole (signature_of kind))) [
       | inl is ↦ rw is (subst (λ (k : TableKind). new k ≡ (if is_none (old k) then Some whole else old k)) (one_kind whole one kind has is) (rw (some_of_none (old one) none) kept))

@@ -6,14 +6,11 @@ use Rattle.std.specs.List.{range_with_len}
 use Rattle.std.proofs.lemmas.Bool.Decides.{nat_tests}
 use Rattle.std.proofs.lemmas.List.{drop-drop, length-take, length-drop}
 use Rattle.acpi_base.specs.Number.{field}
-use Rattle.acpi_base.specs.Entries.{IsEntry, has_form}
-use Rattle.acpi_base.specs.Pptt.{NodeValue, node_of, cache_of, resource_count, has_node_form, has_cache_form, pptt_entry, Node, Cache, Opaque}
-use Rattle.acpi_base.proofs.HeldBytes.{field-take}
-use Rattle.acpi_read.specs.EntryKinds.{LaysOut}
-use Rattle.acpi_read.specs.Pptts.{node_value, cache24_parts, cache24_values, cache24_value, cache28_parts, cache28_values, cache28_value}
-use Rattle.acpi_read.specs.declared.pptt.cache24.Cache24.{Cache24}
-use Rattle.acpi_read.specs.declared.pptt.cache28.Cache28.{Cache28}
-use Rattle.acpi_read.proofs.EntryKinds.{byte_field, lays_out, of_form}
+use Rattle.acpi_base.specs.Entries.{IsEntry, IsEntryOf, has_form}
+use Rattle.acpi_base.specs.Pptt.{NodeValue, node_of, CacheValue, cache_of, cache24, cache28, resource_count, has_node_form, has_cache_form, pptt_entry, Node, Cache, Opaque}
+use Rattle.acpi_base.proofs.Images.HeldBytes.{field-take}
+use Rattle.acpi_read.specs.Pptts.{node_value}
+use Rattle.acpi_base.proofs.Layouts.Kinds.{byte_field}
 use Rattle.acpi_base.specs.Layouts.{values_at, layout_bytes, FitLayout, IsOfLayout, HasValues}
 use Rattle.acpi_base.proofs.Layouts.RoundTrip.{HasValues-layout_bytes}
 use Rattle.acpi_read.specs.Pptts.{node_head_parts, node_head_values, HasNodeLength}
@@ -109,44 +106,20 @@ node_short e is typed short = no_node_says e is typed (λ has. omega (arith, is.
 
 -- ---- caches
 
-cache24_reads : (e : List ℕ) (v : Cache24) → length e ≡ 24 → values_at 0 cache24_parts e ≡ cache24_values v → cache_of e ≡ cache24_value v
-cache24_reads e v count same = rw count (search rules)
-
-cache24_writes : (e : List ℕ) (v : Cache24) → cache_of e ≡ cache24_value v → values_at 0 cache24_parts e ≡ cache24_values v
-cache24_writes e v same = search rules
-
-pub cache24_laid : LaysOut cache24_parts cache24_values 1 24 cache_of cache24_value
-cache24_laid = lays_out 1 24 _ cache24_values cache_of cache24_value (record { counted = refl; free = λ e. tt }) cache24_reads (λ e v count bytes same. cache24_writes e v same)
-
-cache28_reads : (e : List ℕ) (v : Cache28) → length e ≡ 28 → values_at 0 cache28_parts e ≡ cache28_values v → cache_of e ≡ cache28_value v
-cache28_reads e v count same = rw count (search rules)
-
-cache28_writes : (e : List ℕ) (v : Cache28) → length e ≡ 28 → cache_of e ≡ cache28_value v → values_at 0 cache28_parts e ≡ cache28_values v
-cache28_writes e v count same = (let whole = rw count at same in search rules)
-
-pub cache28_laid : LaysOut cache28_parts cache28_values 1 28 cache_of cache28_value
-cache28_laid = lays_out 1 28 _ cache28_values cache_of cache28_value (record { counted = refl; free = λ e. tt }) cache28_reads (λ e v count bytes same. cache28_writes e v count same)
-
 -- an entry of type 1 is a cache of one of the two lengths
 cache_decides : (e : List ℕ) → slice_index e 0 ≡ 1 → ((length e ≡ 24) ⊎ (length e ≡ 28) → pptt_entry e ≡ Cache (cache_of e)) × (length e ≢ 24 → length e ≢ 28 → pptt_entry e ≡ Opaque e)
 unfolding pptt_entry has_node_form has_cache_form has_form
 cache_decides e typed = (λ count. elim count [ inl short ↦ rw (typed, short) refl | inr long ↦ rw (typed, long) refl ], λ not_short not_long. grind (arith, nat_tests))
 
-pub cache24_typed : (e : List ℕ) (v : Cache24) → HasValues cache24_parts e (cache24_values v) → Cache (cache24_value v) ≡ pptt_entry e
-cache24_typed e v has = let is = cache24_laid.reads e v has in sym ((cache_decides e is.typed).0 (inl is.count) ∙ ap Cache is.value)
+pub cache24_typed : (e : List ℕ) (v : CacheValue) → IsEntryOf cache24 e v → Cache v ≡ pptt_entry e
+cache24_typed e v is = sym ((cache_decides e is.typed).0 (inl is.count) ∙ ap Cache is.value)
 
-pub cache28_typed : (e : List ℕ) (v : Cache28) → HasValues cache28_parts e (cache28_values v) → Cache (cache28_value v) ≡ pptt_entry e
-cache28_typed e v has = let is = cache28_laid.reads e v has in sym ((cache_decides e is.typed).0 (inr is.count) ∙ ap Cache is.value)
+pub cache28_typed : (e : List ℕ) (v : CacheValue) → IsEntryOf cache28 e v → Cache v ≡ pptt_entry e
+cache28_typed e v is = sym ((cache_decides e is.typed).0 (inr is.count) ∙ ap Cache is.value)
 
--- of another length than 28, it is no cache where it is not of the layout of 24 bytes
-pub cache24_opaque : (e : List ℕ) → IsEntry e → slice_index e 0 ≡ 1 → length e ≢ 28 → ¬ IsOfLayout cache24_parts e → pptt_entry e ≡ Opaque e
-cache24_opaque e is typed other not =
-    (cache_decides e typed).1 (λ count. not (of_form 1 24 _ (record { counted = refl; free = λ e. tt }) e (record { count = count; typed = typed; said = is.said ∙ count }))) other
-
--- and one of 28 bytes is always of the other
-pub cache28_opaque : (e : List ℕ) → IsEntry e → slice_index e 0 ≡ 1 → length e ≡ 28 → ¬ IsOfLayout cache28_parts e → pptt_entry e ≡ Opaque e
-cache28_opaque e is typed count not =
-    absurd (not (of_form 1 28 _ (record { counted = refl; free = λ e. tt }) e (record { count = count; typed = typed; said = is.said ∙ count })))
+-- of another length it is none
+pub caches_opaque : (e : List ℕ) → slice_index e 0 ≡ 1 → length e ≢ 24 → length e ≢ 28 → pptt_entry e ≡ Opaque e
+caches_opaque e typed not_short not_long = (cache_decides e typed).1 not_short not_long
 
 -- ---- other types
 
@@ -154,6 +127,4 @@ pub others_opaque : (e : List ℕ) → slice_index e 0 ≢ 0 → slice_index e 0
 unfolding pptt_entry has_node_form has_cache_form has_form
 others_opaque e no_node no_cache = grind (arith, nat_tests)
 
-pub ruleset pptt_laid = (cache24_laid, cache28_laid)
-
-pub ruleset pptt_opaque = (node_opaque, node_short, cache24_opaque, cache28_opaque, others_opaque)
+pub ruleset pptt_opaque = (node_opaque, node_short, caches_opaque, others_opaque)

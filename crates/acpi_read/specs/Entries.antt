@@ -1,11 +1,11 @@
 -- What a view of a table's entries stands for.
 use Rattle.std.specs.Prelude.{◌≡◌, ℕ, ◌+◌, ◌<◌, ◌≤◌, List, [], ◌∷◌, length, Option, Some, None}
-use Rattle.acpi_base.specs.Entries.{IsEntry, Standing, entries_of, cut_of}
+use Rattle.acpi_base.specs.Entries.{IsEntry, PlacedEntry, entries_of, cut_of}
 use Rattle.acpi_read.specs.declared.entry.Entry.{Entry}
 
 -- the entries that are still to come, and the offset of the bytes behind them at which none stands
 pub record EntriesValue : Type 0 where
-  pub entries : List (Standing (List ℕ))
+  pub entries : List (PlacedEntry (List ℕ))
   pub cut : Option ℕ
 
 -- those of a table, from an offset on
@@ -13,11 +13,11 @@ abbrev pub entries_from_place : ℕ → List ℕ → EntriesValue
 entries_from_place offset whole = record { entries = entries_of offset whole; cut = cut_of offset whole }
 
 -- an entry: its offset and its bytes
-abbrev pub entry_value : Entry → Standing (List ℕ)
+abbrev pub entry_value : Entry → PlacedEntry (List ℕ)
 entry_value e = record { offset = e.offset; entry = e.bytes.now }
 
 -- where no entry is still to come, the cut
-abbrev pub cut_behind : List (Standing (List ℕ)) → Option ℕ → Option ℕ
+abbrev pub cut_behind : List (PlacedEntry (List ℕ)) → Option ℕ → Option ℕ
 cut_behind [] cut = cut
 cut_behind (entry ∷ entries) cut = None
 

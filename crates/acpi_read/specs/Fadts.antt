@@ -6,10 +6,10 @@ use Rattle.acpi_read.specs.declared.fadt.Block.{Block}
 use Rattle.acpi_read.specs.declared.fadt.Block.TheVariants as block
 
 -- what is said of a register block
-abbrev pub block_said : Block → BlockValue
-block_said block.None = NoBlock
-block_said (block.Gas g) = GasBlock (gas_value g)
-block_said (block.Port address bytes) = PortBlock address bytes
+abbrev pub block_view_value : Block → BlockValue
+block_view_value block.None = NoBlock
+block_view_value (block.Gas g) = GasBlock (gas_value g)
+block_view_value (block.Port address bytes) = PortBlock address bytes
 
 -- a FACS: its address and all its bytes
 pub record FacsValue : Type 0 where

@@ -1,6 +1,6 @@
 pub mod Entries
-pub mod EntryKinds
 pub mod Fadts
+pub mod FilledTables
 pub mod FirstTables
 pub mod Gases
 pub mod Headers
@@ -11,3 +11,4 @@ pub mod Pptts
 pub mod Roots
 pub mod Slits
 pub mod Srats
+pub mod TypedEntries

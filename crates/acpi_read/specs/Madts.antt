@@ -1,147 +1,140 @@
--- The kinds of entries of a MADT (ACPI 6.5, 5.2.12): of each its parts in order, the values of these, and what an entry
+-- The kinds of entries of a MADT (ACPI 6.5, 5.2.12): of each its layout, behind its type and its length, and what an entry
 -- of the kind says; and what any entry says.
-use Rattle.std.specs.Prelude.{List, [], ◌∷◌, slice_index}
-use Rattle.acpi_base.specs.Entries.{IsTypeOf}
-use Rattle.acpi_base.specs.Layouts.{Part, NumberOf, Fixed, Reserved, PartValue, Number}
+use Rattle.std.proofs.Common.{rules, refl, arith}
+use Rattle.std.specs.Prelude.{ℕ, List, [], ◌∷◌, slice_index}
+use Rattle.acpi_base.specs.Entries.{IsEntry, IsTypeOf}
+use Rattle.acpi_base.specs.Layouts.{NumberOf, Reserved, Number}
 use Rattle.acpi_base.specs.Madt.{LocalApicValue, IoApicValue, OverrideValue, NmiSourceValue, LocalNmiValue, AddressOverrideValue, X2apicValue, X2apicNmiValue}
 use Rattle.acpi_base.specs.Madt as said
+use Rattle.acpi_base.specs.KindLayouts.{KindLayout, IsLaidOut, bytes_of, KeepKinds}
+use Rattle.acpi_base.proofs.Layouts.Kinds.{keeps}
 use Rattle.acpi_read.specs.declared.madt.MadtEntry.{MadtEntry}
 use Rattle.acpi_read.specs.declared.madt.MadtEntry.TheVariants as entry
-use Rattle.acpi_read.specs.declared.madt.local_apic.LocalApic.{LocalApic}
-use Rattle.acpi_read.specs.declared.madt.io_apic.IoApic.{IoApic}
-use Rattle.acpi_read.specs.declared.madt.source_override.Override.{Override}
-use Rattle.acpi_read.specs.declared.madt.nmi_source.NmiSource.{NmiSource}
-use Rattle.acpi_read.specs.declared.madt.local_nmi.LocalNmi.{LocalNmi}
-use Rattle.acpi_read.specs.declared.madt.address_override.AddressOverride.{AddressOverride}
-use Rattle.acpi_read.specs.declared.madt.x2apic.X2apic.{X2apic}
-use Rattle.acpi_read.specs.declared.madt.x2apic_nmi.X2apicNmi.{X2apicNmi}
+use Rattle.acpi_read.specs.declared.madt.kinds.LocalApic.{LocalApic}
+use Rattle.acpi_read.specs.declared.madt.kinds.IoApic.{IoApic}
+use Rattle.acpi_read.specs.declared.madt.kinds.Override.{Override}
+use Rattle.acpi_read.specs.declared.madt.kinds.NmiSource.{NmiSource}
+use Rattle.acpi_read.specs.declared.madt.kinds.LocalNmi.{LocalNmi}
+use Rattle.acpi_read.specs.declared.madt.kinds.AddressOverride.{AddressOverride}
+use Rattle.acpi_read.specs.declared.madt.kinds.X2apic.{X2apic}
+use Rattle.acpi_read.specs.declared.madt.kinds.X2apicNmi.{X2apicNmi}
 
 -- ---- Processor Local APIC (5.2.12.2)
 
-abbrev pub local_apic_parts : List Part
-local_apic_parts =
-    Fixed 0 ∷ Fixed 8 ∷
-    NumberOf 1 ∷  -- uid
-    NumberOf 1 ∷  -- apic_id
-    NumberOf 4 ∷  -- flags
-    []
+abbrev pub local_apic_layout : KindLayout LocalApicValue
+local_apic_layout = record {
+  kind = said.local_apic;
+  rest = NumberOf 1 ∷ NumberOf 1 ∷ NumberOf 4 ∷ [];
+  values = λ v. Number v.uid ∷ Number v.apic_id ∷ Number v.flags ∷ [];
+}
 
-abbrev pub local_apic_values : LocalApic → List PartValue
-local_apic_values e = Number e.uid ∷ Number e.apic_id ∷ Number e.flags ∷ []
+pub local_apic_laid : IsLaidOut local_apic_layout
+local_apic_laid = record { counted = refl; numbers = refl; typed = omega arith; sized = omega arith; shaped = λ e count. tt; reads = λ e v count same. search rules; agrees = λ e count low. refl }
 
 abbrev pub local_apic_value : LocalApic → LocalApicValue
 local_apic_value e = record { uid = e.uid; apic_id = e.apic_id; flags = e.flags }
 
 -- ---- I/O APIC (5.2.12.3)
 
-abbrev pub io_apic_parts : List Part
-io_apic_parts =
-    Fixed 1 ∷ Fixed 12 ∷
-    NumberOf 1 ∷  -- id
-    Reserved 1 ∷
-    NumberOf 4 ∷  -- address
-    NumberOf 4 ∷  -- gsi_base
-    []
+abbrev pub io_apic_layout : KindLayout IoApicValue
+io_apic_layout = record {
+  kind = said.io_apic;
+  rest = NumberOf 1 ∷ Reserved 1 ∷ NumberOf 4 ∷ NumberOf 4 ∷ [];
+  values = λ v. Number v.id ∷ Number v.address ∷ Number v.gsi_base ∷ [];
+}
 
-abbrev pub io_apic_values : IoApic → List PartValue
-io_apic_values e = Number e.id ∷ Number e.address ∷ Number e.gsi_base ∷ []
+pub io_apic_laid : IsLaidOut io_apic_layout
+io_apic_laid = record { counted = refl; numbers = refl; typed = omega arith; sized = omega arith; shaped = λ e count. tt; reads = λ e v count same. search rules; agrees = λ e count low. refl }
 
 abbrev pub io_apic_value : IoApic → IoApicValue
 io_apic_value e = record { id = e.id; address = e.address; gsi_base = e.gsi_base }
 
 -- ---- Interrupt Source Override (5.2.12.5)
 
-abbrev pub override_parts : List Part
-override_parts =
-    Fixed 2 ∷ Fixed 10 ∷
-    NumberOf 1 ∷  -- bus
-    NumberOf 1 ∷  -- source
-    NumberOf 4 ∷  -- gsi
-    NumberOf 2 ∷  -- flags
-    []
+abbrev pub override_layout : KindLayout OverrideValue
+override_layout = record {
+  kind = said.override;
+  rest = NumberOf 1 ∷ NumberOf 1 ∷ NumberOf 4 ∷ NumberOf 2 ∷ [];
+  values = λ v. Number v.bus ∷ Number v.source ∷ Number v.gsi ∷ Number v.flags ∷ [];
+}
 
-abbrev pub override_values : Override → List PartValue
-override_values e = Number e.bus ∷ Number e.source ∷ Number e.gsi ∷ Number e.flags ∷ []
+pub override_laid : IsLaidOut override_layout
+override_laid = record { counted = refl; numbers = refl; typed = omega arith; sized = omega arith; shaped = λ e count. tt; reads = λ e v count same. search rules; agrees = λ e count low. refl }
 
 abbrev pub override_value : Override → OverrideValue
 override_value e = record { bus = e.bus; source = e.source; gsi = e.gsi; flags = e.flags }
 
 -- ---- NMI Source (5.2.12.6)
 
-abbrev pub nmi_source_parts : List Part
-nmi_source_parts =
-    Fixed 3 ∷ Fixed 8 ∷
-    NumberOf 2 ∷  -- flags
-    NumberOf 4 ∷  -- gsi
-    []
+abbrev pub nmi_source_layout : KindLayout NmiSourceValue
+nmi_source_layout = record {
+  kind = said.nmi_source;
+  rest = NumberOf 2 ∷ NumberOf 4 ∷ [];
+  values = λ v. Number v.flags ∷ Number v.gsi ∷ [];
+}
 
-abbrev pub nmi_source_values : NmiSource → List PartValue
-nmi_source_values e = Number e.flags ∷ Number e.gsi ∷ []
+pub nmi_source_laid : IsLaidOut nmi_source_layout
+nmi_source_laid = record { counted = refl; numbers = refl; typed = omega arith; sized = omega arith; shaped = λ e count. tt; reads = λ e v count same. search rules; agrees = λ e count low. refl }
 
 abbrev pub nmi_source_value : NmiSource → NmiSourceValue
 nmi_source_value e = record { flags = e.flags; gsi = e.gsi }
 
 -- ---- Local APIC NMI (5.2.12.7)
 
-abbrev pub local_nmi_parts : List Part
-local_nmi_parts =
-    Fixed 4 ∷ Fixed 6 ∷
-    NumberOf 1 ∷  -- uid
-    NumberOf 2 ∷  -- flags
-    NumberOf 1 ∷  -- lint
-    []
+abbrev pub local_nmi_layout : KindLayout LocalNmiValue
+local_nmi_layout = record {
+  kind = said.local_nmi;
+  rest = NumberOf 1 ∷ NumberOf 2 ∷ NumberOf 1 ∷ [];
+  values = λ v. Number v.uid ∷ Number v.flags ∷ Number v.lint ∷ [];
+}
 
-abbrev pub local_nmi_values : LocalNmi → List PartValue
-local_nmi_values e = Number e.uid ∷ Number e.flags ∷ Number e.lint ∷ []
+pub local_nmi_laid : IsLaidOut local_nmi_layout
+local_nmi_laid = record { counted = refl; numbers = refl; typed = omega arith; sized = omega arith; shaped = λ e count. tt; reads = λ e v count same. search rules; agrees = λ e count low. refl }
 
 abbrev pub local_nmi_value : LocalNmi → LocalNmiValue
 local_nmi_value e = record { uid = e.uid; flags = e.flags; lint = e.lint }
 
 -- ---- Local APIC Address Override (5.2.12.8)
 
-abbrev pub address_override_parts : List Part
-address_override_parts =
-    Fixed 5 ∷ Fixed 12 ∷
-    Reserved 2 ∷
-    NumberOf 8 ∷  -- address
-    []
+abbrev pub address_override_layout : KindLayout AddressOverrideValue
+address_override_layout = record {
+  kind = said.address_override;
+  rest = Reserved 2 ∷ NumberOf 8 ∷ [];
+  values = λ v. Number v.address ∷ [];
+}
 
-abbrev pub address_override_values : AddressOverride → List PartValue
-address_override_values e = Number e.address ∷ []
+pub address_override_laid : IsLaidOut address_override_layout
+address_override_laid = record { counted = refl; numbers = refl; typed = omega arith; sized = omega arith; shaped = λ e count. tt; reads = λ e v count same. search rules; agrees = λ e count low. refl }
 
 abbrev pub address_override_value : AddressOverride → AddressOverrideValue
 address_override_value e = record { address = e.address }
 
 -- ---- Processor Local x2APIC (5.2.12.12)
 
-abbrev pub x2apic_parts : List Part
-x2apic_parts =
-    Fixed 9 ∷ Fixed 16 ∷
-    Reserved 2 ∷
-    NumberOf 4 ∷  -- x2apic_id
-    NumberOf 4 ∷  -- flags
-    NumberOf 4 ∷  -- uid
-    []
+abbrev pub x2apic_layout : KindLayout X2apicValue
+x2apic_layout = record {
+  kind = said.x2apic;
+  rest = Reserved 2 ∷ NumberOf 4 ∷ NumberOf 4 ∷ NumberOf 4 ∷ [];
+  values = λ v. Number v.x2apic_id ∷ Number v.flags ∷ Number v.uid ∷ [];
+}
 
-abbrev pub x2apic_values : X2apic → List PartValue
-x2apic_values e = Number e.x2apic_id ∷ Number e.flags ∷ Number e.uid ∷ []
+pub x2apic_laid : IsLaidOut x2apic_layout
+x2apic_laid = record { counted = refl; numbers = refl; typed = omega arith; sized = omega arith; shaped = λ e count. tt; reads = λ e v count same. search rules; agrees = λ e count low. refl }
 
 abbrev pub x2apic_value : X2apic → X2apicValue
 x2apic_value e = record { x2apic_id = e.x2apic_id; flags = e.flags; uid = e.uid }
 
 -- ---- Local x2APIC NMI (5.2.12.13)
 
-abbrev pub x2apic_nmi_parts : List Part
-x2apic_nmi_parts =
-    Fixed 10 ∷ Fixed 12 ∷
-    NumberOf 2 ∷  -- flags
-    NumberOf 4 ∷  -- uid
-    NumberOf 1 ∷  -- lint
-    Reserved 3 ∷
-    []
+abbrev pub x2apic_nmi_layout : KindLayout X2apicNmiValue
+x2apic_nmi_layout = record {
+  kind = said.x2apic_nmi;
+  rest = NumberOf 2 ∷ NumberOf 4 ∷ NumberOf 1 ∷ Reserved 3 ∷ [];
+  values = λ v. Number v.flags ∷ Number v.uid ∷ Number v.lint ∷ [];
+}
 
-abbrev pub x2apic_nmi_values : X2apicNmi → List PartValue
-x2apic_nmi_values e = Number e.flags ∷ Number e.uid ∷ Number e.lint ∷ []
+pub x2apic_nmi_laid : IsLaidOut x2apic_nmi_layout
+x2apic_nmi_laid = record { counted = refl; numbers = refl; typed = omega arith; sized = omega arith; shaped = λ e count. tt; reads = λ e v count same. search rules; agrees = λ e count low. refl }
 
 abbrev pub x2apic_nmi_value : X2apicNmi → X2apicNmiValue
 x2apic_nmi_value e = record { flags = e.flags; uid = e.uid; lint = e.lint }
@@ -160,7 +153,52 @@ madt_value (entry.X2apic e) = said.X2apic (x2apic_value e)
 madt_value (entry.X2apicNmi e) = said.X2apicNmi (x2apic_nmi_value e)
 madt_value (entry.Opaque bytes) = said.Opaque bytes.now
 
+-- the bytes that are written for it: its fields, with 0 in reserved bytes
+abbrev pub madt_bytes : said.MadtEntry → List ℕ
+madt_bytes (said.LocalApic v) = bytes_of local_apic_layout v
+madt_bytes (said.IoApic v) = bytes_of io_apic_layout v
+madt_bytes (said.Override v) = bytes_of override_layout v
+madt_bytes (said.NmiSource v) = bytes_of nmi_source_layout v
+madt_bytes (said.LocalNmi v) = bytes_of local_nmi_layout v
+madt_bytes (said.AddressOverride v) = bytes_of address_override_layout v
+madt_bytes (said.X2apic v) = bytes_of x2apic_layout v
+madt_bytes (said.X2apicNmi v) = bytes_of x2apic_nmi_layout v
+madt_bytes (said.Opaque e) = e
+
 -- where it is not typed, its type is not one of the above
 abbrev pub IsOfOwnLength : said.MadtEntry → Type 0
 IsOfOwnLength (said.Opaque e) = ¬ IsTypeOf said.madt_kinds (slice_index e 0)
 IsOfOwnLength _ = Unit {0}
+
+-- where it is not typed, its bytes are those of an entry
+abbrev pub IsWholeEntry : MadtEntry → Type 0
+IsWholeEntry (entry.Opaque bytes) = IsEntry bytes.now
+IsWholeEntry _ = Unit {0}
+
+-- the bytes that are written for a typed entry say the same
+pub madt_kept : KeepKinds madt_bytes said.madt_kinds
+madt_kept = (
+  keeps local_apic_layout local_apic_laid said.LocalApic madt_bytes (λ v. refl),
+  (
+    keeps io_apic_layout io_apic_laid said.IoApic madt_bytes (λ v. refl),
+    (
+      keeps override_layout override_laid said.Override madt_bytes (λ v. refl),
+      (
+        keeps nmi_source_layout nmi_source_laid said.NmiSource madt_bytes (λ v. refl),
+        (
+          keeps local_nmi_layout local_nmi_laid said.LocalNmi madt_bytes (λ v. refl),
+          (
+            keeps address_override_layout address_override_laid said.AddressOverride madt_bytes (λ v. refl),
+            (
+              keeps x2apic_layout x2apic_laid said.X2apic madt_bytes (λ v. refl),
+              (
+                keeps x2apic_nmi_layout x2apic_nmi_laid said.X2apicNmi madt_bytes (λ v. refl),
+                (tt),
+              ),
+            ),
+          ),
+        ),
+      ),
+    ),
+  ),
+)

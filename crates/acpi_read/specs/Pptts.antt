@@ -1,16 +1,20 @@
--- The kinds of entries of a PPTT (ACPI 6.5, 5.2.30): of each its parts in order, the values of these, and what an entry
--- of the kind says; and what any entry says.
-use Rattle.std.specs.Prelude.{◌≡◌, ℕ, ◌+◌, ◌*◌, List, [], ◌∷◌, length, map, Some, None}
+-- The kinds of entries of a PPTT (ACPI 6.5, 5.2.30): of each its layout and what an entry of the kind says; what any
+-- entry says, and the bytes that are written for it.
+use Rattle.std.proofs.Common.{refl, arith}
+use Rattle.std.specs.Prelude.{◌≡◌, ℕ, ◌+◌, ◌*◌, List, [], ◌∷◌, ◌++◌, length, map, flat_map, Option, Some, None}
 use Rattle.std.specs.List.{range_with_len}
-use Rattle.acpi_base.specs.Number.{field}
-use Rattle.acpi_base.specs.Layouts.{Part, NumberOf, Fixed, Reserved, PartValue, Number}
+use Rattle.acpi_base.specs.Number.{field, number_bytes}
+use Rattle.acpi_base.specs.Entries.{IsEntry}
+use Rattle.acpi_base.specs.Layouts.{Part, NumberOf, Fixed, Reserved, PartValue, Number, layout_bytes}
 use Rattle.acpi_base.specs.Pptt.{NodeValue, CacheValue}
 use Rattle.acpi_base.specs.Pptt as said
+use Rattle.acpi_base.proofs.Pptt.CacheValues.{cache24_reads, cache28_reads}
+use Rattle.acpi_base.specs.KindLayouts.{KindLayout, IsLaidOut, bytes_of}
 use Rattle.acpi_read.specs.declared.pptt.PpttEntry.{PpttEntry}
 use Rattle.acpi_read.specs.declared.pptt.PpttEntry.TheVariants as entry
 use Rattle.acpi_read.specs.declared.pptt.node_head.NodeHead.{NodeHead}
-use Rattle.acpi_read.specs.declared.pptt.cache24.Cache24.{Cache24}
-use Rattle.acpi_read.specs.declared.pptt.cache28.Cache28.{Cache28}
+use Rattle.acpi_read.specs.declared.pptt.kinds.Cache24.{Cache24}
+use Rattle.acpi_read.specs.declared.pptt.kinds.Cache28.{Cache28}
 
 -- ---- Processor Hierarchy Node (5.2.30.1): its first 20 bytes
 
@@ -42,26 +46,30 @@ node_value h references =
       resources = map (λ j. field references (4 * j) 4) (range_with_len 0 h.count);
     }
 
--- ---- Cache Type Structure (5.2.30.2) of 24 bytes
+-- ---- Cache Type Structure (5.2.30.2)
 
-abbrev pub cache24_parts : List Part
-cache24_parts =
-    Fixed 1 ∷ Fixed 24 ∷
-    Reserved 2 ∷
-    NumberOf 4 ∷  -- flags
-    NumberOf 4 ∷  -- next_level
-    NumberOf 4 ∷  -- size
-    NumberOf 4 ∷  -- sets
-    NumberOf 1 ∷  -- associativity
-    NumberOf 1 ∷  -- attributes
-    NumberOf 2 ∷  -- line_size
-    []
+-- the value of an ID, which a cache of 28 bytes has
+abbrev pub id_values : Option ℕ → List PartValue
+id_values None = []
+id_values (Some id) = Number id ∷ []
 
-abbrev pub cache24_values : Cache24 → List PartValue
-cache24_values e =
-    Number e.flags ∷ Number e.next_level ∷ Number e.size ∷ Number e.sets ∷ Number e.associativity ∷ Number e.attributes
-    ∷ Number e.line_size
-    ∷ []
+abbrev pub cache_values : CacheValue → List PartValue
+cache_values v =
+    Number v.flags ∷ Number v.next_level ∷ Number v.size ∷ Number v.sets ∷ Number v.associativity ∷ Number v.attributes
+    ∷ Number v.line_size
+    ∷ id_values v.id
+
+-- ---- one of 24 bytes
+
+abbrev pub cache24_layout : KindLayout CacheValue
+cache24_layout = record {
+  kind = said.cache24;
+  rest = Reserved 2 ∷ NumberOf 4 ∷ NumberOf 4 ∷ NumberOf 4 ∷ NumberOf 4 ∷ NumberOf 1 ∷ NumberOf 1 ∷ NumberOf 2 ∷ [];
+  values = cache_values;
+}
+
+pub cache24_laid : IsLaidOut cache24_layout
+cache24_laid = record { counted = refl; numbers = refl; typed = omega arith; sized = omega arith; shaped = λ e count. rw count tt; reads = cache24_reads; agrees = λ e count low. rw count refl }
 
 abbrev pub cache24_value : Cache24 → CacheValue
 cache24_value e =
@@ -76,28 +84,17 @@ cache24_value e =
       id = None;
     }
 
--- ---- Cache Type Structure (5.2.30.2) of 28 bytes
+-- ---- one of 28 bytes
 
-abbrev pub cache28_parts : List Part
-cache28_parts =
-    Fixed 1 ∷ Fixed 28 ∷
-    Reserved 2 ∷
-    NumberOf 4 ∷  -- flags
-    NumberOf 4 ∷  -- next_level
-    NumberOf 4 ∷  -- size
-    NumberOf 4 ∷  -- sets
-    NumberOf 1 ∷  -- associativity
-    NumberOf 1 ∷  -- attributes
-    NumberOf 2 ∷  -- line_size
-    NumberOf 4 ∷  -- id
-    []
+abbrev pub cache28_layout : KindLayout CacheValue
+cache28_layout = record {
+  kind = said.cache28;
+  rest = Reserved 2 ∷ NumberOf 4 ∷ NumberOf 4 ∷ NumberOf 4 ∷ NumberOf 4 ∷ NumberOf 1 ∷ NumberOf 1 ∷ NumberOf 2 ∷ NumberOf 4 ∷ [];
+  values = cache_values;
+}
 
-abbrev pub cache28_values : Cache28 → List PartValue
-cache28_values e =
-    Number e.flags ∷ Number e.next_level ∷ Number e.size ∷ Number e.sets ∷ Number e.associativity ∷ Number e.attributes
-    ∷ Number e.line_size
-    ∷ Number e.id
-    ∷ []
+pub cache28_laid : IsLaidOut cache28_layout
+cache28_laid = record { counted = refl; numbers = refl; typed = omega arith; sized = omega arith; shaped = λ e count. rw count tt; reads = cache28_reads; agrees = λ e count low. rw count refl }
 
 abbrev pub cache28_value : Cache28 → CacheValue
 cache28_value e =
@@ -125,3 +122,27 @@ pptt_value (entry.Opaque bytes) = said.Opaque bytes.now
 abbrev pub HasReferences : PpttEntry → Type 0
 HasReferences (entry.Node head references) = length references.now ≡ 4 * head.count
 HasReferences _ = Unit {0}
+
+-- where it is not typed, its bytes are those of an entry
+abbrev pub IsWholeEntry : PpttEntry → Type 0
+IsWholeEntry (entry.Opaque bytes) = IsEntry bytes.now
+IsWholeEntry _ = Unit {0}
+
+-- ---- the bytes that are written for an entry: its fields, with 0 in reserved bytes
+
+-- the first 20 of a node
+abbrev pub node_head_bytes : NodeValue → List ℕ
+node_head_bytes v =
+    let n = length v.resources in
+    layout_bytes node_head_parts (Number (20 + 4 * n) ∷ Number v.flags ∷ Number v.parent ∷ Number v.id ∷ Number n ∷ [])
+
+-- a cache's: 28 where it has a Cache ID, else 24
+abbrev pub cache_bytes : CacheValue → Option ℕ → List ℕ
+cache_bytes v None = bytes_of cache24_layout v
+cache_bytes v (Some id) = bytes_of cache28_layout v
+
+-- a node's references stand behind its first 20 bytes
+abbrev pub pptt_bytes : said.PpttEntry → List ℕ
+pptt_bytes (said.Node v) = node_head_bytes v ++ flat_map (λ r. number_bytes 4 r) v.resources
+pptt_bytes (said.Cache v) = cache_bytes v v.id
+pptt_bytes (said.Opaque e) = e

@@ -1,38 +1,37 @@
--- The kinds of entries of an SRAT (ACPI 6.5, 5.2.16): of each its parts in order, the values of these, and what an entry
+-- The kinds of entries of an SRAT (ACPI 6.5, 5.2.16): of each its layout, behind its type and its length, and what an entry
 -- of the kind says; and what any entry says.
-use Rattle.std.specs.Prelude.{◌%◌, ◌/◌, List, [], ◌∷◌, slice_index}
-use Rattle.acpi_base.specs.Entries.{IsTypeOf}
-use Rattle.acpi_base.specs.Layouts.{Part, NumberOf, Fixed, Reserved, PartValue, Number}
+use Rattle.std.proofs.Common.{rules, refl, arith}
+use Rattle.std.specs.Prelude.{◌/◌, ◌%◌, ℕ, List, [], ◌∷◌, slice_index}
+use Rattle.acpi_base.specs.Entries.{IsEntry, IsTypeOf}
+use Rattle.acpi_base.specs.Layouts.{NumberOf, Reserved, Number}
 use Rattle.acpi_base.specs.Srat.{ApicDomainValue, MemoryValue, X2apicDomainValue}
 use Rattle.acpi_base.specs.Srat as said
+use Rattle.acpi_base.proofs.Srat.DomainBytes.{apic_domain_reads, apic_domain_agrees}
+use Rattle.acpi_base.specs.KindLayouts.{KindLayout, IsLaidOut, bytes_of, KeepKinds}
+use Rattle.acpi_base.proofs.Layouts.Kinds.{keeps}
 use Rattle.acpi_read.specs.declared.srat.SratEntry.{SratEntry}
 use Rattle.acpi_read.specs.declared.srat.SratEntry.TheVariants as entry
-use Rattle.acpi_read.specs.declared.srat.apic_domain.ApicDomain.{ApicDomain}
-use Rattle.acpi_read.specs.declared.srat.memory_range.MemoryRange.{MemoryRange}
-use Rattle.acpi_read.specs.declared.srat.x2apic_domain.X2apicDomain.{X2apicDomain}
+use Rattle.acpi_read.specs.declared.srat.kinds.ApicDomain.{ApicDomain}
+use Rattle.acpi_read.specs.declared.srat.kinds.MemoryRange.{MemoryRange}
+use Rattle.acpi_read.specs.declared.srat.kinds.X2apicDomain.{X2apicDomain}
 
 -- ---- Processor Local APIC Affinity (5.2.16.1)
 
-abbrev pub apic_domain_parts : List Part
-apic_domain_parts =
-    Fixed 0 ∷ Fixed 16 ∷
-    NumberOf 1 ∷  -- domain, bits 7:0
-    NumberOf 1 ∷  -- apic_id
-    NumberOf 4 ∷  -- flags
-    NumberOf 1 ∷  -- eid
-    NumberOf 1 ∷  -- domain, bits 15:8
-    NumberOf 1 ∷  -- domain, bits 23:16
-    NumberOf 1 ∷  -- domain, bits 31:24
-    NumberOf 4 ∷  -- clock_domain
-    []
+abbrev pub apic_domain_layout : KindLayout ApicDomainValue
+apic_domain_layout = record {
+  kind = said.apic_domain;
+  rest = NumberOf 1 ∷ NumberOf 1 ∷ NumberOf 4 ∷ NumberOf 1 ∷ NumberOf 1 ∷ NumberOf 1 ∷ NumberOf 1 ∷ NumberOf 4 ∷ [];
+  values =
+      λ v.
+      Number (v.domain % 256) ∷ Number v.apic_id ∷ Number v.flags ∷ Number v.eid ∷ Number (v.domain / 256 % 256)
+      ∷ Number (v.domain / 65536 % 256)
+      ∷ Number (v.domain / 16777216)
+      ∷ Number v.clock_domain
+      ∷ [];
+}
 
-abbrev pub apic_domain_values : ApicDomain → List PartValue
-apic_domain_values e =
-    Number (e.domain % 256) ∷ Number e.apic_id ∷ Number e.flags ∷ Number e.eid ∷ Number (e.domain / 256 % 256)
-    ∷ Number (e.domain / 65536 % 256)
-    ∷ Number (e.domain / 16777216)
-    ∷ Number e.clock_domain
-    ∷ []
+pub apic_domain_laid : IsLaidOut apic_domain_layout
+apic_domain_laid = record { counted = refl; numbers = refl; typed = omega arith; sized = omega arith; shaped = λ e count. tt; reads = λ e v count same. apic_domain_reads e v same; agrees = λ e count low. apic_domain_agrees e low }
 
 abbrev pub apic_domain_value : ApicDomain → ApicDomainValue
 apic_domain_value e =
@@ -40,39 +39,30 @@ apic_domain_value e =
 
 -- ---- Memory Affinity (5.2.16.2)
 
-abbrev pub memory_parts : List Part
-memory_parts =
-    Fixed 1 ∷ Fixed 40 ∷
-    NumberOf 4 ∷  -- domain
-    Reserved 2 ∷
-    NumberOf 8 ∷  -- base
-    NumberOf 8 ∷  -- size
-    Reserved 4 ∷
-    NumberOf 4 ∷  -- flags
-    Reserved 8 ∷
-    []
+abbrev pub memory_range_layout : KindLayout MemoryValue
+memory_range_layout = record {
+  kind = said.memory_range;
+  rest = NumberOf 4 ∷ Reserved 2 ∷ NumberOf 8 ∷ NumberOf 8 ∷ Reserved 4 ∷ NumberOf 4 ∷ Reserved 8 ∷ [];
+  values = λ v. Number v.domain ∷ Number v.base ∷ Number v.size ∷ Number v.flags ∷ [];
+}
 
-abbrev pub memory_values : MemoryRange → List PartValue
-memory_values e = Number e.domain ∷ Number e.base ∷ Number e.size ∷ Number e.flags ∷ []
+pub memory_range_laid : IsLaidOut memory_range_layout
+memory_range_laid = record { counted = refl; numbers = refl; typed = omega arith; sized = omega arith; shaped = λ e count. tt; reads = λ e v count same. search rules; agrees = λ e count low. refl }
 
-abbrev pub memory_value : MemoryRange → MemoryValue
-memory_value e = record { domain = e.domain; base = e.base; size = e.size; flags = e.flags }
+abbrev pub memory_range_value : MemoryRange → MemoryValue
+memory_range_value e = record { domain = e.domain; base = e.base; size = e.size; flags = e.flags }
 
 -- ---- Processor Local x2APIC Affinity (5.2.16.3)
 
-abbrev pub x2apic_domain_parts : List Part
-x2apic_domain_parts =
-    Fixed 2 ∷ Fixed 24 ∷
-    Reserved 2 ∷
-    NumberOf 4 ∷  -- domain
-    NumberOf 4 ∷  -- x2apic_id
-    NumberOf 4 ∷  -- flags
-    NumberOf 4 ∷  -- clock_domain
-    Reserved 4 ∷
-    []
+abbrev pub x2apic_domain_layout : KindLayout X2apicDomainValue
+x2apic_domain_layout = record {
+  kind = said.x2apic_domain;
+  rest = Reserved 2 ∷ NumberOf 4 ∷ NumberOf 4 ∷ NumberOf 4 ∷ NumberOf 4 ∷ Reserved 4 ∷ [];
+  values = λ v. Number v.domain ∷ Number v.x2apic_id ∷ Number v.flags ∷ Number v.clock_domain ∷ [];
+}
 
-abbrev pub x2apic_domain_values : X2apicDomain → List PartValue
-x2apic_domain_values e = Number e.domain ∷ Number e.x2apic_id ∷ Number e.flags ∷ Number e.clock_domain ∷ []
+pub x2apic_domain_laid : IsLaidOut x2apic_domain_layout
+x2apic_domain_laid = record { counted = refl; numbers = refl; typed = omega arith; sized = omega arith; shaped = λ e count. tt; reads = λ e v count same. search rules; agrees = λ e count low. refl }
 
 abbrev pub x2apic_domain_value : X2apicDomain → X2apicDomainValue
 x2apic_domain_value e =
@@ -83,11 +73,36 @@ x2apic_domain_value e =
 -- what an entry says
 abbrev pub srat_value : SratEntry → said.SratEntry
 srat_value (entry.ApicDomain e) = said.ApicDomain (apic_domain_value e)
-srat_value (entry.MemoryRange e) = said.MemoryRange (memory_value e)
+srat_value (entry.MemoryRange e) = said.MemoryRange (memory_range_value e)
 srat_value (entry.X2apicDomain e) = said.X2apicDomain (x2apic_domain_value e)
 srat_value (entry.Opaque bytes) = said.Opaque bytes.now
+
+-- the bytes that are written for it: its fields, with 0 in reserved bytes
+abbrev pub srat_bytes : said.SratEntry → List ℕ
+srat_bytes (said.ApicDomain v) = bytes_of apic_domain_layout v
+srat_bytes (said.MemoryRange v) = bytes_of memory_range_layout v
+srat_bytes (said.X2apicDomain v) = bytes_of x2apic_domain_layout v
+srat_bytes (said.Opaque e) = e
 
 -- where it is not typed, its type is not one of the above
 abbrev pub IsOfOwnLength : said.SratEntry → Type 0
 IsOfOwnLength (said.Opaque e) = ¬ IsTypeOf said.srat_kinds (slice_index e 0)
 IsOfOwnLength _ = Unit {0}
+
+-- where it is not typed, its bytes are those of an entry
+abbrev pub IsWholeEntry : SratEntry → Type 0
+IsWholeEntry (entry.Opaque bytes) = IsEntry bytes.now
+IsWholeEntry _ = Unit {0}
+
+-- the bytes that are written for a typed entry say the same
+pub srat_kept : KeepKinds srat_bytes said.srat_kinds
+srat_kept = (
+  keeps apic_domain_layout apic_domain_laid said.ApicDomain srat_bytes (λ v. refl),
+  (
+    keeps memory_range_layout memory_range_laid said.MemoryRange srat_bytes (λ v. refl),
+    (
+      keeps x2apic_domain_layout x2apic_domain_laid said.X2apicDomain srat_bytes (λ v. refl),
+      (tt),
+    ),
+  ),
+)

@@ -57,7 +57,7 @@ fn entry_at(whole: &[u8], offset: usize) -> Option<&[u8]>
 }
 
 /// The entries of a table from an offset on.
-fn entries_from<'a>(table: Table<'a>, first: usize) -> Entries<'a>
+pub(crate) fn entries_from<'a>(table: Table<'a>, first: usize) -> Entries<'a>
     requires { first ≤ length table }
     ensures { result ≡ entries_from_place first table.entry }
 {

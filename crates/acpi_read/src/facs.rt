@@ -47,7 +47,7 @@ impl<'a> Facs<'a> {
     /// `FacsSignature`, where they do not begin with `FACS`;
     /// `FacsLength`, where its Length is below 64;
     /// `FacsOut`, where its Length bytes are not all held.
-    #[tactic(auto, using(acpi_base::proofs::HeldBytes::says_length))]
+    #[tactic(auto, using(acpi_base::proofs::Images::HeldBytes::says_length))]
     pub fn read(image: &'a Image, fadt: &Fadt<'_>) -> Result<Option<Facs<'a>>, Code>
         ensures ok { IsOk result ↔ HasSoundFacs image.now fadt.now }
         ensures none { (result ≡ Ok None) ↔ ((is_reduced fadt.now ≡ true) × (facs_address fadt.now ≡ 0)) }

@@ -10,7 +10,7 @@ ghost use Rattle.acpi_base.specs.Fadt.{fadt_places, field_number, has_flag, is_r
 ghost use Rattle.acpi_base.specs.Number.{field};
 ghost use Rattle.acpi_base.specs.Tables.{length_of};
 ghost use Rattle.acpi_base.specs.declared.code.Code.{Code};
-ghost use Rattle.acpi_read.specs.Fadts.{block_said};
+ghost use Rattle.acpi_read.specs.Fadts.{block_view_value};
 ghost use Rattle.acpi_read.specs.Gases.{gas_value};
 ghost use Rattle.acpi_read.specs.Headers.{header_value};
 ghost use Rattle.acpi_read.specs.Places.{place_value};
@@ -320,7 +320,7 @@ impl<'a> Fadt<'a> {
     #[tactic(auto, unfolding(acpi_base::specs::Fadt::block_value))]
     pub fn block(&self, k: u8) -> Block
         requires { k < 8 }
-        ensures { block_said result ≡ block_value self.now k }
+        ensures { block_view_value result ≡ block_value self.now k }
     {
         let bytes = self.bytes();
         let structure = X_PM1A_EVT_BLK + Gas::LEN * k as usize;

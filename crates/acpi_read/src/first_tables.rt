@@ -1,28 +1,50 @@
 //! The first table of each kind.
 
 ghost use Rattle.std.specs.Prelude.{◌≡◌, None, Some};
+ghost use Rattle.std.specs.Option.{option_map};
 ghost use Rattle.acpi_base.specs.declared.table_kind.TableKind.{TableKind};
 
 use crate::table::Table;
 use acpi_base::TableKind;
 
-/// The first table of each kind among tables that are added in their order.
+/// A table that a root lists, with the address that its slot holds.
+#[derive(Debug, Drop)]
+pub struct Listed<'a> {
+    /// Where it stands.
+    pub address: u64,
+    /// The table there.
+    pub table: Table<'a>,
+}
+
+impl<'a> Listed<'a> {
+    /// Another view of the same table. No byte is copied.
+    pub fn copied(&self) -> Listed<'a>
+        ensures { result ≡ self.now }
+    {
+        Listed {
+            address: self.address,
+            table: self.table.copied(),
+        }
+    }
+}
+
+/// The first table of each kind among listed tables that are added in their order.
 #[derive(Debug, Drop)]
 pub struct FirstTables<'a> {
-    fadt: Option<Table<'a>>,
-    madt: Option<Table<'a>>,
-    srat: Option<Table<'a>>,
-    slit: Option<Table<'a>>,
-    pptt: Option<Table<'a>>,
+    fadt: Option<Listed<'a>>,
+    madt: Option<Listed<'a>>,
+    srat: Option<Listed<'a>>,
+    slit: Option<Listed<'a>>,
+    pptt: Option<Listed<'a>>,
 }
 
 impl<'a> FirstTables<'a> {
     ghost use Rattle.acpi_base.specs.TableKinds.{signature_of};
-    ghost use Rattle.acpi_read.specs.FirstTables.{first_of, first_with, IsFirstOf};
+    ghost use Rattle.acpi_read.specs.FirstTables.{first_table, first_signed_table, IsFirstOf};
 
     /// No table yet.
     pub fn new() -> FirstTables<'a>
-        ensures { (kind : TableKind) → first_of result kind ≡ None }
+        ensures { (kind : TableKind) → first_table result kind ≡ None }
     {
         FirstTables {
             fadt: None,
@@ -33,9 +55,9 @@ impl<'a> FirstTables<'a> {
         }
     }
 
-    /// The first table of a kind, where there is one.
-    pub fn first(&self, kind: TableKind) -> Option<Table<'a>>
-        ensures { result ≡ first_of self.now kind }
+    /// The first table of a kind, with its address, where there is one.
+    pub fn listed(&self, kind: TableKind) -> Option<&Listed<'a>>
+        ensures { option_map (λ first. first.now.table) result ≡ first_table self.now kind }
     {
         let place = match kind {
             TableKind::Fadt => &self.fadt,
@@ -44,37 +66,42 @@ impl<'a> FirstTables<'a> {
             TableKind::Slit => &self.slit,
             TableKind::Pptt => &self.pptt,
         };
-        match place {
-            Some(table) => Some(table.copied()),
-            None => None,
-        }
+        place.as_ref()
+    }
+
+    /// The first table of a kind, where there is one.
+    pub fn first(&self, kind: TableKind) -> Option<Table<'a>>
+        ensures { result ≡ first_table self.now kind }
+    {
+        let listed = self.listed(kind)?;
+        Some(listed.table.copied())
     }
 
     /// Adds a table behind those before it: keeps it where it is the first of its kind, and returns the kind
     /// then.
-    pub fn add(&mut self, table: Table<'a>) -> Option<TableKind>
-        ensures tables { (kind : TableKind) → first_of self.new kind ≡ first_with (signature_of kind) (first_of self.old kind) table.entry }
-        ensures kind { IsFirstOf self.old table.entry result }
+    pub fn add(&mut self, listed: Listed<'a>) -> Option<TableKind>
+        ensures tables { (kind : TableKind) → first_table self.new kind ≡ first_signed_table (signature_of kind) (first_table self.old kind) listed.entry.table }
+        ensures kind { IsFirstOf self.old listed.entry.table result }
     {
-        let kind = TableKind::of(table.bytes())?;
-        if self.first(kind).is_some() {
+        let kind = TableKind::of(listed.table.bytes())?;
+        if self.listed(kind).is_some() {
             return None;
         }
-        self.keep(kind, table);
+        self.keep(kind, listed);
         Some(kind)
     }
 
     /// Keeps a table as the first of a kind.
-    fn keep(&mut self, kind: TableKind, table: Table<'a>)
-        ensures kept { first_of self.new kind ≡ Some table.entry }
-        ensures others { (other : TableKind) → ¬ (other ≡ kind) → first_of self.new other ≡ first_of self.old other }
+    fn keep(&mut self, kind: TableKind, listed: Listed<'a>)
+        ensures kept { first_table self.new kind ≡ Some listed.entry.table }
+        ensures others { (other : TableKind) → ¬ (other ≡ kind) → first_table self.new other ≡ first_table self.old other }
     {
         match kind {
-            TableKind::Fadt => self.fadt = Some(table),
-            TableKind::Madt => self.madt = Some(table),
-            TableKind::Srat => self.srat = Some(table),
-            TableKind::Slit => self.slit = Some(table),
-            TableKind::Pptt => self.pptt = Some(table),
+            TableKind::Fadt => self.fadt = Some(listed),
+            TableKind::Madt => self.madt = Some(listed),
+            TableKind::Srat => self.srat = Some(listed),
+            TableKind::Slit => self.slit = Some(listed),
+            TableKind::Pptt => self.pptt = Some(listed),
         }
     }
 }

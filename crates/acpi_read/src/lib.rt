@@ -50,6 +50,7 @@ mod entries;
 mod entry;
 mod facs;
 mod fadt;
+mod filled_tables;
 mod first_tables;
 mod gas;
 mod header;
@@ -64,14 +65,17 @@ mod rsdp;
 mod slit;
 mod srat;
 mod table;
+mod typed_entries;
 
 pub use entries::Entries;
 pub use entry::Entry;
 pub use facs::Facs;
 pub use fadt::{Block, Fadt};
-pub use first_tables::FirstTables;
+pub use filled_tables::{Madt, Pptt, Srat};
+pub use first_tables::{FirstTables, Listed};
 pub use gas::Gas;
 pub use header::Header;
+pub use kind::EntryKind;
 pub use layout::{Layout, read_back};
 pub use listed::first;
 pub use madt::{
@@ -84,6 +88,7 @@ pub use rsdp::Rsdp;
 pub use slit::Slit;
 pub use srat::{ApicDomain, MemoryRange, SratEntry, X2apicDomain};
 pub use table::Table;
+pub use typed_entries::{EntryAt, TableEntry, TypedEntries};
 
 #[cfg(test)]
 mod samples;

@@ -1,23 +1,23 @@
 //! Entries of the PPTT.
 
-mod cache24;
-mod cache28;
+mod kinds;
 mod node_head;
 
-use crate::kind::typed;
+use crate::kind::{EntryKind, laid, typed};
+use crate::layout::Layout;
+use crate::typed_entries::TableEntry;
 use acpi_base::Code;
-pub use cache24::Cache24;
-pub use cache28::Cache28;
+pub use kinds::{Cache24, Cache28};
 pub use node_head::NodeHead;
 
 /// What an entry of a PPTT says (ACPI 6.5, 5.2.30).
 #[derive(Clone, Copy, Debug, PartialEq, Eq)]
 pub enum PpttEntry<'a> {
-    /// Type 0, 20 bytes and 4 for each private resource: the first 20, and the rest.
+    /// A node: its first 20 bytes, and 4 for each private resource.
     Node(NodeHead, &'a [u8]),
-    /// Type 1, 24 bytes.
+    /// A cache without an ID.
     Cache24(Cache24),
-    /// Type 1, 28 bytes.
+    /// A cache with an ID.
     Cache28(Cache28),
     /// Any other type: all its bytes.
     Opaque(&'a [u8]),
@@ -28,7 +28,7 @@ impl<'a> PpttEntry<'a> {
     ghost use Rattle.acpi_base.specs.Entries.{IsEntry};
     ghost use Rattle.acpi_base.specs.Pptt.{pptt_entry, HasOtherPpttLength, Opaque};
     ghost use Rattle.acpi_base.specs.declared.code.Code.{Code};
-    ghost use Rattle.acpi_read.specs.Pptts.{pptt_value, HasReferences};
+    ghost use Rattle.acpi_read.specs.Pptts.{pptt_value, HasReferences, IsWholeEntry};
 
     /// What an entry's bytes say: at least two, of which the second is their count, as those of an `Entry` are.
     /// Refuses those of types 0 and 1 that do not have a length of their type with `PpttEntryLength`. What an
@@ -38,19 +38,40 @@ impl<'a> PpttEntry<'a> {
         requires { IsEntry bytes.now }
         ensures ok { IfOk result (λ entry. pptt_value entry ≡ pptt_entry bytes.now) }
         ensures references { IfOk result HasReferences }
+        ensures whole { IfOk result IsWholeEntry }
         ensures length { IfOk result (λ entry. ¬ HasOtherPpttLength (pptt_value entry)) }
         ensures err { IfErr result (λ code. (code ≡ Code.PpttEntryLength) × (pptt_entry bytes.now ≡ Opaque bytes.now) × (slice_index bytes.now 0 ≤ 1)) }
     {
         match bytes[0] {
-            0 if bytes.len() < 20 => Err(Code::PpttEntryLength),
+            0 if bytes.len() < NodeHead::LEN => Err(Code::PpttEntryLength),
             0 => {
-                let (head, references) = bytes.split_at(20);
-                Ok(PpttEntry::Node(typed(head, Code::PpttEntryLength)?, references))
+                let (head, references) = bytes.split_at(NodeHead::LEN);
+                Ok(PpttEntry::Node(laid(head, Code::PpttEntryLength)?, references))
             }
-            1 if bytes.len() == 28 => Ok(PpttEntry::Cache28(typed(bytes, Code::PpttEntryLength)?)),
-            1 => Ok(PpttEntry::Cache24(typed(bytes, Code::PpttEntryLength)?)),
+            Cache28::TYPE if bytes.len() == Cache28::LEN => {
+                Ok(PpttEntry::Cache28(typed(bytes, Code::PpttEntryLength)?))
+            }
+            Cache24::TYPE => Ok(PpttEntry::Cache24(typed(bytes, Code::PpttEntryLength)?)),
             _ => Ok(PpttEntry::Opaque(bytes)),
         }
+    }
+}
+
+impl<'a> TableEntry<'a> for PpttEntry<'a> {
+    ghost use Rattle.acpi_base.specs.Pptt as said;
+    ghost use Rattle.acpi_base.specs.Pptt.{pptt_entry};
+    ghost use Rattle.acpi_read.specs.Pptts.{pptt_value, HasReferences, IsWholeEntry};
+
+    ghost Said = { said.PpttEntry };
+
+    ghost value = { pptt_value };
+
+    ghost said_by = { pptt_entry };
+
+    ghost IsRead = { λ entry. HasReferences entry × IsWholeEntry entry };
+
+    fn of(bytes: &'a [u8]) -> PpttEntry<'a> {
+        PpttEntry::read(bytes).unwrap_or(PpttEntry::Opaque(bytes))
     }
 }
 

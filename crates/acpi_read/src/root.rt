@@ -77,7 +77,7 @@ fn place_of(rsdp: &Rsdp) -> Option<Place>
 }
 
 /// The root at a place.
-#[tactic(auto, using(acpi_base::proofs::HeldBytes::says_length))]
+#[tactic(auto, using(acpi_base::proofs::Images::HeldBytes::says_length))]
 fn read_at(image: &Image, place: Place) -> Result<Root<'_>, Code>
     requires { IsSlotWidth place.width }
     ensures ok { IfOk result (λ root. (root.address ≡ place.address) × (root.width ≡ place.width) × IsSoundRootTable image.now place.address place.width root.bytes) }

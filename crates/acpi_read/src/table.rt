@@ -42,7 +42,7 @@ impl<'a> Table<'a> {
     /// `TableLength`, where its Length is below 36;
     /// `TableOut`, where its Length bytes are not all held;
     /// `TableSum`, where they do not sum to 0.
-    #[tactic(auto, using(acpi_base::proofs::HeldBytes::says_length))]
+    #[tactic(auto, using(acpi_base::proofs::Images::HeldBytes::says_length))]
     pub fn read(image: &'a Image, address: u64) -> Result<Table<'a>, Code>
         ensures ok { IsOk result ↔ IsSoundTable image.now address }
         ensures value { IfOk result (λ bytes. (header : List ℕ) × IsTable image.now address header bytes) }
@@ -64,6 +64,18 @@ impl<'a> Table<'a> {
             return Err(Code::TableSum);
         }
         Ok(Table { bytes })
+    }
+
+    /// The table at an address at which one is known to be sound. Its bytes are not summed again.
+    #[tactic(auto, using(acpi_base::proofs::Images::HeldBytes::says_length))]
+    pub fn sound(image: &'a Image, address: u64) -> Table<'a>
+        requires { IsSoundTable image.now address }
+        ensures { (header : List ℕ) × IsTable image.now address header result }
+    {
+        let header = image.window(address, Header::LEN as u64).unwrap();
+        let length = u32_at(header, 4);
+        let bytes = image.window(address, u64::from(length)).unwrap();
+        Table { bytes }
     }
 
     /// Another view of the same table: several stages look at one. No byte is copied.

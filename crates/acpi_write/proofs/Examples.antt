@@ -5,7 +5,7 @@ use Rattle.std.specs.FinMap.{empty}
 use Rattle.acpi_base.specs.Number.{field, number_bytes, byte_sum}
 use Rattle.acpi_base.specs.Signature.{has_signature}
 use Rattle.acpi_base.specs.Header.{header_of, header_bytes}
-use Rattle.acpi_base.specs.Listed.{listed, fadt_signature}
+use Rattle.acpi_base.specs.Listed.{listed_addresses, fadt_signature}
 use Rattle.acpi_base.specs.Fadt.{IsFadt}
 use Rattle.acpi_base.specs.Entries.{first_entry, entries_from, entries_of, end_of_entries, cut_of, has_form}
 use Rattle.acpi_base.specs.Madt.{madt_entry, madt_contents}
@@ -20,13 +20,13 @@ use Rattle.acpi_base.proofs.Examples.CleanSet.{is_clean, names_facs, named_facs}
 use Rattle.acpi_base.proofs.Examples.WholeSets.{whole_has_root, root_of_held, root_table_of, tables}
 use Rattle.acpi_base.proofs.Examples.WholeSets as whole
 use Rattle.acpi_base.proofs.Tables.Listed.{one_listed}
-use Rattle.acpi_write.specs.Encoded.{closing, table_bytes}
-use Rattle.acpi_write.specs.Examples.{whole_tables, whole_value, new_base, new_pieces, new_image}
+use Rattle.acpi_write.specs.Encoded.{checksum_of, table_bytes}
+use Rattle.acpi_write.specs.Examples.{whole_tables, whole_value, new_base, new_blocks, new_image}
 use Rattle.acpi_write.specs.FadtBody.{put_over, with_facs}
-use Rattle.acpi_write.specs.Placed.{ends, IsPlaced}
+use Rattle.acpi_write.specs.Placed.{block_ends, IsPlaced}
 use Rattle.acpi_write.specs.Rebuilding.{IsRebuilt}
-use Rattle.acpi_write.specs.Rebuilt.{aligned, laid, places, rsdp_bytes, part_bytes, with_pieces, rebuilt}
-use Rattle.acpi_write.specs.SetValues.{said_behind, values_behind, values_of, IsWholeAt, IsFacsOf, IsSetValue}
+use Rattle.acpi_write.specs.Rebuilt.{aligned_address, blocks_from, block_places, rsdp_bytes, part_bytes, with_blocks, rebuilt_image}
+use Rattle.acpi_write.specs.SetValues.{table_value_behind, values_behind, values_of, IsWholeAt, IsFacsOf, IsSetValue}
 
 -- ---- what the set says
 
@@ -35,13 +35,13 @@ abbrev table_list : List (List ℕ)
 table_list = fadt_bytes ∷ madt_bytes ∷ srat_bytes ∷ one_locality_bytes ∷ new_leaf_bytes ∷ []
 
 -- its root lists them
-each_whole : AllZip (IsWholeAt whole_set) (listed xsdt_bytes 8) table_list
-unfolding listed field
+each_whole : AllZip (IsWholeAt whole_set) (listed_addresses xsdt_bytes 8) table_list
+unfolding listed_addresses field
 each_whole = ((_, tables.fadt), ((_, tables.madt), ((_, tables.srat), ((_, tables.slit), ((_, tables.pptt), tt)))))
 
 -- they say this
 values_said : whole_tables ≡ values_of table_list
-unfolding said_behind values_behind has_signature header_of field number_bytes put_over with_facs first_entry
+unfolding table_value_behind values_behind has_signature header_of field number_bytes put_over with_facs first_entry
     entries_from entries_of end_of_entries cut_of has_form madt_entry madt_contents srat_entry srat_contents
     slit_contents has_node_form has_cache_form pptt_entry pptt_contents
 values_said = refl
@@ -73,7 +73,7 @@ is_said = record {
 -- ---- its new image
 
 pub is_placed : IsPlaced whole_value new_base
-unfolding ends aligned places number_bytes
+unfolding block_ends aligned_address block_places number_bytes
 is_placed = record {
   aligned = refl;
   size = omega arith;
@@ -84,16 +84,16 @@ is_placed = record {
   low = λ _. omega arith;
 }
 
-pieces : new_pieces ≡ laid new_base (part_bytes whole_value new_base)
-unfolding laid aligned places rsdp_bytes closing table_bytes header_bytes number_bytes byte_sum put_over with_facs
+pieces : new_blocks ≡ blocks_from new_base (part_bytes whole_value new_base)
+unfolding blocks_from aligned_address block_places rsdp_bytes checksum_of table_bytes header_bytes number_bytes byte_sum put_over with_facs
 pieces = refl
 
 pub is_rebuilt : IsRebuilt whole_set example_policy new_base new_image
-unfolding new_image rebuilt
+unfolding new_image rebuilt_image
 is_rebuilt = record {
   clean = is_clean;
   value = whole_value;
   said = is_said;
   placed = is_placed;
-  image = ap (with_pieces empty) pieces;
+  image = ap (with_blocks empty) pieces;
 }

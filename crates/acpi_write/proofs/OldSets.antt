@@ -7,4 +7,4 @@ pub mod Listing
 pub mod OldTables
 pub mod OneSetValue
 pub mod Reading
-pub mod SaidBehind
+pub mod ValuesBehind

@@ -1,7 +1,7 @@
 -- The parts of a set, and where they are put.
-pub mod LaidBlocks
 pub mod PartLengths
 pub mod PartPlaces
 pub mod PartsInOrder
+pub mod PlacedBlocks
 pub mod Refusals
 pub mod WrittenParts

@@ -3,7 +3,9 @@ use Rattle.std.specs.Prelude.{◌≡◌, ℕ, ◌+◌, ◌-◌, ◌%◌, ◌^◌
 use Rattle.acpi_base.specs.Number.{number_bytes, byte_sum}
 use Rattle.acpi_base.specs.Header.{HeadValue, head_of, header_with, header_bytes}
 use Rattle.acpi_base.specs.Listed.{fadt_signature, madt_signature, srat_signature, slit_signature, pptt_signature}
-use Rattle.acpi_write.specs.EntryBytes.{madt_bytes, srat_bytes, pptt_bytes}
+use Rattle.acpi_read.specs.Madts.{madt_bytes}
+use Rattle.acpi_read.specs.Srats.{srat_bytes}
+use Rattle.acpi_read.specs.Pptts.{pptt_bytes}
 use Rattle.acpi_write.specs.Values.{TableValue, Madt, Srat, Slit, Pptt, Fadt, Other}
 
 -- each field has its width
@@ -16,28 +18,28 @@ pub record FitsHead (head : HeadValue) : Type 0 where
   pub creator_revision : head.creator_revision < 2 ^ 32
 
 -- the checksum of these bytes, which hold 0 in its place: with it there they sum to 0 modulo 256 (5.2.6)
-unfoldable pub closing : List ℕ → ℕ
-closing bytes = (256 - byte_sum bytes) % 256
+unfoldable pub checksum_of : List ℕ → ℕ
+checksum_of bytes = (256 - byte_sum bytes) % 256
 
 -- a table's bytes: its header, with the checksum that makes the sum 0, and its body
 unfoldable pub table_bytes : List ℕ → HeadValue → List ℕ → List ℕ
 table_bytes signature head body =
     let size = 36 + length body in
     let open_bytes = header_bytes (header_with signature size 0 head) ++ body in
-    header_bytes (header_with signature size (closing open_bytes) head) ++ body
+    header_bytes (header_with signature size (checksum_of open_bytes) head) ++ body
 
 -- an SRAT's bytes from 36 to 47, which are reserved: the first 4 say 1, the others 0 (5.2.16)
 abbrev pub srat_reserved : List ℕ
 srat_reserved = number_bytes 4 1 ++ replicate 8 0
 
 -- a table's signature
-abbrev pub signature_of : TableValue → List ℕ
-signature_of (Madt _ _ _ _) = madt_signature
-signature_of (Srat _ _) = srat_signature
-signature_of (Slit _ _ _) = slit_signature
-signature_of (Pptt _ _) = pptt_signature
-signature_of (Fadt _ _) = fadt_signature
-signature_of (Other bytes) = take 4 bytes
+abbrev pub value_signature : TableValue → List ℕ
+value_signature (Madt _ _ _ _) = madt_signature
+value_signature (Srat _ _) = srat_signature
+value_signature (Slit _ _ _) = slit_signature
+value_signature (Pptt _ _) = pptt_signature
+value_signature (Fadt _ _) = fadt_signature
+value_signature (Other bytes) = take 4 bytes
 
 -- what its header says beside its signature, length and checksum
 abbrev pub value_head : TableValue → HeadValue
@@ -57,11 +59,11 @@ body_of (Pptt head entries) = flat_map pptt_bytes entries
 body_of (Fadt head body) = body
 body_of (Other bytes) = drop 36 bytes
 
--- how many bytes `encoded` gives for it, the header's 36 counted; of another table this holds where it has at least 36
+-- how many bytes `encoded_bytes` gives for it, the header's 36 counted; of another table this holds where it has at least 36
 abbrev pub encoded_length : TableValue → ℕ
 encoded_length v = 36 + length (body_of v)
 
 -- the bytes that are written for a value; those of another table are as they were
-abbrev pub encoded : TableValue → List ℕ
-encoded (Other bytes) = bytes
-encoded v = table_bytes (signature_of v) (value_head v) (body_of v)
+abbrev pub encoded_bytes : TableValue → List ℕ
+encoded_bytes (Other bytes) = bytes
+encoded_bytes v = table_bytes (value_signature v) (value_head v) (body_of v)

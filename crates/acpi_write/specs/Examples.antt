@@ -14,7 +14,7 @@ use Rattle.acpi_base.specs.Examples.Sets.{new_leaf_bytes}
 use Rattle.acpi_base.specs.Examples.Slits.{one_locality_bytes}
 use Rattle.acpi_base.specs.Examples.WholeSets.{fadt_body, facs_bytes, madt_bytes, srat_bytes}
 use Rattle.acpi_write.specs.Values.{TableValue, Madt, Srat, Slit, Pptt, Fadt, SetValue}
-use Rattle.acpi_write.specs.Rebuilt.{Piece, with_pieces}
+use Rattle.acpi_write.specs.Rebuilt.{PlacedBlock, with_blocks}
 
 -- ---- what the set says
 
@@ -92,23 +92,23 @@ abbrev pub new_fadt : List ℕ
 new_fadt = table fadt_signature 129 2 221 (fadt_body (0xc0 ∷ 0 ∷ 0xf ∷ 0 ∷ []))
 
 -- bytes at an address
-abbrev pub piece_at : ℕ → List ℕ → Piece
-piece_at address bytes = record { address = address; bytes = bytes }
+abbrev pub block_at : ℕ → List ℕ → PlacedBlock
+block_at address bytes = record { address = address; bytes = bytes }
 
 -- its parts, each at the next multiple of 64: the FACS, the MADT, the SRAT, the SLIT and the PPTT have the bytes that
 -- they had
-abbrev pub new_pieces : List Piece
-new_pieces =
-    piece_at 0xf0000 new_rsdp
-    ∷ piece_at 0xf0040 new_xsdt
-    ∷ piece_at 0xf00c0 facs_bytes
-    ∷ piece_at 0xf0100 new_fadt
-    ∷ piece_at 0xf01c0 madt_bytes
-    ∷ piece_at 0xf0240 srat_bytes
-    ∷ piece_at 0xf02c0 one_locality_bytes
-    ∷ piece_at 0xf0300 new_leaf_bytes
+abbrev pub new_blocks : List PlacedBlock
+new_blocks =
+    block_at 0xf0000 new_rsdp
+    ∷ block_at 0xf0040 new_xsdt
+    ∷ block_at 0xf00c0 facs_bytes
+    ∷ block_at 0xf0100 new_fadt
+    ∷ block_at 0xf01c0 madt_bytes
+    ∷ block_at 0xf0240 srat_bytes
+    ∷ block_at 0xf02c0 one_locality_bytes
+    ∷ block_at 0xf0300 new_leaf_bytes
     ∷ []
 
 -- the image of these and nothing else
 unfoldable pub new_image : Memory
-new_image = with_pieces empty new_pieces
+new_image = with_blocks empty new_blocks

@@ -6,29 +6,31 @@ use Rattle.acpi_base.specs.Signature.{has_signature}
 use Rattle.acpi_base.specs.TableKinds.{signature_of}
 use Rattle.acpi_base.specs.declared.table_kind.TableKind.{TableKind}
 use Rattle.acpi_base.specs.declared.table_kind.TableKind.TheVariants as kind
-use Rattle.acpi_read.specs.FirstTables.{first_of}
+use Rattle.acpi_read.specs.FirstTables.{first_table}
 use Rattle.acpi_read.specs.declared.first_tables.FirstTables.{FirstTables}
-use Rattle.acpi_write.specs.Readable.{IsReadableMadt, IsReadableSrat, IsReadableSlit, IsReadablePptt}
-use Rattle.acpi_write.specs.SetValues.{fadt_said, madt_said, srat_said, slit_said, pptt_said, is_first}
+use Rattle.acpi_read.specs.declared.first_tables.Listed.{Listed}
+use Rattle.acpi_read.specs.FilledTables.{IsFilledMadt, IsFilledSrat, IsFilledPptt}
+use Rattle.acpi_write.specs.Readable.{IsReadableSlit}
+use Rattle.acpi_write.specs.SetValues.{fadt_table_value, madt_table_value, srat_table_value, slit_table_value, pptt_table_value, is_first}
 use Rattle.acpi_write.specs.Values as value
 
 -- the bytes can be read as those of the kind
 abbrev pub IsReadableAs : Option TableKind → List ℕ → Type 0
 IsReadableAs (Some kind.Fadt) whole = 116 ≤ length whole
-IsReadableAs (Some kind.Madt) whole = IsReadableMadt whole
-IsReadableAs (Some kind.Srat) whole = IsReadableSrat whole
+IsReadableAs (Some kind.Madt) whole = IsFilledMadt whole
+IsReadableAs (Some kind.Srat) whole = IsFilledSrat whole
 IsReadableAs (Some kind.Slit) whole = IsReadableSlit whole
-IsReadableAs (Some kind.Pptt) whole = IsReadablePptt whole
+IsReadableAs (Some kind.Pptt) whole = IsFilledPptt whole
 IsReadableAs None whole = byte_sum whole ≡ 0
 
 -- what the bytes say as those of the kind
-abbrev pub said_as : Option TableKind → List ℕ → value.TableValue
-said_as (Some kind.Fadt) whole = fadt_said whole
-said_as (Some kind.Madt) whole = madt_said whole
-said_as (Some kind.Srat) whole = srat_said whole
-said_as (Some kind.Slit) whole = slit_said whole
-said_as (Some kind.Pptt) whole = pptt_said whole
-said_as None whole = value.Other whole
+abbrev pub table_value_as : Option TableKind → List ℕ → value.TableValue
+table_value_as (Some kind.Fadt) whole = fadt_table_value whole
+table_value_as (Some kind.Madt) whole = madt_table_value whole
+table_value_as (Some kind.Srat) whole = srat_table_value whole
+table_value_as (Some kind.Slit) whole = slit_table_value whole
+table_value_as (Some kind.Pptt) whole = pptt_table_value whole
+table_value_as None whole = value.Other whole
 
 -- the kind of which a table is the first, behind those before it; none where it is the first of no kind
 abbrev pub IsKindBehind : List (List ℕ) → List ℕ → Option TableKind → Type 0
@@ -41,7 +43,7 @@ is_among tables signature = list_any (λ t. has_signature t signature) tables
 
 -- of the kinds that are among the tables one is kept
 abbrev pub HasFirsts : List (List ℕ) → FirstTables → Type 0
-HasFirsts tables firsts = (kind : TableKind) → is_none (first_of firsts kind) ≡ not (is_among tables (signature_of kind))
+HasFirsts tables firsts = (kind : TableKind) → is_none (first_table firsts kind) ≡ not (is_among tables (signature_of kind))
 
 -- a table sums to 0 and can be read as one of its kind, behind those before it
 pub record IsReadableBehind (before : List (List ℕ)) (whole : List ℕ) : Type 0 where
@@ -51,3 +53,7 @@ pub record IsReadableBehind (before : List (List ℕ)) (whole : List ℕ) : Type
 -- each table can
 abbrev pub AreReadable : List (List ℕ) → Type 0
 AreReadable tables = (k : ℕ) (none : List ℕ) → k < length tables → IsReadableBehind (take k tables) (slice_index_or tables k none)
+
+-- the bytes of a listed table
+abbrev pub table_of : Listed → List ℕ
+table_of listed = listed.table

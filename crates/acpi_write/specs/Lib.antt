@@ -1,5 +1,4 @@
 pub mod Encoded
-pub mod EntryBytes
 pub mod Examples
 pub mod FadtBody
 pub mod Kinds

@@ -2,21 +2,21 @@
 use Rattle.std.specs.Prelude.{◌≡◌, ℕ, ◌+◌, ◌%◌, ◌^◌, ◌<◌, ◌≤◌, Bool, true, false, nat_lt, ◌↔◌, List, [], ◌∷◌, length, take, drop, Some}
 use Rattle.std.specs.List.{AllByRecursion, list_any}
 use Rattle.acpi_base.specs.Header.{head_of}
-use Rattle.acpi_base.specs.Listed.{listed}
+use Rattle.acpi_base.specs.Listed.{listed_addresses}
 use Rattle.acpi_base.specs.Memory.{Memory, bytes_at}
 use Rattle.acpi_base.specs.Root.{IsRoot, IsSoundRootTable}
 use Rattle.acpi_base.specs.Rsdp.{IsSoundRsdp}
 use Rattle.acpi_write.specs.Encoded.{FitsHead}
-use Rattle.acpi_write.specs.Rebuilt.{aligned, xsdt_length, part_lengths, facs_place, table_places, rebuilt}
+use Rattle.acpi_write.specs.Rebuilt.{aligned_address, xsdt_length, part_lengths, facs_place, table_places, rebuilt_image}
 use Rattle.acpi_write.specs.Values.{TableValue, Fadt, SetValue}
 use Rattle.acpi_write.specs.declared.placing.RebuildFault.{RebuildFault}
 use Rattle.acpi_write.specs.declared.placing.RebuildFault.TheVariants as fault
 
 -- where blocks of these lengths end, behind their last byte: the first begins at an address, each further one at the least
 -- multiple of 64 not below the end of the one before
-unfoldable pub ends : ℕ → List ℕ → List ℕ
-ends a [] = []
-ends a (n ∷ rest) = (a + n) ∷ ends (aligned (a + n)) rest
+unfoldable pub block_ends : ℕ → List ℕ → List ℕ
+block_ends a [] = []
+block_ends a (n ∷ rest) = (a + n) ∷ block_ends (aligned_address (a + n)) rest
 
 -- the blocks that end there lie below 2^64: the end of a block is behind its last byte, so it may be 2^64 itself
 abbrev pub DoEndInside : List ℕ → Type 0
@@ -32,15 +32,15 @@ is_narrow _ = false
 pub record IsPlaced (v : SetValue) (base : ℕ) : Type 0 where
   pub aligned : base % 64 ≡ 0
   pub size : xsdt_length v < 2 ^ 32
-  pub inside : DoEndInside (ends base (part_lengths v))
+  pub inside : DoEndInside (block_ends base (part_lengths v))
   pub low : list_any is_narrow v.tables ≡ true → facs_place v base < 2 ^ 32
 
 -- why the set cannot stand from a base address on that is a multiple of 64. At most one of these holds: each asks that those
 -- before it do not.
 abbrev pub IsPlacingRefusal : SetValue → ℕ → RebuildFault → Type 0
 IsPlacingRefusal v base fault.TableTooLong = 2 ^ 32 ≤ xsdt_length v
-IsPlacingRefusal v base fault.PastEnd = (xsdt_length v < 2 ^ 32) × ¬ DoEndInside (ends base (part_lengths v))
-IsPlacingRefusal v base fault.NeedsLow = (xsdt_length v < 2 ^ 32) × DoEndInside (ends base (part_lengths v)) × (list_any is_narrow v.tables ≡ true) × (2 ^ 32 ≤ facs_place v base)
+IsPlacingRefusal v base fault.PastEnd = (xsdt_length v < 2 ^ 32) × ¬ DoEndInside (block_ends base (part_lengths v))
+IsPlacingRefusal v base fault.NeedsLow = (xsdt_length v < 2 ^ 32) × DoEndInside (block_ends base (part_lengths v)) × (list_any is_narrow v.tables ≡ true) × (2 ^ 32 ≤ facs_place v base)
 IsPlacingRefusal v base _ = ⊥
 
 -- ---- laws
@@ -61,8 +61,8 @@ pub record LeadsToTables (v : SetValue) (base : ℕ) (m : Memory) : Type 0 where
   pub root : IsRoot m base r 8
   pub sound : IsSoundRootTable m r 8 root_bytes
   pub root_head : head_of root_bytes ≡ v.root
-  pub lists : listed root_bytes 8 ≡ table_places v base
+  pub lists : listed_addresses root_bytes 8 ≡ table_places v base
 
 -- each rebuilt image does
 abbrev pub RebuiltLeadsToTables : Type 0
-RebuiltLeadsToTables = (v : SetValue) (base : ℕ) → length v.oemid ≡ 6 → FitsHead v.root → IsPlaced v base → LeadsToTables v base (rebuilt v base)
+RebuiltLeadsToTables = (v : SetValue) (base : ℕ) → length v.oemid ≡ 6 → FitsHead v.root → IsPlaced v base → LeadsToTables v base (rebuilt_image v base)

@@ -6,7 +6,7 @@ use Rattle.acpi_base.specs.Policy.{PolicyValue, with_rsdp}
 use Rattle.acpi_base.specs.Statements.{IsClean, CleanTo}
 use Rattle.acpi_base.specs.declared.stage.Stage.TheVariants as stage
 use Rattle.acpi_write.specs.Placed.{IsPlaced, IsPlacingRefusal}
-use Rattle.acpi_write.specs.Rebuilt.{rebuilt}
+use Rattle.acpi_write.specs.Rebuilt.{rebuilt_image}
 use Rattle.acpi_write.specs.SetValues.{IsSetValue}
 use Rattle.acpi_write.specs.Values.{SetValue}
 use Rattle.acpi_write.specs.declared.placing.RebuildFault.{RebuildFault}
@@ -21,7 +21,7 @@ pub record IsRebuilt (m : Memory) (q : PolicyValue) (base : ℕ) (new : Memory) 
   pub value : SetValue
   pub said : IsSetValue m q.rsdp value
   pub placed : IsPlaced value base
-  pub image : new ≡ rebuilt value base
+  pub image : new ≡ rebuilt_image value base
 
 -- Why a set is not rebuilt: the base address is not a multiple of 64; or it is, and the set is not clean, and this is its
 -- first fault; or the set is clean, and what it says cannot stand from the base address on. Memory runs out only where
@@ -47,9 +47,9 @@ RefusedSetsAreNotRebuilt = (m : Memory) (q : PolicyValue) (base : ℕ) (new : Me
 -- The rebuilt image of the value v at a base address is kept as a set: under the policy with the RSDP at that address it is
 -- clean, it says v, and whatever it says can stand at that address again, where its rebuilt image is this one.
 pub record IsSetKept (q : PolicyValue) (v : SetValue) (base : ℕ) : Type 0 where
-  pub clean : IsClean (rebuilt v base) (with_rsdp q base)
-  pub value : IsSetValue (rebuilt v base) base v
-  pub again : (w : SetValue) → IsSetValue (rebuilt v base) base w → IsPlaced w base × (rebuilt w base ≡ rebuilt v base)
+  pub clean : IsClean (rebuilt_image v base) (with_rsdp q base)
+  pub value : IsSetValue (rebuilt_image v base) base v
+  pub again : (w : SetValue) → IsSetValue (rebuilt_image v base) base w → IsPlaced w base × (rebuilt_image w base ≡ rebuilt_image v base)
 
 -- it is, of the value that a clean set says, wherever this can stand. That the numbers of a lent image fit (`IsImage`) is what
 -- `Image::numbers_fit` states.

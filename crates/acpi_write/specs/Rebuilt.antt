@@ -1,6 +1,6 @@
 -- The rebuilt image of what a set says: the RSDP at a base address, then an XSDT, the FACS if there is one, and the
 -- listed tables, each at the least multiple of 64 not below the end of the one before. These are the parts of the set; a block
--- is the bytes of a part, and a piece is a block with its address.
+-- is the bytes of a part, and it is placed where it has its address.
 use Rattle.std.specs.Prelude.{◌≡◌, ℕ, ◌+◌, ◌*◌, ◌/◌, List, [], ◌∷◌, ◌++◌, length, drop, map, flat_map, slice_index, Option, Some, None}
 use Rattle.std.specs.List.{AllByRecursion}
 use Rattle.std.specs.FinMap.{empty}
@@ -10,44 +10,44 @@ use Rattle.acpi_base.specs.Policy.{PolicyValue}
 use Rattle.acpi_base.specs.Signature.{rsdp_signature, xsdt_signature}
 use Rattle.acpi_base.specs.Listed.{fadt_signature}
 use Rattle.acpi_base.specs.Statements.{IsClean}
-use Rattle.acpi_write.specs.Encoded.{closing, table_bytes, encoded, encoded_length}
+use Rattle.acpi_write.specs.Encoded.{checksum_of, table_bytes, encoded_bytes, encoded_length}
 use Rattle.acpi_write.specs.FadtBody.{with_facs}
 use Rattle.acpi_write.specs.SetValues.{IsSetValue}
 use Rattle.acpi_write.specs.Values.{TableValue, Fadt, SetValue}
 
--- ---- pieces of an image
+-- ---- blocks of an image
 
 -- bytes that stand from an address on
-pub record Piece : Type 0 where
+pub record PlacedBlock : Type 0 where
   pub address : ℕ
   pub bytes : List ℕ
 
 -- the least multiple of 64 not below an address
-unfoldable pub aligned : ℕ → ℕ
-aligned a = (a + 63) / 64 * 64
+unfoldable pub aligned_address : ℕ → ℕ
+aligned_address a = (a + 63) / 64 * 64
 
 -- blocks of bytes one after another: the first at an address, each further one at the least multiple of 64 not below the
 -- end of the one before
-unfoldable pub laid : ℕ → List (List ℕ) → List Piece
-laid a [] = []
-laid a (bytes ∷ rest) = record { address = a; bytes = bytes } ∷ laid (aligned (a + length bytes)) rest
+unfoldable pub blocks_from : ℕ → List (List ℕ) → List PlacedBlock
+blocks_from a [] = []
+blocks_from a (bytes ∷ rest) = record { address = a; bytes = bytes } ∷ blocks_from (aligned_address (a + length bytes)) rest
 
 -- where blocks of these lengths begin
-unfoldable pub places : ℕ → List ℕ → List ℕ
-places a [] = []
-places a (n ∷ rest) = a ∷ places (aligned (a + n)) rest
+unfoldable pub block_places : ℕ → List ℕ → List ℕ
+block_places a [] = []
+block_places a (n ∷ rest) = a ∷ block_places (aligned_address (a + n)) rest
 
--- the image with the pieces put in
-unfoldable pub with_pieces : Memory → List Piece → Memory
-with_pieces m [] = m
-with_pieces m (p ∷ rest) = with_pieces (with_bytes m p.address p.bytes) rest
+-- the image with the blocks put in
+unfoldable pub with_blocks : Memory → List PlacedBlock → Memory
+with_blocks m [] = m
+with_blocks m (p ∷ rest) = with_blocks (with_bytes m p.address p.bytes) rest
 
 -- ---- where the parts of a set stand
 
 -- an option as a list of one element or of none
-abbrev pub listed_option : {X : Type 0} → Option X → List X
-listed_option None = []
-listed_option (Some x) = x ∷ []
+abbrev pub option_list : {X : Type 0} → Option X → List X
+option_list None = []
+option_list (Some x) = x ∷ []
 
 -- the XSDT has 8 bytes for each table behind its header (5.2.8)
 abbrev pub xsdt_length : SetValue → ℕ
@@ -55,11 +55,11 @@ xsdt_length v = 36 + 8 * length v.tables
 
 -- the parts' lengths, in the parts' order: the RSDP, the XSDT, the FACS if there is one, the tables in the order of their slots
 abbrev pub part_lengths : SetValue → List ℕ
-part_lengths v = 36 ∷ xsdt_length v ∷ (map length (listed_option v.facs) ++ map encoded_length v.tables)
+part_lengths v = 36 ∷ xsdt_length v ∷ (map length (option_list v.facs) ++ map encoded_length v.tables)
 
 -- where they begin, the first at the base address
 abbrev pub part_places : SetValue → ℕ → List ℕ
-part_places v base = places base (part_lengths v)
+part_places v base = block_places base (part_lengths v)
 
 -- this address where there is a FACS, and 0 where there is none
 abbrev pub place_of_facs : Option (List ℕ) → ℕ → ℕ
@@ -72,7 +72,7 @@ facs_place v base = place_of_facs v.facs (slice_index (part_places v base) 2)
 
 -- the tables' addresses: those of all parts behind the RSDP, the XSDT and the FACS
 abbrev pub table_places : SetValue → ℕ → List ℕ
-table_places v base = drop (2 + length (listed_option v.facs)) (part_places v base)
+table_places v base = drop (2 + length (option_list v.facs)) (part_places v base)
 
 -- ---- what the parts hold
 
@@ -89,39 +89,39 @@ rsdp_tail xsdt checksum = number_bytes 4 36 ++ (number_bytes 8 xsdt ++ (checksum
 -- an RSDP's 36 bytes, with the checksum that makes the first 20 sum to 0 and the extended one that makes all sum to 0
 unfoldable pub rsdp_bytes : List ℕ → ℕ → List ℕ
 rsdp_bytes oemid xsdt =
-    let head = rsdp_head oemid (closing (rsdp_head oemid 0)) in
-    head ++ rsdp_tail xsdt (closing (head ++ rsdp_tail xsdt 0))
+    let head = rsdp_head oemid (checksum_of (rsdp_head oemid 0)) in
+    head ++ rsdp_tail xsdt (checksum_of (head ++ rsdp_tail xsdt 0))
 
 -- a table's bytes where the FACS stands at this address, which is 0 for none
-abbrev pub encoded_with : ℕ → TableValue → List ℕ
-encoded_with facs (Fadt head body) = table_bytes fadt_signature head (with_facs body facs)
-encoded_with facs v = encoded v
+abbrev pub encoded_bytes_with : ℕ → TableValue → List ℕ
+encoded_bytes_with facs (Fadt head body) = table_bytes fadt_signature head (with_facs body facs)
+encoded_bytes_with facs v = encoded_bytes v
 
 -- the bytes of the parts, in their order
 abbrev pub part_bytes : SetValue → ℕ → List (List ℕ)
 part_bytes v base =
     rsdp_bytes v.oemid (slice_index (part_places v base) 1)
     ∷ table_bytes xsdt_signature v.root (flat_map (number_bytes 8) (table_places v base))
-    ∷ (listed_option v.facs ++ map (encoded_with (facs_place v base)) v.tables)
+    ∷ (option_list v.facs ++ map (encoded_bytes_with (facs_place v base)) v.tables)
 
 -- the rebuilt image: it holds the parts and nothing else
-unfoldable pub rebuilt : SetValue → ℕ → Memory
-rebuilt v base = with_pieces empty (laid base (part_bytes v base))
+unfoldable pub rebuilt_image : SetValue → ℕ → Memory
+rebuilt_image v base = with_blocks empty (blocks_from base (part_bytes v base))
 
 -- ---- laws
 
--- the image holds the piece
-abbrev pub HoldsPiece : Memory → Piece → Type 0
-HoldsPiece m p = bytes_at m p.address (length p.bytes) ≡ Some p.bytes
+-- the image holds the block
+abbrev pub HoldsBlock : Memory → PlacedBlock → Type 0
+HoldsBlock m p = bytes_at m p.address (length p.bytes) ≡ Some p.bytes
 
 -- A rebuilt image holds all bytes of each part, from the address on at which the part is laid: none is laid over another.
 abbrev pub RebuiltHoldsParts : Type 0
-RebuiltHoldsParts = (v : SetValue) (base : ℕ) → AllByRecursion (HoldsPiece (rebuilt v base)) (laid base (part_bytes v base))
+RebuiltHoldsParts = (v : SetValue) (base : ℕ) → AllByRecursion (HoldsBlock (rebuilt_image v base)) (blocks_from base (part_bytes v base))
 
 -- the parts have the lengths from which their places are counted, and are laid at these places
 pub record AreLaidAtPlaces (v : SetValue) (base : ℕ) : Type 0 where
   pub lengths : map length (part_bytes v base) ≡ part_lengths v
-  pub places : map (λ p. p.address) (laid base (part_bytes v base)) ≡ part_places v base
+  pub places : map (λ p. p.address) (blocks_from base (part_bytes v base)) ≡ part_places v base
 
 -- those of what a clean set says are
 abbrev pub CleanPartsAreLaid : Type 0

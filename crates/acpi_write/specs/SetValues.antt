@@ -6,8 +6,8 @@ use Rattle.acpi_base.specs.Header.{head_of}
 use Rattle.acpi_base.specs.Signature.{has_signature}
 use Rattle.acpi_base.specs.Tables.{IsTable}
 use Rattle.acpi_base.specs.Root.{IsRoot, IsRootTable}
-use Rattle.acpi_base.specs.Listed.{fadt_signature, madt_signature, srat_signature, slit_signature, pptt_signature, listed}
-use Rattle.acpi_base.specs.Entries.{Standing}
+use Rattle.acpi_base.specs.Listed.{fadt_signature, madt_signature, srat_signature, slit_signature, pptt_signature, listed_addresses}
+use Rattle.acpi_base.specs.Entries.{PlacedEntry}
 use Rattle.acpi_base.specs.Madt.{madt_contents}
 use Rattle.acpi_base.specs.Srat.{srat_contents}
 use Rattle.acpi_base.specs.Slit.{slit_contents}
@@ -22,29 +22,29 @@ use Rattle.acpi_write.specs.Values.{TableValue, Madt, Srat, Slit, Pptt, Fadt, Ot
 -- ---- what a table's bytes say as a table of a kind
 
 -- entries without their offsets
-abbrev pub entries_in : {E : Type 0} → List (Standing E) → List E
+abbrev pub entries_in : {E : Type 0} → List (PlacedEntry E) → List E
 entries_in entries = map (λ s. s.entry) entries
 
 -- a FADT: its bytes from 36 on, with 0 for its FACS addresses, FIRMWARE_CTRL and X_FIRMWARE_CTRL, as the FACS may stand
 -- elsewhere (5.2.9)
-abbrev pub fadt_said : List ℕ → TableValue
-fadt_said whole = Fadt (head_of whole) (with_facs (drop 36 whole) 0)
+abbrev pub fadt_table_value : List ℕ → TableValue
+fadt_table_value whole = Fadt (head_of whole) (with_facs (drop 36 whole) 0)
 
 -- a MADT (5.2.12)
-abbrev pub madt_said : List ℕ → TableValue
-madt_said whole = Madt (head_of whole) (madt_contents whole).address (madt_contents whole).flags (entries_in (madt_contents whole).entries)
+abbrev pub madt_table_value : List ℕ → TableValue
+madt_table_value whole = Madt (head_of whole) (madt_contents whole).address (madt_contents whole).flags (entries_in (madt_contents whole).entries)
 
 -- an SRAT (5.2.16)
-abbrev pub srat_said : List ℕ → TableValue
-srat_said whole = Srat (head_of whole) (entries_in (srat_contents whole).entries)
+abbrev pub srat_table_value : List ℕ → TableValue
+srat_table_value whole = Srat (head_of whole) (entries_in (srat_contents whole).entries)
 
 -- a SLIT (5.2.17)
-abbrev pub slit_said : List ℕ → TableValue
-slit_said whole = Slit (head_of whole) (slit_contents whole).count (slit_contents whole).cells
+abbrev pub slit_table_value : List ℕ → TableValue
+slit_table_value whole = Slit (head_of whole) (slit_contents whole).count (slit_contents whole).cells
 
 -- a PPTT (5.2.30)
-abbrev pub pptt_said : List ℕ → TableValue
-pptt_said whole = Pptt (head_of whole) (entries_in (pptt_contents whole).entries)
+abbrev pub pptt_table_value : List ℕ → TableValue
+pptt_table_value whole = Pptt (head_of whole) (entries_in (pptt_contents whole).entries)
 
 -- ---- what the listed tables say
 
@@ -54,19 +54,19 @@ is_first before whole signature = has_signature whole signature && not (list_any
 
 -- what a table says where these are listed before it: the first FADT, MADT, SRAT, SLIT and PPTT by their kind, any other
 -- table by its bytes
-unfoldable pub said_behind : List (List ℕ) → List ℕ → TableValue
-said_behind before whole =
-    if is_first before whole fadt_signature then fadt_said whole
-    else if is_first before whole madt_signature then madt_said whole
-    else if is_first before whole srat_signature then srat_said whole
-    else if is_first before whole slit_signature then slit_said whole
-    else if is_first before whole pptt_signature then pptt_said whole
+unfoldable pub table_value_behind : List (List ℕ) → List ℕ → TableValue
+table_value_behind before whole =
+    if is_first before whole fadt_signature then fadt_table_value whole
+    else if is_first before whole madt_signature then madt_table_value whole
+    else if is_first before whole srat_signature then srat_table_value whole
+    else if is_first before whole slit_signature then slit_table_value whole
+    else if is_first before whole pptt_signature then pptt_table_value whole
     else Other whole
 
 -- what tables say, in their order, where these are listed before them
 unfoldable pub values_behind : List (List ℕ) → List (List ℕ) → List TableValue
 values_behind before [] = []
-values_behind before (whole ∷ rest) = said_behind before whole ∷ values_behind (before ++ whole ∷ []) rest
+values_behind before (whole ∷ rest) = table_value_behind before whole ∷ values_behind (before ++ whole ∷ []) rest
 
 -- what all listed tables say, in the order of their slots
 abbrev pub values_of : List (List ℕ) → List TableValue
@@ -96,7 +96,7 @@ pub record IsSetValue (m : Memory) (p : ℕ) (v : SetValue) : Type 0 where
   pub root_table : IsRootTable m r d root_bytes
   pub root_head : v.root ≡ head_of root_bytes
   pub tables : List (List ℕ)
-  pub each : AllZip (IsWholeAt m) (listed root_bytes d) tables
+  pub each : AllZip (IsWholeAt m) (listed_addresses root_bytes d) tables
   pub values : v.tables ≡ values_of tables
   pub facs : (fadt : List ℕ) → IsFadt m p fadt → IsFacsOf m fadt v.facs
 

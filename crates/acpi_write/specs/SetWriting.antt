@@ -2,8 +2,8 @@
 use Rattle.std.specs.Prelude.{◌≡◌, ℕ, ◌≤◌, List, ◌++◌, length, drop, map, None}
 use Rattle.acpi_base.specs.Memory.{Memory, byte_of}
 use Rattle.acpi_write.specs.Encoded.{encoded_length}
-use Rattle.acpi_write.specs.Placed.{ends, DoEndInside}
-use Rattle.acpi_write.specs.Rebuilt.{places, laid, with_pieces, encoded_with, listed_option, facs_place, rebuilt}
+use Rattle.acpi_write.specs.Placed.{block_ends, DoEndInside}
+use Rattle.acpi_write.specs.Rebuilt.{block_places, blocks_from, with_blocks, encoded_bytes_with, option_list, facs_place, rebuilt_image}
 use Rattle.acpi_write.specs.Values.{SetValue}
 use Rattle.acpi_write.specs.Views.{table_value}
 use Rattle.acpi_write.specs.declared.table_value.TableValue.{TableValue}
@@ -16,8 +16,8 @@ EndsBelow m a = (x : ℕ) → a ≤ x → byte_of m x ≡ None
 -- none passes the last address
 pub record HasRoom (m : Memory) (a : ℕ) (found lengths : List ℕ) : Type 0 where
   pub behind : EndsBelow m a
-  pub placed : found ≡ places a lengths
-  pub inside : DoEndInside (ends a lengths)
+  pub placed : found ≡ block_places a lengths
+  pub inside : DoEndInside (block_ends a lengths)
 
 -- how many bytes each table has
 abbrev pub table_lengths : List TableValue → List ℕ
@@ -25,16 +25,16 @@ table_lengths tables = map (λ t. encoded_length (table_value t)) tables
 
 -- the bytes of each table where the FACS stands at this address
 abbrev pub table_blocks : ℕ → List TableValue → List (List ℕ)
-table_blocks facs tables = map (λ t. encoded_with facs (table_value t)) tables
+table_blocks facs tables = map (λ t. encoded_bytes_with facs (table_value t)) tables
 
 -- k parts were put in: there is room at the found places for those to come, of these lengths, and with these blocks the
 -- image is the whole one
-pub record Awaits (m : Memory) (found : List ℕ) (k : ℕ) (lengths : List ℕ) (blocks : List (List ℕ)) (whole : Memory) : Type 0 where
+pub record IsPartial (m : Memory) (found : List ℕ) (k : ℕ) (lengths : List ℕ) (blocks : List (List ℕ)) (whole : Memory) : Type 0 where
   pub a : ℕ
   pub room : HasRoom m a (drop k found) lengths
-  pub image : with_pieces m (laid a blocks) ≡ whole
+  pub image : with_blocks m (blocks_from a blocks) ≡ whole
 
--- the image awaits all parts behind the RSDP and the XSDT
-abbrev pub AwaitsRest : Memory → List ℕ → SetValue → ℕ → Type 0
-AwaitsRest m found v base =
-    Awaits m found 2 (map length (listed_option v.facs) ++ map encoded_length v.tables) (listed_option v.facs ++ map (encoded_with (facs_place v base)) v.tables) (rebuilt v base)
+-- the image has the RSDP and the XSDT, and all other parts are still to come
+abbrev pub IsPartialSet : Memory → List ℕ → SetValue → ℕ → Type 0
+IsPartialSet m found v base =
+    IsPartial m found 2 (map length (option_list v.facs) ++ map encoded_length v.tables) (option_list v.facs ++ map (encoded_bytes_with (facs_place v base)) v.tables) (rebuilt_image v base)

@@ -21,8 +21,12 @@ use Rattle.acpi_read.specs.declared.srat.SratEntry.{SratEntry}
 use Rattle.acpi_read.specs.declared.srat.SratEntry.TheVariants as srat
 use Rattle.acpi_read.specs.declared.pptt.PpttEntry.{PpttEntry}
 use Rattle.acpi_read.specs.declared.pptt.PpttEntry.TheVariants as pptt
+use Rattle.acpi_check.specs.declared.refusal.Refusal.{Refusal}
+use Rattle.acpi_check.specs.declared.refusal.Refusal.TheVariants.{Fault, OutOfMemory}
 use Rattle.acpi_write.specs.Values as value
-use Rattle.acpi_write.specs.EntryBytes.{madt_bytes, srat_bytes, pptt_bytes}
+use Rattle.acpi_read.specs.Madts.{madt_bytes}
+use Rattle.acpi_read.specs.Srats.{srat_bytes}
+use Rattle.acpi_read.specs.Pptts.{pptt_bytes}
 use Rattle.acpi_write.specs.Encoded.{encoded_length, FitsHead}
 use Rattle.acpi_write.specs.Spells.{DoEntriesSay}
 pub use Rattle.acpi_write.specs.Spells.{IsWholeTable}
@@ -68,6 +72,11 @@ set_value v =
 abbrev pub IsValuesRefusal : Memory → PolicyValue → ValuesFault → Type 0
 IsValuesRefusal m q (values_fault.NotClean w) = (¬ IsClean m q) × IsFirstFault m q w
 IsValuesRefusal m q values_fault.Memory = CleanTo stage.Madt m q
+
+-- the refusal of a check as that of a value
+abbrev pub values_fault_of : Refusal → ValuesFault
+values_fault_of (Fault w) = values_fault.NotClean w
+values_fault_of OutOfMemory = values_fault.Memory
 
 -- ---- shape: whether there are bytes for it
 

@@ -4,7 +4,7 @@
 mod tests;
 
 ghost use Rattle.std.specs.Prelude.{◌≡◌, ◌≢◌, ◌+◌, ◌*◌, ◌^◌, ◌<◌, ◌≤◌, ◌++◌, length, map, flat_map, IsTrue, IfOk, IfErr, OnOk, MatchOption, ◌↔◌};
-ghost use Rattle.acpi_write.specs.Encoded.{table_bytes, encoded, body_of, encoded_length, srat_reserved, FitsHead};
+ghost use Rattle.acpi_write.specs.Encoded.{table_bytes, encoded_bytes, body_of, encoded_length, srat_reserved, FitsHead};
 ghost use Rattle.acpi_base.specs.Number.{number_bytes};
 ghost use Rattle.acpi_base.specs.Madt.{madt_entry};
 ghost use Rattle.acpi_base.specs.Srat.{srat_entry};
@@ -12,7 +12,9 @@ ghost use Rattle.acpi_base.specs.Pptt.{pptt_entry};
 ghost use Rattle.acpi_read.specs.Madts.{madt_value};
 ghost use Rattle.acpi_read.specs.Srats.{srat_value};
 ghost use Rattle.acpi_read.specs.Pptts.{pptt_value};
-ghost use Rattle.acpi_write.specs.EntryBytes.{madt_bytes, srat_bytes, pptt_bytes};
+ghost use Rattle.acpi_read.specs.Madts.{madt_bytes};
+ghost use Rattle.acpi_read.specs.Srats.{srat_bytes};
+ghost use Rattle.acpi_read.specs.Pptts.{pptt_bytes};
 ghost use Rattle.acpi_write.specs.Spells.{Spells, DoEntriesSay};
 ghost use Rattle.std.specs.List.{All};
 ghost use Rattle.acpi_write.specs.Views.{head_value, table_value, IsShaped, IsShapedMadt, IsShapedSrat, IsShapedPptt, IsWholeTable, DoPartsSay, IsRefusal};
@@ -181,7 +183,7 @@ pub(crate) fn with_header(
 pub(crate) fn bytes_of(alloc: Global, table: &TableValue<'_>) -> Result<Vec<u8>, AllocError>
     requires shaped { IsShaped table.now }
     requires short { encoded_length (table_value table.now) < 2 ^ 32 }
-    ensures bytes { IfOk result (λ bytes. bytes.items ≡ encoded (table_value table.now)) }
+    ensures bytes { IfOk result (λ bytes. bytes.items ≡ encoded_bytes (table_value table.now)) }
     ensures says { IfOk result (λ _. DoPartsSay table.now) }
 {
     match table {
@@ -228,7 +230,7 @@ pub(crate) fn bytes_of(alloc: Global, table: &TableValue<'_>) -> Result<Vec<u8>,
 #[tactic(auto, using(crate::proofs::TablesWritten::Spelling::spelling))]
 pub fn encode_table(alloc: Global, table: &TableValue<'_>) -> Result<Vec<u8>, WriteFault>
     ensures spells { IfOk result (λ bytes. Spells (table_value table.now) bytes.items) }
-    ensures bytes { IfOk result (λ bytes. bytes.items ≡ encoded (table_value table.now)) }
+    ensures bytes { IfOk result (λ bytes. bytes.items ≡ encoded_bytes (table_value table.now)) }
     ensures shaped { IfOk result (λ _. IsShaped table.now × (encoded_length (table_value table.now) < 2 ^ 32)) }
     ensures refused { IfErr result (IsRefusal table.now) }
 {

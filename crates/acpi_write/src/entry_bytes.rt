@@ -1,23 +1,25 @@
 //! Entries as bytes.
 
-ghost use Rattle.std.specs.Prelude.{◌≡◌, ◌≢◌, ◌≤◌, ◌*◌, ◌^◌, ◌++◌, ℕ, List, length, flat_map, OnOk, MatchOption};
+ghost use Rattle.std.specs.Prelude.{◌≡◌, ◌≢◌, ◌≤◌, ◌*◌, ◌^◌, ◌++◌, ℕ, List, ◌↔◌, length, slice_index, flat_map, IsTrue, OnOk, MatchOption};
 ghost use Rattle.std.specs.List.{All};
-ghost use Rattle.acpi_base.specs.Entries.{IsEntry};
+ghost use Rattle.acpi_base.specs.Entries.{IsEntry, IsEntryOf, IsTypeOf};
 ghost use Rattle.acpi_base.specs.Layouts.{layout_bytes, HasValues};
-ghost use Rattle.acpi_base.specs.Madt.{madt_entry};
-ghost use Rattle.acpi_base.specs.Srat.{srat_entry};
+ghost use Rattle.acpi_base.specs.Madt.{madt_kinds, madt_entry};
+ghost use Rattle.acpi_base.specs.Srat.{srat_kinds, srat_entry};
 ghost use Rattle.acpi_base.specs.Pptt.{pptt_entry, Node};
 ghost use Rattle.acpi_read.specs.Madts.{madt_value};
 ghost use Rattle.acpi_read.specs.Srats.{srat_value};
 ghost use Rattle.acpi_read.specs.Pptts.{pptt_value, node_value};
-ghost use Rattle.acpi_write.specs.EntryBytes.{madt_bytes, srat_bytes, pptt_bytes};
+ghost use Rattle.acpi_read.specs.Madts.{madt_bytes};
+ghost use Rattle.acpi_read.specs.Srats.{srat_bytes};
+ghost use Rattle.acpi_read.specs.Pptts.{pptt_bytes};
 ghost use Rattle.acpi_write.specs.Spells.{SaysEntry};
 ghost use Rattle.acpi_write.specs.Views.{IsShapedMadt, IsShapedSrat, IsShapedPptt};
 
 use acpi_read::{
-    AddressOverride, ApicDomain, Cache24, Cache28, IoApic, Layout, LocalApic, LocalNmi, MadtEntry,
-    MemoryRange, NmiSource, NodeHead, Override, PpttEntry, SratEntry, X2apic, X2apicDomain,
-    X2apicNmi,
+    AddressOverride, ApicDomain, Cache24, Cache28, EntryKind, IoApic, Layout, LocalApic, LocalNmi,
+    MadtEntry, MemoryRange, NmiSource, NodeHead, Override, PpttEntry, SratEntry, X2apic,
+    X2apicDomain, X2apicNmi,
 };
 use std::alloc::AllocError;
 
@@ -36,6 +38,15 @@ fn append_layout<L: Layout>(bytes: &mut Vec<u8>, value: &L) -> Result<(), AllocE
     bytes.extend_from_slice(out)
 }
 
+/// Adds the bytes of an entry of a kind.
+fn append_kind<K: EntryKind>(bytes: &mut Vec<u8>, value: &K) -> Result<(), AllocError>
+    requires { K.LEN ≤ 40 }
+    ensures bytes { OnOk result (bytes.new.items ≡ bytes.old.items ++ layout_bytes K.parts (K.values value.now)) }
+    ensures says { IsEntryOf K.kind (layout_bytes K.parts (K.values value.now)) (K.say value.now) }
+{
+    append_layout(bytes, value)
+}
+
 /// How many bytes an entry has that is kept as bytes. None where they do not say their own number.
 fn kept_size(bytes: &[u8]) -> Option<usize>
     ensures { MatchOption result (¬ IsEntry bytes.now) (λ size. IsEntry bytes.now × (size ≡ length bytes.now) × (size ≤ 255)) }
@@ -44,6 +55,33 @@ fn kept_size(bytes: &[u8]) -> Option<usize>
         return None;
     }
     Some(bytes.len())
+}
+
+/// Whether an entry's type is none of a MADT's.
+#[tactic(auto, using(crate::proofs::EntryBytes::MadtBytes::madt_others))]
+fn is_other_madt(entry: &[u8]) -> bool
+    requires { IsEntry entry.now }
+    ensures { IsTrue result ↔ (¬ IsTypeOf madt_kinds (slice_index entry.now 0)) }
+{
+    matches!(MadtEntry::read(entry), Ok(MadtEntry::Opaque(_)))
+}
+
+/// Whether an entry's type is none of an SRAT's.
+#[tactic(auto, using(crate::proofs::EntryBytes::SratBytes::srat_others))]
+fn is_other_srat(entry: &[u8]) -> bool
+    requires { IsEntry entry.now }
+    ensures { IsTrue result ↔ (¬ IsTypeOf srat_kinds (slice_index entry.now 0)) }
+{
+    matches!(SratEntry::read(entry), Ok(SratEntry::Opaque(_)))
+}
+
+/// Whether an entry's type is none of a PPTT's.
+#[tactic(auto, using(crate::proofs::EntryBytes::PpttBytes::pptt_others))]
+fn is_other_pptt(entry: &[u8]) -> bool
+    requires { IsEntry entry.now }
+    ensures { IsTrue result ↔ (2 ≤ slice_index entry.now 0) }
+{
+    matches!(PpttEntry::read(entry), Ok(PpttEntry::Opaque(_)))
 }
 
 /// How many bytes a node has. None where it does not have 4 bytes for each of its references.
@@ -111,7 +149,7 @@ impl<'a> EntryBytes for MadtEntry<'a> {
             MadtEntry::X2apicNmi(_) => Some(X2apicNmi::LEN),
             MadtEntry::Opaque(bytes) => {
                 let size = kept_size(bytes)?;
-                if matches!(bytes[0], 0..=5 | 9 | 10) {
+                if !is_other_madt(bytes) {
                     return None;
                 }
                 Some(size)
@@ -119,17 +157,17 @@ impl<'a> EntryBytes for MadtEntry<'a> {
         }
     }
 
-    #[tactic(auto, using(crate::proofs::EntryBytes::MadtBytes::madt_says))]
+    #[tactic(auto, unfolding(acpi_base::specs::Madt::madt_entry, acpi_base::specs::Entries::has_form), using(crate::proofs::EntryBytes::MadtBytes::madt_kept))]
     fn append(&self, bytes: &mut Vec<u8>) -> Result<(), AllocError> {
         match self {
-            MadtEntry::LocalApic(entry) => append_layout(bytes, entry),
-            MadtEntry::IoApic(entry) => append_layout(bytes, entry),
-            MadtEntry::Override(entry) => append_layout(bytes, entry),
-            MadtEntry::NmiSource(entry) => append_layout(bytes, entry),
-            MadtEntry::LocalNmi(entry) => append_layout(bytes, entry),
-            MadtEntry::AddressOverride(entry) => append_layout(bytes, entry),
-            MadtEntry::X2apic(entry) => append_layout(bytes, entry),
-            MadtEntry::X2apicNmi(entry) => append_layout(bytes, entry),
+            MadtEntry::LocalApic(entry) => append_kind(bytes, entry),
+            MadtEntry::IoApic(entry) => append_kind(bytes, entry),
+            MadtEntry::Override(entry) => append_kind(bytes, entry),
+            MadtEntry::NmiSource(entry) => append_kind(bytes, entry),
+            MadtEntry::LocalNmi(entry) => append_kind(bytes, entry),
+            MadtEntry::AddressOverride(entry) => append_kind(bytes, entry),
+            MadtEntry::X2apic(entry) => append_kind(bytes, entry),
+            MadtEntry::X2apicNmi(entry) => append_kind(bytes, entry),
             MadtEntry::Opaque(entry) => bytes.extend_from_slice(entry),
         }
     }
@@ -150,7 +188,7 @@ impl<'a> EntryBytes for SratEntry<'a> {
             SratEntry::X2apicDomain(_) => Some(X2apicDomain::LEN),
             SratEntry::Opaque(bytes) => {
                 let size = kept_size(bytes)?;
-                if bytes[0] <= 2 {
+                if !is_other_srat(bytes) {
                     return None;
                 }
                 Some(size)
@@ -158,12 +196,12 @@ impl<'a> EntryBytes for SratEntry<'a> {
         }
     }
 
-    #[tactic(auto, using(crate::proofs::EntryBytes::SratBytes::srat_says))]
+    #[tactic(auto, unfolding(acpi_base::specs::Srat::srat_entry, acpi_base::specs::Entries::has_form), using(crate::proofs::EntryBytes::SratBytes::srat_kept))]
     fn append(&self, bytes: &mut Vec<u8>) -> Result<(), AllocError> {
         match self {
-            SratEntry::ApicDomain(entry) => append_layout(bytes, entry),
-            SratEntry::MemoryRange(entry) => append_layout(bytes, entry),
-            SratEntry::X2apicDomain(entry) => append_layout(bytes, entry),
+            SratEntry::ApicDomain(entry) => append_kind(bytes, entry),
+            SratEntry::MemoryRange(entry) => append_kind(bytes, entry),
+            SratEntry::X2apicDomain(entry) => append_kind(bytes, entry),
             SratEntry::Opaque(entry) => bytes.extend_from_slice(entry),
         }
     }
@@ -184,7 +222,7 @@ impl<'a> EntryBytes for PpttEntry<'a> {
             PpttEntry::Cache28(_) => Some(Cache28::LEN),
             PpttEntry::Opaque(bytes) => {
                 let size = kept_size(bytes)?;
-                if bytes[0] <= 1 {
+                if !is_other_pptt(bytes) {
                     return None;
                 }
                 Some(size)
@@ -196,8 +234,8 @@ impl<'a> EntryBytes for PpttEntry<'a> {
     fn append(&self, bytes: &mut Vec<u8>) -> Result<(), AllocError> {
         match self {
             PpttEntry::Node(head, references) => append_node(bytes, head, references),
-            PpttEntry::Cache24(entry) => append_layout(bytes, entry),
-            PpttEntry::Cache28(entry) => append_layout(bytes, entry),
+            PpttEntry::Cache24(entry) => append_kind(bytes, entry),
+            PpttEntry::Cache28(entry) => append_kind(bytes, entry),
             PpttEntry::Opaque(entry) => bytes.extend_from_slice(entry),
         }
     }

@@ -3,8 +3,8 @@
 ghost use Rattle.std.specs.Prelude.{◌≡◌, ◌+◌, ◌*◌, ◌++◌, ◌<◌, ◌^◌, ◌%◌, ◌⊎◌, length, map, IfOk, IfErr, OnOk};
 ghost use Rattle.std.specs.List.{All, list_any};
 ghost use Rattle.acpi_write.specs.Encoded.{encoded_length};
-ghost use Rattle.acpi_write.specs.Placed.{ends, DoEndInside, IsPlaced, IsPlacingRefusal, is_narrow};
-ghost use Rattle.acpi_write.specs.Rebuilt.{places, listed_option, part_lengths, part_places, xsdt_length};
+ghost use Rattle.acpi_write.specs.Placed.{block_ends, DoEndInside, IsPlaced, IsPlacingRefusal, is_narrow};
+ghost use Rattle.acpi_write.specs.Rebuilt.{block_places, option_list, part_lengths, part_places, xsdt_length};
 ghost use Rattle.acpi_write.specs.Views.{set_value, table_value, IsShaped, IsShort};
 ghost use Rattle.acpi_write.specs.declared.placing.RebuildFault.{RebuildFault};
 
@@ -91,9 +91,9 @@ fn append_lengths(lengths: &mut Vec<u64>, tables: &[TableValue<'_>]) -> Result<(
 /// `PastEnd`, where one would pass the last address, and `Memory`.
 fn places_of(alloc: Global, base: u64, lengths: &[u64]) -> Result<Vec<u64>, RebuildFault>
     requires { All (λ n. 0 < n) lengths.now }
-    ensures places { IfOk result (λ found. found.items ≡ places base lengths.now) }
-    ensures inside { IfOk result (λ _. DoEndInside (ends base lengths.now)) }
-    ensures refused { IfErr result (λ fault. (fault ≡ RebuildFault.Memory) ⊎ ((fault ≡ RebuildFault.PastEnd) × ¬ DoEndInside (ends base lengths.now))) }
+    ensures places { IfOk result (λ found. found.items ≡ block_places base lengths.now) }
+    ensures inside { IfOk result (λ _. DoEndInside (block_ends base lengths.now)) }
+    ensures refused { IfErr result (λ fault. (fault ≡ RebuildFault.Memory) ⊎ ((fault ≡ RebuildFault.PastEnd) × ¬ DoEndInside (block_ends base lengths.now))) }
 {
     let mut found = Vec::new(alloc);
     let mut next = u128::from(base);
@@ -169,7 +169,7 @@ pub(crate) fn placed(
     requires aligned { base % 64 ≡ 0 }
     requires shaped { All IsShaped value.now.tables.items }
     requires short { All IsShort value.now.tables.items }
-    requires facs { All (λ bytes. 0 < length bytes) (listed_option (set_value value.now).facs) }
+    requires facs { All (λ bytes. 0 < length bytes) (option_list (set_value value.now).facs) }
     ensures places { IfOk result (λ found. found.items ≡ part_places (set_value value.now) base) }
     ensures placed { IfOk result (λ _. IsPlaced (set_value value.now) base) }
     ensures refused { IfErr result (λ fault. (fault ≡ RebuildFault.Memory) ⊎ IsPlacingRefusal (set_value value.now) base fault) }

@@ -1,7 +1,7 @@
 //! The bytes of a rebuilt set's RSDP.
 
 ghost use Rattle.std.specs.Prelude.{◌≡◌, ◌++◌, length, IfOk};
-ghost use Rattle.acpi_write.specs.Encoded.{closing};
+ghost use Rattle.acpi_write.specs.Encoded.{checksum_of};
 ghost use Rattle.acpi_write.specs.Rebuilt.{rsdp_head, rsdp_tail, rsdp_bytes};
 
 use acpi_base::sum;
@@ -9,8 +9,8 @@ use acpi_read::Rsdp;
 use std::alloc::{AllocError, Global};
 
 /// The byte that makes the sum 0 of bytes that hold 0 in its place.
-fn closing(bytes: &[u8]) -> u8
-    ensures { result ≡ closing bytes.now }
+fn checksum_of(bytes: &[u8]) -> u8
+    ensures { result ≡ checksum_of bytes.now }
 {
     0u8.wrapping_sub(sum(bytes))
 }
@@ -47,7 +47,7 @@ pub(crate) fn rsdp_bytes(alloc: Global, oemid: [u8; 6], xsdt: u64) -> Result<Vec
     ensures count { IfOk result (λ bytes. length bytes.items ≡ 36) }
 {
     let open_head = rsdp_head(alloc, oemid, 0)?;
-    let head = rsdp_head(alloc, oemid, closing(&open_head))?;
+    let head = rsdp_head(alloc, oemid, checksum_of(&open_head))?;
     let open_bytes = with_tail(alloc, &head, xsdt, 0)?;
-    with_tail(alloc, &head, xsdt, closing(&open_bytes))
+    with_tail(alloc, &head, xsdt, checksum_of(&open_bytes))
 }

@@ -4,6 +4,7 @@ ghost use Rattle.std.specs.Prelude.{◌≡◌};
 
 use crate::table_value::{Head, TableValue};
 use acpi_base::Witness;
+use acpi_check::Refusal;
 use std::alloc::AllocError;
 use thiserror::Error;
 
@@ -30,6 +31,19 @@ pub enum ValuesFault {
     /// Out of memory.
     #[error("out of memory")]
     Memory,
+}
+
+impl From<Refusal> for ValuesFault {
+    ghost use Rattle.acpi_write.specs.Views.{values_fault_of};
+
+    ghost from_gives = { λ refusal fault. fault ≡ values_fault_of refusal };
+
+    fn from(refusal: Refusal) -> ValuesFault {
+        match refusal {
+            Refusal::Fault(fault) => ValuesFault::NotClean(fault),
+            Refusal::OutOfMemory => ValuesFault::Memory,
+        }
+    }
 }
 
 impl From<AllocError> for ValuesFault {

@@ -5,8 +5,8 @@ ghost use Rattle.std.specs.List.{All};
 ghost use Rattle.acpi_base.specs.Memory.{with_bytes};
 ghost use Rattle.acpi_write.specs.Encoded.{encoded_length};
 ghost use Rattle.acpi_write.specs.Placed.{IsPlaced, is_narrow};
-ghost use Rattle.acpi_write.specs.Rebuilt.{laid, with_pieces, encoded_with, listed_option, place_of_facs, part_places, table_places, rebuilt};
-ghost use Rattle.acpi_write.specs.SetWriting.{AwaitsRest, EndsBelow, HasRoom, table_lengths, table_blocks};
+ghost use Rattle.acpi_write.specs.Rebuilt.{blocks_from, with_blocks, encoded_bytes_with, option_list, place_of_facs, part_places, table_places, rebuilt_image};
+ghost use Rattle.acpi_write.specs.SetWriting.{IsPartialSet, EndsBelow, HasRoom, table_lengths, table_blocks};
 ghost use Rattle.acpi_write.specs.Views.{set_value, table_value, IsShaped, IsShort};
 
 use crate::encode::{bytes_of, with_header};
@@ -23,7 +23,7 @@ fn bytes_with(alloc: Global, table: &TableValue<'_>, facs: u64) -> Result<Vec<u8
     requires shaped { IsShaped table.now }
     requires short { IsShort table.now }
     requires low { is_narrow (table_value table.now) ≡ true → facs < 2 ^ 32 }
-    ensures bytes { IfOk result (λ bytes. bytes.items ≡ encoded_with facs (table_value table.now)) }
+    ensures bytes { IfOk result (λ bytes. bytes.items ≡ encoded_bytes_with facs (table_value table.now)) }
     ensures count { IfOk result (λ bytes. length bytes.items ≡ encoded_length (table_value table.now)) }
 {
     match table {
@@ -62,7 +62,7 @@ fn put_tables(
     requires short { All IsShort tables.now }
     requires low { All (λ t. is_narrow (table_value t) ≡ true → facs < 2 ^ 32) tables.now }
     requires room { (a : ℕ) × HasRoom image.old a places.now (table_lengths tables.now) }
-    ensures { OnOk result ((a : ℕ) → HasRoom image.old a places.now (table_lengths tables.now) → image.new ≡ with_pieces image.old (laid a (table_blocks facs tables.now))) }
+    ensures { OnOk result ((a : ℕ) → HasRoom image.old a places.now (table_lengths tables.now) → image.new ≡ with_blocks image.old (blocks_from a (table_blocks facs tables.now))) }
 {
     for k in 0..tables.len() {
         let bytes = bytes_with(alloc, &tables[k], facs)?;
@@ -73,8 +73,8 @@ fn put_tables(
 
 /// The places of the tables, among those of all parts.
 fn table_places<'a>(value: &SetValue<'_>, places: &'a [u64]) -> &'a [u64]
-    requires { 2 + length (listed_option (set_value value.now).facs) ≤ length places.now }
-    ensures { result.now ≡ drop (2 + length (listed_option (set_value value.now).facs)) places.now }
+    requires { 2 + length (option_list (set_value value.now).facs) ≤ length places.now }
+    ensures { result.now ≡ drop (2 + length (option_list (set_value value.now).facs)) places.now }
 {
     match value.facs {
         Some(_) => &places[3..],
@@ -84,7 +84,7 @@ fn table_places<'a>(value: &SetValue<'_>, places: &'a [u64]) -> &'a [u64]
 
 /// The place of the FACS, among those of all parts; 0 where there is none.
 fn facs_place(value: &SetValue<'_>, places: &[u64]) -> u64
-    requires { 2 + length (listed_option (set_value value.now).facs) ≤ length places.now }
+    requires { 2 + length (option_list (set_value value.now).facs) ≤ length places.now }
     ensures { result ≡ place_of_facs (set_value value.now).facs (slice_index places.now 2) }
 {
     match value.facs {
@@ -104,7 +104,7 @@ fn with_roots(
     requires placed { IsPlaced (set_value value.now) base }
     requires places { places.now ≡ part_places (set_value value.now) base }
     requires addresses { addresses.now ≡ table_places (set_value value.now) base }
-    ensures { IfOk result (λ image. AwaitsRest image places.now (set_value value.now) base) }
+    ensures { IfOk result (λ image. IsPartialSet image places.now (set_value value.now) base) }
 {
     let mut image = Image::new(alloc);
     let rsdp = rsdp_bytes(alloc, value.oemid, places[1])?;
@@ -125,7 +125,7 @@ pub(crate) fn written_set(
     requires short { All IsShort value.now.tables.items }
     requires placed { IsPlaced (set_value value.now) base }
     requires places { places.now ≡ part_places (set_value value.now) base }
-    ensures { IfOk result (λ image. image ≡ rebuilt (set_value value.now) base) }
+    ensures { IfOk result (λ image. image ≡ rebuilt_image (set_value value.now) base) }
 {
     let table_places = table_places(value, places);
     let facs_place = facs_place(value, places);

@@ -3,24 +3,22 @@
 ghost use Rattle.std.specs.Prelude.{◌≡◌, ◌≤◌, ℕ, List, length, map, IfOk};
 ghost use Rattle.std.specs.List.{All, AllZip};
 ghost use Rattle.acpi_base.specs.Header.{header_of, head_of};
-ghost use Rattle.acpi_base.specs.Listed.{listed};
+ghost use Rattle.acpi_base.specs.Listed.{listed_addresses};
 ghost use Rattle.acpi_base.specs.Number.{byte_sum};
-ghost use Rattle.acpi_base.specs.Root.{HasSlot};
-ghost use Rattle.acpi_base.specs.Tables.{IsSoundTable};
+ghost use Rattle.acpi_check.specs.HandedOn.{IsListedSet};
 ghost use Rattle.acpi_read.specs.Headers.{header_value};
-ghost use Rattle.acpi_write.specs.Kinds.{IsReadableAs, said_as, AreReadable};
-ghost use Rattle.acpi_write.specs.Readable.{IsReadableMadt, IsReadableSrat, IsReadableSlit, IsReadablePptt};
-ghost use Rattle.acpi_write.specs.SetValues.{fadt_said, madt_said, srat_said, slit_said, pptt_said, values_of, IsWholeAt};
+ghost use Rattle.acpi_write.specs.Kinds.{IsReadableAs, table_value_as, AreReadable, table_of};
+ghost use Rattle.acpi_write.specs.Readable.{IsReadableSlit};
+ghost use Rattle.acpi_write.specs.SetValues.{fadt_table_value, madt_table_value, srat_table_value, slit_table_value, pptt_table_value, values_of, IsWholeAt};
 ghost use Rattle.acpi_write.specs.Views.{head_value, table_value, IsShaped, IsShort};
 
 use crate::entry_lists::{madt_entries, pptt_entries, srat_entries};
 use crate::fadt_body::with_facs;
 use crate::table_value::{Head, TableValue};
-use acpi_base::field::{u32_at, u64_at};
-use acpi_base::{Image, TableKind};
-use acpi_read::{
-    FirstTables, Header, Layout, MADT_FLAGS, MADT_LOCAL_APIC_ADDRESS, Root, Slit, Table,
-};
+use acpi_base::TableKind;
+use acpi_base::field::u64_at;
+use acpi_check::ListedSet;
+use acpi_read::{FirstTables, Header, Layout, Listed, Madt, Pptt, Slit, Srat, Table};
 use std::alloc::{AllocError, Global};
 
 /// What a header says beside its signature, its length and its checksum.
@@ -39,26 +37,19 @@ pub(crate) fn head_in(header: Header) -> Head
     }
 }
 
-/// The tables that the root lists, in the order of its slots. A slot that holds 0 lists nothing.
+/// The tables that a set lists, in the order of its slots. A slot that holds 0 lists nothing.
 pub(crate) fn listed_tables<'a>(
     alloc: Global,
-    image: &'a Image,
-    root: &Root<'a>,
-) -> Result<Vec<Table<'a>>, AllocError>
-    requires { (k a : ℕ) → HasSlot root.now.bytes root.now.width k a → IsSoundTable image.now a }
-    ensures { IfOk result (λ found. AllZip (IsWholeAt image.now) (listed root.now.bytes root.now.width) found.items) }
+    set: &ListedSet<'a>,
+) -> Result<Vec<Listed<'a>>, AllocError>
+    requires { IsListedSet set.now }
+    ensures { IfOk result (λ found. AllZip (IsWholeAt set.now.image.now) (listed_addresses set.now.root.bytes set.now.root.width) (map table_of found.items)) }
 {
     let mut found = Vec::new(alloc);
-    for k in 0..root.slots() {
-        let address = root.slot(k);
-        if address == 0 {
-            continue;
+    for slot in 0..set.root.slots() {
+        if let Some(listed) = set.table(slot) {
+            found.push(listed)?;
         }
-        let Ok(table) = Table::read(image, address) else {
-            // Each listed table is sound.
-            unreachable!()
-        };
-        found.push(table)?;
     }
     Ok(found)
 }
@@ -66,7 +57,7 @@ pub(crate) fn listed_tables<'a>(
 /// What a FADT says.
 fn read_fadt<'a>(alloc: Global, table: &Table<'a>) -> Result<TableValue<'a>, AllocError>
     requires { 116 ≤ length table.now }
-    ensures value { IfOk result (λ value. table_value value ≡ fadt_said table.now) }
+    ensures value { IfOk result (λ value. table_value value ≡ fadt_table_value table.now) }
     ensures shaped { IfOk result IsShaped }
 {
     let head = head_in(table.header());
@@ -76,16 +67,14 @@ fn read_fadt<'a>(alloc: Global, table: &Table<'a>) -> Result<TableValue<'a>, All
 }
 
 /// What a MADT says.
-fn read_madt<'a>(alloc: Global, table: &Table<'a>) -> Result<TableValue<'a>, AllocError>
-    requires { IsReadableMadt table.now }
-    ensures value { IfOk result (λ value. table_value value ≡ madt_said table.now) }
+fn read_madt<'a>(alloc: Global, madt: &Madt<'a>) -> Result<TableValue<'a>, AllocError>
+    ensures value { IfOk result (λ value. table_value value ≡ madt_table_value madt.now) }
     ensures shaped { IfOk result IsShaped }
 {
-    let head = head_in(table.header());
-    let bytes = table.bytes();
-    let address = u32_at(bytes, MADT_LOCAL_APIC_ADDRESS);
-    let flags = u32_at(bytes, MADT_FLAGS);
-    let entries = madt_entries(alloc, table.copied())?;
+    let head = head_in(madt.header());
+    let address = madt.local_apic_address();
+    let flags = madt.flags();
+    let entries = madt_entries(alloc, madt)?;
     Ok(TableValue::Madt {
         head,
         address,
@@ -95,20 +84,19 @@ fn read_madt<'a>(alloc: Global, table: &Table<'a>) -> Result<TableValue<'a>, All
 }
 
 /// What an SRAT says.
-fn read_srat<'a>(alloc: Global, table: &Table<'a>) -> Result<TableValue<'a>, AllocError>
-    requires { IsReadableSrat table.now }
-    ensures value { IfOk result (λ value. table_value value ≡ srat_said table.now) }
+fn read_srat<'a>(alloc: Global, srat: &Srat<'a>) -> Result<TableValue<'a>, AllocError>
+    ensures value { IfOk result (λ value. table_value value ≡ srat_table_value srat.now) }
     ensures shaped { IfOk result IsShaped }
 {
-    let head = head_in(table.header());
-    let entries = srat_entries(alloc, table.copied())?;
+    let head = head_in(srat.header());
+    let entries = srat_entries(alloc, srat)?;
     Ok(TableValue::Srat { head, entries })
 }
 
 /// What a SLIT says.
 fn read_slit<'a>(table: &Table<'a>) -> TableValue<'a>
     requires { IsReadableSlit table.now }
-    ensures value { table_value result ≡ slit_said table.now }
+    ensures value { table_value result ≡ slit_table_value table.now }
     ensures shaped { IsShaped result }
 {
     let head = head_in(table.header());
@@ -119,13 +107,12 @@ fn read_slit<'a>(table: &Table<'a>) -> TableValue<'a>
 }
 
 /// What a PPTT says.
-fn read_pptt<'a>(alloc: Global, table: &Table<'a>) -> Result<TableValue<'a>, AllocError>
-    requires { IsReadablePptt table.now }
-    ensures value { IfOk result (λ value. table_value value ≡ pptt_said table.now) }
+fn read_pptt<'a>(alloc: Global, pptt: &Pptt<'a>) -> Result<TableValue<'a>, AllocError>
+    ensures value { IfOk result (λ value. table_value value ≡ pptt_table_value pptt.now) }
     ensures shaped { IfOk result IsShaped }
 {
-    let head = head_in(table.header());
-    let entries = pptt_entries(alloc, table.copied())?;
+    let head = head_in(pptt.header());
+    let entries = pptt_entries(alloc, pptt)?;
     Ok(TableValue::Pptt { head, entries })
 }
 
@@ -137,7 +124,7 @@ fn value_as<'a>(
 ) -> Result<TableValue<'a>, AllocError>
     requires readable { IsReadableAs kind table.now }
     requires zero_sum { byte_sum table.now ≡ 0 }
-    ensures value { IfOk result (λ value. table_value value ≡ said_as kind table.now) }
+    ensures value { IfOk result (λ value. table_value value ≡ table_value_as kind table.now) }
     ensures shaped { IfOk result IsShaped }
     ensures short { IfOk result IsShort }
 {
@@ -145,10 +132,10 @@ fn value_as<'a>(
     match kind {
         None => Ok(TableValue::Other { bytes }),
         Some(TableKind::Fadt) => read_fadt(alloc, table),
-        Some(TableKind::Madt) => read_madt(alloc, table),
-        Some(TableKind::Srat) => read_srat(alloc, table),
+        Some(TableKind::Madt) => read_madt(alloc, &Madt::of(table.copied())),
+        Some(TableKind::Srat) => read_srat(alloc, &Srat::of(table.copied())),
         Some(TableKind::Slit) => Ok(read_slit(table)),
-        Some(TableKind::Pptt) => read_pptt(alloc, table),
+        Some(TableKind::Pptt) => read_pptt(alloc, &Pptt::of(table.copied())),
     }
 }
 
@@ -156,10 +143,10 @@ fn value_as<'a>(
 /// bytes.
 pub(crate) fn table_values<'a>(
     alloc: Global,
-    tables: &[Table<'a>],
+    tables: &[Listed<'a>],
 ) -> Result<Vec<TableValue<'a>>, AllocError>
-    requires { AreReadable tables.now }
-    ensures values { IfOk result (λ found. map table_value found.items ≡ values_of tables.now) }
+    requires { AreReadable (map table_of tables.now) }
+    ensures values { IfOk result (λ found. map table_value found.items ≡ values_of (map table_of tables.now)) }
     ensures shaped { IfOk result (λ found. All IsShaped found.items) }
     ensures short { IfOk result (λ found. All IsShort found.items) }
 {
@@ -167,7 +154,7 @@ pub(crate) fn table_values<'a>(
     let mut found = Vec::new(alloc);
     for k in 0..tables.len() {
         let kind = firsts.add(tables[k].copied());
-        let value = value_as(alloc, &tables[k], kind)?;
+        let value = value_as(alloc, &tables[k].table, kind)?;
         found.push(value)?;
     }
     Ok(found)

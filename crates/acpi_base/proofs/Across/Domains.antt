@@ -14,8 +14,8 @@ use Rattle.acpi_base.specs.declared.code.Code.{Code}
 use Rattle.acpi_base.specs.declared.code.Code.TheVariants as code
 use Rattle.acpi_base.specs.declared.stage.Stage.TheVariants as stage
 use Rattle.acpi_base.proofs.Faults.Deciding.{Decided, decided_as, both, all3, same, below, differs, is_true, not_other}
-use Rattle.acpi_base.proofs.HeldBytes.{field_below}
-use Rattle.acpi_base.proofs.Standings.{AreOnes, one_said, said_inside, stands_with_decided, somewhere_decided, entries_bounded, said_with}
+use Rattle.acpi_base.proofs.Images.HeldBytes.{field_below}
+use Rattle.acpi_base.proofs.EntryOffsets.{AreOnes, one_said, said_inside, stands_with_decided, somewhere_decided, entries_bounded, said_with}
 
 -- ---- what an entry of the SRAT says
 

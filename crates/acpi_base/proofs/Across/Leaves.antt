@@ -12,9 +12,9 @@ use Rattle.acpi_base.specs.declared.code.Code.{Code}
 use Rattle.acpi_base.specs.declared.code.Code.TheVariants as code
 use Rattle.acpi_base.specs.declared.stage.Stage.TheVariants as stage
 use Rattle.acpi_base.proofs.Faults.Deciding.{Decided, decided_as, all3, all5, same, at_most, negated, is_true, is_none}
-use Rattle.acpi_base.proofs.HeldBytes.{field_below}
+use Rattle.acpi_base.proofs.Images.HeldBytes.{field_below}
 use Rattle.acpi_base.proofs.Pptt.Places.{inside}
-use Rattle.acpi_base.proofs.Standings.{stands_with_decided, somewhere_decided, entries_bounded, said_with}
+use Rattle.acpi_base.proofs.EntryOffsets.{stands_with_decided, somewhere_decided, entries_bounded, said_with}
 
 -- ---- decided, and what the fault excludes
 

@@ -11,9 +11,9 @@ use Rattle.acpi_base.specs.declared.code.Code.{Code}
 use Rattle.acpi_base.specs.declared.code.Code.TheVariants as code
 use Rattle.acpi_base.specs.declared.stage.Stage.TheVariants as stage
 use Rattle.acpi_base.proofs.Faults.Deciding.{Decided, decided_as, all3, all4, same, below, at_most, negated}
-use Rattle.acpi_base.proofs.HeldBytes.{field_below}
+use Rattle.acpi_base.proofs.Images.HeldBytes.{field_below}
 use Rattle.acpi_base.proofs.Madt.Faults.{inside}
-use Rattle.acpi_base.proofs.Standings.{stands_with_decided, somewhere_decided, entries_bounded, said_with}
+use Rattle.acpi_base.proofs.EntryOffsets.{stands_with_decided, somewhere_decided, entries_bounded, said_with}
 
 -- ---- decided, and what the fault excludes
 

@@ -5,7 +5,7 @@ use Rattle.std.proofs.lemmas.Bool.Decides.{nat_tests}
 use Rattle.acpi_base.specs.Memory.{Memory, byte_of, run_of, cons_both, bytes_at}
 use Rattle.acpi_base.specs.Number.{field, byte_sum}
 use Rattle.acpi_base.specs.Codes.{stage_of}
-use Rattle.acpi_base.specs.Segments.{lookup}
+use Rattle.acpi_base.specs.Image.Runs.{lookup}
 use Rattle.acpi_base.specs.Signature.{has_signature}
 use Rattle.acpi_base.specs.Rsdp.{revision_of, IsExtended, RsdpFault, addresses_at}
 use Rattle.acpi_base.specs.Root.{chosen_root, IsRoot, HasNoRoot, RootTableFault}
@@ -25,8 +25,8 @@ use Rattle.acpi_base.proofs.Examples.WholeSets.{byte_of_whole_set, HasRoot, whol
 use Rattle.acpi_base.proofs.Faults.Least.{witness}
 use Rattle.acpi_base.proofs.Root.Slots.{root_slot}
 use Rattle.acpi_base.proofs.Tables.Listed.{listed_in_root, none_in_root}
-use Rattle.acpi_base.proofs.Pieces.RunBytes.{byte_of-insert, byte_of-remove}
-use Rattle.acpi_base.proofs.Runs.{run_of-agree}
+use Rattle.acpi_base.proofs.Images.RunBytes.{byte_of-insert, byte_of-remove}
+use Rattle.acpi_base.proofs.Images.ByteRuns.{run_of-agree}
 
 -- ---- the bytes of an altered set
 

@@ -8,7 +8,7 @@ use Rattle.std.proofs.lemmas.Option.{none-some, same_Some}
 use Rattle.acpi_base.specs.Memory.{IsImage, run_of, cons_both}
 use Rattle.acpi_base.specs.Number.{field, byte_sum}
 use Rattle.acpi_base.specs.Policy.{IsPolicy, inputs_of}
-use Rattle.acpi_base.specs.Segments.{run_at, IsWhole}
+use Rattle.acpi_base.specs.Image.Runs.{run_at, IsWhole}
 use Rattle.acpi_base.specs.Signature.{has_signature}
 use Rattle.acpi_base.specs.Rsdp.{IsSoundRsdp}
 use Rattle.acpi_base.specs.Root.{IsSoundRoot}
@@ -36,8 +36,8 @@ use Rattle.acpi_base.proofs.Examples.Sets.{inputs_are, leaf}
 use Rattle.acpi_base.proofs.Examples.Slits.{one}
 use Rattle.acpi_base.proofs.Examples.WholeSets as set
 use Rattle.acpi_base.proofs.Examples.WholeSets.{bytes_at_whole_set, whole_has_root, root_of_held, root_table_of, each_slot, tables, listed, said, madt, srat, slit}
-use Rattle.acpi_base.proofs.HeldBytes.{none_and_some}
-use Rattle.acpi_base.proofs.Pieces.Images.{image_of}
+use Rattle.acpi_base.proofs.Images.HeldBytes.{none_and_some}
+use Rattle.acpi_base.proofs.Images.RunMemory.{image_of}
 use Rattle.acpi_base.proofs.Root.Slots.{slot_of_root}
 use Rattle.acpi_base.proofs.Tables.Listed.{one_listed}
 

@@ -9,7 +9,7 @@ use Rattle.acpi_base.specs.Policy.{PolicyValue}
 use Rattle.acpi_base.specs.Listed.{madt_signature}
 use Rattle.acpi_base.specs.Entries.{StandsWith, first_entry, entries_from, entries_of, end_of_entries, cut_of, has_form}
 use Rattle.acpi_base.specs.Madt.{MadtContents, madt_entry, madt_contents, MadtFault, MadtEntryFault, IsAddressOverride, ServesFrom, Serves, InterruptFault, OverrideFault}
-use Rattle.acpi_base.specs.Clashes.{ComesBefore}
+use Rattle.acpi_base.specs.Overlaps.{ComesBefore}
 use Rattle.acpi_base.specs.Examples.{table, IsSoundExample}
 use Rattle.acpi_base.specs.Examples.Madts.{AreMadtContents, AreMadtFaults, IsFirstInterrupt, HasNoMadtFault, example_madts, faulty_madt_bytes, all_kinds, two_io_apics, faulty_madt}
 use Rattle.acpi_base.specs.declared.code.Code.{Code}
@@ -33,7 +33,7 @@ madt_faults q = record {
   inti = of_faulty code.ReservedInti 0x38 0 ((_, (1, omega arith, refl), inl refl), (refl, refl));
   second = of_faulty code.SecondAddressOverride 0x4e 0x42 ((_, (3, omega arith, refl), tt), (_, (2, omega arith, refl), tt), omega arith, refl);
   gsi = λ inputs. of_faulty code.GsiPastEnd 0x5a 0 ((_, (4, omega arith, refl), omega arith), (refl, refl));
-  clash = λ first second. subst (λ (c : MadtContents). InterruptFault q c code.GsiClash 0x2c 0x38 0x18) (sym madt_said.io_apics_say)
+  overlap = λ first second. subst (λ (c : MadtContents). InterruptFault q c code.GsiClash 0x2c 0x38 0x18) (sym madt_said.io_apics_say)
       (record {
         s = 0;
         t = 24;
@@ -52,7 +52,7 @@ madt_faults q = record {
 
 pub first_interrupt : (q : PolicyValue) → IsFirstInterrupt q
 first_interrupt q thirty_two twenty_four = record {
-  clash = record { s = 0; t = 24; one_holds = (_, (0, omega arith, refl), (refl, omega arith, omega arith)); other_holds = (_, (1, omega arith, refl), (refl, omega arith, omega arith)); two = λ same. omega arith };
+  overlap = record { s = 0; t = 24; one_holds = (_, (0, omega arith, refl), (refl, omega arith, omega arith)); other_holds = (_, (1, omega arith, refl), (refl, omega arith, omega arith)); two = λ same. omega arith };
   in_order = inl (omega arith);
   others_after = λ p u here not_at not_other. each_entry two_io_apics.entries (λ p e. p ≢ 0x2c → p ≢ 0x38 → ServesFrom q u 0x18 e → ComesBefore 24 0x38 u p)
       ((λ not_at _ _. absurd (not_at refl)), ((λ _ not_other _. absurd (not_other refl)), tt)) p here.0 here.1 not_at not_other here.2;

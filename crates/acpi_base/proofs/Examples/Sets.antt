@@ -14,13 +14,13 @@ use Rattle.acpi_base.specs.Pptt.{Node, PpttContents, has_node_form, has_cache_fo
 use Rattle.acpi_base.specs.Across.{IsEnabled, DomainFault, IsServed, ServedFault, IsUid, LeafFault}
 use Rattle.acpi_base.specs.Memory.{Memory, IsImage, run_of, cons_both, bytes_at}
 use Rattle.acpi_base.specs.Number.{field, byte_sum, has_bit}
-use Rattle.acpi_base.specs.Segments.{Run, run_at, lookup, IsWhole}
+use Rattle.acpi_base.specs.Image.Runs.{Run, run_at, lookup, IsWhole}
 use Rattle.acpi_base.specs.Signature.{has_signature}
 use Rattle.acpi_base.specs.Rsdp.{addresses_at}
 use Rattle.acpi_base.specs.Tables.{IsTable, IsSigned, length_of}
 use Rattle.acpi_base.specs.Root.{chosen_root, IsRoot, IsRootTable, HasSlot}
 use Rattle.acpi_base.specs.Listed.{madt_signature, srat_signature, pptt_signature, IsListedTable, HasListed}
-use Rattle.acpi_base.specs.Examples.{standing, IsSoundExample}
+use Rattle.acpi_base.specs.Examples.{placed_entry, IsSoundExample}
 use Rattle.acpi_base.specs.Examples.Sets.{rsdp_bytes, rsdt_bytes, rsdp_at, set_of, ListsBoth, processor_bytes, leaf_bytes, enabled_bytes, capable_bytes, disabled_bytes, named_bytes, uid_bytes, new_leaf_bytes, old_leaf_bytes, policy, AreListedTables, AreSetFaults, enabled_set, capable_set, disabled_set, two_madts, leaf_set, old_leaf_set}
 use Rattle.acpi_base.specs.Examples.Madts.{said_madt, two_io_apics_bytes}
 use Rattle.acpi_base.specs.Examples.Srats.{two_processors_bytes, two_processors}
@@ -30,9 +30,9 @@ use Rattle.acpi_base.specs.declared.policy.Processors.TheVariants.{Enabled, Usab
 use Rattle.acpi_base.specs.declared.code.Code.TheVariants as code
 use Rattle.acpi_base.proofs.Examples.{each_entry, none_stands, never, all_below}
 use Rattle.acpi_base.proofs.Examples.Srats.{srat_said}
-use Rattle.acpi_base.proofs.HeldBytes.{same_value}
-use Rattle.acpi_base.proofs.Pieces.RunBytes.{byte_of_memory_of}
-use Rattle.acpi_base.proofs.Pieces.Images.{image_of}
+use Rattle.acpi_base.proofs.Images.HeldBytes.{same_value}
+use Rattle.acpi_base.proofs.Images.RunBytes.{byte_of_memory_of}
+use Rattle.acpi_base.proofs.Images.RunMemory.{image_of}
 use Rattle.acpi_base.proofs.Tables.Listed.{one_listed, listed_in_root}
 use Rattle.acpi_base.proofs.Root.Slots.{root_slot}
 
@@ -104,8 +104,8 @@ tables_of one other header whole other_header other_whole least other_least = re
 }
 
 -- the table at 2000h is listed with its signature
-first_listed : (one other signature header : List ℕ) → IsTable (set_of one other) 0x2000 header one → has_signature header signature ≡ true → IsListedTable (set_of one other) rsdp_at signature one
-first_listed one other signature header table signed =
+first_is_listed : (one other signature header : List ℕ) → IsTable (set_of one other) 0x2000 header one → has_signature header signature ≡ true → IsListedTable (set_of one other) rsdp_at signature one
+first_is_listed one other signature header table signed =
     listed_in_root (root one other) (root_table one other)
     (record { k = 0; slot = slot_0; signed = record { header = header; header_held = table.header_held; signed = signed }; none_before = λ j b less. absurd (omega arith) })
     table
@@ -128,7 +128,7 @@ second_listed one other signature header header' first differs second signed =
 both_listed : (one other signature signature' : List ℕ) → AreTables one other → has_signature (take 36 one) signature ≡ true → has_signature (take 36 one) signature' ≡ false → has_signature (take 36 other) signature' ≡ true
     → ListsBoth (set_of one other) signature one signature' other
 both_listed one other signature signature' tables is differs other_is =
-    (first_listed one other signature (take 36 one) tables.first is, second_listed one other signature' (take 36 one) (take 36 other) tables.first differs tables.second other_is)
+    (first_is_listed one other signature (take 36 one) tables.first is, second_listed one other signature' (take 36 one) (take 36 other) tables.first differs tables.second other_is)
 
 -- the tables of each set
 processor_tables : (checksum flags : ℕ) → AreTables (processor_bytes checksum flags) two_processors_bytes
@@ -146,7 +146,7 @@ leaf_tables revision checksum = tables_of uid_bytes (leaf_bytes revision checksu
 -- the first of two MADTs is listed
 named_listed : IsListedTable two_madts rsdp_at madt_signature named_bytes
 unfolding has_signature
-named_listed = first_listed named_bytes two_io_apics_bytes madt_signature (take 36 named_bytes) madt_tables.first refl
+named_listed = first_is_listed named_bytes two_io_apics_bytes madt_signature (take 36 named_bytes) madt_tables.first refl
 
 pub listed : AreListedTables
 unfolding byte_sum field has_signature
@@ -184,20 +184,20 @@ listed = record {
 
 -- the MADTs and the PPTT of the sets
 abbrev processor : ℕ → MadtContents
-processor flags = said_madt 52 (standing 44 (LocalApic (record { uid = 0; apic_id = 5; flags = flags })) ∷ [])
+processor flags = said_madt 52 (placed_entry 44 (LocalApic (record { uid = 0; apic_id = 5; flags = flags })) ∷ [])
 
 abbrev named : MadtContents
 named =
     said_madt 66
-    (standing 44 (IoApic (record { id = 0; address = 0xfec00000; gsi_base = 0 }))
-    ∷ standing 56 (Override (record { bus = 0; source = 9; gsi = 24; flags = 0 }))
+    (placed_entry 44 (IoApic (record { id = 0; address = 0xfec00000; gsi_base = 0 }))
+    ∷ placed_entry 56 (Override (record { bus = 0; source = 9; gsi = 24; flags = 0 }))
     ∷ [])
 
 abbrev uid : MadtContents
-uid = said_madt 52 (standing 44 (LocalApic (record { uid = 5; apic_id = 0; flags = 0 })) ∷ [])
+uid = said_madt 52 (placed_entry 44 (LocalApic (record { uid = 5; apic_id = 0; flags = 0 })) ∷ [])
 
 abbrev pub leaf : PpttContents
-leaf = said_pptt 56 (standing 36 (Node (record { flags = 10; parent = 0; id = 7; resources = [] })) ∷ [])
+leaf = said_pptt 56 (placed_entry 36 (Node (record { flags = 10; parent = 0; id = 7; resources = [] })) ∷ [])
 
 -- the bytes of the tables say this
 record AreContents : Type 0 where

@@ -7,7 +7,7 @@ use Rattle.std.proofs.lemmas.Bool.{both_ways, cases_lt}
 use Rattle.acpi_base.specs.Number.{field, byte_sum, has_bit}
 use Rattle.acpi_base.specs.Listed.{srat_signature}
 use Rattle.acpi_base.specs.Entries.{first_entry, entries_from, entries_of, end_of_entries, cut_of, has_form}
-use Rattle.acpi_base.specs.Clashes.{IsClash, ComesBefore}
+use Rattle.acpi_base.specs.Overlaps.{IsIntervalOverlap, ComesBefore}
 use Rattle.acpi_base.specs.Srat.{MemoryValue, CoversFrom, Covers, IsAny, IsHotPluggable, IsNotHotPluggable, SratContents, srat_entry, srat_contents, SratFault, SratEntryFault, RangeFault, IsFirstOverlap}
 use Rattle.acpi_base.specs.Examples.{table, IsSoundExample}
 use Rattle.acpi_base.specs.Examples.Srats.{AreSratContents, AreSratFaults, AreFirstOverlaps, HasNoSratFault, example_srats, four_ranges_bytes, faulty_srat_bytes, two_processors, four_ranges, overlapping, hot_ranges, faulty_srat}
@@ -27,36 +27,36 @@ short_srat = (omega arith, refl, (refl, refl))
 
 -- ---- overlaps
 
-abbrev clash : {P : MemoryValue → Type 0} (c : SratContents) {at other point : ℕ} (s t : ℕ) → Covers P c at s point → Covers P c other t point → at ≢ other → IsClash (Covers P c) at other point
-clash c s t one other two = record { s = s; t = t; one_holds = one; other_holds = other; two = two }
+abbrev overlap : {P : MemoryValue → Type 0} (c : SratContents) {at other point : ℕ} (s t : ℕ) → Covers P c at s point → Covers P c other t point → at ≢ other → IsIntervalOverlap (Covers P c) at other point
+overlap c s t one other two = record { s = s; t = t; one_holds = one; other_holds = other; two = two }
 
-exchanged : (P : MemoryValue → Type 0) (c : SratContents) {at other point : ℕ} → IsClash (Covers P c) at other point → IsClash (Covers P c) other at point
-exchanged P c it = clash {P = P} c it.t it.s it.other_holds it.one_holds (λ same. it.two (sym same))
+exchanged : (P : MemoryValue → Type 0) (c : SratContents) {at other point : ℕ} → IsIntervalOverlap (Covers P c) at other point → IsIntervalOverlap (Covers P c) other at point
+exchanged P c it = overlap {P = P} c it.t it.s it.other_holds it.one_holds (λ same. it.two (sym same))
 
-any_overlap : IsClash (Covers IsAny four_ranges) 0x80 0xa8 0x3fffffff
+any_overlap : IsIntervalOverlap (Covers IsAny four_ranges) 0x80 0xa8 0x3fffffff
 unfolding has_bit
 any_overlap =
-    clash four_ranges 0x100000 0x3fffffff (_, (2, omega arith, refl), (refl, tt, refl, omega arith, omega arith)) (_, (3, omega arith, refl), (refl, tt, refl, omega arith, omega arith)) (λ same. omega arith)
+    overlap four_ranges 0x100000 0x3fffffff (_, (2, omega arith, refl), (refl, tt, refl, omega arith, omega arith)) (_, (3, omega arith, refl), (refl, tt, refl, omega arith, omega arith)) (λ same. omega arith)
 
-plain_overlap : IsClash (Covers IsNotHotPluggable four_ranges) 0x80 0xa8 0x3fffffff
+plain_overlap : IsIntervalOverlap (Covers IsNotHotPluggable four_ranges) 0x80 0xa8 0x3fffffff
 unfolding has_bit
 plain_overlap =
-    clash four_ranges 0x100000 0x3fffffff (_, (2, omega arith, refl), (refl, refl, refl, omega arith, omega arith)) (_, (3, omega arith, refl), (refl, refl, refl, omega arith, omega arith)) (λ same. omega arith)
+    overlap four_ranges 0x100000 0x3fffffff (_, (2, omega arith, refl), (refl, refl, refl, omega arith, omega arith)) (_, (3, omega arith, refl), (refl, refl, refl, omega arith, omega arith)) (λ same. omega arith)
 
 first_overlap : RangeFault Counted overlapping code.Overlap 0x58 0x30 0x1000
 unfolding has_bit
 first_overlap =
-    (omega arith, clash overlapping 0 0x1000 (_, (1, omega arith, refl), (refl, tt, refl, omega arith, omega arith)) (_, (0, omega arith, refl), (refl, tt, refl, omega arith, omega arith)) (λ same. omega arith))
+    (omega arith, overlap overlapping 0 0x1000 (_, (1, omega arith, refl), (refl, tt, refl, omega arith, omega arith)) (_, (0, omega arith, refl), (refl, tt, refl, omega arith, omega arith)) (λ same. omega arith))
 
 counted_overlap : RangeFault Counted hot_ranges code.Overlap 0x30 0x80 0
 unfolding has_bit
 counted_overlap =
-    (omega arith, clash hot_ranges 0 0 (_, (0, omega arith, refl), (refl, tt, refl, omega arith, omega arith)) (_, (2, omega arith, refl), (refl, tt, refl, omega arith, omega arith)) (λ same. omega arith))
+    (omega arith, overlap hot_ranges 0 0 (_, (0, omega arith, refl), (refl, tt, refl, omega arith, omega arith)) (_, (2, omega arith, refl), (refl, tt, refl, omega arith, omega arith)) (λ same. omega arith))
 
 apart_overlap : RangeFault Apart hot_ranges code.Overlap 0x80 0xa8 0
 unfolding has_bit
 apart_overlap =
-    (omega arith, inl (clash hot_ranges 0 0 (_, (2, omega arith, refl), (refl, refl, refl, omega arith, omega arith)) (_, (3, omega arith, refl), (refl, refl, refl, omega arith, omega arith)) (λ same. omega arith)))
+    (omega arith, inl (overlap hot_ranges 0 0 (_, (2, omega arith, refl), (refl, refl, refl, omega arith, omega arith)) (_, (3, omega arith, refl), (refl, refl, refl, omega arith, omega arith)) (λ same. omega arith)))
 
 mixed_overlap : ¬ RangeFault Apart hot_ranges code.Overlap 0x30 0x80 0
 unfolding has_bit
@@ -103,7 +103,7 @@ srat_faults = record {
 first_addresses : IsFirstOverlap Counted overlapping 0x58 0x30 0x1000
 unfolding first_overlap
 first_addresses = record {
-  clash = first_overlap.1;
+  overlap = first_overlap.1;
   in_order = inl (omega arith);
   others_after = λ p u here not_at not_other. each_entry overlapping.entries (λ p e. p ≢ 0x58 → p ≢ 0x30 → CoversFrom IsAny u 0x1000 e → ComesBefore 0x1000 0x30 u p)
       ((λ _ not_other _. absurd (not_other refl)), ((λ not_at _ _. absurd (not_at refl)), ((λ _ _ covers. inr (covers.2, omega arith)), tt))) p here.0 here.1 not_at not_other here.2;
@@ -116,7 +116,7 @@ first_addresses = record {
 first_counted : IsFirstOverlap Counted hot_ranges 0x30 0x58 0
 unfolding has_bit
 first_counted = record {
-  clash = clash hot_ranges 0 0 (_, (0, omega arith, refl), (refl, tt, refl, omega arith, omega arith)) (_, (1, omega arith, refl), (refl, tt, refl, omega arith, omega arith)) (λ same. omega arith);
+  overlap = overlap hot_ranges 0 0 (_, (0, omega arith, refl), (refl, tt, refl, omega arith, omega arith)) (_, (1, omega arith, refl), (refl, tt, refl, omega arith, omega arith)) (λ same. omega arith);
   in_order = inr (refl, omega arith);
   others_after = λ p u here not_at not_other. each_entry hot_ranges.entries (λ p e. p ≢ 0x30 → p ≢ 0x58 → CoversFrom IsAny u 0 e → ComesBefore 0 0x58 u p)
       ((λ not_at _ _. absurd (not_at refl)), ((λ _ not_other _. absurd (not_other refl)), ((λ _ _ covers. inr (covers.2, omega arith)), ((λ _ _ covers. inr (covers.2, omega arith)), tt)))) p here.0 here.1 not_at not_other here.2;
@@ -127,7 +127,7 @@ first_apart : IsFirstOverlap Apart hot_ranges 0x80 0xa8 0
 unfolding has_bit
 first_apart = inl (
   record {
-    clash = clash hot_ranges 0 0 (_, (2, omega arith, refl), (refl, refl, refl, omega arith, omega arith)) (_, (3, omega arith, refl), (refl, refl, refl, omega arith, omega arith)) (λ same. omega arith);
+    overlap = overlap hot_ranges 0 0 (_, (2, omega arith, refl), (refl, refl, refl, omega arith, omega arith)) (_, (3, omega arith, refl), (refl, refl, refl, omega arith, omega arith)) (λ same. omega arith);
     in_order = inr (refl, omega arith);
     others_after = λ p u here not_at not_other. each_entry hot_ranges.entries (λ p e. p ≢ 0x80 → p ≢ 0xa8 → CoversFrom IsNotHotPluggable u 0 e → ComesBefore 0 0xa8 u p)
         ((λ _ _ covers. absurd (both_ways _ covers.1 refl)), ((λ _ _ covers. absurd (both_ways _ covers.1 refl)), ((λ not_at _ _. absurd (not_at refl)), ((λ _ not_other _. absurd (not_other refl)), tt)))) p here.0 here.1 not_at not_other here.2;

@@ -5,7 +5,7 @@ use Rattle.std.proofs.lemmas.Bool.{both_ways}
 use Rattle.std.proofs.lemmas.Bool.Decides.{nat_tests}
 use Rattle.acpi_base.specs.Memory.{Memory, byte_of, run_of, cons_both, bytes_at}
 use Rattle.acpi_base.specs.Number.{field}
-use Rattle.acpi_base.specs.Segments.{lookup}
+use Rattle.acpi_base.specs.Image.Runs.{lookup}
 use Rattle.acpi_base.specs.Signature.{has_signature}
 use Rattle.acpi_base.specs.Rsdp.{addresses_at}
 use Rattle.acpi_base.specs.Root.{chosen_root, IsRoot, IsRootTable, HasSlot}
@@ -16,15 +16,15 @@ use Rattle.acpi_base.specs.Madt.{LocalApic, IoApic, Override, MadtContents, madt
 use Rattle.acpi_base.specs.Srat.{ApicDomain, MemoryRange, SratContents, srat_entry, srat_contents}
 use Rattle.acpi_base.specs.Slit.{SlitContents, slit_contents}
 use Rattle.acpi_base.specs.Pptt.{has_node_form, has_cache_form, pptt_entry, pptt_contents}
-use Rattle.acpi_base.specs.Examples.{standing}
+use Rattle.acpi_base.specs.Examples.{placed_entry}
 use Rattle.acpi_base.specs.Examples.WholeSets.{rsdp_bytes, xsdt_bytes, fadt_bytes, madt_bytes, srat_bytes, whole_runs, whole_set}
 use Rattle.acpi_base.specs.Examples.Sets.{rsdp_at, new_leaf_bytes}
 use Rattle.acpi_base.specs.Examples.Madts.{said_madt}
 use Rattle.acpi_base.specs.Examples.Srats.{said_srat}
 use Rattle.acpi_base.specs.Examples.Slits.{said_slit, one_locality_bytes}
 use Rattle.acpi_base.proofs.Examples.Sets.{leaf}
-use Rattle.acpi_base.proofs.HeldBytes.{same_value}
-use Rattle.acpi_base.proofs.Pieces.RunBytes.{byte_of_memory_of}
+use Rattle.acpi_base.proofs.Images.HeldBytes.{same_value}
+use Rattle.acpi_base.proofs.Images.RunBytes.{byte_of_memory_of}
 use Rattle.acpi_base.proofs.Tables.Listed.{listed_in_root}
 
 -- its bytes are those of its runs
@@ -185,16 +185,16 @@ listed = record {
 abbrev pub madt : MadtContents
 madt =
     said_madt 74
-    (standing 44 (LocalApic (record { uid = 7; apic_id = 5; flags = 1 }))
-    ∷ standing 52 (IoApic (record { id = 0; address = 0xfec00000; gsi_base = 0 }))
-    ∷ standing 64 (Override (record { bus = 0; source = 0; gsi = 2; flags = 0 }))
+    (placed_entry 44 (LocalApic (record { uid = 7; apic_id = 5; flags = 1 }))
+    ∷ placed_entry 52 (IoApic (record { id = 0; address = 0xfec00000; gsi_base = 0 }))
+    ∷ placed_entry 64 (Override (record { bus = 0; source = 0; gsi = 2; flags = 0 }))
     ∷ [])
 
 abbrev pub srat : SratContents
 srat =
     said_srat 104
-    (standing 48 (ApicDomain (record { domain = 0; apic_id = 5; flags = 1; eid = 0; clock_domain = 0 }))
-    ∷ standing 64 (MemoryRange (record { domain = 0; base = 0; size = 0x100000; flags = 1 }))
+    (placed_entry 48 (ApicDomain (record { domain = 0; apic_id = 5; flags = 1; eid = 0; clock_domain = 0 }))
+    ∷ placed_entry 64 (MemoryRange (record { domain = 0; base = 0; size = 0x100000; flags = 1 }))
     ∷ [])
 
 abbrev pub slit : SlitContents

@@ -14,7 +14,7 @@ use Rattle.acpi_base.specs.Codes.{stage_of}
 use Rattle.acpi_base.specs.declared.code.Code.{Code}
 use Rattle.acpi_base.specs.declared.code.Code.TheVariants as code
 use Rattle.acpi_base.specs.declared.stage.Stage.TheVariants as stage
-use Rattle.acpi_base.proofs.HeldBytes.{cases_Option, none_and_some, same_value, held_field_below}
+use Rattle.acpi_base.proofs.Images.HeldBytes.{cases_Option, none_and_some, same_value, held_field_below}
 use Rattle.acpi_base.proofs.Faults.Deciding.{Decided, decided_as, both, all3, same, differs, below, at_most, is_false, is_none, is_some_with, not_below, not_other, not_false, not_none}
 use Rattle.acpi_base.proofs.Tables.Listed.{one_listed}
 

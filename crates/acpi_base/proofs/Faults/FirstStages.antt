@@ -12,7 +12,7 @@ use Rattle.acpi_base.specs.declared.code.Code.{Code}
 use Rattle.acpi_base.specs.declared.stage.Stage.TheVariants as stage
 use Rattle.acpi_base.proofs.Faults.Deciding.{Decided, decided_as, all3, all4, same}
 use Rattle.acpi_base.proofs.Faults.Least.{bounded, witness}
-use Rattle.acpi_base.proofs.Faults.Settling.{IsJudged}
+use Rattle.acpi_base.proofs.Faults.HoldsOrFault.{IsJudged}
 use Rattle.acpi_base.proofs.Rsdp.Faults as rsdp
 use Rattle.acpi_base.proofs.Rsdp.Naming.{sound_read}
 use Rattle.acpi_base.proofs.Root.Faults as root

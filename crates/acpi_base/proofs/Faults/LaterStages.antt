@@ -16,7 +16,7 @@ use Rattle.acpi_base.specs.declared.stage.Stage.{Stage}
 use Rattle.acpi_base.specs.declared.stage.Stage.TheVariants as stage
 use Rattle.acpi_base.proofs.Faults.Deciding.{Decided}
 use Rattle.acpi_base.proofs.Faults.Least.{witness}
-use Rattle.acpi_base.proofs.Faults.Settling.{AreJudged, IsJudged, Settles}
+use Rattle.acpi_base.proofs.Faults.HoldsOrFault.{AreJudged, IsJudged, HoldsOrHasFirst}
 use Rattle.acpi_base.proofs.Faults.ListedTables.{for_listed, listed_judged}
 use Rattle.acpi_base.proofs.Tables.Listed.{IsListedOrNone, listed_or_none, none_and_listed}
 use Rattle.acpi_base.proofs.Madt.Faults as madt
@@ -116,21 +116,21 @@ leaves_judged m q clean =
 
 -- ---- stages with an order of their own
 
-pub interrupts_settled : (m : Memory) (q : PolicyValue) → CleanBefore stage.Interrupts m q → Settles stage.Interrupts m q
+pub interrupts_settled : (m : Memory) (q : PolicyValue) → CleanBefore stage.Interrupts m q → HoldsOrHasFirst stage.Interrupts m q
 interrupts_settled m q clean = from_listed (known stage.Interrupts m q madt_signature clean (omega arith))
   where
-    from_listed : IsListedOrNone m q.rsdp madt_signature → Settles stage.Interrupts m q
+    from_listed : IsListedOrNone m q.rsdp madt_signature → HoldsOrHasFirst stage.Interrupts m q
     from_listed (None, none) = inl (λ whole is. absurd (none_and_listed none is))
     from_listed (Some whole, is) =
         elim (interrupts.settled q whole) [
           | inl apart ↦ inl (for_listed (λ bytes. AreInterruptsApart q (madt_contents bytes)) is apart)
-          | inr (at, other, point, first) ↦ inr (witness code.GsiClash at other point, record { holds = record { own = refl; holds = (whole, is, first.clash) }; least = (whole, is, first) })
+          | inr (at, other, point, first) ↦ inr (witness code.GsiClash at other point, record { holds = record { own = refl; holds = (whole, is, first.overlap) }; least = (whole, is, first) })
         ]
 
-pub ranges_settled : (m : Memory) (q : PolicyValue) → CleanBefore stage.Ranges m q → Settles stage.Ranges m q
+pub ranges_settled : (m : Memory) (q : PolicyValue) → CleanBefore stage.Ranges m q → HoldsOrHasFirst stage.Ranges m q
 ranges_settled m q clean = from_listed (known stage.Ranges m q srat_signature clean (omega arith))
   where
-    from_listed : IsListedOrNone m q.rsdp srat_signature → Settles stage.Ranges m q
+    from_listed : IsListedOrNone m q.rsdp srat_signature → HoldsOrHasFirst stage.Ranges m q
     from_listed (None, none) = inl (λ whole is. absurd (none_and_listed none is))
     from_listed (Some whole, is) =
         elim (ranges.settled q.hotplug whole (clean stage.Srat (omega arith) whole is)) [

@@ -6,7 +6,7 @@ use Rattle.acpi_base.specs.Laws.{FaultsExcludeClean, FaultsFit, CleanOrFaulty, C
 use Rattle.acpi_base.specs.declared.stage.Stage.{Stage}
 use Rattle.acpi_base.specs.declared.verdict.Verdict.TheVariants.{Yes, No}
 use Rattle.acpi_base.proofs.Faults.Numbers.{same_stage}
-use Rattle.acpi_base.proofs.Faults.Settling.{IsFirstOfStage}
+use Rattle.acpi_base.proofs.Faults.HoldsOrFault.{IsFirstOfStage}
 use Rattle.acpi_base.proofs.Faults.Stages.{clean_or_first, excludes, fits, one_first}
 
 pub fault_excludes_clean : FaultsExcludeClean

@@ -42,12 +42,12 @@ bounded f (suc n) = more f n (bounded f n)
     more f n rest = (rest.0 + f n + 1, λ k below. grind (arith, cases_lt k n, rest.1 k))
 
 -- P holds of x, and x stands after nothing of which it holds
-pub record IsFirstOf {X : Type 0} (Order : X → X → Type 0) (P : X → Type 0) (x : X) : Type 0 where
+pub record IsFirstInOrder {X : Type 0} (Order : X → X → Type 0) (P : X → Type 0) (x : X) : Type 0 where
   pub holds : P x
   pub least : (y : X) → P y → Order x y
 
 abbrev pub NoneOrFirst : {X : Type 0} → (X → X → Type 0) → (X → Type 0) → Type 0
-NoneOrFirst {X = X} Order P = ((x : X) → ¬ P x) ⊎ ((x : X) × IsFirstOf Order P x)
+NoneOrFirst {X = X} Order P = ((x : X) → ¬ P x) ⊎ ((x : X) × IsFirstInOrder Order P x)
 
 -- the order by a number, and where it is the same by another order
 abbrev pub ByNumber : {X : Type 0} → (X → ℕ) → (X → X → Type 0) → X → X → Type 0
@@ -73,7 +73,7 @@ first_by {X} f Later P n below each =
     somewhere : (k : ℕ) → Decided ((x : X) × At f P k x)
     somewhere k = elim (each k) [ inl none ↦ inr (λ h. none h.0 h.1) | inr (x, first) ↦ inl (x, first.holds) ]
 
-    after : (k : ℕ) (x : X) → IsFirstOf Later (At f P k) x → (y : X) → (f y < k → ¬ ((z : X) × At f P (f y) z)) → P y → ByNumber f Later x y
+    after : (k : ℕ) (x : X) → IsFirstInOrder Later (At f P k) x → (y : X) → (f y < k → ¬ ((z : X) × At f P (f y) z)) → P y → ByNumber f Later x y
     after k x first y none here = grind (arith, cases_order (f x) (f y), first.holds.1, first.least y, none)
 
 -- and by the last number alone

@@ -6,9 +6,9 @@ use Rattle.acpi_base.specs.Tables.{length_of}
 use Rattle.acpi_base.specs.Listed.{IsListedTable, ForListed, HasListed}
 use Rattle.acpi_base.specs.declared.code.Code.{Code}
 use Rattle.acpi_base.specs.declared.stage.Stage.{Stage}
-use Rattle.acpi_base.proofs.HeldBytes.{bytes_below, held_field_below}
+use Rattle.acpi_base.proofs.Images.HeldBytes.{bytes_below, held_field_below}
 use Rattle.acpi_base.proofs.Faults.Deciding.{decided_as}
-use Rattle.acpi_base.proofs.Faults.Settling.{AreJudged}
+use Rattle.acpi_base.proofs.Faults.HoldsOrFault.{AreJudged}
 use Rattle.acpi_base.proofs.Tables.Listed.{IsListedOrNone, none_and_listed, one_listed}
 use Rattle.acpi_base.proofs.Tables.Whole.{length-table}
 

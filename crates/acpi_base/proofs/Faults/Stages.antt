@@ -21,7 +21,7 @@ use Rattle.acpi_base.proofs.Faults.Least.{same_parts}
 use Rattle.acpi_base.proofs.Faults.ListedTables.{of_listed, listed_fits}
 use Rattle.acpi_base.proofs.Faults.Numbers.{same_stage, stage_from_1, stage_with_number}
 use Rattle.acpi_base.proofs.Faults.Order.{same_witness}
-use Rattle.acpi_base.proofs.Faults.Settling.{IsFirstOfStage, Settles, settled, first_of_set}
+use Rattle.acpi_base.proofs.Faults.HoldsOrFault.{IsFirstOfStage, HoldsOrHasFirst, holds_or_has_first, first_of_set}
 use Rattle.acpi_base.proofs.Rsdp.Faults as rsdp
 use Rattle.acpi_base.proofs.Root.Faults as root
 use Rattle.acpi_base.proofs.Root.Slots.{slot_fits}
@@ -42,25 +42,25 @@ use Rattle.acpi_base.proofs.Across.Served as served
 use Rattle.acpi_base.proofs.Across.Leaves as leaves
 
 -- where the stages before it hold, a stage holds or has a first fault
-pub settles : (s : Stage) (m : Memory) (q : PolicyValue) → CleanBefore s m q → Settles s m q
-settles stage.Rsdp m q clean = settled (λ w least. least) (first.rsdp_judged m q)
-settles stage.Root m q clean = settled (λ w least. least) (first.root_judged m q clean)
-settles stage.Tables m q clean = settled (λ w least. least) (first.tables_judged m q clean)
-settles stage.Fadt m q clean = settled (λ w least. least) (first.fadt_judged m q clean)
-settles stage.Facs m q clean = settled (λ w least. least) (first.facs_judged m q clean)
-settles stage.Madt m q clean = settled (λ w least. least) (later.madt_judged m q clean)
-settles stage.Interrupts m q clean = later.interrupts_settled m q clean
-settles stage.Overrides m q clean = settled (λ w least. least) (later.overrides_judged m q clean)
-settles stage.Srat m q clean = settled (λ w least. least) (later.srat_judged m q clean)
-settles stage.Ranges m q clean = later.ranges_settled m q clean
-settles stage.Slit m q clean = settled (λ w least. least) (later.slit_judged m q clean)
-settles stage.Pptt m q clean = settled (λ w least. least) (later.pptt_judged m q clean)
-settles stage.References m q clean = settled (λ w least. least) (later.references_judged m q clean)
-settles stage.Parents m q clean = settled (λ w least. least) (later.parents_judged m q clean)
-settles stage.Caches m q clean = settled (λ w least. least) (later.caches_judged m q clean)
-settles stage.Domains m q clean = settled (λ w least. least) (later.domains_judged m q clean)
-settles stage.Served m q clean = settled (λ w least. least) (later.served_judged m q clean)
-settles stage.Leaves m q clean = settled (λ w least. least) (later.leaves_judged m q clean)
+pub holds_or_first : (s : Stage) (m : Memory) (q : PolicyValue) → CleanBefore s m q → HoldsOrHasFirst s m q
+holds_or_first stage.Rsdp m q clean = holds_or_has_first (λ w least. least) (first.rsdp_judged m q)
+holds_or_first stage.Root m q clean = holds_or_has_first (λ w least. least) (first.root_judged m q clean)
+holds_or_first stage.Tables m q clean = holds_or_has_first (λ w least. least) (first.tables_judged m q clean)
+holds_or_first stage.Fadt m q clean = holds_or_has_first (λ w least. least) (first.fadt_judged m q clean)
+holds_or_first stage.Facs m q clean = holds_or_has_first (λ w least. least) (first.facs_judged m q clean)
+holds_or_first stage.Madt m q clean = holds_or_has_first (λ w least. least) (later.madt_judged m q clean)
+holds_or_first stage.Interrupts m q clean = later.interrupts_settled m q clean
+holds_or_first stage.Overrides m q clean = holds_or_has_first (λ w least. least) (later.overrides_judged m q clean)
+holds_or_first stage.Srat m q clean = holds_or_has_first (λ w least. least) (later.srat_judged m q clean)
+holds_or_first stage.Ranges m q clean = later.ranges_settled m q clean
+holds_or_first stage.Slit m q clean = holds_or_has_first (λ w least. least) (later.slit_judged m q clean)
+holds_or_first stage.Pptt m q clean = holds_or_has_first (λ w least. least) (later.pptt_judged m q clean)
+holds_or_first stage.References m q clean = holds_or_has_first (λ w least. least) (later.references_judged m q clean)
+holds_or_first stage.Parents m q clean = holds_or_has_first (λ w least. least) (later.parents_judged m q clean)
+holds_or_first stage.Caches m q clean = holds_or_has_first (λ w least. least) (later.caches_judged m q clean)
+holds_or_first stage.Domains m q clean = holds_or_has_first (λ w least. least) (later.domains_judged m q clean)
+holds_or_first stage.Served m q clean = holds_or_has_first (λ w least. least) (later.served_judged m q clean)
+holds_or_first stage.Leaves m q clean = holds_or_has_first (λ w least. least) (later.leaves_judged m q clean)
 
 -- a fault of a stage excludes that the stage holds
 pub excludes : (m : Memory) (q : PolicyValue) (w : Witness) (s : Stage) → FaultCondition s m q w → ¬ Holds s m q
@@ -191,7 +191,7 @@ clean_or_first m q (suc n) =
   where
     next : (s : Stage) → stage_number s ≡ suc n → CleanBefore s m q → CleanBelow m q (suc n + 1) ⊎ HasFirst m q (suc n)
     next s number clean =
-        elim (settles s m q clean) [
+        elim (holds_or_first s m q clean) [
           | inr (w, first) ↦ inr (w, first_of_set clean first, omega (arith, ap stage_number first.holds.own))
           | inl here ↦ inl (λ t less. elim (cases_lt (stage_number t) (stage_number s)) [ inl before ↦ clean t before | inr more ↦ subst (λ (r : Stage). Holds r m q) (same_stage s t (omega arith)) here ])
         ]

@@ -11,8 +11,8 @@ use Rattle.acpi_base.specs.declared.code.Code.{Code}
 use Rattle.acpi_base.specs.declared.code.Code.TheVariants as code
 use Rattle.acpi_base.specs.declared.stage.Stage.TheVariants as stage
 use Rattle.acpi_base.proofs.Faults.Deciding.{Decided, both, all3, all4, either, same, below, differs, is_some_number, not_below, not_other}
-use Rattle.acpi_base.proofs.HeldBytes.{cases_Option, none_and_some}
-use Rattle.acpi_base.proofs.Standings.{AreOnes, cut_inside, one_said, said_inside, stands_with_decided, type_decided, unused_decided}
+use Rattle.acpi_base.proofs.Images.HeldBytes.{cases_Option, none_and_some}
+use Rattle.acpi_base.proofs.EntryOffsets.{AreOnes, cut_inside, one_said, said_inside, stands_with_decided, type_decided, unused_decided}
 
 -- ---- where entries stand
 

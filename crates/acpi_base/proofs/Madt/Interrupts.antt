@@ -7,12 +7,12 @@ use Rattle.acpi_base.specs.Policy.{PolicyValue, IsPolicy, inputs_of}
 use Rattle.acpi_base.specs.Madt.{MadtEntry, IoApic, MadtContents, madt_entry, madt_contents, ServesFrom, Serves, AreInterruptsApart, InterruptFault, IsFirstGsiClash}
 use Rattle.acpi_base.specs.declared.code.Code.{Code}
 use Rattle.acpi_base.specs.declared.code.Code.TheVariants as code
-use Rattle.acpi_base.proofs.Clashes as clashes
-use Rattle.acpi_base.proofs.Clashes.{AreFiniteRanges, ranges_of_entries, apart_or_first}
+use Rattle.acpi_base.proofs.Overlaps as clashes
+use Rattle.acpi_base.proofs.Overlaps.{AreFiniteRanges, ranges_of_entries, apart_or_first}
 use Rattle.acpi_base.proofs.Faults.Deciding.{Decided, all3, same, below, at_most}
-use Rattle.acpi_base.proofs.HeldBytes.{cases_Option, field_below}
+use Rattle.acpi_base.proofs.Images.HeldBytes.{cases_Option, field_below}
 use Rattle.acpi_base.proofs.Madt.Faults.{ones, inside}
-use Rattle.acpi_base.proofs.Standings.{said_with}
+use Rattle.acpi_base.proofs.EntryOffsets.{said_with}
 
 -- the first number that an entry serves, and the one behind the last
 first_gsi : MadtEntry → ℕ
@@ -49,12 +49,12 @@ one_first q whole at other point at' other' point' one two = clashes.one_first (
 
 -- a fault excludes that interrupt numbers are apart
 pub excludes : (q : PolicyValue) (c : MadtContents) (fault : Code) (at other point : ℕ) → InterruptFault q c fault at other point → ¬ AreInterruptsApart q c
-excludes q c code.GsiClash at other point clash apart = apart at other point clash
+excludes q c code.GsiClash at other point overlap apart = apart at other point overlap
 excludes q c _ at other point fault apart = fault
 
 -- its code is `GsiClash`
 pub code_is : (q : PolicyValue) (c : MadtContents) (fault : Code) (at other point : ℕ) → InterruptFault q c fault at other point → fault ≡ code.GsiClash
-code_is q c code.GsiClash at other point clash = refl
+code_is q c code.GsiClash at other point overlap = refl
 code_is q c _ at other point fault = absurd fault
 
 -- ---- how far the numbers of a fault reach
@@ -73,9 +73,9 @@ end_fits q policy e small = grind (arith, field_below e small 8 4, inputs_fit q 
 pub fits : (q : PolicyValue) (whole : List ℕ) → ((k : ℕ) → slice_index whole k < 256) → IsPolicy q → (fault : Code) (at other point : ℕ) → InterruptFault q (madt_contents whole) fault at other point
     → (at < length whole) × (other < length whole) × (point < 2 ^ 33)
 unfolding madt_contents
-fits q whole small policy code.GsiClash at other point clash =
-    let (e, stands, holds) = clash.one_holds in
-    let (d, also, _) = clash.other_holds in
+fits q whole small policy code.GsiClash at other point overlap =
+    let (e, stands, holds) = overlap.one_holds in
+    let (d, also, _) = overlap.other_holds in
     let end = said_with madt_entry (λ x. end_of_gsis q x < 2 ^ 33) (end_fits q policy) 44 whole small at e stands in
-    (inside whole at e stands, inside whole other d also, omega (arith, serves q clash.s point e holds))
+    (inside whole at e stands, inside whole other d also, omega (arith, serves q overlap.s point e holds))
 fits q whole small policy _ at other point fault = absurd fault

@@ -6,7 +6,7 @@ use Rattle.acpi_base.specs.Entries.{Stands, entries_of, has_form}
 use Rattle.acpi_base.specs.Pptt.{PpttEntry, Node, Cache, Opaque, resource_count, has_node_form, has_cache_form, pptt_entry, pptt_type, pptt_contents, parent_of, next_level_of, Says, NamesParent, NamesNextLevel, IsResourceAt, most_nodes, most_caches}
 use Rattle.acpi_base.proofs.Chains.{IsNaming, IsNumbered}
 use Rattle.acpi_base.proofs.Faults.Deciding.{Decided, decided_as, differs, is_some}
-use Rattle.acpi_base.proofs.Standings.{AreOnes, said_from, said_inside, one_said, entry_within, entries_apart, stands_with_decided}
+use Rattle.acpi_base.proofs.EntryOffsets.{AreOnes, said_from, said_inside, one_said, entry_within, entries_apart, stands_with_decided}
 
 -- ---- how long entries are
 

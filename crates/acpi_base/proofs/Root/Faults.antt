@@ -10,7 +10,7 @@ use Rattle.acpi_base.specs.Codes.{code_number, stage_of}
 use Rattle.acpi_base.specs.declared.code.Code.{Code}
 use Rattle.acpi_base.specs.declared.code.Code.TheVariants as code
 use Rattle.acpi_base.specs.declared.stage.Stage.TheVariants as stage
-use Rattle.acpi_base.proofs.HeldBytes.{same_value}
+use Rattle.acpi_base.proofs.Images.HeldBytes.{same_value}
 use Rattle.acpi_base.proofs.Faults.Deciding.{Decided, decided_as, both, same, at_most, differs, is_false, is_some_with, not_other, not_false}
 use Rattle.acpi_base.proofs.Faults.Numbers.{same_code}
 use Rattle.acpi_base.proofs.Root.Named.{one_root, root_or_none, no_root_and_root, root_fits}

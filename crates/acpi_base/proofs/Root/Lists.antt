@@ -5,7 +5,7 @@ use Rattle.std.specs.List.{Contains, range_with_len}
 use Rattle.std.proofs.lemmas.Bool.{cases_eq, ne_eqb}
 use Rattle.acpi_base.specs.Number.{field}
 use Rattle.acpi_base.specs.Root.{IsSlotWidth}
-use Rattle.acpi_base.specs.Listed.{listed}
+use Rattle.acpi_base.specs.Listed.{listed_addresses}
 use Rattle.acpi_base.specs.Laws.{RootsListSlots}
 use Rattle.acpi_base.proofs.Elements.{first_or_later}
 
@@ -29,10 +29,10 @@ among f start zero a (k, below, is) = absurd (omega arith)
 among f start (suc n) a here =
     elim (cases_eq (f start) 0) [
       | inl none ↦ among_more f start n a (among f (start + 1) n a (let past : some (f start) ≡ false = rw none refl in rw past at here))
-      | inr listed ↦
-          let kept : some (f start) ≡ true = rw (ne_eqb (f start) 0 listed) refl in
+      | inr listed_addresses ↦
+          let kept : some (f start) ≡ true = rw (ne_eqb (f start) 0 listed_addresses) refl in
           elim (first_or_later (f start) a (filter some (map f (range_with_len (start + 1) n))) (rw kept at here)) [
-            | inl is ↦ record { k = start; least = omega arith; most = omega arith; is = is; listed = λ zero. listed (is ∙ zero) }
+            | inl is ↦ record { k = start; least = omega arith; most = omega arith; is = is; listed = λ zero. listed_addresses (is ∙ zero) }
             | inr rest ↦ among_more f start n a (among f (start + 1) n a rest)
           ]
     ]
@@ -61,7 +61,7 @@ below_count : (whole : List ℕ) (d k : ℕ) → IsSlotWidth d → 36 + d * (k +
 below_count whole d k width fits = grind (arith, width)
 
 pub roots_list_slots : RootsListSlots
-unfolding listed
+unfolding listed_addresses
 roots_list_slots whole d a width = (
   λ here. let found = among (λ k. field whole (36 + d * k) d) 0 ((length whole - 36) / d) a here in let most = found.most in
       (found.k, record { inside = inside whole d found.k width (omega arith); address = found.is; listed = found.listed }),

@@ -6,7 +6,7 @@ use Rattle.acpi_base.specs.Memory.{Memory, IsImage}
 use Rattle.acpi_base.specs.Number.{field}
 use Rattle.acpi_base.specs.Root.{IsSlotWidth, IsRoot, IsRootTable, HasSlot, IsSlot}
 use Rattle.acpi_base.specs.Tables.{length_of}
-use Rattle.acpi_base.proofs.HeldBytes.{held_field_below}
+use Rattle.acpi_base.proofs.Images.HeldBytes.{held_field_below}
 use Rattle.acpi_base.proofs.Root.Named.{of_root, root_width}
 use Rattle.acpi_base.proofs.Tables.Whole.{length-table}
 

@@ -8,7 +8,7 @@ use Rattle.acpi_base.specs.Codes.{stage_of}
 use Rattle.acpi_base.specs.declared.code.Code.{Code}
 use Rattle.acpi_base.specs.declared.code.Code.TheVariants as code
 use Rattle.acpi_base.specs.declared.stage.Stage.TheVariants as stage
-use Rattle.acpi_base.proofs.HeldBytes.{none_and_some, same_value}
+use Rattle.acpi_base.proofs.Images.HeldBytes.{none_and_some, same_value}
 use Rattle.acpi_base.proofs.Faults.Deciding.{Decided, decided_as, both, below, at_most, differs, is_false, is_none, is_some_with, not_below, not_other, not_false, not_none}
 
 -- whether the RSDP is of the extended form, with P of its first 36 bytes

@@ -5,7 +5,7 @@ use Rattle.std.proofs.lemmas.Bool.{cases_lt}
 use Rattle.std.proofs.lemmas.Option.{same_Some}
 use Rattle.acpi_base.specs.Memory.{Memory, IsImage, bytes_at}
 use Rattle.acpi_base.specs.Rsdp.{Addresses, addresses_at, revision_of, short_addresses, extended_addresses, IsSoundRsdp}
-use Rattle.acpi_base.proofs.HeldBytes.{cases_Option, held_field_below}
+use Rattle.acpi_base.proofs.Images.HeldBytes.{cases_Option, held_field_below}
 
 -- an RSDP is read in the short form or in the extended one
 pub how_read : (m : Memory) (p : ℕ) (named : Addresses) → addresses_at m p ≡ Some named

@@ -2,17 +2,17 @@
 -- that do.
 use Rattle.std.proofs.Common.{◌≡◌, ◌⊎◌, ℕ, ◌+◌, ◌^◌, ◌<◌, ◌≤◌, List, length, refl, inl, inr, arith}
 use Rattle.std.proofs.lemmas.Bool.{cases_lt}
-use Rattle.acpi_base.specs.Clashes.{IsClash, AreApart, IsFirstClash}
+use Rattle.acpi_base.specs.Overlaps.{IsIntervalOverlap, AreApart, IsFirstIntervalOverlap}
 use Rattle.acpi_base.specs.Entries.{Stands}
 use Rattle.acpi_base.specs.Srat.{SratEntry, MemoryRange, MemoryValue, SratContents, srat_entry, srat_contents, is_enabled, is_hot_pluggable, IsAny, IsHotPluggable, IsNotHotPluggable, CoversFrom, Covers, IsSoundSrat, IsSoundSratEntry, IsOverlap, AreRangesApart, RangeFault, IsFirstOverlap}
 use Rattle.acpi_base.specs.declared.policy.HotPlug.{HotPlug}
 use Rattle.acpi_base.specs.declared.policy.HotPlug.TheVariants.{Counted, Apart}
 use Rattle.acpi_base.specs.declared.code.Code.{Code}
 use Rattle.acpi_base.specs.declared.code.Code.TheVariants as code
-use Rattle.acpi_base.proofs.Clashes as clashes
-use Rattle.acpi_base.proofs.Clashes.{AreFiniteRanges, ranges_of_entries, apart_or_first}
+use Rattle.acpi_base.proofs.Overlaps as clashes
+use Rattle.acpi_base.proofs.Overlaps.{AreFiniteRanges, ranges_of_entries, apart_or_first}
 use Rattle.acpi_base.proofs.Faults.Deciding.{Decided, all5, same, below, at_most, is_true, is_false}
-use Rattle.acpi_base.proofs.Standings.{AreOnes, one_said, said_inside}
+use Rattle.acpi_base.proofs.EntryOffsets.{AreOnes, one_said, said_inside}
 
 -- ---- ranges of one kind
 
@@ -61,10 +61,10 @@ covered_below P s x (MemoryRange v) sound h = omega (arith, sound h.0, h.2, h.4)
 covered_below P s x _ sound h = absurd h
 
 -- and so is one that two ranges cover
-clash_below : (P : MemoryValue → Type 0) (c : SratContents) → IsSoundSrat c → (at other point : ℕ) → IsClash (Covers P c) at other point → point < 2 ^ 64
-clash_below P c sound at other point clash =
-    let (e, stands, h) = clash.one_holds in
-    covered_below P clash.s point e (sound.entries at e stands) h
+clash_below : (P : MemoryValue → Type 0) (c : SratContents) → IsSoundSrat c → (at other point : ℕ) → IsIntervalOverlap (Covers P c) at other point → point < 2 ^ 64
+clash_below P c sound at other point overlap =
+    let (e, stands, h) = overlap.one_holds in
+    covered_below P overlap.s point e (sound.entries at e stands) h
 
 -- an entry begins within the table
 inside : (whole : List ℕ) (o : ℕ) (e : SratEntry) → Stands (srat_contents whole).entries o e → o < length whole
@@ -79,18 +79,18 @@ FirstOverlap h c = (at other point : ℕ) × IsFirstOverlap h c at other point
 
 -- the first clash of the ranges of one kind
 abbrev FirstOf : (MemoryValue → Type 0) → SratContents → Type 0
-FirstOf P c = (at other point : ℕ) × IsFirstClash (Covers P c) at other point
+FirstOf P c = (at other point : ℕ) × IsFirstIntervalOverlap (Covers P c) at other point
 
 -- of the first clashes of the two kinds one is reported
 joined : (c : SratContents) → AreApart (Covers IsNotHotPluggable c) ⊎ FirstOf IsNotHotPluggable c → AreApart (Covers IsHotPluggable c) ⊎ FirstOf IsHotPluggable c
     → AreRangesApart Apart c ⊎ FirstOverlap Apart c
-joined c (inl none) (inl neither) = inl (λ o p x overlap. elim overlap [ inl clash ↦ none o p x clash | inr clash ↦ neither o p x clash ])
-joined c (inr (at, other, point, first)) (inl none) = inr (at, other, point, inl (first, λ o p x clash. absurd (none o p x clash)))
-joined c (inl none) (inr (at, other, point, first)) = inr (at, other, point, inr (first, λ o p x clash. absurd (none o p x clash)))
+joined c (inl none) (inl neither) = inl (λ o p x overlap. elim overlap [ inl overlap ↦ none o p x overlap | inr overlap ↦ neither o p x overlap ])
+joined c (inr (at, other, point, first)) (inl none) = inr (at, other, point, inl (first, λ o p x overlap. absurd (none o p x overlap)))
+joined c (inl none) (inr (at, other, point, first)) = inr (at, other, point, inr (first, λ o p x overlap. absurd (none o p x overlap)))
 joined c (inr (at, other, point, first)) (inr (at', other', point', first')) =
     elim (cases_lt point' point) [
-      | inl less ↦ inr (at', other', point', inr (first', λ o p x clash. omega (arith, first.least o p x clash)))
-      | inr most ↦ inr (at, other, point, inl (first, λ o p x clash. omega (arith, first'.least o p x clash)))
+      | inl less ↦ inr (at', other', point', inr (first', λ o p x overlap. omega (arith, first.least o p x overlap)))
+      | inr most ↦ inr (at, other, point, inl (first, λ o p x overlap. omega (arith, first'.least o p x overlap)))
     ]
 
 -- ranges are apart as they must be, or there is an overlap that is reported
@@ -100,21 +100,21 @@ apart_or_overlap Apart whole = joined (srat_contents whole) (apart_or_first (oth
 
 -- what is reported is an overlap
 is_overlap : (h : HotPlug) (c : SratContents) (at other point : ℕ) → IsFirstOverlap h c at other point → IsOverlap h c at other point
-is_overlap Counted c at other point first = first.clash
-is_overlap Apart c at other point (inl (first, _)) = inl first.clash
-is_overlap Apart c at other point (inr (first, _)) = inr first.clash
+is_overlap Counted c at other point first = first.overlap
+is_overlap Apart c at other point (inl (first, _)) = inl first.overlap
+is_overlap Apart c at other point (inr (first, _)) = inr first.overlap
 
 -- an overlap is a clash of ranges of some kind
-of_kind : {Q : Type 0} (h : HotPlug) (c : SratContents) (at other point : ℕ) → IsOverlap h c at other point → ((P : MemoryValue → Type 0) → IsClash (Covers P c) at other point → Q) → Q
-of_kind Counted c at other point clash from = from IsAny clash
-of_kind Apart c at other point (inl clash) from = from IsNotHotPluggable clash
-of_kind Apart c at other point (inr clash) from = from IsHotPluggable clash
+of_kind : {Q : Type 0} (h : HotPlug) (c : SratContents) (at other point : ℕ) → IsOverlap h c at other point → ((P : MemoryValue → Type 0) → IsIntervalOverlap (Covers P c) at other point → Q) → Q
+of_kind Counted c at other point overlap from = from IsAny overlap
+of_kind Apart c at other point (inl overlap) from = from IsNotHotPluggable overlap
+of_kind Apart c at other point (inr overlap) from = from IsHotPluggable overlap
 
 -- the overlap that is reported of a sound SRAT is a fault
 pub is_fault : (h : HotPlug) (c : SratContents) → IsSoundSrat c → (at other point : ℕ) → IsFirstOverlap h c at other point → RangeFault h c code.Overlap at other point
 is_fault h c sound at other point first =
     let overlap = is_overlap h c at other point first in
-    (of_kind h c at other point overlap (λ P clash. clash_below P c sound at other point clash), overlap)
+    (of_kind h c at other point overlap (λ P overlap. clash_below P c sound at other point overlap), overlap)
 
 -- no address of a sound SRAT is covered by two ranges that must be apart, or there is a fault that is reported
 pub settled : (h : HotPlug) (whole : List ℕ) → IsSoundSrat (srat_contents whole)
@@ -131,8 +131,8 @@ pub one_first : (h : HotPlug) (whole : List ℕ) (at other point at' other' poin
 one_first Counted whole at other point at' other' point' one two = clashes.one_first (all_ranges whole) one two
 one_first Apart whole at other point at' other' point' (inl one) (inl two) = clashes.one_first (other_ranges whole) one.0 two.0
 one_first Apart whole at other point at' other' point' (inr one) (inr two) = clashes.one_first (hot_ranges whole) one.0 two.0
-one_first Apart whole at other point at' other' point' (inl one) (inr two) = absurd (omega (arith, one.1 at' other' point' two.0.clash, two.1 at other point one.0.clash))
-one_first Apart whole at other point at' other' point' (inr one) (inl two) = absurd (omega (arith, one.1 at' other' point' two.0.clash, two.1 at other point one.0.clash))
+one_first Apart whole at other point at' other' point' (inl one) (inr two) = absurd (omega (arith, one.1 at' other' point' two.0.overlap, two.1 at other point one.0.overlap))
+one_first Apart whole at other point at' other' point' (inr one) (inl two) = absurd (omega (arith, one.1 at' other' point' two.0.overlap, two.1 at other point one.0.overlap))
 
 -- a fault excludes that ranges are apart
 pub excludes : (h : HotPlug) (c : SratContents) (fault : Code) (at other point : ℕ) → RangeFault h c fault at other point → ¬ AreRangesApart h c
@@ -148,5 +148,5 @@ code_is h c _ at other point fault = absurd fault
 pub fits : (h : HotPlug) (whole : List ℕ) (fault : Code) (at other point : ℕ) → RangeFault h (srat_contents whole) fault at other point
     → (at < length whole) × (other < length whole) × (point < 2 ^ 64)
 fits h whole code.Overlap at other point (below, overlap) =
-    of_kind h (srat_contents whole) at other point overlap (λ P clash. (inside whole at clash.one_holds.0 clash.one_holds.1, inside whole other clash.other_holds.0 clash.other_holds.1, below))
+    of_kind h (srat_contents whole) at other point overlap (λ P overlap. (inside whole at overlap.one_holds.0 overlap.one_holds.1, inside whole other overlap.other_holds.0 overlap.other_holds.1, below))
 fits h whole _ at other point fault = absurd fault

@@ -7,7 +7,7 @@ use Rattle.acpi_base.specs.Codes.{stage_of}
 use Rattle.acpi_base.specs.declared.code.Code.{Code}
 use Rattle.acpi_base.specs.declared.code.Code.TheVariants as code
 use Rattle.acpi_base.specs.declared.stage.Stage.TheVariants as stage
-use Rattle.acpi_base.proofs.HeldBytes.{none_and_some, same_value}
+use Rattle.acpi_base.proofs.Images.HeldBytes.{none_and_some, same_value}
 use Rattle.acpi_base.proofs.Faults.Deciding.{Decided, decided_as, both, below, at_most, differs, is_none, is_some_with, not_below, not_other, not_none}
 
 -- whether a whole table stands at a, with P of its bytes

@@ -1,5 +1,5 @@
 -- A table is of one kind.
-use Rattle.std.proofs.Common.{◌≡◌, ℕ, List, length, take, true, false, cond, refl, sym, ap, ◌∙◌, ◌⊎◌, inl, inr, arith, Option, Some, None}
+use Rattle.std.proofs.Common.{◌≡◌, ℕ, List, length, take, true, cond, refl, sym, ap, ◌∙◌}
 use Rattle.std.specs.Prelude.{nat_eq}
 use Rattle.std.specs.Cmp.Lexicographic.{same_text}
 use Rattle.std.specs.List.{starts_with}

@@ -7,8 +7,8 @@ use Rattle.std.proofs.lemmas.List.{take-take, take_all}
 use Rattle.acpi_base.specs.Memory.{Memory, byte_of}
 use Rattle.acpi_base.specs.Signature.{has_signature}
 use Rattle.acpi_base.specs.Tables.{IsTable, length_of}
-use Rattle.acpi_base.proofs.HeldBytes.{same_value, length-bytes_at}
-use Rattle.acpi_base.proofs.Runs.{run_of-take}
+use Rattle.acpi_base.proofs.Images.HeldBytes.{same_value, length-bytes_at}
+use Rattle.acpi_base.proofs.Images.ByteRuns.{run_of-take}
 
 -- one table stands at an address
 pub one_table : (m : Memory) (a : ℕ) (header whole header' whole' : List ℕ) → IsTable m a header whole → IsTable m a header' whole' → whole ≡ whole'

@@ -2,13 +2,13 @@
 use Rattle.std.proofs.Common.{◌≡◌, ℕ, ◌+◌, List, [], ◌∷◌, ◌++◌, length, refl, sym, ap, ◌∙◌, arith, eqb, if◌then◌else◌, length-append}
 use Rattle.std.proofs.lemmas.Bool.Decides.{nat_tests}
 use Rattle.std.specs.Prelude.{Result, Ok, Err}
-use Rattle.acpi_base.specs.ImageText.{Line, Reading, on_ok, is_too_long, take_line, read_line, read_lines, ended_from, last_from, start, read_text, read_prefix, IsRefused, IsRefusedPrefix}
-use Rattle.acpi_base.specs.TextMachine.{Standing, Going, Stopped, beginning, step, run, end_text, standing_of}
+use Rattle.acpi_base.specs.Text.ImageText.{Line, Reading, on_ok, is_too_long, take_line, read_line, read_lines, ended_lines_from, last_line_from, start, read_text, read_prefix, IsRefused, IsRefusedPrefix}
+use Rattle.acpi_base.specs.Text.TextMachine.{ReaderState, Going, Stopped, initial_state, step, run, text_result, prefix_result}
 use Rattle.acpi_base.specs.declared.text.TextFault.{TextFault}
 use Rattle.acpi_base.specs.declared.text.TextFault.TheVariants as text
 
 -- a text may come in pieces
-pub run_append : (s : Standing) (xs ys : List ℕ) → run s (xs ++ ys) ≡ run (run s xs) ys
+pub run_append : (s : ReaderState) (xs ys : List ℕ) → run s (xs ++ ys) ≡ run (run s xs) ys
 unfolding run
 run_append s [] ys = refl
 run_append s (b ∷ xs) ys = run_append (step s b) xs ys
@@ -24,7 +24,7 @@ pub take_line_keeps : (r : Reading) (n : ℕ) (said : Line) (s : Reading) → ta
 take_line_keeps r n said s e = grind (arith)
 
 -- where reading stands within a line, of which these bytes have come
-abbrev pub after : Result Reading TextFault → List ℕ → Standing
+abbrev pub after : Result Reading TextFault → List ℕ → ReaderState
 after (Ok r) line = if is_too_long (length line) (r.through + length line) then Stopped text.TooLong else Going r line
 after (Err fault) line = Stopped fault
 
@@ -36,37 +36,37 @@ step_after r line b = grind (arith, nat_tests, length-append, take_line_keeps)
 
 -- the machine stands where reading by lines does
 pub run_after : (x : Result Reading TextFault) (line bytes : List ℕ)
-    → run (after x line) bytes ≡ after (on_ok x (λ r. read_lines r (ended_from line bytes))) (last_from line bytes)
-unfolding run read_lines ended_from last_from
+    → run (after x line) bytes ≡ after (on_ok x (λ r. read_lines r (ended_lines_from line bytes))) (last_line_from line bytes)
+unfolding run read_lines ended_lines_from last_line_from
 run_after (Err fault) line bytes = run_stopped fault bytes
 run_after (Ok r) line [] = refl
 run_after (Ok r) line (b ∷ rest) = grind (arith, step_after, run_after (read_line r line 1) [] rest, run_after (Ok r) (line ++ b ∷ []) rest)
 
 -- a whole text
-pub run_reads_text : (bytes : List ℕ) → end_text (run beginning bytes) ≡ read_text bytes
+pub run_reads_text : (bytes : List ℕ) → text_result (run initial_state bytes) ≡ read_text bytes
 unfolding read_line
 run_reads_text bytes = grind (arith, nat_tests, run_after (Ok start) [] bytes)
 
 -- a prefix of a text
-pub run_reads_prefix : (bytes : List ℕ) → standing_of (run beginning bytes) ≡ read_prefix bytes
+pub run_reads_prefix : (bytes : List ℕ) → prefix_result (run initial_state bytes) ≡ read_prefix bytes
 run_reads_prefix bytes = grind (arith, run_after (Ok start) [] bytes)
 
 -- only the stopped machine stands for a fault
-stands_stopped : (s : Standing) (fault : TextFault) → standing_of s ≡ Err fault → s ≡ Stopped fault
+stands_stopped : (s : ReaderState) (fault : TextFault) → prefix_result s ≡ Err fault → s ≡ Stopped fault
 stands_stopped s fault e = grind (arith)
 
 -- a prefix at which the machine has stopped is refused with the same fault
-pub refused_where_stopped : (bytes : List ℕ) (fault : TextFault) → run beginning bytes ≡ Stopped fault → IsRefusedPrefix bytes fault
-refused_where_stopped bytes fault stops = sym (run_reads_prefix bytes) ∙ ap standing_of stops
+pub refused_where_stopped : (bytes : List ℕ) (fault : TextFault) → run initial_state bytes ≡ Stopped fault → IsRefusedPrefix bytes fault
+refused_where_stopped bytes fault stops = sym (run_reads_prefix bytes) ∙ ap prefix_result stops
 
 -- the machine has stopped at a prefix that is refused
-pub stopped_where_refused : (bytes : List ℕ) (fault : TextFault) → IsRefusedPrefix bytes fault → run beginning bytes ≡ Stopped fault
-stopped_where_refused bytes fault refused = stands_stopped (run beginning bytes) fault (run_reads_prefix bytes ∙ refused)
+pub stopped_where_refused : (bytes : List ℕ) (fault : TextFault) → IsRefusedPrefix bytes fault → run initial_state bytes ≡ Stopped fault
+stopped_where_refused bytes fault refused = stands_stopped (run initial_state bytes) fault (run_reads_prefix bytes ∙ refused)
 
 -- a fault in a prefix of a text is the whole text's
 pub prefix_is_decided : (bytes more : List ℕ) (fault : TextFault) → IsRefusedPrefix bytes fault → IsRefused (bytes ++ more) fault
 prefix_is_decided bytes more fault refused =
-    sym (run_reads_text (bytes ++ more)) ∙ (rw (run_append beginning bytes more, stopped_where_refused bytes fault refused, run_stopped) refl)
+    sym (run_reads_text (bytes ++ more)) ∙ (rw (run_append initial_state bytes more, stopped_where_refused bytes fault refused, run_stopped) refl)
 
 -- what the law `machine_reads_lines` says
 pub ruleset machine_laws = (run_reads_text, run_reads_prefix, refused_where_stopped, stopped_where_refused, run_append)

@@ -6,11 +6,11 @@ use Rattle.std.specs.Prelude.{Option, None, Some, IsSome, nat_lt, ◌↔◌}
 use Rattle.std.specs.List.{slice_get}
 use Rattle.std.specs.FinMap.{insert}
 use Rattle.acpi_base.specs.Memory.{Memory, byte_of, first_held, with_bytes}
-use Rattle.acpi_base.specs.Adding.{add_refusal}
-use Rattle.acpi_base.proofs.Pieces.Images.{same_memory, fits_unless}
-use Rattle.acpi_base.proofs.Pieces.Searches.{nothing_held}
-use Rattle.acpi_base.proofs.Runs.{first_of_none}
-use Rattle.acpi_base.proofs.Pieces.RunBytes.{byte_of-insert, byte_of-with_bytes, byte_of-with_bytes_outside}
+use Rattle.acpi_base.specs.Image.Adding.{add_refusal}
+use Rattle.acpi_base.proofs.Images.RunMemory.{same_memory, fits_unless}
+use Rattle.acpi_base.proofs.Images.Searches.{nothing_held}
+use Rattle.acpi_base.proofs.Images.ByteRuns.{first_of_none}
+use Rattle.acpi_base.proofs.Images.RunBytes.{byte_of-insert, byte_of-with_bytes, byte_of-with_bytes_outside}
 use Rattle.acpi_base.proofs.Texts.DataPlaces.{first_then, first_here}
 
 -- ---- what bytes that stand somewhere make of an image

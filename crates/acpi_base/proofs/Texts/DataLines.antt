@@ -7,7 +7,7 @@ use Rattle.std.proofs.lemmas.Bool.{ne_eqb}
 use Rattle.std.proofs.lemmas.Bool.Decides.{nat_tests}
 use Rattle.std.proofs.lemmas.List.Sums.{position_or_len_is}
 use Rattle.std.proofs.lemmas.List.{drop_more, drop_all, take_all}
-use Rattle.acpi_base.specs.ImageText.{Data, Bad, digit_of, is_blank, skip_blanks, without_cr, without_comment, form_of, line_of, data_from}
+use Rattle.acpi_base.specs.Text.ImageText.{Data, Bad, digit_of, is_blank, skip_blanks, without_cr, without_comment, form_of, line_of, data_from}
 
 -- ---- pairs of digits
 

@@ -4,8 +4,8 @@ use Rattle.std.proofs.lemmas.Bool.{cases_lt, lt-ltb, le-ltb}
 use Rattle.std.specs.Prelude.{Option, None, Some, nat_lt, ◌↔◌}
 use Rattle.std.specs.Option.{option_map}
 use Rattle.std.specs.List.{Contains}
-use Rattle.acpi_base.specs.ImageText.{Line, Blank, Address, Data, Bad}
-use Rattle.acpi_base.specs.TextMeaning.{data_of, all_data, StandsAt}
+use Rattle.acpi_base.specs.Text.ImageText.{Line, Blank, Address, Data, Bad}
+use Rattle.acpi_base.specs.Text.TextMeaning.{data_of, all_data, IsDataByteAt}
 
 -- the first bytes stand from an address on, and the rest as `later` says
 abbrev pub first_then : Option ℕ → ℕ → (ℕ → Option ℕ) → ℕ → Option ℕ
@@ -53,7 +53,7 @@ place_inside address (Data bytes ∷ block) back k none h =
     grind (arith, cases_lt k (length bytes), length-append, first_here, first_later (Some address) (length bytes) (place_of (Some (address + length bytes)) (block ++ back)) (k - length bytes), rest)
 place_inside address (line ∷ block) back k none h = place_inside address block back k (no_address_rest line block none) h
 
-place_from_stands : (lines : List Line) (n a : ℕ) → StandsAt lines n a → place_of None lines n ≡ Some a
+place_from_stands : (lines : List Line) (n a : ℕ) → IsDataByteAt lines n a → place_of None lines n ≡ Some a
 place_from_stands lines n a s = grind (arith, place_behind, place_inside)
 
 -- ---- and back
@@ -69,21 +69,21 @@ block_more line block here rest other (zero, h, e) = here other e
 block_more line block here rest other (suc k, h, e) = rest other (k, omega arith, e)
 
 stands_at : (lines before block after : List Line) (n a address k : ℕ) → lines ≡ before ++ Address address ∷ (block ++ after) → NoAddress block → k < length (all_data block)
-    → n ≡ length (all_data before) + k → a ≡ address + k → StandsAt lines n a
+    → n ≡ length (all_data before) + k → a ≡ address + k → IsDataByteAt lines n a
 stands_at lines before block after n a address k split none within byte place = grind (arith)
 
 -- one more line before all others
-line_before : (line : Line) (lines : List Line) (n k a : ℕ) → n ≡ length (data_of line) + k → StandsAt lines k a → StandsAt (line ∷ lines) n a
+line_before : (line : Line) (lines : List Line) (n k a : ℕ) → n ≡ length (data_of line) + k → IsDataByteAt lines k a → IsDataByteAt (line ∷ lines) n a
 line_before line lines n k a q s =
     let byte : n ≡ length (all_data (line ∷ s.before)) + s.k = grind (arith, length-append (data_of line) (all_data s.before), s.byte) in
     stands_at _ (line ∷ s.before) s.block s.after n a s.address s.k (ap (λ x. line ∷ x) s.split) s.no_other s.within byte s.place
 
 -- one more line right behind the address that is said first
 line_behind : (line : Line) (address later : ℕ) (lines : List Line) (n k a : ℕ) → ((other : ℕ) → line ≡ Address other → ⊥) → n ≡ length (data_of line) + k → later ≡ address + length (data_of line)
-    → StandsAt (Address later ∷ lines) k a → StandsAt (Address address ∷ line ∷ lines) n a
+    → IsDataByteAt (Address later ∷ lines) k a → IsDataByteAt (Address address ∷ line ∷ lines) n a
 line_behind line address later lines n k a other q at s = by_before s.before s.split s.byte
   where
-    by_before : (before : List Line) → Address later ∷ lines ≡ before ++ Address s.address ∷ (s.block ++ s.after) → k ≡ length (all_data before) + s.k → StandsAt (Address address ∷ line ∷ lines) n a
+    by_before : (before : List Line) → Address later ∷ lines ≡ before ++ Address s.address ∷ (s.block ++ s.after) → k ≡ length (all_data before) + s.k → IsDataByteAt (Address address ∷ line ∷ lines) n a
     by_before [] split byte =
         let same : lines ≡ s.block ++ s.after = cc in
         let start : later ≡ s.address = cc in
@@ -97,7 +97,7 @@ line_behind line address later lines n k a other q at s = by_before s.before s.s
         stands_at _ (Address address ∷ line ∷ before) s.block s.after n a s.address s.k (ap (λ x. Address address ∷ line ∷ x) same) s.no_other s.within more s.place
 
 stands_more : (line : Line) (next : Option ℕ) (lines : List Line) (n k a : ℕ) → ((other : ℕ) → line ≡ Address other → ⊥) → n ≡ length (data_of line) + k
-    → StandsAt (said_next (option_map (λ x. x + length (data_of line)) next) lines) k a → StandsAt (said_next next (line ∷ lines)) n a
+    → IsDataByteAt (said_next (option_map (λ x. x + length (data_of line)) next) lines) k a → IsDataByteAt (said_next next (line ∷ lines)) n a
 stands_more line None lines n k a other q s = line_before line lines n k a q s
 stands_more line (Some address) lines n k a other q s = line_behind line address (address + length (data_of line)) lines n k a other q refl s
 
@@ -105,16 +105,16 @@ no_step : (next : Option ℕ) → next ≡ option_map (λ x. x + 0) next
 no_step None = refl
 no_step (Some a) = ap Some (omega arith)
 
-first_stands : (bytes : List ℕ) (next : Option ℕ) (rest : List Line) (n a : ℕ) → n < length bytes → option_map (λ x. x + n) next ≡ Some a → StandsAt (said_next next (Data bytes ∷ rest)) n a
+first_stands : (bytes : List ℕ) (next : Option ℕ) (rest : List Line) (n a : ℕ) → n < length bytes → option_map (λ x. x + n) next ≡ Some a → IsDataByteAt (said_next next (Data bytes ∷ rest)) n a
 first_stands bytes None rest n a within e = absurd (cc)
 first_stands bytes (Some address) rest n a within e =
     let same : address + n ≡ a = cc in
     let inside : n < length (all_data (Data bytes ∷ [])) = omega (arith, length-append bytes []) in
     stands_at _ [] (Data bytes ∷ []) rest n a address n refl (block_more (Data bytes) [] (λ other f. cc) (λ other c. absurd (omega (arith, c.1)))) inside (omega arith) (sym same)
 
-stands_from_place : (next : Option ℕ) (lines : List Line) (n a : ℕ) → place_of next lines n ≡ Some a → StandsAt (said_next next lines) n a
+stands_from_place : (next : Option ℕ) (lines : List Line) (n a : ℕ) → place_of next lines n ≡ Some a → IsDataByteAt (said_next next lines) n a
 stands_from_place next [] n a e = absurd (cc)
-stands_from_place next (Blank ∷ rest) n a e = stands_more Blank next rest n n a (λ other f. cc) (omega arith) (subst (λ x. StandsAt (said_next x rest) n a) (no_step next) (stands_from_place next rest n a e))
+stands_from_place next (Blank ∷ rest) n a e = stands_more Blank next rest n n a (λ other f. cc) (omega arith) (subst (λ x. IsDataByteAt (said_next x rest) n a) (no_step next) (stands_from_place next rest n a e))
 stands_from_place None (Address address ∷ rest) n a e = stands_from_place (Some address) rest n a e
 stands_from_place (Some other) (Address address ∷ rest) n a e = line_before (Address other) (Address address ∷ rest) n n a (omega arith) (stands_from_place (Some address) rest n a e)
 stands_from_place next (Data bytes ∷ rest) n a e =
@@ -123,7 +123,7 @@ stands_from_place next (Data bytes ∷ rest) n a e =
       | inl h ↦ first_stands bytes next rest n a h.0 h.1
       | inr h ↦ stands_more (Data bytes) next rest n h.0 a (λ other f. cc) h.1 (stands_from_place later rest h.0 a h.2)
     ]
-stands_from_place next (Bad ∷ rest) n a e = stands_more Bad next rest n n a (λ other f. cc) (omega arith) (subst (λ x. StandsAt (said_next x rest) n a) (no_step next) (stands_from_place next rest n a e))
+stands_from_place next (Bad ∷ rest) n a e = stands_more Bad next rest n n a (λ other f. cc) (omega arith) (subst (λ x. IsDataByteAt (said_next x rest) n a) (no_step next) (stands_from_place next rest n a e))
 
-pub stands_is_place : (lines : List Line) (n a : ℕ) → StandsAt lines n a ↔ (place_of None lines n ≡ Some a)
+pub stands_is_place : (lines : List Line) (n a : ℕ) → IsDataByteAt lines n a ↔ (place_of None lines n ≡ Some a)
 stands_is_place lines n a = (place_from_stands lines n a, stands_from_place None lines n a)

@@ -3,7 +3,7 @@ use Rattle.std.proofs.Common.{◌≡◌, ℕ, zero, suc, ◌+◌, ◌<◌, ◌�
 use Rattle.std.specs.Prelude.{◌==◌, nat_lt}
 use Rattle.std.proofs.lemmas.Bool.{and_parts}
 use Rattle.std.proofs.lemmas.Bool.Decides.{nat_tests}
-use Rattle.acpi_base.specs.ImageText.{digit_of}
+use Rattle.acpi_base.specs.Text.ImageText.{digit_of}
 
 -- an entry says a digit's value, or 255 for no digit
 says : ℕ → Option ℕ → Bool

@@ -8,11 +8,11 @@ use Rattle.std.specs.List.{All, AllByRecursion, Contains, slice_get}
 use Rattle.std.specs.FinMap.{empty, get-empty}
 use Rattle.std.specs.Ordering.{nat_cmp}
 use Rattle.acpi_base.specs.Memory.{Memory, byte_of, with_bytes}
-use Rattle.acpi_base.specs.Adding.{add_refusal}
-use Rattle.acpi_base.specs.ImageText.{Line, Blank, Address, Data, Bad, Reading, start, on_ok, max_line, max_text, is_too_long, data_fault, put_data, take_line, line_of, read_line, read_lines, ended_from, last_from, ended_lines, last_line, read_text, IsText, IsRefused}
+use Rattle.acpi_base.specs.Image.Adding.{add_refusal}
+use Rattle.acpi_base.specs.Text.ImageText.{Line, Blank, Address, Data, Bad, Reading, start, on_ok, max_line, max_text, is_too_long, data_fault, put_data, take_line, line_of, read_line, read_lines, ended_lines_from, last_line_from, ended_lines, last_line, read_text, IsText, IsRefused}
 use Rattle.acpi_base.specs.declared.text.TextFault.{TextFault}
-use Rattle.acpi_base.specs.TextMeaning.{text_lines, said, all_data, IsGoodText}
-use Rattle.acpi_base.proofs.Pieces.Images.{same_memory}
+use Rattle.acpi_base.specs.Text.TextMeaning.{text_lines, parsed_lines, all_data, IsGoodText}
+use Rattle.acpi_base.proofs.Images.RunMemory.{same_memory}
 use Rattle.acpi_base.proofs.Texts.LineParsing.{data_some}
 use Rattle.acpi_base.proofs.Texts.ByteMachine.{take_line_keeps}
 use Rattle.acpi_base.proofs.Texts.DataPlaces.{place_of, first_here, stands_is_place}
@@ -153,15 +153,15 @@ rest_from r (line ∷ ended) last f short fits g =
     (more.0, rw one.1 more.1, more.2)
 
 -- the lines are as long as the text
-total_length : (line bytes : List ℕ) → total (ended_from line bytes) + length (last_from line bytes) ≡ length line + length bytes
-unfolding ended_from last_from
+total_length : (line bytes : List ℕ) → total (ended_lines_from line bytes) + length (last_line_from line bytes) ≡ length line + length bytes
+unfolding ended_lines_from last_line_from
 total_length line [] = omega arith
 total_length line (b ∷ rest) = grind (arith, length-append, total_length [] rest, total_length (line ++ b ∷ []) rest)
 
-sound_line : (line : List ℕ) (said : Line) → line_of line ≡ said → said ≢ Bad → IsSound said
+sound_line : (line : List ℕ) (parsed : Line) → line_of line ≡ parsed → parsed ≢ Bad → IsSound parsed
 sound_line line (Data bytes) e good = data_some line bytes e
 sound_line line Bad e good = good refl
-sound_line line said e good = tt
+sound_line line parsed e good = tt
 
 sound_lines : (lines : List (List ℕ)) → ¬ Contains (map line_of lines) Bad → AllByRecursion IsSound (map line_of lines)
 sound_lines [] good = tt
@@ -183,10 +183,10 @@ nothing = empty {R = nat_cmp}
 
 pub text_is_good : (bytes : List ℕ) (m : Memory) → IsText bytes m → IsGoodText bytes m
 text_is_good bytes m (r, e, same) =
-    let lines = said bytes in
+    let lines = parsed_lines bytes in
     let parts = rest_parts start (ended_lines bytes) (last_line bytes) r e in
-    let goes : Goes None nothing (said bytes) m = subst (λ (x : Memory). Goes None nothing (said bytes) x) same parts.2 in
-    let made = goes_makes None nothing (said bytes) m goes in
+    let goes : Goes None nothing (parsed_lines bytes) m = subst (λ (x : Memory). Goes None nothing (parsed_lines bytes) x) same parts.2 in
+    let made = goes_makes None nothing (parsed_lines bytes) m goes in
     record {
       text_fits = (let fits = parts.1 in omega (arith, total_length [] bytes));
       lines_fit = parts.0;
@@ -202,8 +202,8 @@ text_is_good bytes m (r, e, same) =
 
 pub good_is_text : (bytes : List ℕ) (m : Memory) → IsGoodText bytes m → IsText bytes m
 good_is_text bytes m good =
-    let lines = said bytes in
-    let made : LinesMake None (said bytes) nothing m = record {
+    let lines = parsed_lines bytes in
+    let made : LinesMake None (parsed_lines bytes) nothing m = record {
       stands = λ n h. (let at = good.stands n h in ap is_some ((stands_is_place lines n at.0).0 at.1));
       below = λ n a p. good.below n a ((stands_is_place lines n a).1 p);
       once = λ n k a p q. good.once n k a ((stands_is_place lines n a).1 p) ((stands_is_place lines k a).1 q);

@@ -5,14 +5,14 @@ use Rattle.std.specs.Io.KnownBytes.{Consumes, IsAtEnd, Keeps}
 use Rattle.std.proofs.KnownBytes.{Consumes-trans, Consumes-kept}
 use Rattle.std.proofs.lemmas.Bool.Decides.{nat_tests}
 use Rattle.acpi_base.specs.Memory.{Memory}
-use Rattle.acpi_base.specs.ImageText.{Reading, on_ok, read_lines, ended_from, last_from, start, max_text, is_too_long, IsText, IsRefused, IsRefusedPrefix}
-use Rattle.acpi_base.specs.TextMachine.{Standing, Going, Stopped, EndsAs, IsGoing, beginning, run, end_text, standing_of}
-use Rattle.acpi_base.specs.TextReading.{IsRefusal, CountsRead}
-use Rattle.acpi_base.specs.Feeding.{HasBrought}
+use Rattle.acpi_base.specs.Text.ImageText.{Reading, on_ok, read_lines, ended_lines_from, last_line_from, start, max_text, is_too_long, IsText, IsRefused, IsRefusedPrefix}
+use Rattle.acpi_base.specs.Text.TextMachine.{ReaderState, Going, Stopped, EndsAs, IsGoing, initial_state, run, text_result, prefix_result}
+use Rattle.acpi_base.specs.Text.TextReading.{IsRefusal, CountsRead}
+use Rattle.acpi_base.specs.Text.LineBuffers.{HasRead}
 use Rattle.acpi_base.specs.declared.text.TextFault.{TextFault}
 use Rattle.acpi_base.specs.declared.text.TextFault.TheVariants as text
 use Rattle.acpi_base.proofs.Texts.ByteMachine.{after, run_after, run_append, run_reads_text, run_reads_prefix, refused_where_stopped, prefix_is_decided}
-use Rattle.acpi_base.proofs.Texts.Feeding.{run_counts}
+use Rattle.acpi_base.proofs.Texts.LineBuffers.{run_counts}
 use Rattle.acpi_base.proofs.Texts.OwnFaults.{refusals_are_own}
 
 -- ---- a text that is refused
@@ -56,18 +56,18 @@ text_refused bytes left text.Memory end e = tt
 -- ---- what the reader has brought
 
 -- nothing at first
-pub nothing_brought : (left : Option (List ℕ)) (standing : Standing) → standing ≡ beginning → Consumes left left [] → HasBrought left left standing 0
+pub nothing_brought : (left : Option (List ℕ)) (standing : ReaderState) → standing ≡ initial_state → Consumes left left [] → HasRead left left standing 0
 unfolding run
 nothing_brought left standing is none = record { text = []; consumed = none; long = refl; stands = sym is }
 
 -- a piece more
-pub more_brought : (before middle left : Option (List ℕ)) (old new : Standing) (count more all : ℕ) (piece : List ℕ) → HasBrought before middle old count
-    → Consumes middle left piece → length piece ≡ more → run old piece ≡ new → all ≡ count + more → HasBrought before left new all
+pub more_brought : (before middle left : Option (List ℕ)) (old new : ReaderState) (count more all : ℕ) (piece : List ℕ) → HasRead before middle old count
+    → Consumes middle left piece → length piece ≡ more → run old piece ≡ new → all ≡ count + more → HasRead before left new all
 more_brought before middle left old new count more all piece b consumed long is sum = record {
   text = b.text ++ piece;
   consumed = Consumes-trans before middle left b.text piece b.consumed consumed;
   long = (let first = b.long in omega (arith, length-append b.text piece));
-  stands = run_append beginning b.text piece ∙ ap (λ s. run s piece) b.stands ∙ is;
+  stands = run_append initial_state b.text piece ∙ ap (λ s. run s piece) b.stands ∙ is;
 }
 
 -- a machine that goes on has met no line that is too long
@@ -76,10 +76,10 @@ after_going (Err fault) first line r e = absurd (cc)
 after_going (Ok s) first line r e = grind arith
 
 -- while the machine goes on, no more than a text may have
-pub brought_fits : (before left : Option (List ℕ)) (standing : Standing) (count : ℕ) → HasBrought before left standing count → IsGoing standing → count ≤ max_text
+pub brought_fits : (before left : Option (List ℕ)) (standing : ReaderState) (count : ℕ) → HasRead before left standing count → IsGoing standing → count ≤ max_text
 brought_fits before left (Going r line) count b go =
     let counted = run_counts start r [] line b.text b.stands in
-    let short = after_going (on_ok (Ok start) (λ s. read_lines s (ended_from [] b.text))) (last_from [] b.text) line r (sym (run_after (Ok start) [] b.text) ∙ b.stands) in
+    let short = after_going (on_ok (Ok start) (λ s. read_lines s (ended_lines_from [] b.text))) (last_line_from [] b.text) line r (sym (run_after (Ok start) [] b.text) ∙ b.stands) in
     let long = b.long in
     grind (arith, nat_tests)
 brought_fits before left (Stopped fault) count b go = absurd go
@@ -102,15 +102,15 @@ HasReturned before left result =
     (bytes : List ℕ) × Consumes before left bytes × (length bytes ≤ max_text + 1) × MatchResult result (λ image. IsAtEnd left × IsText bytes image) (IsRefusal bytes left)
 
 -- what the reader has brought is the whole text
-judged : (left : Option (List ℕ)) (standing : Standing) (bytes : List ℕ) (result : Result Memory TextFault) → run beginning bytes ≡ standing → IsAtEnd left
-    → IfOk result (EndsAs standing) → IfErr result (λ fault. (fault ≡ text.Memory) ⊎ (end_text standing ≡ Err fault))
+judged : (left : Option (List ℕ)) (standing : ReaderState) (bytes : List ℕ) (result : Result Memory TextFault) → run initial_state bytes ≡ standing → IsAtEnd left
+    → IfOk result (EndsAs standing) → IfErr result (λ fault. (fault ≡ text.Memory) ⊎ (text_result standing ≡ Err fault))
     → MatchResult result (λ image. IsAtEnd left × IsText bytes image) (IsRefusal bytes left)
-judged left standing bytes (Ok image) is end ok err = (end, (ok.0, sym (run_reads_text bytes) ∙ ap end_text is ∙ ok.1, ok.2))
+judged left standing bytes (Ok image) is end ok err = (end, (ok.0, sym (run_reads_text bytes) ∙ ap text_result is ∙ ok.1, ok.2))
 judged left standing bytes (Err fault) is end ok (inl memory) = text_refused bytes left fault end (inl memory)
-judged left standing bytes (Err fault) is end ok (inr refused) = text_refused bytes left fault end (inr (sym (run_reads_text bytes) ∙ ap end_text is ∙ refused))
+judged left standing bytes (Err fault) is end ok (inr refused) = text_refused bytes left fault end (inr (sym (run_reads_text bytes) ∙ ap text_result is ∙ refused))
 
-pub returned_whole : (before middle left : Option (List ℕ)) (standing : Standing) (count : ℕ) (result : Result Memory TextFault) → HasBrought before middle standing count → IsGoing standing
-    → Consumes middle left [] → IsAtEnd left → IfOk result (EndsAs standing) → IfErr result (λ fault. (fault ≡ text.Memory) ⊎ (end_text standing ≡ Err fault))
+pub returned_whole : (before middle left : Option (List ℕ)) (standing : ReaderState) (count : ℕ) (result : Result Memory TextFault) → HasRead before middle standing count → IsGoing standing
+    → Consumes middle left [] → IsAtEnd left → IfOk result (EndsAs standing) → IfErr result (λ fault. (fault ≡ text.Memory) ⊎ (text_result standing ≡ Err fault))
     → HasReturned before left result
 unfolding run
 returned_whole before middle left standing count result b go consumed end ok err =
@@ -120,15 +120,15 @@ returned_whole before middle left standing count result b go consumed end ok err
     (all.text, all.consumed, omega arith, judged left standing all.text result all.stands end ok err)
 
 -- no failed read is among what the end of a text is refused with
-pub count_whole : (before middle : Option (List ℕ)) (standing : Standing) (count old new : ℕ) (result : Result Memory TextFault) → HasBrought before middle standing count → new ≡ old
-    → IfErr result (λ fault. (fault ≡ text.Memory) ⊎ (end_text standing ≡ Err fault)) → MatchResult result (λ _. new ≡ old) (CountsRead old new)
+pub count_whole : (before middle : Option (List ℕ)) (standing : ReaderState) (count old new : ℕ) (result : Result Memory TextFault) → HasRead before middle standing count → new ≡ old
+    → IfErr result (λ fault. (fault ≡ text.Memory) ⊎ (text_result standing ≡ Err fault)) → MatchResult result (λ _. new ≡ old) (CountsRead old new)
 count_whole before middle standing count old new (Ok image) b same err = same
 count_whole before middle standing count old new (Err fault) b same (inl memory) = same_count old new fault same (λ e. absurd (cc))
 count_whole before middle standing count old new (Err fault) b same (inr refused) =
-    same_count old new fault same (λ e. never_read b.text (sym (run_reads_text b.text) ∙ ap end_text b.stands ∙ refused ∙ ap Err e))
+    same_count old new fault same (λ e. never_read b.text (sym (run_reads_text b.text) ∙ ap text_result b.stands ∙ refused ∙ ap Err e))
 
 -- the machine stops at what has come
-pub returned_fault : (before middle left : Option (List ℕ)) (standing : Standing) (count more : ℕ) (piece : List ℕ) (fault : TextFault) → HasBrought before middle standing count
+pub returned_fault : (before middle left : Option (List ℕ)) (standing : ReaderState) (count more : ℕ) (piece : List ℕ) (fault : TextFault) → HasRead before middle standing count
     → Consumes middle left piece → length piece ≡ more → count + more ≤ max_text + 1 → (fault ≡ text.Memory) ⊎ (run standing piece ≡ Stopped fault) → HasReturned before left (Err fault)
 returned_fault before middle left standing count more piece fault b consumed long fits (inl memory) =
     let all = more_brought before middle left standing (run standing piece) count more (count + more) piece b consumed long refl refl in
@@ -139,7 +139,7 @@ returned_fault before middle left standing count more piece fault b consumed lon
     let whole = all.long in
     (all.text, all.consumed, omega arith, prefix_refused all.text left fault (inr (refused_where_stopped all.text fault (all.stands ∙ stopped))))
 
-pub count_fault : (before middle left : Option (List ℕ)) (standing : Standing) (count old new : ℕ) (piece : List ℕ) (fault : TextFault) → HasBrought before middle standing count
+pub count_fault : (before middle left : Option (List ℕ)) (standing : ReaderState) (count old new : ℕ) (piece : List ℕ) (fault : TextFault) → HasRead before middle standing count
     → Consumes middle left piece → new ≡ old → (fault ≡ text.Memory) ⊎ (run standing piece ≡ Stopped fault) → CountsRead old new fault
 count_fault before middle left standing count old new piece fault b consumed same (inl memory) = same_count old new fault same (λ e. absurd (cc))
 count_fault before middle left standing count old new piece fault b consumed same (inr stopped) =
@@ -148,10 +148,10 @@ count_fault before middle left standing count old new piece fault b consumed sam
     same_count old new fault same (λ e. never_read (all.text ++ []) (prefix_is_decided all.text [] text.Read (refused ∙ ap Err e)))
 
 -- a read has failed
-pub returned_read : (before middle left : Option (List ℕ)) (standing : Standing) (count : ℕ) → HasBrought before middle standing count → IsGoing standing → Keeps middle left
+pub returned_read : (before middle left : Option (List ℕ)) (standing : ReaderState) (count : ℕ) → HasRead before middle standing count → IsGoing standing → Keeps middle left
     → HasReturned before left (Err text.Read)
 returned_read before middle left (Going r line) count b go keeps =
     let fits = brought_fits before middle (Going r line) count b go in
     let long = b.long in
-    (b.text, Consumes-kept before middle left b.text b.consumed keeps, omega arith, (r, sym (run_reads_prefix b.text) ∙ ap standing_of b.stands))
+    (b.text, Consumes-kept before middle left b.text b.consumed keeps, omega arith, (r, sym (run_reads_prefix b.text) ∙ ap prefix_result b.stands))
 returned_read before middle left (Stopped fault) count b go keeps = absurd go

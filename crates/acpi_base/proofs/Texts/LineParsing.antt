@@ -5,7 +5,7 @@ use Rattle.std.proofs.lemmas.List.Edits.{between_more}
 use Rattle.std.proofs.Math.Nat.{pow-le-pow_right}
 use Rattle.std.specs.Prelude.{slice_range, None, Some, Option, Bool}
 use Rattle.std.specs.Option.{option_map_or}
-use Rattle.acpi_base.specs.ImageText.{Data, Bad, digit_of, is_blank, skip_blanks, without_cr, without_comment, form_of, line_of, address_of, data_from}
+use Rattle.acpi_base.specs.Text.ImageText.{Data, Bad, digit_of, is_blank, skip_blanks, without_cr, without_comment, form_of, line_of, address_line_of, data_from}
 
 -- a slice and the element after it
 pub slice_range_more : (xs : List ℕ) (a i : ℕ) → a ≤ i → i < length xs → slice_range xs a (i + 1) ≡ slice_range xs a i ++ get_or xs i 0 ∷ []
@@ -34,8 +34,8 @@ data_from_grows (b ∷ rest) bytes high all e =
 
 -- what begins with no blank has data of at least one byte
 full_some : (at : Bool) (digit : Option ℕ) (rest all : List ℕ)
-    → (if at then address_of rest else option_map_or (λ high. data_from [] (Some high) rest) digit Bad) ≡ Data all → 0 < length all
-unfolding address_of
+    → (if at then address_line_of rest else option_map_or (λ high. data_from [] (Some high) rest) digit Bad) ≡ Data all → 0 < length all
+unfolding address_line_of
 full_some at digit rest all e = grind (arith, λ (h : ℕ). data_from_grows rest [] (Some h) all)
 
 -- what is left of a data line has at least one byte

@@ -7,8 +7,8 @@ use Rattle.std.proofs.lemmas.List.Elements.{All-cons, All-nil, All-head, All-tai
 use Rattle.std.proofs.lemmas.List.Splits.{slice_split_none, slice_split_at, length-slice_split, join_with_byte-slice_split}
 use Rattle.std.specs.List.{All, Contains, join_with_byte, slice_split}
 use Rattle.std.specs.Prelude.{◌↔◌}
-use Rattle.acpi_base.specs.ImageText.{ended_from, last_from}
-use Rattle.acpi_base.specs.TextMeaning.{text_lines, AreLines}
+use Rattle.acpi_base.specs.Text.ImageText.{ended_lines_from, last_line_from}
+use Rattle.acpi_base.specs.Text.TextMeaning.{text_lines, AreLines}
 
 -- no byte is an LF
 abbrev IsLine : List ℕ → Type 0
@@ -16,9 +16,9 @@ IsLine line = All (λ b. eqb b 10 ≡ false) line
 
 -- the lines from a prefix of the first on are what stands between LFs, and have none
 lines_are_parts : (line bytes : List ℕ) → IsLine line
-    → (ended_from line bytes ++ last_from line bytes ∷ [] ≡ slice_split (λ b. eqb b 10) (line ++ bytes))
-    × All IsLine (ended_from line bytes ++ last_from line bytes ∷ [])
-unfolding ended_from last_from
+    → (ended_lines_from line bytes ++ last_line_from line bytes ∷ [] ≡ slice_split (λ b. eqb b 10) (line ++ bytes))
+    × All IsLine (ended_lines_from line bytes ++ last_line_from line bytes ∷ [])
+unfolding ended_lines_from last_line_from
 lines_are_parts line [] whole = rw append-nil (sym (slice_split_none _ line whole), All-cons IsLine line [] whole (All-nil _))
 lines_are_parts line (b ∷ rest) whole =
     elim (cases_eq b 10) [

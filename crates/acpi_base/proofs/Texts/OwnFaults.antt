@@ -1,8 +1,8 @@
 -- What a text is refused with is a fault of the text: no failed read, and not being out of memory.
 use Rattle.std.proofs.Common.{◌≡◌, ℕ, List, [], ◌∷◌, true, arith}
 use Rattle.std.specs.Prelude.{Err}
-use Rattle.acpi_base.specs.ImageText.{Line, Reading, take_line, read_line, read_lines, IsRefused}
-use Rattle.acpi_base.specs.TextReading.{is_of_text}
+use Rattle.acpi_base.specs.Text.ImageText.{Line, Reading, take_line, read_line, read_lines, IsRefused}
+use Rattle.acpi_base.specs.Text.TextReading.{is_of_text}
 use Rattle.acpi_base.specs.declared.text.TextFault.{TextFault}
 
 -- a fault in what a line says

@@ -2,9 +2,9 @@
 use Rattle.std.specs.Prelude.{◌≡◌, ℕ, ◌≤◌, List, [], ◌∷◌, All, Some, None}
 use Rattle.acpi_base.specs.Policy.{PolicyValue, inputs_of}
 use Rattle.acpi_base.specs.Listed.{madt_signature}
-use Rattle.acpi_base.specs.Entries.{Standing}
+use Rattle.acpi_base.specs.Entries.{PlacedEntry}
 use Rattle.acpi_base.specs.Madt.{MadtEntry, LocalApic, IoApic, Override, NmiSource, LocalNmi, AddressOverride, X2apic, X2apicNmi, Opaque, MadtContents, madt_contents, MadtFault, InterruptFault, IsFirstGsiClash, OverrideFault}
-use Rattle.acpi_base.specs.Examples.{table, standing, IsSoundExample}
+use Rattle.acpi_base.specs.Examples.{table, placed_entry, IsSoundExample}
 use Rattle.acpi_base.specs.declared.code.Code.{Code}
 use Rattle.acpi_base.specs.declared.code.Code.TheVariants as code
 
@@ -14,7 +14,7 @@ madt_table size checksum entries =
     table madt_signature size 1 checksum (0 ∷ 0 ∷ 0xe0 ∷ 0xfe ∷ 1 ∷ 0 ∷ 0 ∷ 0 ∷ entries)
 
 -- what the example MADTs say, unless they have a cut
-abbrev pub said_madt : ℕ → List (Standing MadtEntry) → MadtContents
+abbrev pub said_madt : ℕ → List (PlacedEntry MadtEntry) → MadtContents
 said_madt size entries = record { size = size; address = 0xfee00000; flags = 1; entries = entries; cut = None }
 
 -- ---- a MADT with an entry of each kind, and one of type 11
@@ -36,15 +36,15 @@ all_kinds_bytes =
 abbrev pub all_kinds : MadtContents
 all_kinds =
     said_madt 132
-    (standing 44 (LocalApic (record { uid = 3; apic_id = 0; flags = 1 }))
-    ∷ standing 52 (IoApic (record { id = 5; address = 0xfec00000; gsi_base = 0 }))
-    ∷ standing 64 (Override (record { bus = 0; source = 0; gsi = 2; flags = 0 }))
-    ∷ standing 74 (NmiSource (record { flags = 13; gsi = 20 }))
-    ∷ standing 82 (LocalNmi (record { uid = 0xff; flags = 5; lint = 1 }))
-    ∷ standing 88 (AddressOverride (record { address = 0xfee00000 }))
-    ∷ standing 100 (X2apic (record { x2apic_id = 256; flags = 1; uid = 4 }))
-    ∷ standing 116 (X2apicNmi (record { flags = 0; uid = 0xffffffff; lint = 1 }))
-    ∷ standing 128 (Opaque (11 ∷ 4 ∷ 0 ∷ 0 ∷ []))
+    (placed_entry 44 (LocalApic (record { uid = 3; apic_id = 0; flags = 1 }))
+    ∷ placed_entry 52 (IoApic (record { id = 5; address = 0xfec00000; gsi_base = 0 }))
+    ∷ placed_entry 64 (Override (record { bus = 0; source = 0; gsi = 2; flags = 0 }))
+    ∷ placed_entry 74 (NmiSource (record { flags = 13; gsi = 20 }))
+    ∷ placed_entry 82 (LocalNmi (record { uid = 0xff; flags = 5; lint = 1 }))
+    ∷ placed_entry 88 (AddressOverride (record { address = 0xfee00000 }))
+    ∷ placed_entry 100 (X2apic (record { x2apic_id = 256; flags = 1; uid = 4 }))
+    ∷ placed_entry 116 (X2apicNmi (record { flags = 0; uid = 0xffffffff; lint = 1 }))
+    ∷ placed_entry 128 (Opaque (11 ∷ 4 ∷ 0 ∷ 0 ∷ []))
     ∷ [])
 
 -- ---- a MADT with two I/O APICs
@@ -59,8 +59,8 @@ two_io_apics_bytes =
 abbrev pub two_io_apics : MadtContents
 two_io_apics =
     said_madt 68
-    (standing 44 (IoApic (record { id = 0; address = 0xfec00000; gsi_base = 0 }))
-    ∷ standing 56 (IoApic (record { id = 0; address = 0xfec01000; gsi_base = 24 }))
+    (placed_entry 44 (IoApic (record { id = 0; address = 0xfec00000; gsi_base = 0 }))
+    ∷ placed_entry 56 (IoApic (record { id = 0; address = 0xfec01000; gsi_base = 24 }))
     ∷ [])
 
 -- ---- a MADT with an entry and two bytes that are none
@@ -74,7 +74,7 @@ cut_madt =
       size = 54;
       address = 0xfee00000;
       flags = 1;
-      entries = standing 44 (LocalApic (record { uid = 0; apic_id = 0; flags = 1 })) ∷ [];
+      entries = placed_entry 44 (LocalApic (record { uid = 0; apic_id = 0; flags = 1 })) ∷ [];
       cut = Some 52;
     }
 
@@ -90,8 +90,8 @@ two_overrides_bytes =
 abbrev pub two_overrides : MadtContents
 two_overrides =
     said_madt 64
-    (standing 44 (Override (record { bus = 0; source = 9; gsi = 9; flags = 0 }))
-    ∷ standing 54 (Override (record { bus = 0; source = 9; gsi = 20; flags = 0 }))
+    (placed_entry 44 (Override (record { bus = 0; source = 9; gsi = 9; flags = 0 }))
+    ∷ placed_entry 54 (Override (record { bus = 0; source = 9; gsi = 20; flags = 0 }))
     ∷ [])
 
 -- ---- a MADT whose entries have faults, all but the first address override
@@ -109,11 +109,11 @@ faulty_madt_bytes =
 abbrev pub faulty_madt : MadtContents
 faulty_madt =
     said_madt 102
-    (standing 44 (Opaque (0 ∷ 12 ∷ 0 ∷ 0 ∷ 0 ∷ 0 ∷ 0 ∷ 0 ∷ 0 ∷ 0 ∷ 0 ∷ 0 ∷ []))
-    ∷ standing 56 (Override (record { bus = 1; source = 0; gsi = 0; flags = 2 }))
-    ∷ standing 66 (AddressOverride (record { address = 0 }))
-    ∷ standing 78 (AddressOverride (record { address = 0 }))
-    ∷ standing 90 (IoApic (record { id = 0; address = 0; gsi_base = 0xfffffff0 }))
+    (placed_entry 44 (Opaque (0 ∷ 12 ∷ 0 ∷ 0 ∷ 0 ∷ 0 ∷ 0 ∷ 0 ∷ 0 ∷ 0 ∷ 0 ∷ 0 ∷ []))
+    ∷ placed_entry 56 (Override (record { bus = 1; source = 0; gsi = 0; flags = 2 }))
+    ∷ placed_entry 66 (AddressOverride (record { address = 0 }))
+    ∷ placed_entry 78 (AddressOverride (record { address = 0 }))
+    ∷ placed_entry 90 (IoApic (record { id = 0; address = 0; gsi_base = 0xfffffff0 }))
     ∷ [])
 
 -- ---- what is stated of them
@@ -140,7 +140,7 @@ pub record AreMadtFaults (q : PolicyValue) : Type 0 where
   pub inti : MadtFault q (madt_contents faulty_madt_bytes) code.ReservedInti 0x38 0 0
   pub second : MadtFault q (madt_contents faulty_madt_bytes) code.SecondAddressOverride 0x4e 0x42 0
   pub gsi : inputs_of q 0 ≡ 24 → MadtFault q (madt_contents faulty_madt_bytes) code.GsiPastEnd 0x5a 0 0
-  pub clash : inputs_of q 0xfec00000 ≡ 32 → inputs_of q 0xfec01000 ≡ 24 → InterruptFault q (madt_contents two_io_apics_bytes) code.GsiClash 0x2c 0x38 0x18
+  pub overlap : inputs_of q 0xfec00000 ≡ 32 → inputs_of q 0xfec01000 ≡ 24 → InterruptFault q (madt_contents two_io_apics_bytes) code.GsiClash 0x2c 0x38 0x18
   pub sources : OverrideFault (madt_contents two_overrides_bytes) code.OverrideClash 0x36 0x2c 9
 
 -- the MADT with an entry of each kind has no fault of stage 6, however many inputs its I/O APIC has, up to 256

@@ -1,9 +1,9 @@
 -- Examples of the PPTT: bytes of small tables, what they say, and their faults, worked out by hand from the rules.
 use Rattle.std.specs.Prelude.{◌≡◌, ℕ, List, [], ◌∷◌, ◌++◌, replicate, All, Option, Some, None}
 use Rattle.acpi_base.specs.Listed.{pptt_signature}
-use Rattle.acpi_base.specs.Entries.{Standing}
+use Rattle.acpi_base.specs.Entries.{PlacedEntry}
 use Rattle.acpi_base.specs.Pptt.{PpttEntry, Node, Cache, Opaque, PpttContents, pptt_contents, PpttFault, ReferenceFault, ParentFault, CacheFault}
-use Rattle.acpi_base.specs.Examples.{table, standing, IsSoundExample}
+use Rattle.acpi_base.specs.Examples.{table, placed_entry, IsSoundExample}
 use Rattle.acpi_base.specs.declared.code.Code.{Code}
 use Rattle.acpi_base.specs.declared.code.Code.TheVariants as code
 
@@ -12,7 +12,7 @@ abbrev pub pptt_table : ℕ → ℕ → List ℕ → List ℕ
 pptt_table size checksum entries = table pptt_signature size 2 checksum entries
 
 -- what the example PPTTs say, unless they have a cut
-abbrev pub said_pptt : ℕ → List (Standing PpttEntry) → PpttContents
+abbrev pub said_pptt : ℕ → List (PlacedEntry PpttEntry) → PpttContents
 said_pptt size entries = record { size = size; revision = 2; entries = entries; cut = None }
 
 -- a node with this Parent and these private resources, its other fields 0
@@ -49,11 +49,11 @@ all_kinds_bytes =
 abbrev pub all_kinds : PpttContents
 all_kinds =
     said_pptt 144
-    (standing 36 (Node (record { flags = 1; parent = 0; id = 0; resources = 140 ∷ [] }))
-    ∷ standing 60 (Node (record { flags = 10; parent = 36; id = 7; resources = 88 ∷ 112 ∷ [] }))
-    ∷ standing 88 (Cache (record { flags = 0x7f; next_level = 112; size = 0x8000; sets = 64; associativity = 8; attributes = 10; line_size = 64; id = None }))
-    ∷ standing 112 (Cache (record { flags = 0xff; next_level = 0; size = 0x100000; sets = 1024; associativity = 16; attributes = 10; line_size = 64; id = Some 3 }))
-    ∷ standing 140 (Opaque (2 ∷ 4 ∷ 0 ∷ 0 ∷ []))
+    (placed_entry 36 (Node (record { flags = 1; parent = 0; id = 0; resources = 140 ∷ [] }))
+    ∷ placed_entry 60 (Node (record { flags = 10; parent = 36; id = 7; resources = 88 ∷ 112 ∷ [] }))
+    ∷ placed_entry 88 (Cache (record { flags = 0x7f; next_level = 112; size = 0x8000; sets = 64; associativity = 8; attributes = 10; line_size = 64; id = None }))
+    ∷ placed_entry 112 (Cache (record { flags = 0xff; next_level = 0; size = 0x100000; sets = 1024; associativity = 16; attributes = 10; line_size = 64; id = Some 3 }))
+    ∷ placed_entry 140 (Opaque (2 ∷ 4 ∷ 0 ∷ 0 ∷ []))
     ∷ [])
 
 -- ---- a PPTT whose entries have another length than their type's, and two bytes that are no entry
@@ -72,9 +72,9 @@ faulty_pptt =
     record {
       size = 108;
       revision = 2;
-      entries = standing 36 (Opaque (0 ∷ 24 ∷ replicate 22 0))
-          ∷ standing 60 (Opaque (0 ∷ 20 ∷ replicate 14 0 ++ 0xff ∷ 0xff ∷ 0xff ∷ 0xff ∷ []))
-          ∷ standing 80 (Opaque (1 ∷ 26 ∷ replicate 24 0))
+      entries = placed_entry 36 (Opaque (0 ∷ 24 ∷ replicate 22 0))
+          ∷ placed_entry 60 (Opaque (0 ∷ 20 ∷ replicate 14 0 ++ 0xff ∷ 0xff ∷ 0xff ∷ 0xff ∷ []))
+          ∷ placed_entry 80 (Opaque (1 ∷ 26 ∷ replicate 24 0))
           ∷ [];
       cut = Some 106;
     }
@@ -89,7 +89,7 @@ hidden_node_bytes =
     ∷ [])
 
 abbrev pub hidden_node : PpttContents
-hidden_node = said_pptt 78 (standing 36 (plain_node 58 []) ∷ standing 56 (Opaque (5 ∷ 22 ∷ 0 ∷ 20 ∷ replicate 18 0)) ∷ [])
+hidden_node = said_pptt 78 (placed_entry 36 (plain_node 58 []) ∷ placed_entry 56 (Opaque (5 ∷ 22 ∷ 0 ∷ 20 ∷ replicate 18 0)) ∷ [])
 
 -- ---- a PPTT with a node of one private resource, and a cache at 60
 
@@ -113,7 +113,7 @@ abbrev pub no_resource_bytes : List ℕ
 no_resource_bytes = resource_bytes 156 0
 
 abbrev pub with_resource : ℕ → PpttContents
-with_resource resource = said_pptt 84 (standing 36 (plain_node 0 (resource ∷ [])) ∷ standing 60 (plain_cache 0 None) ∷ [])
+with_resource resource = said_pptt 84 (placed_entry 36 (plain_node 0 (resource ∷ [])) ∷ placed_entry 60 (plain_cache 0 None) ∷ [])
 
 -- ---- a PPTT with a node whose Parent is the node itself
 
@@ -121,7 +121,7 @@ abbrev pub own_parent_bytes : List ℕ
 own_parent_bytes = pptt_table 56 178 (0 ∷ 20 ∷ 0 ∷ 0 ∷ 0 ∷ 0 ∷ 0 ∷ 0 ∷ 36 ∷ 0 ∷ 0 ∷ 0 ∷ 0 ∷ 0 ∷ 0 ∷ 0 ∷ 0 ∷ 0 ∷ 0 ∷ 0 ∷ [])
 
 abbrev pub own_parent : PpttContents
-own_parent = said_pptt 56 (standing 36 (plain_node 36 []) ∷ [])
+own_parent = said_pptt 56 (placed_entry 36 (plain_node 36 []) ∷ [])
 
 -- ---- a PPTT with five nodes; the Parent of each is the next one, and that of the last the third
 
@@ -138,11 +138,11 @@ five_nodes_bytes =
 abbrev pub five_nodes : PpttContents
 five_nodes =
     said_pptt 136
-    (standing 36 (plain_node 56 [])
-    ∷ standing 56 (plain_node 76 [])
-    ∷ standing 76 (plain_node 96 [])
-    ∷ standing 96 (plain_node 116 [])
-    ∷ standing 116 (plain_node 76 [])
+    (placed_entry 36 (plain_node 56 [])
+    ∷ placed_entry 56 (plain_node 76 [])
+    ∷ placed_entry 76 (plain_node 96 [])
+    ∷ placed_entry 96 (plain_node 116 [])
+    ∷ placed_entry 116 (plain_node 76 [])
     ∷ [])
 
 -- ---- a PPTT with a cache and its Next Level
@@ -162,7 +162,7 @@ abbrev pub no_next_level_bytes : List ℕ
 no_next_level_bytes = next_level_bytes 160 37
 
 abbrev pub with_next_level : ℕ → PpttContents
-with_next_level next_level = said_pptt 64 (standing 36 (plain_cache next_level (Some 0)) ∷ [])
+with_next_level next_level = said_pptt 64 (placed_entry 36 (plain_cache next_level (Some 0)) ∷ [])
 
 -- ---- what is stated of them
 

@@ -1,9 +1,9 @@
 -- Examples of the SRAT: bytes of small tables, what they say, and their faults, worked out by hand from the rules.
 use Rattle.std.specs.Prelude.{◌≡◌, ℕ, List, [], ◌∷◌, All, Some, None}
 use Rattle.acpi_base.specs.Listed.{srat_signature}
-use Rattle.acpi_base.specs.Entries.{Standing}
+use Rattle.acpi_base.specs.Entries.{PlacedEntry}
 use Rattle.acpi_base.specs.Srat.{SratEntry, ApicDomain, MemoryRange, X2apicDomain, Opaque, SratContents, srat_contents, SratFault, RangeFault, IsFirstOverlap}
-use Rattle.acpi_base.specs.Examples.{table, standing, IsSoundExample}
+use Rattle.acpi_base.specs.Examples.{table, placed_entry, IsSoundExample}
 use Rattle.acpi_base.specs.declared.policy.HotPlug.{HotPlug}
 use Rattle.acpi_base.specs.declared.policy.HotPlug.TheVariants.{Counted, Apart}
 use Rattle.acpi_base.specs.declared.code.Code.{Code}
@@ -15,7 +15,7 @@ srat_table size checksum entries =
     table srat_signature size 1 checksum (1 ∷ 0 ∷ 0 ∷ 0 ∷ 0 ∷ 0 ∷ 0 ∷ 0 ∷ 0 ∷ 0 ∷ 0 ∷ 0 ∷ entries)
 
 -- what the example SRATs say, unless they have a cut
-abbrev pub said_srat : ℕ → List (Standing SratEntry) → SratContents
+abbrev pub said_srat : ℕ → List (PlacedEntry SratEntry) → SratContents
 said_srat size entries = record { size = size; entries = entries; cut = None }
 
 -- ---- an SRAT with two processors
@@ -30,8 +30,8 @@ two_processors_bytes =
 abbrev pub two_processors : SratContents
 two_processors =
     said_srat 88
-    (standing 48 (ApicDomain (record { domain = 0; apic_id = 5; flags = 1; eid = 0; clock_domain = 0 }))
-    ∷ standing 64 (X2apicDomain (record { domain = 1; x2apic_id = 5; flags = 1; clock_domain = 0 }))
+    (placed_entry 48 (ApicDomain (record { domain = 0; apic_id = 5; flags = 1; eid = 0; clock_domain = 0 }))
+    ∷ placed_entry 64 (X2apicDomain (record { domain = 1; x2apic_id = 5; flags = 1; clock_domain = 0 }))
     ∷ [])
 
 -- ---- an SRAT with four ranges, the second of no bytes, the last over the third
@@ -48,10 +48,10 @@ four_ranges_bytes =
 abbrev pub four_ranges : SratContents
 four_ranges =
     said_srat 208
-    (standing 48 (MemoryRange (record { domain = 0; base = 0; size = 0xa0000; flags = 1 }))
-    ∷ standing 88 (MemoryRange (record { domain = 0; base = 0x50000; size = 0; flags = 1 }))
-    ∷ standing 128 (MemoryRange (record { domain = 0; base = 0x100000; size = 0x3ff00000; flags = 1 }))
-    ∷ standing 168 (MemoryRange (record { domain = 0; base = 0x3fffffff; size = 0x1000; flags = 1 }))
+    (placed_entry 48 (MemoryRange (record { domain = 0; base = 0; size = 0xa0000; flags = 1 }))
+    ∷ placed_entry 88 (MemoryRange (record { domain = 0; base = 0x50000; size = 0; flags = 1 }))
+    ∷ placed_entry 128 (MemoryRange (record { domain = 0; base = 0x100000; size = 0x3ff00000; flags = 1 }))
+    ∷ placed_entry 168 (MemoryRange (record { domain = 0; base = 0x3fffffff; size = 0x1000; flags = 1 }))
     ∷ [])
 
 -- ---- an SRAT with three ranges that overlap
@@ -67,9 +67,9 @@ overlapping_bytes =
 abbrev pub overlapping : SratContents
 overlapping =
     said_srat 168
-    (standing 48 (MemoryRange (record { domain = 0; base = 0x1000; size = 0x2000; flags = 1 }))
-    ∷ standing 88 (MemoryRange (record { domain = 0; base = 0; size = 0x2000; flags = 1 }))
-    ∷ standing 128 (MemoryRange (record { domain = 0; base = 0x1000; size = 0x800; flags = 1 }))
+    (placed_entry 48 (MemoryRange (record { domain = 0; base = 0x1000; size = 0x2000; flags = 1 }))
+    ∷ placed_entry 88 (MemoryRange (record { domain = 0; base = 0; size = 0x2000; flags = 1 }))
+    ∷ placed_entry 128 (MemoryRange (record { domain = 0; base = 0x1000; size = 0x800; flags = 1 }))
     ∷ [])
 
 -- ---- an SRAT with four ranges of the same addresses, the first two hot-pluggable
@@ -86,10 +86,10 @@ hot_ranges_bytes =
 abbrev pub hot_ranges : SratContents
 hot_ranges =
     said_srat 208
-    (standing 48 (MemoryRange (record { domain = 0; base = 0; size = 0x1000; flags = 3 }))
-    ∷ standing 88 (MemoryRange (record { domain = 0; base = 0; size = 0x1000; flags = 3 }))
-    ∷ standing 128 (MemoryRange (record { domain = 0; base = 0; size = 0x1000; flags = 1 }))
-    ∷ standing 168 (MemoryRange (record { domain = 0; base = 0; size = 0x1000; flags = 1 }))
+    (placed_entry 48 (MemoryRange (record { domain = 0; base = 0; size = 0x1000; flags = 3 }))
+    ∷ placed_entry 88 (MemoryRange (record { domain = 0; base = 0; size = 0x1000; flags = 3 }))
+    ∷ placed_entry 128 (MemoryRange (record { domain = 0; base = 0; size = 0x1000; flags = 1 }))
+    ∷ placed_entry 168 (MemoryRange (record { domain = 0; base = 0; size = 0x1000; flags = 1 }))
     ∷ [])
 
 -- ---- an SRAT whose entries have a fault each, and a byte that is none
@@ -106,8 +106,8 @@ abbrev pub faulty_srat : SratContents
 faulty_srat =
     record {
       size = 105;
-      entries = standing 48 (Opaque (1 ∷ 16 ∷ 0 ∷ 0 ∷ 0 ∷ 0 ∷ 0 ∷ 0 ∷ 0 ∷ 0 ∷ 0 ∷ 0 ∷ 0 ∷ 0 ∷ 0 ∷ 0 ∷ []))
-          ∷ standing 64 (MemoryRange (record { domain = 0; base = 0xfffffffffffff000; size = 0x1001; flags = 1 }))
+      entries = placed_entry 48 (Opaque (1 ∷ 16 ∷ 0 ∷ 0 ∷ 0 ∷ 0 ∷ 0 ∷ 0 ∷ 0 ∷ 0 ∷ 0 ∷ 0 ∷ 0 ∷ 0 ∷ 0 ∷ 0 ∷ []))
+          ∷ placed_entry 64 (MemoryRange (record { domain = 0; base = 0xfffffffffffff000; size = 0x1001; flags = 1 }))
           ∷ [];
       cut = Some 104;
     }

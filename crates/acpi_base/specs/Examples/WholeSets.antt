@@ -3,7 +3,7 @@
 use Rattle.std.specs.Prelude.{ℕ, List, [], ◌∷◌, ◌++◌, replicate}
 use Rattle.acpi_base.specs.Memory.{Memory}
 use Rattle.acpi_base.specs.Policy.{PolicyValue, new_policy}
-use Rattle.acpi_base.specs.Segments.{Run, run_at, memory_of}
+use Rattle.acpi_base.specs.Image.Runs.{Run, run_at, memory_of}
 use Rattle.acpi_base.specs.Signature.{rsdp_signature, xsdt_signature}
 use Rattle.acpi_base.specs.Listed.{fadt_signature}
 use Rattle.acpi_base.specs.Facs.{facs_signature}

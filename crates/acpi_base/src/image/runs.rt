@@ -1,16 +1,16 @@
 //! The runs of an image, in rising order of addresses.
 
 ghost use Rattle.std.specs.Prelude.{◌≡◌, ◌+◌, length, Some, None, MatchOption};
-ghost use Rattle.acpi_base.specs.Laid.{IsSound, memory_in, runs_of};
+ghost use Rattle.acpi_base.specs.Image.Segments.{IsSound, memory_in, runs_of};
 ghost use Rattle.acpi_base.specs.Memory.{run_of};
-ghost use Rattle.acpi_base.specs.Segments.{lookup};
-ghost use Rattle.acpi_base.specs.WrittenText.{IsEmptyFrom, IsFirstFrom, IsNextRun};
+ghost use Rattle.acpi_base.specs.Image.Runs.{lookup};
+ghost use Rattle.acpi_base.specs.Text.WrittenText.{IsEmptyFrom, IsFirstFrom, IsNextRun};
 
 use crate::image::Image;
 use crate::image::segments::Segments;
 
 /// The bytes from an address on, up to the next address that no segment holds. None where that is the address itself.
-#[tactic(auto, using(crate::proofs::Written::Rests::rests), unfolding(crate::specs::Memory::run_of))]
+#[tactic(auto, using(crate::proofs::Texts::Written::Rests::rests), unfolding(crate::specs::Memory::run_of))]
 fn rest_from(segments: &Segments, address: u64) -> &[u8]
     requires { IsSound segments.now }
     ensures held { run_of (lookup (runs_of segments.now)) address (length result.now) ≡ Some result.now }
@@ -27,7 +27,7 @@ fn rest_from(segments: &Segments, address: u64) -> &[u8]
 }
 
 /// The least address that is held, of those from an address on.
-#[tactic(auto, using(crate::proofs::Written::Rests::firsts))]
+#[tactic(auto, using(crate::proofs::Texts::Written::Rests::firsts))]
 fn first_from(segments: &Segments, address: u64) -> Option<u64>
     requires { IsSound segments.now }
     ensures { MatchOption result (IsEmptyFrom (memory_in segments.now) address) (IsFirstFrom (memory_in segments.now) address) }

@@ -7,20 +7,20 @@ ghost use Rattle.std.specs.Prelude.{◌≡◌, ◌+◌, ◌-◌, ◌^◌, ◌<�
 ghost use Rattle.std.specs.Option.{option_map, option_or};
 ghost use Rattle.std.specs.List.{AllByRecursion};
 ghost use Rattle.std.specs.FinMap.{empty};
-ghost use Rattle.acpi_base.specs.Memory.{run_of, first_of, first_held, with_bytes, byte_of};
+ghost use Rattle.acpi_base.specs.Memory.{run_of, least_defined, first_held, with_bytes, byte_of};
 ghost use Rattle.acpi_base.specs.Number.{byte_sum};
-ghost use Rattle.acpi_base.specs.Segments.{lookup, run_at};
-ghost use Rattle.acpi_base.specs.Stored.{LiesBefore, Rising, end_at, run_in, runs_in};
-ghost use Rattle.acpi_base.specs.Laid.{IsGap, IsPlace, IsReached, IsSound, end_in, memory_in, runs_of};
+ghost use Rattle.acpi_base.specs.Image.Runs.{lookup, run_at};
+ghost use Rattle.acpi_base.specs.Image.Pieces.{LiesBefore, AreSortedDisjoint, end_at, run_in, runs_in};
+ghost use Rattle.acpi_base.specs.Image.Segments.{IsGap, IsPartitionPoint, IsRunAt, IsSound, end_in, memory_in, runs_of};
 
+use super::prefix_sums::PrefixSums;
 use super::span::Span;
-use super::summed::Summed;
 use std::alloc::{AllocError, Global};
 
 /// The bytes of an image.
 #[derive(Debug, Drop)]
 pub struct Segments {
-    store: Summed,
+    store: PrefixSums,
     ended: Vec<(u64, Span)>,
     base: u64,
     start: usize,
@@ -33,7 +33,7 @@ impl Segments {
         ensures nothing { memory_in result ≡ empty }
     {
         Segments {
-            store: Summed::new(alloc),
+            store: PrefixSums::new(alloc),
             ended: Vec::new(alloc),
             base: 0,
             start: 0,
@@ -47,7 +47,7 @@ impl Segments {
         ensures end { IfOk result (λ segments. end_in segments ≡ 0) }
     {
         Ok(Segments {
-            store: Summed::with_capacity(alloc, count)?,
+            store: PrefixSums::with_capacity(alloc, count)?,
             ended: Vec::new(alloc),
             base: 0,
             start: 0,
@@ -58,7 +58,7 @@ impl Segments {
     fn place(&self, address: u64) -> usize
         requires { IsSound self.now }
         ensures within { result ≤ length self.now.ended.items }
-        ensures place { IsPlace self.now.ended.items address result }
+        ensures place { IsPartitionPoint self.now.ended.items address result }
     {
         self.ended.partition_point(|segment| segment.0 <= address)
     }
@@ -73,7 +73,7 @@ impl Segments {
     /// The last segment that begins at an address or before it: its base, and where its bytes lie.
     fn piece_reaching(&self, address: u64) -> Option<(u64, Span)>
         requires { IsSound self.now }
-        ensures reached { MatchOption result (lookup (runs_of self.now) address ≡ None) (λ piece. IsReached (runs_of self.now) address (run_in self.now.store piece)) }
+        ensures reached { MatchOption result (lookup (runs_of self.now) address ≡ None) (λ piece. IsRunAt (runs_of self.now) address (run_in self.now.store piece)) }
         ensures lies { IfSome result (λ piece. piece.1.start + piece.1.len ≤ length self.now.store) }
         ensures small { length self.now.store < 2 ^ 64 }
     {
@@ -95,14 +95,14 @@ impl Segments {
     /// The last segment that begins at an address or before it.
     pub fn reaching(&self, address: u64) -> Option<(u64, &[u8])>
         requires { IsSound self.now }
-        ensures { MatchOption result (lookup (runs_of self.now) address ≡ None) (λ found. IsReached (runs_of self.now) address (run_at found.0 found.1.now)) }
+        ensures { MatchOption result (lookup (runs_of self.now) address ≡ None) (λ found. IsRunAt (runs_of self.now) address (run_at found.0 found.1.now)) }
     {
         let (base, span) = self.piece_reaching(address)?;
         Some((base, span.bytes(self.store.bytes())))
     }
 
     /// The byte at an address.
-    #[tactic(auto, using(crate::proofs::Pieces::RunBytes::held_from))]
+    #[tactic(auto, using(crate::proofs::Images::RunBytes::held_from))]
     pub fn byte_at(&self, address: u64) -> Option<u8>
         requires { IsSound self.now }
         ensures { result ≡ lookup (runs_of self.now) address }
@@ -170,11 +170,11 @@ impl Segments {
     }
 
     /// The least of so many addresses that is held.
-    #[tactic(auto, using(crate::proofs::Pieces::Searches::first_in_gap))]
+    #[tactic(auto, using(crate::proofs::Images::Searches::first_in_gap))]
     pub fn first_held(&self, base: u64, count: u64) -> Option<u64>
         requires sound { IsSound self.now }
         requires some { 0 < count }
-        ensures { result ≡ first_of (lookup (runs_of self.now)) base count }
+        ensures { result ≡ least_defined (lookup (runs_of self.now)) base count }
     {
         if self.byte_at(base).is_some() {
             return Some(base);
@@ -231,7 +231,7 @@ impl Segments {
     /// Appends the bytes of pieces in another store, which stand in the order of their addresses.
     pub fn take_all(&mut self, store: &[u8], pieces: &[(u64, Span)]) -> Result<(), AllocError>
         requires sound { IsSound self.old }
-        requires rising { Rising pieces.now }
+        requires rising { AreSortedDisjoint pieces.now }
         requires lies { AllByRecursion (LiesBefore (length store.now)) pieces.now }
         requires behind { AllByRecursion (λ p. end_in self.old ≤ p.0) pieces.now }
         ensures sound { OnOk result (IsSound self.new) }

@@ -1,18 +1,20 @@
 -- What is kept of the entries of a table, in their order: its keys are the entries' offsets, so they rise.
-use Rattle.std.proofs.Common.{◌≡◌, ℕ, zero, suc, ◌+◌, ◌<◌, ◌≤◌, List, [], ◌∷◌, ◌++◌, length, take, drop, map, Option, Some, None, refl, ◌∙◌, ap, inl, inr, arith}
+use Rattle.std.proofs.Common.{◌≡◌, ℕ, zero, suc, ◌+◌, ◌<◌, ◌≤◌, List, [], ◌∷◌, length, take, drop, map, Option, Some, None, ◌∙◌, ap, inl, inr, arith}
 use Rattle.std.specs.Prelude.{◌&&◌, All, AllPairs, Contains, slice_index, nat_le}
 use Rattle.std.specs.List.{cons_option, filter_map}
 use Rattle.std.proofs.Math.ListN.{get_or-map}
 use Rattle.std.proofs.lemmas.Bool.{and_parts, leb-true}
 use Rattle.std.proofs.lemmas.List.{length-take-le, length-map}
-use Rattle.std.proofs.lemmas.List.Elements.{Contains-append_right, All-nil, All-cons}
+use Rattle.std.proofs.lemmas.List.Elements.{All-nil, All-cons}
 use Rattle.std.proofs.lemmas.List.Kept.{AllPairs-cons}
 use Rattle.std.proofs.lemmas.Option.{cond_some}
-use Rattle.acpi_base.specs.Entries.{Standing, first_entry, entries_from, entries_of, said_by}
-use Rattle.acpi_base.proofs.Entries.{none_in_short}
-use Rattle.acpi_base.proofs.HeldBytes.{cases_Option}
+use Rattle.acpi_base.specs.Entries.{PlacedEntry, first_entry, entries_from, entries_of, entries_read_by}
+use Rattle.acpi_base.specs.Madt.{MadtEntry, madt_entry, madt_contents}
+use Rattle.acpi_base.specs.Srat.{SratEntry, srat_entry, srat_contents}
+use Rattle.acpi_base.specs.Pptt.{pptt_entry, pptt_contents}
+use Rattle.acpi_base.proofs.Images.HeldBytes.{cases_Option}
 use Rattle.acpi_base.proofs.Elements.{first_element, later_element, first_or_later, no_element}
-use Rattle.acpi_base.proofs.Standings.{entry_within}
+use Rattle.acpi_base.proofs.EntryOffsets.{entry_within, said_from}
 
 -- ---- elements of lists
 
@@ -50,12 +52,12 @@ kept_from {X} h (u ∷ xs) y listed =
 -- ---- offsets rise
 
 -- the entries stand at rising offsets, from `low` on
-abbrev pub AreRising : {E : Type 0} → ℕ → List (Standing E) → Type 0
+abbrev pub AreRising : {E : Type 0} → ℕ → List (PlacedEntry E) → Type 0
 AreRising low [] = Unit {0}
 AreRising low (s ∷ rest) = (low ≤ s.offset) × AreRising (suc s.offset) rest
 
 -- so they do from any lower offset
-rising_from_less : {E : Type 0} (low high : ℕ) (entries : List (Standing E)) → low ≤ high → AreRising high entries → AreRising low entries
+rising_from_less : {E : Type 0} (low high : ℕ) (entries : List (PlacedEntry E)) → low ≤ high → AreRising high entries → AreRising low entries
 rising_from_less low high [] less rises = tt
 rising_from_less low high (s ∷ rest) less rises = (omega (arith, rises.0), rises.1)
 
@@ -67,7 +69,7 @@ first_least left e is =
     grind (arith, and_parts, leb-true, length-take-le, parts.0, parts.1)
 
 -- entries one behind another stand at rising offsets
-rising_from : {E : Type 0} (read : List ℕ → E) (n offset : ℕ) (left : List ℕ) → AreRising offset (said_by read (entries_from n offset left))
+rising_from : {E : Type 0} (read : List ℕ → E) (n offset : ℕ) (left : List ℕ) → AreRising offset (entries_read_by read (entries_from n offset left))
 unfolding entries_from
 rising_from read zero offset left = tt
 rising_from read (suc n) offset left =
@@ -77,32 +79,45 @@ rising_from read (suc n) offset left =
     ]
 
 -- the entries of a table do, from the first one's place on
-pub rising : {E : Type 0} (read : List ℕ → E) (first : ℕ) (whole : List ℕ) → AreRising first (said_by read (entries_of first whole))
+pub rising : {E : Type 0} (read : List ℕ → E) (first : ℕ) (whole : List ℕ) → AreRising first (entries_read_by read (entries_of first whole))
 unfolding entries_of
 rising read first whole = rising_from read (length whole) first (drop first whole)
 
--- the next entry of a table begins before the table's end
-pub next_inside : (first : ℕ) (whole : List ℕ) (before left rest : List (Standing (List ℕ))) (s : Standing (List ℕ)) → before ++ left ≡ entries_of first whole → left ≡ s ∷ rest → s.offset < length whole
-next_inside first whole before left rest s all next =
-    let here : Contains (entries_of first whole) s = rw (← all) (Contains-append_right before left s (rw next (first_element s rest))) in
-    omega (arith, entry_within first whole s.offset s.entry here)
+-- those of a MADT, of an SRAT and of a PPTT
+pub madt_rising : (whole : List ℕ) → AreRising 44 (madt_contents whole).entries
+unfolding madt_contents
+madt_rising whole = rising madt_entry 44 whole
 
--- a table that ends before the first entry's place has none
-pub none_of_short : (first : ℕ) (whole : List ℕ) → length whole < first → entries_of first whole ≡ []
-none_of_short first whole short = empty (entries_of first whole) (λ s listed. (none_in_short first whole short).1 s.offset s.entry listed)
-  where
-    empty : (entries : List (Standing (List ℕ))) → ((s : Standing (List ℕ)) → ¬ Contains entries s) → entries ≡ []
-    empty [] none = refl
-    empty (s ∷ rest) none = absurd (none s (first_element s rest))
+pub srat_rising : (whole : List ℕ) → AreRising 48 (srat_contents whole).entries
+unfolding srat_contents
+srat_rising whole = rising srat_entry 48 whole
+
+pub pptt_rising : (whole : List ℕ) → AreRising 36 (pptt_contents whole).entries
+unfolding pptt_contents
+pptt_rising whole = rising pptt_entry 36 whole
+
+-- an entry begins before the table's end
+inside : {E : Type 0} (read : List ℕ → E) (first : ℕ) (whole : List ℕ) (s : PlacedEntry E) → Contains (entries_read_by read (entries_of first whole)) s → s.offset < length whole
+inside read first whole s listed =
+    let (bytes, here, _) = said_from read (entries_of first whole) s.offset s.entry listed in
+    omega (arith, entry_within first whole s.offset bytes here)
+
+pub madt_inside : (whole : List ℕ) (s : PlacedEntry MadtEntry) → Contains (madt_contents whole).entries s → s.offset < length whole
+unfolding madt_contents
+madt_inside whole s listed = inside madt_entry 44 whole s listed
+
+pub srat_inside : (whole : List ℕ) (s : PlacedEntry SratEntry) → Contains (srat_contents whole).entries s → s.offset < length whole
+unfolding srat_contents
+srat_inside whole s listed = inside srat_entry 48 whole s listed
 
 -- ---- keys rise
 
 -- what is kept of an entry has the entry's offset for its key
-abbrev pub AreKeyed : {E Y : Type 0} → (Standing E → Option Y) → (Y → ℕ) → Type 0
-AreKeyed {E} {Y} h key = (s : Standing E) (y : Y) → h s ≡ Some y → key y ≡ s.offset
+abbrev pub AreKeyed : {E Y : Type 0} → (PlacedEntry E → Option Y) → (Y → ℕ) → Type 0
+AreKeyed {E} {Y} h key = (s : PlacedEntry E) (y : Y) → h s ≡ Some y → key y ≡ s.offset
 
 -- so keys are no lower than the least offset
-keys_from : {E Y : Type 0} (h : Standing E → Option Y) (key : Y → ℕ) → AreKeyed h key → (low : ℕ) (entries : List (Standing E)) → AreRising low entries → All (λ y. low ≤ key y) (filter_map h entries)
+keys_from : {E Y : Type 0} (h : PlacedEntry E → Option Y) (key : Y → ℕ) → AreKeyed h key → (low : ℕ) (entries : List (PlacedEntry E)) → AreRising low entries → All (λ y. low ≤ key y) (filter_map h entries)
 keys_from h key keyed low [] rises = All-nil (λ y. low ≤ key y)
 keys_from h key keyed low (s ∷ rest) rises =
     let later = keys_from h key keyed low rest (rising_from_less low (suc s.offset) rest (omega (arith, rises.0)) rises.1) in
@@ -112,7 +127,7 @@ keys_from h key keyed low (s ∷ rest) rises =
     ]
 
 -- and each is below those behind it
-pub keys_rise : {E Y : Type 0} (h : Standing E → Option Y) (key : Y → ℕ) → AreKeyed h key → (low : ℕ) (entries : List (Standing E)) → AreRising low entries → AllPairs (λ x y. key x < key y) (filter_map h entries)
+pub keys_rise : {E Y : Type 0} (h : PlacedEntry E → Option Y) (key : Y → ℕ) → AreKeyed h key → (low : ℕ) (entries : List (PlacedEntry E)) → AreRising low entries → AllPairs (λ x y. key x < key y) (filter_map h entries)
 keys_rise h key keyed low [] rises = λ i j d before below. absurd (omega arith)
 keys_rise h key keyed low (s ∷ rest) rises =
     let later = keys_rise h key keyed (suc s.offset) rest rises.1 in

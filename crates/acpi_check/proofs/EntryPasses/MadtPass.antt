@@ -3,7 +3,7 @@ use Rattle.std.proofs.Common.{◌≡◌, ℕ, ◌<◌, ◌≤◌, List, [], ◌�
 use Rattle.std.specs.Prelude.{◌⊎◌}
 use Rattle.std.proofs.lemmas.Option.{none-some}
 use Rattle.acpi_base.specs.Codes.{code_number, stage_of}
-use Rattle.acpi_base.specs.Entries.{Standing, Stands, StandsWith, AreUnused, entries_of, cut_of, said_by}
+use Rattle.acpi_base.specs.Entries.{PlacedEntry, Stands, StandsWith, AreUnused, entries_of, cut_of, entries_read_by}
 use Rattle.acpi_base.specs.Faults.{NotAfter}
 use Rattle.acpi_base.specs.Madt.{MadtEntry, AddressOverride, MadtContents, madt_entry, madt_contents, IsSoundMadt, IsSoundMadtEntry, IsAddressOverride, MadtEntryFault, MadtFault}
 use Rattle.acpi_base.specs.Policy.{PolicyValue}
@@ -14,9 +14,10 @@ use Rattle.acpi_base.specs.declared.witness.Witness.{Witness}
 use Rattle.acpi_base.proofs.Elements.{first_element, later_element}
 use Rattle.acpi_base.proofs.Entries.{none_in_short}
 use Rattle.acpi_base.proofs.Faults.Order.{not_after}
-use Rattle.acpi_base.proofs.HeldBytes.{none_and_some, same_value}
+use Rattle.acpi_base.proofs.Images.HeldBytes.{none_and_some, same_value}
 use Rattle.acpi_base.proofs.Madt.Faults.{entry_excludes}
 use Rattle.acpi_check.specs.Passed.{IsFirstOfTable, IsOwnFault, IsSecondOverride, PassesMadtEntry}
+use Rattle.acpi_check.proofs.EntryPasses.Kept.{rising}
 use Rattle.acpi_check.proofs.EntryPasses.Passes.{HasPassed, none_passed, one_more, before_or_behind, left_behind, next_stands, all_passed, own_fault_after, before_cut, none_said}
 
 -- ---- an entry by itself
@@ -53,23 +54,23 @@ abbrev Passed : PolicyValue → Option ℕ → ℕ → MadtEntry → Type 0
 Passed q earlier o e = IsSoundMadtEntry q e × (IsAddressOverride e → earlier ≡ Some o)
 
 -- the pass has these entries left, and the first address override stands at `earlier`, before them
-pub record IsAt (q : PolicyValue) (whole : List ℕ) (left : List (Standing (List ℕ))) (earlier : Option ℕ) : Type 0 where
+pub record IsAt (q : PolicyValue) (whole : List ℕ) (left : List (PlacedEntry (List ℕ))) (earlier : Option ℕ) : Type 0 where
   pub long : 44 ≤ length whole
-  pub pass : HasPassed (madt_contents whole).entries (said_by madt_entry left) (Passed q earlier)
+  pub pass : HasPassed (madt_contents whole).entries (entries_read_by madt_entry left) (Passed q earlier)
   pub first : (o : ℕ) → earlier ≡ Some o → StandsWith (madt_contents whole).entries o IsAddressOverride
-  pub before : (o p : ℕ) (e : MadtEntry) → earlier ≡ Some o → Stands (said_by madt_entry left) p e → o < p
+  pub before : (o p : ℕ) (e : MadtEntry) → earlier ≡ Some o → Stands (entries_read_by madt_entry left) p e → o < p
 
 pub at_first : (q : PolicyValue) (whole : List ℕ) → 44 ≤ length whole → IsAt q whole (entries_of 44 whole) None
 unfolding madt_contents
 at_first q whole long =
     record {
       long = long;
-      pass = none_passed madt_entry 44 whole (Passed q None);
+      pass = none_passed 44 (Passed q None) (rising madt_entry 44 whole);
       first = λ o is. absurd (none-some o is);
       before = λ o p e is stands. absurd (none-some o is);
     }
 
-pub at_next : (q : PolicyValue) (whole : List ℕ) (s : Standing (List ℕ)) (left : List (Standing (List ℕ))) (earlier now : Option ℕ) → IsAt q whole (s ∷ left) earlier
+pub at_next : (q : PolicyValue) (whole : List ℕ) (s : PlacedEntry (List ℕ)) (left : List (PlacedEntry (List ℕ))) (earlier now : Option ℕ) → IsAt q whole (s ∷ left) earlier
     → PassesMadtEntry q s.offset (madt_entry s.entry) earlier (Ok now) → IsAt q whole left now
 at_next q whole s left earlier now here (sound, inl (is, none, first)) =
     record {
@@ -83,7 +84,7 @@ at_next q whole s left earlier now here (sound, inr (is_not, same)) =
       long = here.long;
       pass = one_more here.pass (sound, λ is. absurd (is_not is)) (λ o e before passed. (passed.0, λ is. same ∙ passed.1 is));
       first = λ o at. here.first o (sym same ∙ at);
-      before = λ o p e at stands. here.before o p e (sym same ∙ at) (later_element _ _ (said_by madt_entry left) stands);
+      before = λ o p e at stands. here.before o p e (sym same ∙ at) (later_element _ _ (entries_read_by madt_entry left) stands);
     }
 
 -- ---- where it stops
@@ -93,7 +94,7 @@ unfolding madt_contents
 not_short whole long short = omega arith
 
 -- a fault that an entry has by itself comes with the least fault of the next entry or behind it
-own_after : (q : PolicyValue) (whole : List ℕ) (s : Standing (List ℕ)) (left : List (Standing (List ℕ))) (earlier : Option ℕ) (w : Witness) → IsAt q whole (s ∷ left) earlier
+own_after : (q : PolicyValue) (whole : List ℕ) (s : PlacedEntry (List ℕ)) (left : List (PlacedEntry (List ℕ))) (earlier : Option ℕ) (w : Witness) → IsAt q whole (s ∷ left) earlier
     → w.at ≡ s.offset → IsOwnFault (λ c. MadtEntryFault q c (madt_entry s.entry)) w ⊎ IsSecondOverride (madt_entry s.entry) earlier w
     → (c : Code) (at other point : ℕ) → StandsWith (madt_contents whole).entries at (MadtEntryFault q c) → AreUnused other point → NotAfter w (record { code = c; at = at; other = other; point = point })
 own_after q whole s left earlier w here place fault =
@@ -104,7 +105,7 @@ own_after q whole s left earlier w here place fault =
     ])
 
 -- and so does a second address override
-second_after : (q : PolicyValue) (whole : List ℕ) (s : Standing (List ℕ)) (left : List (Standing (List ℕ))) (earlier : Option ℕ) (w : Witness) → IsAt q whole (s ∷ left) earlier
+second_after : (q : PolicyValue) (whole : List ℕ) (s : PlacedEntry (List ℕ)) (left : List (PlacedEntry (List ℕ))) (earlier : Option ℕ) (w : Witness) → IsAt q whole (s ∷ left) earlier
     → w.at ≡ s.offset → IsOwnFault (λ c. MadtEntryFault q c (madt_entry s.entry)) w ⊎ IsSecondOverride (madt_entry s.entry) earlier w
     → (at other point : ℕ) → StandsWith (madt_contents whole).entries at IsAddressOverride → StandsWith (madt_contents whole).entries other IsAddressOverride → other < at → point ≡ 0
     → NotAfter w (record { code = code.SecondAddressOverride; at = at; other = other; point = point })
@@ -132,7 +133,7 @@ second_after q whole s left earlier w here place fault at other point (e, stands
     ]
 
 -- no fault of the table stands before the least fault of the next entry
-none_before : (q : PolicyValue) (whole : List ℕ) (s : Standing (List ℕ)) (left : List (Standing (List ℕ))) (earlier : Option ℕ) (w : Witness) → IsAt q whole (s ∷ left) earlier
+none_before : (q : PolicyValue) (whole : List ℕ) (s : PlacedEntry (List ℕ)) (left : List (PlacedEntry (List ℕ))) (earlier : Option ℕ) (w : Witness) → IsAt q whole (s ∷ left) earlier
     → w.at ≡ s.offset → IsOwnFault (λ c. MadtEntryFault q c (madt_entry s.entry)) w ⊎ IsSecondOverride (madt_entry s.entry) earlier w
     → (c : Code) (at other point : ℕ) → MadtFault q (madt_contents whole) c at other point → NotAfter w (record { code = c; at = at; other = other; point = point })
 unfolding madt_contents
@@ -144,7 +145,7 @@ none_before q whole s left earlier w here place fault code.SecondAddressOverride
 none_before q whole s left earlier w here place fault c at other point wrong = own_after q whole s left earlier w here place fault c at other point wrong.0 wrong.1
 
 -- the pass stops at the first fault
-pub stops : (q : PolicyValue) (whole : List ℕ) (s : Standing (List ℕ)) (left : List (Standing (List ℕ))) (earlier : Option ℕ) (w : Witness) → IsAt q whole (s ∷ left) earlier
+pub stops : (q : PolicyValue) (whole : List ℕ) (s : PlacedEntry (List ℕ)) (left : List (PlacedEntry (List ℕ))) (earlier : Option ℕ) (w : Witness) → IsAt q whole (s ∷ left) earlier
     → PassesMadtEntry q s.offset (madt_entry s.entry) earlier (Err w) → IsFirstOfTable stage.Madt (MadtFault q (madt_contents whole)) w
 stops q whole s left earlier w here (place, inl own) =
     let stands = subst (λ k. Stands (madt_contents whole).entries k (madt_entry s.entry)) (sym place) (next_stands here.pass) in
@@ -155,7 +156,7 @@ stops q whole s left earlier w here (place, inl own) =
     }
 stops q whole s left earlier w here (place, inr second) =
     let stands = subst (λ k. Stands (madt_contents whole).entries k (madt_entry s.entry)) (sym place) (next_stands here.pass) in
-    let before = here.before w.other s.offset (madt_entry s.entry) second.first (first_element _ (said_by madt_entry left)) in
+    let before = here.before w.other s.offset (madt_entry s.entry) second.first (first_element _ (entries_read_by madt_entry left)) in
     record {
       own = ap stage_of second.code;
       fault = subst (λ c. MadtFault q (madt_contents whole) c w.at w.other w.point) (sym second.code) ((madt_entry s.entry, stands, second.override), here.first w.other second.first, omega arith, second.unused);

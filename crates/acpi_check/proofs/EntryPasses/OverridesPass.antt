@@ -1,16 +1,16 @@
 -- A pass over the overrides of a MADT: it stops at the first clash, and finds none where the overrides agree.
-use Rattle.std.proofs.Common.{◌≡◌, ℕ, ◌<◌, List, [], ◌∷◌, length, replicate, Option, Some, None, refl, sym, ◌∙◌, subst}
-use Rattle.acpi_base.specs.Entries.{Standing, entries_of, said_by}
+use Rattle.std.proofs.Common.{◌≡◌, ℕ, List, [], ◌∷◌, replicate, Option, Some, None, refl, sym, ◌∙◌, subst}
+use Rattle.acpi_base.specs.Entries.{PlacedEntry}
 use Rattle.acpi_base.specs.Faults.{NotAfter}
-use Rattle.acpi_base.specs.Madt.{MadtEntry, Override, OverrideValue, madt_entry, madt_contents, Overrides, DoOverridesAgree, OverrideFault}
+use Rattle.acpi_base.specs.Madt.{MadtEntry, MadtContents, Override, OverrideValue, madt_contents, Overrides, DoOverridesAgree, OverrideFault}
 use Rattle.acpi_base.specs.declared.code.Code.{Code}
 use Rattle.acpi_base.specs.declared.code.Code.TheVariants as code
 use Rattle.acpi_base.specs.declared.stage.Stage.TheVariants as stage
 use Rattle.acpi_base.specs.declared.witness.Witness.{Witness}
 use Rattle.acpi_check.specs.Overrides.{IsOtherNumber, PassesOverride}
 use Rattle.acpi_check.specs.Passed.{IsFirstOfTable}
-use Rattle.acpi_check.specs.declared.firsts.FirstValue.{FirstValue}
-use Rattle.acpi_check.proofs.EntryPasses.Passes.{none_said}
+use Rattle.acpi_check.specs.declared.first_seen.FirstSeen.{FirstSeen}
+use Rattle.acpi_check.proofs.EntryPasses.Kept.{madt_rising}
 use Rattle.acpi_check.proofs.EntryPasses.ValuesPass as values
 use Rattle.acpi_check.proofs.EntryPasses.ValuesPass.{IsKeyed}
 
@@ -25,29 +25,28 @@ keyed = record { one_key = one_key; one_place = λ s k l here too. sym here ∙ 
 -- ---- the pass
 
 -- the pass has these entries left, and of each Source the first number stands where it is kept
-abbrev pub IsAt : List ℕ → List (Standing (List ℕ)) → List (Option FirstValue) → Type 0
-IsAt whole left firsts = values.IsAt Overrides (λ s k. s ≡ k) (madt_contents whole).entries (said_by madt_entry left) firsts
+abbrev pub IsAt : MadtContents → List (PlacedEntry MadtEntry) → List (Option FirstSeen) → Type 0
+IsAt madt left firsts = values.IsAt Overrides (λ s k. s ≡ k) madt.entries left firsts
 
-pub at_first : (n : ℕ) (whole : List ℕ) → IsAt whole (entries_of 44 whole) (replicate n None)
-unfolding madt_contents
-at_first n whole = values.at_first Overrides (λ s k. s ≡ k) madt_entry 44 n whole
+pub at_first : (n : ℕ) (whole : List ℕ) → IsAt (madt_contents whole) (madt_contents whole).entries (replicate n None)
+at_first n whole = values.at_first Overrides (λ s k. s ≡ k) 44 n (madt_rising whole)
 
 -- past the next entry
-pub at_next : (whole : List ℕ) (s : Standing (List ℕ)) (left : List (Standing (List ℕ))) (firsts now : List (Option FirstValue)) → IsAt whole (s ∷ left) firsts
-    → PassesOverride s.offset (madt_entry s.entry) firsts now None → IsAt whole left now
-at_next whole s left firsts now here passes = next (madt_entry s.entry) refl passes
+pub at_next : (madt : MadtContents) (s : PlacedEntry MadtEntry) (left : List (PlacedEntry MadtEntry)) (firsts now : List (Option FirstSeen)) → IsAt madt (s ∷ left) firsts
+    → PassesOverride s.offset s.entry firsts now None → IsAt madt left now
+at_next madt s left firsts now here passes = next s.entry refl passes
   where
-    next : (e : MadtEntry) → madt_entry s.entry ≡ e → PassesOverride s.offset e firsts now None → IsAt whole left now
+    next : (e : MadtEntry) → s.entry ≡ e → PassesOverride s.offset e firsts now None → IsAt madt left now
     next (Override v) is notes = values.past_value firsts now keyed here v.source v.gsi v.source (subst (Overrides v.source v.gsi) (sym is) (refl, refl)) refl notes
-    next _ is same = subst (IsAt whole left) (sym same) (values.past_other here (λ t g gives. absurd (subst (Overrides t g) is gives)))
+    next _ is same = subst (IsAt madt left) (sym same) (values.past_other here (λ t g gives. absurd (subst (Overrides t g) is gives)))
 
 -- the pass stops at the first fault
-pub stops : (whole : List ℕ) (s : Standing (List ℕ)) (left : List (Standing (List ℕ))) (firsts now : List (Option FirstValue)) (w : Witness) → IsAt whole (s ∷ left) firsts
-    → PassesOverride s.offset (madt_entry s.entry) firsts now (Some w) → IsFirstOfTable stage.Overrides (OverrideFault (madt_contents whole)) w
-stops whole s left firsts now w here passes = at (madt_entry s.entry) refl passes
+pub stops : (madt : MadtContents) (s : PlacedEntry MadtEntry) (left : List (PlacedEntry MadtEntry)) (firsts now : List (Option FirstSeen)) (w : Witness) → IsAt madt (s ∷ left) firsts
+    → PassesOverride s.offset s.entry firsts now (Some w) → IsFirstOfTable stage.Overrides (OverrideFault madt) w
+stops madt s left firsts now w here passes = at s.entry refl passes
   where
-    found : (v : OverrideValue) → madt_entry s.entry ≡ Override v → (h : IsOtherNumber s.offset v firsts w)
-        → IsFirstOfTable stage.Overrides (OverrideFault (madt_contents whole)) (record { code = code.OverrideClash; at = s.offset; other = h.first.offset; point = v.source })
+    found : (v : OverrideValue) → s.entry ≡ Override v → (h : IsOtherNumber s.offset v firsts w)
+        → IsFirstOfTable stage.Overrides (OverrideFault madt) (record { code = code.OverrideClash; at = s.offset; other = h.first.offset; point = v.source })
     found v is h =
         let other = values.stops firsts keyed here v.source v.gsi v.source h.first (subst (Overrides v.source v.gsi) (sym is) (refl, refl)) refl h.unlike in
         let c = other.clash in
@@ -57,24 +56,19 @@ stops whole s left firsts now w here passes = at (madt_entry s.entry) refl passe
           least = λ u wrong. least u.code u.at u.other u.point wrong;
         }
       where
-        least : (c : Code) (p o point : ℕ) → OverrideFault (madt_contents whole) c p o point
+        least : (c : Code) (p o point : ℕ) → OverrideFault madt c p o point
             → NotAfter (record { code = code.OverrideClash; at = s.offset; other = h.first.offset; point = v.source }) (record { code = c; at = p; other = o; point = point })
         least code.OverrideClash p o point (g, d, one, earlier, before, differ) =
             let other = values.stops firsts keyed here v.source v.gsi v.source h.first (subst (Overrides v.source v.gsi) (sym is) (refl, refl)) refl h.unlike in
             values.in_order code.OverrideClash s.offset h.first.offset v.source p o point (other.first p o point (record { d = g; h = d; one = one; earlier = earlier; before = before; differ = differ }))
         least _ p o point wrong = absurd wrong
 
-    at : (e : MadtEntry) → madt_entry s.entry ≡ e → PassesOverride s.offset e firsts now (Some w) → IsFirstOfTable stage.Overrides (OverrideFault (madt_contents whole)) w
-    at (Override v) is h = subst (IsFirstOfTable stage.Overrides (OverrideFault (madt_contents whole))) (sym h.is) (found v is h)
+    at : (e : MadtEntry) → s.entry ≡ e → PassesOverride s.offset e firsts now (Some w) → IsFirstOfTable stage.Overrides (OverrideFault madt) w
+    at (Override v) is h = subst (IsFirstOfTable stage.Overrides (OverrideFault madt)) (sym h.is) (found v is h)
     at _ is wrong = absurd wrong
 
 -- ---- where no entry is left
 
 -- overrides that were passed agree
-pub ends_agree : (whole : List ℕ) (firsts : List (Option FirstValue)) → IsAt whole [] firsts → DoOverridesAgree (madt_contents whole)
-ends_agree whole firsts here o p s g h one other = values.ends firsts keyed here o p s g h one other
-
--- and so do those of a MADT of fewer than 44 bytes, which has none
-pub short_agree : (whole : List ℕ) → length whole < 44 → DoOverridesAgree (madt_contents whole)
-unfolding madt_contents
-short_agree whole short o p s g h one other = absurd (none_said madt_entry 44 whole short o one.0 one.1)
+pub ends_agree : (madt : MadtContents) (firsts : List (Option FirstSeen)) → IsAt madt [] firsts → DoOverridesAgree madt
+ends_agree madt firsts here o p s g h one other = values.ends firsts keyed here o p s g h one other

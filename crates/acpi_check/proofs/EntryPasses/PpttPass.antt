@@ -2,7 +2,7 @@
 -- table.
 use Rattle.std.proofs.Common.{◌≡◌, ℕ, ◌<◌, ◌≤◌, List, [], ◌∷◌, Some, None, refl, sym, ◌∙◌, inl, inr, arith}
 use Rattle.std.specs.Prelude.{slice_index}
-use Rattle.acpi_base.specs.Entries.{Standing, entries_of, cut_of, said_by}
+use Rattle.acpi_base.specs.Entries.{PlacedEntry, entries_of, cut_of, entries_read_by}
 use Rattle.acpi_base.specs.Faults.{NotAfter}
 use Rattle.acpi_base.specs.Pptt.{Opaque, pptt_entry, pptt_contents, HasOtherPpttLength, IsCutPptt, PpttFault}
 use Rattle.acpi_base.specs.declared.code.Code.{Code}
@@ -10,28 +10,29 @@ use Rattle.acpi_base.specs.declared.code.Code.TheVariants as code
 use Rattle.acpi_base.specs.declared.stage.Stage.TheVariants as stage
 use Rattle.acpi_base.specs.declared.witness.Witness.{Witness}
 use Rattle.acpi_base.proofs.Faults.Order.{not_after}
-use Rattle.acpi_base.proofs.HeldBytes.{same_value}
+use Rattle.acpi_base.proofs.Images.HeldBytes.{same_value}
 use Rattle.acpi_check.specs.Passed.{IsFirstOfTable}
+use Rattle.acpi_check.proofs.EntryPasses.Kept.{rising}
 use Rattle.acpi_check.proofs.EntryPasses.Passes.{HasPassed, none_passed, one_more, before_or_behind, before_cut, next_stands, all_passed}
 
 -- the pass has these entries left, and those before them have a length of their type
-abbrev pub IsAt : List ℕ → List (Standing (List ℕ)) → Type 0
-IsAt whole left = HasPassed (pptt_contents whole).entries (said_by pptt_entry left) (λ o e. ¬ HasOtherPpttLength e)
+abbrev pub IsAt : List ℕ → List (PlacedEntry (List ℕ)) → Type 0
+IsAt whole left = HasPassed (pptt_contents whole).entries (entries_read_by pptt_entry left) (λ o e. ¬ HasOtherPpttLength e)
 
 pub at_first : (whole : List ℕ) → IsAt whole (entries_of 36 whole)
 unfolding pptt_contents
-at_first whole = none_passed pptt_entry 36 whole (λ o e. ¬ HasOtherPpttLength e)
+at_first whole = none_passed 36 (λ o e. ¬ HasOtherPpttLength e) (rising pptt_entry 36 whole)
 
-pub at_next : (whole : List ℕ) (s : Standing (List ℕ)) (left : List (Standing (List ℕ))) → IsAt whole (s ∷ left) → ¬ HasOtherPpttLength (pptt_entry s.entry) → IsAt whole left
+pub at_next : (whole : List ℕ) (s : PlacedEntry (List ℕ)) (left : List (PlacedEntry (List ℕ))) → IsAt whole (s ∷ left) → ¬ HasOtherPpttLength (pptt_entry s.entry) → IsAt whole left
 at_next whole s left here sound = one_more here sound (λ o e before passed. passed)
 
 -- the next entry stands before the cut
-next_before_cut : (whole : List ℕ) (s : Standing (List ℕ)) (left : List (Standing (List ℕ))) → IsAt whole (s ∷ left) → (at : ℕ) → (pptt_contents whole).cut ≡ Some at → s.offset < at
+next_before_cut : (whole : List ℕ) (s : PlacedEntry (List ℕ)) (left : List (PlacedEntry (List ℕ))) → IsAt whole (s ∷ left) → (at : ℕ) → (pptt_contents whole).cut ≡ Some at → s.offset < at
 unfolding pptt_contents
 next_before_cut whole s left here at is = before_cut pptt_entry 36 whole at here is
 
 -- the pass stops at the first fault
-pub stops : (whole : List ℕ) (s : Standing (List ℕ)) (left : List (Standing (List ℕ))) → IsAt whole (s ∷ left) → pptt_entry s.entry ≡ Opaque s.entry → slice_index s.entry 0 ≤ 1
+pub stops : (whole : List ℕ) (s : PlacedEntry (List ℕ)) (left : List (PlacedEntry (List ℕ))) → IsAt whole (s ∷ left) → pptt_entry s.entry ≡ Opaque s.entry → slice_index s.entry 0 ≤ 1
     → IsFirstOfTable stage.Pptt (PpttFault (pptt_contents whole)) (record { code = code.PpttEntryLength; at = s.offset; other = 0; point = 0 })
 stops whole s left here opaque typed =
     record { own = refl; fault = ((pptt_entry s.entry, next_stands here, rw opaque typed), refl, refl); least = λ v wrong. least v.code v.at v.other v.point wrong }

@@ -1,7 +1,7 @@
 -- A pass over the entries of an SRAT: it stops at the first fault, and finds none where the table is sound.
 use Rattle.std.proofs.Common.{◌≡◌, ℕ, ◌<◌, ◌≤◌, List, [], ◌∷◌, length, None, Some, Err, refl, sym, subst, inl, inr, arith}
 use Rattle.acpi_base.specs.Codes.{stage_of}
-use Rattle.acpi_base.specs.Entries.{Standing, Stands, StandsWith, AreUnused, entries_of, cut_of, said_by}
+use Rattle.acpi_base.specs.Entries.{PlacedEntry, Stands, StandsWith, AreUnused, entries_of, cut_of, entries_read_by}
 use Rattle.acpi_base.specs.Faults.{NotAfter}
 use Rattle.acpi_base.specs.Srat.{SratEntry, SratContents, srat_entry, srat_contents, IsSoundSrat, IsSoundSratEntry, SratEntryFault, SratFault}
 use Rattle.acpi_base.specs.declared.code.Code.{Code}
@@ -10,9 +10,10 @@ use Rattle.acpi_base.specs.declared.stage.Stage.TheVariants as stage
 use Rattle.acpi_base.specs.declared.witness.Witness.{Witness}
 use Rattle.acpi_base.proofs.Faults.Order.{not_after}
 use Rattle.acpi_base.proofs.Entries.{none_in_short}
-use Rattle.acpi_base.proofs.HeldBytes.{none_and_some, same_value}
+use Rattle.acpi_base.proofs.Images.HeldBytes.{none_and_some, same_value}
 use Rattle.acpi_base.proofs.Srat.Faults.{entry_excludes}
 use Rattle.acpi_check.specs.Passed.{IsFirstOfTable, IsOwnFault, PassesSratEntry}
+use Rattle.acpi_check.proofs.EntryPasses.Kept.{rising}
 use Rattle.acpi_check.proofs.EntryPasses.Passes.{HasPassed, none_passed, one_more, next_stands, all_passed, own_fault_after, before_cut, none_said}
 
 -- ---- an entry by itself
@@ -32,15 +33,15 @@ own_fault c _ at other point (e, stands, fault) unused = absurd fault
 -- ---- the pass
 
 -- the pass has these entries left, and all before them are sound
-pub record IsAt (whole : List ℕ) (left : List (Standing (List ℕ))) : Type 0 where
+pub record IsAt (whole : List ℕ) (left : List (PlacedEntry (List ℕ))) : Type 0 where
   pub long : 48 ≤ length whole
-  pub pass : HasPassed (srat_contents whole).entries (said_by srat_entry left) (λ o e. IsSoundSratEntry e)
+  pub pass : HasPassed (srat_contents whole).entries (entries_read_by srat_entry left) (λ o e. IsSoundSratEntry e)
 
 pub at_first : (whole : List ℕ) → 48 ≤ length whole → IsAt whole (entries_of 48 whole)
 unfolding srat_contents
-at_first whole long = record { long = long; pass = none_passed srat_entry 48 whole (λ o e. IsSoundSratEntry e) }
+at_first whole long = record { long = long; pass = none_passed 48 (λ o e. IsSoundSratEntry e) (rising srat_entry 48 whole) }
 
-pub at_next : (whole : List ℕ) (s : Standing (List ℕ)) (left : List (Standing (List ℕ))) → IsAt whole (s ∷ left) → IsSoundSratEntry (srat_entry s.entry) → IsAt whole left
+pub at_next : (whole : List ℕ) (s : PlacedEntry (List ℕ)) (left : List (PlacedEntry (List ℕ))) → IsAt whole (s ∷ left) → IsSoundSratEntry (srat_entry s.entry) → IsAt whole left
 at_next whole s left here sound = record { long = here.long; pass = one_more here.pass sound (λ o e before passed. passed) }
 
 -- ---- where it stops
@@ -50,7 +51,7 @@ unfolding srat_contents
 not_short whole long short = omega arith
 
 -- no fault of the table stands before the fault of the next entry
-none_before : (whole : List ℕ) (s : Standing (List ℕ)) (left : List (Standing (List ℕ))) (w : Witness) → IsAt whole (s ∷ left) → w.at ≡ s.offset → IsOwnFault (λ c. SratEntryFault c (srat_entry s.entry)) w
+none_before : (whole : List ℕ) (s : PlacedEntry (List ℕ)) (left : List (PlacedEntry (List ℕ))) (w : Witness) → IsAt whole (s ∷ left) → w.at ≡ s.offset → IsOwnFault (λ c. SratEntryFault c (srat_entry s.entry)) w
     → (c : Code) (at other point : ℕ) → SratFault (srat_contents whole) c at other point → NotAfter w (record { code = c; at = at; other = other; point = point })
 unfolding srat_contents
 none_before whole s left w here place own code.SratShort at other point (short, _, _) = absurd (not_short whole here.long short)
@@ -59,7 +60,7 @@ none_before whole s left w here place own c at other point wrong =
     own_fault_after here.pass SratEntryFault (λ d o e sound fault. entry_excludes d e fault sound) w place (λ d mine. (own.least d mine, own.unused)) c at other point wrong.0 wrong.1
 
 -- the pass stops at the first fault
-pub stops : (whole : List ℕ) (s : Standing (List ℕ)) (left : List (Standing (List ℕ))) (w : Witness) → IsAt whole (s ∷ left)
+pub stops : (whole : List ℕ) (s : PlacedEntry (List ℕ)) (left : List (PlacedEntry (List ℕ))) (w : Witness) → IsAt whole (s ∷ left)
     → PassesSratEntry s.offset (srat_entry s.entry) (Err w) → IsFirstOfTable stage.Srat (SratFault (srat_contents whole)) w
 stops whole s left w here (place, own) =
     let stands = subst (λ k. Stands (srat_contents whole).entries k (srat_entry s.entry)) (sym place) (next_stands here.pass) in

@@ -6,31 +6,32 @@ use Rattle.std.specs.List.{slice_get}
 use Rattle.std.proofs.lemmas.List.{get_or-replicate, get_or-set_same, length-set, length-replicate}
 use Rattle.std.proofs.lemmas.Option.{none-some, same_Some, slice_get_within, slice_get-get_or, get_or_from_slice_get}
 use Rattle.std.proofs.Math.Nat.{eq-or-lt_of_le}
-use Rattle.acpi_base.specs.Entries.{Standing, Stands, StandsWith, entries_of, said_by}
+use Rattle.acpi_base.specs.Entries.{PlacedEntry, Stands, StandsWith}
 use Rattle.acpi_base.proofs.Elements.{first_element, later_element}
 use Rattle.acpi_base.proofs.Faults.Deciding.{same}
 use Rattle.acpi_base.specs.Faults.{NotAfter}
 use Rattle.acpi_base.specs.declared.code.Code.{Code}
-use Rattle.acpi_check.specs.Firsts.{HasFirst, HasNone, IsUnlikeFirst, NotesValue}
-use Rattle.acpi_check.specs.declared.firsts.FirstValue.{FirstValue}
+use Rattle.acpi_check.specs.FirstSeen.{HasFirst, HasNone, IsUnlikeFirst, RecordsFirstSeen}
+use Rattle.acpi_check.specs.declared.first_seen.FirstSeen.{FirstSeen}
+use Rattle.acpi_check.proofs.EntryPasses.Kept.{AreRising}
 use Rattle.acpi_check.proofs.EntryPasses.Passes.{HasPassed, none_passed, one_more, before_or_behind, left_behind, next_stands, all_passed}
 
 -- ---- the first values that are kept
 
 -- at most one at a place
-one_first : (firsts : List (Option FirstValue)) (k : ℕ) (f g : FirstValue) → HasFirst firsts k f → HasFirst firsts k g → f ≡ g
+one_first : (firsts : List (Option FirstSeen)) (k : ℕ) (f g : FirstSeen) → HasFirst firsts k f → HasFirst firsts k g → f ≡ g
 one_first firsts k f g one other = same_Some f g (same_Some (Some f) (Some g) (sym one ∙ other))
 
 -- where none is kept there is no first one
-no_first : (firsts : List (Option FirstValue)) (k : ℕ) (f : FirstValue) → HasNone firsts k → ¬ HasFirst firsts k f
+no_first : (firsts : List (Option FirstSeen)) (k : ℕ) (f : FirstSeen) → HasNone firsts k → ¬ HasFirst firsts k f
 no_first firsts k f none one = none-some f (same_Some None (Some f) (sym none ∙ one))
 
 -- at first none is kept
-none_kept : (n k : ℕ) (f : FirstValue) → ¬ HasFirst (replicate n None) k f
+none_kept : (n k : ℕ) (f : FirstSeen) → ¬ HasFirst (replicate n None) k f
 none_kept n k f one = grind (arith, none-some, slice_get_within, length-replicate, get_or_from_slice_get (replicate n None) k (Some f) None one, get_or-replicate)
 
 -- one that is kept from now on
-kept_now : (firsts : List (Option FirstValue)) (k : ℕ) (f : FirstValue) → HasNone firsts k → HasFirst (slice_set firsts k (Some f)) k f
+kept_now : (firsts : List (Option FirstSeen)) (k : ℕ) (f : FirstSeen) → HasNone firsts k → HasFirst (slice_set firsts k (Some f)) k f
 kept_now firsts k f none = grind (arith, slice_get_within firsts k None none, length-set, slice_get-get_or (slice_set firsts k (Some f)) k None, get_or-set_same firsts k (Some f) None)
 
 -- an element at another place of a list stays
@@ -42,12 +43,12 @@ set_other (x ∷ xs) (suc i) zero y differ = refl
 set_other (x ∷ xs) (suc i) (suc j) y differ = set_other xs i j y (λ same. differ (ap suc same))
 
 -- those at other places stay
-kept_still : (firsts : List (Option FirstValue)) (k l : ℕ) (f g : FirstValue) → HasNone firsts k → HasFirst firsts l g → HasFirst (slice_set firsts k (Some f)) l g
+kept_still : (firsts : List (Option FirstSeen)) (k l : ℕ) (f g : FirstSeen) → HasNone firsts k → HasFirst firsts l g → HasFirst (slice_set firsts k (Some f)) l g
 kept_still firsts k l f g none one =
     set_other firsts k l (Some f) (λ same. no_first firsts k g none (subst (λ n. HasFirst firsts n g) same one)) ∙ one
 
 -- and no others come
-kept_before : (firsts : List (Option FirstValue)) (k l : ℕ) (f g : FirstValue) → HasNone firsts k → HasFirst (slice_set firsts k (Some f)) l g → ((l ≡ k) × (g ≡ f)) ⊎ HasFirst firsts l g
+kept_before : (firsts : List (Option FirstSeen)) (k l : ℕ) (f g : FirstSeen) → HasNone firsts k → HasFirst (slice_set firsts k (Some f)) l g → ((l ≡ k) × (g ≡ f)) ⊎ HasFirst firsts l g
 kept_before firsts k l f g none one =
     elim (same l k) [
       | inl is ↦ inl (is, one_first (slice_set firsts k (Some f)) k g f (subst (λ n. HasFirst (slice_set firsts k (Some f)) n g) is one) (kept_now firsts k f none))
@@ -63,7 +64,7 @@ pub record IsKeyed {E : Type 0} (Gives : ℕ → ℕ → E → Type 0) (Place : 
   pub key_of : (i j k : ℕ) → Place i k → Place j k → i ≡ j
 
 -- the entries at `at` and, before it, at `other` give the key `point` two values
-pub record IsOther {E : Type 0} (Gives : ℕ → ℕ → E → Type 0) (entries : List (Standing E)) (at other point : ℕ) : Type 0 where
+pub record IsOther {E : Type 0} (Gives : ℕ → ℕ → E → Type 0) (entries : List (PlacedEntry E)) (at other point : ℕ) : Type 0 where
   pub d : ℕ
   pub h : ℕ
   pub one : StandsWith entries at (Gives point d)
@@ -72,7 +73,7 @@ pub record IsOther {E : Type 0} (Gives : ℕ → ℕ → E → Type 0) (entries 
   pub differ : d ≢ h
 
 -- no two such entries stand before these
-pub record IsFirstOther {E : Type 0} (Gives : ℕ → ℕ → E → Type 0) (entries : List (Standing E)) (at other point : ℕ) : Type 0 where
+pub record IsFirstOther {E : Type 0} (Gives : ℕ → ℕ → E → Type 0) (entries : List (PlacedEntry E)) (at other point : ℕ) : Type 0 where
   pub clash : IsOther Gives entries at other point
   pub first : (p o i : ℕ) → IsOther Gives entries p o i → (at < p) ⊎ ((at ≡ p) × (other ≤ o) × (point ≡ i))
 
@@ -84,32 +85,31 @@ in_order c at other point p o i (inr (same, most, key)) = inr (same, inr (refl, 
 -- ---- the pass
 
 -- the entry at o, which was passed, gives its key the value that the first one gives, which stands there or before
-abbrev pub Passed : {E : Type 0} → (ℕ → ℕ → E → Type 0) → (ℕ → ℕ → Type 0) → List (Option FirstValue) → ℕ → E → Type 0
-Passed Gives Place firsts o e = (i d : ℕ) → Gives i d e → (k : ℕ) × (f : FirstValue) × Place i k × HasFirst firsts k f × (f.value ≡ d) × (f.offset ≤ o)
+abbrev pub Passed : {E : Type 0} → (ℕ → ℕ → E → Type 0) → (ℕ → ℕ → Type 0) → List (Option FirstSeen) → ℕ → E → Type 0
+Passed Gives Place firsts o e = (i d : ℕ) → Gives i d e → (k : ℕ) × (f : FirstSeen) × Place i k × HasFirst firsts k f × (f.value ≡ d) × (f.offset ≤ o)
 
 -- the pass has these entries left, and of each key the first value stands where it is kept, before them
-pub record IsAt {E : Type 0} (Gives : ℕ → ℕ → E → Type 0) (Place : ℕ → ℕ → Type 0) (entries left : List (Standing E)) (firsts : List (Option FirstValue)) : Type 0 where
+pub record IsAt {E : Type 0} (Gives : ℕ → ℕ → E → Type 0) (Place : ℕ → ℕ → Type 0) (entries left : List (PlacedEntry E)) (firsts : List (Option FirstSeen)) : Type 0 where
   pub pass : HasPassed entries left (Passed Gives Place firsts)
-  pub first : (i k : ℕ) (f : FirstValue) → Place i k → HasFirst firsts k f → StandsWith entries f.offset (Gives i f.value)
-  pub before : (k p : ℕ) (f : FirstValue) (e : E) → HasFirst firsts k f → Stands left p e → f.offset < p
+  pub first : (i k : ℕ) (f : FirstSeen) → Place i k → HasFirst firsts k f → StandsWith entries f.offset (Gives i f.value)
+  pub before : (k p : ℕ) (f : FirstSeen) (e : E) → HasFirst firsts k f → Stands left p e → f.offset < p
 
 -- before the first entry
-pub at_first : {E : Type 0} (Gives : ℕ → ℕ → E → Type 0) (Place : ℕ → ℕ → Type 0) (say : List ℕ → E) (first n : ℕ) (whole : List ℕ)
-    → IsAt Gives Place (said_by say (entries_of first whole)) (said_by say (entries_of first whole)) (replicate n None)
-at_first Gives Place say first n whole =
+pub at_first : {E : Type 0} (Gives : ℕ → ℕ → E → Type 0) (Place : ℕ → ℕ → Type 0) (low n : ℕ) {entries : List (PlacedEntry E)} → AreRising low entries → IsAt Gives Place entries entries (replicate n None)
+at_first Gives Place low n rises =
     record {
-      pass = none_passed say first whole (Passed Gives Place (replicate n None));
+      pass = none_passed low (Passed Gives Place (replicate n None)) rises;
       first = λ i k f place kept. absurd (none_kept n k f kept);
       before = λ k p f e kept stands. absurd (none_kept n k f kept);
     }
 
 -- the first values stand before the next entry
-first_before : {E : Type 0} {Gives : ℕ → ℕ → E → Type 0} {Place : ℕ → ℕ → Type 0} {entries : List (Standing E)} {s : Standing E} {left : List (Standing E)} {firsts : List (Option FirstValue)}
-    → IsAt Gives Place entries (s ∷ left) firsts → (k : ℕ) (f : FirstValue) → HasFirst firsts k f → f.offset < s.offset
+first_before : {E : Type 0} {Gives : ℕ → ℕ → E → Type 0} {Place : ℕ → ℕ → Type 0} {entries : List (PlacedEntry E)} {s : PlacedEntry E} {left : List (PlacedEntry E)} {firsts : List (Option FirstSeen)}
+    → IsAt Gives Place entries (s ∷ left) firsts → (k : ℕ) (f : FirstSeen) → HasFirst firsts k f → f.offset < s.offset
 first_before {s = s} {left = left} here k f kept = here.before k s.offset f s.entry kept (first_element s left)
 
 -- past an entry that changes nothing
-same_firsts : {E : Type 0} {Gives : ℕ → ℕ → E → Type 0} {Place : ℕ → ℕ → Type 0} {entries : List (Standing E)} {s : Standing E} {left : List (Standing E)} {firsts : List (Option FirstValue)}
+same_firsts : {E : Type 0} {Gives : ℕ → ℕ → E → Type 0} {Place : ℕ → ℕ → Type 0} {entries : List (PlacedEntry E)} {s : PlacedEntry E} {left : List (PlacedEntry E)} {firsts : List (Option FirstSeen)}
     → IsAt Gives Place entries (s ∷ left) firsts → Passed Gives Place firsts s.offset s.entry → IsAt Gives Place entries left firsts
 same_firsts {s = s} {left = left} here passed =
     record {
@@ -119,12 +119,12 @@ same_firsts {s = s} {left = left} here passed =
     }
 
 -- past an entry that gives no key a value
-pub past_other : {E : Type 0} {Gives : ℕ → ℕ → E → Type 0} {Place : ℕ → ℕ → Type 0} {entries : List (Standing E)} {s : Standing E} {left : List (Standing E)} {firsts : List (Option FirstValue)}
+pub past_other : {E : Type 0} {Gives : ℕ → ℕ → E → Type 0} {Place : ℕ → ℕ → Type 0} {entries : List (PlacedEntry E)} {s : PlacedEntry E} {left : List (PlacedEntry E)} {firsts : List (Option FirstSeen)}
     → IsAt Gives Place entries (s ∷ left) firsts → ((i d : ℕ) → ¬ Gives i d s.entry) → IsAt Gives Place entries left firsts
 past_other here none = same_firsts here (λ i d gives. absurd (none i d gives))
 
 -- past the first value of a key
-new_first : {E : Type 0} {Gives : ℕ → ℕ → E → Type 0} {Place : ℕ → ℕ → Type 0} {entries : List (Standing E)} {s : Standing E} {left : List (Standing E)} (firsts : List (Option FirstValue)) → IsKeyed Gives Place
+new_first : {E : Type 0} {Gives : ℕ → ℕ → E → Type 0} {Place : ℕ → ℕ → Type 0} {entries : List (PlacedEntry E)} {s : PlacedEntry E} {left : List (PlacedEntry E)} (firsts : List (Option FirstSeen)) → IsKeyed Gives Place
     → IsAt Gives Place entries (s ∷ left) firsts → (i d k : ℕ) → Gives i d s.entry → Place i k → HasNone firsts k → IsAt Gives Place entries left (slice_set firsts k (Some (record { offset = s.offset; value = d })))
 new_first {E} {Gives} {Place} {entries} {s} {left} firsts keyed here i d k mine place none =
     record {
@@ -136,22 +136,22 @@ new_first {E} {Gives} {Place} {entries} {s} {left} firsts keyed here i d k mine 
             | inr earlier ↦ here.first j l g at earlier
             | inl (here_too, is_first) ↦
                 let key = keyed.key_of i j k place (subst (Place j) here_too at) in
-                subst (λ (x : FirstValue). StandsWith entries x.offset (Gives j x.value)) (sym is_first)
+                subst (λ (x : FirstSeen). StandsWith entries x.offset (Gives j x.value)) (sym is_first)
                 (s.entry, next_stands here.pass, subst (λ (n : ℕ). Gives n d s.entry) key mine)
           ];
       before = λ l p g e kept stands.
           elim (kept_before firsts k l f g none kept) [
-            | inl (here_too, is_first) ↦ omega (arith, ap (λ (x : FirstValue). x.offset) is_first, left_behind here.pass p e stands)
+            | inl (here_too, is_first) ↦ omega (arith, ap (λ (x : FirstSeen). x.offset) is_first, left_behind here.pass p e stands)
             | inr earlier ↦ here.before l p g e earlier (later_element s _ left stands)
           ];
     }
   where
-    f : FirstValue
+    f : FirstSeen
     f = record { offset = s.offset; value = d }
 
 -- past an entry that gives its key a value with which the first one agrees
-pub past_value : {E : Type 0} {Gives : ℕ → ℕ → E → Type 0} {Place : ℕ → ℕ → Type 0} {entries : List (Standing E)} {s : Standing E} {left : List (Standing E)} (firsts now : List (Option FirstValue)) → IsKeyed Gives Place
-    → IsAt Gives Place entries (s ∷ left) firsts → (i d k : ℕ) → Gives i d s.entry → Place i k → NotesValue firsts now k (record { offset = s.offset; value = d }) None → IsAt Gives Place entries left now
+pub past_value : {E : Type 0} {Gives : ℕ → ℕ → E → Type 0} {Place : ℕ → ℕ → Type 0} {entries : List (PlacedEntry E)} {s : PlacedEntry E} {left : List (PlacedEntry E)} (firsts now : List (Option FirstSeen)) → IsKeyed Gives Place
+    → IsAt Gives Place entries (s ∷ left) firsts → (i d k : ℕ) → Gives i d s.entry → Place i k → RecordsFirstSeen firsts now k (record { offset = s.offset; value = d }) None → IsAt Gives Place entries left now
 past_value {E} {Gives} {Place} {entries} {s} {left} firsts now keyed here i d k mine place (inl new) = subst (IsAt Gives Place entries left) (sym new.kept) (new_first firsts keyed here i d k mine place new.none)
 past_value {E} {Gives} {Place} {entries} {s} {left} firsts now keyed here i d k mine place (inr like) =
     subst (IsAt Gives Place entries left) (sym like.kept) (same_firsts here (λ j h gives.
@@ -161,17 +161,17 @@ past_value {E} {Gives} {Place} {entries} {s} {left} firsts now keyed here i d k 
 -- ---- where it stops
 
 -- two entries that were passed give a key one value
-one_value : {E : Type 0} {Gives : ℕ → ℕ → E → Type 0} {Place : ℕ → ℕ → Type 0} (firsts : List (Option FirstValue)) → IsKeyed Gives Place
+one_value : {E : Type 0} {Gives : ℕ → ℕ → E → Type 0} {Place : ℕ → ℕ → Type 0} (firsts : List (Option FirstSeen)) → IsKeyed Gives Place
     → (o p i d h : ℕ) (e b : E) → Passed Gives Place firsts o e → Passed Gives Place firsts p b → Gives i d e → Gives i h b → d ≡ h
 one_value {E} {Gives} {Place} firsts keyed o p i d h e b one other gives also =
     let (k, f, place, kept, is, _) = one i d gives in
     let (l, g, place_too, kept_too, is_too, _) = other i h also in
     let here = subst (λ n. HasFirst firsts n g) (keyed.one_place i l k place_too place) kept_too in
-    sym is ∙ ap (λ (x : FirstValue). x.value) (one_first firsts k f g kept here) ∙ is_too
+    sym is ∙ ap (λ (x : FirstSeen). x.value) (one_first firsts k f g kept here) ∙ is_too
 
 -- the pass stops at the first entry that gives its key another value
-pub stops : {E : Type 0} {Gives : ℕ → ℕ → E → Type 0} {Place : ℕ → ℕ → Type 0} {entries : List (Standing E)} {s : Standing E} {left : List (Standing E)} (firsts : List (Option FirstValue)) → IsKeyed Gives Place
-    → IsAt Gives Place entries (s ∷ left) firsts → (i d k : ℕ) (f : FirstValue) → Gives i d s.entry → Place i k → IsUnlikeFirst firsts k (record { offset = s.offset; value = d }) f → IsFirstOther Gives entries s.offset f.offset i
+pub stops : {E : Type 0} {Gives : ℕ → ℕ → E → Type 0} {Place : ℕ → ℕ → Type 0} {entries : List (PlacedEntry E)} {s : PlacedEntry E} {left : List (PlacedEntry E)} (firsts : List (Option FirstSeen)) → IsKeyed Gives Place
+    → IsAt Gives Place entries (s ∷ left) firsts → (i d k : ℕ) (f : FirstSeen) → Gives i d s.entry → Place i k → IsUnlikeFirst firsts k (record { offset = s.offset; value = d }) f → IsFirstOther Gives entries s.offset f.offset i
 stops {E} {Gives} {Place} {entries} {s} {left} firsts keyed here i d k f mine place unlike =
     record {
       clash = record { d = d; h = f.value; one = (s.entry, next_stands here.pass, mine); earlier = here.first i k f place unlike.listed; before = first_before here k f unlike.listed; differ = λ is. unlike.differ (sym is) };
@@ -200,11 +200,11 @@ stops {E} {Gives} {Place} {entries} {s} {left} firsts keyed here i d k f mine pl
                     let (l, g, at, kept, _, least) = passed j c.h gives_too in
                     let place_too = keyed.one_place j l k at (subst (λ (n : ℕ). Place n k) key place) in
                     let is_first = one_first firsts k f g unlike.listed (subst (λ n. HasFirst firsts n g) place_too kept) in
-                    inr (sym same_place, omega (arith, ap (λ (x : FirstValue). x.offset) is_first), key)
+                    inr (sym same_place, omega (arith, ap (λ (x : FirstSeen). x.offset) is_first), key)
               ]
         ]
 
 -- where no entry is left each key has one value
-pub ends : {E : Type 0} {Gives : ℕ → ℕ → E → Type 0} {Place : ℕ → ℕ → Type 0} {entries : List (Standing E)} (firsts : List (Option FirstValue)) → IsKeyed Gives Place
+pub ends : {E : Type 0} {Gives : ℕ → ℕ → E → Type 0} {Place : ℕ → ℕ → Type 0} {entries : List (PlacedEntry E)} (firsts : List (Option FirstSeen)) → IsKeyed Gives Place
     → IsAt Gives Place entries [] firsts → (o p i d h : ℕ) → StandsWith entries o (Gives i d) → StandsWith entries p (Gives i h) → d ≡ h
 ends firsts keyed here o p i d h (e, stands, gives) (b, also, gives_too) = one_value firsts keyed o p i d h e b (all_passed here.pass o e stands) (all_passed here.pass p b also) gives gives_too

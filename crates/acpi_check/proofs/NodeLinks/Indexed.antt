@@ -8,16 +8,16 @@ use Rattle.std.proofs.lemmas.Option.{same_Some, slice_get-get_or}
 use Rattle.acpi_base.specs.Chains.{IsAt, IsStep, Ends, AllEnd, LeadsTo, IsCycle}
 use Rattle.acpi_base.proofs.Chains.{IsNumbered, pigeonhole, cycle_begins}
 use Rattle.acpi_base.proofs.Faults.Least.{witness}
-use Rattle.acpi_base.proofs.HeldBytes.{cases_Option}
+use Rattle.acpi_base.proofs.Images.HeldBytes.{cases_Option}
 use Rattle.acpi_base.specs.Faults.{NotAfter}
 use Rattle.acpi_base.specs.declared.code.Code.{Code}
 use Rattle.acpi_graph.specs.Parents as graph
-use Rattle.acpi_graph.specs.Parents.{AreNodes, parent_of, after, Returns, IsFirstStray, IfRound}
+use Rattle.acpi_graph.specs.Parents.{AreNodes, parent_of, node_after, Returns, IsFirstStray, IfRound}
 use Rattle.acpi_graph.specs.declared.stray.Stray.{Stray}
 use Rattle.acpi_graph.specs.declared.stray.Stray.TheVariants as stray
-use Rattle.acpi_graph.proofs.Chains.{after-add, went_on}
+use Rattle.acpi_graph.proofs.Chains.{node_after-add, went_on}
 use Rattle.acpi_graph.proofs.Rounds.{never_ends}
-use Rattle.acpi_check.specs.Indexed.{AreIndexed, IsFirstCycle, IsFoundCycle}
+use Rattle.acpi_check.specs.Indexed.{AreIndexed, IsFirstCycle, IsCycleResult}
 
 -- the offset at an index
 abbrev at : List ℕ → ℕ → ℕ
@@ -55,14 +55,14 @@ step_down {Names} {offsets} {parents} are i j within is =
     (below, rw place (record { names = names; some = some; there = rw (← place) (there are j below) }))
 
 -- steps behind the first
-after_first : (parents : List (Option ℕ)) (i j k : ℕ) → parent_of parents i ≡ Some j → after parents i (suc k) ≡ after parents j k
+after_first : (parents : List (Option ℕ)) (i j k : ℕ) → parent_of parents i ≡ Some j → node_after parents i (suc k) ≡ node_after parents j k
 after_first parents i j k is =
     let sum : 1 + k ≡ suc k = omega arith in
-    subst (λ (n : ℕ). after parents i n ≡ after parents j k) sum (after-add parents i 1 j is k)
+    subst (λ (n : ℕ). node_after parents i n ≡ node_after parents j k) sum (node_after-add parents i 1 j is k)
 
 -- so many steps lead to the offset of the index that so many parents lead to
 leads_up : {Names : ℕ → ℕ → Type 0} {offsets : List ℕ} {parents : List (Option ℕ)} → AreIndexed Names offsets parents → (k i p : ℕ) → i < length offsets → LeadsTo Names k (at offsets i) p
-    → (j : ℕ) × (after parents i k ≡ Some j) × (j < length offsets) × (at offsets j ≡ p)
+    → (j : ℕ) × (node_after parents i k ≡ Some j) × (j < length offsets) × (at offsets j ≡ p)
 leads_up are zero i p within leads = (i, refl, within, leads)
 leads_up {Names} {offsets} {parents} are (suc k) i p within (next, step, leads) =
     let (j, parent, below, is) = step_up are i next within step in
@@ -70,7 +70,7 @@ leads_up {Names} {offsets} {parents} are (suc k) i p within (next, step, leads) 
     (end, after_first parents i j k parent ∙ after_j, inside, place)
 
 -- and back
-leads_down : {Names : ℕ → ℕ → Type 0} {offsets : List ℕ} {parents : List (Option ℕ)} → AreIndexed Names offsets parents → (k i j : ℕ) → i < length offsets → after parents i k ≡ Some j
+leads_down : {Names : ℕ → ℕ → Type 0} {offsets : List ℕ} {parents : List (Option ℕ)} → AreIndexed Names offsets parents → (k i j : ℕ) → i < length offsets → node_after parents i k ≡ Some j
     → (j < length offsets) × LeadsTo Names k (at offsets i) (at offsets j)
 leads_down {Names} {offsets} {parents} are zero i j within is = (omega (arith, same_Some i j is), ap (at offsets) (same_Some i j is))
 leads_down {Names} {offsets} {parents} are (suc k) i j within is =
@@ -85,7 +85,7 @@ returns {Names} {offsets} {parents} are most i lead round within c =
     let (j, stands, inside, place) = leads_up are lead i c.there within c.once in
     let (k, again, below, same) = leads_up are round j c.there inside (rw place c.back) in
     let one = one_index are k j below inside (same ∙ sym place) in
-    record { moves = c.some; there = j; stands = stands; again = after-add parents i lead j stands round ∙ again ∙ ap Some one }
+    record { moves = c.some; there = j; stands = stands; again = node_after-add parents i lead j stands round ∙ again ∙ ap Some one }
 
 -- and back
 cycle : {Names : ℕ → ℕ → Type 0} {offsets : List ℕ} {parents : List (Option ℕ)} → AreIndexed Names offsets parents → (most i lead round : ℕ) → i < length offsets → lead + round ≤ most → Returns parents i lead round → IsCycle Names most (at offsets i) lead round
@@ -94,7 +94,7 @@ cycle {Names} {offsets} {parents} are most i lead round within fits r =
     record {
       there = at offsets r.there;
       once = once;
-      back = (leads_down are round r.there r.there inside (sym (after-add parents i lead r.there r.stands round) ∙ r.again)).1;
+      back = (leads_down are round r.there r.there inside (sym (node_after-add parents i lead r.there r.stands round) ∙ r.again)).1;
       some = r.moves;
       fits = fits;
     }
@@ -112,7 +112,7 @@ are_nodes {Names} {offsets} {parents} are k d below =
     ]
 
 -- a chain of indices that ends is one of offsets that ends
-ends : {Names : ℕ → ℕ → Type 0} {offsets : List ℕ} {parents : List (Option ℕ)} → AreIndexed Names offsets parents → (k i : ℕ) → i < length offsets → after parents i k ≡ None → Ends Names (at offsets i)
+ends : {Names : ℕ → ℕ → Type 0} {offsets : List ℕ} {parents : List (Option ℕ)} → AreIndexed Names offsets parents → (k i : ℕ) → i < length offsets → node_after parents i k ≡ None → Ends Names (at offsets i)
 ends are zero i within over = absurd cc
 ends {Names} {offsets} {parents} are (suc k) i within over =
     elim (cases_Option (parent_of parents i)) [
@@ -178,6 +178,6 @@ first_cycle {Names} {offsets} {parents} are most fits fault node lead round firs
 
 -- what `first_stray` finds of the indices is so of the offsets
 pub is_found : {Names : ℕ → ℕ → Type 0} {offsets : List ℕ} {parents : List (Option ℕ)} {most : ℕ} → AreIndexed Names offsets parents → IsNumbered Names most → (fault : Code) (found : Stray)
-    → ((found ≡ stray.None) ↔ graph.AllEnd parents) → IfRound found (IsFirstStray parents) → IfRound found (λ node lead round. lead + round ≤ length parents) → IsFoundCycle Names most fault offsets found
+    → ((found ≡ stray.None) ↔ graph.AllEnd parents) → IfRound found (IsFirstStray parents) → IfRound found (λ node lead round. lead + round ≤ length parents) → IsCycleResult Names most fault offsets found
 is_found are numbered fault stray.None none first within = all_end are (none.0 refl)
 is_found {Names} {offsets} {parents} {most} are numbered fault (stray.Round node lead round) none first within = first_cycle are most (room are numbered) fault node lead round first within

@@ -1,103 +1,95 @@
--- Nodes that are gathered from the entries of a table, with the index of what each names, are chains of offsets.
+-- Nodes that are collected from the entries of a table, with the index of what each names, are chains of offsets.
 use Rattle.std.proofs.Common.{◌≡◌, ℕ, ◌<◌, List, length, get_or, Option, Some, None, refl, sym, ◌∙◌, ap, subst, inl, inr, arith}
 use Rattle.std.specs.Prelude.{◌⊎◌, AllPairs, Contains, slice_index, option_map}
 use Rattle.std.proofs.lemmas.Bool.{cases_order}
 use Rattle.std.proofs.lemmas.List.{length-map, get_or-map}
 use Rattle.std.proofs.lemmas.Option.{none-some, same_Some, slice_get-get_or}
 use Rattle.acpi_base.specs.Chains.{IsAt, NoneDangles}
-use Rattle.acpi_base.specs.Entries.{Standing, Stands, entries_of, said_by}
-use Rattle.acpi_base.specs.Pptt.{PpttEntry, pptt_entry, pptt_contents, Says}
-use Rattle.acpi_base.proofs.HeldBytes.{cases_Option}
+use Rattle.acpi_base.specs.Entries.{PlacedEntry, Stands}
+use Rattle.acpi_base.proofs.Images.HeldBytes.{cases_Option}
 use Rattle.acpi_base.proofs.Elements.{element_of_map}
 use Rattle.acpi_graph.specs.Parents.{parent_of}
-use Rattle.acpi_check.specs.Indexed.{IsIndexOf, AreIndexed, NodeValue, nodes_of, offsets_of, AreParents}
-use Rattle.acpi_check.proofs.EntryPasses.Kept.{AreRising, map_has, kept_has, kept_from, keys_rise, rising}
+use Rattle.acpi_check.specs.Indexed.{IsIndexOf, AreIndexed, ChainNode, nodes_of, node_offsets, AreParents}
+use Rattle.acpi_check.proofs.EntryPasses.Kept.{AreRising, map_has, kept_has, kept_from, keys_rise}
 
 -- an entry names an offset
-abbrev pub NamesOf : {E : Type 0} → (E → Option ℕ) → List (Standing E) → ℕ → ℕ → Type 0
+abbrev pub NamesOf : {E : Type 0} → (E → Option ℕ) → List (PlacedEntry E) → ℕ → ℕ → Type 0
 NamesOf {E} read entries o p = (e : E) × Stands entries o e × (read e ≡ Some p)
 
 -- where an entry stands and what it names, if it names an offset
-abbrev kept : {E : Type 0} → (E → Option ℕ) → Standing E → Option NodeValue
+abbrev kept : {E : Type 0} → (E → Option ℕ) → PlacedEntry E → Option ChainNode
 kept read s = option_map (λ p. record { offset = s.offset; named = p }) (read s.entry)
 
 -- what is kept of an entry says this
-kept_is : {E : Type 0} (read : E → Option ℕ) (s : Standing E) (n : NodeValue) → kept read s ≡ Some n → (n.offset ≡ s.offset) × (read s.entry ≡ Some n.named)
+kept_is : {E : Type 0} (read : E → Option ℕ) (s : PlacedEntry E) (n : ChainNode) → kept read s ≡ Some n → (n.offset ≡ s.offset) × (read s.entry ≡ Some n.named)
 kept_is read s n is =
     elim (cases_Option (read s.entry)) [
       | inr none ↦ absurd (none-some n (rw none at is))
-      | inl (p, gives) ↦ (let same = same_Some (record { offset = s.offset; named = p }) n (rw gives at is) in (sym (ap (λ (m : NodeValue). m.offset) same), gives ∙ ap (λ (m : NodeValue). Some m.named) same))
+      | inl (p, gives) ↦ (let same = same_Some (record { offset = s.offset; named = p }) n (rw gives at is) in (sym (ap (λ (m : ChainNode). m.offset) same), gives ∙ ap (λ (m : ChainNode). Some m.named) same))
     ]
 
 -- an entry that names an offset is kept
-is_kept : {E : Type 0} (read : E → Option ℕ) (entries : List (Standing E)) (o p : ℕ) → NamesOf read entries o p → Contains (nodes_of read entries) (record { offset = o; named = p })
+is_kept : {E : Type 0} (read : E → Option ℕ) (entries : List (PlacedEntry E)) (o p : ℕ) → NamesOf read entries o p → Contains (nodes_of read entries) (record { offset = o; named = p })
 is_kept {E} read entries o p (e, stands, is) = kept_has (kept read) entries (record { offset = o; entry = e }) (record { offset = o; named = p }) stands (rw is refl)
 
 -- nodes stand at rising offsets
-nodes_rise : {E : Type 0} (read : E → Option ℕ) (low : ℕ) (entries : List (Standing E)) → AreRising low entries → AllPairs (λ n m. n.offset < m.offset) (nodes_of read entries)
+nodes_rise : {E : Type 0} (read : E → Option ℕ) (low : ℕ) (entries : List (PlacedEntry E)) → AreRising low entries → AllPairs (λ n m. n.offset < m.offset) (nodes_of read entries)
 nodes_rise read low entries rises = keys_rise (kept read) (λ n. n.offset) (λ s n is. (kept_is read s n is).0) low entries rises
 
 -- and so do their offsets
-pub offsets_rise : {E : Type 0} (read : E → Option ℕ) (low : ℕ) (entries : List (Standing E)) → AreRising low entries → AllPairs (λ o p. o < p) (offsets_of (nodes_of read entries))
-offsets_rise {E} read low entries rises = λ i j d before below. grind (arith, nodes_rise read low entries rises i j node before, get_or-map (λ (n : NodeValue). n.offset) nodes, length-map nodes (λ n. n.offset))
+pub offsets_rise : {E : Type 0} (read : E → Option ℕ) (low : ℕ) (entries : List (PlacedEntry E)) → AreRising low entries → AllPairs (λ o p. o < p) (node_offsets (nodes_of read entries))
+offsets_rise {E} read low entries rises = λ i j d before below. grind (arith, nodes_rise read low entries rises i j node before, get_or-map (λ (n : ChainNode). n.offset) nodes, length-map nodes (λ n. n.offset))
   where
-    nodes : List NodeValue
+    nodes : List ChainNode
     nodes = nodes_of read entries
 
-    node : NodeValue
+    node : ChainNode
     node = record { offset = 0; named = 0 }
 
 -- what a node names is among the offsets, where it names none that is not there
-pub named_there : {E : Type 0} (read : E → Option ℕ) (entries : List (Standing E)) → NoneDangles (NamesOf read entries)
-    → (n : NodeValue) → Contains (nodes_of read entries) n → (n.named ≡ 0) ⊎ Contains (offsets_of (nodes_of read entries)) n.named
+pub named_there : {E : Type 0} (read : E → Option ℕ) (entries : List (PlacedEntry E)) → NoneDangles (NamesOf read entries)
+    → (n : ChainNode) → Contains (nodes_of read entries) n → (n.named ≡ 0) ⊎ Contains (node_offsets (nodes_of read entries)) n.named
 named_there read entries none n listed =
     let (s, stands, is) = kept_from (kept read) entries n listed in
     elim (none s.offset n.named (s.entry, stands, (kept_is read s n is).1)) [
       | inl zero ↦ inl zero
-      | inr (p, names) ↦ inr (map_has (λ (m : NodeValue). m.offset) (nodes_of read entries) (record { offset = n.named; named = p }) (is_kept read entries n.named p names))
+      | inr (p, names) ↦ inr (map_has (λ (m : ChainNode). m.offset) (nodes_of read entries) (record { offset = n.named; named = p }) (is_kept read entries n.named p names))
     ]
 
 -- one node stands at an offset
-one_node : (nodes : List NodeValue) → AllPairs (λ n m. n.offset < m.offset) nodes → (n : NodeValue) → Contains nodes n → (i : ℕ) → i < length nodes → (get_or nodes i n).offset ≡ n.offset → get_or nodes i n ≡ n
+one_node : (nodes : List ChainNode) → AllPairs (λ n m. n.offset < m.offset) nodes → (n : ChainNode) → Contains nodes n → (i : ℕ) → i < length nodes → (get_or nodes i n).offset ≡ n.offset → get_or nodes i n ≡ n
 one_node nodes rise n (k, below, is) i within same =
     elim (cases_order i k) [
       | inl here ↦ rw here is
-      | inr (inl less) ↦ absurd (omega (arith, rise i k n less below, same, ap (λ (m : NodeValue). m.offset) is))
-      | inr (inr more) ↦ absurd (omega (arith, rise k i n more within, same, ap (λ (m : NodeValue). m.offset) is))
+      | inr (inl less) ↦ absurd (omega (arith, rise i k n less below, same, ap (λ (m : ChainNode). m.offset) is))
+      | inr (inr more) ↦ absurd (omega (arith, rise k i n more within, same, ap (λ (m : ChainNode). m.offset) is))
     ]
 
 -- the nodes of entries, with the index of what each names, are chains of offsets
-pub are_indexed : {E : Type 0} (read : E → Option ℕ) (low : ℕ) (entries : List (Standing E)) → AreRising low entries
-    → (parents : List (Option ℕ)) → AreParents (nodes_of read entries) parents → AreIndexed (NamesOf read entries) (offsets_of (nodes_of read entries)) parents
+pub are_indexed : {E : Type 0} (read : E → Option ℕ) (low : ℕ) (entries : List (PlacedEntry E)) → AreRising low entries
+    → (parents : List (Option ℕ)) → AreParents (nodes_of read entries) parents → AreIndexed (NamesOf read entries) (node_offsets (nodes_of read entries)) parents
 are_indexed {E} read low entries rises parents each =
     record {
       count = omega (arith, length-map nodes (λ n. n.offset), each.count);
       rising = offsets_rise read low entries rises;
-      all = λ o. (stands o, λ here. map_has (λ (n : NodeValue). n.offset) nodes (record { offset = o; named = here.0 }) (is_kept read entries o here.0 here.1));
+      all = λ o. (stands o, λ here. map_has (λ (n : ChainNode). n.offset) nodes (record { offset = o; named = here.0 }) (is_kept read entries o here.0 here.1));
       named = named;
     }
   where
-    nodes : List NodeValue
+    nodes : List ChainNode
     nodes = nodes_of read entries
 
-    stands : (o : ℕ) → Contains (offsets_of nodes) o → IsAt (NamesOf read entries) o
+    stands : (o : ℕ) → Contains (node_offsets nodes) o → IsAt (NamesOf read entries) o
     stands o here =
-        let (n, listed, place) = element_of_map (λ (n : NodeValue). n.offset) nodes o here in
+        let (n, listed, place) = element_of_map (λ (n : ChainNode). n.offset) nodes o here in
         let (s, found, is) = kept_from (kept read) entries n listed in
         let same = kept_is read s n is in
         (n.named, (s.entry, subst (λ (k : ℕ). Stands entries k s.entry) (sym same.0 ∙ place) found, same.1))
 
-    named : (i p : ℕ) → i < length (offsets_of nodes) → NamesOf read entries (slice_index (offsets_of nodes) i) p → IsIndexOf (offsets_of nodes) p (parent_of parents i)
+    named : (i p : ℕ) → i < length (node_offsets nodes) → NamesOf read entries (slice_index (node_offsets nodes) i) p → IsIndexOf (node_offsets nodes) p (parent_of parents i)
     named i p within names =
-        let n : NodeValue = record { offset = slice_index (offsets_of nodes) i; named = p } in
+        let n : ChainNode = record { offset = slice_index (node_offsets nodes) i; named = p } in
         let inside : i < length nodes = omega (arith, within, length-map nodes (λ n. n.offset)) in
-        let is = one_node nodes (nodes_rise read low entries rises) n (is_kept read entries n.offset p names) i inside (sym (get_or-map (λ (n : NodeValue). n.offset) nodes i n 0 inside)) in
+        let is = one_node nodes (nodes_rise read low entries rises) n (is_kept read entries n.offset p names) i inside (sym (get_or-map (λ (n : ChainNode). n.offset) nodes i n 0 inside)) in
         let index = rw is at (each.each i n inside) in
         rw (slice_get-get_or parents i None (omega (arith, inside, each.count))) index
-
--- those of a PPTT: its nodes with their parents, or its caches with their next levels
-pub pptt_indexed : (read : PpttEntry → Option ℕ) (whole : List ℕ) (entries : List (Standing (List ℕ))) (nodes : List NodeValue) (parents : List (Option ℕ)) → entries ≡ entries_of 36 whole
-    → nodes ≡ nodes_of read (said_by pptt_entry entries) → AreParents nodes parents → AreIndexed (Says read (pptt_contents whole)) (offsets_of nodes) parents
-unfolding pptt_contents
-pptt_indexed read whole entries nodes parents all is each =
-    rw is (rw all (are_indexed read 36 (said_by pptt_entry (entries_of 36 whole)) (rising pptt_entry 36 whole) parents (rw (← all) (rw (← is) each))))

@@ -7,7 +7,7 @@ use Rattle.std.proofs.lemmas.List.FromFn.{length-map-range_with_len, get_or-map-
 use Rattle.std.proofs.lemmas.Option.{same_Some, slice_get_within, slice_get-get_or, get_or_from_slice_get}
 use Rattle.acpi_base.specs.Faults.{NotAfter}
 use Rattle.acpi_base.specs.Number.{field}
-use Rattle.acpi_base.specs.Pptt.{Node, Cache, Opaque, NodeValue, CacheValue}
+use Rattle.acpi_base.specs.Pptt.{Node, Cache, NodeValue, CacheValue}
 use Rattle.acpi_base.specs.declared.code.Code.{Code}
 use Rattle.acpi_base.specs.declared.code.Code.TheVariants as code
 use Rattle.acpi_base.specs.declared.witness.Witness.{Witness}
@@ -114,8 +114,3 @@ pub cache_link : (places : Places) (v : CacheValue) (at : ℕ) (o : Option Witne
     → MatchOption o (NamesPlaces places (Cache v)) (λ w. (w.at ≡ at) × IsFirstReference places (Cache v) w)
 cache_link places v at None sound = cache_sound places v sound
 cache_link places v at (Some w) (is, some, nowhere) = rw is (refl, cache_first places v at some nowhere)
-
--- ---- others
-
-pub opaque_sound : (places : Places) (e : List ℕ) → NamesPlaces places (Opaque e)
-opaque_sound places e = record { parent = λ p is. absurd cc; resource = λ j r is. absurd cc; next_level = λ p is. absurd cc }

@@ -1,8 +1,8 @@
 -- A pass over what the entries of a PPTT name: it stops at the first fault, and finds none where all that is named stands.
 use Rattle.std.proofs.Common.{◌≡◌, ℕ, List, [], ◌∷◌, subst, inl, inr, arith}
-use Rattle.acpi_base.specs.Entries.{Standing, Stands, entries_of, said_by}
+use Rattle.acpi_base.specs.Entries.{PlacedEntry, Stands}
 use Rattle.acpi_base.specs.Faults.{NotAfter}
-use Rattle.acpi_base.specs.Pptt.{PpttEntry, PpttContents, pptt_entry, pptt_contents, AreReferencesSound, ReferenceFault}
+use Rattle.acpi_base.specs.Pptt.{PpttEntry, PpttContents, AreReferencesSound, ReferenceFault}
 use Rattle.acpi_base.specs.declared.code.Code.{Code}
 use Rattle.acpi_base.specs.declared.code.Code.TheVariants as code
 use Rattle.acpi_base.specs.declared.stage.Stage.TheVariants as stage
@@ -10,7 +10,7 @@ use Rattle.acpi_base.specs.declared.witness.Witness.{Witness}
 use Rattle.acpi_check.specs.Passed.{IsFirstOfTable}
 use Rattle.acpi_check.specs.NamedPlaces.{ArePlaces, NamesPlaces, EntryReferenceFault, IsFirstReference}
 use Rattle.acpi_check.specs.declared.places.Places.{Places}
-use Rattle.acpi_check.proofs.EntryPasses.Passes.{HasPassed, none_passed, one_more, before_or_behind, next_stands, all_passed}
+use Rattle.acpi_check.proofs.EntryPasses.Passes.{HasPassed, before_or_behind, next_stands, all_passed}
 
 -- ---- a fault of the table is one of an entry
 
@@ -44,32 +44,22 @@ excludes places e _ other point wrong sound = wrong
 -- ---- the pass
 
 -- the pass has these entries left, and all that those before them name is there
-abbrev pub IsAt : Places → List ℕ → List (Standing (List ℕ)) → Type 0
-IsAt places whole left = HasPassed (pptt_contents whole).entries (said_by pptt_entry left) (λ o e. NamesPlaces places e)
-
-pub at_first : (places : Places) (whole : List ℕ) → IsAt places whole (entries_of 36 whole)
-unfolding pptt_contents
-at_first places whole = none_passed pptt_entry 36 whole (λ o e. NamesPlaces places e)
-
-pub at_next : (places : Places) (whole : List ℕ) (s : Standing (List ℕ)) (left : List (Standing (List ℕ))) → IsAt places whole (s ∷ left) → NamesPlaces places (pptt_entry s.entry) → IsAt places whole left
-at_next places whole s left here sound = one_more here sound (λ o e before passed. passed)
+abbrev pub IsAt : Places → PpttContents → List (PlacedEntry PpttEntry) → Type 0
+IsAt places pptt left = HasPassed pptt.entries left (λ o e. NamesPlaces places e)
 
 -- the pass stops at the first fault
-pub stops : (places : Places) (whole : List ℕ) → ArePlaces (pptt_contents whole) places → (s : Standing (List ℕ)) (left : List (Standing (List ℕ))) → IsAt places whole (s ∷ left)
-    → (w : Witness) → w.at ≡ s.offset → IsFirstReference places (pptt_entry s.entry) w → IsFirstOfTable stage.References (ReferenceFault (pptt_contents whole)) w
-stops places whole are s left here w place first =
+pub stops : (places : Places) (pptt : PpttContents) → ArePlaces pptt places → (s : PlacedEntry PpttEntry) (left : List (PlacedEntry PpttEntry)) → IsAt places pptt (s ∷ left)
+    → (w : Witness) → w.at ≡ s.offset → IsFirstReference places s.entry w → IsFirstOfTable stage.References (ReferenceFault pptt) w
+stops places pptt are s left here w place first =
     record {
       own = first.own;
-      fault = of_entry c places are (pptt_entry s.entry) w.code w.at w.other w.point (rw place (next_stands here)) first.fault;
+      fault = of_entry pptt places are s.entry w.code w.at w.other w.point (rw place (next_stands here)) first.fault;
       least = least;
     }
   where
-    c : PpttContents
-    c = pptt_contents whole
-
-    least : (v : Witness) → ReferenceFault c v.code v.at v.other v.point → NotAfter w v
+    least : (v : Witness) → ReferenceFault pptt v.code v.at v.other v.point → NotAfter w v
     least v wrong =
-        let (e, stands, own) = entry_of c places are v.code v.at v.other v.point wrong in
+        let (e, stands, own) = entry_of pptt places are v.code v.at v.other v.point wrong in
         elim (before_or_behind here v.at e stands) [
           | inl (_, sound) ↦ absurd (excludes places e v.code v.other v.point own sound)
           | inr (inl (same, entry)) ↦ first.least v (omega arith) (subst (λ (x : PpttEntry). EntryReferenceFault places x v.code v.other v.point) entry own)
@@ -77,13 +67,10 @@ stops places whole are s left here w place first =
         ]
 
 -- where no entry is left the references are sound
-pub ends_sound : (places : Places) (whole : List ℕ) → ArePlaces (pptt_contents whole) places → IsAt places whole [] → AreReferencesSound (pptt_contents whole)
-ends_sound places whole are here =
+pub ends_sound : (places : Places) (pptt : PpttContents) → ArePlaces pptt places → IsAt places pptt [] → AreReferencesSound pptt
+ends_sound places pptt are here =
     record {
       parents = λ o p (e, stands, is). elim ((all_passed here o e stands).parent p is) [ inl zero ↦ inl zero | inr there ↦ inr ((are.nodes p).0 there) ];
       resources = λ o j r (e, stands, is). (are.resources r).0 ((all_passed here o e stands).resource j r is);
       next_levels = λ o p (e, stands, is). elim ((all_passed here o e stands).next_level p is) [ inl zero ↦ inl zero | inr there ↦ inr ((are.caches p).0 there) ];
     }
-
--- what a loop over what the entries name needs
-pub ruleset passing = (at_first, at_next, stops, ends_sound)

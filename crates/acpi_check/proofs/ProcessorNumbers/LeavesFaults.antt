@@ -19,7 +19,7 @@ use Rattle.acpi_check.specs.Named.{FindsUnknown}
 use Rattle.acpi_check.specs.Passed.{FindsFault}
 use Rattle.acpi_check.specs.Processors.{number_of, numbers_in, AreNumbers}
 use Rattle.acpi_check.specs.declared.processors.Key.TheVariants as key
-use Rattle.acpi_check.proofs.ProcessorNumbers.GatheredNumbers.{in_entries}
+use Rattle.acpi_check.proofs.ProcessorNumbers.EntryNumbers.{in_entries}
 
 -- ---- entries
 

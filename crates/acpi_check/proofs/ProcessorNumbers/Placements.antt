@@ -1,5 +1,5 @@
--- The placements that are gathered from an SRAT, and whether they put a processor in two domains.
-use Rattle.std.proofs.Common.{◌≡◌, ◌≢◌, ℕ, zero, suc, ◌<◌, ◌≤◌, List, [], length, get_or, Option, false, Ordering, refl, sym, ◌∙◌, ap, subst, inl, inr, arith, add-one}
+-- The placements that are collected from an SRAT, and whether they put a processor in two domains.
+use Rattle.std.proofs.Common.{◌≡◌, ◌≢◌, ℕ, zero, suc, ◌<◌, ◌≤◌, List, length, get_or, Option, false, Ordering, refl, sym, ◌∙◌, ap, inl, inr, arith, add-one}
 use Rattle.std.specs.Prelude.{AllPairs, Contains}
 use Rattle.std.specs.Cmp.{IsTotalOrder}
 use Rattle.std.specs.List.{filter_map, AllAdjacentBelow}
@@ -13,45 +13,34 @@ use Rattle.std.proofs.lemmas.List.{get_or_default}
 use Rattle.std.proofs.lemmas.List.Elements.{Contains-get_or}
 use Rattle.std.proofs.lemmas.List.Sorted.{ranks_by, sorted_far, Contains-permutation}
 use Rattle.acpi_base.specs.Across.{PutsAt, HaveOneDomain}
-use Rattle.acpi_base.specs.Entries.{Standing, entries_of, said_by}
+use Rattle.acpi_base.specs.Entries.{PlacedEntry}
 use Rattle.acpi_base.specs.Madt.{MadtContents}
-use Rattle.acpi_base.specs.Srat.{SratEntry, SratContents, srat_entry, srat_contents}
+use Rattle.acpi_base.specs.Srat.{SratEntry, SratContents}
 use Rattle.acpi_base.specs.declared.policy.Processors.{Processors}
 use Rattle.acpi_check.specs.Domains.{placement_of, ArePlacements, DoAgree}
 use Rattle.acpi_check.specs.declared.domains.Placement.{Placement}
 use Rattle.acpi_check.proofs.ProcessorNumbers.DomainsPass.{puts}
-use Rattle.acpi_check.proofs.EntryPasses.Kept.{kept_has, kept_from, none_of_short}
+use Rattle.acpi_check.proofs.EntryPasses.Kept.{kept_has, kept_from}
 
--- ---- gathered
+-- ---- collected
 
 -- the placements of entries, in their order
-abbrev pub placed : List (Standing SratEntry) → List Placement
+abbrev pub placed : List (PlacedEntry SratEntry) → List Placement
 placed entries = filter_map (λ s. placement_of s.entry) entries
 
 -- those of all entries are the table's
-pub are_placements : (whole : List ℕ) (entries : List (Standing (List ℕ))) (placements : List Placement) → entries ≡ entries_of 48 whole → placements ≡ placed (said_by srat_entry entries) → ArePlacements (srat_contents whole) placements
-unfolding srat_contents
-are_placements whole entries placements all is i d =
-    (λ listed. from (subst (λ (ps : List Placement). Contains ps put) whole_is listed), λ (o, (e, stands, says)). subst (λ (ps : List Placement). Contains ps put) (sym whole_is) (kept_has kept said (record { offset = o; entry = e }) put stands ((puts i d e).0 says)))
+pub are_placements : (srat : SratContents) (placements : List Placement) → placements ≡ placed srat.entries → ArePlacements srat placements
+are_placements srat placements is i d =
+    (λ listed. from (rw is at listed), λ (o, (e, stands, says)). rw is (kept_has kept srat.entries (record { offset = o; entry = e }) put stands ((puts i d e).0 says)))
   where
     put : Placement
     put = record { processor = i; domain = d }
 
-    kept : Standing SratEntry → Option Placement
+    kept : PlacedEntry SratEntry → Option Placement
     kept s = placement_of s.entry
 
-    said : List (Standing SratEntry)
-    said = said_by srat_entry (entries_of 48 whole)
-
-    whole_is : placements ≡ placed said
-    whole_is = is ∙ ap (λ (es : List (Standing (List ℕ))). placed (said_by srat_entry es)) all
-
-    from : Contains (placed said) put → (o : ℕ) × PutsAt (srat_contents whole) o i d
-    from listed = let (s, found, is) = kept_from kept said put listed in (s.offset, (s.entry, found, (puts i d s.entry).1 is))
-
--- an SRAT that is too short has none
-pub no_placements : (whole : List ℕ) (placements : List Placement) → length whole < 48 → placements ≡ [] → ArePlacements (srat_contents whole) placements
-no_placements whole placements short none = are_placements whole [] placements (sym (none_of_short 48 whole short)) none
+    from : Contains (placed srat.entries) put → (o : ℕ) × PutsAt srat o i d
+    from listed = let (s, found, is) = kept_from kept srat.entries put listed in (s.offset, (s.entry, found, (puts i d s.entry).1 is))
 
 -- ---- sorted
 

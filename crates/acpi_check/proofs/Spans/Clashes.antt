@@ -1,19 +1,19 @@
 -- From the first overlap of spans to that of the ranges for which the spans stand.
 use Rattle.std.proofs.Common.{◌≡◌, ℕ, List, refl, sym, ◌∙◌, arith}
 use Rattle.std.specs.Prelude.{◌↔◌, Contains}
-use Rattle.acpi_base.specs.Clashes.{IsClash, AreApart, IsFirstClash}
+use Rattle.acpi_base.specs.Overlaps.{IsIntervalOverlap, AreApart, IsFirstIntervalOverlap}
 use Rattle.acpi_graph.specs.Spans as graph
-use Rattle.acpi_graph.specs.Spans.{Holds, LiesInTwo, IsClear, IfAt}
+use Rattle.acpi_graph.specs.Spans.{HasNumber, LiesInTwo, IsClear, IfAt}
 use Rattle.acpi_graph.specs.declared.clash.Clash.{Clash}
-use Rattle.acpi_graph.specs.declared.clash.Clash.TheVariants as clash
+use Rattle.acpi_graph.specs.declared.clash.Clash.TheVariants as overlap
 use Rattle.acpi_graph.specs.declared.span.Span.{Span}
-use Rattle.acpi_check.specs.Gathered.{AreSpansOf, IsFound}
+use Rattle.acpi_check.specs.RangeSpans.{AreSpansOf, IsOverlapResult}
 
 -- a number that two ranges hold lies in two spans
-lies_in_two : {HoldsAt : ℕ → ℕ → ℕ → Type 0} (spans : List Span) → AreSpansOf HoldsAt spans → (o p x : ℕ) → IsClash HoldsAt o p x → LiesInTwo spans x
+lies_in_two : {HoldsAt : ℕ → ℕ → ℕ → Type 0} (spans : List Span) → AreSpansOf HoldsAt spans → (o p x : ℕ) → IsIntervalOverlap HoldsAt o p x → LiesInTwo spans x
 lies_in_two spans are o p x c =
-    let one = (are.held o c.s x).0 c.one_holds in
-    let other = (are.held p c.t x).0 c.other_holds in
+    let one = (are.covers o c.s x).0 c.one_holds in
+    let other = (are.covers p c.t x).0 c.other_holds in
     record {
       one = one.span;
       other = other.span;
@@ -24,16 +24,16 @@ lies_in_two spans are o p x c =
       other_holds = other.holds;
     }
 
--- where no number lies in two spans, none is held by two ranges
+-- where no number lies in two spans, none lies in two ranges
 pub apart : {HoldsAt : ℕ → ℕ → ℕ → Type 0} (spans : List Span) → AreSpansOf HoldsAt spans → IsClear spans → AreApart HoldsAt
 apart spans are clear o p x c = clear x (lies_in_two spans are o p x c)
 
 -- the first overlap of the spans is that of the ranges
-pub first_clash : {HoldsAt : ℕ → ℕ → ℕ → Type 0} (spans : List Span) → AreSpansOf HoldsAt spans → (first second point : ℕ) → graph.IsFirstClash spans first second point → IsFirstClash HoldsAt first second point
+pub first_clash : {HoldsAt : ℕ → ℕ → ℕ → Type 0} (spans : List Span) → AreSpansOf HoldsAt spans → (first second point : ℕ) → graph.IsFirstClash spans first second point → IsFirstIntervalOverlap HoldsAt first second point
 first_clash {HoldsAt} spans are first second point found =
     let two = found.two in
     record {
-      clash = record {
+      overlap = record {
         s = two.earlier.start;
         t = two.later.start;
         one_holds = rw (← two.earlier_name) (holds two.earlier two.earlier_listed two.earlier_holds);
@@ -41,14 +41,14 @@ first_clash {HoldsAt} spans are first second point found =
         two = two.two;
       };
       in_order = grind (arith, two.in_order, two.earlier_name, two.later_name);
-      others_after = λ p u here a b. let other = (are.held p u point).0 here in grind (arith, two.others_after other.span other.listed other.holds, other.name, other.start, a, b, two.later_name);
+      others_after = λ p u here a b. let other = (are.covers p u point).0 here in grind (arith, two.others_after other.span other.listed other.holds, other.name, other.start, a, b, two.later_name);
       least = λ o p x c. found.least x (lies_in_two spans are o p x c);
     }
   where
-    holds : (span : Span) → Contains spans span → Holds span point → HoldsAt span.name span.start point
-    holds span listed inside = (are.held span.name span.start point).1 (record { span = span; listed = listed; name = refl; start = refl; holds = inside })
+    holds : (span : Span) → Contains spans span → HasNumber span point → HoldsAt span.name span.start point
+    holds span listed inside = (are.covers span.name span.start point).1 (record { span = span; listed = listed; name = refl; start = refl; holds = inside })
 
 -- what `first_clash` finds of the spans is so of the ranges
-pub is_found : {HoldsAt : ℕ → ℕ → ℕ → Type 0} (spans : List Span) → AreSpansOf HoldsAt spans → (found : Clash) → ((found ≡ clash.None) ↔ IsClear spans) → IfAt found (graph.IsFirstClash spans) → IsFound HoldsAt found
-is_found spans are clash.None none first = apart spans are (none.0 refl)
-is_found spans are (clash.At a b point) none first = first_clash spans are a b point first
+pub is_found : {HoldsAt : ℕ → ℕ → ℕ → Type 0} (spans : List Span) → AreSpansOf HoldsAt spans → (found : Clash) → ((found ≡ overlap.None) ↔ IsClear spans) → IfAt found (graph.IsFirstClash spans) → IsOverlapResult HoldsAt found
+is_found spans are overlap.None none first = apart spans are (none.0 refl)
+is_found spans are (overlap.At a b point) none first = first_clash spans are a b point first

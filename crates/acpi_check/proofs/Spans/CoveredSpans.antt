@@ -1,18 +1,17 @@
--- The spans that are gathered from the entries of an SRAT are the addresses that its enabled ranges cover, and their first
+-- The spans that are collected from the entries of an SRAT are the addresses that its enabled ranges cover, and their first
 -- overlaps, by kinds of ranges, make the one that is reported.
 use Rattle.std.proofs.Common.{◌≡◌, ℕ, ◌+◌, ◌<◌, ◌≤◌, Bool, true, false, not, cond, List, map, Option, Some, None, refl, inl, inr, arith}
 use Rattle.std.specs.Prelude.{◌↔◌, ◌&&◌}
 use Rattle.std.proofs.lemmas.Bool.{and_parts, cases_lt, lt-ltb, le-ltb}
 use Rattle.std.proofs.lemmas.Option.{none-some}
-use Rattle.acpi_base.specs.Entries.{Standing, entries_of, said_by}
-use Rattle.acpi_base.specs.Srat.{SratEntry, MemoryRange, MemoryValue, SratContents, srat_entry, srat_contents, is_enabled, is_hot_pluggable, IsAny, IsHotPluggable, IsNotHotPluggable, CoversFrom, Covers}
+use Rattle.acpi_base.specs.Srat.{SratEntry, MemoryRange, MemoryValue, SratContents, srat_contents, is_enabled, is_hot_pluggable, IsAny, IsHotPluggable, IsNotHotPluggable, CoversFrom, Covers}
 use Rattle.acpi_base.specs.declared.policy.HotPlug.TheVariants.{Counted, Apart}
 use Rattle.acpi_graph.specs.declared.clash.Clash.{Clash}
 use Rattle.acpi_graph.specs.declared.clash.Clash.TheVariants as clash
 use Rattle.acpi_graph.specs.declared.span.Span.{Span}
-use Rattle.acpi_check.specs.Gathered.{AreSpansOf, IsFound, IsFoundOverlap, earlier_clash, SpanValue, span_value, span_from, covered, spans_of}
-use Rattle.acpi_check.proofs.Spans.Gathered.{are_spans, from_is, from_some}
-use Rattle.acpi_check.proofs.EntryPasses.Kept.{rising}
+use Rattle.acpi_check.specs.RangeSpans.{AreSpansOf, IsOverlapResult, IsRangesResult, earlier_clash, SpanValue, span_value, span_from, covered_span, spans_of}
+use Rattle.acpi_check.proofs.Spans.EntrySpans.{are_spans, from_is, from_some}
+use Rattle.acpi_check.proofs.EntryPasses.Kept.{srat_rising}
 
 -- ---- ranges of one kind
 
@@ -26,25 +25,22 @@ where_some true o v is = (refl, is)
 where_some false o v is = absurd (none-some v is)
 
 -- a span is named by its entry's offset
-named : (counts : MemoryValue → Bool) (o : ℕ) (e : SratEntry) (v : SpanValue) → covered counts o e ≡ Some v → v.name ≡ o
+named : (counts : MemoryValue → Bool) (o : ℕ) (e : SratEntry) (v : SpanValue) → covered_span counts o e ≡ Some v → v.name ≡ o
 named counts o (MemoryRange v) span is = grind (arith, from_is, is)
 named counts o _ span is = absurd cc
 
 -- and holds the addresses that the entry covers
-held : (counts : MemoryValue → Bool) (P : MemoryValue → Type 0) → Tests counts P → (o s x : ℕ) (e : SratEntry)
-    → CoversFrom P s x e ↔ ((v : SpanValue) × (covered counts o e ≡ Some v) × (v.start ≡ s) × (s ≤ x) × (x < v.end))
-held counts P tests o s x (MemoryRange v) = (
+covers : (counts : MemoryValue → Bool) (P : MemoryValue → Type 0) → Tests counts P → (o s x : ℕ) (e : SratEntry)
+    → CoversFrom P s x e ↔ ((v : SpanValue) × (covered_span counts o e ≡ Some v) × (v.start ≡ s) × (s ≤ x) × (x < v.end))
+covers counts P tests o s x (MemoryRange v) = (
   λ h. rw (h.0, (tests v).1 h.1) (from_some v.base (v.base + v.size) o s x h.2 h.3 (omega (arith, h.2, h.4))),
   λ h. let kind = where_some (is_enabled v.flags && counts v) (span_from v.base (v.base + v.size) o) h.0 h.1 in let made = from_is v.base (v.base + v.size) o h.0 kind.1 in grind (arith, and_parts, kind.0, made, h.2, h.3, h.4, (tests v).0),
 )
-held counts P tests o s x _ = (λ h. absurd h, λ h. absurd (none-some h.0 h.1))
+covers counts P tests o s x _ = (λ h. absurd h, λ h. absurd (none-some h.0 h.1))
 
--- the spans of a kind that are gathered of all entries are the ranges of this kind
-pub covered_spans : (counts : MemoryValue → Bool) (P : MemoryValue → Type 0) → Tests counts P → (whole : List ℕ) (entries : List (Standing (List ℕ))) (spans : List Span) → entries ≡ entries_of 48 whole
-    → map span_value spans ≡ spans_of (covered counts) (said_by srat_entry entries) → AreSpansOf (Covers P (srat_contents whole)) spans
-unfolding srat_contents
-covered_spans counts P tests whole entries spans all is =
-    are_spans (CoversFrom P) (covered counts) (record { named = named counts; held = held counts P tests }) 48 _ (rising srat_entry 48 whole) spans (rw (← all) is)
+-- the spans of a kind that are collected of all entries are the ranges of this kind
+pub covered_spans : (counts : MemoryValue → Bool) (P : MemoryValue → Type 0) → Tests counts P → (whole : List ℕ) (spans : List Span) → map span_value spans ≡ spans_of (covered_span counts) (srat_contents whole).entries → AreSpansOf (Covers P (srat_contents whole)) spans
+covered_spans counts P tests whole spans is = are_spans (CoversFrom P) (covered_span counts) (record { named = named counts; covers = covers counts P tests }) 48 _ (srat_rising whole) spans is
 
 -- a test of all ranges
 pub tests_any : Tests (λ v. true) IsAny
@@ -61,12 +57,12 @@ tests_other v = elim (is_hot_pluggable v.flags) as (λ b. (not b ≡ true) ↔ (
 -- ---- ranges that must be apart
 
 -- where all ranges are compared, their first overlap is reported
-pub counted : (c : SratContents) (found : Clash) → IsFound (Covers IsAny c) found → IsFoundOverlap Counted c found
+pub counted : (c : SratContents) (found : Clash) → IsOverlapResult (Covers IsAny c) found → IsRangesResult Counted c found
 counted c clash.None is = is
 counted c (clash.At first second point) is = is
 
 -- where hot-pluggable ranges are apart, the earlier of the two overlaps is reported
-pub apart : (c : SratContents) (others hots : Clash) → IsFound (Covers IsNotHotPluggable c) others → IsFound (Covers IsHotPluggable c) hots → IsFoundOverlap Apart c (earlier_clash others hots)
+pub apart : (c : SratContents) (others hots : Clash) → IsOverlapResult (Covers IsNotHotPluggable c) others → IsOverlapResult (Covers IsHotPluggable c) hots → IsRangesResult Apart c (earlier_clash others hots)
 apart c clash.None clash.None none neither = λ o p x overlap. elim overlap [ inl clash ↦ none o p x clash | inr clash ↦ neither o p x clash ]
 apart c clash.None (clash.At a b x) none first = inr (first, λ o p y clash. absurd (none o p y clash))
 apart c (clash.At a b x) clash.None first none = inl (first, λ o p y clash. absurd (none o p y clash))

@@ -10,7 +10,7 @@ use Rattle.acpi_base.specs.Faults.{IsFirstFault}
 use Rattle.acpi_base.specs.declared.code.Code.TheVariants as code
 use Rattle.acpi_base.specs.declared.stage.Stage.TheVariants as stage
 use Rattle.acpi_base.specs.declared.witness.Witness.{Witness}
-use Rattle.acpi_base.proofs.Faults.Settling.{first_of_set}
+use Rattle.acpi_base.proofs.Faults.HoldsOrFault.{first_of_set}
 use Rattle.acpi_check.specs.Passed.{IsOverlap}
 use Rattle.acpi_check.proofs.Spans.ServedSpans.{clash_below}
 
@@ -23,8 +23,8 @@ gsi_clash_first m q clean whole is w found = (first_of_set clean (record { holds
     own = ap stage_of found.code
 
     fault : InterruptFault q (madt_contents whole) w.code w.at w.other w.point
-    fault = rw found.code found.first.clash
+    fault = rw found.code found.first.overlap
 
 -- and its interrupt number fits a witness
 pub gsi_clash_fits : (q : PolicyValue) (c : MadtContents) (at other point : ℕ) → IsSoundMadt q c → IsFirstGsiClash q c at other point → point < 2 ^ 64
-gsi_clash_fits q c at other point sound first = omega (arith, clash_below q c sound at other point first.clash)
+gsi_clash_fits q c at other point sound first = omega (arith, clash_below q c sound at other point first.overlap)

@@ -12,31 +12,19 @@ use Rattle.std.proofs.lemmas.List.Sorted.{Contains-permutation, IsPermutation-sy
 use Rattle.std.proofs.lemmas.Map.Keys.{IsDistinct-head, IsDistinct-tail, IsDistinct-from_apart}
 use Rattle.std.proofs.lemmas.Option.{same_Some, none-some}
 use Rattle.acpi_base.specs.Across.{IsServed, AreNamedServed}
-use Rattle.acpi_base.specs.Entries.{Standing, entries_of, said_by}
-use Rattle.acpi_base.specs.Madt.{MadtEntry, IoApic, MadtContents, madt_entry, madt_contents, ServesFrom, AreInterruptsApart}
+use Rattle.acpi_base.specs.Entries.{PlacedEntry}
+use Rattle.acpi_base.specs.Madt.{MadtEntry, IoApic, MadtContents, ServesFrom, AreInterruptsApart}
 use Rattle.acpi_base.specs.Policy.{PolicyValue, inputs_of}
 use Rattle.acpi_base.proofs.Elements.{first_or_later, no_element}
-use Rattle.acpi_base.proofs.HeldBytes.{cases_Option}
+use Rattle.acpi_base.proofs.Images.HeldBytes.{cases_Option}
 use Rattle.acpi_graph.specs.Spans.{end_of, EndsBefore, AreApart}
 use Rattle.acpi_graph.specs.declared.span.CompactSpan.{CompactSpan}
 use Rattle.acpi_check.specs.GsiRanges.{served_range, ranges_of, IsInRange, IsInRanges}
 use Rattle.acpi_check.specs.Processors.{numbers_in}
 use Rattle.acpi_check.specs.Served.{named_gsi}
-use Rattle.acpi_check.proofs.ProcessorNumbers.GatheredNumbers.{in_entries}
-use Rattle.acpi_check.proofs.EntryPasses.Kept.{kept_has, kept_from, none_of_short}
+use Rattle.acpi_check.proofs.ProcessorNumbers.EntryNumbers.{in_entries}
+use Rattle.acpi_check.proofs.EntryPasses.Kept.{kept_has, kept_from}
 use Rattle.acpi_check.proofs.Spans.ServedFaults.{names}
-
--- ---- gathered
-
--- the ranges of all entries are the table's
-pub gathered : (q : PolicyValue) (whole : List ℕ) (entries : List (Standing (List ℕ))) (ranges : List CompactSpan) → entries ≡ entries_of 44 whole → ranges ≡ ranges_of q (said_by madt_entry entries)
-    → ranges ≡ ranges_of q (madt_contents whole).entries
-unfolding madt_contents
-gathered q whole entries ranges all is = is ∙ ap (λ (es : List (Standing (List ℕ))). ranges_of q (said_by madt_entry es)) all
-
--- a MADT that is too short has none
-pub no_ranges : (q : PolicyValue) (whole : List ℕ) (ranges : List CompactSpan) → length whole < 44 → ranges ≡ [] → ranges ≡ ranges_of q (madt_contents whole).entries
-no_ranges q whole ranges short none = gathered q whole [] ranges (sym (none_of_short 44 whole short)) none
 
 -- ---- one entry
 
@@ -72,7 +60,7 @@ none_overlaps ranges apart = IsDistinct-from_apart overlap ranges (λ i j d befo
     not_overlap a b before = grind (arith, nat_tests, before)
 
 -- where no two ranges of entries overlap, those of two entries do not
-apart_entries : (q : PolicyValue) (entries : List (Standing MadtEntry)) → IsDistinct overlap (ranges_of q entries) → (s t : Standing MadtEntry) → Contains entries s → Contains entries t → s.offset ≢ t.offset
+apart_entries : (q : PolicyValue) (entries : List (PlacedEntry MadtEntry)) → IsDistinct overlap (ranges_of q entries) → (s t : PlacedEntry MadtEntry) → Contains entries s → Contains entries t → s.offset ≢ t.offset
     → (a b : CompactSpan) → served_range q s.entry ≡ Some a → served_range q t.entry ≡ Some b → overlap a b ≡ false
 apart_entries q [] distinct s t one other differ a b is_a is_b = absurd (no_element s one)
 apart_entries q (u ∷ rest) distinct s t one other differ a b is_a is_b =
@@ -90,7 +78,7 @@ apart_entries q (u ∷ rest) distinct s t one other differ a b is_a is_b =
           λ z listed. All-contains (λ w. overlap y w ≡ false) (ranges_of q rest) z (All-from_recursion (λ w. overlap y w ≡ false) (ranges_of q rest) (IsDistinct-head overlap y (ranges_of q rest) here)) listed in
           elim (first_or_later u s rest one) [
             | inl s_first ↦ elim (first_or_later u t rest other) [
-              | inl t_first ↦ absurd (differ (ap (λ (w : Standing MadtEntry). w.offset) (sym s_first ∙ t_first)))
+              | inl t_first ↦ absurd (differ (ap (λ (w : PlacedEntry MadtEntry). w.offset) (sym s_first ∙ t_first)))
               | inr t_later ↦
                   let same : y ≡ a = same_Some y a (sym is ∙ ap kept s_first ∙ is_a) in
                   subst (λ (w : CompactSpan). overlap w b ≡ false) same (apart b (kept_has kept rest t b t_later is_b))
@@ -104,7 +92,7 @@ apart_entries q (u ∷ rest) distinct s t one other differ a b is_a is_b =
           ]
     ]
   where
-    kept : Standing MadtEntry → Option CompactSpan
+    kept : PlacedEntry MadtEntry → Option CompactSpan
     kept w = served_range q w.entry
 
 -- ---- the table
@@ -121,7 +109,7 @@ are_apart q c apart o p g clash =
 -- a number in one of the ranges is served
 pub is_served : (q : PolicyValue) (c : MadtContents) (sorted : List CompactSpan) → IsPermutation (ranges_of q c.entries) sorted → (g : ℕ) → IsInRanges sorted g → IsServed q c g
 is_served q c sorted moved g (range, listed, here) =
-    let (s, found, is) = kept_from (λ (s : Standing MadtEntry). served_range q s.entry) c.entries range (Contains-permutation sorted (ranges_of q c.entries) range (IsPermutation-sym (ranges_of q c.entries) sorted moved) listed) in
+    let (s, found, is) = kept_from (λ (s : PlacedEntry MadtEntry). served_range q s.entry) c.entries range (Contains-permutation sorted (ranges_of q c.entries) range (IsPermutation-sym (ranges_of q c.entries) sorted moved) listed) in
     (s.offset, range.start, (s.entry, found, serves q g s.entry range is here))
 
 -- ---- numbers in ranges
@@ -132,10 +120,10 @@ in_this ranges j d g within here = (get_or ranges j d, Contains-get_or ranges j 
 
 -- where the numbers at all places are in ranges, all numbers are
 pub all_held : (ranges : List CompactSpan) (numbers : List ℕ) → ((k : ℕ) → k < length numbers → IsInRanges ranges (get_or numbers k 0)) → (n : ℕ) → Contains numbers n → IsInRanges ranges n
-all_held ranges numbers held n (k, within, is) = subst (IsInRanges ranges) (get_or_default numbers k 0 n within ∙ is) (held k within)
+all_held ranges numbers covers n (k, within, is) = subst (IsInRanges ranges) (get_or_default numbers k 0 n within ∙ is) (covers k within)
 
 -- where all numbers that entries name are in ranges, all are served
 pub named_served : (q : PolicyValue) (c : MadtContents) (sorted : List CompactSpan) (named numbers : List ℕ) → IsPermutation (ranges_of q c.entries) sorted → named ≡ numbers_in named_gsi c.entries
     → ((n : ℕ) → Contains numbers n ↔ Contains named n) → ((n : ℕ) → Contains numbers n → IsInRanges sorted n) → AreNamedServed q c
-named_served q c sorted named numbers moved is same held io o g (e, stands, names_g) =
-    is_served q c sorted moved g (held g ((same g).1 (subst (λ (ns : List ℕ). Contains ns g) (sym is) ((in_entries named_gsi c.entries g).1 (o, (e, stands, (names g e).0 names_g))))))
+named_served q c sorted named numbers moved is same covers io o g (e, stands, names_g) =
+    is_served q c sorted moved g (covers g ((same g).1 (subst (λ (ns : List ℕ). Contains ns g) (sym is) ((in_entries named_gsi c.entries g).1 (o, (e, stands, (names g e).0 names_g))))))

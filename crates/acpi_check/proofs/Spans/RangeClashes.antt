@@ -3,19 +3,18 @@ use Rattle.std.proofs.Common.{◌≡◌, ℕ, ◌^◌, ◌<◌, List, map, ap, a
 use Rattle.acpi_base.specs.Codes.{stage_of}
 use Rattle.acpi_base.specs.Memory.{Memory}
 use Rattle.acpi_base.specs.Policy.{PolicyValue}
-use Rattle.acpi_base.specs.Entries.{Standing, entries_of, said_by}
 use Rattle.acpi_base.specs.Listed.{srat_signature, IsListedTable}
-use Rattle.acpi_base.specs.Srat.{srat_entry, SratContents, srat_contents, IsSoundSrat, Covers, IsFirstOverlap, RangeFault}
+use Rattle.acpi_base.specs.Srat.{SratContents, srat_contents, IsSoundSrat, Covers, IsFirstOverlap, RangeFault}
 use Rattle.acpi_base.specs.Statements.{CleanBefore}
 use Rattle.acpi_base.specs.Faults.{IsFirstFault}
 use Rattle.acpi_base.specs.declared.code.Code.TheVariants as code
 use Rattle.acpi_base.specs.declared.policy.HotPlug.{HotPlug}
 use Rattle.acpi_base.specs.declared.stage.Stage.TheVariants as stage
 use Rattle.acpi_base.specs.declared.witness.Witness.{Witness}
-use Rattle.acpi_base.proofs.Faults.Settling.{first_of_set}
+use Rattle.acpi_base.proofs.Faults.HoldsOrFault.{first_of_set}
 use Rattle.acpi_base.proofs.Srat.Ranges.{is_fault}
 use Rattle.acpi_graph.specs.declared.span.Span.{Span}
-use Rattle.acpi_check.specs.Gathered.{AreSpansOf, span_value, covered, spans_of}
+use Rattle.acpi_check.specs.RangeSpans.{AreSpansOf, span_value, covered_span, spans_of}
 use Rattle.acpi_check.specs.Passed.{IsOverlap}
 use Rattle.acpi_check.specs.RangeKinds.{counts, IsOfKind}
 use Rattle.acpi_check.specs.declared.range_kind.RangeKind.{RangeKind}
@@ -28,9 +27,8 @@ tests kind.Any = tests_any
 tests kind.HotPluggable = tests_hot
 tests kind.NotHotPluggable = tests_other
 
--- the spans of a kind that are gathered of all entries are the ranges of this kind
-pub kind_spans : (k : RangeKind) (whole : List ℕ) (entries : List (Standing (List ℕ))) (spans : List Span) → entries ≡ entries_of 48 whole
-    → map span_value spans ≡ spans_of (covered (counts k)) (said_by srat_entry entries) → AreSpansOf (Covers (IsOfKind k) (srat_contents whole)) spans
+-- the spans of a kind that are collected of all entries are the ranges of this kind
+pub kind_spans : (k : RangeKind) (whole : List ℕ) (spans : List Span) → map span_value spans ≡ spans_of (covered_span (counts k)) (srat_contents whole).entries → AreSpansOf (Covers (IsOfKind k) (srat_contents whole)) spans
 kind_spans k = covered_spans (counts k) (IsOfKind k) (tests k)
 
 -- the first overlap of them is the first fault of the set

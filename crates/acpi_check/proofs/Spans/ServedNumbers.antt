@@ -8,19 +8,19 @@ use Rattle.std.proofs.lemmas.List.{get_or_default}
 use Rattle.std.proofs.lemmas.List.Elements.{Contains-get_or}
 use Rattle.std.proofs.lemmas.List.Sorted.{Contains-permutation, IsPermutation-sym}
 use Rattle.acpi_base.specs.Across.{IsIoApic, IsServed}
-use Rattle.acpi_base.specs.Clashes.{AreApart}
+use Rattle.acpi_base.specs.Overlaps.{AreApart}
 use Rattle.acpi_base.specs.Madt.{MadtEntry, IoApic, MadtContents, ServesFrom, Serves, AreInterruptsApart}
 use Rattle.acpi_base.specs.Policy.{PolicyValue, IsPolicy, inputs_of}
-use Rattle.acpi_base.proofs.HeldBytes.{cases_Option}
-use Rattle.acpi_graph.specs.Spans.{NamesDiffer, Holds, IsClear}
+use Rattle.acpi_base.proofs.Images.HeldBytes.{cases_Option}
+use Rattle.acpi_graph.specs.Spans.{NamesDiffer, HasNumber, IsClear}
 use Rattle.acpi_graph.specs.declared.span.Span.{Span}
 use Rattle.acpi_graph.proofs.SortedSpans.{span_cmp, in_order, names_permuted, clear_permuted}
-use Rattle.acpi_check.specs.Gathered.{AreSpansOf}
-use Rattle.acpi_check.specs.Served.{DoSpansRise, IsHeld, AreServed}
+use Rattle.acpi_check.specs.RangeSpans.{AreSpansOf}
+use Rattle.acpi_check.specs.Served.{AreSortedDisjoint, IsInSpans, AreServedSpans}
 
 -- ---- spans in rising order
 
--- where no number is held by two ranges, none lies in two spans
+-- where no number lies in two ranges, none lies in two spans
 clear : {HoldsAt : ℕ → ℕ → ℕ → Type 0} (spans : List Span) → AreSpansOf HoldsAt spans → AreApart HoldsAt → IsClear spans
 clear {HoldsAt} spans are apart x two =
     apart two.one.name two.other.name x (record {
@@ -31,11 +31,11 @@ clear {HoldsAt} spans are apart x two =
       two = two.two;
     })
   where
-    is : (span : Span) → Contains spans span → Holds span x → HoldsAt span.name span.start x
-    is span listed holds = (are.held span.name span.start x).1 (record { span = span; listed = listed; name = refl; start = refl; holds = holds })
+    is : (span : Span) → Contains spans span → HasNumber span x → HoldsAt span.name span.start x
+    is span listed holds = (are.covers span.name span.start x).1 (record { span = span; listed = listed; name = refl; start = refl; holds = holds })
 
 -- sorted spans that are clear of each other rise
-rise : (spans : List Span) → NamesDiffer spans → IsSorted span_cmp spans → IsClear spans → DoSpansRise spans
+rise : (spans : List Span) → NamesDiffer spans → IsSorted span_cmp spans → IsClear spans → AreSortedDisjoint spans
 rise spans names sorted clears i j d before within =
     elim (cases_lt b.start a.end) [
       | inr ends ↦ ends
@@ -63,7 +63,7 @@ rise spans names sorted clears i j d before within =
 -- ---- what a search by the start finds
 
 -- spans that rise begin in rising order
-pub starts_rise : (spans : List Span) → DoSpansRise spans → IsNonDecreasingBy (λ s. s.start) spans
+pub starts_rise : (spans : List Span) → AreSortedDisjoint spans → IsNonDecreasingBy (λ s. s.start) spans
 starts_rise spans rises i j d least within =
     let filled : (get_or spans i d).start < (get_or spans i d).end = (get_or spans i d).not_empty in
     elim (cases_order i j) [
@@ -77,18 +77,18 @@ abbrev pub IsBegun : List Span → ℕ → ℕ → Type 0
 IsBegun spans x i = IsPartitionPoint (λ s. leb s.start x ≡ true) (λ s. leb s.start x ≡ false) spans i
 
 -- where none has begun none holds x
-pub none_begun : (spans : List Span) (x i : ℕ) → i ≡ 0 → IsBegun spans x i → ¬ IsHeld spans x
+pub none_begun : (spans : List Span) (x i : ℕ) → i ≡ 0 → IsBegun spans x i → ¬ IsInSpans spans x
 none_begun spans x i zero begun (span, (k, within, is), holds) =
     let later = leb-false _ _ (begun.1 k span (omega arith) within) in
     grind (arith, later, is, holds.from_start)
 
 -- where the last that has begun holds x, one does
-pub last_holds : (spans : List Span) (x i : ℕ) (d : Span) → 0 < i → i ≤ length spans → IsBegun spans x i → x < (get_or spans (i - 1) d).end → IsHeld spans x
+pub last_holds : (spans : List Span) (x i : ℕ) (d : Span) → 0 < i → i ≤ length spans → IsBegun spans x i → x < (get_or spans (i - 1) d).end → IsInSpans spans x
 last_holds spans x i d some within begun below =
     (get_or spans (i - 1) d, Contains-get_or spans (i - 1) d (omega arith), record { from_start = leb-true _ _ (begun.0 (i - 1) d (omega arith) (omega arith)); below_end = below })
 
 -- and where it does not, none does
-pub last_ended : (spans : List Span) (x i : ℕ) (d : Span) → DoSpansRise spans → 0 < i → i ≤ length spans → IsBegun spans x i → (get_or spans (i - 1) d).end ≤ x → ¬ IsHeld spans x
+pub last_ended : (spans : List Span) (x i : ℕ) (d : Span) → AreSortedDisjoint spans → 0 < i → i ≤ length spans → IsBegun spans x i → (get_or spans (i - 1) d).end ≤ x → ¬ IsInSpans spans x
 last_ended spans x i d rises some within begun ended (span, (k, inside, is), holds) =
     let last : (get_or spans (i - 1) span).start < (get_or spans (i - 1) span).end = (get_or spans (i - 1) span).not_empty in
     let ends : (get_or spans (i - 1) span).end ≤ x = subst (λ (s : Span). s.end ≤ x) (get_or_default spans (i - 1) d span (omega arith)) ended in
@@ -101,8 +101,8 @@ last_ended spans x i d rises some within begun ended (span, (k, inside, is), hol
     ]
 
 -- so its end decides
-pub held : (spans : List Span) (x i : ℕ) (d : Span) → DoSpansRise spans → 0 < i → i ≤ length spans → IsBegun spans x i → MatchBool (nat_lt x (get_or spans (i - 1) d).end) (IsHeld spans x) (¬ IsHeld spans x)
-held spans x i d rises some within begun =
+pub covers : (spans : List Span) (x i : ℕ) (d : Span) → AreSortedDisjoint spans → 0 < i → i ≤ length spans → IsBegun spans x i → MatchBool (nat_lt x (get_or spans (i - 1) d).end) (IsInSpans spans x) (¬ IsInSpans spans x)
+covers spans x i d rises some within begun =
     elim (cases_lt x (get_or spans (i - 1) d).end) [
       | inl below ↦ rw (lt-ltb x (get_or spans (i - 1) d).end below) (last_holds spans x i d some within begun below)
       | inr ended ↦ rw (le-ltb x (get_or spans (i - 1) d).end ended) (last_ended spans x i d rises some within begun ended)
@@ -125,22 +125,22 @@ serves_some q is (IoApic v) io = (v.gsi_base, (refl, omega arith, omega (arith, 
 serves_some q is _ io = absurd io
 
 -- sorted spans are those of the I/O APICs, where no two serve one number
-pub are_served : (q : PolicyValue) (c : MadtContents) (spans sorted : List Span) → IsPolicy q → AreInterruptsApart q c → AreSpansOf (Serves q c) spans → IsPermutation spans sorted → IsSorted span_cmp sorted → AreServed q c sorted
+pub are_served : (q : PolicyValue) (c : MadtContents) (spans sorted : List Span) → IsPolicy q → AreInterruptsApart q c → AreSpansOf (Serves q c) spans → IsPermutation spans sorted → IsSorted span_cmp sorted → AreServedSpans q c sorted
 are_served q c spans sorted is apart are moved order =
     record {
       rise = rise sorted (names_permuted spans sorted moved are.names) order (clear_permuted sorted spans back (clear spans are apart));
-      held = λ g. (from g, to g);
+      covers = λ g. (from g, to g);
       some = λ (o, (e, stands, io)). let (g, serves) = serves_some q is e io in let (span, (k, within, _), holds) = to g (o, g, (e, stands, serves)) in omega arith;
     }
   where
     back : IsPermutation sorted spans
     back = IsPermutation-sym spans sorted moved
 
-    from : (g : ℕ) → IsHeld sorted g → IsServed q c g
+    from : (g : ℕ) → IsInSpans sorted g → IsServed q c g
     from g (span, listed, holds) =
-        (span.name, span.start, (are.held span.name span.start g).1 (record { span = span; listed = Contains-permutation sorted spans span back listed; name = refl; start = refl; holds = holds }))
+        (span.name, span.start, (are.covers span.name span.start g).1 (record { span = span; listed = Contains-permutation sorted spans span back listed; name = refl; start = refl; holds = holds }))
 
-    to : (g : ℕ) → IsServed q c g → IsHeld sorted g
+    to : (g : ℕ) → IsServed q c g → IsInSpans sorted g
     to g (o, start, serves) =
-        let has = (are.held o start g).0 serves in
+        let has = (are.covers o start g).0 serves in
         (has.span, Contains-permutation spans sorted has.span moved has.listed, has.holds)

@@ -1,6 +1,6 @@
 -- From what a view reports to the first fault of a set.
-use Rattle.std.proofs.Common.{◌≡◌, ◌<◌, ◌≤◌, ℕ, List, Some, refl, sym, ◌∙◌, subst, inl, inr, arith}
-use Rattle.std.specs.Prelude.{◌⊎◌, ◌≢◌}
+use Rattle.std.proofs.Common.{◌≡◌, ◌<◌, ◌≤◌, ℕ, List, Option, Some, None, refl, sym, ◌∙◌, subst, inl, inr, arith}
+use Rattle.std.specs.Prelude.{◌⊎◌, ◌≢◌, IfSome}
 use Rattle.std.proofs.lemmas.Bool.{cases_order}
 use Rattle.acpi_base.specs.Memory.{Memory}
 use Rattle.acpi_base.specs.Policy.{PolicyValue}
@@ -10,7 +10,7 @@ use Rattle.acpi_base.specs.Root.{HasSlot, IsSlot, RootFault, RootTableFault, Nam
 use Rattle.acpi_base.specs.Tables.{IsSoundTable, TableFault}
 use Rattle.acpi_base.specs.Listed.{fadt_signature, ListsNone}
 use Rattle.acpi_base.specs.Fadt.{facs_address, IsFadt, IsSoundFadt, FadtTableFault, FadtFault}
-use Rattle.acpi_base.specs.Facs.{HasSoundFacs, IsSoundFacs, NamedFacsFault}
+use Rattle.acpi_base.specs.Facs.{IsFacs, HasSoundFacs, IsSoundFacs, NamedFacsFault}
 use Rattle.acpi_base.specs.Statements.{CleanBefore}
 use Rattle.acpi_base.specs.Faults.{NotAfter, IsFirstFault}
 use Rattle.acpi_base.specs.declared.code.Code.{Code}
@@ -19,14 +19,16 @@ use Rattle.acpi_base.specs.declared.stage.Stage.TheVariants as stage
 use Rattle.acpi_base.specs.declared.witness.Witness.{Witness}
 use Rattle.acpi_base.proofs.Faults.Numbers.{stage_from_1}
 use Rattle.acpi_base.proofs.Faults.Order.{not_after}
-use Rattle.acpi_base.proofs.Faults.Settling.{IsFirstOfStage, first_of_set}
-use Rattle.acpi_base.proofs.HeldBytes.{same_value}
+use Rattle.acpi_base.proofs.Faults.HoldsOrFault.{IsFirstOfStage, first_of_set}
+use Rattle.acpi_base.proofs.Images.HeldBytes.{same_value}
 use Rattle.acpi_base.proofs.Root.Named.{no_root_and_root, one_root}
 use Rattle.acpi_base.proofs.Root.Slots.{one_slot, root_slot, slot_of_root}
 use Rattle.acpi_base.proofs.Tables.Faults.{excludes}
 use Rattle.acpi_base.proofs.Tables.Listed.{none_and_listed, one_listed}
 use Rattle.acpi_base.proofs.Facs.Faults.{place}
+use Rattle.acpi_read.specs.Fadts.{FacsValue}
 use Rattle.acpi_read.specs.Roots.{RootValue}
+use Rattle.acpi_check.specs.HandedOn.{IsFacsNamed}
 use Rattle.acpi_check.specs.Tables.{IsRootOf}
 
 -- the least fault of the RSDP
@@ -132,3 +134,9 @@ facs_first m q fadt c clean own fault least =
 -- a FACS that is sound for the set's FADT is sound
 pub facs_sound : (m : Memory) (p : ℕ) (fadt : List ℕ) → IsFadt m p fadt → HasSoundFacs m fadt → IsSoundFacs m p
 facs_sound m p fadt is sound = λ whole also. rw (one_listed m p fadt_signature whole fadt also is) sound
+
+-- what is read is the FACS that the FADT names
+pub facs_named : (m : Memory) (fadt : List ℕ) (found : Option FacsValue) → (found ≡ None → facs_address fadt ≡ 0)
+    → IfSome found (λ facs. (facs.address ≡ facs_address fadt) × (facs.address ≢ 0) × IsFacs m facs.address facs.bytes) → IsFacsNamed m fadt found
+facs_named m fadt None none some = none refl
+facs_named m fadt (Some facs) none some = some

@@ -9,15 +9,16 @@ use Rattle.acpi_base.specs.Tables.{IsSigned, IsTable, IsSoundTable}
 use Rattle.acpi_base.specs.Listed.{IsListed}
 use Rattle.acpi_base.specs.TableKinds.{signature_of}
 use Rattle.acpi_base.specs.declared.table_kind.TableKind.{TableKind}
-use Rattle.acpi_base.proofs.HeldBytes.{same_value}
+use Rattle.acpi_base.proofs.Images.HeldBytes.{same_value}
 use Rattle.acpi_base.proofs.Root.Slots.{one_slot}
 use Rattle.acpi_base.proofs.Tables.Kinds.{length-signature_of}
 use Rattle.acpi_base.proofs.Tables.Listed.{listed_in_root, none_in_root}
 use Rattle.acpi_base.proofs.Tables.Whole.{signed_table}
-use Rattle.acpi_read.specs.FirstTables.{first_of, first_with}
+use Rattle.acpi_read.specs.FirstTables.{first_table, first_signed_table}
 use Rattle.acpi_read.specs.Roots.{RootValue}
 use Rattle.acpi_read.specs.declared.first_tables.FirstTables.{FirstTables}
-use Rattle.acpi_check.specs.Tables.{IsRootOf, AreFirstTables, IsFirstBelow, AreFirstBelow}
+use Rattle.acpi_check.specs.FirstBelow.{IsFirstBelow, AreFirstBelow}
+use Rattle.acpi_check.specs.Tables.{IsRootOf, AreFirstTables}
 
 -- below the first slot nothing is listed
 pub below_none : (m : Memory) (bytes : List ℕ) (d : ℕ) (signature : List ℕ) → IsFirstBelow m bytes d 0 signature None
@@ -34,7 +35,7 @@ below_skip m bytes d k signature (Some whole) empty first = first
 
 -- a slot that lists a table
 pub below_more : (m : Memory) (bytes : List ℕ) (d k a : ℕ) (header whole signature : List ℕ) (found : Option (List ℕ)) → length signature ≡ 4 → HasSlot bytes d k a → IsTable m a header whole
-    → IsFirstBelow m bytes d k signature found → IsFirstBelow m bytes d (k + 1) signature (first_with signature found whole)
+    → IsFirstBelow m bytes d k signature found → IsFirstBelow m bytes d (k + 1) signature (first_signed_table signature found whole)
 below_more m bytes d k a header whole signature (Some other) four slot table first =
     elim (has_signature whole signature) as (λ b. IsFirstBelow m bytes d (k + 1) signature (cond (b && false) (Some whole) (Some other))) [ true ↦ first | false ↦ first ]
 below_more m bytes d k a header whole signature None four slot table none =
@@ -68,7 +69,7 @@ below_all k signature (Some whole) root table all (a, header, first, stands) = l
 -- ---- all kinds together
 
 -- below the first slot nothing is listed
-pub none_below : (m : Memory) (root : RootValue) (firsts : FirstTables) → ((kind : TableKind) → first_of firsts kind ≡ None) → AreFirstBelow m root 0 firsts
+pub none_below : (m : Memory) (root : RootValue) (firsts : FirstTables) → ((kind : TableKind) → first_table firsts kind ≡ None) → AreFirstBelow m root 0 firsts
 none_below m root firsts none = record {
   sound = λ j a below slot. absurd (omega arith);
   first = λ kind. rw (none kind) (below_none m root.bytes root.width (signature_of kind));
@@ -81,12 +82,12 @@ firsts_skip m root k firsts empty below = record {
     | inl before ↦ below.sound j a before slot
     | inr last ↦ absurd (empty a (subst (λ (i : ℕ). HasSlot root.bytes root.width i a) (omega arith) slot))
   ];
-  first = λ kind. below_skip m root.bytes root.width k (signature_of kind) (first_of firsts kind) empty (below.first kind);
+  first = λ kind. below_skip m root.bytes root.width k (signature_of kind) (first_table firsts kind) empty (below.first kind);
 }
 
 -- a slot that lists a sound table
 pub firsts_more : (m : Memory) (root : RootValue) (k a : ℕ) (header whole : List ℕ) (old new : FirstTables) → HasSlot root.bytes root.width k a → IsSoundTable m a → IsTable m a header whole
-    → ((kind : TableKind) → first_of new kind ≡ first_with (signature_of kind) (first_of old kind) whole) → AreFirstBelow m root k old → AreFirstBelow m root (k + 1) new
+    → ((kind : TableKind) → first_table new kind ≡ first_signed_table (signature_of kind) (first_table old kind) whole) → AreFirstBelow m root k old → AreFirstBelow m root (k + 1) new
 firsts_more m root k a header whole old new slot sound table added below = record {
   sound = λ j b less there. elim (cases_lt j k) [
     | inl before ↦ below.sound j b before there
@@ -95,9 +96,11 @@ firsts_more m root k a header whole old new slot sound table added below = recor
         subst (λ (x : ℕ). IsSoundTable m x) (one_slot root.bytes root.width k a b slot here) sound
   ];
   first = λ kind.
-      rw (added kind) (below_more m root.bytes root.width k a header whole (signature_of kind) (first_of old kind) (length-signature_of kind) slot table (below.first kind));
+      rw (added kind) (below_more m root.bytes root.width k a header whole (signature_of kind) (first_table old kind) (length-signature_of kind) slot table (below.first kind));
 }
 
 -- what all slots list first are the set's tables
 pub firsts_all : (m : Memory) (p k : ℕ) (root : RootValue) (firsts : FirstTables) → IsRootOf m p root → ((j a : ℕ) → HasSlot root.bytes root.width j a → j < k) → AreFirstBelow m root k firsts → AreFirstTables m p firsts
-firsts_all m p k root firsts is all below kind = below_all k (signature_of kind) (first_of firsts kind) is.named is.sound.table all (below.first kind)
+firsts_all m p k root firsts is all below = record {
+  each = λ kind. below_all k (signature_of kind) (first_table firsts kind) is.named is.sound.table all (below.first kind);
+}

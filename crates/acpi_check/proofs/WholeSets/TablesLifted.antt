@@ -11,14 +11,14 @@ use Rattle.acpi_base.specs.declared.code.Code.{Code}
 use Rattle.acpi_base.specs.declared.stage.Stage.{Stage}
 use Rattle.acpi_base.specs.TableKinds.{signature_of}
 use Rattle.acpi_base.specs.declared.table_kind.TableKind.{TableKind}
-use Rattle.acpi_read.specs.FirstTables.{first_of}
+use Rattle.acpi_read.specs.FirstTables.{first_table}
 use Rattle.acpi_read.specs.declared.first_tables.FirstTables.{FirstTables}
 use Rattle.acpi_base.specs.declared.witness.Witness.{Witness}
 use Rattle.acpi_base.proofs.Faults.ListedTables.{of_listed, for_listed}
-use Rattle.acpi_base.proofs.Faults.Settling.{first_of_set}
+use Rattle.acpi_base.proofs.Faults.HoldsOrFault.{first_of_set}
 use Rattle.acpi_base.proofs.Tables.Listed.{none_and_listed}
 use Rattle.acpi_check.specs.Passed.{IsFirstOfTable, Finds, FindsFirst}
-use Rattle.acpi_check.specs.Settled.{Settles}
+use Rattle.acpi_check.specs.StageResults.{IsStageResult}
 use Rattle.acpi_check.specs.Tables.{AreFirstTables}
 use Rattle.acpi_check.specs.declared.refusal.Refusal.{Refusal}
 use Rattle.acpi_check.specs.declared.refusal.Refusal.TheVariants.{Fault, OutOfMemory}
@@ -26,14 +26,14 @@ use Rattle.acpi_check.specs.declared.refusal.Refusal.TheVariants.{Fault, OutOfMe
 -- ---- one table
 
 -- the first table of a kind is the listed one, where the set lists it
-pub first_listed : {m : Memory} {p : ℕ} {firsts : FirstTables} → AreFirstTables m p firsts → (kind : TableKind) → {found : Option (List ℕ)} → found ≡ first_of firsts kind
+pub listed_of_first : {m : Memory} {p : ℕ} {firsts : FirstTables} → AreFirstTables m p firsts → (kind : TableKind) → {found : Option (List ℕ)} → found ≡ first_table firsts kind
     → {whole : List ℕ} → found ≡ Some whole → IsListedTable m p (signature_of kind) whole
-first_listed {m} {p} all kind same is = subst (IsListed m p (signature_of kind)) (sym same ∙ is) (all kind)
+listed_of_first {m} {p} all kind same is = subst (IsListed m p (signature_of kind)) (sym same ∙ is) (all.each kind)
 
 -- where there is no first, it lists none
-pub none_listed : {m : Memory} {p : ℕ} {firsts : FirstTables} → AreFirstTables m p firsts → (kind : TableKind) → {found : Option (List ℕ)} → found ≡ first_of firsts kind
+pub none_listed : {m : Memory} {p : ℕ} {firsts : FirstTables} → AreFirstTables m p firsts → (kind : TableKind) → {found : Option (List ℕ)} → found ≡ first_table firsts kind
     → found ≡ None → ListsNone m p (signature_of kind)
-none_listed {m} {p} all kind same is = subst (IsListed m p (signature_of kind)) (sym same ∙ is) (all kind)
+none_listed {m} {p} all kind same is = subst (IsListed m p (signature_of kind)) (sym same ∙ is) (all.each kind)
 
 -- nothing is stated of a table that the set does not list
 pub of_none : {m : Memory} {p : ℕ} {signature : List ℕ} (P : List ℕ → Type 0) → ListsNone m p signature → ForListed m p signature P
@@ -45,7 +45,7 @@ pub of_one : (s : Stage) {m : Memory} {q : PolicyValue} {signature : List ℕ} (
     → (ForListed m q.rsdp signature Sound → Holds s m q)
     → ((whole : List ℕ) → IsListedTable m q.rsdp signature whole → (w : Witness) → IsFirst whole w → IsFirstFault m q w × (stage_of w.code ≡ s))
     → {whole : List ℕ} → IsListedTable m q.rsdp signature whole → (result : Result ⊤ Refusal) → Finds s (Sound whole) (IsFirst whole) result
-    → Settles s m q (λ _. ⊤) result
+    → IsStageResult s m q (λ _. ⊤) result
 of_one s Sound IsFirst holds first is (Ok _) found = (holds (for_listed Sound is found), tt)
 of_one s Sound IsFirst holds first {whole} is (Err (Fault w)) found = first whole is w found
 of_one s Sound IsFirst holds first is (Err OutOfMemory) found = found
@@ -70,7 +70,7 @@ pub of_faults : (s : Stage) {m : Memory} {q : PolicyValue} {signature : List ℕ
     → ((v : Witness) → FaultCondition s m q v ↔ HasListed m q.rsdp signature (λ bytes. IsFault bytes v.code v.at v.other v.point))
     → ((w : Witness) → ((v : Witness) → FaultOfStage s m q v → NotAfter w v) → IsLeastOfStage s m q w)
     → CleanBefore s m q → {whole : List ℕ} → IsListedTable m q.rsdp signature whole → (result : Result ⊤ Refusal)
-    → FindsFirst s (Sound whole) (IsFault whole) result → Settles s m q (λ _. ⊤) result
+    → FindsFirst s (Sound whole) (IsFault whole) result → IsStageResult s m q (λ _. ⊤) result
 of_faults s Sound IsFault holds condition order clean is result found =
     of_one s Sound (λ whole. IsFirstOfTable s (IsFault whole)) holds (table_first IsFault condition order clean) is result found
 
@@ -93,7 +93,7 @@ pub of_two : (s : Stage) {m : Memory} {q : PolicyValue} {one other : List ℕ} (
     → ((v : Witness) → FaultCondition s m q v ↔ HasListed m q.rsdp one (λ x. HasListed m q.rsdp other (λ y. IsFault x y v.code v.at v.other v.point)))
     → ((w : Witness) → ((v : Witness) → FaultOfStage s m q v → NotAfter w v) → IsLeastOfStage s m q w)
     → CleanBefore s m q → {x y : List ℕ} → IsListedTable m q.rsdp one x → IsListedTable m q.rsdp other y → (result : Result ⊤ Refusal)
-    → FindsFirst s (Sound x y) (IsFault x y) result → Settles s m q (λ _. ⊤) result
+    → FindsFirst s (Sound x y) (IsFault x y) result → IsStageResult s m q (λ _. ⊤) result
 of_two s {m} {q} {one} {other} Sound IsFault holds condition order clean {x} {y} is also (Ok _) found =
     (holds (for_listed (λ z. ForListed m q.rsdp other (Sound z)) is (for_listed (Sound x) also found)), tt)
 of_two s Sound IsFault holds condition order clean {x} {y} is also (Err (Fault w)) found = both_first IsFault condition order clean x y is also w found

@@ -1,11 +1,11 @@
 //! The lines of the FADT, of its register blocks, and of the FACS.
 
-use crate::show::listed::{Listed, Unread, add_unread};
+use crate::show::listed::{Unread, add_unread};
 use acpi_base::Image;
 use acpi_base::field::{u8_at, u16_at, u32_at};
-use acpi_read::{Block, Facs, Fadt, Gas};
+use acpi_read::{Block, Facs, Fadt, Gas, Listed};
 use std::alloc::AllocError;
-use std::fmt::{self, Write};
+use std::fmt::Write;
 
 /// The offset of Preferred_PM_Profile in a FADT (ACPI 6.5, 5.2.9).
 const PREFERRED_PM_PROFILE: usize = 45;
@@ -25,8 +25,9 @@ const BLOCKS: [&str; 8] = [
 ];
 
 /// Adds the lines of the FADT, of its blocks and of the FACS that it names.
-pub fn add_fadt(text: &mut String, image: &Image, listed: Listed<'_>) -> Result<(), AllocError> {
-    let Listed { address, table } = listed;
+pub fn add_fadt(text: &mut String, image: &Image, listed: &Listed<'_>) -> Result<(), AllocError> {
+    let address = listed.address;
+    let table = listed.table.copied();
     let Ok(fadt) = Fadt::new(table) else {
         return add_unread(text, "fadt", address, Unread::Short);
     };
@@ -35,141 +36,63 @@ pub fn add_fadt(text: &mut String, image: &Image, listed: Listed<'_>) -> Result<
     add_facs(text, image, &fadt)
 }
 
-/// Adds the lines of the FADT itself and of the DSDT that it names.
+/// Adds the line of the FADT itself, `fadt ADDRESS length N profile N sci N flags FLAGS reduced yes`, or `reduced no`, and
+/// `dsdt ADDRESS`, of the DSDT that it names; 0 for none.
 fn add_fields(text: &mut String, address: u64, fadt: &Fadt<'_>) -> Result<(), AllocError> {
-    let line = FadtLine { address, fadt };
-    writeln!(text, "{line}")?;
-    let address = fadt.dsdt_address();
-    let line = DsdtLine { address };
-    writeln!(text, "{line}")
+    let bytes = fadt.bytes();
+    let profile = u8_at(bytes, PREFERRED_PM_PROFILE);
+    let sci = u16_at(bytes, SCI_INT);
+    let flags = u32_at(bytes, FLAGS);
+    let reduced = if fadt.reduced() { "yes" } else { "no" };
+    write!(text, "fadt 0x{address:x} length {}", bytes.len())?;
+    write!(text, " profile {profile} sci {sci}")?;
+    writeln!(text, " flags 0x{flags:x} reduced {reduced}")?;
+    writeln!(text, "dsdt 0x{:x}", fadt.dsdt_address())
 }
 
-/// `fadt ADDRESS length N profile N sci N flags FLAGS reduced yes`, or `reduced no`.
-#[derive(Clone, Copy)]
-struct FadtLine<'a> {
-    /// Where the FADT stands.
-    address: u64,
-    fadt: &'a Fadt<'a>,
-}
-
-impl fmt::Display for FadtLine<'_> {
-    fn fmt<W: fmt::Write>(&self, f: &mut fmt::Formatter<W>) -> fmt::Result {
-        let bytes = self.fadt.bytes();
-        let profile = u8_at(bytes, PREFERRED_PM_PROFILE);
-        let sci = u16_at(bytes, SCI_INT);
-        let flags = u32_at(bytes, FLAGS);
-        let reduced = if self.fadt.reduced() { "yes" } else { "no" };
-        write!(f, "fadt 0x{:x} length {}", self.address, bytes.len())?;
-        write!(
-            f,
-            " profile {profile} sci {sci} flags 0x{flags:x} reduced {reduced}"
-        )
-    }
-}
-
-/// `dsdt ADDRESS`, of the one that the FADT names; 0 for none.
-#[derive(Clone, Copy)]
-struct DsdtLine {
-    address: u64,
-}
-
-impl fmt::Display for DsdtLine {
-    fn fmt<W: fmt::Write>(&self, f: &mut fmt::Formatter<W>) -> fmt::Result {
-        write!(f, "dsdt 0x{:x}", self.address)
-    }
-}
-
-/// Adds a line for each register block that the FADT gives an address.
+/// Adds a line for each register block that the FADT gives an address: that of a generic address structure, or `block
+/// NAME port BYTES ADDRESS`, with how many bytes the block has.
 fn add_blocks(text: &mut String, fadt: &Fadt<'_>) -> Result<(), AllocError> {
     for k in 0..8u8 {
         let name = BLOCKS[usize::from(k)];
         match fadt.block(k) {
             Block::None => {}
-            Block::Gas(gas) => writeln!(text, "{}", GasLine { name, gas })?,
+            Block::Gas(gas) => add_gas(text, name, gas)?,
             Block::Port { address, bytes } => {
-                let line = PortLine {
-                    name,
-                    bytes,
-                    address,
-                };
-                writeln!(text, "{line}")?;
+                writeln!(text, "block {name} port {bytes} 0x{address:x}")?;
             }
         }
     }
     Ok(())
 }
 
-/// `block NAME gas SPACE WIDTH OFFSET ACCESS ADDRESS`.
-#[derive(Clone, Copy)]
-struct GasLine {
-    name: &'static str,
-    gas: Gas,
+/// Adds `block NAME gas SPACE WIDTH OFFSET ACCESS ADDRESS`.
+fn add_gas(text: &mut String, name: &str, gas: Gas) -> Result<(), AllocError> {
+    let Gas {
+        space,
+        bit_width,
+        bit_offset,
+        access_size,
+        address,
+    } = gas;
+    write!(text, "block {name} gas {space} {bit_width}")?;
+    writeln!(text, " {bit_offset} {access_size} 0x{address:x}")
 }
 
-impl fmt::Display for GasLine {
-    fn fmt<W: fmt::Write>(&self, f: &mut fmt::Formatter<W>) -> fmt::Result {
-        let Gas {
-            space,
-            bit_width,
-            bit_offset,
-            access_size,
-            address,
-        } = self.gas;
-        write!(
-            f,
-            "block {} gas {space} {bit_width} {bit_offset} {access_size} 0x{address:x}",
-            self.name
-        )
-    }
-}
-
-/// `block NAME port BYTES ADDRESS`.
-#[derive(Clone, Copy)]
-struct PortLine {
-    name: &'static str,
-    /// How many bytes the block has.
-    bytes: u8,
-    address: u32,
-}
-
-impl fmt::Display for PortLine {
-    fn fmt<W: fmt::Write>(&self, f: &mut fmt::Formatter<W>) -> fmt::Result {
-        write!(
-            f,
-            "block {} port {} 0x{:x}",
-            self.name, self.bytes, self.address
-        )
-    }
-}
-
-/// Adds the line of the FACS, where the FADT names one.
+/// Adds the line of the FACS, where the FADT names one: `facs ADDRESS length N version N`.
 fn add_facs(text: &mut String, image: &Image, fadt: &Fadt<'_>) -> Result<(), AllocError> {
     let address = fadt.facs_address();
     if address == 0 {
         return Ok(());
     }
     match Facs::read(image, fadt) {
-        Ok(Some(facs)) => writeln!(text, "{}", FacsLine { facs: &facs }),
+        Ok(Some(facs)) => {
+            let bytes = facs.bytes();
+            let version = u8_at(bytes, VERSION);
+            write!(text, "facs 0x{:x}", facs.address())?;
+            writeln!(text, " length {} version {version}", bytes.len())
+        }
         Ok(None) => Ok(()),
         Err(_) => add_unread(text, "facs", address, Unread::Bad),
-    }
-}
-
-/// `facs ADDRESS length N version N`.
-#[derive(Clone, Copy)]
-struct FacsLine<'a> {
-    facs: &'a Facs<'a>,
-}
-
-impl fmt::Display for FacsLine<'_> {
-    fn fmt<W: fmt::Write>(&self, f: &mut fmt::Formatter<W>) -> fmt::Result {
-        let bytes = self.facs.bytes();
-        let version = u8_at(bytes, VERSION);
-        write!(
-            f,
-            "facs 0x{:x} length {} version {version}",
-            self.facs.address(),
-            bytes.len()
-        )
     }
 }

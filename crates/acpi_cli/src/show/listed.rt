@@ -1,27 +1,7 @@
-//! The tables that are shown line by line: the first listed one of each kind.
+//! Tables of which no more is shown.
 
-ghost use Rattle.acpi_cli.specs.Shown.{ListsSound};
-
-use acpi_base::{Image, TableKind};
-use acpi_read::{Root, Table, first};
 use std::alloc::AllocError;
 use std::fmt::{self, Write};
-
-/// A table that the root lists.
-pub struct Listed<'a> {
-    /// Where it stands.
-    pub address: u64,
-    pub table: Table<'a>,
-}
-
-/// The first listed table of a kind.
-pub fn first_listed<'a>(image: &'a Image, root: &Root<'_>, kind: TableKind) -> Option<Listed<'a>>
-    requires { ListsSound image.now root.now }
-{
-    let address = first(image, root, *kind.signature())?;
-    let table = Table::read(image, address).unwrap();
-    Some(Listed { address, table })
-}
 
 /// Why no more is shown of a table.
 #[derive(Clone, Copy)]

@@ -1,51 +1,30 @@
 //! The lines of the MADT.
 
 use crate::show::entries::{Owner, add_entries, write_other};
-use crate::show::listed::{Listed, Unread, add_unread};
+use crate::show::listed::{Unread, add_unread};
 use acpi_base::field::u32_at;
 use acpi_read::{
-    AddressOverride, Entries, Entry, IoApic, LocalApic, LocalNmi, MADT_FLAGS,
-    MADT_LOCAL_APIC_ADDRESS, MadtEntry, NmiSource, Override, X2apic, X2apicNmi,
+    AddressOverride, Entries, Entry, IoApic, Listed, LocalApic, LocalNmi, MADT_FLAGS,
+    MADT_LOCAL_APIC_ADDRESS, MadtEntry, NmiSource, Override, TableEntry, X2apic, X2apicNmi,
 };
 use std::alloc::AllocError;
 use std::fmt::{self, Write};
 
-/// Adds the lines of the MADT.
-pub fn add_madt(text: &mut String, listed: Listed<'_>) -> Result<(), AllocError> {
-    let Listed { address, table } = listed;
-    let Ok(entries) = Entries::madt(table.copied()) else {
+/// Adds the lines of the MADT: `madt ADDRESS lapic ADDRESS flags FLAGS`, with the address of the local APICs, and those of
+/// its entries.
+pub fn add_madt(text: &mut String, listed: &Listed<'_>) -> Result<(), AllocError> {
+    let address = listed.address;
+    let Ok(entries) = Entries::madt(listed.table.copied()) else {
         return add_unread(text, "madt", address, Unread::Short);
     };
-    let bytes = table.bytes();
+    let bytes = listed.table.bytes();
     let local_apic = u32_at(bytes, MADT_LOCAL_APIC_ADDRESS);
     let flags = u32_at(bytes, MADT_FLAGS);
-    let line = MadtLine {
-        address,
-        local_apic,
-        flags,
-    };
-    writeln!(text, "{line}")?;
+    writeln!(
+        text,
+        "madt 0x{address:x} lapic 0x{local_apic:x} flags 0x{flags:x}"
+    )?;
     add_entries(text, Owner::Madt, entries)
-}
-
-/// `madt ADDRESS lapic ADDRESS flags FLAGS`.
-#[derive(Clone, Copy)]
-struct MadtLine {
-    /// Where the MADT stands.
-    address: u64,
-    /// The address of the local APICs.
-    local_apic: u32,
-    flags: u32,
-}
-
-impl fmt::Display for MadtLine {
-    fn fmt<W: fmt::Write>(&self, f: &mut fmt::Formatter<W>) -> fmt::Result {
-        write!(
-            f,
-            "madt 0x{:x} lapic 0x{:x} flags 0x{:x}",
-            self.address, self.local_apic, self.flags
-        )
-    }
 }
 
 /// What an entry of the MADT says.
@@ -53,16 +32,16 @@ pub fn write_madt_entry<W: fmt::Write>(
     f: &mut fmt::Formatter<W>,
     entry: &Entry<'_>,
 ) -> fmt::Result {
-    match MadtEntry::read(entry.bytes) {
-        Ok(MadtEntry::LocalApic(apic)) => write_local_apic(f, apic),
-        Ok(MadtEntry::IoApic(apic)) => write_io_apic(f, apic),
-        Ok(MadtEntry::Override(source)) => write_override(f, source),
-        Ok(MadtEntry::NmiSource(nmi)) => write_nmi_source(f, nmi),
-        Ok(MadtEntry::LocalNmi(nmi)) => write_local_nmi(f, nmi),
-        Ok(MadtEntry::AddressOverride(local_apics)) => write_address_override(f, local_apics),
-        Ok(MadtEntry::X2apic(apic)) => write_x2apic(f, apic),
-        Ok(MadtEntry::X2apicNmi(nmi)) => write_x2apic_nmi(f, nmi),
-        Ok(MadtEntry::Opaque(_)) | Err(_) => write_other(f, entry),
+    match MadtEntry::of(entry.bytes) {
+        MadtEntry::LocalApic(apic) => write_local_apic(f, apic),
+        MadtEntry::IoApic(apic) => write_io_apic(f, apic),
+        MadtEntry::Override(source) => write_override(f, source),
+        MadtEntry::NmiSource(nmi) => write_nmi_source(f, nmi),
+        MadtEntry::LocalNmi(nmi) => write_local_nmi(f, nmi),
+        MadtEntry::AddressOverride(local_apics) => write_address_override(f, local_apics),
+        MadtEntry::X2apic(apic) => write_x2apic(f, apic),
+        MadtEntry::X2apicNmi(nmi) => write_x2apic_nmi(f, nmi),
+        MadtEntry::Opaque(_) => write_other(f, entry),
     }
 }
 

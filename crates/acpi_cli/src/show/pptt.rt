@@ -3,30 +3,17 @@
 ghost use Rattle.std.specs.Prelude.{◌≡◌, ◌*◌, length};
 
 use crate::show::entries::{Owner, add_entries, write_other};
-use crate::show::listed::Listed;
 use acpi_base::field::u32_at;
-use acpi_read::{Cache24, Cache28, Entries, Entry, NodeHead, PpttEntry};
+use acpi_read::{Cache24, Cache28, Entries, Entry, Listed, NodeHead, PpttEntry, TableEntry};
 use std::alloc::AllocError;
 use std::fmt::{self, Write};
 
-/// Adds the lines of the PPTT.
-pub fn add_pptt(text: &mut String, listed: Listed<'_>) -> Result<(), AllocError> {
-    let Listed { address, table } = listed;
-    writeln!(text, "{}", PpttLine { address })?;
+/// Adds the lines of the PPTT: `pptt ADDRESS`, and those of its entries.
+pub fn add_pptt(text: &mut String, listed: &Listed<'_>) -> Result<(), AllocError> {
+    let address = listed.address;
+    let table = listed.table.copied();
+    writeln!(text, "pptt 0x{address:x}")?;
     add_entries(text, Owner::Pptt, Entries::pptt(table))
-}
-
-/// `pptt ADDRESS`.
-#[derive(Clone, Copy)]
-struct PpttLine {
-    /// Where the PPTT stands.
-    address: u64,
-}
-
-impl fmt::Display for PpttLine {
-    fn fmt<W: fmt::Write>(&self, f: &mut fmt::Formatter<W>) -> fmt::Result {
-        write!(f, "pptt 0x{:x}", self.address)
-    }
 }
 
 /// What an entry of the PPTT says.
@@ -34,11 +21,11 @@ pub fn write_pptt_entry<W: fmt::Write>(
     f: &mut fmt::Formatter<W>,
     entry: &Entry<'_>,
 ) -> fmt::Result {
-    match PpttEntry::read(entry.bytes) {
-        Ok(PpttEntry::Node(head, references)) => write_node(f, head, references),
-        Ok(PpttEntry::Cache24(cache)) => write_cache24(f, cache),
-        Ok(PpttEntry::Cache28(cache)) => write_cache28(f, cache),
-        Ok(PpttEntry::Opaque(_)) | Err(_) => write_other(f, entry),
+    match PpttEntry::of(entry.bytes) {
+        PpttEntry::Node(head, references) => write_node(f, head, references),
+        PpttEntry::Cache24(cache) => write_cache24(f, cache),
+        PpttEntry::Cache28(cache) => write_cache28(f, cache),
+        PpttEntry::Opaque(_) => write_other(f, entry),
     }
 }
 

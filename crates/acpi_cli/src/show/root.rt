@@ -5,9 +5,9 @@ use std::fmt;
 
 /// `rsdp ADDRESS revision N`.
 #[derive(Clone, Copy)]
-pub struct RsdpLine(pub Rsdp);
+pub struct RsdpLine<'a>(pub &'a Rsdp);
 
-impl fmt::Display for RsdpLine {
+impl fmt::Display for RsdpLine<'_> {
     fn fmt<W: fmt::Write>(&self, f: &mut fmt::Formatter<W>) -> fmt::Result {
         let RsdpLine(rsdp) = self;
         write!(

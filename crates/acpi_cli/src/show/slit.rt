@@ -2,15 +2,16 @@
 
 ghost use Rattle.std.specs.Prelude.{◌<◌};
 
-use crate::show::listed::{Listed, Unread, add_unread};
+use crate::show::listed::{Unread, add_unread};
 use acpi_base::Code;
-use acpi_read::Slit;
+use acpi_read::{Listed, Slit};
 use std::alloc::AllocError;
 use std::fmt::{self, Write};
 
 /// Adds the lines of the SLIT.
-pub fn add_slit(text: &mut String, listed: Listed<'_>) -> Result<(), AllocError> {
-    let Listed { address, table } = listed;
+pub fn add_slit(text: &mut String, listed: &Listed<'_>) -> Result<(), AllocError> {
+    let address = listed.address;
+    let table = listed.table.copied();
     let slit = match Slit::new(table) {
         Ok(slit) => slit,
         Err(fault) => {

@@ -1,32 +1,20 @@
 //! The lines of the SRAT.
 
 use crate::show::entries::{Owner, add_entries, write_other};
-use crate::show::listed::{Listed, Unread, add_unread};
-use acpi_read::{Entries, Entry, MemoryRange, SratEntry};
+use crate::show::listed::{Unread, add_unread};
+use acpi_read::{Entries, Entry, Listed, MemoryRange, SratEntry, TableEntry};
 use std::alloc::AllocError;
 use std::fmt::{self, Write};
 
-/// Adds the lines of the SRAT.
-pub fn add_srat(text: &mut String, listed: Listed<'_>) -> Result<(), AllocError> {
-    let Listed { address, table } = listed;
+/// Adds the lines of the SRAT: `srat ADDRESS`, and those of its entries.
+pub fn add_srat(text: &mut String, listed: &Listed<'_>) -> Result<(), AllocError> {
+    let address = listed.address;
+    let table = listed.table.copied();
     let Ok(entries) = Entries::srat(table) else {
         return add_unread(text, "srat", address, Unread::Short);
     };
-    writeln!(text, "{}", SratLine { address })?;
+    writeln!(text, "srat 0x{address:x}")?;
     add_entries(text, Owner::Srat, entries)
-}
-
-/// `srat ADDRESS`.
-#[derive(Clone, Copy)]
-struct SratLine {
-    /// Where the SRAT stands.
-    address: u64,
-}
-
-impl fmt::Display for SratLine {
-    fn fmt<W: fmt::Write>(&self, f: &mut fmt::Formatter<W>) -> fmt::Result {
-        write!(f, "srat 0x{:x}", self.address)
-    }
 }
 
 /// What an entry of the SRAT says.
@@ -34,21 +22,16 @@ pub fn write_srat_entry<W: fmt::Write>(
     f: &mut fmt::Formatter<W>,
     entry: &Entry<'_>,
 ) -> fmt::Result {
-    match SratEntry::read(entry.bytes) {
-        Ok(SratEntry::ApicDomain(cpu)) => write_processor(
+    match SratEntry::of(entry.bytes) {
+        SratEntry::ApicDomain(cpu) => write_processor(
             f,
             u32::from(cpu.apic_id),
             cpu.domain,
             cpu.flags,
         ),
-        Ok(SratEntry::MemoryRange(range)) => write_memory_range(f, range),
-        Ok(SratEntry::X2apicDomain(cpu)) => write_processor(
-            f,
-            cpu.x2apic_id,
-            cpu.domain,
-            cpu.flags,
-        ),
-        Ok(SratEntry::Opaque(_)) | Err(_) => write_other(f, entry),
+        SratEntry::MemoryRange(range) => write_memory_range(f, range),
+        SratEntry::X2apicDomain(cpu) => write_processor(f, cpu.x2apic_id, cpu.domain, cpu.flags),
+        SratEntry::Opaque(_) => write_other(f, entry),
     }
 }
 

@@ -14,7 +14,7 @@ use Rattle.acpi_base.specs.declared.stage.Stage.TheVariants as stage
 use Rattle.acpi_base.proofs.Tables.Listed.{one_listed}
 use Rattle.acpi_write.specs.Placed.{IsPlaced}
 use Rattle.acpi_write.specs.Rebuilding.{RebuiltSetsAreKept}
-use Rattle.acpi_write.specs.Rebuilt.{facs_place, rebuilt}
+use Rattle.acpi_write.specs.Rebuilt.{facs_place, rebuilt_image}
 use Rattle.acpi_write.specs.SetValues.{IsFacsOf, IsSetValue}
 use Rattle.acpi_write.specs.Values.{SetValue}
 use Rattle.acpi_write.proofs.OldSets.FirstListed.{AreListed, listed_first, first_of_listed}
@@ -35,9 +35,9 @@ same_listed m n p base facs ts signature contents_of old_listed new_listed four 
     let old = keeps new (first_of_listed n base (new_tables facs ts) signature new new_listed four is) in
     (old.0, listed_first m p ts signature old.0 old_listed four old.1, old.2)
 
-are_same : (m : Memory) (q : PolicyValue) (v : SetValue) (base : ℕ) → (said : IsSetValue m q.rsdp v) → IsNewSet v base said.tables → AreSameListed m q.rsdp (rebuilt v base) base
+are_same : (m : Memory) (q : PolicyValue) (v : SetValue) (base : ℕ) → (said : IsSetValue m q.rsdp v) → IsNewSet v base said.tables → AreSameListed m q.rsdp (rebuilt_image v base) base
 are_same m q v base said new =
-    let n = rebuilt v base in
+    let n = rebuilt_image v base in
     let facs = facs_place v base in
     let ts = said.tables in
     let old_listed = listed_of m q.rsdp v said in
@@ -53,13 +53,13 @@ are_same m q v base said new =
 
 -- what is said of the old set's FADT is known of the new one's
 record IsFadtKept (v : SetValue) (base : ℕ) : Type 0 where
-  sound : IsSoundFadt (rebuilt v base) base
-  facs : (fadt : List ℕ) → IsFadt (rebuilt v base) base fadt → IsFacsOf (rebuilt v base) fadt v.facs
-  facs_sound : IsSoundFacs (rebuilt v base) base
+  sound : IsSoundFadt (rebuilt_image v base) base
+  facs : (fadt : List ℕ) → IsFadt (rebuilt_image v base) base fadt → IsFacsOf (rebuilt_image v base) fadt v.facs
+  facs_sound : IsSoundFacs (rebuilt_image v base) base
 
 fadt_kept : (m : Memory) (q : PolicyValue) (v : SetValue) (base : ℕ) → IsClean m q → (said : IsSetValue m q.rsdp v) → IsPlaced v base → IsNewSet v base said.tables → IsFadtKept v base
 fadt_kept m q v base clean said placed new =
-    let n = rebuilt v base in
+    let n = rebuilt_image v base in
     let place = facs_place v base in
     let old = (clean stage.Fadt).whole in
     let is = (clean stage.Fadt).fadt in
@@ -76,10 +76,10 @@ fadt_kept m q v base clean said placed new =
 
 -- ---- the whole
 
-kept_clean : (m : Memory) (q : PolicyValue) (v : SetValue) (base : ℕ) → IsClean m q → (said : IsSetValue m q.rsdp v) → IsNewSet v base said.tables → IsFadtKept v base → IsClean (rebuilt v base) (with_rsdp q base)
+kept_clean : (m : Memory) (q : PolicyValue) (v : SetValue) (base : ℕ) → IsClean m q → (said : IsSetValue m q.rsdp v) → IsNewSet v base said.tables → IsFadtKept v base → IsClean (rebuilt_image v base) (with_rsdp q base)
 kept_clean m q v base clean said new fadt =
     let leads = new.leads in
-    clean_again m (rebuilt v base) q base clean (are_same m q v base said new)
+    clean_again m (rebuilt_image v base) q base clean (are_same m q v base said new)
     (record {
       rsdp = leads.rsdp;
       root = record { r = leads.r; d = 8; whole = leads.root_bytes; root = leads.root; sound = leads.sound };
@@ -88,7 +88,7 @@ kept_clean m q v base clean said new fadt =
       facs = fadt.facs_sound;
     })
 
-kept_value : (m : Memory) (p : ℕ) (v : SetValue) (base : ℕ) → (said : IsSetValue m p v) → IsNewSet v base said.tables → IsFadtKept v base → IsSetValue (rebuilt v base) base v
+kept_value : (m : Memory) (p : ℕ) (v : SetValue) (base : ℕ) → (said : IsSetValue m p v) → IsNewSet v base said.tables → IsFadtKept v base → IsSetValue (rebuilt_image v base) base v
 kept_value m p v base said new fadt =
     let leads = new.leads in
     let place = facs_place v base in
@@ -118,6 +118,6 @@ sets_are_kept m q v base image clean said placed =
       clean = kept;
       value = value;
       again = λ w other.
-          let one : v ≡ w = value_is_one (rebuilt v base) (with_rsdp q base) v w kept value other in
-          (subst (λ (x : SetValue). IsPlaced x base) one placed, ap (λ (x : SetValue). rebuilt x base) (sym one));
+          let one : v ≡ w = value_is_one (rebuilt_image v base) (with_rsdp q base) v w kept value other in
+          (subst (λ (x : SetValue). IsPlaced x base) one placed, ap (λ (x : SetValue). rebuilt_image x base) (sym one));
     }

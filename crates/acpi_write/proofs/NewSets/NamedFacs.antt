@@ -7,7 +7,7 @@ use Rattle.acpi_base.specs.Number.{field, number_bytes}
 use Rattle.acpi_base.specs.Header.{head_of}
 use Rattle.acpi_base.specs.Fadt.{IsSoundFadtTable, IsResetRegister, gas_at, has_flag, wide_address, facs_address}
 use Rattle.acpi_base.specs.Listed.{fadt_signature}
-use Rattle.acpi_base.proofs.HeldBytes.{field-take}
+use Rattle.acpi_base.proofs.Images.HeldBytes.{field-take}
 use Rattle.acpi_base.proofs.Layouts.RoundTrip.{length-number_bytes, number_there}
 use Rattle.acpi_write.specs.Encoded.{table_bytes}
 use Rattle.acpi_write.specs.FadtBody.{put_over, with_facs}

@@ -3,7 +3,7 @@ use Rattle.std.proofs.Common.{◌≡◌, ℕ, ◌^◌, ◌<◌, List, length, ta
 use Rattle.acpi_base.specs.Memory.{Memory, bytes_at}
 use Rattle.acpi_base.specs.Fadt.{facs_address, is_reduced}
 use Rattle.acpi_base.specs.Facs.{facs_signature, facs_length, IsFacs, HasSoundFacs}
-use Rattle.acpi_base.proofs.HeldBytes.{field-take}
+use Rattle.acpi_base.proofs.Images.HeldBytes.{field-take}
 use Rattle.acpi_write.specs.SetValues.{IsFacsOf}
 use Rattle.acpi_write.proofs.NewSets.NewImage.{front_held, signed_front}
 use Rattle.acpi_write.proofs.NewSets.NewParts.{IsFacsPlace, HasFacsPlace}

@@ -9,11 +9,11 @@ use Rattle.acpi_base.specs.Rsdp.{addresses_at, extended_addresses, IsSoundRsdp}
 use Rattle.acpi_base.specs.Root.{chosen_root, IsRoot, IsSoundRootTable}
 use Rattle.acpi_base.specs.Signature.{has_signature, xsdt_signature}
 use Rattle.acpi_base.specs.Tables.{IsTable, length_of}
-use Rattle.acpi_base.proofs.HeldBytes.{field-take}
-use Rattle.acpi_base.proofs.Runs.{run_of-take}
+use Rattle.acpi_base.proofs.Images.HeldBytes.{field-take}
+use Rattle.acpi_base.proofs.Images.ByteRuns.{run_of-take}
 use Rattle.acpi_write.specs.Encoded.{encoded_length}
-use Rattle.acpi_write.specs.Placed.{ends, DoEndInside, IsPlaced, RebuiltLeadsToTables}
-use Rattle.acpi_write.specs.Rebuilt.{aligned, laid, places, listed_option, part_places, rsdp_bytes, table_places, xsdt_length, rebuilt, HoldsPiece}
+use Rattle.acpi_write.specs.Placed.{block_ends, DoEndInside, IsPlaced, RebuiltLeadsToTables}
+use Rattle.acpi_write.specs.Rebuilt.{aligned_address, blocks_from, block_places, option_list, part_places, rsdp_bytes, table_places, xsdt_length, rebuilt_image, HoldsBlock}
 use Rattle.acpi_write.specs.Values.{TableValue, SetValue}
 use Rattle.acpi_write.proofs.NewSets.NewRoot.{AreAddresses, IsWrittenXsdt, xsdt_written}
 use Rattle.acpi_write.proofs.NewSets.RebuiltParts.{aligned_from, parts_are_held}
@@ -21,24 +21,24 @@ use Rattle.acpi_write.proofs.TablesWritten.RsdpBytes.{IsWrittenRsdp, rsdp_writte
 
 -- ---- places
 
-pub length-places : (a : ℕ) (ns : List ℕ) → length (places a ns) ≡ length ns
-unfolding places
-length-places a [] = refl
-length-places a (n ∷ ns) = ap suc (length-places (aligned (a + n)) ns)
+pub length-block_places : (a : ℕ) (ns : List ℕ) → length (block_places a ns) ≡ length ns
+unfolding block_places
+length-block_places a [] = refl
+length-block_places a (n ∷ ns) = ap suc (length-block_places (aligned_address (a + n)) ns)
 
 -- no place is below the first, and one of some length is an address
-place_within : (a : ℕ) (ns : List ℕ) (k : ℕ) → k < length ns → 0 < get_or ns k 0 → DoEndInside (ends a ns) → (a ≤ get_or (places a ns) k 0) × (get_or (places a ns) k 0 < 2 ^ 64)
-unfolding places ends
+place_within : (a : ℕ) (ns : List ℕ) (k : ℕ) → k < length ns → 0 < get_or ns k 0 → DoEndInside (block_ends a ns) → (a ≤ get_or (block_places a ns) k 0) × (get_or (block_places a ns) k 0 < 2 ^ 64)
+unfolding block_places block_ends
 place_within a [] k h some inside = absurd (omega arith)
 place_within a (n ∷ ns) zero h some inside = (omega arith, omega (arith, some, inside.0))
 place_within a (n ∷ ns) (suc k) h some inside =
     let from = aligned_from (a + n) in
-    let rest = place_within (aligned (a + n)) ns k (omega arith) some inside.1 in
+    let rest = place_within (aligned_address (a + n)) ns k (omega arith) some inside.1 in
     (omega (arith, from, rest.0), rest.1)
 
-places_are : (a : ℕ) (ns : List ℕ) → 0 < a → ((k : ℕ) → k < length ns → 0 < get_or ns k 0) → DoEndInside (ends a ns) → AreAddresses (places a ns)
+places_are : (a : ℕ) (ns : List ℕ) → 0 < a → ((k : ℕ) → k < length ns → 0 < get_or ns k 0) → DoEndInside (block_ends a ns) → AreAddresses (block_places a ns)
 places_are a ns above some inside =
-    let count = length-places a ns in
+    let count = length-block_places a ns in
     record {
       some = λ k h. (let within = place_within a ns k (omega (arith, count, h)) (some k (omega (arith, count, h))) inside in omega (arith, above, within.0));
       fits = λ k h. (place_within a ns k (omega (arith, count, h)) (some k (omega (arith, count, h))) inside).1;
@@ -53,31 +53,31 @@ lengths_some (t ∷ ts) (suc k) h = lengths_some ts k (omega arith)
 record AreTablePlaces (xs : List ℕ) (ns : List ℕ) : Type 0 where
   a : ℕ
   above : 0 < a
-  are : xs ≡ places a ns
-  inside : DoEndInside (ends a ns)
+  are : xs ≡ block_places a ns
+  inside : DoEndInside (block_ends a ns)
 
-behind_facs : (facs : Option (List ℕ)) (a : ℕ) (ns : List ℕ) → 0 < a → DoEndInside (ends a (map length (listed_option facs) ++ ns))
-    → AreTablePlaces (drop (length (listed_option facs)) (places a (map length (listed_option facs) ++ ns))) ns
-unfolding places ends
+behind_facs : (facs : Option (List ℕ)) (a : ℕ) (ns : List ℕ) → 0 < a → DoEndInside (block_ends a (map length (option_list facs) ++ ns))
+    → AreTablePlaces (drop (length (option_list facs)) (block_places a (map length (option_list facs) ++ ns))) ns
+unfolding block_places block_ends
 behind_facs None a ns above inside = record { a = a; above = above; are = refl; inside = inside }
 behind_facs (Some bytes) a ns above inside =
     let from = aligned_from (a + length bytes) in
-    record { a = aligned (a + length bytes); above = omega (arith, from, above); are = refl; inside = inside.1 }
+    record { a = aligned_address (a + length bytes); above = omega (arith, from, above); are = refl; inside = inside.1 }
 
 behind_root : (v : SetValue) (base : ℕ) → IsPlaced v base → AreTablePlaces (table_places v base) (map encoded_length v.tables)
-unfolding places ends
+unfolding block_places block_ends
 behind_root v base placed =
-    let xsdt = aligned (base + 36) in
-    let behind = aligned (xsdt + xsdt_length v) in
+    let xsdt = aligned_address (base + 36) in
+    let behind = aligned_address (xsdt + xsdt_length v) in
     let from = aligned_from (xsdt + xsdt_length v) in
-    let two : 2 + length (listed_option v.facs) ≡ suc (suc (length (listed_option v.facs))) = omega arith in
+    let two : 2 + length (option_list v.facs) ≡ suc (suc (length (option_list v.facs))) = omega arith in
     subst (λ (k : ℕ). AreTablePlaces (drop k (part_places v base)) (map encoded_length v.tables)) (sym two)
     (behind_facs v.facs behind (map encoded_length v.tables) (omega (arith, from)) placed.inside.1.1)
 
 pub tables_are : (v : SetValue) (base : ℕ) → IsPlaced v base → (length (table_places v base) ≡ length v.tables) × AreAddresses (table_places v base)
 tables_are v base placed =
     let from = behind_root v base placed in (
-      ap length from.are ∙ length-places from.a (map encoded_length v.tables) ∙ length-map v.tables encoded_length,
+      ap length from.are ∙ length-block_places from.a (map encoded_length v.tables) ∙ length-map v.tables encoded_length,
       subst AreAddresses (sym from.are) (places_are from.a (map encoded_length v.tables) from.above (lengths_some v.tables) from.inside),
     )
 
@@ -157,16 +157,16 @@ names_root m a xsdt names above = record {
 
 -- the image holds the first two parts
 first_parts : (v : SetValue) (base : ℕ) (oemid_bytes xsdt_bytes : List ℕ) (rest : List (List ℕ)) (m : Memory) → length oemid_bytes ≡ 36
-    → AllByRecursion (HoldsPiece m) (laid base (oemid_bytes ∷ xsdt_bytes ∷ rest)) → Holds m base oemid_bytes × Holds m (aligned (base + 36)) xsdt_bytes
-unfolding laid
+    → AllByRecursion (HoldsBlock m) (blocks_from base (oemid_bytes ∷ xsdt_bytes ∷ rest)) → Holds m base oemid_bytes × Holds m (aligned_address (base + 36)) xsdt_bytes
+unfolding blocks_from
 first_parts v base oemid_bytes xsdt_bytes rest m count held =
-    (held.0, subst (λ (n : ℕ). Holds m (aligned (base + n)) xsdt_bytes) count held.1.0)
+    (held.0, subst (λ (n : ℕ). Holds m (aligned_address (base + n)) xsdt_bytes) count held.1.0)
 
 pub leads_to_tables : RebuiltLeadsToTables
-unfolding places ends
+unfolding block_places block_ends
 leads_to_tables v base oemid head placed =
-    let m = rebuilt v base in
-    let xsdt = aligned (base + 36) in
+    let m = rebuilt_image v base in
+    let xsdt = aligned_address (base + 36) in
     let from = aligned_from (base + 36) in
     let end = placed.inside.1.0 in
     let tables = tables_are v base placed in

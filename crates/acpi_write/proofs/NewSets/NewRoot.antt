@@ -3,7 +3,7 @@ use Rattle.std.proofs.Common.{◌≡◌, ℕ, zero, suc, ◌+◌, ◌-◌, ◌*�
 use Rattle.std.proofs.lemmas.List.{drop_at}
 use Rattle.acpi_base.specs.Number.{field, number_bytes}
 use Rattle.acpi_base.specs.Header.{HeadValue}
-use Rattle.acpi_base.specs.Listed.{listed}
+use Rattle.acpi_base.specs.Listed.{listed_addresses}
 use Rattle.acpi_base.specs.Signature.{xsdt_signature}
 use Rattle.acpi_base.proofs.Layouts.RoundTrip.{length-number_bytes, number_there}
 use Rattle.acpi_write.specs.Encoded.{FitsHead, table_bytes}
@@ -65,7 +65,7 @@ listed_rest whole xs k (suc n) all each some =
 pub record IsWrittenXsdt (head : HeadValue) (xs whole : List ℕ) : Type 0 where
   pub table : IsTableOf xsdt_signature head whole
   pub count : length whole ≡ 36 + 8 * length xs
-  pub lists : listed whole 8 ≡ xs
+  pub lists : listed_addresses whole 8 ≡ xs
 
 pub xsdt_written : (head : HeadValue) (xs : List ℕ) → FitsHead head → 36 + 8 * length xs < 2 ^ 32 → AreAddresses xs
     → IsWrittenXsdt head xs (table_bytes xsdt_signature head (flat_map (number_bytes 8) xs))

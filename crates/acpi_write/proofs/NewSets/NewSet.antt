@@ -3,7 +3,7 @@ use Rattle.std.proofs.Common.{◌≡◌, ℕ, List, [], ◌∷◌, length, take,
 use Rattle.std.specs.List.{AllByRecursion, AllZip, list_any}
 use Rattle.acpi_base.specs.Memory.{Memory, IsImage}
 use Rattle.acpi_base.specs.Header.{head_of}
-use Rattle.acpi_base.specs.Listed.{listed, fadt_signature, IsListedTable}
+use Rattle.acpi_base.specs.Listed.{listed_addresses, fadt_signature, IsListedTable}
 use Rattle.acpi_base.specs.Policy.{PolicyValue}
 use Rattle.acpi_base.specs.Statements.{IsClean, AreSoundTables}
 use Rattle.acpi_base.proofs.Root.Slots.{slot_of_root}
@@ -11,7 +11,7 @@ use Rattle.acpi_write.specs.Encoded.{encoded_length, table_bytes}
 use Rattle.acpi_write.specs.FadtBody.{with_facs}
 use Rattle.acpi_write.specs.Laws.{NamesFacs}
 use Rattle.acpi_write.specs.Placed.{is_narrow, IsPlaced, LeadsToTables}
-use Rattle.acpi_write.specs.Rebuilt.{table_places, encoded_with, facs_place, rebuilt}
+use Rattle.acpi_write.specs.Rebuilt.{table_places, encoded_bytes_with, facs_place, rebuilt_image}
 use Rattle.acpi_write.specs.SetValues.{IsWholeAt, IsFacsOf, IsSetValue}
 use Rattle.acpi_write.specs.Values.{TableValue, SetValue}
 use Rattle.acpi_write.specs.Views.{IsWholeTable}
@@ -35,23 +35,23 @@ all_held n (x ∷ xs) (b ∷ bs) held whole = ((take 36 b, table_held n x b held
 -- the rebuilt image of a set that lists these tables
 pub record IsNewSet (v : SetValue) (base : ℕ) (ts : List (List ℕ)) : Type 0 where
   pub clean : AreCleanTables ts
-  pub leads : LeadsToTables v base (rebuilt v base)
-  pub each : AllZip (IsWholeAt (rebuilt v base)) (listed leads.root_bytes 8) (new_tables (facs_place v base) ts)
-  pub facs : HasFacsPlace (rebuilt v base) v.facs (facs_place v base)
+  pub leads : LeadsToTables v base (rebuilt_image v base)
+  pub each : AllZip (IsWholeAt (rebuilt_image v base)) (listed_addresses leads.root_bytes 8) (new_tables (facs_place v base) ts)
+  pub facs : HasFacsPlace (rebuilt_image v base) v.facs (facs_place v base)
 
 pub new_set : (m : Memory) (q : PolicyValue) (v : SetValue) (base : ℕ) → IsImage m → IsClean m q → (said : IsSetValue m q.rsdp v) → IsPlaced v base → IsNewSet v base said.tables
 new_set m q v base image clean said placed =
-    let n = rebuilt v base in
+    let n = rebuilt_image v base in
     let facs = facs_place v base in
     let ts = said.tables in
     let tables = clean_tables m q ts image clean (listed_of m q.rsdp v said) in
     let oemid = oemid_is_six m q.rsdp v said in
     let head = root_fits_head m q.rsdp v image said in
-    let sizes : HaveTheirSizes v base = subst (λ (vs : List TableValue). map length (map (encoded_with facs) vs) ≡ map encoded_length vs) (sym said.values) (sizes_again facs ts tables) in
+    let sizes : HaveTheirSizes v base = subst (λ (vs : List TableValue). map length (map (encoded_bytes_with facs) vs) ≡ map encoded_length vs) (sym said.values) (sizes_again facs ts tables) in
     let parts = parts_stand v base oemid head placed sizes in
     let leads = leads_to_tables v base oemid head placed in
     let stand : AllZip (Holds n) (table_places v base) (new_tables facs ts) =
-    subst (λ (vs : List TableValue). AllZip (Holds n) (table_places v base) (map (encoded_with facs) vs)) said.values (tables_stand v base parts) in
+    subst (λ (vs : List TableValue). AllZip (Holds n) (table_places v base) (map (encoded_bytes_with facs) vs)) said.values (tables_stand v base parts) in
     record {
       clean = tables;
       leads = leads;
@@ -59,14 +59,14 @@ new_set m q v base image clean said placed =
       facs = facs_stands v base placed parts;
     }
 
-pub new_listed : (v : SetValue) (base : ℕ) (ts : List (List ℕ)) → IsNewSet v base ts → AreListed (rebuilt v base) base (new_tables (facs_place v base) ts)
+pub new_listed : (v : SetValue) (base : ℕ) (ts : List (List ℕ)) → IsNewSet v base ts → AreListed (rebuilt_image v base) base (new_tables (facs_place v base) ts)
 new_listed v base ts new = record { r = new.leads.r; d = 8; root_bytes = new.leads.root_bytes; root = new.leads.root; table = new.leads.sound.table; each = new.each }
 
 -- ---- stage 3
 
-pub new_sound_tables : (v : SetValue) (base : ℕ) (ts : List (List ℕ)) → IsNewSet v base ts → AreSoundTables (rebuilt v base) base
+pub new_sound_tables : (v : SetValue) (base : ℕ) (ts : List (List ℕ)) → IsNewSet v base ts → AreSoundTables (rebuilt_image v base) base
 new_sound_tables v base ts new k a slot =
-    let n = rebuilt v base in
+    let n = rebuilt_image v base in
     let facs = facs_place v base in
     let leads = new.leads in
     let there = slot_of_root n base leads.r 8 k a leads.root_bytes leads.root leads.sound.table slot in
@@ -83,12 +83,12 @@ named_fadt old facs = table_bytes fadt_signature (head_of old) (with_facs (drop 
 pub record HasNewFadt (m : Memory) (p : ℕ) (v : SetValue) (base : ℕ) (old : List ℕ) : Type 0 where
   pub facs : IsFacsOf m old v.facs
   pub names : NamesFacs old (facs_place v base)
-  pub listed : IsListedTable (rebuilt v base) base fadt_signature (named_fadt old (facs_place v base))
+  pub listed : IsListedTable (rebuilt_image v base) base fadt_signature (named_fadt old (facs_place v base))
 
 pub new_fadt : (m : Memory) (q : PolicyValue) (v : SetValue) (base : ℕ) (old : List ℕ) → (said : IsSetValue m q.rsdp v) → IsPlaced v base → IsNewSet v base said.tables → IsListedTable m q.rsdp fadt_signature old
     → HasNewFadt m q.rsdp v base old
 new_fadt m q v base old said placed new is =
-    let n = rebuilt v base in
+    let n = rebuilt_image v base in
     let place = facs_place v base in
     let ts = said.tables in
     let first = first_of_listed m q.rsdp ts fadt_signature old (listed_of m q.rsdp v said) refl is in

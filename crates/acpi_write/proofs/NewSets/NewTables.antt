@@ -18,13 +18,13 @@ use Rattle.acpi_write.specs.Encoded.{encoded_length, table_bytes}
 use Rattle.acpi_write.specs.FadtBody.{with_facs}
 use Rattle.acpi_write.specs.Placed.{is_narrow}
 use Rattle.acpi_write.specs.Kinds.{is_among}
-use Rattle.acpi_write.specs.Rebuilt.{encoded_with}
-use Rattle.acpi_write.specs.SetValues.{is_first, said_behind, values_behind, values_of}
+use Rattle.acpi_write.specs.Rebuilt.{encoded_bytes_with}
+use Rattle.acpi_write.specs.SetValues.{is_first, table_value_behind, values_behind, values_of}
 use Rattle.acpi_write.specs.Views.{IsWholeTable}
 use Rattle.acpi_write.proofs.TablesWritten.FadtBodies.{length-with_facs}
-use Rattle.acpi_write.proofs.OldSets.FirstTables.{first_with, IsCleanTable, AreCleanTables, new_tables, first_is, is_behind, none_more}
+use Rattle.acpi_write.proofs.OldSets.FirstTables.{first_table_with, IsCleanTable, AreCleanTables, new_tables, first_is, is_behind, none_more}
 use Rattle.acpi_write.proofs.NewSets.RewrittenTables.{IsCleanBehind, new_of, rewritten, new_fadt, new_madt, new_srat, new_slit, new_pptt}
-use Rattle.acpi_write.proofs.OldSets.SaidBehind.{AmongAlike, says}
+use Rattle.acpi_write.proofs.OldSets.ValuesBehind.{AmongAlike, says}
 
 -- ---- of each, behind those before it
 
@@ -35,7 +35,7 @@ AreCleanBehind before (t ∷ ts) = IsCleanBehind before t × AreCleanBehind (bef
 clean_behind : (all before ts : List (List ℕ)) → AreCleanTables all → all ≡ before ++ ts → AllByRecursion IsCleanTable ts → AreCleanBehind before ts
 clean_behind all before [] clean is each = tt
 clean_behind all before (t ∷ ts) clean is each =
-    let first = λ (s : List ℕ) (here : is_first before t s ≡ true). ap (first_with s) is ∙ first_is before t ts s here in (
+    let first = λ (s : List ℕ) (here : is_first before t s ≡ true). ap (first_table_with s) is ∙ first_is before t ts s here in (
       record {
         clean = each.0;
         fadt = λ here. clean.fadt t (first fadt_signature here);
@@ -53,7 +53,7 @@ of_clean ts clean = clean_behind ts [] ts clean refl clean.each
 -- ---- what they say
 
 abbrev new_behind : ℕ → List (List ℕ) → List (List ℕ) → List (List ℕ)
-new_behind facs before ts = map (encoded_with facs) (values_behind before ts)
+new_behind facs before ts = map (encoded_bytes_with facs) (values_behind before ts)
 
 alike_more : (others before : List (List ℕ)) (new old : List ℕ) → AmongAlike others before → ((s : List ℕ) → length s ≡ 4 → has_signature new s ≡ has_signature old s) → AmongAlike (others ++ new ∷ []) (before ++ old ∷ [])
 alike_more others before new old alike same s four =
@@ -114,16 +114,16 @@ record IsFirstOfBoth (facs : ℕ) (before ts : List (List ℕ)) (signature : Lis
   old : List ℕ
   clean : IsCleanBehind passed old
   first : is_first passed old signature ≡ true
-  is_old : first_with signature ts ≡ Some old
-  is_new : first_with signature (new_behind facs before ts) ≡ Some (new_of facs passed old)
+  is_old : first_table_with signature ts ≡ Some old
+  is_new : first_table_with signature (new_behind facs before ts) ≡ Some (new_of facs passed old)
 
 -- or there is none
 record IsFirstOfNeither (facs : ℕ) (before ts : List (List ℕ)) (signature : List ℕ) : Type 0 where
-  no_old : first_with signature ts ≡ None
-  no_new : first_with signature (new_behind facs before ts) ≡ None
+  no_old : first_table_with signature ts ≡ None
+  no_new : first_table_with signature (new_behind facs before ts) ≡ None
 
 firsts : (facs : ℕ) (before ts : List (List ℕ)) (signature : List ℕ) → length signature ≡ 4 → is_among before signature ≡ false → AreCleanBehind before ts → IsFirstOfBoth facs before ts signature ⊎ IsFirstOfNeither facs before ts signature
-unfolding first_with values_behind
+unfolding first_table_with values_behind
 firsts facs before [] signature four none clean = inr (record { no_old = refl; no_new = refl })
 firsts facs before (t ∷ ts) signature four none clean =
     let same = (rewritten facs before t clean.0).signature signature four in
@@ -155,7 +155,7 @@ record IsWrittenForFirst (facs : ℕ) (ts : List (List ℕ)) (signature new : Li
   old : List ℕ
   clean : IsCleanBehind passed old
   first : is_first passed old signature ≡ true
-  is_old : first_with signature ts ≡ Some old
+  is_old : first_table_with signature ts ≡ Some old
   is_new : new ≡ new_of facs passed old
 
 one_some : (a b : List ℕ) → Some a ≡ Some b → a ≡ b
@@ -164,7 +164,7 @@ one_some a b e = cc
 none_some : (a : List ℕ) → None ≡ Some a → ⊥
 none_some a e = absurd (cc)
 
-written_for : (facs : ℕ) (ts : List (List ℕ)) (signature new : List ℕ) → length signature ≡ 4 → AreCleanTables ts → first_with signature (new_tables facs ts) ≡ Some new → IsWrittenForFirst facs ts signature new
+written_for : (facs : ℕ) (ts : List (List ℕ)) (signature new : List ℕ) → length signature ≡ 4 → AreCleanTables ts → first_table_with signature (new_tables facs ts) ≡ Some new → IsWrittenForFirst facs ts signature new
 written_for facs ts signature new four clean is =
     elim (firsts facs [] ts signature four refl (of_clean ts clean)) [
       | inl both ↦ record {
@@ -181,7 +181,7 @@ written_for facs ts signature new four clean is =
 -- so it has the same contents
 abbrev pub KeepsFirst : {C : Type 0} → ℕ → List (List ℕ) → List ℕ → (List ℕ → C) → Type 0
 KeepsFirst facs ts signature contents_of =
-    (new : List ℕ) → first_with signature (new_tables facs ts) ≡ Some new → (old : List ℕ) × (first_with signature ts ≡ Some old) × (contents_of new ≡ contents_of old)
+    (new : List ℕ) → first_table_with signature (new_tables facs ts) ≡ Some new → (old : List ℕ) × (first_table_with signature ts ≡ Some old) × (contents_of new ≡ contents_of old)
 
 again : {C : Type 0} (contents_of : List ℕ → C) (facs : ℕ) (ts : List (List ℕ)) (signature : List ℕ) → length signature ≡ 4
     → ((before : List (List ℕ)) (old : List ℕ) → IsCleanBehind before old → is_first before old signature ≡ true → contents_of (new_of facs before old) ≡ contents_of old)
@@ -203,8 +203,8 @@ pub pptt_again : (facs : ℕ) (ts : List (List ℕ)) → AreCleanTables ts → K
 pptt_again facs ts = again pptt_contents facs ts pptt_signature refl (new_pptt facs)
 
 -- the first FADT names the FACS at this address
-pub fadt_again : (facs : ℕ) (ts : List (List ℕ)) (old : List ℕ) → AreCleanTables ts → first_with fadt_signature ts ≡ Some old
-    → first_with fadt_signature (new_tables facs ts) ≡ Some (table_bytes fadt_signature (head_of old) (with_facs (drop 36 old) facs))
+pub fadt_again : (facs : ℕ) (ts : List (List ℕ)) (old : List ℕ) → AreCleanTables ts → first_table_with fadt_signature ts ≡ Some old
+    → first_table_with fadt_signature (new_tables facs ts) ≡ Some (table_bytes fadt_signature (head_of old) (with_facs (drop 36 old) facs))
 fadt_again facs ts old clean is =
     elim (firsts facs [] ts fadt_signature refl refl (of_clean ts clean)) [
       | inl both ↦
@@ -215,22 +215,22 @@ fadt_again facs ts old clean is =
 
 -- ---- a FADT of fewer than 140 bytes
 
-narrow_behind : (before ts : List (List ℕ)) (t : List ℕ) → is_among before fadt_signature ≡ false → first_with fadt_signature ts ≡ Some t → 40 ≤ length t → length t < 140 → list_any is_narrow (values_behind before ts) ≡ true
-unfolding first_with values_behind
+narrow_behind : (before ts : List (List ℕ)) (t : List ℕ) → is_among before fadt_signature ≡ false → first_table_with fadt_signature ts ≡ Some t → 40 ≤ length t → length t < 140 → list_any is_narrow (values_behind before ts) ≡ true
+unfolding first_table_with values_behind
 narrow_behind before [] t none is least short = absurd (cc)
 narrow_behind before (u ∷ ts) t none is least short =
     elim (cases_Bool (has_signature u fadt_signature)) [
       | inl has ↦
-          let same : u ≡ t = one_some u t (subst (λ b. (if b then Some u else first_with fadt_signature ts) ≡ Some t) has is) in
+          let same : u ≡ t = one_some u t (subst (λ b. (if b then Some u else first_table_with fadt_signature ts) ≡ Some t) has is) in
           let said = says before u (Some kind.Fadt) (is_behind before u fadt_signature none ∙ has) in
           let size = ap length same in
           let n = length-with_facs (drop 36 u) 0 (omega (arith, length-drop 36 u, size, least)) in
           let narrow = lt-ltb (length (with_facs (drop 36 u) 0)) 104 (omega (arith, n, length-drop 36 u, size, least, short)) in
           rw (said, narrow) refl
       | inr other ↦
-          let rest = narrow_behind (before ++ u ∷ []) ts t (none_more before u fadt_signature none other) (subst (λ b. (if b then Some u else first_with fadt_signature ts) ≡ Some t) other is) least short in
-          rw rest (or-true (is_narrow (said_behind before u)))
+          let rest = narrow_behind (before ++ u ∷ []) ts t (none_more before u fadt_signature none other) (subst (λ b. (if b then Some u else first_table_with fadt_signature ts) ≡ Some t) other is) least short in
+          rw rest (or-true (is_narrow (table_value_behind before u)))
     ]
 
-pub narrow_first : (ts : List (List ℕ)) (t : List ℕ) → first_with fadt_signature ts ≡ Some t → 40 ≤ length t → length t < 140 → list_any is_narrow (values_of ts) ≡ true
+pub narrow_first : (ts : List (List ℕ)) (t : List ℕ) → first_table_with fadt_signature ts ≡ Some t → 40 ≤ length t → length t < 140 → list_any is_narrow (values_of ts) ≡ true
 narrow_first ts t is least short = narrow_behind [] ts t refl is least short

@@ -11,18 +11,18 @@ use Rattle.acpi_base.specs.Pptt.{pptt_contents}
 use Rattle.acpi_base.specs.TableKinds.{signature_of}
 use Rattle.acpi_base.specs.declared.table_kind.TableKind.{TableKind}
 use Rattle.acpi_base.specs.declared.table_kind.TableKind.TheVariants as kind
-use Rattle.acpi_write.specs.Encoded.{encoded, encoded_length, table_bytes}
+use Rattle.acpi_write.specs.Encoded.{encoded_bytes, encoded_length, table_bytes}
 use Rattle.acpi_write.specs.FadtBody.{with_facs}
-use Rattle.acpi_write.specs.Kinds.{said_as, IsKindBehind}
+use Rattle.acpi_write.specs.Kinds.{table_value_as, IsKindBehind}
 use Rattle.acpi_write.specs.Laws.{KeepsContents}
-use Rattle.acpi_write.specs.Rebuilt.{encoded_with}
-use Rattle.acpi_write.specs.SetValues.{entries_in, fadt_said, madt_said, srat_said, slit_said, pptt_said, is_first, said_behind}
+use Rattle.acpi_write.specs.Rebuilt.{encoded_bytes_with}
+use Rattle.acpi_write.specs.SetValues.{entries_in, fadt_table_value, madt_table_value, srat_table_value, slit_table_value, pptt_table_value, is_first, table_value_behind}
 use Rattle.acpi_write.specs.Values.{Madt, Srat, Slit, Pptt, Fadt}
 use Rattle.acpi_write.proofs.TablesWritten.FadtBodies.{length-with_facs, with_facs-with_facs}
 use Rattle.acpi_write.proofs.OldSets.FirstTables.{IsCleanTable}
 use Rattle.acpi_write.proofs.TablesWritten.KeptContents.{contents_are_kept, fits_head, length_of_parts}
 use Rattle.acpi_write.proofs.TablesWritten.Lengths as lengths
-use Rattle.acpi_write.proofs.OldSets.SaidBehind.{says, kind_found, IsRewritten, as_first, as_it_was}
+use Rattle.acpi_write.proofs.OldSets.ValuesBehind.{says, kind_found, IsRewritten, as_first, as_it_was}
 use Rattle.acpi_write.proofs.TablesWritten.WholeTables.{fadt_table}
 
 -- ---- what a table needs for it, behind others
@@ -37,32 +37,32 @@ pub record IsCleanBehind (before : List (List ℕ)) (whole : List ℕ) : Type 0 
 
 -- ---- contents, by kind
 
-kept_madt : (before : List (List ℕ)) (whole : List ℕ) → IsCleanBehind before whole → is_first before whole madt_signature ≡ true → KeepsContents madt_signature madt_contents (madt_said whole) whole
+kept_madt : (before : List (List ℕ)) (whole : List ℕ) → IsCleanBehind before whole → is_first before whole madt_signature ≡ true → KeepsContents madt_signature madt_contents (madt_table_value whole) whole
 kept_madt before whole is first =
     let parts = is.madt first in
     (contents_are_kept whole is.clean.table is.clean.bytes is.clean.small).madt parts.0 parts.1
 
-kept_srat : (before : List (List ℕ)) (whole : List ℕ) → IsCleanBehind before whole → is_first before whole srat_signature ≡ true → KeepsContents srat_signature srat_contents (srat_said whole) whole
+kept_srat : (before : List (List ℕ)) (whole : List ℕ) → IsCleanBehind before whole → is_first before whole srat_signature ≡ true → KeepsContents srat_signature srat_contents (srat_table_value whole) whole
 kept_srat before whole is first =
     let parts = is.srat first in
     (contents_are_kept whole is.clean.table is.clean.bytes is.clean.small).srat parts.0 parts.1
 
-kept_slit : (before : List (List ℕ)) (whole : List ℕ) → IsCleanBehind before whole → is_first before whole slit_signature ≡ true → KeepsContents slit_signature slit_contents (slit_said whole) whole
+kept_slit : (before : List (List ℕ)) (whole : List ℕ) → IsCleanBehind before whole → is_first before whole slit_signature ≡ true → KeepsContents slit_signature slit_contents (slit_table_value whole) whole
 kept_slit before whole is first = (contents_are_kept whole is.clean.table is.clean.bytes is.clean.small).slit (is.slit first)
 
-kept_pptt : (before : List (List ℕ)) (whole : List ℕ) → IsCleanBehind before whole → is_first before whole pptt_signature ≡ true → KeepsContents pptt_signature pptt_contents (pptt_said whole) whole
+kept_pptt : (before : List (List ℕ)) (whole : List ℕ) → IsCleanBehind before whole → is_first before whole pptt_signature ≡ true → KeepsContents pptt_signature pptt_contents (pptt_table_value whole) whole
 kept_pptt before whole is first = (contents_are_kept whole is.clean.table is.clean.bytes is.clean.small).pptt (is.pptt first)
 
 -- ---- the table that is written for what one says
 
 abbrev pub new_of : ℕ → List (List ℕ) → List ℕ → List ℕ
-new_of facs before old = encoded_with facs (said_behind before old)
+new_of facs before old = encoded_bytes_with facs (table_value_behind before old)
 
 -- it has the contents of the table, where those of a table of its kind are kept
 pub new_contents : {C : Type 0} (contents_of : List ℕ → C) (facs : ℕ) (before : List (List ℕ)) (old : List ℕ) (kind : TableKind) → is_first before old (signature_of kind) ≡ true
-    → encoded_with facs (said_as (Some kind) old) ≡ encoded (said_as (Some kind) old) → KeepsContents (signature_of kind) contents_of (said_as (Some kind) old) old
+    → encoded_bytes_with facs (table_value_as (Some kind) old) ≡ encoded_bytes (table_value_as (Some kind) old) → KeepsContents (signature_of kind) contents_of (table_value_as (Some kind) old) old
     → contents_of (new_of facs before old) ≡ contents_of old
-new_contents contents_of facs before old kind first plain kept = ap contents_of (ap (encoded_with facs) (says before old (Some kind) first) ∙ plain) ∙ kept.contents
+new_contents contents_of facs before old kind first plain kept = ap contents_of (ap (encoded_bytes_with facs) (says before old (Some kind) first) ∙ plain) ∙ kept.contents
 
 pub new_madt : (facs : ℕ) (before : List (List ℕ)) (old : List ℕ) → IsCleanBehind before old → is_first before old madt_signature ≡ true → madt_contents (new_of facs before old) ≡ madt_contents old
 new_madt facs before old is first = new_contents madt_contents facs before old kind.Madt first refl (kept_madt before old is first)
@@ -80,7 +80,7 @@ pub new_fadt : (facs : ℕ) (before : List (List ℕ)) (old : List ℕ) → IsCl
     → new_of facs before old ≡ table_bytes fadt_signature (head_of old) (with_facs (drop 36 old) facs)
 new_fadt facs before old is first =
     let long = (is.fadt first).long in
-    ap (encoded_with facs) (says before old (Some kind.Fadt) first)
+    ap (encoded_bytes_with facs) (says before old (Some kind.Fadt) first)
     ∙ ap (table_bytes fadt_signature (head_of old)) (with_facs-with_facs (drop 36 old) 0 facs (omega (arith, length-drop 36 old, long)))
 
 -- ---- it says the same, by kind
@@ -88,13 +88,13 @@ new_fadt facs before old is first =
 -- of a kind whose contents are kept, and which says no more than its head and its contents
 rewritten_with : {C : Type 0} (contents_of : List ℕ → C) (size : C → ℕ) (facs : ℕ) (before : List (List ℕ)) (old : List ℕ) (kind : TableKind)
     → ((whole : List ℕ) → size (contents_of whole) ≡ length whole)
-    → ((one other : List ℕ) → head_of one ≡ head_of other → contents_of one ≡ contents_of other → said_as (Some kind) one ≡ said_as (Some kind) other)
-    → encoded_with facs (said_as (Some kind) old) ≡ encoded (said_as (Some kind) old) → is_first before old (signature_of kind) ≡ true
-    → KeepsContents (signature_of kind) contents_of (said_as (Some kind) old) old → encoded_length (said_as (Some kind) old) ≡ length old → IsRewritten before old (new_of facs before old)
+    → ((one other : List ℕ) → head_of one ≡ head_of other → contents_of one ≡ contents_of other → table_value_as (Some kind) one ≡ table_value_as (Some kind) other)
+    → encoded_bytes_with facs (table_value_as (Some kind) old) ≡ encoded_bytes (table_value_as (Some kind) old) → is_first before old (signature_of kind) ≡ true
+    → KeepsContents (signature_of kind) contents_of (table_value_as (Some kind) old) old → encoded_length (table_value_as (Some kind) old) ≡ length old → IsRewritten before old (new_of facs before old)
 rewritten_with contents_of size facs before old kind sized same plain first kept count =
-    let new = encoded (said_as (Some kind) old) in
+    let new = encoded_bytes (table_value_as (Some kind) old) in
     let length_is : length new ≡ length old = sym (sized new) ∙ ap size kept.contents ∙ sized old in
-    subst (IsRewritten before old) (sym (ap (encoded_with facs) (says before old (Some kind) first) ∙ plain))
+    subst (IsRewritten before old) (sym (ap (encoded_bytes_with facs) (says before old (Some kind) first) ∙ plain))
     (as_first kind before old new first kept.table (same new old kept.table.head_is kept.contents) (length_is ∙ sym count))
 
 rewritten_madt : (facs : ℕ) (before : List (List ℕ)) (old : List ℕ) → IsCleanBehind before old → is_first before old madt_signature ≡ true → IsRewritten before old (new_of facs before old)
@@ -137,9 +137,9 @@ rewritten_fadt facs before old is first =
     let new = table_bytes fadt_signature (head_of old) (with_facs body facs) in
     let table = fadt_table (head_of old) (with_facs body facs) (fits_head old is.clean.bytes is.clean.table.least) (omega (arith, n, behind, small, long)) in
     let size = length_of_parts new (with_facs body facs) table.0.least table.1 in
-    let count : length new ≡ encoded_length (fadt_said old) = omega (arith, size, n, zero) in
+    let count : length new ≡ encoded_length (fadt_table_value old) = omega (arith, size, n, zero) in
     let body_is : with_facs (drop 36 new) 0 ≡ with_facs body 0 = ap (λ (b : List ℕ). with_facs b 0) table.1 ∙ with_facs-with_facs body facs 0 room in
-    let same : fadt_said new ≡ fadt_said old = λ i. Fadt (table.0.head_is i) (body_is i) in
+    let same : fadt_table_value new ≡ fadt_table_value old = λ i. Fadt (table.0.head_is i) (body_is i) in
     subst (IsRewritten before old) (sym (new_fadt facs before old is first)) (as_first kind.Fadt before old new first table.0 same count)
 
 -- ---- of each table
@@ -151,7 +151,7 @@ rewritten_as facs before old is (Some kind.Srat) first = rewritten_srat facs bef
 rewritten_as facs before old is (Some kind.Slit) first = rewritten_slit facs before old is first
 rewritten_as facs before old is (Some kind.Pptt) first = rewritten_pptt facs before old is first
 rewritten_as facs before old is None none =
-    subst (λ v. IsRewritten before old (encoded_with facs v)) (sym (says before old None none)) (as_it_was before old none is.clean.table)
+    subst (λ v. IsRewritten before old (encoded_bytes_with facs v)) (sym (says before old None none)) (as_it_was before old none is.clean.table)
 
 pub rewritten : (facs : ℕ) (before : List (List ℕ)) (old : List ℕ) → IsCleanBehind before old → IsRewritten before old (new_of facs before old)
 rewritten facs before old is =

@@ -41,15 +41,8 @@ pub record IsSoundFront (m : Memory) (p : ℕ) : Type 0 where
 
 entry_again : (q : PolicyValue) (base : ℕ) (e : madt.MadtEntry) → madt.IsSoundMadtEntry q e → madt.IsSoundMadtEntry (with_rsdp q base) e
 unfolding inputs_of
-entry_again q base (madt.LocalApic v) sound = sound
 entry_again q base (madt.IoApic v) sound = sound
-entry_again q base (madt.Override v) sound = sound
-entry_again q base (madt.NmiSource v) sound = sound
-entry_again q base (madt.LocalNmi v) sound = sound
-entry_again q base (madt.AddressOverride v) sound = sound
-entry_again q base (madt.X2apic v) sound = sound
-entry_again q base (madt.X2apicNmi v) sound = sound
-entry_again q base (madt.Opaque e) sound = sound
+entry_again q base _ sound = sound
 
 madt_again : (q : PolicyValue) (base : ℕ) (c : MadtContents) → IsSoundMadt q c → IsSoundMadt (with_rsdp q base) c
 madt_again q base c sound = record {

@@ -10,7 +10,7 @@ use Rattle.acpi_base.specs.Signature.{has_signature}
 use Rattle.acpi_base.specs.Rsdp.{RsdpValue, IsRsdp}
 use Rattle.acpi_base.specs.Root.{chosen_root, IsSlotWidth, IsRoot, IsRootTable, IsSoundRoot, HasSlot}
 use Rattle.acpi_base.specs.Tables.{IsSigned, IsSoundTable}
-use Rattle.acpi_base.specs.Listed.{listed, fadt_signature, IsFirstListed, IsListedTable}
+use Rattle.acpi_base.specs.Listed.{listed_addresses, fadt_signature, IsFirstListed, IsListedTable}
 use Rattle.acpi_base.specs.Madt as madt
 use Rattle.acpi_base.specs.Srat as srat
 use Rattle.acpi_base.specs.Slit as slit
@@ -20,7 +20,7 @@ use Rattle.acpi_base.specs.TableKinds.{signature_of}
 use Rattle.acpi_base.specs.declared.stage.Stage.TheVariants as stage
 use Rattle.acpi_base.specs.declared.table_kind.TableKind.{TableKind}
 use Rattle.acpi_base.specs.declared.table_kind.TableKind.TheVariants as kind
-use Rattle.acpi_base.proofs.HeldBytes.{same_value}
+use Rattle.acpi_base.proofs.Images.HeldBytes.{same_value}
 use Rattle.acpi_base.proofs.Root.Slots.{root_slot}
 use Rattle.acpi_base.proofs.Root.Named.{root_width}
 use Rattle.acpi_base.proofs.Tables.Kinds.{length-signature_of}
@@ -30,22 +30,11 @@ use Rattle.acpi_read.specs.Roots.{RootValue, IsSoundNamedRoot}
 use Rattle.acpi_read.specs.Madts as madts
 use Rattle.acpi_read.specs.Srats as srats
 use Rattle.acpi_write.specs.Kinds.{AreReadable, IsReadableAs, IsKindBehind, is_among}
-use Rattle.acpi_write.specs.Readable.{IsReadableMadt, IsReadableSrat, IsReadableSlit, IsReadablePptt}
+use Rattle.acpi_read.specs.FilledTables.{IsFilledMadt, IsFilledSrat, IsFilledPptt}
+use Rattle.acpi_write.specs.Readable.{IsReadableSlit}
 use Rattle.acpi_write.specs.SetValues.{IsWholeAt, is_first}
 use Rattle.acpi_write.proofs.OldSets.FirstTables.{first_parts}
 use Rattle.acpi_write.proofs.OldSets.Listing.{listed_from, listed_is, listed_skip, listed_take}
-
--- ---- the root
-
-pub named_root : {m : Memory} {p : ℕ} {v : RsdpValue} {root : RootValue} → IsRsdp m p v → IsSoundNamedRoot m v.named root → IsRoot m p root.address root.width
-named_root {v = v} rsdp root = record { named = v.named; read = rsdp.named; chosen = root.chosen }
-
-pub sound_root : {m : Memory} {p : ℕ} {v : RsdpValue} → IsRsdp m p v → IsSoundRoot m p → (root : RootValue) × IsSoundNamedRoot m v.named root
-sound_root {v = v} rsdp sound =
-    let same = same_value sound.root.named v.named sound.root.read rsdp.named in (
-      record { address = sound.r; width = sound.d; bytes = sound.whole },
-      record { chosen = subst (λ n. chosen_root n ≡ Some (record { address = sound.r; width = sound.d })) same sound.root.chosen; sound = sound.sound },
-    )
 
 -- ---- the k-th of the listed tables
 
@@ -122,7 +111,7 @@ slots_inside root d (inr eight) i below =
     let b : i < 0 + (length root - 36) / 8 = subst (λ (x : ℕ). i < 0 + (length root - 36) / x) eight below in
     subst (λ (x : ℕ). 36 + x * (i + 1) ≤ length root) (sym eight) (omega arith)
 
-at_listed : (m : Memory) (root : List ℕ) (d : ℕ) (ts : List (List ℕ)) (k : ℕ) (none : List ℕ) → IsSlotWidth d → AllZip (IsWholeAt m) (listed root d) ts → k < length ts → IsAt m root d 0 ts k none
+at_listed : (m : Memory) (root : List ℕ) (d : ℕ) (ts : List (List ℕ)) (k : ℕ) (none : List ℕ) → IsSlotWidth d → AllZip (IsWholeAt m) (listed_addresses root d) ts → k < length ts → IsAt m root d 0 ts k none
 at_listed m root d ts k none width zip below =
     at m root d 0 ((length root - 36) / d) ts k none (slots_inside root d width) (subst (λ (xs : List ℕ). AllZip (IsWholeAt m) xs ts) (listed_is root d) zip) below
 
@@ -141,9 +130,9 @@ among (t ∷ ts) (suc k) (suc l) none signature less below is =
     rw (among ts k l none signature (omega (arith, less)) (omega (arith, below)) is) (or_true (has_signature t signature))
 
 -- the table that is the first with a signature is the first listed one
-pub first_listed : (m : Memory) (p r d : ℕ) (root : List ℕ) (ts : List (List ℕ)) (k : ℕ) (none signature : List ℕ) → IsRoot m p r d → IsRootTable m r d root → AllZip (IsWholeAt m) (listed root d) ts → k < length ts → length signature ≡ 4
+pub first_listed_table : (m : Memory) (p r d : ℕ) (root : List ℕ) (ts : List (List ℕ)) (k : ℕ) (none signature : List ℕ) → IsRoot m p r d → IsRootTable m r d root → AllZip (IsWholeAt m) (listed_addresses root d) ts → k < length ts → length signature ≡ 4
     → is_first (take k ts) (get_or ts k none) signature ≡ true → IsListedTable m p signature (get_or ts k none)
-first_listed m p r d root ts k none signature named table zip below four is =
+first_listed_table m p r d root ts k none signature named table zip below four is =
     let here = at_listed m root d ts k none (root_width named) zip below in
     let whole = get_or ts k none in
     let parts = first_parts (has_signature whole signature) (is_among (take k ts) signature) is in
@@ -169,11 +158,11 @@ own_srat : (e : srat.SratEntry) → srat.IsSoundSratEntry e → srats.IsOfOwnLen
 own_srat (srat.Opaque e) sound = sound
 own_srat _ sound = tt
 
-pub readable_madt : (q : PolicyValue) (whole : List ℕ) → madt.IsSoundMadt q (madt.madt_contents whole) → IsReadableMadt whole
+pub readable_madt : (q : PolicyValue) (whole : List ℕ) → madt.IsSoundMadt q (madt.madt_contents whole) → IsFilledMadt whole
 unfolding madt.madt_contents
 readable_madt q whole sound = record { long = sound.long; filled = sound.filled; lengths = λ o e stands. own_madt q e (sound.entries o e stands) }
 
-pub readable_srat : (whole : List ℕ) → srat.IsSoundSrat (srat.srat_contents whole) → IsReadableSrat whole
+pub readable_srat : (whole : List ℕ) → srat.IsSoundSrat (srat.srat_contents whole) → IsFilledSrat whole
 unfolding srat.srat_contents
 readable_srat whole sound = record { long = sound.long; filled = sound.filled; lengths = λ o e stands. own_srat e (sound.entries o e stands) }
 
@@ -183,7 +172,7 @@ readable_slit whole sound =
     let size : length whole ≡ 44 + field whole 36 8 * field whole 36 8 = sound.size in
     record { long = omega (arith, size); size = sound.size }
 
-pub readable_pptt : (whole : List ℕ) → pptt.IsCutPptt (pptt.pptt_contents whole) → IsReadablePptt whole
+pub readable_pptt : (whole : List ℕ) → pptt.IsCutPptt (pptt.pptt_contents whole) → IsFilledPptt whole
 unfolding pptt.pptt_contents
 readable_pptt whole sound = record { filled = sound.filled; lengths = sound.lengths }
 
@@ -205,7 +194,7 @@ readable_first m q whole clean kind.Srat is = readable_srat whole (clean stage.S
 readable_first m q whole clean kind.Slit is = readable_slit whole (clean stage.Slit whole is)
 readable_first m q whole clean kind.Pptt is = readable_pptt whole (clean stage.Pptt whole is)
 
-pub clean_readable : (m : Memory) (q : PolicyValue) (r d : ℕ) (root : List ℕ) (ts : List (List ℕ)) → IsClean m q → IsRoot m q.rsdp r d → IsRootTable m r d root → AllZip (IsWholeAt m) (listed root d) ts → AreReadable ts
+pub clean_readable : (m : Memory) (q : PolicyValue) (r d : ℕ) (root : List ℕ) (ts : List (List ℕ)) → IsClean m q → IsRoot m q.rsdp r d → IsRootTable m r d root → AllZip (IsWholeAt m) (listed_addresses root d) ts → AreReadable ts
 clean_readable m q r d root ts clean named table zip k none below = record { readable = readable; zero_sum = sum }
   where
     whole : List ℕ
@@ -219,19 +208,4 @@ clean_readable m q r d root ts clean named table zip k none below = record { rea
     readable : (kind : Option TableKind) → IsKindBehind (take k ts) whole kind → IsReadableAs kind whole
     readable None first = sum
     readable (Some kind) first =
-        readable_first m q whole clean kind (first_listed m q.rsdp r d root ts k none (signature_of kind) named table zip below (length-signature_of kind) first)
-
--- ---- the FADT
-
-pub clean_fadt : (m : Memory) (q : PolicyValue) (r d : ℕ) (root : List ℕ) → IsClean m q → IsRoot m q.rsdp r d → IsRootTable m r d root → (a : ℕ) × IsFirstListed m root d fadt_signature a
-clean_fadt m q r d root clean named table =
-    let fadt = clean stage.Fadt in
-    (fadt.fadt.a, listed_of_root named table fadt.fadt.first)
-
-pub fadt_sound_at : (m : Memory) (q : PolicyValue) (r d : ℕ) (root : List ℕ) (a : ℕ) → IsClean m q → IsRoot m q.rsdp r d → IsRootTable m r d root → IsFirstListed m root d fadt_signature a → IsSoundTable m a
-fadt_sound_at m q r d root a clean named table first = sound_slots m q r d root clean named table first.k a first.slot
-
-pub fadt_long : (m : Memory) (q : PolicyValue) (whole : List ℕ) → IsClean m q → IsListedTable m q.rsdp fadt_signature whole → 116 ≤ length whole
-fadt_long m q whole clean listed =
-    let fadt = clean stage.Fadt in
-    subst (λ (b : List ℕ). 116 ≤ length b) (one_listed m q.rsdp fadt_signature fadt.whole whole fadt.fadt listed) fadt.sound.long
+        readable_first m q whole clean kind (first_listed_table m q.rsdp r d root ts k none (signature_of kind) named table zip below (length-signature_of kind) first)

@@ -6,14 +6,14 @@ use Rattle.acpi_base.specs.Memory.{Memory}
 use Rattle.acpi_base.specs.Number.{field}
 use Rattle.acpi_base.specs.Signature.{has_signature}
 use Rattle.acpi_base.specs.Root.{IsSlotWidth, IsRoot, IsRootTable, HasSlot}
-use Rattle.acpi_base.specs.Listed.{listed, IsFirstListed, IsListedTable}
-use Rattle.acpi_base.proofs.HeldBytes.{cases_Option, same_value}
+use Rattle.acpi_base.specs.Listed.{listed_addresses, IsFirstListed, IsListedTable}
+use Rattle.acpi_base.proofs.Images.HeldBytes.{cases_Option, same_value}
 use Rattle.acpi_base.proofs.Root.Named.{root_width}
 use Rattle.acpi_base.proofs.Tables.Listed.{listed_of_root, one_listed}
 use Rattle.acpi_base.proofs.Tables.Whole.{signed_table}
 use Rattle.acpi_write.specs.SetValues.{IsWholeAt, is_first}
-use Rattle.acpi_write.proofs.OldSets.CleanSets.{first_listed}
-use Rattle.acpi_write.proofs.OldSets.FirstTables.{first_with}
+use Rattle.acpi_write.proofs.OldSets.CleanSets.{first_listed_table}
+use Rattle.acpi_write.proofs.OldSets.FirstTables.{first_table_with}
 use Rattle.acpi_write.proofs.OldSets.Listing.{listed_from, listed_is, listed_skip, listed_take}
 
 -- ---- the first table, by its place
@@ -27,8 +27,8 @@ record IsFirstAt (ts : List (List ℕ)) (t signature : List ℕ) : Type 0 where
 later : (u : List ℕ) (ts : List (List ℕ)) (t signature : List ℕ) → has_signature u signature ≡ false → IsFirstAt ts t signature → IsFirstAt (u ∷ ts) t signature
 later u ts t signature other rest = record { k = suc rest.k; below = omega (arith, rest.below); there = rest.there; first = rw other rest.first }
 
-first_at : (ts : List (List ℕ)) (t signature : List ℕ) → first_with signature ts ≡ Some t → IsFirstAt ts t signature
-unfolding first_with
+first_at : (ts : List (List ℕ)) (t signature : List ℕ) → first_table_with signature ts ≡ Some t → IsFirstAt ts t signature
+unfolding first_table_with
 first_at [] t signature is = absurd (cc)
 first_at (u ∷ ts) t signature is =
     elim (cases_Bool (has_signature u signature)) [
@@ -39,8 +39,8 @@ first_at (u ∷ ts) t signature is =
     ]
 
 -- where there is no first one, no table has the signature
-none_with : (ts : List (List ℕ)) (signature : List ℕ) → first_with signature ts ≡ None → AllByRecursion (λ t. has_signature t signature ≡ false) ts
-unfolding first_with
+none_with : (ts : List (List ℕ)) (signature : List ℕ) → first_table_with signature ts ≡ None → AllByRecursion (λ t. has_signature t signature ≡ false) ts
+unfolding first_table_with
 none_with [] signature none = tt
 none_with (u ∷ ts) signature none =
     elim (cases_Bool (has_signature u signature)) [
@@ -89,7 +89,7 @@ counted root d i (inr eight) inside =
     let b : 36 + 8 * (i + 1) ≤ length root = subst (λ (x : ℕ). 36 + x * (i + 1) ≤ length root) eight inside in
     subst (λ (x : ℕ). i < 0 + (length root - 36) / x) (sym eight) (omega (arith, b))
 
-pub slot_table : (m : Memory) (P : List ℕ → Type 0) (root : List ℕ) (d : ℕ) (ts : List (List ℕ)) (i a : ℕ) → IsSlotWidth d → AllZip (IsWholeAt m) (listed root d) ts → AllByRecursion P ts → HasSlot root d i a → IsSlotTable m P a
+pub slot_table : (m : Memory) (P : List ℕ → Type 0) (root : List ℕ) (d : ℕ) (ts : List (List ℕ)) (i a : ℕ) → IsSlotWidth d → AllZip (IsWholeAt m) (listed_addresses root d) ts → AllByRecursion P ts → HasSlot root d i a → IsSlotTable m P a
 slot_table m P root d ts i a width zip all slot =
     slot_from m P root d 0 ((length root - 36) / d) ts i a (subst (λ (xs : List ℕ). AllZip (IsWholeAt m) xs ts) (listed_is root d) zip) all (omega arith) (counted root d i width slot.inside) slot
 
@@ -102,22 +102,22 @@ pub record AreListed (m : Memory) (p : ℕ) (ts : List (List ℕ)) : Type 0 wher
   pub root_bytes : List ℕ
   pub root : IsRoot m p r d
   pub table : IsRootTable m r d root_bytes
-  pub each : AllZip (IsWholeAt m) (listed root_bytes d) ts
+  pub each : AllZip (IsWholeAt m) (listed_addresses root_bytes d) ts
 
-pub listed_first : (m : Memory) (p : ℕ) (ts : List (List ℕ)) (signature t : List ℕ) → AreListed m p ts → length signature ≡ 4 → first_with signature ts ≡ Some t → IsListedTable m p signature t
+pub listed_first : (m : Memory) (p : ℕ) (ts : List (List ℕ)) (signature t : List ℕ) → AreListed m p ts → length signature ≡ 4 → first_table_with signature ts ≡ Some t → IsListedTable m p signature t
 listed_first m p ts signature t are four is =
     let at = first_at ts t signature is in
     subst (λ (x : List ℕ). IsListedTable m p signature x) at.there
-    (first_listed m p are.r are.d are.root_bytes ts at.k [] signature are.root are.table are.each at.below four (subst (λ (x : List ℕ). is_first (take at.k ts) x signature ≡ true) (sym at.there) at.first))
+    (first_listed_table m p are.r are.d are.root_bytes ts at.k [] signature are.root are.table are.each at.below four (subst (λ (x : List ℕ). is_first (take at.k ts) x signature ≡ true) (sym at.there) at.first))
 
-pub first_of_listed : (m : Memory) (p : ℕ) (ts : List (List ℕ)) (signature t : List ℕ) → AreListed m p ts → length signature ≡ 4 → IsListedTable m p signature t → first_with signature ts ≡ Some t
-first_of_listed m p ts signature t are four listed =
-    elim (cases_Option (first_with signature ts)) [
-      | inl (u, is) ↦ is ∙ ap Some (one_listed m p signature u t (listed_first m p ts signature u are four is) listed)
+pub first_of_listed : (m : Memory) (p : ℕ) (ts : List (List ℕ)) (signature t : List ℕ) → AreListed m p ts → length signature ≡ 4 → IsListedTable m p signature t → first_table_with signature ts ≡ Some t
+first_of_listed m p ts signature t are four listed_addresses =
+    elim (cases_Option (first_table_with signature ts)) [
+      | inl (u, is) ↦ is ∙ ap Some (one_listed m p signature u t (listed_first m p ts signature u are four is) listed_addresses)
       | inr none ↦
-          let first : IsFirstListed m are.root_bytes are.d signature listed.a = listed_of_root are.root are.table listed.first in
-          let its = slot_table m (λ x. has_signature x signature ≡ false) are.root_bytes are.d ts first.k listed.a (root_width are.root) are.each (none_with ts signature none) first.slot in
+          let first : IsFirstListed m are.root_bytes are.d signature listed_addresses.a = listed_of_root are.root are.table listed_addresses.first in
+          let its = slot_table m (λ x. has_signature x signature ≡ false) are.root_bytes are.d ts first.k listed_addresses.a (root_width are.root) are.each (none_with ts signature none) first.slot in
           let same = same_value its.stands.0 first.signed.header its.stands.1.header_held first.signed.header_held in
-          let has : has_signature its.t signature ≡ true = signed_table m listed.a its.stands.0 its.t signature its.stands.1 four ∙ ap (λ (x : List ℕ). has_signature x signature) same ∙ first.signed.signed in
+          let has : has_signature its.t signature ≡ true = signed_table m listed_addresses.a its.stands.0 its.t signature its.stands.1 four ∙ ap (λ (x : List ℕ). has_signature x signature) same ∙ first.signed.signed in
           absurd (both_ways (has_signature its.t signature) its.holds has)
     ]

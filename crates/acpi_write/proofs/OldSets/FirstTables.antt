@@ -9,37 +9,37 @@ use Rattle.acpi_base.specs.Signature.{has_signature}
 use Rattle.acpi_base.specs.Entries.{cut_of}
 use Rattle.acpi_base.specs.Fadt.{IsSoundFadtTable}
 use Rattle.acpi_base.specs.Listed.{fadt_signature, madt_signature, srat_signature, slit_signature, pptt_signature}
-use Rattle.acpi_write.specs.Laws.{AreBytes}
+use Rattle.acpi_write.specs.Laws.{AreByteValues}
 use Rattle.acpi_write.specs.Kinds.{is_among}
-use Rattle.acpi_write.specs.Rebuilt.{encoded_with}
+use Rattle.acpi_write.specs.Rebuilt.{encoded_bytes_with}
 use Rattle.acpi_write.specs.SetValues.{is_first, values_of}
 use Rattle.acpi_write.specs.Views.{IsWholeTable}
 
 -- ---- definitions
 
 -- the first of the tables with this signature
-unfoldable pub first_with : List ℕ → List (List ℕ) → Option (List ℕ)
-first_with signature [] = None
-first_with signature (t ∷ ts) = if has_signature t signature then Some t else first_with signature ts
+unfoldable pub first_table_with : List ℕ → List (List ℕ) → Option (List ℕ)
+first_table_with signature [] = None
+first_table_with signature (t ∷ ts) = if has_signature t signature then Some t else first_table_with signature ts
 
 -- a whole table in bytes, whose Length has 32 bits
 pub record IsCleanTable (whole : List ℕ) : Type 0 where
   pub table : IsWholeTable whole
-  pub bytes : AreBytes whole
+  pub bytes : AreByteValues whole
   pub small : length whole < 2 ^ 32
 
 -- the tables are, and the first of each kind can be read by its contents; the first FADT is sound
 pub record AreCleanTables (ts : List (List ℕ)) : Type 0 where
   pub each : AllByRecursion IsCleanTable ts
-  pub fadt : (t : List ℕ) → first_with fadt_signature ts ≡ Some t → IsSoundFadtTable t
-  pub madt : (t : List ℕ) → first_with madt_signature ts ≡ Some t → (44 ≤ length t) × (cut_of 44 t ≡ None)
-  pub srat : (t : List ℕ) → first_with srat_signature ts ≡ Some t → (48 ≤ length t) × (cut_of 48 t ≡ None)
-  pub slit : (t : List ℕ) → first_with slit_signature ts ≡ Some t → 44 ≤ length t
-  pub pptt : (t : List ℕ) → first_with pptt_signature ts ≡ Some t → cut_of 36 t ≡ None
+  pub fadt : (t : List ℕ) → first_table_with fadt_signature ts ≡ Some t → IsSoundFadtTable t
+  pub madt : (t : List ℕ) → first_table_with madt_signature ts ≡ Some t → (44 ≤ length t) × (cut_of 44 t ≡ None)
+  pub srat : (t : List ℕ) → first_table_with srat_signature ts ≡ Some t → (48 ≤ length t) × (cut_of 48 t ≡ None)
+  pub slit : (t : List ℕ) → first_table_with slit_signature ts ≡ Some t → 44 ≤ length t
+  pub pptt : (t : List ℕ) → first_table_with pptt_signature ts ≡ Some t → cut_of 36 t ≡ None
 
 -- the tables that are written for what these say, where the FACS stands at this address
 abbrev pub new_tables : ℕ → List (List ℕ) → List (List ℕ)
-new_tables facs ts = map (encoded_with facs) (values_of ts)
+new_tables facs ts = map (encoded_bytes_with facs) (values_of ts)
 
 -- ---- the first one
 
@@ -54,8 +54,8 @@ or_parts false true e = absurd (cc)
 or_parts true b e = absurd (cc)
 
 -- it is the first of the tables before it, itself, and those behind it
-pub first_is : (before : List (List ℕ)) (t : List ℕ) (rest : List (List ℕ)) (signature : List ℕ) → is_first before t signature ≡ true → first_with signature (before ++ t ∷ rest) ≡ Some t
-unfolding first_with
+pub first_is : (before : List (List ℕ)) (t : List ℕ) (rest : List (List ℕ)) (signature : List ℕ) → is_first before t signature ≡ true → first_table_with signature (before ++ t ∷ rest) ≡ Some t
+unfolding first_table_with
 first_is [] t rest signature is = rw ((first_parts (has_signature t signature) false is).0) refl
 first_is (b ∷ before) t rest signature is =
     let parts = first_parts (has_signature t signature) (is_among (b ∷ before) signature) is in
@@ -73,8 +73,8 @@ none_more before t signature none other = list_any-append (λ x. has_signature x
     both none other = rw (none, other) refl
 
 -- what holds of all tables holds of the first
-pub holds_of_first : (P : List ℕ → Type 0) (signature : List ℕ) (ts : List (List ℕ)) (t : List ℕ) → AllByRecursion P ts → first_with signature ts ≡ Some t → P t
-unfolding first_with
+pub holds_of_first : (P : List ℕ → Type 0) (signature : List ℕ) (ts : List (List ℕ)) (t : List ℕ) → AllByRecursion P ts → first_table_with signature ts ≡ Some t → P t
+unfolding first_table_with
 holds_of_first P signature [] t each is = absurd (cc)
 holds_of_first P signature (u ∷ ts) t each is =
     elim (cases_Bool (has_signature u signature)) [
@@ -82,5 +82,5 @@ holds_of_first P signature (u ∷ ts) t each is =
       | inr other ↦ holds_of_first P signature ts t each.1 (cc)
     ]
 
-pub clean_first : (signature : List ℕ) (ts : List (List ℕ)) (t : List ℕ) → AreCleanTables ts → first_with signature ts ≡ Some t → IsCleanTable t
+pub clean_first : (signature : List ℕ) (ts : List (List ℕ)) (t : List ℕ) → AreCleanTables ts → first_table_with signature ts ≡ Some t → IsCleanTable t
 clean_first signature ts t clean is = holds_of_first IsCleanTable signature ts t clean.each is

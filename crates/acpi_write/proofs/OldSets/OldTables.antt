@@ -5,24 +5,24 @@ use Rattle.std.proofs.lemmas.List.{length-take-le}
 use Rattle.acpi_base.specs.Memory.{Memory, IsImage, byte_of}
 use Rattle.acpi_base.specs.Fadt.{IsSoundFadtTable}
 use Rattle.acpi_base.specs.Facs.{IsFacs, facs_signature, facs_length}
-use Rattle.acpi_base.specs.Listed.{listed, fadt_signature, madt_signature, srat_signature, slit_signature, pptt_signature}
+use Rattle.acpi_base.specs.Listed.{listed_addresses, fadt_signature, madt_signature, srat_signature, slit_signature, pptt_signature}
 use Rattle.acpi_base.specs.Policy.{PolicyValue}
 use Rattle.acpi_base.specs.Signature.{has_signature}
 use Rattle.acpi_base.specs.Tables.{length_of}
 use Rattle.acpi_base.specs.Statements.{IsClean}
 use Rattle.acpi_base.specs.declared.stage.Stage.TheVariants as stage
-use Rattle.acpi_base.proofs.HeldBytes.{bytes_below, held_field_below, says_length, length-bytes_at, same_value}
-use Rattle.acpi_base.proofs.Runs.{run_of-take}
+use Rattle.acpi_base.proofs.Images.HeldBytes.{bytes_below, held_field_below, says_length, length-bytes_at, same_value}
+use Rattle.acpi_base.proofs.Images.ByteRuns.{run_of-take}
 use Rattle.acpi_base.proofs.Tables.Listed.{one_listed}
 use Rattle.acpi_base.proofs.Tables.Whole.{length-table}
 use Rattle.acpi_write.specs.Encoded.{FitsHead}
-use Rattle.acpi_write.specs.Laws.{AreBytes}
+use Rattle.acpi_write.specs.Laws.{AreByteValues}
 use Rattle.acpi_write.specs.Kinds.{AreReadable}
 use Rattle.acpi_write.specs.SetValues.{IsWholeAt, IsSetValue}
 use Rattle.acpi_write.specs.Values.{SetValue}
 use Rattle.acpi_write.proofs.OldSets.CleanSets.{clean_readable, readable_madt, readable_srat, readable_slit, readable_pptt}
 use Rattle.acpi_write.proofs.OldSets.FirstListed.{AreListed, listed_first}
-use Rattle.acpi_write.proofs.OldSets.FirstTables.{first_with, IsCleanTable, AreCleanTables}
+use Rattle.acpi_write.proofs.OldSets.FirstTables.{first_table_with, IsCleanTable, AreCleanTables}
 use Rattle.acpi_write.proofs.TablesWritten.KeptContents.{fits_head}
 use Rattle.acpi_write.proofs.NewSets.NewImage.{signed_front}
 
@@ -41,7 +41,7 @@ each_is P (t ∷ ts) h = (h zero (omega arith), each_is P ts (λ k below. h (suc
 
 -- ---- a table that stands in an image
 
-pub held_bytes : (m : Memory) (a : ℕ) (whole : List ℕ) → IsImage m → IsWholeAt m a whole → AreBytes whole
+pub held_bytes : (m : Memory) (a : ℕ) (whole : List ℕ) → IsImage m → IsWholeAt m a whole → AreByteValues whole
 held_bytes m a whole image (header, table) = bytes_below m image a (length_of header) whole table.held
 
 pub held_least : (m : Memory) (a : ℕ) (whole : List ℕ) → IsWholeAt m a whole → 36 ≤ length whole
@@ -63,9 +63,9 @@ clean_each : (m : Memory) (q : PolicyValue) (ts : List (List ℕ)) → IsImage m
 clean_each m q ts image clean are =
     let readable : AreReadable ts = clean_readable m q are.r are.d are.root_bytes ts clean are.root are.table are.each in
     each_is IsCleanTable ts (λ k below.
-    let a = get_or (listed are.root_bytes are.d) k 0 in
+    let a = get_or (listed_addresses are.root_bytes are.d) k 0 in
     let t = get_or ts k [] in
-    let at = zip_at (IsWholeAt m) (listed are.root_bytes are.d) ts k are.each below in
+    let at = zip_at (IsWholeAt m) (listed_addresses are.root_bytes are.d) ts k are.each below in
     record {
       table = record { least = held_least m a t at; size = held_size m a t at; zero_sum = (readable k [] below).zero_sum };
       bytes = held_bytes m a t image at;
@@ -74,7 +74,7 @@ clean_each m q ts image clean are =
 
 pub clean_tables : (m : Memory) (q : PolicyValue) (ts : List (List ℕ)) → IsImage m → IsClean m q → AreListed m q.rsdp ts → AreCleanTables ts
 clean_tables m q ts image clean are =
-    let first = λ (signature : List ℕ) (t : List ℕ) (four : length signature ≡ 4) (is : first_with signature ts ≡ Some t). listed_first m q.rsdp ts signature t are four is in
+    let first = λ (signature : List ℕ) (t : List ℕ) (four : length signature ≡ 4) (is : first_table_with signature ts ≡ Some t). listed_first m q.rsdp ts signature t are four is in
     record {
       each = clean_each m q ts image clean are;
       fadt = λ t is. subst IsSoundFadtTable (one_listed m q.rsdp fadt_signature (clean stage.Fadt).whole t (clean stage.Fadt).fadt (first fadt_signature t refl is)) (clean stage.Fadt).sound;

@@ -3,11 +3,11 @@ use Rattle.std.proofs.Common.{◌≡◌, ℕ, List, [], ◌∷◌, take, drop, O
 use Rattle.std.specs.List.{AllZip}
 use Rattle.acpi_base.specs.Memory.{Memory, bytes_at}
 use Rattle.acpi_base.specs.Header.{head_of}
-use Rattle.acpi_base.specs.Listed.{listed}
+use Rattle.acpi_base.specs.Listed.{listed_addresses}
 use Rattle.acpi_base.specs.Fadt.{IsFadt, facs_address}
 use Rattle.acpi_base.specs.Facs.{facs_length}
 use Rattle.acpi_base.specs.declared.stage.Stage.TheVariants as stage
-use Rattle.acpi_base.proofs.HeldBytes.{same_value}
+use Rattle.acpi_base.proofs.Images.HeldBytes.{same_value}
 use Rattle.acpi_base.proofs.Root.Named.{one_root, one_root_table}
 use Rattle.acpi_base.proofs.Tables.Whole.{one_table}
 use Rattle.acpi_write.specs.Values.{SetValue}
@@ -40,9 +40,9 @@ one_value m p v w fadt there a b =
     let root = one_root m p a.r a.d b.r b.d a.root b.root in
     let bytes : a.root_bytes ≡ b.root_bytes = one_root_table a.root_bytes b.root_bytes a.root b.root a.root_table b.root_table in
     let root_head : v.root ≡ w.root = a.root_head ∙ ap head_of bytes ∙ sym b.root_head in
-    let lists : listed a.root_bytes a.d ≡ listed b.root_bytes b.d = λ i. listed (bytes i) (root.1 i) in
+    let lists : listed_addresses a.root_bytes a.d ≡ listed_addresses b.root_bytes b.d = λ i. listed_addresses (bytes i) (root.1 i) in
     let each = subst (λ (xs : List ℕ). AllZip (IsWholeAt m) xs a.tables) lists a.each in
-    let tables : v.tables ≡ w.tables = a.values ∙ ap values_of (one_list m (listed b.root_bytes b.d) a.tables b.tables each b.each) ∙ sym b.values in
+    let tables : v.tables ≡ w.tables = a.values ∙ ap values_of (one_list m (listed_addresses b.root_bytes b.d) a.tables b.tables each b.each) ∙ sym b.values in
     let facs : v.facs ≡ w.facs = one_facs m fadt v.facs w.facs (a.facs fadt there) (b.facs fadt there) in
     λ i. record { oemid = oemid i; root = root_head i; tables = tables i; facs = facs i }
 

@@ -6,10 +6,10 @@ use Rattle.std.proofs.Math.Seq.{take-suc}
 use Rattle.acpi_base.specs.Signature.{has_signature}
 use Rattle.acpi_base.specs.TableKinds.{signature_of}
 use Rattle.acpi_base.specs.declared.table_kind.TableKind.{TableKind}
-use Rattle.acpi_read.specs.FirstTables.{first_of, first_with, IsFirstOf}
+use Rattle.acpi_read.specs.FirstTables.{first_table, first_signed_table, IsFirstOf}
 use Rattle.acpi_read.specs.declared.first_tables.FirstTables.{FirstTables}
 use Rattle.acpi_write.specs.Kinds.{is_among, HasFirsts, IsKindBehind}
-use Rattle.acpi_write.specs.SetValues.{said_behind, values_behind, values_of}
+use Rattle.acpi_write.specs.SetValues.{table_value_behind, values_behind, values_of}
 
 -- ---- what was seen
 
@@ -21,7 +21,7 @@ among_more tables whole signature =
     or_false true = refl
     or_false false = refl
 
-pub firsts_none : (tables : List (List ℕ)) (firsts : FirstTables) → ((kind : TableKind) → first_of firsts kind ≡ None) → tables ≡ [] → HasFirsts tables firsts
+pub firsts_none : (tables : List (List ℕ)) (firsts : FirstTables) → ((kind : TableKind) → first_table firsts kind ≡ None) → tables ≡ [] → HasFirsts tables firsts
 firsts_none tables firsts none empty kind = rw (none kind, empty) refl
 
 kept_or_not : (found : Option (List ℕ)) (whole : List ℕ) (has among : Bool) → is_none found ≡ not among → is_none (if has && is_none found then Some whole else found) ≡ not (among || has)
@@ -33,10 +33,10 @@ kept_or_not None whole false false same = refl
 kept_or_not None whole has true same = absurd cc
 
 pub firsts_more : (tables next : List (List ℕ)) (whole : List ℕ) (old new : FirstTables) → next ≡ tables ++ whole ∷ [] → HasFirsts tables old
-    → ((kind : TableKind) → first_of new kind ≡ first_with (signature_of kind) (first_of old kind) whole) → HasFirsts next new
+    → ((kind : TableKind) → first_table new kind ≡ first_signed_table (signature_of kind) (first_table old kind) whole) → HasFirsts next new
 firsts_more tables next whole old new is has added kind =
     rw (is, added kind, among_more tables whole (signature_of kind))
-    (kept_or_not (first_of old kind) whole (has_signature whole (signature_of kind)) (is_among tables (signature_of kind)) (has kind))
+    (kept_or_not (first_table old kind) whole (has_signature whole (signature_of kind)) (is_among tables (signature_of kind)) (has kind))
 
 -- so the kind is that of the table behind them
 pub kind_behind : (tables : List (List ℕ)) (whole : List ℕ) (firsts : FirstTables) (kind : Option TableKind) → HasFirsts tables firsts → IsFirstOf firsts whole kind → IsKindBehind tables whole kind
@@ -46,16 +46,16 @@ kind_behind tables whole firsts None has none = λ kind. rw (← has kind) (none
 -- ---- what tables say
 
 -- one more table behind them
-pub values_more : (before tables : List (List ℕ)) (whole : List ℕ) → values_behind before (tables ++ whole ∷ []) ≡ values_behind before tables ++ said_behind (before ++ tables) whole ∷ []
+pub values_more : (before tables : List (List ℕ)) (whole : List ℕ) → values_behind before (tables ++ whole ∷ []) ≡ values_behind before tables ++ table_value_behind (before ++ tables) whole ∷ []
 unfolding values_behind
-values_more before [] whole = ap (λ b. said_behind b whole ∷ []) (sym (nothing before))
+values_more before [] whole = ap (λ b. table_value_behind b whole ∷ []) (sym (nothing before))
   where
     nothing : (xs : List (List ℕ)) → xs ++ [] ≡ xs
     nothing [] = refl
     nothing (x ∷ xs) = ap (λ l. x ∷ l) (nothing xs)
 values_more before (t ∷ ts) whole =
-    ap (λ vs. said_behind before t ∷ vs)
-    (values_more (before ++ t ∷ []) ts whole ∙ ap (λ b. values_behind (before ++ t ∷ []) ts ++ said_behind b whole ∷ []) (append_assoc before (t ∷ []) ts))
+    ap (λ vs. table_value_behind before t ∷ vs)
+    (values_more (before ++ t ∷ []) ts whole ∙ ap (λ b. values_behind (before ++ t ∷ []) ts ++ table_value_behind b whole ∷ []) (append_assoc before (t ∷ []) ts))
 
 pub values_none : values_of [] ≡ []
 unfolding values_behind
@@ -67,5 +67,5 @@ next_take tables k below =
     ap (λ n. take n tables) next ∙ take-suc tables k [] below
 
 -- of the tables up to one, and that one
-pub values_next : (tables : List (List ℕ)) (k : ℕ) → k < length tables → values_of (take (k + 1) tables) ≡ values_of (take k tables) ++ said_behind (take k tables) (get_or tables k []) ∷ []
+pub values_next : (tables : List (List ℕ)) (k : ℕ) → k < length tables → values_of (take (k + 1) tables) ≡ values_of (take k tables) ++ table_value_behind (take k tables) (get_or tables k []) ∷ []
 values_next tables k below = ap values_of (next_take tables k below) ∙ values_more [] (take k tables) (get_or tables k [])

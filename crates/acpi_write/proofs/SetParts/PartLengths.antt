@@ -7,7 +7,7 @@ use Rattle.std.proofs.lemmas.List.{drop_more, drop_all, length-map}
 use Rattle.std.proofs.lemmas.List.Elements.{All-append, All-map}
 use Rattle.acpi_write.specs.Encoded.{encoded_length}
 use Rattle.acpi_write.specs.Placed.{is_narrow}
-use Rattle.acpi_write.specs.Rebuilt.{places, listed_option, place_of_facs, part_lengths, part_places, facs_place}
+use Rattle.acpi_write.specs.Rebuilt.{block_places, option_list, place_of_facs, part_lengths, part_places, facs_place}
 use Rattle.acpi_write.specs.Values as value
 use Rattle.acpi_write.specs.Views.{set_value, table_value}
 use Rattle.acpi_write.specs.declared.set_value.SetValue.{SetValue}
@@ -18,7 +18,7 @@ lengths_of_values [] = refl
 lengths_of_values (t ∷ ts) = ap (λ (ns : List ℕ). encoded_length (table_value t) ∷ ns) (lengths_of_values ts)
 
 -- the lengths, as they are put together
-pub lengths_are : (v : SetValue) (lengths fs : List ℕ) → fs ≡ map length (listed_option (set_value v).facs)
+pub lengths_are : (v : SetValue) (lengths fs : List ℕ) → fs ≡ map length (option_list (set_value v).facs)
     → lengths ≡ (36 ∷ (36 + 8 * length v.tables.items) ∷ fs) ++ map (λ t. encoded_length (table_value t)) v.tables.items → lengths ≡ part_lengths (set_value v)
 lengths_are v lengths fs f l =
     let count = length-map v.tables.items table_value in
@@ -32,11 +32,11 @@ two_some x (suc zero) d h = omega arith
 two_some x (suc (suc k)) d h = absurd (omega arith)
 
 -- each part has some
-pub parts_some : (v : value.SetValue) → All (λ bytes. 0 < length bytes) (listed_option v.facs) → All (λ n. 0 < n) (part_lengths v)
+pub parts_some : (v : value.SetValue) → All (λ bytes. 0 < length bytes) (option_list v.facs) → All (λ n. 0 < n) (part_lengths v)
 parts_some v some =
-    All-append (λ n. 0 < n) (36 ∷ (36 + 8 * length v.tables) ∷ []) (map length (listed_option v.facs) ++ map encoded_length v.tables) (two_some (8 * length v.tables))
-    (All-append (λ n. 0 < n) (map length (listed_option v.facs)) (map encoded_length v.tables)
-    (All-map (λ n. 0 < n) length (listed_option v.facs) some)
+    All-append (λ n. 0 < n) (36 ∷ (36 + 8 * length v.tables) ∷ []) (map length (option_list v.facs) ++ map encoded_length v.tables) (two_some (8 * length v.tables))
+    (All-append (λ n. 0 < n) (map length (option_list v.facs)) (map encoded_length v.tables)
+    (All-map (λ n. 0 < n) length (option_list v.facs) some)
     (All-map (λ n. 0 < n) encoded_length v.tables (λ k d h. omega arith)))
 
 -- ---- the FACS's place
@@ -45,8 +45,8 @@ some_mapped : {X Y : Type 0} (f : X → Y) (o : Option X) → is_some o ≡ true
 some_mapped f None some = some
 some_mapped f (Some x) some = some
 
-three_places : (facs : Option (List ℕ)) (a x : ℕ) (rest : List ℕ) → is_some facs ≡ true → 2 < length (places a (36 ∷ x ∷ (map length (listed_option facs) ++ rest)))
-unfolding places
+three_places : (facs : Option (List ℕ)) (a x : ℕ) (rest : List ℕ) → is_some facs ≡ true → 2 < length (block_places a (36 ∷ x ∷ (map length (option_list facs) ++ rest)))
+unfolding block_places
 three_places None a x rest some = absurd (cc)
 three_places (Some bytes) a x rest some = omega arith
 

@@ -3,7 +3,7 @@ use Rattle.std.proofs.Common.{ℕ, ◌^◌, ◌<◌, List, [], ◌∷◌, arith,
 use Rattle.std.proofs.lemmas.Bool.{cases_lt}
 use Rattle.acpi_base.specs.Memory.{Memory}
 use Rattle.acpi_base.specs.Policy.{PolicyValue}
-use Rattle.acpi_write.specs.Placed.{ends, DoEndInside, IsPlaced, IsPlacingRefusal, PlacedUnlessRefused}
+use Rattle.acpi_write.specs.Placed.{block_ends, DoEndInside, IsPlaced, IsPlacingRefusal, PlacedUnlessRefused}
 use Rattle.acpi_write.specs.Rebuilding.{IsRebuilt, RefusedSetsAreNotRebuilt}
 use Rattle.acpi_write.specs.Rebuilt.{part_lengths, xsdt_length, facs_place}
 use Rattle.acpi_write.specs.SetValues.{IsSetValue}
@@ -40,7 +40,7 @@ placed_unless_refused v base = (
   λ placed. (placed.aligned, none_applies v base placed),
   λ none.
       let size : xsdt_length v < 2 ^ 32 = elim (cases_lt (xsdt_length v) (2 ^ 32)) [ inl short ↦ short | inr long ↦ absurd (none.1 fault.TableTooLong (omega (arith, long))) ] in
-      let inside : DoEndInside (ends base (part_lengths v)) = elim (inside_or_not (ends base (part_lengths v))) [ inl all ↦ all | inr not ↦ absurd (none.1 fault.PastEnd (size, not)) ] in
+      let inside : DoEndInside (block_ends base (part_lengths v)) = elim (inside_or_not (block_ends base (part_lengths v))) [ inl all ↦ all | inr not ↦ absurd (none.1 fault.PastEnd (size, not)) ] in
       record {
         aligned = none.0;
         size = size;

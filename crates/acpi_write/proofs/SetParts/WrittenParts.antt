@@ -5,22 +5,24 @@ use Rattle.std.specs.Option.{option_map}
 use Rattle.std.specs.FinMap.{empty, get-empty}
 use Rattle.std.specs.Ordering.{nat_cmp}
 use Rattle.std.proofs.lemmas.Bool.{le-ltb}
-use Rattle.acpi_base.specs.Adding.{add_refusal}
+use Rattle.acpi_base.specs.Image.Adding.{add_refusal}
 use Rattle.acpi_base.specs.Header.{HeadValue}
 use Rattle.acpi_base.specs.Listed.{fadt_signature, madt_signature, srat_signature, slit_signature, pptt_signature}
 use Rattle.acpi_base.specs.Memory.{Memory, byte_of, with_bytes, first_held}
 use Rattle.acpi_base.specs.Number.{number_bytes}
 use Rattle.acpi_base.specs.declared.image.ImageFault.TheVariants.{Twice}
-use Rattle.acpi_base.proofs.Pieces.RunBytes.{byte_of-with_bytes_outside}
-use Rattle.acpi_base.proofs.Runs.{first_of_none}
+use Rattle.acpi_base.proofs.Images.RunBytes.{byte_of-with_bytes_outside}
+use Rattle.acpi_base.proofs.Images.ByteRuns.{first_of_none}
 use Rattle.acpi_read.specs.Madts.{madt_value}
 use Rattle.acpi_read.specs.Srats.{srat_value}
 use Rattle.acpi_read.specs.Pptts.{pptt_value}
-use Rattle.acpi_write.specs.EntryBytes.{madt_bytes, srat_bytes, pptt_bytes}
-use Rattle.acpi_write.specs.Encoded.{FitsHead, encoded, encoded_length, table_bytes, srat_reserved}
+use Rattle.acpi_read.specs.Madts.{madt_bytes}
+use Rattle.acpi_read.specs.Srats.{srat_bytes}
+use Rattle.acpi_read.specs.Pptts.{pptt_bytes}
+use Rattle.acpi_write.specs.Encoded.{FitsHead, encoded_bytes, encoded_length, table_bytes, srat_reserved}
 use Rattle.acpi_write.specs.FadtBody.{with_facs}
-use Rattle.acpi_write.specs.Placed.{ends, DoEndInside}
-use Rattle.acpi_write.specs.Rebuilt.{aligned, encoded_with, laid, places, with_pieces}
+use Rattle.acpi_write.specs.Placed.{block_ends, DoEndInside}
+use Rattle.acpi_write.specs.Rebuilt.{aligned_address, encoded_bytes_with, blocks_from, block_places, with_blocks}
 use Rattle.acpi_write.specs.SetWriting.{EndsBelow, HasRoom, table_blocks, table_lengths}
 use Rattle.acpi_write.specs.Views.{head_value, table_value, IsShaped, IsShort, DoPartsSay}
 use Rattle.acpi_write.specs.declared.table_value.TableValue as written
@@ -38,7 +40,7 @@ IfOk-both (Ok x) P Q p q = (p, q)
 IfOk-both (Err e) P Q p q = tt
 
 -- what is written for a value has its length
-pub encoded_count : (t : written.TableValue) → IsShaped t → IsShort t → DoPartsSay t → length (encoded (table_value t)) ≡ encoded_length (table_value t)
+pub encoded_count : (t : written.TableValue) → IsShaped t → IsShort t → DoPartsSay t → length (encoded_bytes (table_value t)) ≡ encoded_length (table_value t)
 encoded_count (table.Madt head address flags entries) shaped short say =
     let body = number_bytes 4 address ++ (number_bytes 4 flags ++ flat_map madt_bytes (map madt_value entries.items)) in
     let is = madt_table (head_value head) body say.0 short in
@@ -68,7 +70,7 @@ fadt_count head body facs long short fits =
     length_of_parts (table_bytes fadt_signature head (with_facs body facs)) (with_facs body facs) is.0.least is.1 ∙ ap (λ (n : ℕ). 36 + n) same
 
 -- a table that is no FADT is written as it is
-pub encoded_without : (facs : ℕ) (t : written.TableValue) → ((head : _) (body : _) → t ≡ table.Fadt head body → ⊥) → encoded_with facs (table_value t) ≡ encoded (table_value t)
+pub encoded_without : (facs : ℕ) (t : written.TableValue) → ((head : _) (body : _) → t ≡ table.Fadt head body → ⊥) → encoded_bytes_with facs (table_value t) ≡ encoded_bytes (table_value t)
 encoded_without facs (table.Madt head address flags entries) not = refl
 encoded_without facs (table.Srat head entries) not = refl
 encoded_without facs (table.Slit head count cells) not = refl
@@ -99,12 +101,12 @@ pub record IsRoomed (m : Memory) (a : ℕ) (found : List ℕ) (k : ℕ) (bytes :
   pub within : k < length found
   pub place : get_or found k 0 ≡ a
   pub fits : a + length bytes ≤ 2 ^ 64
-  pub further : HasRoom (with_bytes m a bytes) (aligned (a + length bytes)) (drop (k + 1) found) ns
+  pub further : HasRoom (with_bytes m a bytes) (aligned_address (a + length bytes)) (drop (k + 1) found) ns
 
 pub room_step : (m : Memory) (a : ℕ) (found : List ℕ) (k : ℕ) (bytes : List ℕ) (n : ℕ) (ns : List ℕ) → HasRoom m a (drop k found) (n ∷ ns) → length bytes ≡ n → IsRoomed m a found k bytes ns
-unfolding places ends
+unfolding block_places block_ends
 room_step m a found k bytes n ns room count =
-    let step = found_step found k a (places (aligned (a + n)) ns) room.placed in
+    let step = found_step found k a (block_places (aligned_address (a + n)) ns) room.placed in
     let fits = room.inside.0 in
     let end : a + length bytes ≡ a + n = ap (λ (x : ℕ). a + x) count in
     let from = aligned_from (a + length bytes) in
@@ -114,21 +116,21 @@ room_step m a found k bytes n ns room count =
       fits = omega (arith, fits, count);
       further = record {
         behind = λ x past. byte_of-with_bytes_outside m a bytes x (inr (omega (arith, from, past))) ∙ room.behind x (omega (arith, from, past));
-        placed = step.2 ∙ ap (λ (x : ℕ). places (aligned x) ns) (sym end);
-        inside = subst (λ (x : ℕ). DoEndInside (ends (aligned x) ns)) (sym end) room.inside.1;
+        placed = step.2 ∙ ap (λ (x : ℕ). block_places (aligned_address x) ns) (sym end);
+        inside = subst (λ (x : ℕ). DoEndInside (block_ends (aligned_address x) ns)) (sym end) room.inside.1;
       };
     }
 
 -- a new image has room for all blocks that end inside
-pub room_first : (a : ℕ) (found lengths : List ℕ) → found ≡ places a lengths → DoEndInside (ends a lengths) → HasRoom empty a found lengths
+pub room_first : (a : ℕ) (found lengths : List ℕ) → found ≡ block_places a lengths → DoEndInside (block_ends a lengths) → HasRoom empty a found lengths
 room_first a found lengths placed inside = record { behind = λ x past. get-empty nat_cmp x; placed = placed; inside = inside }
 
-pub laid_next : (m : Memory) (a : ℕ) (bytes : List ℕ) (blocks : List (List ℕ)) → with_pieces (with_bytes m a bytes) (laid (aligned (a + length bytes)) blocks) ≡ with_pieces m (laid a (bytes ∷ blocks))
-unfolding with_pieces laid
+pub laid_next : (m : Memory) (a : ℕ) (bytes : List ℕ) (blocks : List (List ℕ)) → with_blocks (with_bytes m a bytes) (blocks_from (aligned_address (a + length bytes)) blocks) ≡ with_blocks m (blocks_from a (bytes ∷ blocks))
+unfolding with_blocks blocks_from
 laid_next m a bytes blocks = refl
 
-pub laid_none : (m : Memory) (a : ℕ) → with_pieces m (laid a []) ≡ m
-unfolding with_pieces laid
+pub laid_none : (m : Memory) (a : ℕ) → with_blocks m (blocks_from a []) ≡ m
+unfolding with_blocks blocks_from
 laid_none m a = refl
 
 -- ---- one table after another
@@ -154,10 +156,10 @@ table_step m a found ts k t bytes below is room count =
     room_step m a found k bytes (encoded_length (table_value t)) (drop (k + 1) (table_lengths ts)) (subst (λ (ns : List ℕ). HasRoom m a (drop k found) ns) next room) count
 
 -- and the image with it and those behind it is the one with these
-pub blocks_step : (m : Memory) (a facs : ℕ) (ts : List written.TableValue) (k : ℕ) (t : written.TableValue) (bytes : List ℕ) → k < length ts → t ≡ get_or ts k t → bytes ≡ encoded_with facs (table_value t)
-    → with_pieces (with_bytes m a bytes) (laid (aligned (a + length bytes)) (drop (k + 1) (table_blocks facs ts))) ≡ with_pieces m (laid a (drop k (table_blocks facs ts)))
+pub blocks_step : (m : Memory) (a facs : ℕ) (ts : List written.TableValue) (k : ℕ) (t : written.TableValue) (bytes : List ℕ) → k < length ts → t ≡ get_or ts k t → bytes ≡ encoded_bytes_with facs (table_value t)
+    → with_blocks (with_bytes m a bytes) (blocks_from (aligned_address (a + length bytes)) (drop (k + 1) (table_blocks facs ts))) ≡ with_blocks m (blocks_from a (drop k (table_blocks facs ts)))
 blocks_step m a facs ts k t bytes below is same =
     let rest = drop (k + 1) (table_blocks facs ts) in
     laid_next m a bytes rest
-    ∙ ap (λ (b : List ℕ). with_pieces m (laid a (b ∷ rest))) same
-    ∙ ap (λ (bs : List (List ℕ)). with_pieces m (laid a bs)) (sym (mapped_next (λ t. encoded_with facs (table_value t)) ts k t below is))
+    ∙ ap (λ (b : List ℕ). with_blocks m (blocks_from a (b ∷ rest))) same
+    ∙ ap (λ (bs : List (List ℕ)). with_blocks m (blocks_from a bs)) (sym (mapped_next (λ t. encoded_bytes_with facs (table_value t)) ts k t below is))

@@ -6,7 +6,8 @@ use Rattle.acpi_read.specs.Madts.{madt_value}
 use Rattle.acpi_read.specs.Srats.{srat_value}
 use Rattle.acpi_read.specs.declared.madt.MadtEntry.{MadtEntry}
 use Rattle.acpi_read.specs.declared.srat.SratEntry.{SratEntry}
-use Rattle.acpi_write.specs.EntryBytes.{madt_bytes, srat_bytes}
+use Rattle.acpi_read.specs.Madts.{madt_bytes}
+use Rattle.acpi_read.specs.Srats.{srat_bytes}
 use Rattle.acpi_write.specs.Encoded.{srat_reserved}
 use Rattle.acpi_write.proofs.EntryBytes.EntryLists.{joined_values}
 

@@ -4,7 +4,7 @@ use Rattle.acpi_base.specs.Number.{field, byte_sum, number_bytes}
 use Rattle.acpi_base.specs.Signature.{has_signature, rsdp_signature}
 use Rattle.acpi_base.specs.Rsdp.{revision_of, rsdp_length}
 use Rattle.acpi_base.proofs.Layouts.RoundTrip.{number_there}
-use Rattle.acpi_write.specs.Encoded.{closing}
+use Rattle.acpi_write.specs.Encoded.{checksum_of}
 use Rattle.acpi_write.specs.Rebuilt.{rsdp_head, rsdp_tail, rsdp_bytes}
 use Rattle.acpi_write.proofs.TablesWritten.Sums.{sum-append, sum-cons, closes}
 
@@ -31,19 +31,19 @@ unfolding rsdp_bytes has_signature field number_bytes
 of_six xsdt a b c d e f fits =
     let oemid : List ℕ = a ∷ b ∷ c ∷ d ∷ e ∷ f ∷ [] in
     let opened = rsdp_head oemid 0 in
-    let head = rsdp_head oemid (closing opened) in
+    let head = rsdp_head oemid (checksum_of opened) in
     let opened_whole = head ++ rsdp_tail xsdt 0 in
-    let whole = head ++ rsdp_tail xsdt (closing opened_whole) in
+    let whole = head ++ rsdp_tail xsdt (checksum_of opened_whole) in
     record {
       count = refl;
       signed = refl;
-      head_sum = closes opened head (head_sum oemid (closing opened));
+      head_sum = closes opened head (head_sum oemid (checksum_of opened));
       revision = refl;
       size = refl;
-      zero_sum = closes opened_whole whole (tail_sum head xsdt (closing opened_whole));
+      zero_sum = closes opened_whole whole (tail_sum head xsdt (checksum_of opened_whole));
       oemid_is = refl;
       rsdt_is = refl;
-      xsdt_is = number_there 24 8 xsdt whole (closing opened_whole ∷ 0 ∷ 0 ∷ 0 ∷ []) refl (omega (arith, fits));
+      xsdt_is = number_there 24 8 xsdt whole (checksum_of opened_whole ∷ 0 ∷ 0 ∷ 0 ∷ []) refl (omega (arith, fits));
     }
 
 pub rsdp_written : (oemid : List ℕ) (xsdt : ℕ) → length oemid ≡ 6 → xsdt < 2 ^ 64 → IsWrittenRsdp oemid xsdt (rsdp_bytes oemid xsdt)

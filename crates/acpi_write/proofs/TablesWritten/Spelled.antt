@@ -6,7 +6,7 @@ use Rattle.std.proofs.lemmas.List.{get_or-take, take_at, drop_at}
 use Rattle.std.proofs.lemmas.List.Elements.{All-head, All-tail, All-map, All-contains_itself}
 use Rattle.acpi_base.specs.Header.{head_of}
 use Rattle.acpi_base.specs.Signature.{has_signature}
-use Rattle.acpi_base.specs.Entries.{IsEntry, Standing, Stands, first_entry, entries_from, entries_of, cut_of, said_by}
+use Rattle.acpi_base.specs.Entries.{IsEntry, PlacedEntry, Stands, first_entry, entries_from, entries_of, cut_of, entries_read_by}
 use Rattle.acpi_base.specs.Madt as madt
 use Rattle.acpi_base.specs.Srat as srat
 use Rattle.acpi_base.specs.Slit as slit
@@ -22,7 +22,7 @@ use Rattle.acpi_write.specs.Laws.{WhatIsReadIsSpelled}
 -- ---- from a cut to the entries that stand
 
 -- these entries one after another from an offset on
-abbrev pub standing : ℕ → List (List ℕ) → List (Standing (List ℕ))
+abbrev pub standing : ℕ → List (List ℕ) → List (PlacedEntry (List ℕ))
 standing offset [] = []
 standing offset (e ∷ es) = record { offset = offset; entry = e } ∷ standing (offset + length e) es
 
@@ -48,9 +48,9 @@ entries_again (suc n) offset (e ∷ es) left each joined count =
     let begins = first_is e rest left here (sym joined) in
     let behind : drop (length e) left ≡ rest = ap (drop (length e)) (sym joined) ∙ drop_at e rest (length e) refl in
     let more = entries_again n (offset + length e) es (drop (length e) left) (All-tail IsEntry e es each) (sym behind) (omega (arith, count)) in
-    rw begins (ap (λ (l : List (Standing (List ℕ))). record { offset = offset; entry = e } ∷ l) more)
+    rw begins (ap (λ (l : List (PlacedEntry (List ℕ))). record { offset = offset; entry = e } ∷ l) more)
 
-said_standing : {E : Type 0} (read : List ℕ → E) (offset : ℕ) (es : List (List ℕ)) → entries_in (said_by read (standing offset es)) ≡ map read es
+said_standing : {E : Type 0} (read : List ℕ → E) (offset : ℕ) (es : List (List ℕ)) → entries_in (entries_read_by read (standing offset es)) ≡ map read es
 said_standing read offset [] = refl
 said_standing read offset (e ∷ es) = ap (λ l. read e ∷ l) (said_standing read (offset + length e) es)
 
@@ -64,13 +64,13 @@ few (e ∷ es) each =
     omega (arith, least, rest, length-append e (flat_map (λ x. x) es))
 
 -- of each entry that stands, and so of each of the entries
-each_in : {E : Type 0} (P : E → Type 0) (entries : List (Standing E)) → ((o : ℕ) (e : E) → Stands entries o e → P e) → All P (entries_in entries)
+each_in : {E : Type 0} (P : E → Type 0) (entries : List (PlacedEntry E)) → ((o : ℕ) (e : E) → Stands entries o e → P e) → All P (entries_in entries)
 each_in {E} P entries own =
-    All-map P (λ (s : Standing E). s.entry) entries (λ k d h. own (get_or entries k d).offset (get_or entries k d).entry (All-contains_itself entries k d h))
+    All-map P (λ (s : PlacedEntry E). s.entry) entries (λ k d h. own (get_or entries k d).offset (get_or entries k d).entry (All-contains_itself entries k d h))
 
 -- the entries that stand in a table that they fill are spelled by its bytes
 spelled_entries : {E : Type 0} (read : List ℕ → E) (Own : E → Type 0) (first : ℕ) (whole : List ℕ) → first ≤ length whole → cut_of first whole ≡ None
-    → ((o : ℕ) (e : E) → Stands (said_by read (entries_of first whole)) o e → Own e) → SpellEntries read Own first whole (entries_in (said_by read (entries_of first whole)))
+    → ((o : ℕ) (e : E) → Stands (entries_read_by read (entries_of first whole)) o e → Own e) → SpellEntries read Own first whole (entries_in (entries_read_by read (entries_of first whole)))
 unfolding entries_of
 spelled_entries {E} read Own first whole long filled own =
     let cut = (no_cut_fault first whole).0 filled in
@@ -82,8 +82,8 @@ spelled_entries {E} read Own first whole long filled own =
       long = long;
       es = es;
       cut = cut.1;
-      say = sym (ap (λ l. entries_in (said_by read l)) stand ∙ said_standing read first es);
-      lengths = each_in Own (said_by read (entries_of first whole)) own;
+      say = sym (ap (λ l. entries_in (entries_read_by read l)) stand ∙ said_standing read first es);
+      lengths = each_in Own (entries_read_by read (entries_of first whole)) own;
     }
 
 -- ---- tables

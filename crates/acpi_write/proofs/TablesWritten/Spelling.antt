@@ -22,8 +22,10 @@ use Rattle.acpi_read.specs.declared.srat.SratEntry.{SratEntry}
 use Rattle.acpi_read.specs.declared.srat.SratEntry.TheVariants as srat
 use Rattle.acpi_read.specs.declared.pptt.PpttEntry.{PpttEntry}
 use Rattle.acpi_read.specs.declared.pptt.PpttEntry.TheVariants as pptt
-use Rattle.acpi_write.specs.EntryBytes.{madt_bytes, srat_bytes, pptt_bytes}
-use Rattle.acpi_write.specs.Encoded.{encoded, encoded_length, table_bytes, srat_reserved}
+use Rattle.acpi_read.specs.Madts.{madt_bytes}
+use Rattle.acpi_read.specs.Srats.{srat_bytes}
+use Rattle.acpi_read.specs.Pptts.{pptt_bytes}
+use Rattle.acpi_write.specs.Encoded.{encoded_bytes, encoded_length, table_bytes, srat_reserved}
 use Rattle.acpi_write.specs.Spells.{SaysEntry, DoEntriesSay, SpellEntries, Spells, OneValueSpelled}
 use Rattle.acpi_write.specs.Values.{Madt, Srat, Slit, Pptt, Fadt, Other}
 use Rattle.acpi_write.specs.Views.{head_value, table_value, IsShapedMadt, IsShapedSrat, IsShapedPptt, IsShaped, DoPartsSay}
@@ -83,7 +85,7 @@ reaches first n whole part rest long stands count = omega (arith, long, count, a
 
 -- ---- tables
 
-says : (v : written.TableValue) → IsShaped v → encoded_length (table_value v) < 2 ^ 32 → DoPartsSay v → Spells (table_value v) (encoded (table_value v))
+says : (v : written.TableValue) → IsShaped v → encoded_length (table_value v) < 2 ^ 32 → DoPartsSay v → Spells (table_value v) (encoded_bytes (table_value v))
 says (table.Madt head address flags entries) shaped short say =
     let parts = flat_map madt_bytes (map madt_value entries.items) in
     let body = number_bytes 4 address ++ (number_bytes 4 flags ++ parts) in
@@ -130,7 +132,7 @@ says (table.Fadt head body) shaped short say =
     (is.0, omega (arith, shaped, is.0.least, ap length is.1, length-drop 36 whole), is.1)
 says (table.Other bytes) shaped short say = (shaped, refl)
 
-pub spelled : (v : written.TableValue) (bytes : List ℕ) → IsShaped v → encoded_length (table_value v) < 2 ^ 32 → DoPartsSay v → bytes ≡ encoded (table_value v) → Spells (table_value v) bytes
+pub spelled : (v : written.TableValue) (bytes : List ℕ) → IsShaped v → encoded_length (table_value v) < 2 ^ 32 → DoPartsSay v → bytes ≡ encoded_bytes (table_value v) → Spells (table_value v) bytes
 spelled v bytes shaped short say is = subst (Spells (table_value v)) (sym is) (says v shaped short say)
 
 pub ruleset spelling = (spelled)

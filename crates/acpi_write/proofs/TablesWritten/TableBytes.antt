@@ -2,22 +2,22 @@
 use Rattle.std.proofs.Common.{◌≡◌, ℕ, ◌+◌, ◌-◌, ◌%◌, List, ◌++◌, length, ap, ◌∙◌, arith}
 use Rattle.acpi_base.specs.Number.{byte_sum}
 use Rattle.acpi_base.specs.Header.{HeadValue, header_with, header_bytes}
-use Rattle.acpi_write.specs.Encoded.{closing, table_bytes}
+use Rattle.acpi_write.specs.Encoded.{checksum_of, table_bytes}
 use Rattle.acpi_write.proofs.TablesWritten.Sums.{sum-append}
 
-pub closing_of : (xs ys : List ℕ) → closing (xs ++ ys) ≡ (0 + (256 - (byte_sum xs + byte_sum ys) % 256)) % 256
-unfolding closing byte_sum
+pub closing_of : (xs ys : List ℕ) → checksum_of (xs ++ ys) ≡ (0 + (256 - (byte_sum xs + byte_sum ys) % 256)) % 256
+unfolding checksum_of byte_sum
 closing_of xs ys = omega (arith, sum-append xs ys)
 
-pub closing_alone : (xs : List ℕ) → (0 + (256 - byte_sum xs)) % 256 ≡ closing xs
-unfolding closing
+pub closing_alone : (xs : List ℕ) → (0 + (256 - byte_sum xs)) % 256 ≡ checksum_of xs
+unfolding checksum_of
 closing_alone xs = omega arith
 
 pub encoded : (signature : List ℕ) (head : HeadValue) (body opened front items : List ℕ) (checksum : ℕ) → opened ≡ header_bytes (header_with signature (36 + length body) 0 head)
-    → checksum ≡ closing (opened ++ body) → front ≡ header_bytes (header_with signature (36 + length body) checksum head) → items ≡ front ++ body → items ≡ table_bytes signature head body
+    → checksum ≡ checksum_of (opened ++ body) → front ≡ header_bytes (header_with signature (36 + length body) checksum head) → items ≡ front ++ body → items ≡ table_bytes signature head body
 unfolding table_bytes
 encoded signature head body opened front items checksum o k f i =
     i
-    ∙ ap (λ (x : List ℕ). x ++ body) (f ∙ ap (λ (c : ℕ). header_bytes (header_with signature (36 + length body) c head)) (k ∙ ap (λ (x : List ℕ). closing (x ++ body)) o))
+    ∙ ap (λ (x : List ℕ). x ++ body) (f ∙ ap (λ (c : ℕ). header_bytes (header_with signature (36 + length body) c head)) (k ∙ ap (λ (x : List ℕ). checksum_of (x ++ body)) o))
 
 pub ruleset encoded_bytes = (closing_of, encoded)

@@ -5,7 +5,7 @@ use Rattle.acpi_base.specs.Header.{HeadValue, HeaderValue, header_of, header_wit
 use Rattle.acpi_base.specs.Listed.{fadt_signature, madt_signature, srat_signature, slit_signature, pptt_signature}
 use Rattle.acpi_base.specs.Signature.{has_signature, xsdt_signature}
 use Rattle.acpi_base.proofs.Layouts.Headers.{header_of-header_bytes, head_of-header_bytes, drop-header_bytes, length-header_and_body}
-use Rattle.acpi_write.specs.Encoded.{closing, table_bytes, FitsHead}
+use Rattle.acpi_write.specs.Encoded.{checksum_of, table_bytes, FitsHead}
 use Rattle.acpi_write.specs.Spells.{IsTableOf}
 use Rattle.acpi_write.proofs.TablesWritten.Sums.{sum-append, sum-cons, closes, closing_below}
 
@@ -39,7 +39,7 @@ table_sum : (signature : List ℕ) (head : HeadValue) (body : List ℕ) → byte
 unfolding table_bytes
 table_sum signature head body =
     let opened = header_bytes (header_with signature (36 + length body) 0 head) ++ body in
-    closes opened _ (header_sum signature head (36 + length body) (closing opened) body (closing_below opened))
+    closes opened _ (header_sum signature head (36 + length body) (checksum_of opened) body (closing_below opened))
 
 -- the bytes begin with the signature
 front : (signature : List ℕ) (head : HeadValue) (body : List ℕ) → (rest : List ℕ) × (table_bytes signature head body ≡ signature ++ rest)
@@ -51,14 +51,14 @@ is_table : (signature : List ℕ) (head : HeadValue) (body : List ℕ) → ((res
 unfolding table_bytes header_of
 is_table signature head body signed fits =
     let opened = header_bytes (header_with signature (36 + length body) 0 head) ++ body in
-    let v = header_with signature (36 + length body) (closing opened) head in
-    let wide = fits_header signature head body (closing opened) (closing_below opened) fits in
+    let v = header_with signature (36 + length body) (checksum_of opened) head in
+    let wide = fits_header signature head body (checksum_of opened) (closing_below opened) fits in
     let count = length-header_and_body v body wide in
     let begins = front signature head body in (
       record {
         least = omega (arith, count);
         signed = ap (λ (bs : List ℕ). has_signature bs signature) begins.1 ∙ signed begins.0;
-        head_is = head_of-header_bytes signature (36 + length body) (closing opened) head body wide;
+        head_is = head_of-header_bytes signature (36 + length body) (checksum_of opened) head body wide;
         size = ap (λ (h : HeaderValue). h.length) (header_of-header_bytes v body wide) ∙ sym count;
         zero_sum = table_sum signature head body;
       },

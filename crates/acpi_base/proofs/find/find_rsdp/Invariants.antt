@@ -1,5 +1,5 @@
 use Rattle.std.proofs.Common.{ℕ, ◌+◌, ◌*◌, ◌<◌}
-use Rattle.acpi_base.specs.Found.{IsSearched, LooksLikeRsdp}
+use Rattle.acpi_base.specs.RsdpSearch.{IsSearched, LooksLikeRsdp}
 use Rattle.acpi_base.proofs.find.find_rsdp.Given as goal
 
 -- nothing looks like an RSDP below the address at hand

@@ -6,4 +6,4 @@ use Rattle.acpi_check.proofs.interrupts.apart_interrupts.Goals as goal
 pub overflow_cast-result : goal.overflow_cast-result
 overflow_cast-result c =
     let first = rw c.in-At.is at c.in_ok-first_gsi_clash.ensures in
-    omega (arith, gsi_clash_fits c.args.policy.now (madt_contents c.args.table) _ _ c.in-At.point c.requires first)
+    omega (arith, gsi_clash_fits c.args.policy.now (madt_contents c.args.madt.now) _ _ c.in-At.point c.requires first)

@@ -1,28 +1,19 @@
-use Rattle.std.proofs.Common.{◌<◌, length, refl, sym, ◌∙◌, arith}
-use Rattle.acpi_read.specs.Entries.{entry_value}
-use Rattle.acpi_check.proofs.EntryPasses.TypedPass.{at_first, at_next, stops, ends, short_untyped}
+use Rattle.std.proofs.Common.{◌≡◌, true, sym, ◌∙◌}
+use Rattle.acpi_base.specs.Madt.{madt_contents}
+use Rattle.acpi_check.specs.Leaves.{is_typed}
+use Rattle.acpi_check.proofs.EntryPasses.Kept.{madt_rising}
+use Rattle.acpi_check.proofs.EntryPasses.Passes.{none_passed, past}
+use Rattle.acpi_check.proofs.EntryPasses.TypedPass.{stops, ends}
 use Rattle.acpi_check.proofs.leaves.is_wholly_typed.Goals as goal
 
-pub returns-in_default : goal.returns-in_default
-returns-in_default c =
-    let short : length c.args.table < 44 = grind (arith, c.in_default.ensures.ok, c.in_default.not-Ok) in
-    short_untyped c.args.table short
-
-pub loop-entry-init : goal.loop-entry-init
-loop-entry-init c = rw c.in-Ok.ensures.entries (at_first c.args.table, refl)
+pub loop-at-init : goal.loop-at-init
+loop-at-init c = rw c.entries-entries.ensures.entries (none_passed 44 (λ o e. is_typed e ≡ true) (madt_rising c.args.madt.now))
 
 pub returns-then-not-is_typed : goal.returns-then-not-is_typed
-returns-then-not-is_typed c =
-    let steps = c.in-Some.ensures.steps in
-    stops c.args.table (entry_value c.in-Some.entry) c.next.new.self.entries (rw steps.0 at c.loop-entry.invariant.0) (sym c.is_typed.ensures ∙ c.if-not-is_typed.true)
+returns-then-not-is_typed c = stops (madt_contents c.args.madt.now) _ _ (rw c.in-Some.ensures.steps.0 at c.loop-at.invariant) (sym c.is_typed.ensures ∙ c.if-not-is_typed.true)
 
-pub loop-entry-preserved : goal.loop-entry-preserved
-loop-entry-preserved c =
-    let steps = c.in-Some.ensures.steps in
-    (at_next c.args.table (entry_value c.in-Some.entry) c.next.new.self.entries (rw steps.0 at c.loop-entry.invariant.0) (sym c.is_typed.ensures ∙ c.if-not-is_typed.false), steps.1 ∙ c.loop-entry.invariant.1)
+pub loop-at-preserved : goal.loop-at-preserved
+loop-at-preserved c = past (rw c.in-Some.ensures.steps.0 at c.loop-at.invariant) (sym c.is_typed.ensures ∙ c.if-not-is_typed.false)
 
 pub returns : goal.returns
-returns c =
-    let steps = c.in_default-next.ensures.steps in
-    let cut = rw steps.0.1 at c.cut.ensures in
-    ends c.args.table (c.in-Ok.ensures.ok.0 refl) (rw steps.0.0 at c.loop-entry.invariant.0) c.cut.result (cut ∙ steps.1 ∙ c.loop-entry.invariant.1) c.is_none.result c.is_none.ensures
+returns c = ends c.args.madt.now c.entries-entries.ensures.filled (rw c.in_default.ensures.steps.0 at c.loop-at.invariant)

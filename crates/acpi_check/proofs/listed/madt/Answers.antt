@@ -1,14 +1,14 @@
 use Rattle.acpi_base.specs.Madt.{madt_contents, IsSoundMadt, MadtFault}
 use Rattle.acpi_base.specs.declared.stage.Stage.TheVariants as stage
 use Rattle.acpi_base.specs.declared.table_kind.TableKind.TheVariants as kind
-use Rattle.acpi_check.proofs.WholeSets.TablesLifted.{first_listed, none_listed, of_none, of_faults}
+use Rattle.acpi_check.proofs.WholeSets.TablesLifted.{listed_of_first, none_listed, of_none, of_faults}
 use Rattle.acpi_check.proofs.listed.madt.Goals as goal
 
 pub returns-in_default : goal.returns-in_default
-returns-in_default c = (of_none _ (none_listed c.requires.tables.tables kind.Madt c.first.ensures c.in_default.is), tt)
+returns-in_default c = (of_none _ (none_listed c.requires.tables.listed.tables kind.Madt c.first.ensures c.in_default.is), tt)
 
 pub returns : goal.returns
 returns c =
     let set = c.args.set.now in
     of_faults stage.Madt (λ whole. IsSoundMadt set.policy.now (madt_contents whole)) (λ whole. MadtFault set.policy.now (madt_contents whole)) (λ all. all)
-    (λ v. (λ h. h, λ h. h)) (λ v least. least) c.requires.clean (first_listed c.requires.tables.tables kind.Madt c.first.ensures c.in-Some.is) c.sound_madt.result c.sound_madt.ensures
+    (λ v. (λ h. h, λ h. h)) (λ v least. least) c.requires.clean (listed_of_first c.requires.tables.listed.tables kind.Madt c.first.ensures c.in-Some.is) c.sound_madt.result c.sound_madt.ensures

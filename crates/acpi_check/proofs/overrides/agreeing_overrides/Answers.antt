@@ -1,27 +1,16 @@
-use Rattle.std.proofs.Common.{◌<◌, length, sym, inl, inr, true≢false}
-use Rattle.std.proofs.lemmas.Bool.{cases_lt}
-use Rattle.acpi_check.proofs.EntryPasses.OverridesPass.{at_first, at_next, stops, ends_agree, short_agree}
+use Rattle.acpi_base.specs.Madt.{madt_contents}
+use Rattle.acpi_check.proofs.EntryPasses.OverridesPass.{at_first, at_next, stops, ends_agree}
 use Rattle.acpi_check.proofs.overrides.agreeing_overrides.Goals as goal
 
-pub returns-in_default-clause-settled : goal.returns-in_default-clause-settled
-returns-in_default-clause-settled c =
-    let short : length c.args.table < 44 = elim (cases_lt (length c.args.table) 44) [ inl short ↦ short | inr long ↦ absurd (true≢false (sym (c.in_default.ensures.ok.1 long))) ] in
-    short_agree c.args.table short
+pub loop-at-init : goal.loop-at-init
+loop-at-init c = rw c.entries-entries.ensures.entries (at_first 256 c.args.madt.now)
 
-pub loop-entry-init : goal.loop-entry-init
-loop-entry-init c = rw c.in-Ok.ensures.entries (at_first 256 c.args.table)
-
-pub loop-entry-preserved : goal.loop-entry-preserved
-loop-entry-preserved c =
-    let steps = c.in-Some.ensures.steps in
-    at_next c.args.table _ c.next.new.self.entries c.loop-entry.firsts c.pass_entry.new.firsts (rw steps.0 at c.loop-entry.invariant) c.in_default-pass_entry.ensures
+pub loop-at-preserved : goal.loop-at-preserved
+loop-at-preserved c = at_next (madt_contents c.args.madt.now) _ _ c.loop-at.firsts c.pass_entry.new.firsts (rw c.in-Some.ensures.steps.0 at c.loop-at.invariant) c.in_default-pass_entry.ensures
 
 pub returns-in-Some-pass_entry-clause-settled : goal.returns-in-Some-pass_entry-clause-settled
 returns-in-Some-pass_entry-clause-settled c =
-    let steps = c.in-Some.ensures.steps in
-    stops c.args.table _ c.next.new.self.entries c.loop-entry.firsts c.pass_entry.new.firsts c.in-Some-pass_entry.fault (rw steps.0 at c.loop-entry.invariant) c.in-Some-pass_entry.ensures
+    stops (madt_contents c.args.madt.now) _ _ c.loop-at.firsts c.pass_entry.new.firsts c.in-Some-pass_entry.fault (rw c.in-Some.ensures.steps.0 at c.loop-at.invariant) c.in-Some-pass_entry.ensures
 
 pub returns-clause-settled : goal.returns-clause-settled
-returns-clause-settled c =
-    let steps = c.in_default-next.ensures.steps in
-    ends_agree c.args.table c.loop-entry.firsts (rw steps.0.0 at c.loop-entry.invariant)
+returns-clause-settled c = ends_agree (madt_contents c.args.madt.now) c.loop-at.firsts (rw c.in_default.ensures.steps.0 at c.loop-at.invariant)

@@ -6,4 +6,4 @@ use Rattle.acpi_check.proofs.ranges.apart_ranges.Goals as goal
 pub overflow_cast-result : goal.overflow_cast-result
 overflow_cast-result c =
     let first = rw c.in-At.is at c.in_ok-first_overlap.ensures in
-    omega (arith, overlap_fits c.args.hotplug (srat_contents c.args.table) _ _ c.in-At.point c.requires first)
+    omega (arith, overlap_fits c.args.hotplug (srat_contents c.args.srat.now) _ _ c.in-At.point c.requires first)

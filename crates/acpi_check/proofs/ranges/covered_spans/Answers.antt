@@ -1,28 +1,14 @@
-use Rattle.std.proofs.Common.{◌<◌, [], map, length, refl, sym, arith, ◌∙◌, ap}
-use Rattle.std.proofs.lemmas.List.{append-nil}
-use Rattle.acpi_read.specs.Entries.{entry_value}
-use Rattle.acpi_check.proofs.EntryPasses.Kept.{next_inside, none_of_short}
-use Rattle.acpi_check.proofs.Spans.RangeClashes.{kind_spans}
-use Rattle.std.specs.Option.{option_map}
-use Rattle.acpi_base.specs.Srat.{srat_entry}
-use Rattle.acpi_check.specs.Gathered.{span_value, covered}
+use Rattle.std.proofs.Common.{rules, refl, arith}
+use Rattle.acpi_read.specs.Srats.{srat_value}
+use Rattle.acpi_check.specs.RangeSpans.{span_value, covered_span}
 use Rattle.acpi_check.specs.RangeKinds.{counts}
-use Rattle.acpi_check.proofs.EntryPasses.Skipped.{none_kept, one_came}
+use Rattle.acpi_check.proofs.EntryPasses.Collecting.{gathered}
+use Rattle.acpi_check.proofs.EntryPasses.Kept.{srat_inside}
+use Rattle.acpi_check.proofs.Spans.RangeClashes.{kind_spans}
 use Rattle.acpi_check.proofs.ranges.covered_spans.Goals as goal
 
-pub covered_span-requires : goal.covered_span-requires
-covered_span-requires c = omega (arith, c.bytes.ensures.count, next_inside 48 c.args.table (map entry_value c.loop-entry.yielded) _ _ (entry_value c.in-Some.entry) c.loop-entry.invariant.1 c.in-Some.ensures.steps.0)
-
-pub returns-in_default : goal.returns-in_default
-returns-in_default c =
-    let short : length c.args.table < 48 = grind (arith, c.in_default.ensures.ok, c.in_default.not-Ok) in
-    kind_spans c.args.kind c.args.table [] c.new-spans.result.items (sym (none_of_short 48 c.args.table short)) (rw (c.new-spans.ensures.items) refl)
+pub collected-requires : goal.collected-requires
+collected-requires c = λ _. ((refl, tt), λ at here _ _ _ _. omega (arith, c.entries.ensures.size, srat_inside c.args.srat.now _ (rw c.entries.ensures.entries at here)))
 
 pub returns : goal.returns
-returns c = kind_spans c.args.kind c.args.table (map entry_value c.loop-entry.yielded) c.loop-entry.spans.items (grind (arith, append-nil, c.loop-entry.invariant.1, c.in-None.ensures.steps)) c.loop-entry.invariant.0
-
-pub loop-entry-preserved : goal.loop-entry-preserved
-loop-entry-preserved c =
-    let i = c.loop-entry.invariant in
-    let none = sym c.covered_span.ensures ∙ ap (option_map span_value) c.in_default-covered_span.is in
-    (i.0 ∙ none_kept entry_value srat_entry (λ s. covered (counts c.args.kind) s.offset s.entry) c.loop-entry.yielded c.in-Some.entry none, one_came entry_value c.loop-entry.yielded c.in-Some.entry _ c.next.new.self.entries _ i.1 c.in-Some.ensures.steps.0)
+returns c = gathered srat_value span_value (λ s. covered_span (counts c.args.kind) s.offset s.entry) _ c.collected.result c.collected.ensures c.entries.ensures.entries (λ at picked here answers. search rules) (kind_spans c.args.kind c.args.srat.now)

@@ -5,36 +5,36 @@ use Rattle.acpi_check.proofs.references.own_fault.Goals as goal
 
 pub returns-in-Some-first_dangling : goal.returns-in-Some-first_dangling
 returns-in-Some-first_dangling c =
-    let head = c.in-Ok-Node.head in
-    let references = c.in-Ok-Node.references.now in
+    let head = c.in-Node.head in
+    let references = c.in-Node.references.now in
     let number = c.in-Some-first_dangling.number in
     let resource = c.in-Some-first_dangling.resource in
-    let parent = rw c.deref.ensures.value at c.in_default-link_fault.ensures in
-    let found = rw c.deref-in-Ok-Node.ensures.value at c.in-Some-first_dangling.ensures in
-    rw (← c.in-Ok-Node.ensures.ok, c.in-Ok-Node.field-0-is, c.from.ensures, c.from-in-Some-first_dangling.ensures)
-    (refl, resource_first c.args.places.now (node_value head references) references head.count c.args.entry.now.offset number resource refl parent found.0 found.1 found.2 found.3)
+    let parent = rw c.deref.ensures.value at c.in_default.ensures in
+    let found = rw c.deref-in-Node.ensures.value at c.in-Some-first_dangling.ensures in
+    rw (c.in-Node.is, c.from.ensures, c.from-in-Some-first_dangling.ensures)
+    (refl, resource_first c.args.places.now (node_value head references) references head.count c.args.at.now.offset number resource refl parent found.0 found.1 found.2 found.3)
 
 pub returns-in-None : goal.returns-in-None
 returns-in-None c =
-    let head = c.in-Ok-Node.head in
-    let references = c.in-Ok-Node.references.now in
-    let parent = rw c.deref.ensures.value at c.in_default-link_fault.ensures in
-    let all = rw c.deref-in-Ok-Node.ensures.value at c.in-None.ensures in
-    rw (← c.in-Ok-Node.ensures.ok, c.in-Ok-Node.field-0-is) (node_sound c.args.places.now (node_value head references) references head.count refl parent all)
+    let head = c.in-Node.head in
+    let references = c.in-Node.references.now in
+    let parent = rw c.deref.ensures.value at c.in_default.ensures in
+    let all = rw c.deref-in-Node.ensures.value at c.in-None.ensures in
+    rw c.in-Node.is (node_sound c.args.places.now (node_value head references) references head.count refl parent all)
 
-pub returns-in-Ok-Cache24 : goal.returns-in-Ok-Cache24
-returns-in-Ok-Cache24 c =
-    rw (← c.in-Ok-Cache24.ensures.ok, c.in-Ok-Cache24.field-0-is)
-    (cache_link c.args.places.now (cache24_value c.in-Ok-Cache24.cache) c.args.entry.now.offset c.link_fault-in-Ok-Cache24.result (rw c.deref-in-Ok-Cache24.ensures.value at c.link_fault-in-Ok-Cache24.ensures))
+pub returns-in-Cache24 : goal.returns-in-Cache24
+returns-in-Cache24 c =
+    rw c.in-Cache24.is
+    (cache_link c.args.places.now (cache24_value c.in-Cache24.cache) c.args.at.now.offset c.link_fault-in-Cache24.result (rw c.deref-in-Cache24.ensures.value at c.link_fault-in-Cache24.ensures))
 
-pub returns-in-Ok-Cache28 : goal.returns-in-Ok-Cache28
-returns-in-Ok-Cache28 c =
-    rw (← c.in-Ok-Cache28.ensures.ok, c.in-Ok-Cache28.field-0-is)
-    (cache_link c.args.places.now (cache28_value c.in-Ok-Cache28.cache) c.args.entry.now.offset c.link_fault-in-Ok-Cache28.result (rw c.deref-in-Ok-Cache28.ensures.value at c.link_fault-in-Ok-Cache28.ensures))
+pub returns-in-Cache28 : goal.returns-in-Cache28
+returns-in-Cache28 c =
+    rw c.in-Cache28.is
+    (cache_link c.args.places.now (cache28_value c.in-Cache28.cache) c.args.at.now.offset c.link_fault-in-Cache28.result (rw c.deref-in-Cache28.ensures.value at c.link_fault-in-Cache28.ensures))
 
 pub returns-in-Some : goal.returns-in-Some
 returns-in-Some c =
-    let head = c.in-Ok-Node.head in
+    let head = c.in-Node.head in
     let found = rw c.deref.ensures.value at c.in-Some.ensures in
-    rw (← c.in-Ok-Node.ensures.ok, c.in-Ok-Node.field-0-is, found.0)
-    (refl, parent_first c.args.places.now (node_value head c.in-Ok-Node.references.now) c.args.entry.now.offset found.1 found.2)
+    rw (c.in-Node.is, found.0)
+    (refl, parent_first c.args.places.now (node_value head c.in-Node.references.now) c.args.at.now.offset found.1 found.2)

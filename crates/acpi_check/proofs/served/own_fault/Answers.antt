@@ -1,13 +1,13 @@
 use Rattle.std.proofs.Common.{refl, sym, ◌∙◌, ap, subst, Some}
 use Rattle.std.proofs.lemmas.Option.{same_Some}
-use Rattle.acpi_check.specs.Served.{IsHeld}
+use Rattle.acpi_check.specs.Served.{IsInSpans}
 use Rattle.acpi_check.proofs.served.own_fault.Goals as goal
 
-pub returns-then-is_held : goal.returns-then-is_held
-returns-then-is_held c =
+pub returns-then-is_in_spans : goal.returns-then-is_in_spans
+returns-then-is_in_spans c =
     λ n is.
     let same = same_Some c.in_ok-gsi.gsi n (sym c.in_ok-gsi.was ∙ c.named_gsi.ensures ∙ is) in
-    subst (IsHeld c.args.spans.now) (c.from.ensures ∙ same) c.if-is_held.ensures
+    subst (IsInSpans c.args.spans.now) (c.from.ensures ∙ same) c.if-is_in_spans.ensures
 
 pub returns : goal.returns
 returns c =
@@ -16,5 +16,5 @@ returns c =
       at = refl;
       other = refl;
       names = sym c.named_gsi.ensures ∙ c.in_ok-gsi.was ∙ ap Some (sym c.from-2.ensures);
-      unknown = rw (c.from-2.ensures, ← c.from.ensures) c.if-is_held.ensures;
+      unknown = rw (c.from-2.ensures, ← c.from.ensures) c.if-is_in_spans.ensures;
     }

@@ -33,20 +33,19 @@ loop-k-preserved c =
     firsts_more c.args.image.now root c.loop-k.k c.slot-address.result table.0 c.in-Ok.table c.loop-k.firsts c.add.new.self slot (c.in-Ok.ensures.ok.0 refl) table.1 c.add.ensures.tables c.loop-k.invariant
 
 pub returns-in-Err : goal.returns-in-Err
-returns-in-Err c =
+returns-in-Err c = λ q clean is.
     let root = c.args.root.now in
     let slot = slot_at root c.loop-k.k c.slot-address.result c.slots-k-end.result (λ j. (c.slots-k-end.ensures.inside j).0) c.loop-k-test.true c.slot-address.ensures c.if-address-eq0.false in
     let read = c.in-Err.ensures in
-    let first = first_table_fault c.args.image.now c.args.policy.now root c.in-Err.code c.loop-k.k c.slot-address.result c.requires.clean c.requires.root slot read.stage read.fault read.least c.loop-k.invariant.sound in
+    let first = first_table_fault c.args.image.now q root c.in-Err.code c.loop-k.k c.slot-address.result clean is slot read.stage read.fault read.least c.loop-k.invariant.sound in
     rw c.listed_fault.ensures (first, read.stage)
 
 pub returns : goal.returns
-returns c =
+returns c = λ q clean is.
     let m = c.args.image.now in
-    let p = c.args.policy.now.rsdp in
     let root = c.args.root.now in
     let below : (j a : ℕ) → HasSlot root.bytes root.width j a → j < c.loop-k.k = λ j a slot. slots_end root j a c.slots-k-end.result c.loop-k.k (λ i. (c.slots-k-end.ensures.inside i).1) c.loop-k-test.false slot in
     let sound : (j a : ℕ) → HasSlot root.bytes root.width j a → IsSoundTable m a = λ j a slot. c.loop-k.invariant.sound j a (below j a slot) slot in (
-      λ k a slot. sound k a (slot_of_root m p root.address root.width k a root.bytes c.requires.root.named c.requires.root.sound.table slot),
-      firsts_all m p c.loop-k.k root c.loop-k.firsts c.requires.root below c.loop-k.invariant,
+      λ k a slot. sound k a (slot_of_root m q.rsdp root.address root.width k a root.bytes is.named is.sound.table slot),
+      firsts_all m q.rsdp c.loop-k.k root c.loop-k.firsts is below c.loop-k.invariant,
     )

@@ -1,4 +1,4 @@
-use Rattle.acpi_check.specs.Tables.{AreFirstBelow}
+use Rattle.acpi_check.specs.FirstBelow.{AreFirstBelow}
 use Rattle.acpi_check.proofs.tables.sound_tables.Given as goal
 
 -- of the slots so far the tables are sound and the first ones kept

@@ -1,4 +1,5 @@
-use Rattle.std.proofs.Common.{◌≡◌, ◌≤◌, Bool, true, false, refl, subst, arith}
+use Rattle.std.proofs.Common.{◌≤◌, subst, arith}
+use Rattle.std.proofs.lemmas.Bool.{false_from_ne_true}
 use Rattle.acpi_base.specs.Codes.{stage_number}
 use Rattle.acpi_base.specs.Faults.{IsFirstFault}
 use Rattle.acpi_base.specs.declared.stage.Stage.{Stage}
@@ -11,10 +12,6 @@ up_to_last : (s : Stage) → stage_number s ≤ stage_number stage.Leaves
 up_to_last stage.Rsdp = omega arith
 up_to_last _ = omega arith
 
-not_true : (b : Bool) → (b ≡ true → ⊥) → b ≡ false
-not_true true never = absurd (never refl)
-not_true false never = refl
-
 pub returns-clause-first : goal.returns-clause-first
 returns-clause-first c = λ reported.
     let first = subst (IfNo (IsFirstFault c.args.image.now c.args.policy.now)) reported c.in_ok-verdict.ensures.no in
@@ -23,7 +20,7 @@ returns-clause-first c = λ reported.
 pub returns-clause-none : goal.returns-clause-none
 returns-clause-none c = λ yes.
     let clean = c.in_ok-verdict.ensures.yes.0 yes in
-    not_true c.confirm-is_confirmed.result
+    false_from_ne_true c.confirm-is_confirmed.result
     (λ confirmed.
     let fault = c.confirm-is_confirmed.ensures.fault.0 confirmed in
     c.fault_excludes_clean.ensures.excluded c.args.image.now c.args.policy.now c.args.witness.now stage.Leaves fault (up_to_last _) (λ s below. clean s))

@@ -1,18 +1,19 @@
-use Rattle.std.proofs.Common.{◌≡◌, rules, subst, arith}
-use Rattle.acpi_base.specs.Root.{IsSoundRoot}
-use Rattle.acpi_base.specs.Statements.{AreSoundTables, CleanTo}
-use Rattle.acpi_base.specs.declared.stage.Stage.TheVariants as stage
+use Rattle.std.proofs.Common.{inl, inr, refl}
+use Rattle.acpi_base.specs.Policy.{with_rsdp}
+use Rattle.acpi_base.specs.declared.verdict.Verdict.TheVariants.{No}
+use Rattle.acpi_check.proofs.ListedSets.{listed_itself}
+use Rattle.acpi_cli.specs.Engine.{shown_policy}
 use Rattle.acpi_cli.proofs.show.show_output.Goals as goal
 
--- the stages up to the listed tables hold
-pub set_text-requires-clause-root : goal.set_text-requires-clause-root
-set_text-requires-clause-root c =
-    let clean : CleanTo stage.Tables c.args.image.now c.unwrap-policy.result = search rules in
-    let here : c.unwrap-policy.result.rsdp ≡ c.in-Some.address = search rules in
-    subst (IsSoundRoot c.args.image.now) here (clean stage.Root (omega arith))
+pub set_text-requires : goal.set_text-requires
+set_text-requires c = listed_itself c.in-Ok.set (c.in-Ok.ensures (with_rsdp shown_policy c.in-Some.address) refl).1
 
-pub set_text-requires-clause-tables : goal.set_text-requires-clause-tables
-set_text-requires-clause-tables c =
-    let clean : CleanTo stage.Tables c.args.image.now c.unwrap-policy.result = search rules in
-    let here : c.unwrap-policy.result.rsdp ≡ c.in-Some.address = search rules in
-    subst (AreSoundTables c.args.image.now) here (clean stage.Tables (omega arith))
+-- the fault of the stages up to the listed tables
+pub returns-in-Err : goal.returns-in-Err
+returns-in-Err c =
+    let found = c.in-Err.ensures (with_rsdp shown_policy c.in-Some.address) refl in
+    inr (refl, inl (record { address = c.in-Some.address; rsdp = c.in-Some.ensures.some; reported = No c.in-Err.fault; judged = (found.0, found.1); line = c.in_ok-bytes-in-Err.ensures; outcome = refl }))
+
+-- these stages hold
+pub returns : goal.returns
+returns c = inl (refl, (c.in-Some.address, c.in-Some.ensures.some, (c.in-Ok.ensures (with_rsdp shown_policy c.in-Some.address) refl).0))

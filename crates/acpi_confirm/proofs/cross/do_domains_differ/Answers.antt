@@ -1,6 +1,6 @@
 use Rattle.std.proofs.Common.{arith}
 use Rattle.std.proofs.lemmas.Bool.Decides.{nat_tests}
-use Rattle.acpi_confirm.proofs.Standing.{differ, test_of_two}
+use Rattle.acpi_confirm.proofs.EntriesAt.{differ, test_of_two}
 use Rattle.acpi_confirm.proofs.cross.do_domains_differ.Goals as goal
 
 pub returns-then-earlier-at : goal.returns-then-earlier-at

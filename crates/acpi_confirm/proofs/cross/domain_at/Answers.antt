@@ -1,6 +1,6 @@
 use Rattle.std.proofs.Common.{rules, tests}
 use Rattle.acpi_base.specs.Srat.{srat_entry, srat_contents}
-use Rattle.acpi_confirm.proofs.Standing.{only_at, only_of}
+use Rattle.acpi_confirm.proofs.EntriesAt.{only_at, only_of}
 use Rattle.acpi_confirm.proofs.cross.domain_at.Goals as goal
 
 pub returns : goal.returns

@@ -1,6 +1,6 @@
 use Rattle.std.proofs.Common.{rules, tests}
 use Rattle.acpi_base.specs.Madt.{IsEnabledProcessor, madt_entry, madt_contents}
-use Rattle.acpi_confirm.proofs.Standing.{found}
+use Rattle.acpi_confirm.proofs.EntriesAt.{found}
 use Rattle.acpi_confirm.proofs.cross.has_enabled.Goals as goal
 
 pub returns : goal.returns

@@ -1,7 +1,7 @@
 use Rattle.std.proofs.Common.{rules, tests}
 use Rattle.acpi_base.specs.Across.{IsIoApic}
 use Rattle.acpi_base.specs.Madt.{madt_entry, madt_contents}
-use Rattle.acpi_confirm.proofs.Standing.{found}
+use Rattle.acpi_confirm.proofs.EntriesAt.{found}
 use Rattle.acpi_confirm.proofs.cross.has_io_apic.Goals as goal
 
 pub returns : goal.returns

@@ -2,7 +2,7 @@ use Rattle.std.proofs.Common.{rules, tests}
 use Rattle.acpi_base.specs.Madt.{madt_entry, madt_contents}
 use Rattle.acpi_confirm.specs.Madts.{ServesGsi}
 use Rattle.acpi_confirm.proofs.Across.{served}
-use Rattle.acpi_confirm.proofs.Standing.{found}
+use Rattle.acpi_confirm.proofs.EntriesAt.{found}
 use Rattle.acpi_confirm.proofs.cross.is_served.Goals as goal
 
 pub returns : goal.returns

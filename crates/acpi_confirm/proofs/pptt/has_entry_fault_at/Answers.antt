@@ -1,6 +1,6 @@
 use Rattle.std.proofs.Common.{rules, tests}
 use Rattle.acpi_base.specs.Pptt.{pptt_entry, pptt_contents}
-use Rattle.acpi_confirm.proofs.Standing.{test_at}
+use Rattle.acpi_confirm.proofs.EntriesAt.{test_at}
 use Rattle.acpi_confirm.proofs.pptt.has_entry_fault_at.Goals as goal
 
 pub returns-in-PpttEntryLength : goal.returns-in-PpttEntryLength

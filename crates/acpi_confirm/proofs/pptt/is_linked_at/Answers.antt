@@ -1,6 +1,6 @@
 use Rattle.acpi_base.specs.Pptt.{pptt_contents}
 use Rattle.acpi_confirm.specs.Links.{Names}
-use Rattle.acpi_confirm.proofs.Standing.{only_some}
+use Rattle.acpi_confirm.proofs.EntriesAt.{only_some}
 use Rattle.acpi_confirm.proofs.pptt.is_linked_at.Goals as goal
 
 pub returns : goal.returns

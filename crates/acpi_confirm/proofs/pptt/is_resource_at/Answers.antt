@@ -2,7 +2,7 @@ use Rattle.std.proofs.Common.{arith}
 use Rattle.std.proofs.lemmas.Bool.Decides.{nat_tests}
 use Rattle.acpi_base.specs.Pptt.{pptt_entry, pptt_contents}
 use Rattle.acpi_confirm.proofs.PpttEntries.{type_of}
-use Rattle.acpi_confirm.proofs.Standing.{test_at}
+use Rattle.acpi_confirm.proofs.EntriesAt.{test_at}
 use Rattle.acpi_confirm.proofs.pptt.is_resource_at.Goals as goal
 
 pub returns : goal.returns

@@ -1,6 +1,6 @@
 use Rattle.std.proofs.Common.{◌≡◌, Some, rules, tests}
 use Rattle.acpi_base.specs.Pptt.{resource_of, pptt_entry, pptt_contents}
-use Rattle.acpi_confirm.proofs.Standing.{test_at}
+use Rattle.acpi_confirm.proofs.EntriesAt.{test_at}
 use Rattle.acpi_confirm.proofs.pptt.names_resource.Goals as goal
 
 pub returns : goal.returns

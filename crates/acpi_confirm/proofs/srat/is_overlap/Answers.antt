@@ -2,7 +2,7 @@ use Rattle.std.proofs.Common.{rules, tests}
 use Rattle.acpi_base.specs.Srat.{srat_contents}
 use Rattle.acpi_confirm.specs.Srats.{AreCompared}
 use Rattle.acpi_confirm.proofs.SratFaults.{overlap}
-use Rattle.acpi_confirm.proofs.Standing.{test_of_two}
+use Rattle.acpi_confirm.proofs.EntriesAt.{test_of_two}
 use Rattle.acpi_confirm.proofs.srat.is_overlap.Goals as goal
 
 pub returns-then-at-other : goal.returns-then-at-other

@@ -1,28 +1,15 @@
-use Rattle.std.proofs.Common.{map, arith}
-use Rattle.std.proofs.lemmas.List.Elements.{All-push}
-use Rattle.acpi_base.specs.Pptt.{pptt_entry, pptt_contents}
-use Rattle.acpi_read.specs.Entries.{entry_value}
+use Rattle.std.proofs.Common.{◌∙◌, ap, get_or}
+use Rattle.acpi_base.specs.Pptt.{pptt_contents, HasOtherPpttLength}
 use Rattle.acpi_read.specs.Pptts.{pptt_value}
-use Rattle.acpi_write.specs.Views.{IsShapedPptt}
-use Rattle.acpi_write.proofs.EntryBytes.EntryReading.{stands_next, read_more, left_more, read_all, pptt_shaped}
+use Rattle.acpi_write.specs.SetValues.{entries_in}
+use Rattle.acpi_write.proofs.EntryBytes.EntryReading.{all_found, pptt_shaped}
 use Rattle.acpi_write.proofs.entry_lists.pptt_entries.Goals as goal
 
-pub unreachable-requires : goal.unreachable-requires
-unfolding pptt_contents
-unreachable-requires c =
-    let stands = stands_next pptt_entry 36 c.args.table (map entry_value c.loop-entry.yielded) _ _ (entry_value c.in-Some.entry) c.loop-entry.invariant.1 c.in-Some.ensures.steps.0 in
-    let refused = c.in_default.ensures.err in
-    let own = rw refused.1 at (c.requires.lengths c.in-Some.entry.offset (pptt_entry c.in-Some.entry.bytes.now) stands) in
-    own refused.2
-
-pub loop-entry-preserved : goal.loop-entry-preserved
-loop-entry-preserved c = (
-  read_more pptt_entry pptt_value entry_value c.loop-entry.yielded c.in-Some.entry c.loop-entry.found.items c.push.new.self.items c.in-Ok.read c.in_ok-push.ensures.items c.loop-entry.invariant.0 c.in-Ok.ensures.ok,
-  left_more entry_value c.loop-entry.yielded c.in-Some.entry _ _ _ c.loop-entry.invariant.1 c.in-Some.ensures.steps.0,
-  rw c.in_ok-push.ensures.items (All-push IsShapedPptt c.loop-entry.found.items c.in-Ok.read c.loop-entry.invariant.2 (pptt_shaped c.in-Ok.read c.in-Some.entry.bytes.now c.in-Some.entry.is_entry c.in-Ok.ensures.ok c.in-Ok.ensures.references c.in-Ok.ensures.length)),
-)
-
 pub returns-clause-entries : goal.returns-clause-entries
-unfolding pptt_contents
-returns-clause-entries c =
-    read_all pptt_entry pptt_value 36 c.args.table c.loop-entry.found.items (map entry_value c.loop-entry.yielded) _ c.loop-entry.invariant.0 c.loop-entry.invariant.1 (grind (arith, c.in-None.ensures.steps))
+returns-clause-entries c = c.in_ok-found.ensures.entries ∙ ap entries_in c.entries.ensures.entries
+
+pub returns-clause-shaped : goal.returns-clause-shaped
+returns-clause-shaped c = λ k d below.
+    let found = c.in_ok-found.found.items in
+    let own = all_found pptt_value (λ e. ¬ HasOtherPpttLength e) found (pptt_contents c.args.pptt.now).entries (returns-clause-entries c) c.entries.ensures.filled.lengths in
+    pptt_shaped (get_or found k d) (c.in_ok-found.ensures.read k d below) (own k d below)

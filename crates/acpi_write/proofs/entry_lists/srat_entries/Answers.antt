@@ -1,28 +1,15 @@
-use Rattle.std.proofs.Common.{map, arith}
-use Rattle.std.proofs.lemmas.List.Elements.{All-push}
-use Rattle.acpi_base.specs.Srat.{srat_entry, srat_contents}
-use Rattle.acpi_read.specs.Entries.{entry_value}
-use Rattle.acpi_read.specs.Srats.{srat_value}
-use Rattle.acpi_write.specs.Views.{IsShapedSrat}
-use Rattle.acpi_write.proofs.EntryBytes.EntryReading.{stands_next, read_more, left_more, read_all, srat_shaped}
+use Rattle.std.proofs.Common.{◌∙◌, ap, get_or}
+use Rattle.acpi_base.specs.Srat.{srat_contents}
+use Rattle.acpi_read.specs.Srats.{srat_value, IsOfOwnLength}
+use Rattle.acpi_write.specs.SetValues.{entries_in}
+use Rattle.acpi_write.proofs.EntryBytes.EntryReading.{all_found, srat_shaped}
 use Rattle.acpi_write.proofs.entry_lists.srat_entries.Goals as goal
 
-pub unreachable-requires-in_default-read : goal.unreachable-requires-in_default-read
-unfolding srat_contents
-unreachable-requires-in_default-read c =
-    let stands = stands_next srat_entry 48 c.args.table (map entry_value c.loop-entry.yielded) _ _ (entry_value c.in-Some.entry) c.loop-entry.invariant.1 c.in-Some.ensures.steps.0 in
-    let refused = c.in_default-read.ensures.err in
-    let own = rw refused.1 at (c.requires.lengths c.in-Some.entry.offset (srat_entry c.in-Some.entry.bytes.now) stands) in
-    own refused.2
-
-pub loop-entry-preserved : goal.loop-entry-preserved
-loop-entry-preserved c = (
-  read_more srat_entry srat_value entry_value c.loop-entry.yielded c.in-Some.entry c.loop-entry.found.items c.push.new.self.items c.in-Ok-read.read c.in_ok-push.ensures.items c.loop-entry.invariant.0 c.in-Ok-read.ensures.ok,
-  left_more entry_value c.loop-entry.yielded c.in-Some.entry _ _ _ c.loop-entry.invariant.1 c.in-Some.ensures.steps.0,
-  rw c.in_ok-push.ensures.items (All-push IsShapedSrat c.loop-entry.found.items c.in-Ok-read.read c.loop-entry.invariant.2 (srat_shaped c.in-Ok-read.read c.in-Some.entry.bytes.now c.in-Some.entry.is_entry c.in-Ok-read.ensures.ok c.in-Ok-read.ensures.length)),
-)
-
 pub returns-clause-entries : goal.returns-clause-entries
-unfolding srat_contents
-returns-clause-entries c =
-    read_all srat_entry srat_value 48 c.args.table c.loop-entry.found.items (map entry_value c.loop-entry.yielded) _ c.loop-entry.invariant.0 c.loop-entry.invariant.1 (grind (arith, c.in-None.ensures.steps))
+returns-clause-entries c = c.in_ok-found.ensures.entries ∙ ap entries_in c.entries.ensures.entries
+
+pub returns-clause-shaped : goal.returns-clause-shaped
+returns-clause-shaped c = λ k d below.
+    let found = c.in_ok-found.found.items in
+    let own = all_found srat_value IsOfOwnLength found (srat_contents c.args.srat.now).entries (returns-clause-entries c) c.entries.ensures.filled.lengths in
+    srat_shaped (get_or found k d) (c.in_ok-found.ensures.read k d below) (own k d below)

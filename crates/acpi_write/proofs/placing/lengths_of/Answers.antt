@@ -1,7 +1,7 @@
 use Rattle.std.proofs.Common.{arith, ◌≡◌, ◌+◌, ◌*◌, ◌++◌, ℕ, length, map, List, [], ◌∷◌, sym, ap, ◌∙◌}
 use Rattle.std.specs.Option.{option_map}
 use Rattle.acpi_write.specs.Encoded.{encoded_length}
-use Rattle.acpi_write.specs.Rebuilt.{listed_option}
+use Rattle.acpi_write.specs.Rebuilt.{option_list}
 use Rattle.acpi_write.specs.Views.{table_value}
 use Rattle.acpi_write.proofs.SetParts.PartLengths.{lengths_are}
 use Rattle.acpi_write.proofs.placing.lengths_of.Goals as goal
@@ -22,10 +22,10 @@ returns c =
     elim c.match-value.branch [
       | in-Some+in_ok-push-3 w ↦
           lengths_are v c.append_lengths.new.lengths.items (length w.in-Some.facs.now ∷ [])
-          (ap (λ o. map length (listed_option (option_map (λ b. b.now) o))) (sym w.in-Some.is))
+          (ap (λ o. map length (option_list (option_map (λ b. b.now) o))) (sym w.in-Some.is))
           (whole ∙ ap (λ (l : List ℕ). l ++ behind) (ap (λ l. l.items) w.lengths-is ∙ w.in_ok-push-3.ensures.items ∙ ap (λ (xs : List ℕ). xs ++ length w.in-Some.facs.now ∷ []) front))
       | in_default w ↦
           lengths_are v c.append_lengths.new.lengths.items []
-          (ap (λ o. map length (listed_option (option_map (λ b. b.now) o))) (sym w.in_default.is))
+          (ap (λ o. map length (option_list (option_map (λ b. b.now) o))) (sym w.in_default.is))
           (whole ∙ ap (λ (l : List ℕ). l ++ behind) (ap (λ l. l.items) w.lengths-is ∙ front))
     ]

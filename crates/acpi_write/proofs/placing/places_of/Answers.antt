@@ -1,8 +1,8 @@
 use Rattle.std.proofs.Common.{◌≡◌, ◌+◌, ◌*◌, ◌++◌, ◌<◌, ◌≤◌, ◌^◌, ℕ, length, Bool, cond, not, List, [], ◌∷◌, ◌/◌, drop, refl, sym, ap, ◌∙◌, arith, inr, append_assoc, true}
 use Rattle.std.proofs.lemmas.List.{append-nil}
 use Rattle.std.specs.Prelude.{is_ok}
-use Rattle.acpi_write.specs.Rebuilt.{places}
-use Rattle.acpi_write.proofs.SetParts.LaidBlocks.{next_place, next_inside, inside_before, no_places, none_inside}
+use Rattle.acpi_write.specs.Rebuilt.{block_places}
+use Rattle.acpi_write.proofs.SetParts.PlacedBlocks.{next_place, next_inside, inside_before, no_places, none_inside}
 use Rattle.acpi_write.proofs.placing.places_of.Goals as goal
 
 pub returns-then-end-clause-refused : goal.returns-then-end-clause-refused
@@ -27,7 +27,7 @@ loop-length-preserved c =
     let low = before.low in
     let fits : next + n ≤ 2 ^ 64 = omega (arith, top) in
     let ok : is_ok c.push.result ≡ true = c.is_err.ensures.negation ∙ ap not c.if-is_err.false in
-    let rest = places ((next + n + 63) / 64 * 64) (drop (i + 1) lengths) in
+    let rest = block_places ((next + n + 63) / 64 * 64) (drop (i + 1) lengths) in
     record {
       low = omega (arith, top);
       found =

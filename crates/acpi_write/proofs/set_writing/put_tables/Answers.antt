@@ -1,6 +1,6 @@
 use Rattle.std.proofs.Common.{◌≡◌, ◌+◌, ℕ, List, length, drop, sym, ap, ◌∙◌, subst, arith}
 use Rattle.acpi_base.specs.Memory.{Memory, with_bytes}
-use Rattle.acpi_write.specs.Rebuilt.{aligned, encoded_with, laid, with_pieces}
+use Rattle.acpi_write.specs.Rebuilt.{aligned_address, encoded_bytes_with, blocks_from, with_blocks}
 use Rattle.acpi_write.specs.SetWriting.{EndsBelow, HasRoom, table_lengths, table_blocks}
 use Rattle.acpi_write.specs.Views.{table_value}
 use Rattle.acpi_write.proofs.SetParts.WrittenParts.{table_step, blocks_step, laid_none, mapped_none}
@@ -33,10 +33,10 @@ loop-k-preserved c = λ a room.
     let bytes = c.in_ok-bytes.bytes.items in
     let step = table_step c.loop-k.image before.0 c.args.places.now c.args.tables.now c.loop-k.k c.index-tables-k.result bytes c.loop-k-test.true c.index-tables-k.is before.1 c.in_ok-bytes.ensures.count in
     let put : c.put.new.image ≡ with_bytes c.loop-k.image before.0 bytes = c.in_ok-put.ensures ∙ (λ i. with_bytes c.loop-k.image (step.place i) (c.deref.ensures.value i)) in
-    let next = aligned (before.0 + length bytes) in (
+    let next = aligned_address (before.0 + length bytes) in (
       next,
       subst (λ (m : Memory). HasRoom m next (drop (c.loop-k.k + 1) c.args.places.now) (drop (c.loop-k.k + 1) (table_lengths c.args.tables.now))) (sym put) step.further,
-      ap (λ (m : Memory). with_pieces m (laid next (drop (c.loop-k.k + 1) (table_blocks c.args.facs c.args.tables.now)))) put
+      ap (λ (m : Memory). with_blocks m (blocks_from next (drop (c.loop-k.k + 1) (table_blocks c.args.facs c.args.tables.now)))) put
           ∙ blocks_step c.loop-k.image before.0 c.args.facs c.args.tables.now c.loop-k.k c.index-tables-k.result bytes c.loop-k-test.true c.index-tables-k.is c.in_ok-bytes.ensures.bytes
           ∙ before.2,
     )
@@ -44,5 +44,5 @@ loop-k-preserved c = λ a room.
 pub returns : goal.returns
 returns c = λ a room.
     let before = c.loop-k.invariant a room in
-    let none = mapped_none (λ t. encoded_with c.args.facs (table_value t)) c.args.tables.now c.loop-k.k (omega (arith, c.loop-k-test.false)) in
-    sym (laid_none c.loop-k.image before.0) ∙ ap (λ (bs : List (List ℕ)). with_pieces c.loop-k.image (laid before.0 bs)) (sym none) ∙ before.2
+    let none = mapped_none (λ t. encoded_bytes_with c.args.facs (table_value t)) c.args.tables.now c.loop-k.k (omega (arith, c.loop-k-test.false)) in
+    sym (laid_none c.loop-k.image before.0) ∙ ap (λ (bs : List (List ℕ)). with_blocks c.loop-k.image (blocks_from before.0 bs)) (sym none) ∙ before.2

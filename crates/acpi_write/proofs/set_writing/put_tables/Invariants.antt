@@ -1,5 +1,5 @@
 use Rattle.std.proofs.Common.{◌≡◌, ℕ, drop}
-use Rattle.acpi_write.specs.Rebuilt.{laid, with_pieces}
+use Rattle.acpi_write.specs.Rebuilt.{blocks_from, with_blocks}
 use Rattle.acpi_write.specs.SetWriting.{HasRoom, table_lengths, table_blocks}
 use Rattle.acpi_write.proofs.set_writing.put_tables.Given as goal
 
@@ -9,4 +9,4 @@ invariant-loop-k l =
     (a : ℕ) → HasRoom l.fn.image a l.places (table_lengths l.tables)
     → (next : ℕ)
     × HasRoom l.image next (drop l.k l.places) (drop l.k (table_lengths l.tables))
-    × (with_pieces l.image (laid next (drop l.k (table_blocks l.facs l.tables))) ≡ with_pieces l.fn.image (laid a (table_blocks l.facs l.tables)))
+    × (with_blocks l.image (blocks_from next (drop l.k (table_blocks l.facs l.tables))) ≡ with_blocks l.fn.image (blocks_from a (table_blocks l.facs l.tables)))

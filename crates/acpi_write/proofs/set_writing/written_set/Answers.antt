@@ -5,8 +5,8 @@ use Rattle.std.specs.Prelude.{slice_index}
 use Rattle.acpi_base.specs.Memory.{Memory, with_bytes}
 use Rattle.acpi_write.specs.Encoded.{encoded_length}
 use Rattle.acpi_write.specs.Placed.{is_narrow}
-use Rattle.acpi_write.specs.Rebuilt.{encoded_with, facs_place, listed_option, place_of_facs, rebuilt}
-use Rattle.acpi_write.specs.SetWriting.{Awaits, EndsBelow}
+use Rattle.acpi_write.specs.Rebuilt.{encoded_bytes_with, facs_place, option_list, place_of_facs, rebuilt_image}
+use Rattle.acpi_write.specs.SetWriting.{IsPartial, EndsBelow}
 use Rattle.acpi_write.specs.Views.{set_value, table_value}
 use Rattle.acpi_write.specs.declared.table_value.TableValue.{TableValue}
 use Rattle.acpi_write.proofs.SetParts.PartsInOrder.{part_count, facs_part, facs_put, no_facs, tables_room, tables_put, narrow_there}
@@ -26,7 +26,7 @@ facs_place-facs_place-requires c =
 pub with_roots-requires-clause-addresses : goal.with_roots-requires-clause-addresses
 with_roots-requires-clause-addresses c =
     let v = set_value c.args.value.now in
-    c.table_places-table_places.ensures ∙ ap (drop (2 + length (listed_option v.facs))) c.requires.places
+    c.table_places-table_places.ensures ∙ ap (drop (2 + length (option_list v.facs))) c.requires.places
 
 pub put-requires-clause-behind : goal.put-requires-clause-behind
 put-requires-clause-behind c =
@@ -59,17 +59,17 @@ put_tables-requires-clause-room c =
     let found = c.args.places.now in
     let image = c.in_ok-image.image in
     let ns = map encoded_length v.tables in
-    let blocks = map (encoded_with (facs_place v base)) v.tables in
-    let awaits : Awaits c.match-value.image found (2 + length (listed_option v.facs)) ns blocks (rebuilt v base) =
+    let blocks = map (encoded_bytes_with (facs_place v base)) v.tables in
+    let awaits : IsPartial c.match-value.image found (2 + length (option_list v.facs)) ns blocks (rebuilt_image v base) =
     elim c.match-value.branch [
       | in-Some+in_ok-put w ↦
           let put = w.image-is ∙ w.in_ok-put.ensures ∙ ap (λ (x : ℕ). with_bytes image x w.in-Some.facs.now) c.facs_place-facs_place.ensures in
-          facs_put v.facs w.in-Some.facs.now image c.match-value.image found ns blocks (rebuilt v base) (ap (option_map (λ b. b.now)) w.in-Some.is) c.in_ok-image.ensures put
+          facs_put v.facs w.in-Some.facs.now image c.match-value.image found ns blocks (rebuilt_image v base) (ap (option_map (λ b. b.now)) w.in-Some.is) c.in_ok-image.ensures put
       | in_default w ↦
-          subst (λ (m : Memory). Awaits m found (2 + length (listed_option v.facs)) ns blocks (rebuilt v base)) (sym w.image-is)
-          (no_facs v.facs image found ns blocks (rebuilt v base) (ap (option_map (λ b. b.now)) w.in_default.is) c.in_ok-image.ensures)
+          subst (λ (m : Memory). IsPartial m found (2 + length (option_list v.facs)) ns blocks (rebuilt_image v base)) (sym w.image-is)
+          (no_facs v.facs image found ns blocks (rebuilt_image v base) (ap (option_map (λ b. b.now)) w.in_default.is) c.in_ok-image.ensures)
     ] in
-    (awaits.a, tables_room c.match-value.image found c.table_places-table_places.result.now (2 + length (listed_option v.facs)) c.args.value.now.tables.items c.deref.result.now blocks (rebuilt v base) awaits c.table_places-table_places.ensures c.deref.ensures.value)
+    (awaits.a, tables_room c.match-value.image found c.table_places-table_places.result.now (2 + length (option_list v.facs)) c.args.value.now.tables.items c.deref.result.now blocks (rebuilt_image v base) awaits c.table_places-table_places.ensures c.deref.ensures.value)
 
 pub returns : goal.returns
 returns c =
@@ -78,16 +78,16 @@ returns c =
     let found = c.args.places.now in
     let image = c.in_ok-image.image in
     let ns = map encoded_length v.tables in
-    let blocks = map (encoded_with (facs_place v base)) v.tables in
-    let awaits : Awaits c.match-value.image found (2 + length (listed_option v.facs)) ns blocks (rebuilt v base) =
+    let blocks = map (encoded_bytes_with (facs_place v base)) v.tables in
+    let awaits : IsPartial c.match-value.image found (2 + length (option_list v.facs)) ns blocks (rebuilt_image v base) =
     elim c.match-value.branch [
       | in-Some+in_ok-put w ↦
           let put = w.image-is ∙ w.in_ok-put.ensures ∙ ap (λ (x : ℕ). with_bytes image x w.in-Some.facs.now) c.facs_place-facs_place.ensures in
-          facs_put v.facs w.in-Some.facs.now image c.match-value.image found ns blocks (rebuilt v base) (ap (option_map (λ b. b.now)) w.in-Some.is) c.in_ok-image.ensures put
+          facs_put v.facs w.in-Some.facs.now image c.match-value.image found ns blocks (rebuilt_image v base) (ap (option_map (λ b. b.now)) w.in-Some.is) c.in_ok-image.ensures put
       | in_default w ↦
-          subst (λ (m : Memory). Awaits m found (2 + length (listed_option v.facs)) ns blocks (rebuilt v base)) (sym w.image-is)
-          (no_facs v.facs image found ns blocks (rebuilt v base) (ap (option_map (λ b. b.now)) w.in_default.is) c.in_ok-image.ensures)
+          subst (λ (m : Memory). IsPartial m found (2 + length (option_list v.facs)) ns blocks (rebuilt_image v base)) (sym w.image-is)
+          (no_facs v.facs image found ns blocks (rebuilt_image v base) (ap (option_map (λ b. b.now)) w.in_default.is) c.in_ok-image.ensures)
     ] in
     let place = c.facs_place-facs_place.ensures ∙ ap (λ (xs : List ℕ). place_of_facs v.facs (slice_index xs 2)) c.requires.places in
-    tables_put c.match-value.image c.put_tables.new.image found c.table_places-table_places.result.now (2 + length (listed_option v.facs)) c.facs_place-facs_place.result (facs_place v base) c.args.value.now.tables.items c.deref.result.now (rebuilt v base)
+    tables_put c.match-value.image c.put_tables.new.image found c.table_places-table_places.result.now (2 + length (option_list v.facs)) c.facs_place-facs_place.result (facs_place v base) c.args.value.now.tables.items c.deref.result.now (rebuilt_image v base)
     awaits c.table_places-table_places.ensures c.deref.ensures.value place c.in_ok-put_tables.ensures

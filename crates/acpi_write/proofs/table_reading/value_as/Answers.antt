@@ -20,11 +20,11 @@ returns-in-Some-Fadt-clause-short c =
 
 pub returns-in-Some-Madt-clause-short : goal.returns-in-Some-Madt-clause-short
 returns-in-Some-Madt-clause-short c =
-    read_short c.read_madt.result (Some kind.Madt) c.args.table.now c.read_madt.ensures.value c.bytes-bytes.ensures.count (as_kind c.args.table.now c.args.kind kind.Madt c.in-Some-Madt.is (rw c.in-Some-Madt.is at c.in-Some-Madt.field-0-is) c.requires.readable)
+    read_short c.read_madt.result (Some kind.Madt) c.args.table.now (rw (c.of.ensures, c.copied.ensures) at c.read_madt.ensures.value) c.bytes-bytes.ensures.count (as_kind c.args.table.now c.args.kind kind.Madt c.in-Some-Madt.is (rw c.in-Some-Madt.is at c.in-Some-Madt.field-0-is) c.requires.readable)
 
 pub returns-in-Some-Srat-clause-short : goal.returns-in-Some-Srat-clause-short
 returns-in-Some-Srat-clause-short c =
-    read_short c.read_srat.result (Some kind.Srat) c.args.table.now c.read_srat.ensures.value c.bytes-bytes.ensures.count (as_kind c.args.table.now c.args.kind kind.Srat c.in-Some-Srat.is (rw c.in-Some-Srat.is at c.in-Some-Srat.field-0-is) c.requires.readable)
+    read_short c.read_srat.result (Some kind.Srat) c.args.table.now (rw (c.of-in-Some-Srat.ensures, c.copied-in-Some-Srat.ensures) at c.read_srat.ensures.value) c.bytes-bytes.ensures.count (as_kind c.args.table.now c.args.kind kind.Srat c.in-Some-Srat.is (rw c.in-Some-Srat.is at c.in-Some-Srat.field-0-is) c.requires.readable)
 
 pub returns-in-Some-Slit-clause-short : goal.returns-in-Some-Slit-clause-short
 returns-in-Some-Slit-clause-short c =
@@ -32,4 +32,4 @@ returns-in-Some-Slit-clause-short c =
 
 pub returns-in-Some-Pptt-clause-short : goal.returns-in-Some-Pptt-clause-short
 returns-in-Some-Pptt-clause-short c =
-    read_short c.read_pptt.result (Some kind.Pptt) c.args.table.now c.read_pptt.ensures.value c.bytes-bytes.ensures.count (as_kind c.args.table.now c.args.kind kind.Pptt c.in-Some-Pptt.is (rw c.in-Some-Pptt.is at c.in-Some-Pptt.field-0-is) c.requires.readable)
+    read_short c.read_pptt.result (Some kind.Pptt) c.args.table.now (rw (c.of-in-Some-Pptt.ensures, c.copied-in-Some-Pptt.ensures) at c.read_pptt.ensures.value) c.bytes-bytes.ensures.count (as_kind c.args.table.now c.args.kind kind.Pptt c.in-Some-Pptt.is (rw c.in-Some-Pptt.is at c.in-Some-Pptt.field-0-is) c.requires.readable)

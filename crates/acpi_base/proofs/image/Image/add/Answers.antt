@@ -1,8 +1,8 @@
 use Rattle.std.proofs.Common.{sym, length}
-use Rattle.acpi_base.specs.Laid.{runs_of}
-use Rattle.acpi_base.specs.Segments.{lookup}
-use Rattle.acpi_base.proofs.Pieces.Searches.{nothing_held}
-use Rattle.acpi_base.proofs.Pieces.Images.{fits_unless}
+use Rattle.acpi_base.specs.Image.Segments.{runs_of}
+use Rattle.acpi_base.specs.Image.Runs.{lookup}
+use Rattle.acpi_base.proofs.Images.Searches.{nothing_held}
+use Rattle.acpi_base.proofs.Images.RunMemory.{fits_unless}
 use Rattle.acpi_base.proofs.image.Image.add.Goals as goal
 
 pub put-requires-clause-free : goal.put-requires-clause-free

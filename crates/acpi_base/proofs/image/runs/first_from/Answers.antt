@@ -1,6 +1,6 @@
 use Rattle.std.proofs.Common.{◌≡◌, ◌∙◌, ℕ, Option, Some, None, is_some, false, refl, sym, ap, arith}
-use Rattle.acpi_base.specs.Laid.{runs_of}
-use Rattle.acpi_base.proofs.Written.Rests.{first_found, last_first, none_at_all}
+use Rattle.acpi_base.specs.Image.Segments.{runs_of}
+use Rattle.acpi_base.proofs.Texts.Written.Rests.{first_found, last_first, none_at_all}
 use Rattle.acpi_base.proofs.image.runs.first_from.Goals as goal
 
 pub returns-in-Some : goal.returns-in-Some

@@ -1,5 +1,5 @@
-use Rattle.acpi_base.specs.Laid.{runs_of}
-use Rattle.acpi_base.proofs.Written.Rests.{next_of}
+use Rattle.acpi_base.specs.Image.Segments.{runs_of}
+use Rattle.acpi_base.proofs.Texts.Written.Rests.{next_of}
 use Rattle.acpi_base.proofs.image.runs.next_run.Goals as goal
 
 pub returns : goal.returns

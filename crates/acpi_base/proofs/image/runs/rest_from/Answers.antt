@@ -1,8 +1,8 @@
 use Rattle.std.proofs.Common.{◌-◌}
 use Rattle.std.proofs.lemmas.List.{take_rest}
-use Rattle.acpi_base.specs.Laid.{runs_of}
-use Rattle.acpi_base.specs.Segments.{run_at}
-use Rattle.acpi_base.proofs.Written.Rests.{rest_held, rest_ends}
+use Rattle.acpi_base.specs.Image.Segments.{runs_of}
+use Rattle.acpi_base.specs.Image.Runs.{run_at}
+use Rattle.acpi_base.proofs.Texts.Written.Rests.{rest_held, rest_ends}
 use Rattle.acpi_base.proofs.image.runs.rest_from.Goals as goal
 
 pub returns-clause-held : goal.returns-clause-held

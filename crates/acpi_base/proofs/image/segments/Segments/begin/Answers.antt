@@ -1,5 +1,5 @@
 use Rattle.std.proofs.Common.{refl, arith}
-use Rattle.acpi_base.proofs.Pieces.Layings.{moved_held, moved_laid, pushed_held, pushed_laid}
+use Rattle.acpi_base.proofs.Images.SegmentOrder.{moved_held, moved_laid, pushed_held, pushed_laid}
 use Rattle.acpi_base.proofs.image.segments.Segments.begin.Goals as goal
 
 pub returns-then-open-eq0-clause-sound : goal.returns-then-open-eq0-clause-sound

@@ -1,7 +1,7 @@
 use Rattle.std.proofs.Common.{arith}
-use Rattle.acpi_base.specs.Laid.{runs_of}
-use Rattle.acpi_base.specs.Segments.{lookup}
-use Rattle.acpi_base.proofs.Pieces.Searches.{first_next}
+use Rattle.acpi_base.specs.Image.Segments.{runs_of}
+use Rattle.acpi_base.specs.Image.Runs.{lookup}
+use Rattle.acpi_base.proofs.Images.Searches.{first_next}
 use Rattle.acpi_base.proofs.image.segments.Segments.first_held.Goals as goal
 
 pub returns-then-next-base : goal.returns-then-next-base

@@ -1,6 +1,6 @@
 use Rattle.std.proofs.Common.{◌≡◌, ◌⊎◌, ◌≤◌, inl, inr, length, subst, arith}
-use Rattle.acpi_base.specs.Laid.{IsPlace}
-use Rattle.acpi_base.proofs.Pieces.Searches.{next_at, next_open, no_next}
+use Rattle.acpi_base.specs.Image.Segments.{IsPartitionPoint}
+use Rattle.acpi_base.proofs.Images.Searches.{next_at, next_open, no_next}
 use Rattle.acpi_base.proofs.image.segments.Segments.next_base.Goals as goal
 use Rattle.acpi_base.proofs.image.segments.Segments.next_base.Goals.{else-self-address-via-then-self-address+else-self-len, else-self-address-via-else-self-address}
 
@@ -19,7 +19,7 @@ returns-then-self-len-clause-some c =
     let store = c.len-then-self-address.ensures in
     let s = c.args.self.now in
     let all : c.place-place.result ≡ length s.ended.items = omega arith in
-    next_open s.store s.ended.items s.base s.start c.args.address c.requires.sound c.requires.free (subst (IsPlace s.ended.items c.args.address) all c.place-place.ensures.place) c.if-self-address.true (omega arith)
+    next_open s.store s.ended.items s.base s.start c.args.address c.requires.sound c.requires.free (subst (IsPartitionPoint s.ended.items c.args.address) all c.place-place.ensures.place) c.if-self-address.true (omega arith)
 
 pub returns-clause-none : goal.returns-clause-none
 returns-clause-none c = λ _.
@@ -32,4 +32,4 @@ returns-clause-none c = λ _.
       | else-self-address-via-then-self-address+else-self-len w ↦ inr (let no = w.if-self-len.false in let store = w.len-then-self-address.ensures in omega arith)
       | else-self-address-via-else-self-address w ↦ inl w.if-self-address.false
     ] in
-    no_next s.store s.ended.items s.base s.start c.args.address c.requires.sound c.requires.free (subst (IsPlace s.ended.items c.args.address) all c.place-place.ensures.place) past
+    no_next s.store s.ended.items s.base s.start c.args.address c.requires.sound c.requires.free (subst (IsPartitionPoint s.ended.items c.args.address) all c.place-place.ensures.place) past

@@ -1,6 +1,6 @@
 use Rattle.std.proofs.Common.{inl, inr, subst, sym, refl, arith}
-use Rattle.acpi_base.specs.Laid.{IsPlace, IsReached, runs_of}
-use Rattle.acpi_base.proofs.Pieces.Searches.{IsBehind, open_run, reached_open, reached_at, none_reached, lies_inside}
+use Rattle.acpi_base.specs.Image.Segments.{IsPartitionPoint, IsRunAt, runs_of}
+use Rattle.acpi_base.proofs.Images.Searches.{IsBehind, open_run, reached_open, reached_at, none_reached, lies_inside}
 use Rattle.acpi_base.proofs.image.segments.Segments.piece_reaching.Goals as goal
 use Rattle.acpi_base.proofs.image.segments.Segments.piece_reaching.Goals.{else-self-address-via-then-self-address+else-self-count, else-self-address-via-else-self-address}
 
@@ -8,7 +8,7 @@ pub returns-then-self-count-clause-reached : goal.returns-then-self-count-clause
 returns-then-self-count-clause-reached c =
     let s = c.args.self.now in
     let long = c.len-count.ensures in
-    subst (IsReached (runs_of s) c.args.address) (sym (open_run s.store s.base s.start _ (omega arith)))
+    subst (IsRunAt (runs_of s) c.args.address) (sym (open_run s.store s.base s.start _ (omega arith)))
     (reached_open s.store s.ended.items s.base s.start c.args.address c.requires c.if-self-address.true)
 
 pub returns-then-place-eq0-clause-reached : goal.returns-then-place-eq0-clause-reached
@@ -19,7 +19,7 @@ returns-then-place-eq0-clause-reached c =
       | else-self-address-via-then-self-address+else-self-count w ↦ inl (let no = w.if-self-count.false in omega arith)
       | else-self-address-via-else-self-address w ↦ inr (let low = w.if-self-address.false in omega arith)
     ] in
-    none_reached s.store s.ended.items s.base s.start c.args.address c.requires behind (subst (IsPlace s.ended.items c.args.address) c.if-place-eq0.true c.place-place.ensures.place)
+    none_reached s.store s.ended.items s.base s.start c.args.address c.requires behind (subst (IsPartitionPoint s.ended.items c.args.address) c.if-place-eq0.true c.place-place.ensures.place)
 
 pub returns-clause-reached : goal.returns-clause-reached
 returns-clause-reached c =

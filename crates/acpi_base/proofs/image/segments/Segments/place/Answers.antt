@@ -1,8 +1,8 @@
 use Rattle.std.proofs.Common.{leb, leb-true, rules}
 use Rattle.std.proofs.lemmas.Bool.{leb-false}
 use Rattle.std.proofs.lemmas.List.Sorted.{IsPartitionPoint-from_clause, IsPartitionedBy-leb}
-use Rattle.acpi_base.specs.Stored.{Piece}
-use Rattle.acpi_base.proofs.Pieces.Searches.{bases_rise}
+use Rattle.acpi_base.specs.Image.Pieces.{Piece}
+use Rattle.acpi_base.proofs.Images.Searches.{bases_rise}
 use Rattle.acpi_base.proofs.image.segments.Segments.place.Goals as goal
 
 pub returns-clause-place : goal.returns-clause-place

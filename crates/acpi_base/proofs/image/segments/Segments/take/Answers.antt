@@ -1,7 +1,7 @@
 use Rattle.std.proofs.Common.{sym, ap, ◌∙◌, arith}
 use Rattle.acpi_base.specs.Memory.{with_bytes}
-use Rattle.acpi_base.specs.Laid.{memory_in}
-use Rattle.acpi_base.proofs.Pieces.Layings.{more_laid, more_held}
+use Rattle.acpi_base.specs.Image.Segments.{memory_in}
+use Rattle.acpi_base.proofs.Images.SegmentOrder.{more_laid, more_held}
 use Rattle.acpi_base.proofs.image.segments.Segments.take.Goals as goal
 
 pub returns-clause-sound : goal.returns-clause-sound

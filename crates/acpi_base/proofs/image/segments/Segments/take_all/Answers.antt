@@ -1,8 +1,8 @@
 use Rattle.std.proofs.Common.{◌≡◌, ◌<◌, ◌≤◌, length, get_or, arith}
 use Rattle.std.proofs.lemmas.List.{get_or_default}
-use Rattle.acpi_base.specs.Stored.{Piece, end_at}
-use Rattle.acpi_base.proofs.Pieces.Stores.{of_all}
-use Rattle.acpi_base.proofs.Pieces.Layings.{left_next, next_left, next_ends}
+use Rattle.acpi_base.specs.Image.Pieces.{Piece, end_at}
+use Rattle.acpi_base.proofs.Images.Stores.{of_all}
+use Rattle.acpi_base.proofs.Images.SegmentOrder.{left_next, next_left, next_ends}
 use Rattle.acpi_base.proofs.image.segments.Segments.take_all.Goals as goal
 
 pub loop-piece-preserved : goal.loop-piece-preserved

@@ -2,10 +2,10 @@ use Rattle.std.proofs.Common.{ℕ, ◌≤◌, drop}
 use Rattle.std.specs.Option.{option_or}
 use Rattle.std.specs.List.{AllByRecursion}
 use Rattle.acpi_base.specs.Memory.{byte_of}
-use Rattle.acpi_base.specs.Segments.{lookup}
-use Rattle.acpi_base.specs.Stored.{end_at, runs_in}
-use Rattle.acpi_base.specs.Laid.{end_in, memory_in}
-use Rattle.acpi_base.proofs.Pieces.Layings.{IsLeft}
+use Rattle.acpi_base.specs.Image.Runs.{lookup}
+use Rattle.acpi_base.specs.Image.Pieces.{end_at, runs_in}
+use Rattle.acpi_base.specs.Image.Segments.{end_in, memory_in}
+use Rattle.acpi_base.proofs.Images.SegmentOrder.{IsLeft}
 use Rattle.acpi_base.proofs.image.segments.Segments.take_all.Given as goal
 
 -- the pieces from here on are left, and those before them end where the segments do or before it

@@ -1,8 +1,8 @@
 use Rattle.std.proofs.Common.{◌≡◌, ◌<◌, ◌+◌, ◌-◌, sym, ap, ◌∙◌, Some, arith}
-use Rattle.acpi_base.specs.Segments.{end_of}
-use Rattle.acpi_base.specs.Stored.{run_in}
-use Rattle.acpi_base.specs.Laid.{runs_of}
-use Rattle.acpi_base.proofs.Pieces.Searches.{part_in, piece_ends, reached_whole, reached_short, free_short}
+use Rattle.acpi_base.specs.Image.Runs.{end_of}
+use Rattle.acpi_base.specs.Image.Pieces.{run_in}
+use Rattle.acpi_base.specs.Image.Segments.{runs_of}
+use Rattle.acpi_base.proofs.Images.Searches.{part_in, piece_ends, reached_whole, reached_short, free_short}
 use Rattle.acpi_base.proofs.image.segments.Segments.window_span.Goals as goal
 use Rattle.acpi_base.proofs.image.segments.Segments.window_span.Goals.{then-skipped-held-via-then-skipped-held, then-skipped-held-via-else-skipped-held+then-count-held}
 

@@ -2,9 +2,9 @@ use Rattle.std.proofs.Common.{◌≡◌, ◌≤◌, length, subst, sym, ap, ◌�
 use Rattle.std.specs.List.{AllByRecursion}
 use Rattle.acpi_base.specs.declared.image.segments.Segments.{Segments}
 use Rattle.acpi_base.specs.Memory.{with_bytes}
-use Rattle.acpi_base.specs.Stored.{Piece}
-use Rattle.acpi_base.specs.Laid.{memory_in}
-use Rattle.acpi_base.proofs.Pieces.Inserts.{parts_at, put_among, put_last}
+use Rattle.acpi_base.specs.Image.Pieces.{Piece}
+use Rattle.acpi_base.specs.Image.Segments.{memory_in}
+use Rattle.acpi_base.proofs.Images.Inserts.{parts_at, put_among, put_last}
 use Rattle.acpi_base.proofs.image.segments.Segments.with.Goals as goal
 use Rattle.acpi_base.proofs.image.segments.Segments.with.Goals.{then-self-store+in_ok-take-2, else-self-store}
 

@@ -1,4 +1,4 @@
-use Rattle.acpi_base.proofs.Pieces.Layings.{nothing_laid, nothing_held_by}
+use Rattle.acpi_base.proofs.Images.SegmentOrder.{nothing_laid, nothing_held_by}
 use Rattle.acpi_base.proofs.image.segments.Segments.with_capacity.Goals as goal
 
 pub returns-clause-sound : goal.returns-clause-sound

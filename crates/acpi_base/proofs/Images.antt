@@ -1,0 +1,13 @@
+pub mod Bitmaps
+pub mod Builders
+pub mod ByteRuns
+pub mod HeldBytes
+pub mod Holders
+pub mod Inserts
+pub mod LeastAddresses
+pub mod RunBytes
+pub mod RunMemory
+pub mod Searches
+pub mod SegmentOrder
+pub mod Stores
+pub mod Sums

@@ -1,0 +1,196 @@
+-- How many pieces have an address, and what the pieces hold there.
+use Rattle.std.proofs.Common.{◌≡◌, ◌⊎◌, inl, inr, ℕ, zero, suc, ◌+◌, ◌<◌, ◌≤◌, List, [], ◌∷◌, ◌++◌, length, get_or, Option, Some, None, IsSome, refl, sym, ap, ◌∙◌, arith}
+use Rattle.std.specs.Option.{option_or}
+use Rattle.std.specs.List.{AllByRecursion, sum_by}
+use Rattle.std.specs.List.Sorted.{IsPermutation, IsNonDecreasingBy}
+use Rattle.std.proofs.lemmas.Bool.{cases_lt}
+use Rattle.std.proofs.lemmas.Bool.Decides.{nat_tests}
+use Rattle.std.proofs.lemmas.List.Elements.{All-from_recursion, recursion_from_All}
+use Rattle.std.proofs.lemmas.List.Sums.{sum_by-cons}
+use Rattle.std.proofs.lemmas.List.Sorted.{All-permutation, sum_by-IsPermutation}
+use Rattle.acpi_base.specs.Image.Runs.{byte_in, lookup, memory_of}
+use Rattle.acpi_base.specs.Image.Pieces.{Piece, AreSortedDisjoint, end_at, LiesBefore, run_in, runs_in}
+use Rattle.acpi_base.specs.Image.Builder.{AreEnded, holds_at, holder_count}
+use Rattle.acpi_base.proofs.Images.RunBytes.{held_none, held_some, byte_of_memory_of}
+use Rattle.acpi_base.proofs.Images.Stores.{all_from, all_weaker, of_all, run_ends}
+use Rattle.acpi_base.proofs.Images.RunMemory.{same_memory}
+
+-- ---- one piece
+
+pub has_within : (x : ℕ) (p : Piece) → p.0 ≤ x → x < end_at p → holds_at x p ≡ 1
+has_within x p l h = grind (arith, nat_tests)
+
+pub has_outside : (x : ℕ) (p : Piece) → (x < p.0) ⊎ (end_at p ≤ x) → holds_at x p ≡ 0
+has_outside x p (inl l) = grind (arith, nat_tests)
+has_outside x p (inr l) = grind (arith, nat_tests)
+
+-- it has the address, or not
+pub has_or_not : (x : ℕ) (p : Piece) → ((holds_at x p ≡ 1) × (p.0 ≤ x) × (x < end_at p)) ⊎ ((holds_at x p ≡ 0) × ((x < p.0) ⊎ (end_at p ≤ x)))
+has_or_not x p = elim (cases_lt x p.0) [
+  | inl l ↦ inr (has_outside x p (inl l), inl l)
+  | inr l ↦ elim (cases_lt x (end_at p)) [ inl h ↦ inl (has_within x p l h, l, h) | inr h ↦ inr (has_outside x p (inr h), inr h) ]
+]
+
+-- what it holds, where it has the address or not
+pub holds_none : (store : List ℕ) (n : ℕ) (p : Piece) (x : ℕ) → n ≤ length store → LiesBefore n p → holds_at x p ≡ 0 → byte_in (run_in store p) x ≡ None
+holds_none store n p x l lies none =
+    let ends = run_ends store p n l lies in
+    elim (has_or_not x p) [
+      | inl y ↦ absurd (let one = y.0 in omega arith)
+      | inr y ↦ held_none (run_in store p) x (elim y.1 [ inl low ↦ inl low | inr high ↦ inr (omega arith) ])
+    ]
+
+holds_some : (store : List ℕ) (n : ℕ) (p : Piece) (x : ℕ) → n ≤ length store → LiesBefore n p → holds_at x p ≡ 1 → IsSome (byte_in (run_in store p) x)
+holds_some store n p x l lies one =
+    let ends = run_ends store p n l lies in
+    elim (has_or_not x p) [
+      | inl y ↦ (let high = y.2 in held_some (run_in store p) x y.1 (omega arith))
+      | inr y ↦ absurd (let none = y.0 in omega arith)
+    ]
+
+-- ---- many pieces
+
+or_some : (x y : Option ℕ) → IsSome y → IsSome (option_or x y)
+or_some x y some = grind arith
+
+some_or : (x y : Option ℕ) → IsSome x → IsSome (option_or x y)
+some_or x y some = grind arith
+
+-- an address that no piece has is not held
+pub lookup_none : (store : List ℕ) (n : ℕ) (ps : List Piece) (x : ℕ) → n ≤ length store → AllByRecursion (LiesBefore n) ps → holder_count ps x ≡ 0 → lookup (runs_in store ps) x ≡ None
+lookup_none store n [] x l lies none = refl
+lookup_none store n (p ∷ ps) x l lies none =
+    rw (holds_none store n p x l lies.0 (omega arith)) (lookup_none store n ps x l lies.1 (omega arith))
+
+-- one that some piece has is
+pub lookup_some : (store : List ℕ) (n : ℕ) (ps : List Piece) (x : ℕ) → n ≤ length store → AllByRecursion (LiesBefore n) ps → 0 < holder_count ps x → IsSome (lookup (runs_in store ps) x)
+lookup_some store n [] x l lies some = absurd (omega arith)
+lookup_some store n (p ∷ ps) x l lies some = elim (has_or_not x p) [
+  | inl y ↦ some_or _ _ (holds_some store n p x l lies.0 y.0)
+  | inr y ↦ (let none = y.0 in or_some _ _ (lookup_some store n ps x l lies.1 (omega arith)))
+]
+
+-- a piece more at the end
+pub holder_count-push : (ps : List Piece) (p : Piece) (x : ℕ) → holder_count (ps ++ p ∷ []) x ≡ holder_count ps x + holds_at x p
+holder_count-push [] p x = omega arith
+holder_count-push (q ∷ ps) p x = omega (arith, holder_count-push ps p x)
+
+all_push : (P : Piece → Type 0) (ps : List Piece) (q : Piece) → AllByRecursion P ps → P q → AllByRecursion P (ps ++ q ∷ [])
+all_push P [] q all here = (here, tt)
+all_push P (p ∷ ps) q all here = (all.0, all_push P ps q all.1 here)
+
+last_first : (x y z : Option ℕ) → (x ≡ None) ⊎ (y ≡ None) → option_or x (option_or y z) ≡ option_or y (option_or x z)
+last_first x y z (inl e) = grind arith
+last_first x y z (inr e) = grind arith
+
+-- where no other piece has its addresses, it holds them
+pub lookup-push : (store : List ℕ) (n : ℕ) (ps : List Piece) (q : Piece) (x : ℕ) → n ≤ length store → AllByRecursion (LiesBefore n) ps → LiesBefore n q
+    → holder_count ps x + holds_at x q ≤ 1 → lookup (runs_in store (ps ++ q ∷ [])) x ≡ option_or (byte_in (run_in store q) x) (lookup (runs_in store ps) x)
+lookup-push store n [] q x l lies here once = refl
+lookup-push store n (p ∷ ps) q x l lies here once =
+    ap (option_or (byte_in (run_in store p) x)) (lookup-push store n ps q x l lies.1 here (omega arith))
+    ∙ last_first (byte_in (run_in store p) x) (byte_in (run_in store q) x) (lookup (runs_in store ps) x)
+    (elim (has_or_not x p) [
+      | inl y ↦ inr (let one = y.0 in holds_none store n q x l here (omega arith))
+      | inr y ↦ inl (holds_none store n p x l lies.0 y.0)
+    ])
+
+-- more of the store changes nothing
+pub ended-push : (n m : ℕ) (ps : List Piece) (q : Piece) → n ≤ m → AreEnded n ps → 0 < q.1.len → LiesBefore m q → ((x : ℕ) → q.0 ≤ x → x < end_at q → holder_count ps x ≡ 0) → AreEnded m (ps ++ q ∷ [])
+ended-push n m ps q l s some here free = record {
+  once = λ x. elim (has_or_not x q) [
+    | inl y ↦ (let one = y.0 in let none = free x y.1 y.2 in let e = holder_count-push ps q x in omega arith)
+    | inr y ↦ (let none = y.0 in let most = s.once x in let e = holder_count-push ps q x in omega arith)
+  ];
+  filled = all_push _ ps q s.filled some;
+  lies = all_push _ ps q (all_weaker (LiesBefore n) (LiesBefore m) ps (λ p h. (let low = h.0 in omega arith, h.1)) s.lies) here;
+}
+
+-- ---- the same pieces in another order
+
+-- a number for what is held
+abbrev code : Option ℕ → ℕ
+code None = 0
+code (Some b) = suc b
+
+code-injective : (x y : Option ℕ) → code x ≡ code y → x ≡ y
+code-injective None None e = refl
+code-injective None (Some b) e = absurd (let no : 0 ≡ suc b = e in omega arith)
+code-injective (Some a) None e = absurd (let no : suc a ≡ 0 = e in omega arith)
+code-injective (Some a) (Some b) e = (let up : suc a ≡ suc b = e in let same : a ≡ b = omega arith in ap Some same)
+
+-- how many pieces have an address, as a sum
+holder_count-sum : (ps : List Piece) (x : ℕ) → holder_count ps x ≡ sum_by (holds_at x) ps
+holder_count-sum [] x = refl
+holder_count-sum (p ∷ ps) x = ap (λ n. holds_at x p + n) (holder_count-sum ps x) ∙ sym (sum_by-cons (holds_at x) p ps)
+
+-- what is held, as a sum
+lookup-sum : (store : List ℕ) (n : ℕ) (ps : List Piece) (x : ℕ) → n ≤ length store → AllByRecursion (LiesBefore n) ps → holder_count ps x ≤ 1
+    → sum_by (λ p. code (byte_in (run_in store p) x)) ps ≡ code (lookup (runs_in store ps) x)
+lookup-sum store n [] x l lies once = omega arith
+lookup-sum store n (p ∷ ps) x l lies once =
+    sum_by-cons (λ p. code (byte_in (run_in store p) x)) p ps
+    ∙ ap (λ k. code (byte_in (run_in store p) x) + k) (lookup-sum store n ps x l lies.1 (omega arith))
+    ∙ elim (has_or_not x p) [
+      | inl y ↦ (let one = y.0 in first (byte_in (run_in store p) x) _ (lookup_none store n ps x l lies.1 (omega arith)))
+      | inr y ↦ second (byte_in (run_in store p) x) _ (holds_none store n p x l lies.0 y.0)
+    ]
+  where
+    first : (a b : Option ℕ) → b ≡ None → code a + code b ≡ code (option_or a b)
+    first None b e = rw e refl
+    first (Some a) b e = rw e (omega arith)
+
+    second : (a b : Option ℕ) → a ≡ None → code a + code b ≡ code (option_or a b)
+    second a b e = rw e (omega arith)
+
+all_permuted : (P : Piece → Type 0) (ps qs : List Piece) → IsPermutation ps qs → AllByRecursion P ps → AllByRecursion P qs
+all_permuted P ps qs moved all = recursion_from_All P qs (All-permutation P ps qs moved (All-from_recursion P ps all))
+
+pub ended_permuted : (n : ℕ) (ps qs : List Piece) → IsPermutation ps qs → AreEnded n ps → AreEnded n qs
+ended_permuted n ps qs moved s = record {
+  once = λ x. (
+      let e : holder_count qs x ≡ holder_count ps x = holder_count-sum qs x ∙ sum_by-IsPermutation (holds_at x) ps qs moved ∙ sym (holder_count-sum ps x) in
+      let most = s.once x in
+      omega arith
+      );
+  filled = all_permuted _ ps qs moved s.filled;
+  lies = all_permuted _ ps qs moved s.lies;
+}
+
+pub memory_permuted : (store : List ℕ) (ps qs : List Piece) → IsPermutation ps qs → AreEnded (length store) ps → memory_of (runs_in store qs) ≡ memory_of (runs_in store ps)
+memory_permuted store ps qs moved s =
+    let t = ended_permuted (length store) ps qs moved s in
+    same_memory _ _ (λ x.
+    byte_of_memory_of (runs_in store qs) x
+    ∙ code-injective (lookup (runs_in store qs) x) (lookup (runs_in store ps) x)
+    (sym (lookup-sum store (length store) qs x (omega arith) t.lies (t.once x))
+    ∙ sum_by-IsPermutation (λ p. code (byte_in (run_in store p) x)) ps qs moved
+    ∙ lookup-sum store (length store) ps x (omega arith) s.lies (s.once x))
+    ∙ sym (byte_of_memory_of (runs_in store ps) x))
+
+-- ---- sorted by their bases, they rise
+
+holders_at : (ps : List Piece) (k : ℕ) (d : Piece) (x : ℕ) → k < length ps → holds_at x (get_or ps k d) ≡ 1 → 0 < holder_count ps x
+holders_at [] k d x h one = absurd (omega arith)
+holders_at (p ∷ ps) zero d x h one = omega arith
+holders_at (p ∷ ps) (suc k) d x h one = omega (arith, holders_at ps k d x (omega arith) one)
+
+pub rising_sorted : (ps : List Piece) → IsNonDecreasingBy (λ (p : Piece). p.0) ps → ((x : ℕ) → holder_count ps x ≤ 1) → AllByRecursion (λ p. 0 < p.1.len) ps → AreSortedDisjoint ps
+rising_sorted [] sorted once filled = tt
+rising_sorted (p ∷ ps) sorted once filled = (
+  filled.0,
+  all_from (λ q. end_at p ≤ q.0) ps (λ k d h.
+      let q = get_or ps k d in
+      let low : p.0 ≤ q.0 = sorted 0 (suc k) d (omega arith) (omega arith) in
+      elim (cases_lt q.0 (end_at p)) [
+        | inl l ↦ absurd (
+            let some : 0 < q.1.len = of_all (λ p. 0 < p.1.len) ps k d filled.1 h in
+            let here : holds_at q.0 p ≡ 1 = has_within q.0 p low l in
+            let there = holders_at ps k d q.0 h (has_within q.0 q (omega arith) (omega arith)) in
+            let most = once q.0 in
+            omega arith
+            )
+        | inr l ↦ l
+      ]),
+  rising_sorted ps (λ i j d l h. sorted (suc i) (suc j) d (omega arith) (omega arith)) (λ x. (let most = once x in omega arith)) filled.1,
+)

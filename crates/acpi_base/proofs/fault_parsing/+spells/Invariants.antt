@@ -1,4 +1,0 @@
-use Rattle.acpi_base.proofs.fault_parsing.+spells.Given as goal
-
-abbrev pub decreases-spells : goal.decreases-spells
-decreases-spells l = l.number

@@ -1,0 +1,45 @@
+use Rattle.std.proofs.Common.{◌≡◌, inl, inr, ◌++◌, ◌+◌, ◌-◌, ◌<◌, ℕ, suc, List, length, take, drop, ap, sym, subst, ◌∙◌, add-one, arith}
+use Rattle.std.proofs.lemmas.Bool.Decides.{nat_tests}
+use Rattle.std.proofs.lemmas.List.{drop-drop}
+use Rattle.std.proofs.lemmas.Slice.{between_to_end}
+use Rattle.acpi_base.specs.Text.ImageText.{read_line}
+use Rattle.acpi_base.specs.Text.TextMachine.{Going, run}
+use Rattle.acpi_base.specs.Text.Lines.{Refuses, reading_of}
+use Rattle.acpi_base.proofs.Texts.LineBuffers.{line_passed, line_refused, short_bounds}
+use Rattle.acpi_base.proofs.text.image_text.line_buffer.LineBuffer.take.Goals as goal
+
+pub returns-in-Err-clause-err : goal.returns-in-Err-clause-err
+returns-in-Err-clause-err c =
+    let f = c.lines.self in
+    let text = c.lines.rest.now in
+    let n = c.line_end.result in
+    let left = c.split_at.ensures.back_len in
+    let some : 0 < length c.split_at.result.1.now = grind (arith, nat_tests, c.is_empty.ensures, c.if-is_empty.false) in
+    let low : n < length text = omega arith in
+    let refused = subst (λ part. Refuses (read_line (reading_of f.parser) (f.line.items ++ part) 1) c.in-Err.fault) c.split_at.ensures.front c.in-Err.ensures.err in
+    elim (line_refused (reading_of f.parser) f.line.items text n c.in-Err.fault c.lines.invariant.sound.short low c.line_end.ensures.before (c.line_end.ensures.found low) refused) [
+      | inl memory ↦ inl memory
+      | inr stopped ↦ inr (sym c.lines.invariant.run ∙ stopped)
+    ]
+
+pub lines-preserved : goal.lines-preserved
+lines-preserved c =
+    let f = c.lines.self in
+    let next = c.end_line.new.self in
+    let text = c.lines.rest.now in
+    let n = c.line_end.result in
+    let after = c.split_at.result.1.now in
+    let left = c.split_at.ensures.back_len in
+    let some : 0 < length after = grind (arith, nat_tests, c.is_empty.ensures, c.if-is_empty.false) in
+    let low : n < length text = omega arith in
+    let sound = c.in_default.ensures.sound in
+    let fits = (short_bounds (length next.line.items) (next.parser.through + length next.line.items) sound.short).1 in
+    let rest : List ℕ = take (length after - 1) (drop 1 after) in
+    let behind : rest ≡ drop (suc n) text = between_to_end after 1 (length after) (omega arith) ∙ ap (drop 1) c.split_at.ensures.back ∙ drop-drop 1 n text ∙ ap (λ k. drop k text) (add-one n) in
+    let read = ap (λ part. read_line (reading_of f.parser) (f.line.items ++ part) 1) (sym c.split_at.ensures.front) ∙ c.in_default.ensures.ok in
+    record {
+      sound = sound;
+      run = ap (λ line. run (Going (reading_of next.parser) line) rest) c.in_default.ensures.line
+          ∙ sym (line_passed (reading_of f.parser) (reading_of next.parser) f.line.items text n rest c.lines.invariant.sound.short low c.line_end.ensures.before (c.line_end.ensures.found low) read (omega arith) behind)
+          ∙ c.lines.invariant.run;
+    }

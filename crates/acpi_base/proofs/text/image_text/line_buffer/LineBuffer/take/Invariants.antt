@@ -1,0 +1,14 @@
+use Rattle.std.proofs.Common.{◌≡◌, length}
+use Rattle.acpi_base.specs.Text.TextMachine.{run}
+use Rattle.acpi_base.specs.Text.LineBuffers.{IsLineBuffer, buffer_state}
+use Rattle.acpi_base.proofs.text.image_text.line_buffer.LineBuffer.take.Given as goal
+
+-- the rest is read on from here as the piece was from the start
+abbrev pub invariant-lines : goal.invariant-lines
+invariant-lines l = record {
+  sound : IsLineBuffer l.self;
+  run : run (buffer_state l.self) l.rest ≡ run (buffer_state l.initial.self) l.piece;
+}
+
+abbrev pub decreases-lines : goal.decreases-lines
+decreases-lines l = length l.rest

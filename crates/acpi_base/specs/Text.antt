@@ -1,0 +1,10 @@
+pub mod ImageText
+pub mod LineBuffers
+pub mod Lines
+pub mod StateCode
+pub mod TextLaws
+pub mod TextMachine
+pub mod TextMeaning
+pub mod TextReading
+pub mod WitnessText
+pub mod WrittenText

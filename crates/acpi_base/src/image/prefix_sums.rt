@@ -1,0 +1,135 @@
+//! Bytes with running sums, by which the sum of any part of them is found at once.
+
+ghost use Rattle.std.specs.Prelude.{◌≡◌, ◌+◌, ◌*◌, ◌/◌, ◌≤◌, ◌++◌, ℕ, List, [], OnOk, OnErr, IfOk, length, take, drop};
+ghost use Rattle.acpi_base.specs.Number.{byte_sum};
+ghost use Rattle.acpi_base.specs.Image.Sums.{AreSums, HasAllSums};
+
+use super::span::Span;
+use crate::checksum::sum_short;
+use std::alloc::{AllocError, Global};
+use std::marker::Model;
+
+/// How many bytes stand between two running sums.
+const DISTANCE: usize = 128;
+
+/// The sum of the first so many blocks of `DISTANCE` bytes.
+#[tactic(auto, using(crate::proofs::Images::Sums::no_sum))]
+fn sum_of_blocks(sums: &[u8], count: usize) -> u8
+    requires { count ≤ length sums.now }
+    ensures { (bytes : List ℕ) → AreSums sums.now bytes → result ≡ byte_sum (take (128 * count) bytes) }
+{
+    if count == 0 { 0 } else { sums[count - 1] }
+}
+
+/// Appends the running sums that are missing.
+#[tactic(auto, using(crate::proofs::Images::Sums::sum_next, crate::proofs::Images::Sums::sums_pushed))]
+fn add_sums(sums: &mut Vec<u8>, bytes: &[u8]) -> Result<(), AllocError>
+    requires each { AreSums sums.old.items bytes.now }
+    requires within { length sums.old.items ≤ length bytes.now / 128 }
+    ensures each { AreSums sums.new.items bytes.now }
+    ensures more { length sums.old.items ≤ length sums.new.items }
+    ensures all { OnOk result (length sums.new.items ≡ length bytes.now / 128) }
+{
+    let count = sums.len();
+    let mut total = sum_of_blocks(sums, count);
+    for block in count..bytes.len() / DISTANCE {
+        let start = block * DISTANCE;
+        total = total.wrapping_add(sum_short(&bytes[start..start + DISTANCE]));
+        sums.push(total)?;
+    }
+    Ok(())
+}
+
+/// The sum of the first so many bytes.
+#[tactic(auto, using(crate::proofs::Images::Sums::sum_to))]
+fn sum_before(bytes: &[u8], sums: &[u8], end: usize) -> u8
+    requires sums { HasAllSums sums.now bytes.now }
+    requires within { end ≤ length bytes.now }
+    ensures { result ≡ byte_sum (take end bytes.now) }
+{
+    let blocks = end / DISTANCE;
+    sum_of_blocks(sums, blocks).wrapping_add(sum_short(&bytes[blocks * DISTANCE..end]))
+}
+
+/// Bytes to which more are appended. Contracts see the bytes.
+#[derive(Debug, Drop)]
+pub struct PrefixSums {
+    bytes: Vec<u8>,
+    /// The sums of the first 128 bytes, the first 256 and so on, modulo 256.
+    sums: Vec<u8>,
+}
+
+impl Model for PrefixSums {
+    ghost use Rattle.std.specs.Prelude.{ℕ, List};
+    ghost use Rattle.acpi_base.specs.Image.Sums.{HasAllSums};
+
+    ghost Value = { List ℕ };
+
+    ghost view = { λ sums. sums.bytes.items };
+
+    ghost invariant = { λ sums. HasAllSums sums.sums.items sums.bytes.items };
+}
+
+impl PrefixSums {
+    /// No bytes. Takes no memory.
+    pub fn new(alloc: Global) -> PrefixSums
+        ensures { result ≡ [] }
+    {
+        PrefixSums {
+            bytes: Vec::new(alloc),
+            sums: Vec::new(alloc),
+        }
+    }
+
+    /// No bytes, and memory for so many.
+    pub fn with_capacity(alloc: Global, count: usize) -> Result<PrefixSums, AllocError>
+        ensures { IfOk result (λ sums. sums ≡ []) }
+    {
+        Ok(PrefixSums {
+            bytes: Vec::with_capacity(alloc, count)?,
+            sums: Vec::with_capacity(alloc, count / DISTANCE)?,
+        })
+    }
+
+    /// How many they are.
+    pub fn len(&self) -> usize
+        ensures { result ≡ length self.now }
+    {
+        self.bytes.len()
+    }
+
+    /// All of them.
+    pub fn bytes(&self) -> &[u8]
+        ensures { result.now ≡ self.now }
+    {
+        &self.bytes
+    }
+
+    /// Appends bytes, and sums each of them once.
+    #[tactic(auto, using(crate::proofs::Images::Sums::sums_kept, crate::proofs::Images::Sums::sums_cut))]
+    pub fn extend(&mut self, more: &[u8]) -> Result<(), AllocError>
+        ensures ok { OnOk result (self.new ≡ self.old ++ more.now) }
+        ensures err { OnErr result (self.new ≡ self.old) }
+    {
+        let count = self.bytes.len();
+        self.bytes.extend_from_slice(more)?;
+        if add_sums(&mut self.sums, &self.bytes).is_err() {
+            self.bytes.truncate(count);
+            self.sums.truncate(count / DISTANCE);
+            return Err(AllocError);
+        }
+        Ok(())
+    }
+
+    /// The sum of a span's bytes, modulo 256. However many they are, fewer than 256 are looked at.
+    #[tactic(auto, using(crate::proofs::Images::Sums::sum_between))]
+    pub fn sum(&self, span: Span) -> u8
+        requires { span.start + span.len ≤ length self.now }
+        ensures { result ≡ byte_sum (take span.len (drop span.start self.now)) }
+    {
+        let bytes = self.bytes.as_slice();
+        let sums = self.sums.as_slice();
+        let behind = sum_before(bytes, sums, span.start + span.len);
+        behind.wrapping_sub(sum_before(bytes, sums, span.start))
+    }
+}

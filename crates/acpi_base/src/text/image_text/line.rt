@@ -1,0 +1,162 @@
+//! What one line of image text says.
+
+ghost use Rattle.std.specs.Prelude.{◌≡◌, ◌≤◌, ◌<◌, ℕ, List, [], length, IfOk, IfSome, take_while};
+ghost use Rattle.std.specs.List.{list_all};
+ghost use Rattle.acpi_base.specs.Text.ImageText.{digit_of, is_blank, is_hex_digit, without_cr, without_comment, skip_blanks, hex_number, address_line_of, data_from, line_of};
+ghost use Rattle.acpi_base.specs.Text.Lines.{data_line, line_with};
+
+use super::digit::digit_value;
+use super::row::parse_row;
+use std::alloc::AllocError;
+
+/// What a line says.
+#[derive(Clone, Copy)]
+pub enum Form {
+    /// Nothing.
+    Blank,
+    /// The next address.
+    Address(u64),
+    /// Bytes, which stand apart.
+    Data,
+    /// Nothing that a line can say.
+    Bad,
+}
+
+fn is_blank_byte(byte: u8) -> bool
+    ensures { result ≡ is_blank byte }
+{
+    byte == b' ' || byte == b'\t'
+}
+
+/// The line without a CR at its end.
+fn cut_cr(line: &[u8]) -> &[u8]
+    ensures { result.now ≡ without_cr line.now }
+{
+    let length = line.len();
+    if length > 0 && line[length - 1] == b'\r' {
+        &line[..length - 1]
+    } else {
+        line
+    }
+}
+
+/// What stands before the first `#`.
+fn cut_comment(line: &[u8]) -> &[u8]
+    ensures { result.now ≡ without_comment line.now }
+{
+    for i in 0..line.len() {
+        if line[i] == b'#' {
+            return &line[..i];
+        }
+    }
+    line
+}
+
+/// The line from its first byte on that is not blank.
+#[tactic(auto, unfolding(crate::specs::Text::ImageText::skip_blanks))]
+fn cut_blanks(line: &[u8]) -> &[u8]
+    ensures { result.now ≡ skip_blanks line.now }
+{
+    for i in 0..line.len() {
+        if !is_blank_byte(line[i]) {
+            return &line[i..];
+        }
+    }
+    &[]
+}
+
+/// How many hex digits the text begins with.
+fn digit_count(text: &[u8]) -> usize
+    ensures { result ≡ length (take_while is_hex_digit text.now) }
+{
+    for i in 0..text.len() {
+        if digit_value(text[i]).is_none() {
+            return i;
+        }
+    }
+    text.len()
+}
+
+fn is_all_blank(text: &[u8]) -> bool
+    ensures { result ≡ list_all is_blank text.now }
+{
+    text.iter().all(|byte| is_blank_byte(*byte))
+}
+
+/// The number that up to 16 hex digits spell, the highest first.
+#[tactic(auto, unfolding(crate::specs::Text::ImageText::hex_number), using(crate::proofs::Texts::LineParsing::power_fits))]
+pub fn number_value(digits: &[u8]) -> u64
+    requires { length digits.now ≤ 16 }
+    ensures { result ≡ hex_number 0 digits.now }
+{
+    let mut value = 0;
+    for byte in digits {
+        value = 16 * value + digit_value(*byte).unwrap_or(0) as u64;
+    }
+    value
+}
+
+/// What a line says that goes on so after its `@`.
+#[tactic(auto, unfolding(crate::specs::Text::ImageText::address_line_of))]
+fn parse_address(rest: &[u8]) -> Form
+    ensures { (bytes : List ℕ) → line_with result bytes ≡ address_line_of rest.now }
+{
+    let count = digit_count(rest);
+    if count < 1 || count > 16 || !is_all_blank(&rest[count..]) {
+        return Form::Bad;
+    }
+    Form::Address(number_value(&rest[..count]))
+}
+
+/// Whether the line is pairs of hex digits, with any blanks between pairs and after the last. If so, the
+/// vector has their bytes.
+#[tactic(auto, unfolding(crate::specs::Text::ImageText::data_from), using(crate::proofs::Texts::LineParsing::one_more))]
+fn parse_data(line: &[u8], bytes: &mut Vec<u8>) -> Result<bool, AllocError>
+    ensures { IfOk result (λ is_data. data_line is_data bytes.new.items ≡ data_from [] None line.now) }
+{
+    bytes.clear();
+    let mut rest = line;
+    while let Some((first, after)) = rest.split_first() {
+        let Some(high) = digit_value(*first) else {
+            if !is_blank_byte(*first) {
+                return Ok(false);
+            }
+            rest = after;
+            continue;
+        };
+        let Some((second, behind)) = after.split_first() else {
+            return Ok(false);
+        };
+        let Some(low) = digit_value(*second) else {
+            return Ok(false);
+        };
+        bytes.push(16 * high + low)?;
+        rest = behind;
+    }
+    Ok(true)
+}
+
+/// What a line says, its LF left off. The bytes of a data line go into the vector, in place of what it had.
+/// A row as most texts write it is read first, at once.
+#[tactic(auto, unfolding(crate::specs::Text::ImageText::line_of, crate::specs::Text::ImageText::form_of))]
+pub fn parse_line(line: &[u8], bytes: &mut Vec<u8>) -> Result<Form, AllocError>
+    ensures { IfOk result (λ form. line_with form bytes.new.items ≡ line_of line.now) }
+{
+    if let Some(row) = parse_row(line) {
+        bytes.clear();
+        bytes.extend_from_slice(&row)?;
+        return Ok(Form::Data);
+    }
+    let rest = cut_blanks(cut_comment(cut_cr(line)));
+    if rest.is_empty() {
+        return Ok(Form::Blank);
+    }
+    if rest[0] == b'@' {
+        return Ok(parse_address(&rest[1..]));
+    }
+    if parse_data(rest, bytes)? {
+        Ok(Form::Data)
+    } else {
+        Ok(Form::Bad)
+    }
+}

@@ -1,0 +1,29 @@
+-- Tables whose entries are sound are filled by them, each of a length of its type.
+use Rattle.std.proofs.Common.{ℕ, List}
+use Rattle.acpi_base.specs.Madt as madt
+use Rattle.acpi_base.specs.Srat as srat
+use Rattle.acpi_base.specs.Pptt as pptt
+use Rattle.acpi_base.specs.Policy.{PolicyValue}
+use Rattle.acpi_read.specs.FilledTables.{IsFilledMadt, IsFilledSrat, IsFilledPptt}
+use Rattle.acpi_read.specs.Madts as madts
+use Rattle.acpi_read.specs.Srats as srats
+
+own_madt : (q : PolicyValue) (e : madt.MadtEntry) → madt.IsSoundMadtEntry q e → madts.IsOfOwnLength e
+own_madt q (madt.Opaque e) sound = sound
+own_madt q _ sound = tt
+
+own_srat : (e : srat.SratEntry) → srat.IsSoundSratEntry e → srats.IsOfOwnLength e
+own_srat (srat.Opaque e) sound = sound
+own_srat _ sound = tt
+
+pub filled_madt : (q : PolicyValue) (whole : List ℕ) → madt.IsSoundMadt q (madt.madt_contents whole) → IsFilledMadt whole
+unfolding madt.madt_contents
+filled_madt q whole sound = record { long = sound.long; filled = sound.filled; lengths = λ o e stands. own_madt q e (sound.entries o e stands) }
+
+pub filled_srat : (whole : List ℕ) → srat.IsSoundSrat (srat.srat_contents whole) → IsFilledSrat whole
+unfolding srat.srat_contents
+filled_srat whole sound = record { long = sound.long; filled = sound.filled; lengths = λ o e stands. own_srat e (sound.entries o e stands) }
+
+pub filled_pptt : (whole : List ℕ) → pptt.IsCutPptt (pptt.pptt_contents whole) → IsFilledPptt whole
+unfolding pptt.pptt_contents
+filled_pptt whole sound = record { filled = sound.filled; lengths = sound.lengths }

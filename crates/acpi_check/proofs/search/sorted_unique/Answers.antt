@@ -1,0 +1,14 @@
+use Rattle.std.proofs.Common.{eqb}
+use Rattle.std.proofs.lemmas.List.Filters.{dedup_is}
+use Rattle.acpi_check.proofs.ProcessorNumbers.Searches.{in_order}
+use Rattle.acpi_check.proofs.search.sorted_unique.Goals as goal
+
+pub returns-clause-rise : goal.returns-clause-rise
+returns-clause-rise c =
+    let sorted = c.sort_unstable.new.self.items in
+    (in_order c.args.numbers.items sorted c.dedup.new.self.items c.sort_unstable.ensures.permutation c.sort_unstable.ensures.sorted (dedup_is eqb sorted c.dedup.new.self.items c.dedup.ensures.filtered)).0
+
+pub returns-clause-same : goal.returns-clause-same
+returns-clause-same c =
+    let sorted = c.sort_unstable.new.self.items in
+    (in_order c.args.numbers.items sorted c.dedup.new.self.items c.sort_unstable.ensures.permutation c.sort_unstable.ensures.sorted (dedup_is eqb sorted c.dedup.new.self.items c.dedup.ensures.filtered)).1

@@ -1,0 +1,21 @@
+-- What the slots of a root list first, while they are gone through.
+use Rattle.std.specs.Prelude.{◌<◌, ℕ, List, Option, Some, None}
+use Rattle.acpi_base.specs.Memory.{Memory}
+use Rattle.acpi_base.specs.Root.{HasSlot}
+use Rattle.acpi_base.specs.Tables.{IsSigned, IsSoundTable, IsTable}
+use Rattle.acpi_base.specs.Listed.{IsFirstListed}
+use Rattle.acpi_base.specs.TableKinds.{signature_of}
+use Rattle.acpi_base.specs.declared.table_kind.TableKind.{TableKind}
+use Rattle.acpi_read.specs.FirstTables.{first_table}
+use Rattle.acpi_read.specs.Roots.{RootValue}
+use Rattle.acpi_read.specs.declared.first_tables.FirstTables.{FirstTables}
+
+-- what the slots below k, of d bytes each, of a root's bytes list first with a signature
+abbrev pub IsFirstBelow : Memory → List ℕ → ℕ → ℕ → List ℕ → Option (List ℕ) → Type 0
+IsFirstBelow m bytes d k signature None = (j a : ℕ) → j < k → HasSlot bytes d j a → ¬ IsSigned m a signature
+IsFirstBelow m bytes d k signature (Some whole) = (a : ℕ) × (header : List ℕ) × IsFirstListed m bytes d signature a × IsTable m a header whole
+
+-- the same of each kind; and the tables of these slots are sound
+pub record AreFirstBelow (m : Memory) (root : RootValue) (k : ℕ) (firsts : FirstTables) : Type 0 where
+  pub sound : (j a : ℕ) → j < k → HasSlot root.bytes root.width j a → IsSoundTable m a
+  pub first : (kind : TableKind) → IsFirstBelow m root.bytes root.width k (signature_of kind) (first_table firsts kind)

@@ -1,0 +1,74 @@
+-- What entries of a table say, collected for a search: ranges as spans, and the first overlap that is found of them.
+use Rattle.std.specs.Prelude.{◌≡◌, ℕ, ◌+◌, ◌&&◌, ◌↔◌, Bool, List, Contains, Option, Some, None, nat_lt, if◌then◌else◌}
+use Rattle.std.specs.List.{filter_map}
+use Rattle.acpi_base.specs.Overlaps.{AreApart, IsFirstIntervalOverlap}
+use Rattle.acpi_base.specs.Entries.{PlacedEntry}
+use Rattle.acpi_base.specs.Madt.{MadtEntry, IoApic}
+use Rattle.acpi_base.specs.Policy.{PolicyValue, inputs_of}
+use Rattle.acpi_base.specs.Srat.{SratEntry, MemoryRange, MemoryValue, SratContents, is_enabled, AreRangesApart, IsFirstOverlap}
+use Rattle.acpi_base.specs.declared.policy.HotPlug.{HotPlug}
+use Rattle.acpi_graph.specs.Spans.{NamesDiffer, HasNumber}
+use Rattle.acpi_graph.specs.declared.clash.Clash.{Clash}
+use Rattle.acpi_graph.specs.declared.clash.Clash.TheVariants as clash
+use Rattle.acpi_graph.specs.declared.span.Span.{Span}
+
+-- ---- spans that stand for ranges
+
+-- a span of the list has the name o, begins at s and holds x
+pub record HasSpan (spans : List Span) (o s x : ℕ) : Type 0 where
+  pub span : Span
+  pub listed : Contains spans span
+  pub name : span.name ≡ o
+  pub start : span.start ≡ s
+  pub holds : HasNumber span x
+
+-- the spans are the ranges that the relation speaks of, each named by the offset at which it stands
+pub record AreSpansOf (HoldsAt : ℕ → ℕ → ℕ → Type 0) (spans : List Span) : Type 0 where
+  pub names : NamesDiffer spans
+  pub covers : (o s x : ℕ) → HoldsAt o s x ↔ HasSpan spans o s x
+
+-- what is found of these ranges: that no number lies in two, or their first overlap
+abbrev pub IsOverlapResult : (ℕ → ℕ → ℕ → Type 0) → Clash → Type 0
+IsOverlapResult HoldsAt clash.None = AreApart HoldsAt
+IsOverlapResult HoldsAt (clash.At first second point) = IsFirstIntervalOverlap HoldsAt first second point
+
+-- of two overlaps the one with the lesser point, and where both have one point the first
+abbrev pub earlier_clash : Clash → Clash → Clash
+earlier_clash clash.None hot = hot
+earlier_clash other clash.None = other
+earlier_clash (clash.At first second point) (clash.At hot_first hot_second hot_point) =
+    if nat_lt hot_point point then clash.At hot_first hot_second hot_point else clash.At first second point
+
+-- what is found of the ranges of an SRAT: that they are apart as they must be, or the overlap that is reported
+abbrev pub IsRangesResult : HotPlug → SratContents → Clash → Type 0
+IsRangesResult h c clash.None = AreRangesApart h c
+IsRangesResult h c (clash.At first second point) = IsFirstOverlap h c first second point
+
+-- ---- how they are collected
+
+-- what a span says
+pub record SpanValue : Type 0 where
+  pub start : ℕ
+  pub end : ℕ
+  pub name : ℕ
+
+abbrev pub span_value : Span → SpanValue
+span_value span = record { start = span.start; end = span.end; name = span.name }
+
+-- the numbers from `start` on and below `end`, where there are any
+abbrev pub span_from : ℕ → ℕ → ℕ → Option SpanValue
+span_from start end name = if nat_lt start end then Some (record { start = start; end = end; name = name }) else None
+
+-- the interrupt numbers that an entry at the offset o serves
+abbrev pub served_span : PolicyValue → ℕ → MadtEntry → Option SpanValue
+served_span q o (IoApic v) = span_from v.gsi_base (v.gsi_base + inputs_of q v.address) o
+served_span q o _ = None
+
+-- the addresses that an entry at the offset o covers, where it is an enabled range and counts
+abbrev pub covered_span : (MemoryValue → Bool) → ℕ → SratEntry → Option SpanValue
+covered_span counts o (MemoryRange v) = if is_enabled v.flags && counts v then span_from v.base (v.base + v.size) o else None
+covered_span counts o _ = None
+
+-- the spans of entries, in their order
+abbrev pub spans_of : {E : Type 0} → (ℕ → E → Option SpanValue) → List (PlacedEntry E) → List SpanValue
+spans_of read entries = filter_map (λ s. read s.offset s.entry) entries

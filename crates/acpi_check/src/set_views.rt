@@ -1,0 +1,41 @@
+//! The tables of a set that are looked at again once their entries are known to be sound.
+
+use crate::set::Set;
+use acpi_base::TableKind;
+use acpi_read::{Madt, Pptt, Srat};
+
+impl<'a> Set<'a, '_> {
+    ghost use Rattle.std.specs.Prelude.{◌≡◌};
+    ghost use Rattle.acpi_base.specs.Statements.{Holds};
+    ghost use Rattle.acpi_base.specs.declared.stage.Stage.{Stage};
+    ghost use Rattle.acpi_base.specs.declared.table_kind.TableKind.{TableKind};
+    ghost use Rattle.acpi_read.specs.FirstTables.{first_table};
+    ghost use Rattle.acpi_check.specs.Set.{IsSet};
+
+    /// The MADT, where one is listed: its entries fill it, each of a length of its type, as stage 6 found.
+    pub fn madt(&self) -> Option<Madt<'a>>
+        requires holds { Holds Stage.Madt self.now.listed.image.now self.now.policy.now }
+        requires set { IsSet self.now }
+        ensures { result ≡ first_table self.now.listed.tables TableKind.Madt }
+    {
+        Some(Madt::of(self.listed.tables.first(TableKind::Madt)?))
+    }
+
+    /// The SRAT, where one is listed: its entries fill it, each of a length of its type, as stage 9 found.
+    pub fn srat(&self) -> Option<Srat<'a>>
+        requires holds { Holds Stage.Srat self.now.listed.image.now self.now.policy.now }
+        requires set { IsSet self.now }
+        ensures { result ≡ first_table self.now.listed.tables TableKind.Srat }
+    {
+        Some(Srat::of(self.listed.tables.first(TableKind::Srat)?))
+    }
+
+    /// The PPTT, where one is listed: its entries fill it, each of a length of its type, as stage 12 found.
+    pub fn pptt(&self) -> Option<Pptt<'a>>
+        requires holds { Holds Stage.Pptt self.now.listed.image.now self.now.policy.now }
+        requires set { IsSet self.now }
+        ensures { result ≡ first_table self.now.listed.tables TableKind.Pptt }
+    {
+        Some(Pptt::of(self.listed.tables.first(TableKind::Pptt)?))
+    }
+}

@@ -1,0 +1,174 @@
+//! Tables that their entries fill: what is left to look at once the entries are known to be sound.
+
+ghost use Rattle.std.specs.Prelude.{◌≡◌, ◌<◌, ◌^◌, length};
+ghost use Rattle.acpi_base.specs.Entries.{entries_read_by};
+ghost use Rattle.acpi_base.specs.Header.{header_of};
+ghost use Rattle.acpi_base.specs.Madt.{madt_contents, madt_entry};
+ghost use Rattle.acpi_base.specs.Srat.{srat_contents, srat_entry};
+ghost use Rattle.acpi_base.specs.Pptt.{pptt_contents, pptt_entry};
+ghost use Rattle.acpi_read.specs.FilledTables.{IsFilledMadt, IsFilledSrat, IsFilledPptt};
+ghost use Rattle.acpi_read.specs.Headers.{header_value};
+
+use crate::entries::{Entries, entries_from};
+use crate::header::Header;
+use crate::madt::{MADT_FLAGS, MADT_LOCAL_APIC_ADDRESS, MadtEntry};
+use crate::pptt::PpttEntry;
+use crate::srat::SratEntry;
+use crate::table::Table;
+use crate::typed_entries::TypedEntries;
+use acpi_base::field::u32_at;
+use std::marker::Model;
+
+/// A MADT that its entries fill, each of a length of its type (ACPI 6.5, 5.2.12). Contracts see its bytes.
+#[derive(Debug, Drop)]
+pub struct Madt<'a> {
+    table: Table<'a>,
+}
+
+impl<'a> Model for Madt<'a> {
+    ghost use Rattle.std.specs.Prelude.{ℕ, List};
+    ghost use Rattle.acpi_read.specs.FilledTables.{IsFilledMadt};
+
+    ghost Value = { List ℕ };
+
+    ghost view = { λ madt. madt.table };
+
+    ghost invariant = { λ madt. IsFilledMadt madt.table };
+}
+
+impl<'a> Madt<'a> {
+    /// The view of a table that is known to be one. No byte is looked at.
+    pub fn of(table: Table<'a>) -> Madt<'a>
+        requires { IsFilledMadt table }
+        ensures { result ≡ table.entry }
+    {
+        Madt { table }
+    }
+
+    /// The fields of its header.
+    pub fn header(&self) -> Header
+        ensures { header_value result ≡ header_of self.now }
+    {
+        self.table.header()
+    }
+
+    /// Local Interrupt Controller Address, at 36: the address of the local APICs.
+    #[tactic(auto, unfolding(acpi_base::specs::Madt::madt_contents))]
+    pub fn local_apic_address(&self) -> u32
+        ensures { result ≡ (madt_contents self.now).address }
+    {
+        u32_at(self.table.bytes(), MADT_LOCAL_APIC_ADDRESS)
+    }
+
+    /// Flags, at 40.
+    #[tactic(auto, unfolding(acpi_base::specs::Madt::madt_contents))]
+    pub fn flags(&self) -> u32
+        ensures { result ≡ (madt_contents self.now).flags }
+    {
+        u32_at(self.table.bytes(), MADT_FLAGS)
+    }
+
+    /// Its entries, from offset 44 on, by what they say.
+    #[tactic(auto, unfolding(acpi_base::specs::Madt::madt_contents))]
+    pub fn entries(&self) -> TypedEntries<'a, MadtEntry<'a>>
+        ensures entries { entries_read_by madt_entry result.entries.entries ≡ (madt_contents self.now).entries }
+        ensures filled { IsFilledMadt self.now }
+        ensures size { length self.now < 2 ^ 32 }
+    {
+        // Opens the invariant of `Table` to the proof, and does nothing when it runs: a table has fewer than 2^32 bytes.
+        let _ = self.table.bytes();
+        entries_from(self.table.copied(), Entries::MADT_START).into()
+    }
+}
+
+/// An SRAT that its entries fill, each of a length of its type (ACPI 6.5, 5.2.16). Contracts see its bytes.
+#[derive(Debug, Drop)]
+pub struct Srat<'a> {
+    table: Table<'a>,
+}
+
+impl<'a> Model for Srat<'a> {
+    ghost use Rattle.std.specs.Prelude.{ℕ, List};
+    ghost use Rattle.acpi_read.specs.FilledTables.{IsFilledSrat};
+
+    ghost Value = { List ℕ };
+
+    ghost view = { λ srat. srat.table };
+
+    ghost invariant = { λ srat. IsFilledSrat srat.table };
+}
+
+impl<'a> Srat<'a> {
+    /// The view of a table that is known to be one. No byte is looked at.
+    pub fn of(table: Table<'a>) -> Srat<'a>
+        requires { IsFilledSrat table }
+        ensures { result ≡ table.entry }
+    {
+        Srat { table }
+    }
+
+    /// The fields of its header.
+    pub fn header(&self) -> Header
+        ensures { header_value result ≡ header_of self.now }
+    {
+        self.table.header()
+    }
+
+    /// Its entries, from offset 48 on, by what they say.
+    #[tactic(auto, unfolding(acpi_base::specs::Srat::srat_contents))]
+    pub fn entries(&self) -> TypedEntries<'a, SratEntry<'a>>
+        ensures entries { entries_read_by srat_entry result.entries.entries ≡ (srat_contents self.now).entries }
+        ensures filled { IsFilledSrat self.now }
+        ensures size { length self.now < 2 ^ 32 }
+    {
+        // Opens the invariant of `Table` to the proof, and does nothing when it runs: a table has fewer than 2^32 bytes.
+        let _ = self.table.bytes();
+        entries_from(self.table.copied(), Entries::SRAT_START).into()
+    }
+}
+
+/// A PPTT that its entries fill, each of a length of its type (ACPI 6.5, 5.2.30). Contracts see its bytes.
+#[derive(Debug, Drop)]
+pub struct Pptt<'a> {
+    table: Table<'a>,
+}
+
+impl<'a> Model for Pptt<'a> {
+    ghost use Rattle.std.specs.Prelude.{ℕ, List};
+    ghost use Rattle.acpi_read.specs.FilledTables.{IsFilledPptt};
+
+    ghost Value = { List ℕ };
+
+    ghost view = { λ pptt. pptt.table };
+
+    ghost invariant = { λ pptt. IsFilledPptt pptt.table };
+}
+
+impl<'a> Pptt<'a> {
+    /// The view of a table that is known to be one. No byte is looked at.
+    pub fn of(table: Table<'a>) -> Pptt<'a>
+        requires { IsFilledPptt table }
+        ensures { result ≡ table.entry }
+    {
+        Pptt { table }
+    }
+
+    /// The fields of its header.
+    pub fn header(&self) -> Header
+        ensures { header_value result ≡ header_of self.now }
+    {
+        self.table.header()
+    }
+
+    /// Its entries, from offset 36 on, by what they say.
+    #[tactic(auto, unfolding(acpi_base::specs::Pptt::pptt_contents))]
+    pub fn entries(&self) -> TypedEntries<'a, PpttEntry<'a>>
+        ensures entries { entries_read_by pptt_entry result.entries.entries ≡ (pptt_contents self.now).entries }
+        ensures filled { IsFilledPptt self.now }
+        ensures size { length self.now < 2 ^ 32 }
+    {
+        // Opens the invariant of `Table` to the proof, and does nothing when it runs: a table has fewer than 2^32 bytes.
+        let _ = self.table.bytes();
+        entries_from(self.table.copied(), Entries::PPTT_START).into()
+    }
+}

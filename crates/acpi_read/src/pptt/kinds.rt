@@ -1,0 +1,180 @@
+//! Kinds of entries of the PPTT that have one length each.
+
+ghost use Rattle.std.specs.Prelude.{◌≡◌, refl};
+ghost use Rattle.std.proofs.Common.{rules};
+ghost use Rattle.acpi_base.specs.Pptt as said;
+ghost use Rattle.acpi_base.specs.KindLayouts.{parts_of};
+ghost use Rattle.acpi_base.proofs.Layouts.Kinds.{lays_out};
+ghost use Rattle.acpi_read.specs.Pptts as layouts;
+ghost use Rattle.acpi_read.specs.declared.pptt.kinds.Cache24.{Cache24};
+ghost use Rattle.acpi_read.specs.declared.pptt.kinds.Cache28.{Cache28};
+
+use crate::kind::{EntryKind, is_kind};
+use crate::layout::Layout;
+use acpi_base::field::{Value, put_values, u8_at, u16_at, u32_at};
+
+/// A cache type structure without an ID (ACPI 6.5, 5.2.30.2): type 1, 24 bytes. Bytes 2 and 3 are reserved. Which other
+/// fields are valid is not checked.
+#[derive(Clone, Copy, Debug, PartialEq, Eq)]
+pub struct Cache24 {
+    /// At 4: which of the fields behind it are valid.
+    pub flags: u32,
+    /// At 8: the offset of the cache of the next level, from the table's start; 0 for none.
+    pub next_level: u32,
+    /// At 12: its size in bytes.
+    pub size: u32,
+    /// At 16: how many sets it has.
+    pub sets: u32,
+    /// At 20: how many ways it has.
+    pub associativity: u8,
+    /// At 21: bits 1:0 are the allocation type, bits 3:2 the cache type, bit 4 the write policy.
+    pub attributes: u8,
+    /// At 22: the size of a line in bytes.
+    pub line_size: u16,
+}
+
+impl Layout for Cache24 {
+    ghost LEN = { said.cache24.size };
+
+    const LEN: usize = 24;
+
+    ghost parts = { parts_of layouts.cache24_layout };
+
+    ghost values = { λ e. layouts.cache24_layout.values (layouts.cache24_value e) };
+
+    fn read(bytes: &[u8]) -> Option<Cache24> {
+        if !is_kind(bytes, Self::TYPE, Self::LEN) {
+            return None;
+        }
+        Some(Cache24 {
+            flags: u32_at(bytes, 4),
+            next_level: u32_at(bytes, 8),
+            size: u32_at(bytes, 12),
+            sets: u32_at(bytes, 16),
+            associativity: u8_at(bytes, 20),
+            attributes: u8_at(bytes, 21),
+            line_size: u16_at(bytes, 22),
+        })
+    }
+
+    fn write(&self, out: &mut [u8]) {
+        put_values(
+            out,
+            &[
+                Value::U8(Self::TYPE),
+                Value::U8(Self::LEN as u8),
+                Value::Zeros(2),
+                Value::U32(self.flags),
+                Value::U32(self.next_level),
+                Value::U32(self.size),
+                Value::U32(self.sets),
+                Value::U8(self.associativity),
+                Value::U8(self.attributes),
+                Value::U16(self.line_size),
+            ],
+        );
+    }
+
+    ghost counted = { refl };
+
+    ghost one_value = { λ _ _ same. Prim.search rules };
+}
+
+impl EntryKind for Cache24 {
+    ghost TYPE = { said.cache24.type };
+
+    const TYPE: u8 = 1;
+
+    ghost Said = { said.CacheValue };
+
+    ghost kind = { said.cache24 };
+
+    ghost say = { layouts.cache24_value };
+
+    ghost laid = { lays_out layouts.cache24_layout layouts.cache24_laid layouts.cache24_value };
+}
+
+/// A cache type structure with an ID (ACPI 6.5, 5.2.30.2): type 1, 28 bytes. Bytes 2 and 3 are reserved. Which other
+/// fields are valid is not checked.
+#[derive(Clone, Copy, Debug, PartialEq, Eq)]
+pub struct Cache28 {
+    /// At 4: which of the fields behind it are valid.
+    pub flags: u32,
+    /// At 8: the offset of the cache of the next level, from the table's start; 0 for none.
+    pub next_level: u32,
+    /// At 12: its size in bytes.
+    pub size: u32,
+    /// At 16: how many sets it has.
+    pub sets: u32,
+    /// At 20: how many ways it has.
+    pub associativity: u8,
+    /// At 21: bits 1:0 are the allocation type, bits 3:2 the cache type, bit 4 the write policy.
+    pub attributes: u8,
+    /// At 22: the size of a line in bytes.
+    pub line_size: u16,
+    /// At 24: its ID.
+    pub id: u32,
+}
+
+impl Layout for Cache28 {
+    ghost LEN = { said.cache28.size };
+
+    const LEN: usize = 28;
+
+    ghost parts = { parts_of layouts.cache28_layout };
+
+    ghost values = { λ e. layouts.cache28_layout.values (layouts.cache28_value e) };
+
+    fn read(bytes: &[u8]) -> Option<Cache28> {
+        if !is_kind(bytes, Self::TYPE, Self::LEN) {
+            return None;
+        }
+        Some(Cache28 {
+            flags: u32_at(bytes, 4),
+            next_level: u32_at(bytes, 8),
+            size: u32_at(bytes, 12),
+            sets: u32_at(bytes, 16),
+            associativity: u8_at(bytes, 20),
+            attributes: u8_at(bytes, 21),
+            line_size: u16_at(bytes, 22),
+            id: u32_at(bytes, 24),
+        })
+    }
+
+    fn write(&self, out: &mut [u8]) {
+        put_values(
+            out,
+            &[
+                Value::U8(Self::TYPE),
+                Value::U8(Self::LEN as u8),
+                Value::Zeros(2),
+                Value::U32(self.flags),
+                Value::U32(self.next_level),
+                Value::U32(self.size),
+                Value::U32(self.sets),
+                Value::U8(self.associativity),
+                Value::U8(self.attributes),
+                Value::U16(self.line_size),
+                Value::U32(self.id),
+            ],
+        );
+    }
+
+    ghost counted = { refl };
+
+    ghost one_value = { λ _ _ same. Prim.search rules };
+}
+
+impl EntryKind for Cache28 {
+    ghost TYPE = { said.cache28.type };
+
+    const TYPE: u8 = 1;
+
+    ghost Said = { said.CacheValue };
+
+    ghost kind = { said.cache28 };
+
+    ghost say = { layouts.cache28_value };
+
+    ghost laid = { lays_out layouts.cache28_layout layouts.cache28_laid layouts.cache28_value };
+}

@@ -1,0 +1,238 @@
+//! Kinds of entries of the SRAT.
+
+ghost use Rattle.std.specs.Prelude.{◌≡◌, refl};
+ghost use Rattle.std.proofs.Common.{rules};
+ghost use Rattle.acpi_base.specs.Srat as said;
+ghost use Rattle.acpi_base.specs.KindLayouts.{parts_of};
+ghost use Rattle.acpi_base.proofs.Layouts.Kinds.{lays_out};
+ghost use Rattle.acpi_read.specs.Srats as layouts;
+ghost use Rattle.acpi_read.specs.declared.srat.kinds.ApicDomain.{ApicDomain};
+ghost use Rattle.acpi_read.specs.declared.srat.kinds.MemoryRange.{MemoryRange};
+ghost use Rattle.acpi_read.specs.declared.srat.kinds.X2apicDomain.{X2apicDomain};
+
+use crate::kind::{EntryKind, is_kind};
+use crate::layout::Layout;
+use acpi_base::field::{Value, put_values, u8_at, u32_at, u64_at};
+
+/// A processor local APIC affinity structure (ACPI 6.5, 5.2.16.1): type 0, 16 bytes. Bits 31:8 of its domain
+/// stand apart from bits 7:0; they are read whatever the table's revision.
+#[derive(Clone, Copy, Debug, PartialEq, Eq)]
+pub struct ApicDomain {
+    /// At 2 and at 9: the proximity domain.
+    pub domain: u32,
+    /// At 3: the ID of the processor's local APIC.
+    pub apic_id: u8,
+    /// At 4: bit 0 is Enabled.
+    pub flags: u32,
+    /// At 8: the EID of a local SAPIC.
+    pub eid: u8,
+    /// At 12: the clock domain.
+    pub clock_domain: u32,
+}
+
+impl Layout for ApicDomain {
+    ghost LEN = { said.apic_domain.size };
+
+    const LEN: usize = 16;
+
+    ghost parts = { parts_of layouts.apic_domain_layout };
+
+    ghost values = { λ e. layouts.apic_domain_layout.values (layouts.apic_domain_value e) };
+
+    fn read(bytes: &[u8]) -> Option<ApicDomain> {
+        if !is_kind(bytes, Self::TYPE, Self::LEN) {
+            return None;
+        }
+        let domain = [
+            u8_at(bytes, 2),
+            u8_at(bytes, 9),
+            u8_at(bytes, 10),
+            u8_at(bytes, 11),
+        ];
+        Some(ApicDomain {
+            domain: u32::from_le_bytes(domain),
+            apic_id: u8_at(bytes, 3),
+            flags: u32_at(bytes, 4),
+            eid: u8_at(bytes, 8),
+            clock_domain: u32_at(bytes, 12),
+        })
+    }
+
+    fn write(&self, out: &mut [u8]) {
+        let domain = self.domain.to_le_bytes();
+        put_values(
+            out,
+            &[
+                Value::U8(Self::TYPE),
+                Value::U8(Self::LEN as u8),
+                Value::U8(domain[0]),
+                Value::U8(self.apic_id),
+                Value::U32(self.flags),
+                Value::U8(self.eid),
+                Value::U8(domain[1]),
+                Value::U8(domain[2]),
+                Value::U8(domain[3]),
+                Value::U32(self.clock_domain),
+            ],
+        );
+    }
+
+    ghost counted = { refl };
+
+    ghost one_value = { λ _ _ same. Prim.search rules };
+}
+
+impl EntryKind for ApicDomain {
+    ghost TYPE = { said.apic_domain.type };
+
+    const TYPE: u8 = 0;
+
+    ghost Said = { said.ApicDomainValue };
+
+    ghost kind = { said.apic_domain };
+
+    ghost say = { layouts.apic_domain_value };
+
+    ghost laid = { lays_out layouts.apic_domain_layout layouts.apic_domain_laid layouts.apic_domain_value };
+}
+
+/// A memory affinity structure (ACPI 6.5, 5.2.16.2): type 1, 40 bytes. It says in which domain a range of
+/// addresses is. Bytes 6 and 7, 24 to 27 and 32 to 39 are reserved.
+#[derive(Clone, Copy, Debug, PartialEq, Eq)]
+pub struct MemoryRange {
+    /// At 2: the proximity domain.
+    pub domain: u32,
+    /// At 8: the first address.
+    pub base: u64,
+    /// At 16: how many bytes there are.
+    pub size: u64,
+    /// At 28: bit 0 is Enabled, bit 1 Hot Pluggable, bit 2 NonVolatile.
+    pub flags: u32,
+}
+
+impl Layout for MemoryRange {
+    ghost LEN = { said.memory_range.size };
+
+    const LEN: usize = 40;
+
+    ghost parts = { parts_of layouts.memory_range_layout };
+
+    ghost values = { λ e. layouts.memory_range_layout.values (layouts.memory_range_value e) };
+
+    fn read(bytes: &[u8]) -> Option<MemoryRange> {
+        if !is_kind(bytes, Self::TYPE, Self::LEN) {
+            return None;
+        }
+        Some(MemoryRange {
+            domain: u32_at(bytes, 2),
+            base: u64_at(bytes, 8),
+            size: u64_at(bytes, 16),
+            flags: u32_at(bytes, 28),
+        })
+    }
+
+    fn write(&self, out: &mut [u8]) {
+        put_values(
+            out,
+            &[
+                Value::U8(Self::TYPE),
+                Value::U8(Self::LEN as u8),
+                Value::U32(self.domain),
+                Value::Zeros(2),
+                Value::U64(self.base),
+                Value::U64(self.size),
+                Value::Zeros(4),
+                Value::U32(self.flags),
+                Value::Zeros(8),
+            ],
+        );
+    }
+
+    ghost counted = { refl };
+
+    ghost one_value = { λ _ _ same. Prim.search rules };
+}
+
+impl EntryKind for MemoryRange {
+    ghost TYPE = { said.memory_range.type };
+
+    const TYPE: u8 = 1;
+
+    ghost Said = { said.MemoryValue };
+
+    ghost kind = { said.memory_range };
+
+    ghost say = { layouts.memory_range_value };
+
+    ghost laid = { lays_out layouts.memory_range_layout layouts.memory_range_laid layouts.memory_range_value };
+}
+
+/// A processor local x2APIC affinity structure (ACPI 6.5, 5.2.16.3): type 2, 24 bytes. Bytes 2 and 3 and 20 to
+/// 23 are reserved.
+#[derive(Clone, Copy, Debug, PartialEq, Eq)]
+pub struct X2apicDomain {
+    /// At 4: the proximity domain.
+    pub domain: u32,
+    /// At 8: the ID of the processor's local x2APIC.
+    pub x2apic_id: u32,
+    /// At 12: bit 0 is Enabled.
+    pub flags: u32,
+    /// At 16: the clock domain.
+    pub clock_domain: u32,
+}
+
+impl Layout for X2apicDomain {
+    ghost LEN = { said.x2apic_domain.size };
+
+    const LEN: usize = 24;
+
+    ghost parts = { parts_of layouts.x2apic_domain_layout };
+
+    ghost values = { λ e. layouts.x2apic_domain_layout.values (layouts.x2apic_domain_value e) };
+
+    fn read(bytes: &[u8]) -> Option<X2apicDomain> {
+        if !is_kind(bytes, Self::TYPE, Self::LEN) {
+            return None;
+        }
+        Some(X2apicDomain {
+            domain: u32_at(bytes, 4),
+            x2apic_id: u32_at(bytes, 8),
+            flags: u32_at(bytes, 12),
+            clock_domain: u32_at(bytes, 16),
+        })
+    }
+
+    fn write(&self, out: &mut [u8]) {
+        put_values(
+            out,
+            &[
+                Value::U8(Self::TYPE),
+                Value::U8(Self::LEN as u8),
+                Value::Zeros(2),
+                Value::U32(self.domain),
+                Value::U32(self.x2apic_id),
+                Value::U32(self.flags),
+                Value::U32(self.clock_domain),
+                Value::Zeros(4),
+            ],
+        );
+    }
+
+    ghost counted = { refl };
+
+    ghost one_value = { λ _ _ same. Prim.search rules };
+}
+
+impl EntryKind for X2apicDomain {
+    ghost TYPE = { said.x2apic_domain.type };
+
+    const TYPE: u8 = 2;
+
+    ghost Said = { said.X2apicDomainValue };
+
+    ghost kind = { said.x2apic_domain };
+
+    ghost say = { layouts.x2apic_domain_value };
+
+    ghost laid = { lays_out layouts.x2apic_domain_layout layouts.x2apic_domain_laid layouts.x2apic_domain_value };
+}

@@ -1,0 +1,72 @@
+//! Entries of a table by what they say.
+
+ghost use Rattle.std.specs.Prelude.{◌≡◌, ℕ, List};
+ghost use Rattle.std.specs.Iterator.{item_count};
+ghost use Rattle.acpi_base.specs.Entries.{IsEntry};
+ghost use Rattle.acpi_read.specs.TypedEntries.{GivesTyped};
+
+use crate::entries::Entries;
+use crate::entry::Entry;
+use std::marker::PhantomData;
+
+/// What an entry of a kind of table says: one variant for each type of entry that is read, and one for all
+/// others.
+pub trait TableEntry<'a>: Sized {
+    ghost Said: { Type 0 };
+
+    /// What a value stands for.
+    ghost value: { Self → Said };
+
+    /// What an entry's bytes say.
+    ghost said_by: { List ℕ → Said };
+
+    /// What is so of every value that was read.
+    ghost IsRead: { Self → Type 0 } = { λ _. Unit {0} };
+
+    /// What an entry's bytes say. One whose length is none of its type is opaque, as one of another type.
+    fn of(bytes: &'a [u8]) -> Self
+        requires { IsEntry bytes.now }
+        ensures value { value result ≡ said_by bytes.now }
+        ensures read { IsRead result };
+}
+
+/// What an entry says, and where it stands.
+#[derive(Clone, Copy, Debug, PartialEq, Eq)]
+pub struct EntryAt<E> {
+    /// Where it stands, from the table's start.
+    pub offset: u64,
+    /// What it says.
+    pub entry: E,
+}
+
+/// The entries of a table by what they say, from its first one on, as far as they stand one after another.
+#[derive(Debug, Drop)]
+pub struct TypedEntries<'a, E> {
+    entries: Entries<'a>,
+    kind: PhantomData<E>,
+}
+
+impl<'a, E> From<Entries<'a>> for TypedEntries<'a, E> {
+    ghost from_gives = { λ entries typed. typed.entries ≡ entries };
+
+    fn from(entries: Entries<'a>) -> TypedEntries<'a, E> {
+        TypedEntries {
+            entries,
+            kind: PhantomData,
+        }
+    }
+}
+
+impl<'a, E: TableEntry<'a>> Iterator for TypedEntries<'a, E> {
+    type Item = EntryAt<E>;
+
+    ghost next_gives = { λ before entry after. GivesTyped E.value E.said_by E.IsRead before.entries.entries entry after.entries.entries };
+
+    ghost remaining = { item_count (λ left. left.entries.entries) };
+
+    fn next(&mut self) -> Option<EntryAt<E>> {
+        let Entry { offset, bytes } = self.entries.next()?;
+        let entry = E::of(bytes);
+        Some(EntryAt { offset, entry })
+    }
+}
