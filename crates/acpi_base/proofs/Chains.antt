@@ -24,7 +24,8 @@ moved : (f : ℕ → ℕ) (n i : ℕ) → Decided (f i ≡ n) → ℕ
 moved f n i (inl is) = f (suc n)
 moved f n i (inr other) = f i
 
-moved_is : (f : ℕ → ℕ) (n i : ℕ) (d : Decided (f i ≡ n)) → ((f i ≡ n) × (moved f n i d ≡ f (suc n))) ⊎ ((f i ≢ n) × (moved f n i d ≡ f i))
+moved_is : (f : ℕ → ℕ) (n i : ℕ) (d : Decided (f i ≡ n))
+    → ((f i ≡ n) × (moved f n i d ≡ f (suc n))) ⊎ ((f i ≢ n) × (moved f n i d ≡ f i))
 unfolding moved
 moved_is f n i (inl is) = inl (is, refl)
 moved_is f n i (inr other) = inr (other, refl)
@@ -36,7 +37,8 @@ pigeonhole (suc n) f below =
       | inr (i, inside, least) ↦ (i, suc n, inside, omega arith, least.holds)
       | inl new ↦
           let is = λ (i : ℕ). moved_is f n i (same (f i) n) in
-          let (i, j, less, within, repeats) = pigeonhole n (λ i. moved f n i (same (f i) n)) (λ i within. grind (arith, is i, below i, below (suc n), new i)) in
+          let (i, j, less, within, repeats) = pigeonhole n (λ i. moved f n i (same (f i) n))
+          (λ i within. grind (arith, is i, below i, below (suc n), new i)) in
           (i, j, less, omega arith, grind (arith, is i, is j, new i, new j))
     ]
 
@@ -61,17 +63,20 @@ after Names naming o (suc n) = named Names (after Names naming o n) (naming.deci
 abbrev AreSteps : (ℕ → ℕ → Type 0) → (ℕ → ℕ) → ℕ → Type 0
 AreSteps Names at n = (k : ℕ) → k < n → IsStep Names (at k) (at (suc k))
 
-leads_along : (Names : ℕ → ℕ → Type 0) (at : ℕ → ℕ) (n : ℕ) → AreSteps Names at n → (steps i j : ℕ) → i + steps ≡ j → j ≤ n → LeadsTo Names steps (at i) (at j)
+leads_along : (Names : ℕ → ℕ → Type 0) (at : ℕ → ℕ) (n : ℕ) → AreSteps Names at n → (steps i j : ℕ) → i + steps ≡ j
+    → j ≤ n → LeadsTo Names steps (at i) (at j)
 leads_along Names at n each zero i j sum within = ap at (omega arith)
 leads_along Names at n each (suc steps) i j sum within =
     (at (suc i), each i (omega arith), leads_along Names at n each steps (suc i) j (omega arith) within)
 
-ends_before : (Names : ℕ → ℕ → Type 0) (at : ℕ → ℕ) (n : ℕ) → AreSteps Names at n → Ends Names (at n) → Ends Names (at 0)
+ends_before : (Names : ℕ → ℕ → Type 0) (at : ℕ → ℕ) (n : ℕ) → AreSteps Names at n → Ends Names (at n)
+    → Ends Names (at 0)
 ends_before Names at zero each ends = ends
 ends_before Names at (suc n) each (rest, chain) =
     ends_before Names at n (λ k less. each k (omega arith)) (at (suc n) ∷ rest, (each n (omega arith), chain))
 
-ends_or_leads : (Names : ℕ → ℕ → Type 0) (naming : IsNaming Names) → NoneDangles Names → (o : ℕ) → IsAt Names o → (n : ℕ)
+ends_or_leads : (Names : ℕ → ℕ → Type 0) (naming : IsNaming Names) → NoneDangles Names → (o : ℕ) → IsAt Names o
+    → (n : ℕ)
     → Ends Names o ⊎ (IsAt Names (after Names naming o n) × AreSteps Names (after Names naming o) n)
 unfolding after
 ends_or_leads Names naming sound o here zero = inr (here, λ k less. absurd (omega arith))
@@ -91,7 +96,8 @@ ends_or_leads Names naming sound o here (suc n) =
           | inr last ↦ (let is : n ≡ k = omega arith in subst (λ (i : ℕ). IsStep Names (at i) (at (suc i))) is step)
         ]
 
-    next : IsAt Names (at n) → AreSteps Names at n → Names (at n) (at (suc n)) → Ends Names o ⊎ (IsAt Names (at (suc n)) × AreSteps Names at (suc n))
+    next : IsAt Names (at n) → AreSteps Names at n → Names (at n) (at (suc n))
+        → Ends Names o ⊎ (IsAt Names (at (suc n)) × AreSteps Names at (suc n))
     next there each names =
         elim (cases_eq (at (suc n)) 0) [
           | inl none ↦ inl (ends_before Names at n each ([], subst (Names (at n)) none names))
@@ -102,9 +108,11 @@ ends_or_leads Names naming sound o here (suc n) =
               ]
         ]
 
-goes_round : (Names : ℕ → ℕ → Type 0) (most : ℕ) → IsNumbered Names most → (at : ℕ → ℕ) → IsAt Names (at 0) → AreSteps Names at most → GoesRound Names most (at 0)
+goes_round : (Names : ℕ → ℕ → Type 0) (most : ℕ) → IsNumbered Names most → (at : ℕ → ℕ) → IsAt Names (at 0)
+    → AreSteps Names at most → GoesRound Names most (at 0)
 goes_round Names most numbered at here each =
-    let (i, j, less, within, repeats) = pigeonhole most (λ k. numbered.number (at k)) (λ k within. numbered.below (at k) (stands k within)) in
+    let (i, j, less, within, repeats) = pigeonhole most (λ k. numbered.number (at k))
+    (λ k within. numbered.below (at k) (stands k within)) in
     let is : at j ≡ at i = sym (numbered.apart (at i) (at j) (stands i (omega arith)) (stands j within) repeats) in
     let back = leads_along Names at most each (j - i) i j (omega arith) within in (
       i,
@@ -123,7 +131,8 @@ goes_round Names most numbered at here each =
     stands (suc k) within = (each k (omega arith)).there
 
 -- where what is named stands, each chain ends or goes round
-pub ends_or_goes_round : (Names : ℕ → ℕ → Type 0) (most : ℕ) → IsNaming Names → IsNumbered Names most → NoneDangles Names
+pub ends_or_goes_round : (Names : ℕ → ℕ → Type 0) (most : ℕ) → IsNaming Names → IsNumbered Names most
+    → NoneDangles Names
     → (o : ℕ) → IsAt Names o → Ends Names o ⊎ GoesRound Names most o
 unfolding after
 ends_or_goes_round Names most naming numbered sound o here =
@@ -151,12 +160,14 @@ never_ends Names naming [] (suc lead) round o there once back last =
     once.1.some (naming.one o once.0 0 once.1.names last)
 never_ends Names naming (q ∷ rest) zero round o there once back (step, chain) =
     let is = naming.one there back.0 q back.1.names (rw once at step.names) in
-    never_ends Names naming rest round round q there (subst (λ (x : ℕ). LeadsTo Names round x there) is back.2) back chain
+    never_ends Names naming rest round round q there (subst (λ (x : ℕ). LeadsTo Names round x there) is back.2) back
+    chain
 never_ends Names naming (q ∷ rest) (suc lead) round o there once back (step, chain) =
     let is = naming.one o once.0 q once.1.names step.names in
     never_ends Names naming rest lead round q there (subst (λ (x : ℕ). LeadsTo Names lead x there) is once.2) back chain
 
-pub cycle_excludes_end : (Names : ℕ → ℕ → Type 0) → IsNaming Names → (most o lead round : ℕ) → IsCycle Names most o lead round → ¬ Ends Names o
+pub cycle_excludes_end : (Names : ℕ → ℕ → Type 0) → IsNaming Names → (most o lead round : ℕ)
+    → IsCycle Names most o lead round → ¬ Ends Names o
 cycle_excludes_end Names naming most o lead zero cycle ends = omega (arith, cycle.some)
 cycle_excludes_end Names naming most o lead (suc round) cycle (rest, chain) =
     never_ends Names naming rest lead round o cycle.there cycle.once cycle.back chain
@@ -167,11 +178,13 @@ cycle_begins Names most o zero zero cycle = absurd (omega (arith, cycle.some))
 cycle_begins Names most o zero (suc round) cycle = (cycle.back.0, rw cycle.once cycle.back.1.names)
 cycle_begins Names most o (suc lead) round cycle = (cycle.once.0, cycle.once.1.names)
 
-pub cycle_excludes : (Names : ℕ → ℕ → Type 0) → IsNaming Names → (most o lead round : ℕ) → IsCycle Names most o lead round → ¬ AllEnd Names
+pub cycle_excludes : (Names : ℕ → ℕ → Type 0) → IsNaming Names → (most o lead round : ℕ)
+    → IsCycle Names most o lead round → ¬ AllEnd Names
 cycle_excludes Names naming most o lead round cycle end =
     cycle_excludes_end Names naming most o lead round cycle (end o (cycle_begins Names most o lead round cycle))
 
-pub ends_or_round : (Names : ℕ → ℕ → Type 0) (most : ℕ) → IsNaming Names → IsNumbered Names most → NoneDangles Names → EndOrGoRound Names most
+pub ends_or_round : (Names : ℕ → ℕ → Type 0) (most : ℕ) → IsNaming Names → IsNumbered Names most → NoneDangles Names
+    → EndOrGoRound Names most
 ends_or_round Names most naming numbered sound =
     record {
       either = ends_or_goes_round Names most naming numbered sound;
@@ -198,7 +211,8 @@ step_decided Names naming o =
           (both (differs p 0) (naming.decide p))
     ]
 
-leads_to_one : (Names : ℕ → ℕ → Type 0) → IsNaming Names → (n o p q : ℕ) → LeadsTo Names n o p → LeadsTo Names n o q → p ≡ q
+leads_to_one : (Names : ℕ → ℕ → Type 0) → IsNaming Names → (n o p q : ℕ) → LeadsTo Names n o p → LeadsTo Names n o q
+    → p ≡ q
 leads_to_one Names naming zero o p q one other = sym one ∙ other
 leads_to_one Names naming (suc n) o p q one other =
     let is = naming.one o one.0 other.0 one.1.names other.1.names in
@@ -220,15 +234,22 @@ leads_to_decided Names naming n o p =
     elim (leads_decided Names naming n o) [
       | inr none ↦ inr (λ h. none (p, h))
       | inl (q, leads) ↦
-          decided_as (λ is. subst (LeadsTo Names n o) is leads) (λ h. leads_to_one Names naming n o q p leads h) (same q p)
+          decided_as (λ is. subst (LeadsTo Names n o) is leads) (λ h. leads_to_one Names naming n o q p leads h)
+          (same q p)
     ]
 
-pub cycle_decided : (Names : ℕ → ℕ → Type 0) → IsNaming Names → (most o lead round : ℕ) → Decided (IsCycle Names most o lead round)
+pub cycle_decided : (Names : ℕ → ℕ → Type 0) → IsNaming Names → (most o lead round : ℕ)
+    → Decided (IsCycle Names most o lead round)
 cycle_decided Names naming most o lead round =
     elim (leads_decided Names naming lead o) [
       | inr none ↦ inr (λ cycle. none (cycle.there, cycle.once))
       | inl (p, once) ↦
           decided_as (λ h. record { there = p; once = once; back = h.0; some = h.1; fits = h.2 })
-          (λ cycle. (subst (λ (x : ℕ). LeadsTo Names round x x) (leads_to_one Names naming lead o cycle.there p cycle.once once) cycle.back, cycle.some, cycle.fits))
+          (λ cycle. (
+            subst (λ (x : ℕ). LeadsTo Names round x x)
+                (leads_to_one Names naming lead o cycle.there p cycle.once once) cycle.back,
+            cycle.some,
+            cycle.fits,
+          ))
           (all3 (leads_to_decided Names naming round p p) (at_most 1 round) (at_most (lead + round) most))
     ]

@@ -16,7 +16,8 @@ first_or_later x y xs (suc k, below, is) = inr (k, omega arith, is)
 pub no_element : {X : Type 0} (y : X) → ¬ Contains [] y
 no_element y (k, below, is) = omega arith
 
-pub element_of_map : {X Y : Type 0} (f : X → Y) (xs : List X) (y : Y) → Contains (map f xs) y → (x : X) × Contains xs x × (f x ≡ y)
+pub element_of_map : {X Y : Type 0} (f : X → Y) (xs : List X) (y : Y) → Contains (map f xs) y
+    → (x : X) × Contains xs x × (f x ≡ y)
 element_of_map f [] y h = absurd (no_element y h)
 element_of_map f (x ∷ xs) y h =
     elim (first_or_later (f x) y (map f xs) h) [
@@ -28,11 +29,18 @@ element_of_map f (x ∷ xs) y h =
 pub bounded : {X : Type 0} (f : X → ℕ) (xs : List X) → (most : ℕ) × ((x : X) → Contains xs x → f x < most)
 bounded f [] = (0, λ x h. absurd (no_element x h))
 bounded f (x ∷ xs) =
-    let rest = bounded f xs in
-    (f x + 1 + rest.0, λ y h. elim (first_or_later x y xs h) [ inl is ↦ omega (arith, ap f is) | inr later ↦ omega (arith, rest.1 y later) ])
+    let rest = bounded f xs in (
+      f x + 1 + rest.0,
+      λ y h. elim (first_or_later x y xs h) [
+        | inl is ↦ omega (arith, ap f is)
+        | inr later ↦
+            omega (arith, rest.1 y later)
+      ],
+    )
 
 -- whether P holds of an element of a list
-pub element_decided : {X : Type 0} (xs : List X) (P : X → Type 0) → ((x : X) → Decided (P x)) → Decided ((x : X) × Contains xs x × P x)
+pub element_decided : {X : Type 0} (xs : List X) (P : X → Type 0) → ((x : X) → Decided (P x))
+    → Decided ((x : X) × Contains xs x × P x)
 element_decided [] P decide = inr (λ h. no_element h.0 h.1)
 element_decided (x ∷ xs) P decide =
     elim (decide x) [
@@ -40,6 +48,10 @@ element_decided (x ∷ xs) P decide =
       | inr fails ↦
           elim (element_decided xs P decide) [
             | inl (y, later, holds) ↦ inl (y, later_element x y xs later, holds)
-            | inr none ↦ inr (λ h. elim (first_or_later x h.0 xs h.1) [ inl is ↦ fails (subst P (sym is) h.2) | inr later ↦ none (h.0, later, h.2) ])
+            | inr none ↦ inr (λ h. elim (first_or_later x h.0 xs h.1) [
+              | inl is ↦
+                  fails (subst P (sym is) h.2)
+              | inr later ↦ none (h.0, later, h.2)
+            ])
           ]
     ]

@@ -28,10 +28,12 @@ AreSpread from end (s ∷ rest) = LiesWithin from end s × AreSpread (s.offset +
 first_fits : (left e : List ℕ) → first_entry left ≡ Some e → (2 ≤ length e) × (length e ≤ length left)
 unfolding first_entry
 first_fits left e is =
-    let parts = cond_some (nat_le 2 (length left) && nat_le 2 (slice_index left 1) && nat_le (slice_index left 1) (length left)) (take (slice_index left 1) left) e is in
+    let parts = cond_some (nat_le 2 (length left) && nat_le 2 (slice_index left 1) && nat_le (slice_index left 1)
+    (length left)) (take (slice_index left 1) left) e is in
     grind (arith, and_parts, leb-true, length-take-le, parts.0, parts.1)
 
-are_spread : (n offset end : ℕ) (left : List ℕ) → offset + length left ≡ end → AreSpread offset end (entries_from n offset left)
+are_spread : (n offset end : ℕ) (left : List ℕ) → offset + length left ≡ end
+    → AreSpread offset end (entries_from n offset left)
 unfolding AreSpread entries_from
 are_spread zero offset end left sum = tt
 are_spread (suc n) offset end left sum =
@@ -39,10 +41,15 @@ are_spread (suc n) offset end left sum =
       | inr none ↦ rw none tt
       | inl (e, is) ↦
           let fits = first_fits left e is in
-          rw is (record { behind = omega arith; least = fits.0; fits = omega (arith, fits.1) }, are_spread n (offset + length e) end (drop (length e) left) (omega (arith, fits.1, length-drop (length e) left)))
+          rw is (
+            record { behind = omega arith; least = fits.0; fits = omega (arith, fits.1) },
+            are_spread n (offset + length e) end (drop (length e) left)
+                (omega (arith, fits.1, length-drop (length e) left)),
+          )
     ]
 
-lies_within : (from end : ℕ) (es : List (PlacedEntry (List ℕ))) → AreSpread from end es → (s : PlacedEntry (List ℕ)) → Contains es s → LiesWithin from end s
+lies_within : (from end : ℕ) (es : List (PlacedEntry (List ℕ))) → AreSpread from end es → (s : PlacedEntry (List ℕ))
+    → Contains es s → LiesWithin from end s
 unfolding AreSpread
 lies_within from end [] spread s h = absurd (no_element s h)
 lies_within from end (t ∷ rest) spread s h =
@@ -63,12 +70,14 @@ are_apart : (from end : ℕ) (es : List (PlacedEntry (List ℕ))) → AreSpread 
 unfolding AreSpread
 are_apart from end [] spread s t h i = absurd (no_element s h)
 are_apart from end (u ∷ rest) spread s t h i =
-    cases (are_apart (u.offset + length u.entry) end rest spread.1 s t) (first_or_later u s rest h) (first_or_later u t rest i)
+    cases (are_apart (u.offset + length u.entry) end rest spread.1 s t) (first_or_later u s rest h)
+    (first_or_later u t rest i)
   where
     behind : (v : PlacedEntry (List ℕ)) → Contains rest v → u.offset + length u.entry ≤ v.offset
     behind v later = (lies_within (u.offset + length u.entry) end rest spread.1 v later).behind
 
-    cases : (Contains rest s → Contains rest t → AreApart s t) → (u ≡ s) ⊎ Contains rest s → (u ≡ t) ⊎ Contains rest t → AreApart s t
+    cases : (Contains rest s → Contains rest t → AreApart s t) → (u ≡ s) ⊎ Contains rest s → (u ≡ t) ⊎ Contains rest t
+        → AreApart s t
     cases _ (inl is) (inl also) = inl (sym is ∙ also)
     cases _ (inl is) (inr later) = inr (inl (rw is at (behind t later)))
     cases _ (inr later) (inl is) = inr (inr (rw is at (behind s later)))
@@ -79,9 +88,11 @@ unfolding entries_of
 all_spread first whole = are_spread (length whole) first (first + length (drop first whole)) (drop first whole) refl
 
 -- an entry stands behind what is before the entries, has at least two bytes, and ends within the table
-pub entry_within : (first : ℕ) (whole : List ℕ) (o : ℕ) (e : List ℕ) → Stands (entries_of first whole) o e → (first ≤ o) × (2 ≤ length e) × (o + length e ≤ length whole)
+pub entry_within : (first : ℕ) (whole : List ℕ) (o : ℕ) (e : List ℕ) → Stands (entries_of first whole) o e
+    → (first ≤ o) × (2 ≤ length e) × (o + length e ≤ length whole)
 entry_within first whole o e stands =
-    let lies = lies_within first (first + length (drop first whole)) (entries_of first whole) (all_spread first whole) (record { offset = o; entry = e }) stands in
+    let lies = lies_within first (first + length (drop first whole)) (entries_of first whole) (all_spread first whole)
+    (record { offset = o; entry = e }) stands in
     (lies.behind, lies.least, omega (arith, lies.behind, lies.least, lies.fits, length-drop first whole))
 
 -- bytes that are no entry are left before the table's end
@@ -90,18 +101,25 @@ unfolding cut_of
 cut_inside first whole o is = grind (arith, cond_some, ltb-true)
 
 -- two entries of a table are one, or the one stands behind the other
-pub entries_apart : (first : ℕ) (whole : List ℕ) (o p : ℕ) (e d : List ℕ) → Stands (entries_of first whole) o e → Stands (entries_of first whole) p d
+pub entries_apart : (first : ℕ) (whole : List ℕ) (o p : ℕ) (e d : List ℕ) → Stands (entries_of first whole) o e
+    → Stands (entries_of first whole) p d
     → ((o ≡ p) × (e ≡ d)) ⊎ ((o + length e ≤ p) ⊎ (p + length d ≤ o))
 entries_apart first whole o p e d one other =
-    elim (are_apart first (first + length (drop first whole)) (entries_of first whole) (all_spread first whole) (record { offset = o; entry = e }) (record { offset = p; entry = d }) one other) [
-      | inl same ↦ inl (ap (λ (s : PlacedEntry (List ℕ)). s.offset) same, ap (λ (s : PlacedEntry (List ℕ)). s.entry) same)
+    elim (are_apart first (first + length (drop first whole)) (entries_of first whole) (all_spread first whole)
+    (record { offset = o; entry = e }) (record { offset = p; entry = d }) one other) [
+      | inl same ↦ inl (
+        ap (λ (s : PlacedEntry (List ℕ)). s.offset) same,
+        ap (λ (s : PlacedEntry (List ℕ)). s.entry) same,
+      )
       | inr apart ↦ inr apart
     ]
 
 -- ---- entries of bytes
 
-take_below : (n : ℕ) (bytes : List ℕ) → ((k : ℕ) → slice_index bytes k < 256) → (k : ℕ) → slice_index (take n bytes) k < 256
-take_below n bytes small k = grind (arith, cases_lt k n, get_or-take n bytes k 0, get_or_past (take n bytes) k 0, length-take n bytes, small k)
+take_below : (n : ℕ) (bytes : List ℕ) → ((k : ℕ) → slice_index bytes k < 256) → (k : ℕ)
+    → slice_index (take n bytes) k < 256
+take_below n bytes small k =
+    grind (arith, cases_lt k n, get_or-take n bytes k 0, get_or_past (take n bytes) k 0, length-take n bytes, small k)
 
 entries_below : (n offset : ℕ) (left : List ℕ) → ((k : ℕ) → slice_index left k < 256)
     → (s : PlacedEntry (List ℕ)) → Contains (entries_from n offset left) s → (k : ℕ) → slice_index s.entry k < 256
@@ -113,9 +131,11 @@ entries_below (suc n) offset left small s h k =
       | inl (e, is) ↦
           elim (first_or_later (record { offset = offset; entry = e }) s _ (rw is at h)) [
             | inl same ↦
-                let entry : take (slice_index left 1) left ≡ s.entry = (cond_some _ _ _ is).1 ∙ ap (λ (t : PlacedEntry (List ℕ)). t.entry) same in
+                let entry : take (slice_index left 1) left ≡ s.entry =
+                (cond_some _ _ _ is).1 ∙ ap (λ (t : PlacedEntry (List ℕ)). t.entry) same in
                 rw (← entry) (take_below (slice_index left 1) left small k)
-            | inr later ↦ entries_below n (offset + length e) (drop (length e) left) (λ j. grind (arith, get_or-drop (length e) left j 0, small (length e + j))) s later k
+            | inr later ↦ entries_below n (offset + length e) (drop (length e) left)
+                (λ j. grind (arith, get_or-drop (length e) left j 0, small (length e + j))) s later k
           ]
     ]
 
@@ -124,19 +144,26 @@ pub entry_below : (first : ℕ) (whole : List ℕ) → ((k : ℕ) → slice_inde
     → (o : ℕ) (e : List ℕ) → Stands (entries_of first whole) o e → (k : ℕ) → slice_index e k < 256
 unfolding entries_of
 entry_below first whole small o e stands =
-    entries_below (length whole) first (drop first whole) (λ j. grind (arith, get_or-drop first whole j 0, small (first + j))) (record { offset = o; entry = e }) stands
+    entries_below (length whole) first (drop first whole)
+    (λ j. grind (arith, get_or-drop first whole j 0, small (first + j))) (record { offset = o; entry = e }) stands
 
 -- ---- what entries say
 
 -- the bytes of an entry that says this
-pub said_from : {E : Type 0} (read : List ℕ → E) (entries : List (PlacedEntry (List ℕ))) (o : ℕ) (v : E) → Stands (entries_read_by read entries) o v → (e : List ℕ) × Stands entries o e × (read e ≡ v)
+pub said_from : {E : Type 0} (read : List ℕ → E) (entries : List (PlacedEntry (List ℕ))) (o : ℕ) (v : E)
+    → Stands (entries_read_by read entries) o v → (e : List ℕ) × Stands entries o e × (read e ≡ v)
 said_from {E} read entries o v stands =
-    let found = element_of_map (λ s. record { offset = s.offset; entry = read s.entry }) entries (record { offset = o; entry = v }) stands in
-    let at : found.0.offset ≡ o = ap (λ (s : PlacedEntry E). s.offset) found.2 in
-    (found.0.entry, subst (λ (k : ℕ). Stands entries k found.0.entry) at found.1, ap (λ (s : PlacedEntry E). s.entry) found.2)
+    let found = element_of_map (λ s. record { offset = s.offset; entry = read s.entry }) entries
+    (record { offset = o; entry = v }) stands in
+    let at : found.0.offset ≡ o = ap (λ (s : PlacedEntry E). s.offset) found.2 in (
+      found.0.entry,
+      subst (λ (k : ℕ). Stands entries k found.0.entry) at found.1,
+      ap (λ (s : PlacedEntry E). s.entry) found.2,
+    )
 
 -- an entry that says something begins before the end of the table
-pub said_inside : {E : Type 0} (read : List ℕ → E) (first : ℕ) (whole : List ℕ) (o : ℕ) (v : E) → Stands (entries_read_by read (entries_of first whole)) o v → o < length whole
+pub said_inside : {E : Type 0} (read : List ℕ → E) (first : ℕ) (whole : List ℕ) (o : ℕ) (v : E)
+    → Stands (entries_read_by read (entries_of first whole)) o v → o < length whole
 said_inside read first whole o v stands =
     let (e, here, is) = said_from read (entries_of first whole) o v stands in
     omega (arith, entry_within first whole o e here)
@@ -145,7 +172,8 @@ said_inside read first whole o v stands =
 abbrev pub AreOnes : {E : Type 0} → List (PlacedEntry E) → Type 0
 AreOnes {E} entries = (o : ℕ) (e d : E) → Stands entries o e → Stands entries o d → e ≡ d
 
-pub one_said : {E : Type 0} (read : List ℕ → E) (first : ℕ) (whole : List ℕ) → AreOnes (entries_read_by read (entries_of first whole))
+pub one_said : {E : Type 0} (read : List ℕ → E) (first : ℕ) (whole : List ℕ)
+    → AreOnes (entries_read_by read (entries_of first whole))
 one_said read first whole o v u one other =
     let e = said_from read (entries_of first whole) o v one in
     let d = said_from read (entries_of first whole) o u other in
@@ -158,13 +186,16 @@ one_said read first whole o v u one other =
 -- ---- what can be decided
 
 -- whether an entry stands at an offset of which P holds
-pub stands_with_decided : {E : Type 0} (entries : List (PlacedEntry E)) (o : ℕ) (P : E → Type 0) → ((e : E) → Decided (P e)) → Decided (StandsWith entries o P)
+pub stands_with_decided : {E : Type 0} (entries : List (PlacedEntry E)) (o : ℕ) (P : E → Type 0)
+    → ((e : E) → Decided (P e)) → Decided (StandsWith entries o P)
 stands_with_decided entries o P decide =
-    decided_as (λ h. (h.0.entry, subst (λ (k : ℕ). Stands entries k h.0.entry) h.2.0 h.1, h.2.1)) (λ h. (record { offset = o; entry = h.0 }, h.1, (refl, h.2)))
+    decided_as (λ h. (h.0.entry, subst (λ (k : ℕ). Stands entries k h.0.entry) h.2.0 h.1, h.2.1))
+    (λ h. (record { offset = o; entry = h.0 }, h.1, (refl, h.2)))
     (element_decided entries (λ s. (s.offset ≡ o) × P s.entry) (λ s. both (same s.offset o) (decide s.entry)))
 
 -- whether an entry with P stands somewhere
-pub somewhere_decided : {E : Type 0} (entries : List (PlacedEntry E)) (P : E → Type 0) → ((e : E) → Decided (P e)) → Decided ((o : ℕ) × StandsWith entries o P)
+pub somewhere_decided : {E : Type 0} (entries : List (PlacedEntry E)) (P : E → Type 0) → ((e : E) → Decided (P e))
+    → Decided ((o : ℕ) × StandsWith entries o P)
 somewhere_decided entries P decide =
     decided_as (λ h. (h.0.offset, (h.0.entry, h.1, h.2))) (λ h. (record { offset = h.0; entry = h.1.0 }, h.1.1, h.1.2))
     (element_decided entries (λ s. P s.entry) (λ s. decide s.entry))
@@ -181,14 +212,17 @@ unused_decided other point = both (same other 0) (same point 0)
 -- ---- of all entries
 
 -- there is a number above every offset at which an entry stands, and above a number of each entry
-pub entries_bounded : {E : Type 0} (entries : List (PlacedEntry E)) (number : E → ℕ) → (most : ℕ) × ((o : ℕ) (e : E) → Stands entries o e → (o < most) × (number e < most))
+pub entries_bounded : {E : Type 0} (entries : List (PlacedEntry E)) (number : E → ℕ)
+    → (most : ℕ) × ((o : ℕ) (e : E) → Stands entries o e → (o < most) × (number e < most))
 entries_bounded entries number =
     let all = bounded (λ s. s.offset + number s.entry) entries in
     (all.0, λ o e stands. let here = all.1 (record { offset = o; entry = e }) stands in (omega arith, omega arith))
 
 -- what holds of all that bytes below 256 say holds of what the entries of a table of such bytes say
-pub said_with : {E : Type 0} (read : List ℕ → E) (P : E → Type 0) → ((e : List ℕ) → ((k : ℕ) → slice_index e k < 256) → P (read e))
-    → (first : ℕ) (whole : List ℕ) → ((k : ℕ) → slice_index whole k < 256) → (o : ℕ) (e : E) → Stands (entries_read_by read (entries_of first whole)) o e → P e
+pub said_with : {E : Type 0} (read : List ℕ → E) (P : E → Type 0)
+    → ((e : List ℕ) → ((k : ℕ) → slice_index e k < 256) → P (read e))
+    → (first : ℕ) (whole : List ℕ) → ((k : ℕ) → slice_index whole k < 256) → (o : ℕ) (e : E)
+    → Stands (entries_read_by read (entries_of first whole)) o e → P e
 said_with read P holds first whole small o e stands =
     let (bytes, here, is) = said_from read (entries_of first whole) o e stands in
     subst P is (holds bytes (entry_below first whole small o bytes here))
@@ -196,7 +230,8 @@ said_with read P holds first whole small o e stands =
 -- ---- the cut
 
 -- an entry ends at the end of all entries or before
-ends_before : (n offset : ℕ) (left : List ℕ) (o : ℕ) (e : List ℕ) → Stands (entries_from n offset left) o e → o + length e ≤ offset + sum_by (λ s. length s.entry) (entries_from n offset left)
+ends_before : (n offset : ℕ) (left : List ℕ) (o : ℕ) (e : List ℕ) → Stands (entries_from n offset left) o e
+    → o + length e ≤ offset + sum_by (λ s. length s.entry) (entries_from n offset left)
 unfolding entries_from
 ends_before zero offset left o e stands = absurd (no_element _ stands)
 ends_before (suc n) offset left o e stands =
@@ -204,16 +239,29 @@ ends_before (suc n) offset left o e stands =
       | inr none ↦ absurd (no_element _ (rw none at stands))
       | inl (d, is) ↦
           let rest = entries_from n (offset + length d) (drop (length d) left) in
-          let sum = sum_by-cons (λ (s : PlacedEntry (List ℕ)). length s.entry) (record { offset = offset; entry = d }) rest in
-          elim (first_or_later (record { offset = offset; entry = d }) (record { offset = o; entry = e }) rest (rw is at stands)) [
-            | inl same ↦ rw is (grind (arith, sum, ap (λ (s : PlacedEntry (List ℕ)). s.offset) same, ap (λ (s : PlacedEntry (List ℕ)). length s.entry) same))
+          let sum = sum_by-cons (λ (s : PlacedEntry (List ℕ)). length s.entry) (record { offset = offset; entry = d })
+          rest in
+          elim (first_or_later (record { offset = offset; entry = d }) (record { offset = o; entry = e }) rest
+          (rw is at stands)) [
+            | inl same ↦ rw is (grind (
+              arith,
+              sum,
+              ap (λ (s : PlacedEntry (List ℕ)). s.offset) same,
+              ap (λ (s : PlacedEntry (List ℕ)). length s.entry) same,
+            ))
             | inr later ↦ rw is (omega (arith, sum, ends_before n (offset + length d) (drop (length d) left) o e later))
           ]
     ]
 
 -- the cut is behind every entry
-pub cut_behind : (first : ℕ) (whole : List ℕ) (cut o : ℕ) (e : List ℕ) → cut_of first whole ≡ Some cut → Stands (entries_of first whole) o e → o < cut
+pub cut_behind : (first : ℕ) (whole : List ℕ) (cut o : ℕ) (e : List ℕ) → cut_of first whole ≡ Some cut
+    → Stands (entries_of first whole) o e → o < cut
 unfolding cut_of end_of_entries entries_of
 cut_behind first whole cut o e is stands =
     let end = (cond_some _ _ _ is).1 in
-    omega (arith, end, ends_before (length whole) first (drop first whole) o e stands, entry_within first whole o e stands)
+    omega (
+      arith,
+      end,
+      ends_before (length whole) first (drop first whole) o e stands,
+      entry_within first whole o e stands,
+    )

@@ -1,2 +1,148 @@
--- The FACS.
-pub mod Faults
+-- The faults of the FACS: each can be decided, excludes that it is sound, and where there is none it is sound.
+use Rattle.std.proofs.Common.{◌≡◌, ◌^◌, ◌<◌, ℕ, List, Some, true, refl, sym, ◌∙◌, ap, subst, inr, arith}
+use Rattle.std.specs.Prelude.{◌≢◌, ◌%◌}
+use Rattle.std.proofs.lemmas.Bool.{both_ways}
+use Rattle.std.proofs.lemmas.Option.{cond_some}
+use Rattle.acpi_base.specs.Memory.{Memory, IsImage, bytes_at}
+use Rattle.acpi_base.specs.Number.{field}
+use Rattle.acpi_base.specs.Signature.{has_signature}
+use Rattle.acpi_base.specs.Tables.{length_of}
+use Rattle.acpi_base.specs.Listed.{fadt_signature}
+use Rattle.acpi_base.specs.Fadt.{is_reduced, wide_address, facs_address, IsFadt, IsSoundFadt}
+use Rattle.acpi_base.specs.Facs.{facs_signature, facs_length, IsFacs, HasSoundFacs, IsSoundFacs, NamedFacsFault, FacsFault}
+use Rattle.acpi_base.specs.Codes.{stage_of}
+use Rattle.acpi_base.specs.declared.code.Code.{Code}
+use Rattle.acpi_base.specs.declared.code.Code.TheVariants as code
+use Rattle.acpi_base.specs.declared.stage.Stage.TheVariants as stage
+use Rattle.acpi_base.proofs.Images.HeldBytes.{cases_Option, none_and_some, same_value, held_field_below}
+use Rattle.acpi_base.proofs.Faults.Deciding.{Decided, decided_as, both, all3, same, differs, below, at_most, is_false, is_none, is_some_with, not_below, not_other, not_false, not_none}
+use Rattle.acpi_base.proofs.Tables.Listed.{one_listed}
+
+-- ---- its address
+
+-- a wide address is the number in its 8 bytes
+pub wide_is : (whole : List ℕ) (end offset address : ℕ) → wide_address whole end offset ≡ Some address
+    → field whole offset 8 ≡ address
+unfolding wide_address
+wide_is whole end offset address e = grind (arith, cond_some)
+
+-- the address of the FACS that a FADT of an image names fits
+address_fits : {m : Memory} {p : ℕ} {fadt : List ℕ} → IsImage m → IsFadt m p fadt → facs_address fadt < 2 ^ 64
+address_fits {m = m} {fadt = fadt} image is =
+    let below_width = held_field_below m image is.a (length_of is.header) fadt is.table.held in
+    grind (arith, cases_Option (wide_address fadt 140 132), wide_is fadt 140 132, below_width 132 8, below_width 36 4)
+
+-- a fault of the FACS that a FADT names is at the address that is named, which is 0 for none
+named_place : (m : Memory) (fadt : List ℕ) (c : Code) (at : ℕ) → NamedFacsFault m fadt c at → at ≡ facs_address fadt
+named_place m fadt code.NoFacs at (full, zero, is) = is ∙ sym zero
+named_place m fadt code.FacsAlign at (named, is, loose) = is
+named_place m fadt code.FacsHeaderOut at (named, is, out) = is
+named_place m fadt code.FacsSignature at (named, is, prefix, held, unsigned) = is
+named_place m fadt code.FacsLength at (named, is, prefix, held, short) = is
+named_place m fadt code.FacsOut at (named, is, prefix, held, least, out) = is
+named_place m fadt _ at fault = absurd fault
+
+pub place_fits : {m : Memory} {p : ℕ} → IsImage m → (c : Code) (at : ℕ) → FacsFault m p c at → at < 2 ^ 64
+place_fits {m} image c at (fadt, is, long, fault) = rw (named_place m fadt c at fault) (address_fits image is)
+
+-- ---- of the FACS that a FADT names
+
+-- whether an address is named and is this one, with P
+there_with : (fadt : List ℕ) (at : ℕ) (P : Type 0) → Decided P
+    → Decided ((facs_address fadt ≢ 0) × (at ≡ facs_address fadt) × P)
+there_with fadt at P decide = all3 (differs (facs_address fadt) 0) (same at (facs_address fadt)) decide
+
+named_decided : (m : Memory) (fadt : List ℕ) (c : Code) (at : ℕ) → Decided (NamedFacsFault m fadt c at)
+named_decided m fadt code.NoFacs at = all3 (is_false (is_reduced fadt)) (same (facs_address fadt) 0) (same at 0)
+named_decided m fadt code.FacsAlign at = there_with fadt at _ (differs (at % 64) 0)
+named_decided m fadt code.FacsHeaderOut at = there_with fadt at _ (is_none (bytes_at m at 8))
+named_decided m fadt code.FacsSignature at =
+    decided_as (λ h. (h.0, h.1, h.2.0, h.2.1, h.2.2)) (λ h. (h.0, h.1, (h.2, h.3, h.4)))
+    (there_with fadt at _ (is_some_with (bytes_at m at 8) _ (λ prefix. is_false (has_signature prefix facs_signature))))
+named_decided m fadt code.FacsLength at =
+    decided_as (λ h. (h.0, h.1, h.2.0, h.2.1, h.2.2)) (λ h. (h.0, h.1, (h.2, h.3, h.4)))
+    (there_with fadt at _ (is_some_with (bytes_at m at 8) _ (λ prefix. below (facs_length prefix) 64)))
+named_decided m fadt code.FacsOut at =
+    decided_as (λ h. (h.0, h.1, h.2.0, h.2.1, h.2.2.0, h.2.2.1)) (λ h. (h.0, h.1, (h.2, h.3, (h.4, h.5))))
+    (there_with fadt at _ (is_some_with (bytes_at m at 8) _
+    (λ prefix. both (at_most 64 (facs_length prefix)) (is_none (bytes_at m at (facs_length prefix))))))
+named_decided m fadt _ at = inr (λ fault. fault)
+
+-- a FACS without a fault is sound
+named_without_fault : (m : Memory) (fadt : List ℕ)
+    → ((c : Code) (at : ℕ) → stage_of c ≡ stage.Facs → ¬ NamedFacsFault m fadt c at) → HasSoundFacs m fadt
+named_without_fault m fadt none = record { none = reduced; named = facs }
+  where
+    f : ℕ
+    f = facs_address fadt
+
+    reduced : f ≡ 0 → is_reduced fadt ≡ true
+    reduced zero = not_false (is_reduced fadt) (λ full. none code.NoFacs 0 refl (full, zero, refl))
+
+    facs : f ≢ 0 → (whole : List ℕ) × IsFacs m f whole
+    facs named =
+        let aligned = not_other (f % 64) 0 (λ loose. none code.FacsAlign f refl (named, refl, loose)) in
+        let prefix = not_none (bytes_at m f 8) (λ out. none code.FacsHeaderOut f refl (named, refl, out)) in
+        let signed = not_false (has_signature prefix.0 facs_signature)
+        (λ unsigned. none code.FacsSignature f refl (named, refl, prefix.0, prefix.1, unsigned)) in
+        let least = not_below (facs_length prefix.0) 64
+        (λ short. none code.FacsLength f refl (named, refl, prefix.0, prefix.1, short)) in
+        let whole = not_none (bytes_at m f (facs_length prefix.0))
+        (λ out. none code.FacsOut f refl (named, refl, prefix.0, prefix.1, least, out)) in (
+          whole.0,
+          record {
+            aligned = aligned;
+            prefix = prefix.0;
+            prefix_held = prefix.1;
+            signed = signed;
+            least = least;
+            held = whole.1;
+          },
+        )
+
+-- a fault excludes that the FACS is sound
+named_excludes : (m : Memory) (fadt : List ℕ) (c : Code) (at : ℕ) → NamedFacsFault m fadt c at → ¬ HasSoundFacs m fadt
+named_excludes m fadt c at fault sound =
+    by_code c (subst (λ (x : ℕ). NamedFacsFault m fadt c x) (named_place m fadt c at fault) fault)
+  where
+    same_prefix : (named : facs_address fadt ≢ 0) (prefix : List ℕ) → bytes_at m (facs_address fadt) 8 ≡ Some prefix
+        → prefix ≡ (sound.named named).1.prefix
+    same_prefix named prefix held =
+        same_value prefix (sound.named named).1.prefix held (sound.named named).1.prefix_held
+
+    by_code : (c : Code) → NamedFacsFault m fadt c (facs_address fadt) → ⊥
+    by_code code.NoFacs (full, zero, is) = both_ways (is_reduced fadt) full (sound.none zero)
+    by_code code.FacsAlign (named, is, loose) = loose (sound.named named).1.aligned
+    by_code code.FacsHeaderOut (named, is, out) = none_and_some out (sound.named named).1.prefix_held
+    by_code code.FacsSignature (named, is, prefix, held, unsigned) =
+        grind (arith, same_prefix named prefix held, (sound.named named).1.signed)
+    by_code code.FacsLength (named, is, prefix, held, short) =
+        grind (arith, same_prefix named prefix held, (sound.named named).1.least)
+    by_code code.FacsOut (named, is, prefix, held, least, out) =
+        grind (arith, none_and_some, same_prefix named prefix held, (sound.named named).1.held)
+    by_code _ fault = fault
+
+-- ---- of a set's FACS
+
+-- where the FADT is known, a fault of the FACS can be decided
+pub decided : (m : Memory) (p : ℕ) (fadt : IsSoundFadt m p) (c : Code) (at : ℕ) → Decided (FacsFault m p c at)
+decided m p fadt c at =
+    decided_as (λ h. (fadt.whole, fadt.fadt, fadt.sound.long, h))
+    (λ h. rw (one_listed m p fadt_signature h.0 fadt.whole h.1 fadt.fadt) at h.3) (named_decided m fadt.whole c at)
+
+-- and is at the address that it names
+pub place : (m : Memory) (p : ℕ) (fadt : IsSoundFadt m p) (c : Code) (at : ℕ) → FacsFault m p c at
+    → at ≡ facs_address fadt.whole
+place m p fadt c at (whole, is, long, fault) =
+    named_place m whole c at fault ∙ ap facs_address (one_listed m p fadt_signature whole fadt.whole is fadt.fadt)
+
+-- a FACS without a fault is sound
+pub sound_without_fault : (m : Memory) (p : ℕ) (fadt : IsSoundFadt m p)
+    → ((c : Code) (at : ℕ) → stage_of c ≡ stage.Facs → ¬ FacsFault m p c at) → IsSoundFacs m p
+sound_without_fault m p fadt none whole is =
+    rw (one_listed m p fadt_signature whole fadt.whole is fadt.fadt)
+    (named_without_fault m fadt.whole (λ c at own fault. none c at own (fadt.whole, fadt.fadt, fadt.sound.long, fault)))
+
+-- a fault excludes that the FACS is sound
+pub excludes : (m : Memory) (p : ℕ) (c : Code) (at : ℕ) → FacsFault m p c at → ¬ IsSoundFacs m p
+excludes m p c at (fadt, is, long, fault) sound = named_excludes m fadt c at fault (sound fadt is)

@@ -31,7 +31,8 @@ count_inserted old new a n updates =
     ∙ sym (get-insert nat_cmp_total (from_entries old.entries) a n q))
 
 -- a count of a map with one more is the new one, or was there before
-new_or_old : (b : Bool) (n count : ℕ) (old : Option ℕ) → cond b (Some n) old ≡ Some count → (IsTrue b × (count ≡ n)) ⊎ (old ≡ Some count)
+new_or_old : (b : Bool) (n count : ℕ) (old : Option ℕ) → cond b (Some n) old ≡ Some count
+    → (IsTrue b × (count ≡ n)) ⊎ (old ≡ Some count)
 new_or_old true n count old e = inl (refl, ap (λ o. unwrap_or o 0) (sym e))
 new_or_old false n count old e = inr e
 
@@ -40,16 +41,26 @@ abbrev AreBounded : FinMap nat_cmp ℕ → Type 0
 AreBounded m = (address count : ℕ) → get m address ≡ Some count → (address < 2 ^ 32) × (1 ≤ count) × (count ≤ 256)
 
 -- with one more of these they still are
-still_bounded : (m : FinMap nat_cmp ℕ) (a n : ℕ) → a < 2 ^ 32 → 1 ≤ n → n ≤ 256 → AreBounded m → AreBounded (insert m a n)
+still_bounded : (m : FinMap nat_cmp ℕ) (a n : ℕ) → a < 2 ^ 32 → 1 ≤ n → n ≤ 256 → AreBounded m
+    → AreBounded (insert m a n)
 still_bounded m a n fits least most counts address count e =
-    grind (arith, nat_tests, counts address count, unsigned_tied address a, new_or_old (address == a) n count (get m address), get-insert nat_cmp_total m a n address)
+    grind (
+      arith,
+      nat_tests,
+      counts address count,
+      unsigned_tied address a,
+      new_or_old (address == a) n count (get m address),
+      get-insert nat_cmp_total m a n address,
+    )
 
 -- and so they are after an insertion that may have been refused
-pub bounded_after : {E : Type 0} (old new : BTreeMap ℕ ℕ) (a n : ℕ) (result : Result (Option ℕ) E) → a < 2 ^ 32 → 1 ≤ n → n ≤ 256
+pub bounded_after : {E : Type 0} (old new : BTreeMap ℕ ℕ) (a n : ℕ) (result : Result (Option ℕ) E) → a < 2 ^ 32 → 1 ≤ n
+    → n ≤ 256
     → OnOk result (tree.Updates nat_cmp old new a (Some n)) → OnErr result (tree.IsUnchanged old new)
     → AreBounded (from_entries old.entries) → AreBounded (from_entries new.entries)
 bounded_after old new a n (Ok _) fits least most updates _ counts =
-    subst AreBounded (sym (count_inserted old new a n updates)) (still_bounded (from_entries old.entries) a n fits least most counts)
+    subst AreBounded (sym (count_inserted old new a n updates))
+    (still_bounded (from_entries old.entries) a n fits least most counts)
 bounded_after old new a n (Err _) fits least most _ unchanged counts =
     subst (λ es. AreBounded (from_entries es)) (sym unchanged) counts
 
@@ -57,11 +68,14 @@ bounded_after old new a n (Err _) fits least most _ unchanged counts =
 pub ruleset adding = (count_at, count_inserted, bounded_after)
 
 -- a count that stands for an address, or the default, is in its bounds
-pub inputs_bounded : (es : List (ℕ × ℕ)) (default a : ℕ) → (1 ≤ default) × (default ≤ 256) → AreBounded (from_entries es)
-    → (1 ≤ unwrap_or (lookup (is_at (nat_cmp a)) es) default) × (unwrap_or (lookup (is_at (nat_cmp a)) es) default ≤ 256)
+pub inputs_bounded : (es : List (ℕ × ℕ)) (default a : ℕ) → (1 ≤ default) × (default ≤ 256)
+    → AreBounded (from_entries es)
+    → (1 ≤ unwrap_or (lookup (is_at (nat_cmp a)) es) default)
+    × (unwrap_or (lookup (is_at (nat_cmp a)) es) default ≤ 256)
 inputs_bounded es default a fits counts = within (lookup (is_at (nat_cmp a)) es) (count_at es a)
   where
-    within : (given : Option ℕ) → get (from_entries {R = nat_cmp} es) a ≡ given → (1 ≤ unwrap_or given default) × (unwrap_or given default ≤ 256)
+    within : (given : Option ℕ) → get (from_entries {R = nat_cmp} es) a ≡ given
+        → (1 ≤ unwrap_or given default) × (unwrap_or given default ≤ 256)
     within None e = fits
     within (Some n) e = ((counts a n e).1, (counts a n e).2)
 

@@ -51,7 +51,9 @@ impl From<AllocError> for ImageFault {
 #[tactic(auto, using(crate::proofs::Images::RunMemory::no_refusal))]
 fn refusal(segments: &Segments, base: u64, count: u64) -> Option<ImageFault>
     requires { IsSound segments.now }
-    ensures { result ≡ (if nat_lt (2 ^ 64) (base + count) then Some ImageFault.PastEnd else option_map (λ address. ImageFault.Twice address) (least_defined (lookup (runs_of segments.now)) base count)) }
+    ensures { result ≡ (if nat_lt (2 ^ 64) (base + count) then Some ImageFault.PastEnd
+        else option_map (λ address. ImageFault.Twice address)
+        (least_defined (lookup (runs_of segments.now)) base count)) }
 {
     if count == 0 {
         return None;
@@ -113,7 +115,8 @@ impl Image {
     /// are copied once.
     #[tactic(auto, using(crate::proofs::Images::RunMemory::adding))]
     pub fn add(&mut self, base: u64, bytes: &[u8]) -> Result<(), ImageFault>
-        ensures refused { MatchOption (add_refusal self.old base bytes.now) (IsOkUnless result ImageFault.Memory) (λ fault. result ≡ Err fault) }
+        ensures refused { MatchOption (add_refusal self.old base bytes.now)
+            (IsOkUnless result ImageFault.Memory) (λ fault. result ≡ Err fault) }
         ensures ok { OnOk result (self.new ≡ with_bytes self.old base bytes.now) }
         ensures image { OnOk result (IsImage self.new) }
         ensures err { OnErr result (self.new ≡ self.old) }

@@ -110,7 +110,8 @@ pub fn lines_mean()
 /// `bytes_at` gives a list exactly where all addresses are held, and then the list of their bytes.
 pub fn held_bytes()
     ensures held { (m : Memory) (a n : ℕ) → IsSome (bytes_at m a n) ↔ Has m a n }
-    ensures bytes { (m : Memory) (a n : ℕ) (l : List ℕ) → (bytes_at m a n ≡ Some l) ↔ AreBytes m a n l }
+    ensures bytes { (m : Memory) (a n : ℕ) (l : List ℕ)
+        → (bytes_at m a n ≡ Some l) ↔ AreBytes m a n l }
 {}
 
 /// A table's bytes are cut into entries in one way at most, and in one exactly where an entry stands at each

@@ -83,7 +83,8 @@ impl Policy {
     /// Refuses `BadCount` where `default_inputs` lies outside 1 to 256.
     #[tactic(auto, using(crate::proofs::Policies::map_reads))]
     pub fn new(alloc: Global, rsdp: u64, default_inputs: u16) -> Result<Policy, PolicyFault>
-        ensures value { OkIff result ((1 ≤ default_inputs) × (default_inputs ≤ 256)) (new_policy rsdp default_inputs) }
+        ensures value { OkIff result ((1 ≤ default_inputs) × (default_inputs ≤ 256))
+            (new_policy rsdp default_inputs) }
         ensures policy { IfOk result IsPolicy }
         ensures refused { IfErr result (λ fault. fault ≡ BadCount) }
     {

@@ -65,7 +65,8 @@ impl<T> Tally<T> {
     where
         T: Read,
         ensures bound { ReadsAtMost result buffer.new }
-        ensures bytes { ReadConsumes (T.remaining self.old.inner) (T.remaining self.new.inner) result buffer.new }
+        ensures bytes { ReadConsumes (T.remaining self.old.inner) (T.remaining self.new.inner)
+            result buffer.new }
         ensures ok { OnOk result (self.new.failures ≡ self.old.failures) }
         ensures err { OnErr result (CountsFailure self.old.failures self.new.failures) }
         ensures last { self.old.failures ≡ last_count → IsErr result × (self.new ≡ self.old) }
@@ -89,7 +90,8 @@ impl<T> Tally<T> {
     where
         T: Write,
         ensures bound { WritesAtMost result bytes.now }
-        ensures bytes { WriteAppends (T.contents self.old.inner) (T.contents self.new.inner) result bytes.now }
+        ensures bytes { WriteAppends (T.contents self.old.inner) (T.contents self.new.inner) result
+            bytes.now }
         ensures some { IfOk result (λ count. 0 < length bytes.now → 0 < count) }
         ensures ok { OnOk result (self.new.failures ≡ self.old.failures) }
         ensures err { OnErr result (CountsFailure self.old.failures self.new.failures) }

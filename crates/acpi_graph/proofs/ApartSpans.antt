@@ -33,7 +33,9 @@ not_met a b before = grind (arith, nat_tests, before)
 -- spans that are apart in one order are so in another
 pub apart_permuted : (xs ys : List CompactSpan) → IsPermutation xs ys → AreApart xs → AreApart ys
 apart_permuted xs ys moved apart i j d before within =
-    let distinct = IsDistinct-IsPermutation meets flips xs ys moved (IsDistinct-from_apart meets xs (λ k l e earlier inside. not_met (get_or xs k e) (get_or xs l e) (apart k l e earlier inside))) in
+    let distinct = IsDistinct-IsPermutation meets flips xs ys moved
+    (IsDistinct-from_apart meets xs
+    (λ k l e earlier inside. not_met (get_or xs k e) (get_or xs l e) (apart k l e earlier inside))) in
     one_before (get_or ys i d) (get_or ys j d) (apart_from_distinct meets ys i j d distinct before within)
 
 -- ---- in the order of their starts
@@ -46,7 +48,8 @@ span_cmp_total : IsTotalOrder span_cmp
 span_cmp_total = then_total (on_total (λ s. s.start) nat_cmp_total) (on_total (λ s. s.length) nat_cmp_total)
 
 -- of two spans that are apart the one that is not above the other ends first
-ends_first : (s l t m : ℕ) → is_lt (ordering_then (nat_cmp t s) (nat_cmp m l)) ≡ false → (s + l ≤ t) ⊎ (t + m ≤ s) → s + l ≤ t
+ends_first : (s l t m : ℕ) → is_lt (ordering_then (nat_cmp t s) (nat_cmp m l)) ≡ false → (s + l ≤ t) ⊎ (t + m ≤ s)
+    → s + l ≤ t
 ends_first s l t m upto either = grind (arith, nat_tests)
 
 -- sorted spans that are apart rise
@@ -62,13 +65,17 @@ apart_where_rise xs rise i j d before within = inl (rise i j d before within)
 
 -- where each ends before its neighbour begins, all rise
 pub all_rise : (xs : List CompactSpan) → AllAdjacentBelow EndsBefore xs (length xs) → AreSortedDisjoint xs
-all_rise xs near i j d before within = ends_before_later (λ s. s.start) end_of xs (length xs) (omega arith) (λ k e inside. omega arith) near i j d before within
+all_rise xs near i j d before within =
+    ends_before_later (λ s. s.start) end_of xs (length xs) (omega arith) (λ k e inside. omega arith) near i j d before
+    within
 
 -- ---- what is found
 
 -- whether spans rise once they are sorted says whether they are apart
-pub apart_as_found : (xs sorted : List CompactSpan) (found : Bool) → IsPermutation xs sorted → IsSorted span_cmp sorted → MatchBool found (AreSortedDisjoint sorted) (¬ AreSortedDisjoint sorted) → IsTrue found ↔ AreApart xs
-apart_as_found xs sorted true moved order rise = (λ _. apart_permuted sorted xs (IsPermutation-sym xs sorted moved) (apart_where_rise sorted rise), λ _. refl)
+pub apart_as_found : (xs sorted : List CompactSpan) (found : Bool) → IsPermutation xs sorted → IsSorted span_cmp sorted
+    → MatchBool found (AreSortedDisjoint sorted) (¬ AreSortedDisjoint sorted) → IsTrue found ↔ AreApart xs
+apart_as_found xs sorted true moved order rise =
+    (λ _. apart_permuted sorted xs (IsPermutation-sym xs sorted moved) (apart_where_rise sorted rise), λ _. refl)
 apart_as_found xs sorted false moved order not = (
   λ is. absurd (true≢false (sym is)),
   λ apart. absurd (not (rise_where_apart sorted order (apart_permuted xs sorted moved apart))),

@@ -25,11 +25,13 @@ over_or_there None = inl refl
 over_or_there (Some there) = inr (there, refl)
 
 -- where a chain goes on, it went on before
-pub went_on : (parents : List (Option ℕ)) (node steps later there : ℕ) → steps ≤ later → node_after parents node later ≡ Some there
+pub went_on : (parents : List (Option ℕ)) (node steps later there : ℕ) → steps ≤ later
+    → node_after parents node later ≡ Some there
     → (before : ℕ) × (node_after parents node steps ≡ Some before)
 went_on parents node steps later there earlier stands = elim (over_or_there (node_after parents node steps)) [
   | inl over ↦
-      let still : node_after parents node (steps + (later - steps)) ≡ None = stays_over parents node steps over (later - steps) in
+      let still : node_after parents node (steps + (later - steps)) ≡ None =
+      stays_over parents node steps over (later - steps) in
       let at : steps + (later - steps) ≡ later = omega arith in
       let never : node_after parents node later ≡ None = subst (λ k. node_after parents node k ≡ None) at still in
       absurd cc
@@ -39,18 +41,23 @@ went_on parents node steps later there earlier stands = elim (over_or_there (nod
 -- where a node on a chain has a chain that ends, the chain ends
 pub ends_before : (parents : List (Option ℕ)) (node steps there : ℕ) → node_after parents node steps ≡ Some there
     → Ends parents there → Ends parents node
-ends_before parents node steps there stands (more, over) = (steps + more, node_after-add parents node steps there stands more ∙ over)
+ends_before parents node steps there stands (more, over) =
+    (steps + more, node_after-add parents node steps there stands more ∙ over)
 
 -- where a chain ends, so does that of each node on it
 pub ends_later : (parents : List (Option ℕ)) (node steps there : ℕ) → node_after parents node steps ≡ Some there
     → Ends parents node → Ends parents there
 ends_later parents node steps there stands (last, over) = elim (cases_lt steps last) [
   | inl before ↦
-      let at : steps + (last - steps) ≡ last = omega arith in
-      (last - steps, sym (node_after-add parents node steps there stands (last - steps)) ∙ ap (node_after parents node) at ∙ over)
+      let at : steps + (last - steps) ≡ last = omega arith in (
+        last - steps,
+        sym (node_after-add parents node steps there stands (last - steps))
+            ∙ ap (node_after parents node) at ∙ over,
+      )
   | inr past ↦
       let at : last + (steps - last) ≡ steps = omega arith in
-      let none : node_after parents node (last + (steps - last)) ≡ None = stays_over parents node last over (steps - last) in
+      let none : node_after parents node (last + (steps - last)) ≡ None =
+      stays_over parents node last over (steps - last) in
       let gone : node_after parents node steps ≡ None = subst (λ k. node_after parents node k ≡ None) at none in
       absurd cc
 ]
@@ -60,7 +67,8 @@ pub parent_is_node : (parents : List (Option ℕ)) → AreNodes parents → (nod
     → parent_of parents node ≡ Some parent → parent < length parents
 parent_is_node parents nodes node parent up = elim (slice_get_cases parents node).1 [
   | inl inside ↦
-      let is : inside.0 ≡ Some parent = subst (λ o. option_and_then (λ (p : Option ℕ). p) o ≡ Some parent) inside.2 up in
+      let is : inside.0 ≡ Some parent = subst (λ o. option_and_then (λ (p : Option ℕ). p) o ≡ Some parent) inside.2
+      up in
       let at : get_or parents node inside.0 ≡ Some parent = inside.3 ∙ is in
       subst (λ o. IfSome o (λ (p : ℕ). p < length parents)) at (nodes node inside.0 inside.1)
   | inr past ↦
@@ -73,10 +81,11 @@ pub after_is_node : (parents : List (Option ℕ)) → AreNodes parents → (node
     → (steps there : ℕ) → node_after parents node steps ≡ Some there → there < length parents
 after_is_node parents nodes node is_node zero there stands = let same : node ≡ there = cc in
     omega arith
-after_is_node parents nodes node is_node (suc steps) there stands = elim (over_or_there (node_after parents node steps)) [
-  | inl over ↦
-      let none : None ≡ Some there = subst (λ o. option_and_then (parent_of parents) o ≡ Some there) over stands in
-      absurd cc
-  | inr before ↦ parent_is_node parents nodes before.0 there
-      (subst (λ o. option_and_then (parent_of parents) o ≡ Some there) before.1 stands)
-]
+after_is_node parents nodes node is_node (suc steps) there stands =
+    elim (over_or_there (node_after parents node steps)) [
+      | inl over ↦
+          let none : None ≡ Some there = subst (λ o. option_and_then (parent_of parents) o ≡ Some there) over stands in
+          absurd cc
+      | inr before ↦ parent_is_node parents nodes before.0 there
+          (subst (λ o. option_and_then (parent_of parents) o ≡ Some there) before.1 stands)
+    ]

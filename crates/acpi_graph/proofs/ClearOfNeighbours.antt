@@ -14,7 +14,8 @@ ends_before_later {X} from to xs high within forward next i (suc j) d before bel
     elim (eq-or-lt_of_le {n = i} {m = j} (omega arith)) [
       | inl same ↦ subst (λ k. to (get_or xs k d) ≤ from (get_or xs (suc j) d)) (sym same) step
       | inr earlier ↦
-          let far : to (get_or xs i d) ≤ from (get_or xs j d) = ends_before_later from to xs high within forward next i j d earlier (omega arith) in
+          let far : to (get_or xs i d) ≤ from (get_or xs j d) =
+          ends_before_later from to xs high within forward next i j d earlier (omega arith) in
           let itself : from (get_or xs j d) ≤ to (get_or xs j d) = forward j d (omega arith) in
           omega arith
     ]
@@ -26,5 +27,6 @@ pub none_shared : {X : Type 0} (from to : X → ℕ) (xs : List X) (high : ℕ) 
     → (i j : ℕ) (d : X) → i < j → j < high
     → (number : ℕ) → number < to (get_or xs i d) → from (get_or xs j d) ≤ number → ⊥
 none_shared from to xs high within forward next i j d before below number inside reached =
-    let ends : to (get_or xs i d) ≤ from (get_or xs j d) = ends_before_later from to xs high within forward next i j d before below in
+    let ends : to (get_or xs i d) ≤ from (get_or xs j d) =
+    ends_before_later from to xs high within forward next i j d before below in
     omega arith

@@ -83,8 +83,10 @@ pub is_clear : (xs : List Span) → AllAdjacentBelow EndsBy xs (length xs) → I
 is_clear xs next number shared =
     let places = two_places xs number shared in
     elim (apart places.i places.j places.differ) [
-      | inl before ↦ none_shared xs (length xs) (omega arith) next places.i places.j shared.one shared.other places.at_one places.at_other before places.at_other.within number shared.one_holds shared.other_holds
-      | inr after ↦ none_shared xs (length xs) (omega arith) next places.j places.i shared.other shared.one places.at_other places.at_one after places.at_one.within number shared.other_holds shared.one_holds
+      | inl before ↦ none_shared xs (length xs) (omega arith) next places.i places.j shared.one shared.other
+          places.at_one places.at_other before places.at_other.within number shared.one_holds shared.other_holds
+      | inr after ↦ none_shared xs (length xs) (omega arith) next places.j places.i shared.other shared.one
+          places.at_other places.at_one after places.at_one.within number shared.other_holds shared.one_holds
     ]
 
 comes_before : (xs : List Span) → AllPairs ComesBefore xs
@@ -119,23 +121,27 @@ pub record Overlaps (xs : List Span) (k : ℕ) (a b : Span) : Type 0 where
 no_lower : (xs : List Span) → AllPairs ComesBefore xs → (k : ℕ) (a b : Span) → Overlaps xs k a b
     → (i j : ℕ) (one other : Span) → StandsAt xs i one → StandsAt xs j other → i < j
     → (number : ℕ) → HasNumber one number → HasNumber other number → b.start ≤ number
-no_lower xs ordered k a b overlaps i j one other at_one at_other before number in_one in_other = elim (cases_lt j (suc k)) [
-  | inl below ↦
-      let inside : k < length xs = overlaps.at_a.within in
-      absurd (none_shared xs (suc k) (omega arith) overlaps.before i j one other at_one at_other before below number in_one in_other)
-  | inr above ↦
-      let rises : b.start ≤ other.start = starts_rise xs ordered (suc k) j b other overlaps.at_b at_other above in
-      let reached : other.start ≤ number = in_other.from_start in
-      omega arith
-]
+no_lower xs ordered k a b overlaps i j one other at_one at_other before number in_one in_other =
+    elim (cases_lt j (suc k)) [
+      | inl below ↦
+          let inside : k < length xs = overlaps.at_a.within in
+          absurd (none_shared xs (suc k) (omega arith) overlaps.before i j one other at_one at_other before below number
+          in_one in_other)
+      | inr above ↦
+          let rises : b.start ≤ other.start = starts_rise xs ordered (suc k) j b other overlaps.at_b at_other above in
+          let reached : other.start ≤ number = in_other.from_start in
+          omega arith
+    ]
 
 least_shared : (xs : List Span) → AllPairs ComesBefore xs → (k : ℕ) (a b : Span) → Overlaps xs k a b
     → (number : ℕ) → LiesInTwo xs number → b.start ≤ number
 least_shared xs ordered k a b overlaps number shared =
     let places = two_places xs number shared in
     elim (apart places.i places.j places.differ) [
-      | inl before ↦ no_lower xs ordered k a b overlaps places.i places.j shared.one shared.other places.at_one places.at_other before number shared.one_holds shared.other_holds
-      | inr after ↦ no_lower xs ordered k a b overlaps places.j places.i shared.other shared.one places.at_other places.at_one after number shared.other_holds shared.one_holds
+      | inl before ↦ no_lower xs ordered k a b overlaps places.i places.j shared.one shared.other places.at_one
+          places.at_other before number shared.one_holds shared.other_holds
+      | inr after ↦ no_lower xs ordered k a b overlaps places.j places.i shared.other shared.one places.at_other
+          places.at_one after number shared.other_holds shared.one_holds
     ]
 
 -- a span that holds the point of the overlap is one of the two that overlap, or comes after them
@@ -147,22 +153,28 @@ later_holder xs ordered k a b overlaps s found holds not_a not_b =
     elim (cases_lt (suc k) at_s.0) [
       | inl above ↦ comes_before xs ordered (suc k) at_s.0 b s overlaps.at_b at_s.1 above
       | inr upto ↦ elim (eq-or-lt_of_le upto) [
-        | inl second ↦ absurd (not_b (ap (λ x. x.name) (same_place xs (suc k) s b (subst (λ p. StandsAt xs p s) second at_s.1) overlaps.at_b)))
+        | inl second ↦
+            absurd (not_b (ap (λ x. x.name)
+            (same_place xs (suc k) s b (subst (λ p. StandsAt xs p s) second at_s.1) overlaps.at_b)))
         | inr below ↦ elim (cases_lt at_s.0 k) [
           | inl before ↦
-              let ends : s.end ≤ a.start = ends_by xs (suc k) (omega arith) overlaps.before at_s.0 k s a at_s.1 overlaps.at_a before (omega arith) in
-              let rises : a.start ≤ b.start = starts_rise xs ordered k (suc k) a b overlaps.at_a overlaps.at_b (omega arith) in
+              let ends : s.end ≤ a.start = ends_by xs (suc k) (omega arith) overlaps.before at_s.0 k s a at_s.1
+              overlaps.at_a before (omega arith) in
+              let rises : a.start ≤ b.start = starts_rise xs ordered k (suc k) a b overlaps.at_a overlaps.at_b
+              (omega arith) in
               let reaches : b.start < s.end = holds.below_end in
               absurd (omega arith)
           | inr not_before ↦
               let first : at_s.0 ≡ k = omega arith in
-              absurd (not_a (ap (λ x. x.name) (same_place xs k s a (subst (λ p. StandsAt xs p s) first at_s.1) overlaps.at_a)))
+              absurd (not_a (ap (λ x. x.name)
+              (same_place xs k s a (subst (λ p. StandsAt xs p s) first at_s.1) overlaps.at_a)))
         ]
       ]
     ]
 
 -- the first span that overlaps the next does so at the least number that lies in two spans
-pub is_first_clash : (xs : List Span) → NamesDiffer xs → AllPairs ComesBefore xs → (k : ℕ) (a b : Span) → Overlaps xs k a b
+pub is_first_clash : (xs : List Span) → NamesDiffer xs → AllPairs ComesBefore xs → (k : ℕ) (a b : Span)
+    → Overlaps xs k a b
     → IsFirstClash xs a.name b.name b.start
 is_first_clash xs names ordered k a b overlaps =
     let filled : b.start < b.end = b.not_empty in
@@ -176,7 +188,8 @@ is_first_clash xs names ordered k a b overlaps =
         earlier_name = refl;
         later_name = refl;
         two = subst (λ s. a.name ≢ s.name) (read_at xs (suc k) b a overlaps.at_b)
-            (subst (λ s. s.name ≢ (get_or xs (suc k) a).name) overlaps.at_a.is (names k (suc k) a (omega arith) overlaps.at_b.within));
+            (subst (λ s. s.name ≢ (get_or xs (suc k) a).name) overlaps.at_a.is
+            (names k (suc k) a (omega arith) overlaps.at_b.within));
         earlier_holds = record { from_start = starts_by a b in_order; below_end = overlaps.into };
         later_holds = record { from_start = omega arith; below_end = filled };
         in_order = in_order;

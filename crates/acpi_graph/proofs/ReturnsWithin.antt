@@ -38,7 +38,8 @@ from_repeat parents node standing twice =
 pub returns_within : (parents : List (Option ℕ)) → AreNodes parents → (node : ℕ) → node < length parents
     → (last : ℕ) → node_after parents node (length parents) ≡ Some last → ReturnsWithin parents node
 returns_within parents nodes node is_node last goes_on =
-    from_repeat parents node standing (pigeonholes (length parents) (λ steps. unwrap_or (node_after parents node steps) 0) below)
+    from_repeat parents node standing
+    (pigeonholes (length parents) (λ steps. unwrap_or (node_after parents node steps) 0) below)
   where
     standing : (steps : ℕ) → steps ≤ length parents → (there : ℕ) × (node_after parents node steps ≡ Some there)
     standing steps upto = went_on parents node steps (length parents) last upto goes_on
@@ -46,7 +47,8 @@ returns_within parents nodes node is_node last goes_on =
     below : (steps : ℕ) → steps ≤ length parents → unwrap_or (node_after parents node steps) 0 < length parents
     below steps upto =
         let here = standing steps upto in
-        subst (λ o. unwrap_or o 0 < length parents) (sym here.1) (after_is_node parents nodes node is_node steps here.0 here.1)
+        subst (λ o. unwrap_or o 0 < length parents) (sym here.1)
+        (after_is_node parents nodes node is_node steps here.0 here.1)
 
 -- a chain ends, or comes back to a node within as many steps as there are nodes
 pub ends_or_returns : (parents : List (Option ℕ)) → AreNodes parents → (node : ℕ) → node < length parents

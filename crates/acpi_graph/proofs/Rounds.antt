@@ -37,14 +37,16 @@ fold_back parents node lead round returns (suc steps) =
     ]
 
 -- a chain that comes back to a node goes on for good
-pub never_ends : (parents : List (Option ℕ)) (node lead round : ℕ) → Returns parents node lead round → ¬ Ends parents node
+pub never_ends : (parents : List (Option ℕ)) (node lead round : ℕ) → Returns parents node lead round
+    → ¬ Ends parents node
 never_ends parents node lead round returns (steps, over) = elim (cases_lt steps lead) [
   | inl before ↦
       let going = went_on parents node steps lead returns.there (omega arith) returns.stands in
       let here : node_after parents node steps ≡ Some going.0 = going.1 in
       cc
   | inr not_before ↦
-      let folded : FoldsBack parents node lead round (steps - lead) = fold_back parents node lead round returns (steps - lead) in
+      let folded : FoldsBack parents node lead round (steps - lead) =
+      fold_back parents node lead round returns (steps - lead) in
       let at : lead + (steps - lead) ≡ steps = omega arith in
       let high : folded.place < lead + round = folded.in_round in
       let going = went_on parents node folded.place (lead + round) returns.there (omega arith) returns.again in
@@ -77,11 +79,13 @@ is_round parents node lead round returns distinct =
           elim (cases_lt (steps + more) (lead + round)) [
             | inl inside ↦ absurd (distinct steps (steps + more) (omega arith) inside (other.stands ∙ sym other.again))
             | inr outside ↦
-                let folded : FoldsBack parents node lead round (steps + more - lead) = fold_back parents node lead round returns (steps + more - lead) in
+                let folded : FoldsBack parents node lead round (steps + more - lead) =
+                fold_back parents node lead round returns (steps + more - lead) in
                 let low : lead ≤ folded.place = folded.from_lead in
                 let at : lead + (steps + more - lead) ≡ steps + more = omega arith in
                 let same : node_after parents node (steps + more) ≡ node_after parents node folded.place =
                 subst (λ k. node_after parents node k ≡ node_after parents node folded.place) at folded.same in
-                absurd (distinct steps folded.place (omega arith) folded.in_round (other.stands ∙ sym other.again ∙ same))
+                absurd (distinct steps folded.place (omega arith) folded.in_round
+                (other.stands ∙ sym other.again ∙ same))
           ]
     ]

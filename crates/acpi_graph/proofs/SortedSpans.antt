@@ -29,7 +29,8 @@ not_above m n p q u v upto differ = grind (arith, nat_tests)
 -- sorted spans whose names differ stand in order
 pub in_order : (xs : List Span) → NamesDiffer xs → IsSorted span_cmp xs → AllPairs ComesBefore xs
 in_order xs names sorted i j d before within =
-    not_above (get_or xs i d).start (get_or xs j d).start (get_or xs i d).name (get_or xs j d).name (get_or xs i d).end (get_or xs j d).end
+    not_above (get_or xs i d).start (get_or xs j d).start (get_or xs i d).name (get_or xs j d).name (get_or xs i d).end
+    (get_or xs j d).end
     (sorted_far (λ a b. is_lt (span_cmp a b)) (ranks_by span_cmp_total (λ s. s)) xs sorted i j d (omega arith) within)
     (names i j d before within)
 
@@ -37,8 +38,10 @@ to_names : (xs : List Span) → NamesDiffer xs → AllPairs (λ m n. m ≢ n) (m
 to_names [] names i j d before within = absurd (omega arith)
 to_names (x ∷ xs) names i j d before within =
     let inside : j < length (x ∷ xs) = rw length-map at within in
-    let at_i : get_or (map (λ (s : Span). s.name) (x ∷ xs)) i d ≡ (get_or (x ∷ xs) i x).name = get_or-map (λ s. s.name) (x ∷ xs) i x d (omega arith) in
-    let at_j : get_or (map (λ (s : Span). s.name) (x ∷ xs)) j d ≡ (get_or (x ∷ xs) j x).name = get_or-map (λ s. s.name) (x ∷ xs) j x d inside in
+    let at_i : get_or (map (λ (s : Span). s.name) (x ∷ xs)) i d ≡ (get_or (x ∷ xs) i x).name =
+    get_or-map (λ s. s.name) (x ∷ xs) i x d (omega arith) in
+    let at_j : get_or (map (λ (s : Span). s.name) (x ∷ xs)) j d ≡ (get_or (x ∷ xs) j x).name =
+    get_or-map (λ s. s.name) (x ∷ xs) j x d inside in
     λ same. names i j x before inside (sym at_i ∙ same ∙ at_j)
 
 from_names : (xs : List Span) → AllPairs (λ m n. m ≢ n) (map (λ s. s.name) xs) → NamesDiffer xs

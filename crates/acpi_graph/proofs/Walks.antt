@@ -25,7 +25,8 @@ pub record Trail (parents : List (Option ℕ)) (marks : List ℕ) (start base st
   pub from_base : base ≤ steps
   pub numbered : (node : ℕ) → get_or marks node 0 ≤ steps
   pub settled : (node : ℕ) → 0 < get_or marks node 0 → get_or marks node 0 ≤ base → Ends parents node
-  pub own : (node : ℕ) → base < get_or marks node 0 → node_after parents start (get_or marks node 0 - suc base) ≡ Some node
+  pub own : (node : ℕ) → base < get_or marks node 0
+      → node_after parents start (get_or marks node 0 - suc base) ≡ Some node
   pub left : (taken : ℕ) → base + taken < steps → Left parents marks start base taken
 
 -- the walk stands at a node
@@ -34,7 +35,8 @@ pub record StandsAt (parents : List (Option ℕ)) (start base steps node : ℕ) 
   pub stands : node_after parents start (steps - base) ≡ Some node
 
 -- a walk begins
-pub begin : (parents : List (Option ℕ)) (marks : List ℕ) (start steps : ℕ) → AreMarksOfEnded parents marks steps → Trail parents marks start steps steps
+pub begin : (parents : List (Option ℕ)) (marks : List ℕ) (start steps : ℕ) → AreMarksOfEnded parents marks steps
+    → Trail parents marks start steps steps
 begin parents marks start steps s = record {
   same_length = s.same_length;
   one_a_step = s.one_a_step;
@@ -46,22 +48,26 @@ begin parents marks start steps s = record {
 }
 
 -- the walk leaves a node that has no mark
-pub mark_more : (parents : List (Option ℕ)) (marks : List ℕ) (start base steps node : ℕ) → Trail parents marks start base steps
-    → StandsAt parents start base steps node → get_or marks node 0 ≡ 0 → Trail parents (set marks node (suc steps)) start base (suc steps)
+pub mark_more : (parents : List (Option ℕ)) (marks : List ℕ) (start base steps node : ℕ)
+    → Trail parents marks start base steps
+    → StandsAt parents start base steps node → get_or marks node 0 ≡ 0
+    → Trail parents (set marks node (suc steps)) start base (suc steps)
 mark_more parents marks start base steps node t at blank = record {
   same_length = length-set marks node (suc steps) ∙ t.same_length;
   one_a_step = counted;
   from_base = let low : base ≤ steps = t.from_base in omega arith;
   numbered = λ other. elim (cases_eq other node) [
     | inl same ↦ rw same (rw here (omega arith))
-    | inr differ ↦ rw (elsewhere other differ) (let upto : get_or marks other 0 ≤ steps = t.numbered other in omega arith)
+    | inr differ ↦ rw (elsewhere other differ) (let upto : get_or marks other 0 ≤ steps = t.numbered other in
+        omega arith)
   ];
   settled = λ other marked old. elim (cases_eq other node) [
     | inl same ↦
         let mark : get_or (set marks node (suc steps)) other 0 ≡ suc steps = rw same here in
         let low : base ≤ steps = t.from_base in
         absurd (omega arith)
-    | inr differ ↦ t.settled other (subst (λ m. 0 < m) (elsewhere other differ) marked) (subst (λ m. m ≤ base) (elsewhere other differ) old)
+    | inr differ ↦ t.settled other (subst (λ m. 0 < m) (elsewhere other differ) marked)
+        (subst (λ m. m ≤ base) (elsewhere other differ) old)
   ];
   own = λ other above. elim (cases_eq other node) [
     | inl same ↦
@@ -88,7 +94,8 @@ mark_more parents marks start base steps node t at blank = record {
 }
   where
     inside : node < length marks
-    inside = let is : node < length parents = at.is_node in let same : length marks ≡ length parents = t.same_length in omega arith
+    inside = let is : node < length parents = at.is_node in let same : length marks ≡ length parents = t.same_length in
+        omega arith
 
     here : get_or (set marks node (suc steps)) node 0 ≡ suc steps
     here = get_or-set_same marks node (suc steps) 0 inside
@@ -100,25 +107,31 @@ mark_more parents marks start base steps node t at blank = record {
     counted =
         let more = sum_by-set (λ mark. cond (nat_lt 0 mark) 1 0) marks node (suc steps) 0 inside in
         let before : count_by (λ mark. nat_lt 0 mark) marks ≡ steps = t.one_a_step in
-        let blank_counts : cond {A = ℕ} (nat_lt 0 (get_or marks node 0)) 1 0 ≡ 0 = ap (λ (mark : ℕ). cond {A = ℕ} (nat_lt 0 mark) 1 0) blank in
-        let mark_counts : cond {A = ℕ} (nat_lt 0 (suc steps)) 1 0 ≡ 1 = ap (λ b. cond {A = ℕ} b 1 0) (lt-ltb 0 (suc steps) (omega arith)) in
+        let blank_counts : cond {A = ℕ} (nat_lt 0 (get_or marks node 0)) 1 0 ≡ 0 =
+        ap (λ (mark : ℕ). cond {A = ℕ} (nat_lt 0 mark) 1 0) blank in
+        let mark_counts : cond {A = ℕ} (nat_lt 0 (suc steps)) 1 0 ≡ 1 =
+        ap (λ b. cond {A = ℕ} b 1 0) (lt-ltb 0 (suc steps) (omega arith)) in
         omega (arith, more)
 
 -- the same, of the step as the code counts it
-pub leaves : (parents : List (Option ℕ)) (marks : List ℕ) (start base steps node next : ℕ) → Trail parents marks start base steps
+pub leaves : (parents : List (Option ℕ)) (marks : List ℕ) (start base steps node next : ℕ)
+    → Trail parents marks start base steps
     → StandsAt parents start base steps node → get_or marks node 0 ≡ 0 → next ≡ steps + 1
     → Trail parents (set marks node (steps + 1)) start base next
 leaves parents marks start base steps node next t at blank counted =
     let one_more : suc steps ≡ steps + 1 = omega arith in
     let same : suc steps ≡ next = omega arith in
     subst (λ m. Trail parents (set marks node m) start base next) one_more
-    (subst (λ n. Trail parents (set marks node (suc steps)) start base n) same (mark_more parents marks start base steps node t at blank))
+    (subst (λ n. Trail parents (set marks node (suc steps)) start base n) same
+    (mark_more parents marks start base steps node t at blank))
 
 -- while a node has no mark, fewer steps were taken than there are nodes
-pub room_left : (parents : List (Option ℕ)) (marks : List ℕ) (start base steps node : ℕ) → Trail parents marks start base steps
+pub room_left : (parents : List (Option ℕ)) (marks : List ℕ) (start base steps node : ℕ)
+    → Trail parents marks start base steps
     → StandsAt parents start base steps node → get_or marks node 0 ≡ 0 → steps < length parents
 room_left parents marks start base steps node t at blank =
-    let more : Trail parents (set marks node (suc steps)) start base (suc steps) = mark_more parents marks start base steps node t at blank in
+    let more : Trail parents (set marks node (suc steps)) start base (suc steps) =
+    mark_more parents marks start base steps node t at blank in
     let same : length (set marks node (suc steps)) ≡ length parents = more.same_length in
     let counted : count_by (λ mark. nat_lt 0 mark) (set marks node (suc steps)) ≡ suc steps = more.one_a_step in
     let upto : count_by (λ mark. nat_lt 0 mark) (set marks node (suc steps)) ≤ length (set marks node (suc steps)) =
@@ -126,16 +139,19 @@ room_left parents marks start base steps node t at blank =
     omega arith
 
 -- no more steps were taken than there are nodes
-pub steps_within : (parents : List (Option ℕ)) (marks : List ℕ) (start base steps : ℕ) → Trail parents marks start base steps → steps ≤ length parents
+pub steps_within : (parents : List (Option ℕ)) (marks : List ℕ) (start base steps : ℕ)
+    → Trail parents marks start base steps → steps ≤ length parents
 steps_within parents marks start base steps t =
     let same : length marks ≡ length parents = t.same_length in
     let counted : count_by (λ mark. nat_lt 0 mark) marks ≡ steps = t.one_a_step in
-    let upto : count_by (λ mark. nat_lt 0 mark) marks ≤ length marks = count_by-le-length (λ mark. nat_lt 0 mark) marks in
+    let upto : count_by (λ mark. nat_lt 0 mark) marks ≤ length marks =
+    count_by-le-length (λ mark. nat_lt 0 mark) marks in
     omega arith
 
 -- the walk goes on to the parent
 pub stands_on : (parents : List (Option ℕ)) (start base steps node next parent : ℕ) → AreNodes parents → base ≤ steps
-    → StandsAt parents start base steps node → next ≡ steps + 1 → parent_of parents node ≡ Some parent → StandsAt parents start base next parent
+    → StandsAt parents start base steps node → next ≡ steps + 1 → parent_of parents node ≡ Some parent
+    → StandsAt parents start base next parent
 stands_on parents start base steps node next parent nodes low at counted up =
     let one_more : next - base ≡ suc (steps - base) = omega arith in
     record {
@@ -150,7 +166,8 @@ root_ends parents start base steps node at root =
     (suc (steps - base), ap (option_and_then (parent_of parents)) at.stands ∙ root)
 
 -- the walk has come to a node that an earlier walk has left
-pub settled_ends : (parents : List (Option ℕ)) (marks : List ℕ) (start base steps node : ℕ) → Trail parents marks start base steps
+pub settled_ends : (parents : List (Option ℕ)) (marks : List ℕ) (start base steps node : ℕ)
+    → Trail parents marks start base steps
     → StandsAt parents start base steps node → 0 < get_or marks node 0 → get_or marks node 0 ≤ base → Ends parents start
 settled_ends parents marks start base steps node t at marked old =
     ends_before parents start (steps - base) node at.stands (t.settled node marked old)
@@ -182,8 +199,10 @@ left_once parents marks start base steps t i j before below same =
     omega arith
 
 -- the walk has come to a node that it has left itself
-pub round_found : (parents : List (Option ℕ)) (marks : List ℕ) (start base steps node lead round : ℕ) → Trail parents marks start base steps
-    → StandsAt parents start base steps node → lead + suc base ≡ get_or marks node 0 → round + get_or marks node 0 ≡ suc steps
+pub round_found : (parents : List (Option ℕ)) (marks : List ℕ) (start base steps node lead round : ℕ)
+    → Trail parents marks start base steps
+    → StandsAt parents start base steps node → lead + suc base ≡ get_or marks node 0
+    → round + get_or marks node 0 ≡ suc steps
     → IsRound parents start lead round
 round_found parents marks start base steps node lead round t at lead_is round_is =
     let low : base ≤ steps = t.from_base in
@@ -202,10 +221,12 @@ round_found parents marks start base steps node lead round t at lead_is round_is
 -- a cycle of this walk is the first, where the chains of all nodes before it end
 pub first_stray_found : (parents : List (Option ℕ)) (start : ℕ) (found : Stray) → start < length parents
     → ((node : ℕ) → node < start → Ends parents node)
-    → IfRound found (λ node lead round. (node ≡ start) × IsRound parents start lead round × (lead + round ≤ length parents))
+    → IfRound found (λ node lead round. (node ≡ start) × IsRound parents start lead round
+    × (lead + round ≤ length parents))
     → IfRound found (IsFirstStray parents)
 first_stray_found parents start stray.None is_node earlier round = tt
-first_stray_found parents start (stray.Round node lead round) is_node earlier found = subst (λ n. IsFirstStray parents n lead round) (sym found.0)
+first_stray_found parents start (stray.Round node lead round) is_node earlier found =
+    subst (λ n. IsFirstStray parents n lead round) (sym found.0)
     (record {
       is_node = is_node;
       goes_on = never_ends parents start lead round found.1.returns;
@@ -214,7 +235,8 @@ first_stray_found parents start (stray.Round node lead round) is_node earlier fo
     })
 
 -- before the first walk no node has a mark
-no_mark : (parents : List (Option ℕ)) (marks : List ℕ) → marks ≡ replicate (length parents) 0 → (node : ℕ) → get_or marks node 0 ≡ 0
+no_mark : (parents : List (Option ℕ)) (marks : List ℕ) → marks ≡ replicate (length parents) 0 → (node : ℕ)
+    → get_or marks node 0 ≡ 0
 no_mark parents marks blank node = elim (cases_lt node (length parents)) [
   | inl inside ↦ rw blank (get_or-replicate (length parents) node 0 0 inside)
   | inr past ↦
@@ -222,10 +244,12 @@ no_mark parents marks blank node = elim (cases_lt node (length parents)) [
       get_or_past marks node 0 (omega arith)
 ]
 
-pub fresh : (parents : List (Option ℕ)) (marks : List ℕ) → marks ≡ replicate (length parents) 0 → AreMarksOfEnded parents marks 0
+pub fresh : (parents : List (Option ℕ)) (marks : List ℕ) → marks ≡ replicate (length parents) 0
+    → AreMarksOfEnded parents marks 0
 fresh parents marks blank = record {
   same_length = ap length blank ∙ length-replicate (length parents) 0;
-  one_a_step = rw blank (sum_by-replicate (λ mark. cond (nat_lt 0 mark) 1 0) (length parents) 0 ∙ mul-zero (length parents));
+  one_a_step = rw blank (sum_by-replicate (λ mark. cond (nat_lt 0 mark) 1 0) (length parents) 0
+      ∙ mul-zero (length parents));
   numbered = λ node. let none : get_or marks node 0 ≡ 0 = no_mark parents marks blank node in omega arith;
   end = λ node marked. absurd (let none : get_or marks node 0 ≡ 0 = no_mark parents marks blank node in omega arith);
 }

@@ -19,7 +19,8 @@ pub fn are_apart(mut spans: Vec<CompactSpan>) -> (bool, usize)
 
 /// Whether each span ends before all behind it begin, and how many neighbours were compared.
 fn is_sorted_disjoint(spans: &[CompactSpan]) -> (bool, usize)
-    ensures rise { MatchBool result.0 (AreSortedDisjoint spans.now) (¬ AreSortedDisjoint spans.now) }
+    ensures rise { MatchBool result.0 (AreSortedDisjoint spans.now)
+        (¬ AreSortedDisjoint spans.now) }
     ensures comparisons { result.1 ≤ length spans.now - 1 }
 {
     let mut comparisons = 0;

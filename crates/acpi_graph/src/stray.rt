@@ -76,7 +76,8 @@ fn walk(parents: &[Option<usize>], marks: &mut [usize], steps: &mut usize, start
     ensures settled { result ≡ Stray.None → AreMarksOfEnded parents.now marks.new steps.new }
     ensures end { result ≡ Stray.None → Ends parents.now start }
     ensures round { IfRound result (λ node lead round.
-        (node ≡ start) × IsRound parents.now start lead round × (lead + round ≤ length parents.now)) }
+        (node ≡ start) × IsRound parents.now start lead round
+        × (lead + round ≤ length parents.now)) }
     ensures steps { steps.new ≤ length parents.now }
 {
     let before = *steps;

@@ -10,7 +10,7 @@ use Rattle.acpi_base.specs.Slit.{SlitContents, slit_contents, cell_place, distan
 use Rattle.acpi_base.specs.declared.code.Code.{Code}
 use Rattle.acpi_base.specs.declared.code.Code.TheVariants as code
 use Rattle.acpi_base.specs.declared.witness.Witness.{Witness}
-use Rattle.acpi_base.proofs.Slit.Faults.{excludes}
+use Rattle.acpi_base.proofs.Slit.{excludes}
 use Rattle.acpi_base.proofs.Faults.Deciding.{not_other}
 use Rattle.acpi_read.specs.Slits.{HasRows, IsSoundCell, AreSoundTo, IsFirstSlitFault}
 

@@ -44,10 +44,13 @@ puts_decided i d (X2apicDomain v) = all3 (same v.x2apic_id i) (same v.domain d) 
 puts_decided i d _ = inr (λ h. h)
 
 -- whether an entry at an offset puts a processor in a domain with P
-put_decided : (c : SratContents) (o i : ℕ) (P : ℕ → Type 0) → ((d : ℕ) → Decided (P d)) → Decided ((d : ℕ) × PutsAt c o i d × P d)
+put_decided : (c : SratContents) (o i : ℕ) (P : ℕ → Type 0) → ((d : ℕ) → Decided (P d))
+    → Decided ((d : ℕ) × PutsAt c o i d × P d)
 put_decided c o i P decide =
-    decided_as (λ h. (domain_of h.0, (h.0, h.1, h.2.0), h.2.1)) (λ h. let e = h.1 in let is = (put_as e.0 i h.0 e.2).1 in (e.0, e.1, (rw is e.2, rw is h.2)))
-    (stands_with_decided c.entries o (λ e. PutsIn i (domain_of e) e × P (domain_of e)) (λ e. both (puts_decided i (domain_of e) e) (decide (domain_of e))))
+    decided_as (λ h. (domain_of h.0, (h.0, h.1, h.2.0), h.2.1))
+    (λ h. let e = h.1 in let is = (put_as e.0 i h.0 e.2).1 in (e.0, e.1, (rw is e.2, rw is h.2)))
+    (stands_with_decided c.entries o (λ e. PutsIn i (domain_of e) e × P (domain_of e))
+    (λ e. both (puts_decided i (domain_of e) e) (decide (domain_of e))))
 
 -- where one entry stands at an offset, it puts a processor in one domain
 one_put : (c : SratContents) → AreOnes c.entries → (o i d f : ℕ) → PutsAt c o i d → PutsAt c o i f → d ≡ f
@@ -65,7 +68,8 @@ processor_decided p i _ = inr (λ h. h)
 enabled_decided : (p : Processors) (madt : MadtContents) (i : ℕ) → Decided (IsEnabled p madt i)
 enabled_decided p madt i = somewhere_decided madt.entries (IsEnabledProcessor p i) (processor_decided p i)
 
-pub decided : (p : Processors) (madt : MadtContents) (srat : SratContents) (fault : Code) (at other point : ℕ) → Decided (DomainFault p madt srat fault at other point)
+pub decided : (p : Processors) (madt : MadtContents) (srat : SratContents) (fault : Code) (at other point : ℕ)
+    → Decided (DomainFault p madt srat fault at other point)
 decided p madt srat code.TwoDomains at other point =
     decided_as (λ h. (h.0, h.2.0, h.2.2.0, h.2.1, h.2.2.1, h.1, h.2.2.2)) (λ h. (h.0, h.5, (h.1, h.3, (h.2, h.4, h.6))))
     (all3 (enabled_decided p madt point) (below other at)
@@ -74,31 +78,37 @@ decided p madt srat _ at other point = inr (λ fault. fault)
 
 -- without a fault each processor has one domain
 pub one_domain_without_fault : (p : Processors) (madt : MadtContents) (whole : List ℕ)
-    → ((fault : Code) (at other point : ℕ) → stage_of fault ≡ stage.Domains → ¬ DomainFault p madt (srat_contents whole) fault at other point)
+    → ((fault : Code) (at other point : ℕ) → stage_of fault ≡ stage.Domains
+    → ¬ DomainFault p madt (srat_contents whole) fault at other point)
     → HaveOneDomain p madt (srat_contents whole)
 unfolding srat_contents
 one_domain_without_fault p madt whole none i enabled o r d f one other =
     not_other d f (λ differ. elim (cases_order o r) [
-      | inl is ↦ differ (one_put (srat_contents whole) (one_said srat_entry 48 whole) r i d f (subst (λ (k : ℕ). PutsAt (srat_contents whole) k i d) is one) other)
+      | inl is ↦ differ (one_put (srat_contents whole) (one_said srat_entry 48 whole) r i d f
+          (subst (λ (k : ℕ). PutsAt (srat_contents whole) k i d) is one) other)
       | inr (inl less) ↦ none code.TwoDomains r o i refl (enabled, f, d, other, one, less, λ is. differ (sym is))
       | inr (inr more) ↦ none code.TwoDomains o r i refl (enabled, d, f, one, other, more, differ)
     ])
 
 -- a fault excludes that each has one
-pub excludes : (p : Processors) (madt : MadtContents) (srat : SratContents) (fault : Code) (at other point : ℕ) → DomainFault p madt srat fault at other point → ¬ HaveOneDomain p madt srat
-excludes p madt srat code.TwoDomains at other point (enabled, d, f, one, two, _, differ) sound = differ (sound point enabled at other d f one two)
+pub excludes : (p : Processors) (madt : MadtContents) (srat : SratContents) (fault : Code) (at other point : ℕ)
+    → DomainFault p madt srat fault at other point → ¬ HaveOneDomain p madt srat
+excludes p madt srat code.TwoDomains at other point (enabled, d, f, one, two, _, differ) sound =
+    differ (sound point enabled at other d f one two)
 excludes p madt srat _ at other point fault sound = fault
 
 -- ---- how far its numbers reach
 
 pub bounded : (p : Processors) (madt : MadtContents) (srat : SratContents)
-    → (most : ℕ) × ((fault : Code) (at other point : ℕ) → DomainFault p madt srat fault at other point → (at < most) × (other < most) × (point < most))
+    → (most : ℕ) × ((fault : Code) (at other point : ℕ) → DomainFault p madt srat fault at other point
+    → (at < most) × (other < most) × (point < most))
 bounded p madt srat = (all.0, place)
   where
     all : (most : ℕ) × ((o : ℕ) (e : SratEntry) → Stands srat.entries o e → (o < most) × (processor_of e < most))
     all = entries_bounded srat.entries processor_of
 
-    place : (fault : Code) (at other point : ℕ) → DomainFault p madt srat fault at other point → (at < all.0) × (other < all.0) × (point < all.0)
+    place : (fault : Code) (at other point : ℕ) → DomainFault p madt srat fault at other point
+        → (at < all.0) × (other < all.0) × (point < all.0)
     place code.TwoDomains at other point (enabled, d, f, (e, stands, puts), _, before, _) =
         let here = all.1 at e stands in
         (here.0, omega arith, omega (arith, put_as e point d puts))
@@ -111,7 +121,8 @@ processor_fits e small = grind (arith, field_below e small 3 1, field_below e sm
 
 -- the offsets lie within the SRAT, and the number of the processor has 32 bits
 pub fits : (p : Processors) (madt : MadtContents) (whole : List ℕ) → ((k : ℕ) → slice_index whole k < 256)
-    → (fault : Code) (at other point : ℕ) → DomainFault p madt (srat_contents whole) fault at other point → (at < length whole) × (other < length whole) × (point < 256 ^ 4)
+    → (fault : Code) (at other point : ℕ) → DomainFault p madt (srat_contents whole) fault at other point
+    → (at < length whole) × (other < length whole) × (point < 256 ^ 4)
 unfolding srat_contents
 fits p madt whole small code.TwoDomains at other point (enabled, d, f, (e, stands, puts), _, before, _) =
     let inside = said_inside srat_entry 48 whole at e stands in

@@ -38,19 +38,28 @@ served_decided q c g =
     decided_as (λ h. (h.0, h.1.2.0, (h.1.0, h.1.1, h.1.2.1))) (λ h. (h.0, (h.2.0, h.2.1, (h.1, h.2.2))))
     (somewhere_decided c.entries (λ e. (start : ℕ) × ServesFrom q start g e) (serves_decided q g))
 
-pub decided : (q : PolicyValue) (c : MadtContents) (fault : Code) (at other point : ℕ) → Decided (ServedFault q c fault at other point)
+pub decided : (q : PolicyValue) (c : MadtContents) (fault : Code) (at other point : ℕ)
+    → Decided (ServedFault q c fault at other point)
 decided q c code.GsiNowhere at other point =
-    all4 (somewhere_decided c.entries IsIoApic io_apic_decided) (stands_with_decided c.entries at (NamesGsi point) (names_decided point)) (negated (served_decided q c point)) (same other 0)
+    all4 (somewhere_decided c.entries IsIoApic io_apic_decided)
+    (stands_with_decided c.entries at (NamesGsi point) (names_decided point)) (negated (served_decided q c point))
+    (same other 0)
 decided q c _ at other point = inr (λ fault. fault)
 
 -- without a fault each interrupt number that is named is served
 pub named_served_without_fault : (q : PolicyValue) (c : MadtContents)
-    → ((fault : Code) (at other point : ℕ) → stage_of fault ≡ stage.Served → ¬ ServedFault q c fault at other point) → AreNamedServed q c
+    → ((fault : Code) (at other point : ℕ) → stage_of fault ≡ stage.Served → ¬ ServedFault q c fault at other point)
+    → AreNamedServed q c
 named_served_without_fault q c none some o g names =
-    elim (served_decided q c g) [ inl served ↦ served | inr nowhere ↦ absurd (none code.GsiNowhere o 0 g refl (some, names, nowhere, refl)) ]
+    elim (served_decided q c g) [
+      | inl served ↦ served
+      | inr nowhere ↦
+          absurd (none code.GsiNowhere o 0 g refl (some, names, nowhere, refl))
+    ]
 
 -- a fault excludes that each is
-pub excludes : (q : PolicyValue) (c : MadtContents) (fault : Code) (at other point : ℕ) → ServedFault q c fault at other point → ¬ AreNamedServed q c
+pub excludes : (q : PolicyValue) (c : MadtContents) (fault : Code) (at other point : ℕ)
+    → ServedFault q c fault at other point → ¬ AreNamedServed q c
 excludes q c code.GsiNowhere at other point (some, names, nowhere, _) sound = nowhere (sound some at point names)
 excludes q c _ at other point fault sound = fault
 
@@ -69,13 +78,16 @@ named_is (Override v) g is = is
 named_is (NmiSource v) g is = is
 named_is _ g names = absurd names
 
-pub bounded : (q : PolicyValue) (c : MadtContents) → (most : ℕ) × ((fault : Code) (at other point : ℕ) → ServedFault q c fault at other point → (at < most) × (other < most) × (point < most))
+pub bounded : (q : PolicyValue) (c : MadtContents) → (most : ℕ)
+    × ((fault : Code) (at other point : ℕ) → ServedFault q c fault at other point
+    → (at < most) × (other < most) × (point < most))
 bounded q c = (all.0, place)
   where
     all : (most : ℕ) × ((o : ℕ) (e : MadtEntry) → Stands c.entries o e → (o < most) × (gsi_of e < most))
     all = entries_bounded c.entries gsi_of
 
-    place : (fault : Code) (at other point : ℕ) → ServedFault q c fault at other point → (at < all.0) × (other < all.0) × (point < all.0)
+    place : (fault : Code) (at other point : ℕ) → ServedFault q c fault at other point
+        → (at < all.0) × (other < all.0) × (point < all.0)
     place code.GsiNowhere at other point (_, (e, stands, names), _, none) =
         let here = all.1 at e stands in
         (here.0, omega arith, omega (arith, named_is e point names))
@@ -88,7 +100,8 @@ gsi_fits e small = grind (arith, field_below e small 4 4)
 
 -- the offset lies within the MADT, and the interrupt number has 32 bits
 pub fits : (q : PolicyValue) (whole : List ℕ) → ((k : ℕ) → slice_index whole k < 256)
-    → (fault : Code) (at other point : ℕ) → ServedFault q (madt_contents whole) fault at other point → (at < length whole) × (other < length whole) × (point < 256 ^ 4)
+    → (fault : Code) (at other point : ℕ) → ServedFault q (madt_contents whole) fault at other point
+    → (at < length whole) × (other < length whole) × (point < 256 ^ 4)
 unfolding madt_contents
 fits q whole small code.GsiNowhere at other point (_, (e, stands, names), _, none) =
     let here = inside whole at e stands in

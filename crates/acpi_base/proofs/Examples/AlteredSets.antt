@@ -54,7 +54,8 @@ byte_kept a byte x other = altered_is byte ∙ rw differs refl
 
 kept : (a : ℕ) (byte : Option ℕ) (p n : ℕ) → (a < p) ⊎ (p + n ≤ a)
     → bytes_at (altered a byte) p n ≡ bytes_at whole_set p n
-kept a byte p n away = run_of-agree (byte_of (altered a byte)) (byte_of whole_set) p n (λ k less. byte_kept a byte (p + k) (other k less))
+kept a byte p n away =
+    run_of-agree (byte_of (altered a byte)) (byte_of whole_set) p n (λ k less. byte_kept a byte (p + k) (other k less))
   where
     other : (k : ℕ) → k < n → p + k ≢ a
     other k less = elim away [ inl below ↦ λ same. omega arith | inr above ↦ λ same. omega arith ]
@@ -63,7 +64,8 @@ kept a byte p n away = run_of-agree (byte_of (altered a byte)) (byte_of whole_se
 of_stage : {m : Memory} {fault : Code} {at other : ℕ} {s : Stage} → stage_of fault ≡ s
     → FaultCondition s m example_policy (witness fault at other 0) → HasFault m example_policy fault at other 0
 of_stage {m} {fault} {at} {other} own holds =
-    subst (λ (s : Stage). FaultOfStage s m example_policy (witness fault at other 0)) (sym own) (record { own = own; holds = holds })
+    subst (λ (s : Stage). FaultOfStage s m example_policy (witness fault at other 0)) (sym own)
+    (record { own = own; holds = holds })
 
 -- ---- the RSDP
 
@@ -73,7 +75,8 @@ held_rsdp a byte n = bytes_at_altered a byte rsdp_at n
 
 -- it is of the extended form
 extended : (a : ℕ) (byte : Option ℕ) {head prefix : List ℕ} → run_of (with_one a byte) rsdp_at 20 ≡ Some head
-    → 2 ≤ revision_of head → run_of (with_one a byte) rsdp_at 36 ≡ Some prefix → IsExtended (altered a byte) rsdp_at head prefix
+    → 2 ≤ revision_of head → run_of (with_one a byte) rsdp_at 36 ≡ Some prefix
+    → IsExtended (altered a byte) rsdp_at head prefix
 extended a byte head revision prefix = record {
   head_held = held_rsdp a byte 20 ∙ head;
   extended = revision;
@@ -92,8 +95,15 @@ rsdp_faults = record {
       (_, _, extended 0xe0014 (Some 35) refl (omega arith) refl, omega arith);
   long_out = of_rsdp 0xe0014 (Some 37) code.RsdpLongOut refl
       (_, _, extended 0xe0014 (Some 37) refl (omega arith) refl, omega arith, held_rsdp 0xe0014 (Some 37) 37);
-  extended_sum = of_rsdp 0xe0021 (Some 1) code.RsdpExtendedSum refl
-      (_, _, _, extended 0xe0021 (Some 1) refl (omega arith) refl, omega arith, held_rsdp 0xe0021 (Some 1) 36, λ same. omega arith);
+  extended_sum = of_rsdp 0xe0021 (Some 1) code.RsdpExtendedSum refl (
+    _,
+    _,
+    _,
+    extended 0xe0021 (Some 1) refl (omega arith) refl,
+    omega arith,
+    held_rsdp 0xe0021 (Some 1) 36,
+    λ same. omega arith,
+  );
 }
   where
     of_rsdp : (a : ℕ) (byte : Option ℕ) (fault : Code) → stage_of fault ≡ stage.Rsdp
@@ -105,7 +115,8 @@ rsdp_faults = record {
 -- with another byte in the XSDT the RSDP names it as before
 names_root : (a : ℕ) (byte : Option ℕ) → 0x1000 ≤ a → a < 0x104c → IsRoot (altered a byte) rsdp_at 0x1000 8
 names_root a byte from to =
-    root_of (kept a byte rsdp_at 20 (inl (omega arith)) ∙ whole_has_root.head_held) (kept a byte rsdp_at 36 (inl (omega arith)) ∙ whole_has_root.rsdp_held)
+    root_of (kept a byte rsdp_at 20 (inl (omega arith)) ∙ whole_has_root.head_held)
+    (kept a byte rsdp_at 36 (inl (omega arith)) ∙ whole_has_root.rsdp_held)
 
 -- so that a fault of the XSDT is one of the set
 of_root : (a : ℕ) (byte : Option ℕ) (fault : Code) → 0x1000 ≤ a → a < 0x104c → stage_of fault ≡ stage.Root
@@ -134,8 +145,12 @@ root_faults = record {
       (_, held 0x104b None 36, omega arith, held 0x104b None 76);
   ragged = of_root 0x1004 (Some 75) code.RootRagged (omega arith) (omega arith) refl
       (_, held 0x1004 (Some 75) 36, omega arith, λ same. omega arith);
-  sum = of_root 0x1008 (Some 2) code.RootSum (omega arith) (omega arith) refl
-      (_, _, record { header_held = held 0x1008 (Some 2) 36; least = omega arith; held = held 0x1008 (Some 2) 76 }, λ same. omega arith);
+  sum = of_root 0x1008 (Some 2) code.RootSum (omega arith) (omega arith) refl (
+    _,
+    _,
+    record { header_held = held 0x1008 (Some 2) 36; least = omega arith; held = held 0x1008 (Some 2) 76 },
+    λ same. omega arith,
+  );
 }
   where
     held : (a : ℕ) (byte : Option ℕ) (n : ℕ) → bytes_at (altered a byte) 0x1000 n ≡ run_of (with_one a byte) 0x1000 n
@@ -192,7 +207,8 @@ is_fadt : (a : ℕ) (byte : Option ℕ) {header whole : List ℕ} → 0x2000 ≤
     → IsFadt (altered a byte) rsdp_at whole
 is_fadt a byte {header} from to table signed =
     let has = keeps_root a byte from to in
-    let found : IsSigned (altered a byte) 0x2000 fadt_signature = record { header = header; header_held = table.header_held; signed = signed } in
+    let found : IsSigned (altered a byte) 0x2000 fadt_signature =
+    record { header = header; header_held = table.header_held; signed = signed } in
     listed_in_root (root_of_held has) (root_table_of has)
     (record { k = 0; slot = first_slot; signed = found; none_before = λ j b less. absurd (omega arith) })
     table
@@ -232,18 +248,28 @@ fadt_faults = record {
       (omega arith, refl, omega arith, inl (omega arith), refl);
 }
   where
-    of_fadt : (a byte size : ℕ) (fault : Code) (at : ℕ) {header whole : List ℕ} → (0x2000 ≤ a) × (a < 0xe0000) × (36 ≤ size)
+    of_fadt : (a byte size : ℕ) (fault : Code) (at : ℕ) {header whole : List ℕ}
+        → (0x2000 ≤ a) × (a < 0xe0000) × (36 ≤ size)
         → run_of (with_one a (Some byte)) 0x2000 36 ≡ Some header → length_of header ≡ size
         → has_signature header fadt_signature ≡ true → run_of (with_one a (Some byte)) 0x2000 size ≡ Some whole
         → stage_of fault ≡ stage.Fadt → FadtTableFault whole fault at → HasFaultWith a (Some byte) fault at 0
     of_fadt a byte size fault at {whole = whole} (from, to, least) header says signed held own wrong =
-        of_stage own (inr (whole, is_fadt a (Some byte) from to (changed a byte size header says least held) signed, wrong), refl, refl)
+        of_stage own (
+          inr (
+            whole,
+            is_fadt a (Some byte) from to (changed a byte size header says least held) signed,
+            wrong,
+          ),
+          refl,
+          refl,
+        )
 
 -- ---- the FACS
 
 -- a fault of the FACS that the FADT names is one of the set
 of_facs : (a : ℕ) (byte : Option ℕ) (fault : Code) (at : ℕ) {header whole : List ℕ} → 0x2000 ≤ a → a < 0xe0000
-    → stage_of fault ≡ stage.Facs → IsTable (altered a byte) 0x2000 header whole → has_signature header fadt_signature ≡ true
+    → stage_of fault ≡ stage.Facs → IsTable (altered a byte) 0x2000 header whole
+    → has_signature header fadt_signature ≡ true
     → 116 ≤ length whole → NamedFacsFault (altered a byte) whole fault at → HasFaultWith a byte fault at 0
 of_facs a byte fault at {whole = whole} from to own table signed long wrong =
     of_stage own ((whole, is_fadt a byte from to table signed, long, wrong), refl, refl)
@@ -263,7 +289,8 @@ facs_faults = record {
   none = of_facs 0x2025 (Some 0) code.NoFacs 0 (omega arith) (omega arith) refl
       (changed 0x2025 0 129 refl refl (omega arith) refl) refl (omega arith) (refl, refl, refl);
   align = of_facs 0x2024 (Some 0x20) code.FacsAlign 0x3020 (omega arith) (omega arith) refl
-      (changed 0x2024 0x20 129 refl refl (omega arith) refl) refl (omega arith) ((λ same. omega arith), refl, λ same. omega arith);
+      (changed 0x2024 0x20 129 refl refl (omega arith) refl) refl (omega arith)
+      ((λ same. omega arith), refl, λ same. omega arith);
   header_out = named 0x3007 None code.FacsHeaderOut (omega arith) (omega arith) refl (there, refl, held 0x3007 None 8);
   signature = named 0x3000 (Some 0x66) code.FacsSignature (omega arith) (omega arith) refl
       (there, refl, _, held 0x3000 (Some 0x66) 8, refl);
@@ -282,4 +309,5 @@ facs_faults = record {
     named : (a : ℕ) (byte : Option ℕ) (fault : Code) → 0x3000 ≤ a → a < 0x3040 → stage_of fault ≡ stage.Facs
         → NamedFacsFault (altered a byte) fadt_bytes fault 0x3000 → HasFaultWith a byte fault 0x3000 0
     named a byte fault from to own wrong =
-        of_facs a byte fault 0x3000 (omega arith) (omega arith) own (keeps_fadt a byte (omega arith)) refl (omega arith) wrong
+        of_facs a byte fault 0x3000 (omega arith) (omega arith) own (keeps_fadt a byte (omega arith)) refl (omega arith)
+        wrong

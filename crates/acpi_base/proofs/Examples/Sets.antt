@@ -47,7 +47,8 @@ bytes_of_runs : (one other : List ℕ) (a n : ℕ) → bytes_at (set_of one othe
 bytes_of_runs one other a n = λ i. run_of (λ x. byte_of_memory_of (runs one other) x i) a n
 
 -- it is an image where the two tables are bytes, fewer than 1000h each
-is_image : (one other : List ℕ) → (0 < length one) × (length one < 0x1000) → (0 < length other) × (length other < 0x1000)
+is_image : (one other : List ℕ) → (0 < length one) × (length one < 0x1000)
+    → (0 < length other) × (length other < 0x1000)
     → list_all (λ b. nat_lt b 256) one ≡ true → list_all (λ b. nat_lt b 256) other ≡ true → IsImage (set_of one other)
 is_image one other size other_size bytes other_bytes = image_of (runs one other) whole
   where
@@ -76,7 +77,11 @@ root_table : (one other : List ℕ) → IsRootTable (set_of one other) 0x1000 4 
 unfolding run_of cons_both has_signature field
 root_table one other = record {
   header = take 36 rsdt_bytes;
-  table = record { header_held = bytes_of_runs one other 0x1000 36; least = omega arith; held = bytes_of_runs one other 0x1000 44 };
+  table = record {
+    header_held = bytes_of_runs one other 0x1000 36;
+    least = omega arith;
+    held = bytes_of_runs one other 0x1000 44;
+  };
   signed = refl;
 }
 
@@ -95,45 +100,76 @@ record AreTables (one other : List ℕ) : Type 0 where
   second : IsTable (set_of one other) 0x3000 (take 36 other) other
 
 -- they do where the runs have their bytes
-tables_of : (one other : List ℕ) → run_of (lookup (runs one other)) 0x2000 36 ≡ Some (take 36 one) → run_of (lookup (runs one other)) 0x2000 (length_of (take 36 one)) ≡ Some one
-    → run_of (lookup (runs one other)) 0x3000 36 ≡ Some (take 36 other) → run_of (lookup (runs one other)) 0x3000 (length_of (take 36 other)) ≡ Some other
+tables_of : (one other : List ℕ) → run_of (lookup (runs one other)) 0x2000 36 ≡ Some (take 36 one)
+    → run_of (lookup (runs one other)) 0x2000 (length_of (take 36 one)) ≡ Some one
+    → run_of (lookup (runs one other)) 0x3000 36 ≡ Some (take 36 other)
+    → run_of (lookup (runs one other)) 0x3000 (length_of (take 36 other)) ≡ Some other
     → 36 ≤ length_of (take 36 one) → 36 ≤ length_of (take 36 other) → AreTables one other
 tables_of one other header whole other_header other_whole least other_least = record {
-  first = record { header_held = bytes_of_runs one other 0x2000 36 ∙ header; least = least; held = bytes_of_runs one other 0x2000 (length_of (take 36 one)) ∙ whole };
-  second = record { header_held = bytes_of_runs one other 0x3000 36 ∙ other_header; least = other_least; held = bytes_of_runs one other 0x3000 (length_of (take 36 other)) ∙ other_whole };
+  first = record {
+    header_held = bytes_of_runs one other 0x2000 36 ∙ header;
+    least = least;
+    held = bytes_of_runs one other 0x2000 (length_of (take 36 one)) ∙ whole;
+  };
+  second = record {
+    header_held = bytes_of_runs one other 0x3000 36 ∙ other_header;
+    least = other_least;
+    held = bytes_of_runs one other 0x3000 (length_of (take 36 other)) ∙ other_whole;
+  };
 }
 
 -- the table at 2000h is listed with its signature
-first_is_listed : (one other signature header : List ℕ) → IsTable (set_of one other) 0x2000 header one → has_signature header signature ≡ true → IsListedTable (set_of one other) rsdp_at signature one
+first_is_listed : (one other signature header : List ℕ) → IsTable (set_of one other) 0x2000 header one
+    → has_signature header signature ≡ true → IsListedTable (set_of one other) rsdp_at signature one
 first_is_listed one other signature header table signed =
     listed_in_root (root one other) (root_table one other)
-    (record { k = 0; slot = slot_0; signed = record { header = header; header_held = table.header_held; signed = signed }; none_before = λ j b less. absurd (omega arith) })
+    (record {
+      k = 0;
+      slot = slot_0;
+      signed = record { header = header; header_held = table.header_held; signed = signed };
+      none_before =
+          λ j b less. absurd (omega arith);
+    })
     table
 
 -- that at 3000h is listed with its own, where the first has another
-second_listed : (one other signature header header' : List ℕ) → IsTable (set_of one other) 0x2000 header one → has_signature header signature ≡ false
-    → IsTable (set_of one other) 0x3000 header' other → has_signature header' signature ≡ true → IsListedTable (set_of one other) rsdp_at signature other
+second_listed : (one other signature header header' : List ℕ) → IsTable (set_of one other) 0x2000 header one
+    → has_signature header signature ≡ false
+    → IsTable (set_of one other) 0x3000 header' other → has_signature header' signature ≡ true
+    → IsListedTable (set_of one other) rsdp_at signature other
 second_listed one other signature header header' first differs second signed =
     listed_in_root (root one other) (root_table one other)
-    (record { k = 1; slot = slot_1; signed = record { header = header'; header_held = second.header_held; signed = signed }; none_before = none_before })
+    (record {
+      k = 1;
+      slot = slot_1;
+      signed = record { header = header'; header_held = second.header_held; signed = signed };
+      none_before =
+          none_before;
+    })
     second
   where
     none_before : (j b : ℕ) → j < 1 → HasSlot rsdt_bytes 4 j b → ¬ IsSigned (set_of one other) b signature
     none_before zero b less slot found =
-        let held = subst (λ (x : ℕ). bytes_at (set_of one other) x 36 ≡ Some found.header) (sym slot.address ∙ slot_0.address) found.header_held in
+        let held = subst (λ (x : ℕ). bytes_at (set_of one other) x 36 ≡ Some found.header)
+        (sym slot.address ∙ slot_0.address) found.header_held in
         grind (arith, same_value header found.header first.header_held held, differs, found.signed)
     none_before (suc j) b less slot found = omega arith
 
 -- so both are listed where their signatures differ
-both_listed : (one other signature signature' : List ℕ) → AreTables one other → has_signature (take 36 one) signature ≡ true → has_signature (take 36 one) signature' ≡ false → has_signature (take 36 other) signature' ≡ true
+both_listed : (one other signature signature' : List ℕ) → AreTables one other
+    → has_signature (take 36 one) signature ≡ true → has_signature (take 36 one) signature' ≡ false
+    → has_signature (take 36 other) signature' ≡ true
     → ListsBoth (set_of one other) signature one signature' other
-both_listed one other signature signature' tables is differs other_is =
-    (first_is_listed one other signature (take 36 one) tables.first is, second_listed one other signature' (take 36 one) (take 36 other) tables.first differs tables.second other_is)
+both_listed one other signature signature' tables is differs other_is = (
+  first_is_listed one other signature (take 36 one) tables.first is,
+  second_listed one other signature' (take 36 one) (take 36 other) tables.first differs tables.second other_is,
+)
 
 -- the tables of each set
 processor_tables : (checksum flags : ℕ) → AreTables (processor_bytes checksum flags) two_processors_bytes
 unfolding run_of cons_both field
-processor_tables checksum flags = tables_of (processor_bytes checksum flags) two_processors_bytes refl refl refl refl (omega arith) (omega arith)
+processor_tables checksum flags =
+    tables_of (processor_bytes checksum flags) two_processors_bytes refl refl refl refl (omega arith) (omega arith)
 
 madt_tables : AreTables named_bytes two_io_apics_bytes
 unfolding run_of cons_both field
@@ -141,43 +177,68 @@ madt_tables = tables_of named_bytes two_io_apics_bytes refl refl refl refl (omeg
 
 leaf_tables : (revision checksum : ℕ) → AreTables uid_bytes (leaf_bytes revision checksum)
 unfolding run_of cons_both field
-leaf_tables revision checksum = tables_of uid_bytes (leaf_bytes revision checksum) refl refl refl refl (omega arith) (omega arith)
+leaf_tables revision checksum =
+    tables_of uid_bytes (leaf_bytes revision checksum) refl refl refl refl (omega arith) (omega arith)
 
 -- the first of two MADTs is listed
 named_listed : IsListedTable two_madts rsdp_at madt_signature named_bytes
 unfolding has_signature
-named_listed = first_is_listed named_bytes two_io_apics_bytes madt_signature (take 36 named_bytes) madt_tables.first refl
+named_listed =
+    first_is_listed named_bytes two_io_apics_bytes madt_signature (take 36 named_bytes) madt_tables.first refl
 
 pub listed : AreListedTables
 unfolding byte_sum field has_signature
 listed = record {
-  images = All-from_recursion IsImage (enabled_set ∷ capable_set ∷ disabled_set ∷ two_madts ∷ leaf_set ∷ old_leaf_set ∷ []) (
-    is_image enabled_bytes two_processors_bytes (omega arith, omega arith) (omega arith, omega arith) refl refl,
-    (
-      is_image capable_bytes two_processors_bytes (omega arith, omega arith) (omega arith, omega arith) refl refl,
-      (
-        is_image disabled_bytes two_processors_bytes (omega arith, omega arith) (omega arith, omega arith) refl refl,
+  images = All-from_recursion IsImage
+      (enabled_set ∷ capable_set ∷ disabled_set ∷ two_madts ∷ leaf_set ∷ old_leaf_set ∷ []) (
+        is_image enabled_bytes two_processors_bytes (omega arith, omega arith) (omega arith, omega arith) refl refl,
         (
-          is_image named_bytes two_io_apics_bytes (omega arith, omega arith) (omega arith, omega arith) refl refl,
+          is_image capable_bytes two_processors_bytes (omega arith, omega arith) (omega arith, omega arith) refl refl,
           (
-            is_image uid_bytes new_leaf_bytes (omega arith, omega arith) (omega arith, omega arith) refl refl,
-            (is_image uid_bytes old_leaf_bytes (omega arith, omega arith) (omega arith, omega arith) refl refl, tt),
+            is_image disabled_bytes two_processors_bytes (omega arith, omega arith) (omega arith, omega arith) refl
+                refl,
+            (
+              is_image named_bytes two_io_apics_bytes (omega arith, omega arith) (omega arith, omega arith) refl refl,
+              (
+                is_image uid_bytes new_leaf_bytes (omega arith, omega arith) (omega arith, omega arith) refl refl,
+                (is_image uid_bytes old_leaf_bytes (omega arith, omega arith) (omega arith, omega arith) refl refl, tt),
+              ),
+            ),
           ),
         ),
-      ),
-    ),
-  );
+      );
   rsdp_sum = refl;
-  sound = All-from_recursion IsSoundExample (rsdt_bytes ∷ enabled_bytes ∷ capable_bytes ∷ disabled_bytes ∷ named_bytes ∷ uid_bytes ∷ new_leaf_bytes ∷ old_leaf_bytes ∷ []) ((refl, refl), ((refl, refl), ((refl, refl), ((refl, refl), ((refl, refl), ((refl, refl), ((refl, refl), ((refl, refl), tt))))))));
-  enabled_lists = both_listed enabled_bytes two_processors_bytes madt_signature srat_signature (processor_tables 45 1) refl refl refl;
-  capable_lists = both_listed capable_bytes two_processors_bytes madt_signature srat_signature (processor_tables 44 2) refl refl refl;
-  disabled_lists = both_listed disabled_bytes two_processors_bytes madt_signature srat_signature (processor_tables 46 0) refl refl refl;
+  sound = All-from_recursion IsSoundExample
+      (rsdt_bytes ∷ enabled_bytes ∷ capable_bytes ∷ disabled_bytes ∷ named_bytes ∷ uid_bytes ∷ new_leaf_bytes
+      ∷ old_leaf_bytes ∷ []) (
+        (refl, refl),
+        (
+          (refl, refl),
+          (
+            (refl, refl),
+            ((refl, refl), ((refl, refl), ((refl, refl), ((refl, refl), ((refl, refl), tt))))),
+          ),
+        ),
+      );
+  enabled_lists =
+      both_listed enabled_bytes two_processors_bytes madt_signature srat_signature (processor_tables 45 1) refl refl
+      refl;
+  capable_lists =
+      both_listed capable_bytes two_processors_bytes madt_signature srat_signature (processor_tables 44 2) refl refl
+      refl;
+  disabled_lists =
+      both_listed disabled_bytes two_processors_bytes madt_signature srat_signature (processor_tables 46 0) refl refl
+      refl;
   first_madt = named_listed;
   second_slot = root_slot (root named_bytes two_io_apics_bytes) (root_table named_bytes two_io_apics_bytes) slot_1;
   second_madt = (take 36 two_io_apics_bytes, madt_tables.second);
-  not_first = λ it. omega (arith, ap length (one_listed two_madts rsdp_at madt_signature named_bytes two_io_apics_bytes named_listed it));
+  not_first = λ it. omega (
+    arith,
+    ap length (one_listed two_madts rsdp_at madt_signature named_bytes two_io_apics_bytes named_listed it),
+  );
   leaf_lists = both_listed uid_bytes new_leaf_bytes madt_signature pptt_signature (leaf_tables 2 197) refl refl refl;
-  old_leaf_lists = both_listed uid_bytes old_leaf_bytes madt_signature pptt_signature (leaf_tables 1 198) refl refl refl;
+  old_leaf_lists =
+      both_listed uid_bytes old_leaf_bytes madt_signature pptt_signature (leaf_tables 1 198) refl refl refl;
 }
 
 -- ---- what the tables say
@@ -209,24 +270,36 @@ record AreContents : Type 0 where
   leaf : pptt_contents new_leaf_bytes ≡ leaf
 
 said : AreContents
-unfolding first_entry entries_from entries_of end_of_entries cut_of has_form field madt_entry madt_contents has_node_form has_cache_form pptt_entry pptt_contents
+unfolding first_entry entries_from entries_of end_of_entries cut_of has_form field madt_entry madt_contents
+    has_node_form has_cache_form pptt_entry pptt_contents
 said = record { enabled = refl; capable = refl; disabled = refl; named = refl; uid = refl; leaf = refl }
 
 -- ---- faults of two listed tables
 
 -- what is true of two tables is true of those that a set lists, where these are the two
-in_both : {m : Memory} {s t one other : List ℕ} (P : List ℕ → List ℕ → Type 0) → ListsBoth m s one t other → P one other → HasListed m rsdp_at s (λ x. HasListed m rsdp_at t (P x))
+in_both : {m : Memory} {s t one other : List ℕ} (P : List ℕ → List ℕ → Type 0) → ListsBoth m s one t other → P one other
+    → HasListed m rsdp_at s (λ x. HasListed m rsdp_at t (P x))
 in_both {one = one} {other = other} P lists holds = (one, lists.0, (other, lists.1, holds))
 
 -- and the other way round
-of_both : {m : Memory} {s t one other : List ℕ} (P : List ℕ → List ℕ → Type 0) → ListsBoth m s one t other → HasListed m rsdp_at s (λ x. HasListed m rsdp_at t (P x)) → P one other
+of_both : {m : Memory} {s t one other : List ℕ} (P : List ℕ → List ℕ → Type 0) → ListsBoth m s one t other
+    → HasListed m rsdp_at s (λ x. HasListed m rsdp_at t (P x)) → P one other
 of_both {m} {s} {t} {one} {other} P lists (x, first, (y, second, holds)) =
     rw (one_listed m rsdp_at s one x lists.0 first, one_listed m rsdp_at t other y lists.1 second) holds
 
 -- the entries of the SRAT at 40h and, before it, at 30h put the processor with the number 5 in two domains
-two_domains : (p : Processors) (madt : MadtContents) → IsEnabled p madt 5 → DomainFault p madt two_processors code.TwoDomains 0x40 0x30 5
+two_domains : (p : Processors) (madt : MadtContents) → IsEnabled p madt 5
+    → DomainFault p madt two_processors code.TwoDomains 0x40 0x30 5
 unfolding has_bit
-two_domains p madt enabled = (enabled, 1, 0, (_, (1, omega arith, refl), (refl, refl, refl)), (_, (0, omega arith, refl), (refl, refl, refl)), omega arith, λ same. omega arith)
+two_domains p madt enabled = (
+  enabled,
+  1,
+  0,
+  (_, (1, omega arith, refl), (refl, refl, refl)),
+  (_, (0, omega arith, refl), (refl, refl, refl)),
+  omega arith,
+  λ same. omega arith,
+)
 
 -- the processor is enabled where its flags count as that
 counts : (p : Processors) (flags : ℕ) → counts_as_enabled p flags ≡ true → IsEnabled p (processor flags) 5
@@ -253,14 +326,17 @@ only_capable is = both_ways _ refl is
 
 -- where they do not, no processor with the number 5 is enabled
 not_enabled : (p : Processors) (flags : ℕ) → ¬ (counts_as_enabled p flags ≡ true) → ¬ IsEnabled p (processor flags) 5
-not_enabled p flags none (o, here) = none_stands (processor flags).entries o (λ o e. IsEnabledProcessor p 5 e) ((λ h. none h.1), tt) here
+not_enabled p flags none (o, here) =
+    none_stands (processor flags).entries o (λ o e. IsEnabledProcessor p 5 e) ((λ h. none h.1), tt) here
 
 -- an override names 24, which the I/O APIC does not serve with 24 inputs
 nowhere : (q : PolicyValue) → inputs_of q 0xfec00000 ≡ 24 → ServedFault q named code.GsiNowhere 0x38 0 0x18
 nowhere q inputs = ((44, (_, (0, omega arith, refl), tt)), (_, (1, omega arith, refl), refl), none, refl)
   where
     none : ¬ IsServed q named 24
-    none (o, start, here) = none_stands named.entries o (λ o e. ServesFrom q start 24 e) ((λ h. omega (arith, h.0, h.2, inputs)), (never, tt)) here
+    none (o, start, here) =
+        none_stands named.entries o (λ o e. ServesFrom q start 24 e)
+        ((λ h. omega (arith, h.0, h.2, inputs)), (never, tt)) here
 
 -- it serves 24 with 25 inputs
 served : (q : PolicyValue) → inputs_of q 0xfec00000 ≡ 25 → ¬ ServedFault q named code.GsiNowhere 0x38 0 0x18
@@ -269,7 +345,13 @@ served q inputs fault = fault.2 (44, 0, (_, (0, omega arith, refl), (refl, omega
 -- the MADT is wholly typed, and has the UID 5 alone
 unknown : LeafFault uid leaf code.LeafUnknown 0x24 0 7
 unfolding has_bit
-unknown = (omega arith, record { long = omega arith; filled = refl; typed = typed }, (_, (0, omega arith, refl), (refl, refl, refl)), none, refl)
+unknown = (
+  omega arith,
+  record { long = omega arith; filled = refl; typed = typed },
+  (_, (0, omega arith, refl), (refl, refl, refl)),
+  none,
+  refl,
+)
   where
     typed : (o : ℕ) (e : List ℕ) → ¬ Stands uid.entries o (Opaque e)
     typed o e stands = each_entry uid.entries (λ o d. d ≢ Opaque e) ((λ same. absurd cc), tt) o (Opaque e) stands refl
@@ -296,13 +378,30 @@ inputs_are n = rw (get-empty {X = ℕ} nat_cmp 0xfec00000) refl
 
 pub set_faults : AreSetFaults
 set_faults = record {
-  two_domains = λ p. record { own = refl; holds = in_both (Domains p 0x40 0x30) listed.enabled_lists (rw (said.enabled, srat_said.processors_say) (two_domains p (processor 1) (counts p 1 (counted p)))) };
+  two_domains =
+      λ p. record {
+        own = refl;
+        holds = in_both (Domains p 0x40 0x30) listed.enabled_lists
+            (rw (said.enabled, srat_said.processors_say) (two_domains p (processor 1) (counts p 1 (counted p))));
+      };
   exchanged = λ p fault. omega (arith, (of_both (Domains p 0x30 0x40) listed.enabled_lists fault.holds).5);
-  capable = record { own = refl; holds = in_both (Domains Usable 0x40 0x30) listed.capable_lists (rw (said.capable, srat_said.processors_say) (two_domains Usable (processor 2) (counts Usable 2 usable_counted))) };
-  only_capable = λ fault. let enabled = (of_both (Domains Enabled 0x40 0x30) listed.capable_lists fault.holds).0 in not_enabled Enabled 2 only_capable (rw said.capable at enabled);
-  disabled = λ p fault. let enabled = (of_both (Domains p 0x40 0x30) listed.disabled_lists fault.holds).0 in not_enabled p 0 (not_counted p) (rw said.disabled at enabled);
-  nowhere = record { own = refl; holds = (named_bytes, listed.first_madt, rw said.named (nowhere (policy 24 Enabled) (inputs_are 24))) };
-  served = λ fault. served (policy 25 Enabled) (inputs_are 25) (rw (one_listed two_madts rsdp_at madt_signature fault.holds.0 named_bytes fault.holds.1 named_listed, said.named) at fault.holds.2);
+  capable = record {
+    own = refl;
+    holds = in_both (Domains Usable 0x40 0x30) listed.capable_lists
+        (rw (said.capable, srat_said.processors_say)
+        (two_domains Usable (processor 2) (counts Usable 2 usable_counted)));
+  };
+  only_capable = λ fault. let enabled = (of_both (Domains Enabled 0x40 0x30) listed.capable_lists fault.holds).0 in
+      not_enabled Enabled 2 only_capable (rw said.capable at enabled);
+  disabled = λ p fault. let enabled = (of_both (Domains p 0x40 0x30) listed.disabled_lists fault.holds).0 in
+      not_enabled p 0 (not_counted p) (rw said.disabled at enabled);
+  nowhere = record {
+    own = refl;
+    holds = (named_bytes, listed.first_madt, rw said.named (nowhere (policy 24 Enabled) (inputs_are 24)));
+  };
+  served = λ fault. served (policy 25 Enabled) (inputs_are 25)
+      (rw (one_listed two_madts rsdp_at madt_signature fault.holds.0 named_bytes fault.holds.1 named_listed, said.named)
+      at fault.holds.2);
   unknown = record { own = refl; holds = in_both Leaves listed.leaf_lists (rw (said.uid, said.leaf) unknown) };
   of_revision_1 = λ fault. of_revision_1 (of_both Leaves listed.old_leaf_lists fault.holds);
 }

@@ -6,12 +6,18 @@ use Rattle.acpi_base.specs.Slit.{SlitContents, slit_contents, cell_place, distan
 use Rattle.acpi_base.specs.Examples.{IsSoundExample}
 use Rattle.acpi_base.specs.Examples.Slits.{said_slit, empty_bytes, one_locality_bytes, two_localities_bytes, two_localities, high_diagonal, low_cell, low_diagonal, example_slits, AreSlitContents, AreSlitFaults, HasNoSlitFault, AreSoundSlits}
 use Rattle.acpi_base.specs.declared.code.Code.TheVariants as code
-use Rattle.acpi_base.proofs.Slit.Faults.{excludes}
+use Rattle.acpi_base.proofs.Slit.{excludes}
 
 pub slit_said : AreSlitContents
 unfolding slit_contents field byte_sum
 slit_said = record {
-  sound = All-from_recursion IsSoundExample example_slits ((refl, refl), ((refl, refl), ((refl, refl), ((refl, refl), ((refl, refl), ((refl, refl), ((refl, refl), tt)))))));
+  sound = All-from_recursion IsSoundExample example_slits (
+    (refl, refl),
+    (
+      (refl, refl),
+      ((refl, refl), ((refl, refl), ((refl, refl), ((refl, refl), ((refl, refl), tt))))),
+    ),
+  );
   empty_says = refl;
   one_says = refl;
   two_say = refl;
@@ -46,11 +52,18 @@ unfolding slit_contents field
 slit_faults = record {
   short = ((omega arith, refl), refl, refl);
   size = ((omega arith, (λ same. omega arith), refl), refl, refl);
-  diagonal = ((refl, (0, 0, cell high_diagonal 0 0 (omega arith) (omega arith), (refl, λ same. omega arith))), refl, refl);
+  diagonal = (
+    (refl, (0, 0, cell high_diagonal 0 0 (omega arith) (omega arith), (refl, λ same. omega arith))),
+    refl,
+    refl,
+  );
   not_low = not_low;
   low = ((refl, (0, 1, cell low_cell 0 1 (omega arith) (omega arith), omega arith)), refl, refl);
   not_diagonal = not_diagonal;
-  both = (((refl, (1, 1, cell low_diagonal 1 1 (omega arith) (omega arith), (refl, λ same. omega arith))), refl, refl), ((refl, (1, 1, cell low_diagonal 1 1 (omega arith) (omega arith), omega arith)), refl, refl));
+  both = (
+    ((refl, (1, 1, cell low_diagonal 1 1 (omega arith) (omega arith), (refl, λ same. omega arith))), refl, refl),
+    ((refl, (1, 1, cell low_diagonal 1 1 (omega arith) (omega arith), omega arith)), refl, refl),
+  );
 }
 
 -- ---- SLITs without a fault
@@ -91,5 +104,10 @@ two = record { size = refl; least = least; diagonal = diagonal }
 
 pub sound_slits : AreSoundSlits
 sound_slits =
-    All-from_recursion HasNoSlitFault (empty_bytes ∷ one_locality_bytes ∷ two_localities_bytes ∷ [])
-    (without_fault empty_bytes _ slit_said.empty_says empty, (without_fault one_locality_bytes _ slit_said.one_says one, (without_fault two_localities_bytes _ slit_said.two_say two, tt)))
+    All-from_recursion HasNoSlitFault (empty_bytes ∷ one_locality_bytes ∷ two_localities_bytes ∷ []) (
+      without_fault empty_bytes _ slit_said.empty_says empty,
+      (
+        without_fault one_locality_bytes _ slit_said.one_says one,
+        (without_fault two_localities_bytes _ slit_said.two_say two, tt),
+      ),
+    )

@@ -105,11 +105,31 @@ pub record AreTables : Type 0 where
 pub tables : AreTables
 unfolding run_of cons_both field
 tables = record {
-  fadt = record { header_held = bytes_at_whole_set 0x2000 36; least = omega arith; held = bytes_at_whole_set 0x2000 129 };
-  madt = record { header_held = bytes_at_whole_set 0x4000 36; least = omega arith; held = bytes_at_whole_set 0x4000 74 };
-  srat = record { header_held = bytes_at_whole_set 0x5000 36; least = omega arith; held = bytes_at_whole_set 0x5000 104 };
-  slit = record { header_held = bytes_at_whole_set 0x6000 36; least = omega arith; held = bytes_at_whole_set 0x6000 45 };
-  pptt = record { header_held = bytes_at_whole_set 0x7000 36; least = omega arith; held = bytes_at_whole_set 0x7000 56 };
+  fadt = record {
+    header_held = bytes_at_whole_set 0x2000 36;
+    least = omega arith;
+    held = bytes_at_whole_set 0x2000 129;
+  };
+  madt = record {
+    header_held = bytes_at_whole_set 0x4000 36;
+    least = omega arith;
+    held = bytes_at_whole_set 0x4000 74;
+  };
+  srat = record {
+    header_held = bytes_at_whole_set 0x5000 36;
+    least = omega arith;
+    held = bytes_at_whole_set 0x5000 104;
+  };
+  slit = record {
+    header_held = bytes_at_whole_set 0x6000 36;
+    least = omega arith;
+    held = bytes_at_whole_set 0x6000 45;
+  };
+  pptt = record {
+    header_held = bytes_at_whole_set 0x7000 36;
+    least = omega arith;
+    held = bytes_at_whole_set 0x7000 56;
+  };
 }
 
 -- a header without the signature is none that has it
@@ -117,7 +137,8 @@ pub not_signed : {m : Memory} {a : ℕ} (header signature : List ℕ) → bytes_
     → has_signature header signature ≡ false → ¬ IsSigned m a signature
 not_signed header signature held differs found =
     let same = same_value found.header header found.header_held held in
-    both_ways (has_signature header signature) differs (subst (λ (h : List ℕ). has_signature h signature ≡ true) same found.signed)
+    both_ways (has_signature header signature) differs
+    (subst (λ (h : List ℕ). has_signature h signature ≡ true) same found.signed)
 
 -- A slot of the root lists the first table with a signature where each of the five has it exactly in that slot.
 listed_at : (k a : ℕ) (whole signature : List ℕ) → HasSlot xsdt_bytes 8 k a → IsAt a whole

@@ -24,8 +24,10 @@ all3 a b c = decided_as (λ h. (h.0, h.1.0, h.1.1)) (λ h. (h.0, (h.1, h.2))) (b
 pub all4 : {A B C D : Type 0} → Decided A → Decided B → Decided C → Decided D → Decided (A × B × C × D)
 all4 a b c d = decided_as (λ h. (h.0, h.1.0, h.1.1, h.1.2)) (λ h. (h.0, (h.1, h.2, h.3))) (both a (all3 b c d))
 
-pub all5 : {A B C D E : Type 0} → Decided A → Decided B → Decided C → Decided D → Decided E → Decided (A × B × C × D × E)
-all5 a b c d e = decided_as (λ h. (h.0, h.1.0, h.1.1, h.1.2, h.1.3)) (λ h. (h.0, (h.1, h.2, h.3, h.4))) (both a (all4 b c d e))
+pub all5 : {A B C D E : Type 0} → Decided A → Decided B → Decided C → Decided D → Decided E
+    → Decided (A × B × C × D × E)
+all5 a b c d e =
+    decided_as (λ h. (h.0, h.1.0, h.1.1, h.1.2, h.1.3)) (λ h. (h.0, (h.1, h.2, h.3, h.4))) (both a (all4 b c d e))
 
 pub either : {A B : Type 0} → Decided A → Decided B → Decided (A ⊎ B)
 either (inl a) _ = inl (inl a)
@@ -70,7 +72,8 @@ is_some_number None k = inr (λ is. none-some k is)
 is_some_number (Some j) k = decided_as (λ is. ap Some is) (λ is. same_Some j k is) (same j k)
 
 -- whether there is a value with P of it
-pub is_some_with : {X : Type 0} (o : Option X) (P : X → Type 0) → ((x : X) → Decided (P x)) → Decided ((x : X) × (o ≡ Some x) × P x)
+pub is_some_with : {X : Type 0} (o : Option X) (P : X → Type 0) → ((x : X) → Decided (P x))
+    → Decided ((x : X) × (o ≡ Some x) × P x)
 is_some_with o P decide =
     elim (cases_Option o) [
       | inr none ↦ inr (λ h. none_and_some none h.1)

@@ -20,8 +20,8 @@ use Rattle.acpi_base.proofs.Root.Named.{root_width}
 use Rattle.acpi_base.proofs.Root.Slots.{one_slot, root_slot, slot_below, slot_of_root, slot_or_none}
 use Rattle.acpi_base.proofs.Tables.Faults as table
 use Rattle.acpi_base.proofs.Tables.Listed.{listed_or_none}
-use Rattle.acpi_base.proofs.Fadt.Faults as fadt
-use Rattle.acpi_base.proofs.Facs.Faults as facs
+use Rattle.acpi_base.proofs.Fadt as fadt
+use Rattle.acpi_base.proofs.Facs as facs
 
 pub rsdp_judged : (m : Memory) (q : PolicyValue) → IsJudged stage.Rsdp m q
 rsdp_judged m q =
@@ -29,7 +29,8 @@ rsdp_judged m q =
       bound = q.rsdp + 1;
       fit = λ c at other point fault. (omega (arith, fault.1), omega (arith, fault.2), omega (arith, fault.3));
       decided = λ c at other point. all4 (rsdp.decided m q.rsdp c) (same at q.rsdp) (same other 0) (same point 0);
-      holds = λ none. rsdp.sound_without_fault m q.rsdp (λ c own fault. none c q.rsdp 0 0 own (fault, refl, refl, refl));
+      holds = λ none. rsdp.sound_without_fault m q.rsdp
+          (λ c own fault. none c q.rsdp 0 0 own (fault, refl, refl, refl));
     }
 
 pub root_judged : (m : Memory) (q : PolicyValue) → CleanBefore stage.Root m q → IsJudged stage.Root m q
@@ -38,9 +39,14 @@ root_judged m q clean =
     let place = root.bounded m q.rsdp named.0 named.1 in
     record {
       bound = place.0;
-      fit = λ c at other point fault. (place.1 c at fault.0, omega (arith, place.1 c at fault.0, fault.1), omega (arith, place.1 c at fault.0, fault.2));
+      fit = λ c at other point fault. (
+        place.1 c at fault.0,
+        omega (arith, place.1 c at fault.0, fault.1),
+        omega (arith, place.1 c at fault.0, fault.2),
+      );
       decided = λ c at other point. all3 (root.decided m q.rsdp named.0 named.1 c at) (same other 0) (same point 0);
-      holds = λ none. root.sound_without_fault m q.rsdp named.0 named.1 (λ c at own fault. none c at 0 0 own (fault, refl, refl));
+      holds = λ none. root.sound_without_fault m q.rsdp named.0 named.1
+          (λ c at own fault. none c at 0 0 own (fault, refl, refl));
     }
 
 pub tables_judged : (m : Memory) (q : PolicyValue) → CleanBefore stage.Tables m q → IsJudged stage.Tables m q
@@ -67,7 +73,9 @@ tables_judged m q clean =
     addresses : (most : ℕ) × ((k : ℕ) → k < length whole → field whole (36 + d * k) d < most)
     addresses = bounded (λ k. field whole (36 + d * k) d) (length whole)
 
-    fit : (c : Code) (at other point : ℕ) → FaultCondition stage.Tables m q (witness c at other point) → (at < length whole + addresses.0 + 1) × (other < length whole + addresses.0 + 1) × (point < length whole + addresses.0 + 1)
+    fit : (c : Code) (at other point : ℕ) → FaultCondition stage.Tables m q (witness c at other point)
+        → (at < length whole + addresses.0 + 1) × (other < length whole + addresses.0 + 1)
+        × (point < length whole + addresses.0 + 1)
     fit c at other point (is_slot, fault, none) =
         let slot = of_root at other is_slot in
         let below = slot_below whole d at other (root_width sound.root) slot in
@@ -86,12 +94,18 @@ tables_judged m q clean =
 
 pub fadt_judged : (m : Memory) (q : PolicyValue) → CleanBefore stage.Fadt m q → IsJudged stage.Fadt m q
 fadt_judged m q clean =
-    let listed = listed_or_none m q.rsdp fadt_signature (clean stage.Root (omega arith)) (clean stage.Tables (omega arith)) in
+    let listed = listed_or_none m q.rsdp fadt_signature (clean stage.Root (omega arith))
+    (clean stage.Tables (omega arith)) in
     record {
       bound = 117;
-      fit = λ c at other point fault. (omega (arith, fadt.place m q.rsdp c at fault.0), omega (arith, fault.1), omega (arith, fault.2));
+      fit = λ c at other point fault. (
+        omega (arith, fadt.place m q.rsdp c at fault.0),
+        omega (arith, fault.1),
+        omega (arith, fault.2),
+      );
       decided = λ c at other point. all3 (fadt.decided m q.rsdp listed c at) (same other 0) (same point 0);
-      holds = λ none. fadt.sound_without_fault m q.rsdp listed (λ c at own fault. none c at 0 0 own (fault, refl, refl));
+      holds = λ none. fadt.sound_without_fault m q.rsdp listed
+          (λ c at own fault. none c at 0 0 own (fault, refl, refl));
     }
 
 pub facs_judged : (m : Memory) (q : PolicyValue) → CleanBefore stage.Facs m q → IsJudged stage.Facs m q
@@ -99,7 +113,11 @@ facs_judged m q clean =
     let sound = clean stage.Fadt (omega arith) in
     record {
       bound = facs_address sound.whole + 1;
-      fit = λ c at other point fault. (omega (arith, facs.place m q.rsdp sound c at fault.0), omega (arith, fault.1), omega (arith, fault.2));
+      fit = λ c at other point fault. (
+        omega (arith, facs.place m q.rsdp sound c at fault.0),
+        omega (arith, fault.1),
+        omega (arith, fault.2),
+      );
       decided = λ c at other point. all3 (facs.decided m q.rsdp sound c at) (same other 0) (same point 0);
       holds = λ none. facs.sound_without_fault m q.rsdp sound (λ c at own fault. none c at 0 0 own (fault, refl, refl));
     }

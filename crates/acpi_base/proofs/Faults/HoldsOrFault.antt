@@ -17,7 +17,8 @@ use Rattle.acpi_base.proofs.Faults.Numbers.{same_stage}
 -- can be decided, and where there is none the statement is true
 pub record AreJudged (s : Stage) (Sound : Type 0) (IsFault : Code → ℕ → ℕ → ℕ → Type 0) : Type 0 where
   pub bound : ℕ
-  pub fit : (c : Code) (at other point : ℕ) → IsFault c at other point → (at < bound) × (other < bound) × (point < bound)
+  pub fit : (c : Code) (at other point : ℕ) → IsFault c at other point
+      → (at < bound) × (other < bound) × (point < bound)
   pub decided : (c : Code) (at other point : ℕ) → Decided (IsFault c at other point)
   pub holds : ((c : Code) (at other point : ℕ) → stage_of c ≡ s → ¬ IsFault c at other point) → Sound
 
@@ -35,20 +36,26 @@ abbrev pub HoldsOrHasFirst : Stage → Memory → PolicyValue → Type 0
 HoldsOrHasFirst s m q = Holds s m q ⊎ ((w : Witness) × IsFirstOfStage s m q w)
 
 -- a stage whose faults are judged holds, or one of them stands before all others
-pub least_fault : (s : Stage) (m : Memory) (q : PolicyValue) → IsJudged s m q → Holds s m q ⊎ ((w : Witness) × IsFirstInOrder NotAfter (FaultOfStage s m q) w)
+pub least_fault : (s : Stage) (m : Memory) (q : PolicyValue) → IsJudged s m q
+    → Holds s m q ⊎ ((w : Witness) × IsFirstInOrder NotAfter (FaultOfStage s m q) w)
 least_fault s m q judged =
-    elim (first_witness (FaultOfStage s m q) judged.bound (λ w fault. judged.fit w.code w.at w.other w.point fault.holds) decide) [
-      | inl none ↦ inl (judged.holds (λ c at other point own fault. none (witness c at other point) (record { own = own; holds = fault })))
+    elim (first_witness (FaultOfStage s m q) judged.bound
+    (λ w fault. judged.fit w.code w.at w.other w.point fault.holds) decide) [
+      | inl none ↦ inl (judged.holds
+          (λ c at other point own fault. none (witness c at other point) (record { own = own; holds = fault })))
       | inr first ↦ inr first
     ]
   where
     decide : (w : Witness) → Decided (FaultOfStage s m q w)
     decide w =
-        decided_as (λ h. record { own = same_stage (stage_of w.code) s h.0; holds = h.1 }) (λ fault. (ap stage_number fault.own, fault.holds))
+        decided_as (λ h. record { own = same_stage (stage_of w.code) s h.0; holds = h.1 })
+        (λ fault. (ap stage_number fault.own, fault.holds))
         (both (same (stage_number (stage_of w.code)) (stage_number s)) (judged.decided w.code w.at w.other w.point))
 
 -- where it stands before all others, it is the first in the order of all stages but two
-pub holds_or_has_first : {s : Stage} {m : Memory} {q : PolicyValue} → (((w : Witness) → ((v : Witness) → FaultOfStage s m q v → NotAfter w v) → IsLeastOfStage s m q w)) → IsJudged s m q → HoldsOrHasFirst s m q
+pub holds_or_has_first : {s : Stage} {m : Memory} {q : PolicyValue}
+    → (((w : Witness) → ((v : Witness) → FaultOfStage s m q v → NotAfter w v) → IsLeastOfStage s m q w))
+    → IsJudged s m q → HoldsOrHasFirst s m q
 holds_or_has_first {s} {m} {q} same_order judged =
     elim (least_fault s m q judged) [
       | inl holds ↦ inl holds
@@ -56,7 +63,9 @@ holds_or_has_first {s} {m} {q} same_order judged =
     ]
 
 -- the first fault of a stage is that of a set whose earlier stages hold
-pub first_of_set : {s : Stage} {m : Memory} {q : PolicyValue} {w : Witness} → CleanBefore s m q → IsFirstOfStage s m q w → IsFirstFault m q w
+pub first_of_set : {s : Stage} {m : Memory} {q : PolicyValue} {w : Witness} → CleanBefore s m q → IsFirstOfStage s m q w
+    → IsFirstFault m q w
 first_of_set {s} {m} {q} {w} clean first =
-    subst (λ (t : Stage). FaultOfStage t m q w → CleanBefore t m q → IsLeastOfStage t m q w → IsFirstFault m q w) first.holds.own
+    subst (λ (t : Stage). FaultOfStage t m q w → CleanBefore t m q → IsLeastOfStage t m q w → IsFirstFault m q w)
+    first.holds.own
     (λ fault earlier least. record { fault = fault; earlier = earlier; least = least }) first.holds clean first.least

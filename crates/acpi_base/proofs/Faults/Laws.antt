@@ -10,7 +10,8 @@ use Rattle.acpi_base.proofs.Faults.HoldsOrFault.{IsFirstOfStage}
 use Rattle.acpi_base.proofs.Faults.Stages.{clean_or_first, excludes, fits, one_first}
 
 pub fault_excludes_clean : FaultsExcludeClean
-fault_excludes_clean m q w last fault up_to clean = excludes m q w (stage_of w.code) fault.holds (clean (stage_of w.code) up_to)
+fault_excludes_clean m q w last fault up_to clean =
+    excludes m q w (stage_of w.code) fault.holds (clean (stage_of w.code) up_to)
 
 pub faults_fit : FaultsFit
 faults_fit m q w image policy fault = fits m q w image policy (stage_of w.code) fault.holds
@@ -33,10 +34,14 @@ pub one_first_fault : OneFirstFault
 one_first_fault m q w v one other =
     elim (cases_order (stage_number (stage_of w.code)) (stage_number (stage_of v.code))) [
       | inl same ↦
-          let there = subst (λ (s : Stage). IsFirstOfStage s m q v) (sym (same_stage (stage_of w.code) (stage_of v.code) same)) (record { holds = other.fault; least = other.least }) in
+          let there = subst (λ (s : Stage). IsFirstOfStage s m q v)
+          (sym (same_stage (stage_of w.code) (stage_of v.code) same))
+          (record { holds = other.fault; least = other.least }) in
           one_first (stage_of w.code) m q w v (record { holds = one.fault; least = one.least }) there
-      | inr (inl less) ↦ absurd (excludes m q w (stage_of w.code) one.fault.holds (other.earlier (stage_of w.code) less))
-      | inr (inr more) ↦ absurd (excludes m q v (stage_of v.code) other.fault.holds (one.earlier (stage_of v.code) more))
+      | inr (inl less) ↦ absurd (excludes m q w (stage_of w.code) one.fault.holds
+          (other.earlier (stage_of w.code) less))
+      | inr (inr more) ↦ absurd (excludes m q v (stage_of v.code) other.fault.holds
+          (one.earlier (stage_of v.code) more))
     ]
 
 pub one_verdict : OneVerdict

@@ -15,15 +15,21 @@ pub record IsLeast (P : ℕ → Type 0) (k : ℕ) : Type 0 where
   pub none_below : (j : ℕ) → j < k → ¬ P j
 
 -- where P can be decided, it holds of no number below n, or of a least one
-pub least_below : (P : ℕ → Type 0) → ((k : ℕ) → Decided (P k)) → (n : ℕ) → ((k : ℕ) → k < n → ¬ P k) ⊎ ((k : ℕ) × (k < n) × IsLeast P k)
+pub least_below : (P : ℕ → Type 0) → ((k : ℕ) → Decided (P k)) → (n : ℕ)
+    → ((k : ℕ) → k < n → ¬ P k) ⊎ ((k : ℕ) × (k < n) × IsLeast P k)
 least_below P decide zero = inl (λ k below. absurd (omega arith))
 least_below P decide (suc n) = more P n (least_below P decide n) (decide n)
   where
-    more : (P : ℕ → Type 0) (n : ℕ) → ((k : ℕ) → k < n → ¬ P k) ⊎ ((k : ℕ) × (k < n) × IsLeast P k) → Decided (P n) → ((k : ℕ) → k < suc n → ¬ P k) ⊎ ((k : ℕ) × (k < suc n) × IsLeast P k)
+    more : (P : ℕ → Type 0) (n : ℕ) → ((k : ℕ) → k < n → ¬ P k) ⊎ ((k : ℕ) × (k < n) × IsLeast P k) → Decided (P n)
+        → ((k : ℕ) → k < suc n → ¬ P k) ⊎ ((k : ℕ) × (k < suc n) × IsLeast P k)
     more P n (inr (k, below, least)) _ = inr (k, omega arith, least)
     more P n (inl none) (inl here) = inr (n, omega arith, record { holds = here; none_below = none })
     more P n (inl none) (inr not_here) =
-        inl (λ k below. elim (cases_lt k n) [ inl less ↦ none k less | inr last ↦ subst (λ x. ¬ P x) (omega arith) not_here ])
+        inl (λ k below. elim (cases_lt k n) [
+          | inl less ↦ none k less
+          | inr last ↦
+              subst (λ x. ¬ P x) (omega arith) not_here
+        ])
 
 -- whether P holds of some number below n
 pub some_below : (n : ℕ) (P : ℕ → Type 0) → ((k : ℕ) → Decided (P k)) → Decided ((k : ℕ) × (k < n) × P k)
@@ -38,7 +44,8 @@ pub bounded : (f : ℕ → ℕ) (n : ℕ) → (most : ℕ) × ((k : ℕ) → k <
 bounded f zero = (0, λ k below. absurd (omega arith))
 bounded f (suc n) = more f n (bounded f n)
   where
-    more : (f : ℕ → ℕ) (n : ℕ) → (most : ℕ) × ((k : ℕ) → k < n → f k < most) → (most : ℕ) × ((k : ℕ) → k < suc n → f k < most)
+    more : (f : ℕ → ℕ) (n : ℕ) → (most : ℕ) × ((k : ℕ) → k < n → f k < most)
+        → (most : ℕ) × ((k : ℕ) → k < suc n → f k < most)
     more f n rest = (rest.0 + f n + 1, λ k below. grind (arith, cases_lt k n, rest.1 k))
 
 -- P holds of x, and x stands after nothing of which it holds
@@ -66,18 +73,28 @@ first_by {X} f Later P n below each =
       | inr (k, inside, least) ↦
           elim (each k) [
             | inl none ↦ absurd (none least.holds.0 least.holds.1)
-            | inr (x, first) ↦ inr (x, record { holds = first.holds.0; least = λ y here. after k x first y (least.none_below (f y)) here })
+            | inr (x, first) ↦
+                inr (
+                  x,
+                  record {
+                    holds = first.holds.0;
+                    least =
+                        λ y here. after k x first y (least.none_below (f y)) here;
+                  },
+                )
           ]
     ]
   where
     somewhere : (k : ℕ) → Decided ((x : X) × At f P k x)
     somewhere k = elim (each k) [ inl none ↦ inr (λ h. none h.0 h.1) | inr (x, first) ↦ inl (x, first.holds) ]
 
-    after : (k : ℕ) (x : X) → IsFirstInOrder Later (At f P k) x → (y : X) → (f y < k → ¬ ((z : X) × At f P (f y) z)) → P y → ByNumber f Later x y
+    after : (k : ℕ) (x : X) → IsFirstInOrder Later (At f P k) x → (y : X) → (f y < k → ¬ ((z : X) × At f P (f y) z))
+        → P y → ByNumber f Later x y
     after k x first y none here = grind (arith, cases_order (f x) (f y), first.holds.1, first.least y, none)
 
 -- and by the last number alone
-pub first_at : {X : Type 0} (f : X → ℕ) (P : X → Type 0) (n : ℕ) → ((x : X) → P x → f x < n) → ((k : ℕ) → Decided ((x : X) × At f P k x)) → NoneOrFirst (λ x y. f x ≤ f y) P
+pub first_at : {X : Type 0} (f : X → ℕ) (P : X → Type 0) (n : ℕ) → ((x : X) → P x → f x < n)
+    → ((k : ℕ) → Decided ((x : X) × At f P k x)) → NoneOrFirst (λ x y. f x ≤ f y) P
 first_at {X} f P n below decide =
     elim (first_by f (λ _ _. Unit {0}) P n below each) [
       | inl none ↦ inl none
@@ -95,7 +112,8 @@ abbrev pub witness : Code → ℕ → ℕ → ℕ → Witness
 witness c at other point = record { code = c; at = at; other = other; point = point }
 
 -- a witness is its four parts
-pub same_parts : {c d : Code} {a b a' b' a'' b'' : ℕ} → c ≡ d → a ≡ b → a' ≡ b' → a'' ≡ b'' → witness c a a' a'' ≡ witness d b b' b''
+pub same_parts : {c d : Code} {a b a' b' a'' b'' : ℕ} → c ≡ d → a ≡ b → a' ≡ b' → a'' ≡ b''
+    → witness c a a' a'' ≡ witness d b b' b''
 same_parts code at other point = cc
 
 -- the order of witnesses, from its last number on
@@ -122,7 +140,8 @@ abbrev WithPoint : (Witness → Type 0) → ℕ → ℕ → ℕ → ℕ → Witn
 WithPoint P a c o p = At (λ w. w.point) (WithOther P a c o) p
 
 -- what can be decided of each witness can be decided of four numbers
-decide_numbers : (P : Witness → Type 0) → ((w : Witness) → Decided (P w)) → (a c o p : ℕ) → Decided ((w : Witness) × WithPoint P a c o p w)
+decide_numbers : (P : Witness → Type 0) → ((w : Witness) → Decided (P w)) → (a c o p : ℕ)
+    → Decided ((w : Witness) × WithPoint P a c o p w)
 decide_numbers P decide a c o p =
     elim (code_with_number c) [
       | inr none ↦ inr (λ h. none h.0.code h.1.0.0.1)
@@ -131,14 +150,17 @@ decide_numbers P decide a c o p =
             | inl here ↦ inl (witness code a o p, ((((here, refl), number), refl), refl))
             | inr fails ↦
                 inr
-                (λ h. fails (subst P (same_parts (same_code h.0.code code (h.1.0.0.1 ∙ sym number)) h.1.0.0.0.1 h.1.0.1 h.1.1) h.1.0.0.0.0))
+                (λ h. fails (subst P (same_parts (same_code h.0.code code (h.1.0.0.1 ∙ sym number)) h.1.0.0.0.1 h.1.0.1
+                h.1.1) h.1.0.0.0.0))
           ]
     ]
 
 -- what can be decided of each witness, and holds of none with a number from n on, holds of none or of a first
-pub first_witness : (P : Witness → Type 0) (n : ℕ) → ((w : Witness) → P w → (w.at < n) × (w.other < n) × (w.point < n)) → ((w : Witness) → Decided (P w)) → NoneOrFirst NotAfter P
+pub first_witness : (P : Witness → Type 0) (n : ℕ) → ((w : Witness) → P w → (w.at < n) × (w.other < n) × (w.point < n))
+    → ((w : Witness) → Decided (P w)) → NoneOrFirst NotAfter P
 first_witness P n below decide =
     first_by (λ w. w.at) ByCode P n (λ w here. (below w here).0)
     (λ a. first_by (λ w. code_number w.code) ByOther (AtPlace P a) 60 (λ w _. code_below w.code)
     (λ c. first_by (λ w. w.other) ByPoint (WithCode P a c) n (λ w here. (below w here.0.0).1)
-    (λ o. first_at (λ w. w.point) (WithOther P a c o) n (λ w here. (below w here.0.0.0).2) (decide_numbers P decide a c o))))
+    (λ o. first_at (λ w. w.point) (WithOther P a c o) n (λ w here. (below w here.0.0.0).2)
+    (decide_numbers P decide a c o))))

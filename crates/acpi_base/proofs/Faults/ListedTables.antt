@@ -13,16 +13,23 @@ use Rattle.acpi_base.proofs.Tables.Listed.{IsListedOrNone, none_and_listed, one_
 use Rattle.acpi_base.proofs.Tables.Whole.{length-table}
 
 -- a fault of the table that is listed first is one of this table
-pub of_listed : {m : Memory} {p : ℕ} {signature whole : List ℕ} (P : List ℕ → Type 0) → IsListedTable m p signature whole → HasListed m p signature P → P whole
-of_listed {m} {p} {signature} {whole} P is (bytes, also, holds) = subst P (one_listed m p signature bytes whole also is) holds
+pub of_listed : {m : Memory} {p : ℕ} {signature whole : List ℕ} (P : List ℕ → Type 0)
+    → IsListedTable m p signature whole → HasListed m p signature P → P whole
+of_listed {m} {p} {signature} {whole} P is (bytes, also, holds) =
+    subst P (one_listed m p signature bytes whole also is) holds
 
 -- and what is true of it is true of each that is listed first
-pub for_listed : {m : Memory} {p : ℕ} {signature whole : List ℕ} (P : List ℕ → Type 0) → IsListedTable m p signature whole → P whole → ForListed m p signature P
-for_listed {m} {p} {signature} {whole} P is holds bytes also = subst P (one_listed m p signature whole bytes is also) holds
+pub for_listed : {m : Memory} {p : ℕ} {signature whole : List ℕ} (P : List ℕ → Type 0)
+    → IsListedTable m p signature whole → P whole → ForListed m p signature P
+for_listed {m} {p} {signature} {whole} P is holds bytes also =
+    subst P (one_listed m p signature whole bytes is also) holds
 
 -- what is shown of each table is shown of the one that is listed first
-pub listed_judged : (s : Stage) (m : Memory) (p : ℕ) (signature : List ℕ) (Sound : List ℕ → Type 0) (IsFault : List ℕ → Code → ℕ → ℕ → ℕ → Type 0) → IsListedOrNone m p signature
-    → ((whole : List ℕ) → IsListedTable m p signature whole → AreJudged s (Sound whole) (IsFault whole)) → AreJudged s (ForListed m p signature Sound) (λ c at other point. HasListed m p signature (λ whole. IsFault whole c at other point))
+pub listed_judged : (s : Stage) (m : Memory) (p : ℕ) (signature : List ℕ) (Sound : List ℕ → Type 0)
+    (IsFault : List ℕ → Code → ℕ → ℕ → ℕ → Type 0) → IsListedOrNone m p signature
+    → ((whole : List ℕ) → IsListedTable m p signature whole → AreJudged s (Sound whole) (IsFault whole))
+    → AreJudged s (ForListed m p signature Sound)
+    (λ c at other point. HasListed m p signature (λ whole. IsFault whole c at other point))
 listed_judged s m p signature Sound IsFault (None, none) each =
     record {
       bound = 0;
@@ -34,18 +41,29 @@ listed_judged s m p signature Sound IsFault (Some whole, is) each =
     let judged = each whole is in
     record {
       bound = judged.bound;
-      fit = λ c at other point fault. judged.fit c at other point (of_listed (λ bytes. IsFault bytes c at other point) is fault);
-      decided = λ c at other point. decided_as (λ fault. (whole, is, fault)) (of_listed (λ bytes. IsFault bytes c at other point) is) (judged.decided c at other point);
-      holds = λ none. for_listed Sound is (judged.holds (λ c at other point own fault. none c at other point own (whole, is, fault)));
+      fit = λ c at other point fault. judged.fit c at other point
+          (of_listed (λ bytes. IsFault bytes c at other point) is fault);
+      decided = λ c at other point. decided_as (λ fault. (whole, is, fault))
+          (of_listed (λ bytes. IsFault bytes c at other point) is) (judged.decided c at other point);
+      holds = λ none. for_listed Sound is
+          (judged.holds (λ c at other point own fault. none c at other point own (whole, is, fault)));
     }
 
 -- a fault of each table that excludes that it is sound does so of the one that is listed first
-pub listed_excludes : {m : Memory} {p : ℕ} {signature : List ℕ} (Sound : List ℕ → Type 0) (IsFault : List ℕ → Type 0) → ((whole : List ℕ) → IsFault whole → ¬ Sound whole)
+pub listed_excludes : {m : Memory} {p : ℕ} {signature : List ℕ} (Sound : List ℕ → Type 0) (IsFault : List ℕ → Type 0)
+    → ((whole : List ℕ) → IsFault whole → ¬ Sound whole)
     → HasListed m p signature IsFault → ¬ ForListed m p signature Sound
 listed_excludes Sound IsFault excludes (whole, is, fault) sound = excludes whole fault (sound whole is)
 
 -- the bytes of a listed table are below 256, and fewer than 2^32
-pub listed_fits : {m : Memory} {p : ℕ} {signature whole : List ℕ} → IsImage m → IsListedTable m p signature whole → ((k : ℕ) → slice_index whole k < 256) × (length whole < 2 ^ 32)
+pub listed_fits : {m : Memory} {p : ℕ} {signature whole : List ℕ} → IsImage m → IsListedTable m p signature whole
+    → ((k : ℕ) → slice_index whole k < 256) × (length whole < 2 ^ 32)
 listed_fits {m} {whole = whole} image listed =
-    let table = listed.table in
-    (bytes_below m image listed.a (length_of listed.header) whole table.held, omega (arith, length-table m listed.a listed.header whole table, held_field_below m image listed.a 36 listed.header table.header_held 4 4))
+    let table = listed.table in (
+      bytes_below m image listed.a (length_of listed.header) whole table.held,
+      omega (
+        arith,
+        length-table m listed.a listed.header whole table,
+        held_field_below m image listed.a 36 listed.header table.header_held 4 4,
+      ),
+    )

@@ -52,14 +52,16 @@ stage_from_1 stage.Rsdp = omega arith
 stage_from_1 _ = omega arith
 
 -- what stands in a list at its own number has a number or has not
-with_number : {X : Type 0} (number : X → ℕ) (rows : List X) → ((x : X) → slice_get rows (number x) ≡ Some x) → (n : ℕ) → ((x : X) × (number x ≡ n)) ⊎ ((x : X) → number x ≡ n → ⊥)
+with_number : {X : Type 0} (number : X → ℕ) (rows : List X) → ((x : X) → slice_get rows (number x) ≡ Some x) → (n : ℕ)
+    → ((x : X) × (number x ≡ n)) ⊎ ((x : X) → number x ≡ n → ⊥)
 with_number number rows at n =
     elim (cases_Option (slice_get rows n)) [
       | inr none ↦ inr (λ x is. none_and_some (ap (slice_get rows) is ∙ none) (at x))
       | inl (x, there) ↦
           elim (cases_eq (number x) n) [
             | inl is ↦ inl (x, is)
-            | inr other ↦ inr (λ y is. other (ap number (same_Some x y (sym there ∙ ap (slice_get rows) (sym is) ∙ at y)) ∙ is))
+            | inr other ↦
+                inr (λ y is. other (ap number (same_Some x y (sym there ∙ ap (slice_get rows) (sym is) ∙ at y)) ∙ is))
           ]
     ]
 

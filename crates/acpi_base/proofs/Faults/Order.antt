@@ -18,7 +18,8 @@ same_witness w v one other =
     same_parts (same_code w.code v.code number) at second point
 
 -- two that have the same last numbers go by their place and then by their code's number
-pub not_after : (w v : Witness) → (w.at < v.at) ⊎ ((w.at ≡ v.at) × (code_number w.code ≤ code_number v.code)) → w.other ≡ v.other → w.point ≡ v.point → NotAfter w v
+pub not_after : (w v : Witness) → (w.at < v.at) ⊎ ((w.at ≡ v.at) × (code_number w.code ≤ code_number v.code))
+    → w.other ≡ v.other → w.point ≡ v.point → NotAfter w v
 not_after w v (inl before) other point = inl before
 not_after w v (inr (at, code)) other point =
     elim (cases_lt (code_number w.code) (code_number v.code)) [

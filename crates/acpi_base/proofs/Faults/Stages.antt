@@ -26,14 +26,14 @@ use Rattle.acpi_base.proofs.Rsdp.Faults as rsdp
 use Rattle.acpi_base.proofs.Root.Faults as root
 use Rattle.acpi_base.proofs.Root.Slots.{slot_fits}
 use Rattle.acpi_base.proofs.Tables.Faults as table
-use Rattle.acpi_base.proofs.Fadt.Faults as fadt
-use Rattle.acpi_base.proofs.Facs.Faults as facs
+use Rattle.acpi_base.proofs.Fadt as fadt
+use Rattle.acpi_base.proofs.Facs as facs
 use Rattle.acpi_base.proofs.Madt.Faults as madt
 use Rattle.acpi_base.proofs.Madt.Interrupts as interrupts
 use Rattle.acpi_base.proofs.Madt.Overrides as overrides
 use Rattle.acpi_base.proofs.Srat.Faults as srat
 use Rattle.acpi_base.proofs.Srat.Ranges as ranges
-use Rattle.acpi_base.proofs.Slit.Faults as slit
+use Rattle.acpi_base.proofs.Slit as slit
 use Rattle.acpi_base.proofs.Pptt.Faults as pptt
 use Rattle.acpi_base.proofs.Pptt.Chains as chains
 use Rattle.acpi_base.proofs.Pptt.Fits.{references_fit}
@@ -69,37 +69,58 @@ excludes m q w stage.Root fault = root.excludes m q.rsdp w.at w.code fault.0
 excludes m q w stage.Tables fault = λ sound. table.excludes m w.other w.code fault.1 (sound w.at w.other fault.0)
 excludes m q w stage.Fadt fault = fadt.excludes m q.rsdp w.code w.at fault.0
 excludes m q w stage.Facs fault = facs.excludes m q.rsdp w.code w.at fault.0
-excludes m q w stage.Madt (whole, is, fault) = λ sound. madt.excludes q (madt_contents whole) w.code w.at w.other w.point fault (sound whole is)
-excludes m q w stage.Interrupts (whole, is, fault) = λ apart. interrupts.excludes q (madt_contents whole) w.code w.at w.other w.point fault (apart whole is)
-excludes m q w stage.Overrides (whole, is, fault) = λ agree. overrides.excludes (madt_contents whole) w.code w.at w.other w.point fault (agree whole is)
-excludes m q w stage.Srat (whole, is, fault) = λ sound. srat.excludes (srat_contents whole) w.code w.at w.other w.point fault (sound whole is)
-excludes m q w stage.Ranges (whole, is, fault) = λ apart. ranges.excludes q.hotplug (srat_contents whole) w.code w.at w.other w.point fault (apart whole is)
-excludes m q w stage.Slit (whole, is, fault) = λ sound. slit.excludes (slit_contents whole) w.code w.at w.other w.point fault (sound whole is)
-excludes m q w stage.Pptt (whole, is, fault) = λ sound. pptt.cut_excludes (pptt_contents whole) w.code w.at w.other w.point fault (sound whole is)
-excludes m q w stage.References (whole, is, fault) = λ sound. pptt.references_excludes (pptt_contents whole) w.code w.at w.other w.point fault (sound whole is)
-excludes m q w stage.Parents (whole, is, fault) = λ end. chains.parents_excludes whole w.code w.at w.other w.point fault (end whole is)
-excludes m q w stage.Caches (whole, is, fault) = λ end. chains.caches_excludes whole w.code w.at w.other w.point fault (end whole is)
-excludes m q w stage.Domains (whole, is, (bytes, also, fault)) = λ one. domains.excludes q.processors (madt_contents whole) (srat_contents bytes) w.code w.at w.other w.point fault (one whole is bytes also)
-excludes m q w stage.Served (whole, is, fault) = λ all. served.excludes q (madt_contents whole) w.code w.at w.other w.point fault (all whole is)
-excludes m q w stage.Leaves (whole, is, (bytes, also, fault)) = λ all. leaves.excludes (madt_contents whole) (pptt_contents bytes) w.code w.at w.other w.point fault (all whole is bytes also)
+excludes m q w stage.Madt (whole, is, fault) =
+    λ sound. madt.excludes q (madt_contents whole) w.code w.at w.other w.point fault (sound whole is)
+excludes m q w stage.Interrupts (whole, is, fault) =
+    λ apart. interrupts.excludes q (madt_contents whole) w.code w.at w.other w.point fault (apart whole is)
+excludes m q w stage.Overrides (whole, is, fault) =
+    λ agree. overrides.excludes (madt_contents whole) w.code w.at w.other w.point fault (agree whole is)
+excludes m q w stage.Srat (whole, is, fault) =
+    λ sound. srat.excludes (srat_contents whole) w.code w.at w.other w.point fault (sound whole is)
+excludes m q w stage.Ranges (whole, is, fault) =
+    λ apart. ranges.excludes q.hotplug (srat_contents whole) w.code w.at w.other w.point fault (apart whole is)
+excludes m q w stage.Slit (whole, is, fault) =
+    λ sound. slit.excludes (slit_contents whole) w.code w.at w.other w.point fault (sound whole is)
+excludes m q w stage.Pptt (whole, is, fault) =
+    λ sound. pptt.cut_excludes (pptt_contents whole) w.code w.at w.other w.point fault (sound whole is)
+excludes m q w stage.References (whole, is, fault) =
+    λ sound. pptt.references_excludes (pptt_contents whole) w.code w.at w.other w.point fault (sound whole is)
+excludes m q w stage.Parents (whole, is, fault) =
+    λ end. chains.parents_excludes whole w.code w.at w.other w.point fault (end whole is)
+excludes m q w stage.Caches (whole, is, fault) =
+    λ end. chains.caches_excludes whole w.code w.at w.other w.point fault (end whole is)
+excludes m q w stage.Domains (whole, is, (bytes, also, fault)) =
+    λ one. domains.excludes q.processors (madt_contents whole) (srat_contents bytes) w.code w.at w.other w.point fault
+    (one whole is bytes also)
+excludes m q w stage.Served (whole, is, fault) =
+    λ all. served.excludes q (madt_contents whole) w.code w.at w.other w.point fault (all whole is)
+excludes m q w stage.Leaves (whole, is, (bytes, also, fault)) =
+    λ all. leaves.excludes (madt_contents whole) (pptt_contents bytes) w.code w.at w.other w.point fault
+    (all whole is bytes also)
 
 -- two first faults of a stage are one
-pub one_first : (s : Stage) (m : Memory) (q : PolicyValue) (w v : Witness) → IsFirstOfStage s m q w → IsFirstOfStage s m q v → w ≡ v
+pub one_first : (s : Stage) (m : Memory) (q : PolicyValue) (w v : Witness) → IsFirstOfStage s m q w
+    → IsFirstOfStage s m q v → w ≡ v
 one_first stage.Interrupts m q w v one other =
     let (whole, is, first) = one.least in
-    let numbers = interrupts.one_first q whole w.at w.other w.point v.at v.other v.point first (of_listed (λ bytes. IsFirstGsiClash q (madt_contents bytes) v.at v.other v.point) is other.least) in
-    let codes = λ (u : Witness) (fault : FaultOfStage stage.Interrupts m q u). interrupts.code_is q (madt_contents fault.holds.0) u.code u.at u.other u.point fault.holds.2 in
+    let numbers = interrupts.one_first q whole w.at w.other w.point v.at v.other v.point first
+    (of_listed (λ bytes. IsFirstGsiClash q (madt_contents bytes) v.at v.other v.point) is other.least) in
+    let codes = λ (u : Witness) (fault : FaultOfStage stage.Interrupts m q u). interrupts.code_is q
+    (madt_contents fault.holds.0) u.code u.at u.other u.point fault.holds.2 in
     same_parts (codes w one.holds ∙ sym (codes v other.holds)) numbers.0 numbers.1 numbers.2
 one_first stage.Ranges m q w v one other =
     let (whole, is, first) = one.least in
-    let numbers = ranges.one_first q.hotplug whole w.at w.other w.point v.at v.other v.point first (of_listed (λ bytes. IsFirstOverlap q.hotplug (srat_contents bytes) v.at v.other v.point) is other.least) in
-    let codes = λ (u : Witness) (fault : FaultOfStage stage.Ranges m q u). ranges.code_is q.hotplug (srat_contents fault.holds.0) u.code u.at u.other u.point fault.holds.2 in
+    let numbers = ranges.one_first q.hotplug whole w.at w.other w.point v.at v.other v.point first
+    (of_listed (λ bytes. IsFirstOverlap q.hotplug (srat_contents bytes) v.at v.other v.point) is other.least) in
+    let codes = λ (u : Witness) (fault : FaultOfStage stage.Ranges m q u). ranges.code_is q.hotplug
+    (srat_contents fault.holds.0) u.code u.at u.other u.point fault.holds.2 in
     same_parts (codes w one.holds ∙ sym (codes v other.holds)) numbers.0 numbers.1 numbers.2
 one_first _ m q w v one other = same_witness w v (one.least v other.holds) (other.least w one.holds)
 
 -- ---- the numbers of a fault fit
 
-pub fits : (m : Memory) (q : PolicyValue) (w : Witness) → IsImage m → IsPolicy q → (s : Stage) → FaultCondition s m q w → NumbersFit w
+pub fits : (m : Memory) (q : PolicyValue) (w : Witness) → IsImage m → IsPolicy q → (s : Stage) → FaultCondition s m q w
+    → NumbersFit w
 fits m q w image policy stage.Rsdp fault =
     let rsdp = policy.rsdp_fits in
     (omega (arith, fault.1), omega (arith, fault.2), omega (arith, fault.3))
@@ -155,7 +176,8 @@ fits m q w image policy stage.Caches (whole, is, fault) =
     (omega arith, omega arith, omega arith)
 fits m q w image policy stage.Domains (madt, listed, (whole, is, fault)) =
     let (small, short) = listed_fits image is in
-    let (at, other, point) = domains.fits q.processors (madt_contents madt) whole small w.code w.at w.other w.point fault in
+    let (at, other, point) = domains.fits q.processors (madt_contents madt) whole small w.code w.at w.other w.point
+    fault in
     (omega arith, omega arith, omega arith)
 fits m q w image policy stage.Served (whole, is, fault) =
     let (small, short) = listed_fits image is in
@@ -184,7 +206,12 @@ clean_or_first m q (suc n) =
       | inr (w, first, up_to) ↦ inr (w, first, omega arith)
       | inl clean ↦
           elim (stage_with_number (suc n)) [
-            | inr none ↦ inl (λ s less. clean s (elim (cases_lt (stage_number s) (suc n)) [ inl before ↦ omega arith | inr more ↦ absurd (none s (omega arith)) ]))
+            | inr none ↦ inl (λ s less. clean s
+                (elim (cases_lt (stage_number s) (suc n)) [
+                  | inl before ↦ omega arith
+                  | inr more ↦
+                      absurd (none s (omega arith))
+                ]))
             | inl (s, number) ↦ next s number (λ t less. clean t (omega arith))
           ]
     ]
@@ -193,5 +220,9 @@ clean_or_first m q (suc n) =
     next s number clean =
         elim (holds_or_first s m q clean) [
           | inr (w, first) ↦ inr (w, first_of_set clean first, omega (arith, ap stage_number first.holds.own))
-          | inl here ↦ inl (λ t less. elim (cases_lt (stage_number t) (stage_number s)) [ inl before ↦ clean t before | inr more ↦ subst (λ (r : Stage). Holds r m q) (same_stage s t (omega arith)) here ])
+          | inl here ↦ inl (λ t less. elim (cases_lt (stage_number t) (stage_number s)) [
+            | inl before ↦
+                clean t before
+            | inr more ↦ subst (λ (r : Stage). Holds r m q) (same_stage s t (omega arith)) here
+          ])
         ]

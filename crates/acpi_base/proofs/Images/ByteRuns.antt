@@ -11,7 +11,8 @@ pub run_of_none : (f : ℕ → Option ℕ) (a n k : ℕ) → k < n → f (a + k)
 unfolding run_of cons_both
 run_of_none f a zero k h e = absurd (omega arith)
 run_of_none f a (suc n) zero h e = grind (arith, add-zero)
-run_of_none f a (suc n) (suc k) h e = (let q : a + suc k ≡ a + 1 + k = omega arith in grind (arith, run_of_none f (a + 1) n k))
+run_of_none f a (suc n) (suc k) h e =
+    (let q : a + suc k ≡ a + 1 + k = omega arith in grind (arith, run_of_none f (a + 1) n k))
 
 -- where there is nothing at each, there is no first
 pub first_of_none : (f : ℕ → Option ℕ) (a n : ℕ) → ((k : ℕ) → k < n → f (a + k) ≡ None) → least_defined f a n ≡ None
@@ -20,13 +21,20 @@ first_of_none f a zero h = refl
 first_of_none f a (suc n) h = grind (arith, add-zero, h 0, first_of_none f (a + 1) n (next (λ x k. f x ≡ None) a n h))
 
 -- the first number at which there is something
-pub first_of_at : (f : ℕ → Option ℕ) (a n k : ℕ) → k < n → IsSome (f (a + k)) → ((j : ℕ) → j < k → f (a + j) ≡ None) → least_defined f a n ≡ Some (a + k)
+pub first_of_at : (f : ℕ → Option ℕ) (a n k : ℕ) → k < n → IsSome (f (a + k)) → ((j : ℕ) → j < k → f (a + j) ≡ None)
+    → least_defined f a n ≡ Some (a + k)
 unfolding least_defined
 first_of_at f a zero k h s before = absurd (omega arith)
 first_of_at f a (suc n) zero h s before = grind (arith, add-zero)
 first_of_at f a (suc n) (suc k) h s before =
     let q : a + 1 + k ≡ a + suc k = omega arith in
-    grind (arith, add-zero, before 0, first_of_at f (a + 1) n k (omega arith) (ap (λ x. is_some (f x)) q ∙ s) (next (λ x j. f x ≡ None) a k before))
+    grind (
+      arith,
+      add-zero,
+      before 0,
+      first_of_at f (a + 1) n k (omega arith) (ap (λ x. is_some (f x)) q ∙ s)
+          (next (λ x j. f x ≡ None) a k before),
+    )
 
 -- the first is not below a
 pub first_of_from : (f : ℕ → Option ℕ) (a n x : ℕ) → least_defined f a n ≡ Some x → a ≤ x
@@ -35,7 +43,8 @@ first_of_from f a zero x e = absurd (cc)
 first_of_from f a (suc n) x e = grind (arith, first_of_from f (a + 1) n x)
 
 -- f and g agree at the n numbers from a on
-pub run_of-agree : (f g : ℕ → Option ℕ) (a n : ℕ) → ((k : ℕ) → k < n → f (a + k) ≡ g (a + k)) → run_of f a n ≡ run_of g a n
+pub run_of-agree : (f g : ℕ → Option ℕ) (a n : ℕ) → ((k : ℕ) → k < n → f (a + k) ≡ g (a + k))
+    → run_of f a n ≡ run_of g a n
 unfolding run_of
 run_of-agree f g a zero h = refl
 run_of-agree f g a (suc n) h = grind (arith, add-zero, h 0, run_of-agree f g (a + 1) n (next (λ x k. f x ≡ g x) a n h))
@@ -55,21 +64,29 @@ run_of-count f a zero l e = (let none : l ≡ [] = cc in ap length none)
 run_of-count f a (suc n) l e = grind (arith, run_of-split f a n l e, run_of-count f (a + 1) n)
 
 -- the k-th is that at a + k
-pub run_of-each : (f : ℕ → Option ℕ) (a n : ℕ) (l : List ℕ) → run_of f a n ≡ Some l → (k : ℕ) → k < n → f (a + k) ≡ Some (slice_index l k)
+pub run_of-each : (f : ℕ → Option ℕ) (a n : ℕ) (l : List ℕ) → run_of f a n ≡ Some l → (k : ℕ) → k < n
+    → f (a + k) ≡ Some (slice_index l k)
 run_of-each f a zero l e k h = absurd (omega arith)
 run_of-each f a (suc n) l e zero h = grind (arith, add-zero, run_of-split f a n l e)
 run_of-each f a (suc n) l e (suc k) h =
     (let q : a + suc k ≡ a + 1 + k = omega arith in grind (arith, run_of-split f a n l e, run_of-each f (a + 1) n))
 
 -- and so they are what is there
-pub run_of-from_each : (f : ℕ → Option ℕ) (a n : ℕ) (l : List ℕ) → length l ≡ n → ((k : ℕ) → k < n → f (a + k) ≡ Some (slice_index l k))
+pub run_of-from_each : (f : ℕ → Option ℕ) (a n : ℕ) (l : List ℕ) → length l ≡ n
+    → ((k : ℕ) → k < n → f (a + k) ≡ Some (slice_index l k))
     → run_of f a n ≡ Some l
 unfolding run_of cons_both
 run_of-from_each f a zero [] c h = refl
 run_of-from_each f a zero (b ∷ bs) c h = absurd (omega arith)
 run_of-from_each f a (suc n) [] c h = absurd (omega arith)
 run_of-from_each f a (suc n) (b ∷ bs) c h =
-    grind (arith, add-zero, h 0, run_of-from_each f (a + 1) n bs (omega arith) (next (λ x k. f x ≡ Some (slice_index (b ∷ bs) k)) a n h))
+    grind (
+      arith,
+      add-zero,
+      h 0,
+      run_of-from_each f (a + 1) n bs (omega arith)
+          (next (λ x k. f x ≡ Some (slice_index (b ∷ bs) k)) a n h),
+    )
 
 -- where there is something at each, there is a list
 pub run_of-some : (f : ℕ → Option ℕ) (a n : ℕ) → ((k : ℕ) → k < n → IsSome (f (a + k))) → IsSome (run_of f a n)
@@ -78,7 +95,8 @@ run_of-some f a zero h = refl
 run_of-some f a (suc n) h = grind (arith, add-zero, h 0, run_of-some f (a + 1) n (next (λ x k. IsSome (f x)) a n h))
 
 -- the first k of them
-pub run_of-take : (f : ℕ → Option ℕ) (a n k : ℕ) (l : List ℕ) → run_of f a n ≡ Some l → k ≤ n → run_of f a k ≡ Some (take k l)
+pub run_of-take : (f : ℕ → Option ℕ) (a n k : ℕ) (l : List ℕ) → run_of f a n ≡ Some l → k ≤ n
+    → run_of f a k ≡ Some (take k l)
 unfolding run_of cons_both
 run_of-take f a n zero l e h = refl
 run_of-take f a zero (suc k) l e h = absurd (omega arith)

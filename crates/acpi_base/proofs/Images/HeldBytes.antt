@@ -26,7 +26,8 @@ pub length-bytes_at : (m : Memory) (a n : ℕ) (bytes : List ℕ) → bytes_at m
 length-bytes_at m a n bytes e = run_of-count (byte_of m) a n bytes e
 
 -- each byte of an image is below 256
-pub bytes_below : (m : Memory) → IsImage m → (a n : ℕ) (bytes : List ℕ) → bytes_at m a n ≡ Some bytes → (k : ℕ) → slice_index bytes k < 256
+pub bytes_below : (m : Memory) → IsImage m → (a n : ℕ) (bytes : List ℕ) → bytes_at m a n ≡ Some bytes → (k : ℕ)
+    → slice_index bytes k < 256
 unfolding run_of
 bytes_below m image a zero bytes e k =
     subst (λ (bs : List ℕ). slice_index bs k < 256) (same_Some [] bytes e) (omega arith)
@@ -36,21 +37,38 @@ bytes_below m image a (suc n) bytes e (suc k) =
     grind (arith, parts.4, bytes_below m image (a + 1) n parts.1 parts.3 k)
 
 -- a number in so many bytes below 256
-pub field_below : (bytes : List ℕ) → ((k : ℕ) → slice_index bytes k < 256) → (offset width : ℕ) → field bytes offset width < 256 ^ width
+pub field_below : (bytes : List ℕ) → ((k : ℕ) → slice_index bytes k < 256) → (offset width : ℕ)
+    → field bytes offset width < 256 ^ width
 unfolding field
-field_below bytes below offset width = little_from-lt 0 width (drop offset bytes) (λ k. grind (arith, get_or-drop offset bytes k 0, below (offset + k)))
+field_below bytes below offset width =
+    little_from-lt 0 width (drop offset bytes) (λ k. grind (arith, get_or-drop offset bytes k 0, below (offset + k)))
 
 -- a number in so many bytes of an image
-pub held_field_below : (m : Memory) → IsImage m → (a n : ℕ) (bytes : List ℕ) → bytes_at m a n ≡ Some bytes → (offset width : ℕ) → field bytes offset width < 256 ^ width
+pub held_field_below : (m : Memory) → IsImage m → (a n : ℕ) (bytes : List ℕ) → bytes_at m a n ≡ Some bytes
+    → (offset width : ℕ) → field bytes offset width < 256 ^ width
 held_field_below m image a n bytes held = field_below bytes (bytes_below m image a n bytes held)
 
 -- a number in a prefix of some bytes is the same in all of them
-pub field-take : (bytes : List ℕ) (n offset width : ℕ) → offset + width ≤ n → field (take n bytes) offset width ≡ field bytes offset width
+pub field-take : (bytes : List ℕ) (n offset width : ℕ) → offset + width ≤ n
+    → field (take n bytes) offset width ≡ field bytes offset width
 unfolding field
-field-take bytes n offset width h = grind (arith, drop-take offset (n - offset) bytes, little_from-take 0 width (n - offset) (drop offset bytes) (omega arith))
+field-take bytes n offset width h =
+    grind (
+      arith,
+      drop-take offset (n - offset) bytes,
+      little_from-take 0 width (n - offset) (drop offset bytes)
+          (omega arith),
+    )
 
 -- bytes that are as many as their prefix says at 4 say so themselves
-pub says_length : (m : Memory) (a k : ℕ) (prefix whole : List ℕ) → 8 ≤ k → k ≤ field prefix 4 4 → bytes_at m a k ≡ Some prefix
+pub says_length : (m : Memory) (a k : ℕ) (prefix whole : List ℕ) → 8 ≤ k → k ≤ field prefix 4 4
+    → bytes_at m a k ≡ Some prefix
     → bytes_at m a (field prefix 4 4) ≡ Some whole → field whole 4 4 ≡ length whole
 says_length m a k prefix whole wide least prefix_held held =
-    grind (arith, same_value, run_of-take (byte_of m) a (field prefix 4 4) k whole held least, field-take whole k 4 4 wide, length-bytes_at m a (field prefix 4 4) whole held)
+    grind (
+      arith,
+      same_value,
+      run_of-take (byte_of m) a (field prefix 4 4) k whole held least,
+      field-take whole k 4 4 wide,
+      length-bytes_at m a (field prefix 4 4) whole held,
+    )

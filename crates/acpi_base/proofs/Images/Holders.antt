@@ -25,14 +25,20 @@ has_outside x p (inl l) = grind (arith, nat_tests)
 has_outside x p (inr l) = grind (arith, nat_tests)
 
 -- it has the address, or not
-pub has_or_not : (x : ℕ) (p : Piece) → ((holds_at x p ≡ 1) × (p.0 ≤ x) × (x < end_at p)) ⊎ ((holds_at x p ≡ 0) × ((x < p.0) ⊎ (end_at p ≤ x)))
+pub has_or_not : (x : ℕ) (p : Piece) → ((holds_at x p ≡ 1) × (p.0 ≤ x) × (x < end_at p))
+    ⊎ ((holds_at x p ≡ 0) × ((x < p.0) ⊎ (end_at p ≤ x)))
 has_or_not x p = elim (cases_lt x p.0) [
   | inl l ↦ inr (has_outside x p (inl l), inl l)
-  | inr l ↦ elim (cases_lt x (end_at p)) [ inl h ↦ inl (has_within x p l h, l, h) | inr h ↦ inr (has_outside x p (inr h), inr h) ]
+  | inr l ↦ elim (cases_lt x (end_at p)) [
+    | inl h ↦ inl (has_within x p l h, l, h)
+    | inr h ↦
+        inr (has_outside x p (inr h), inr h)
+  ]
 ]
 
 -- what it holds, where it has the address or not
-pub holds_none : (store : List ℕ) (n : ℕ) (p : Piece) (x : ℕ) → n ≤ length store → LiesBefore n p → holds_at x p ≡ 0 → byte_in (run_in store p) x ≡ None
+pub holds_none : (store : List ℕ) (n : ℕ) (p : Piece) (x : ℕ) → n ≤ length store → LiesBefore n p → holds_at x p ≡ 0
+    → byte_in (run_in store p) x ≡ None
 holds_none store n p x l lies none =
     let ends = run_ends store p n l lies in
     elim (has_or_not x p) [
@@ -40,7 +46,8 @@ holds_none store n p x l lies none =
       | inr y ↦ held_none (run_in store p) x (elim y.1 [ inl low ↦ inl low | inr high ↦ inr (omega arith) ])
     ]
 
-holds_some : (store : List ℕ) (n : ℕ) (p : Piece) (x : ℕ) → n ≤ length store → LiesBefore n p → holds_at x p ≡ 1 → IsSome (byte_in (run_in store p) x)
+holds_some : (store : List ℕ) (n : ℕ) (p : Piece) (x : ℕ) → n ≤ length store → LiesBefore n p → holds_at x p ≡ 1
+    → IsSome (byte_in (run_in store p) x)
 holds_some store n p x l lies one =
     let ends = run_ends store p n l lies in
     elim (has_or_not x p) [
@@ -57,13 +64,15 @@ some_or : (x y : Option ℕ) → IsSome x → IsSome (option_or x y)
 some_or x y some = grind arith
 
 -- an address that no piece has is not held
-pub lookup_none : (store : List ℕ) (n : ℕ) (ps : List Piece) (x : ℕ) → n ≤ length store → AllByRecursion (LiesBefore n) ps → holder_count ps x ≡ 0 → lookup (runs_in store ps) x ≡ None
+pub lookup_none : (store : List ℕ) (n : ℕ) (ps : List Piece) (x : ℕ) → n ≤ length store
+    → AllByRecursion (LiesBefore n) ps → holder_count ps x ≡ 0 → lookup (runs_in store ps) x ≡ None
 lookup_none store n [] x l lies none = refl
 lookup_none store n (p ∷ ps) x l lies none =
     rw (holds_none store n p x l lies.0 (omega arith)) (lookup_none store n ps x l lies.1 (omega arith))
 
 -- one that some piece has is
-pub lookup_some : (store : List ℕ) (n : ℕ) (ps : List Piece) (x : ℕ) → n ≤ length store → AllByRecursion (LiesBefore n) ps → 0 < holder_count ps x → IsSome (lookup (runs_in store ps) x)
+pub lookup_some : (store : List ℕ) (n : ℕ) (ps : List Piece) (x : ℕ) → n ≤ length store
+    → AllByRecursion (LiesBefore n) ps → 0 < holder_count ps x → IsSome (lookup (runs_in store ps) x)
 lookup_some store n [] x l lies some = absurd (omega arith)
 lookup_some store n (p ∷ ps) x l lies some = elim (has_or_not x p) [
   | inl y ↦ some_or _ _ (holds_some store n p x l lies.0 y.0)
@@ -71,11 +80,13 @@ lookup_some store n (p ∷ ps) x l lies some = elim (has_or_not x p) [
 ]
 
 -- a piece more at the end
-pub holder_count-push : (ps : List Piece) (p : Piece) (x : ℕ) → holder_count (ps ++ p ∷ []) x ≡ holder_count ps x + holds_at x p
+pub holder_count-push : (ps : List Piece) (p : Piece) (x : ℕ)
+    → holder_count (ps ++ p ∷ []) x ≡ holder_count ps x + holds_at x p
 holder_count-push [] p x = omega arith
 holder_count-push (q ∷ ps) p x = omega (arith, holder_count-push ps p x)
 
-all_push : (P : Piece → Type 0) (ps : List Piece) (q : Piece) → AllByRecursion P ps → P q → AllByRecursion P (ps ++ q ∷ [])
+all_push : (P : Piece → Type 0) (ps : List Piece) (q : Piece) → AllByRecursion P ps → P q
+    → AllByRecursion P (ps ++ q ∷ [])
 all_push P [] q all here = (here, tt)
 all_push P (p ∷ ps) q all here = (all.0, all_push P ps q all.1 here)
 
@@ -84,8 +95,10 @@ last_first x y z (inl e) = grind arith
 last_first x y z (inr e) = grind arith
 
 -- where no other piece has its addresses, it holds them
-pub lookup-push : (store : List ℕ) (n : ℕ) (ps : List Piece) (q : Piece) (x : ℕ) → n ≤ length store → AllByRecursion (LiesBefore n) ps → LiesBefore n q
-    → holder_count ps x + holds_at x q ≤ 1 → lookup (runs_in store (ps ++ q ∷ [])) x ≡ option_or (byte_in (run_in store q) x) (lookup (runs_in store ps) x)
+pub lookup-push : (store : List ℕ) (n : ℕ) (ps : List Piece) (q : Piece) (x : ℕ) → n ≤ length store
+    → AllByRecursion (LiesBefore n) ps → LiesBefore n q
+    → holder_count ps x + holds_at x q ≤ 1
+    → lookup (runs_in store (ps ++ q ∷ [])) x ≡ option_or (byte_in (run_in store q) x) (lookup (runs_in store ps) x)
 lookup-push store n [] q x l lies here once = refl
 lookup-push store n (p ∷ ps) q x l lies here once =
     ap (option_or (byte_in (run_in store p) x)) (lookup-push store n ps q x l lies.1 here (omega arith))
@@ -96,14 +109,16 @@ lookup-push store n (p ∷ ps) q x l lies here once =
     ])
 
 -- more of the store changes nothing
-pub ended-push : (n m : ℕ) (ps : List Piece) (q : Piece) → n ≤ m → AreEnded n ps → 0 < q.1.len → LiesBefore m q → ((x : ℕ) → q.0 ≤ x → x < end_at q → holder_count ps x ≡ 0) → AreEnded m (ps ++ q ∷ [])
+pub ended-push : (n m : ℕ) (ps : List Piece) (q : Piece) → n ≤ m → AreEnded n ps → 0 < q.1.len → LiesBefore m q
+    → ((x : ℕ) → q.0 ≤ x → x < end_at q → holder_count ps x ≡ 0) → AreEnded m (ps ++ q ∷ [])
 ended-push n m ps q l s some here free = record {
   once = λ x. elim (has_or_not x q) [
     | inl y ↦ (let one = y.0 in let none = free x y.1 y.2 in let e = holder_count-push ps q x in omega arith)
     | inr y ↦ (let none = y.0 in let most = s.once x in let e = holder_count-push ps q x in omega arith)
   ];
   filled = all_push _ ps q s.filled some;
-  lies = all_push _ ps q (all_weaker (LiesBefore n) (LiesBefore m) ps (λ p h. (let low = h.0 in omega arith, h.1)) s.lies) here;
+  lies = all_push _ ps q (all_weaker (LiesBefore n) (LiesBefore m) ps (λ p h. (let low = h.0 in omega arith, h.1))
+      s.lies) here;
 }
 
 -- ---- the same pieces in another order
@@ -125,14 +140,16 @@ holder_count-sum [] x = refl
 holder_count-sum (p ∷ ps) x = ap (λ n. holds_at x p + n) (holder_count-sum ps x) ∙ sym (sum_by-cons (holds_at x) p ps)
 
 -- what is held, as a sum
-lookup-sum : (store : List ℕ) (n : ℕ) (ps : List Piece) (x : ℕ) → n ≤ length store → AllByRecursion (LiesBefore n) ps → holder_count ps x ≤ 1
+lookup-sum : (store : List ℕ) (n : ℕ) (ps : List Piece) (x : ℕ) → n ≤ length store → AllByRecursion (LiesBefore n) ps
+    → holder_count ps x ≤ 1
     → sum_by (λ p. code (byte_in (run_in store p) x)) ps ≡ code (lookup (runs_in store ps) x)
 lookup-sum store n [] x l lies once = omega arith
 lookup-sum store n (p ∷ ps) x l lies once =
     sum_by-cons (λ p. code (byte_in (run_in store p) x)) p ps
     ∙ ap (λ k. code (byte_in (run_in store p) x) + k) (lookup-sum store n ps x l lies.1 (omega arith))
     ∙ elim (has_or_not x p) [
-      | inl y ↦ (let one = y.0 in first (byte_in (run_in store p) x) _ (lookup_none store n ps x l lies.1 (omega arith)))
+      | inl y ↦ (let one = y.0 in first (byte_in (run_in store p) x) _
+          (lookup_none store n ps x l lies.1 (omega arith)))
       | inr y ↦ second (byte_in (run_in store p) x) _ (holds_none store n p x l lies.0 y.0)
     ]
   where
@@ -143,13 +160,15 @@ lookup-sum store n (p ∷ ps) x l lies once =
     second : (a b : Option ℕ) → a ≡ None → code a + code b ≡ code (option_or a b)
     second a b e = rw e (omega arith)
 
-all_permuted : (P : Piece → Type 0) (ps qs : List Piece) → IsPermutation ps qs → AllByRecursion P ps → AllByRecursion P qs
+all_permuted : (P : Piece → Type 0) (ps qs : List Piece) → IsPermutation ps qs → AllByRecursion P ps
+    → AllByRecursion P qs
 all_permuted P ps qs moved all = recursion_from_All P qs (All-permutation P ps qs moved (All-from_recursion P ps all))
 
 pub ended_permuted : (n : ℕ) (ps qs : List Piece) → IsPermutation ps qs → AreEnded n ps → AreEnded n qs
 ended_permuted n ps qs moved s = record {
   once = λ x. (
-      let e : holder_count qs x ≡ holder_count ps x = holder_count-sum qs x ∙ sum_by-IsPermutation (holds_at x) ps qs moved ∙ sym (holder_count-sum ps x) in
+      let e : holder_count qs x ≡ holder_count ps x = holder_count-sum qs x
+      ∙ sum_by-IsPermutation (holds_at x) ps qs moved ∙ sym (holder_count-sum ps x) in
       let most = s.once x in
       omega arith
       );
@@ -157,7 +176,8 @@ ended_permuted n ps qs moved s = record {
   lies = all_permuted _ ps qs moved s.lies;
 }
 
-pub memory_permuted : (store : List ℕ) (ps qs : List Piece) → IsPermutation ps qs → AreEnded (length store) ps → memory_of (runs_in store qs) ≡ memory_of (runs_in store ps)
+pub memory_permuted : (store : List ℕ) (ps qs : List Piece) → IsPermutation ps qs → AreEnded (length store) ps
+    → memory_of (runs_in store qs) ≡ memory_of (runs_in store ps)
 memory_permuted store ps qs moved s =
     let t = ended_permuted (length store) ps qs moved s in
     same_memory _ _ (λ x.
@@ -170,12 +190,14 @@ memory_permuted store ps qs moved s =
 
 -- ---- sorted by their bases, they rise
 
-holders_at : (ps : List Piece) (k : ℕ) (d : Piece) (x : ℕ) → k < length ps → holds_at x (get_or ps k d) ≡ 1 → 0 < holder_count ps x
+holders_at : (ps : List Piece) (k : ℕ) (d : Piece) (x : ℕ) → k < length ps → holds_at x (get_or ps k d) ≡ 1
+    → 0 < holder_count ps x
 holders_at [] k d x h one = absurd (omega arith)
 holders_at (p ∷ ps) zero d x h one = omega arith
 holders_at (p ∷ ps) (suc k) d x h one = omega (arith, holders_at ps k d x (omega arith) one)
 
-pub rising_sorted : (ps : List Piece) → IsNonDecreasingBy (λ (p : Piece). p.0) ps → ((x : ℕ) → holder_count ps x ≤ 1) → AllByRecursion (λ p. 0 < p.1.len) ps → AreSortedDisjoint ps
+pub rising_sorted : (ps : List Piece) → IsNonDecreasingBy (λ (p : Piece). p.0) ps → ((x : ℕ) → holder_count ps x ≤ 1)
+    → AllByRecursion (λ p. 0 < p.1.len) ps → AreSortedDisjoint ps
 rising_sorted [] sorted once filled = tt
 rising_sorted (p ∷ ps) sorted once filled = (
   filled.0,
@@ -192,5 +214,6 @@ rising_sorted (p ∷ ps) sorted once filled = (
             )
         | inr l ↦ l
       ]),
-  rising_sorted ps (λ i j d l h. sorted (suc i) (suc j) d (omega arith) (omega arith)) (λ x. (let most = once x in omega arith)) filled.1,
+  rising_sorted ps (λ i j d l h. sorted (suc i) (suc j) d (omega arith) (omega arith))
+      (λ x. (let most = once x in omega arith)) filled.1,
 )

@@ -30,16 +30,20 @@ all_dropped P (p ∷ ps) (suc i) all = all_dropped P ps i all.1
 rising_taken : (ps : List Piece) (i : ℕ) → AreSegmentsApart ps → AreSortedDisjoint (take i ps)
 rising_taken ps zero apart = tt
 rising_taken [] (suc i) apart = tt
-rising_taken (p ∷ ps) (suc i) apart = (apart.0, all_weaker _ _ (take i ps) (λ q h. omega arith) (all_taken _ ps i apart.1), rising_taken ps i apart.2)
+rising_taken (p ∷ ps) (suc i) apart =
+    (apart.0, all_weaker _ _ (take i ps) (λ q h. omega arith) (all_taken _ ps i apart.1), rising_taken ps i apart.2)
 
 rising_dropped : (ps : List Piece) (i : ℕ) → AreSegmentsApart ps → AreSortedDisjoint (drop i ps)
 rising_dropped [] zero apart = tt
-rising_dropped (p ∷ ps) zero apart = (apart.0, all_weaker _ _ ps (λ q h. omega arith) apart.1, rising_dropped ps zero apart.2)
+rising_dropped (p ∷ ps) zero apart =
+    (apart.0, all_weaker _ _ ps (λ q h. omega arith) apart.1, rising_dropped ps zero apart.2)
 rising_dropped [] (suc i) apart = tt
 rising_dropped (p ∷ ps) (suc i) apart = rising_dropped ps i apart.2
 
 -- what is taken and what is dropped hold what the whole list does
-lookup_parts : (store : List ℕ) (ps : List Piece) (i x : ℕ) → lookup (runs_in store ps) x ≡ option_or (lookup (runs_in store (take i ps)) x) (lookup (runs_in store (drop i ps)) x)
+lookup_parts : (store : List ℕ) (ps : List Piece) (i x : ℕ)
+    → lookup (runs_in store ps) x ≡ option_or (lookup (runs_in store (take i ps)) x)
+    (lookup (runs_in store (drop i ps)) x)
 lookup_parts store ps zero x = refl
 lookup_parts store [] (suc i) x = refl
 lookup_parts store (p ∷ ps) (suc i) x = grind (arith, lookup_parts store ps i x)
@@ -59,22 +63,28 @@ pub record Parts (s : Segments) (a n i : ℕ) : Type 0 where
   pub last_begin : s.start < length s.store → a + n ≤ s.base
 
 -- where the bytes find nothing held, the ended segments hold nothing there
-gap_in_ended : (s : Segments) (a b x : ℕ) → IsGap (runs_of s) a b → a ≤ x → x < b → lookup (runs_in s.store s.ended.items) x ≡ None
+gap_in_ended : (s : Segments) (a b x : ℕ) → IsGap (runs_of s) a b → a ≤ x → x < b
+    → lookup (runs_in s.store s.ended.items) x ≡ None
 gap_in_ended s a b x gap l h = (let none = gap x l h in grind arith)
 
-pub parts_at : (s : Segments) (a n i : ℕ) → IsSound s → a < s.base → 0 < n → IsGap (runs_of s) a (a + n) → i ≤ length s.ended.items → IsPartitionPoint s.ended.items a i → Parts s a n i
+pub parts_at : (s : Segments) (a n i : ℕ) → IsSound s → a < s.base → 0 < n → IsGap (runs_of s) a (a + n)
+    → i ≤ length s.ended.items → IsPartitionPoint s.ended.items a i → Parts s a n i
 parts_at s a n i sound low some gap within place =
     let store = s.store in
     let ps = s.ended.items in
     let inside = sound.within in
-    let lies = all_weaker (LiesBefore s.start) (LiesBefore (length store)) ps (λ p h. (let l = h.0 in omega arith, h.1)) sound.lies in
+    let lies = all_weaker (LiesBefore s.start) (LiesBefore (length store)) ps (λ p h. (let l = h.0 in omega arith, h.1))
+    sound.lies in
     record {
       low_rising = rising_taken ps i sound.apart;
       low_lies = all_taken _ ps i lies;
       low_end = all_from _ (take i ps) (λ k d h.
           let short : length (take i ps) ≡ i = length-take-le i ps within in
           let k_low : k < i = omega arith in
-          rw (get_or-take i ps k d k_low) (ended_at store s.start ps k a d inside sound.lies (gap_in_ended s a (a + n) a gap (omega arith) (omega arith)) (omega arith) (place.0 k d (omega arith) k_low)));
+          rw (get_or-take i ps k d k_low)
+          (ended_at store s.start ps k a d inside sound.lies
+          (gap_in_ended s a (a + n) a gap (omega arith) (omega arith)) (omega arith)
+          (place.0 k d (omega arith) k_low)));
       low_begin = all_from _ (take i ps) (λ k d h. omega arith);
       high_rising = rising_dropped ps i sound.apart;
       high_lies = all_dropped _ ps i lies;
@@ -85,7 +95,9 @@ parts_at s a n i sound low some gap within place =
       last_begin = λ open_some.
           let long = length-drop s.start store in
           elim (cases_lt s.base (a + n)) [
-            | inl l ↦ absurd (let none = gap s.base (omega arith) l in let here = held_some (run_at s.base (drop s.start store)) s.base (omega arith) (omega arith) in grind arith)
+            | inl l ↦ absurd (let none = gap s.base (omega arith) l in
+                let here = held_some (run_at s.base (drop s.start store)) s.base (omega arith) (omega arith) in
+                grind arith)
             | inr l ↦ l
           ];
     }
@@ -95,7 +107,8 @@ parts_at s a n i sound low some gap within place =
       | inl m ↦ absurd (
           let above = place.1 k d l h in
           let none = gap_in_ended s a (a + n) (get_or s.ended.items k d).0 gap (omega arith) m in
-          let here = base_held s.store s.start s.ended.items k d sound.within sound.lies h (filled s.ended.items k d sound.apart h) in
+          let here = base_held s.store s.start s.ended.items k d sound.within sound.lies h
+          (filled s.ended.items k d sound.apart h) in
           grind arith)
       | inr m ↦ m
     ]
@@ -103,7 +116,8 @@ parts_at s a n i sound low some gap within place =
 -- ---- what all hold together
 
 -- the bytes are put in where nothing was held
-pub put_among : (s : Segments) (a i : ℕ) (bs : List ℕ) (m0 m1 m2 m3 : Memory) → IsGap (runs_of s) a (a + length bs) → m0 ≡ empty
+pub put_among : (s : Segments) (a i : ℕ) (bs : List ℕ) (m0 m1 m2 m3 : Memory) → IsGap (runs_of s) a (a + length bs)
+    → m0 ≡ empty
     → ((x : ℕ) → byte_of m1 x ≡ option_or (byte_of m0 x) (lookup (runs_in s.store (take i s.ended.items)) x))
     → m2 ≡ with_bytes m1 a bs
     → ((x : ℕ) → byte_of m3 x ≡ option_or (byte_of m2 x) (lookup (runs_in s.store (drop i s.ended.items)) x))
@@ -112,16 +126,21 @@ put_among s a i bs m0 m1 m2 m3 gap e0 e1 e2 e3 = same_memory _ _ (λ x.
     let here = held_inside (run_at a bs) x in
     let free = gap x in
     let nothing : byte_of m0 x ≡ None = ap (λ m. byte_of m x) e0 ∙ byte_of_memory_of [] x in
-    let second : byte_of m2 x ≡ option_or (byte_in (run_at a bs) x) (byte_of m1 x) = ap (λ m. byte_of m x) e2 ∙ byte_of-with_bytes m1 a bs x in
+    let second : byte_of m2 x ≡ option_or (byte_in (run_at a bs) x) (byte_of m1 x) =
+    ap (λ m. byte_of m x) e2 ∙ byte_of-with_bytes m1 a bs x in
     let old = byte_of_memory_of (runs_of s) x in
-    composed (byte_in (run_at a bs) x) (byte_in (run_at s.base (drop s.start s.store)) x) (lookup (runs_in s.store (take i s.ended.items)) x)
-    (lookup (runs_in s.store (drop i s.ended.items)) x) (lookup (runs_in s.store s.ended.items) x) (byte_of m0 x) (byte_of m1 x) (byte_of m2 x) (byte_of m3 x)
+    composed (byte_in (run_at a bs) x) (byte_in (run_at s.base (drop s.start s.store)) x)
+    (lookup (runs_in s.store (take i s.ended.items)) x)
+    (lookup (runs_in s.store (drop i s.ended.items)) x) (lookup (runs_in s.store s.ended.items) x) (byte_of m0 x)
+    (byte_of m1 x) (byte_of m2 x) (byte_of m3 x)
     (byte_of (memory_in s) x) _ _ (lookup_parts s.store s.ended.items i x) nothing (e1 x) second (e3 x) old
     (byte_of-with_bytes m3 s.base (drop s.start s.store) x) (byte_of-with_bytes (memory_in s) a bs x)
     (λ some. (let within = here some in free within.0 within.1)))
   where
-    composed : (new last low high all b0 b1 b2 b3 was left right : Option ℕ) → all ≡ option_or low high → b0 ≡ None → b1 ≡ option_or b0 low → b2 ≡ option_or new b1
-        → b3 ≡ option_or b2 high → was ≡ option_or last all → left ≡ option_or last b3 → right ≡ option_or new was → (IsSome new → option_or last all ≡ None) → left ≡ right
+    composed : (new last low high all b0 b1 b2 b3 was left right : Option ℕ) → all ≡ option_or low high → b0 ≡ None
+        → b1 ≡ option_or b0 low → b2 ≡ option_or new b1
+        → b3 ≡ option_or b2 high → was ≡ option_or last all → left ≡ option_or last b3 → right ≡ option_or new was
+        → (IsSome new → option_or last all ≡ None) → left ≡ right
     composed new last low high all b0 b1 b2 b3 was left right p q r t u v w z free = grind arith
 
 -- the same where no segment is open

@@ -18,18 +18,22 @@ use Rattle.acpi_base.proofs.Images.RunBytes.{held_none, held_some, held_inside}
 -- ---- the first of two
 
 -- the first that f has something at
-first_is : (f : ℕ → Option ℕ) (a n s : ℕ) → a ≤ s → s < a + n → IsSome (f s) → ((x : ℕ) → a ≤ x → x < s → f x ≡ None) → Some s ≡ least_defined f a n
+first_is : (f : ℕ → Option ℕ) (a n s : ℕ) → a ≤ s → s < a + n → IsSome (f s) → ((x : ℕ) → a ≤ x → x < s → f x ≡ None)
+    → Some s ≡ least_defined f a n
 first_is f a n s l h some before =
     let at : s ≡ a + (s - a) = omega arith in
-    ap Some at ∙ sym (first_of_at f a n (s - a) (omega arith) (subst (λ x. IsSome (f x)) at some) (λ j less. before (a + j) (omega arith) (omega arith)))
+    ap Some at ∙ sym (first_of_at f a n (s - a) (omega arith) (subst (λ x. IsSome (f x)) at some)
+    (λ j less. before (a + j) (omega arith) (omega arith)))
 
 none_unless : (o : Option ℕ) → (IsSome o → ⊥) → o ≡ None
 none_unless None never = refl
 none_unless (Some b) never = absurd (never refl)
 
 -- where f has something just at the numbers of which P or Q holds, its first is the earlier of both
-pub first_both : (f : ℕ → Option ℕ) (P Q : ℕ → Type 0) (a n : ℕ) (p q : Option ℕ) → IsLeastFrom P a n p → IsLeastFrom Q a n q
-    → ((x : ℕ) → IsSome (f x) → P x ⊎ Q x) → ((x : ℕ) → P x → IsSome (f x)) → ((x : ℕ) → Q x → IsSome (f x)) → lesser_address p q ≡ least_defined f a n
+pub first_both : (f : ℕ → Option ℕ) (P Q : ℕ → Type 0) (a n : ℕ) (p q : Option ℕ) → IsLeastFrom P a n p
+    → IsLeastFrom Q a n q
+    → ((x : ℕ) → IsSome (f x) → P x ⊎ Q x) → ((x : ℕ) → P x → IsSome (f x)) → ((x : ℕ) → Q x → IsSome (f x))
+    → lesser_address p q ≡ least_defined f a n
 first_both f P Q a n None None u v either left right =
     sym (first_of_none f a n (λ k h. none_unless (f (a + k)) (λ some. elim (either (a + k) some) [
       | inl p ↦ u (a + k) (omega arith) (omega arith) p
@@ -64,13 +68,22 @@ first_both f P Q a n (Some s) (Some t) u v either left right = elim (cases_lt s 
 
 -- the first address of the open piece
 pub first_open : (o : Option ℕ) (at len a n : ℕ) → 0 < n → (o ≡ None → (len ≡ 0) ⊎ (at + len ≤ a) ⊎ (a + n ≤ at))
-    → IfSome o (λ s. (0 < len) × (a ≤ s) × (s < a + n) × (at ≤ s) × (s < at + len) × ((s ≡ a) ⊎ (s ≡ at))) → IsLeastFrom (λ x. (at ≤ x) × (x < at + len)) a n o
+    → IfSome o (λ s. (0 < len) × (a ≤ s) × (s < a + n) × (at ≤ s) × (s < at + len) × ((s ≡ a) ⊎ (s ≡ at)))
+    → IsLeastFrom (λ x. (at ≤ x) × (x < at + len)) a n o
 first_open None at len a n some f g = λ x l h (low, high). elim (f refl) [
   | inl z ↦ absurd (omega arith)
   | inr z ↦ elim z [ inl y ↦ absurd (omega arith) | inr y ↦ absurd (omega arith) ]
 ]
-first_open (Some s) at len a n some f g =
-    (g.1, g.2, (g.3, g.4), λ x l h (low, high). elim g.5 [ inl y ↦ absurd (omega arith) | inr y ↦ absurd (omega arith) ])
+first_open (Some s) at len a n some f g = (
+  g.1,
+  g.2,
+  (g.3, g.4),
+  λ x l h (low, high). elim g.5 [
+    | inl y ↦ absurd (omega arith)
+    | inr y ↦
+        absurd (omega arith)
+  ],
+)
 
 -- ---- what is held
 
@@ -85,26 +98,32 @@ or_right : (x y : Option ℕ) → IsSome y → IsSome (option_or x y)
 or_right x y some = grind arith
 
 -- an address that is held is one of the open piece, or a marked one
-pub open_or_marked : (store : List ℕ) (marks : AddressBitmap) (ps : List Piece) (base begin room : ℕ) → ArePiecesWithRoom store ps base begin room → AreMarked marks ps base (length store - begin)
-    → (x : ℕ) → IsSome (lookup (all_runs store ps base begin) x) → ((base ≤ x) × (x < base + (length store - begin))) ⊎ IsMarked marks x
+pub open_or_marked : (store : List ℕ) (marks : AddressBitmap) (ps : List Piece) (base begin room : ℕ)
+    → ArePiecesWithRoom store ps base begin room → AreMarked marks ps base (length store - begin)
+    → (x : ℕ) → IsSome (lookup (all_runs store ps base begin) x)
+    → ((base ≤ x) × (x < base + (length store - begin))) ⊎ IsMarked marks x
 open_or_marked store marks ps base begin room s m x some =
     let long : length (drop begin store) ≡ length store - begin = length-drop begin store in
     elim (or_cases (byte_in (run_at base (drop begin store)) x) (lookup (runs_in store ps) x) some) [
-      | inl here ↦ (let within = held_inside (run_at base (drop begin store)) x here in let low = within.0 in let high = within.1 in inl (low, omega arith))
+      | inl here ↦ (let within = held_inside (run_at base (drop begin store)) x here in let low = within.0 in
+          let high = within.1 in inl (low, omega arith))
       | inr ended ↦ inr (m.ended x (elim (cases_lt 0 (holder_count ps x)) [
         | inl l ↦ l
-        | inr l ↦ absurd (let none = lookup_none store begin ps x s.within s.ended.lies (omega arith) in let not = ap is_some (sym none) ∙ ended in cc)
+        | inr l ↦ absurd (let none = lookup_none store begin ps x s.within s.ended.lies (omega arith) in
+            let not = ap is_some (sym none) ∙ ended in cc)
       ]))
     ]
 
 -- each address of the open piece is held
-pub open_held : (store : List ℕ) (ps : List Piece) (base begin x : ℕ) → (base ≤ x) × (x < base + (length store - begin)) → IsSome (lookup (all_runs store ps base begin) x)
+pub open_held : (store : List ℕ) (ps : List Piece) (base begin x : ℕ) → (base ≤ x) × (x < base + (length store - begin))
+    → IsSome (lookup (all_runs store ps base begin) x)
 open_held store ps base begin x (low, high) =
     let long : length (drop begin store) ≡ length store - begin = length-drop begin store in
     or_left _ _ (held_some (run_at base (drop begin store)) x low (omega arith))
 
 -- and each that is marked
-pub marked_held : (store : List ℕ) (marks : AddressBitmap) (ps : List Piece) (base begin room : ℕ) → ArePiecesWithRoom store ps base begin room → AreMarked marks ps base (length store - begin)
+pub marked_held : (store : List ℕ) (marks : AddressBitmap) (ps : List Piece) (base begin room : ℕ)
+    → ArePiecesWithRoom store ps base begin room → AreMarked marks ps base (length store - begin)
     → (x : ℕ) → IsMarked marks x → IsSome (lookup (all_runs store ps base begin) x)
 marked_held store marks ps base begin room s m x marked = elim (m.only x marked) [
   | inl some ↦ or_right _ _ (lookup_some store begin ps x s.within s.ended.lies some)
@@ -112,33 +131,40 @@ marked_held store marks ps base begin room s m x marked = elim (m.only x marked)
 ]
 
 -- the first of n addresses that are held
-pub first_gathered : (store : List ℕ) (marks : AddressBitmap) (ps : List Piece) (base begin room a n : ℕ) (p q : Option ℕ) → ArePiecesWithRoom store ps base begin room
-    → AreMarked marks ps base (length store - begin) → IsLeastFrom (λ x. (base ≤ x) × (x < base + (length store - begin))) a n p → IsLeastFrom (IsMarked marks) a n q
+pub first_gathered : (store : List ℕ) (marks : AddressBitmap) (ps : List Piece) (base begin room a n : ℕ)
+    (p q : Option ℕ) → ArePiecesWithRoom store ps base begin room
+    → AreMarked marks ps base (length store - begin)
+    → IsLeastFrom (λ x. (base ≤ x) × (x < base + (length store - begin))) a n p → IsLeastFrom (IsMarked marks) a n q
     → lesser_address p q ≡ first_held (memory_in_store store ps base begin) a n
 first_gathered store marks ps base begin room a n p q s m u v =
-    first_both (lookup (all_runs store ps base begin)) (λ x. (base ≤ x) × (x < base + (length store - begin))) (IsMarked marks) a n p q u v
+    first_both (lookup (all_runs store ps base begin)) (λ x. (base ≤ x) × (x < base + (length store - begin)))
+    (IsMarked marks) a n p q u v
     (open_or_marked store marks ps base begin room s m)
     (open_held store ps base begin)
     (marked_held store marks ps base begin room s m)
     ∙ sym (first_held_by store ps base begin a n)
 
 -- bytes that follow the open piece hit nothing
-pub follows_free : (store : List ℕ) (ps : List Piece) (base begin room a n : ℕ) → ArePiecesWithRoom store ps base begin room → a ≡ base + (length store - begin) → n ≤ room
+pub follows_free : (store : List ℕ) (ps : List Piece) (base begin room a n : ℕ)
+    → ArePiecesWithRoom store ps base begin room → a ≡ base + (length store - begin) → n ≤ room
     → first_held (memory_in_store store ps base begin) a n ≡ None
 follows_free store ps base begin room a n s e l =
     let long : length (drop begin store) ≡ length store - begin = length-drop begin store in
     first_held_by store ps base begin a n
     ∙ first_of_none (lookup (all_runs store ps base begin)) a n (λ k h.
-    rw (held_none (run_at base (drop begin store)) (a + k) (inr (omega arith))) (lookup_none store begin ps (a + k) s.within s.ended.lies (s.clear (a + k) (omega arith) (omega arith))))
+    rw (held_none (run_at base (drop begin store)) (a + k) (inr (omega arith)))
+    (lookup_none store begin ps (a + k) s.within s.ended.lies (s.clear (a + k) (omega arith) (omega arith))))
 
 -- ---- refusals
 
 -- what is not held and fits is not refused
-pub not_refused : (m : Memory) (a : ℕ) (bs : List ℕ) → a + length bs ≤ 2 ^ 64 → first_held m a (length bs) ≡ None → add_refusal m a bs ≡ None
+pub not_refused : (m : Memory) (a : ℕ) (bs : List ℕ) → a + length bs ≤ 2 ^ 64 → first_held m a (length bs) ≡ None
+    → add_refusal m a bs ≡ None
 not_refused m a bs l e =
     let low : nat_lt (2 ^ 64) (a + length bs) ≡ false = le-ltb (2 ^ 64) (a + length bs) l in
     rw (low, e) refl
 
 -- nor are no bytes
 pub none_not_refused : (m : Memory) (a : ℕ) (bs : List ℕ) → a < 2 ^ 64 → length bs ≡ 0 → add_refusal m a bs ≡ None
-none_not_refused m a bs l e = not_refused m a bs (omega arith) (first_of_none (byte_of m) a (length bs) (λ k o. absurd (omega arith)))
+none_not_refused m a bs l e =
+    not_refused m a bs (omega arith) (first_of_none (byte_of m) a (length bs) (λ k o. absurd (omega arith)))

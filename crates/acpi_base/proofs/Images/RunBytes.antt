@@ -34,7 +34,8 @@ pub held_inside : (r : Run) (a : ℕ) → IsSome (byte_in r a) → (r.base ≤ a
 held_inside r a s = grind (arith, cases_lt, held_none)
 
 -- a run that starts with b is b, and then the rest
-pub byte_in-cons : (a b : ℕ) (bs : List ℕ) (x : ℕ) → byte_in (run_at a (b ∷ bs)) x ≡ cond (x == a) (Some b) (byte_in (run_at (a + 1) bs) x)
+pub byte_in-cons : (a b : ℕ) (bs : List ℕ) (x : ℕ)
+    → byte_in (run_at a (b ∷ bs)) x ≡ cond (x == a) (Some b) (byte_in (run_at (a + 1) bs) x)
 byte_in-cons a b bs x = grind (arith, cases_lt)
 
 -- an empty run holds nothing
@@ -54,7 +55,8 @@ pub byte_of-remove : (m : Memory) (a x : ℕ) → byte_of (remove m a) x ≡ con
 byte_of-remove m a x = get-remove nat_cmp_total m a x ∙ ap (λ t. cond t None (byte_of m x)) (same_number x a)
 
 -- what an image with bytes put in from a on has at an address
-pub byte_of-with_bytes : (m : Memory) (a : ℕ) (bs : List ℕ) (x : ℕ) → byte_of (with_bytes m a bs) x ≡ option_or (byte_in (run_at a bs) x) (byte_of m x)
+pub byte_of-with_bytes : (m : Memory) (a : ℕ) (bs : List ℕ) (x : ℕ)
+    → byte_of (with_bytes m a bs) x ≡ option_or (byte_in (run_at a bs) x) (byte_of m x)
 unfolding with_bytes
 byte_of-with_bytes m a [] x = rw (byte_in-nil a x) refl
 byte_of-with_bytes m a (b ∷ bs) x =
@@ -63,17 +65,22 @@ byte_of-with_bytes m a (b ∷ bs) x =
 -- the memory of runs holds what they hold
 pub byte_of_memory_of : (rs : List Run) (x : ℕ) → byte_of (memory_of rs) x ≡ lookup rs x
 byte_of_memory_of [] x = get-empty nat_cmp x
-byte_of_memory_of (r ∷ rs) x = byte_of-with_bytes (memory_of rs) r.base r.bytes x ∙ ap (option_or (byte_in r x)) (byte_of_memory_of rs x)
+byte_of_memory_of (r ∷ rs) x =
+    byte_of-with_bytes (memory_of rs) r.base r.bytes x ∙ ap (option_or (byte_in r x)) (byte_of_memory_of rs x)
 
 -- the bytes of a run from an address on
-pub run_of_held : (r : Run) (a n : ℕ) → r.base ≤ a → a + n ≤ end_of r → run_of (byte_in r) a n ≡ Some (take n (drop (a - r.base) r.bytes))
+pub run_of_held : (r : Run) (a n : ℕ) → r.base ≤ a → a + n ≤ end_of r
+    → run_of (byte_in r) a n ≡ Some (take n (drop (a - r.base) r.bytes))
 unfolding run_of cons_both
 run_of_held r a zero l h = refl
-run_of_held r a (suc n) l h = grind (arith, common_steps, held_at, drop-cons, run_of_held r (a + 1) n (omega arith) (omega arith))
+run_of_held r a (suc n) l h =
+    grind (arith, common_steps, held_at, drop-cons, run_of_held r (a + 1) n (omega arith) (omega arith))
 
 -- where a run does not hold all n addresses from a on
-pub run_of_held_outside : (r : Run) (a n : ℕ) → 0 < n → ((a < r.base) ⊎ (end_of r < a + n)) → run_of (byte_in r) a n ≡ None
-run_of_held_outside r a n h l = grind (arith, cases_lt, held_none, run_of_none (byte_in r) a n 0, run_of_none (byte_in r) a n (end_of r - a))
+pub run_of_held_outside : (r : Run) (a n : ℕ) → 0 < n → ((a < r.base) ⊎ (end_of r < a + n))
+    → run_of (byte_in r) a n ≡ None
+run_of_held_outside r a n h l =
+    grind (arith, cases_lt, held_none, run_of_none (byte_in r) a n 0, run_of_none (byte_in r) a n (end_of r - a))
 
 -- ---- after bytes were put in
 

@@ -24,29 +24,47 @@ each_byte (x ∷ xs) (suc i) b h e = each_byte xs i b h.1 e
 lookup_byte : (rs : List Run) (a b : ℕ) → AllByRecursion IsWhole rs → lookup rs a ≡ Some b → (a < 2 ^ 64) × (b < 256)
 lookup_byte [] a b w e = absurd (cc)
 lookup_byte (r ∷ rs) a b w e =
-    grind (arith, w.0.fits, held_inside r a, held_from r a, each_byte r.bytes (a - r.base) b w.0.bytes, lookup_byte rs a b w.1)
+    grind (
+      arith,
+      w.0.fits,
+      held_inside r a,
+      held_from r a,
+      each_byte r.bytes (a - r.base) b w.0.bytes,
+      lookup_byte rs a b w.1,
+    )
 
 -- whole runs make an image
 pub image_of : (rs : List Run) → AllByRecursion IsWhole rs → IsImage (memory_of rs)
 image_of rs t = grind (arith, lookup_byte, byte_of_memory_of)
 
 -- what pieces in a store hold is what their runs do
-pub byte_of_held_by : (store : List ℕ) (ps : List Piece) (base begin x : ℕ) → byte_of (memory_in_store store ps base begin) x ≡ lookup (all_runs store ps base begin) x
+pub byte_of_held_by : (store : List ℕ) (ps : List Piece) (base begin x : ℕ)
+    → byte_of (memory_in_store store ps base begin) x ≡ lookup (all_runs store ps base begin) x
 byte_of_held_by store ps base begin x = byte_of_memory_of (all_runs store ps base begin) x
 
 -- a window on an image is one on its runs
-pub bytes_at_held_by : (store : List ℕ) (ps : List Piece) (base begin a n : ℕ) → bytes_at (memory_in_store store ps base begin) a n ≡ run_of (lookup (all_runs store ps base begin)) a n
+pub bytes_at_held_by : (store : List ℕ) (ps : List Piece) (base begin a n : ℕ)
+    → bytes_at (memory_in_store store ps base begin) a n ≡ run_of (lookup (all_runs store ps base begin)) a n
 bytes_at_held_by store ps base begin a n = λ i. run_of (λ x. byte_of_held_by store ps base begin x i) a n
 
 -- the least held address of an image is that of its runs
-pub first_held_by : (store : List ℕ) (ps : List Piece) (base begin a n : ℕ) → first_held (memory_in_store store ps base begin) a n ≡ least_defined (lookup (all_runs store ps base begin)) a n
+pub first_held_by : (store : List ℕ) (ps : List Piece) (base begin a n : ℕ)
+    → first_held (memory_in_store store ps base begin) a n ≡ least_defined (lookup (all_runs store ps base begin)) a n
 first_held_by store ps base begin a n = λ i. least_defined (λ x. byte_of_held_by store ps base begin x i) a n
 
 -- an image stays one with bytes put in that fit
-pub image_with : (m : Memory) (a : ℕ) (bs : List ℕ) → IsImage m → a + length bs ≤ 2 ^ 64 → ((k : ℕ) → get_or bs k 0 < 256) → IsImage (with_bytes m a bs)
+pub image_with : (m : Memory) (a : ℕ) (bs : List ℕ) → IsImage m → a + length bs ≤ 2 ^ 64
+    → ((k : ℕ) → get_or bs k 0 < 256) → IsImage (with_bytes m a bs)
 image_with m a bs image fits bytes = record {
   addresses = λ x b e. grind (arith, byte_of-with_bytes m a bs x, held_inside (run_at a bs) x, image.addresses x b);
-  bytes = λ x b e. grind (arith, byte_of-with_bytes m a bs x, held_inside (run_at a bs) x, held_at (run_at a bs) x, bytes (x - a), image.bytes x b);
+  bytes = λ x b e. grind (
+    arith,
+    byte_of-with_bytes m a bs x,
+    held_inside (run_at a bs) x,
+    held_at (run_at a bs) x,
+    bytes (x - a),
+    image.bytes x b,
+  );
 }
 
 -- images with the same byte at each address are the same
@@ -67,7 +85,8 @@ no_bytes m a [] e = refl
 no_bytes m a (b ∷ bs) e = absurd (omega arith)
 
 -- what is not refused fits, and finds nothing held
-pub fits_unless : (t : Bool) (o : Option ℕ) → cond t (Some PastEnd) (option_map (λ x. Twice x) o) ≡ None → (t ≡ false) × (o ≡ None)
+pub fits_unless : (t : Bool) (o : Option ℕ) → cond t (Some PastEnd) (option_map (λ x. Twice x) o) ≡ None
+    → (t ≡ false) × (o ≡ None)
 fits_unless t o e = grind arith
 
 -- what adding bytes to an image needs

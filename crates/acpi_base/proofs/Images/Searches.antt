@@ -22,10 +22,12 @@ pub first_here : (f : ℕ → Option ℕ) (a n : ℕ) → 0 < n → IsSome (f a)
 first_here f a n l some = grind (arith, first_of_at f a n 0)
 
 -- or the one behind a gap
-pub first_next : (f : ℕ → Option ℕ) (a n b : ℕ) → a < b → b < a + n → IsSome (f b) → ((x : ℕ) → a ≤ x → x < b → f x ≡ None) → Some b ≡ least_defined f a n
+pub first_next : (f : ℕ → Option ℕ) (a n b : ℕ) → a < b → b < a + n → IsSome (f b)
+    → ((x : ℕ) → a ≤ x → x < b → f x ≡ None) → Some b ≡ least_defined f a n
 first_next f a n b l m some gap =
     let same : a + (b - a) ≡ b = omega arith in
-    sym (first_of_at f a n (b - a) (omega arith) (subst (λ x. IsSome (f x)) (sym same) some) (λ j h. gap (a + j) (omega arith) (omega arith)) ∙ ap Some same)
+    sym (first_of_at f a n (b - a) (omega arith) (subst (λ x. IsSome (f x)) (sym same) some)
+    (λ j h. gap (a + j) (omega arith) (omega arith)) ∙ ap Some same)
 
 -- or there is none
 pub first_never : (f : ℕ → Option ℕ) (a n : ℕ) → ((x : ℕ) → a ≤ x → x < a + n → f x ≡ None) → None ≡ least_defined f a n
@@ -37,7 +39,8 @@ pub ruleset first_in_gap = (first_here, first_next, first_never)
 -- ---- the order of the segments
 
 -- bases rise
-pub bases_rise : (ps : List Piece) (i k : ℕ) (d : Piece) → AreSegmentsApart ps → i ≤ k → k < length ps → (get_or ps i d).0 ≤ (get_or ps k d).0
+pub bases_rise : (ps : List Piece) (i k : ℕ) (d : Piece) → AreSegmentsApart ps → i ≤ k → k < length ps
+    → (get_or ps i d).0 ≤ (get_or ps k d).0
 bases_rise [] i k d apart l h = absurd (omega arith)
 bases_rise (p ∷ ps) zero zero d apart l h = omega arith
 bases_rise (p ∷ ps) zero (suc k) d apart l h = (let behind = of_all _ ps k d apart.1 (omega arith) in omega arith)
@@ -53,18 +56,22 @@ filled (p ∷ ps) (suc i) d apart h = filled ps i d apart.2 (omega arith)
 -- ---- the last segment that begins at an address or before it
 
 -- from the address on, to its end, no other segment holds anything
-reached_ended : (store : List ℕ) (n : ℕ) (ps : List Piece) (i a x : ℕ) (d : Piece) → n ≤ length store → AllByRecursion (LiesBefore n) ps → AreSegmentsApart ps
-    → i < length ps → IsPartitionPoint ps a (i + 1) → a ≤ x → (x ≤ a) ⊎ (x ≤ end_at (get_or ps i d)) → lookup (runs_in store ps) x ≡ byte_in (run_in store (get_or ps i d)) x
+reached_ended : (store : List ℕ) (n : ℕ) (ps : List Piece) (i a x : ℕ) (d : Piece) → n ≤ length store
+    → AllByRecursion (LiesBefore n) ps → AreSegmentsApart ps
+    → i < length ps → IsPartitionPoint ps a (i + 1) → a ≤ x → (x ≤ a) ⊎ (x ≤ end_at (get_or ps i d))
+    → lookup (runs_in store ps) x ≡ byte_in (run_in store (get_or ps i d)) x
 reached_ended store n [] i a x d l lies apart h place from to = absurd (omega arith)
 reached_ended store n (p ∷ ps) zero a x d l lies apart h place from to =
     let later : AllByRecursion (λ q. (end_at q ≤ x) ⊎ (x < q.0)) ps = all_from _ ps (λ k e m.
-    inr (let behind = of_all _ ps k e apart.1 m in let above = place.1 (suc k) e (omega arith) (omega arith) in grind arith)) in
+    inr (let behind = of_all _ ps k e apart.1 m in let above = place.1 (suc k) e (omega arith) (omega arith) in
+    grind arith)) in
     grind (arith, none_held store n ps x l lies.1 later)
 reached_ended store n (p ∷ ps) (suc i) a x d l lies apart h place from to =
     let before = of_all _ ps i d apart.1 (omega arith) in
     let begins = place.0 (suc i) d (omega arith) (omega arith) in
     let rest = reached_ended store n ps i a x d l lies.1 apart.2 (omega arith)
-    (λ k e m o. place.0 (suc k) e (omega arith) (omega arith), λ k e m o. place.1 (suc k) e (omega arith) (omega arith)) from to in
+    (λ k e m o. place.0 (suc k) e (omega arith) (omega arith), λ k e m o. place.1 (suc k) e (omega arith) (omega arith))
+    from to in
     grind (arith, run_ends store p n l lies.0, held_none (run_in store p) x, rest)
 
 -- the open segment is empty, or begins behind the address
@@ -72,21 +79,26 @@ abbrev pub IsBehind : List ℕ → ℕ → ℕ → ℕ → Type 0
 IsBehind store base begin a = (length store ≤ begin) ⊎ (a < base)
 
 -- then it holds nothing there
-behind_none : (store : List ℕ) (base begin x : ℕ) → IsBehind store base begin x → byte_in (run_at base (drop begin store)) x ≡ None
-behind_none store base begin x behind = grind (arith, behind, length-drop begin store, cases_lt x base, held_none (run_at base (drop begin store)) x)
+behind_none : (store : List ℕ) (base begin x : ℕ) → IsBehind store base begin x
+    → byte_in (run_at base (drop begin store)) x ≡ None
+behind_none store base begin x behind =
+    grind (arith, behind, length-drop begin store, cases_lt x base, held_none (run_at base (drop begin store)) x)
 
 -- from the base of the open segment on, nothing else is held
 pub reached_open : (store : List ℕ) (ps : List Piece) (base begin a : ℕ) → AreSegments store ps base begin → base ≤ a
     → IsRunAt (all_runs store ps base begin) a (run_at base (drop begin store))
-reached_open store ps base begin a laid low = record { begins = low; here = all a (omega arith); further = λ x l m. all x l }
+reached_open store ps base begin a laid low =
+    record { begins = low; here = all a (omega arith); further = λ x l m. all x l }
   where
     all : (x : ℕ) → a ≤ x → lookup (all_runs store ps base begin) x ≡ byte_in (run_at base (drop begin store)) x
     all x l =
-        let none : lookup (runs_in store ps) x ≡ None = none_held store begin ps x laid.within laid.lies (all_weaker _ _ ps (λ p below. inl (omega arith)) laid.below) in
+        let none : lookup (runs_in store ps) x ≡ None = none_held store begin ps x laid.within laid.lies
+        (all_weaker _ _ ps (λ p below. inl (omega arith)) laid.below) in
         grind (arith, none)
 
 -- the segment before the place is the one that is reached, where the open one begins behind the address
-pub reached : (store : List ℕ) (ps : List Piece) (base begin a i : ℕ) (d : Piece) → AreSegments store ps base begin → IsBehind store base begin a → i < length ps
+pub reached : (store : List ℕ) (ps : List Piece) (base begin a i : ℕ) (d : Piece) → AreSegments store ps base begin
+    → IsBehind store base begin a → i < length ps
     → IsPartitionPoint ps a (i + 1) → IsRunAt (all_runs store ps base begin) a (run_in store (get_or ps i d))
 reached store ps base begin a i d laid behind h place = record {
   begins = place.0 i d (omega arith) (omega arith);
@@ -101,22 +113,29 @@ reached store ps base begin a i d laid behind h place = record {
     all x l m none = rw none (reached_ended store begin ps i a x d laid.within laid.lies laid.apart h place l m)
 
 -- the same where it was read
-pub reached_at : (store : List ℕ) (ps : List Piece) (base begin a i n : ℕ) (p : Piece) (bytes : List ℕ) → AreSegments store ps base begin → IsBehind store base begin a
-    → i < length ps → n ≡ i + 1 → IsPartitionPoint ps a n → p ≡ get_or ps i p → bytes ≡ take p.1.len (drop p.1.start store) → IsRunAt (all_runs store ps base begin) a (run_at p.0 bytes)
+pub reached_at : (store : List ℕ) (ps : List Piece) (base begin a i n : ℕ) (p : Piece) (bytes : List ℕ)
+    → AreSegments store ps base begin → IsBehind store base begin a
+    → i < length ps → n ≡ i + 1 → IsPartitionPoint ps a n → p ≡ get_or ps i p
+    → bytes ≡ take p.1.len (drop p.1.start store) → IsRunAt (all_runs store ps base begin) a (run_at p.0 bytes)
 reached_at store ps base begin a i n p bytes laid behind h next place is same =
     let found = reached store ps base begin a i p laid behind h (subst (IsPartitionPoint ps a) next place) in
     rw same (subst (λ (q : Piece). IsRunAt (all_runs store ps base begin) a (run_in store q)) (sym is) found)
 
 -- the piece of the open run
-pub open_run : (store : List ℕ) (base begin n : ℕ) → n ≡ length store - begin → run_in store (base, record { start = begin; len = n }) ≡ run_at base (drop begin store)
-open_run store base begin n e = (let long = length-drop begin store in ap (run_at base) (take_all n (drop begin store) (omega arith)))
+pub open_run : (store : List ℕ) (base begin n : ℕ) → n ≡ length store - begin
+    → run_in store (base, record { start = begin; len = n }) ≡ run_at base (drop begin store)
+open_run store base begin n e =
+    (let long = length-drop begin store in ap (run_at base) (take_all n (drop begin store) (omega arith)))
 
 -- where the piece lies in the store, its run ends where it does
 pub piece_ends : (store : List ℕ) (p : Piece) → p.1.start + p.1.len ≤ length store → end_of (run_in store p) ≡ end_at p
-piece_ends store p l = (let long = length-drop p.1.start store in ap (λ n. p.0 + n) (length-take-le p.1.len (drop p.1.start store) (omega arith)))
+piece_ends store p l =
+    (let long = length-drop p.1.start store in
+    ap (λ n. p.0 + n) (length-take-le p.1.len (drop p.1.start store) (omega arith)))
 
 -- a part of a piece lies in the store where the piece does
-pub part_in : (store : List ℕ) (start len k n : ℕ) → k + n ≤ len → take n (drop k (take len (drop start store))) ≡ take n (drop (start + k) store)
+pub part_in : (store : List ℕ) (start len k n : ℕ) → k + n ≤ len
+    → take n (drop k (take len (drop start store))) ≡ take n (drop (start + k) store)
 part_in store start len k n fits =
     let parts : k + (len - k) ≡ len = omega arith in
     ap (λ m. take n (drop k (take m (drop start store)))) (sym parts)
@@ -125,7 +144,8 @@ part_in store start len k n fits =
     ∙ ap (take n) (drop-drop k start store)
 
 -- its bytes lie in the store
-pub lies_inside : (store : List ℕ) (ps : List Piece) (base begin i : ℕ) (p : Piece) → AreSegments store ps base begin → i < length ps → p ≡ get_or ps i p
+pub lies_inside : (store : List ℕ) (ps : List Piece) (base begin i : ℕ) (p : Piece) → AreSegments store ps base begin
+    → i < length ps → p ≡ get_or ps i p
     → p.1.start + p.1.len ≤ length store
 lies_inside store ps base begin i p laid h is =
     let within = laid.within in
@@ -134,23 +154,30 @@ lies_inside store ps base begin i p laid h is =
     omega arith
 
 -- no segment is reached
-pub none_reached : (store : List ℕ) (ps : List Piece) (base begin a : ℕ) → AreSegments store ps base begin → IsBehind store base begin a → IsPartitionPoint ps a 0
+pub none_reached : (store : List ℕ) (ps : List Piece) (base begin a : ℕ) → AreSegments store ps base begin
+    → IsBehind store base begin a → IsPartitionPoint ps a 0
     → lookup (all_runs store ps base begin) a ≡ None
 none_reached store ps base begin a laid behind place =
-    rw (behind_none store base begin a behind) (none_held store begin ps a laid.within laid.lies (all_from _ ps (λ k d l. inr (place.1 k d (omega arith) l))))
+    rw (behind_none store base begin a behind)
+    (none_held store begin ps a laid.within laid.lies (all_from _ ps (λ k d l. inr (place.1 k d (omega arith) l))))
 
 -- the bytes from the address on, where the run that is reached has so many
-pub reached_whole : (rs : List Run) (a n : ℕ) (r : Run) → IsRunAt rs a r → a + n ≤ end_of r → run_of (lookup rs) a n ≡ Some (take n (drop (a - r.base) r.bytes))
+pub reached_whole : (rs : List Run) (a n : ℕ) (r : Run) → IsRunAt rs a r → a + n ≤ end_of r
+    → run_of (lookup rs) a n ≡ Some (take n (drop (a - r.base) r.bytes))
 reached_whole rs a n r reaches fits =
-    run_of-agree (lookup rs) (byte_in r) a n (λ k h. reaches.further (a + k) (omega arith) (omega arith)) ∙ run_of_held r a n reaches.begins fits
+    run_of-agree (lookup rs) (byte_in r) a n (λ k h. reaches.further (a + k) (omega arith) (omega arith))
+    ∙ run_of_held r a n reaches.begins fits
 
 -- there are none where it has not
-pub reached_short : (rs : List Run) (a n : ℕ) (r : Run) → IsRunAt rs a r → 0 < n → end_of r < a + n → run_of (lookup rs) a n ≡ None
+pub reached_short : (rs : List Run) (a n : ℕ) (r : Run) → IsRunAt rs a r → 0 < n → end_of r < a + n
+    → run_of (lookup rs) a n ≡ None
 reached_short rs a n r reaches some short =
     elim (cases_lt a (end_of r)) [
       | inl m ↦
           let last : a + (end_of r - a) ≡ end_of r = omega arith in
-          run_of_none (lookup rs) a n (end_of r - a) (omega arith) (ap (lookup rs) last ∙ reaches.further (end_of r) (omega arith) (omega arith) ∙ held_none r (end_of r) (inr (omega arith)))
+          run_of_none (lookup rs) a n (end_of r - a) (omega arith)
+          (ap (lookup rs) last ∙ reaches.further (end_of r) (omega arith) (omega arith)
+          ∙ held_none r (end_of r) (inr (omega arith)))
       | inr m ↦
           let first : a + 0 ≡ a = omega arith in
           run_of_none (lookup rs) a n 0 some (ap (lookup rs) first ∙ reaches.here ∙ held_none r a (inr m))
@@ -158,7 +185,8 @@ reached_short rs a n r reaches some short =
 
 -- nor where nothing is held at the first
 pub free_short : (rs : List Run) (a n : ℕ) → 0 < n → lookup rs a ≡ None → run_of (lookup rs) a n ≡ None
-free_short rs a n some none = (let first : a + 0 ≡ a = omega arith in run_of_none (lookup rs) a n 0 some (ap (lookup rs) first ∙ none))
+free_short rs a n some none =
+    (let first : a + 0 ≡ a = omega arith in run_of_none (lookup rs) a n 0 some (ap (lookup rs) first ∙ none))
 
 -- what a window shows
 pub ruleset reached_window = (reached_whole, reached_short, free_short)
@@ -166,7 +194,8 @@ pub ruleset reached_window = (reached_whole, reached_short, free_short)
 -- ---- the next segment behind an address that is not held
 
 -- what begins at the address or before it has ended there
-pub ended_at : (store : List ℕ) (n : ℕ) (ps : List Piece) (k a : ℕ) (d : Piece) → n ≤ length store → AllByRecursion (LiesBefore n) ps
+pub ended_at : (store : List ℕ) (n : ℕ) (ps : List Piece) (k a : ℕ) (d : Piece) → n ≤ length store
+    → AllByRecursion (LiesBefore n) ps
     → lookup (runs_in store ps) a ≡ None → k < length ps → (get_or ps k d).0 ≤ a → end_at (get_or ps k d) ≤ a
 ended_at store n [] k a d l lies none h begins = absurd (omega arith)
 ended_at store n (p ∷ ps) zero a d l lies none h begins =
@@ -176,8 +205,10 @@ ended_at store n (p ∷ ps) (suc k) a d l lies none h begins =
     ended_at store n ps k a d l lies.1 rest (omega arith) begins
 
 -- nothing is held up to the base of the segment at the place
-gap_ended : (store : List ℕ) (n : ℕ) (ps : List Piece) (a b i x : ℕ) → n ≤ length store → AllByRecursion (LiesBefore n) ps → lookup (runs_in store ps) a ≡ None
-    → IsPartitionPoint ps a i → ((k : ℕ) (d : Piece) → i ≤ k → k < length ps → b ≤ (get_or ps k d).0) → a ≤ x → x < b → lookup (runs_in store ps) x ≡ None
+gap_ended : (store : List ℕ) (n : ℕ) (ps : List Piece) (a b i x : ℕ) → n ≤ length store
+    → AllByRecursion (LiesBefore n) ps → lookup (runs_in store ps) a ≡ None
+    → IsPartitionPoint ps a i → ((k : ℕ) (d : Piece) → i ≤ k → k < length ps → b ≤ (get_or ps k d).0) → a ≤ x → x < b
+    → lookup (runs_in store ps) x ≡ None
 gap_ended store n ps a b i x l lies none place above from to =
     none_held store n ps x l lies (all_from _ ps (λ k d h. elim (cases_lt k i) [
       | inl m ↦ inl (let ended = ended_at store n ps k a d l lies none h (place.0 k d (omega arith) m) in omega arith)
@@ -185,9 +216,11 @@ gap_ended store n ps a b i x l lies none place above from to =
     ]))
 
 -- the next one has ended
-pub next_ended : (store : List ℕ) (ps : List Piece) (base begin a i : ℕ) (d : Piece) → AreSegments store ps base begin → lookup (all_runs store ps base begin) a ≡ None
+pub next_ended : (store : List ℕ) (ps : List Piece) (base begin a i : ℕ) (d : Piece) → AreSegments store ps base begin
+    → lookup (all_runs store ps base begin) a ≡ None
     → IsPartitionPoint ps a i → i < length ps
-    → (a < (get_or ps i d).0) × IsSome (lookup (all_runs store ps base begin) (get_or ps i d).0) × IsGap (all_runs store ps base begin) a (get_or ps i d).0
+    → (a < (get_or ps i d).0) × IsSome (lookup (all_runs store ps base begin) (get_or ps i d).0)
+    × IsGap (all_runs store ps base begin) a (get_or ps i d).0
 next_ended store ps base begin a i d laid none place h =
     let rest : lookup (runs_in store ps) a ≡ None = grind arith in
     let below = of_all _ ps i d laid.below h in
@@ -196,21 +229,26 @@ next_ended store ps base begin a i d laid none place h =
       grind (arith, some),
       λ x from to.
           rw (behind_none store base begin x (inr (omega arith)))
-          (gap_ended store begin ps a (get_or ps i d).0 i x laid.within laid.lies rest place (λ k e m o. bases_of k e m o) from to),
+          (gap_ended store begin ps a (get_or ps i d).0 i x laid.within laid.lies rest place
+          (λ k e m o. bases_of k e m o) from to),
     )
   where
     bases_of : (k : ℕ) (e : Piece) → i ≤ k → k < length ps → (get_or ps i d).0 ≤ (get_or ps k e).0
-    bases_of k e m o = (let rise = bases_rise ps i k e laid.apart m o in let same = get_or_default ps i d e h in rw same rise)
+    bases_of k e m o =
+        (let rise = bases_rise ps i k e laid.apart m o in let same = get_or_default ps i d e h in rw same rise)
 
 -- the same where it was read
-pub next_at : (store : List ℕ) (ps : List Piece) (base begin a i : ℕ) (p : Piece) → AreSegments store ps base begin → lookup (all_runs store ps base begin) a ≡ None
+pub next_at : (store : List ℕ) (ps : List Piece) (base begin a i : ℕ) (p : Piece) → AreSegments store ps base begin
+    → lookup (all_runs store ps base begin) a ≡ None
     → IsPartitionPoint ps a i → i < length ps → p ≡ get_or ps i p
     → (a < p.0) × IsSome (lookup (all_runs store ps base begin) p.0) × IsGap (all_runs store ps base begin) a p.0
 next_at store ps base begin a i p laid none place h is =
-    subst (λ (q : Piece). (a < q.0) × IsSome (lookup (all_runs store ps base begin) q.0) × IsGap (all_runs store ps base begin) a q.0) (sym is) (next_ended store ps base begin a i p laid none place h)
+    subst (λ (q : Piece). (a < q.0) × IsSome (lookup (all_runs store ps base begin) q.0)
+    × IsGap (all_runs store ps base begin) a q.0) (sym is) (next_ended store ps base begin a i p laid none place h)
 
 -- the open one is next
-pub next_open : (store : List ℕ) (ps : List Piece) (base begin a : ℕ) → AreSegments store ps base begin → lookup (all_runs store ps base begin) a ≡ None
+pub next_open : (store : List ℕ) (ps : List Piece) (base begin a : ℕ) → AreSegments store ps base begin
+    → lookup (all_runs store ps base begin) a ≡ None
     → IsPartitionPoint ps a (length ps) → a < base → begin < length store
     → (a < base) × IsSome (lookup (all_runs store ps base begin) base) × IsGap (all_runs store ps base begin) a base
 next_open store ps base begin a laid none place low some =
@@ -221,13 +259,24 @@ next_open store ps base begin a laid none place low some =
       grind (arith, first),
       λ x from to.
           rw (behind_none store base begin x (inr to))
-          (gap_ended store begin ps a base (length ps) x laid.within laid.lies rest place (λ k e m o. absurd (omega arith)) from to),
+          (gap_ended store begin ps a base (length ps) x laid.within laid.lies rest place
+          (λ k e m o. absurd (omega arith)) from to),
     )
 
 -- there is none
-pub no_next : (store : List ℕ) (ps : List Piece) (base begin a : ℕ) → AreSegments store ps base begin → lookup (all_runs store ps base begin) a ≡ None
-    → IsPartitionPoint ps a (length ps) → (base ≤ a) ⊎ (length store ≤ begin) → (x : ℕ) → a ≤ x → lookup (all_runs store ps base begin) x ≡ None
+pub no_next : (store : List ℕ) (ps : List Piece) (base begin a : ℕ) → AreSegments store ps base begin
+    → lookup (all_runs store ps base begin) a ≡ None
+    → IsPartitionPoint ps a (length ps) → (base ≤ a) ⊎ (length store ≤ begin) → (x : ℕ) → a ≤ x
+    → lookup (all_runs store ps base begin) x ≡ None
 no_next store ps base begin a laid none place past x from =
     let rest : lookup (runs_in store ps) a ≡ None = grind arith in
-    let past_end : byte_in (run_at base (drop begin store)) x ≡ None = grind (arith, length-drop begin store, held_none (run_at base (drop begin store)) x, held_some (run_at base (drop begin store)) a, cases_lt a (end_of (run_at base (drop begin store)))) in
-    rw past_end (gap_ended store begin ps a (x + 1) (length ps) x laid.within laid.lies rest place (λ k e m o. absurd (omega arith)) from (omega arith))
+    let past_end : byte_in (run_at base (drop begin store)) x ≡ None =
+    grind (
+      arith,
+      length-drop begin store,
+      held_none (run_at base (drop begin store)) x,
+      held_some (run_at base (drop begin store)) a,
+      cases_lt a (end_of (run_at base (drop begin store))),
+    ) in
+    rw past_end (gap_ended store begin ps a (x + 1) (length ps) x laid.within laid.lies rest place
+    (λ k e m o. absurd (omega arith)) from (omega arith))

@@ -22,14 +22,19 @@ pub header_of-header_bytes : (v : HeaderValue) (rest : List ℕ) → FitsHeader 
 unfolding header_bytes
 header_of-header_bytes v rest fits =
     one_header_values (header_of (header_bytes v ++ rest)) v
-    (sym (values_at-header_of (header_bytes v ++ rest)) ∙ values_at-layout_bytes header_parts (header_values v) rest (FitLayout-header v fits))
+    (sym (values_at-header_of (header_bytes v ++ rest)) ∙ values_at-layout_bytes header_parts (header_values v) rest
+    (FitLayout-header v fits))
 
 -- what a table says beside signature, length and checksum is what it was made of
-pub head_of-header_bytes : (signature : List ℕ) (size checksum : ℕ) (head : HeadValue) (rest : List ℕ) → FitsHeader (header_with signature size checksum head) → head_of (header_bytes (header_with signature size checksum head) ++ rest) ≡ head
-head_of-header_bytes signature size checksum head rest fits = rw (header_of-header_bytes (header_with signature size checksum head) rest fits) refl
+pub head_of-header_bytes : (signature : List ℕ) (size checksum : ℕ) (head : HeadValue) (rest : List ℕ)
+    → FitsHeader (header_with signature size checksum head)
+    → head_of (header_bytes (header_with signature size checksum head) ++ rest) ≡ head
+head_of-header_bytes signature size checksum head rest fits =
+    rw (header_of-header_bytes (header_with signature size checksum head) rest fits) refl
 
 -- a header is made of what it says
-pub header_with-head_of : (bytes : List ℕ) → let v = header_of bytes in header_with v.signature v.length v.checksum (head_of bytes) ≡ v
+pub header_with-head_of : (bytes : List ℕ) → let v = header_of bytes in
+    header_with v.signature v.length v.checksum (head_of bytes) ≡ v
 header_with-head_of bytes = refl
 
 pub length-header_bytes : (v : HeaderValue) → FitsHeader v → length (header_bytes v) ≡ 36
@@ -41,5 +46,6 @@ pub drop-header_bytes : (v : HeaderValue) (rest : List ℕ) → FitsHeader v →
 unfolding header_bytes
 drop-header_bytes v rest fits = drop-layout_bytes header_parts (header_values v) rest (FitLayout-header v fits)
 
-pub length-header_and_body : (v : HeaderValue) (rest : List ℕ) → FitsHeader v → length (header_bytes v ++ rest) ≡ 36 + length rest
+pub length-header_and_body : (v : HeaderValue) (rest : List ℕ) → FitsHeader v
+    → length (header_bytes v ++ rest) ≡ 36 + length rest
 length-header_and_body v rest fits = grind (arith, length-append, length-header_bytes v fits)

@@ -24,20 +24,33 @@ none_fixed (BytesOf n ∷ parts) offset e are = absurd (cc)
 none_fixed (Fixed byte ∷ parts) offset e are = absurd (cc)
 
 -- those of bytes have their widths
-numbers_fit : (parts : List Part) (offset : ℕ) (e : List ℕ) → AreByteValues e → are_numbers parts ≡ true → FitLayout parts (values_at offset parts e)
+numbers_fit : (parts : List Part) (offset : ℕ) (e : List ℕ) → AreByteValues e → are_numbers parts ≡ true
+    → FitLayout parts (values_at offset parts e)
 numbers_fit [] offset e low are = tt
-numbers_fit (NumberOf n ∷ parts) offset e low are = (field_below e low offset n, numbers_fit parts (offset + n) e low are)
+numbers_fit (NumberOf n ∷ parts) offset e low are =
+    (field_below e low offset n, numbers_fit parts (offset + n) e low are)
 numbers_fit (Reserved n ∷ parts) offset e low are = numbers_fit parts (offset + n) e low are
 numbers_fit (BytesOf n ∷ parts) offset e low are = absurd (cc)
 numbers_fit (Fixed byte ∷ parts) offset e low are = absurd (cc)
 
 -- how many bytes are written
-length-numbers : (parts : List Part) (values : List PartValue) → HaveNumbers parts values → length (layout_bytes parts values) ≡ layout_size parts
+length-numbers : (parts : List Part) (values : List PartValue) → HaveNumbers parts values
+    → length (layout_bytes parts values) ≡ layout_size parts
 length-numbers [] [] have = refl
 length-numbers (NumberOf n ∷ parts) (Number x ∷ values) have =
-    omega (arith, length-append (number_bytes n x) (layout_bytes parts values), length-number_bytes n x, length-numbers parts values have)
+    omega (
+      arith,
+      length-append (number_bytes n x) (layout_bytes parts values),
+      length-number_bytes n x,
+      length-numbers parts values have,
+    )
 length-numbers (Reserved n ∷ parts) values have =
-    omega (arith, length-append (replicate n 0) (layout_bytes parts values), length-replicate {A = ℕ} n 0, length-numbers parts values have)
+    omega (
+      arith,
+      length-append (replicate n 0) (layout_bytes parts values),
+      length-replicate {A = ℕ} n 0,
+      length-numbers parts values have,
+    )
 length-numbers [] (_ ∷ _) have = absurd have
 length-numbers (NumberOf n ∷ parts) [] have = absurd have
 length-numbers (NumberOf n ∷ parts) (Bytes _ ∷ values) have = absurd have
@@ -48,7 +61,8 @@ length-numbers (Fixed byte ∷ parts) _ have = absurd have
 
 module _ {V : Type 0} (l : KindLayout V) (laid : IsLaidOut l) where
   -- bytes of the kind's type and length are of the layout
-  formed_by : (e : List ℕ) → length e ≡ l.kind.size → slice_index e 0 ≡ l.kind.type → slice_index e 1 ≡ l.kind.size → IsOfLayout (parts_of l) e
+  formed_by : (e : List ℕ) → length e ≡ l.kind.size → slice_index e 0 ≡ l.kind.type → slice_index e 1 ≡ l.kind.size
+      → IsOfLayout (parts_of l) e
   formed_by e count typed said =
       record {
         count = omega (arith, count, laid.counted);
@@ -85,21 +99,34 @@ module _ {V : Type 0} (l : KindLayout V) (laid : IsLaidOut l) where
   pub written : (e : List ℕ) → length e ≡ l.kind.size → length (bytes_of l (l.kind.read e)) ≡ l.kind.size
   written e count =
       let v = l.kind.read e in
-      omega (arith, laid.counted, length-numbers l.rest (l.values v) (laid.shaped e count), length-append (number_bytes 1 l.kind.type) (number_bytes 1 l.kind.size ++ layout_bytes l.rest (l.values v)), length-append (number_bytes 1 l.kind.size) (layout_bytes l.rest (l.values v)), length-number_bytes 1 l.kind.type, length-number_bytes 1 l.kind.size)
+      omega (
+        arith,
+        laid.counted,
+        length-numbers l.rest (l.values v) (laid.shaped e count),
+        length-append (number_bytes 1 l.kind.type) (number_bytes 1 l.kind.size ++ layout_bytes l.rest (l.values v)),
+        length-append (number_bytes 1 l.kind.size) (layout_bytes l.rest (l.values v)),
+        length-number_bytes 1 l.kind.type,
+        length-number_bytes 1 l.kind.size,
+      )
 
-  pub written_again : (e : List ℕ) → length e ≡ l.kind.size → AreByteValues e → IsEntryOf l.kind (bytes_of l (l.kind.read e)) (l.kind.read e)
+  pub written_again : (e : List ℕ) → length e ≡ l.kind.size → AreByteValues e
+      → IsEntryOf l.kind (bytes_of l (l.kind.read e)) (l.kind.read e)
   written_again e count low =
       let v = l.kind.read e in
-      let fit : FitLayout l.rest (l.values v) = subst (FitLayout l.rest) (sym (laid.agrees e count low)) (numbers_fit l.rest 2 e low laid.numbers) in
+      let fit : FitLayout l.rest (l.values v) = subst (FitLayout l.rest) (sym (laid.agrees e count low))
+      (numbers_fit l.rest 2 e low laid.numbers) in
       reads_by (bytes_of l v) v (HasValues-layout_bytes (parts_of l) (l.values v) (laid.typed, (laid.sized, fit)))
 
   -- also as one of the entries of a table
-  pub keeps : {E : Type 0} (variant : V → E) (write : E → List ℕ) → ((v : V) → write (variant v) ≡ bytes_of l v) → KeepsKind write (kind_as variant l.kind)
+  pub keeps : {E : Type 0} (variant : V → E) (write : E → List ℕ) → ((v : V) → write (variant v) ≡ bytes_of l v)
+      → KeepsKind write (kind_as variant l.kind)
   keeps variant write same =
       record {
         count = λ e count. ap length (same (l.kind.read e)) ∙ written e count;
-        again = λ e count low. subst (λ (w : List ℕ). IsEntryOf (kind_as variant l.kind) w (variant (l.kind.read e))) (sym (same (l.kind.read e))) (again e (written_again e count low));
+        again = λ e count low. subst (λ (w : List ℕ). IsEntryOf (kind_as variant l.kind) w (variant (l.kind.read e)))
+            (sym (same (l.kind.read e))) (again e (written_again e count low));
       }
     where
-      again : (e : List ℕ) → IsEntryOf l.kind (bytes_of l (l.kind.read e)) (l.kind.read e) → IsEntryOf (kind_as variant l.kind) (bytes_of l (l.kind.read e)) (variant (l.kind.read e))
+      again : (e : List ℕ) → IsEntryOf l.kind (bytes_of l (l.kind.read e)) (l.kind.read e)
+          → IsEntryOf (kind_as variant l.kind) (bytes_of l (l.kind.read e)) (variant (l.kind.read e))
       again e is = record { count = is.count; typed = is.typed; said = is.said; value = ap variant is.value }

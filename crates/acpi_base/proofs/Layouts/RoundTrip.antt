@@ -13,20 +13,28 @@ unfolding number_bytes
 length-number_bytes n x = length-bytes_low_first 0 n x
 
 -- a structure has its layout's size
-pub length-layout_bytes : (parts : List Part) (values : List PartValue) → FitLayout parts values → length (layout_bytes parts values) ≡ layout_size parts
+pub length-layout_bytes : (parts : List Part) (values : List PartValue) → FitLayout parts values
+    → length (layout_bytes parts values) ≡ layout_size parts
 length-layout_bytes [] [] fit = refl
-length-layout_bytes (NumberOf n ∷ parts) (Number x ∷ values) fit = grind (arith, length-append, length-number_bytes, length-layout_bytes parts values fit.1)
-length-layout_bytes (BytesOf n ∷ parts) (Bytes text ∷ values) fit = grind (arith, length-append, fit.0, length-layout_bytes parts values fit.1)
-length-layout_bytes (Fixed byte ∷ parts) values fit = grind (arith, length-append, length-number_bytes, length-layout_bytes parts values fit.1)
-length-layout_bytes (Reserved n ∷ parts) values fit = grind (arith, length-append, length-replicate {A = ℕ} n 0, length-layout_bytes parts values fit)
+length-layout_bytes (NumberOf n ∷ parts) (Number x ∷ values) fit =
+    grind (arith, length-append, length-number_bytes, length-layout_bytes parts values fit.1)
+length-layout_bytes (BytesOf n ∷ parts) (Bytes text ∷ values) fit =
+    grind (arith, length-append, fit.0, length-layout_bytes parts values fit.1)
+length-layout_bytes (Fixed byte ∷ parts) values fit =
+    grind (arith, length-append, length-number_bytes, length-layout_bytes parts values fit.1)
+length-layout_bytes (Reserved n ∷ parts) values fit =
+    grind (arith, length-append, length-replicate {A = ℕ} n 0, length-layout_bytes parts values fit)
 length-layout_bytes _ _ fit = absurd fit
 
 -- what stands behind a part of n bytes
-past : (offset n : ℕ) (bytes here rest : List ℕ) → drop offset bytes ≡ here ++ rest → length here ≡ n → drop (offset + n) bytes ≡ rest
-past offset n bytes here rest stands counted = sym (drop-drop n offset bytes) ∙ ap (drop n) stands ∙ drop_at here rest n counted
+past : (offset n : ℕ) (bytes here rest : List ℕ) → drop offset bytes ≡ here ++ rest → length here ≡ n
+    → drop (offset + n) bytes ≡ rest
+past offset n bytes here rest stands counted =
+    sym (drop-drop n offset bytes) ∙ ap (drop n) stands ∙ drop_at here rest n counted
 
 -- the number that stands at an offset
-pub number_there : (offset n x : ℕ) (bytes rest : List ℕ) → drop offset bytes ≡ number_bytes n x ++ rest → x < 256 ^ n → field bytes offset n ≡ x
+pub number_there : (offset n x : ℕ) (bytes rest : List ℕ) → drop offset bytes ≡ number_bytes n x ++ rest → x < 256 ^ n
+    → field bytes offset n ≡ x
 unfolding field number_bytes
 number_there offset n x bytes rest stands fits = ap (little_number n) stands ∙ little_number-reads_back n x rest fits
 
@@ -35,12 +43,15 @@ abbrev HasValuesAt : ℕ → List Part → List PartValue → List ℕ → Type 
 HasValuesAt offset parts values bytes = (values_at offset parts bytes ≡ values) × HasFixedAt offset parts bytes
 
 -- what is written at an offset is read there
-read_there : (offset : ℕ) (parts : List Part) (values : List PartValue) (bytes rest : List ℕ) → FitLayout parts values → drop offset bytes ≡ layout_bytes parts values ++ rest → HasValuesAt offset parts values bytes
+read_there : (offset : ℕ) (parts : List Part) (values : List PartValue) (bytes rest : List ℕ) → FitLayout parts values
+    → drop offset bytes ≡ layout_bytes parts values ++ rest → HasValuesAt offset parts values bytes
 read_there offset [] [] bytes rest fit stands = (refl, tt)
 read_there offset (NumberOf n ∷ parts) (Number x ∷ values) bytes rest fit stands =
     let behind = layout_bytes parts values ++ rest in
-    let here : drop offset bytes ≡ number_bytes n x ++ behind = stands ∙ append_assoc (number_bytes n x) (layout_bytes parts values) rest in
-    let others = read_there (offset + n) parts values bytes rest fit.1 (past offset n bytes (number_bytes n x) behind here (length-number_bytes n x)) in
+    let here : drop offset bytes ≡ number_bytes n x ++ behind =
+    stands ∙ append_assoc (number_bytes n x) (layout_bytes parts values) rest in
+    let others = read_there (offset + n) parts values bytes rest fit.1
+    (past offset n bytes (number_bytes n x) behind here (length-number_bytes n x)) in
     (rw (number_there offset n x bytes behind here fit.0, others.0) refl, others.1)
 read_there offset (BytesOf n ∷ parts) (Bytes text ∷ values) bytes rest fit stands =
     let behind = layout_bytes parts values ++ rest in
@@ -49,35 +60,47 @@ read_there offset (BytesOf n ∷ parts) (Bytes text ∷ values) bytes rest fit s
     (rw (here, take_at text behind n fit.0, others.0) refl, others.1)
 read_there offset (Fixed byte ∷ parts) values bytes rest fit stands =
     let behind = layout_bytes parts values ++ rest in
-    let here : drop offset bytes ≡ number_bytes 1 byte ++ behind = stands ∙ append_assoc (number_bytes 1 byte) (layout_bytes parts values) rest in
-    let others = read_there (offset + 1) parts values bytes rest fit.1 (past offset 1 bytes (number_bytes 1 byte) behind here (length-number_bytes 1 byte)) in
+    let here : drop offset bytes ≡ number_bytes 1 byte ++ behind =
+    stands ∙ append_assoc (number_bytes 1 byte) (layout_bytes parts values) rest in
+    let others = read_there (offset + 1) parts values bytes rest fit.1
+    (past offset 1 bytes (number_bytes 1 byte) behind here (length-number_bytes 1 byte)) in
     (others.0, (number_there offset 1 byte bytes behind here fit.0, others.1))
 read_there offset (Reserved n ∷ parts) values bytes rest fit stands =
     let here = stands ∙ append_assoc (replicate n 0) (layout_bytes parts values) rest in
-    read_there (offset + n) parts values bytes rest fit (past offset n bytes (replicate n 0) (layout_bytes parts values ++ rest) here (length-replicate {A = ℕ} n 0))
+    read_there (offset + n) parts values bytes rest fit
+    (past offset n bytes (replicate n 0) (layout_bytes parts values ++ rest) here (length-replicate {A = ℕ} n 0))
 read_there offset _ _ bytes rest fit stands = absurd fit
 
 -- the values that were written are read back, whatever stands behind them
-pub values_at-layout_bytes : (parts : List Part) (values : List PartValue) (rest : List ℕ) → FitLayout parts values → values_at 0 parts (layout_bytes parts values ++ rest) ≡ values
-values_at-layout_bytes parts values rest fit = (read_there 0 parts values (layout_bytes parts values ++ rest) rest fit refl).0
+pub values_at-layout_bytes : (parts : List Part) (values : List PartValue) (rest : List ℕ) → FitLayout parts values
+    → values_at 0 parts (layout_bytes parts values ++ rest) ≡ values
+values_at-layout_bytes parts values rest fit =
+    (read_there 0 parts values (layout_bytes parts values ++ rest) rest fit refl).0
 
 -- the fixed bytes are there, whatever stands behind
-pub HasFixedAt-layout_bytes : (parts : List Part) (values : List PartValue) (rest : List ℕ) → FitLayout parts values → HasFixedAt 0 parts (layout_bytes parts values ++ rest)
-HasFixedAt-layout_bytes parts values rest fit = (read_there 0 parts values (layout_bytes parts values ++ rest) rest fit refl).1
+pub HasFixedAt-layout_bytes : (parts : List Part) (values : List PartValue) (rest : List ℕ) → FitLayout parts values
+    → HasFixedAt 0 parts (layout_bytes parts values ++ rest)
+HasFixedAt-layout_bytes parts values rest fit =
+    (read_there 0 parts values (layout_bytes parts values ++ rest) rest fit refl).1
 
 -- what stands behind is found there
-pub drop-layout_bytes : (parts : List Part) (values : List PartValue) (rest : List ℕ) → FitLayout parts values → drop (layout_size parts) (layout_bytes parts values ++ rest) ≡ rest
-drop-layout_bytes parts values rest fit = drop_at (layout_bytes parts values) rest (layout_size parts) (length-layout_bytes parts values fit)
+pub drop-layout_bytes : (parts : List Part) (values : List PartValue) (rest : List ℕ) → FitLayout parts values
+    → drop (layout_size parts) (layout_bytes parts values ++ rest) ≡ rest
+drop-layout_bytes parts values rest fit =
+    drop_at (layout_bytes parts values) rest (layout_size parts) (length-layout_bytes parts values fit)
 
 -- what was written is a structure with the values
-pub HasValues-layout_bytes : (parts : List Part) (values : List PartValue) → FitLayout parts values → HasValues parts (layout_bytes parts values) values
+pub HasValues-layout_bytes : (parts : List Part) (values : List PartValue) → FitLayout parts values
+    → HasValues parts (layout_bytes parts values) values
 HasValues-layout_bytes parts values fit =
-    let there = read_there 0 parts values (layout_bytes parts values) [] fit (sym (append-nil (layout_bytes parts values))) in
+    let there = read_there 0 parts values (layout_bytes parts values) [] fit
+    (sym (append-nil (layout_bytes parts values))) in
     record {
       layout = record { count = length-layout_bytes parts values fit; fixed = there.1 };
       same = there.0;
     }
 
 -- a structure has one list of values
-pub one_values : (parts : List Part) (bytes : List ℕ) (one other : List PartValue) → HasValues parts bytes one → HasValues parts bytes other → one ≡ other
+pub one_values : (parts : List Part) (bytes : List ℕ) (one other : List PartValue) → HasValues parts bytes one
+    → HasValues parts bytes other → one ≡ other
 one_values parts bytes one other one_read other_read = sym one_read.same ∙ other_read.same

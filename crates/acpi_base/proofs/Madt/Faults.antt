@@ -50,7 +50,8 @@ entry_fault_decided q code.GsiPastEnd (IoApic v) = below (2 ^ 32) (v.gsi_base + 
 entry_fault_decided q _ _ = inr (λ h. h)
 
 -- an entry without a fault is sound
-sound_entry : (q : PolicyValue) (e : MadtEntry) → ¬ MadtEntryFault q code.MadtEntryLength e → ¬ MadtEntryFault q code.OverrideBus e → ¬ MadtEntryFault q code.ReservedInti e
+sound_entry : (q : PolicyValue) (e : MadtEntry) → ¬ MadtEntryFault q code.MadtEntryLength e
+    → ¬ MadtEntryFault q code.OverrideBus e → ¬ MadtEntryFault q code.ReservedInti e
     → ¬ MadtEntryFault q code.GsiPastEnd e → IsSoundMadtEntry q e
 sound_entry q (IoApic v) size bus inti past = not_below (2 ^ 32) (v.gsi_base + inputs_of q v.address) past
 sound_entry q (Override v) size bus inti past = (not_other v.bus 0 bus, inti)
@@ -68,7 +69,8 @@ inti_excludes q (X2apicNmi v) wrong sound = sound wrong
 inti_excludes q _ wrong sound = wrong
 
 -- a fault excludes that an entry is sound
-pub entry_excludes : (q : PolicyValue) (fault : Code) (e : MadtEntry) → MadtEntryFault q fault e → ¬ IsSoundMadtEntry q e
+pub entry_excludes : (q : PolicyValue) (fault : Code) (e : MadtEntry) → MadtEntryFault q fault e
+    → ¬ IsSoundMadtEntry q e
 entry_excludes q code.MadtEntryLength (Opaque e) wrong sound = sound wrong
 entry_excludes q code.OverrideBus (Override v) wrong sound = wrong sound.0
 entry_excludes q code.ReservedInti e wrong sound = inti_excludes q e wrong sound
@@ -77,30 +79,44 @@ entry_excludes q _ _ wrong sound = wrong
 
 -- ---- the table
 
-pub decided : (q : PolicyValue) (whole : List ℕ) (fault : Code) (at other point : ℕ) → Decided (MadtFault q (madt_contents whole) fault at other point)
-decided q whole code.MadtShort at other point = all3 (below (madt_contents whole).size 44) (same at 0) (unused_decided other point)
-decided q whole code.MadtEntryCut at other point = both (is_some_number (madt_contents whole).cut at) (unused_decided other point)
+pub decided : (q : PolicyValue) (whole : List ℕ) (fault : Code) (at other point : ℕ)
+    → Decided (MadtFault q (madt_contents whole) fault at other point)
+decided q whole code.MadtShort at other point =
+    all3 (below (madt_contents whole).size 44) (same at 0) (unused_decided other point)
+decided q whole code.MadtEntryCut at other point =
+    both (is_some_number (madt_contents whole).cut at) (unused_decided other point)
 decided q whole code.SecondAddressOverride at other point =
-    all4 (stands_with_decided (madt_contents whole).entries at IsAddressOverride address_decided) (stands_with_decided (madt_contents whole).entries other IsAddressOverride address_decided) (below other at) (same point 0)
-decided q whole fault at other point = both (stands_with_decided (madt_contents whole).entries at (MadtEntryFault q fault) (entry_fault_decided q fault)) (unused_decided other point)
+    all4 (stands_with_decided (madt_contents whole).entries at IsAddressOverride address_decided)
+    (stands_with_decided (madt_contents whole).entries other IsAddressOverride address_decided) (below other at)
+    (same point 0)
+decided q whole fault at other point =
+    both (stands_with_decided (madt_contents whole).entries at (MadtEntryFault q fault) (entry_fault_decided q fault))
+    (unused_decided other point)
 
 -- a MADT without a fault is sound
 pub sound_without_fault : (q : PolicyValue) (whole : List ℕ)
-    → ((fault : Code) (at other point : ℕ) → stage_of fault ≡ stage.Madt → ¬ MadtFault q (madt_contents whole) fault at other point) → IsSoundMadt q (madt_contents whole)
+    → ((fault : Code) (at other point : ℕ) → stage_of fault ≡ stage.Madt
+    → ¬ MadtFault q (madt_contents whole) fault at other point) → IsSoundMadt q (madt_contents whole)
 sound_without_fault q whole none =
     record {
       long = not_below c.size 44 (λ short. none code.MadtShort 0 0 0 refl (short, refl, (refl, refl)));
-      filled = elim (cases_Option c.cut) [ inl (at, is) ↦ absurd (none code.MadtEntryCut at 0 0 refl (is, (refl, refl))) | inr nothing ↦ nothing ];
+      filled = elim (cases_Option c.cut) [
+        | inl (at, is) ↦ absurd (none code.MadtEntryCut at 0 0 refl (is, (refl, refl)))
+        | inr nothing ↦ nothing
+      ];
       entries = λ o e stands.
-          sound_entry q e (λ wrong. none code.MadtEntryLength o 0 0 refl ((e, stands, wrong), (refl, refl))) (λ wrong. none code.OverrideBus o 0 0 refl ((e, stands, wrong), (refl, refl)))
-          (λ wrong. none code.ReservedInti o 0 0 refl ((e, stands, wrong), (refl, refl))) (λ wrong. none code.GsiPastEnd o 0 0 refl ((e, stands, wrong), (refl, refl)));
+          sound_entry q e (λ wrong. none code.MadtEntryLength o 0 0 refl ((e, stands, wrong), (refl, refl)))
+          (λ wrong. none code.OverrideBus o 0 0 refl ((e, stands, wrong), (refl, refl)))
+          (λ wrong. none code.ReservedInti o 0 0 refl ((e, stands, wrong), (refl, refl)))
+          (λ wrong. none code.GsiPastEnd o 0 0 refl ((e, stands, wrong), (refl, refl)));
       one_address = one_address;
     }
   where
     c : MadtContents
     c = madt_contents whole
 
-    one_address : (o p : ℕ) → StandsWith c.entries o IsAddressOverride → StandsWith c.entries p IsAddressOverride → o ≡ p
+    one_address : (o p : ℕ) → StandsWith c.entries o IsAddressOverride → StandsWith c.entries p IsAddressOverride
+        → o ≡ p
     one_address o p one other =
         elim (cases_order o p) [
           | inl is ↦ is
@@ -109,17 +125,22 @@ sound_without_fault q whole none =
         ]
 
 -- a fault excludes that a MADT is sound
-pub excludes : (q : PolicyValue) (c : MadtContents) (fault : Code) (at other point : ℕ) → MadtFault q c fault at other point → ¬ IsSoundMadt q c
+pub excludes : (q : PolicyValue) (c : MadtContents) (fault : Code) (at other point : ℕ)
+    → MadtFault q c fault at other point → ¬ IsSoundMadt q c
 excludes q c code.MadtShort at other point (short, is, _) sound = omega (arith, short, sound.long)
 excludes q c code.MadtEntryCut at other point (is, _) sound = none_and_some sound.filled is
-excludes q c code.SecondAddressOverride at other point (one, earlier, before, _) sound = omega (arith, before, sound.one_address at other one earlier)
-excludes q c fault at other point here sound = (let (e, stands, wrong) = here.0 in entry_excludes q fault e wrong (sound.entries at e stands))
+excludes q c code.SecondAddressOverride at other point (one, earlier, before, _) sound =
+    omega (arith, before, sound.one_address at other one earlier)
+excludes q c fault at other point here sound =
+    (let (e, stands, wrong) = here.0 in entry_excludes q fault e wrong (sound.entries at e stands))
 
 -- its numbers are no greater than the table's length
-pub place : (q : PolicyValue) (whole : List ℕ) (fault : Code) (at other point : ℕ) → MadtFault q (madt_contents whole) fault at other point
+pub place : (q : PolicyValue) (whole : List ℕ) (fault : Code) (at other point : ℕ)
+    → MadtFault q (madt_contents whole) fault at other point
     → (at ≤ length whole) × (other ≤ length whole) × (point ≤ length whole)
 unfolding madt_contents
 place q whole code.MadtShort at other point (short, is, unused) = grind (arith, unused)
 place q whole code.MadtEntryCut at other point (is, unused) = grind (arith, cut_inside 44 whole at is, unused)
-place q whole code.SecondAddressOverride at other point (one, earlier, before, nothing) = grind (arith, inside whole at one.0 one.1, inside whole other earlier.0 earlier.1)
+place q whole code.SecondAddressOverride at other point (one, earlier, before, nothing) =
+    grind (arith, inside whole at one.0 one.1, inside whole other earlier.0 earlier.1)
 place q whole fault at other point here = grind (arith, inside whole at here.0.0 here.0.1, here.1)

@@ -1,5 +1,5 @@
--- Overrides that clash in a MADT: each fault can be decided, excludes that overrides agree, and where there is none they
--- do.
+-- Overrides that clash in a MADT: each fault can be decided, excludes that overrides agree, and where there is none
+-- they do.
 use Rattle.std.proofs.Common.{◌≡◌, ℕ, ◌<◌, List, length, refl, sym, ◌∙◌, inl, inr, arith}
 use Rattle.std.specs.Prelude.{◌≢◌, slice_index}
 use Rattle.std.proofs.lemmas.Bool.{cases_order}
@@ -20,15 +20,19 @@ Disagree source e d = (g h : ℕ) × Overrides source g e × Overrides source h 
 
 disagree_decided : (source : ℕ) (e d : MadtEntry) → Decided (Disagree source e d)
 disagree_decided source (Override v) (Override u) =
-    decided_as (λ h. (v.gsi, u.gsi, (h.0, refl), (h.1, refl), h.2)) (λ h. (h.2.0, h.3.0, λ is. h.4 (sym h.2.1 ∙ is ∙ h.3.1))) (all3 (same v.source source) (same u.source source) (differs v.gsi u.gsi))
+    decided_as (λ h. (v.gsi, u.gsi, (h.0, refl), (h.1, refl), h.2))
+    (λ h. (h.2.0, h.3.0, λ is. h.4 (sym h.2.1 ∙ is ∙ h.3.1)))
+    (all3 (same v.source source) (same u.source source) (differs v.gsi u.gsi))
 disagree_decided source (Override v) _ = inr (λ h. h.3)
 disagree_decided source _ _ = inr (λ h. h.2)
 
-pub decided : (whole : List ℕ) (fault : Code) (at other point : ℕ) → Decided (OverrideFault (madt_contents whole) fault at other point)
+pub decided : (whole : List ℕ) (fault : Code) (at other point : ℕ)
+    → Decided (OverrideFault (madt_contents whole) fault at other point)
 decided whole code.OverrideClash at other point =
     decided_as (λ h. (h.1.2.2.0, h.1.2.2.1, (h.1.0, h.1.1, h.1.2.2.2), (h.1.2.0, h.1.2.1, h.1.2.2.3), h.0, h.1.2.2.4))
     (λ h. (h.4, (h.2.0, h.2.1, (h.3.0, h.3.1, (h.0, h.1, h.2.2, h.3.2, h.5)))))
-    (both (below other at) (stands_with_decided (madt_contents whole).entries at _ (λ e. stands_with_decided (madt_contents whole).entries other (Disagree point e) (disagree_decided point e))))
+    (both (below other at) (stands_with_decided (madt_contents whole).entries at _
+    (λ e. stands_with_decided (madt_contents whole).entries other (Disagree point e) (disagree_decided point e))))
 decided whole _ at other point = inr (λ fault. fault)
 
 -- one entry gives a Source one interrupt number
@@ -37,18 +41,25 @@ one_number (Override v) source g h one other = sym one.1 ∙ other.1
 one_number _ source g h one other = absurd one
 
 -- where no two clash they agree
-pub agree_without_fault : (whole : List ℕ) → ((fault : Code) (at other point : ℕ) → stage_of fault ≡ stage.Overrides → ¬ OverrideFault (madt_contents whole) fault at other point)
+pub agree_without_fault : (whole : List ℕ)
+    → ((fault : Code) (at other point : ℕ) → stage_of fault ≡ stage.Overrides
+    → ¬ OverrideFault (madt_contents whole) fault at other point)
     → DoOverridesAgree (madt_contents whole)
 agree_without_fault whole none o p source g h one other =
     elim (cases_order o p) [
-      | inl is ↦ (let (e, stands, says) = one in let (d, also, too) = other in grind (arith, ones whole o e d, one_number e source g h))
-      | inr (inl less) ↦ not_other g h (λ differ. none code.OverrideClash p o source refl (h, g, other, one, less, λ is. differ (sym is)))
-      | inr (inr more) ↦ not_other g h (λ differ. none code.OverrideClash o p source refl (g, h, one, other, more, differ))
+      | inl is ↦ (let (e, stands, says) = one in let (d, also, too) = other in
+          grind (arith, ones whole o e d, one_number e source g h))
+      | inr (inl less) ↦ not_other g h
+          (λ differ. none code.OverrideClash p o source refl (h, g, other, one, less, λ is. differ (sym is)))
+      | inr (inr more) ↦ not_other g h
+          (λ differ. none code.OverrideClash o p source refl (g, h, one, other, more, differ))
     ]
 
 -- a fault excludes that they agree
-pub excludes : (c : MadtContents) (fault : Code) (at other point : ℕ) → OverrideFault c fault at other point → ¬ DoOverridesAgree c
-excludes c code.OverrideClash at other point (g, h, one, earlier, before, differ) agree = differ (agree at other point g h one earlier)
+pub excludes : (c : MadtContents) (fault : Code) (at other point : ℕ) → OverrideFault c fault at other point
+    → ¬ DoOverridesAgree c
+excludes c code.OverrideClash at other point (g, h, one, earlier, before, differ) agree =
+    differ (agree at other point g h one earlier)
 excludes c _ at other point fault agree = fault
 
 -- ---- how far the numbers of a fault reach
@@ -63,13 +74,17 @@ source_is (Override v) source g here = here.0
 source_is _ source g here = absurd here
 
 -- there is a number above those of each fault
-pub bounded : (whole : List ℕ) → (most : ℕ) × ((fault : Code) (at other point : ℕ) → OverrideFault (madt_contents whole) fault at other point → (at < most) × (other < most) × (point < most))
+pub bounded : (whole : List ℕ)
+    → (most : ℕ) × ((fault : Code) (at other point : ℕ) → OverrideFault (madt_contents whole) fault at other point
+    → (at < most) × (other < most) × (point < most))
 bounded whole = (all.0, place)
   where
-    all : (most : ℕ) × ((o : ℕ) (e : MadtEntry) → Stands (madt_contents whole).entries o e → (o < most) × (source_of e < most))
+    all : (most : ℕ) × ((o : ℕ) (e : MadtEntry) → Stands (madt_contents whole).entries o e
+        → (o < most) × (source_of e < most))
     all = entries_bounded (madt_contents whole).entries source_of
 
-    place : (fault : Code) (at other point : ℕ) → OverrideFault (madt_contents whole) fault at other point → (at < all.0) × (other < all.0) × (point < all.0)
+    place : (fault : Code) (at other point : ℕ) → OverrideFault (madt_contents whole) fault at other point
+        → (at < all.0) × (other < all.0) × (point < all.0)
     place code.OverrideClash at other point (g, h, (e, stands, says), _, before, _) =
         let here = all.1 at e stands in
         (here.0, omega arith, omega (arith, source_is e point g says))
@@ -81,7 +96,8 @@ unfolding source_of madt_entry
 source_fits e small = grind (arith, field_below e small 3 1)
 
 -- the offsets of a fault lie within the table, and its Source is below 256
-pub fits : (whole : List ℕ) → ((k : ℕ) → slice_index whole k < 256) → (fault : Code) (at other point : ℕ) → OverrideFault (madt_contents whole) fault at other point
+pub fits : (whole : List ℕ) → ((k : ℕ) → slice_index whole k < 256) → (fault : Code) (at other point : ℕ)
+    → OverrideFault (madt_contents whole) fault at other point
     → (at < length whole) × (other < length whole) × (point < 256)
 unfolding madt_contents
 fits whole small code.OverrideClash at other point (g, h, (e, stands, says), (d, also, _), before, _) =

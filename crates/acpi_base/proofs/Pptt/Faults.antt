@@ -25,22 +25,30 @@ other_length _ = inr (λ h. h)
 
 cut_decided_at : (whole : List ℕ) (fault : Code) (at : ℕ) → Decided (PpttFaultAt (pptt_contents whole) fault at)
 cut_decided_at whole code.PpttEntryCut at = is_some_number (pptt_contents whole).cut at
-cut_decided_at whole code.PpttEntryLength at = stands_with_decided (pptt_contents whole).entries at HasOtherPpttLength other_length
+cut_decided_at whole code.PpttEntryLength at =
+    stands_with_decided (pptt_contents whole).entries at HasOtherPpttLength other_length
 cut_decided_at whole _ at = inr (λ fault. fault)
 
-pub cut_decided : (whole : List ℕ) (fault : Code) (at other point : ℕ) → Decided (PpttFault (pptt_contents whole) fault at other point)
+pub cut_decided : (whole : List ℕ) (fault : Code) (at other point : ℕ)
+    → Decided (PpttFault (pptt_contents whole) fault at other point)
 cut_decided whole fault at other point = all3 (cut_decided_at whole fault at) (same other 0) (same point 0)
 
 -- a PPTT without a fault of its entries is cut
-pub cut_without_fault : (c : PpttContents) → ((fault : Code) (at other point : ℕ) → stage_of fault ≡ stage.Pptt → ¬ PpttFault c fault at other point) → IsCutPptt c
+pub cut_without_fault : (c : PpttContents)
+    → ((fault : Code) (at other point : ℕ) → stage_of fault ≡ stage.Pptt → ¬ PpttFault c fault at other point)
+    → IsCutPptt c
 cut_without_fault c none =
     record {
-      filled = elim (cases_Option c.cut) [ inl (at, is) ↦ absurd (none code.PpttEntryCut at 0 0 refl (is, refl, refl)) | inr nothing ↦ nothing ];
+      filled = elim (cases_Option c.cut) [
+        | inl (at, is) ↦ absurd (none code.PpttEntryCut at 0 0 refl (is, refl, refl))
+        | inr nothing ↦ nothing
+      ];
       lengths = λ o e stands other. none code.PpttEntryLength o 0 0 refl ((e, stands, other), refl, refl);
     }
 
 -- a fault excludes that it is cut
-pub cut_excludes : (c : PpttContents) (fault : Code) (at other point : ℕ) → PpttFault c fault at other point → ¬ IsCutPptt c
+pub cut_excludes : (c : PpttContents) (fault : Code) (at other point : ℕ) → PpttFault c fault at other point
+    → ¬ IsCutPptt c
 cut_excludes c code.PpttEntryCut at other point (is, _, _) sound = none_and_some sound.filled is
 cut_excludes c code.PpttEntryLength at other point ((e, stands, wrong), _, _) sound = sound.lengths at e stands wrong
 cut_excludes c _ at other point fault sound = fault.0
@@ -52,9 +60,11 @@ cut_place_at whole code.PpttEntryLength at (e, stands, wrong) = inside whole at 
 cut_place_at whole _ at fault = absurd fault
 
 -- its numbers are no greater than the table's length
-pub cut_place : (whole : List ℕ) (fault : Code) (at other point : ℕ) → PpttFault (pptt_contents whole) fault at other point
+pub cut_place : (whole : List ℕ) (fault : Code) (at other point : ℕ)
+    → PpttFault (pptt_contents whole) fault at other point
     → (at ≤ length whole) × (other ≤ length whole) × (point ≤ length whole)
-cut_place whole fault at other point (wrong, no_other, no_point) = (omega (arith, cut_place_at whole fault at wrong), omega arith, omega arith)
+cut_place whole fault at other point (wrong, no_other, no_point) =
+    (omega (arith, cut_place_at whole fault at wrong), omega arith, omega arith)
 
 -- ---- what they name
 
@@ -67,35 +77,56 @@ none_dangles : (Names : ℕ → ℕ → Type 0) → IsNaming Names → ((o p : �
 none_dangles Names naming none o p names =
     elim (cases_eq p 0) [
       | inl none ↦ inl none
-      | inr some ↦ elim (naming.decide p) [ inl there ↦ inr there | inr nowhere ↦ absurd (none o p (record { names = names; some = some; nowhere = nowhere })) ]
+      | inr some ↦ elim (naming.decide p) [
+        | inl there ↦ inr there
+        | inr nowhere ↦
+            absurd (none o p (record { names = names; some = some; nowhere = nowhere }))
+      ]
     ]
 
 dangles_excludes : (Names : ℕ → ℕ → Type 0) (o p : ℕ) → Dangles Names o p → ¬ NoneDangles Names
-dangles_excludes Names o p dangles sound = elim (sound o p dangles.names) [ inl none ↦ dangles.some none | inr there ↦ dangles.nowhere there ]
+dangles_excludes Names o p dangles sound =
+    elim (sound o p dangles.names) [ inl none ↦ dangles.some none | inr there ↦ dangles.nowhere there ]
 
-pub references_decided : (whole : List ℕ) (fault : Code) (at other point : ℕ) → Decided (ReferenceFault (pptt_contents whole) fault at other point)
-references_decided whole code.DanglingParent at other point = both (dangles_decided (NamesParent (pptt_contents whole)) (naming whole parent_of) at other) (same point 0)
+pub references_decided : (whole : List ℕ) (fault : Code) (at other point : ℕ)
+    → Decided (ReferenceFault (pptt_contents whole) fault at other point)
+references_decided whole code.DanglingParent at other point =
+    both (dangles_decided (NamesParent (pptt_contents whole)) (naming whole parent_of) at other) (same point 0)
 references_decided whole code.DanglingResource at other point =
     both (names_decided _ (naming whole (resource_of other)) at point) (negated (resource_decided whole point))
-references_decided whole code.DanglingCache at other point = both (dangles_decided (NamesNextLevel (pptt_contents whole)) (naming whole next_level_of) at other) (same point 0)
+references_decided whole code.DanglingCache at other point =
+    both (dangles_decided (NamesNextLevel (pptt_contents whole)) (naming whole next_level_of) at other) (same point 0)
 references_decided whole _ at other point = inr (λ fault. fault)
 
 -- where no reference dangles they are sound
-pub references_without_fault : (whole : List ℕ) → ((fault : Code) (at other point : ℕ) → stage_of fault ≡ stage.References → ¬ ReferenceFault (pptt_contents whole) fault at other point)
+pub references_without_fault : (whole : List ℕ)
+    → ((fault : Code) (at other point : ℕ) → stage_of fault ≡ stage.References
+    → ¬ ReferenceFault (pptt_contents whole) fault at other point)
     → AreReferencesSound (pptt_contents whole)
 references_without_fault whole none =
     let c = pptt_contents whole in
     record {
-      parents = none_dangles (NamesParent c) (naming whole parent_of) (λ o p dangles. none code.DanglingParent o p 0 refl (dangles, refl));
-      resources = λ o j r names. elim (resource_decided whole r) [ inl there ↦ there | inr nowhere ↦ absurd (none code.DanglingResource o j r refl (names, nowhere)) ];
-      next_levels = none_dangles (NamesNextLevel c) (naming whole next_level_of) (λ o p dangles. none code.DanglingCache o p 0 refl (dangles, refl));
+      parents = none_dangles (NamesParent c) (naming whole parent_of)
+          (λ o p dangles. none code.DanglingParent o p 0 refl (dangles, refl));
+      resources = λ o j r names. elim (resource_decided whole r) [
+        | inl there ↦ there
+        | inr nowhere ↦
+            absurd (none code.DanglingResource o j r refl (names, nowhere))
+      ];
+      next_levels =
+          none_dangles (NamesNextLevel c) (naming whole next_level_of)
+          (λ o p dangles. none code.DanglingCache o p 0 refl (dangles, refl));
     }
 
 -- a fault excludes that they are sound
-pub references_excludes : (c : PpttContents) (fault : Code) (at other point : ℕ) → ReferenceFault c fault at other point → ¬ AreReferencesSound c
-references_excludes c code.DanglingParent at other point (dangles, _) sound = dangles_excludes (NamesParent c) at other dangles sound.parents
-references_excludes c code.DanglingResource at other point (names, nowhere) sound = nowhere (sound.resources at other point names)
-references_excludes c code.DanglingCache at other point (dangles, _) sound = dangles_excludes (NamesNextLevel c) at other dangles sound.next_levels
+pub references_excludes : (c : PpttContents) (fault : Code) (at other point : ℕ) → ReferenceFault c fault at other point
+    → ¬ AreReferencesSound c
+references_excludes c code.DanglingParent at other point (dangles, _) sound =
+    dangles_excludes (NamesParent c) at other dangles sound.parents
+references_excludes c code.DanglingResource at other point (names, nowhere) sound =
+    nowhere (sound.resources at other point names)
+references_excludes c code.DanglingCache at other point (dangles, _) sound =
+    dangles_excludes (NamesNextLevel c) at other dangles sound.next_levels
 references_excludes c _ at other point fault sound = fault
 
 -- ---- how far their numbers reach
@@ -123,7 +154,8 @@ parent_in _ p is = absurd cc
 
 resource_in : (e : PpttEntry) (j r : ℕ) → resource_of j e ≡ Some r → (j < reach e + 1) × (r ≤ reach e)
 unfolding reach
-resource_in (Node v) j r is = (omega (arith, slice_get_within v.resources j r is), omega (arith, in_total v.resources j r is))
+resource_in (Node v) j r is =
+    (omega (arith, slice_get_within v.resources j r is), omega (arith, in_total v.resources j r is))
 resource_in _ j r is = absurd cc
 
 next_level_in : (e : PpttEntry) (p : ℕ) → next_level_of e ≡ Some p → p ≤ reach e
@@ -131,13 +163,16 @@ unfolding reach
 next_level_in (Cache v) p is = omega (arith, same_Some v.next_level p is)
 next_level_in _ p is = absurd cc
 
-pub references_bounded : (c : PpttContents) → (most : ℕ) × ((fault : Code) (at other point : ℕ) → ReferenceFault c fault at other point → (at < most) × (other < most) × (point < most))
+pub references_bounded : (c : PpttContents) → (most : ℕ)
+    × ((fault : Code) (at other point : ℕ) → ReferenceFault c fault at other point
+    → (at < most) × (other < most) × (point < most))
 references_bounded c = (all.0 + 1, place)
   where
     all : (most : ℕ) × ((o : ℕ) (e : PpttEntry) → Stands c.entries o e → (o < most) × (reach e < most))
     all = entries_bounded c.entries reach
 
-    place : (fault : Code) (at other point : ℕ) → ReferenceFault c fault at other point → (at < all.0 + 1) × (other < all.0 + 1) × (point < all.0 + 1)
+    place : (fault : Code) (at other point : ℕ) → ReferenceFault c fault at other point
+        → (at < all.0 + 1) × (other < all.0 + 1) × (point < all.0 + 1)
     place code.DanglingParent at other point (dangles, nothing) =
         let (e, stands, is) = dangles.names in
         let (here, far) = all.1 at e stands in

@@ -19,13 +19,15 @@ record NamesFit (e : PpttEntry) : Type 0 where
   resource : (j r : ℕ) → resource_of j e ≡ Some r → (j < 256 ^ 4) × (r < 256 ^ 4)
   next_level : (p : ℕ) → next_level_of e ≡ Some p → p < 256 ^ 4
 
-resource_below : (e : List ℕ) → ((k : ℕ) → slice_index e k < 256) → (j r : ℕ) → slice_get (resources_of e) j ≡ Some r → (j < 256 ^ 4) × (r < 256 ^ 4)
+resource_below : (e : List ℕ) → ((k : ℕ) → slice_index e k < 256) → (j r : ℕ) → slice_get (resources_of e) j ≡ Some r
+    → (j < 256 ^ 4) × (r < 256 ^ 4)
 resource_below e small j r is =
     let below = field_below e small in
     let within = slice_get_within (resources_of e) j r is in
     let count = length-map-range_with_len (λ i. field e (20 + 4 * i) 4) 0 (resource_count e) in
     let here = get_or_from_slice_get (resources_of e) j r 0 is in
-    let value = get_or-map-range_with_len (λ i. field e (20 + 4 * i) 4) 0 (resource_count e) j j 0 (omega arith) (omega arith) in
+    let value = get_or-map-range_with_len (λ i. field e (20 + 4 * i) 4) 0 (resource_count e) j j 0 (omega arith)
+    (omega arith) in
     (omega (arith, below 16 4), omega (arith, below (20 + 4 * j) 4))
 
 names_fit : (e : List ℕ) → ((k : ℕ) → slice_index e k < 256) → NamesFit (pptt_entry e)
@@ -38,15 +40,21 @@ names_fit e small =
       next_level = λ p is. absurd cc;
     })
     (λ _. cond_both (has_cache_form e) _ _ NamesFit
-    (λ _. record { parent = λ p is. absurd cc; resource = λ j r is. absurd cc; next_level = λ p is. omega (arith, same_Some (field e 8 4) p is, field_below e small 8 4) })
+    (λ _. record {
+      parent = λ p is. absurd cc;
+      resource = λ j r is. absurd cc;
+      next_level = λ p is. omega (arith, same_Some (field e 8 4) p is, field_below e small 8 4);
+    })
     (λ _. record { parent = λ p is. absurd cc; resource = λ j r is. absurd cc; next_level = λ p is. absurd cc }))
 
-entry_fits : (whole : List ℕ) → ((k : ℕ) → slice_index whole k < 256) → (o : ℕ) (e : PpttEntry) → Stands (pptt_contents whole).entries o e → NamesFit e
+entry_fits : (whole : List ℕ) → ((k : ℕ) → slice_index whole k < 256) → (o : ℕ) (e : PpttEntry)
+    → Stands (pptt_contents whole).entries o e → NamesFit e
 unfolding pptt_contents
 entry_fits whole small o e stands = said_with pptt_entry NamesFit names_fit 36 whole small o e stands
 
 -- a fault of a reference is at an offset within the table, and its other numbers are of 32 bits
-pub references_fit : (whole : List ℕ) → ((k : ℕ) → slice_index whole k < 256) → (fault : Code) (at other point : ℕ) → ReferenceFault (pptt_contents whole) fault at other point
+pub references_fit : (whole : List ℕ) → ((k : ℕ) → slice_index whole k < 256) → (fault : Code) (at other point : ℕ)
+    → ReferenceFault (pptt_contents whole) fault at other point
     → (at < length whole) × (other < 256 ^ 4) × (point < 256 ^ 4)
 references_fit whole small code.DanglingParent at other point (dangles, nothing) =
     let (e, stands, is) = dangles.names in

@@ -27,7 +27,11 @@ node_size e form = omega (arith, form_size e 0 (20 + 4 * resource_count e) form)
 cache_size : (e : List ℕ) → has_cache_form e ≡ true → 24 ≤ length e
 unfolding has_cache_form
 cache_size e form =
-    elim (or_cases (has_form e 1 24) (has_form e 1 28) form) [ inl short ↦ omega (arith, form_size e 1 24 short) | inr long ↦ omega (arith, form_size e 1 28 long) ]
+    elim (or_cases (has_form e 1 24) (has_form e 1 28) form) [
+      | inl short ↦
+          omega (arith, form_size e 1 24 short)
+      | inr long ↦ omega (arith, form_size e 1 28 long)
+    ]
 
 entry_size : (e : List ℕ) → 2 ≤ length e → least_size (pptt_entry e) ≤ length e
 unfolding pptt_entry
@@ -38,14 +42,20 @@ entry_size e least =
 -- ---- where they stand
 
 -- the bytes of an entry
-bytes_at : (whole : List ℕ) (o : ℕ) (e : PpttEntry) → Stands (pptt_contents whole).entries o e → (bytes : List ℕ) × Stands (entries_of 36 whole) o bytes × (least_size e ≤ length bytes)
+bytes_at : (whole : List ℕ) (o : ℕ) (e : PpttEntry) → Stands (pptt_contents whole).entries o e
+    → (bytes : List ℕ) × Stands (entries_of 36 whole) o bytes × (least_size e ≤ length bytes)
 unfolding pptt_contents
 bytes_at whole o e stands =
-    let (bytes, here, is) = said_from pptt_entry (entries_of 36 whole) o e stands in
-    (bytes, here, subst (λ (x : PpttEntry). least_size x ≤ length bytes) is (entry_size bytes (entry_within 36 whole o bytes here).1))
+    let (bytes, here, is) = said_from pptt_entry (entries_of 36 whole) o e stands in (
+      bytes,
+      here,
+      subst (λ (x : PpttEntry). least_size x ≤ length bytes) is
+          (entry_size bytes (entry_within 36 whole o bytes here).1),
+    )
 
 -- an entry ends within the table
-within : (whole : List ℕ) (o : ℕ) (e : PpttEntry) → Stands (pptt_contents whole).entries o e → o + least_size e ≤ length whole
+within : (whole : List ℕ) (o : ℕ) (e : PpttEntry) → Stands (pptt_contents whole).entries o e
+    → o + least_size e ≤ length whole
 within whole o e stands =
     let (bytes, here, size) = bytes_at whole o e stands in
     omega (arith, entry_within 36 whole o bytes here)
@@ -56,7 +66,8 @@ unfolding pptt_contents
 inside whole = said_inside pptt_entry 36 whole
 
 -- two entries stand at one offset, or one stands behind the other
-apart : (whole : List ℕ) (o p : ℕ) (e d : PpttEntry) → Stands (pptt_contents whole).entries o e → Stands (pptt_contents whole).entries p d
+apart : (whole : List ℕ) (o p : ℕ) (e d : PpttEntry) → Stands (pptt_contents whole).entries o e
+    → Stands (pptt_contents whole).entries p d
     → (o ≡ p) ⊎ ((o + least_size e ≤ p) ⊎ (p + least_size d ≤ o))
 apart whole o p e d one other =
     let (bytes, here, size) = bytes_at whole o e one in
@@ -83,32 +94,57 @@ cache_long (Cache v) p is = omega arith
 cache_long _ p is = absurd cc
 
 -- nodes, and caches, have numbers of their own: their offsets in units of their least size
-pub nodes_numbered : (whole : List ℕ) → IsNumbered (NamesParent (pptt_contents whole)) (most_nodes (pptt_contents whole))
+pub nodes_numbered : (whole : List ℕ)
+    → IsNumbered (NamesParent (pptt_contents whole)) (most_nodes (pptt_contents whole))
 nodes_numbered whole =
     record {
       number = λ o. o / 20;
-      below = λ o here. omega (arith, within whole o here.1.0 here.1.1, node_long here.1.0 here.0 here.1.2, size_is whole);
-      apart = λ o p one other same. grind (arith, apart whole o p one.1.0 other.1.0 one.1.1 other.1.1, node_long one.1.0 one.0 one.1.2, node_long other.1.0 other.0 other.1.2);
+      below = λ o here. omega (
+        arith,
+        within whole o here.1.0 here.1.1,
+        node_long here.1.0 here.0 here.1.2,
+        size_is whole,
+      );
+      apart = λ o p one other same. grind (
+        arith,
+        apart whole o p one.1.0 other.1.0 one.1.1 other.1.1,
+        node_long one.1.0 one.0 one.1.2,
+        node_long other.1.0 other.0 other.1.2,
+      );
     }
 
-pub caches_numbered : (whole : List ℕ) → IsNumbered (NamesNextLevel (pptt_contents whole)) (most_caches (pptt_contents whole))
+pub caches_numbered : (whole : List ℕ)
+    → IsNumbered (NamesNextLevel (pptt_contents whole)) (most_caches (pptt_contents whole))
 caches_numbered whole =
     record {
       number = λ o. o / 24;
-      below = λ o here. omega (arith, within whole o here.1.0 here.1.1, cache_long here.1.0 here.0 here.1.2, size_is whole);
-      apart = λ o p one other same. grind (arith, apart whole o p one.1.0 other.1.0 one.1.1 other.1.1, cache_long one.1.0 one.0 one.1.2, cache_long other.1.0 other.0 other.1.2);
+      below = λ o here. omega (
+        arith,
+        within whole o here.1.0 here.1.1,
+        cache_long here.1.0 here.0 here.1.2,
+        size_is whole,
+      );
+      apart = λ o p one other same. grind (
+        arith,
+        apart whole o p one.1.0 other.1.0 one.1.1 other.1.1,
+        cache_long one.1.0 one.0 one.1.2,
+        cache_long other.1.0 other.0 other.1.2,
+      );
     }
 
 -- ---- what can be decided
 
 -- whether something that a node may refer to stands at an offset
 pub resource_decided : (whole : List ℕ) (o : ℕ) → Decided (IsResourceAt (pptt_contents whole) o)
-resource_decided whole o = stands_with_decided (pptt_contents whole).entries o (λ e. pptt_type e ≢ 0) (λ e. differs (pptt_type e) 0)
+resource_decided whole o =
+    stands_with_decided (pptt_contents whole).entries o (λ e. pptt_type e ≢ 0) (λ e. differs (pptt_type e) 0)
 
 -- at most one offset is read of what stands at an offset, and whether one is can be decided
 pub naming : (whole : List ℕ) (read : PpttEntry → Option ℕ) → IsNaming (Says read (pptt_contents whole))
 naming whole read =
     record {
       one = λ o p q a b. let same = ones whole o a.0 b.0 a.1 b.1 in cc (a.2, b.2);
-      decide = λ o. decided_as (λ h. (h.2.0, (h.0, h.1, h.2.1))) (λ h. (h.1.0, h.1.1, (h.0, h.1.2))) (stands_with_decided (pptt_contents whole).entries o (λ e. (p : ℕ) × (read e ≡ Some p)) (λ e. is_some (read e)));
+      decide = λ o. decided_as (λ h. (h.2.0, (h.0, h.1, h.2.1))) (λ h. (h.1.0, h.1.1, (h.0, h.1.2)))
+          (stands_with_decided (pptt_contents whole).entries o (λ e. (p : ℕ) × (read e ≡ Some p))
+          (λ e. is_some (read e)));
     }

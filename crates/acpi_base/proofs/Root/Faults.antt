@@ -21,23 +21,28 @@ use Rattle.acpi_base.proofs.Tables.Whole.{length-table}
 
 table_decided : (m : Memory) (r d : ℕ) (c : Code) → Decided (RootTableFault m r d c)
 table_decided m r d code.RootHeaderOut = table.decided m r code.TableHeaderOut
-table_decided m r d code.RootSignature = is_some_with (bytes_at m r 36) _ (λ header. is_false (has_signature header (root_signature d)))
+table_decided m r d code.RootSignature =
+    is_some_with (bytes_at m r 36) _ (λ header. is_false (has_signature header (root_signature d)))
 table_decided m r d code.RootLength = table.decided m r code.TableLength
 table_decided m r d code.RootOut = table.decided m r code.TableOut
 table_decided m r d code.RootRagged =
     decided_as (λ h. (h.0, h.1, h.2.0, h.2.1)) (λ h. (h.0, h.1, (h.2, h.3)))
-    (is_some_with (bytes_at m r 36) _ (λ header. both (at_most 36 (length_of header)) (differs ((length_of header - 36) % d) 0)))
+    (is_some_with (bytes_at m r 36) _
+    (λ header. both (at_most 36 (length_of header)) (differs ((length_of header - 36) % d) 0)))
 table_decided m r d code.RootSum = table.decided m r code.TableSum
 table_decided m r d _ = inr (λ fault. fault)
 
 -- a root table without a fault is sound
-table_without_fault : (m : Memory) (r d : ℕ) → ((c : Code) → stage_of c ≡ stage.Root → ¬ RootTableFault m r d c) → (whole : List ℕ) × IsSoundRootTable m r d whole
+table_without_fault : (m : Memory) (r d : ℕ) → ((c : Code) → stage_of c ≡ stage.Root → ¬ RootTableFault m r d c)
+    → (whole : List ℕ) × IsSoundRootTable m r d whole
 table_without_fault m r d none =
     let sound = table.sound_without_fault m r tables in
     let header = sound.header in
     let held = sound.table.header_held in
-    let signed = not_false (has_signature header (root_signature d)) (λ unsigned. none code.RootSignature refl (header, held, unsigned)) in
-    let slots = not_other ((length_of header - 36) % d) 0 (λ ragged. none code.RootRagged refl (header, held, sound.table.least, ragged)) in (
+    let signed = not_false (has_signature header (root_signature d))
+    (λ unsigned. none code.RootSignature refl (header, held, unsigned)) in
+    let slots = not_other ((length_of header - 36) % d) 0
+    (λ ragged. none code.RootRagged refl (header, held, sound.table.least, ragged)) in (
       sound.whole,
       record {
         table = record { header = header; table = sound.table; signed = signed };
@@ -54,7 +59,8 @@ table_without_fault m r d none =
     tables _ own = λ fault. fault
 
 -- a fault excludes that the root table is sound
-table_excludes : (m : Memory) (r d : ℕ) (whole : List ℕ) (c : Code) → RootTableFault m r d c → ¬ IsSoundRootTable m r d whole
+table_excludes : (m : Memory) (r d : ℕ) (whole : List ℕ) (c : Code) → RootTableFault m r d c
+    → ¬ IsSoundRootTable m r d whole
 table_excludes m r d whole c fault sound = by_code c fault
   where
     header : List ℕ
@@ -71,39 +77,63 @@ table_excludes m r d whole c fault sound = by_code c fault
     by_code code.RootSignature (other, held, unsigned) = grind (arith, same_header other held, sound.table.signed)
     by_code code.RootLength fault = table.excludes m r code.TableLength fault as_table
     by_code code.RootOut fault = table.excludes m r code.TableOut fault as_table
-    by_code code.RootRagged (other, held, least, ragged) = grind (arith, same_header other held, length-table m r header whole sound.table.table, sound.slots)
+    by_code code.RootRagged (other, held, least, ragged) =
+        grind (arith, same_header other held, length-table m r header whole sound.table.table, sound.slots)
     by_code code.RootSum fault = table.excludes m r code.TableSum fault as_table
     by_code _ fault = fault
 
 -- ---- of the root that an RSDP names
 
 -- where the RSDP is readable, a fault of its root can be decided
-pub decided : (m : Memory) (p : ℕ) (named : Addresses) → addresses_at m p ≡ Some named → (c : Code) (at : ℕ) → Decided (RootFault m p c at)
+pub decided : (m : Memory) (p : ℕ) (named : Addresses) → addresses_at m p ≡ Some named → (c : Code) (at : ℕ)
+    → Decided (RootFault m p c at)
 decided m p named read c at =
     elim (root_or_none m p named read) [
       | inl none ↦
-          decided_as (λ h. inl (none, same_code c code.NoRoot h.0, h.1)) (λ h. elim h [ inl f ↦ (ap code_number f.1, f.2) | inr f ↦ absurd (no_root_and_root none f.1) ])
+          decided_as (λ h. inl (none, same_code c code.NoRoot h.0, h.1))
+          (λ h. elim h [ inl f ↦ (ap code_number f.1, f.2) | inr f ↦ absurd (no_root_and_root none f.1) ])
           (both (same (code_number c) (code_number code.NoRoot)) (same at p))
       | inr (r, d, root) ↦
-          decided_as (λ h. inr (d, subst (λ (x : ℕ). IsRoot m p x d) (sym h.0) root, subst (λ (x : ℕ). RootTableFault m x d c) (sym h.0) h.1))
+          decided_as (λ h. inr (
+            d,
+            subst (λ (x : ℕ). IsRoot m p x d) (sym h.0) root,
+            subst (λ (x : ℕ). RootTableFault m x d c) (sym h.0) h.1,
+          ))
           (λ h. elim h [ inl f ↦ absurd (no_root_and_root f.0 root) | inr f ↦ here r d root f.0 f.1 f.2 ])
           (both (same at r) (table_decided m r d c))
     ]
   where
-    here : (r d : ℕ) → IsRoot m p r d → (e : ℕ) → IsRoot m p at e → RootTableFault m at e c → (at ≡ r) × RootTableFault m r d c
-    here r d root e other fault = (let same = one_root m p at e r d other root in (same.0, rw (same.0, same.1) at fault))
+    here : (r d : ℕ) → IsRoot m p r d → (e : ℕ) → IsRoot m p at e → RootTableFault m at e c
+        → (at ≡ r) × RootTableFault m r d c
+    here r d root e other fault =
+        (let same = one_root m p at e r d other root in (same.0, rw (same.0, same.1) at fault))
 
 -- and its faults are at one place
-pub bounded : (m : Memory) (p : ℕ) (named : Addresses) → addresses_at m p ≡ Some named → (n : ℕ) × ((c : Code) (at : ℕ) → RootFault m p c at → at < n)
+pub bounded : (m : Memory) (p : ℕ) (named : Addresses) → addresses_at m p ≡ Some named
+    → (n : ℕ) × ((c : Code) (at : ℕ) → RootFault m p c at → at < n)
 bounded m p named read =
     elim (root_or_none m p named read) [
-      | inl none ↦ (p + 1, λ c at fault. elim fault [ inl f ↦ omega (arith, f.2) | inr f ↦ absurd (no_root_and_root none f.1) ])
-      | inr (r, d, root) ↦
-          (r + 1, λ c at fault. elim fault [ inl f ↦ absurd (no_root_and_root f.0 root) | inr f ↦ omega (arith, (one_root m p at f.0 r d f.1 root).0) ])
+      | inl none ↦ (
+        p + 1,
+        λ c at fault. elim fault [
+          | inl f ↦ omega (arith, f.2)
+          | inr f ↦
+              absurd (no_root_and_root none f.1)
+        ],
+      )
+      | inr (r, d, root) ↦ (
+        r + 1,
+        λ c at fault. elim fault [
+          | inl f ↦ absurd (no_root_and_root f.0 root)
+          | inr f ↦
+              omega (arith, (one_root m p at f.0 r d f.1 root).0)
+        ],
+      )
     ]
 
 -- a readable RSDP's root without a fault is sound
-pub sound_without_fault : (m : Memory) (p : ℕ) (named : Addresses) → addresses_at m p ≡ Some named → ((c : Code) (at : ℕ) → stage_of c ≡ stage.Root → ¬ RootFault m p c at) → IsSoundRoot m p
+pub sound_without_fault : (m : Memory) (p : ℕ) (named : Addresses) → addresses_at m p ≡ Some named
+    → ((c : Code) (at : ℕ) → stage_of c ≡ stage.Root → ¬ RootFault m p c at) → IsSoundRoot m p
 sound_without_fault m p named read none =
     elim (root_or_none m p named read) [
       | inl no_root ↦ absurd (none code.NoRoot p refl (inl (no_root, refl, refl)))

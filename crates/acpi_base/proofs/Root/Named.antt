@@ -11,12 +11,14 @@ use Rattle.acpi_base.proofs.Rsdp.Naming.{named_fit}
 use Rattle.acpi_base.proofs.Tables.Whole.{one_table}
 
 -- which root is chosen: the RSDT or the XSDT
-pub chosen_is : (named : Addresses) (r d : ℕ) → chosen_root named ≡ Some (record { address = r; width = d }) → ((r ≡ named.rsdt) × (d ≡ 4)) ⊎ ((r ≡ named.xsdt) × (d ≡ 8))
+pub chosen_is : (named : Addresses) (r d : ℕ) → chosen_root named ≡ Some (record { address = r; width = d })
+    → ((r ≡ named.rsdt) × (d ≡ 4)) ⊎ ((r ≡ named.xsdt) × (d ≡ 8))
 unfolding chosen_root
 chosen_is named r d chosen = grind (arith, cases_Bool, same_Some)
 
 -- a readable RSDP names a root or none
-pub root_or_none : (m : Memory) (p : ℕ) (named : Addresses) → addresses_at m p ≡ Some named → HasNoRoot m p ⊎ ((r d : ℕ) × IsRoot m p r d)
+pub root_or_none : (m : Memory) (p : ℕ) (named : Addresses) → addresses_at m p ≡ Some named
+    → HasNoRoot m p ⊎ ((r d : ℕ) × IsRoot m p r d)
 root_or_none m p named read =
     elim (cases_Option (chosen_root named)) [
       | inl (root, chosen) ↦ inr (root.address, root.width, record { named = named; read = read; chosen = chosen })
@@ -39,19 +41,24 @@ root_width {r = r} {d = d} root =
 
 -- the root's address fits
 pub root_fits : {m : Memory} {p r d : ℕ} → IsImage m → IsRoot m p r d → r < 2 ^ 64
-root_fits {m = m} {p = p} {r = r} {d = d} image root = grind (arith, named_fit m image p root.named root.read, chosen_is root.named r d root.chosen)
+root_fits {m = m} {p = p} {r = r} {d = d} image root =
+    grind (arith, named_fit m image p root.named root.read, chosen_is root.named r d root.chosen)
 
 -- what is true of a root at its place is true of the one root
 at_root : {m : Memory} {p r d r' d' : ℕ} (P : ℕ → ℕ → Type 0) → IsRoot m p r d → IsRoot m p r' d' → P r d → P r' d'
-at_root {m} {p} {r} {d} {r'} {d'} P one other here = (let same = one_root m p r d r' d' one other in rw (same.0, same.1) at here)
+at_root {m} {p} {r} {d} {r'} {d'} P one other here =
+    (let same = one_root m p r d r' d' one other in rw (same.0, same.1) at here)
 
 -- one list of bytes is the root's
-pub one_root_table : {m : Memory} {p r d r' d' : ℕ} (whole whole' : List ℕ) → IsRoot m p r d → IsRoot m p r' d' → IsRootTable m r d whole → IsRootTable m r' d' whole' → whole ≡ whole'
+pub one_root_table : {m : Memory} {p r d r' d' : ℕ} (whole whole' : List ℕ) → IsRoot m p r d → IsRoot m p r' d'
+    → IsRootTable m r d whole → IsRootTable m r' d' whole' → whole ≡ whole'
 one_root_table {m} {r' = r'} {d' = d'} whole whole' one other table table' =
     let moved = at_root (λ x y. IsRootTable m x y whole) one other table in
     one_table m r' moved.header whole table'.header whole' moved.table table'.table
 
 -- what is true of a root's width and bytes is true of the one root's
-pub of_root : {m : Memory} {p r d r' d' : ℕ} {whole whole' : List ℕ} (P : ℕ → List ℕ → Type 0) → IsRoot m p r d → IsRoot m p r' d' → IsRootTable m r d whole → IsRootTable m r' d' whole' → P d whole → P d' whole'
+pub of_root : {m : Memory} {p r d r' d' : ℕ} {whole whole' : List ℕ} (P : ℕ → List ℕ → Type 0) → IsRoot m p r d
+    → IsRoot m p r' d' → IsRootTable m r d whole → IsRootTable m r' d' whole' → P d whole → P d' whole'
 of_root {d' = d'} {whole = whole} {whole' = whole'} P one other table table' here =
-    subst (λ (x : List ℕ). P d' x) (one_root_table whole whole' one other table table') (at_root (λ _ y. P y whole) one other here)
+    subst (λ (x : List ℕ). P d' x) (one_root_table whole whole' one other table table')
+    (at_root (λ _ y. P y whole) one other here)

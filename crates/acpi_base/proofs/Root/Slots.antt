@@ -15,8 +15,10 @@ pub slot_below : (whole : List ℕ) (d k a : ℕ) → IsSlotWidth d → HasSlot 
 slot_below whole d k a width slot = grind (arith, slot.inside)
 
 -- the address that a slot of an image holds fits
-address_fits : (whole : List ℕ) (d k a : ℕ) → ((offset width : ℕ) → field whole offset width < 256 ^ width) → IsSlotWidth d → HasSlot whole d k a → a < 2 ^ 64
-address_fits whole d k a number_below width slot = grind (arith, slot.address, number_below (36 + 4 * k) 4, number_below (36 + 8 * k) 8)
+address_fits : (whole : List ℕ) (d k a : ℕ) → ((offset width : ℕ) → field whole offset width < 256 ^ width)
+    → IsSlotWidth d → HasSlot whole d k a → a < 2 ^ 64
+address_fits whole d k a number_below width slot =
+    grind (arith, slot.address, number_below (36 + 4 * k) 4, number_below (36 + 8 * k) 8)
 
 -- a slot's number and its address fit
 pub slot_fits : {m : Memory} {p k a : ℕ} → IsImage m → IsSlot m p k a → (k < 2 ^ 64) × (a < 2 ^ 64)
@@ -24,8 +26,10 @@ slot_fits {m = m} {k = k} {a = a} image slot =
     let table = slot.table.table in
     let length_fits = held_field_below m image slot.r 36 slot.table.header table.header_held 4 4 in
     let below = slot_below slot.whole slot.d k a (root_width slot.root) slot.slot in
-    let number_below = held_field_below m image slot.r (length_of slot.table.header) slot.whole table.held in
-    (grind (arith, length_fits, length-table m slot.r slot.table.header slot.whole table, below), address_fits slot.whole slot.d k a number_below (root_width slot.root) slot.slot)
+    let number_below = held_field_below m image slot.r (length_of slot.table.header) slot.whole table.held in (
+      grind (arith, length_fits, length-table m slot.r slot.table.header slot.whole table, below),
+      address_fits slot.whole slot.d k a number_below (root_width slot.root) slot.slot,
+    )
 
 -- a slot holds an address or is none
 pub slot_or_none : (whole : List ℕ) (d k : ℕ) → ((a : ℕ) × HasSlot whole d k a) ⊎ ((a : ℕ) → ¬ HasSlot whole d k a)
@@ -44,9 +48,13 @@ pub one_slot : (whole : List ℕ) (d k a b : ℕ) → HasSlot whole d k a → Ha
 one_slot whole d k a b one other = sym one.address ∙ other.address
 
 -- the slots of a set are those of its root's bytes
-pub slot_of_root : (m : Memory) (p r d k a : ℕ) (whole : List ℕ) → IsRoot m p r d → IsRootTable m r d whole → IsSlot m p k a → HasSlot whole d k a
-slot_of_root m p r d k a whole root table slot = of_root (λ x bytes. HasSlot bytes x k a) slot.root root slot.table table slot.slot
+pub slot_of_root : (m : Memory) (p r d k a : ℕ) (whole : List ℕ) → IsRoot m p r d → IsRootTable m r d whole
+    → IsSlot m p k a → HasSlot whole d k a
+slot_of_root m p r d k a whole root table slot =
+    of_root (λ x bytes. HasSlot bytes x k a) slot.root root slot.table table slot.slot
 
 -- and those of its root's bytes are the set's
-pub root_slot : {m : Memory} {p r d k a : ℕ} {whole : List ℕ} → IsRoot m p r d → IsRootTable m r d whole → HasSlot whole d k a → IsSlot m p k a
-root_slot {r = r} {d = d} {whole = whole} root table slot = record { r = r; d = d; whole = whole; root = root; table = table; slot = slot }
+pub root_slot : {m : Memory} {p r d k a : ℕ} {whole : List ℕ} → IsRoot m p r d → IsRootTable m r d whole
+    → HasSlot whole d k a → IsSlot m p k a
+root_slot {r = r} {d = d} {whole = whole} root table slot =
+    record { r = r; d = d; whole = whole; root = root; table = table; slot = slot }

@@ -1,5 +1,5 @@
--- The faults of an SRAT's entries by themselves: each can be decided, excludes that it is sound, and where there is none
--- it is sound.
+-- The faults of an SRAT's entries by themselves: each can be decided, excludes that it is sound, and where none is
+-- there it is sound.
 use Rattle.std.proofs.Common.{◌≡◌, ℕ, ◌+◌, ◌^◌, ◌≤◌, List, length, refl, inl, inr, arith}
 use Rattle.std.specs.Prelude.{slice_index}
 use Rattle.acpi_base.specs.Codes.{stage_of}
@@ -15,11 +15,13 @@ use Rattle.acpi_base.proofs.EntryOffsets.{cut_inside, said_inside, stands_with_d
 
 entry_fault_decided : (fault : Code) (e : SratEntry) → Decided (SratEntryFault fault e)
 entry_fault_decided code.SratEntryLength (Opaque e) = type_decided srat_kinds (slice_index e 0)
-entry_fault_decided code.RangePastEnd (MemoryRange v) = both (is_true (is_enabled v.flags)) (below (2 ^ 64) (v.base + v.size))
+entry_fault_decided code.RangePastEnd (MemoryRange v) =
+    both (is_true (is_enabled v.flags)) (below (2 ^ 64) (v.base + v.size))
 entry_fault_decided _ _ = inr (λ h. h)
 
 -- an entry without a fault is sound
-sound_entry : (e : SratEntry) → ¬ SratEntryFault code.SratEntryLength e → ¬ SratEntryFault code.RangePastEnd e → IsSoundSratEntry e
+sound_entry : (e : SratEntry) → ¬ SratEntryFault code.SratEntryLength e → ¬ SratEntryFault code.RangePastEnd e
+    → IsSoundSratEntry e
 sound_entry (MemoryRange v) size past = λ enabled. not_below (2 ^ 64) (v.base + v.size) (λ more. past (enabled, more))
 sound_entry (Opaque e) size past = size
 sound_entry _ size past = tt
@@ -32,29 +34,41 @@ entry_excludes _ _ wrong sound = wrong
 
 -- ---- the table
 
-pub decided : (whole : List ℕ) (fault : Code) (at other point : ℕ) → Decided (SratFault (srat_contents whole) fault at other point)
-decided whole code.SratShort at other point = all3 (below (srat_contents whole).size 48) (same at 0) (unused_decided other point)
-decided whole code.SratEntryCut at other point = both (is_some_number (srat_contents whole).cut at) (unused_decided other point)
+pub decided : (whole : List ℕ) (fault : Code) (at other point : ℕ)
+    → Decided (SratFault (srat_contents whole) fault at other point)
+decided whole code.SratShort at other point =
+    all3 (below (srat_contents whole).size 48) (same at 0) (unused_decided other point)
+decided whole code.SratEntryCut at other point =
+    both (is_some_number (srat_contents whole).cut at) (unused_decided other point)
 decided whole fault at other point =
-    both (stands_with_decided (srat_contents whole).entries at (SratEntryFault fault) (entry_fault_decided fault)) (unused_decided other point)
+    both (stands_with_decided (srat_contents whole).entries at (SratEntryFault fault) (entry_fault_decided fault))
+    (unused_decided other point)
 
 -- an SRAT without a fault is sound
-pub sound_without_fault : (whole : List ℕ) → ((fault : Code) (at other point : ℕ) → stage_of fault ≡ stage.Srat → ¬ SratFault (srat_contents whole) fault at other point)
+pub sound_without_fault : (whole : List ℕ)
+    → ((fault : Code) (at other point : ℕ) → stage_of fault ≡ stage.Srat
+    → ¬ SratFault (srat_contents whole) fault at other point)
     → IsSoundSrat (srat_contents whole)
 sound_without_fault whole none =
     let c = srat_contents whole in
     record {
       long = not_below c.size 48 (λ short. none code.SratShort 0 0 0 refl (short, refl, (refl, refl)));
-      filled = elim (cases_Option c.cut) [ inl (at, is) ↦ absurd (none code.SratEntryCut at 0 0 refl (is, (refl, refl))) | inr nothing ↦ nothing ];
+      filled = elim (cases_Option c.cut) [
+        | inl (at, is) ↦ absurd (none code.SratEntryCut at 0 0 refl (is, (refl, refl)))
+        | inr nothing ↦ nothing
+      ];
       entries = λ o e stands.
-          sound_entry e (λ wrong. none code.SratEntryLength o 0 0 refl ((e, stands, wrong), (refl, refl))) (λ wrong. none code.RangePastEnd o 0 0 refl ((e, stands, wrong), (refl, refl)));
+          sound_entry e (λ wrong. none code.SratEntryLength o 0 0 refl ((e, stands, wrong), (refl, refl)))
+          (λ wrong. none code.RangePastEnd o 0 0 refl ((e, stands, wrong), (refl, refl)));
     }
 
 -- a fault excludes that an SRAT is sound
-pub excludes : (c : SratContents) (fault : Code) (at other point : ℕ) → SratFault c fault at other point → ¬ IsSoundSrat c
+pub excludes : (c : SratContents) (fault : Code) (at other point : ℕ) → SratFault c fault at other point
+    → ¬ IsSoundSrat c
 excludes c code.SratShort at other point (short, is, _) sound = omega (arith, short, sound.long)
 excludes c code.SratEntryCut at other point (is, _) sound = none_and_some sound.filled is
-excludes c fault at other point here sound = (let (e, stands, wrong) = here.0 in entry_excludes fault e wrong (sound.entries at e stands))
+excludes c fault at other point here sound =
+    (let (e, stands, wrong) = here.0 in entry_excludes fault e wrong (sound.entries at e stands))
 
 -- its numbers are no greater than the table's length
 pub place : (whole : List ℕ) (fault : Code) (at other point : ℕ) → SratFault (srat_contents whole) fault at other point

@@ -34,12 +34,16 @@ length-signature_of kind.Slit = refl
 length-signature_of kind.Pptt = refl
 
 -- it is the first four of a table of the kind
-first_four : (bytes : List ℕ) (kind : TableKind) → has_signature bytes (signature_of kind) ≡ true → signature_of kind ≡ take 4 bytes
+first_four : (bytes : List ℕ) (kind : TableKind) → has_signature bytes (signature_of kind) ≡ true
+    → signature_of kind ≡ take 4 bytes
 unfolding has_signature
 first_four bytes kind is =
-    same_text (signature_of kind) (take (length (signature_of kind)) bytes) (sym is) ∙ ap (λ n. take n bytes) (length-signature_of kind)
+    same_text (signature_of kind) (take (length (signature_of kind)) bytes) (sym is)
+    ∙ ap (λ n. take n bytes) (length-signature_of kind)
 
 -- so a table is of one kind
-pub one_kind : (bytes : List ℕ) (one other : TableKind) → has_signature bytes (signature_of one) ≡ true → has_signature bytes (signature_of other) ≡ true → one ≡ other
+pub one_kind : (bytes : List ℕ) (one other : TableKind) → has_signature bytes (signature_of one) ≡ true
+    → has_signature bytes (signature_of other) ≡ true → one ≡ other
 one_kind bytes one other is also =
-    sym (signed_kind one) ∙ ap kind_signed (first_four bytes one is ∙ sym (first_four bytes other also)) ∙ signed_kind other
+    sym (signed_kind one) ∙ ap kind_signed (first_four bytes one is ∙ sym (first_four bytes other also))
+    ∙ signed_kind other

@@ -19,7 +19,8 @@ use Rattle.acpi_base.proofs.Tables.Whole.{one_table}
 -- a header is held at an address with the signature, or is not
 signed_or_not : (m : Memory) (a : ℕ) (signature : List ℕ) → Decided (IsSigned m a signature)
 signed_or_not m a signature =
-    decided_as (λ h. record { header = h.0; header_held = h.1; signed = h.2 }) (λ h. (h.header, h.header_held, h.signed))
+    decided_as (λ h. record { header = h.0; header_held = h.1; signed = h.2 })
+    (λ h. (h.header, h.header_held, h.signed))
     (is_some_with (bytes_at m a 36) _ (λ header. is_true (has_signature header signature)))
 
 -- slot k holds the address of a header with the signature
@@ -28,7 +29,8 @@ record IsSignedSlot (m : Memory) (whole : List ℕ) (d : ℕ) (signature : List 
   slot : HasSlot whole d k a
   signed : IsSigned m a signature
 
-signed_slot_or_not : (m : Memory) (whole : List ℕ) (d : ℕ) (signature : List ℕ) (k : ℕ) → Decided (IsSignedSlot m whole d signature k)
+signed_slot_or_not : (m : Memory) (whole : List ℕ) (d : ℕ) (signature : List ℕ) (k : ℕ)
+    → Decided (IsSignedSlot m whole d signature k)
 signed_slot_or_not m whole d signature k =
     elim (slot_or_none whole d k) [
       | inr none ↦ inr (λ here. none here.a here.slot)
@@ -39,18 +41,30 @@ signed_slot_or_not m whole d signature k =
     ]
 
 -- no slot holds the address of a header with the signature, or there is a first that does
-pub first_listed_or_none : (m : Memory) (whole : List ℕ) (d : ℕ) (signature : List ℕ) → IsSlotWidth d → IsNoneListed m whole d signature ⊎ ((a : ℕ) × IsFirstListed m whole d signature a)
+pub first_listed_or_none : (m : Memory) (whole : List ℕ) (d : ℕ) (signature : List ℕ) → IsSlotWidth d
+    → IsNoneListed m whole d signature ⊎ ((a : ℕ) × IsFirstListed m whole d signature a)
 first_listed_or_none m whole d signature width =
     elim (least_below (IsSignedSlot m whole d signature) (signed_slot_or_not m whole d signature) (length whole)) [
       | inl none ↦
-          inl (λ k a slot signed. none k (slot_below whole d k a width slot) (record { a = a; slot = slot; signed = signed }))
+          inl (λ k a slot signed. none k (slot_below whole d k a width slot)
+          (record { a = a; slot = slot; signed = signed }))
       | inr (k, below, least) ↦
-          let before = λ (j : ℕ) (b : ℕ) (less : j < k) (slot : HasSlot whole d j b) (signed : IsSigned m b signature). least.none_below j less (record { a = b; slot = slot; signed = signed }) in
-          inr (least.holds.a, record { k = k; slot = least.holds.slot; signed = least.holds.signed; none_before = before })
+          let before = λ (j : ℕ) (b : ℕ) (less : j < k) (slot : HasSlot whole d j b) (signed : IsSigned m b signature).
+          least.none_below j less (record { a = b; slot = slot; signed = signed }) in
+          inr (
+            least.holds.a,
+            record {
+              k = k;
+              slot = least.holds.slot;
+              signed = least.holds.signed;
+              none_before = before;
+            },
+          )
     ]
 
 -- the first address with a signature in a root's slots is one
-pub one_first_listed : (m : Memory) (whole : List ℕ) (d : ℕ) (signature : List ℕ) (a b : ℕ) → IsFirstListed m whole d signature a → IsFirstListed m whole d signature b → a ≡ b
+pub one_first_listed : (m : Memory) (whole : List ℕ) (d : ℕ) (signature : List ℕ) (a b : ℕ)
+    → IsFirstListed m whole d signature a → IsFirstListed m whole d signature b → a ≡ b
 one_first_listed m whole d signature a b one other =
     elim (cases_order one.k other.k) [
       | inl same ↦ grind (arith, one_slot, one.slot, other.slot)
@@ -59,41 +73,57 @@ one_first_listed m whole d signature a b one other =
     ]
 
 -- where no slot holds the address of a header with the signature, none is the first
-pub none_and_first_listed : {m : Memory} {whole : List ℕ} {d : ℕ} {signature : List ℕ} {a : ℕ} → IsNoneListed m whole d signature → IsFirstListed m whole d signature a → ⊥
+pub none_and_first_listed : {m : Memory} {whole : List ℕ} {d : ℕ} {signature : List ℕ} {a : ℕ}
+    → IsNoneListed m whole d signature → IsFirstListed m whole d signature a → ⊥
 none_and_first_listed {a = a} none first = none first.k a first.slot first.signed
 
 -- ---- of a set
 
 -- the first listed table of a set is the first listed in its root's bytes
-pub listed_of_root : {m : Memory} {p r d : ℕ} {whole signature : List ℕ} {a : ℕ} → IsRoot m p r d → IsRootTable m r d whole → IsFirstTable m p signature a → IsFirstListed m whole d signature a
+pub listed_of_root : {m : Memory} {p r d : ℕ} {whole signature : List ℕ} {a : ℕ} → IsRoot m p r d
+    → IsRootTable m r d whole → IsFirstTable m p signature a → IsFirstListed m whole d signature a
 listed_of_root {m} {signature = signature} {a = a} root table first =
     of_root (λ x bytes. IsFirstListed m bytes x signature a) first.root root first.table table first.first
 
 -- a set lists one table with a signature first
-pub one_listed : (m : Memory) (p : ℕ) (signature whole whole' : List ℕ) → IsListedTable m p signature whole → IsListedTable m p signature whole' → whole ≡ whole'
+pub one_listed : (m : Memory) (p : ℕ) (signature whole whole' : List ℕ) → IsListedTable m p signature whole
+    → IsListedTable m p signature whole' → whole ≡ whole'
 one_listed m p signature whole whole' one other =
     let first : IsFirstTable m p signature other.a = other.first in
-    let same = one_first_listed m first.whole first.d signature one.a other.a (listed_of_root first.root first.table one.first) first.first in
-    one_table m other.a one.header whole other.header whole' (subst (λ (b : ℕ). IsTable m b one.header whole) same one.table) other.table
+    let same = one_first_listed m first.whole first.d signature one.a other.a
+    (listed_of_root first.root first.table one.first) first.first in
+    one_table m other.a one.header whole other.header whole'
+    (subst (λ (b : ℕ). IsTable m b one.header whole) same one.table) other.table
 
 -- where a set lists none there is none
-pub none_and_listed : {m : Memory} {p : ℕ} {signature whole : List ℕ} → ListsNone m p signature → IsListedTable m p signature whole → ⊥
+pub none_and_listed : {m : Memory} {p : ℕ} {signature whole : List ℕ} → ListsNone m p signature
+    → IsListedTable m p signature whole → ⊥
 none_and_listed none listed = none_and_first_listed none.none (listed_of_root none.root none.table listed.first)
 
 -- what a root's slots list first is what the set lists
-pub listed_in_root : {m : Memory} {p r d a : ℕ} {bytes signature header whole : List ℕ} → IsRoot m p r d → IsRootTable m r d bytes → IsFirstListed m bytes d signature a → IsTable m a header whole → IsListedTable m p signature whole
+pub listed_in_root : {m : Memory} {p r d a : ℕ} {bytes signature header whole : List ℕ} → IsRoot m p r d
+    → IsRootTable m r d bytes → IsFirstListed m bytes d signature a → IsTable m a header whole
+    → IsListedTable m p signature whole
 listed_in_root {r = r} {d = d} {a = a} {bytes = bytes} {header = header} root table first stands =
-    record { a = a; header = header; first = record { r = r; d = d; whole = bytes; root = root; table = table; first = first }; table = stands }
+    record {
+      a = a;
+      header = header;
+      first = record { r = r; d = d; whole = bytes; root = root; table = table; first = first };
+      table = stands;
+    }
 
-pub none_in_root : {m : Memory} {p r d : ℕ} {bytes signature : List ℕ} → IsRoot m p r d → IsRootTable m r d bytes → IsNoneListed m bytes d signature → ListsNone m p signature
-none_in_root {r = r} {d = d} {bytes = bytes} root table none = record { r = r; d = d; root_bytes = bytes; root = root; table = table; none = none }
+pub none_in_root : {m : Memory} {p r d : ℕ} {bytes signature : List ℕ} → IsRoot m p r d → IsRootTable m r d bytes
+    → IsNoneListed m bytes d signature → ListsNone m p signature
+none_in_root {r = r} {d = d} {bytes = bytes} root table none =
+    record { r = r; d = d; root_bytes = bytes; root = root; table = table; none = none }
 
 -- it is known what a set lists first with a signature
 abbrev pub IsListedOrNone : Memory → ℕ → List ℕ → Type 0
 IsListedOrNone m p signature = (listed : Option (List ℕ)) × IsListed m p signature listed
 
 -- a set whose root and tables are sound lists a first table with a signature or none
-pub listed_or_none : (m : Memory) (p : ℕ) (signature : List ℕ) → IsSoundRoot m p → AreSoundTables m p → IsListedOrNone m p signature
+pub listed_or_none : (m : Memory) (p : ℕ) (signature : List ℕ) → IsSoundRoot m p → AreSoundTables m p
+    → IsListedOrNone m p signature
 listed_or_none m p signature root tables =
     elim (first_listed_or_none m root.whole root.d signature (root_width root.root)) [
       | inl none ↦ (None, none_in_root root.root root.sound.table none)

@@ -20,7 +20,8 @@ run_stopped fault [] = refl
 run_stopped fault (b ∷ rest) = run_stopped fault rest
 
 -- what a line says moves no count of bytes
-pub take_line_keeps : (r : Reading) (n : ℕ) (said : Line) (s : Reading) → take_line r n said ≡ Ok s → s.through ≡ r.through
+pub take_line_keeps : (r : Reading) (n : ℕ) (said : Line) (s : Reading) → take_line r n said ≡ Ok s
+    → s.through ≡ r.through
 take_line_keeps r n said s e = grind (arith)
 
 -- where reading stands within a line, of which these bytes have come
@@ -36,11 +37,13 @@ step_after r line b = grind (arith, nat_tests, length-append, take_line_keeps)
 
 -- the machine stands where reading by lines does
 pub run_after : (x : Result Reading TextFault) (line bytes : List ℕ)
-    → run (after x line) bytes ≡ after (on_ok x (λ r. read_lines r (ended_lines_from line bytes))) (last_line_from line bytes)
+    → run (after x line) bytes ≡ after (on_ok x (λ r. read_lines r (ended_lines_from line bytes)))
+    (last_line_from line bytes)
 unfolding run read_lines ended_lines_from last_line_from
 run_after (Err fault) line bytes = run_stopped fault bytes
 run_after (Ok r) line [] = refl
-run_after (Ok r) line (b ∷ rest) = grind (arith, step_after, run_after (read_line r line 1) [] rest, run_after (Ok r) (line ++ b ∷ []) rest)
+run_after (Ok r) line (b ∷ rest) =
+    grind (arith, step_after, run_after (read_line r line 1) [] rest, run_after (Ok r) (line ++ b ∷ []) rest)
 
 -- a whole text
 pub run_reads_text : (bytes : List ℕ) → text_result (run initial_state bytes) ≡ read_text bytes
@@ -56,17 +59,22 @@ stands_stopped : (s : ReaderState) (fault : TextFault) → prefix_result s ≡ E
 stands_stopped s fault e = grind (arith)
 
 -- a prefix at which the machine has stopped is refused with the same fault
-pub refused_where_stopped : (bytes : List ℕ) (fault : TextFault) → run initial_state bytes ≡ Stopped fault → IsRefusedPrefix bytes fault
+pub refused_where_stopped : (bytes : List ℕ) (fault : TextFault) → run initial_state bytes ≡ Stopped fault
+    → IsRefusedPrefix bytes fault
 refused_where_stopped bytes fault stops = sym (run_reads_prefix bytes) ∙ ap prefix_result stops
 
 -- the machine has stopped at a prefix that is refused
-pub stopped_where_refused : (bytes : List ℕ) (fault : TextFault) → IsRefusedPrefix bytes fault → run initial_state bytes ≡ Stopped fault
-stopped_where_refused bytes fault refused = stands_stopped (run initial_state bytes) fault (run_reads_prefix bytes ∙ refused)
+pub stopped_where_refused : (bytes : List ℕ) (fault : TextFault) → IsRefusedPrefix bytes fault
+    → run initial_state bytes ≡ Stopped fault
+stopped_where_refused bytes fault refused =
+    stands_stopped (run initial_state bytes) fault (run_reads_prefix bytes ∙ refused)
 
 -- a fault in a prefix of a text is the whole text's
-pub prefix_is_decided : (bytes more : List ℕ) (fault : TextFault) → IsRefusedPrefix bytes fault → IsRefused (bytes ++ more) fault
+pub prefix_is_decided : (bytes more : List ℕ) (fault : TextFault) → IsRefusedPrefix bytes fault
+    → IsRefused (bytes ++ more) fault
 prefix_is_decided bytes more fault refused =
-    sym (run_reads_text (bytes ++ more)) ∙ (rw (run_append initial_state bytes more, stopped_where_refused bytes fault refused, run_stopped) refl)
+    sym (run_reads_text (bytes ++ more))
+    ∙ (rw (run_append initial_state bytes more, stopped_where_refused bytes fault refused, run_stopped) refl)
 
 -- what the law `machine_reads_lines` says
 pub ruleset machine_laws = (run_reads_text, run_reads_prefix, refused_where_stopped, stopped_where_refused, run_append)

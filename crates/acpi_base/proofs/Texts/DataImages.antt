@@ -41,28 +41,52 @@ place_then a later zero = Some a
 place_then a later (suc n) = later n
 
 -- the byte can stand in the image as well
-into : (a b : ℕ) (later : ℕ → Option ℕ) (rest : List ℕ) (m : Memory) (x c : ℕ) → byte_of m a ≡ None → Given (place_then a later) (b ∷ rest) m x c → Given later rest (insert m a b) x c
+into : (a b : ℕ) (later : ℕ → Option ℕ) (rest : List ℕ) (m : Memory) (x c : ℕ) → byte_of m a ≡ None
+    → Given (place_then a later) (b ∷ rest) m x c → Given later rest (insert m a b) x c
 into a b later rest m x c free (inl e) = grind (arith, cases_eq x a, other m a b x)
 into a b later rest m x c free (inr (zero, p, d)) = grind (arith, here m a b)
 into a b later rest m x c free (inr (suc n, p, d)) = inr (n, p, d)
 
-out : (a b : ℕ) (later : ℕ → Option ℕ) (rest : List ℕ) (m : Memory) (x c : ℕ) → Given later rest (insert m a b) x c → Given (place_then a later) (b ∷ rest) m x c
-out a b later rest m x c (inl e) = elim (cases_eq x a) [ inl s ↦ inr (0, ap Some (sym s), grind (arith, here m a b)) | inr s ↦ inl (sym (other m a b x s) ∙ e) ]
+out : (a b : ℕ) (later : ℕ → Option ℕ) (rest : List ℕ) (m : Memory) (x c : ℕ) → Given later rest (insert m a b) x c
+    → Given (place_then a later) (b ∷ rest) m x c
+out a b later rest m x c (inl e) =
+    elim (cases_eq x a) [
+      | inl s ↦ inr (0, ap Some (sym s), grind (arith, here m a b))
+      | inr s ↦
+          inl (sym (other m a b x s) ∙ e)
+    ]
 out a b later rest m x c (inr (n, p, d)) = inr (suc n, p, d)
 
-one_more : (a b : ℕ) (later : ℕ → Option ℕ) (rest : List ℕ) (m f : Memory) → a < 2 ^ 64 → byte_of m a ≡ None → Makes later rest (insert m a b) f → Makes (place_then a later) (b ∷ rest) m f
+one_more : (a b : ℕ) (later : ℕ → Option ℕ) (rest : List ℕ) (m f : Memory) → a < 2 ^ 64 → byte_of m a ≡ None
+    → Makes later rest (insert m a b) f → Makes (place_then a later) (b ∷ rest) m f
 one_more a b later rest m f low free made = record {
-  stands = λ n h. elim n as (λ n. n < suc (length rest) → IsSome (place_then a later n)) [ zero ↦ λ h. refl | suc n ↦ λ h. made.stands n (omega arith) ] h;
+  stands = λ n h. elim n as (λ n. n < suc (length rest) → IsSome (place_then a later n)) [
+    | zero ↦ λ h. refl
+    | suc n ↦
+        λ h. made.stands n (omega arith)
+  ] h;
   below = elim [ zero ↦ λ x p. grind arith | suc n ↦ made.below n ];
   once = elim [
     | zero ↦ elim [ zero ↦ λ x p q. refl | suc k ↦ λ x p q. grind (arith, made.free k x q, here m a b) ]
-    | suc n ↦ elim [ zero ↦ λ x p q. grind (arith, made.free n x p, here m a b) | suc k ↦ λ x p q. ap suc (made.once n k x p q) ]
+    | suc n ↦ elim [
+      | zero ↦ λ x p q. grind (arith, made.free n x p, here m a b)
+      | suc k ↦
+          λ x p q. ap suc (made.once n k x p q)
+    ]
   ];
-  free = elim [ zero ↦ λ x p. grind arith | suc n ↦ λ x p. grind (arith, made.free n x p, cases_eq x a, here m a b, other m a b x) ];
-  image = λ x c. (λ e. out a b later rest m x c ((made.image x c).0 e), λ g. (made.image x c).1 (into a b later rest m x c free g));
+  free = elim [
+    | zero ↦ λ x p. grind arith
+    | suc n ↦ λ x p. grind
+        (arith, made.free n x p, cases_eq x a, here m a b, other m a b x)
+  ];
+  image = λ x c. (
+    λ e. out a b later rest m x c ((made.image x c).0 e),
+    λ g. (made.image x c).1 (into a b later rest m x c free g),
+  );
 }
 
-one_less : (a b : ℕ) (later : ℕ → Option ℕ) (rest : List ℕ) (m f : Memory) → Makes (place_then a later) (b ∷ rest) m f → (a < 2 ^ 64) × (byte_of m a ≡ None) × Makes later rest (insert m a b) f
+one_less : (a b : ℕ) (later : ℕ → Option ℕ) (rest : List ℕ) (m f : Memory) → Makes (place_then a later) (b ∷ rest) m f
+    → (a < 2 ^ 64) × (byte_of m a ≡ None) × Makes later rest (insert m a b) f
 one_less a b later rest m f made = (
   made.below 0 a refl,
   made.free 0 a refl,
@@ -70,8 +94,13 @@ one_less a b later rest m f made = (
     stands = λ n h. made.stands (suc n) (omega arith);
     below = λ n. made.below (suc n);
     once = λ n k x p q. (let same : suc n ≡ suc k = made.once (suc n) (suc k) x p q in omega arith);
-    free = λ n x p. other m a b x (λ e. (let same : suc n ≡ 0 = made.once (suc n) 0 x p (ap Some (sym e)) in absurd (omega arith))) ∙ made.free (suc n) x p;
-    image = λ x c. (λ e. into a b later rest m x c (made.free 0 a refl) ((made.image x c).0 e), λ g. (made.image x c).1 (out a b later rest m x c g));
+    free = λ n x p. other m a b x
+        (λ e. (let same : suc n ≡ 0 = made.once (suc n) 0 x p (ap Some (sym e)) in absurd (omega arith)))
+        ∙ made.free (suc n) x p;
+    image = λ x c. (
+      λ e. into a b later rest m x c (made.free 0 a refl) ((made.image x c).0 e),
+      λ g. (made.image x c).1 (out a b later rest m x c g),
+    );
   },
 )
 
@@ -83,7 +112,8 @@ row-zero next later = λ i n. at n i
     at : (n : ℕ) → first_then next 0 later n ≡ later n
     at n = grind (arith, nat_tests)
 
-row-suc : (a count : ℕ) (later : ℕ → Option ℕ) → first_then (Some a) (suc count) later ≡ place_then a (first_then (Some (a + 1)) count later)
+row-suc : (a count : ℕ) (later : ℕ → Option ℕ)
+    → first_then (Some a) (suc count) later ≡ place_then a (first_then (Some (a + 1)) count later)
 row-suc a count later = λ i n. at n i
   where
     at : (n : ℕ) → first_then (Some a) (suc count) later n ≡ place_then a (first_then (Some (a + 1)) count later) n
@@ -94,20 +124,36 @@ row-suc a count later = λ i n. at n i
 abbrev pub IsRoom : Memory → ℕ → List ℕ → Type 0
 IsRoom m a bytes = (k : ℕ) → k < length bytes → (a + k < 2 ^ 64) × (byte_of m (a + k) ≡ None)
 
-with_byte_first : (m : Memory) (a b : ℕ) (bytes : List ℕ) → with_bytes (insert m a b) (a + 1) bytes ≡ insert (with_bytes m (a + 1) bytes) a b
-with_byte_first m a b bytes = same_memory (with_bytes (insert m a b) (a + 1) bytes) (insert (with_bytes m (a + 1) bytes) a b) (λ x. elim (cases_eq x a) [
-  | inl s ↦ grind (arith, byte_of-with_bytes_outside (insert m a b) (a + 1) bytes x, here m a b, here (with_bytes m (a + 1) bytes) a b)
-  | inr s ↦ grind (arith, byte_of-with_bytes (insert m a b) (a + 1) bytes x, byte_of-with_bytes m (a + 1) bytes x, other m a b x s, other (with_bytes m (a + 1) bytes) a b x s)
-])
+with_byte_first : (m : Memory) (a b : ℕ) (bytes : List ℕ)
+    → with_bytes (insert m a b) (a + 1) bytes ≡ insert (with_bytes m (a + 1) bytes) a b
+with_byte_first m a b bytes =
+    same_memory (with_bytes (insert m a b) (a + 1) bytes) (insert (with_bytes m (a + 1) bytes) a b)
+    (λ x. elim (cases_eq x a) [
+      | inl s ↦ grind (
+        arith,
+        byte_of-with_bytes_outside (insert m a b) (a + 1) bytes x,
+        here m a b,
+        here (with_bytes m (a + 1) bytes) a b,
+      )
+      | inr s ↦ grind (
+        arith,
+        byte_of-with_bytes (insert m a b) (a + 1) bytes x,
+        byte_of-with_bytes m (a + 1) bytes x,
+        other m a b x s,
+        other (with_bytes m (a + 1) bytes) a b x s,
+      )
+    ])
 
 room_rest : (m : Memory) (a b : ℕ) (bytes : List ℕ) → IsRoom m a (b ∷ bytes) → IsRoom (insert m a b) (a + 1) bytes
 room_rest m a b bytes room k h = grind (arith, room (suc k), other m a b (a + 1 + k))
 
-room_more : (m : Memory) (a b : ℕ) (bytes : List ℕ) → a < 2 ^ 64 → byte_of m a ≡ None → IsRoom (insert m a b) (a + 1) bytes → IsRoom m a (b ∷ bytes)
+room_more : (m : Memory) (a b : ℕ) (bytes : List ℕ) → a < 2 ^ 64 → byte_of m a ≡ None
+    → IsRoom (insert m a b) (a + 1) bytes → IsRoom m a (b ∷ bytes)
 room_more m a b bytes low free room zero h = grind arith
 room_more m a b bytes low free room (suc k) h = grind (arith, room k, other m a b (a + suc k))
 
-pub data_more : (a : ℕ) (bytes : List ℕ) (later : ℕ → Option ℕ) (rest : List ℕ) (m f : Memory) → IsRoom m a bytes → Makes later rest (with_bytes m a bytes) f
+pub data_more : (a : ℕ) (bytes : List ℕ) (later : ℕ → Option ℕ) (rest : List ℕ) (m f : Memory) → IsRoom m a bytes
+    → Makes later rest (with_bytes m a bytes) f
     → Makes (first_then (Some a) (length bytes) later) (bytes ++ rest) m f
 unfolding with_bytes
 data_more a [] later rest m f room made = rw (row-zero (Some a) later) made
@@ -115,19 +161,36 @@ data_more a (b ∷ bytes) later rest m f room made =
     let first = room 0 (omega arith) in
     let free : byte_of m a ≡ None = grind (arith, first) in
     rw (row-suc a (length bytes) later) (one_more a b _ _ m f (omega (arith, first.0)) free
-    (data_more (a + 1) bytes later rest (insert m a b) f (room_rest m a b bytes room) (rw (with_byte_first m a b bytes) made)))
+    (data_more (a + 1) bytes later rest (insert m a b) f (room_rest m a b bytes room)
+    (rw (with_byte_first m a b bytes) made)))
 
-pub data_less : (a : ℕ) (bytes : List ℕ) (later : ℕ → Option ℕ) (rest : List ℕ) (m f : Memory) → Makes (first_then (Some a) (length bytes) later) (bytes ++ rest) m f
+pub data_less : (a : ℕ) (bytes : List ℕ) (later : ℕ → Option ℕ) (rest : List ℕ) (m f : Memory)
+    → Makes (first_then (Some a) (length bytes) later) (bytes ++ rest) m f
     → IsRoom m a bytes × Makes later rest (with_bytes m a bytes) f
 unfolding with_bytes
-data_less a [] later rest m f made = (λ k h. absurd (omega arith), subst (λ p. Makes p rest m f) (row-zero (Some a) later) made)
+data_less a [] later rest m f made =
+    (λ k h. absurd (omega arith), subst (λ p. Makes p rest m f) (row-zero (Some a) later) made)
 data_less a (b ∷ bytes) later rest m f made =
-    let one = one_less a b _ (bytes ++ rest) m f (subst (λ p. Makes p (b ∷ (bytes ++ rest)) m f) (row-suc a (length bytes) later) made) in
+    let one = one_less a b _ (bytes ++ rest) m f
+    (subst (λ p. Makes p (b ∷ (bytes ++ rest)) m f) (row-suc a (length bytes) later) made) in
     let more = data_less (a + 1) bytes later rest (insert m a b) f one.2 in
     (room_more m a b bytes one.0 one.1 more.0, subst (λ n. Makes later rest n f) (with_byte_first m a b bytes) more.1)
 
 pub taken : (m : Memory) (a : ℕ) (bytes : List ℕ) → add_refusal m a bytes ≡ None → IsRoom m a bytes
-taken m a bytes e k h = grind (arith, fits_unless (nat_lt (2 ^ 64) (a + length bytes)) (first_held m a (length bytes)) e, ltb-false (2 ^ 64) (a + length bytes), nothing_held (byte_of m) a (length bytes) (a + k))
+taken m a bytes e k h =
+    grind (
+      arith,
+      fits_unless (nat_lt (2 ^ 64) (a + length bytes)) (first_held m a (length bytes)) e,
+      ltb-false (2 ^ 64) (a + length bytes),
+      nothing_held (byte_of m) a (length bytes) (a + k),
+    )
 
-pub not_refused : (m : Memory) (a : ℕ) (bytes : List ℕ) → 0 < length bytes → IsRoom m a bytes → add_refusal m a bytes ≡ None
-not_refused m a bytes some room = grind (arith, le-ltb (2 ^ 64) (a + length bytes), first_of_none (byte_of m) a (length bytes) (λ k h. (room k h).1), room (length bytes - 1))
+pub not_refused : (m : Memory) (a : ℕ) (bytes : List ℕ) → 0 < length bytes → IsRoom m a bytes
+    → add_refusal m a bytes ≡ None
+not_refused m a bytes some room =
+    grind (
+      arith,
+      le-ltb (2 ^ 64) (a + length bytes),
+      first_of_none (byte_of m) a (length bytes) (λ k h. (room k h).1),
+      room (length bytes - 1),
+    )

@@ -20,7 +20,8 @@ use Rattle.acpi_base.proofs.Texts.HexTexts.{hex_reads_back, hex_has_no_blank}
 
 -- a text with a blank has one
 pub has_blank : (word rest : List ℕ) → list_all is_no_blank (word ++ (32 ∷ rest)) ≡ true → ⊥
-has_blank word rest none = (let all = sym (list_all-append is_no_blank word (32 ∷ rest)) ∙ none in by (list_all is_no_blank word) all)
+has_blank word rest none =
+    (let all = sym (list_all-append is_no_blank word (32 ∷ rest)) ∙ none in by (list_all is_no_blank word) all)
   where
     by : (b : Bool) → (b && false) ≡ true → ⊥
     by true e = cc
@@ -28,21 +29,25 @@ has_blank word rest none = (let all = sym (list_all-append is_no_blank word (32 
 
 -- a word does not begin with one
 blank_in : (c : ℕ) (word : List ℕ) → c ≡ 32 → list_all is_no_blank (c ∷ word) ≡ true → ⊥
-blank_in c word blank all = (let none : list_all is_no_blank (32 ∷ word) ≡ true = subst (λ (x : ℕ). list_all is_no_blank (x ∷ word) ≡ true) blank all in cc)
+blank_in c word blank all =
+    (let none : list_all is_no_blank (32 ∷ word) ≡ true =
+    subst (λ (x : ℕ). list_all is_no_blank (x ∷ word) ≡ true) blank all in cc)
 
 rest_of : (a b : Bool) → (a && b) ≡ true → b ≡ true
 rest_of true b e = e
 rest_of false b e = absurd cc
 
 -- what stands before the first blank is one word
-pub one_word : (word rest other left : List ℕ) → list_all is_no_blank word ≡ true → list_all is_no_blank other ≡ true → word ++ (32 ∷ rest) ≡ other ++ (32 ∷ left) → (word ≡ other) × (rest ≡ left)
+pub one_word : (word rest other left : List ℕ) → list_all is_no_blank word ≡ true → list_all is_no_blank other ≡ true
+    → word ++ (32 ∷ rest) ≡ other ++ (32 ∷ left) → (word ≡ other) × (rest ≡ left)
 one_word [] rest [] left p q e = (refl, cc)
 one_word [] rest (c ∷ other) left p q e = (let blank : c ≡ 32 = cc in absurd (blank_in c other blank q))
 one_word (c ∷ word) rest [] left p q e = (let blank : c ≡ 32 = cc in absurd (blank_in c word blank p))
 one_word (c ∷ word) rest (d ∷ other) left p q e =
     let tails : word ++ (32 ∷ rest) ≡ other ++ (32 ∷ left) = cc in
     let heads : c ≡ d = cc in
-    let one = one_word word rest other left (rest_of (is_no_blank c) (list_all is_no_blank word) p) (rest_of (is_no_blank d) (list_all is_no_blank other) q) tails in
+    let one = one_word word rest other left (rest_of (is_no_blank c) (list_all is_no_blank word) p)
+    (rest_of (is_no_blank d) (list_all is_no_blank other) q) tails in
     ((let words = one.0 in cc), one.1)
 
 -- ---- the first two words
@@ -76,19 +81,24 @@ stage_has_no_blank code.RsdpOut = refl
 stage_has_no_blank _ = refl
 
 -- where no code with a lower number begins a text so, nor this one, none up to it does
-pub none_up_to : (stage name : List ℕ) (code : Code) (n : ℕ) (test : Bool) → code_number code ≡ n → (IsTrue test ↔ IsHead stage name code) → test ≡ false
-    → ((c : Code) → code_number c < n → ¬ IsHead stage name c) → (c : Code) → code_number c < n + 1 → ¬ IsHead stage name c
+pub none_up_to : (stage name : List ℕ) (code : Code) (n : ℕ) (test : Bool) → code_number code ≡ n
+    → (IsTrue test ↔ IsHead stage name code) → test ≡ false
+    → ((c : Code) → code_number c < n → ¬ IsHead stage name c) → (c : Code) → code_number c < n + 1
+    → ¬ IsHead stage name c
 none_up_to stage name code n test is same other below c less head =
     elim (cases_lt (code_number c) n) [
       | inl lower ↦ below c lower head
-      | inr up ↦ both_ways test other (same.1 (subst (λ (d : Code). IsHead stage name d) (same_code c code (omega arith)) head))
+      | inr up ↦ both_ways test other
+          (same.1 (subst (λ (d : Code). IsHead stage name d) (same_code c code (omega arith)) head))
     ]
 
 -- ---- numbers
 
 pub same_hex : (m n : ℕ) → m < 2 ^ 64 → n < 2 ^ 64 → hex_text m ≡ hex_text n → m ≡ n
 unfolding hex_text
-same_hex m n p q e = (let ds : digits 16 false m ≡ digits 16 false n = cc in sym (hex_reads_back m p) ∙ ap (hex_number 0) ds ∙ hex_reads_back n q)
+same_hex m n p q e =
+    (let ds : digits 16 false m ≡ digits 16 false n = cc in
+    sym (hex_reads_back m p) ∙ ap (hex_number 0) ds ∙ hex_reads_back n q)
 
 -- ---- the whole line
 
@@ -111,36 +121,51 @@ unfolding witness_line behind_stage behind_name behind_at
 line_is w = simp append_assoc
 
 -- a fault's text begins with its stage, and so on
-pub stage_first : (text stage rest : List ℕ) (w : Witness) → text ≡ witness_line w → list_all is_no_blank stage ≡ true → text ≡ stage ++ (32 ∷ rest) → (stage ≡ stage_word w) × (rest ≡ behind_stage w)
-stage_first text stage rest w line whole is = one_word stage rest (stage_word w) (behind_stage w) whole (stage_has_no_blank w.code) (sym is ∙ line ∙ line_is w)
+pub stage_first : (text stage rest : List ℕ) (w : Witness) → text ≡ witness_line w → list_all is_no_blank stage ≡ true
+    → text ≡ stage ++ (32 ∷ rest) → (stage ≡ stage_word w) × (rest ≡ behind_stage w)
+stage_first text stage rest w line whole is =
+    one_word stage rest (stage_word w) (behind_stage w) whole (stage_has_no_blank w.code) (sym is ∙ line ∙ line_is w)
 
-pub name_next : (text name rest : List ℕ) (w : Witness) → text ≡ behind_stage w → list_all is_no_blank name ≡ true → text ≡ name ++ (32 ∷ rest) → (name ≡ code_name w.code) × (rest ≡ behind_name w)
+pub name_next : (text name rest : List ℕ) (w : Witness) → text ≡ behind_stage w → list_all is_no_blank name ≡ true
+    → text ≡ name ++ (32 ∷ rest) → (name ≡ code_name w.code) × (rest ≡ behind_name w)
 unfolding behind_stage
-name_next text name rest w line whole is = one_word name rest (code_name w.code) (behind_name w) whole (name_has_no_blank w.code) (sym is ∙ line)
+name_next text name rest w line whole is =
+    one_word name rest (code_name w.code) (behind_name w) whole (name_has_no_blank w.code) (sym is ∙ line)
 
-pub at_next : (text at rest : List ℕ) (w : Witness) → NumbersFit w → text ≡ behind_name w → list_all is_no_blank at ≡ true → text ≡ at ++ (32 ∷ rest) → (at ≡ hex_text w.at) × (rest ≡ behind_at w)
+pub at_next : (text at rest : List ℕ) (w : Witness) → NumbersFit w → text ≡ behind_name w
+    → list_all is_no_blank at ≡ true → text ≡ at ++ (32 ∷ rest) → (at ≡ hex_text w.at) × (rest ≡ behind_at w)
 unfolding behind_name
-at_next text at rest w fits line whole is = one_word at rest (hex_text w.at) (behind_at w) whole (hex_has_no_blank w.at fits.0) (sym is ∙ line)
+at_next text at rest w fits line whole is =
+    one_word at rest (hex_text w.at) (behind_at w) whole (hex_has_no_blank w.at fits.0) (sym is ∙ line)
 
-others_last : (text other point : List ℕ) (w : Witness) → NumbersFit w → text ≡ behind_at w → list_all is_no_blank other ≡ true → text ≡ other ++ (32 ∷ point) → (other ≡ hex_text w.other) × (point ≡ hex_text w.point)
+others_last : (text other point : List ℕ) (w : Witness) → NumbersFit w → text ≡ behind_at w
+    → list_all is_no_blank other ≡ true → text ≡ other ++ (32 ∷ point)
+    → (other ≡ hex_text w.other) × (point ≡ hex_text w.point)
 unfolding behind_at
-others_last text other point w fits line whole is = one_word other point (hex_text w.other) (hex_text w.point) whole (hex_has_no_blank w.other fits.1) (sym is ∙ line)
+others_last text other point w fits line whole is =
+    one_word other point (hex_text w.other) (hex_text w.point) whole (hex_has_no_blank w.other fits.1) (sym is ∙ line)
 
 -- each of these has a blank
 pub line_has_blank : (text : List ℕ) (w : Witness) → text ≡ witness_line w → list_all is_no_blank text ≡ true → ⊥
-line_has_blank text w line none = has_blank (stage_word w) (behind_stage w) (subst (λ (t : List ℕ). list_all is_no_blank t ≡ true) (line ∙ line_is w) none)
+line_has_blank text w line none =
+    has_blank (stage_word w) (behind_stage w)
+    (subst (λ (t : List ℕ). list_all is_no_blank t ≡ true) (line ∙ line_is w) none)
 
-pub stage_has_blank_behind : (text : List ℕ) (w : Witness) → text ≡ behind_stage w → list_all is_no_blank text ≡ true → ⊥
+pub stage_has_blank_behind : (text : List ℕ) (w : Witness) → text ≡ behind_stage w → list_all is_no_blank text ≡ true
+    → ⊥
 unfolding behind_stage
-stage_has_blank_behind text w line none = has_blank (code_name w.code) (behind_name w) (subst (λ (t : List ℕ). list_all is_no_blank t ≡ true) line none)
+stage_has_blank_behind text w line none =
+    has_blank (code_name w.code) (behind_name w) (subst (λ (t : List ℕ). list_all is_no_blank t ≡ true) line none)
 
 pub name_has_blank_behind : (text : List ℕ) (w : Witness) → text ≡ behind_name w → list_all is_no_blank text ≡ true → ⊥
 unfolding behind_name
-name_has_blank_behind text w line none = has_blank (hex_text w.at) (behind_at w) (subst (λ (t : List ℕ). list_all is_no_blank t ≡ true) line none)
+name_has_blank_behind text w line none =
+    has_blank (hex_text w.at) (behind_at w) (subst (λ (t : List ℕ). list_all is_no_blank t ≡ true) line none)
 
 pub at_has_blank_behind : (text : List ℕ) (w : Witness) → text ≡ behind_at w → list_all is_no_blank text ≡ true → ⊥
 unfolding behind_at
-at_has_blank_behind text w line none = has_blank (hex_text w.other) (hex_text w.point) (subst (λ (t : List ℕ). list_all is_no_blank t ≡ true) line none)
+at_has_blank_behind text w line none =
+    has_blank (hex_text w.other) (hex_text w.point) (subst (λ (t : List ℕ). list_all is_no_blank t ≡ true) line none)
 
 -- so its words are these
 pub record WordsOf (w : Witness) (stage name at other point : List ℕ) : Type 0 where
@@ -150,7 +175,8 @@ pub record WordsOf (w : Witness) (stage name at other point : List ℕ) : Type 0
   pub other_is : other ≡ hex_text w.other
   pub point_is : point ≡ hex_text w.point
 
-pub words_of : {text stage name at other point : List ℕ} (w : Witness) → NumbersFit w → AreWords text stage name at other point → text ≡ witness_line w → WordsOf w stage name at other point
+pub words_of : {text stage name at other point : List ℕ} (w : Witness) → NumbersFit w
+    → AreWords text stage name at other point → text ≡ witness_line w → WordsOf w stage name at other point
 words_of {text} {stage} {name} {at} {other} {point} w fits words line =
     let stages = stage_first text stage _ w line words.stage_whole words.joined in
     let names = name_next _ name _ w stages.1 words.name_whole refl in
@@ -159,12 +185,14 @@ words_of {text} {stage} {name} {at} {other} {point} w fits words line =
     record { stage_is = stages.0; name_is = names.0; at_is = ats.0; other_is = others.0; point_is = others.1 }
 
 -- and these words make its text
-pub line_of : {text stage name at other point : List ℕ} (w : Witness) → AreWords text stage name at other point → WordsOf w stage name at other point → text ≡ witness_line w
+pub line_of : {text stage name at other point : List ℕ} (w : Witness) → AreWords text stage name at other point
+    → WordsOf w stage name at other point → text ≡ witness_line w
 unfolding behind_stage behind_name behind_at
 line_of w words of = words.joined ∙ rw (of.stage_is, of.name_is, of.at_is, of.other_is, of.point_is) (sym (line_is w))
 
 -- a fault's text has them
-words_of_line : (w : Witness) → NumbersFit w → AreWords (witness_line w) (stage_word w) (code_name w.code) (hex_text w.at) (hex_text w.other) (hex_text w.point)
+words_of_line : (w : Witness) → NumbersFit w
+    → AreWords (witness_line w) (stage_word w) (code_name w.code) (hex_text w.at) (hex_text w.other) (hex_text w.point)
 unfolding behind_stage behind_name behind_at
 words_of_line w fits =
     record {
@@ -178,4 +206,5 @@ words_of_line w fits =
 pub texts_differ : TextsDiffer
 texts_differ w v p q e =
     let of = words_of v q (words_of_line w p) e in
-    same_parts (same_name w.code v.code of.name_is) (same_hex w.at v.at p.0 q.0 of.at_is) (same_hex w.other v.other p.1 q.1 of.other_is) (same_hex w.point v.point p.2 q.2 of.point_is)
+    same_parts (same_name w.code v.code of.name_is) (same_hex w.at v.at p.0 q.0 of.at_is)
+    (same_hex w.other v.other p.1 q.1 of.other_is) (same_hex w.point v.point p.2 q.2 of.point_is)

@@ -8,7 +8,8 @@ use Rattle.std.specs.Option.{option_map_or}
 use Rattle.acpi_base.specs.Text.ImageText.{Data, Bad, digit_of, is_blank, skip_blanks, without_cr, without_comment, form_of, line_of, address_line_of, data_from}
 
 -- a slice and the element after it
-pub slice_range_more : (xs : List ℕ) (a i : ℕ) → a ≤ i → i < length xs → slice_range xs a (i + 1) ≡ slice_range xs a i ++ get_or xs i 0 ∷ []
+pub slice_range_more : (xs : List ℕ) (a i : ℕ) → a ≤ i → i < length xs
+    → slice_range xs a (i + 1) ≡ slice_range xs a i ++ get_or xs i 0 ∷ []
 slice_range_more xs a i low high = between_more xs a i 0 low high
 
 -- the first of the elements that are left
@@ -20,7 +21,8 @@ pub ruleset one_more = (slice_range_more, drop_here)
 
 -- fewer than 16 hex digits leave room for one more
 pub power_fits : (i : ℕ) → i < 16 → 16 ^ i * 16 ≤ 2 ^ 64
-power_fits i few = let most : 16 ^ i ≤ 16 ^ 15 = pow-le-pow_right {n = 16} (omega arith) {i = i} {j = 15} (omega arith) in omega arith
+power_fits i few = let most : 16 ^ i ≤ 16 ^ 15 =
+    pow-le-pow_right {n = 16} (omega arith) {i = i} {j = 15} (omega arith) in omega arith
 
 -- the bytes of a data line begin with those so far, and have one more where a pair has begun
 data_from_grows : (line bytes : List ℕ) (high : Option ℕ) (all : List ℕ) → data_from bytes high line ≡ Data all
@@ -34,7 +36,8 @@ data_from_grows (b ∷ rest) bytes high all e =
 
 -- what begins with no blank has data of at least one byte
 full_some : (at : Bool) (digit : Option ℕ) (rest all : List ℕ)
-    → (if at then address_line_of rest else option_map_or (λ high. data_from [] (Some high) rest) digit Bad) ≡ Data all → 0 < length all
+    → (if at then address_line_of rest else option_map_or (λ high. data_from [] (Some high) rest) digit Bad) ≡ Data all
+    → 0 < length all
 unfolding address_line_of
 full_some at digit rest all e = grind (arith, λ (h : ℕ). data_from_grows rest [] (Some h) all)
 
@@ -43,7 +46,8 @@ rest_some : (line all : List ℕ) → form_of (skip_blanks line) ≡ Data all �
 unfolding form_of skip_blanks data_from
 rest_some [] all e = absurd (cc)
 rest_some (b ∷ rest) all e =
-    elim (is_blank b) as (λ t. is_blank b ≡ t → form_of (if t then skip_blanks rest else b ∷ rest) ≡ Data all → 0 < length all) [
+    elim (is_blank b) as (λ t. is_blank b ≡ t → form_of (if t then skip_blanks rest else b ∷ rest) ≡ Data all
+    → 0 < length all) [
       | true ↦ λ blank f. rest_some rest all f
       | false ↦ λ full f. full_some (eqb b 64) (digit_of b) rest all (rw full at f)
     ] refl e

@@ -19,24 +19,31 @@ lines_are_parts : (line bytes : List ℕ) → IsLine line
     → (ended_lines_from line bytes ++ last_line_from line bytes ∷ [] ≡ slice_split (λ b. eqb b 10) (line ++ bytes))
     × All IsLine (ended_lines_from line bytes ++ last_line_from line bytes ∷ [])
 unfolding ended_lines_from last_line_from
-lines_are_parts line [] whole = rw append-nil (sym (slice_split_none _ line whole), All-cons IsLine line [] whole (All-nil _))
+lines_are_parts line [] whole =
+    rw append-nil (sym (slice_split_none _ line whole), All-cons IsLine line [] whole (All-nil _))
 lines_are_parts line (b ∷ rest) whole =
     elim (cases_eq b 10) [
       | inl lf ↦
           let later = lines_are_parts [] rest (All-nil _) in
-          rw lf (ap (λ lines. line ∷ lines) later.0 ∙ sym (slice_split_at _ line 10 rest whole refl), All-cons IsLine line _ whole later.1)
+          rw lf (
+            ap (λ lines. line ∷ lines) later.0 ∙ sym (slice_split_at _ line 10 rest whole refl),
+            All-cons IsLine line _ whole later.1,
+          )
       | inr other ↦
           let test = ne_eqb b 10 other in
-          rw (test, ← append_assoc line (b ∷ []) rest) (lines_are_parts (line ++ b ∷ []) rest (All-push (λ b. eqb b 10 ≡ false) line b whole test))
+          rw (test, ← append_assoc line (b ∷ []) rest)
+          (lines_are_parts (line ++ b ∷ []) rest (All-push (λ b. eqb b 10 ≡ false) line b whole test))
     ]
 
 -- lines that are joined by LFs stand between them
-parts_of_join : (lines : List (List ℕ)) → 0 < length lines → All IsLine lines → slice_split (λ b. eqb b 10) (join_with_byte 10 lines) ≡ lines
+parts_of_join : (lines : List (List ℕ)) → 0 < length lines → All IsLine lines
+    → slice_split (λ b. eqb b 10) (join_with_byte 10 lines) ≡ lines
 parts_of_join [] some whole = absurd (omega arith)
 parts_of_join (line ∷ []) some whole = slice_split_none _ line (All-head IsLine line [] whole)
 parts_of_join (line ∷ next ∷ lines) some whole =
     slice_split_at _ line 10 _ (All-head IsLine line (next ∷ lines) whole) refl
-    ∙ ap (λ parts. line ∷ parts) (parts_of_join (next ∷ lines) (omega arith) (All-tail IsLine line (next ∷ lines) whole))
+    ∙ ap (λ parts. line ∷ parts) (parts_of_join (next ∷ lines) (omega arith)
+    (All-tail IsLine line (next ∷ lines) whole))
 
 -- what is a line has no LF
 has_no_lf : (line : List ℕ) → IsLine line → ¬ Contains line 10
@@ -56,5 +63,6 @@ lines_mean bytes lines =
         joined = ap (join_with_byte 10) (sym e ∙ cut.0) ∙ join_with_byte-slice_split 10 bytes;
         whole = subst (All (λ line. ¬ Contains line 10)) e (All-weaker IsLine _ has_no_lf _ cut.1);
       },
-      λ are. cut.0 ∙ ap (slice_split _) (sym are.joined) ∙ parts_of_join lines are.some (All-weaker _ IsLine is_line lines are.whole),
+      λ are. cut.0 ∙ ap (slice_split _) (sym are.joined) ∙ parts_of_join lines are.some
+          (All-weaker _ IsLine is_line lines are.whole),
     )

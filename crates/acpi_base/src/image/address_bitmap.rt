@@ -97,7 +97,8 @@ impl AddressBitmap {
         requires fits { base + count ≤ 2 ^ 64 }
         ensures all { OnOk result ((x : ℕ) → base ≤ x → x < base + count → IsMarked self.new x) }
         ensures kept { (x : ℕ) → IsMarked self.old x → IsMarked self.new x }
-        ensures only { (x : ℕ) → IsMarked self.new x → IsMarked self.old x ⊎ ((base ≤ x) × (x < base + count)) }
+        ensures only { (x : ℕ) → IsMarked self.new x
+            → IsMarked self.old x ⊎ ((base ≤ x) × (x < base + count)) }
     {
         let last = base + (count - 1);
         for block in base / BLOCK..last / BLOCK + 1 {

@@ -39,7 +39,9 @@ fn room_behind(marks: &AddressBitmap, base: u64, count: u64) -> u64
 fn first_in_open(at: u64, len: u64, base: u64, count: u64) -> Option<u64>
     requires { 0 < count }
     ensures none { result ≡ None → (len ≡ 0) ⊎ (at + len ≤ base) ⊎ (base + count ≤ at) }
-    ensures some { IfSome result (λ s. (0 < len) × (base ≤ s) × (s < base + count) × (at ≤ s) × (s < at + len) × ((s ≡ base) ⊎ (s ≡ at))) }
+    ensures some { IfSome result
+        (λ s. (0 < len) × (base ≤ s) × (s < base + count) × (at ≤ s) × (s < at + len)
+        × ((s ≡ base) ⊎ (s ≡ at))) }
 {
     if len == 0 {
         return None;
@@ -74,7 +76,8 @@ fn lay_out(
 ) -> Result<Segments, AllocError>
     requires { AreEnded (length store.now) pieces.items }
     ensures sound { IfOk result IsSound }
-    ensures same { IfOk result (λ segments. memory_in segments ≡ memory_of (runs_in store.now pieces.items)) }
+    ensures same { IfOk result
+        (λ segments. memory_in segments ≡ memory_of (runs_in store.now pieces.items)) }
 {
     pieces.sort_unstable_by_key(|piece| piece.0);
     let mut segments = Segments::with_capacity(alloc, store.len())?;
@@ -117,7 +120,9 @@ impl ImageBuilder {
         ensures sound { IsBuilder self.new }
         ensures same { builder_memory self.new ≡ builder_memory self.old }
         ensures store { self.new.store ≡ self.old.store }
-        ensures yes { result ≡ true → (base ≡ self.new.base + (length self.new.store.items - self.new.start)) × (count ≤ self.new.room) }
+        ensures yes { result ≡ true
+            → (base ≡ self.new.base + (length self.new.store.items - self.new.start))
+            × (count ≤ self.new.room) }
     {
         let open = (self.store.len() - self.start) as u64;
         if open == 0 || base < self.base || base - self.base != open {
@@ -134,7 +139,9 @@ impl ImageBuilder {
         requires sound { IsBuilder self.old }
         requires room { length bytes.now ≤ self.old.room }
         ensures sound { IsBuilder self.new }
-        ensures ok { OnOk result (builder_memory self.new ≡ with_bytes (builder_memory self.old) (self.old.base + (length self.old.store.items - self.old.start)) bytes.now) }
+        ensures ok { OnOk result
+            (builder_memory self.new ≡ with_bytes (builder_memory self.old)
+            (self.old.base + (length self.old.store.items - self.old.start)) bytes.now) }
         ensures err { OnErr result (builder_memory self.new ≡ builder_memory self.old) }
     {
         self.store.extend_from_slice(bytes)?;
@@ -185,7 +192,8 @@ impl ImageBuilder {
         requires fits { base + length bytes.now ≤ 2 ^ 64 }
         requires free { first_held (builder_memory self.old) base (length bytes.now) ≡ None }
         ensures sound { IsBuilder self.new }
-        ensures ok { OnOk result (builder_memory self.new ≡ with_bytes (builder_memory self.old) base bytes.now) }
+        ensures ok { OnOk result
+            (builder_memory self.new ≡ with_bytes (builder_memory self.old) base bytes.now) }
         ensures err { OnErr result (builder_memory self.new ≡ builder_memory self.old) }
     {
         self.store.extend_from_slice(bytes)?;
@@ -213,8 +221,10 @@ impl ImageBuilder {
     pub fn add(&mut self, base: u64, bytes: &[u8]) -> Result<(), ImageFault>
         requires { IsBuilder self.old }
         ensures sound { IsBuilder self.new }
-        ensures refused { MatchOption (add_refusal (builder_memory self.old) base bytes.now) (IsOkUnless result ImageFault.Memory) (λ fault. result ≡ Err fault) }
-        ensures ok { OnOk result (builder_memory self.new ≡ with_bytes (builder_memory self.old) base bytes.now) }
+        ensures refused { MatchOption (add_refusal (builder_memory self.old) base bytes.now)
+            (IsOkUnless result ImageFault.Memory) (λ fault. result ≡ Err fault) }
+        ensures ok { OnOk result
+            (builder_memory self.new ≡ with_bytes (builder_memory self.old) base bytes.now) }
         ensures err { OnErr result (builder_memory self.new ≡ builder_memory self.old) }
         ensures nothing { length bytes.now ≡ 0 → IsOk result }
     {

@@ -16,7 +16,8 @@ const DISTANCE: usize = 128;
 #[tactic(auto, using(crate::proofs::Images::Sums::no_sum))]
 fn sum_of_blocks(sums: &[u8], count: usize) -> u8
     requires { count ≤ length sums.now }
-    ensures { (bytes : List ℕ) → AreSums sums.now bytes → result ≡ byte_sum (take (128 * count) bytes) }
+    ensures { (bytes : List ℕ) → AreSums sums.now bytes
+        → result ≡ byte_sum (take (128 * count) bytes) }
 {
     if count == 0 { 0 } else { sums[count - 1] }
 }

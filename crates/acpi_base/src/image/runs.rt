@@ -13,7 +13,8 @@ use crate::image::segments::Segments;
 #[tactic(auto, using(crate::proofs::Texts::Written::Rests::rests), unfolding(crate::specs::Memory::run_of))]
 fn rest_from(segments: &Segments, address: u64) -> &[u8]
     requires { IsSound segments.now }
-    ensures held { run_of (lookup (runs_of segments.now)) address (length result.now) ≡ Some result.now }
+    ensures held { run_of (lookup (runs_of segments.now)) address (length result.now) ≡ Some
+        result.now }
     ensures none_behind { lookup (runs_of segments.now) (address + length result.now) ≡ None }
 {
     let Some((base, bytes)) = segments.reaching(address) else {
@@ -30,7 +31,8 @@ fn rest_from(segments: &Segments, address: u64) -> &[u8]
 #[tactic(auto, using(crate::proofs::Texts::Written::Rests::firsts))]
 fn first_from(segments: &Segments, address: u64) -> Option<u64>
     requires { IsSound segments.now }
-    ensures { MatchOption result (IsEmptyFrom (memory_in segments.now) address) (IsFirstFrom (memory_in segments.now) address) }
+    ensures { MatchOption result (IsEmptyFrom (memory_in segments.now) address)
+        (IsFirstFrom (memory_in segments.now) address) }
 {
     if let Some(first) = segments.first_held(address, u64::MAX) {
         return Some(first);
@@ -45,7 +47,8 @@ fn first_from(segments: &Segments, address: u64) -> Option<u64>
 /// The first run from an address on.
 fn next_run(segments: &Segments, address: u64) -> Option<(u64, &[u8])>
     requires { IsSound segments.now }
-    ensures { MatchOption result (IsEmptyFrom (memory_in segments.now) address) (λ found. IsNextRun (memory_in segments.now) address found.0 found.1.now) }
+    ensures { MatchOption result (IsEmptyFrom (memory_in segments.now) address)
+        (λ found. IsNextRun (memory_in segments.now) address found.0 found.1.now) }
 {
     let base = first_from(segments, address)?;
     Some((base, rest_from(segments, base)))
@@ -55,7 +58,8 @@ impl Image {
     /// The first run of bytes that is held from an address on, up to the next address that is not held: where it
     /// begins, and its bytes. Takes no memory.
     pub(crate) fn run_from(&self, address: u64) -> Option<(u64, &[u8])>
-        ensures { MatchOption result (IsEmptyFrom self.now address) (λ found. IsNextRun self.now address found.0 found.1.now) }
+        ensures { MatchOption result (IsEmptyFrom self.now address)
+            (λ found. IsNextRun self.now address found.0 found.1.now) }
     {
         next_run(&self.segments, address)
     }

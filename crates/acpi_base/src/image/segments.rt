@@ -73,8 +73,10 @@ impl Segments {
     /// The last segment that begins at an address or before it: its base, and where its bytes lie.
     fn piece_reaching(&self, address: u64) -> Option<(u64, Span)>
         requires { IsSound self.now }
-        ensures reached { MatchOption result (lookup (runs_of self.now) address ≡ None) (λ piece. IsRunAt (runs_of self.now) address (run_in self.now.store piece)) }
-        ensures lies { IfSome result (λ piece. piece.1.start + piece.1.len ≤ length self.now.store) }
+        ensures reached { MatchOption result (lookup (runs_of self.now) address ≡ None)
+            (λ piece. IsRunAt (runs_of self.now) address (run_in self.now.store piece)) }
+        ensures lies { IfSome result
+            (λ piece. piece.1.start + piece.1.len ≤ length self.now.store) }
         ensures small { length self.now.store < 2 ^ 64 }
     {
         let count = self.store.len();
@@ -95,7 +97,8 @@ impl Segments {
     /// The last segment that begins at an address or before it.
     pub fn reaching(&self, address: u64) -> Option<(u64, &[u8])>
         requires { IsSound self.now }
-        ensures { MatchOption result (lookup (runs_of self.now) address ≡ None) (λ found. IsRunAt (runs_of self.now) address (run_at found.0 found.1.now)) }
+        ensures { MatchOption result (lookup (runs_of self.now) address ≡ None)
+            (λ found. IsRunAt (runs_of self.now) address (run_at found.0 found.1.now)) }
     {
         let (base, span) = self.piece_reaching(address)?;
         Some((base, span.bytes(self.store.bytes())))
@@ -115,7 +118,8 @@ impl Segments {
     fn window_span(&self, address: u64, count: u64) -> Option<Span>
         requires sound { IsSound self.now }
         requires some { 0 < count }
-        ensures bytes { option_map (λ span. take span.len (drop span.start self.now.store)) result ≡ run_of (lookup (runs_of self.now)) address count }
+        ensures bytes { option_map (λ span. take span.len (drop span.start self.now.store))
+            result ≡ run_of (lookup (runs_of self.now)) address count }
         ensures count { IfSome result (λ span. span.len ≡ count) }
         ensures lies { IfSome result (λ span. span.start + span.len ≤ length self.now.store) }
     {
@@ -135,7 +139,8 @@ impl Segments {
     pub fn window(&self, address: u64, count: u64) -> Option<&[u8]>
         requires sound { IsSound self.now }
         requires some { 0 < count }
-        ensures bytes { option_map (λ bytes. bytes.now) result ≡ run_of (lookup (runs_of self.now)) address count }
+        ensures bytes { option_map (λ bytes. bytes.now) result ≡ run_of (lookup (runs_of self.now))
+            address count }
         ensures count { IfSome result (λ bytes. length bytes.now ≡ count) }
     {
         let span = self.window_span(address, count)?;
@@ -157,7 +162,9 @@ impl Segments {
         requires sound { IsSound self.now }
         requires free { lookup (runs_of self.now) address ≡ None }
         ensures none { result ≡ None → (x : ℕ) → address ≤ x → lookup (runs_of self.now) x ≡ None }
-        ensures some { IfSome result (λ base. (address < base) × IsSome (lookup (runs_of self.now) base) × IsGap (runs_of self.now) address base) }
+        ensures some { IfSome result
+            (λ base. (address < base) × IsSome (lookup (runs_of self.now) base)
+            × IsGap (runs_of self.now) address base) }
     {
         let place = self.place(address);
         if place < self.ended.len() {
@@ -219,7 +226,8 @@ impl Segments {
         requires behind { end_in self.old ≤ base }
         requires fits { base + length bytes.now ≤ 2 ^ 64 }
         ensures sound { IsSound self.new }
-        ensures ok { OnOk result (memory_in self.new ≡ with_bytes (memory_in self.old) base bytes.now) }
+        ensures ok { OnOk result
+            (memory_in self.new ≡ with_bytes (memory_in self.old) base bytes.now) }
         ensures err { OnErr result (memory_in self.new ≡ memory_in self.old) }
         ensures end { OnOk result (end_in self.new ≡ base + length bytes.now) }
     {
@@ -235,8 +243,11 @@ impl Segments {
         requires lies { AllByRecursion (LiesBefore (length store.now)) pieces.now }
         requires behind { AllByRecursion (λ p. end_in self.old ≤ p.0) pieces.now }
         ensures sound { OnOk result (IsSound self.new) }
-        ensures whole { OnOk result ((x : ℕ) → byte_of (memory_in self.new) x ≡ option_or (byte_of (memory_in self.old) x) (lookup (runs_in store.now pieces.now) x)) }
-        ensures end { OnOk result ((a : ℕ) → end_in self.old ≤ a → AllByRecursion (λ p. end_at p ≤ a) pieces.now → end_in self.new ≤ a) }
+        ensures whole { OnOk result
+            ((x : ℕ) → byte_of (memory_in self.new) x ≡ option_or (byte_of (memory_in self.old) x)
+            (lookup (runs_in store.now pieces.now) x)) }
+        ensures end { OnOk result ((a : ℕ) → end_in self.old ≤ a
+            → AllByRecursion (λ p. end_at p ≤ a) pieces.now → end_in self.new ≤ a) }
     {
         for piece in pieces {
             self.take(piece.0, piece.1.bytes(store))?;
@@ -252,7 +263,8 @@ impl Segments {
         requires fits { base + length bytes.now ≤ 2 ^ 64 }
         requires free { IsGap (runs_of self.now) base (base + length bytes.now) }
         ensures sound { IfOk result IsSound }
-        ensures ok { IfOk result (λ all. memory_in all ≡ with_bytes (memory_in self.now) base bytes.now) }
+        ensures ok { IfOk result
+            (λ all. memory_in all ≡ with_bytes (memory_in self.now) base bytes.now) }
     {
         let (low, high) = self.ended.split_at(self.place(base));
         let store = self.store.bytes();
@@ -274,7 +286,8 @@ impl Segments {
         requires fits { base + length bytes.now ≤ 2 ^ 64 }
         requires free { IsGap (runs_of self.old) base (base + length bytes.now) }
         ensures sound { IsSound self.new }
-        ensures ok { OnOk result (memory_in self.new ≡ with_bytes (memory_in self.old) base bytes.now) }
+        ensures ok { OnOk result
+            (memory_in self.new ≡ with_bytes (memory_in self.old) base bytes.now) }
         ensures err { OnErr result (memory_in self.new ≡ memory_in self.old) }
     {
         if base >= self.base {

@@ -45,7 +45,8 @@ struct Words<'a> {
 /// What stands before, between and behind the first four blanks.
 fn split_words(text: &[u8]) -> Option<Words<'_>>
     ensures { MatchOption result ((w : Witness) → NumbersFit w → ¬ (text.now ≡ witness_line w))
-        (λ words. AreWords text.now words.stage.now words.name.now words.at.now words.other.now words.point.now) }
+        (λ words. AreWords text.now words.stage.now words.name.now words.at.now words.other.now
+        words.point.now) }
 {
     let (stage, rest) = split_word(text)?;
     let (name, rest) = split_word(rest)?;
@@ -63,7 +64,8 @@ fn split_words(text: &[u8]) -> Option<Words<'_>>
 /// What stands before the first blank, and what stands behind it.
 fn split_word(text: &[u8]) -> Option<(&[u8], &[u8])>
     ensures { MatchOption result (list_all is_no_blank text.now ≡ true)
-        (λ parts. (list_all is_no_blank parts.0.now ≡ true) × (text.now ≡ parts.0.now ++ (32 ∷ parts.1.now))) }
+        (λ parts. (list_all is_no_blank parts.0.now ≡ true)
+        × (text.now ≡ parts.0.now ++ (32 ∷ parts.1.now))) }
 {
     for i in 0..text.len() {
         if text[i] == b' ' {
@@ -75,7 +77,8 @@ fn split_word(text: &[u8]) -> Option<(&[u8], &[u8])>
 
 /// The code with this name, where its stage is spelled so.
 fn code_with(stage: &[u8], name: &[u8]) -> Option<Code>
-    ensures { MatchOption result ((code : Code) → ¬ IsHead stage.now name.now code) (IsHead stage.now name.now) }
+    ensures { MatchOption result ((code : Code) → ¬ IsHead stage.now name.now code)
+        (IsHead stage.now name.now) }
 {
     for number in 1..60 {
         let code = Code::new(number)?;

@@ -83,8 +83,11 @@ impl ImageText {
     pub fn feed(&mut self, piece: &[u8]) -> Result<(), TextFault>
         ensures ok { OnOk result (self.new ≡ run self.old piece.now) }
         ensures going { OnOk result (IsGoing self.new) }
-        ensures err { IfErr result (λ fault. (self.new ≡ Stopped fault) × ((fault ≡ TextFault.Memory) ⊎ (run self.old piece.now ≡ Stopped fault))) }
-        ensures stays { (fault : TextFault) → self.old ≡ Stopped fault → (result ≡ Err fault) × (self.new ≡ self.old) }
+        ensures err { IfErr result
+            (λ fault. (self.new ≡ Stopped fault)
+            × ((fault ≡ TextFault.Memory) ⊎ (run self.old piece.now ≡ Stopped fault))) }
+        ensures stays { (fault : TextFault) → self.old ≡ Stopped fault
+            → (result ≡ Err fault) × (self.new ≡ self.old) }
     {
         if let Some(fault) = self.stopped {
             return Err(fault);
@@ -102,7 +105,8 @@ impl ImageText {
     /// takes no memory.
     pub fn finish(self) -> Result<Image, TextFault>
         ensures ok { IfOk result (EndsAs self) }
-        ensures err { IfErr result (λ fault. (fault ≡ TextFault.Memory) ⊎ (text_result self ≡ Err fault)) }
+        ensures err { IfErr result (λ fault. (fault ≡ TextFault.Memory)
+            ⊎ (text_result self ≡ Err fault)) }
         ensures stays { (fault : TextFault) → self ≡ Stopped fault → result ≡ Err fault }
         ensures image { IfOk result IsImage }
     {

@@ -46,7 +46,8 @@ fn write_run(
     address: u64,
     bytes: &[u8],
 ) -> Result<(), AllocError>
-    ensures { OnOk result (text.new.items ≡ text.old.items ++ text_of (run_lines (record { base = address; bytes = bytes.now }))) }
+    ensures { OnOk result (text.new.items ≡ text.old.items ++ text_of
+        (run_lines (record { base = address; bytes = bytes.now }))) }
 {
     let line = format!(in alloc; "@{address:x}\n")?;
     text.extend_from_slice(line.as_bytes())?;

@@ -25,7 +25,7 @@ use Rattle.acpi_base.proofs.Root.Named.{no_root_and_root, one_root}
 use Rattle.acpi_base.proofs.Root.Slots.{one_slot, root_slot, slot_of_root}
 use Rattle.acpi_base.proofs.Tables.Faults.{excludes}
 use Rattle.acpi_base.proofs.Tables.Listed.{none_and_listed, one_listed}
-use Rattle.acpi_base.proofs.Facs.Faults.{place}
+use Rattle.acpi_base.proofs.Facs.{place}
 use Rattle.acpi_read.specs.Fadts.{FacsValue}
 use Rattle.acpi_read.specs.Roots.{RootValue}
 use Rattle.acpi_check.specs.HandedOn.{IsFacsNamed}

@@ -19,7 +19,16 @@ glyph_read d h =
           rw (lt-ltb d 10 low, le-leb 48 (48 + d) (omega arith), le-leb (48 + d) 57 (omega arith), back) refl
       | inr high ↦
           let back : 87 + d - 87 ≡ d = omega arith in
-          rw (le-ltb d 10 high, le-leb 48 (87 + d) (omega arith), lt-leb (87 + d) 57 (omega arith), le-leb 65 (87 + d) (omega arith), lt-leb (87 + d) 70 (omega arith), le-leb 97 (87 + d) (omega arith), le-leb (87 + d) 102 (omega arith), back) refl
+          rw (
+            le-ltb d 10 high,
+            le-leb 48 (87 + d) (omega arith),
+            lt-leb (87 + d) 57 (omega arith),
+            le-leb 65 (87 + d) (omega arith),
+            lt-leb (87 + d) 70 (omega arith),
+            le-leb 97 (87 + d) (omega arith),
+            le-leb (87 + d) 102 (omega arith),
+            back,
+          ) refl
     ]
 
 -- bytes of a line that neither end nor cut it
@@ -63,10 +72,16 @@ no_comment : (line : List ℕ) → AllByRecursion Plain line → without_comment
 no_comment line all = take_all (prefix_len (λ b. not (b == 35)) line) line (omega (arith, no_comment_len line all))
 
 -- a plain line that begins with no blank is read from its first byte
-plain_line : (c : ℕ) (line : List ℕ) → 33 ≤ c → AllByRecursion Plain (c ∷ line) → line_of (c ∷ line) ≡ form_of (c ∷ line)
+plain_line : (c : ℕ) (line : List ℕ) → 33 ≤ c → AllByRecursion Plain (c ∷ line)
+    → line_of (c ∷ line) ≡ form_of (c ∷ line)
 unfolding line_of skip_blanks
 plain_line c line high all =
-    rw (no_cr (c ∷ line) all, no_comment (c ∷ line) all, ne_eqb c 32 (λ e. absurd (omega (arith, e))), ne_eqb c 9 (λ e. absurd (omega (arith, e)))) refl
+    rw (
+      no_cr (c ∷ line) all,
+      no_comment (c ∷ line) all,
+      ne_eqb c 32 (λ e. absurd (omega (arith, e))),
+      ne_eqb c 9 (λ e. absurd (omega (arith, e))),
+    ) refl
 
 -- ---- data lines
 
@@ -91,7 +106,8 @@ length-spaced_pairs [] = refl
 length-spaced_pairs (b ∷ bs) = omega (arith, length-spaced_pairs bs)
 
 -- a pair is read as its byte
-pair_read : (bytes : List ℕ) (b : ℕ) (rest : List ℕ) → b < 256 → data_from bytes None (pair b ++ rest) ≡ data_from (bytes ++ b ∷ []) None rest
+pair_read : (bytes : List ℕ) (b : ℕ) (rest : List ℕ) → b < 256
+    → data_from bytes None (pair b ++ rest) ≡ data_from (bytes ++ b ∷ []) None rest
 unfolding data_from
 pair_read bytes b rest low =
     let high_read = glyph_read (b / 16) (omega arith) in
@@ -107,11 +123,13 @@ blank_read : (bytes rest : List ℕ) → data_from bytes None (32 ∷ rest) ≡ 
 unfolding data_from digit_of
 blank_read bytes rest = refl
 
-spaced_read : (bytes bs : List ℕ) → AllByRecursion (λ b. b < 256) bs → data_from bytes None (spaced_pairs bs) ≡ Data (bytes ++ bs)
+spaced_read : (bytes bs : List ℕ) → AllByRecursion (λ b. b < 256) bs
+    → data_from bytes None (spaced_pairs bs) ≡ Data (bytes ++ bs)
 unfolding spaced_pairs
 spaced_read bytes [] low = data_end bytes ∙ ap Data (sym (append-nil bytes))
 spaced_read bytes (b ∷ bs) low =
-    blank_read bytes (pair b ++ spaced_pairs bs) ∙ pair_read bytes b (spaced_pairs bs) low.0 ∙ spaced_read (bytes ++ b ∷ []) bs low.1 ∙ ap Data (append_assoc bytes (b ∷ []) bs)
+    blank_read bytes (pair b ++ spaced_pairs bs) ∙ pair_read bytes b (spaced_pairs bs) low.0
+    ∙ spaced_read (bytes ++ b ∷ []) bs low.1 ∙ ap Data (append_assoc bytes (b ∷ []) bs)
 
 pub row_line : (bs : List ℕ) → 0 < length bs → AllByRecursion (λ b. b < 256) bs → line_of (row bs) ≡ Data bs
 unfolding row form_of
@@ -119,16 +137,20 @@ row_line [] some low = absurd (omega arith)
 row_line (b ∷ bs) some low =
     let l = low.0 in
     let g = glyph_is (b / 16) (omega arith) in
-    let all : AllByRecursion Plain (pair b ++ spaced_pairs bs) = (plain_glyph _ g, (plain_glyph _ (glyph_is (b % 16) (omega arith)), spaced_plain bs low.1)) in
+    let all : AllByRecursion Plain (pair b ++ spaced_pairs bs) =
+    (plain_glyph _ g, (plain_glyph _ (glyph_is (b % 16) (omega arith)), spaced_plain bs low.1)) in
     plain_line (digit_glyph false (b / 16)) (digit_glyph false (b % 16) ∷ spaced_pairs bs) (omega (arith, g.0)) all
-    ∙ rw (ne_eqb (digit_glyph false (b / 16)) 64 g.1) (pair_read [] b (spaced_pairs bs) low.0 ∙ spaced_read (b ∷ []) bs low.1)
+    ∙ rw (ne_eqb (digit_glyph false (b / 16)) 64 g.1)
+    (pair_read [] b (spaced_pairs bs) low.0 ∙ spaced_read (b ∷ []) bs low.1)
 
 pub row_plain : (bs : List ℕ) → AllByRecursion (λ b. b < 256) bs → AllByRecursion Plain (row bs)
 unfolding row
 row_plain [] low = tt
 row_plain (b ∷ bs) low =
-    let l = low.0 in
-    (plain_glyph _ (glyph_is (b / 16) (omega arith)), (plain_glyph _ (glyph_is (b % 16) (omega arith)), spaced_plain bs low.1))
+    let l = low.0 in (
+      plain_glyph _ (glyph_is (b / 16) (omega arith)),
+      (plain_glyph _ (glyph_is (b % 16) (omega arith)), spaced_plain bs low.1),
+    )
 
 pub length-row : (bs : List ℕ) → length (row bs) ≤ 3 * length bs
 unfolding row
@@ -141,12 +163,14 @@ length-row (b ∷ bs) = omega (arith, length-spaced_pairs bs)
 record AreDigits (n : ℕ) (ds rest : List ℕ) : Type 0 where
   number : hex_number 0 ds ≡ hex_number n rest
   some : 0 < length ds
-  all : AllByRecursion (λ c. Glyph c × (is_hex_digit c ≡ true)) rest → AllByRecursion (λ c. Glyph c × (is_hex_digit c ≡ true)) ds
+  all : AllByRecursion (λ c. Glyph c × (is_hex_digit c ≡ true)) rest
+      → AllByRecursion (λ c. Glyph c × (is_hex_digit c ≡ true)) ds
 
 digit_is : (d : ℕ) → d < 16 → Glyph (digit_glyph false d) × (is_hex_digit (digit_glyph false d) ≡ true)
 digit_is d h = (glyph_is d h, ap is_some (glyph_read d h))
 
-digit_in : (value d : ℕ) (rest : List ℕ) → d < 16 → hex_number value (digit_glyph false d ∷ rest) ≡ hex_number (16 * value + d) rest
+digit_in : (value d : ℕ) (rest : List ℕ) → d < 16
+    → hex_number value (digit_glyph false d ∷ rest) ≡ hex_number (16 * value + d) rest
 unfolding hex_number
 digit_in value d rest h = rw (glyph_read d h) refl
 
@@ -177,7 +201,8 @@ digits_are (suc (suc k)) n rest some fits =
           let further = digits_are (suc k) (n / 16) (digit_glyph false (n % 16) ∷ rest) (omega arith) (omega arith) in
           rw (ne_eqb (n / 16) 0 high)
           (record {
-            number = further.number ∙ digit_in (n / 16) (n % 16) rest (omega arith) ∙ ap (λ (v : ℕ). hex_number v rest) value;
+            number = further.number ∙ digit_in (n / 16) (n % 16) rest (omega arith)
+                ∙ ap (λ (v : ℕ). hex_number v rest) value;
             some = further.some;
             all = λ more. further.all (digit_is (n % 16) (omega arith), more);
           })
@@ -218,10 +243,12 @@ hex_plain [] all = tt
 hex_plain (d ∷ ds) all = (plain_glyph d all.0.0, hex_plain ds all.1)
 
 -- an address of digits alone
-address_read : (ds : List ℕ) (a : ℕ) → AllByRecursion HexGlyph ds → 0 < length ds → length ds ≤ 16 → hex_number 0 ds ≡ a → address_line_of ds ≡ Address a
+address_read : (ds : List ℕ) (a : ℕ) → AllByRecursion HexGlyph ds → 0 < length ds → length ds ≤ 16 → hex_number 0 ds ≡ a
+    → address_line_of ds ≡ Address a
 unfolding address_line_of
 address_read ds a all some few number =
-    let taken : take_while is_hex_digit ds ≡ ds = take_all (prefix_len is_hex_digit ds) ds (omega (arith, all_hex_len ds all)) in
+    let taken : take_while is_hex_digit ds ≡ ds = take_all (prefix_len is_hex_digit ds) ds
+    (omega (arith, all_hex_len ds all)) in
     let none : drop (length ds) ds ≡ [] = drop_all (length ds) ds (omega arith) in
     rw (taken, none, le-leb 1 (length ds) some, le-leb (length ds) 16 few, number) refl
 
@@ -247,14 +274,17 @@ address_line_is a fits =
 
 -- ---- lines of a text
 
-pub ended_line : (line front rest : List ℕ) → AllByRecursion Plain line → ended_lines_from front (line ++ 10 ∷ rest) ≡ (front ++ line) ∷ ended_lines_from [] rest
+pub ended_line : (line front rest : List ℕ) → AllByRecursion Plain line
+    → ended_lines_from front (line ++ 10 ∷ rest) ≡ (front ++ line) ∷ ended_lines_from [] rest
 unfolding ended_lines_from
 ended_line [] front rest all = ap (λ (l : List ℕ). l ∷ ended_lines_from [] rest) (sym (append-nil front))
 ended_line (c ∷ line) front rest all =
     rw (ne_eqb c 10 (λ e. absurd (omega (arith, all.0.0, e))))
-    (ended_line line (front ++ c ∷ []) rest all.1 ∙ ap (λ (l : List ℕ). l ∷ ended_lines_from [] rest) (append_assoc front (c ∷ []) line))
+    (ended_line line (front ++ c ∷ []) rest all.1 ∙ ap (λ (l : List ℕ). l ∷ ended_lines_from [] rest)
+    (append_assoc front (c ∷ []) line))
 
-pub last_of_line : (line front rest : List ℕ) → AllByRecursion Plain line → last_line_from front (line ++ 10 ∷ rest) ≡ last_line_from [] rest
+pub last_of_line : (line front rest : List ℕ) → AllByRecursion Plain line
+    → last_line_from front (line ++ 10 ∷ rest) ≡ last_line_from [] rest
 unfolding last_line_from
 last_of_line [] front rest all = refl
 last_of_line (c ∷ line) front rest all =

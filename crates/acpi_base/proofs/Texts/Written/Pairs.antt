@@ -18,7 +18,8 @@ agrees (suc n) d all below =
     let parts = and_parts (slice_index lower_digits n == digit_glyph false n) (all_agree n) all in
     elim (cases_lt d n) [
       | inl less ↦ agrees n d parts.1 less
-      | inr top ↦ (let same : d ≡ n = omega arith in rw same (eqb-true (slice_index lower_digits n) (digit_glyph false n) parts.0))
+      | inr top ↦ (let same : d ≡ n = omega arith in
+          rw same (eqb-true (slice_index lower_digits n) (digit_glyph false n) parts.0))
     ]
 
 digit_encoded : (d : ℕ) → d < 16 → slice_index lower_digits d ≡ digit_glyph false d

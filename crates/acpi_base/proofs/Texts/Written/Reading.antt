@@ -29,31 +29,39 @@ fits_text : (line_bytes through : ℕ) → line_bytes ≤ 65536 → through ≤ 
 fits_text line_bytes through short fits = rw (le-ltb 65536 line_bytes short, le-ltb 67108864 through fits) refl
 
 -- a line that is short enough is taken for what it says
-read_short : (r : Reading) (line : List ℕ) (ending : ℕ) (said : Line) → line_of line ≡ said → length line ≤ 65536 → r.through + length line + ending ≤ 67108864
-    → read_line r line ending ≡ take_line (record r { lines = r.lines + 1; through = r.through + length line + ending }) (r.lines + 1) said
+read_short : (r : Reading) (line : List ℕ) (ending : ℕ) (said : Line) → line_of line ≡ said → length line ≤ 65536
+    → r.through + length line + ending ≤ 67108864
+    → read_line r line ending ≡ take_line (record r { lines = r.lines + 1; through = r.through + length line + ending })
+    (r.lines + 1) said
 unfolding read_line
-read_short r line ending said is short fits = rw (fits_text (length line) (r.through + length line + ending) short fits, is) refl
+read_short r line ending said is short fits =
+    rw (fits_text (length line) (r.through + length line + ending) short fits, is) refl
 
 one_line : (r : Reading) (line : List ℕ) (s : Reading) → read_line r line 1 ≡ Ok s → read_lines r (line ∷ []) ≡ Ok s
 unfolding read_lines
 one_line r line s e = rw e refl
 
-lines_append : (r : Reading) (xs ys : List (List ℕ)) (s : Reading) → read_lines r xs ≡ Ok s → read_lines r (xs ++ ys) ≡ read_lines s ys
+lines_append : (r : Reading) (xs ys : List (List ℕ)) (s : Reading) → read_lines r xs ≡ Ok s
+    → read_lines r (xs ++ ys) ≡ read_lines s ys
 unfolding read_lines
 lines_append r [] ys s e = ap (λ (t : Result Reading TextFault). on_ok t (λ u. read_lines u ys)) e
 lines_append r (x ∷ xs) ys s e =
-    elim (read_line r x 1) as (λ t. on_ok t (λ u. read_lines u xs) ≡ Ok s → on_ok t (λ u. read_lines u (xs ++ ys)) ≡ read_lines s ys) [
+    elim (read_line r x 1) as (λ t. on_ok t (λ u. read_lines u xs) ≡ Ok s
+    → on_ok t (λ u. read_lines u (xs ++ ys)) ≡ read_lines s ys) [
       | Ok u ↦ λ f. lines_append u xs ys s f
       | Err fault ↦ λ f. absurd (cc)
     ] e
 
 -- nothing is refused behind the end
-none_refused : (m : Memory) (a : ℕ) (bytes : List ℕ) → IsEmptyFrom m a → a + length bytes ≤ 2 ^ 64 → add_refusal m a bytes ≡ None
+none_refused : (m : Memory) (a : ℕ) (bytes : List ℕ) → IsEmptyFrom m a → a + length bytes ≤ 2 ^ 64
+    → add_refusal m a bytes ≡ None
 none_refused m a bytes below fits =
-    let none : first_held m a (length bytes) ≡ None = first_of_none (byte_of m) a (length bytes) (λ k l. below (a + k) (omega arith)) in
+    let none : first_held m a (length bytes) ≡ None = first_of_none (byte_of m) a (length bytes)
+    (λ k l. below (a + k) (omega arith)) in
     rw (le-ltb (2 ^ 64) (a + length bytes) fits, none) refl
 
-ends_later : (m : Memory) (a : ℕ) (bytes : List ℕ) → IsEmptyFrom m a → IsEmptyFrom (with_bytes m a bytes) (a + length bytes)
+ends_later : (m : Memory) (a : ℕ) (bytes : List ℕ) → IsEmptyFrom m a
+    → IsEmptyFrom (with_bytes m a bytes) (a + length bytes)
 ends_later m a bytes below x past = byte_of-with_bytes_outside m a bytes x (inr past) ∙ below x (omega arith)
 
 data_taken : (r : Reading) (n a : ℕ) (bytes : List ℕ) → r.next ≡ Some a → add_refusal r.image a bytes ≡ None
@@ -61,13 +69,16 @@ data_taken : (r : Reading) (n a : ℕ) (bytes : List ℕ) → r.next ≡ Some a 
 data_taken r n a bytes next none = rw (next, none) refl
 
 -- a row is read
-row_read : (r : Reading) (a : ℕ) (bytes : List ℕ) → r.next ≡ Some a → IsEmptyFrom r.image a → a + length bytes ≤ 2 ^ 64 → 0 < length bytes → length bytes ≤ 16 → AllByRecursion (λ b. b < 256) bytes
-    → r.through + length (text_of (row bytes ∷ [])) ≤ 67108864 → Reads r (row bytes ∷ []) (a + length bytes) (with_bytes r.image a bytes)
+row_read : (r : Reading) (a : ℕ) (bytes : List ℕ) → r.next ≡ Some a → IsEmptyFrom r.image a → a + length bytes ≤ 2 ^ 64
+    → 0 < length bytes → length bytes ≤ 16 → AllByRecursion (λ b. b < 256) bytes
+    → r.through + length (text_of (row bytes ∷ [])) ≤ 67108864
+    → Reads r (row bytes ∷ []) (a + length bytes) (with_bytes r.image a bytes)
 row_read r a bytes next below fits some few low short =
     let count = length-row bytes in
     let joined = length-append (row bytes) (10 ∷ []) in
     let joined' = length-append (row bytes ++ 10 ∷ []) [] in
-    let line = read_short r (row bytes) 1 (Data bytes) (row_line bytes some low) (omega (arith, count)) (omega (arith, short, joined, joined')) in
+    let line = read_short r (row bytes) 1 (Data bytes) (row_line bytes some low) (omega (arith, count))
+    (omega (arith, short, joined, joined')) in
     let after : Reading = record r { lines = r.lines + 1; through = r.through + length (row bytes) + 1 } in
     let taken = data_taken after (r.lines + 1) a bytes next (none_refused r.image a bytes below fits) in
     record {
@@ -79,8 +90,11 @@ row_read r a bytes next below fits some few low short =
     }
 
 -- bytes put in one part after the other
-pub put_parts : (m : Memory) (a : ℕ) (xs ys : List ℕ) → with_bytes (with_bytes m a xs) (a + length xs) ys ≡ with_bytes m a (xs ++ ys)
-put_parts m a xs ys = same_memory (with_bytes (with_bytes m a xs) (a + length xs) ys) (with_bytes m a (xs ++ ys)) (λ x. each x (cases_lt x a) (cases_lt x (a + length xs)) (cases_lt x (a + length xs + length ys)))
+pub put_parts : (m : Memory) (a : ℕ) (xs ys : List ℕ)
+    → with_bytes (with_bytes m a xs) (a + length xs) ys ≡ with_bytes m a (xs ++ ys)
+put_parts m a xs ys =
+    same_memory (with_bytes (with_bytes m a xs) (a + length xs) ys) (with_bytes m a (xs ++ ys))
+    (λ x. each x (cases_lt x a) (cases_lt x (a + length xs)) (cases_lt x (a + length xs + length ys)))
   where
     count : length (xs ++ ys) ≡ length xs + length ys
     count = length-append xs ys
@@ -88,7 +102,8 @@ put_parts m a xs ys = same_memory (with_bytes (with_bytes m a xs) (a + length xs
     same_place : (x : ℕ) → a + length xs ≤ x → x - (a + length xs) ≡ x - a - length xs
     same_place x second = omega arith
 
-    each : (x : ℕ) → (x < a) ⊎ (a ≤ x) → (x < a + length xs) ⊎ (a + length xs ≤ x) → (x < a + length xs + length ys) ⊎ (a + length xs + length ys ≤ x)
+    each : (x : ℕ) → (x < a) ⊎ (a ≤ x) → (x < a + length xs) ⊎ (a + length xs ≤ x)
+        → (x < a + length xs + length ys) ⊎ (a + length xs + length ys ≤ x)
         → byte_of (with_bytes (with_bytes m a xs) (a + length xs) ys) x ≡ byte_of (with_bytes m a (xs ++ ys)) x
     each x (inl below) _ _ =
         byte_of-with_bytes_outside (with_bytes m a xs) (a + length xs) ys x (inl (omega arith))
@@ -101,7 +116,8 @@ put_parts m a xs ys = same_memory (with_bytes (with_bytes m a xs) (a + length xs
         ∙ sym (byte_of-with_bytes_within m a (xs ++ ys) x from (omega (arith, count)))
     each x (inr from) (inr second) (inl within) =
         byte_of-with_bytes_within (with_bytes m a xs) (a + length xs) ys x second within
-        ∙ ap Some (ap (slice_index ys) (same_place x second) ∙ sym (get_or-append_right xs ys (length xs) (x - a) 0 refl (omega arith)))
+        ∙ ap Some (ap (slice_index ys) (same_place x second)
+        ∙ sym (get_or-append_right xs ys (length xs) (x - a) 0 refl (omega arith)))
         ∙ sym (byte_of-with_bytes_within m a (xs ++ ys) x from (omega (arith, count)))
     each x (inr from) (inr second) (inr behind) =
         byte_of-with_bytes_outside (with_bytes m a xs) (a + length xs) ys x (inr behind)
@@ -110,13 +126,16 @@ put_parts m a xs ys = same_memory (with_bytes (with_bytes m a xs) (a + length xs
 
 pub text_append : (xs ys : List (List ℕ)) → text_of (xs ++ ys) ≡ text_of xs ++ text_of ys
 text_append [] ys = refl
-text_append (x ∷ xs) ys = ap (λ (t : List ℕ). line_with_lf x ++ t) (text_append xs ys) ∙ sym (append_assoc (line_with_lf x) (text_of xs) (text_of ys))
+text_append (x ∷ xs) ys =
+    ap (λ (t : List ℕ). line_with_lf x ++ t) (text_append xs ys)
+    ∙ sym (append_assoc (line_with_lf x) (text_of xs) (text_of ys))
 
 length-text_append : (xs ys : List (List ℕ)) → length (text_of (xs ++ ys)) ≡ length (text_of xs) + length (text_of ys)
 length-text_append xs ys = ap length (text_append xs ys) ∙ length-append (text_of xs) (text_of ys)
 
 -- some lines, and then others
-reads_both : (r : Reading) (xs ys : List (List ℕ)) (a b : ℕ) (m n : Memory) → (first : Reads r xs a m) → Reads first.reading ys b n → Reads r (xs ++ ys) b n
+reads_both : (r : Reading) (xs ys : List (List ℕ)) (a b : ℕ) (m n : Memory) → (first : Reads r xs a m)
+    → Reads first.reading ys b n → Reads r (xs ++ ys) b n
 reads_both r xs ys a b m n first rest = record {
   reading = rest.reading;
   read = lines_append r xs ys first.reading first.read ∙ rest.read;
@@ -144,8 +163,11 @@ unfolding with_bytes
 no_put m a [] e = refl
 no_put m a (b ∷ bs) e = absurd (omega arith)
 
-rows_read : (n : ℕ) (r : Reading) (a : ℕ) (bytes : List ℕ) → r.next ≡ Some a → IsEmptyFrom r.image a → a + length bytes ≤ 2 ^ 64 → length bytes ≤ 16 * n → 16 * n < length bytes + 16 → AllByRecursion (λ b. b < 256) bytes
-    → r.through + length (text_of (rows n bytes)) ≤ 67108864 → Reads r (rows n bytes) (a + length bytes) (with_bytes r.image a bytes)
+rows_read : (n : ℕ) (r : Reading) (a : ℕ) (bytes : List ℕ) → r.next ≡ Some a → IsEmptyFrom r.image a
+    → a + length bytes ≤ 2 ^ 64 → length bytes ≤ 16 * n → 16 * n < length bytes + 16
+    → AllByRecursion (λ b. b < 256) bytes
+    → r.through + length (text_of (rows n bytes)) ≤ 67108864
+    → Reads r (rows n bytes) (a + length bytes) (with_bytes r.image a bytes)
 unfolding rows
 rows_read zero r a bytes next below fits few many low short =
     let none : length bytes ≡ 0 = omega arith in
@@ -161,20 +183,27 @@ rows_read (suc n) r a bytes next below fits few many low short =
     let front = length-take 16 bytes in
     let back = length-drop 16 bytes in
     let split = length-text_append (row (take 16 bytes) ∷ []) (rows n (drop 16 bytes)) in
-    let first = row_read r a (take 16 bytes) next below (omega (arith, front)) (omega (arith, front)) (omega (arith, front)) (all_take (λ b. b < 256) 16 bytes low) (omega (arith, short, split)) in
-    let ends = subst (λ (m : Memory). IsEmptyFrom m (a + length (take 16 bytes))) (sym first.image_is) (ends_later r.image a (take 16 bytes) below) in
-    let rest = rows_read n first.reading (a + length (take 16 bytes)) (drop 16 bytes) first.next_is ends (omega (arith, front, back)) (omega (arith, back)) (omega (arith, back)) (all_drop (λ b. b < 256) 16 bytes low) (omega (arith, short, split, first.through_is)) in
+    let first = row_read r a (take 16 bytes) next below (omega (arith, front)) (omega (arith, front))
+    (omega (arith, front)) (all_take (λ b. b < 256) 16 bytes low) (omega (arith, short, split)) in
+    let ends = subst (λ (m : Memory). IsEmptyFrom m (a + length (take 16 bytes))) (sym first.image_is)
+    (ends_later r.image a (take 16 bytes) below) in
+    let rest = rows_read n first.reading (a + length (take 16 bytes)) (drop 16 bytes) first.next_is ends
+    (omega (arith, front, back)) (omega (arith, back)) (omega (arith, back)) (all_drop (λ b. b < 256) 16 bytes low)
+    (omega (arith, short, split, first.through_is)) in
     let both = reads_both r (row (take 16 bytes) ∷ []) (rows n (drop 16 bytes)) _ _ _ _ first rest in
     let place : a + length (take 16 bytes) + length (drop 16 bytes) ≡ a + length bytes = omega (arith, front, back) in
-    let image : with_bytes first.reading.image (a + length (take 16 bytes)) (drop 16 bytes) ≡ with_bytes r.image a bytes =
+    let image : with_bytes first.reading.image (a + length (take 16 bytes)) (drop 16 bytes) ≡ with_bytes r.image a
+    bytes =
     ap (λ (m : Memory). with_bytes m (a + length (take 16 bytes)) (drop 16 bytes)) first.image_is
     ∙ put_parts r.image a (take 16 bytes) (drop 16 bytes)
     ∙ ap (with_bytes r.image a) (take-append-drop 16 bytes) in
     subst (λ (x : ℕ). Reads r (row (take 16 bytes) ∷ rows n (drop 16 bytes)) x (with_bytes r.image a bytes)) place
-    (subst (λ (m : Memory). Reads r (row (take 16 bytes) ∷ rows n (drop 16 bytes)) (a + length (take 16 bytes) + length (drop 16 bytes)) m) image both)
+    (subst (λ (m : Memory). Reads r (row (take 16 bytes) ∷ rows n (drop 16 bytes))
+    (a + length (take 16 bytes) + length (drop 16 bytes)) m) image both)
 
 -- an address line is read
-address_taken : (r : Reading) (a : ℕ) → a < 2 ^ 64 → r.through + length (text_of (address_line a ∷ [])) ≤ 67108864 → Reads r (address_line a ∷ []) a r.image
+address_taken : (r : Reading) (a : ℕ) → a < 2 ^ 64 → r.through + length (text_of (address_line a ∷ [])) ≤ 67108864
+    → Reads r (address_line a ∷ []) a r.image
 address_taken r a fits short =
     let line = address_line_is a fits in
     let few = line.short in
@@ -183,22 +212,27 @@ address_taken r a fits short =
     let after : Reading = record r { lines = r.lines + 1; through = r.through + length (address_line a) + 1 } in
     record {
       reading = record after { next = Some a };
-      read = one_line r (address_line a) _ (read_short r (address_line a) 1 (Address a) line.says (omega (arith, few)) (omega (arith, short, joined, joined')));
+      read = one_line r (address_line a) _
+          (read_short r (address_line a) 1 (Address a) line.says (omega (arith, few))
+          (omega (arith, short, joined, joined')));
       next_is = refl;
       image_is = refl;
       through_is = omega (arith, joined, joined');
     }
 
 -- a run is read
-run_read : (r : Reading) (bound : ℕ) (w : Run) → IsEmptyFrom r.image bound → bound ≤ w.base → IsWhole w → r.through + length (text_of (run_lines w)) ≤ 67108864
+run_read : (r : Reading) (bound : ℕ) (w : Run) → IsEmptyFrom r.image bound → bound ≤ w.base → IsWhole w
+    → r.through + length (text_of (run_lines w)) ≤ 67108864
     → Reads r (run_lines w) (end_of w) (with_bytes r.image w.base w.bytes)
 run_read r bound w below from whole short =
     let filled = whole.filled in
     let fits = whole.fits in
     let split = length-text_append (address_line w.base ∷ []) (rows (row_count w.bytes) w.bytes) in
     let first = address_taken r w.base (omega arith) (omega (arith, short, split)) in
-    let ends : IsEmptyFrom first.reading.image w.base = subst (λ (m : Memory). IsEmptyFrom m w.base) (sym first.image_is) (λ x past. below x (omega arith)) in
-    let rest = rows_read (row_count w.bytes) first.reading w.base w.bytes first.next_is ends fits (omega arith) (omega arith) whole.bytes (omega (arith, short, split, first.through_is)) in
+    let ends : IsEmptyFrom first.reading.image w.base = subst (λ (m : Memory). IsEmptyFrom m w.base)
+    (sym first.image_is) (λ x past. below x (omega arith)) in
+    let rest = rows_read (row_count w.bytes) first.reading w.base w.bytes first.next_is ends fits (omega arith)
+    (omega arith) whole.bytes (omega (arith, short, split, first.through_is)) in
     subst (λ (m : Memory). Reads r (run_lines w) (end_of w) (with_bytes m w.base w.bytes)) first.image_is
     (reads_both r (address_line w.base ∷ []) (rows (row_count w.bytes) w.bytes) _ _ _ _ first rest)
 
@@ -210,14 +244,19 @@ record Ends (r : Reading) (lines : List (List ℕ)) (m : Memory) : Type 0 where
   image_is : reading.image ≡ m
   through_is : reading.through ≡ r.through + length (text_of lines)
 
-runs_read : (rs : List Run) (r : Reading) (bound : ℕ) → AreSortedRuns bound rs → IsEmptyFrom r.image bound → r.through + length (text_of (flat_map run_lines rs)) ≤ 67108864 → Ends r (flat_map run_lines rs) (with_runs r.image rs)
+runs_read : (rs : List Run) (r : Reading) (bound : ℕ) → AreSortedRuns bound rs → IsEmptyFrom r.image bound
+    → r.through + length (text_of (flat_map run_lines rs)) ≤ 67108864
+    → Ends r (flat_map run_lines rs) (with_runs r.image rs)
 unfolding with_runs
-runs_read [] r bound up below short = record { reading = r; read = no_lines r; image_is = refl; through_is = omega arith }
+runs_read [] r bound up below short =
+    record { reading = r; read = no_lines r; image_is = refl; through_is = omega arith }
 runs_read (w ∷ rs) r bound up below short =
     let split = length-text_append (run_lines w) (flat_map run_lines rs) in
     let first = run_read r bound w below up.0 up.1 (omega (arith, short, split)) in
-    let later : IsEmptyFrom (with_bytes r.image w.base w.bytes) (end_of w + 1) = λ x past. ends_later r.image w.base w.bytes (λ y h. below y (omega (arith, up.0))) x (omega arith) in
-    let ends : IsEmptyFrom first.reading.image (end_of w + 1) = subst (λ (m : Memory). IsEmptyFrom m (end_of w + 1)) (sym first.image_is) later in
+    let later : IsEmptyFrom (with_bytes r.image w.base w.bytes) (end_of w + 1) =
+    λ x past. ends_later r.image w.base w.bytes (λ y h. below y (omega (arith, up.0))) x (omega arith) in
+    let ends : IsEmptyFrom first.reading.image (end_of w + 1) =
+    subst (λ (m : Memory). IsEmptyFrom m (end_of w + 1)) (sym first.image_is) later in
     let rest = runs_read rs first.reading (end_of w + 1) up.2 ends (omega (arith, short, split, first.through_is)) in
     record {
       reading = rest.reading;
@@ -235,17 +274,23 @@ lines_again : (lines : List (List ℕ)) → AllPlain lines → ended_lines_from 
 unfolding ended_lines_from
 lines_again [] all = refl
 lines_again (l ∷ ls) all =
-    ap (ended_lines_from []) (append_assoc l (10 ∷ []) (text_of ls)) ∙ ended_line l [] (text_of ls) all.0 ∙ ap (λ (rest : List (List ℕ)). l ∷ rest) (lines_again ls all.1)
+    ap (ended_lines_from []) (append_assoc l (10 ∷ []) (text_of ls)) ∙ ended_line l [] (text_of ls) all.0
+    ∙ ap (λ (rest : List (List ℕ)). l ∷ rest) (lines_again ls all.1)
 
 last_again : (lines : List (List ℕ)) → AllPlain lines → last_line_from [] (text_of lines) ≡ []
 unfolding last_line_from
 last_again [] all = refl
-last_again (l ∷ ls) all = ap (last_line_from []) (append_assoc l (10 ∷ []) (text_of ls)) ∙ last_of_line l [] (text_of ls) all.0 ∙ last_again ls all.1
+last_again (l ∷ ls) all =
+    ap (last_line_from []) (append_assoc l (10 ∷ []) (text_of ls)) ∙ last_of_line l [] (text_of ls) all.0
+    ∙ last_again ls all.1
 
 rows_plain : (n : ℕ) (bytes : List ℕ) → AllByRecursion (λ b. b < 256) bytes → AllPlain (rows n bytes)
 unfolding rows
 rows_plain zero bytes low = tt
-rows_plain (suc n) bytes low = (row_plain (take 16 bytes) (all_take (λ b. b < 256) 16 bytes low), rows_plain n (drop 16 bytes) (all_drop (λ b. b < 256) 16 bytes low))
+rows_plain (suc n) bytes low = (
+  row_plain (take 16 bytes) (all_take (λ b. b < 256) 16 bytes low),
+  rows_plain n (drop 16 bytes) (all_drop (λ b. b < 256) 16 bytes low),
+)
 
 plain_append : (xs ys : List (List ℕ)) → AllPlain xs → AllPlain ys → AllPlain (xs ++ ys)
 plain_append [] ys a b = b
@@ -256,25 +301,34 @@ runs_plain [] bound up = tt
 runs_plain (w ∷ rs) bound up =
     let filled = up.1.filled in
     let fits = up.1.fits in
-    plain_append (run_lines w) (flat_map run_lines rs) ((address_line_is w.base (omega arith)).plain, rows_plain (row_count w.bytes) w.bytes up.1.bytes) (runs_plain rs (end_of w + 1) up.2)
+    plain_append (run_lines w) (flat_map run_lines rs) (
+      (address_line_is w.base (omega arith)).plain,
+      rows_plain (row_count w.bytes) w.bytes up.1.bytes,
+    ) (runs_plain rs (end_of w + 1) up.2)
 
 -- an empty last line changes no image
 empty_line : line_of [] ≡ Blank
 unfolding line_of skip_blanks form_of
 empty_line = refl
 
-pub written_is_text : (rs : List Run) → AreSortedRuns 0 rs → length (runs_text rs) ≤ 67108864 → IsText (runs_text rs) (with_runs empty rs)
+pub written_is_text : (rs : List Run) → AreSortedRuns 0 rs → length (runs_text rs) ≤ 67108864
+    → IsText (runs_text rs) (with_runs empty rs)
 unfolding runs_text
 written_is_text rs up short =
     let lines = flat_map run_lines rs in
     let plain = runs_plain rs 0 up in
     let ends = runs_read rs start 0 up (λ x h. get-empty nat_cmp x) (omega (arith, short)) in
     let last = read_short ends.reading [] 0 Blank empty_line (omega arith) (omega (arith, ends.through_is, short)) in
-    let read : read_text (text_of lines) ≡ Ok (record ends.reading { lines = ends.reading.lines + 1; through = ends.reading.through + 0 + 0 }) =
-    rw (lines_again lines plain, last_again lines plain, ends.read) last in
-    (record ends.reading { lines = ends.reading.lines + 1; through = ends.reading.through + 0 + 0 }, read, ends.image_is)
+    let read : read_text (text_of lines) ≡ Ok
+    (record ends.reading { lines = ends.reading.lines + 1; through = ends.reading.through + 0 + 0 }) =
+    rw (lines_again lines plain, last_again lines plain, ends.read) last in (
+      record ends.reading { lines = ends.reading.lines + 1; through = ends.reading.through + 0 + 0 },
+      read,
+      ends.image_is,
+    )
 
 pub written_read : WrittenIsText
 written_read text m is short =
     subst (λ (t : List ℕ). IsText t m) (sym is.is)
-    (subst (λ (n : Memory). IsText (runs_text is.runs) n) is.image (written_is_text is.runs is.rising (subst (λ (t : List ℕ). length t ≤ 67108864) is.is short)))
+    (subst (λ (n : Memory). IsText (runs_text is.runs) n) is.image
+    (written_is_text is.runs is.rising (subst (λ (t : List ℕ). length t ≤ 67108864) is.is short)))

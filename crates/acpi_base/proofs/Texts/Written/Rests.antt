@@ -12,10 +12,12 @@ use Rattle.acpi_base.proofs.Images.ByteRuns.{run_of-from_each}
 
 -- ---- the rest of a segment
 
-rest_count : (a : ℕ) (r : Run) (bytes : List ℕ) → r.base ≤ a → bytes ≡ drop (a - r.base) r.bytes → length bytes ≡ end_of r - a
+rest_count : (a : ℕ) (r : Run) (bytes : List ℕ) → r.base ≤ a → bytes ≡ drop (a - r.base) r.bytes
+    → length bytes ≡ end_of r - a
 rest_count a r bytes from is = ap length is ∙ omega (arith, from, length-drop (a - r.base) r.bytes)
 
-pub rest_held : (rs : List Run) (a : ℕ) (r : Run) (bytes : List ℕ) → IsRunAt rs a r → bytes ≡ drop (a - r.base) r.bytes → run_of (lookup rs) a (length bytes) ≡ Some bytes
+pub rest_held : (rs : List Run) (a : ℕ) (r : Run) (bytes : List ℕ) → IsRunAt rs a r → bytes ≡ drop (a - r.base) r.bytes
+    → run_of (lookup rs) a (length bytes) ≡ Some bytes
 rest_held rs a r bytes reached is =
     let from = reached.begins in
     let count = rest_count a r bytes from is in
@@ -23,13 +25,16 @@ rest_held rs a r bytes reached is =
     let place : a + k - r.base ≡ (a - r.base) + k = omega (arith, from) in
     reached.further (a + k) (omega arith) (omega (arith, count, l))
     ∙ held_at r (a + k) (omega (arith, from)) (omega (arith, count, l))
-    ∙ ap Some (ap (λ (j : ℕ). get_or r.bytes j 0) place ∙ sym (get_or-drop (a - r.base) r.bytes k 0) ∙ ap (λ (bs : List ℕ). get_or bs k 0) (sym is)))
+    ∙ ap Some (ap (λ (j : ℕ). get_or r.bytes j 0) place ∙ sym (get_or-drop (a - r.base) r.bytes k 0)
+    ∙ ap (λ (bs : List ℕ). get_or bs k 0) (sym is)))
 
-pub rest_ends : (rs : List Run) (a : ℕ) (r : Run) (bytes : List ℕ) → IsRunAt rs a r → bytes ≡ drop (a - r.base) r.bytes → lookup rs (a + length bytes) ≡ None
+pub rest_ends : (rs : List Run) (a : ℕ) (r : Run) (bytes : List ℕ) → IsRunAt rs a r → bytes ≡ drop (a - r.base) r.bytes
+    → lookup rs (a + length bytes) ≡ None
 rest_ends rs a r bytes reached is =
     let count = rest_count a r bytes reached.begins is in
     elim (cases_lt a (end_of r)) [
-      | inl within ↦ reached.further (a + length bytes) (omega arith) (omega (arith, count, within)) ∙ held_none r (a + length bytes) (inr (omega (arith, count, within)))
+      | inl within ↦ reached.further (a + length bytes) (omega arith) (omega (arith, count, within))
+          ∙ held_none r (a + length bytes) (inr (omega (arith, count, within)))
       | inr past ↦
           let here : a + length bytes ≡ a = omega (arith, count, past) in
           ap (lookup rs) here ∙ reached.here ∙ held_none r a (inr past)
@@ -39,11 +44,13 @@ pub ruleset rests = (rest_held, rest_ends)
 
 -- ---- the first address
 
-first_is : (f : ℕ → Option ℕ) (a n x : ℕ) → least_defined f a n ≡ Some x → (a ≤ x) × ((y : ℕ) → a ≤ y → y < x → f y ≡ None) × IsSome (f x)
+first_is : (f : ℕ → Option ℕ) (a n x : ℕ) → least_defined f a n ≡ Some x
+    → (a ≤ x) × ((y : ℕ) → a ≤ y → y < x → f y ≡ None) × IsSome (f x)
 unfolding least_defined
 first_is f a zero x e = absurd (cc)
 first_is f a (suc n) x e =
-    elim (f a) as (λ v. f a ≡ v → cond (is_some v) (Some a) (least_defined f (a + 1) n) ≡ Some x → (a ≤ x) × ((y : ℕ) → a ≤ y → y < x → f y ≡ None) × IsSome (f x)) [
+    elim (f a) as (λ v. f a ≡ v → cond (is_some v) (Some a) (least_defined f (a + 1) n) ≡ Some x
+    → (a ≤ x) × ((y : ℕ) → a ≤ y → y < x → f y ≡ None) × IsSome (f x)) [
       | None ↦ λ none later.
           let rest = first_is f (a + 1) n x later in (
             omega (arith, rest.0),
@@ -76,7 +83,8 @@ none_past m x image past =
     ] refl
 
 -- where nothing is held below the last address
-pub last_first : (rs : List Run) (a n : ℕ) → a < 2 ^ 64 → IsImage (memory_of rs) → 2 ^ 64 - 1 ≤ a + n → least_defined (lookup rs) a n ≡ None → IsSome (lookup rs (2 ^ 64 - 1))
+pub last_first : (rs : List Run) (a n : ℕ) → a < 2 ^ 64 → IsImage (memory_of rs) → 2 ^ 64 - 1 ≤ a + n
+    → least_defined (lookup rs) a n ≡ None → IsSome (lookup rs (2 ^ 64 - 1))
     → IsFirstFrom (memory_of rs) a (2 ^ 64 - 1)
 last_first rs a n fits image count none held = record {
   from_there = omega (arith, fits);
@@ -84,14 +92,16 @@ last_first rs a n fits image count none held = record {
   held = ap is_some (byte_of_memory_of rs (2 ^ 64 - 1)) ∙ held;
 }
 
-pub none_at_all : (rs : List Run) (a n : ℕ) → IsImage (memory_of rs) → 2 ^ 64 - 1 ≤ a + n → least_defined (lookup rs) a n ≡ None → lookup rs (2 ^ 64 - 1) ≡ None
+pub none_at_all : (rs : List Run) (a n : ℕ) → IsImage (memory_of rs) → 2 ^ 64 - 1 ≤ a + n
+    → least_defined (lookup rs) a n ≡ None → lookup rs (2 ^ 64 - 1) ≡ None
     → IsEmptyFrom (memory_of rs) a
 none_at_all rs a n image count none last x l =
     elim (cases_lt x (2 ^ 64 - 1)) [
       | inl below ↦ byte_of_memory_of rs x ∙ nothing_held (lookup rs) a n x none l (omega (arith, count))
       | inr past ↦ elim (cases_lt (2 ^ 64 - 1) x) [
         | inl behind ↦ none_past (memory_of rs) x image (omega arith)
-        | inr same ↦ (let at : x ≡ 2 ^ 64 - 1 = omega arith in ap (byte_of (memory_of rs)) at ∙ byte_of_memory_of rs (2 ^ 64 - 1) ∙ last)
+        | inr same ↦ (let at : x ≡ 2 ^ 64 - 1 = omega arith in
+            ap (byte_of (memory_of rs)) at ∙ byte_of_memory_of rs (2 ^ 64 - 1) ∙ last)
       ]
     ]
 
@@ -99,7 +109,8 @@ pub ruleset firsts = (last_first, none_at_all)
 
 -- ---- the run that begins there
 
-pub next_of : (rs : List Run) (a base : ℕ) (bytes : List ℕ) → IsFirstFrom (memory_of rs) a base → run_of (lookup rs) base (length bytes) ≡ Some bytes
+pub next_of : (rs : List Run) (a base : ℕ) (bytes : List ℕ) → IsFirstFrom (memory_of rs) a base
+    → run_of (lookup rs) base (length bytes) ≡ Some bytes
     → lookup rs (base + length bytes) ≡ None → IsNextRun (memory_of rs) a base bytes
 next_of rs a base bytes first held none = record {
   first = first;

@@ -5,7 +5,8 @@ use Rattle.std.proofs.lemmas.Bool.{cases_lt}
 use Rattle.std.proofs.lemmas.List.{drop_more, drop_all, take_all, append-nil}
 use Rattle.acpi_base.specs.Text.WrittenText.{pair, spaced_pairs, row, rows, row_count, line_with_lf, text_of}
 
-pub spaced_more : (bs : List ℕ) (i b : ℕ) → i < length bs → b ≡ get_or bs i b → spaced_pairs (drop i bs) ≡ 32 ∷ (pair b ++ spaced_pairs (drop (i + 1) bs))
+pub spaced_more : (bs : List ℕ) (i b : ℕ) → i < length bs → b ≡ get_or bs i b
+    → spaced_pairs (drop i bs) ≡ 32 ∷ (pair b ++ spaced_pairs (drop (i + 1) bs))
 unfolding spaced_pairs
 spaced_more bs i b h e = ap spaced_pairs (drop_more bs i b h ∙ ap (λ x. x ∷ drop (i + 1) bs) (sym e))
 
@@ -18,25 +19,31 @@ pub ruleset pairs = (spaced_more, spaced_all, append_assoc, append-nil)
 -- ---- the lines of a run, one by one
 
 rows_more : (bs : List ℕ) → 0 < length bs
-    → text_of (rows (row_count bs) bs) ≡ line_with_lf (row (take 16 bs)) ++ text_of (rows (row_count (drop 16 bs)) (drop 16 bs))
+    → text_of (rows (row_count bs) bs) ≡ line_with_lf (row (take 16 bs)) ++ text_of
+    (rows (row_count (drop 16 bs)) (drop 16 bs))
 unfolding rows
 rows_more bs some =
     let back = length-drop 16 bs in
     let count : row_count bs ≡ suc (row_count (drop 16 bs)) = omega (arith, back) in
     ap (λ (n : ℕ). text_of (rows n bs)) count
 
-first_part : (x later : List ℕ) → length x ≡ min 16 (length (x ++ later)) → (take 16 (x ++ later) ≡ x) × (drop 16 (x ++ later) ≡ later)
+first_part : (x later : List ℕ) → length x ≡ min 16 (length (x ++ later))
+    → (take 16 (x ++ later) ≡ x) × (drop 16 (x ++ later) ≡ later)
 first_part x later count =
     let both = length-append x later in
     elim (cases_lt (length x) 16) [
       | inl short ↦
           let none : length later ≡ 0 = omega (arith, both, count) in
           let nothing : later ≡ [] = no_elements later none in
-          let whole : x ++ later ≡ x = ap (λ (ys : List ℕ). x ++ ys) nothing ∙ append-nil x in
-          (take_all 16 (x ++ later) (omega (arith, both, none)) ∙ whole, drop_all 16 (x ++ later) (omega (arith, both, none)) ∙ sym nothing)
+          let whole : x ++ later ≡ x = ap (λ (ys : List ℕ). x ++ ys) nothing ∙ append-nil x in (
+            take_all 16 (x ++ later) (omega (arith, both, none)) ∙ whole,
+            drop_all 16 (x ++ later) (omega (arith, both, none)) ∙ sym nothing,
+          )
       | inr full ↦
-          let sixteen : 16 ≡ length x = omega (arith, both, count) in
-          (ap (λ (n : ℕ). take n (x ++ later)) sixteen ∙ take-length x later, ap (λ (n : ℕ). drop n (x ++ later)) sixteen ∙ drop-length x later)
+          let sixteen : 16 ≡ length x = omega (arith, both, count) in (
+            ap (λ (n : ℕ). take n (x ++ later)) sixteen ∙ take-length x later,
+            ap (λ (n : ℕ). drop n (x ++ later)) sixteen ∙ drop-length x later,
+          )
     ]
   where
     no_elements : (ys : List ℕ) → length ys ≡ 0 → ys ≡ []

@@ -23,18 +23,22 @@ rising : (from : ℕ) (rs : List Run) (next : ℕ) → RiseTo from rs next → A
 rising from [] next up = tt
 rising from (r ∷ rs) next up = (up.0, up.1, rising (end_of r + 1) rs next up.2)
 
-rise_more : (from : ℕ) (rs : List Run) (next : ℕ) (r : Run) → RiseTo from rs next → next ≤ r.base → IsWhole r → RiseTo from (rs ++ r ∷ []) (end_of r + 1)
+rise_more : (from : ℕ) (rs : List Run) (next : ℕ) (r : Run) → RiseTo from rs next → next ≤ r.base → IsWhole r
+    → RiseTo from (rs ++ r ∷ []) (end_of r + 1)
 rise_more from [] next r up h whole = (omega (arith, up), whole, omega arith)
 rise_more from (s ∷ rs) next r up h whole = (up.0, up.1, rise_more (end_of s + 1) rs next r up.2 h whole)
 
-with_more : (m : Memory) (rs : List Run) (r : Run) → with_runs m (rs ++ r ∷ []) ≡ with_bytes (with_runs m rs) r.base r.bytes
+with_more : (m : Memory) (rs : List Run) (r : Run)
+    → with_runs m (rs ++ r ∷ []) ≡ with_bytes (with_runs m rs) r.base r.bytes
 unfolding with_runs
 with_more m [] r = refl
 with_more m (s ∷ rs) r = with_more (with_bytes m s.base s.bytes) rs r
 
 lines_more : (rs : List Run) (r : Run) → flat_map run_lines (rs ++ r ∷ []) ≡ flat_map run_lines rs ++ run_lines r
 lines_more [] r = append-nil (run_lines r)
-lines_more (s ∷ rs) r = ap (λ (ls : List (List ℕ)). run_lines s ++ ls) (lines_more rs r) ∙ sym (append_assoc (run_lines s) (flat_map run_lines rs) (run_lines r))
+lines_more (s ∷ rs) r =
+    ap (λ (ls : List (List ℕ)). run_lines s ++ ls) (lines_more rs r)
+    ∙ sym (append_assoc (run_lines s) (flat_map run_lines rs) (run_lines r))
 
 written_more : (rs : List Run) (r : Run) → runs_text (rs ++ r ∷ []) ≡ runs_text rs ++ text_of (run_lines r)
 unfolding runs_text
@@ -73,7 +77,8 @@ some_none : {o : Option ℕ} → IsSome o → o ≡ None → ⊥
 some_none held none = absurd (cc)
 
 -- the next run is whole
-whole_run : (m : Memory) (from base : ℕ) (bytes : List ℕ) → IsImage m → IsNextRun m from base bytes → IsWhole (record { base = base; bytes = bytes })
+whole_run : (m : Memory) (from base : ℕ) (bytes : List ℕ) → IsImage m → IsNextRun m from base bytes
+    → IsWhole (record { base = base; bytes = bytes })
 whole_run m from base bytes image run =
     let each = run_of-each (byte_of m) base (length bytes) bytes run.held in
     let filled : 0 < length bytes = elim (cases_lt 0 (length bytes)) [
@@ -84,16 +89,20 @@ whole_run m from base bytes image run =
     ] in
     record {
       filled = filled;
-      fits = (let last = image.addresses (base + (length bytes - 1)) _ (each (length bytes - 1) (omega (arith, filled))) in omega (arith, last, filled));
-      bytes = recursion_from_All (λ b. b < 256) bytes (All-from_get_or (λ b. b < 256) bytes 0 (λ k h. image.bytes (base + k) _ (each k h)));
+      fits = (let last = image.addresses (base + (length bytes - 1)) _
+          (each (length bytes - 1) (omega (arith, filled))) in omega (arith, last, filled));
+      bytes = recursion_from_All (λ b. b < 256) bytes
+          (All-from_get_or (λ b. b < 256) bytes 0 (λ k h. image.bytes (base + k) _ (each k h)));
     }
 
-pub next_run_is_later : (m : Memory) (from base : ℕ) (bytes : List ℕ) → IsImage m → IsNextRun m from base bytes → (from < base + length bytes) × (base + length bytes ≤ 2 ^ 64)
+pub next_run_is_later : (m : Memory) (from base : ℕ) (bytes : List ℕ) → IsImage m → IsNextRun m from base bytes
+    → (from < base + length bytes) × (base + length bytes ≤ 2 ^ 64)
 next_run_is_later m from base bytes image run =
     let whole = whole_run m from base bytes image run in
     (omega (arith, run.first.from_there, whole.filled), whole.fits)
 
-pub more : (text : List ℕ) (m : Memory) (from base : ℕ) (bytes : List ℕ) → IsImage m → IsWrittenTo text m from → IsNextRun m from base bytes
+pub more : (text : List ℕ) (m : Memory) (from base : ℕ) (bytes : List ℕ) → IsImage m → IsWrittenTo text m from
+    → IsNextRun m from base bytes
     → IsWrittenTo (text ++ text_of (run_lines (record { base = base; bytes = bytes }))) m (base + length bytes)
 more text m from base bytes image so_far run =
     let r : Run = record { base = base; bytes = bytes } in
@@ -104,7 +113,8 @@ more text m from base bytes image so_far run =
       | inl less ↦ absurd (some_none run.first.held (so_far.gap base start less))
       | inr from ↦ from
     ] in
-    let put : (x : ℕ) → byte_of (with_runs empty (so_far.runs ++ r ∷ [])) x ≡ byte_of (with_bytes old base bytes) x = λ x. ap (λ (n : Memory). byte_of n x) (with_more empty so_far.runs r) in
+    let put : (x : ℕ) → byte_of (with_runs empty (so_far.runs ++ r ∷ [])) x ≡ byte_of (with_bytes old base bytes) x =
+    λ x. ap (λ (n : Memory). byte_of n x) (with_more empty so_far.runs r) in
     record {
       runs = so_far.runs ++ r ∷ [];
       next = base + length bytes + 1;
@@ -126,7 +136,8 @@ more text m from base bytes image so_far run =
     }
 
 -- where nothing is held from there on, it is the image's
-pub whole_text : (text : List ℕ) (m : Memory) (from : ℕ) → IsWrittenTo text m from → IsEmptyFrom m from → IsWritten text m
+pub whole_text : (text : List ℕ) (m : Memory) (from : ℕ) → IsWrittenTo text m from → IsEmptyFrom m from
+    → IsWritten text m
 whole_text text m from so_far none = record {
   runs = so_far.runs;
   rising = rising 0 so_far.runs so_far.next so_far.up;
@@ -138,10 +149,12 @@ whole_text text m from so_far none = record {
 }
 
 -- a text of all below 2^64 is the image's
-pub last_text : (text : List ℕ) (m : Memory) (from : ℕ) → IsImage m → 2 ^ 64 ≤ from → IsWrittenTo text m from → IsWritten text m
-last_text text m from image end so_far = whole_text text m from so_far (λ x h. elim (byte_of m x) as (λ v. byte_of m x ≡ v → v ≡ None) [
-  | None ↦ λ e. refl
-  | Some b ↦ λ e. (let below = image.addresses x b e in absurd (omega arith))
-] refl)
+pub last_text : (text : List ℕ) (m : Memory) (from : ℕ) → IsImage m → 2 ^ 64 ≤ from → IsWrittenTo text m from
+    → IsWritten text m
+last_text text m from image end so_far =
+    whole_text text m from so_far (λ x h. elim (byte_of m x) as (λ v. byte_of m x ≡ v → v ≡ None) [
+      | None ↦ λ e. refl
+      | Some b ↦ λ e. (let below = image.addresses x b e in absurd (omega arith))
+    ] refl)
 
 pub ruleset written_runs = (begin, next_run_is_later, more, whole_text, last_text)

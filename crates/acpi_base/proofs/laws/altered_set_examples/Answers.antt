@@ -2,4 +2,10 @@ use Rattle.acpi_base.proofs.Examples.AlteredSets.{rsdp_faults, root_faults, tabl
 use Rattle.acpi_base.proofs.laws.altered_set_examples.Goals as goal
 
 pub returns : goal.returns
-returns c = record { rsdp_faults = rsdp_faults; root_faults = root_faults; table_faults = table_faults; fadt_faults = fadt_faults; facs_faults = facs_faults }
+returns c = record {
+  rsdp_faults = rsdp_faults;
+  root_faults = root_faults;
+  table_faults = table_faults;
+  fadt_faults = fadt_faults;
+  facs_faults = facs_faults;
+}

@@ -3,4 +3,14 @@ use Rattle.acpi_base.proofs.Examples.Srats.{srat_said, srat_faults, first_overla
 use Rattle.acpi_base.proofs.laws.madt_and_srat_examples.Goals as goal
 
 pub returns : goal.returns
-returns c = record { madt = madt_said; srat = srat_said; madt_faults = madt_faults; srat_faults = srat_faults; first_interrupt = first_interrupt; first_overlaps = first_overlaps; sound_madt = no_madt_fault; sound_srat = no_srat_fault }
+returns c = record {
+  madt = madt_said;
+  srat = srat_said;
+  madt_faults = madt_faults;
+  srat_faults = srat_faults;
+  first_interrupt = first_interrupt;
+  first_overlaps = first_overlaps;
+  sound_madt = no_madt_fault;
+  sound_srat =
+      no_srat_fault;
+}

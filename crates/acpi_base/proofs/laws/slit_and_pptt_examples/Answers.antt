@@ -3,4 +3,12 @@ use Rattle.acpi_base.proofs.Examples.Pptts.{pptt_said, pptt_faults, cycle_faults
 use Rattle.acpi_base.proofs.laws.slit_and_pptt_examples.Goals as goal
 
 pub returns : goal.returns
-returns c = record { slit = slit_said; slit_faults = slit_faults; sound_slit = sound_slits; pptt = pptt_said; pptt_faults = pptt_faults; cycles = cycle_faults; sound_pptt = no_pptt_fault }
+returns c = record {
+  slit = slit_said;
+  slit_faults = slit_faults;
+  sound_slit = sound_slits;
+  pptt = pptt_said;
+  pptt_faults = pptt_faults;
+  cycles = cycle_faults;
+  sound_pptt = no_pptt_fault;
+}

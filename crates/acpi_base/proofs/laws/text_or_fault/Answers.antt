@@ -3,4 +3,10 @@ use Rattle.acpi_base.proofs.Texts.OwnFaults.{refusals_are_own}
 use Rattle.acpi_base.proofs.laws.text_or_fault.Goals as goal
 
 pub returns : goal.returns
-returns c = record { either = good_or_refused; apart = good_not_refused; image = one_image; fault = one_refusal; own = refusals_are_own }
+returns c = record {
+  either = good_or_refused;
+  apart = good_not_refused;
+  image = one_image;
+  fault = one_refusal;
+  own = refusals_are_own;
+}

@@ -112,7 +112,8 @@ fn parse_address(rest: &[u8]) -> Form
 /// vector has their bytes.
 #[tactic(auto, unfolding(crate::specs::Text::ImageText::data_from), using(crate::proofs::Texts::LineParsing::one_more))]
 fn parse_data(line: &[u8], bytes: &mut Vec<u8>) -> Result<bool, AllocError>
-    ensures { IfOk result (λ is_data. data_line is_data bytes.new.items ≡ data_from [] None line.now) }
+    ensures { IfOk result (λ is_data. data_line is_data bytes.new.items ≡ data_from [] None
+        line.now) }
 {
     bytes.clear();
     let mut rest = line;

@@ -54,9 +54,12 @@ impl LineBuffer {
     fn end_line(&mut self, part: &[u8]) -> Result<(), TextFault>
         requires { IsLineBuffer self.old }
         ensures sound { OnOk result (IsLineBuffer self.new) }
-        ensures ok { OnOk result (read_line (reading_of self.old.parser) (self.old.line.items ++ part.now) 1 ≡ Ok (reading_of self.new.parser)) }
+        ensures ok { OnOk result
+            (read_line (reading_of self.old.parser) (self.old.line.items ++ part.now) 1 ≡ Ok
+            (reading_of self.new.parser)) }
         ensures line { OnOk result (self.new.line.items ≡ []) }
-        ensures err { IfErr result (Refuses (read_line (reading_of self.old.parser) (self.old.line.items ++ part.now) 1)) }
+        ensures err { IfErr result
+            (Refuses (read_line (reading_of self.old.parser) (self.old.line.items ++ part.now) 1)) }
     {
         if self.line.is_empty() {
             return self.parser.read_line(part, 1, &mut self.bytes);
@@ -76,7 +79,8 @@ impl LineBuffer {
         requires free { (k : ℕ) → k < length part.now → slice_index part.now k ≢ 10 }
         ensures sound { OnOk result (IsLineBuffer self.new) }
         ensures ok { OnOk result (run (buffer_state self.old) part.now ≡ buffer_state self.new) }
-        ensures err { IfErr result (λ fault. (fault ≡ TextFault.Memory) ⊎ (run (buffer_state self.old) part.now ≡ Stopped fault)) }
+        ensures err { IfErr result (λ fault. (fault ≡ TextFault.Memory)
+            ⊎ (run (buffer_state self.old) part.now ≡ Stopped fault)) }
     {
         let most = MAX_LINE.min(MAX_TEXT - self.parser.through() as usize);
         if part.len() > most - self.line.len() {
@@ -91,7 +95,8 @@ impl LineBuffer {
         requires { IsLineBuffer self.old }
         ensures sound { OnOk result (IsLineBuffer self.new) }
         ensures ok { OnOk result (run (buffer_state self.old) piece.now ≡ buffer_state self.new) }
-        ensures err { IfErr result (λ fault. (fault ≡ TextFault.Memory) ⊎ (run (buffer_state self.old) piece.now ≡ Stopped fault)) }
+        ensures err { IfErr result (λ fault. (fault ≡ TextFault.Memory)
+            ⊎ (run (buffer_state self.old) piece.now ≡ Stopped fault)) }
     {
         let mut rest = piece;
         'lines: loop {
@@ -110,7 +115,8 @@ impl LineBuffer {
     pub fn finish(self, alloc: Global) -> Result<Image, TextFault>
         requires { IsLineBuffer self }
         ensures ok { IfOk result (EndsAs (buffer_state self)) }
-        ensures err { IfErr result (Refuses (read_line (reading_of self.parser) self.line.items 0)) }
+        ensures err { IfErr result
+            (Refuses (read_line (reading_of self.parser) self.line.items 0)) }
         ensures image { IfOk result IsImage }
     {
         let mut buffer = self;

@@ -57,8 +57,11 @@ impl LineParser {
     fn put_data(&mut self, bytes: &[u8]) -> Result<(), TextFault>
         requires some { 0 < length bytes.now }
         requires image { IsBuilder self.old.image }
-        ensures ok { OnOk result (put_data (reading_of self.old) self.old.lines bytes.now self.old.next ≡ Ok (reading_of self.new)) }
-        ensures err { IfErr result (Refuses (put_data (reading_of self.old) self.old.lines bytes.now self.old.next)) }
+        ensures ok { OnOk result
+            (put_data (reading_of self.old) self.old.lines bytes.now self.old.next ≡ Ok
+            (reading_of self.new)) }
+        ensures err { IfErr result
+            (Refuses (put_data (reading_of self.old) self.old.lines bytes.now self.old.next)) }
         ensures image { OnOk result (IsBuilder self.new.image) }
     {
         let line = self.lines;
@@ -82,8 +85,11 @@ impl LineParser {
     fn take_line(&mut self, form: Form, bytes: &[u8]) -> Result<(), TextFault>
         requires image { IsBuilder self.old.image }
         requires some { form ≡ Form.Data → 0 < length bytes.now }
-        ensures ok { OnOk result (take_line (reading_of self.old) self.old.lines (line_with form bytes.now) ≡ Ok (reading_of self.new)) }
-        ensures err { IfErr result (Refuses (take_line (reading_of self.old) self.old.lines (line_with form bytes.now))) }
+        ensures ok { OnOk result
+            (take_line (reading_of self.old) self.old.lines (line_with form bytes.now) ≡ Ok
+            (reading_of self.new)) }
+        ensures err { IfErr result
+            (Refuses (take_line (reading_of self.old) self.old.lines (line_with form bytes.now))) }
         ensures image { OnOk result (IsBuilder self.new.image) }
     {
         match form {
@@ -110,11 +116,13 @@ impl LineParser {
         requires lines { self.old.lines ≤ self.old.through }
         requires through { self.old.through ≤ max_text }
         requires ending { ending ≤ 1 }
-        ensures ok { OnOk result (read_line (reading_of self.old) line.now ending ≡ Ok (reading_of self.new)) }
+        ensures ok { OnOk result
+            (read_line (reading_of self.old) line.now ending ≡ Ok (reading_of self.new)) }
         ensures err { IfErr result (Refuses (read_line (reading_of self.old) line.now ending)) }
         ensures image { OnOk result (IsBuilder self.new.image) }
         ensures lines { OnOk result (self.new.lines ≡ self.old.lines + 1) }
-        ensures through { OnOk result (self.new.through ≡ self.old.through + length line.now + ending) }
+        ensures through { OnOk result
+            (self.new.through ≡ self.old.through + length line.now + ending) }
         ensures short { OnOk result (self.new.through ≤ max_text) }
     {
         if line.len() > MAX_LINE {

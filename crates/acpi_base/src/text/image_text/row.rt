@@ -11,7 +11,8 @@ const ROW: usize = 47;
 /// The byte that a pair of hex digits spells.
 #[tactic(auto, unfolding(crate::specs::Text::ImageText::data_from))]
 fn pair_value(high: u8, low: u8) -> Option<u8>
-    ensures { IfSome result (λ byte. (bytes rest : List ℕ) → data_from bytes None (high ∷ low ∷ rest) ≡ data_from (bytes ++ byte ∷ []) None rest) }
+    ensures { IfSome result (λ byte. (bytes rest : List ℕ)
+        → data_from bytes None (high ∷ low ∷ rest) ≡ data_from (bytes ++ byte ∷ []) None rest) }
 {
     Some(16 * digit_value(high)? + digit_value(low)?)
 }

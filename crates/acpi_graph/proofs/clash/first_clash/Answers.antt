@@ -7,13 +7,16 @@ use Rattle.acpi_graph.proofs.SortedSpans.{in_order, names_permuted, clear_permut
 use Rattle.acpi_graph.proofs.clash.first_clash.Goals as goal
 
 -- from the sorted spans back to the spans as they came
-found_permuted : (xs ys : List Span) (found : Clash) → IsPermutation xs ys → IfAt found (IsFirstClash ys) → IfAt found (IsFirstClash xs)
+found_permuted : (xs ys : List Span) (found : Clash) → IsPermutation xs ys → IfAt found (IsFirstClash ys)
+    → IfAt found (IsFirstClash xs)
 found_permuted xs ys clash.None moved first = tt
-found_permuted xs ys (clash.At first second point) moved found = first_clash_permuted xs ys first second point moved found
+found_permuted xs ys (clash.At first second point) moved found =
+    first_clash_permuted xs ys first second point moved found
 
 none_where_clear : (xs : List Span) (found : Clash) → IfAt found (IsFirstClash xs) → IsClear xs → found ≡ clash.None
 none_where_clear xs clash.None first clear = refl
-none_where_clear xs (clash.At first second point) found clear = absurd (clear point (point_shared xs first second point found))
+none_where_clear xs (clash.At first second point) found clear =
+    absurd (clear point (point_shared xs first second point found))
 
 pub first_overlap-requires-clause-names : goal.first_overlap-requires-clause-names
 first_overlap-requires-clause-names c = subst NamesDiffer (sym c.deref.ensures.value)
@@ -31,7 +34,8 @@ returns-clause-none c =
     subst (IsPermutation c.args.spans.items) (sym c.deref.ensures.value) c.sort_unstable.ensures.permutation in (
       (λ none. clear_permuted c.args.spans.items c.deref.result.now moved (c.first_overlap.ensures.none none)),
       none_where_clear c.args.spans.items c.first_overlap.result.0
-          (found_permuted c.args.spans.items c.deref.result.now c.first_overlap.result.0 moved c.first_overlap.ensures.first),
+          (found_permuted c.args.spans.items c.deref.result.now c.first_overlap.result.0 moved
+          c.first_overlap.ensures.first),
     )
 
 pub returns-clause-first : goal.returns-clause-first

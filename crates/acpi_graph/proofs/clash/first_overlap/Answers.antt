@@ -9,7 +9,10 @@ returns-then-overlaps-clause-first c =
     let after = c.index-spans-next-in-loop-next.result in
     is_first_clash c.args.spans.now c.requires.names c.requires.order (c.loop-next.next - 1) before after (record {
       at_a = record { within = omega arith; is = sym c.index-spans-next.is };
-      at_b = record { within = omega arith; is = subst (λ k. get_or c.args.spans.now k after ≡ after) (sym step) (sym c.index-spans-next-in-loop-next.is) };
+      at_b = record {
+        within = omega arith;
+        is = subst (λ k. get_or c.args.spans.now k after ≡ after) (sym step) (sym c.index-spans-next-in-loop-next.is);
+      };
       before = λ k d below. c.loop-next.invariant.2 k d (omega arith);
       into = c.if-overlaps.ensures.overlap.0 refl;
     })

@@ -11,4 +11,5 @@ loop-start-preserved c =
 
 pub returns-in_default-clause-first : goal.returns-in_default-clause-first
 returns-in_default-clause-first c =
-    first_stray_found c.args.parents.now c.loop-start.start c.walk.result c.loop-start-test.true c.loop-start.invariant.1 c.walk.ensures.round
+    first_stray_found c.args.parents.now c.loop-start.start c.walk.result c.loop-start-test.true
+    c.loop-start.invariant.1 c.walk.ensures.round

@@ -7,4 +7,5 @@ use Rattle.acpi_base.proofs.image.Image.add.Goals as goal
 
 pub put-requires-clause-free : goal.put-requires-clause-free
 put-requires-clause-free c = λ x from to.
-    nothing_held (lookup (runs_of c.self.inside.segments)) c.args.base (length c.args.bytes.now) x (fits_unless _ _ (sym c.in_default.ensures)).1 from to
+    nothing_held (lookup (runs_of c.self.inside.segments)) c.args.base (length c.args.bytes.now) x
+    (fits_unless _ _ (sym c.in_default.ensures)).1 from to

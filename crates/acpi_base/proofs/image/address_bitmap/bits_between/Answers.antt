@@ -5,7 +5,8 @@ use Rattle.acpi_base.proofs.image.address_bitmap.bits_between.Goals.{then-block-
 
 pub returns : goal.returns
 returns c = record {
-  inside = λ i within low high. between c.if-block-first.low c.if-block-last.high _ _ i c.low_bits.ensures c.low_bits-2.ensures (omega arith)
+  inside = λ i within low high. between c.if-block-first.low c.if-block-last.high _ _ i c.low_bits.ensures
+      c.low_bits-2.ensures (omega arith)
       (elim c.if-block-first.branch [
         | then-block-first w ↦ (let e = w.if-block-first.true in let is = w.low-is in omega arith)
         | else-block-first w ↦ (let is = w.low-is in omega arith)
@@ -15,7 +16,8 @@ returns c = record {
         | else-block-last w ↦ (let is = w.high-is in omega arith)
       ])
       within;
-  outside = λ i within out. not_between c.if-block-first.low c.if-block-last.high _ _ i c.low_bits.ensures c.low_bits-2.ensures (omega arith)
+  outside = λ i within out. not_between c.if-block-first.low c.if-block-last.high _ _ i c.low_bits.ensures
+      c.low_bits-2.ensures (omega arith)
       (elim out [
         | inl below ↦ inl (elim c.if-block-first.branch [
           | then-block-first w ↦ (let e = w.if-block-first.true in let is = w.low-is in omega arith)

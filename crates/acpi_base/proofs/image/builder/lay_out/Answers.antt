@@ -13,18 +13,23 @@ use Rattle.acpi_base.proofs.image.builder.lay_out.Goals as goal
 
 pub take_all-requires-clause-rising : goal.take_all-requires-clause-rising
 take_all-requires-clause-rising c =
-    let sorted : IsNonDecreasingBy (λ (p : Piece). p.0) c.sort_unstable_by_key.new.self.items = IsNonDecreasingBy-from_sort_by_key (λ (p : Piece). p.0) _ c.sort_unstable_by_key.ensures.sorted (λ a r q k. search rules) in
-    let all = ended_permuted (length c.args.store.now) c.args.pieces.items c.sort_unstable_by_key.new.self.items c.sort_unstable_by_key.ensures.permutation c.requires in
+    let sorted : IsNonDecreasingBy (λ (p : Piece). p.0) c.sort_unstable_by_key.new.self.items =
+    IsNonDecreasingBy-from_sort_by_key (λ (p : Piece). p.0) _ c.sort_unstable_by_key.ensures.sorted
+    (λ a r q k. search rules) in
+    let all = ended_permuted (length c.args.store.now) c.args.pieces.items c.sort_unstable_by_key.new.self.items
+    c.sort_unstable_by_key.ensures.permutation c.requires in
     subst AreSortedDisjoint (sym c.deref.ensures.value) (rising_sorted _ sorted all.once all.filled)
 
 pub take_all-requires-clause-lies : goal.take_all-requires-clause-lies
 take_all-requires-clause-lies c =
-    let all = ended_permuted (length c.args.store.now) c.args.pieces.items c.sort_unstable_by_key.new.self.items c.sort_unstable_by_key.ensures.permutation c.requires in
+    let all = ended_permuted (length c.args.store.now) c.args.pieces.items c.sort_unstable_by_key.new.self.items
+    c.sort_unstable_by_key.ensures.permutation c.requires in
     subst (AllByRecursion (LiesBefore (length c.args.store.now))) (sym c.deref.ensures.value) all.lies
 
 pub take_all-requires-clause-behind : goal.take_all-requires-clause-behind
 take_all-requires-clause-behind c =
-    subst (λ n. AllByRecursion (λ (p : Piece). n ≤ p.0) c.deref.result.now) (sym c.in_ok-segments.ensures.end) (from_zero c.deref.result.now)
+    subst (λ n. AllByRecursion (λ (p : Piece). n ≤ p.0) c.deref.result.now) (sym c.in_ok-segments.ensures.end)
+    (from_zero c.deref.result.now)
   where
     from_zero : (qs : List Piece) → AllByRecursion (λ p. 0 ≤ p.0) qs
     from_zero [] = tt
@@ -35,8 +40,10 @@ returns-clause-same c =
     let pieces = c.deref.result.now in
     same_memory _ _ (λ x.
     c.in_ok-take_all.ensures.whole x
-    ∙ ap (λ o. option_or o (lookup (runs_in c.args.store.now pieces) x)) (λ i. byte_of (c.in_ok-segments.ensures.nothing i) x)
+    ∙ ap (λ o. option_or o (lookup (runs_in c.args.store.now pieces) x))
+    (λ i. byte_of (c.in_ok-segments.ensures.nothing i) x)
     ∙ ap (λ o. option_or o (lookup (runs_in c.args.store.now pieces) x)) (byte_of_memory_of [] x)
     ∙ sym (byte_of_memory_of (runs_in c.args.store.now pieces) x))
     ∙ ap (λ ps. memory_of (runs_in c.args.store.now ps)) c.deref.ensures.value
-    ∙ memory_permuted c.args.store.now c.args.pieces.items c.sort_unstable_by_key.new.self.items c.sort_unstable_by_key.ensures.permutation c.requires
+    ∙ memory_permuted c.args.store.now c.args.pieces.items c.sort_unstable_by_key.new.self.items
+    c.sort_unstable_by_key.ensures.permutation c.requires

@@ -8,9 +8,11 @@ use Rattle.acpi_base.proofs.image.runs.rest_from.Goals as goal
 pub returns-clause-held : goal.returns-clause-held
 returns-clause-held c =
     let found = c.in-Some in
-    rest_held (runs_of c.args.segments.now) c.args.address (run_at found.base found.bytes.now) _ found.ensures (take_rest found.bytes.now (c.args.address - found.base))
+    rest_held (runs_of c.args.segments.now) c.args.address (run_at found.base found.bytes.now) _ found.ensures
+    (take_rest found.bytes.now (c.args.address - found.base))
 
 pub returns-clause-none_behind : goal.returns-clause-none_behind
 returns-clause-none_behind c =
     let found = c.in-Some in
-    rest_ends (runs_of c.args.segments.now) c.args.address (run_at found.base found.bytes.now) _ found.ensures (take_rest found.bytes.now (c.args.address - found.base))
+    rest_ends (runs_of c.args.segments.now) c.args.address (run_at found.base found.bytes.now) _ found.ensures
+    (take_rest found.bytes.now (c.args.address - found.base))

@@ -26,15 +26,27 @@ returns-in_err-hex_value-3-clause-every c = λ w fits line.
 
 -- the fault that is returned
 abbrev found : goal.In_ok-hex_value-3 → Witness
-found c = record { code = c.in_ok-code_with.field-0; at = c.in_ok-hex_value.field-0; other = c.in_ok-hex_value-2.field-0; point = c.in_ok-hex_value-3.field-0 }
+found c = record {
+  code = c.in_ok-code_with.field-0;
+  at = c.in_ok-hex_value.field-0;
+  other = c.in_ok-hex_value-2.field-0;
+  point = c.in_ok-hex_value-3.field-0;
+}
 
 pub returns-clause-text : goal.returns-clause-text
 returns-clause-text c =
     let head = c.in_ok-code_with.ensures in
     line_of (found c) c.in_ok-words.ensures
-    (record { stage_is = head.number; name_is = head.named; at_is = c.in_ok-hex_value.ensures.1; other_is = c.in_ok-hex_value-2.ensures.1; point_is = c.in_ok-hex_value-3.ensures.1 })
+    (record {
+      stage_is = head.number;
+      name_is = head.named;
+      at_is = c.in_ok-hex_value.ensures.1;
+      other_is = c.in_ok-hex_value-2.ensures.1;
+      point_is = c.in_ok-hex_value-3.ensures.1;
+    })
 
 pub returns-clause-every : goal.returns-clause-every
 returns-clause-every c = λ w fits line.
-    let fit : NumbersFit (found c) = (c.in_ok-hex_value.ensures.0, c.in_ok-hex_value-2.ensures.0, c.in_ok-hex_value-3.ensures.0) in
+    let fit : NumbersFit (found c) =
+    (c.in_ok-hex_value.ensures.0, c.in_ok-hex_value-2.ensures.0, c.in_ok-hex_value-3.ensures.0) in
     ap Some (texts_differ (found c) w fit fits (sym (returns-clause-text c) ∙ line))

@@ -4,4 +4,5 @@ use Rattle.acpi_base.proofs.text.written_text.write_row.Given as goal
 
 -- what is written, and what is still to come
 abbrev pub invariant-loop-byte : goal.invariant-loop-byte
-invariant-loop-byte l = vec_items l.text ++ spaced_pairs (drop l.byte-index l.rest) ≡ vec_items l.initial.text ++ spaced_pairs l.rest
+invariant-loop-byte l =
+    vec_items l.text ++ spaced_pairs (drop l.byte-index l.rest) ≡ vec_items l.initial.text ++ spaced_pairs l.rest

@@ -15,7 +15,10 @@ loop-row-preserved c =
       size = step.0 ∙ size;
       text =
           ap (λ (t : List ℕ). t ++ text_of (rows (row_count later) later)) c.in_ok-write_row.ensures
-          ∙ append_assoc (vec_items c.loop-row.text) (line_with_lf (row c.in-Some.row.now)) (text_of (rows (row_count later) later))
-          ∙ ap (λ (t : List ℕ). vec_items c.loop-row.text ++ t) (sym (rows_next rest c.in-Some.row.now later step.1.0 (step.1.1 ∙ ap (λ (n : ℕ). min n (length rest)) size) step.1.2))
+          ∙ append_assoc (vec_items c.loop-row.text) (line_with_lf (row c.in-Some.row.now))
+          (text_of (rows (row_count later) later))
+          ∙ ap (λ (t : List ℕ). vec_items c.loop-row.text ++ t)
+          (sym (rows_next rest c.in-Some.row.now later step.1.0
+          (step.1.1 ∙ ap (λ (n : ℕ). min n (length rest)) size) step.1.2))
           ∙ c.loop-row.invariant.text;
     }

@@ -16,13 +16,15 @@ loop-block-preserved c =
     record {
       all = λ x l h under. elim (cases_lt (x / 64) block) [
         | inl earlier ↦ set_keeps old new block bits set others x (c.loop-block.invariant.all x l h earlier)
-        | inr later ↦ set_marks old new block c.args.base last bits c.bits_between.ensures set others x (omega arith) l h
+        | inr later ↦ set_marks old new block c.args.base last bits c.bits_between.ensures set others x (omega arith) l
+            h
       ];
       kept = λ x marked. set_keeps old new block bits set others x (c.loop-block.invariant.kept x marked);
-      only = λ x marked. elim (set_only old new block c.args.base last bits c.bits_between.ensures set others x marked) [
-        | inl before ↦ c.loop-block.invariant.only x before
-        | inr now ↦ inr now
-      ];
+      only = λ x marked. elim (set_only old new block c.args.base last bits c.bits_between.ensures set others x
+          marked) [
+            | inl before ↦ c.loop-block.invariant.only x before
+            | inr now ↦ inr now
+          ];
       low = omega arith;
       end = c.loop-block.invariant.end;
       last = c.loop-block.invariant.last;

@@ -24,8 +24,11 @@ returns-in_err-extend-clause-refused c =
     let le = c.if-count-base.false in
     let e = c.if-is_empty.ensures in
     let some : 0 < length c.args.bytes.now = grind (arith, nat_tests) in
-    let free = follows_free p.store.items p.ended.items p.base p.start p.room c.args.base (length c.args.bytes.now) c.follows.ensures.sound.0 yes.0 yes.1 in
-    let none : add_refusal (builder_memory c.args.self.now) c.args.base c.args.bytes.now ≡ None = not_refused (builder_memory c.args.self.now) c.args.base c.args.bytes.now (omega arith) (ap (λ m. first_held m c.args.base (length c.args.bytes.now)) (sym c.follows.ensures.same) ∙ free) in
+    let free = follows_free p.store.items p.ended.items p.base p.start p.room c.args.base (length c.args.bytes.now)
+    c.follows.ensures.sound.0 yes.0 yes.1 in
+    let none : add_refusal (builder_memory c.args.self.now) c.args.base c.args.bytes.now ≡ None =
+    not_refused (builder_memory c.args.self.now) c.args.base c.args.bytes.now (omega arith)
+    (ap (λ m. first_held m c.args.base (length c.args.bytes.now)) (sym c.follows.ensures.same) ∙ free) in
     rw none (search rules)
 
 pub returns-then-follows-clause-refused : goal.returns-then-follows-clause-refused
@@ -35,6 +38,9 @@ returns-then-follows-clause-refused c =
     let le = c.if-count-base.false in
     let e = c.if-is_empty.ensures in
     let some : 0 < length c.args.bytes.now = grind (arith, nat_tests) in
-    let free = follows_free p.store.items p.ended.items p.base p.start p.room c.args.base (length c.args.bytes.now) c.follows.ensures.sound.0 yes.0 yes.1 in
-    let none : add_refusal (builder_memory c.args.self.now) c.args.base c.args.bytes.now ≡ None = not_refused (builder_memory c.args.self.now) c.args.base c.args.bytes.now (omega arith) (ap (λ m. first_held m c.args.base (length c.args.bytes.now)) (sym c.follows.ensures.same) ∙ free) in
+    let free = follows_free p.store.items p.ended.items p.base p.start p.room c.args.base (length c.args.bytes.now)
+    c.follows.ensures.sound.0 yes.0 yes.1 in
+    let none : add_refusal (builder_memory c.args.self.now) c.args.base c.args.bytes.now ≡ None =
+    not_refused (builder_memory c.args.self.now) c.args.base c.args.bytes.now (omega arith)
+    (ap (λ m. first_held m c.args.base (length c.args.bytes.now)) (sym c.follows.ensures.same) ∙ free) in
     rw none tt

@@ -12,8 +12,10 @@ returns-clause-sound c = elim c.if-len-gt0.branch [
       let long = c.len.ensures in
       let within = c.requires.within in
       subst (λ (p : ImageBuilder). ArePiecesWithRoom p.store.items p.ended.items p.base p.start 0) (sym w.self-is)
-      (closed_gathered _ _ _ _ c.args.self.now.start c.args.self.now.room _ _ w.in_ok-push.ensures.items c.requires refl (omega arith) (omega arith) (omega arith))
-  | else-len-gt0 w ↦ subst (λ (p : ImageBuilder). ArePiecesWithRoom p.store.items p.ended.items p.base p.start 0) (sym w.self-is) (less_room _ _ _ _ _ 0 (omega arith) c.requires)
+      (closed_gathered _ _ _ _ c.args.self.now.start c.args.self.now.room _ _ w.in_ok-push.ensures.items c.requires refl
+      (omega arith) (omega arith) (omega arith))
+  | else-len-gt0 w ↦ subst (λ (p : ImageBuilder). ArePiecesWithRoom p.store.items p.ended.items p.base p.start 0)
+      (sym w.self-is) (less_room _ _ _ _ _ 0 (omega arith) c.requires)
 ]
 
 pub returns-clause-marked : goal.returns-clause-marked
@@ -24,12 +26,17 @@ returns-clause-marked c = λ s all. elim c.if-len-gt0.branch [
       let within = c.requires.within in
       let g = c.args.self.now in
       let none : 0 ≡ length g.store.items - (g.start + (c.len.result - g.start)) = omega arith in
-      subst (λ (p : ImageBuilder). ArePiecesWithRoom p.store.items p.ended.items p.base p.start 0 × AreMarked p.marks p.ended.items p.base (length p.store.items - p.start)) (sym w.self-is) (
-        closed_gathered _ _ _ _ g.start g.room _ _ w.in_ok-push.ensures.items c.requires refl (omega arith) (omega arith) (omega arith),
-        subst (AreMarked g.marks w.push.new.self.items g.base) none (closed_marked g.marks g.ended.items _ g.base (length g.store.items - g.start) _ w.in_ok-push.ensures.items (omega arith) all s.1),
+      subst (λ (p : ImageBuilder). ArePiecesWithRoom p.store.items p.ended.items p.base p.start 0
+      × AreMarked p.marks p.ended.items p.base (length p.store.items - p.start)) (sym w.self-is) (
+        closed_gathered _ _ _ _ g.start g.room _ _ w.in_ok-push.ensures.items c.requires refl (omega arith)
+            (omega arith) (omega arith),
+        subst (AreMarked g.marks w.push.new.self.items g.base) none
+            (closed_marked g.marks g.ended.items _ g.base (length g.store.items - g.start) _ w.in_ok-push.ensures.items
+            (omega arith) all s.1),
       )
   | else-len-gt0 w ↦
-      subst (λ (p : ImageBuilder). ArePiecesWithRoom p.store.items p.ended.items p.base p.start 0 × AreMarked p.marks p.ended.items p.base (length p.store.items - p.start)) (sym w.self-is)
+      subst (λ (p : ImageBuilder). ArePiecesWithRoom p.store.items p.ended.items p.base p.start 0
+      × AreMarked p.marks p.ended.items p.base (length p.store.items - p.start)) (sym w.self-is)
       (less_room _ _ _ _ _ 0 (omega arith) c.requires, s.1)
 ]
 
@@ -40,6 +47,8 @@ returns-clause-same c = elim c.if-len-gt0.branch [
       let long = c.len.ensures in
       let within = c.requires.within in
       subst (λ (p : ImageBuilder). builder_memory p ≡ builder_memory c.args.self.now) (sym w.self-is)
-      (closed_held _ _ _ _ c.args.self.now.start c.args.self.now.room _ _ w.in_ok-push.ensures.items c.requires refl (omega arith) (omega arith) (omega arith))
-  | else-len-gt0 w ↦ subst (λ (p : ImageBuilder). builder_memory p ≡ builder_memory c.args.self.now) (sym w.self-is) refl
+      (closed_held _ _ _ _ c.args.self.now.start c.args.self.now.room _ _ w.in_ok-push.ensures.items c.requires refl
+      (omega arith) (omega arith) (omega arith))
+  | else-len-gt0 w ↦ subst (λ (p : ImageBuilder). builder_memory p ≡ builder_memory c.args.self.now) (sym w.self-is)
+      refl
 ]

@@ -11,5 +11,6 @@ returns-clause-same c =
     let ended = c.in_ok-close.ensures.ended in
     c.in_ok-segments.ensures.same
     ∙ ap (λ store. memory_of (runs_in store p.ended.items)) c.deref.ensures.value
-    ∙ no_bytes (memory_of (runs_in p.store.items p.ended.items)) p.base (drop p.start p.store.items) (ap length (drop_all p.start p.store.items (omega arith)))
+    ∙ no_bytes (memory_of (runs_in p.store.items p.ended.items)) p.base (drop p.start p.store.items)
+    (ap length (drop_all p.start p.store.items (omega arith)))
     ∙ c.in_ok-close.ensures.same

@@ -9,4 +9,5 @@ returns-then-next-base c =
     let found = c.in_ok-next.ensures.some in
     let low = found.0 in
     let near = c.if-next-base.true in
-    first_next (lookup (runs_of c.args.self.now)) c.args.base c.args.count c.in_ok-next.next low (omega arith) found.1 found.2
+    first_next (lookup (runs_of c.args.self.now)) c.args.base c.args.count c.in_ok-next.next low (omega arith) found.1
+    found.2

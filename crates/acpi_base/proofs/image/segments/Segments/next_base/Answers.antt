@@ -8,7 +8,8 @@ pub returns-then-place-len-clause-some : goal.returns-then-place-len-clause-some
 returns-then-place-len-clause-some c =
     let long = c.len.ensures in
     let low = c.if-place-len.true in
-    next_at _ _ _ _ c.args.address c.place-place.result c.index.result.now c.requires.sound c.requires.free c.place-place.ensures.place (omega arith) c.index.ensures
+    next_at _ _ _ _ c.args.address c.place-place.result c.index.result.now c.requires.sound c.requires.free
+    c.place-place.ensures.place (omega arith) c.index.ensures
 
 pub returns-then-self-len-clause-some : goal.returns-then-self-len-clause-some
 returns-then-self-len-clause-some c =
@@ -19,7 +20,9 @@ returns-then-self-len-clause-some c =
     let store = c.len-then-self-address.ensures in
     let s = c.args.self.now in
     let all : c.place-place.result ≡ length s.ended.items = omega arith in
-    next_open s.store s.ended.items s.base s.start c.args.address c.requires.sound c.requires.free (subst (IsPartitionPoint s.ended.items c.args.address) all c.place-place.ensures.place) c.if-self-address.true (omega arith)
+    next_open s.store s.ended.items s.base s.start c.args.address c.requires.sound c.requires.free
+    (subst (IsPartitionPoint s.ended.items c.args.address) all c.place-place.ensures.place) c.if-self-address.true
+    (omega arith)
 
 pub returns-clause-none : goal.returns-clause-none
 returns-clause-none c = λ _.
@@ -29,7 +32,9 @@ returns-clause-none c = λ _.
     let s = c.args.self.now in
     let all : c.place-place.result ≡ length s.ended.items = omega arith in
     let past : (s.base ≤ c.args.address) ⊎ (length s.store ≤ s.start) = elim c.else-self-address.branch [
-      | else-self-address-via-then-self-address+else-self-len w ↦ inr (let no = w.if-self-len.false in let store = w.len-then-self-address.ensures in omega arith)
+      | else-self-address-via-then-self-address+else-self-len w ↦
+          inr (let no = w.if-self-len.false in let store = w.len-then-self-address.ensures in omega arith)
       | else-self-address-via-else-self-address w ↦ inl w.if-self-address.false
     ] in
-    no_next s.store s.ended.items s.base s.start c.args.address c.requires.sound c.requires.free (subst (IsPartitionPoint s.ended.items c.args.address) all c.place-place.ensures.place) past
+    no_next s.store s.ended.items s.base s.start c.args.address c.requires.sound c.requires.free
+    (subst (IsPartitionPoint s.ended.items c.args.address) all c.place-place.ensures.place) past

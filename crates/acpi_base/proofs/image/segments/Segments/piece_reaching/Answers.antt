@@ -19,7 +19,8 @@ returns-then-place-eq0-clause-reached c =
       | else-self-address-via-then-self-address+else-self-count w ↦ inl (let no = w.if-self-count.false in omega arith)
       | else-self-address-via-else-self-address w ↦ inr (let low = w.if-self-address.false in omega arith)
     ] in
-    none_reached s.store s.ended.items s.base s.start c.args.address c.requires behind (subst (IsPartitionPoint s.ended.items c.args.address) c.if-place-eq0.true c.place-place.ensures.place)
+    none_reached s.store s.ended.items s.base s.start c.args.address c.requires behind
+    (subst (IsPartitionPoint s.ended.items c.args.address) c.if-place-eq0.true c.place-place.ensures.place)
 
 pub returns-clause-reached : goal.returns-clause-reached
 returns-clause-reached c =
@@ -31,7 +32,8 @@ returns-clause-reached c =
       | else-self-address-via-then-self-address+else-self-count w ↦ inl (let no = w.if-self-count.false in omega arith)
       | else-self-address-via-else-self-address w ↦ inr (let low = w.if-self-address.false in omega arith)
     ] in
-    reached_at s.store s.ended.items s.base s.start c.args.address _ c.place-place.result c.index.result.now _ c.requires behind (omega arith) (omega arith) c.place-place.ensures.place c.index.ensures refl
+    reached_at s.store s.ended.items s.base s.start c.args.address _ c.place-place.result c.index.result.now _
+    c.requires behind (omega arith) (omega arith) c.place-place.ensures.place c.index.ensures refl
 
 pub returns-clause-lies : goal.returns-clause-lies
 returns-clause-lies c =

@@ -8,11 +8,13 @@ pub returns-clause-sound : goal.returns-clause-sound
 returns-clause-sound c =
     let at = c.in_ok-begin.ensures.at in
     let fits = c.requires.fits in
-    more_laid _ _ c.args.bytes.now _ _ _ c.in_ok-extend.ensures.ok (omega arith) (λ k. omega (arith, c.type_inv.bytes k)) c.in_ok-begin.ensures.sound
+    more_laid _ _ c.args.bytes.now _ _ _ c.in_ok-extend.ensures.ok (omega arith)
+    (λ k. omega (arith, c.type_inv.bytes k)) c.in_ok-begin.ensures.sound
 
 pub returns-clause-ok : goal.returns-clause-ok
 returns-clause-ok c =
     let s = c.begin.new.self in
-    more_held s.store _ c.args.bytes.now s.ended.items s.base s.start c.in_ok-extend.ensures.ok c.in_ok-begin.ensures.sound.within c.in_ok-begin.ensures.sound.lies
+    more_held s.store _ c.args.bytes.now s.ended.items s.base s.start c.in_ok-extend.ensures.ok
+    c.in_ok-begin.ensures.sound.within c.in_ok-begin.ensures.sound.lies
     ∙ ap (λ a. with_bytes (memory_in s) a c.args.bytes.now) (sym c.in_ok-begin.ensures.at)
     ∙ ap (λ m. with_bytes m c.args.base c.args.bytes.now) c.in_ok-begin.ensures.same

@@ -17,8 +17,10 @@ loop-piece-preserved c =
     let is : p ≡ get_or ps i p = get_or_default ps i none p low in
     let left = c.loop-piece.invariant.left in
     let next = next_left c.args.store.now _ c.loop-piece.self ps i p left low is in
-    let ends = next_ends c.args.store.now c.loop-piece.self p c.bytes.result.now _ next c.bytes.ensures c.in_ok-take.ensures.end in
+    let ends = next_ends c.args.store.now c.loop-piece.self p c.bytes.result.now _ next c.bytes.ensures
+    c.in_ok-take.ensures.end in
     record {
-      left = left_next c.args.store.now _ c.loop-piece.self c.take.new.self ps i p c.bytes.result.now left low is c.bytes.ensures c.in_ok-take.ensures.sound c.in_ok-take.ensures.ok c.in_ok-take.ensures.end;
+      left = left_next c.args.store.now _ c.loop-piece.self c.take.new.self ps i p c.bytes.result.now left low is
+          c.bytes.ensures c.in_ok-take.ensures.sound c.in_ok-take.ensures.ok c.in_ok-take.ensures.end;
       end = λ a l all. (let within = of_all (λ (q : Piece). end_at q ≤ a) ps i none all low in omega arith);
     }

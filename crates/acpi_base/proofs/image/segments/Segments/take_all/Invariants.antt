@@ -11,6 +11,7 @@ use Rattle.acpi_base.proofs.image.segments.Segments.take_all.Given as goal
 -- the pieces from here on are left, and those before them end where the segments do or before it
 abbrev pub invariant-loop-piece : goal.invariant-loop-piece
 invariant-loop-piece l = record {
-  left : IsLeft l.store (λ x. option_or (byte_of (memory_in l.initial.self) x) (lookup (runs_in l.store l.pieces) x)) l.self (drop l.piece-index l.pieces);
+  left : IsLeft l.store (λ x. option_or (byte_of (memory_in l.initial.self) x) (lookup (runs_in l.store l.pieces) x))
+      l.self (drop l.piece-index l.pieces);
   end : (a : ℕ) → end_in l.initial.self ≤ a → AllByRecursion (λ p. end_at p ≤ a) l.pieces → end_in l.self ≤ a;
 }

@@ -8,7 +8,9 @@ use Rattle.acpi_base.proofs.image.segments.Segments.window_span.Goals.{then-skip
 
 pub returns-in_err-base-clause-bytes : goal.returns-in_err-base-clause-bytes
 returns-in_err-base-clause-bytes c =
-    rw c.from_residual.ensures (sym (free_short (runs_of c.args.self.now) c.args.address c.args.count c.requires.some c.in_err-base.ensures.reached))
+    rw c.from_residual.ensures (sym
+    (free_short (runs_of c.args.self.now) c.args.address c.args.count c.requires.some
+    c.in_err-base.ensures.reached))
 
 pub returns-then-skipped-held-clause-bytes : goal.returns-then-skipped-held-clause-bytes
 returns-then-skipped-held-clause-bytes c =
@@ -18,10 +20,12 @@ returns-then-skipped-held-clause-bytes c =
     let reached = c.in_ok-base.ensures.reached in
     let some = c.requires.some in
     let begins = reached.begins in
-    let ends : end_of (run_in s.store (base, span)) ≡ base + span.len = piece_ends s.store (base, span) c.in_ok-base.ensures.lies in
+    let ends : end_of (run_in s.store (base, span)) ≡ base + span.len =
+    piece_ends s.store (base, span) c.in_ok-base.ensures.lies in
     let short : end_of (run_in s.store (base, span)) < c.args.address + c.args.count = elim c.then-skipped-held.branch [
       | then-skipped-held-via-then-skipped-held w ↦ (let far = w.if-skipped-held.true in omega arith)
-      | then-skipped-held-via-else-skipped-held+then-count-held w ↦ (let near = w.if-skipped-held.false in let far = w.if-count-held.true in omega arith)
+      | then-skipped-held-via-else-skipped-held+then-count-held w ↦
+          (let near = w.if-skipped-held.false in let far = w.if-count-held.true in omega arith)
     ] in
     sym (reached_short (runs_of s) c.args.address c.args.count (run_in s.store (base, span)) reached some short)
 
@@ -34,6 +38,7 @@ returns-clause-bytes c =
     let begins = reached.begins in
     let near = c.if-skipped-held.false in
     let fits = c.if-count-held.false in
-    let ends : end_of (run_in s.store (base, span)) ≡ base + span.len = piece_ends s.store (base, span) c.in_ok-base.ensures.lies in
+    let ends : end_of (run_in s.store (base, span)) ≡ base + span.len =
+    piece_ends s.store (base, span) c.in_ok-base.ensures.lies in
     ap Some (sym (part_in s.store span.start span.len (c.args.address - base) c.args.count (omega arith)))
     ∙ sym (reached_whole (runs_of s) c.args.address c.args.count (run_in s.store (base, span)) reached (omega arith))

@@ -7,5 +7,6 @@ use Rattle.acpi_base.proofs.text.image_text.line_buffer.LineBuffer.finish.Goals 
 pub returns-clause-ok : goal.returns-clause-ok
 returns-clause-ok c =
     let f = c.args.self in
-    let read = ap (λ line. read_line (reading_of f.parser) line 0) (sym c.deref.ensures.value) ∙ c.in_ok-read_line.ensures.ok in
+    let read = ap (λ line. read_line (reading_of f.parser) line 0) (sym c.deref.ensures.value)
+    ∙ c.in_ok-read_line.ensures.ok in
     IfOk-weaker c.finish.result _ _ (λ image same. (reading_of c.read_line.new.self, read, same)) c.finish.ensures.ok

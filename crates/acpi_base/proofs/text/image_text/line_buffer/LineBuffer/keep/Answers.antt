@@ -16,7 +16,8 @@ returns-then-part-most-clause-err c =
     let most = c.min-most.ensures in
     let long = c.len.ensures in
     let far = c.if-part-most.true in
-    inr (kept_too_long (reading_of f.parser) f.line.items c.args.part.now c.requires.sound.short c.requires.free (elim (cases_lt max_line (length f.line.items + length c.args.part.now)) [
+    inr (kept_too_long (reading_of f.parser) f.line.items c.args.part.now c.requires.sound.short c.requires.free
+    (elim (cases_lt max_line (length f.line.items + length c.args.part.now)) [
       | inl l ↦ inl l
       | inr l ↦ inr (omega arith)
     ]))
@@ -31,5 +32,6 @@ returns-clause-ok c =
     let most = c.min-most.ensures in
     let long = c.len.ensures in
     let near = c.if-part-most.false in
-    kept (reading_of f.parser) f.line.items c.args.part.now c.requires.sound.short c.requires.free (omega arith) (omega arith)
+    kept (reading_of f.parser) f.line.items c.args.part.now c.requires.sound.short c.requires.free (omega arith)
+    (omega arith)
     ∙ ap (Going (reading_of f.parser)) (sym c.in_ok-extend_from_slice.ensures.items)

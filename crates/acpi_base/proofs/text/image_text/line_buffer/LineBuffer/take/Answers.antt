@@ -16,8 +16,10 @@ returns-in-Err-clause-err c =
     let left = c.split_at.ensures.back_len in
     let some : 0 < length c.split_at.result.1.now = grind (arith, nat_tests, c.is_empty.ensures, c.if-is_empty.false) in
     let low : n < length text = omega arith in
-    let refused = subst (λ part. Refuses (read_line (reading_of f.parser) (f.line.items ++ part) 1) c.in-Err.fault) c.split_at.ensures.front c.in-Err.ensures.err in
-    elim (line_refused (reading_of f.parser) f.line.items text n c.in-Err.fault c.lines.invariant.sound.short low c.line_end.ensures.before (c.line_end.ensures.found low) refused) [
+    let refused = subst (λ part. Refuses (read_line (reading_of f.parser) (f.line.items ++ part) 1) c.in-Err.fault)
+    c.split_at.ensures.front c.in-Err.ensures.err in
+    elim (line_refused (reading_of f.parser) f.line.items text n c.in-Err.fault c.lines.invariant.sound.short low
+    c.line_end.ensures.before (c.line_end.ensures.found low) refused) [
       | inl memory ↦ inl memory
       | inr stopped ↦ inr (sym c.lines.invariant.run ∙ stopped)
     ]
@@ -35,11 +37,15 @@ lines-preserved c =
     let sound = c.in_default.ensures.sound in
     let fits = (short_bounds (length next.line.items) (next.parser.through + length next.line.items) sound.short).1 in
     let rest : List ℕ = take (length after - 1) (drop 1 after) in
-    let behind : rest ≡ drop (suc n) text = between_to_end after 1 (length after) (omega arith) ∙ ap (drop 1) c.split_at.ensures.back ∙ drop-drop 1 n text ∙ ap (λ k. drop k text) (add-one n) in
-    let read = ap (λ part. read_line (reading_of f.parser) (f.line.items ++ part) 1) (sym c.split_at.ensures.front) ∙ c.in_default.ensures.ok in
+    let behind : rest ≡ drop (suc n) text = between_to_end after 1 (length after) (omega arith)
+    ∙ ap (drop 1) c.split_at.ensures.back ∙ drop-drop 1 n text ∙ ap (λ k. drop k text) (add-one n) in
+    let read = ap (λ part. read_line (reading_of f.parser) (f.line.items ++ part) 1) (sym c.split_at.ensures.front)
+    ∙ c.in_default.ensures.ok in
     record {
       sound = sound;
       run = ap (λ line. run (Going (reading_of next.parser) line) rest) c.in_default.ensures.line
-          ∙ sym (line_passed (reading_of f.parser) (reading_of next.parser) f.line.items text n rest c.lines.invariant.sound.short low c.line_end.ensures.before (c.line_end.ensures.found low) read (omega arith) behind)
+          ∙ sym (line_passed (reading_of f.parser) (reading_of next.parser) f.line.items text n rest
+          c.lines.invariant.sound.short low c.line_end.ensures.before (c.line_end.ensures.found low) read
+          (omega arith) behind)
           ∙ c.lines.invariant.run;
     }
