@@ -10,6 +10,7 @@ pub mod Faults
 pub mod Images
 pub mod Lanes
 pub mod Layouts
+pub mod Lint
 pub mod Madt
 pub mod Overlaps
 pub mod Policies

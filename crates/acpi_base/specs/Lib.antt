@@ -12,6 +12,7 @@ pub mod Image
 pub mod KindLayouts
 pub mod Laws
 pub mod Layouts
+pub mod Lint
 pub mod Listed
 pub mod Madt
 pub mod Memory

@@ -12,6 +12,7 @@ ghost use Rattle.acpi_base.specs.Examples.Slits.{AreSlitContents, AreSlitFaults,
 ghost use Rattle.acpi_base.specs.Examples.Srats.{AreSratContents, AreSratFaults, AreFirstOverlaps, HasNoSratFault};
 ghost use Rattle.acpi_base.specs.Examples.WholeSets.{whole_set, example_policy};
 ghost use Rattle.acpi_base.specs.Laws.{FaultsExcludeClean, FaultsFit, CleanOrFaulty, CleanOrFirstFault, OneFirstFault, OneVerdict, RootsListSlots, TextsDiffer};
+ghost use Rattle.acpi_base.specs.Lint.Laws.{CleanWithoutFaults, CleanWithoutFirsts, FirstIsFirstOfCode, OneFirstOfCode};
 ghost use Rattle.acpi_base.specs.Pptt.{ParentsEndOrGoRound, CachesEndOrGoRound};
 ghost use Rattle.acpi_base.specs.Statements.{IsClean};
 ghost use Rattle.acpi_base.specs.Text.WrittenText.{WrittenIsText, OneWritten};
@@ -45,6 +46,24 @@ pub fn first_fault_exists()
 #[tactic(auto, using(crate::proofs::Faults::Laws::one_first_fault))]
 pub fn one_first_fault()
     ensures one { OneFirstFault }
+{}
+
+/// An image has no fault of any code exactly where all its stages hold, and then no code has a first fault.
+pub fn clean_without_faults()
+    ensures faults { CleanWithoutFaults }
+    ensures firsts { CleanWithoutFirsts }
+{}
+
+/// The first fault of an image, which is reported as its verdict, is the first of its code.
+#[tactic(auto, using(crate::proofs::Lint::first_is_first_of_code))]
+pub fn first_is_first_of_code()
+    ensures first { FirstIsFirstOfCode }
+{}
+
+/// A code has one first fault at most, also the two codes of overlaps.
+#[tactic(auto, using(crate::proofs::Lint::one_first_of_code))]
+pub fn one_first_of_code()
+    ensures one { OneFirstOfCode }
 {}
 
 /// Two verdicts that are right for the same stages of an image are one.

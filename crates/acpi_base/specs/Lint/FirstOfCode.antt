@@ -1,0 +1,28 @@
+-- The first fault of each code.
+use Rattle.std.specs.Prelude.{◌≡◌, Option, Some, None}
+use Rattle.acpi_base.specs.Memory.{Memory}
+use Rattle.acpi_base.specs.Policy.{PolicyValue}
+use Rattle.acpi_base.specs.Contents.{HasMadt, HasSrat}
+use Rattle.acpi_base.specs.Madt.{IsFirstGsiClash}
+use Rattle.acpi_base.specs.Srat.{IsFirstOverlap}
+use Rattle.acpi_base.specs.Faults.{Fault, NotAfter}
+use Rattle.acpi_base.specs.declared.code.Code.{Code}
+use Rattle.acpi_base.specs.declared.code.Code.TheVariants as code
+use Rattle.acpi_base.specs.declared.witness.Witness.{Witness}
+
+-- w stands after no fault with this code. The two codes of overlaps have an order of their own: w names the least interrupt
+-- number that two I/O APICs serve, or the least address that two ranges cover that are compared.
+abbrev pub IsLeastOfCode : Code → Memory → PolicyValue → Witness → Type 0
+IsLeastOfCode code.GsiClash m q w = HasMadt m q (λ madt. IsFirstGsiClash q madt w.at w.other w.point)
+IsLeastOfCode code.Overlap m q w = HasSrat m q (λ srat. IsFirstOverlap q.hotplug srat w.at w.other w.point)
+IsLeastOfCode c m q w = (v : Witness) → v.code ≡ c → Fault m q v → NotAfter w v
+
+-- w is a fault of the image, and the first with its code. Whether earlier stages hold does not matter.
+pub record IsFirstOfCode (m : Memory) (q : PolicyValue) (w : Witness) : Type 0 where
+  pub fault : Fault m q w
+  pub least : IsLeastOfCode w.code m q w
+
+-- the image has no fault with the code, or this is the first one
+abbrev pub FindsFirstOfCode : Code → Memory → PolicyValue → Option Witness → Type 0
+FindsFirstOfCode c m q None = (w : Witness) → w.code ≡ c → ¬ Fault m q w
+FindsFirstOfCode c m q (Some w) = (w.code ≡ c) × IsFirstOfCode m q w

@@ -1,0 +1,25 @@
+-- The laws of the first faults of all codes.
+use Rattle.std.specs.Prelude.{◌≡◌, ◌↔◌}
+use Rattle.acpi_base.specs.Memory.{Memory}
+use Rattle.acpi_base.specs.Policy.{PolicyValue}
+use Rattle.acpi_base.specs.Statements.{IsClean}
+use Rattle.acpi_base.specs.Faults.{Fault, IsFirstFault}
+use Rattle.acpi_base.specs.Lint.FirstOfCode.{IsFirstOfCode}
+use Rattle.acpi_base.specs.declared.witness.Witness.{Witness}
+
+-- an image has no fault exactly where all stages hold
+abbrev pub CleanWithoutFaults : Type 0
+CleanWithoutFaults = (m : Memory) (q : PolicyValue) → ((w : Witness) → ¬ Fault m q w) ↔ IsClean m q
+
+-- and so no code has a first fault
+abbrev pub CleanWithoutFirsts : Type 0
+CleanWithoutFirsts = (m : Memory) (q : PolicyValue) → ((w : Witness) → ¬ IsFirstOfCode m q w) ↔ IsClean m q
+
+-- the first fault of an image is the first of its code
+abbrev pub FirstIsFirstOfCode : Type 0
+FirstIsFirstOfCode = (m : Memory) (q : PolicyValue) (w : Witness) → IsFirstFault m q w → IsFirstOfCode m q w
+
+-- a code has one first fault at most
+abbrev pub OneFirstOfCode : Type 0
+OneFirstOfCode =
+    (m : Memory) (q : PolicyValue) (w v : Witness) → w.code ≡ v.code → IsFirstOfCode m q w → IsFirstOfCode m q v → w ≡ v
