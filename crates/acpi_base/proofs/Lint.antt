@@ -1,14 +1,16 @@
 -- The first fault of each code: it is one, it is there where there is a fault, and the first fault of an image is one.
-use Rattle.std.proofs.Common.{◌≡◌, ℕ, ◌≤◌, refl, subst, inl, inr, arith}
+use Rattle.std.proofs.Common.{◌≡◌, ℕ, ◌≤◌, refl, sym, subst, inl, inr, arith}
 use Rattle.acpi_base.specs.Memory.{Memory}
 use Rattle.acpi_base.specs.Policy.{PolicyValue}
 use Rattle.acpi_base.specs.Codes.{stage_number, stage_of}
 use Rattle.acpi_base.specs.Statements.{IsClean}
 use Rattle.acpi_base.specs.Faults.{Fault, FaultOfStage, IsLeastOfStage, IsFirstFault}
 use Rattle.acpi_base.specs.Lint.FirstOfCode.{IsLeastOfCode, IsFirstOfCode}
-use Rattle.acpi_base.specs.Lint.Laws.{CleanWithoutFaults, CleanWithoutFirsts, FirstIsFirstOfCode, OneFirstOfCode}
+use Rattle.acpi_base.specs.Lint.Laws.{CleanWithoutFaults, CleanWithoutFirsts, FirstIsFirstOfCode, OneFirstOfCode, OneFirstAdvice}
+use Rattle.acpi_base.specs.Lint.Advice.{IsNotAfter}
 use Rattle.acpi_base.specs.declared.code.Code.{Code}
 use Rattle.acpi_base.specs.declared.code.Code.TheVariants as code
+use Rattle.acpi_base.specs.declared.rule.Advice.{Advice}
 use Rattle.acpi_base.specs.declared.stage.Stage.{Stage}
 use Rattle.acpi_base.specs.declared.stage.Stage.TheVariants as stage
 use Rattle.acpi_base.specs.declared.witness.Witness.{Witness}
@@ -76,3 +78,15 @@ pub one_first_of_code : OneFirstOfCode
 one_first_of_code m q w v same one other =
     one_of_code m q w v v.code same refl one.fault other.fault
     (subst (λ (c : Code). IsLeastOfCode c m q w) same one.least) other.least
+
+-- ---- advice
+
+-- two that stand after each other neither way have the same numbers
+same_numbers : (a b : Advice) → IsNotAfter a b → IsNotAfter b a → (a.at ≡ b.at) × (a.other ≡ b.other) × (a.point ≡ b.point)
+same_numbers a b one other = (grind (arith, one, other), grind (arith, one, other), grind (arith, one, other))
+
+pub one_first_advice : OneFirstAdvice
+one_first_advice m q a b same one other =
+    let (at, second, point) =
+        same_numbers a b (one.least b (sym same) other.broken) (other.least a same one.broken) in
+    λ i. record { rule = same i; at = at i; other = second i; point = point i }

@@ -1,3 +1,14 @@
 -- All that is wrong with an image, and not only its first fault.
+pub mod Advice
+pub mod FadtAdvice
 pub mod FirstOfCode
 pub mod Laws
+pub mod MadtAdvice
+pub mod Numbered
+pub mod PpttAdvice
+pub mod Processors
+pub mod Rules
+pub mod Sets
+pub mod SlitAdvice
+pub mod Slots
+pub mod SratAdvice

@@ -12,7 +12,7 @@ ghost use Rattle.acpi_base.specs.Examples.Slits.{AreSlitContents, AreSlitFaults,
 ghost use Rattle.acpi_base.specs.Examples.Srats.{AreSratContents, AreSratFaults, AreFirstOverlaps, HasNoSratFault};
 ghost use Rattle.acpi_base.specs.Examples.WholeSets.{whole_set, example_policy};
 ghost use Rattle.acpi_base.specs.Laws.{FaultsExcludeClean, FaultsFit, CleanOrFaulty, CleanOrFirstFault, OneFirstFault, OneVerdict, RootsListSlots, TextsDiffer};
-ghost use Rattle.acpi_base.specs.Lint.Laws.{CleanWithoutFaults, CleanWithoutFirsts, FirstIsFirstOfCode, OneFirstOfCode};
+ghost use Rattle.acpi_base.specs.Lint.Laws.{CleanWithoutFaults, CleanWithoutFirsts, FirstIsFirstOfCode, OneFirstOfCode, OneFirstAdvice};
 ghost use Rattle.acpi_base.specs.Pptt.{ParentsEndOrGoRound, CachesEndOrGoRound};
 ghost use Rattle.acpi_base.specs.Statements.{IsClean};
 ghost use Rattle.acpi_base.specs.Text.WrittenText.{WrittenIsText, OneWritten};
@@ -64,6 +64,12 @@ pub fn first_is_first_of_code()
 #[tactic(auto, using(crate::proofs::Lint::one_first_of_code))]
 pub fn one_first_of_code()
     ensures one { OneFirstOfCode }
+{}
+
+/// A rule of advice has one first finding at most.
+#[tactic(auto, using(crate::proofs::Lint::one_first_advice))]
+pub fn one_first_advice()
+    ensures one { OneFirstAdvice }
 {}
 
 /// Two verdicts that are right for the same stages of an image are one.

@@ -4,7 +4,9 @@ use Rattle.acpi_base.specs.Memory.{Memory}
 use Rattle.acpi_base.specs.Policy.{PolicyValue}
 use Rattle.acpi_base.specs.Statements.{IsClean}
 use Rattle.acpi_base.specs.Faults.{Fault, IsFirstFault}
+use Rattle.acpi_base.specs.Lint.Advice.{IsFirstAdvice}
 use Rattle.acpi_base.specs.Lint.FirstOfCode.{IsFirstOfCode}
+use Rattle.acpi_base.specs.declared.rule.Advice.{Advice}
 use Rattle.acpi_base.specs.declared.witness.Witness.{Witness}
 
 -- an image has no fault exactly where all stages hold
@@ -23,3 +25,8 @@ FirstIsFirstOfCode = (m : Memory) (q : PolicyValue) (w : Witness) → IsFirstFau
 abbrev pub OneFirstOfCode : Type 0
 OneFirstOfCode =
     (m : Memory) (q : PolicyValue) (w v : Witness) → w.code ≡ v.code → IsFirstOfCode m q w → IsFirstOfCode m q v → w ≡ v
+
+-- a rule has one first advice at most
+abbrev pub OneFirstAdvice : Type 0
+OneFirstAdvice =
+    (m : Memory) (q : PolicyValue) (a b : Advice) → a.rule ≡ b.rule → IsFirstAdvice m q a → IsFirstAdvice m q b → a ≡ b

@@ -1,0 +1,76 @@
+-- Advice on the FADT (5.2.9). Offsets are from its start; `at` is a field's.
+use Rattle.std.specs.Prelude.{◌≡◌, ◌≢◌, ℕ, ◌+◌, ◌*◌, ◌<◌, ◌≤◌, ◌⊎◌, List, length, nat_le, false, if◌then◌else◌}
+use Rattle.acpi_base.specs.Number.{field}
+use Rattle.acpi_base.specs.Across.{HasIoApic, IsServed}
+use Rattle.acpi_base.specs.Entries.{Stands, StandsWith}
+use Rattle.acpi_base.specs.Fadt.{is_reduced, gas_at}
+use Rattle.acpi_base.specs.Madt.{MadtEntry, Override, OverrideValue, MadtContents}
+use Rattle.acpi_base.specs.Policy.{PolicyValue}
+
+-- how many bytes a FADT of this Revision has at least: those of all its fields
+abbrev pub fields_length : ℕ → ℕ
+fields_length revision =
+    if nat_le 6 revision then 276 else if nat_le 5 revision then 268 else if nat_le 3 revision then 244 else 0
+
+-- the table is shorter than its Revision has fields: `other` is its Length, `point` that length
+abbrev pub IsFadtOfRevision : List ℕ → ℕ → ℕ → ℕ → Type 0
+IsFadtOfRevision whole at other point =
+    (at ≡ 4) × (other ≡ length whole) × (point ≡ fields_length (field whole 8 1)) × (length whole < point)
+
+-- the field of 4 bytes at `narrow` and that of 8 bytes at `wide` are both there and not 0, and differ: they say `other` and
+-- `point`
+pub record DoFieldsDiffer (whole : List ℕ) (narrow wide other point : ℕ) : Type 0 where
+  pub narrow_there : narrow + 4 ≤ length whole
+  pub wide_there : wide + 8 ≤ length whole
+  pub narrow_is : other ≡ field whole narrow 4
+  pub wide_is : point ≡ field whole wide 8
+  pub narrow_used : other ≢ 0
+  pub wide_used : point ≢ 0
+  pub differ : other ≢ point
+
+-- FIRMWARE_CTRL and X_FIRMWARE_CTRL
+abbrev pub IsFacsDiffers : List ℕ → ℕ → ℕ → ℕ → Type 0
+IsFacsDiffers whole at other point = (at ≡ 36) × DoFieldsDiffer whole 36 132 other point
+
+-- DSDT and X_DSDT
+abbrev pub IsDsdtDiffers : List ℕ → ℕ → ℕ → ℕ → Type 0
+IsDsdtDiffers whole at other point = (at ≡ 40) × DoFieldsDiffer whole 40 140 other point
+
+-- register block k, from 0 to 7: the field of 4 bytes, and the address of the X_ structure, which is of system I/O; asked
+-- where the hardware is not reduced
+pub record IsBlockDiffers (whole : List ℕ) (at other point : ℕ) : Type 0 where
+  pub driven : is_reduced whole ≡ false
+  pub k : ℕ
+  pub block : k < 8
+  pub place : at ≡ 56 + 4 * k
+  pub space : (gas_at whole (148 + 12 * k)).space ≡ 1
+  pub differ : DoFieldsDiffer whole at (152 + 12 * k) other point
+
+-- ---- the interrupt of the FADT among those of the MADT
+
+-- the entry is an override of the ISA interrupt `source` (5.2.12.5)
+abbrev pub IsOverrideOf : ℕ → MadtEntry → Type 0
+IsOverrideOf source (Override v) = (v.bus ≡ 0) × (v.source ≡ source)
+IsOverrideOf source _ = ⊥
+
+-- the first override of the ISA interrupt gives it the interrupt number g
+pub record IsFirstOverride (c : MadtContents) (source g : ℕ) : Type 0 where
+  pub at : ℕ
+  pub v : OverrideValue
+  pub stands : Stands c.entries at (Override v)
+  pub of : (v.bus ≡ 0) × (v.source ≡ source)
+  pub is : v.gsi ≡ g
+  pub first : (p : ℕ) → StandsWith c.entries p (IsOverrideOf source) → at ≤ p
+
+-- the interrupt number of an ISA interrupt: that of its first override, or else its own
+abbrev pub IsGsiOf : MadtContents → ℕ → ℕ → Type 0
+IsGsiOf c source g =
+    IsFirstOverride c source g ⊎ (((p : ℕ) → ¬ StandsWith c.entries p (IsOverrideOf source)) × (g ≡ source))
+
+-- no I/O APIC serves the interrupt number of SCI_INT, at 46, though there are some; asked where the hardware is not reduced
+pub record IsSciNowhere (q : PolicyValue) (whole : List ℕ) (c : MadtContents) (at other point : ℕ) : Type 0 where
+  pub driven : is_reduced whole ≡ false
+  pub place : (at ≡ 46) × (other ≡ 0)
+  pub number : IsGsiOf c (field whole 46 2) point
+  pub some : HasIoApic c
+  pub nowhere : ¬ IsServed q c point

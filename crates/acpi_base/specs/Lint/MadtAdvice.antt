@@ -1,0 +1,78 @@
+-- Advice on the MADT (5.2.12). `at` is an entry's offset from the table's start.
+use Rattle.std.specs.Prelude.{◌≡◌, ◌≢◌, ℕ, ◌-◌, ◌^◌, ◌<◌, ◌≤◌, ◌⊎◌, List, length, slice_index, Option, Some, None, ◌==◌, if◌then◌else◌}
+use Rattle.acpi_base.specs.Entries.{StandsWith, AreUnused}
+use Rattle.acpi_base.specs.Madt.{MadtEntry, IoApic, LocalNmi, X2apicNmi, Opaque, MadtContents}
+use Rattle.acpi_base.specs.Lint.Numbered.{NamesAt, IsNamed, IsLater}
+use Rattle.acpi_base.specs.Lint.Processors.{uid_of, uid_on, apic_id_on, AreProcessorsRead}
+
+-- ---- processors
+
+-- two processors that are on have the UID `point`; `other` is the first that has it
+abbrev pub IsSameUid : MadtContents → ℕ → ℕ → ℕ → Type 0
+IsSameUid c at other point = IsLater (NamesAt uid_on c.entries) at other point
+
+-- the same of an APIC ID or x2APIC ID, which are one number space
+abbrev pub IsSameApicId : MadtContents → ℕ → ℕ → ℕ → Type 0
+IsSameApicId c at other point = IsLater (NamesAt apic_id_on c.entries) at other point
+
+-- no processor is on, and all are in a form that is read
+abbrev pub IsNoProcessor : MadtContents → ℕ → ℕ → ℕ → Type 0
+IsNoProcessor c at other point =
+    AreProcessorsRead c × ((uid : ℕ) → ¬ IsNamed uid_on c.entries uid) × (at ≡ 0) × AreUnused other point
+
+-- the UID to which a local APIC NMI or local x2APIC NMI applies; all ones mean all processors (5.2.12.7, 5.2.12.13)
+abbrev pub nmi_uid : MadtEntry → Option ℕ
+nmi_uid (LocalNmi v) = if v.uid == 255 then None else Some v.uid
+nmi_uid (X2apicNmi v) = if v.uid == 2 ^ 32 - 1 then None else Some v.uid
+nmi_uid _ = None
+
+-- the NMI applies to the UID `point`, which no processor has
+abbrev pub IsNmiNowhere : MadtContents → ℕ → ℕ → ℕ → Type 0
+IsNmiNowhere c at other point =
+    AreProcessorsRead c × NamesAt nmi_uid c.entries at point × (¬ IsNamed uid_of c.entries point) × (other ≡ 0)
+
+-- ---- interrupt controllers
+
+-- an I/O APIC's address and its ID (5.2.12.3)
+abbrev pub io_apic_address : MadtEntry → Option ℕ
+io_apic_address (IoApic v) = Some v.address
+io_apic_address _ = None
+
+abbrev pub io_apic_id : MadtEntry → Option ℕ
+io_apic_id (IoApic v) = Some v.id
+io_apic_id _ = None
+
+-- an I/O APIC has the address 0
+abbrev pub IsIoApicAtZero : MadtContents → ℕ → ℕ → ℕ → Type 0
+IsIoApicAtZero c at other point = NamesAt io_apic_address c.entries at 0 × AreUnused other point
+
+-- two I/O APICs have the ID `point`; `other` is the first that has it
+abbrev pub IsSameIoApicId : MadtContents → ℕ → ℕ → ℕ → Type 0
+IsSameIoApicId c at other point = IsLater (NamesAt io_apic_id c.entries) at other point
+
+-- the same of an address that is not 0
+abbrev pub IsSameIoApicAddress : MadtContents → ℕ → ℕ → ℕ → Type 0
+IsSameIoApicAddress c at other point = IsLater (NamesAt io_apic_address c.entries) at other point × (point ≢ 0)
+
+-- a GIC distributor (5.2.12.15)
+abbrev pub gicd : MadtEntry → Option ℕ
+gicd (Opaque e) = if slice_index e 0 == 12 then Some 0 else None
+gicd _ = None
+
+-- a second GIC distributor; `other` is the first
+abbrev pub IsSecondGicd : MadtContents → ℕ → ℕ → ℕ → Type 0
+IsSecondGicd c at other point = IsLater (NamesAt gicd c.entries) at other point
+
+-- ---- entries that are not looked at
+
+-- the type of an entry that neither the stages nor these rules read
+abbrev pub IsUnreadType : List ℕ → Type 0
+IsUnreadType e =
+    ((6 ≤ slice_index e 0) × (slice_index e 0 ≢ 9) × (slice_index e 0 ≢ 10) × (slice_index e 0 ≢ 11) × (slice_index e 0 ≢ 12))
+    ⊎ ((slice_index e 0 ≡ 11) × (length e < 40))
+
+-- the entry is one; `other` is its type
+abbrev pub IsMadtUnread : MadtContents → ℕ → ℕ → ℕ → Type 0
+IsMadtUnread c at other point =
+    StandsWith c.entries at (λ e. (bytes : List ℕ) × (e ≡ Opaque bytes) × IsUnreadType bytes × (other ≡ slice_index bytes 0))
+    × (point ≡ 0)

@@ -1,0 +1,19 @@
+-- Numbers that stand at places: at the offsets of entries, or in slots. A relation `HasAt at x` says that the number x stands
+-- at the place `at`.
+use Rattle.std.specs.Prelude.{◌≡◌, ℕ, ◌<◌, ◌≤◌, List, Option, Some}
+use Rattle.acpi_base.specs.Entries.{PlacedEntry, StandsWith}
+
+-- an entry stands at o of which `read` gives the number n
+abbrev pub NamesAt : {E : Type 0} → (E → Option ℕ) → List (PlacedEntry E) → ℕ → ℕ → Type 0
+NamesAt read entries o n = StandsWith entries o (λ e. read e ≡ Some n)
+
+-- an entry stands somewhere of which `read` gives the number n
+abbrev pub IsNamed : {E : Type 0} → (E → Option ℕ) → List (PlacedEntry E) → ℕ → Type 0
+IsNamed read entries n = (o : ℕ) × NamesAt read entries o n
+
+-- the number x stands at `at` and before it at `other`, which is the first place where it stands
+pub record IsLater (HasAt : ℕ → ℕ → Type 0) (at other x : ℕ) : Type 0 where
+  pub here : HasAt at x
+  pub earlier : HasAt other x
+  pub before : other < at
+  pub first : (p : ℕ) → HasAt p x → other ≤ p

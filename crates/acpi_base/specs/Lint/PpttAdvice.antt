@@ -1,0 +1,47 @@
+-- Advice on the PPTT (5.2.30), beside the MADT. `at` is an entry's offset from the start of its table.
+use Rattle.std.specs.Prelude.{◌≡◌, ◌≢◌, ℕ, ◌^◌, ◌≤◌, ◌⊎◌, Option, None, true, if◌then◌else◌}
+use Rattle.acpi_base.specs.Entries.{StandsWith, AreUnused}
+use Rattle.acpi_base.specs.Number.{has_bit}
+use Rattle.acpi_base.specs.Madt.{MadtContents}
+use Rattle.acpi_base.specs.Pptt.{PpttEntry, Cache, CacheValue, PpttContents}
+use Rattle.acpi_base.specs.Lint.Numbered.{NamesAt, IsNamed, IsLater}
+use Rattle.acpi_base.specs.Lint.Processors.{uid_of, uid_on, AreProcessorsRead, IsGicc, IsLeafAt, IsLeafId}
+
+-- two leaves have the ACPI processor ID `point`; `other` is the first that has it (5.2.30.1)
+abbrev pub IsSameLeaf : PpttContents → ℕ → ℕ → ℕ → Type 0
+IsSameLeaf c at other point = IsLater (IsLeafAt c) at other point
+
+-- a power of two
+abbrev pub IsPowerOfTwo : ℕ → Type 0
+IsPowerOfTwo n = (k : ℕ) × (n ≡ 2 ^ k)
+
+-- the cache's Number of Sets is valid, bit 1 of its flags, and 0, or its Line Size is valid, bit 6, and no power of two
+-- (5.2.30.2)
+abbrev pub HasOddShape : CacheValue → Type 0
+HasOddShape v = ((has_bit v.flags 1 ≡ true) × (v.sets ≡ 0)) ⊎ ((has_bit v.flags 6 ≡ true) × ¬ IsPowerOfTwo v.line_size)
+
+abbrev pub IsCacheShape : PpttContents → ℕ → ℕ → ℕ → Type 0
+IsCacheShape c at other point =
+    StandsWith c.entries at (λ e. (v : CacheValue) × (e ≡ Cache v) × HasOddShape v) × AreUnused other point
+
+-- the Cache ID of a cache that has a valid one, bit 7
+abbrev pub cache_id : PpttEntry → Option ℕ
+cache_id (Cache v) = if has_bit v.flags 7 then v.id else None
+cache_id _ = None
+
+-- two caches have the Cache ID `point`, of a PPTT of Revision 3 or later; `other` is the first that has it
+abbrev pub IsSameCacheId : PpttContents → ℕ → ℕ → ℕ → Type 0
+IsSameCacheId c at other point = (3 ≤ c.revision) × IsLater (NamesAt cache_id c.entries) at other point
+
+-- the entry of the MADT is of a processor that is on, whose UID `point` no leaf has, though there are leaves
+abbrev pub IsNoLeaf : MadtContents → PpttContents → ℕ → ℕ → ℕ → Type 0
+IsNoLeaf madt pptt at other point =
+    AreProcessorsRead madt × ((id : ℕ) × IsLeafId pptt id) × NamesAt uid_on madt.entries at point
+    × (¬ IsLeafId pptt point) × (other ≡ 0)
+
+-- the leaf's ID `point` is no processor's UID; asked where the MADT has a GIC CPU interface, of which the statement on leaves
+-- is silent
+abbrev pub IsLeafNowhere : MadtContents → PpttContents → ℕ → ℕ → ℕ → Type 0
+IsLeafNowhere madt pptt at other point =
+    AreProcessorsRead madt × ((o : ℕ) × StandsWith madt.entries o IsGicc) × IsLeafAt pptt at point
+    × (¬ IsNamed uid_of madt.entries point) × (other ≡ 0)

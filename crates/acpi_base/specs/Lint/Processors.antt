@@ -1,0 +1,113 @@
+-- Processors: as the MADT's entries describe them, as the SRAT's entries place them, and as the PPTT's leaves name them.
+use Rattle.std.specs.Prelude.{◌≡◌, ◌≢◌, ℕ, ◌+◌, ◌<◌, ◌≤◌, ◌⊎◌, Bool, List, length, slice_index, Option, Some, None, nat_le, true, ◌==◌, ◌&&◌, ◌||◌, if◌then◌else◌}
+use Rattle.std.specs.Option.{option_and_then, option_map}
+use Rattle.acpi_base.specs.Entries.{StandsWith}
+use Rattle.acpi_base.specs.Number.{field, has_bit}
+use Rattle.acpi_base.specs.Madt as madt
+use Rattle.acpi_base.specs.Srat as srat
+use Rattle.acpi_base.specs.Pptt as pptt
+use Rattle.acpi_base.specs.Lint.Numbered.{NamesAt, IsNamed}
+
+-- ---- the MADT (5.2.12)
+
+-- a processor: its UID, its APIC ID or x2APIC ID where it has one, and whether it is on: Enabled or Online Capable, of a GIC
+-- CPU interface Enabled
+pub record Processor : Type 0 where
+  pub uid : ℕ
+  pub apic_id : Option ℕ
+  pub on : Bool
+
+-- the bytes are a GIC CPU interface whose fields are read (5.2.12.14)
+abbrev pub is_gicc : List ℕ → Bool
+is_gicc e = (slice_index e 0 == 11) && nat_le 40 (length e)
+
+-- the processor that an entry describes
+abbrev pub processor_of : madt.MadtEntry → Option Processor
+processor_of (madt.LocalApic v) =
+    Some (record { uid = v.uid; apic_id = Some v.apic_id; on = has_bit v.flags 0 || has_bit v.flags 1 })
+processor_of (madt.X2apic v) =
+    Some (record { uid = v.uid; apic_id = Some v.x2apic_id; on = has_bit v.flags 0 || has_bit v.flags 1 })
+processor_of (madt.Opaque e) =
+    if is_gicc e then Some (record { uid = field e 8 4; apic_id = None; on = has_bit (field e 12 4) 0 }) else None
+processor_of _ = None
+
+-- the UID of a processor, and of one that is on
+abbrev pub uid_of : madt.MadtEntry → Option ℕ
+uid_of e = option_map (λ p. p.uid) (processor_of e)
+
+abbrev pub uid_on : madt.MadtEntry → Option ℕ
+uid_on e = option_and_then (λ p. if p.on then Some p.uid else None) (processor_of e)
+
+-- the APIC ID of a processor that has one, and of one that is on
+abbrev pub apic_id_of : madt.MadtEntry → Option ℕ
+apic_id_of e = option_and_then (λ p. p.apic_id) (processor_of e)
+
+abbrev pub apic_id_on : madt.MadtEntry → Option ℕ
+apic_id_on e = option_and_then (λ p. if p.on then p.apic_id else None) (processor_of e)
+
+-- the UID of a GIC CPU interface that is on
+abbrev pub gicc_uid_on : madt.MadtEntry → Option ℕ
+gicc_uid_on (madt.Opaque e) = uid_on (madt.Opaque e)
+gicc_uid_on _ = None
+
+-- the entry is a GIC CPU interface whose fields are read
+abbrev pub IsGicc : madt.MadtEntry → Type 0
+IsGicc (madt.Opaque e) = is_gicc e ≡ true
+IsGicc _ = ⊥
+
+-- the entry describes processors in a form that no rule reads: a local SAPIC (7), a core of another architecture (17, 24),
+-- or a GIC CPU interface of fewer bytes than its fields
+abbrev pub IsOtherProcessor : madt.MadtEntry → Type 0
+IsOtherProcessor (madt.Opaque e) =
+    (slice_index e 0 ≡ 7) ⊎ (slice_index e 0 ≡ 17) ⊎ (slice_index e 0 ≡ 24) ⊎ ((slice_index e 0 ≡ 11) × (length e < 40))
+IsOtherProcessor _ = ⊥
+
+-- each processor of the MADT is in a form that the rules read
+abbrev pub AreProcessorsRead : madt.MadtContents → Type 0
+AreProcessorsRead c = (o : ℕ) → ¬ StandsWith c.entries o IsOtherProcessor
+
+-- ---- the SRAT (5.2.16)
+
+-- the bytes are a GICC affinity (5.2.16.4) that is enabled
+abbrev pub is_gicc_affinity : List ℕ → Bool
+is_gicc_affinity e = (slice_index e 0 == 3) && (length e == 18) && has_bit (field e 10 4) 0
+
+-- the APIC ID or x2APIC ID that an enabled affinity places
+abbrev pub placed_apic_id : srat.SratEntry → Option ℕ
+placed_apic_id (srat.ApicDomain v) = if srat.is_enabled v.flags then Some v.apic_id else None
+placed_apic_id (srat.X2apicDomain v) = if srat.is_enabled v.flags then Some v.x2apic_id else None
+placed_apic_id _ = None
+
+-- the UID that an enabled GICC affinity places
+abbrev pub placed_uid : srat.SratEntry → Option ℕ
+placed_uid (srat.Opaque e) = if is_gicc_affinity e then Some (field e 6 4) else None
+placed_uid _ = None
+
+-- the domain in which an enabled affinity places its processor
+abbrev pub processor_domain : srat.SratEntry → Option ℕ
+processor_domain (srat.ApicDomain v) = if srat.is_enabled v.flags then Some v.domain else None
+processor_domain (srat.X2apicDomain v) = if srat.is_enabled v.flags then Some v.domain else None
+processor_domain (srat.Opaque e) = if is_gicc_affinity e then Some (field e 2 4) else None
+processor_domain _ = None
+
+-- the same, or the domain of an enabled range of memory, whatever its length
+abbrev pub any_domain : srat.SratEntry → Option ℕ
+any_domain (srat.MemoryRange v) = if srat.is_enabled v.flags then Some v.domain else None
+any_domain e = processor_domain e
+
+-- ---- the PPTT (5.2.30.1)
+
+-- a node is named as a Parent
+abbrev pub IsParent : pptt.PpttContents → ℕ → Type 0
+IsParent c o = (p : ℕ) × pptt.NamesParent c p o
+
+-- the leaf with this ACPI processor ID stands at o: a node whose ID is valid, bit 1 of its flags, and that says that it is a
+-- leaf, bit 3; below Revision 2, which has no such bit, one that no node names as its Parent
+abbrev pub IsLeafAt : pptt.PpttContents → ℕ → ℕ → Type 0
+IsLeafAt c o id =
+    StandsWith c.entries o (λ e. (v : pptt.NodeValue) × (e ≡ pptt.Node v) × (v.id ≡ id) × (has_bit v.flags 1 ≡ true)
+    × ((2 ≤ c.revision) → has_bit v.flags 3 ≡ true) × (c.revision < 2 → ¬ IsParent c o))
+
+-- a leaf has this ID
+abbrev pub IsLeafId : pptt.PpttContents → ℕ → Type 0
+IsLeafId c id = (o : ℕ) × IsLeafAt c o id

@@ -1,0 +1,51 @@
+-- Advice on the SRAT (5.2.16), beside the MADT and the SLIT. `at` is an entry's offset from the start of its table.
+use Rattle.std.specs.Prelude.{◌≡◌, ◌≢◌, ℕ, ◌≤◌, ◌⊎◌, List, length, slice_index}
+use Rattle.acpi_base.specs.Entries.{StandsWith}
+use Rattle.acpi_base.specs.Madt.{MadtContents}
+use Rattle.acpi_base.specs.Srat.{Opaque, SratContents}
+use Rattle.acpi_base.specs.Lint.Numbered.{NamesAt, IsNamed}
+use Rattle.acpi_base.specs.Lint.Processors.{uid_of, apic_id_of, apic_id_on, gicc_uid_on, placed_apic_id, placed_uid, processor_domain, any_domain, AreProcessorsRead}
+
+-- the affinity at o places the processor with this UID in the domain d (5.2.16.4)
+abbrev pub PlacesUid : SratContents → ℕ → ℕ → ℕ → Type 0
+PlacesUid c o uid d = NamesAt placed_uid c.entries o uid × NamesAt processor_domain c.entries o d
+
+-- the affinity at `other` places the processor with the UID `point` in another domain than the one at `at`, the first of it
+pub record IsTwoUidDomains (c : SratContents) (at other point : ℕ) : Type 0 where
+  pub d : ℕ
+  pub f : ℕ
+  pub first : PlacesUid c at point d
+  pub here : PlacesUid c other point f
+  pub differ : d ≢ f
+  pub least : (p : ℕ) → NamesAt placed_uid c.entries p point → at ≤ p
+
+-- the affinity is of the number `point`, which no processor of the MADT has: an APIC ID or x2APIC ID, or of a GICC a UID
+abbrev pub IsAffinityNowhere : MadtContents → SratContents → ℕ → ℕ → ℕ → Type 0
+IsAffinityNowhere madt srat at other point =
+    AreProcessorsRead madt
+    × ((NamesAt placed_apic_id srat.entries at point × ¬ IsNamed apic_id_of madt.entries point)
+    ⊎ (NamesAt placed_uid srat.entries at point × ¬ IsNamed uid_of madt.entries point))
+    × (other ≡ 0)
+
+-- the entry of the MADT is of a processor that is on, whose number `point` no affinity has, though the SRAT has some
+abbrev pub IsNoDomain : MadtContents → SratContents → ℕ → ℕ → ℕ → Type 0
+IsNoDomain madt srat at other point =
+    AreProcessorsRead madt × ((d : ℕ) × IsNamed processor_domain srat.entries d)
+    × ((NamesAt apic_id_on madt.entries at point × ¬ IsNamed placed_apic_id srat.entries point)
+    ⊎ (NamesAt gicc_uid_on madt.entries at point × ¬ IsNamed placed_uid srat.entries point))
+    × (other ≡ 0)
+
+-- the entry is of the domain `point`, and the SLIT has `other` localities, so none with this number (5.2.17)
+abbrev pub IsDomainPastSlit : SratContents → ℕ → ℕ → ℕ → ℕ → Type 0
+IsDomainPastSlit srat localities at other point =
+    NamesAt any_domain srat.entries at point × (localities ≤ point) × (other ≡ localities)
+
+-- the bytes of an entry that neither the stages nor these rules read
+abbrev pub IsUnreadEntry : List ℕ → Type 0
+IsUnreadEntry e = (4 ≤ slice_index e 0) ⊎ ((slice_index e 0 ≡ 3) × (length e ≢ 18))
+
+-- the entry is one; `other` is its type
+abbrev pub IsSratUnread : SratContents → ℕ → ℕ → ℕ → Type 0
+IsSratUnread c at other point =
+    StandsWith c.entries at (λ e. (bytes : List ℕ) × (e ≡ Opaque bytes) × IsUnreadEntry bytes × (other ≡ slice_index bytes 0))
+    × (point ≡ 0)

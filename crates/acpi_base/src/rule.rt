@@ -1,0 +1,153 @@
+//! Advice: what breaks none of the statements, and is likely wrong all the same.
+
+ghost use Rattle.std.specs.Prelude.{◌≡◌};
+ghost use Rattle.acpi_base.specs.Lint.Rules.{rule_name, rule_number};
+
+/// A rule of advice. A set of tables may have a reason to break one, so no rule is a fault. Sections are those of ACPI 6.5.
+#[derive(Clone, Copy, Debug, PartialEq, Eq)]
+pub enum Rule {
+    /// A slot lists an address that an earlier slot lists (5.2.7).
+    ListedTwice,
+    /// A slot lists a second table of a kind of which the first one alone is read (5.2).
+    SecondTable,
+    /// A slot lists a DSDT or a FACS, which the FADT alone names (5.2.9).
+    ListedApart,
+    /// The FADT is shorter than its Revision has fields (5.2.9).
+    FadtOfRevision,
+    /// FIRMWARE_CTRL and X_FIRMWARE_CTRL name two addresses (5.2.9).
+    FacsDiffers,
+    /// DSDT and X_DSDT name two addresses (5.2.9).
+    DsdtDiffers,
+    /// A register block's field of 4 bytes and its X_ structure name two system I/O ports (5.2.9).
+    BlockDiffers,
+    /// No I/O APIC serves the interrupt number of SCI_INT (5.2.9, 5.2.12.5).
+    SciNowhere,
+    /// Two processors that are on have one UID (5.2.12).
+    SameUid,
+    /// Two processors that are on have one APIC ID or x2APIC ID (5.2.12).
+    SameApicId,
+    /// An I/O APIC's address is 0 (5.2.12.3).
+    IoApicAtZero,
+    /// Two I/O APICs have one ID (5.2.12.3).
+    SameIoApicId,
+    /// Two I/O APICs have one address (5.2.12.3).
+    SameIoApicAddress,
+    /// A local APIC NMI or x2APIC NMI is of a UID that no processor has (5.2.12.7, 5.2.12.13).
+    NmiNowhere,
+    /// There are two GIC distributors (5.2.12.15).
+    SecondGicd,
+    /// No processor is on (5.2.12).
+    NoProcessor,
+    /// Two GICC affinities put one UID in two proximity domains (5.2.16.4).
+    TwoUidDomains,
+    /// An affinity of the SRAT is of a number that no processor has (5.2.16).
+    AffinityNowhere,
+    /// A processor that is on has no affinity, though others have (5.2.16).
+    NoDomain,
+    /// A proximity domain of the SRAT is none of the SLIT's localities (5.2.17).
+    DomainPastSlit,
+    /// It is not as far from one locality to another as back (5.2.17).
+    SlitDiffers,
+    /// Two leaves of the PPTT have one ACPI processor ID (5.2.30.1).
+    SameLeaf,
+    /// A cache has no sets, or a line size that is no power of two (5.2.30.2).
+    CacheShape,
+    /// Two caches have one Cache ID (5.2.30.2).
+    SameCacheId,
+    /// A processor that is on has no leaf of the PPTT, though there are leaves (5.2.30.1).
+    NoLeaf,
+    /// A leaf's ID is the UID of no processor, of a MADT with GIC CPU interfaces (5.2.30.1).
+    LeafNowhere,
+    /// An entry of the MADT that neither the stages nor these rules look at (5.2.12).
+    MadtUnread,
+    /// An entry of the SRAT that neither the stages nor these rules look at (5.2.16).
+    SratUnread,
+}
+
+impl Rule {
+    /// The rule's number, from 101 to 128.
+    pub fn number(self) -> u8
+        ensures { result ≡ rule_number self }
+    {
+        match self {
+            Rule::ListedTwice => 101,
+            Rule::SecondTable => 102,
+            Rule::ListedApart => 103,
+            Rule::FadtOfRevision => 104,
+            Rule::FacsDiffers => 105,
+            Rule::DsdtDiffers => 106,
+            Rule::BlockDiffers => 107,
+            Rule::SciNowhere => 108,
+            Rule::SameUid => 109,
+            Rule::SameApicId => 110,
+            Rule::IoApicAtZero => 111,
+            Rule::SameIoApicId => 112,
+            Rule::SameIoApicAddress => 113,
+            Rule::NmiNowhere => 114,
+            Rule::SecondGicd => 115,
+            Rule::NoProcessor => 116,
+            Rule::TwoUidDomains => 117,
+            Rule::AffinityNowhere => 118,
+            Rule::NoDomain => 119,
+            Rule::DomainPastSlit => 120,
+            Rule::SlitDiffers => 121,
+            Rule::SameLeaf => 122,
+            Rule::CacheShape => 123,
+            Rule::SameCacheId => 124,
+            Rule::NoLeaf => 125,
+            Rule::LeafNowhere => 126,
+            Rule::MadtUnread => 127,
+            Rule::SratUnread => 128,
+        }
+    }
+
+    /// The rule's name, as a line of advice has it.
+    pub fn name(self) -> &'static str
+        ensures { result.now ≡ rule_name self }
+    {
+        match self {
+            Rule::ListedTwice => "ListedTwice",
+            Rule::SecondTable => "SecondTable",
+            Rule::ListedApart => "ListedApart",
+            Rule::FadtOfRevision => "FadtOfRevision",
+            Rule::FacsDiffers => "FacsDiffers",
+            Rule::DsdtDiffers => "DsdtDiffers",
+            Rule::BlockDiffers => "BlockDiffers",
+            Rule::SciNowhere => "SciNowhere",
+            Rule::SameUid => "SameUid",
+            Rule::SameApicId => "SameApicId",
+            Rule::IoApicAtZero => "IoApicAtZero",
+            Rule::SameIoApicId => "SameIoApicId",
+            Rule::SameIoApicAddress => "SameIoApicAddress",
+            Rule::NmiNowhere => "NmiNowhere",
+            Rule::SecondGicd => "SecondGicd",
+            Rule::NoProcessor => "NoProcessor",
+            Rule::TwoUidDomains => "TwoUidDomains",
+            Rule::AffinityNowhere => "AffinityNowhere",
+            Rule::NoDomain => "NoDomain",
+            Rule::DomainPastSlit => "DomainPastSlit",
+            Rule::SlitDiffers => "SlitDiffers",
+            Rule::SameLeaf => "SameLeaf",
+            Rule::CacheShape => "CacheShape",
+            Rule::SameCacheId => "SameCacheId",
+            Rule::NoLeaf => "NoLeaf",
+            Rule::LeafNowhere => "LeafNowhere",
+            Rule::MadtUnread => "MadtUnread",
+            Rule::SratUnread => "SratUnread",
+        }
+    }
+}
+
+/// Where a rule is broken: up to three numbers, offsets from a table's start, slots, addresses or numbers of the tables, as
+/// the rule says. Those that it does not use are 0.
+#[derive(Clone, Copy, Debug, PartialEq, Eq)]
+pub struct Advice {
+    /// The rule.
+    pub rule: Rule,
+    /// Where: an offset from the start of the rule's table in bytes, or the number of a slot.
+    pub at: u64,
+    /// What it is held against: another place, or another number.
+    pub other: u64,
+    /// The number that is wrong: an address, an ID, a domain.
+    pub point: u64,
+}
