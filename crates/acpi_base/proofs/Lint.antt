@@ -7,7 +7,7 @@ use Rattle.acpi_base.specs.Statements.{IsClean}
 use Rattle.acpi_base.specs.Faults.{Fault, FaultOfStage, IsLeastOfStage, IsFirstFault}
 use Rattle.acpi_base.specs.Lint.FirstOfCode.{IsLeastOfCode, IsFirstOfCode}
 use Rattle.acpi_base.specs.Lint.Laws.{CleanWithoutFaults, CleanWithoutFirsts, FirstIsFirstOfCode, OneFirstOfCode, OneFirstAdvice}
-use Rattle.acpi_base.specs.Lint.Advice.{IsNotAfter}
+use Rattle.acpi_base.specs.Lint.Advice.{NotAfter}
 use Rattle.acpi_base.specs.declared.code.Code.{Code}
 use Rattle.acpi_base.specs.declared.code.Code.TheVariants as code
 use Rattle.acpi_base.specs.declared.rule.Advice.{Advice}
@@ -82,11 +82,11 @@ one_first_of_code m q w v same one other =
 -- ---- advice
 
 -- two that stand after each other neither way have the same numbers
-same_numbers : (a b : Advice) → IsNotAfter a b → IsNotAfter b a → (a.at ≡ b.at) × (a.other ≡ b.other) × (a.point ≡ b.point)
+same_numbers : (a b : Advice) → NotAfter a b → NotAfter b a → (a.at ≡ b.at) × (a.other ≡ b.other) × (a.point ≡ b.point)
 same_numbers a b one other = (grind (arith, one, other), grind (arith, one, other), grind (arith, one, other))
 
 pub one_first_advice : OneFirstAdvice
 one_first_advice m q a b same one other =
     let (at, second, point) =
-        same_numbers a b (one.least b (sym same) other.broken) (other.least a same one.broken) in
+    same_numbers a b (one.least b (sym same) other.broken) (other.least a same one.broken) in
     λ i. record { rule = same i; at = at i; other = second i; point = point i }

@@ -8,31 +8,31 @@ ghost use Rattle.acpi_base.specs.Lint.Rules.{rule_name, rule_number};
 pub enum Rule {
     /// A slot lists an address that an earlier slot lists (5.2.7).
     ListedTwice,
-    /// A slot lists a second table of a kind of which the first one alone is read (5.2).
+    /// A slot lists a second table of a kind, at another address, of which the first one alone is read (5.2).
     SecondTable,
     /// A slot lists a DSDT or a FACS, which the FADT alone names (5.2.9).
     ListedApart,
-    /// The FADT is shorter than its Revision has fields (5.2.9).
+    /// The FADT is too short for the fields of its Revision (5.2.9).
     FadtOfRevision,
-    /// FIRMWARE_CTRL and X_FIRMWARE_CTRL name two addresses (5.2.9).
+    /// FIRMWARE_CTRL and X_FIRMWARE_CTRL name different addresses (5.2.9).
     FacsDiffers,
-    /// DSDT and X_DSDT name two addresses (5.2.9).
+    /// DSDT and X_DSDT name different addresses (5.2.9).
     DsdtDiffers,
-    /// A register block's field of 4 bytes and its X_ structure name two system I/O ports (5.2.9).
+    /// A register block's field of 4 bytes and its X_ structure name different system I/O ports (5.2.9).
     BlockDiffers,
     /// No I/O APIC serves the interrupt number of SCI_INT (5.2.9, 5.2.12.5).
     SciNowhere,
-    /// Two processors that are on have one UID (5.2.12).
+    /// Two processors that are on have the same UID (5.2.12).
     SameUid,
-    /// Two processors that are on have one APIC ID or x2APIC ID (5.2.12).
+    /// Two processors that are on have the same APIC ID or x2APIC ID (5.2.12).
     SameApicId,
     /// An I/O APIC's address is 0 (5.2.12.3).
     IoApicAtZero,
-    /// Two I/O APICs have one ID (5.2.12.3).
+    /// Two I/O APICs have the same ID (5.2.12.3).
     SameIoApicId,
-    /// Two I/O APICs have one address (5.2.12.3).
+    /// Two I/O APICs have the same address (5.2.12.3).
     SameIoApicAddress,
-    /// A local APIC NMI or x2APIC NMI is of a UID that no processor has (5.2.12.7, 5.2.12.13).
+    /// A local APIC NMI or x2APIC NMI names a UID that no processor has (5.2.12.7, 5.2.12.13).
     NmiNowhere,
     /// There are two GIC distributors (5.2.12.15).
     SecondGicd,
@@ -40,23 +40,23 @@ pub enum Rule {
     NoProcessor,
     /// Two GICC affinities put one UID in two proximity domains (5.2.16.4).
     TwoUidDomains,
-    /// An affinity of the SRAT is of a number that no processor has (5.2.16).
+    /// An affinity of the SRAT names a processor that the MADT does not have (5.2.16).
     AffinityNowhere,
-    /// A processor that is on has no affinity, though others have (5.2.16).
+    /// A processor that is on has no affinity, though the SRAT has some (5.2.16).
     NoDomain,
     /// A proximity domain of the SRAT is none of the SLIT's localities (5.2.17).
     DomainPastSlit,
-    /// It is not as far from one locality to another as back (5.2.17).
+    /// The distance between two localities differs by direction (5.2.17).
     SlitDiffers,
-    /// Two leaves of the PPTT have one ACPI processor ID (5.2.30.1).
+    /// Two leaves of the PPTT have the same ACPI processor ID (5.2.30.1).
     SameLeaf,
     /// A cache has no sets, or a line size that is no power of two (5.2.30.2).
     CacheShape,
-    /// Two caches have one Cache ID (5.2.30.2).
+    /// Two caches have the same Cache ID (5.2.30.2).
     SameCacheId,
     /// A processor that is on has no leaf of the PPTT, though there are leaves (5.2.30.1).
     NoLeaf,
-    /// A leaf's ID is the UID of no processor, of a MADT with GIC CPU interfaces (5.2.30.1).
+    /// A leaf's ID is no processor's UID; asked where the MADT has a GIC CPU interface (5.2.30.1).
     LeafNowhere,
     /// An entry of the MADT that neither the stages nor these rules look at (5.2.12).
     MadtUnread,
@@ -148,6 +148,6 @@ pub struct Advice {
     pub at: u64,
     /// What it is held against: another place, or another number.
     pub other: u64,
-    /// The number that is wrong: an address, an ID, a domain.
+    /// A third number: an address, an ID, a domain, a length.
     pub point: u64,
 }

@@ -1,5 +1,5 @@
 -- What each rule of advice finds, and the first finding of each. Offsets and numbers are as the tables' own rules say.
-use Rattle.std.specs.Prelude.{◌≡◌, ◌<◌, ◌≤◌, ◌⊎◌, ℕ, length}
+use Rattle.std.specs.Prelude.{◌≡◌, ◌<◌, ◌≤◌, ◌⊎◌, ℕ, Option, Some, None}
 use Rattle.acpi_base.specs.Memory.{Memory}
 use Rattle.acpi_base.specs.Policy.{PolicyValue}
 use Rattle.acpi_base.specs.Contents.{HasPptt}
@@ -50,10 +50,15 @@ abbrev pub IsAdvice : Memory → PolicyValue → Advice → Type 0
 IsAdvice m q a = IsBroken a.rule m q a.at a.other a.point
 
 -- a stands before b in the order by at, other and point, or is like it
-abbrev pub IsNotAfter : Advice → Advice → Type 0
-IsNotAfter a b = (a.at < b.at) ⊎ ((a.at ≡ b.at) × ((a.other < b.other) ⊎ ((a.other ≡ b.other) × (a.point ≤ b.point))))
+abbrev pub NotAfter : Advice → Advice → Type 0
+NotAfter a b = (a.at < b.at) ⊎ ((a.at ≡ b.at) × ((a.other < b.other) ⊎ ((a.other ≡ b.other) × (a.point ≤ b.point))))
 
 -- the first advice of its rule: its rule is broken there, and at no numbers before
 pub record IsFirstAdvice (m : Memory) (q : PolicyValue) (a : Advice) : Type 0 where
   pub broken : IsAdvice m q a
-  pub least : (b : Advice) → b.rule ≡ a.rule → IsAdvice m q b → IsNotAfter a b
+  pub least : (b : Advice) → b.rule ≡ a.rule → IsAdvice m q b → NotAfter a b
+
+-- the rule is kept, or this is its first advice
+abbrev pub FindsFirstAdvice : Rule → Memory → PolicyValue → Option Advice → Type 0
+FindsFirstAdvice rule m q None = (at other point : ℕ) → ¬ IsBroken rule m q at other point
+FindsFirstAdvice rule m q (Some a) = (a.rule ≡ rule) × IsFirstAdvice m q a

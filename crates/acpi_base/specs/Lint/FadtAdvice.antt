@@ -7,7 +7,7 @@ use Rattle.acpi_base.specs.Fadt.{is_reduced, gas_at}
 use Rattle.acpi_base.specs.Madt.{MadtEntry, Override, OverrideValue, MadtContents}
 use Rattle.acpi_base.specs.Policy.{PolicyValue}
 
--- how many bytes a FADT of this Revision has at least: those of all its fields
+-- how many bytes a FADT of this Revision has at least, those of all its fields; 0 below Revision 3, of which nothing is asked
 abbrev pub fields_length : ℕ → ℕ
 fields_length revision =
     if nat_le 6 revision then 276 else if nat_le 5 revision then 268 else if nat_le 3 revision then 244 else 0
@@ -39,7 +39,7 @@ IsDsdtDiffers whole at other point = (at ≡ 40) × DoFieldsDiffer whole 40 140 
 -- register block k, from 0 to 7: the field of 4 bytes, and the address of the X_ structure, which is of system I/O; asked
 -- where the hardware is not reduced
 pub record IsBlockDiffers (whole : List ℕ) (at other point : ℕ) : Type 0 where
-  pub driven : is_reduced whole ≡ false
+  pub not_reduced : is_reduced whole ≡ false
   pub k : ℕ
   pub block : k < 8
   pub place : at ≡ 56 + 4 * k
@@ -58,7 +58,7 @@ pub record IsFirstOverride (c : MadtContents) (source g : ℕ) : Type 0 where
   pub at : ℕ
   pub v : OverrideValue
   pub stands : Stands c.entries at (Override v)
-  pub of : (v.bus ≡ 0) × (v.source ≡ source)
+  pub of : IsOverrideOf source (Override v)
   pub is : v.gsi ≡ g
   pub first : (p : ℕ) → StandsWith c.entries p (IsOverrideOf source) → at ≤ p
 
@@ -69,7 +69,7 @@ IsGsiOf c source g =
 
 -- no I/O APIC serves the interrupt number of SCI_INT, at 46, though there are some; asked where the hardware is not reduced
 pub record IsSciNowhere (q : PolicyValue) (whole : List ℕ) (c : MadtContents) (at other point : ℕ) : Type 0 where
-  pub driven : is_reduced whole ≡ false
+  pub not_reduced : is_reduced whole ≡ false
   pub place : (at ≡ 46) × (other ≡ 0)
   pub number : IsGsiOf c (field whole 46 2) point
   pub some : HasIoApic c

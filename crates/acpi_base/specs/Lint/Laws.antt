@@ -26,7 +26,7 @@ abbrev pub OneFirstOfCode : Type 0
 OneFirstOfCode =
     (m : Memory) (q : PolicyValue) (w v : Witness) → w.code ≡ v.code → IsFirstOfCode m q w → IsFirstOfCode m q v → w ≡ v
 
--- a rule has one first advice at most
+-- a rule has one first finding at most
 abbrev pub OneFirstAdvice : Type 0
 OneFirstAdvice =
     (m : Memory) (q : PolicyValue) (a b : Advice) → a.rule ≡ b.rule → IsFirstAdvice m q a → IsFirstAdvice m q b → a ≡ b

@@ -15,7 +15,7 @@ IsSameUid c at other point = IsLater (NamesAt uid_on c.entries) at other point
 abbrev pub IsSameApicId : MadtContents → ℕ → ℕ → ℕ → Type 0
 IsSameApicId c at other point = IsLater (NamesAt apic_id_on c.entries) at other point
 
--- no processor is on, and all are in a form that is read
+-- no processor is on; asked where the rules read all processors
 abbrev pub IsNoProcessor : MadtContents → ℕ → ℕ → ℕ → Type 0
 IsNoProcessor c at other point =
     AreProcessorsRead c × ((uid : ℕ) → ¬ IsNamed uid_on c.entries uid) × (at ≡ 0) × AreUnused other point
@@ -26,7 +26,7 @@ nmi_uid (LocalNmi v) = if v.uid == 255 then None else Some v.uid
 nmi_uid (X2apicNmi v) = if v.uid == 2 ^ 32 - 1 then None else Some v.uid
 nmi_uid _ = None
 
--- the NMI applies to the UID `point`, which no processor has
+-- the NMI applies to the UID `point`, which no processor has; asked where the rules read all processors
 abbrev pub IsNmiNowhere : MadtContents → ℕ → ℕ → ℕ → Type 0
 IsNmiNowhere c at other point =
     AreProcessorsRead c × NamesAt nmi_uid c.entries at point × (¬ IsNamed uid_of c.entries point) × (other ≡ 0)
@@ -54,7 +54,7 @@ IsSameIoApicId c at other point = IsLater (NamesAt io_apic_id c.entries) at othe
 abbrev pub IsSameIoApicAddress : MadtContents → ℕ → ℕ → ℕ → Type 0
 IsSameIoApicAddress c at other point = IsLater (NamesAt io_apic_address c.entries) at other point × (point ≢ 0)
 
--- a GIC distributor (5.2.12.15)
+-- a GIC distributor (5.2.12.15); all have the number 0, which is then `point`
 abbrev pub gicd : MadtEntry → Option ℕ
 gicd (Opaque e) = if slice_index e 0 == 12 then Some 0 else None
 gicd _ = None
@@ -65,14 +65,14 @@ IsSecondGicd c at other point = IsLater (NamesAt gicd c.entries) at other point
 
 -- ---- entries that are not looked at
 
--- the type of an entry that neither the stages nor these rules read
-abbrev pub IsUnreadType : List ℕ → Type 0
-IsUnreadType e =
+-- the bytes of an entry that neither the stages nor these rules read
+abbrev pub IsUnreadEntry : List ℕ → Type 0
+IsUnreadEntry e =
     ((6 ≤ slice_index e 0) × (slice_index e 0 ≢ 9) × (slice_index e 0 ≢ 10) × (slice_index e 0 ≢ 11) × (slice_index e 0 ≢ 12))
     ⊎ ((slice_index e 0 ≡ 11) × (length e < 40))
 
 -- the entry is one; `other` is its type
 abbrev pub IsMadtUnread : MadtContents → ℕ → ℕ → ℕ → Type 0
 IsMadtUnread c at other point =
-    StandsWith c.entries at (λ e. (bytes : List ℕ) × (e ≡ Opaque bytes) × IsUnreadType bytes × (other ≡ slice_index bytes 0))
+    StandsWith c.entries at (λ e. (bytes : List ℕ) × (e ≡ Opaque bytes) × IsUnreadEntry bytes × (other ≡ slice_index bytes 0))
     × (point ≡ 0)

@@ -1,5 +1,5 @@
 -- Advice on the PPTT (5.2.30), beside the MADT. `at` is an entry's offset from the start of its table.
-use Rattle.std.specs.Prelude.{◌≡◌, ◌≢◌, ℕ, ◌^◌, ◌≤◌, ◌⊎◌, Option, None, true, if◌then◌else◌}
+use Rattle.std.specs.Prelude.{◌≡◌, ℕ, ◌^◌, ◌≤◌, ◌⊎◌, Option, None, true, if◌then◌else◌}
 use Rattle.acpi_base.specs.Entries.{StandsWith, AreUnused}
 use Rattle.acpi_base.specs.Number.{has_bit}
 use Rattle.acpi_base.specs.Madt.{MadtContents}
@@ -33,14 +33,15 @@ cache_id _ = None
 abbrev pub IsSameCacheId : PpttContents → ℕ → ℕ → ℕ → Type 0
 IsSameCacheId c at other point = (3 ≤ c.revision) × IsLater (NamesAt cache_id c.entries) at other point
 
--- the entry of the MADT is of a processor that is on, whose UID `point` no leaf has, though there are leaves
+-- the entry of the MADT is of a processor that is on, whose UID `point` no leaf has, though there are
+-- leaves; asked where the rules read all processors
 abbrev pub IsNoLeaf : MadtContents → PpttContents → ℕ → ℕ → ℕ → Type 0
 IsNoLeaf madt pptt at other point =
     AreProcessorsRead madt × ((id : ℕ) × IsLeafId pptt id) × NamesAt uid_on madt.entries at point
     × (¬ IsLeafId pptt point) × (other ≡ 0)
 
--- the leaf's ID `point` is no processor's UID; asked where the MADT has a GIC CPU interface, of which the statement on leaves
--- is silent
+-- the leaf's ID `point` is no processor's UID; asked where the rules read all processors and the MADT has a GIC CPU interface,
+-- of which the statement on leaves is silent
 abbrev pub IsLeafNowhere : MadtContents → PpttContents → ℕ → ℕ → ℕ → Type 0
 IsLeafNowhere madt pptt at other point =
     AreProcessorsRead madt × ((o : ℕ) × StandsWith madt.entries o IsGicc) × IsLeafAt pptt at point

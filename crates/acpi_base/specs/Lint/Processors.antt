@@ -1,12 +1,11 @@
 -- Processors: as the MADT's entries describe them, as the SRAT's entries place them, and as the PPTT's leaves name them.
-use Rattle.std.specs.Prelude.{◌≡◌, ◌≢◌, ℕ, ◌+◌, ◌<◌, ◌≤◌, ◌⊎◌, Bool, List, length, slice_index, Option, Some, None, nat_le, true, ◌==◌, ◌&&◌, ◌||◌, if◌then◌else◌}
+use Rattle.std.specs.Prelude.{◌≡◌, ℕ, ◌<◌, ◌≤◌, ◌⊎◌, Bool, List, length, slice_index, Option, Some, None, nat_le, true, ◌==◌, ◌&&◌, ◌||◌, if◌then◌else◌}
 use Rattle.std.specs.Option.{option_and_then, option_map}
 use Rattle.acpi_base.specs.Entries.{StandsWith}
 use Rattle.acpi_base.specs.Number.{field, has_bit}
 use Rattle.acpi_base.specs.Madt as madt
 use Rattle.acpi_base.specs.Srat as srat
 use Rattle.acpi_base.specs.Pptt as pptt
-use Rattle.acpi_base.specs.Lint.Numbered.{NamesAt, IsNamed}
 
 -- ---- the MADT (5.2.12)
 
@@ -17,7 +16,7 @@ pub record Processor : Type 0 where
   pub apic_id : Option ℕ
   pub on : Bool
 
--- the bytes are a GIC CPU interface whose fields are read (5.2.12.14)
+-- the bytes are a GIC CPU interface of at least 40 bytes, its length in ACPI 5.0 (5.2.12.14)
 abbrev pub is_gicc : List ℕ → Bool
 is_gicc e = (slice_index e 0 == 11) && nat_le 40 (length e)
 
@@ -50,19 +49,20 @@ abbrev pub gicc_uid_on : madt.MadtEntry → Option ℕ
 gicc_uid_on (madt.Opaque e) = uid_on (madt.Opaque e)
 gicc_uid_on _ = None
 
--- the entry is a GIC CPU interface whose fields are read
+-- the entry is such a GIC CPU interface
 abbrev pub IsGicc : madt.MadtEntry → Type 0
 IsGicc (madt.Opaque e) = is_gicc e ≡ true
 IsGicc _ = ⊥
 
 -- the entry describes processors in a form that no rule reads: a local SAPIC (7), a core of another architecture (17, 24),
--- or a GIC CPU interface of fewer bytes than its fields
+-- or a GIC CPU interface shorter than 40 bytes
 abbrev pub IsOtherProcessor : madt.MadtEntry → Type 0
 IsOtherProcessor (madt.Opaque e) =
     (slice_index e 0 ≡ 7) ⊎ (slice_index e 0 ≡ 17) ⊎ (slice_index e 0 ≡ 24) ⊎ ((slice_index e 0 ≡ 11) × (length e < 40))
 IsOtherProcessor _ = ⊥
 
--- each processor of the MADT is in a form that the rules read
+-- The rules read all processors of the MADT. Entries of types 0 and 9 with another length than theirs are left to the fault
+-- of that length.
 abbrev pub AreProcessorsRead : madt.MadtContents → Type 0
 AreProcessorsRead c = (o : ℕ) → ¬ StandsWith c.entries o IsOtherProcessor
 

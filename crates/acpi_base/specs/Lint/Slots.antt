@@ -16,7 +16,7 @@ IsListedTwice m p at other point = IsLater (IsSlot m p) at other point
 abbrev pub ListsSigned : Memory → ℕ → List ℕ → ℕ → ℕ → Type 0
 ListsSigned m p signature k a = IsSlot m p k a × IsSigned m a signature
 
--- The slot lists a table with the signature of a kind of which `other` is the first slot, at another address. Only the first
+-- The slot lists a table with the signature of a kind, at another address than `other`, the first slot of that kind. Only the first
 -- table of a kind is read (5.2).
 pub record IsSecondTable (m : Memory) (p at other point : ℕ) : Type 0 where
   pub kind : TableKind

@@ -10,7 +10,8 @@ use Rattle.acpi_base.specs.Lint.Processors.{uid_of, apic_id_of, apic_id_on, gicc
 abbrev pub PlacesUid : SratContents → ℕ → ℕ → ℕ → Type 0
 PlacesUid c o uid d = NamesAt placed_uid c.entries o uid × NamesAt processor_domain c.entries o d
 
--- the affinity at `other` places the processor with the UID `point` in another domain than the one at `at`, the first of it
+-- the affinity at `other` places the processor with the UID `point` in another domain than the one at `at`,
+-- the first with this UID
 pub record IsTwoUidDomains (c : SratContents) (at other point : ℕ) : Type 0 where
   pub d : ℕ
   pub f : ℕ
@@ -19,7 +20,8 @@ pub record IsTwoUidDomains (c : SratContents) (at other point : ℕ) : Type 0 wh
   pub differ : d ≢ f
   pub least : (p : ℕ) → NamesAt placed_uid c.entries p point → at ≤ p
 
--- the affinity is of the number `point`, which no processor of the MADT has: an APIC ID or x2APIC ID, or of a GICC a UID
+-- the affinity is of the number `point`, which no processor of the MADT has: an APIC ID or x2APIC ID, or of a
+-- GICC a UID; asked where the rules read all processors
 abbrev pub IsAffinityNowhere : MadtContents → SratContents → ℕ → ℕ → ℕ → Type 0
 IsAffinityNowhere madt srat at other point =
     AreProcessorsRead madt
@@ -27,7 +29,8 @@ IsAffinityNowhere madt srat at other point =
     ⊎ (NamesAt placed_uid srat.entries at point × ¬ IsNamed uid_of madt.entries point))
     × (other ≡ 0)
 
--- the entry of the MADT is of a processor that is on, whose number `point` no affinity has, though the SRAT has some
+-- the entry of the MADT is of a processor that is on, whose number `point` no affinity has, though the SRAT has
+-- some; asked where the rules read all processors
 abbrev pub IsNoDomain : MadtContents → SratContents → ℕ → ℕ → ℕ → Type 0
 IsNoDomain madt srat at other point =
     AreProcessorsRead madt × ((d : ℕ) × IsNamed processor_domain srat.entries d)
