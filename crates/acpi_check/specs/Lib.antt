@@ -11,7 +11,6 @@ pub mod Leaves
 pub mod Linked
 pub mod Named
 pub mod NamedPlaces
-pub mod Overrides
 pub mod Passed
 pub mod Processors
 pub mod RangeKinds
