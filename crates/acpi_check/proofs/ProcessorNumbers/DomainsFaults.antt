@@ -1,5 +1,5 @@
 -- From processors that an SRAT puts in two domains to the first fault of the two tables.
-use Rattle.std.proofs.Common.{◌≡◌, ◌<◌, ℕ, List, length, get_or, Option, Some, None, refl, ap, ◌∙◌, inl, inr}
+use Rattle.std.proofs.Common.{◌≡◌, ◌<◌, ℕ, List, length, get_or, Some, None, refl, ap, ◌∙◌, inl, inr}
 use Rattle.std.specs.Prelude.{◌↔◌, Contains, slice_index}
 use Rattle.std.proofs.lemmas.List.{get_or_default}
 use Rattle.std.proofs.lemmas.List.Elements.{Contains-get_or}
@@ -14,7 +14,6 @@ use Rattle.acpi_base.specs.declared.code.Code.{Code}
 use Rattle.acpi_base.specs.declared.code.Code.TheVariants as code
 use Rattle.acpi_base.specs.declared.policy.Processors.{Processors}
 use Rattle.acpi_base.specs.declared.stage.Stage.TheVariants as stage
-use Rattle.acpi_base.specs.declared.witness.Witness.{Witness}
 use Rattle.acpi_check.specs.Domains.{PutsPlaced}
 use Rattle.acpi_check.specs.FirstSeen.{IsFirstOther, FindsOther}
 use Rattle.acpi_check.specs.Passed.{IsFirstOfTable}

@@ -1,6 +1,6 @@
 -- What the entries of an SRAT say of processors.
-use Rattle.std.proofs.Common.{◌≡◌, ℕ, ◌<◌, List, length, Option, Some, None, sym, ◌∙◌, ap, subst, inl, inr, arith, refl}
-use Rattle.std.specs.Prelude.{◌↔◌, AllPairs, Contains, slice_index}
+use Rattle.std.proofs.Common.{◌≡◌, ℕ, ◌<◌, List, Some, sym, ◌∙◌, ap, inl, inr, arith, refl}
+use Rattle.std.specs.Prelude.{◌↔◌, AllPairs, slice_index}
 use Rattle.std.proofs.lemmas.Bool.{cases_order}
 use Rattle.std.proofs.lemmas.Option.{none-some, same_Some, cond_some}
 use Rattle.acpi_base.specs.Srat.{SratEntry, ApicDomain, X2apicDomain, PutsIn, is_enabled}
