@@ -8,7 +8,7 @@ ghost use Rattle.acpi_base.specs.declared.stage.Stage.{Stage};
 ghost use Rattle.acpi_read.specs.Srats.{srat_value};
 ghost use Rattle.acpi_check.specs.Domains.{placement_of, PutsPlaced, ArePlacements, DoAgree};
 ghost use Rattle.acpi_check.specs.FirstSeen.{IsGiven, FindsOther};
-ghost use Rattle.acpi_check.specs.Passed.{FindsFirst};
+ghost use Rattle.acpi_check.specs.PassResults.{FindsFirst};
 
 use crate::collected::collected;
 use crate::first_seen::{Given, OtherValue, pass_given};
