@@ -79,7 +79,8 @@ pub record IsAt {E : Type 0} (Gives : ℕ → ℕ → E → Type 0) (entries lef
   pub before : (k p : ℕ) (f : FirstSeen) (e : E) → HasFirst firsts k f → Stands left p e → f.offset < p
 
 -- before the first entry
-pub at_first : {E : Type 0} (Gives : ℕ → ℕ → E → Type 0) (low n : ℕ) {entries : List (PlacedEntry E)} → AreRising low entries → IsAt Gives entries entries (replicate n None)
+pub at_first : {E : Type 0} (Gives : ℕ → ℕ → E → Type 0) (low n : ℕ) {entries : List (PlacedEntry E)}
+    → AreRising low entries → IsAt Gives entries entries (replicate n None)
 at_first Gives low n rises =
     record {
       pass = none_passed low (Agrees Gives (replicate n None)) rises;
@@ -104,12 +105,16 @@ same_firsts {s = s} {left = left} here agrees =
 
 -- past the first value of a key
 new_first : {E : Type 0} {Gives : ℕ → ℕ → E → Type 0} {entries : List (PlacedEntry E)} {s : PlacedEntry E} {left : List (PlacedEntry E)} (firsts : List (Option FirstSeen)) → GivesOne Gives → IsAt Gives entries (s ∷ left) firsts
-    → (k d : ℕ) → Gives k d s.entry → HasNone firsts k → IsAt Gives entries left (slice_set firsts k (Some (record { offset = s.offset; value = d })))
+    → (k d : ℕ) → Gives k d s.entry → HasNone firsts k
+    → IsAt Gives entries left (slice_set firsts k (Some (record { offset = s.offset; value = d })))
 new_first {E} {Gives} {entries} {s} {left} firsts one here k d mine none =
     record {
       pass = one_more here.pass
-          (λ l h gives. let (key, value) = one s.entry k l d h mine gives in (f, subst (λ (n : ℕ). HasFirst (slice_set firsts k (Some f)) n f) key (kept_now firsts k f none), value, omega arith))
-          (λ o e before holds l h gives. let (g, kept, value, least) = holds l h gives in (g, kept_still firsts k l f g none kept, value, least));
+          (λ l h gives.
+          let (key, value) = one s.entry k l d h mine gives in
+          (f, subst (λ (n : ℕ). HasFirst (slice_set firsts k (Some f)) n f) key (kept_now firsts k f none), value, omega arith))
+          (λ o e before holds l h gives.
+          let (g, kept, value, least) = holds l h gives in (g, kept_still firsts k l f g none kept, value, least));
       first = λ l g kept.
           elim (kept_before firsts k l f g none kept) [
             | inr earlier ↦ here.first l g earlier
@@ -127,8 +132,10 @@ new_first {E} {Gives} {entries} {s} {left} firsts one here k d mine none =
 
 -- past an entry that gives no key a value, or one with which the first one agrees
 pub at_next : {E : Type 0} {Gives : ℕ → ℕ → E → Type 0} {entries : List (PlacedEntry E)} {s : PlacedEntry E} {left : List (PlacedEntry E)} (firsts now : List (Option FirstSeen)) → GivesOne Gives → IsAt Gives entries (s ∷ left) firsts
-    → (given : Option Given) → IsGiven Gives s.entry given → PassesGiven firsts now s.offset given None → IsAt Gives entries left now
-at_next {E} {Gives} {entries} {s} {left} firsts now one here None none same = subst (IsAt Gives entries left) (sym same) (same_firsts here (λ k d gives. absurd (none k d gives)))
+    → (given : Option Given) → IsGiven Gives s.entry given → PassesGiven firsts now s.offset given None
+    → IsAt Gives entries left now
+at_next {E} {Gives} {entries} {s} {left} firsts now one here None none same =
+    subst (IsAt Gives entries left) (sym same) (same_firsts here (λ k d gives. absurd (none k d gives)))
 at_next {E} {Gives} {entries} {s} {left} firsts now one here (Some given) mine (inl new) =
     subst (IsAt Gives entries left) (sym new.kept) (new_first firsts one here given.key given.value mine new.none)
 at_next {E} {Gives} {entries} {s} {left} firsts now one here (Some given) mine (inr like) =
@@ -139,7 +146,8 @@ at_next {E} {Gives} {entries} {s} {left} firsts now one here (Some given) mine (
 -- ---- where it stops
 
 -- two entries that were passed give a key one value
-one_value : {E : Type 0} (Gives : ℕ → ℕ → E → Type 0) (firsts : List (Option FirstSeen)) → (o p k d h : ℕ) (e b : E) → Agrees Gives firsts o e → Agrees Gives firsts p b → Gives k d e → Gives k h b → d ≡ h
+one_value : {E : Type 0} (Gives : ℕ → ℕ → E → Type 0) (firsts : List (Option FirstSeen)) → (o p k d h : ℕ) (e b : E)
+    → Agrees Gives firsts o e → Agrees Gives firsts p b → Gives k d e → Gives k h b → d ≡ h
 one_value Gives firsts o p k d h e b one other gives also =
     let (f, kept, is, _) = one k d gives in
     let (g, kept_too, is_too, _) = other k h also in
@@ -147,24 +155,41 @@ one_value Gives firsts o p k d h e b one other gives also =
 
 -- the pass stops at the first entry that gives its key another value
 pub stops : {E : Type 0} {Gives : ℕ → ℕ → E → Type 0} {entries : List (PlacedEntry E)} {s : PlacedEntry E} {left : List (PlacedEntry E)} (firsts now : List (Option FirstSeen)) → GivesOne Gives → IsAt Gives entries (s ∷ left) firsts
-    → (given : Option Given) → IsGiven Gives s.entry given → (found : OtherValue) → PassesGiven firsts now s.offset given (Some found) → IsFirstOther Gives entries found
+    → (given : Option Given) → IsGiven Gives s.entry given → (found : OtherValue)
+    → PassesGiven firsts now s.offset given (Some found) → IsFirstOther Gives entries found
 stops firsts now one here None none found wrong = absurd wrong
 stops {E} {Gives} {entries} {s} {left} firsts now one here (Some given) mine found unlike =
     rw unlike.is (record {
-      other = (given.value, f.value, (s.entry, next_stands here.pass, mine), here.first given.key f unlike.listed, first_before here given.key f unlike.listed, λ is. unlike.differ (sym is));
+      other = (
+        given.value,
+        f.value,
+        (s.entry, next_stands here.pass, mine),
+        here.first given.key f unlike.listed,
+        first_before here given.key f unlike.listed,
+        λ is. unlike.differ (sym is),
+      );
       first = after;
     })
   where
     f : FirstSeen
     f = unlike.first
 
-    after : (p o k : ℕ) → IsOther Gives entries p o k → (s.offset < p) ⊎ ((s.offset ≡ p) × (f.offset ≤ o) × (given.key ≡ k))
+    after : (p o k : ℕ) → IsOther Gives entries p o k
+        → (s.offset < p) ⊎ ((s.offset ≡ p) × (f.offset ≤ o) × (given.key ≡ k))
     after p o k (d, h, (e, stands, gives), (b, also, gives_too), before, differ) =
         elim (before_or_behind here.pass o b also) [
           | inr (inl (same_place, _)) ↦
-              elim (before_or_behind here.pass p e stands) [ inr (inr behind) ↦ inl behind | inr (inl (too, _)) ↦ absurd (omega arith) | inl (earlier, _) ↦ absurd (omega arith) ]
+              elim (before_or_behind here.pass p e stands) [
+                | inr (inr behind) ↦ inl behind
+                | inr (inl (too, _)) ↦ absurd (omega arith)
+                | inl (earlier, _) ↦ absurd (omega arith)
+              ]
           | inr (inr later) ↦
-              elim (before_or_behind here.pass p e stands) [ inr (inr behind) ↦ inl behind | inr (inl (too, _)) ↦ absurd (omega arith) | inl (earlier, _) ↦ absurd (omega arith) ]
+              elim (before_or_behind here.pass p e stands) [
+                | inr (inr behind) ↦ inl behind
+                | inr (inl (too, _)) ↦ absurd (omega arith)
+                | inl (earlier, _) ↦ absurd (omega arith)
+              ]
           | inl (_, agrees) ↦
               elim (before_or_behind here.pass p e stands) [
                 | inr (inr behind) ↦ inl behind
@@ -178,5 +203,7 @@ stops {E} {Gives} {entries} {s} {left} firsts now one here (Some given) mine fou
         ]
 
 -- where no entry is left each key has one value
-pub ends : {E : Type 0} {Gives : ℕ → ℕ → E → Type 0} {entries : List (PlacedEntry E)} (firsts : List (Option FirstSeen)) → IsAt Gives entries [] firsts → FindsOther Gives entries None
-ends {Gives = Gives} firsts here o p k d h (e, stands, gives) (b, also, gives_too) = one_value Gives firsts o p k d h e b (all_passed here.pass o e stands) (all_passed here.pass p b also) gives gives_too
+pub ends : {E : Type 0} {Gives : ℕ → ℕ → E → Type 0} {entries : List (PlacedEntry E)} (firsts : List (Option FirstSeen))
+    → IsAt Gives entries [] firsts → FindsOther Gives entries None
+ends {Gives = Gives} firsts here o p k d h (e, stands, gives) (b, also, gives_too) =
+    one_value Gives firsts o p k d h e b (all_passed here.pass o e stands) (all_passed here.pass p b also) gives gives_too

@@ -40,17 +40,22 @@ are_enabled p madt numbers are i = (from, λ (o, (e, stands, is)). (are.all i).1
 -- ---- the tables
 
 -- an entry puts the processor in a domain by the place of its number
-placed : (numbers : List ℕ) (srat : SratContents) (k i o d : ℕ) → k < length numbers → get_or numbers k i ≡ i → PutsAt srat o i d → StandsWith srat.entries o (PutsPlaced numbers k d)
+placed : (numbers : List ℕ) (srat : SratContents) (k i o d : ℕ) → k < length numbers → get_or numbers k i ≡ i
+    → PutsAt srat o i d → StandsWith srat.entries o (PutsPlaced numbers k d)
 placed numbers srat k i o d inside is (e, stands, puts) = (e, stands, (inside, rw (get_or_default numbers k 0 i inside ∙ is) puts))
 
 -- each processor has one domain, where each place of a number has one
-pub one_domain_each : (p : Processors) (madt : MadtContents) (srat : SratContents) (numbers : List ℕ) → AreNumbers (key.Enabled p) madt numbers → FindsOther (PutsPlaced numbers) srat.entries None → HaveOneDomain p madt srat
+pub one_domain_each : (p : Processors) (madt : MadtContents) (srat : SratContents) (numbers : List ℕ)
+    → AreNumbers (key.Enabled p) madt numbers → FindsOther (PutsPlaced numbers) srat.entries None
+    → HaveOneDomain p madt srat
 one_domain_each p madt srat numbers are all i enabled o r d f one other =
     let (k, inside, is) = (are_enabled p madt numbers are i).1 enabled in
     all o r k d f (placed numbers srat k i o d inside is one) (placed numbers srat k i r f inside is other)
 
 -- the first entry that gives a place another one is the first fault
-pub two_domains : (p : Processors) (madt : MadtContents) (srat : SratContents) (numbers : List ℕ) → AreNumbers (key.Enabled p) madt numbers → (found : OtherValue) → found.key < length numbers → IsFirstOther (PutsPlaced numbers) srat.entries found
+pub two_domains : (p : Processors) (madt : MadtContents) (srat : SratContents) (numbers : List ℕ)
+    → AreNumbers (key.Enabled p) madt numbers → (found : OtherValue) → found.key < length numbers
+    → IsFirstOther (PutsPlaced numbers) srat.entries found
     → IsFirstOfTable stage.Domains (DomainFault p madt srat) (record { code = code.TwoDomains; at = found.at; other = found.other; point = slice_index numbers found.key })
 two_domains p madt srat numbers are found inside first =
     record {

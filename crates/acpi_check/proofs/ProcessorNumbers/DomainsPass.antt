@@ -30,7 +30,8 @@ one_put e i j d h one other =
     (ap (λ (p : Placement). p.processor) is, ap (λ (p : Placement). p.domain) is)
 
 -- whose number, where the numbers rise, stands at one place
-pub one_place : (numbers : List ℕ) → AllPairs (λ i j. i < j) numbers → (e : SratEntry) (k l d h : ℕ) → PutsPlaced numbers k d e → PutsPlaced numbers l h e → (k ≡ l) × (d ≡ h)
+pub one_place : (numbers : List ℕ) → AllPairs (λ i j. i < j) numbers → (e : SratEntry) (k l d h : ℕ)
+    → PutsPlaced numbers k d e → PutsPlaced numbers l h e → (k ≡ l) × (d ≡ h)
 one_place numbers rise e k l d h (inside, one) (inside_too, other) =
     let same = one_put e (slice_index numbers k) (slice_index numbers l) d h one other in
     elim (cases_order k l) [

@@ -109,11 +109,13 @@ pub earlier : {s t : Stage} {set : Set} → IsReady s set → s ≡ t → (e : S
 earlier ready is e before = ready.clean e (rw is before)
 
 -- where the set does not list the table, nothing is said of it, and the stage holds
-pub unlisted : {s t : Stage} {set : Set} {first : Option (List ℕ)} {said : Option (Result ⊤ Refusal)} → IsReady s set → s ≡ t
+pub unlisted : {s t : Stage} {set : Set} {first : Option (List ℕ)} {said : Option (Result ⊤ Refusal)} → IsReady s set
+    → s ≡ t
     → (kind : TableKind) → first ≡ first_table set.listed.tables kind → first ≡ None → said ≡ None
     → (ListsNone set.listed.image.now set.policy.now.rsdp (signature_of kind) → Holds t set.listed.image.now set.policy.now)
     → MatchOption said (IsSetResult s set (Ok tt)) (IsSetResult s set)
-unlisted ready is kind same none silent holds = rw (silent, is) (holds (none_listed ready.tables.listed.tables kind same none), tt)
+unlisted ready is kind same none silent holds =
+    rw (silent, is) (holds (none_listed ready.tables.listed.tables kind same none), tt)
 
 -- where it does, what is found of the table is so of the set
 pub settled : {s t : Stage} {set : Set} {first : Option (List ℕ)} {whole : List ℕ} → IsReady s set → s ≡ t
@@ -121,8 +123,10 @@ pub settled : {s t : Stage} {set : Set} {first : Option (List ℕ)} {whole : Lis
     → (Sound : List ℕ → Type 0) (IsFault : List ℕ → Code → ℕ → ℕ → ℕ → Type 0)
     → (ForListed set.listed.image.now set.policy.now.rsdp (signature_of kind) Sound → Holds t set.listed.image.now set.policy.now)
     → ((v : Witness) → FaultCondition t set.listed.image.now set.policy.now v
-    ↔ HasListed set.listed.image.now set.policy.now.rsdp (signature_of kind) (λ bytes. IsFault bytes v.code v.at v.other v.point))
+    ↔ HasListed set.listed.image.now set.policy.now.rsdp (signature_of kind)
+    (λ bytes. IsFault bytes v.code v.at v.other v.point))
     → ((w : Witness) → ((v : Witness) → FaultOfStage t set.listed.image.now set.policy.now v → NotAfter w v) → IsLeastOfStage t set.listed.image.now set.policy.now w)
     → (result : Result ⊤ Refusal) → FindsFirst t (Sound whole) (IsFault whole) result → IsSetResult s set result
 settled {t = t} ready is kind same some Sound IsFault holds condition order result found =
-    rw is (of_faults t Sound IsFault holds condition order (rw is at ready.clean) (listed_of_first ready.tables.listed.tables kind same some) result found)
+    rw is (of_faults t Sound IsFault holds condition order (rw is at ready.clean)
+    (listed_of_first ready.tables.listed.tables kind same some) result found)
