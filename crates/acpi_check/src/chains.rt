@@ -5,9 +5,9 @@ ghost use Rattle.acpi_base.specs.Chains.{NoneDangles};
 ghost use Rattle.acpi_base.specs.Pptt.{pptt_contents, AreReferencesSound, DoParentsEnd, DoCachesEnd, ParentFault, CacheFault};
 ghost use Rattle.acpi_base.specs.declared.stage.Stage.{Stage};
 ghost use Rattle.acpi_read.specs.Pptts.{pptt_value};
-ghost use Rattle.acpi_check.specs.Indexed.{IsIndexOf};
-ghost use Rattle.acpi_check.specs.Passed.{FindsFirst};
-ghost use Rattle.acpi_check.specs.Linked.{named_offset, code_of, Names, AreNodesOf, AreLinked, AreIndices, FindsCycle};
+ghost use Rattle.acpi_check.specs.ChainIndices.{IsIndexOf};
+ghost use Rattle.acpi_check.specs.PassResults.{FindsFirst};
+ghost use Rattle.acpi_check.specs.ChainNodes.{named_offset, code_of, Names, AreNodesOf, AreLinked, AreIndices, FindsCycle};
 
 use crate::nodes::{Chain, Nodes};
 use crate::refusal::{Refusal, refuse};

@@ -6,10 +6,10 @@ ghost use Rattle.acpi_base.specs.Madt.{madt_contents, AreInterruptsApart};
 ghost use Rattle.acpi_base.specs.declared.code.Code.{Code};
 ghost use Rattle.acpi_base.specs.declared.stage.Stage.{Stage};
 ghost use Rattle.acpi_read.specs.Madts.{madt_value};
-ghost use Rattle.acpi_check.specs.Named.{IsKnown, IsUnknown, FindsUnknown};
-ghost use Rattle.acpi_check.specs.Passed.{FindsFirst};
+ghost use Rattle.acpi_check.specs.NamedNumbers.{IsKnown, IsUnknown, FindsUnknown};
+ghost use Rattle.acpi_check.specs.PassResults.{FindsFirst};
 ghost use Rattle.acpi_check.specs.Processors.{numbers_in};
-ghost use Rattle.acpi_check.specs.Served.{named_gsi, AreServedSpans, AreSortedDisjoint, IsInSpans};
+ghost use Rattle.acpi_check.specs.ServedGsis.{named_gsi, AreServedSpans, AreSortedDisjoint, IsInSpans};
 
 use crate::collected::collected;
 use crate::gsi_ranges::{are_in_ranges, served_ranges};

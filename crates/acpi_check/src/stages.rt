@@ -10,11 +10,11 @@ ghost use Rattle.acpi_base.specs.declared.verdict.Verdict.{Verdict};
 ghost use Rattle.acpi_check.specs.Headline.{IfNo};
 ghost use Rattle.acpi_check.specs.StageResults.{ReadsTo, IsResultTo};
 ghost use Rattle.acpi_check.specs.HandedOn.{IsListedSetOf, IsCleanSetOf};
-ghost use Rattle.acpi_check.specs.Set.{IsSetOf, IsSet, IsReady, IsSetResult};
+ghost use Rattle.acpi_check.specs.Set.{IsSetOf, IsSet};
 
 use crate::facs::sound_facs;
 use crate::fadt::sound_fadt;
-use crate::listed;
+use crate::listed::run_stage;
 use crate::refusal::Refusal;
 use crate::root::sound_root;
 use crate::rsdp::sound_rsdp;
@@ -128,28 +128,4 @@ pub fn check_set<'a>(
         fadt: set.fadt,
         facs: set.facs,
     })
-}
-
-/// Asks one stage from the MADT's on. Those that take memory are handed `alloc`; the others take none.
-fn run_stage(alloc: Global, set: &Set<'_, '_>, stage: Stage) -> Result<(), Refusal>
-    requires { IsReady stage set.now }
-    ensures { IsSetResult stage set.now result }
-{
-    match stage {
-        Stage::Madt => listed::madt(set),
-        Stage::Interrupts => listed::interrupts(alloc, set),
-        Stage::Overrides => listed::overrides(set),
-        Stage::Srat => listed::srat(set),
-        Stage::Ranges => listed::ranges(alloc, set),
-        Stage::Slit => listed::slit(set),
-        Stage::Pptt => listed::pptt(set),
-        Stage::References => listed::references(alloc, set),
-        Stage::Parents => listed::parents(alloc, set),
-        Stage::Caches => listed::caches(alloc, set),
-        Stage::Domains => listed::domains(alloc, set),
-        Stage::Served => listed::served(alloc, set),
-        Stage::Leaves => listed::leaves(alloc, set),
-        // These hold of every set.
-        Stage::Rsdp | Stage::Root | Stage::Tables | Stage::Fadt | Stage::Facs => Ok(()),
-    }
 }

@@ -153,10 +153,7 @@ fn default_count(word: Option<&str>) -> Option<u16>
 fn hotplug_setting(word: Option<&str>) -> Option<HotPlug>
     ensures { result ≡ hotplug_word (option_map (λ text. text.now) word.entry) }
 {
-    let Some(text) = word else {
-        return Some(HotPlug::Counted);
-    };
-    match text {
+    match word.unwrap_or("counted") {
         "counted" => Some(HotPlug::Counted),
         "apart" => Some(HotPlug::Apart),
         _ => None,
@@ -167,10 +164,7 @@ fn hotplug_setting(word: Option<&str>) -> Option<HotPlug>
 fn processors_setting(word: Option<&str>) -> Option<Processors>
     ensures { result ≡ processors_word (option_map (λ text. text.now) word.entry) }
 {
-    let Some(text) = word else {
-        return Some(Processors::Enabled);
-    };
-    match text {
+    match word.unwrap_or("enabled") {
         "enabled" => Some(Processors::Enabled),
         "usable" => Some(Processors::Usable),
         _ => None,

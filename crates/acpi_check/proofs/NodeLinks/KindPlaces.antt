@@ -4,7 +4,7 @@ use Rattle.std.specs.Prelude.{◌↔◌, ◌≢◌, Bool, AllPairs, Contains, if
 use Rattle.std.proofs.lemmas.Option.{cond_some, none-some}
 use Rattle.acpi_base.specs.Entries.{PlacedEntry, Stands, StandsWith}
 use Rattle.acpi_base.specs.Pptt.{PpttEntry, Node, Cache, Opaque, pptt_type, pptt_contents, parent_of, next_level_of, HasOtherPpttLength, IsCutPptt}
-use Rattle.acpi_check.specs.NamedPlaces.{ArePlaces, kind_of, is_node, is_cache, is_resource, kind_offsets}
+use Rattle.acpi_check.specs.EntryPlaces.{ArePlaces, kind_of, is_node, is_cache, is_resource, kind_offsets}
 use Rattle.acpi_check.specs.declared.places.Kind.{Kind}
 use Rattle.acpi_check.specs.declared.places.Places.{Places}
 use Rattle.acpi_check.proofs.EntryPasses.Kept.{AreRising, kept_has, kept_from, keys_rise, pptt_rising}

@@ -12,12 +12,12 @@ use Rattle.acpi_graph.specs.Parents as graph
 use Rattle.acpi_graph.specs.Parents.{AreNodes, IsFirstStray, IfRound}
 use Rattle.acpi_graph.specs.declared.stray.Stray.{Stray}
 use Rattle.acpi_graph.specs.declared.stray.Stray.TheVariants as stray
-use Rattle.acpi_check.specs.Indexed.{AreIndexed, IsCycleResult, IsIndexOf, ChainNode, node_offsets}
-use Rattle.acpi_check.specs.Linked.{Names, named_offset, most_of, code_of, nodes_in, AreNodesOf, AreLinked, AreIndices}
+use Rattle.acpi_check.specs.ChainIndices.{AreIndexed, IsCycleResult, IsIndexOf, ChainNode, node_offsets}
+use Rattle.acpi_check.specs.ChainNodes.{Names, named_offset, most_of, code_of, nodes_in, AreNodesOf, AreLinked, AreIndices}
 use Rattle.acpi_check.specs.declared.nodes.Chain.{Chain}
 use Rattle.acpi_check.specs.declared.nodes.Chain.TheVariants as chain
 use Rattle.acpi_check.specs.declared.nodes.Nodes.{Nodes}
-use Rattle.acpi_check.proofs.NodeLinks.Indexed.{are_nodes, is_found}
+use Rattle.acpi_check.proofs.NodeLinks.ChainIndices.{are_nodes, is_found}
 use Rattle.acpi_check.proofs.NodeLinks.IndexedNodes.{offsets_rise, named_there, are_indexed}
 use Rattle.acpi_check.proofs.EntryPasses.Kept.{pptt_rising}
 

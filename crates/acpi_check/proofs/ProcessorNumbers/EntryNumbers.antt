@@ -3,7 +3,7 @@ use Rattle.std.proofs.Common.{◌≡◌, ℕ, ◌<◌, List, Option}
 use Rattle.std.specs.Prelude.{◌↔◌, AllPairs, Contains}
 use Rattle.acpi_base.specs.Entries.{PlacedEntry}
 use Rattle.acpi_base.specs.Madt.{MadtContents}
-use Rattle.acpi_check.specs.Named.{NamesAt}
+use Rattle.acpi_check.specs.NamedNumbers.{NamesAt}
 use Rattle.acpi_check.specs.Processors.{number_of, numbers_in, AreNumbers}
 use Rattle.acpi_check.specs.declared.processors.Key.{Key}
 use Rattle.acpi_check.proofs.EntryPasses.Kept.{kept_has, kept_from}

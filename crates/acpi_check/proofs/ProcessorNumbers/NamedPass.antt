@@ -7,7 +7,7 @@ use Rattle.acpi_base.specs.Faults.{NotAfter}
 use Rattle.acpi_base.specs.declared.code.Code.{Code}
 use Rattle.acpi_base.specs.declared.witness.Witness.{Witness}
 use Rattle.acpi_base.proofs.Faults.Order.{not_after}
-use Rattle.acpi_check.specs.Named.{IsKnown, IsUnknown, NamesAt, IsFirstUnknown}
+use Rattle.acpi_check.specs.NamedNumbers.{IsKnown, IsUnknown, NamesAt, IsFirstUnknown}
 use Rattle.acpi_check.proofs.EntryPasses.Passes.{HasPassed, before_or_behind, next_stands, all_passed}
 
 -- the pass has these entries left, and the numbers that those before them name are known

@@ -21,7 +21,7 @@ use Rattle.acpi_graph.specs.Spans.{end_of, EndsBefore, AreApart}
 use Rattle.acpi_graph.specs.declared.span.CompactSpan.{CompactSpan}
 use Rattle.acpi_check.specs.GsiRanges.{served_range, ranges_of, IsInRange, IsInRanges}
 use Rattle.acpi_check.specs.Processors.{numbers_in}
-use Rattle.acpi_check.specs.Served.{named_gsi}
+use Rattle.acpi_check.specs.ServedGsis.{named_gsi}
 use Rattle.acpi_check.proofs.ProcessorNumbers.EntryNumbers.{in_entries}
 use Rattle.acpi_check.proofs.EntryPasses.Kept.{kept_has, kept_from}
 use Rattle.acpi_check.proofs.Spans.ServedFaults.{names}

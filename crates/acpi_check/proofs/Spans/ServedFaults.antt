@@ -13,9 +13,9 @@ use Rattle.acpi_base.specs.declared.stage.Stage.TheVariants as stage
 use Rattle.acpi_base.specs.declared.witness.Witness.{Witness}
 use Rattle.acpi_base.proofs.Elements.{first_element}
 use Rattle.acpi_graph.specs.declared.span.Span.{Span}
-use Rattle.acpi_check.specs.Named.{FindsUnknown}
-use Rattle.acpi_check.specs.Passed.{FindsFault}
-use Rattle.acpi_check.specs.Served.{IsInSpans, AreServedSpans, named_gsi}
+use Rattle.acpi_check.specs.NamedNumbers.{FindsUnknown}
+use Rattle.acpi_check.specs.PassResults.{FindsFault}
+use Rattle.acpi_check.specs.ServedGsis.{IsInSpans, AreServedSpans, named_gsi}
 
 -- ---- entries
 

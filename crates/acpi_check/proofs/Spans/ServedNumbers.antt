@@ -16,7 +16,7 @@ use Rattle.acpi_graph.specs.Spans.{NamesDiffer, HasNumber, IsClear}
 use Rattle.acpi_graph.specs.declared.span.Span.{Span}
 use Rattle.acpi_graph.proofs.SortedSpans.{span_cmp, in_order, names_permuted, clear_permuted}
 use Rattle.acpi_check.specs.RangeSpans.{AreSpansOf}
-use Rattle.acpi_check.specs.Served.{AreSortedDisjoint, IsInSpans, AreServedSpans}
+use Rattle.acpi_check.specs.ServedGsis.{AreSortedDisjoint, IsInSpans, AreServedSpans}
 
 -- ---- spans in rising order
 

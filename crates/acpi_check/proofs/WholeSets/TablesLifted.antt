@@ -1,9 +1,9 @@
 -- What is found of the tables that a set lists first is so of the set.
-use Rattle.std.proofs.Common.{◌≡◌, ℕ, List, Option, Some, None, Result, Ok, Err, sym, ◌∙◌, subst}
-use Rattle.std.specs.Prelude.{◌↔◌, ⊤}
+use Rattle.std.proofs.Common.{◌≡◌, ℕ, ◌<◌, List, Option, Some, None, Result, Ok, Err, sym, ◌∙◌, subst}
+use Rattle.std.specs.Prelude.{◌↔◌, ⊤, MatchOption}
 use Rattle.acpi_base.specs.Memory.{Memory}
 use Rattle.acpi_base.specs.Policy.{PolicyValue}
-use Rattle.acpi_base.specs.Codes.{stage_of}
+use Rattle.acpi_base.specs.Codes.{stage_number, stage_of}
 use Rattle.acpi_base.specs.Listed.{IsListed, IsListedTable, ForListed, HasListed, ListsNone}
 use Rattle.acpi_base.specs.Statements.{Holds, CleanBefore}
 use Rattle.acpi_base.specs.Faults.{FaultCondition, FaultOfStage, NotAfter, IsLeastOfStage, IsFirstFault}
@@ -17,10 +17,12 @@ use Rattle.acpi_base.specs.declared.witness.Witness.{Witness}
 use Rattle.acpi_base.proofs.Faults.ListedTables.{of_listed, for_listed}
 use Rattle.acpi_base.proofs.Faults.HoldsOrFault.{first_of_set}
 use Rattle.acpi_base.proofs.Tables.Listed.{none_and_listed}
-use Rattle.acpi_check.specs.Passed.{IsFirstOfTable, Finds, FindsFirst}
+use Rattle.acpi_check.specs.PassResults.{IsFirstOfTable, Finds, FindsFirst}
 use Rattle.acpi_check.specs.StageResults.{IsStageResult}
 use Rattle.acpi_check.specs.Tables.{AreFirstTables}
+use Rattle.acpi_check.specs.Set.{IsReady, IsSetResult}
 use Rattle.acpi_check.specs.declared.refusal.Refusal.{Refusal}
+use Rattle.acpi_check.specs.declared.set.Set.{Set}
 use Rattle.acpi_check.specs.declared.refusal.Refusal.TheVariants.{Fault, OutOfMemory}
 
 -- ---- one table
@@ -98,3 +100,33 @@ of_two s {m} {q} {one} {other} Sound IsFault holds condition order clean {x} {y}
     (holds (for_listed (λ z. ForListed m q.rsdp other (Sound z)) is (for_listed (Sound x) also found)), tt)
 of_two s Sound IsFault holds condition order clean {x} {y} is also (Err (Fault w)) found = both_first IsFault condition order clean x y is also w found
 of_two s Sound IsFault holds condition order clean is also (Err OutOfMemory) found = found
+
+-- ---- a stage
+
+-- what the stages before one state holds
+pub earlier : {s t : Stage} {set : Set} → IsReady s set → s ≡ t → (e : Stage) → stage_number e < stage_number t
+    → Holds e set.listed.image.now set.policy.now
+earlier ready is e before = ready.clean e (rw is before)
+
+-- where the set does not list the table, nothing is said of it, and the stage holds
+pub unlisted : {s t : Stage} {set : Set} {first : Option (List ℕ)} {said : Option (Result ⊤ Refusal)} → IsReady s set
+    → s ≡ t
+    → (kind : TableKind) → first ≡ first_table set.listed.tables kind → first ≡ None → said ≡ None
+    → (ListsNone set.listed.image.now set.policy.now.rsdp (signature_of kind) → Holds t set.listed.image.now set.policy.now)
+    → MatchOption said (IsSetResult s set (Ok tt)) (IsSetResult s set)
+unlisted ready is kind same none silent holds =
+    rw (silent, is) (holds (none_listed ready.tables.listed.tables kind same none), tt)
+
+-- where it does, what is found of the table is so of the set
+pub settled : {s t : Stage} {set : Set} {first : Option (List ℕ)} {whole : List ℕ} → IsReady s set → s ≡ t
+    → (kind : TableKind) → first ≡ first_table set.listed.tables kind → first ≡ Some whole
+    → (Sound : List ℕ → Type 0) (IsFault : List ℕ → Code → ℕ → ℕ → ℕ → Type 0)
+    → (ForListed set.listed.image.now set.policy.now.rsdp (signature_of kind) Sound → Holds t set.listed.image.now set.policy.now)
+    → ((v : Witness) → FaultCondition t set.listed.image.now set.policy.now v
+    ↔ HasListed set.listed.image.now set.policy.now.rsdp (signature_of kind)
+    (λ bytes. IsFault bytes v.code v.at v.other v.point))
+    → ((w : Witness) → ((v : Witness) → FaultOfStage t set.listed.image.now set.policy.now v → NotAfter w v) → IsLeastOfStage t set.listed.image.now set.policy.now w)
+    → (result : Result ⊤ Refusal) → FindsFirst t (Sound whole) (IsFault whole) result → IsSetResult s set result
+settled {t = t} ready is kind same some Sound IsFault holds condition order result found =
+    rw is (of_faults t Sound IsFault holds condition order (rw is at ready.clean)
+    (listed_of_first ready.tables.listed.tables kind same some) result found)

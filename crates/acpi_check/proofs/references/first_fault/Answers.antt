@@ -1,5 +1,5 @@
 use Rattle.acpi_base.specs.Pptt.{pptt_contents}
-use Rattle.acpi_check.specs.NamedPlaces.{NamesPlaces}
+use Rattle.acpi_check.specs.EntryPlaces.{NamesPlaces}
 use Rattle.acpi_check.proofs.EntryPasses.Kept.{pptt_rising}
 use Rattle.acpi_check.proofs.EntryPasses.Passes.{none_passed, past}
 use Rattle.acpi_check.proofs.NodeLinks.ReferencePass.{stops, ends_sound}

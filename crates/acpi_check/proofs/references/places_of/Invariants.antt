@@ -1,7 +1,7 @@
 use Rattle.std.proofs.Common.{◌≡◌, ◌++◌}
 use Rattle.acpi_base.specs.Entries.{entries_read_by}
 use Rattle.acpi_base.specs.Pptt.{pptt_entry, pptt_contents}
-use Rattle.acpi_check.specs.NamedPlaces.{kind_offsets, is_node, is_cache, is_resource}
+use Rattle.acpi_check.specs.EntryPlaces.{kind_offsets, is_node, is_cache, is_resource}
 use Rattle.acpi_check.proofs.references.places_of.Given as goal
 
 -- with those of the entries left the offsets so far are the table's

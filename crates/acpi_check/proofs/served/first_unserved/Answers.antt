@@ -1,6 +1,6 @@
 use Rattle.acpi_base.specs.declared.code.Code.TheVariants as code
-use Rattle.acpi_check.specs.Named.{IsKnown}
-use Rattle.acpi_check.specs.Served.{IsInSpans, named_gsi}
+use Rattle.acpi_check.specs.NamedNumbers.{IsKnown}
+use Rattle.acpi_check.specs.ServedGsis.{IsInSpans, named_gsi}
 use Rattle.acpi_check.proofs.EntryPasses.Kept.{madt_rising}
 use Rattle.acpi_check.proofs.EntryPasses.Passes.{none_passed, past}
 use Rattle.acpi_check.proofs.ProcessorNumbers.NamedPass.{stops, ends}

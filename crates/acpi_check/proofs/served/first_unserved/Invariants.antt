@@ -1,6 +1,6 @@
 use Rattle.acpi_base.specs.Entries.{entries_read_by}
 use Rattle.acpi_base.specs.Madt.{madt_entry, madt_contents}
-use Rattle.acpi_check.specs.Served.{IsInSpans, named_gsi}
+use Rattle.acpi_check.specs.ServedGsis.{IsInSpans, named_gsi}
 use Rattle.acpi_check.proofs.ProcessorNumbers.NamedPass.{IsAt}
 use Rattle.acpi_check.proofs.served.first_unserved.Given as goal
 

@@ -1,6 +1,6 @@
 use Rattle.std.proofs.Common.{rules}
 use Rattle.acpi_read.specs.Madts.{madt_value}
-use Rattle.acpi_check.specs.Served.{named_gsi}
+use Rattle.acpi_check.specs.ServedGsis.{named_gsi}
 use Rattle.acpi_check.proofs.EntryPasses.Collecting.{gathered_same}
 use Rattle.acpi_check.proofs.served.named_gsis.Goals as goal
 

@@ -5,7 +5,7 @@ use Rattle.acpi_base.specs.Pptt.{PpttEntry, PpttContents, parent_of, next_level_
 use Rattle.acpi_base.specs.declared.code.Code.{Code}
 use Rattle.acpi_base.specs.declared.code.Code.TheVariants as code
 use Rattle.acpi_base.specs.declared.witness.Witness.{Witness}
-use Rattle.acpi_check.specs.Indexed.{IsIndexOf, IsFirstCycle, ChainNode, nodes_of, node_offsets}
+use Rattle.acpi_check.specs.ChainIndices.{IsIndexOf, IsFirstCycle, ChainNode, nodes_of, node_offsets}
 use Rattle.acpi_check.specs.declared.nodes.Chain.{Chain}
 use Rattle.acpi_check.specs.declared.nodes.Chain.TheVariants as chain
 use Rattle.acpi_check.specs.declared.nodes.Nodes.{Nodes}
