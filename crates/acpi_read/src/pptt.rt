@@ -3,7 +3,7 @@
 mod kinds;
 mod node_head;
 
-use crate::kind::{EntryKind, laid, typed};
+use crate::kind::{FixedKind, laid, typed};
 use crate::layout::Layout;
 use crate::typed_entries::TableEntry;
 use acpi_base::Code;

@@ -2,7 +2,7 @@
 
 mod kinds;
 
-use crate::kind::{EntryKind, typed};
+use crate::kind::{FixedKind, typed};
 use crate::typed_entries::TableEntry;
 use acpi_base::Code;
 pub use kinds::{ApicDomain, MemoryRange, X2apicDomain};
