@@ -4,14 +4,6 @@ ghost use Rattle.std.specs.Prelude.{◌≡◌, refl};
 ghost use Rattle.std.proofs.Common.{rules};
 ghost use Rattle.acpi_base.specs.Madt as said;
 ghost use Rattle.acpi_read.specs.Madts as layouts;
-ghost use Rattle.acpi_read.specs.declared.madt.kinds.LocalApic.{LocalApic};
-ghost use Rattle.acpi_read.specs.declared.madt.kinds.IoApic.{IoApic};
-ghost use Rattle.acpi_read.specs.declared.madt.kinds.Override.{Override};
-ghost use Rattle.acpi_read.specs.declared.madt.kinds.NmiSource.{NmiSource};
-ghost use Rattle.acpi_read.specs.declared.madt.kinds.LocalNmi.{LocalNmi};
-ghost use Rattle.acpi_read.specs.declared.madt.kinds.AddressOverride.{AddressOverride};
-ghost use Rattle.acpi_read.specs.declared.madt.kinds.X2apic.{X2apic};
-ghost use Rattle.acpi_read.specs.declared.madt.kinds.X2apicNmi.{X2apicNmi};
 
 use crate::kind::FixedKind;
 use acpi_base::field::{Value, put_values, u8_at, u16_at, u32_at, u64_at};

@@ -4,8 +4,6 @@ ghost use Rattle.std.specs.Prelude.{◌≡◌, refl};
 ghost use Rattle.std.proofs.Common.{rules};
 ghost use Rattle.acpi_base.specs.Pptt as said;
 ghost use Rattle.acpi_read.specs.Pptts as layouts;
-ghost use Rattle.acpi_read.specs.declared.pptt.kinds.Cache24.{Cache24};
-ghost use Rattle.acpi_read.specs.declared.pptt.kinds.Cache28.{Cache28};
 
 use crate::kind::FixedKind;
 use acpi_base::field::{Value, put_values, u8_at, u16_at, u32_at};

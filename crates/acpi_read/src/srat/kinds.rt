@@ -4,9 +4,6 @@ ghost use Rattle.std.specs.Prelude.{◌≡◌, refl};
 ghost use Rattle.std.proofs.Common.{rules};
 ghost use Rattle.acpi_base.specs.Srat as said;
 ghost use Rattle.acpi_read.specs.Srats as layouts;
-ghost use Rattle.acpi_read.specs.declared.srat.kinds.ApicDomain.{ApicDomain};
-ghost use Rattle.acpi_read.specs.declared.srat.kinds.MemoryRange.{MemoryRange};
-ghost use Rattle.acpi_read.specs.declared.srat.kinds.X2apicDomain.{X2apicDomain};
 
 use crate::kind::FixedKind;
 use acpi_base::field::{Value, put_values, u8_at, u32_at, u64_at};
