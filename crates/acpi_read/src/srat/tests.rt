@@ -1,25 +1,7 @@
-ghost use Rattle.std.specs.Prelude.{◌≡◌};
-
 use super::*;
 use crate::layout::Layout;
 use crate::samples::{expect_layout, is_entry};
-use std::fmt::Debug;
-use std::process::Abort;
 use std::test::*;
-
-/// The bytes are read as the value, also as this entry, and the value is written as they are, with 0 for FFh.
-fn expect_kind<R: Abort, L: Layout + Copy + Debug + PartialEq, const N: usize>(
-    rt: &R,
-    value: L,
-    entry: SratEntry,
-    bytes: &[u8; N],
-)
-    requires { N ≡ L.LEN }
-{
-    assert!(rt; is_entry(bytes));
-    assert_eq!(rt; SratEntry::read(bytes), Ok(entry));
-    expect_layout(rt, value, bytes);
-}
 
 #[test]
 fn apic_domain_is_read_and_written(rt: HostRuntime) {
@@ -34,7 +16,8 @@ fn apic_domain_is_read_and_written(rt: HostRuntime) {
         0x00, 0x10, 0xa1, 0xb1, 0xc1, 0xc2, 0xc3, 0xc4, 0xd1, 0xa2, 0xa3, 0xa4, 0xe1, 0xe2, 0xe3,
         0xe4,
     ];
-    expect_kind(&rt, value, SratEntry::ApicDomain(value), &bytes);
+    assert_eq!(rt; SratEntry::read(&bytes), Ok(SratEntry::ApicDomain(value)));
+    expect_layout(&rt, value, &bytes);
 }
 
 #[test]
@@ -50,7 +33,8 @@ fn memory_range_is_read_and_written(rt: HostRuntime) {
         0xb8, 0xc1, 0xc2, 0xc3, 0xc4, 0xc5, 0xc6, 0xc7, 0xc8, 0xff, 0xff, 0xff, 0xff, 0xd1, 0xd2,
         0xd3, 0xd4, 0xff, 0xff, 0xff, 0xff, 0xff, 0xff, 0xff, 0xff,
     ];
-    expect_kind(&rt, value, SratEntry::MemoryRange(value), &bytes);
+    assert_eq!(rt; SratEntry::read(&bytes), Ok(SratEntry::MemoryRange(value)));
+    expect_layout(&rt, value, &bytes);
 }
 
 #[test]
@@ -65,7 +49,8 @@ fn x2apic_domain_is_read_and_written(rt: HostRuntime) {
         0x02, 0x18, 0xff, 0xff, 0xa1, 0xa2, 0xa3, 0xa4, 0xb1, 0xb2, 0xb3, 0xb4, 0xc1, 0xc2, 0xc3,
         0xc4, 0xd1, 0xd2, 0xd3, 0xd4, 0xff, 0xff, 0xff, 0xff,
     ];
-    expect_kind(&rt, value, SratEntry::X2apicDomain(value), &bytes);
+    assert_eq!(rt; SratEntry::read(&bytes), Ok(SratEntry::X2apicDomain(value)));
+    expect_layout(&rt, value, &bytes);
 }
 
 /// Bytes of another type and of other lengths, and how they are read.
