@@ -1,6 +1,4 @@
-use Rattle.std.proofs.Common.{rules, refl, sym, ◌≡◌, length, ◌∙◌}
-use Rattle.acpi_base.specs.Layouts.{IsOfLayout}
-use Rattle.acpi_base.specs.KindLayouts.{parts_of}
+use Rattle.std.proofs.Common.{rules}
 use Rattle.acpi_base.proofs.Layouts.Kinds.{lays_out, byte_field}
 use Rattle.acpi_read.proofs.kind.AnyLayout.read.Goals as goal
 
