@@ -131,15 +131,11 @@ fn names_gsi_at(madt: &[u8], at: u64, number: u64) -> bool
 pub(crate) fn is_served_fault(madt: &[u8], policy: &Policy, witness: &Witness) -> bool
     ensures { IsTrue result ↔ ServedFault policy.now (madt_contents madt.now) witness.now.code witness.now.at witness.now.other witness.now.point }
 {
-    match witness.code {
-        Code::GsiNowhere => {
-            witness.other == 0
-                && names_gsi_at(madt, witness.at, witness.point)
-                && has_io_apic(madt)
-                && !is_served(policy, madt, witness.point)
-        }
-        _ => false,
-    }
+    matches!(witness.code, Code::GsiNowhere)
+        && witness.other == 0
+        && names_gsi_at(madt, witness.at, witness.point)
+        && has_io_apic(madt)
+        && !is_served(policy, madt, witness.point)
 }
 
 // ---- Code 59: leaves
@@ -212,14 +208,10 @@ fn has_revision_2(pptt: &[u8]) -> bool
 pub(crate) fn is_leaf_fault(madt: &[u8], pptt: &[u8], witness: &Witness) -> bool
     ensures { IsTrue result ↔ LeafFault (madt_contents madt.now) (pptt_contents pptt.now) witness.now.code witness.now.at witness.now.other witness.now.point }
 {
-    match witness.code {
-        Code::LeafUnknown => {
-            witness.other == 0
-                && has_revision_2(pptt)
-                && is_leaf_at(pptt, witness.at, witness.point)
-                && is_wholly_typed(madt)
-                && !is_uid(madt, witness.point)
-        }
-        _ => false,
-    }
+    matches!(witness.code, Code::LeafUnknown)
+        && witness.other == 0
+        && has_revision_2(pptt)
+        && is_leaf_at(pptt, witness.at, witness.point)
+        && is_wholly_typed(madt)
+        && !is_uid(madt, witness.point)
 }

@@ -1,13 +1,13 @@
 //! Codes 32 to 59: the first listed tables that the codes speak of, each judged by its bytes.
 
 ghost use Rattle.std.specs.Prelude.{◌↔◌, IsTrue};
-ghost use Rattle.acpi_base.specs.Across.{DomainFault, ServedFault, LeafFault};
+ghost use Rattle.acpi_base.specs.Across.{DomainFault, LeafFault};
 ghost use Rattle.acpi_base.specs.Codes.{stage_of};
 ghost use Rattle.acpi_base.specs.Contents.{HasMadt, HasSrat, HasSlit, HasPptt};
 ghost use Rattle.acpi_base.specs.Slit.{SlitFault};
 ghost use Rattle.acpi_confirm.specs.Conditions.{MadtCondition, SratCondition, PpttCondition};
 
-use crate::cross::{is_domain_fault, is_leaf_fault, is_served_fault};
+use crate::cross::{is_domain_fault, is_leaf_fault};
 use crate::listed::listed;
 use crate::madt::is_madt_fault;
 use crate::pptt::is_pptt_fault;
@@ -15,7 +15,7 @@ use crate::slit::is_slit_fault;
 use crate::srat::is_srat_fault;
 use acpi_base::{Image, Policy, Witness};
 
-/// Codes 32 to 40: whether the witness is a fault of the listed MADT.
+/// Codes 32 to 40 and 58: whether the witness is a fault of the listed MADT.
 pub(crate) fn in_madt(image: &Image, policy: &Policy, witness: &Witness) -> bool
     ensures { IsTrue result ↔ HasMadt image.now policy.now (λ madt. MadtCondition (stage_of witness.now.code) policy.now madt witness.now) }
 {
@@ -50,13 +50,6 @@ pub(crate) fn in_madt_and_srat(image: &Image, policy: &Policy, witness: &Witness
     listed(image, policy, b"APIC")
         .zip(listed(image, policy, b"SRAT"))
         .is_some_and(|(madt, srat)| is_domain_fault(madt, srat, policy, witness))
-}
-
-/// Code 58: whether the witness is a fault of the interrupt numbers that the listed MADT names.
-pub(crate) fn in_named_interrupts(image: &Image, policy: &Policy, witness: &Witness) -> bool
-    ensures { IsTrue result ↔ HasMadt image.now policy.now (λ madt. ServedFault policy.now madt witness.now.code witness.now.at witness.now.other witness.now.point) }
-{
-    listed(image, policy, b"APIC").is_some_and(|madt| is_served_fault(madt, policy, witness))
 }
 
 /// Code 59: whether the witness is a fault of the listed MADT and PPTT.

@@ -9,6 +9,7 @@ ghost use Rattle.acpi_confirm.specs.Conditions.{MadtCondition};
 ghost use Rattle.acpi_confirm.specs.Madts.{HasType, ServesGsi, madt_value};
 ghost use Rattle.acpi_confirm.specs.Walks.{IsOnly};
 
+use crate::cross::is_served_fault;
 use crate::entries::{cut, entry_at};
 use acpi_base::field::{u8_at, u16_at, u32_at, u64_at};
 use acpi_base::{Code, Policy, Stage, Witness};
@@ -224,14 +225,10 @@ fn serves_at(policy: &Policy, madt: &[u8], at: u64, number: u64) -> bool
 fn has_interrupt_fault(madt: &[u8], policy: &Policy, witness: &Witness) -> bool
     ensures { IsTrue result ↔ InterruptFault policy.now (madt_contents madt.now) witness.now.code witness.now.at witness.now.other witness.now.point }
 {
-    match witness.code {
-        Code::GsiClash => {
-            witness.at != witness.other
-                && serves_at(policy, madt, witness.at, witness.point)
-                && serves_at(policy, madt, witness.other, witness.point)
-        }
-        _ => false,
-    }
+    matches!(witness.code, Code::GsiClash)
+        && witness.at != witness.other
+        && serves_at(policy, madt, witness.at, witness.point)
+        && serves_at(policy, madt, witness.other, witness.point)
 }
 
 /// The interrupt number that the entry at an offset gives the source, where it is an override of it.
@@ -262,13 +259,11 @@ fn do_overrides_differ(madt: &[u8], at: u64, earlier: u64, source: u64) -> bool
 fn has_override_fault(madt: &[u8], witness: &Witness) -> bool
     ensures { IsTrue result ↔ OverrideFault (madt_contents madt.now) witness.now.code witness.now.at witness.now.other witness.now.point }
 {
-    match witness.code {
-        Code::OverrideClash => do_overrides_differ(madt, witness.at, witness.other, witness.point),
-        _ => false,
-    }
+    matches!(witness.code, Code::OverrideClash)
+        && do_overrides_differ(madt, witness.at, witness.other, witness.point)
 }
 
-/// Whether a fault of stages 6 to 8 stands in the MADT.
+/// Whether a fault of stages 6 to 8 or 17 stands in the MADT.
 pub(crate) fn is_madt_fault(madt: &[u8], policy: &Policy, witness: &Witness) -> bool
     ensures { IsTrue result ↔ MadtCondition (stage_of witness.now.code) policy.now (madt_contents madt.now) witness.now }
 {
@@ -276,6 +271,7 @@ pub(crate) fn is_madt_fault(madt: &[u8], policy: &Policy, witness: &Witness) -> 
         Stage::Madt => has_entry_fault(madt, policy, witness),
         Stage::Interrupts => has_interrupt_fault(madt, policy, witness),
         Stage::Overrides => has_override_fault(madt, witness),
+        Stage::Served => is_served_fault(madt, policy, witness),
         _ => false,
     }
 }

@@ -178,10 +178,8 @@ fn is_overlap(srat: &[u8], hotplug: HotPlug, at: u64, other: u64, address: u64) 
 fn has_range_fault(srat: &[u8], hotplug: HotPlug, witness: &Witness) -> bool
     ensures { IsTrue result ↔ RangeFault hotplug (srat_contents srat.now) witness.now.code witness.now.at witness.now.other witness.now.point }
 {
-    match witness.code {
-        Code::Overlap => is_overlap(srat, hotplug, witness.at, witness.other, witness.point),
-        _ => false,
-    }
+    matches!(witness.code, Code::Overlap)
+        && is_overlap(srat, hotplug, witness.at, witness.other, witness.point)
 }
 
 /// Whether a fault of stages 9 and 10 stands in the SRAT.
