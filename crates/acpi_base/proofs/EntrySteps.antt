@@ -19,7 +19,10 @@ first_says left e is =
     let parts = cond_some _ _ _ is in
     let count = length-take-le (slice_index left 1) left in
     let said = get_or-take (slice_index left 1) left 1 0 in
-    record { entry = record { least = grind (arith, nat_tests, count); said = grind (arith, nat_tests, count, said) }; fits = grind (arith, nat_tests, count) }
+    record {
+      entry = record { least = grind (arith, nat_tests, count); said = grind (arith, nat_tests, count, said) };
+      fits = grind (arith, nat_tests, count);
+    }
 
 -- where no entry stands there are none
 from_none : (n offset : ℕ) (left : List ℕ) → first_entry left ≡ None → entries_from n offset left ≡ []
@@ -36,7 +39,8 @@ none_left left few =
     ]
 
 -- no more entries are looked for than there are bytes
-enough : (n m offset : ℕ) (left : List ℕ) → length left ≤ n → length left ≤ m → entries_from n offset left ≡ entries_from m offset left
+enough : (n m offset : ℕ) (left : List ℕ) → length left ≤ n → length left ≤ m
+    → entries_from n offset left ≡ entries_from m offset left
 unfolding entries_from
 enough zero m offset left few small = sym (from_none m offset left (none_left left few))
 enough (suc n) zero offset left few small = from_none (suc n) offset left (none_left left small)
@@ -46,19 +50,23 @@ enough (suc n) (suc m) offset left few small =
       | inl (e, is) ↦
           let first = first_says left e is in
           let least = first.entry.least in
-          let rest = enough n m (offset + length e) (drop (length e) left) (omega (arith, length-drop (length e) left)) (omega (arith, length-drop (length e) left)) in
+          let rest = enough n m (offset + length e) (drop (length e) left) (omega (arith, length-drop (length e) left))
+          (omega (arith, length-drop (length e) left)) in
           rw is (ap (λ (more : List (PlacedEntry (List ℕ))). record { offset = offset; entry = e } ∷ more) rest)
     ]
 
 -- where one stands it is the first
 from_some : (n offset : ℕ) (left e : List ℕ) → length left ≤ n → first_entry left ≡ Some e
-    → entries_from n offset left ≡ record { offset = offset; entry = e } ∷ entries_from n (offset + length e) (drop (length e) left)
+    → entries_from n offset left ≡ record { offset = offset; entry = e } ∷ entries_from n (offset + length e)
+    (drop (length e) left)
 unfolding entries_from
-from_some zero offset left e few is = (let first = first_says left e is in absurd (omega (arith, first.entry.least, first.fits)))
+from_some zero offset left e few is =
+    (let first = first_says left e is in absurd (omega (arith, first.entry.least, first.fits)))
 from_some (suc n) offset left e few is =
     let first = first_says left e is in
     let least = first.entry.least in
-    let rest = enough n (suc n) (offset + length e) (drop (length e) left) (omega (arith, length-drop (length e) left)) (omega (arith, length-drop (length e) left)) in
+    let rest = enough n (suc n) (offset + length e) (drop (length e) left) (omega (arith, length-drop (length e) left))
+    (omega (arith, length-drop (length e) left)) in
     rw is (ap (λ (more : List (PlacedEntry (List ℕ))). record { offset = offset; entry = e } ∷ more) rest)
 
 -- ---- of a table
@@ -86,12 +94,18 @@ unfolding entries_of end_of_entries
 is_next start whole e is =
     let here = first_says (drop start whole) e is in
     let some = from_some (length whole) start (drop start whole) e (omega (arith, length-drop start whole)) is in
-    let rest = ap (λ (left : List ℕ). record { offset = start; entry = e } ∷ entries_from (length whole) (start + length e) left) (drop-drop (length e) start whole) in
+    let rest = ap (λ (left : List ℕ). record { offset = start; entry = e } ∷ entries_from (length whole)
+    (start + length e) left) (drop-drop (length e) start whole) in
     let all = some ∙ rest in
     let count : PlacedEntry (List ℕ) → ℕ = λ s. length s.entry in
     record {
       entry = here.entry;
       fits = here.fits;
       first = all;
-      end = grind (arith, all, sum_by-cons count (record { offset = start; entry = e }) (entries_of (start + length e) whole));
+      end = grind (
+        arith,
+        all,
+        sum_by-cons count (record { offset = start; entry = e })
+            (entries_of (start + length e) whole),
+      );
     }

@@ -102,7 +102,8 @@ fn first_cycle(alloc: Global, chain: Chain, pptt: &Pptt<'_>) -> Result<Option<Wi
 /// does not. Takes memory for each node.
 pub fn parents_end(alloc: Global, pptt: &Pptt<'_>) -> Result<(), Refusal>
     requires { AreReferencesSound (pptt_contents pptt.now) }
-    ensures { FindsFirst Stage.Parents (DoParentsEnd (pptt_contents pptt.now)) (ParentFault (pptt_contents pptt.now)) result }
+    ensures { FindsFirst Stage.Parents (DoParentsEnd (pptt_contents pptt.now))
+        (ParentFault (pptt_contents pptt.now)) result }
 {
     refuse(first_cycle(alloc, Chain::Parents, pptt)?)
 }
@@ -111,7 +112,8 @@ pub fn parents_end(alloc: Global, pptt: &Pptt<'_>) -> Result<(), Refusal>
 /// chain does not. Takes memory for each cache.
 pub fn caches_end(alloc: Global, pptt: &Pptt<'_>) -> Result<(), Refusal>
     requires { AreReferencesSound (pptt_contents pptt.now) }
-    ensures { FindsFirst Stage.Caches (DoCachesEnd (pptt_contents pptt.now)) (CacheFault (pptt_contents pptt.now)) result }
+    ensures { FindsFirst Stage.Caches (DoCachesEnd (pptt_contents pptt.now))
+        (CacheFault (pptt_contents pptt.now)) result }
 {
     refuse(first_cycle(alloc, Chain::NextLevels, pptt)?)
 }

@@ -68,7 +68,8 @@ fn first_other_domain(
     srat: &Srat<'_>,
 ) -> Result<Option<OtherValue>, AllocError>
     requires { AllPairs (λ i j. i < j) numbers.now }
-    ensures found { IfOk result (FindsOther (PutsPlaced numbers.now) (srat_contents srat.now).entries) }
+    ensures found { IfOk result
+        (FindsOther (PutsPlaced numbers.now) (srat_contents srat.now).entries) }
     ensures inside { IfOk result (λ found. IfSome found (λ other. other.key < length numbers.now)) }
 {
     let mut entries = srat.entries();
@@ -117,7 +118,8 @@ pub fn one_domain(
     madt: &Madt<'_>,
     srat: &Srat<'_>,
 ) -> Result<(), Refusal>
-    ensures { FindsFirst Stage.Domains (HaveOneDomain processors (madt_contents madt.now) (srat_contents srat.now))
+    ensures { FindsFirst Stage.Domains
+        (HaveOneDomain processors (madt_contents madt.now) (srat_contents srat.now))
         (DomainFault processors (madt_contents madt.now) (srat_contents srat.now)) result }
 {
     let mut placements = placements_of(alloc, srat)?;

@@ -19,7 +19,8 @@ use std::alloc::{AllocError, Global};
 /// The interrupt numbers that an I/O APIC serves, named by the entry's offset. None for another entry.
 fn served_span(policy: &Policy, at: &EntryAt<MadtEntry<'_>>) -> Option<Span>
     requires { at.now.offset < 2 ^ 32 }
-    ensures { option_map span_value result ≡ served_span policy.now at.now.offset (madt_value at.now.entry) }
+    ensures { option_map span_value result ≡ served_span policy.now at.now.offset
+        (madt_value at.now.entry) }
 {
     let MadtEntry::IoApic(io_apic) = &at.entry else {
         return None;
@@ -35,7 +36,8 @@ pub fn served_spans(
     policy: &Policy,
     madt: &Madt<'_>,
 ) -> Result<Vec<Span>, AllocError>
-    ensures { IfOk result (λ spans. AreSpansOf (Serves policy.now (madt_contents madt.now)) spans.items) }
+    ensures { IfOk result (λ spans. AreSpansOf (Serves policy.now (madt_contents madt.now))
+        spans.items) }
 {
     collected(alloc, madt.entries(), |at| served_span(policy, at))
 }

@@ -33,7 +33,8 @@ fn number_given(entry: &MadtEntry<'_>) -> Option<Given>
 /// Whether a MADT's overrides give each Source one interrupt number. The first fault is at the first override that gives its
 /// Source another number than the first override of this Source, whose offset is `other`; `point` is the Source.
 pub fn agreeing_overrides(madt: &Madt<'_>) -> Result<(), Refusal>
-    ensures settled { FindsFirst Stage.Overrides (DoOverridesAgree (madt_contents madt.now)) (OverrideFault (madt_contents madt.now)) result }
+    ensures settled { FindsFirst Stage.Overrides (DoOverridesAgree (madt_contents madt.now))
+        (OverrideFault (madt_contents madt.now)) result }
     ensures memory { IfErr result (λ refusal. refusal ≢ Refusal.OutOfMemory) }
 {
     let mut entries = madt.entries();

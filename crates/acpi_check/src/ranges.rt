@@ -31,7 +31,8 @@ fn is_hot_pluggable(flags: u32) -> bool
 /// for a range of no bytes.
 fn covered_span(kind: RangeKind, at: &EntryAt<SratEntry<'_>>) -> Option<Span>
     requires { at.now.offset < 2 ^ 32 }
-    ensures { option_map span_value result ≡ covered_span (counts kind) at.now.offset (srat_value at.now.entry) }
+    ensures { option_map span_value result ≡ covered_span (counts kind) at.now.offset
+        (srat_value at.now.entry) }
 {
     let SratEntry::MemoryRange(range) = &at.entry else {
         return None;
@@ -51,7 +52,8 @@ fn covered_span(kind: RangeKind, at: &EntryAt<SratEntry<'_>>) -> Option<Span>
 
 /// The addresses that each enabled range of the kind covers, in the entries' order.
 fn covered_spans(alloc: Global, kind: RangeKind, srat: &Srat<'_>) -> Result<Vec<Span>, AllocError>
-    ensures { IfOk result (λ spans. AreSpansOf (Covers (IsOfKind kind) (srat_contents srat.now)) spans.items) }
+    ensures { IfOk result (λ spans. AreSpansOf (Covers (IsOfKind kind) (srat_contents srat.now))
+        spans.items) }
 {
     collected(alloc, srat.entries(), |at| covered_span(kind, at))
 }

@@ -21,7 +21,12 @@ pub is_next : (start : ℕ) (whole e : List ℕ) → first_entry (drop start who
 is_next start whole e is =
     let next = step.is_next start whole e is in
     let least = next.entry.least in
-    record { entry = next.entry; fits = omega (arith, next.fits, length-drop start whole); first = next.first; end = next.end }
+    record {
+      entry = next.entry;
+      fits = omega (arith, next.fits, length-drop start whole);
+      first = next.first;
+      end = next.end;
+    }
 
 -- ---- the walk
 
@@ -31,10 +36,13 @@ nothing_behind = refl
 
 -- nothing stands behind the end of the table
 pub is_past : (start : ℕ) (whole : List ℕ) → length whole ≤ start → IsEnd start whole
-is_past start whole past = is_end start whole (ap first_entry (nil_from_length (drop start whole) (omega (arith, length-drop start whole))) ∙ nothing_behind)
+is_past start whole past =
+    is_end start whole (ap first_entry (nil_from_length (drop start whole) (omega (arith, length-drop start whole)))
+    ∙ nothing_behind)
 
 -- the entry that the bytes from the start on begin with, or none
-pub end_or_next : (start : ℕ) (whole : List ℕ) (found : Option (Bor (List ℕ))) → option_map (λ entry. entry.now) found ≡ first_entry (drop start whole)
+pub end_or_next : (start : ℕ) (whole : List ℕ) (found : Option (Bor (List ℕ)))
+    → option_map (λ entry. entry.now) found ≡ first_entry (drop start whole)
     → MatchOption found (IsEnd start whole) (λ entry. IsNext start whole entry.now)
 end_or_next start whole None is = is_end start whole (sym is)
 end_or_next start whole (Some e) is = is_next start whole e.now (sym is)
@@ -47,7 +55,8 @@ pub at_first : (first : ℕ) (whole : List ℕ) (at : ℕ) → IsOnWay first fir
 at_first first whole at = record { same = λ e. (λ h. h, λ h. h) }
 
 -- over an entry that stands before the offset
-pub at_next : (first start : ℕ) (whole : List ℕ) (at : ℕ) (e : List ℕ) → IsOnWay first start whole at → IsNext start whole e → start < at → IsOnWay first (start + length e) whole at
+pub at_next : (first start : ℕ) (whole : List ℕ) (at : ℕ) (e : List ℕ) → IsOnWay first start whole at
+    → IsNext start whole e → start < at → IsOnWay first (start + length e) whole at
 at_next first start whole at e way next before =
     record {
       same = λ d. (
@@ -64,15 +73,30 @@ none_before : (start : ℕ) (whole : List ℕ) (at : ℕ) (e : List ℕ) → at 
 none_before start whole at e before stands = absurd (omega (arith, entry_within start whole at e stands))
 
 -- where none is left, none stands at the offset
-pub none_there : (first start : ℕ) (whole : List ℕ) (at : ℕ) → IsOnWay first start whole at → IsEnd start whole → IsThere (entries_of first whole) at None
-none_there first start whole at way end = record { is = λ e. (λ stands. absurd (no_element _ (rw end.none at ((way.same e).0 stands))), λ some. absurd (none_and_some refl some)) }
+pub none_there : (first start : ℕ) (whole : List ℕ) (at : ℕ) → IsOnWay first start whole at → IsEnd start whole
+    → IsThere (entries_of first whole) at None
+none_there first start whole at way end =
+    record {
+      is = λ e. (
+        λ stands. absurd (no_element _ (rw end.none at ((way.same e).0 stands))),
+        λ some. absurd (none_and_some refl some),
+      );
+    }
 
 -- nor where the walk has passed the offset
-pub passed_there : (first start : ℕ) (whole : List ℕ) (at : ℕ) → IsOnWay first start whole at → at < start → IsThere (entries_of first whole) at None
-passed_there first start whole at way before = record { is = λ e. (λ stands. absurd (none_before start whole at e before ((way.same e).0 stands)), λ some. absurd (none_and_some refl some)) }
+pub passed_there : (first start : ℕ) (whole : List ℕ) (at : ℕ) → IsOnWay first start whole at → at < start
+    → IsThere (entries_of first whole) at None
+passed_there first start whole at way before =
+    record {
+      is = λ e. (
+        λ stands. absurd (none_before start whole at e before ((way.same e).0 stands)),
+        λ some. absurd (none_and_some refl some),
+      );
+    }
 
 -- at the offset itself the next entry stands, or none
-pub is_there : (first : ℕ) (whole : List ℕ) (at : ℕ) (found : Option (Bor (List ℕ))) → IsOnWay first at whole at → MatchOption found (IsEnd at whole) (λ entry. IsNext at whole entry.now)
+pub is_there : (first : ℕ) (whole : List ℕ) (at : ℕ) (found : Option (Bor (List ℕ))) → IsOnWay first at whole at
+    → MatchOption found (IsEnd at whole) (λ entry. IsNext at whole entry.now)
     → IsThere (entries_of first whole) at (option_map (λ entry. entry.now) found)
 is_there first whole at None way end = none_there first at whole at way end
 is_there first whole at (Some e) way next =
@@ -81,9 +105,11 @@ is_there first whole at (Some e) way next =
       is = λ d. (
         λ stands. elim (first_or_later _ _ _ (rw next.first at ((way.same d).0 stands))) [
           | inl is ↦ ap (λ (s : PlacedEntry (List ℕ)). Some s.entry) is
-          | inr later ↦ let least = next.entry.least in absurd (none_before (at + length e.now) whole at d (omega arith) later)
+          | inr later ↦ let least =
+              next.entry.least in absurd (none_before (at + length e.now) whole at d (omega arith) later)
         ],
-        λ is. (way.same d).1 (rw next.first (subst (λ (x : List ℕ). Stands entries at x) (same_Some _ _ is) (first_element _ _))),
+        λ is. (way.same d).1 (rw next.first
+            (subst (λ (x : List ℕ). Stands entries at x) (same_Some _ _ is) (first_element _ _))),
       );
     }
 
@@ -96,7 +122,8 @@ pub record IsOver (No : List ℕ → Type 0) (first start : ℕ) (whole : List �
   pub listed : (o : ℕ) (e : List ℕ) → Stands (entries_of start whole) o e → Stands (entries_of first whole) o e
   pub passed : (o : ℕ) (e : List ℕ) → Stands (entries_of first whole) o e → Stands (entries_of start whole) o e ⊎ No e
 
-pub over_next : (No : List ℕ → Type 0) (first start : ℕ) (whole e : List ℕ) → IsOver No first start whole → IsNext start whole e → No e → IsOver No first (start + length e) whole
+pub over_next : (No : List ℕ → Type 0) (first start : ℕ) (whole e : List ℕ) → IsOver No first start whole
+    → IsNext start whole e → No e → IsOver No first (start + length e) whole
 over_next No first start whole e over next passes =
     record {
       listed = λ o d later. over.listed o d (rw next.first (later_element _ _ _ later));
@@ -110,6 +137,7 @@ over_next No first start whole e over next passes =
       ];
     }
 
-pub over_all : (No : List ℕ → Type 0) (first start : ℕ) (whole : List ℕ) → IsOver No first start whole → IsEnd start whole → (o : ℕ) (e : List ℕ) → Stands (entries_of first whole) o e → No e
+pub over_all : (No : List ℕ → Type 0) (first start : ℕ) (whole : List ℕ) → IsOver No first start whole
+    → IsEnd start whole → (o : ℕ) (e : List ℕ) → Stands (entries_of first whole) o e → No e
 over_all No first start whole over end o e stands =
     elim (over.passed o e stands) [ inl left ↦ absurd (no_element _ (rw end.none at left)) | inr passed ↦ passed ]

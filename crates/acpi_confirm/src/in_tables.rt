@@ -17,35 +17,43 @@ use acpi_base::{Image, Policy, Witness};
 
 /// Codes 32 to 40 and 58: whether the witness is a fault of the listed MADT.
 pub(crate) fn in_madt(image: &Image, policy: &Policy, witness: &Witness) -> bool
-    ensures { IsTrue result ↔ HasMadt image.now policy.now (λ madt. MadtCondition (stage_of witness.now.code) policy.now madt witness.now) }
+    ensures { IsTrue result ↔ HasMadt image.now policy.now
+        (λ madt. MadtCondition (stage_of witness.now.code) policy.now madt witness.now) }
 {
     listed(image, policy, b"APIC").is_some_and(|madt| is_madt_fault(madt, policy, witness))
 }
 
 /// Codes 41 to 45: whether the witness is a fault of the listed SRAT.
 pub(crate) fn in_srat(image: &Image, policy: &Policy, witness: &Witness) -> bool
-    ensures { IsTrue result ↔ HasSrat image.now policy.now (λ srat. SratCondition (stage_of witness.now.code) policy.now srat witness.now) }
+    ensures { IsTrue result ↔ HasSrat image.now policy.now
+        (λ srat. SratCondition (stage_of witness.now.code) policy.now srat witness.now) }
 {
     listed(image, policy, b"SRAT").is_some_and(|srat| is_srat_fault(srat, policy, witness))
 }
 
 /// Codes 46 to 49: whether the witness is a fault of the listed SLIT.
 pub(crate) fn in_slit(image: &Image, policy: &Policy, witness: &Witness) -> bool
-    ensures { IsTrue result ↔ HasSlit image.now policy.now (λ slit. SlitFault slit witness.now.code witness.now.at witness.now.other witness.now.point) }
+    ensures { IsTrue result ↔ HasSlit image.now policy.now
+        (λ slit. SlitFault slit witness.now.code witness.now.at witness.now.other
+        witness.now.point) }
 {
     listed(image, policy, b"SLIT").is_some_and(|slit| is_slit_fault(slit, witness))
 }
 
 /// Codes 50 to 56: whether the witness is a fault of the listed PPTT.
 pub(crate) fn in_pptt(image: &Image, policy: &Policy, witness: &Witness) -> bool
-    ensures { IsTrue result ↔ HasPptt image.now policy.now (λ pptt. PpttCondition (stage_of witness.now.code) pptt witness.now) }
+    ensures { IsTrue result ↔ HasPptt image.now policy.now
+        (λ pptt. PpttCondition (stage_of witness.now.code) pptt witness.now) }
 {
     listed(image, policy, b"PPTT").is_some_and(|pptt| is_pptt_fault(pptt, witness))
 }
 
 /// Code 57: whether the witness is a fault of the listed MADT and SRAT.
 pub(crate) fn in_madt_and_srat(image: &Image, policy: &Policy, witness: &Witness) -> bool
-    ensures { IsTrue result ↔ HasMadt image.now policy.now (λ madt. HasSrat image.now policy.now (λ srat. DomainFault policy.now.processors madt srat witness.now.code witness.now.at witness.now.other witness.now.point)) }
+    ensures { IsTrue result ↔ HasMadt image.now policy.now
+        (λ madt. HasSrat image.now policy.now
+        (λ srat. DomainFault policy.now.processors madt srat witness.now.code witness.now.at
+        witness.now.other witness.now.point)) }
 {
     listed(image, policy, b"APIC")
         .zip(listed(image, policy, b"SRAT"))
@@ -54,7 +62,10 @@ pub(crate) fn in_madt_and_srat(image: &Image, policy: &Policy, witness: &Witness
 
 /// Code 59: whether the witness is a fault of the listed MADT and PPTT.
 pub(crate) fn in_madt_and_pptt(image: &Image, policy: &Policy, witness: &Witness) -> bool
-    ensures { IsTrue result ↔ HasMadt image.now policy.now (λ madt. HasPptt image.now policy.now (λ pptt. LeafFault madt pptt witness.now.code witness.now.at witness.now.other witness.now.point)) }
+    ensures { IsTrue result ↔ HasMadt image.now policy.now
+        (λ madt. HasPptt image.now policy.now
+        (λ pptt. LeafFault madt pptt witness.now.code witness.now.at witness.now.other
+        witness.now.point)) }
 {
     listed(image, policy, b"APIC")
         .zip(listed(image, policy, b"PPTT"))

@@ -15,14 +15,21 @@ is_last offset whole none =
     let at_end = end.end in
     record { none = end.none; here = λ less. grind (arith, nat_tests); end = λ most. grind (arith, nat_tests) }
 
-is_next : (offset : ℕ) (whole e : List ℕ) → offset ≤ length whole → first_entry (drop offset whole) ≡ Some e → IsNext offset whole e
+is_next : (offset : ℕ) (whole e : List ℕ) → offset ≤ length whole → first_entry (drop offset whole) ≡ Some e
+    → IsNext offset whole e
 unfolding cut_of
 is_next offset whole e within is =
     let next = step.is_next offset whole e is in
-    record { entry = next.entry; fits = omega (arith, next.fits, length-drop offset whole); first = next.first; cut = rw next.end refl }
+    record {
+      entry = next.entry;
+      fits = omega (arith, next.fits, length-drop offset whole);
+      first = next.first;
+      cut = rw next.end refl;
+    }
 
 -- what stands at an offset decides what is left from there on
-pub last_or_next : (offset : ℕ) (whole : List ℕ) (found : Option (Bor (List ℕ))) → offset ≤ length whole → option_map (λ entry. entry.now) found ≡ first_entry (drop offset whole)
+pub last_or_next : (offset : ℕ) (whole : List ℕ) (found : Option (Bor (List ℕ))) → offset ≤ length whole
+    → option_map (λ entry. entry.now) found ≡ first_entry (drop offset whole)
     → MatchOption found (IsLast offset whole) (λ entry. IsNext offset whole entry.now)
 last_or_next offset whole None within is = is_last offset whole (sym is)
 last_or_next offset whole (Some e) within is = is_next offset whole e.now within (sym is)

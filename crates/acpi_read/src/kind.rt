@@ -67,7 +67,9 @@ pub(crate) trait FixedKind: Sized {
 
     /// Type and length are the layout's, its parts are where the kind reads its fields, and values with the same fields are
     /// the same.
-    ghost laid: { (TYPE ≡ layout.kind.type) × (SIZE ≡ layout.kind.size) × IsLaidOut layout × ((one other : Self) → layout.values (say one) ≡ layout.values (say other) → one ≡ other) };
+    ghost laid: { (TYPE ≡ layout.kind.type) × (SIZE ≡ layout.kind.size) × IsLaidOut layout
+        × ((one other : Self) → layout.values (say one) ≡ layout.values (say other)
+        → one ≡ other) };
 }
 
 impl<K: FixedKind> Layout for K {
@@ -117,7 +119,8 @@ impl<K: FixedKind> EntryKind for K {
 /// Whether the bytes have a kind's type, at 0, and its length, at 1, and are as many as it says.
 pub(crate) fn is_kind(bytes: &[u8], number: u8, size: usize) -> bool
     requires { 2 ≤ size }
-    ensures { IsTrue result ↔ ((length bytes.now ≡ size) × (field bytes.now 0 1 ≡ number) × (field bytes.now 1 1 ≡ size)) }
+    ensures { IsTrue result ↔ ((length bytes.now ≡ size) × (field bytes.now 0 1 ≡ number)
+        × (field bytes.now 1 1 ≡ size)) }
 {
     bytes.len() == size && u8_at(bytes, 0) == number && usize::from(u8_at(bytes, 1)) == size
 }
@@ -125,7 +128,8 @@ pub(crate) fn is_kind(bytes: &[u8], number: u8, size: usize) -> bool
 /// The structure that the bytes are, or the code where they are none of the layout.
 pub(crate) fn laid<L: Layout>(bytes: &[u8], code: Code) -> Result<L, Code>
     ensures ok { IfOk result (λ value. HasValues L.parts bytes.now (L.values value)) }
-    ensures err { IfErr result (λ other. (other ≡ code) × ¬ (IsOfLayout L.parts bytes.now × L.allows bytes.now)) }
+    ensures err { IfErr result
+        (λ other. (other ≡ code) × ¬ (IsOfLayout L.parts bytes.now × L.allows bytes.now)) }
 {
     L::read(bytes).ok_or(code)
 }

@@ -54,7 +54,9 @@ impl<'a> MadtEntry<'a> {
         ensures ok { IfOk result (λ entry. madt_value entry ≡ madt_entry bytes.now) }
         ensures whole { IfOk result IsWholeEntry }
         ensures length { IfOk result (λ entry. IsOfOwnLength (madt_value entry)) }
-        ensures err { IfErr result (λ code. (code ≡ Code.MadtEntryLength) × (madt_entry bytes.now ≡ Opaque bytes.now) × IsTypeOf madt_kinds (slice_index bytes.now 0)) }
+        ensures err { IfErr result
+            (λ code. (code ≡ Code.MadtEntryLength) × (madt_entry bytes.now ≡ Opaque bytes.now)
+            × IsTypeOf madt_kinds (slice_index bytes.now 0)) }
     {
         let code = Code::MadtEntryLength;
         match bytes[0] {

@@ -40,7 +40,9 @@ impl<'a> PpttEntry<'a> {
         ensures references { IfOk result HasReferences }
         ensures whole { IfOk result IsWholeEntry }
         ensures length { IfOk result (λ entry. ¬ HasOtherPpttLength (pptt_value entry)) }
-        ensures err { IfErr result (λ code. (code ≡ Code.PpttEntryLength) × (pptt_entry bytes.now ≡ Opaque bytes.now) × (slice_index bytes.now 0 ≤ 1)) }
+        ensures err { IfErr result
+            (λ code. (code ≡ Code.PpttEntryLength) × (pptt_entry bytes.now ≡ Opaque bytes.now)
+            × (slice_index bytes.now 0 ≤ 1)) }
     {
         let code = Code::PpttEntryLength;
         match bytes[0] {

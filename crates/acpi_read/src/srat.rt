@@ -36,7 +36,9 @@ impl<'a> SratEntry<'a> {
         ensures ok { IfOk result (λ entry. srat_value entry ≡ srat_entry bytes.now) }
         ensures whole { IfOk result IsWholeEntry }
         ensures length { IfOk result (λ entry. IsOfOwnLength (srat_value entry)) }
-        ensures err { IfErr result (λ code. (code ≡ Code.SratEntryLength) × (srat_entry bytes.now ≡ Opaque bytes.now) × IsTypeOf srat_kinds (slice_index bytes.now 0)) }
+        ensures err { IfErr result
+            (λ code. (code ≡ Code.SratEntryLength) × (srat_entry bytes.now ≡ Opaque bytes.now)
+            × IsTypeOf srat_kinds (slice_index bytes.now 0)) }
     {
         let code = Code::SratEntryLength;
         match bytes[0] {

@@ -17,10 +17,14 @@ one_source _ s t g h one other = absurd one
 
 -- the first that gives its Source another one is the first fault
 pub clash : (madt : MadtContents) (found : OtherValue) → IsFirstOther Overrides madt.entries found
-    → IsFirstOfTable stage.Overrides (OverrideFault madt) (record { code = code.OverrideClash; at = found.at; other = found.other; point = found.key })
-clash madt found first = record { own = refl; fault = first.other; least = λ v wrong. least v.code v.at v.other v.point wrong }
+    → IsFirstOfTable stage.Overrides (OverrideFault madt)
+    (record { code = code.OverrideClash; at = found.at; other = found.other; point = found.key })
+clash madt found first =
+    record { own = refl; fault = first.other; least = λ v wrong. least v.code v.at v.other v.point wrong }
   where
     least : (c : Code) (at other point : ℕ) → OverrideFault madt c at other point
-        → NotAfter (record { code = code.OverrideClash; at = found.at; other = found.other; point = found.key }) (record { code = c; at = at; other = other; point = point })
-    least code.OverrideClash at other point wrong = in_order code.OverrideClash found.at found.other found.key at other point (first.first at other point wrong)
+        → NotAfter (record { code = code.OverrideClash; at = found.at; other = found.other; point = found.key })
+        (record { code = c; at = at; other = other; point = point })
+    least code.OverrideClash at other point wrong =
+        in_order code.OverrideClash found.at found.other found.key at other point (first.first at other point wrong)
     least _ at other point wrong = absurd wrong

@@ -25,14 +25,23 @@ use Rattle.acpi_check.proofs.EntryPasses.ValuesPass.{in_order}
 -- ---- processors
 
 -- a processor has this number and counts as enabled
-is_enabled : (p : Processors) (i : ℕ) (e : MadtEntry) → IsEnabledProcessor p i e ↔ (number_of (key.Enabled p) e ≡ Some i)
-is_enabled p i (LocalApic v) = (λ (is, counts). rw (counts, is) refl, λ is. (let parts = cond_some (counts_as_enabled p v.flags) v.apic_id i is in (parts.1, parts.0)))
-is_enabled p i (X2apic v) = (λ (is, counts). rw (counts, is) refl, λ is. (let parts = cond_some (counts_as_enabled p v.flags) v.x2apic_id i is in (parts.1, parts.0)))
+is_enabled : (p : Processors) (i : ℕ) (e : MadtEntry) → IsEnabledProcessor p i e
+    ↔ (number_of (key.Enabled p) e ≡ Some i)
+is_enabled p i (LocalApic v) = (
+  λ (is, counts). rw (counts, is) refl,
+  λ is. (let parts = cond_some (counts_as_enabled p v.flags) v.apic_id i is in (parts.1, parts.0)),
+)
+is_enabled p i (X2apic v) = (
+  λ (is, counts). rw (counts, is) refl,
+  λ is. (let parts = cond_some (counts_as_enabled p v.flags) v.x2apic_id i is in (parts.1, parts.0)),
+)
 is_enabled p i _ = (λ h. absurd h, λ is. none-some i is)
 
 -- the numbers are those of the processors that count as enabled
-are_enabled : (p : Processors) (madt : MadtContents) (numbers : List ℕ) → AreNumbers (key.Enabled p) madt numbers → (i : ℕ) → Contains numbers i ↔ IsEnabled p madt i
-are_enabled p madt numbers are i = (from, λ (o, (e, stands, is)). (are.all i).1 (o, (e, stands, (is_enabled p i e).0 is)))
+are_enabled : (p : Processors) (madt : MadtContents) (numbers : List ℕ) → AreNumbers (key.Enabled p) madt numbers
+    → (i : ℕ) → Contains numbers i ↔ IsEnabled p madt i
+are_enabled p madt numbers are i =
+    (from, λ (o, (e, stands, is)). (are.all i).1 (o, (e, stands, (is_enabled p i e).0 is)))
   where
     from : Contains numbers i → IsEnabled p madt i
     from listed = let (o, (e, stands, is)) = (are.all i).0 listed in (o, (e, stands, (is_enabled p i e).1 is))
@@ -42,7 +51,8 @@ are_enabled p madt numbers are i = (from, λ (o, (e, stands, is)). (are.all i).1
 -- an entry puts the processor in a domain by the place of its number
 placed : (numbers : List ℕ) (srat : SratContents) (k i o d : ℕ) → k < length numbers → get_or numbers k i ≡ i
     → PutsAt srat o i d → StandsWith srat.entries o (PutsPlaced numbers k d)
-placed numbers srat k i o d inside is (e, stands, puts) = (e, stands, (inside, rw (get_or_default numbers k 0 i inside ∙ is) puts))
+placed numbers srat k i o d inside is (e, stands, puts) =
+    (e, stands, (inside, rw (get_or_default numbers k 0 i inside ∙ is) puts))
 
 -- each processor has one domain, where each place of a number has one
 pub one_domain_each : (p : Processors) (madt : MadtContents) (srat : SratContents) (numbers : List ℕ)
@@ -56,22 +66,48 @@ one_domain_each p madt srat numbers are all i enabled o r d f one other =
 pub two_domains : (p : Processors) (madt : MadtContents) (srat : SratContents) (numbers : List ℕ)
     → AreNumbers (key.Enabled p) madt numbers → (found : OtherValue) → found.key < length numbers
     → IsFirstOther (PutsPlaced numbers) srat.entries found
-    → IsFirstOfTable stage.Domains (DomainFault p madt srat) (record { code = code.TwoDomains; at = found.at; other = found.other; point = slice_index numbers found.key })
+    → IsFirstOfTable stage.Domains (DomainFault p madt srat)
+    (record { code = code.TwoDomains; at = found.at; other = found.other; point = slice_index numbers found.key })
 two_domains p madt srat numbers are found inside first =
     record {
       own = refl;
       fault =
-          let (d, f, (e, stands, puts), (b, also, puts_too), before, differ) = first.other in
-          ((are_enabled p madt numbers are _).0 (Contains-get_or numbers found.key 0 inside), d, f, (e, stands, puts.1), (b, also, puts_too.1), before, differ);
+          let (d, f, (e, stands, puts), (b, also, puts_too), before, differ) = first.other in (
+            (are_enabled p madt numbers are _).0 (Contains-get_or numbers found.key 0 inside),
+            d,
+            f,
+            (e, stands, puts.1),
+            (b, also, puts_too.1),
+            before,
+            differ,
+          );
       least = λ v wrong. least v.code v.at v.other v.point wrong;
     }
   where
     least : (c : Code) (at other point : ℕ) → DomainFault p madt srat c at other point
-        → NotAfter (record { code = code.TwoDomains; at = found.at; other = found.other; point = slice_index numbers found.key }) (record { code = c; at = at; other = other; point = point })
+        → NotAfter (record {
+          code = code.TwoDomains;
+          at = found.at;
+          other = found.other;
+          point = slice_index numbers found.key;
+        }) (record { code = c; at = at; other = other; point = point })
     least code.TwoDomains at other point (enabled, d, f, one, two, before, differ) =
         let (k, within, is) = (are_enabled p madt numbers are point).1 enabled in
-        elim (first.first at other k (d, f, placed numbers srat k point at d within is one, placed numbers srat k point other f within is two, before, differ)) [
+        elim (first.first at other k (
+          d,
+          f,
+          placed numbers srat k point at d within is one,
+          placed numbers srat k point other f within is two,
+          before,
+          differ,
+        )) [
           | inl behind ↦ inl behind
-          | inr (same, most, key) ↦ in_order code.TwoDomains found.at found.other (slice_index numbers found.key) at other point (inr (same, most, ap (slice_index numbers) key ∙ get_or_default numbers k 0 point within ∙ is))
+          | inr (same, most, key) ↦ in_order code.TwoDomains found.at found.other (slice_index numbers found.key) at
+              other point (inr (
+                same,
+                most,
+                ap (slice_index numbers) key ∙ get_or_default numbers k 0 point within
+                    ∙ is,
+              ))
         ]
     least _ at other point wrong = absurd wrong

@@ -12,13 +12,15 @@ pub puts : (i d : ℕ) (e : SratEntry) → PutsIn i d e ↔ (placement_of e ≡ 
 puts i d (ApicDomain v) = (
   λ (number, domain, enabled). rw (enabled, number, domain) refl,
   λ is.
-      let parts = cond_some (is_enabled v.flags) (record { processor = v.apic_id; domain = v.domain }) (record { processor = i; domain = d }) is in
+      let parts = cond_some (is_enabled v.flags) (record { processor = v.apic_id; domain = v.domain })
+      (record { processor = i; domain = d }) is in
       (ap (λ (p : Placement). p.processor) parts.1, ap (λ (p : Placement). p.domain) parts.1, parts.0),
 )
 puts i d (X2apicDomain v) = (
   λ (number, domain, enabled). rw (enabled, number, domain) refl,
   λ is.
-      let parts = cond_some (is_enabled v.flags) (record { processor = v.x2apic_id; domain = v.domain }) (record { processor = i; domain = d }) is in
+      let parts = cond_some (is_enabled v.flags) (record { processor = v.x2apic_id; domain = v.domain })
+      (record { processor = i; domain = d }) is in
       (ap (λ (p : Placement). p.processor) parts.1, ap (λ (p : Placement). p.domain) parts.1, parts.0),
 )
 puts i d _ = (λ h. absurd h, λ is. none-some (record { processor = i; domain = d }) is)
@@ -26,7 +28,8 @@ puts i d _ = (λ h. absurd h, λ is. none-some (record { processor = i; domain =
 -- one processor in one domain
 one_put : (e : SratEntry) (i j d h : ℕ) → PutsIn i d e → PutsIn j h e → (i ≡ j) × (d ≡ h)
 one_put e i j d h one other =
-    let is = same_Some (record { processor = i; domain = d }) (record { processor = j; domain = h }) (sym ((puts i d e).0 one) ∙ (puts j h e).0 other) in
+    let is = same_Some (record { processor = i; domain = d }) (record { processor = j; domain = h })
+    (sym ((puts i d e).0 one) ∙ (puts j h e).0 other) in
     (ap (λ (p : Placement). p.processor) is, ap (λ (p : Placement). p.domain) is)
 
 -- whose number, where the numbers rise, stands at one place

@@ -21,9 +21,11 @@ impl Layout for Entry {
 
     const LEN: usize = 20;
 
-    ghost parts = { Fixed 200 ∷ Fixed 20 ∷ Reserved 2 ∷ NumberOf 1 ∷ Reserved 1 ∷ NumberOf 2 ∷ NumberOf 4 ∷ NumberOf 8 ∷ [] };
+    ghost parts = { Fixed 200 ∷ Fixed 20 ∷ Reserved 2 ∷ NumberOf 1 ∷ Reserved 1
+        ∷ NumberOf 2 ∷ NumberOf 4 ∷ NumberOf 8 ∷ [] };
 
-    ghost values = { λ entry. Number entry.class ∷ Number entry.interrupt ∷ Number entry.uid ∷ Number entry.base ∷ [] };
+    ghost values = { λ entry. Number entry.class ∷ Number entry.interrupt ∷ Number entry.uid
+        ∷ Number entry.base ∷ [] };
 
     fn read(bytes: &[u8]) -> Option<Entry> {
         if bytes.len() != 20 || u8_at(bytes, 0) != 200 || u8_at(bytes, 1) != 20 {

@@ -8,5 +8,9 @@ use Rattle.acpi_check.proofs.chains.nodes_of.Given as goal
 -- with those of the entries left the nodes so far are the table's
 abbrev pub invariant-loop-at : goal.invariant-loop-at
 invariant-loop-at l =
-    (l.offsets.items ++ node_offsets (nodes_of (named_offset l.fn.chain) (entries_read_by pptt_entry l.at-iterator.entries.entries)) ≡ node_offsets (nodes_in l.fn.chain (pptt_contents l.fn.pptt)))
-    × (l.named.items ++ map (λ n. n.named) (nodes_of (named_offset l.fn.chain) (entries_read_by pptt_entry l.at-iterator.entries.entries)) ≡ map (λ n. n.named) (nodes_in l.fn.chain (pptt_contents l.fn.pptt)))
+    (l.offsets.items ++ node_offsets
+    (nodes_of (named_offset l.fn.chain) (entries_read_by pptt_entry l.at-iterator.entries.entries)) ≡ node_offsets
+    (nodes_in l.fn.chain (pptt_contents l.fn.pptt)))
+    × (l.named.items ++ map (λ n. n.named)
+    (nodes_of (named_offset l.fn.chain) (entries_read_by pptt_entry l.at-iterator.entries.entries)) ≡ map
+    (λ n. n.named) (nodes_in l.fn.chain (pptt_contents l.fn.pptt)))

@@ -6,4 +6,6 @@ use Rattle.acpi_check.proofs.chains.parents_of.Given as goal
 -- each parent so far is the index of what the node at its place names
 abbrev pub invariant-loop-k : goal.invariant-loop-k
 invariant-loop-k l =
-    (length l.parents.items ≡ l.k) × ((i : ℕ) → i < l.k → IsIndexOf l.fn.nodes.offsets.items (slice_index l.fn.nodes.named.items i) (slice_index_or l.parents.items i None))
+    (length l.parents.items ≡ l.k)
+    × ((i : ℕ) → i < l.k → IsIndexOf l.fn.nodes.offsets.items (slice_index l.fn.nodes.named.items i)
+    (slice_index_or l.parents.items i None))

@@ -7,6 +7,9 @@ use Rattle.acpi_check.proofs.references.places_of.Given as goal
 -- with those of the entries left the offsets so far are the table's
 abbrev pub invariant-loop-at : goal.invariant-loop-at
 invariant-loop-at l =
-    (l.nodes.items ++ kind_offsets is_node (entries_read_by pptt_entry l.at-iterator.entries.entries) ≡ kind_offsets is_node (pptt_contents l.fn.pptt).entries)
-    × (l.caches.items ++ kind_offsets is_cache (entries_read_by pptt_entry l.at-iterator.entries.entries) ≡ kind_offsets is_cache (pptt_contents l.fn.pptt).entries)
-    × (l.resources.items ++ kind_offsets is_resource (entries_read_by pptt_entry l.at-iterator.entries.entries) ≡ kind_offsets is_resource (pptt_contents l.fn.pptt).entries)
+    (l.nodes.items ++ kind_offsets is_node (entries_read_by pptt_entry l.at-iterator.entries.entries) ≡ kind_offsets
+    is_node (pptt_contents l.fn.pptt).entries)
+    × (l.caches.items ++ kind_offsets is_cache (entries_read_by pptt_entry l.at-iterator.entries.entries) ≡ kind_offsets
+    is_cache (pptt_contents l.fn.pptt).entries)
+    × (l.resources.items ++ kind_offsets is_resource (entries_read_by pptt_entry l.at-iterator.entries.entries)
+    ≡ kind_offsets is_resource (pptt_contents l.fn.pptt).entries)

@@ -6,4 +6,6 @@ use Rattle.acpi_check.proofs.served.first_unserved.Given as goal
 
 -- the numbers that the entries so far name are held, and those left are the rest of the table's
 abbrev pub invariant-loop-at : goal.invariant-loop-at
-invariant-loop-at l = IsAt (IsInSpans l.fn.spans) named_gsi (madt_contents l.fn.madt).entries (entries_read_by madt_entry l.entries.entries.entries)
+invariant-loop-at l =
+    IsAt (IsInSpans l.fn.spans) named_gsi (madt_contents l.fn.madt).entries
+    (entries_read_by madt_entry l.entries.entries.entries)

@@ -5,4 +5,5 @@ use Rattle.acpi_check.proofs.EntryPasses.Collecting.{gathered_same}
 use Rattle.acpi_check.proofs.served.named_gsis.Goals as goal
 
 pub returns : goal.returns
-returns c = gathered_same madt_value (λ s. named_gsi s.entry) _ c.collected.result c.collected.ensures c.entries.ensures.entries (λ at picked answers. search rules) (λ found is. is)
+returns c = gathered_same madt_value (λ s. named_gsi s.entry) _ c.collected.result c.collected.ensures
+    c.entries.ensures.entries (λ at picked answers. search rules) (λ found is. is)
