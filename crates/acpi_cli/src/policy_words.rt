@@ -67,7 +67,8 @@ fn read_inputs(
     words: &[&str],
 ) -> Result<Policy, WordFault>
     ensures policy { IfOk result (λ policy.
-        inputs_policy (option_map (λ text. text.now) default_inputs.entry) (map (λ text. text.now) words.now)
+        inputs_policy (option_map (λ text. text.now) default_inputs.entry)
+        (map (λ text. text.now) words.now)
         ≡ Some policy) }
     ensures refused { IfErr result (λ fault.
         IsSome (inputs_policy (option_map (λ text. text.now) default_inputs.entry)

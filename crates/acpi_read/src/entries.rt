@@ -124,7 +124,8 @@ impl<'a> Entries<'a> {
 impl<'a> Iterator for Entries<'a> {
     type Item = Entry<'a>;
 
-    ghost next_gives = { λ before entry after. YieldsFirstBy entry_value (λ left. left.entries) before entry
+    ghost next_gives = { λ before entry after. YieldsFirstBy entry_value (λ left. left.entries)
+        before entry
         after × (after.cut ≡ before.cut) };
 
     ghost remaining = { item_count (λ left. left.entries) };

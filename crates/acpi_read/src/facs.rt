@@ -33,7 +33,8 @@ impl<'a> Model for Facs<'a> {
     ghost view = { λ facs. record { address = facs.address; bytes = facs.bytes.now } };
 
     ghost invariant = { λ facs. (facs.address % 64 ≡ 0) × (facs.address ≢ 0)
-        × (64 ≤ length facs.bytes.now) × (length facs.bytes.now < 2 ^ 32) × (facs_length facs.bytes.now ≡ length facs.bytes.now) };
+        × (64 ≤ length facs.bytes.now) × (length facs.bytes.now < 2 ^ 32)
+        × (facs_length facs.bytes.now ≡ length facs.bytes.now) };
 }
 
 impl<'a> Facs<'a> {
