@@ -59,9 +59,8 @@ returns-in_err-madt-in-Overrides c =
 pub returns-in_ok-madt-in-Overrides : goal.returns-in_ok-madt-in-Overrides
 returns-in_ok-madt-in-Overrides c =
     settled c.requires c.in-Overrides.is kind.Madt c.madt-in-Overrides.ensures c.in_ok-madt-in-Overrides.was
-    (λ whole. DoOverridesAgree (madt_contents whole))
-    (λ whole. OverrideFault (madt_contents whole)) (λ all. all) (λ v. (λ h. h, λ h. h)) (λ v least. least)
-    c.agreeing_overrides.result c.agreeing_overrides.ensures.settled
+    (λ whole. DoOverridesAgree (madt_contents whole)) (λ whole. OverrideFault (madt_contents whole)) (λ all. all)
+    (λ v. (λ h. h, λ h. h)) (λ v least. least) c.agreeing_overrides.result c.agreeing_overrides.ensures.settled
 
 pub returns-in_err-first-in-Srat : goal.returns-in_err-first-in-Srat
 returns-in_err-first-in-Srat c =
@@ -71,9 +70,8 @@ returns-in_err-first-in-Srat c =
 pub returns-in_ok-first-in-Srat : goal.returns-in_ok-first-in-Srat
 returns-in_ok-first-in-Srat c =
     settled c.requires c.in-Srat.is kind.Srat c.first-in-Srat.ensures c.in_ok-first-in-Srat.was
-    (λ whole. IsSoundSrat (srat_contents whole))
-    (λ whole. SratFault (srat_contents whole)) (λ all. all) (λ v. (λ h. h, λ h. h)) (λ v least. least)
-    c.sound_srat.result c.sound_srat.ensures
+    (λ whole. IsSoundSrat (srat_contents whole)) (λ whole. SratFault (srat_contents whole)) (λ all. all)
+    (λ v. (λ h. h, λ h. h)) (λ v least. least) c.sound_srat.result c.sound_srat.ensures
 
 pub srat-requires-clause-holds : goal.srat-requires-clause-holds
 srat-requires-clause-holds c = earlier c.requires c.in-Ranges.is stage.Srat (omega arith)
@@ -106,9 +104,8 @@ returns-in_err-first-in-Slit c =
 pub returns-in_ok-first-in-Slit : goal.returns-in_ok-first-in-Slit
 returns-in_ok-first-in-Slit c =
     settled c.requires c.in-Slit.is kind.Slit c.first-in-Slit.ensures c.in_ok-first-in-Slit.was
-    (λ whole. IsSoundSlit (slit_contents whole))
-    (λ whole. SlitFault (slit_contents whole)) (λ all. all) (λ v. (λ h. h, λ h. h)) (λ v least. least)
-    c.sound_slit.result c.sound_slit.ensures
+    (λ whole. IsSoundSlit (slit_contents whole)) (λ whole. SlitFault (slit_contents whole)) (λ all. all)
+    (λ v. (λ h. h, λ h. h)) (λ v least. least) c.sound_slit.result c.sound_slit.ensures
 
 pub returns-in_err-first-in-Pptt : goal.returns-in_err-first-in-Pptt
 returns-in_err-first-in-Pptt c =
@@ -118,9 +115,8 @@ returns-in_err-first-in-Pptt c =
 pub returns-in_ok-first-in-Pptt : goal.returns-in_ok-first-in-Pptt
 returns-in_ok-first-in-Pptt c =
     settled c.requires c.in-Pptt.is kind.Pptt c.first-in-Pptt.ensures c.in_ok-first-in-Pptt.was
-    (λ whole. IsCutPptt (pptt_contents whole))
-    (λ whole. PpttFault (pptt_contents whole)) (λ all. all) (λ v. (λ h. h, λ h. h)) (λ v least. least)
-    c.sound_pptt.result c.sound_pptt.ensures
+    (λ whole. IsCutPptt (pptt_contents whole)) (λ whole. PpttFault (pptt_contents whole)) (λ all. all)
+    (λ v. (λ h. h, λ h. h)) (λ v least. least) c.sound_pptt.result c.sound_pptt.ensures
 
 pub pptt-requires-clause-holds : goal.pptt-requires-clause-holds
 pptt-requires-clause-holds c = earlier c.requires c.in-References.is stage.Pptt (omega arith)
@@ -138,9 +134,8 @@ sound_references-requires c =
 pub returns-in_ok-pptt-in-References : goal.returns-in_ok-pptt-in-References
 returns-in_ok-pptt-in-References c =
     settled c.requires c.in-References.is kind.Pptt c.pptt.ensures c.in_ok-pptt-in-References.was
-    (λ whole. AreReferencesSound (pptt_contents whole))
-    (λ whole. ReferenceFault (pptt_contents whole)) (λ all. all) (λ v. (λ h. h, λ h. h)) (λ v least. least)
-    c.sound_references.result c.sound_references.ensures
+    (λ whole. AreReferencesSound (pptt_contents whole)) (λ whole. ReferenceFault (pptt_contents whole)) (λ all. all)
+    (λ v. (λ h. h, λ h. h)) (λ v least. least) c.sound_references.result c.sound_references.ensures
 
 pub pptt-requires-in-Parents-clause-holds : goal.pptt-requires-in-Parents-clause-holds
 pptt-requires-in-Parents-clause-holds c = earlier c.requires c.in-Parents.is stage.Pptt (omega arith)
@@ -158,9 +153,8 @@ parents_end-requires c =
 pub returns-in_ok-pptt-in-Parents : goal.returns-in_ok-pptt-in-Parents
 returns-in_ok-pptt-in-Parents c =
     settled c.requires c.in-Parents.is kind.Pptt c.pptt-in-Parents.ensures c.in_ok-pptt-in-Parents.was
-    (λ whole. DoParentsEnd (pptt_contents whole))
-    (λ whole. ParentFault (pptt_contents whole)) (λ all. all) (λ v. (λ h. h, λ h. h)) (λ v least. least)
-    c.parents_end.result c.parents_end.ensures
+    (λ whole. DoParentsEnd (pptt_contents whole)) (λ whole. ParentFault (pptt_contents whole)) (λ all. all)
+    (λ v. (λ h. h, λ h. h)) (λ v least. least) c.parents_end.result c.parents_end.ensures
 
 pub pptt-requires-in-Caches-clause-holds : goal.pptt-requires-in-Caches-clause-holds
 pptt-requires-in-Caches-clause-holds c = earlier c.requires c.in-Caches.is stage.Pptt (omega arith)
@@ -178,9 +172,8 @@ caches_end-requires c =
 pub returns-in_ok-pptt-in-Caches : goal.returns-in_ok-pptt-in-Caches
 returns-in_ok-pptt-in-Caches c =
     settled c.requires c.in-Caches.is kind.Pptt c.pptt-in-Caches.ensures c.in_ok-pptt-in-Caches.was
-    (λ whole. DoCachesEnd (pptt_contents whole))
-    (λ whole. CacheFault (pptt_contents whole)) (λ all. all) (λ v. (λ h. h, λ h. h)) (λ v least. least)
-    c.caches_end.result c.caches_end.ensures
+    (λ whole. DoCachesEnd (pptt_contents whole)) (λ whole. CacheFault (pptt_contents whole)) (λ all. all)
+    (λ v. (λ h. h, λ h. h)) (λ v least. least) c.caches_end.result c.caches_end.ensures
 
 pub madt-requires-in-Domains-clause-holds : goal.madt-requires-in-Domains-clause-holds
 madt-requires-in-Domains-clause-holds c = earlier c.requires c.in-Domains.is stage.Madt (omega arith)
