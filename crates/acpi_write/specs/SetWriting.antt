@@ -1,9 +1,9 @@
 -- Parts of a set, put one after another into an image.
 use Rattle.std.specs.Prelude.{◌≡◌, ℕ, ◌≤◌, List, ◌++◌, length, drop, map, None}
 use Rattle.acpi_base.specs.Memory.{Memory, byte_of}
-use Rattle.acpi_write.specs.Encoded.{encoded_length}
+use Rattle.acpi_write.specs.Encoded.{encoded_bytes_with, encoded_length}
 use Rattle.acpi_write.specs.Placed.{block_ends, DoEndInside}
-use Rattle.acpi_write.specs.Rebuilt.{block_places, blocks_from, with_blocks, encoded_bytes_with, option_list, facs_place, rebuilt_image}
+use Rattle.acpi_write.specs.Rebuilt.{block_places, blocks_from, with_blocks, option_list, facs_place, rebuilt_image}
 use Rattle.acpi_write.specs.Values.{SetValue}
 use Rattle.acpi_write.specs.Views.{table_value}
 use Rattle.acpi_write.specs.declared.table_value.TableValue.{TableValue}

@@ -4,7 +4,7 @@
 mod tests;
 
 ghost use Rattle.std.specs.Prelude.{◌≡◌, ◌≢◌, ◌+◌, ◌*◌, ◌^◌, ◌<◌, ◌≤◌, ◌++◌, length, map, flat_map, IsTrue, IfOk, IfErr, OnOk, MatchOption, ◌↔◌};
-ghost use Rattle.acpi_write.specs.Encoded.{table_bytes, encoded_bytes, body_of, encoded_length, srat_reserved, FitsHead};
+ghost use Rattle.acpi_write.specs.Encoded.{table_bytes, encoded_bytes, body_of, encoded_length, FitsHead};
 ghost use Rattle.acpi_base.specs.Number.{number_bytes};
 ghost use Rattle.acpi_base.specs.Madt.{madt_entry};
 ghost use Rattle.acpi_base.specs.Srat.{srat_entry};
@@ -18,6 +18,7 @@ ghost use Rattle.acpi_read.specs.Pptts.{pptt_bytes};
 ghost use Rattle.acpi_write.specs.Spells.{Spells, DoEntriesSay};
 ghost use Rattle.std.specs.List.{All};
 ghost use Rattle.acpi_write.specs.Views.{head_value, table_value, IsShaped, IsShapedMadt, IsShapedSrat, IsShapedPptt, IsWholeTable, DoPartsSay, IsRefusal};
+ghost use Rattle.acpi_write.specs.Bodies.{srat_reserved};
 
 use crate::entry_bytes::{append_all, sizes};
 use crate::table_value::{Head, TableValue};
@@ -227,7 +228,7 @@ pub(crate) fn bytes_of(alloc: Global, table: &TableValue<'_>) -> Result<Vec<u8>,
 ///    - the bytes of `Other` are fewer than 36, are not as many as their Length says, or do not sum to 0 modulo 256;
 /// 2. `TooLong`, where the table would have more than 4,294,967,295 bytes, which no Length says;
 /// 3. `Memory`, where the allocator is out of memory. It takes none where it refuses with one of the first two.
-#[tactic(auto, using(crate::proofs::TablesWritten::Spelling::spelling))]
+#[tactic(auto, using(crate::proofs::TablesWritten::Spelled::spelling))]
 pub fn encode_table(alloc: Global, table: &TableValue<'_>) -> Result<Vec<u8>, WriteFault>
     ensures spells { IfOk result (λ bytes. Spells (table_value table.now) bytes.items) }
     ensures bytes { IfOk result (λ bytes. bytes.items ≡ encoded_bytes (table_value table.now)) }

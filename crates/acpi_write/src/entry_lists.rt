@@ -9,8 +9,8 @@ ghost use Rattle.acpi_base.specs.Pptt.{pptt_contents};
 ghost use Rattle.acpi_read.specs.Madts.{madt_value};
 ghost use Rattle.acpi_read.specs.Srats.{srat_value};
 ghost use Rattle.acpi_read.specs.Pptts.{pptt_value};
-ghost use Rattle.acpi_write.specs.SetValues.{entries_in};
 ghost use Rattle.acpi_write.specs.Views.{IsShapedMadt, IsShapedSrat, IsShapedPptt};
+ghost use Rattle.acpi_write.specs.Bodies.{entries_in};
 
 use acpi_read::{Madt, MadtEntry, Pptt, PpttEntry, Srat, SratEntry, TableEntry, TypedEntries};
 use std::alloc::{AllocError, Global};

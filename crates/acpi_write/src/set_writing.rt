@@ -3,9 +3,9 @@
 ghost use Rattle.std.specs.Prelude.{◌≡◌, ◌+◌, ◌^◌, ◌<◌, ◌≤◌, ℕ, length, drop, slice_index, true, IfOk, OnOk};
 ghost use Rattle.std.specs.List.{All};
 ghost use Rattle.acpi_base.specs.Memory.{with_bytes};
-ghost use Rattle.acpi_write.specs.Encoded.{encoded_length};
+ghost use Rattle.acpi_write.specs.Encoded.{encoded_length, encoded_bytes_with};
 ghost use Rattle.acpi_write.specs.Placed.{IsPlaced, is_narrow};
-ghost use Rattle.acpi_write.specs.Rebuilt.{blocks_from, with_blocks, encoded_bytes_with, option_list, place_of_facs, part_places, table_places, rebuilt_image};
+ghost use Rattle.acpi_write.specs.Rebuilt.{blocks_from, with_blocks, option_list, place_of_facs, part_places, table_places, rebuilt_image};
 ghost use Rattle.acpi_write.specs.SetWriting.{IsPartialSet, EndsBelow, HasRoom, table_lengths, table_blocks};
 ghost use Rattle.acpi_write.specs.Views.{set_value, table_value, IsShaped, IsShort};
 

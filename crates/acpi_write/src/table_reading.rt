@@ -1,15 +1,16 @@
 //! What listed tables say.
 
-ghost use Rattle.std.specs.Prelude.{◌≡◌, ◌≤◌, ℕ, List, length, map, IfOk};
+ghost use Rattle.std.specs.Prelude.{◌≡◌, ◌≤◌, ℕ, List, length, map, Some, IfOk};
 ghost use Rattle.std.specs.List.{All, AllZip};
 ghost use Rattle.acpi_base.specs.Header.{header_of, head_of};
 ghost use Rattle.acpi_base.specs.Listed.{listed_addresses};
 ghost use Rattle.acpi_base.specs.Number.{byte_sum};
+ghost use Rattle.acpi_base.specs.declared.table_kind.TableKind.{TableKind};
 ghost use Rattle.acpi_check.specs.HandedOn.{IsListedSet};
 ghost use Rattle.acpi_read.specs.Headers.{header_value};
-ghost use Rattle.acpi_write.specs.Kinds.{IsReadableAs, table_value_as, AreReadable, table_of};
-ghost use Rattle.acpi_write.specs.Readable.{IsReadableSlit};
-ghost use Rattle.acpi_write.specs.SetValues.{fadt_table_value, madt_table_value, srat_table_value, slit_table_value, pptt_table_value, values_of, IsWholeAt};
+ghost use Rattle.acpi_write.specs.Bodies.{IsReadableAs, IsReadableSlit};
+ghost use Rattle.acpi_write.specs.Kinds.{AreReadable, table_of};
+ghost use Rattle.acpi_write.specs.SetValues.{table_value_as, values_of, IsWholeAt};
 ghost use Rattle.acpi_write.specs.Views.{head_value, table_value, IsShaped, IsShort};
 
 use crate::entry_lists::{madt_entries, pptt_entries, srat_entries};
@@ -57,7 +58,7 @@ pub(crate) fn listed_tables<'a>(
 /// What a FADT says.
 fn read_fadt<'a>(alloc: Global, table: &Table<'a>) -> Result<TableValue<'a>, AllocError>
     requires { 116 ≤ length table.now }
-    ensures value { IfOk result (λ value. table_value value ≡ fadt_table_value table.now) }
+    ensures value { IfOk result (λ value. table_value value ≡ table_value_as (Some TableKind.Fadt) table.now) }
     ensures shaped { IfOk result IsShaped }
 {
     let head = head_in(table.header());
@@ -68,7 +69,7 @@ fn read_fadt<'a>(alloc: Global, table: &Table<'a>) -> Result<TableValue<'a>, All
 
 /// What a MADT says.
 fn read_madt<'a>(alloc: Global, madt: &Madt<'a>) -> Result<TableValue<'a>, AllocError>
-    ensures value { IfOk result (λ value. table_value value ≡ madt_table_value madt.now) }
+    ensures value { IfOk result (λ value. table_value value ≡ table_value_as (Some TableKind.Madt) madt.now) }
     ensures shaped { IfOk result IsShaped }
 {
     let head = head_in(madt.header());
@@ -85,7 +86,7 @@ fn read_madt<'a>(alloc: Global, madt: &Madt<'a>) -> Result<TableValue<'a>, Alloc
 
 /// What an SRAT says.
 fn read_srat<'a>(alloc: Global, srat: &Srat<'a>) -> Result<TableValue<'a>, AllocError>
-    ensures value { IfOk result (λ value. table_value value ≡ srat_table_value srat.now) }
+    ensures value { IfOk result (λ value. table_value value ≡ table_value_as (Some TableKind.Srat) srat.now) }
     ensures shaped { IfOk result IsShaped }
 {
     let head = head_in(srat.header());
@@ -96,7 +97,7 @@ fn read_srat<'a>(alloc: Global, srat: &Srat<'a>) -> Result<TableValue<'a>, Alloc
 /// What a SLIT says.
 fn read_slit<'a>(table: &Table<'a>) -> TableValue<'a>
     requires { IsReadableSlit table.now }
-    ensures value { table_value result ≡ slit_table_value table.now }
+    ensures value { table_value result ≡ table_value_as (Some TableKind.Slit) table.now }
     ensures shaped { IsShaped result }
 {
     let head = head_in(table.header());
@@ -108,12 +109,31 @@ fn read_slit<'a>(table: &Table<'a>) -> TableValue<'a>
 
 /// What a PPTT says.
 fn read_pptt<'a>(alloc: Global, pptt: &Pptt<'a>) -> Result<TableValue<'a>, AllocError>
-    ensures value { IfOk result (λ value. table_value value ≡ pptt_table_value pptt.now) }
+    ensures value { IfOk result (λ value. table_value value ≡ table_value_as (Some TableKind.Pptt) pptt.now) }
     ensures shaped { IfOk result IsShaped }
 {
     let head = head_in(pptt.header());
     let entries = pptt_entries(alloc, pptt)?;
     Ok(TableValue::Pptt { head, entries })
+}
+
+/// What a table says as one of a kind.
+fn known_value<'a>(
+    alloc: Global,
+    table: &Table<'a>,
+    kind: TableKind,
+) -> Result<TableValue<'a>, AllocError>
+    requires { IsReadableAs (Some kind) table.now }
+    ensures value { IfOk result (λ value. table_value value ≡ table_value_as (Some kind) table.now) }
+    ensures shaped { IfOk result IsShaped }
+{
+    match kind {
+        TableKind::Fadt => read_fadt(alloc, table),
+        TableKind::Madt => read_madt(alloc, &Madt::of(table.copied())),
+        TableKind::Srat => read_srat(alloc, &Srat::of(table.copied())),
+        TableKind::Slit => Ok(read_slit(table)),
+        TableKind::Pptt => read_pptt(alloc, &Pptt::of(table.copied())),
+    }
 }
 
 /// What a table says as one of a kind, or by its bytes alone.
@@ -131,11 +151,7 @@ fn value_as<'a>(
     let bytes = table.bytes();
     match kind {
         None => Ok(TableValue::Other { bytes }),
-        Some(TableKind::Fadt) => read_fadt(alloc, table),
-        Some(TableKind::Madt) => read_madt(alloc, &Madt::of(table.copied())),
-        Some(TableKind::Srat) => read_srat(alloc, &Srat::of(table.copied())),
-        Some(TableKind::Slit) => Ok(read_slit(table)),
-        Some(TableKind::Pptt) => read_pptt(alloc, &Pptt::of(table.copied())),
+        Some(kind) => known_value(alloc, table, kind),
     }
 }
 

@@ -17,8 +17,8 @@ use Rattle.acpi_read.specs.declared.srat.SratEntry.TheVariants as srat_entry
 use Rattle.acpi_read.specs.declared.pptt.PpttEntry.{PpttEntry}
 use Rattle.acpi_read.specs.declared.pptt.PpttEntry.TheVariants as pptt_entry
 use Rattle.acpi_read.specs.declared.typed_entries.EntryAt.{EntryAt}
-use Rattle.acpi_write.specs.SetValues.{entries_in}
 use Rattle.acpi_write.specs.Views.{IsShapedMadt, IsShapedSrat, IsShapedPptt}
+use Rattle.acpi_write.specs.Bodies.{entries_in}
 
 -- ---- from entry to entry
 

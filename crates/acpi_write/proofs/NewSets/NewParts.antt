@@ -3,9 +3,9 @@ use Rattle.std.proofs.Common.{◌≡◌, ℕ, suc, ◌+◌, ◌*◌, ◌%◌, �
 use Rattle.std.specs.List.{AllByRecursion, AllZip}
 use Rattle.std.proofs.lemmas.List.{map-append}
 use Rattle.acpi_base.specs.Memory.{Memory}
-use Rattle.acpi_write.specs.Encoded.{FitsHead, encoded_length}
+use Rattle.acpi_write.specs.Encoded.{FitsHead, encoded_length, encoded_bytes_with}
 use Rattle.acpi_write.specs.Placed.{block_ends, DoEndInside, IsPlaced}
-use Rattle.acpi_write.specs.Rebuilt.{aligned_address, blocks_from, block_places, option_list, place_of_facs, part_lengths, part_places, part_bytes, facs_place, table_places, xsdt_length, encoded_bytes_with, rebuilt_image, HoldsBlock}
+use Rattle.acpi_write.specs.Rebuilt.{aligned_address, blocks_from, block_places, option_list, place_of_facs, part_lengths, part_places, part_bytes, facs_place, table_places, xsdt_length, rebuilt_image, HoldsBlock}
 use Rattle.acpi_write.specs.Values.{SetValue}
 use Rattle.acpi_write.proofs.NewSets.NewImage.{Holds, tables_are}
 use Rattle.acpi_write.proofs.NewSets.NewRoot.{xsdt_written}

@@ -7,11 +7,11 @@ use Rattle.acpi_base.specs.Listed.{listed_addresses, fadt_signature, IsListedTab
 use Rattle.acpi_base.specs.Policy.{PolicyValue}
 use Rattle.acpi_base.specs.Statements.{IsClean, AreSoundTables}
 use Rattle.acpi_base.proofs.Root.Slots.{slot_of_root}
-use Rattle.acpi_write.specs.Encoded.{encoded_length, table_bytes}
+use Rattle.acpi_write.specs.Encoded.{encoded_length, table_bytes, encoded_bytes_with}
 use Rattle.acpi_write.specs.FadtBody.{with_facs}
 use Rattle.acpi_write.specs.Laws.{NamesFacs}
 use Rattle.acpi_write.specs.Placed.{is_narrow, IsPlaced, LeadsToTables}
-use Rattle.acpi_write.specs.Rebuilt.{table_places, encoded_bytes_with, facs_place, rebuilt_image}
+use Rattle.acpi_write.specs.Rebuilt.{table_places, facs_place, rebuilt_image}
 use Rattle.acpi_write.specs.SetValues.{IsWholeAt, IsFacsOf, IsSetValue}
 use Rattle.acpi_write.specs.Values.{TableValue, SetValue}
 use Rattle.acpi_write.specs.Views.{IsWholeTable}
@@ -93,11 +93,11 @@ new_fadt m q v base old said placed new is =
     let ts = said.tables in
     let first = first_of_listed m q.rsdp ts fadt_signature old (listed_of m q.rsdp v said) refl is in
     let one = clean_first fadt_signature ts old new.clean first in
-    let long = (new.clean.fadt old first).long in
+    let long = (new.clean.sound old first).long in
     let facs = said.facs old is in
     record {
       facs = facs;
-      names = fadts_name_facs old place one.table one.bytes one.small (new.clean.fadt old first) (place_fits m n old v.facs place facs new.facs) (λ short.
+      names = fadts_name_facs old place one.table one.bytes one.small (new.clean.sound old first) (place_fits m n old v.facs place facs new.facs) (λ short.
           placed.low (ap (λ (vs : List TableValue). list_any is_narrow vs) said.values ∙ narrow_first ts old first (omega (arith, long)) short));
       listed = listed_first n base (new_tables place ts) fadt_signature (named_fadt old place) (new_listed v base ts new) refl (fadt_again place ts old new.clean first);
     }

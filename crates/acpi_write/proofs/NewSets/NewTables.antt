@@ -8,22 +8,22 @@ use Rattle.std.proofs.Math.Bool.{or-true}
 use Rattle.std.proofs.lemmas.List.Folds.{list_any-append}
 use Rattle.acpi_base.specs.Header.{head_of}
 use Rattle.acpi_base.specs.Signature.{has_signature}
-use Rattle.acpi_base.specs.Listed.{fadt_signature, madt_signature, srat_signature, slit_signature, pptt_signature}
-use Rattle.acpi_base.specs.Madt.{madt_contents}
-use Rattle.acpi_base.specs.Srat.{srat_contents}
-use Rattle.acpi_base.specs.Slit.{slit_contents}
-use Rattle.acpi_base.specs.Pptt.{pptt_contents}
+use Rattle.acpi_base.specs.Listed.{fadt_signature}
+use Rattle.acpi_base.specs.TableKinds.{signature_of}
+use Rattle.acpi_base.specs.declared.table_kind.TableKind.{TableKind}
 use Rattle.acpi_base.specs.declared.table_kind.TableKind.TheVariants as kind
-use Rattle.acpi_write.specs.Encoded.{encoded_length, table_bytes}
+use Rattle.acpi_base.proofs.Tables.Kinds.{length-signature_of}
+use Rattle.acpi_write.specs.Bodies.{contents_of}
+use Rattle.acpi_write.specs.Encoded.{encoded_length, table_bytes, encoded_bytes_with}
 use Rattle.acpi_write.specs.FadtBody.{with_facs}
 use Rattle.acpi_write.specs.Placed.{is_narrow}
 use Rattle.acpi_write.specs.Kinds.{is_among}
-use Rattle.acpi_write.specs.Rebuilt.{encoded_bytes_with}
 use Rattle.acpi_write.specs.SetValues.{is_first, table_value_behind, values_behind, values_of}
 use Rattle.acpi_write.specs.Views.{IsWholeTable}
 use Rattle.acpi_write.proofs.TablesWritten.FadtBodies.{length-with_facs}
-use Rattle.acpi_write.proofs.OldSets.FirstTables.{first_table_with, IsCleanTable, AreCleanTables, new_tables, first_is, is_behind, none_more}
-use Rattle.acpi_write.proofs.NewSets.RewrittenTables.{IsCleanBehind, new_of, rewritten, new_fadt, new_madt, new_srat, new_slit, new_pptt}
+use Rattle.acpi_write.proofs.TablesWritten.KeptContents.{IsCleanTable}
+use Rattle.acpi_write.proofs.OldSets.FirstTables.{first_table_with, AreCleanTables, new_tables, first_is, is_behind, none_more}
+use Rattle.acpi_write.proofs.NewSets.RewrittenTables.{IsCleanBehind, new_of, new_kept, rewritten, new_fadt}
 use Rattle.acpi_write.proofs.OldSets.ValuesBehind.{AmongAlike, says}
 
 -- ---- of each, behind those before it
@@ -38,11 +38,8 @@ clean_behind all before (t ∷ ts) clean is each =
     let first = λ (s : List ℕ) (here : is_first before t s ≡ true). ap (first_table_with s) is ∙ first_is before t ts s here in (
       record {
         clean = each.0;
-        fadt = λ here. clean.fadt t (first fadt_signature here);
-        madt = λ here. clean.madt t (first madt_signature here);
-        srat = λ here. clean.srat t (first srat_signature here);
-        slit = λ here. clean.slit t (first slit_signature here);
-        pptt = λ here. clean.pptt t (first pptt_signature here);
+        readable = λ kind here. clean.readable kind t (first (signature_of kind) here);
+        sound = λ here. clean.sound t (first fadt_signature here);
       },
       clean_behind all (before ++ t ∷ []) ts clean (is ∙ sym (append_assoc before (t ∷ []) ts)) each.1,
     )
@@ -179,28 +176,14 @@ written_for facs ts signature new four clean is =
     ]
 
 -- so it has the same contents
-abbrev pub KeepsFirst : {C : Type 0} → ℕ → List (List ℕ) → List ℕ → (List ℕ → C) → Type 0
-KeepsFirst facs ts signature contents_of =
-    (new : List ℕ) → first_table_with signature (new_tables facs ts) ≡ Some new → (old : List ℕ) × (first_table_with signature ts ≡ Some old) × (contents_of new ≡ contents_of old)
+abbrev pub KeepsFirst : ℕ → List (List ℕ) → TableKind → Type 0
+KeepsFirst facs ts kind =
+    (new : List ℕ) → first_table_with (signature_of kind) (new_tables facs ts) ≡ Some new → (old : List ℕ) × (first_table_with (signature_of kind) ts ≡ Some old) × (contents_of kind new ≡ contents_of kind old)
 
-again : {C : Type 0} (contents_of : List ℕ → C) (facs : ℕ) (ts : List (List ℕ)) (signature : List ℕ) → length signature ≡ 4
-    → ((before : List (List ℕ)) (old : List ℕ) → IsCleanBehind before old → is_first before old signature ≡ true → contents_of (new_of facs before old) ≡ contents_of old)
-    → AreCleanTables ts → KeepsFirst facs ts signature contents_of
-again contents_of facs ts signature four same clean new is =
-    let from = written_for facs ts signature new four clean is in
-    (from.old, from.is_old, ap contents_of from.is_new ∙ same from.passed from.old from.clean from.first)
-
-pub madt_again : (facs : ℕ) (ts : List (List ℕ)) → AreCleanTables ts → KeepsFirst facs ts madt_signature madt_contents
-madt_again facs ts = again madt_contents facs ts madt_signature refl (new_madt facs)
-
-pub srat_again : (facs : ℕ) (ts : List (List ℕ)) → AreCleanTables ts → KeepsFirst facs ts srat_signature srat_contents
-srat_again facs ts = again srat_contents facs ts srat_signature refl (new_srat facs)
-
-pub slit_again : (facs : ℕ) (ts : List (List ℕ)) → AreCleanTables ts → KeepsFirst facs ts slit_signature slit_contents
-slit_again facs ts = again slit_contents facs ts slit_signature refl (new_slit facs)
-
-pub pptt_again : (facs : ℕ) (ts : List (List ℕ)) → AreCleanTables ts → KeepsFirst facs ts pptt_signature pptt_contents
-pptt_again facs ts = again pptt_contents facs ts pptt_signature refl (new_pptt facs)
+pub contents_again : (facs : ℕ) (ts : List (List ℕ)) (kind : TableKind) → AreCleanTables ts → KeepsFirst facs ts kind
+contents_again facs ts kind clean new is =
+    let from = written_for facs ts (signature_of kind) new (length-signature_of kind) clean is in
+    (from.old, from.is_old, ap (contents_of kind) from.is_new ∙ (new_kept facs from.passed from.old kind from.clean from.first).contents)
 
 -- the first FADT names the FACS at this address
 pub fadt_again : (facs : ℕ) (ts : List (List ℕ)) (old : List ℕ) → AreCleanTables ts → first_table_with fadt_signature ts ≡ Some old

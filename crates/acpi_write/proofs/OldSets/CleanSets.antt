@@ -11,15 +11,10 @@ use Rattle.acpi_base.specs.Rsdp.{RsdpValue, IsRsdp}
 use Rattle.acpi_base.specs.Root.{chosen_root, IsSlotWidth, IsRoot, IsRootTable, IsSoundRoot, HasSlot}
 use Rattle.acpi_base.specs.Tables.{IsSigned, IsSoundTable}
 use Rattle.acpi_base.specs.Listed.{listed_addresses, fadt_signature, IsFirstListed, IsListedTable}
-use Rattle.acpi_base.specs.Madt as madt
-use Rattle.acpi_base.specs.Srat as srat
-use Rattle.acpi_base.specs.Slit as slit
-use Rattle.acpi_base.specs.Pptt as pptt
 use Rattle.acpi_base.specs.Statements.{IsClean}
 use Rattle.acpi_base.specs.TableKinds.{signature_of}
 use Rattle.acpi_base.specs.declared.stage.Stage.TheVariants as stage
 use Rattle.acpi_base.specs.declared.table_kind.TableKind.{TableKind}
-use Rattle.acpi_base.specs.declared.table_kind.TableKind.TheVariants as kind
 use Rattle.acpi_base.proofs.Images.HeldBytes.{same_value}
 use Rattle.acpi_base.proofs.Root.Slots.{root_slot}
 use Rattle.acpi_base.proofs.Root.Named.{root_width}
@@ -27,13 +22,11 @@ use Rattle.acpi_base.proofs.Tables.Kinds.{length-signature_of}
 use Rattle.acpi_base.proofs.Tables.Listed.{listed_in_root, listed_of_root, one_listed}
 use Rattle.acpi_base.proofs.Tables.Whole.{one_table, signed_table}
 use Rattle.acpi_read.specs.Roots.{RootValue, IsSoundNamedRoot}
-use Rattle.acpi_read.specs.Madts as madts
-use Rattle.acpi_read.specs.Srats as srats
-use Rattle.acpi_write.specs.Kinds.{AreReadable, IsReadableAs, IsKindBehind, is_among}
-use Rattle.acpi_read.specs.FilledTables.{IsFilledMadt, IsFilledSrat, IsFilledPptt}
-use Rattle.acpi_write.specs.Readable.{IsReadableSlit}
+use Rattle.acpi_write.specs.Kinds.{AreReadable, IsKindBehind, is_among}
 use Rattle.acpi_write.specs.SetValues.{IsWholeAt, is_first}
+use Rattle.acpi_write.specs.Bodies.{IsReadableAs}
 use Rattle.acpi_write.proofs.OldSets.FirstTables.{first_parts}
+use Rattle.acpi_write.proofs.Tables.Kinds.{facts}
 use Rattle.acpi_write.proofs.OldSets.Listing.{listed_from, listed_is, listed_skip, listed_take}
 
 -- ---- the k-th of the listed tables
@@ -150,32 +143,6 @@ first_listed_table m p r d root ts k none signature named table zip below four i
 
 -- ---- each can be read
 
-own_madt : (q : PolicyValue) (e : madt.MadtEntry) → madt.IsSoundMadtEntry q e → madts.IsOfOwnLength e
-own_madt q (madt.Opaque e) sound = sound
-own_madt q _ sound = tt
-
-own_srat : (e : srat.SratEntry) → srat.IsSoundSratEntry e → srats.IsOfOwnLength e
-own_srat (srat.Opaque e) sound = sound
-own_srat _ sound = tt
-
-pub readable_madt : (q : PolicyValue) (whole : List ℕ) → madt.IsSoundMadt q (madt.madt_contents whole) → IsFilledMadt whole
-unfolding madt.madt_contents
-readable_madt q whole sound = record { long = sound.long; filled = sound.filled; lengths = λ o e stands. own_madt q e (sound.entries o e stands) }
-
-pub readable_srat : (whole : List ℕ) → srat.IsSoundSrat (srat.srat_contents whole) → IsFilledSrat whole
-unfolding srat.srat_contents
-readable_srat whole sound = record { long = sound.long; filled = sound.filled; lengths = λ o e stands. own_srat e (sound.entries o e stands) }
-
-pub readable_slit : (whole : List ℕ) → slit.IsSoundSlit (slit.slit_contents whole) → IsReadableSlit whole
-unfolding slit.slit_contents
-readable_slit whole sound =
-    let size : length whole ≡ 44 + field whole 36 8 * field whole 36 8 = sound.size in
-    record { long = omega (arith, size); size = sound.size }
-
-pub readable_pptt : (whole : List ℕ) → pptt.IsCutPptt (pptt.pptt_contents whole) → IsFilledPptt whole
-unfolding pptt.pptt_contents
-readable_pptt whole sound = record { filled = sound.filled; lengths = sound.lengths }
-
 -- a table that stands where a sound one does sums to 0
 zero_sum : (m : Memory) (a : ℕ) (whole : List ℕ) → IsSoundTable m a → IsWholeAt m a whole → byte_sum whole ≡ 0
 zero_sum m a whole sound stands =
@@ -183,16 +150,6 @@ zero_sum m a whole sound stands =
 
 pub sound_slots : (m : Memory) (q : PolicyValue) (r d : ℕ) (root : List ℕ) → IsClean m q → IsRoot m q.rsdp r d → IsRootTable m r d root → (k a : ℕ) → HasSlot root d k a → IsSoundTable m a
 sound_slots m q r d root clean named table k a slot = clean stage.Tables k a (root_slot named table slot)
-
--- so is a table of a clean set, as the first of its kind
-readable_first : (m : Memory) (q : PolicyValue) (whole : List ℕ) → IsClean m q → (kind : TableKind) → IsListedTable m q.rsdp (signature_of kind) whole → IsReadableAs (Some kind) whole
-readable_first m q whole clean kind.Fadt is =
-    let fadt = clean stage.Fadt in
-    subst (λ (b : List ℕ). 116 ≤ length b) (one_listed m q.rsdp fadt_signature fadt.whole whole fadt.fadt is) fadt.sound.long
-readable_first m q whole clean kind.Madt is = readable_madt q whole (clean stage.Madt whole is)
-readable_first m q whole clean kind.Srat is = readable_srat whole (clean stage.Srat whole is)
-readable_first m q whole clean kind.Slit is = readable_slit whole (clean stage.Slit whole is)
-readable_first m q whole clean kind.Pptt is = readable_pptt whole (clean stage.Pptt whole is)
 
 pub clean_readable : (m : Memory) (q : PolicyValue) (r d : ℕ) (root : List ℕ) (ts : List (List ℕ)) → IsClean m q → IsRoot m q.rsdp r d → IsRootTable m r d root → AllZip (IsWholeAt m) (listed_addresses root d) ts → AreReadable ts
 clean_readable m q r d root ts clean named table zip k none below = record { readable = readable; zero_sum = sum }
@@ -208,4 +165,4 @@ clean_readable m q r d root ts clean named table zip k none below = record { rea
     readable : (kind : Option TableKind) → IsKindBehind (take k ts) whole kind → IsReadableAs kind whole
     readable None first = sum
     readable (Some kind) first =
-        readable_first m q whole clean kind (first_listed_table m q.rsdp r d root ts k none (signature_of kind) named table zip below (length-signature_of kind) first)
+        (facts kind).readable m q whole clean (first_listed_table m q.rsdp r d root ts k none (signature_of kind) named table zip below (length-signature_of kind) first)

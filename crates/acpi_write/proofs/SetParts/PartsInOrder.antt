@@ -11,16 +11,15 @@ use Rattle.acpi_base.specs.Header.{HeadValue}
 use Rattle.acpi_base.specs.Memory.{Memory, with_bytes}
 use Rattle.acpi_base.specs.Number.{number_bytes}
 use Rattle.acpi_base.specs.Signature.{xsdt_signature}
-use Rattle.acpi_write.specs.Encoded.{FitsHead, encoded_length, table_bytes}
+use Rattle.acpi_write.specs.Encoded.{FitsHead, encoded_length, table_bytes, encoded_bytes_with}
 use Rattle.acpi_write.specs.Placed.{IsPlaced, is_narrow}
-use Rattle.acpi_write.specs.Rebuilt.{aligned_address, encoded_bytes_with, blocks_from, block_places, place_of_facs, option_list, part_bytes, part_lengths, part_places, rsdp_tail, table_places, with_blocks, rebuilt_image}
+use Rattle.acpi_write.specs.Rebuilt.{aligned_address, blocks_from, block_places, place_of_facs, option_list, part_bytes, part_lengths, part_places, rsdp_tail, table_places, with_blocks, rebuilt_image}
 use Rattle.acpi_write.specs.SetWriting.{IsPartial, EndsBelow, HasRoom, table_blocks, table_lengths}
 use Rattle.acpi_write.specs.Values as value
 use Rattle.acpi_write.specs.Views.{table_value}
 use Rattle.acpi_write.specs.declared.table_value.TableValue.{TableValue}
-use Rattle.acpi_write.proofs.TablesWritten.KeptContents.{length_of_parts}
 use Rattle.acpi_write.proofs.NewSets.NewRoot.{length-slots}
-use Rattle.acpi_write.proofs.TablesWritten.WholeTables.{xsdt_table}
+use Rattle.acpi_write.proofs.TablesWritten.WholeTables.{whole_table, length_of_parts}
 use Rattle.acpi_write.proofs.SetParts.WrittenParts.{room_step, laid_next}
 
 -- ---- how many bytes the first parts have
@@ -33,7 +32,7 @@ pub xsdt_count : (head : HeadValue) (xs : List ℕ) → FitsHead head → 36 + 8
 xsdt_count head xs fits short =
     let slots = flat_map (number_bytes 8) xs in
     let behind = length-slots xs in
-    let table = xsdt_table head slots fits (omega (arith, behind, short)) in
+    let table = whole_table xsdt_signature head slots refl fits (omega (arith, behind, short)) in
     length_of_parts (table_bytes xsdt_signature head slots) slots table.0.least table.1 ∙ ap (λ (n : ℕ). 36 + n) behind
 
 -- ---- how many parts there are

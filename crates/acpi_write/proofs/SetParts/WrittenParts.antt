@@ -7,31 +7,22 @@ use Rattle.std.specs.Ordering.{nat_cmp}
 use Rattle.std.proofs.lemmas.Bool.{le-ltb}
 use Rattle.acpi_base.specs.Image.Adding.{add_refusal}
 use Rattle.acpi_base.specs.Header.{HeadValue}
-use Rattle.acpi_base.specs.Listed.{fadt_signature, madt_signature, srat_signature, slit_signature, pptt_signature}
+use Rattle.acpi_base.specs.Listed.{fadt_signature}
 use Rattle.acpi_base.specs.Memory.{Memory, byte_of, with_bytes, first_held}
-use Rattle.acpi_base.specs.Number.{number_bytes}
 use Rattle.acpi_base.specs.declared.image.ImageFault.TheVariants.{Twice}
 use Rattle.acpi_base.proofs.Images.RunBytes.{byte_of-with_bytes_outside}
 use Rattle.acpi_base.proofs.Images.ByteRuns.{first_of_none}
-use Rattle.acpi_read.specs.Madts.{madt_value}
-use Rattle.acpi_read.specs.Srats.{srat_value}
-use Rattle.acpi_read.specs.Pptts.{pptt_value}
-use Rattle.acpi_read.specs.Madts.{madt_bytes}
-use Rattle.acpi_read.specs.Srats.{srat_bytes}
-use Rattle.acpi_read.specs.Pptts.{pptt_bytes}
-use Rattle.acpi_write.specs.Encoded.{FitsHead, encoded_bytes, encoded_length, table_bytes, srat_reserved}
+use Rattle.acpi_write.specs.Encoded.{FitsHead, encoded_bytes, encoded_length, table_bytes, encoded_bytes_with}
 use Rattle.acpi_write.specs.FadtBody.{with_facs}
 use Rattle.acpi_write.specs.Placed.{block_ends, DoEndInside}
-use Rattle.acpi_write.specs.Rebuilt.{aligned_address, encoded_bytes_with, blocks_from, block_places, with_blocks}
+use Rattle.acpi_write.specs.Rebuilt.{aligned_address, blocks_from, block_places, with_blocks}
 use Rattle.acpi_write.specs.SetWriting.{EndsBelow, HasRoom, table_blocks, table_lengths}
 use Rattle.acpi_write.specs.Views.{head_value, table_value, IsShaped, IsShort, DoPartsSay}
 use Rattle.acpi_write.specs.declared.table_value.TableValue as written
 use Rattle.acpi_write.specs.declared.table_value.TableValue.TheVariants as table
-use Rattle.acpi_write.proofs.TablesWritten.EncodedSizes.{other_size}
 use Rattle.acpi_write.proofs.TablesWritten.FadtBodies.{length-with_facs}
-use Rattle.acpi_write.proofs.TablesWritten.KeptContents.{length_of_parts}
 use Rattle.acpi_write.proofs.NewSets.RebuiltParts.{aligned_from}
-use Rattle.acpi_write.proofs.TablesWritten.WholeTables.{madt_table, srat_table, slit_table, pptt_table, fadt_table}
+use Rattle.acpi_write.proofs.TablesWritten.WholeTables.{whole_table, length_of_parts}
 
 -- ---- tables
 
@@ -39,44 +30,17 @@ pub IfOk-both : {T E : Type 0} (r : Result T E) (P Q : T → Type 0) → IfOk r 
 IfOk-both (Ok x) P Q p q = (p, q)
 IfOk-both (Err e) P Q p q = tt
 
--- what is written for a value has its length
-pub encoded_count : (t : written.TableValue) → IsShaped t → IsShort t → DoPartsSay t → length (encoded_bytes (table_value t)) ≡ encoded_length (table_value t)
-encoded_count (table.Madt head address flags entries) shaped short say =
-    let body = number_bytes 4 address ++ (number_bytes 4 flags ++ flat_map madt_bytes (map madt_value entries.items)) in
-    let is = madt_table (head_value head) body say.0 short in
-    length_of_parts (table_bytes madt_signature (head_value head) body) body is.0.least is.1
-encoded_count (table.Srat head entries) shaped short say =
-    let body = srat_reserved ++ flat_map srat_bytes (map srat_value entries.items) in
-    let is = srat_table (head_value head) body say.0 short in
-    length_of_parts (table_bytes srat_signature (head_value head) body) body is.0.least is.1
-encoded_count (table.Slit head count cells) shaped short say =
-    let body = number_bytes 8 count ++ cells.now in
-    let is = slit_table (head_value head) body say.0 short in
-    length_of_parts (table_bytes slit_signature (head_value head) body) body is.0.least is.1
-encoded_count (table.Pptt head entries) shaped short say =
-    let body = flat_map pptt_bytes (map pptt_value entries.items) in
-    let is = pptt_table (head_value head) body say.0 short in
-    length_of_parts (table_bytes pptt_signature (head_value head) body) body is.0.least is.1
-encoded_count (table.Fadt head body) shaped short say =
-    let is = fadt_table (head_value head) body.items say short in
-    length_of_parts (table_bytes fadt_signature (head_value head) body.items) body.items is.0.least is.1
-encoded_count (table.Other bytes) shaped short say = other_size bytes.now shaped.least
-
 -- a FADT with the FACS's address
 pub fadt_count : (head : HeadValue) (body : List ℕ) (facs : ℕ) → 80 ≤ length body → 36 + length body < 2 ^ 32 → FitsHead head → length (table_bytes fadt_signature head (with_facs body facs)) ≡ 36 + length body
 fadt_count head body facs long short fits =
     let same = length-with_facs body facs (omega (arith, long)) in
-    let is = fadt_table head (with_facs body facs) fits (omega (arith, same, short)) in
+    let is = whole_table fadt_signature head (with_facs body facs) refl fits (omega (arith, same, short)) in
     length_of_parts (table_bytes fadt_signature head (with_facs body facs)) (with_facs body facs) is.0.least is.1 ∙ ap (λ (n : ℕ). 36 + n) same
 
 -- a table that is no FADT is written as it is
 pub encoded_without : (facs : ℕ) (t : written.TableValue) → ((head : _) (body : _) → t ≡ table.Fadt head body → ⊥) → encoded_bytes_with facs (table_value t) ≡ encoded_bytes (table_value t)
-encoded_without facs (table.Madt head address flags entries) not = refl
-encoded_without facs (table.Srat head entries) not = refl
-encoded_without facs (table.Slit head count cells) not = refl
-encoded_without facs (table.Pptt head entries) not = refl
 encoded_without facs (table.Fadt head body) not = absurd (not head body refl)
-encoded_without facs (table.Other bytes) not = refl
+encoded_without facs _ not = refl
 
 -- ---- room behind all that the image holds
 

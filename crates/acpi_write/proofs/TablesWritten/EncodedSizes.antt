@@ -8,7 +8,7 @@ use Rattle.acpi_read.specs.declared.madt.MadtEntry.{MadtEntry}
 use Rattle.acpi_read.specs.declared.srat.SratEntry.{SratEntry}
 use Rattle.acpi_read.specs.Madts.{madt_bytes}
 use Rattle.acpi_read.specs.Srats.{srat_bytes}
-use Rattle.acpi_write.specs.Encoded.{srat_reserved}
+use Rattle.acpi_write.specs.Bodies.{srat_reserved}
 use Rattle.acpi_write.proofs.EntryBytes.EntryLists.{joined_values}
 
 pub madt_size : (address flags : ℕ) (entries : List MadtEntry) (size : ℕ) → size ≡ length (flat_map (λ e. madt_bytes (madt_value e)) entries)

@@ -1,7 +1,7 @@
 use Rattle.std.proofs.Common.{◌∙◌, ap, get_or}
 use Rattle.acpi_base.specs.Madt.{madt_contents}
 use Rattle.acpi_read.specs.Madts.{madt_value, IsOfOwnLength}
-use Rattle.acpi_write.specs.SetValues.{entries_in}
+use Rattle.acpi_write.specs.Bodies.{entries_in}
 use Rattle.acpi_write.proofs.EntryBytes.EntryReading.{all_found, madt_shaped}
 use Rattle.acpi_write.proofs.entry_lists.madt_entries.Goals as goal
 

@@ -1,7 +1,7 @@
 use Rattle.std.proofs.Common.{◌∙◌, ap, get_or}
 use Rattle.acpi_base.specs.Pptt.{pptt_contents, HasOtherPpttLength}
 use Rattle.acpi_read.specs.Pptts.{pptt_value}
-use Rattle.acpi_write.specs.SetValues.{entries_in}
+use Rattle.acpi_write.specs.Bodies.{entries_in}
 use Rattle.acpi_write.proofs.EntryBytes.EntryReading.{all_found, pptt_shaped}
 use Rattle.acpi_write.proofs.entry_lists.pptt_entries.Goals as goal
 

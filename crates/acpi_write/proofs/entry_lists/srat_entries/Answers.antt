@@ -1,7 +1,7 @@
 use Rattle.std.proofs.Common.{◌∙◌, ap, get_or}
 use Rattle.acpi_base.specs.Srat.{srat_contents}
 use Rattle.acpi_read.specs.Srats.{srat_value, IsOfOwnLength}
-use Rattle.acpi_write.specs.SetValues.{entries_in}
+use Rattle.acpi_write.specs.Bodies.{entries_in}
 use Rattle.acpi_write.proofs.EntryBytes.EntryReading.{all_found, srat_shaped}
 use Rattle.acpi_write.proofs.entry_lists.srat_entries.Goals as goal
 

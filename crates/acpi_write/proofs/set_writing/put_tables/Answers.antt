@@ -1,8 +1,9 @@
 use Rattle.std.proofs.Common.{◌≡◌, ◌+◌, ℕ, List, length, drop, sym, ap, ◌∙◌, subst, arith}
 use Rattle.acpi_base.specs.Memory.{Memory, with_bytes}
-use Rattle.acpi_write.specs.Rebuilt.{aligned_address, encoded_bytes_with, blocks_from, with_blocks}
+use Rattle.acpi_write.specs.Rebuilt.{aligned_address, blocks_from, with_blocks}
 use Rattle.acpi_write.specs.SetWriting.{EndsBelow, HasRoom, table_lengths, table_blocks}
 use Rattle.acpi_write.specs.Views.{table_value}
+use Rattle.acpi_write.specs.Encoded.{encoded_bytes_with}
 use Rattle.acpi_write.proofs.SetParts.WrittenParts.{table_step, blocks_step, laid_none, mapped_none}
 use Rattle.acpi_write.proofs.set_writing.put_tables.Goals as goal
 

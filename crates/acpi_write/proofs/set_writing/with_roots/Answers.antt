@@ -3,8 +3,8 @@ use Rattle.std.specs.Prelude.{slice_index}
 use Rattle.acpi_base.specs.Memory.{with_bytes}
 use Rattle.acpi_base.specs.Number.{number_bytes}
 use Rattle.acpi_base.specs.Signature.{xsdt_signature}
-use Rattle.acpi_write.specs.Encoded.{encoded_length, table_bytes}
-use Rattle.acpi_write.specs.Rebuilt.{encoded_bytes_with, facs_place, option_list, part_lengths, part_places, rebuilt_image, rsdp_bytes, table_places, xsdt_length}
+use Rattle.acpi_write.specs.Encoded.{encoded_length, table_bytes, encoded_bytes_with}
+use Rattle.acpi_write.specs.Rebuilt.{facs_place, option_list, part_lengths, part_places, rebuilt_image, rsdp_bytes, table_places, xsdt_length}
 use Rattle.acpi_write.specs.SetWriting.{IsPartial, EndsBelow}
 use Rattle.acpi_write.specs.Views.{set_value}
 use Rattle.acpi_write.proofs.SetParts.PartsInOrder.{part_count, listed_count, first_place, none_so_far, next_part, one_more}

@@ -3,9 +3,9 @@ use Rattle.std.specs.Option.{option_map}
 use Rattle.std.specs.List.{list_any}
 use Rattle.std.specs.Prelude.{slice_index}
 use Rattle.acpi_base.specs.Memory.{Memory, with_bytes}
-use Rattle.acpi_write.specs.Encoded.{encoded_length}
+use Rattle.acpi_write.specs.Encoded.{encoded_length, encoded_bytes_with}
 use Rattle.acpi_write.specs.Placed.{is_narrow}
-use Rattle.acpi_write.specs.Rebuilt.{encoded_bytes_with, facs_place, option_list, place_of_facs, rebuilt_image}
+use Rattle.acpi_write.specs.Rebuilt.{facs_place, option_list, place_of_facs, rebuilt_image}
 use Rattle.acpi_write.specs.SetWriting.{IsPartial, EndsBelow}
 use Rattle.acpi_write.specs.Views.{set_value, table_value}
 use Rattle.acpi_write.specs.declared.table_value.TableValue.{TableValue}

@@ -2,7 +2,7 @@ use Rattle.std.proofs.Common.{◌≡◌, ◌-◌, ◌+◌, ◌*◌, ◌∙◌, a
 use Rattle.std.proofs.lemmas.List.{take_rest}
 use Rattle.acpi_base.specs.Number.{field}
 use Rattle.acpi_base.specs.Slit.{slit_contents}
-use Rattle.acpi_write.specs.Values.{Slit}
+use Rattle.acpi_write.specs.Values.{Known, Slit}
 use Rattle.acpi_write.proofs.table_reading.read_slit.Goals as goal
 
 pub returns-clause-value : goal.returns-clause-value
@@ -11,7 +11,7 @@ returns-clause-value c =
     let head = c.head_in-head.ensures c.args.table.now c.header.ensures.fields in
     let count = c.u64_at-count.ensures ∙ ap (λ (b : List ℕ). field b 36 8) c.bytes-bytes.ensures.bytes in
     let cells = take_rest c.bytes-bytes.result.now 44 ∙ ap (drop 44) c.bytes-bytes.ensures.bytes in
-    λ i. Slit (head i) (count i) (cells i)
+    λ i. Known (head i) (Slit (count i) (cells i))
 
 pub returns-clause-shaped : goal.returns-clause-shaped
 unfolding slit_contents
