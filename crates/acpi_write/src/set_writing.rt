@@ -41,13 +41,12 @@ fn put(image: &mut Image, place: u64, bytes: &[u8]) -> Result<(), AllocError>
     requires inside { place + length bytes.now ≤ 2 ^ 64 }
     ensures { OnOk result (image.new ≡ with_bytes image.old place bytes.now) }
 {
-    match image.add(place, bytes) {
-        Ok(()) => Ok(()),
-        Err(ImageFault::Memory) => Err(AllocError),
+    if let Err(fault) = image.add(place, bytes) {
         // The part ends inside, and meets none that is there.
-        Err(ImageFault::PastEnd) => unreachable!(),
-        Err(ImageFault::Twice { .. }) => unreachable!(),
+        prove!(matches!(fault, ImageFault::Memory));
+        return Err(AllocError);
     }
+    Ok(())
 }
 
 /// The bytes of the k-th part of a set: of the RSDP, of the XSDT, of the FACS where there is one, or of a table.
