@@ -4,7 +4,5 @@ pub mod EntryLengths
 pub mod EntryLists
 pub mod EntryReading
 pub mod KeptEntries
-pub mod MadtBytes
 pub mod NodeBytes
 pub mod PpttBytes
-pub mod SratBytes

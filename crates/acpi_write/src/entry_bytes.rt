@@ -58,30 +58,37 @@ fn kept_size(bytes: &[u8]) -> Option<usize>
 }
 
 /// Whether an entry's type is none of a MADT's.
-#[tactic(auto, using(crate::proofs::EntryBytes::MadtBytes::madt_others))]
 fn is_other_madt(entry: &[u8]) -> bool
     requires { IsEntry entry.now }
     ensures { IsTrue result ↔ (¬ IsTypeOf madt_kinds (slice_index entry.now 0)) }
 {
-    matches!(MadtEntry::read(entry), Ok(MadtEntry::Opaque(_)))
+    !matches!(
+        entry[0],
+        LocalApic::TYPE
+            | IoApic::TYPE
+            | Override::TYPE
+            | NmiSource::TYPE
+            | LocalNmi::TYPE
+            | AddressOverride::TYPE
+            | X2apic::TYPE
+            | X2apicNmi::TYPE
+    )
 }
 
 /// Whether an entry's type is none of an SRAT's.
-#[tactic(auto, using(crate::proofs::EntryBytes::SratBytes::srat_others))]
 fn is_other_srat(entry: &[u8]) -> bool
     requires { IsEntry entry.now }
     ensures { IsTrue result ↔ (¬ IsTypeOf srat_kinds (slice_index entry.now 0)) }
 {
-    matches!(SratEntry::read(entry), Ok(SratEntry::Opaque(_)))
+    !matches!(entry[0], ApicDomain::TYPE | MemoryRange::TYPE | X2apicDomain::TYPE)
 }
 
 /// Whether an entry's type is none of a PPTT's.
-#[tactic(auto, using(crate::proofs::EntryBytes::PpttBytes::pptt_others))]
 fn is_other_pptt(entry: &[u8]) -> bool
     requires { IsEntry entry.now }
     ensures { IsTrue result ↔ (2 ≤ slice_index entry.now 0) }
 {
-    matches!(PpttEntry::read(entry), Ok(PpttEntry::Opaque(_)))
+    entry[0] > Cache24::TYPE
 }
 
 /// How many bytes a node has. None where it does not have 4 bytes for each of its references.
@@ -136,7 +143,7 @@ impl<'a> EntryBytes for MadtEntry<'a> {
 
     ghost said_by = { λ entry bytes. SaysEntry madt_entry bytes (madt_value entry) };
 
-    #[tactic(auto, using(crate::proofs::EntryBytes::MadtBytes::madt_sizes))]
+    #[tactic(auto, using(crate::proofs::EntryBytes::EntryLists::entry_sizes))]
     fn size(&self) -> Option<usize> {
         match self {
             MadtEntry::LocalApic(_) => Some(LocalApic::LEN),
@@ -157,7 +164,7 @@ impl<'a> EntryBytes for MadtEntry<'a> {
         }
     }
 
-    #[tactic(auto, unfolding(acpi_base::specs::Madt::madt_entry, acpi_base::specs::Entries::has_form), using(crate::proofs::EntryBytes::MadtBytes::madt_kept))]
+    #[tactic(auto, unfolding(acpi_base::specs::Madt::madt_entry, acpi_base::specs::Entries::has_form), using(crate::proofs::EntryBytes::EntryForms::madt_kept))]
     fn append(&self, bytes: &mut Vec<u8>) -> Result<(), AllocError> {
         match self {
             MadtEntry::LocalApic(entry) => append_kind(bytes, entry),
@@ -180,7 +187,7 @@ impl<'a> EntryBytes for SratEntry<'a> {
 
     ghost said_by = { λ entry bytes. SaysEntry srat_entry bytes (srat_value entry) };
 
-    #[tactic(auto, using(crate::proofs::EntryBytes::SratBytes::srat_sizes))]
+    #[tactic(auto, using(crate::proofs::EntryBytes::EntryLists::entry_sizes))]
     fn size(&self) -> Option<usize> {
         match self {
             SratEntry::ApicDomain(_) => Some(ApicDomain::LEN),
@@ -196,7 +203,7 @@ impl<'a> EntryBytes for SratEntry<'a> {
         }
     }
 
-    #[tactic(auto, unfolding(acpi_base::specs::Srat::srat_entry, acpi_base::specs::Entries::has_form), using(crate::proofs::EntryBytes::SratBytes::srat_kept))]
+    #[tactic(auto, unfolding(acpi_base::specs::Srat::srat_entry, acpi_base::specs::Entries::has_form), using(crate::proofs::EntryBytes::EntryForms::srat_kept))]
     fn append(&self, bytes: &mut Vec<u8>) -> Result<(), AllocError> {
         match self {
             SratEntry::ApicDomain(entry) => append_kind(bytes, entry),
@@ -214,7 +221,7 @@ impl<'a> EntryBytes for PpttEntry<'a> {
 
     ghost said_by = { λ entry bytes. SaysEntry pptt_entry bytes (pptt_value entry) };
 
-    #[tactic(auto, using(crate::proofs::EntryBytes::PpttBytes::pptt_sizes))]
+    #[tactic(auto, using(crate::proofs::EntryBytes::EntryLists::entry_sizes))]
     fn size(&self) -> Option<usize> {
         match self {
             PpttEntry::Node(head, references) => node_size(head, references),
