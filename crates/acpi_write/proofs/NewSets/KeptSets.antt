@@ -33,7 +33,7 @@ are_same m q v base said new kind other is =
     let ts = said.tables in
     let four = length-signature_of kind in
     let first = first_of_listed (rebuilt_image v base) base (new_tables facs ts) (signature_of kind) other (new_listed v base ts new) four is in
-    let old = contents_again facs ts kind new.clean other first in
+    let old = contents_again facs ts kind other new.clean first in
     (old.0, listed_first m q.rsdp ts (signature_of kind) old.0 (listed_of m q.rsdp v said) four old.1, old.2)
 
 -- ---- stages 4 and 5

@@ -5,6 +5,7 @@ use Rattle.std.specs.Option.{option_map}
 use Rattle.std.specs.Prelude.{is_some, slice_index, ◌||◌}
 use Rattle.std.proofs.lemmas.List.{drop_more, drop_all, length-map}
 use Rattle.std.proofs.lemmas.List.Elements.{All-append, All-map}
+use Rattle.std.proofs.lemmas.Simd.{map-map}
 use Rattle.acpi_write.specs.Encoded.{encoded_length}
 use Rattle.acpi_write.specs.Placed.{is_narrow}
 use Rattle.acpi_write.specs.Rebuilt.{block_places, option_list, place_of_facs, part_lengths, part_places, facs_place}
@@ -13,17 +14,13 @@ use Rattle.acpi_write.specs.Views.{set_value, table_value}
 use Rattle.acpi_write.specs.declared.set_value.SetValue.{SetValue}
 use Rattle.acpi_write.specs.declared.table_value.TableValue.{TableValue}
 
-lengths_of_values : (tables : List TableValue) → map (λ t. encoded_length (table_value t)) tables ≡ map encoded_length (map table_value tables)
-lengths_of_values [] = refl
-lengths_of_values (t ∷ ts) = ap (λ (ns : List ℕ). encoded_length (table_value t) ∷ ns) (lengths_of_values ts)
-
 -- the lengths, as they are put together
 pub lengths_are : (v : SetValue) (lengths fs : List ℕ) → fs ≡ map length (option_list (set_value v).facs)
     → lengths ≡ (36 ∷ (36 + 8 * length v.tables.items) ∷ fs) ++ map (λ t. encoded_length (table_value t)) v.tables.items → lengths ≡ part_lengths (set_value v)
 lengths_are v lengths fs f l =
     let count = length-map v.tables.items table_value in
     l
-    ∙ ap (λ (ns : List ℕ). (36 ∷ (36 + 8 * length v.tables.items) ∷ fs) ++ ns) (lengths_of_values v.tables.items)
+    ∙ ap (λ (ns : List ℕ). (36 ∷ (36 + 8 * length v.tables.items) ∷ fs) ++ ns) (sym (map-map encoded_length table_value v.tables.items))
     ∙ (λ i. (36 ∷ (36 + 8 * sym count i) ∷ f i) ++ map encoded_length (map table_value v.tables.items))
 
 two_some : (x : ℕ) → All (λ n. 0 < n) (36 ∷ (36 + x) ∷ [])
