@@ -27,7 +27,6 @@
 
 mod encode;
 mod entry_bytes;
-mod entry_lists;
 mod fadt_body;
 pub mod laws;
 mod placing;

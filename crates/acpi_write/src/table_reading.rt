@@ -2,24 +2,27 @@
 
 ghost use Rattle.std.specs.Prelude.{◌≡◌, ◌≤◌, ℕ, List, length, map, Some, IfOk};
 ghost use Rattle.std.specs.List.{All, AllZip};
+ghost use Rattle.acpi_base.specs.Entries.{entries_read_by};
 ghost use Rattle.acpi_base.specs.Header.{header_of, head_of};
 ghost use Rattle.acpi_base.specs.Listed.{listed_addresses};
 ghost use Rattle.acpi_base.specs.Number.{byte_sum};
 ghost use Rattle.acpi_base.specs.declared.table_kind.TableKind.{TableKind};
 ghost use Rattle.acpi_check.specs.HandedOn.{IsListedSet};
 ghost use Rattle.acpi_read.specs.Headers.{header_value};
-ghost use Rattle.acpi_write.specs.Bodies.{IsReadableAs, IsReadableSlit};
+ghost use Rattle.acpi_write.specs.Bodies.{entries_in, IsReadableAs, IsReadableSlit};
 ghost use Rattle.acpi_write.specs.Kinds.{AreReadable, table_of};
 ghost use Rattle.acpi_write.specs.SetValues.{table_value_as, values_of, IsWholeAt};
 ghost use Rattle.acpi_write.specs.Views.{head_value, table_value, IsShaped, IsShort};
 
-use crate::entry_lists::{madt_entries, pptt_entries, srat_entries};
 use crate::fadt_body::with_facs;
 use crate::table_value::{Head, TableValue};
 use acpi_base::TableKind;
 use acpi_base::field::u64_at;
 use acpi_check::ListedSet;
-use acpi_read::{FirstTables, Header, Layout, Listed, Madt, Pptt, Slit, Srat, Table};
+use acpi_read::{
+    FirstTables, Header, Layout, Listed, Madt, Pptt, Slit, Srat, Table, TableEntry,
+    TypedEntries,
+};
 use std::alloc::{AllocError, Global};
 
 /// What a header says beside its signature, its length and its checksum.
@@ -55,6 +58,21 @@ pub(crate) fn listed_tables<'a>(
     Ok(found)
 }
 
+/// What entries say, in their order.
+fn entry_list<'a, E: TableEntry<'a> + Drop>(
+    alloc: Global,
+    entries: TypedEntries<'a, E>,
+) -> Result<Vec<E>, AllocError>
+    ensures entries { IfOk result (λ found. map E.value found.items ≡ entries_in (entries_read_by E.said_by entries.entry.entries.entries)) }
+    ensures read { IfOk result (λ found. All E.IsRead found.items) }
+{
+    let mut found = Vec::new(alloc);
+    for item in entries {
+        found.push(item.entry)?;
+    }
+    Ok(found)
+}
+
 /// What a FADT says.
 fn read_fadt<'a>(alloc: Global, table: &Table<'a>) -> Result<TableValue<'a>, AllocError>
     requires { 116 ≤ length table.now }
@@ -75,7 +93,7 @@ fn read_madt<'a>(alloc: Global, madt: &Madt<'a>) -> Result<TableValue<'a>, Alloc
     let head = head_in(madt.header());
     let address = madt.local_apic_address();
     let flags = madt.flags();
-    let entries = madt_entries(alloc, madt)?;
+    let entries = entry_list(alloc, madt.entries())?;
     Ok(TableValue::Madt {
         head,
         address,
@@ -90,7 +108,7 @@ fn read_srat<'a>(alloc: Global, srat: &Srat<'a>) -> Result<TableValue<'a>, Alloc
     ensures shaped { IfOk result IsShaped }
 {
     let head = head_in(srat.header());
-    let entries = srat_entries(alloc, srat)?;
+    let entries = entry_list(alloc, srat.entries())?;
     Ok(TableValue::Srat { head, entries })
 }
 
@@ -113,7 +131,7 @@ fn read_pptt<'a>(alloc: Global, pptt: &Pptt<'a>) -> Result<TableValue<'a>, Alloc
     ensures shaped { IfOk result IsShaped }
 {
     let head = head_in(pptt.header());
-    let entries = pptt_entries(alloc, pptt)?;
+    let entries = entry_list(alloc, pptt.entries())?;
     Ok(TableValue::Pptt { head, entries })
 }
 

@@ -1,6 +1,6 @@
 use Rattle.acpi_base.specs.Entries.{entries_read_by}
 use Rattle.acpi_write.proofs.EntryBytes.EntryReading.{ListsSoFar}
-use Rattle.acpi_write.proofs.entry_lists.entry_list.Given as goal
+use Rattle.acpi_write.proofs.table_reading.entry_list.Given as goal
 
 -- what was found and the entries left are all entries
 abbrev pub invariant-loop-item : goal.invariant-loop-item

@@ -1,7 +1,7 @@
 use Rattle.std.proofs.Common.{◌∙◌, ap, sym}
 use Rattle.acpi_base.specs.Entries.{entries_read_by}
 use Rattle.acpi_write.proofs.EntryBytes.EntryReading.{list_begins, list_more, list_ends}
-use Rattle.acpi_write.proofs.entry_lists.entry_list.Goals as goal
+use Rattle.acpi_write.proofs.table_reading.entry_list.Goals as goal
 
 pub loop-item-init : goal.loop-item-init
 loop-item-init g c =
