@@ -1,5 +1,4 @@
 -- The bytes of a table: what is written for what one says.
-pub mod EncodedSizes
 pub mod EntryRuns
 pub mod FadtBodies
 pub mod KeptContents

@@ -22,7 +22,6 @@ use Rattle.acpi_write.proofs.Tables.Madts as madts
 use Rattle.acpi_write.proofs.Tables.Srats as srats
 use Rattle.acpi_write.proofs.Tables.Slits as slits
 use Rattle.acpi_write.proofs.Tables.Pptts as pptts
-use Rattle.acpi_write.proofs.TablesWritten.EncodedSizes.{other_size}
 use Rattle.acpi_write.proofs.TablesWritten.WholeTables.{whole_table, length_of_parts}
 
 pub facts : (kind : TableKind) → KindFacts kind
@@ -58,7 +57,7 @@ is_written (table.Srat head entries) shaped short say = known (head_value head) 
 is_written (table.Slit head count cells) shaped short say = known (head_value head) (Slit count cells.now) say.0 short (λ whole least body. slits.says count cells.now whole least body say.1 shaped)
 is_written (table.Pptt head entries) shaped short say = known (head_value head) (Pptt _) say.0 short (λ whole least body. pptts.says entries.items whole least body say.1 shaped)
 is_written (table.Fadt head body) shaped short say = known (head_value head) (Fadt body.items) say short (λ whole least there. fadts.says body.items whole least there shaped)
-is_written (table.Other bytes) shaped short say = ((shaped, refl), other_size bytes.now shaped.least)
+is_written (table.Other bytes) shaped short say = ((shaped, refl), length_of_parts bytes.now _ shaped.least refl)
 
 -- ---- one value
 

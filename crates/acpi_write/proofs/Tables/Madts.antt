@@ -27,12 +27,14 @@ use Rattle.acpi_write.proofs.TablesWritten.RewrittenEntries.{entries_kept, writt
 abbrev parts_of : List ℕ → List ℕ
 parts_of whole = flat_map madt_bytes (entries_in (entries_read_by madt_entry (entries_of 44 whole)))
 
+-- how many bytes a body has
+pub length-body : (address flags : ℕ) (parts : List ℕ) → 36 + length (number_bytes 4 address ++ (number_bytes 4 flags ++ parts)) ≡ 44 + length parts
+length-body address flags parts =
+    omega (arith, length-append (number_bytes 4 address) (number_bytes 4 flags ++ parts), length-append (number_bytes 4 flags) parts, length-number_bytes 4 address, length-number_bytes 4 flags)
+
 count : (whole : List ℕ) → (44 ≤ length whole) × (cut_of 44 whole ≡ None) → 36 + length (body_bytes (value_in kind.Madt whole)) ≡ length whole
 unfolding madt_contents
-count whole filled =
-    let inner = length-append (number_bytes 4 (field whole 40 4)) (parts_of whole) in
-    let outer = length-append (number_bytes 4 (field whole 36 4)) (number_bytes 4 (field whole 40 4) ++ parts_of whole) in
-    omega (arith, inner, outer, length-number_bytes 4 (field whole 36 4), length-number_bytes 4 (field whole 40 4), written_length madt_entry madt_bytes madt_length 44 whole filled.0 filled.1)
+count whole filled = length-body (field whole 36 4) (field whole 40 4) (parts_of whole) ∙ written_length madt_entry madt_bytes madt_length 44 whole filled.0 filled.1
 
 kept : (facs : ℕ) (whole new : List ℕ) → IsWrittenFor kind.Madt facs whole new → madt_contents new ≡ madt_contents whole
 unfolding madt_contents

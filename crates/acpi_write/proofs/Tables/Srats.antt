@@ -1,5 +1,5 @@
 -- What is proved of the SRAT.
-use Rattle.std.proofs.Common.{◌≡◌, ℕ, ◌+◌, ◌≤◌, List, ◌++◌, length, get_or, drop, map, flat_map, replicate, None, refl, arith, length-append}
+use Rattle.std.proofs.Common.{◌≡◌, ℕ, ◌+◌, ◌≤◌, List, ◌++◌, length, get_or, drop, map, flat_map, replicate, None, refl, ◌∙◌, arith, length-append}
 use Rattle.std.specs.List.{All}
 use Rattle.acpi_base.specs.Number.{number_bytes}
 use Rattle.acpi_base.specs.Entries.{cut_of, entries_of, entries_read_by}
@@ -26,12 +26,16 @@ use Rattle.acpi_write.proofs.TablesWritten.RewrittenEntries.{entries_kept, writt
 abbrev parts_of : List ℕ → List ℕ
 parts_of whole = flat_map srat_bytes (entries_in (entries_read_by srat_entry (entries_of 48 whole)))
 
-pub length-reserved : length srat_reserved ≡ 12
+length-reserved : length srat_reserved ≡ 12
 length-reserved = omega (arith, length-append (number_bytes 4 1) (replicate 8 0), length-number_bytes 4 1)
+
+-- how many bytes a body has
+pub length-body : (parts : List ℕ) → 36 + length (srat_reserved ++ parts) ≡ 48 + length parts
+length-body parts = omega (arith, length-append srat_reserved parts, length-reserved)
 
 count : (whole : List ℕ) → (48 ≤ length whole) × (cut_of 48 whole ≡ None) → 36 + length (body_bytes (value_in kind.Srat whole)) ≡ length whole
 unfolding srat_contents
-count whole filled = omega (arith, length-append srat_reserved (parts_of whole), length-reserved, written_length srat_entry srat_bytes srat_length 48 whole filled.0 filled.1)
+count whole filled = length-body (parts_of whole) ∙ written_length srat_entry srat_bytes srat_length 48 whole filled.0 filled.1
 
 kept : (facs : ℕ) (whole new : List ℕ) → IsWrittenFor kind.Srat facs whole new → srat_contents new ≡ srat_contents whole
 unfolding srat_contents
