@@ -46,14 +46,17 @@ pub record IsKept (e : List ℕ) : Type 0 where
 abbrev pub EntriesAreKept : Type 0
 EntriesAreKept = (e : List ℕ) → AreByteValues e → IsEntry e → IsKept e
 
--- a table that is read as one of the kind and written again has the same signature, head and contents
-pub record KeepsContents (kind : TableKind) (whole : List ℕ) : Type 0 where
-  pub table : IsTableOf (signature_of kind) (head_of whole) (encoded_bytes (table_value_as (Some kind) whole))
-  pub contents : contents_of kind (encoded_bytes (table_value_as (Some kind) whole)) ≡ contents_of kind whole
+-- the new bytes are those of a table of the kind with the same head and contents
+pub record KeepsContents (kind : TableKind) (whole new : List ℕ) : Type 0 where
+  pub table : IsTableOf (signature_of kind) (head_of whole) new
+  pub contents : contents_of kind new ≡ contents_of kind whole
 
--- each whole table does that is long enough and that entries fill, where tables of its kind have such
+-- so are those that are written for what a whole table says as one of the kind, where it is long enough and entries fill it
+-- if the kind has such
 abbrev pub ContentsAreKept : Type 0
-ContentsAreKept = (kind : TableKind) (whole : List ℕ) → IsWholeTable whole → AreByteValues whole → length whole < 2 ^ 32 → IsFilledAs kind whole → KeepsContents kind whole
+ContentsAreKept =
+    (kind : TableKind) (whole : List ℕ) → IsWholeTable whole → AreByteValues whole → length whole < 2 ^ 32 → IsFilledAs kind whole
+    → KeepsContents kind whole (encoded_bytes (table_value_as (Some kind) whole))
 
 -- The FADT with another FACS address, in X_FIRMWARE_CTRL, at 132, where it has at least 140 bytes, and else in
 -- FIRMWARE_CTRL, at 36 (5.2.9): it has the same head, is sound, its FACS address is this one, and it is of reduced hardware

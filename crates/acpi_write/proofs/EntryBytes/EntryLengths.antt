@@ -35,15 +35,15 @@ references_length (r ∷ rs) = omega (arith, length-append (number_bytes 4 r) (f
 node_length : (v : pptt.NodeValue) → length (pptt_bytes (pptt.Node v)) ≡ 20 + 4 * length v.resources
 node_length v =
     let rest = references_length v.resources in
-    simp (length-append, length-number_bytes, length-replicate, rest) (omega arith)
+    simp (length-append, length-number_bytes, rest) (omega arith)
 
 cache_length : (e : List ℕ) → (length e ≡ 24) ⊎ (length e ≡ 28) → length (pptt_bytes (pptt.Cache (pptt.cache_of e))) ≡ length e
 cache_length e (inl short) =
     let other : (length e == 28) ≡ false = ne_eqb (length e) 28 (λ long. absurd (omega (arith, short, long))) in
-    rw other (simp (length-append, length-number_bytes, length-replicate, short) refl)
+    rw other (simp (length-append, length-number_bytes, short) refl)
 cache_length e (inr long) =
     let same : (length e == 28) ≡ true = eq-eqb (length e) 28 long in
-    rw same (simp (length-append, length-number_bytes, length-replicate, long) refl)
+    rw same (simp (length-append, length-number_bytes, long) refl)
 
 pub cache_sizes : (e : List ℕ) → pptt.has_cache_form e ≡ true → (length e ≡ 24) ⊎ (length e ≡ 28)
 unfolding pptt.has_cache_form

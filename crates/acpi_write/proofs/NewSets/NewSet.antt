@@ -20,8 +20,9 @@ use Rattle.acpi_write.proofs.OldSets.FirstTables.{AreCleanTables, new_tables, cl
 use Rattle.acpi_write.proofs.NewSets.NamedFacs.{fadts_name_facs}
 use Rattle.acpi_write.proofs.NewSets.NewFacs.{place_fits}
 use Rattle.acpi_write.proofs.NewSets.NewImage.{Holds, table_held, leads_to_tables}
-use Rattle.acpi_write.proofs.NewSets.NewParts.{HasFacsPlace, HaveTheirSizes, parts_stand, tables_stand, facs_stands}
-use Rattle.acpi_write.proofs.NewSets.NewTables.{new_whole, sizes_again, fadt_again, narrow_first}
+use Rattle.acpi_write.proofs.NewSets.NewParts.{HasFacsPlace, parts_stand, tables_stand, facs_stands}
+use Rattle.acpi_write.proofs.NewSets.NewTables.{new_whole, fadt_again, narrow_first}
+use Rattle.acpi_write.proofs.SetParts.PartPlaces.{clean_parts_are_laid}
 use Rattle.acpi_write.proofs.OldSets.OldTables.{listed_of, clean_tables, oemid_is_six, root_fits_head}
 
 -- ---- what stands
@@ -47,8 +48,7 @@ new_set m q v base image clean said placed =
     let tables = clean_tables m q ts image clean (listed_of m q.rsdp v said) in
     let oemid = oemid_is_six m q.rsdp v said in
     let head = root_fits_head m q.rsdp v image said in
-    let sizes : HaveTheirSizes v base = subst (λ (vs : List TableValue). map length (map (encoded_bytes_with facs) vs) ≡ map encoded_length vs) (sym said.values) (sizes_again facs ts tables) in
-    let parts = parts_stand v base oemid head placed sizes in
+    let parts = parts_stand v base (clean_parts_are_laid m q v base clean said).lengths in
     let leads = leads_to_tables v base oemid head placed in
     let stand : AllZip (Holds n) (table_places v base) (new_tables facs ts) =
     subst (λ (vs : List TableValue). AllZip (Holds n) (table_places v base) (map (encoded_bytes_with facs) vs)) said.values (tables_stand v base parts) in

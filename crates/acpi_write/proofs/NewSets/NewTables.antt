@@ -15,7 +15,7 @@ use Rattle.acpi_base.specs.declared.table_kind.TableKind.TheVariants as kind
 use Rattle.acpi_base.proofs.Images.HeldBytes.{same_value}
 use Rattle.acpi_base.proofs.Tables.Kinds.{length-signature_of}
 use Rattle.acpi_write.specs.Bodies.{contents_of}
-use Rattle.acpi_write.specs.Encoded.{encoded_length, table_bytes, encoded_bytes_with}
+use Rattle.acpi_write.specs.Encoded.{table_bytes, encoded_bytes_with}
 use Rattle.acpi_write.specs.FadtBody.{with_facs}
 use Rattle.acpi_write.specs.Placed.{is_narrow}
 use Rattle.acpi_write.specs.Kinds.{is_among}
@@ -72,27 +72,6 @@ says_again facs others before (t ∷ ts) alike clean =
 -- the tables say what they were written for
 pub values_again : (facs : ℕ) (ts : List (List ℕ)) → AreCleanTables ts → values_of (new_tables facs ts) ≡ values_of ts
 values_again facs ts clean = says_again facs [] [] ts (λ s four. refl) (of_clean ts clean)
-
--- ---- how many and how long they are
-
-count_behind : (facs : ℕ) (before ts : List (List ℕ)) → length (new_behind facs before ts) ≡ length ts
-unfolding values_behind
-count_behind facs before [] = refl
-count_behind facs before (t ∷ ts) = ap suc (count_behind facs (before ++ t ∷ []) ts)
-
-pub count_again : (facs : ℕ) (ts : List (List ℕ)) → length (new_tables facs ts) ≡ length ts
-count_again facs ts = count_behind facs [] ts
-
-sizes_behind : (facs : ℕ) (before ts : List (List ℕ)) → AreCleanBehind before ts → map length (new_behind facs before ts) ≡ map encoded_length (values_behind before ts)
-unfolding values_behind
-sizes_behind facs before [] clean = refl
-sizes_behind facs before (t ∷ ts) clean =
-    let here = (rewritten facs before t clean.0).count in
-    let rest = sizes_behind facs (before ++ t ∷ []) ts clean.1 in
-    λ i. here i ∷ rest i
-
-pub sizes_again : (facs : ℕ) (ts : List (List ℕ)) → AreCleanTables ts → map length (new_tables facs ts) ≡ map encoded_length (values_of ts)
-sizes_again facs ts clean = sizes_behind facs [] ts (of_clean ts clean)
 
 -- ---- each is whole
 

@@ -10,12 +10,13 @@ use Rattle.acpi_write.specs.Bodies.{contents_of, value_of, IsReadableAs}
 use Rattle.acpi_write.specs.Encoded.{encoded_bytes_with, table_bytes}
 use Rattle.acpi_write.specs.FadtBody.{with_facs}
 use Rattle.acpi_write.specs.Kinds.{IsKindBehind}
+use Rattle.acpi_write.specs.Laws.{KeepsContents}
 use Rattle.acpi_write.specs.SetValues.{is_first, table_value_as, table_value_behind}
 use Rattle.acpi_write.specs.Values.{Known}
 use Rattle.acpi_write.proofs.OldSets.ValuesBehind.{says, kind_found, IsRewritten, as_first, as_it_was}
 use Rattle.acpi_write.proofs.Tables.Kinds.{facts}
 use Rattle.acpi_write.proofs.TablesWritten.FadtBodies.{with_facs-with_facs}
-use Rattle.acpi_write.proofs.TablesWritten.KeptContents.{IsCleanTable, IsKeptAs, kept, said_length}
+use Rattle.acpi_write.proofs.TablesWritten.KeptContents.{IsCleanTable, kept}
 
 -- what a table needs for it, behind others
 pub record IsCleanBehind (before : List (List ℕ)) (whole : List ℕ) : Type 0 where
@@ -28,9 +29,9 @@ abbrev pub new_of : ℕ → List (List ℕ) → List ℕ → List ℕ
 new_of facs before old = encoded_bytes_with facs (table_value_behind before old)
 
 -- it keeps the contents
-pub new_kept : (facs : ℕ) (before : List (List ℕ)) (old : List ℕ) (kind : TableKind) → IsCleanBehind before old → is_first before old (signature_of kind) ≡ true → IsKeptAs kind old (new_of facs before old)
+pub new_kept : (facs : ℕ) (before : List (List ℕ)) (old : List ℕ) (kind : TableKind) → IsCleanBehind before old → is_first before old (signature_of kind) ≡ true → KeepsContents kind old (new_of facs before old)
 new_kept facs before old kind is first =
-    subst (λ v. IsKeptAs kind old (encoded_bytes_with facs v)) (sym (says before old (Some kind) first)) (kept kind facs old is.clean ((facts kind).filled old (is.readable kind first)))
+    subst (λ v. KeepsContents kind old (encoded_bytes_with facs v)) (sym (says before old (Some kind) first)) (kept kind facs old is.clean ((facts kind).filled old (is.readable kind first)))
 
 pub new_fadt : (facs : ℕ) (before : List (List ℕ)) (old : List ℕ) → IsCleanBehind before old → is_first before old fadt_signature ≡ true
     → new_of facs before old ≡ table_bytes fadt_signature (head_of old) (with_facs (drop 36 old) facs)
@@ -45,7 +46,7 @@ rewritten_as facs before old is (Some kind) first =
     let again = new_kept facs before old kind is first in
     let new = new_of facs before old in
     let same : table_value_as (Some kind) new ≡ table_value_as (Some kind) old = λ i. Known (again.table.head_is i) (value_of kind (again.contents i)) in
-    as_first kind before old new first again.table same (again.count ∙ sym (said_length (Some kind) old is.clean.table.least (is.readable kind first)))
+    as_first kind before old new first again.table same
 rewritten_as facs before old is None none =
     subst (λ v. IsRewritten before old (encoded_bytes_with facs v)) (sym (says before old None none)) (as_it_was before old none is.clean.table)
 

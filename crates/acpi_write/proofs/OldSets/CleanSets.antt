@@ -2,6 +2,7 @@
 use Rattle.std.proofs.Common.{◌≡◌, ℕ, zero, suc, ◌+◌, ◌-◌, ◌*◌, ◌/◌, ◌<◌, ◌≤◌, Bool, true, false, List, [], ◌∷◌, length, take, get_or, Option, Some, None, refl, sym, ap, ◌∙◌, subst, inl, inr, arith}
 use Rattle.std.specs.Prelude.{◌≢◌, ◌||◌}
 use Rattle.std.specs.List.{AllZip}
+use Rattle.std.proofs.Math.Bool.{or-true}
 use Rattle.std.proofs.lemmas.Bool.{cases_eq, both_ways}
 use Rattle.acpi_base.specs.Memory.{Memory}
 use Rattle.acpi_base.specs.Number.{field, byte_sum}
@@ -110,17 +111,13 @@ at_listed m root d ts k none width zip below =
 
 -- ---- the first with a signature
 
-or_true : (b : Bool) → (b || true) ≡ true
-or_true true = refl
-or_true false = refl
-
 -- a table with the signature is among those up to k
 among : (ts : List (List ℕ)) (k l : ℕ) (none signature : List ℕ) → l < k → k < length ts → has_signature (get_or ts l none) signature ≡ true → is_among (take k ts) signature ≡ true
 among [] k l none signature less below is = absurd (omega arith)
 among (t ∷ ts) zero l none signature less below is = absurd (omega (arith, less))
 among (t ∷ ts) (suc k) zero none signature less below is = rw is refl
 among (t ∷ ts) (suc k) (suc l) none signature less below is =
-    rw (among ts k l none signature (omega (arith, less)) (omega (arith, below)) is) (or_true (has_signature t signature))
+    rw (among ts k l none signature (omega (arith, less)) (omega (arith, below)) is) (or-true (has_signature t signature))
 
 -- the table that is the first with a signature is the first listed one
 pub first_listed_table : (m : Memory) (p r d : ℕ) (root : List ℕ) (ts : List (List ℕ)) (k : ℕ) (none signature : List ℕ) → IsRoot m p r d → IsRootTable m r d root → AllZip (IsWholeAt m) (listed_addresses root d) ts → k < length ts → length signature ≡ 4

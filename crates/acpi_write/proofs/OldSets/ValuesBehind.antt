@@ -9,7 +9,6 @@ use Rattle.acpi_base.specs.TableKinds.{signature_of}
 use Rattle.acpi_base.specs.declared.table_kind.TableKind.{TableKind}
 use Rattle.acpi_base.proofs.Tables.Kinds.{one_kind, length-signature_of}
 use Rattle.acpi_write.specs.Bodies.{kinds}
-use Rattle.acpi_write.specs.Encoded.{encoded_length}
 use Rattle.acpi_write.specs.Kinds.{is_among, IsKindBehind}
 use Rattle.acpi_write.specs.SetValues.{is_first, table_value_behind, table_value_as}
 use Rattle.acpi_write.specs.Spells.{IsTableOf}
@@ -72,7 +71,6 @@ pub record IsRewritten (before : List (List ℕ)) (old new : List ℕ) : Type 0 
   pub table : IsWholeTable new
   pub signature : (s : List ℕ) → length s ≡ 4 → has_signature new s ≡ has_signature old s
   pub said : (others : List (List ℕ)) → AmongAlike others before → table_value_behind others new ≡ table_value_behind before old
-  pub count : length new ≡ encoded_length (table_value_behind before old)
 
 first_letters : (bytes signature : List ℕ) → length signature ≡ 4 → has_signature bytes signature ≡ true → take 4 bytes ≡ signature
 unfolding has_signature
@@ -87,8 +85,8 @@ first_same others before new old s among has = rw (among, has) refl
 
 -- of a kind
 pub as_first : (kind : TableKind) (before : List (List ℕ)) (old new : List ℕ) → is_first before old (signature_of kind) ≡ true → IsTableOf (signature_of kind) (head_of old) new
-    → table_value_as (Some kind) new ≡ table_value_as (Some kind) old → length new ≡ encoded_length (table_value_as (Some kind) old) → IsRewritten before old new
-as_first kind before old new is table same count =
+    → table_value_as (Some kind) new ≡ table_value_as (Some kind) old → IsRewritten before old new
+as_first kind before old new is table same =
     let signature = signature_of kind in
     let four = length-signature_of kind in
     let has = (first_parts (has_signature old signature) (is_among before signature) is).0 in
@@ -98,7 +96,6 @@ as_first kind before old new is table same count =
       signature = has_same new old letters;
       said = λ others alike.
           says others new (Some kind) (first_same others before new old signature (alike signature four) (has_same new old letters signature four) ∙ is) ∙ same ∙ sym (says before old (Some kind) is);
-      count = count ∙ ap encoded_length (sym (says before old (Some kind) is));
     }
 
 -- any other
@@ -109,5 +106,4 @@ as_it_was before old none whole =
       signature = λ s four. refl;
       said = λ others alike.
           says others old None (λ kind. first_same others before old old (signature_of kind) (alike (signature_of kind) (length-signature_of kind)) refl ∙ none kind) ∙ sym (says before old None none);
-      count = (let behind = length-drop 36 old in let least = whole.least in let same : length old ≡ 36 + length (drop 36 old) = omega (arith, behind, least) in same) ∙ ap encoded_length (sym (says before old None none));
     }

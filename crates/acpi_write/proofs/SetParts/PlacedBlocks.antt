@@ -8,10 +8,6 @@ use Rattle.acpi_write.specs.Rebuilt.{aligned_address, block_places}
 next_length : (ns : List ℕ) (i n : ℕ) → i < length ns → n ≡ get_or ns i 0 → drop i ns ≡ n ∷ drop (i + 1) ns
 next_length ns i n h e = drop_more ns i 0 h ∙ ap (λ (x : ℕ). x ∷ drop (i + 1) ns) (sym e)
 
-pub aligned_is : (end : ℕ) → (end + 63) / 64 * 64 ≡ aligned_address end
-unfolding aligned_address
-aligned_is end = refl
-
 pub next_place : (a : ℕ) (ns : List ℕ) (i n : ℕ) → i < length ns → n ≡ get_or ns i 0 → block_places a (drop i ns) ≡ a ∷ block_places ((a + n + 63) / 64 * 64) (drop (i + 1) ns)
 unfolding block_places aligned_address
 next_place a ns i n h e = ap (block_places a) (next_length ns i n h e)

@@ -6,7 +6,7 @@ use Rattle.acpi_base.specs.declared.table_kind.TableKind.{TableKind}
 use Rattle.acpi_base.proofs.Tables.Kinds.{length-signature_of}
 use Rattle.acpi_write.specs.Bodies.{contents_of, value_in, IsFilledAs, IsReadableAs, body_with}
 use Rattle.acpi_write.specs.Encoded.{encoded_bytes, encoded_bytes_with, encoded_length, table_bytes}
-use Rattle.acpi_write.specs.Laws.{AreByteValues, ContentsAreKept}
+use Rattle.acpi_write.specs.Laws.{AreByteValues, KeepsContents, ContentsAreKept}
 use Rattle.acpi_write.specs.SetValues.{table_value_as}
 use Rattle.acpi_write.specs.Spells.{IsTableOf, IsWholeTable}
 use Rattle.acpi_write.specs.Values.{kind_of}
@@ -19,14 +19,8 @@ pub record IsCleanTable (whole : List ℕ) : Type 0 where
   pub bytes : AreByteValues whole
   pub small : length whole < 2 ^ 32
 
--- another table has the same signature, head, length and contents
-pub record IsKeptAs (kind : TableKind) (whole new : List ℕ) : Type 0 where
-  pub table : IsTableOf (signature_of kind) (head_of whole) new
-  pub count : length new ≡ length whole
-  pub contents : contents_of kind new ≡ contents_of kind whole
-
--- that is so of what is written for a table, wherever the FACS stands
-pub kept : (kind : TableKind) (facs : ℕ) (whole : List ℕ) → IsCleanTable whole → IsFilledAs kind whole → IsKeptAs kind whole (encoded_bytes_with facs (table_value_as (Some kind) whole))
+-- what is written for a table keeps its contents, wherever the FACS stands
+pub kept : (kind : TableKind) (facs : ℕ) (whole : List ℕ) → IsCleanTable whole → IsFilledAs kind whole → KeepsContents kind whole (encoded_bytes_with facs (table_value_as (Some kind) whole))
 kept kind facs whole is filled =
     let body = body_with facs (value_in kind whole) in
     let new = table_bytes (signature_of kind) (head_of whole) body in
@@ -36,16 +30,14 @@ kept kind facs whole is filled =
     let table = whole_table (signature_of kind) (head_of whole) body (length-signature_of kind) fits (omega (arith, size, small)) in
     let count = length_of_parts new body table.0.least table.1 ∙ size in
     let contents = (facts kind).kept facs whole new (record { low = is.bytes; filled = filled; head = table.0.head_is; count = count; body = table.1 }) in
-    subst (λ (k : TableKind). IsKeptAs kind whole (table_bytes (signature_of k) (head_of whole) body)) (sym ((facts kind).kind_is whole).0) (record { table = table.0; count = count; contents = contents })
+    subst (λ (k : TableKind). KeepsContents kind whole (table_bytes (signature_of k) (head_of whole) body)) (sym ((facts kind).kind_is whole).0) (record { table = table.0; contents = contents })
 
 -- where there is no FACS these are the bytes of the value
 plain : (kind : TableKind) (whole : List ℕ) → IsFilledAs kind whole → encoded_bytes_with 0 (table_value_as (Some kind) whole) ≡ encoded_bytes (table_value_as (Some kind) whole)
 plain kind whole filled = ap (table_bytes (signature_of (kind_of (value_in kind whole))) (head_of whole)) ((facts kind).plain whole filled)
 
 pub contents_are_kept : ContentsAreKept
-contents_are_kept kind whole is low small filled =
-    let again = subst (IsKeptAs kind whole) (plain kind whole filled) (kept kind 0 whole (record { table = is; bytes = low; small = small }) filled) in
-    record { table = again.table; contents = again.contents }
+contents_are_kept kind whole is low small filled = subst (KeepsContents kind whole) (plain kind whole filled) (kept kind 0 whole (record { table = is; bytes = low; small = small }) filled)
 
 -- ---- lengths
 
