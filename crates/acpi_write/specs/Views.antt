@@ -12,9 +12,9 @@ use Rattle.acpi_base.specs.Entries.{IsEntry, IsTypeOf}
 use Rattle.acpi_base.specs.Madt.{madt_kinds, madt_entry}
 use Rattle.acpi_base.specs.Srat.{srat_kinds, srat_entry}
 use Rattle.acpi_base.specs.Pptt.{pptt_entry}
-use Rattle.acpi_read.specs.Madts.{madt_value}
-use Rattle.acpi_read.specs.Srats.{srat_value}
-use Rattle.acpi_read.specs.Pptts.{pptt_value, HasReferences}
+use Rattle.acpi_read.specs.Madts.{madt_value, madt_bytes}
+use Rattle.acpi_read.specs.Srats.{srat_value, srat_bytes}
+use Rattle.acpi_read.specs.Pptts.{pptt_value, HasReferences, pptt_bytes}
 use Rattle.acpi_read.specs.declared.madt.MadtEntry.{MadtEntry}
 use Rattle.acpi_read.specs.declared.madt.MadtEntry.TheVariants as madt
 use Rattle.acpi_read.specs.declared.srat.SratEntry.{SratEntry}
@@ -24,9 +24,6 @@ use Rattle.acpi_read.specs.declared.pptt.PpttEntry.TheVariants as pptt
 use Rattle.acpi_check.specs.declared.refusal.Refusal.{Refusal}
 use Rattle.acpi_check.specs.declared.refusal.Refusal.TheVariants.{Fault, OutOfMemory}
 use Rattle.acpi_write.specs.Values as value
-use Rattle.acpi_read.specs.Madts.{madt_bytes}
-use Rattle.acpi_read.specs.Srats.{srat_bytes}
-use Rattle.acpi_read.specs.Pptts.{pptt_bytes}
 use Rattle.acpi_write.specs.Encoded.{encoded_length, FitsHead}
 use Rattle.acpi_write.specs.Spells.{DoEntriesSay}
 pub use Rattle.acpi_write.specs.Spells.{IsWholeTable}

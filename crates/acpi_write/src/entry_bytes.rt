@@ -7,12 +7,9 @@ ghost use Rattle.acpi_base.specs.Layouts.{layout_bytes, HasValues};
 ghost use Rattle.acpi_base.specs.Madt.{madt_kinds, madt_entry};
 ghost use Rattle.acpi_base.specs.Srat.{srat_kinds, srat_entry};
 ghost use Rattle.acpi_base.specs.Pptt.{pptt_entry, Node};
-ghost use Rattle.acpi_read.specs.Madts.{madt_value};
-ghost use Rattle.acpi_read.specs.Srats.{srat_value};
-ghost use Rattle.acpi_read.specs.Pptts.{pptt_value, node_value};
-ghost use Rattle.acpi_read.specs.Madts.{madt_bytes};
-ghost use Rattle.acpi_read.specs.Srats.{srat_bytes};
-ghost use Rattle.acpi_read.specs.Pptts.{pptt_bytes};
+ghost use Rattle.acpi_read.specs.Madts.{madt_value, madt_bytes};
+ghost use Rattle.acpi_read.specs.Srats.{srat_value, srat_bytes};
+ghost use Rattle.acpi_read.specs.Pptts.{pptt_value, node_value, pptt_bytes};
 ghost use Rattle.acpi_write.specs.Spells.{SaysEntry};
 ghost use Rattle.acpi_write.specs.Views.{IsShapedMadt, IsShapedSrat, IsShapedPptt};
 

@@ -9,11 +9,10 @@ use Rattle.acpi_base.specs.Layouts.{layout_bytes, HasValues}
 use Rattle.acpi_base.specs.Entries.{IsEntry}
 use Rattle.acpi_base.specs.Pptt.{pptt_entry, Node}
 use Rattle.acpi_base.proofs.Layouts.RoundTrip.{length-number_bytes}
-use Rattle.acpi_read.specs.Pptts.{node_head_parts, node_head_values, node_value}
+use Rattle.acpi_read.specs.Pptts.{node_head_parts, node_head_values, node_value, pptt_bytes}
 use Rattle.acpi_read.specs.declared.pptt.node_head.NodeHead.{NodeHead}
 use Rattle.acpi_base.proofs.Layouts.Kinds.{byte_field}
 use Rattle.acpi_read.proofs.PpttKinds.{node_typed}
-use Rattle.acpi_read.specs.Pptts.{pptt_bytes}
 use Rattle.acpi_write.specs.Spells.{SaysEntry}
 
 -- each reference has 4 bytes
