@@ -1,5 +1,5 @@
 -- Which tables are read as those of a kind, and what is asked of them.
-use Rattle.std.specs.Prelude.{◌≡◌, ℕ, ◌≤◌, ◌<◌, Bool, true, false, not, List, length, take, slice_index_or, Option, Some, None, is_none}
+use Rattle.std.specs.Prelude.{◌≡◌, ℕ, ◌<◌, Bool, true, false, not, List, length, take, slice_index_or, Option, Some, None, is_none}
 use Rattle.std.specs.List.{list_any}
 use Rattle.acpi_base.specs.Number.{byte_sum}
 use Rattle.acpi_base.specs.Signature.{has_signature}

@@ -77,7 +77,10 @@ fn is_other_srat(entry: &[u8]) -> bool
     requires { IsEntry entry.now }
     ensures { IsTrue result ↔ (¬ IsTypeOf srat_kinds (slice_index entry.now 0)) }
 {
-    !matches!(entry[0], ApicDomain::TYPE | MemoryRange::TYPE | X2apicDomain::TYPE)
+    !matches!(
+        entry[0],
+        ApicDomain::TYPE | MemoryRange::TYPE | X2apicDomain::TYPE
+    )
 }
 
 /// Whether an entry's type is none of a PPTT's.

@@ -20,8 +20,7 @@ use acpi_base::TableKind;
 use acpi_base::field::u64_at;
 use acpi_check::ListedSet;
 use acpi_read::{
-    FirstTables, Header, Layout, Listed, Madt, Pptt, Slit, Srat, Table, TableEntry,
-    TypedEntries,
+    FirstTables, Header, Layout, Listed, Madt, Pptt, Slit, Srat, Table, TableEntry, TypedEntries,
 };
 use std::alloc::{AllocError, Global};
 

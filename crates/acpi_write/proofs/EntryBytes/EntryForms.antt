@@ -1,6 +1,6 @@
 -- What entries of a table say, by the list of its kinds.
-use Rattle.std.proofs.Common.{◌≡◌, ℕ, ◌≤◌, Bool, true, false, List, [], ◌∷◌, length, refl, sym, ap, subst, ◌∙◌, inl, inr, arith}
-use Rattle.std.specs.Prelude.{◌⊎◌, ◌==◌, ◌&&◌, slice_index}
+use Rattle.std.proofs.Common.{◌≡◌, ℕ, ◌≤◌, true, false, List, [], ◌∷◌, length, refl, sym, ap, subst, ◌∙◌, inl, inr, arith}
+use Rattle.std.specs.Prelude.{◌==◌, slice_index}
 use Rattle.std.proofs.lemmas.Bool.{cases_Bool, eqb-true, and_parts}
 use Rattle.std.proofs.lemmas.Bool.Decides.{nat_tests}
 use Rattle.acpi_base.specs.Entries.{IsEntry, IsEntryOf, Kind, has_form, value_of_kind, IsTypeOf}

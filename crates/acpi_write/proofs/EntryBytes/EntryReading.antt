@@ -4,7 +4,7 @@ use Rattle.std.specs.List.{All}
 use Rattle.std.proofs.Math.ListN.{get_or-map}
 use Rattle.std.proofs.lemmas.List.{map-append, append-nil, length-map}
 use Rattle.std.proofs.lemmas.List.Elements.{All-nil, All-push, Contains-get_or}
-use Rattle.acpi_base.specs.Entries.{PlacedEntry, Stands, entries_read_by}
+use Rattle.acpi_base.specs.Entries.{PlacedEntry, Stands}
 use Rattle.acpi_base.specs.Pptt as pptt
 use Rattle.acpi_read.specs.Madts as madts
 use Rattle.acpi_read.specs.Srats as srats

@@ -1,5 +1,5 @@
 -- The rebuilt image of a clean set holds a clean set that says the same.
-use Rattle.std.proofs.Common.{◌≡◌, ℕ, List, length, refl, sym, ap, ◌∙◌, subst}
+use Rattle.std.proofs.Common.{◌≡◌, ℕ, List, sym, ap, ◌∙◌, subst}
 use Rattle.acpi_base.specs.Memory.{Memory}
 use Rattle.acpi_base.specs.Fadt.{IsFadt, IsSoundFadt}
 use Rattle.acpi_base.specs.Facs.{HasSoundFacs, IsSoundFacs}

@@ -1,16 +1,13 @@
 -- Where the parts of a rebuilt image stand.
-use Rattle.std.proofs.Common.{◌≡◌, ℕ, suc, ◌+◌, ◌*◌, ◌%◌, ◌^◌, ◌<◌, ◌≤◌, List, [], ◌∷◌, ◌++◌, length, get_or, drop, map, Option, Some, None, refl, ap, ◌∙◌, subst, arith}
+use Rattle.std.proofs.Common.{◌≡◌, ℕ, suc, ◌+◌, ◌%◌, ◌^◌, ◌<◌, ◌≤◌, List, [], ◌∷◌, ◌++◌, length, get_or, drop, map, Option, Some, None, refl, subst, arith}
 use Rattle.std.specs.List.{AllByRecursion, AllZip}
-use Rattle.std.proofs.lemmas.List.{map-append}
 use Rattle.acpi_base.specs.Memory.{Memory}
-use Rattle.acpi_write.specs.Encoded.{FitsHead, encoded_length, encoded_bytes_with}
+use Rattle.acpi_write.specs.Encoded.{encoded_length, encoded_bytes_with}
 use Rattle.acpi_write.specs.Placed.{block_ends, DoEndInside, IsPlaced}
 use Rattle.acpi_write.specs.Rebuilt.{aligned_address, blocks_from, block_places, option_list, place_of_facs, part_lengths, part_places, part_bytes, facs_place, table_places, xsdt_length, rebuilt_image, HoldsBlock}
 use Rattle.acpi_write.specs.Values.{SetValue}
-use Rattle.acpi_write.proofs.NewSets.NewImage.{Holds, tables_are}
-use Rattle.acpi_write.proofs.NewSets.NewRoot.{xsdt_written}
+use Rattle.acpi_write.proofs.NewSets.NewImage.{Holds}
 use Rattle.acpi_write.proofs.NewSets.RebuiltParts.{aligned_from, parts_are_held}
-use Rattle.acpi_write.proofs.TablesWritten.RsdpBytes.{rsdp_written}
 
 -- ---- blocks at their places
 

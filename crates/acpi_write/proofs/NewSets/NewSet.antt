@@ -1,5 +1,5 @@
 -- The tables of a rebuilt image.
-use Rattle.std.proofs.Common.{◌≡◌, ℕ, List, [], ◌∷◌, length, take, drop, map, refl, sym, ap, ◌∙◌, subst, inr, arith}
+use Rattle.std.proofs.Common.{ℕ, List, [], ◌∷◌, take, drop, map, refl, sym, ap, ◌∙◌, subst, inr, arith}
 use Rattle.std.specs.List.{AllByRecursion, AllZip, list_any}
 use Rattle.acpi_base.specs.Memory.{Memory, IsImage}
 use Rattle.acpi_base.specs.Header.{head_of}
@@ -7,7 +7,7 @@ use Rattle.acpi_base.specs.Listed.{listed_addresses, fadt_signature, IsListedTab
 use Rattle.acpi_base.specs.Policy.{PolicyValue}
 use Rattle.acpi_base.specs.Statements.{IsClean, AreSoundTables}
 use Rattle.acpi_base.proofs.Root.Slots.{slot_of_root}
-use Rattle.acpi_write.specs.Encoded.{encoded_length, table_bytes, encoded_bytes_with}
+use Rattle.acpi_write.specs.Encoded.{table_bytes, encoded_bytes_with}
 use Rattle.acpi_write.specs.FadtBody.{with_facs}
 use Rattle.acpi_write.specs.Laws.{NamesFacs}
 use Rattle.acpi_write.specs.Placed.{is_narrow, IsPlaced, LeadsToTables}

@@ -6,7 +6,7 @@ use Rattle.acpi_base.specs.Listed.{fadt_signature}
 use Rattle.acpi_base.specs.TableKinds.{signature_of}
 use Rattle.acpi_base.specs.declared.table_kind.TableKind.{TableKind}
 use Rattle.acpi_base.specs.declared.table_kind.TableKind.TheVariants as kind
-use Rattle.acpi_write.specs.Bodies.{contents_of, value_of, IsReadableAs}
+use Rattle.acpi_write.specs.Bodies.{value_of, IsReadableAs}
 use Rattle.acpi_write.specs.Encoded.{encoded_bytes_with, table_bytes}
 use Rattle.acpi_write.specs.FadtBody.{with_facs}
 use Rattle.acpi_write.specs.Kinds.{IsKindBehind}

@@ -1,6 +1,6 @@
 -- The tables of a clean set can be read as those of their kinds.
-use Rattle.std.proofs.Common.{◌≡◌, ℕ, zero, suc, ◌+◌, ◌-◌, ◌*◌, ◌/◌, ◌<◌, ◌≤◌, Bool, true, false, List, [], ◌∷◌, length, take, get_or, Option, Some, None, refl, sym, ap, ◌∙◌, subst, inl, inr, arith}
-use Rattle.std.specs.Prelude.{◌≢◌, ◌||◌}
+use Rattle.std.proofs.Common.{◌≡◌, ℕ, zero, suc, ◌+◌, ◌-◌, ◌*◌, ◌/◌, ◌<◌, ◌≤◌, true, List, [], ◌∷◌, length, take, get_or, Option, Some, None, refl, sym, ap, ◌∙◌, subst, inl, inr, arith}
+use Rattle.std.specs.Prelude.{◌≢◌}
 use Rattle.std.specs.List.{AllZip}
 use Rattle.std.proofs.Math.Bool.{or-true}
 use Rattle.std.proofs.lemmas.Bool.{cases_eq, both_ways}
@@ -8,10 +8,9 @@ use Rattle.acpi_base.specs.Memory.{Memory}
 use Rattle.acpi_base.specs.Number.{field, byte_sum}
 use Rattle.acpi_base.specs.Policy.{PolicyValue}
 use Rattle.acpi_base.specs.Signature.{has_signature}
-use Rattle.acpi_base.specs.Rsdp.{RsdpValue, IsRsdp}
-use Rattle.acpi_base.specs.Root.{chosen_root, IsSlotWidth, IsRoot, IsRootTable, IsSoundRoot, HasSlot}
+use Rattle.acpi_base.specs.Root.{IsSlotWidth, IsRoot, IsRootTable, HasSlot}
 use Rattle.acpi_base.specs.Tables.{IsSigned, IsSoundTable}
-use Rattle.acpi_base.specs.Listed.{listed_addresses, fadt_signature, IsFirstListed, IsListedTable}
+use Rattle.acpi_base.specs.Listed.{listed_addresses, IsFirstListed, IsListedTable}
 use Rattle.acpi_base.specs.Statements.{IsClean}
 use Rattle.acpi_base.specs.TableKinds.{signature_of}
 use Rattle.acpi_base.specs.declared.stage.Stage.TheVariants as stage
@@ -20,9 +19,8 @@ use Rattle.acpi_base.proofs.Images.HeldBytes.{same_value}
 use Rattle.acpi_base.proofs.Root.Slots.{root_slot}
 use Rattle.acpi_base.proofs.Root.Named.{root_width}
 use Rattle.acpi_base.proofs.Tables.Kinds.{length-signature_of}
-use Rattle.acpi_base.proofs.Tables.Listed.{listed_in_root, listed_of_root, one_listed}
+use Rattle.acpi_base.proofs.Tables.Listed.{listed_in_root}
 use Rattle.acpi_base.proofs.Tables.Whole.{one_table, signed_table}
-use Rattle.acpi_read.specs.Roots.{RootValue, IsSoundNamedRoot}
 use Rattle.acpi_write.specs.Kinds.{AreReadable, IsKindBehind, is_among}
 use Rattle.acpi_write.specs.SetValues.{IsWholeAt, is_first}
 use Rattle.acpi_write.specs.Bodies.{IsReadableAs}

@@ -1,21 +1,20 @@
 -- The parts of what a clean set says are as long as their places are counted from.
-use Rattle.std.proofs.Common.{◌≡◌, ℕ, suc, ◌+◌, ◌*◌, ◌<◌, ◌≤◌, List, [], ◌∷◌, ◌++◌, length, get_or, take, drop, map, flat_map, Option, Some, None, refl, sym, ap, ◌∙◌, subst, arith, append_assoc, append-nil, length-append, length-drop}
+use Rattle.std.proofs.Common.{◌≡◌, ℕ, suc, ◌+◌, ◌*◌, ◌<◌, ◌≤◌, List, [], ◌∷◌, ◌++◌, length, get_or, take, drop, map, flat_map, Option, refl, sym, ap, ◌∙◌, subst, arith, append_assoc, append-nil, length-append, length-drop}
 use Rattle.std.specs.Prelude.{slice_index}
 use Rattle.std.specs.List.{All, AllZip}
 use Rattle.std.proofs.lemmas.List.{length-map, length-take-le, map-append}
 use Rattle.std.proofs.lemmas.List.Elements.{All-nil, All-cons}
 use Rattle.acpi_base.specs.Memory.{Memory}
 use Rattle.acpi_base.specs.Number.{number_bytes}
-use Rattle.acpi_base.specs.Header.{HeadValue, header_of, header_bytes, head_of}
 use Rattle.acpi_base.specs.Signature.{xsdt_signature}
 use Rattle.acpi_base.specs.Tables.{IsTable}
 use Rattle.acpi_base.proofs.Images.HeldBytes.{length-bytes_at}
 use Rattle.acpi_base.proofs.Layouts.RoundTrip.{length-number_bytes}
 use Rattle.acpi_base.proofs.Tables.Whole.{length-table}
-use Rattle.acpi_write.specs.Encoded.{table_bytes, body_of, encoded_length, encoded_bytes_with}
+use Rattle.acpi_write.specs.Encoded.{table_bytes, encoded_length, encoded_bytes_with}
 use Rattle.acpi_write.specs.Kinds.{IsKindBehind}
 use Rattle.acpi_write.specs.Rebuilt.{aligned_address, blocks_from, block_places, option_list, part_lengths, part_places, part_bytes, facs_place, table_places, rsdp_bytes, CleanPartsAreLaid}
-use Rattle.acpi_write.specs.SetValues.{IsWholeAt, table_value_behind, values_behind, table_value_as}
+use Rattle.acpi_write.specs.SetValues.{IsWholeAt, table_value_behind, values_behind}
 use Rattle.acpi_write.specs.Values.{TableValue, SetValue}
 use Rattle.acpi_base.specs.declared.table_kind.TableKind.{TableKind}
 use Rattle.acpi_write.specs.Bodies.{IsReadableAs}

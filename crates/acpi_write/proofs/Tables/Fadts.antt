@@ -6,7 +6,7 @@ use Rattle.acpi_base.specs.declared.table_kind.TableKind.TheVariants as kind
 use Rattle.acpi_base.proofs.Tables.Listed.{one_listed}
 use Rattle.acpi_write.specs.Bodies.{body_bytes, SpellsBody}
 use Rattle.acpi_write.specs.FadtBody.{with_facs}
-use Rattle.acpi_write.specs.Values.{BodyValue, Fadt}
+use Rattle.acpi_write.specs.Values.{Fadt}
 use Rattle.acpi_write.proofs.Tables.Facts.{IsWrittenFor, KindFacts}
 use Rattle.acpi_write.proofs.TablesWritten.FadtBodies.{length-with_facs, with_facs-with_facs}
 

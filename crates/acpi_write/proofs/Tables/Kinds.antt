@@ -6,9 +6,6 @@ use Rattle.acpi_base.specs.TableKinds.{signature_of}
 use Rattle.acpi_base.specs.declared.table_kind.TableKind.{TableKind}
 use Rattle.acpi_base.specs.declared.table_kind.TableKind.TheVariants as kind
 use Rattle.acpi_base.proofs.Tables.Kinds.{length-signature_of}
-use Rattle.acpi_read.specs.Madts.{madt_value}
-use Rattle.acpi_read.specs.Srats.{srat_value}
-use Rattle.acpi_read.specs.Pptts.{pptt_value}
 use Rattle.acpi_write.specs.Bodies.{kinds, body_bytes, SpellsBody}
 use Rattle.acpi_write.specs.Encoded.{FitsHead, encoded_bytes, encoded_length}
 use Rattle.acpi_write.specs.Spells.{Spells}

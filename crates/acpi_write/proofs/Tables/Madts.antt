@@ -15,7 +15,7 @@ use Rattle.acpi_read.specs.declared.madt.MadtEntry.{MadtEntry}
 use Rattle.acpi_read.specs.declared.madt.MadtEntry.TheVariants as entry
 use Rattle.acpi_write.specs.Bodies.{entries_in, value_in, body_bytes, SpellsBody}
 use Rattle.acpi_write.specs.Spells.{DoEntriesSay}
-use Rattle.acpi_write.specs.Values.{BodyValue, Madt}
+use Rattle.acpi_write.specs.Values.{Madt}
 use Rattle.acpi_write.specs.Views.{IsShapedMadt}
 use Rattle.acpi_write.proofs.EntryBytes.EntryLengths.{madt_length}
 use Rattle.acpi_write.proofs.EntryBytes.KeptEntries.{entries_are_kept}

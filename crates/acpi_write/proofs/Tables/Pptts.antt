@@ -1,8 +1,8 @@
 -- What is proved of the PPTT.
-use Rattle.std.proofs.Common.{◌≡◌, ℕ, ◌+◌, ◌≤◌, List, length, get_or, drop, map, None, refl, ap, arith}
+use Rattle.std.proofs.Common.{◌≡◌, ℕ, ◌+◌, ◌≤◌, List, length, get_or, drop, map, None, refl, arith}
 use Rattle.std.specs.List.{All}
 use Rattle.acpi_base.specs.Entries.{cut_of}
-use Rattle.acpi_base.specs.Header.{HeadValue, header_of}
+use Rattle.acpi_base.specs.Header.{header_of}
 use Rattle.acpi_base.specs.Pptt as pptt
 use Rattle.acpi_base.specs.Pptt.{pptt_entry, pptt_contents, HasOtherPpttLength}
 use Rattle.acpi_base.specs.declared.stage.Stage.TheVariants as stage
@@ -13,7 +13,7 @@ use Rattle.acpi_read.specs.declared.pptt.PpttEntry.{PpttEntry}
 use Rattle.acpi_read.specs.declared.pptt.PpttEntry.TheVariants as entry
 use Rattle.acpi_write.specs.Bodies.{value_in, body_bytes, SpellsBody}
 use Rattle.acpi_write.specs.Spells.{DoEntriesSay}
-use Rattle.acpi_write.specs.Values.{BodyValue, Pptt}
+use Rattle.acpi_write.specs.Values.{Pptt}
 use Rattle.acpi_write.specs.Views.{IsShapedPptt}
 use Rattle.acpi_write.proofs.EntryBytes.EntryLengths.{pptt_length}
 use Rattle.acpi_write.proofs.EntryBytes.KeptEntries.{entries_are_kept}

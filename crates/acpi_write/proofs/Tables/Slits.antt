@@ -1,5 +1,5 @@
 -- What is proved of the SLIT.
-use Rattle.std.proofs.Common.{◌≡◌, ℕ, ◌+◌, ◌*◌, ◌^◌, ◌<◌, ◌≤◌, List, ◌++◌, length, drop, refl, sym, ap, ◌∙◌, arith, length-append, length-drop}
+use Rattle.std.proofs.Common.{◌≡◌, ℕ, ◌+◌, ◌*◌, ◌^◌, ◌<◌, ◌≤◌, List, length, drop, refl, sym, ap, ◌∙◌, arith, length-append, length-drop}
 use Rattle.acpi_base.specs.Number.{field, number_bytes}
 use Rattle.acpi_base.specs.Slit.{IsSoundSlit, slit_contents}
 use Rattle.acpi_base.specs.declared.stage.Stage.TheVariants as stage
@@ -7,7 +7,7 @@ use Rattle.acpi_base.specs.declared.table_kind.TableKind.TheVariants as kind
 use Rattle.acpi_base.proofs.Images.HeldBytes.{field_below}
 use Rattle.acpi_base.proofs.Layouts.RoundTrip.{length-number_bytes, number_there}
 use Rattle.acpi_write.specs.Bodies.{value_in, IsReadableSlit, body_bytes, SpellsBody}
-use Rattle.acpi_write.specs.Values.{BodyValue, Slit}
+use Rattle.acpi_write.specs.Values.{Slit}
 use Rattle.acpi_write.proofs.Tables.Facts.{IsWrittenFor, KindFacts}
 use Rattle.acpi_write.proofs.TablesWritten.EntryRuns.{behind, reaches}
 

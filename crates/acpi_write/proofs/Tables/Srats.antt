@@ -14,7 +14,7 @@ use Rattle.acpi_read.specs.declared.srat.SratEntry.{SratEntry}
 use Rattle.acpi_read.specs.declared.srat.SratEntry.TheVariants as entry
 use Rattle.acpi_write.specs.Bodies.{entries_in, value_in, body_bytes, srat_reserved, SpellsBody}
 use Rattle.acpi_write.specs.Spells.{DoEntriesSay}
-use Rattle.acpi_write.specs.Values.{BodyValue, Srat}
+use Rattle.acpi_write.specs.Values.{Srat}
 use Rattle.acpi_write.specs.Views.{IsShapedSrat}
 use Rattle.acpi_write.proofs.EntryBytes.EntryLengths.{srat_length}
 use Rattle.acpi_write.proofs.EntryBytes.KeptEntries.{entries_are_kept}

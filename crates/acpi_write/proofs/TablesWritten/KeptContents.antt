@@ -1,14 +1,14 @@
 -- A table that is read and written again has the same contents.
-use Rattle.std.proofs.Common.{◌≡◌, ℕ, ◌+◌, ◌^◌, ◌<◌, ◌≤◌, List, length, drop, Some, None, Option, sym, ap, ◌∙◌, subst, arith, length-drop}
+use Rattle.std.proofs.Common.{◌≡◌, ℕ, ◌+◌, ◌^◌, ◌<◌, ◌≤◌, List, length, Some, None, Option, sym, ap, ◌∙◌, subst, arith, length-drop}
 use Rattle.acpi_base.specs.Header.{head_of}
 use Rattle.acpi_base.specs.TableKinds.{signature_of}
 use Rattle.acpi_base.specs.declared.table_kind.TableKind.{TableKind}
 use Rattle.acpi_base.proofs.Tables.Kinds.{length-signature_of}
-use Rattle.acpi_write.specs.Bodies.{contents_of, value_in, IsFilledAs, IsReadableAs, body_with}
+use Rattle.acpi_write.specs.Bodies.{value_in, IsFilledAs, IsReadableAs, body_with}
 use Rattle.acpi_write.specs.Encoded.{encoded_bytes, encoded_bytes_with, encoded_length, table_bytes}
 use Rattle.acpi_write.specs.Laws.{AreByteValues, KeepsContents, ContentsAreKept}
 use Rattle.acpi_write.specs.SetValues.{table_value_as}
-use Rattle.acpi_write.specs.Spells.{IsTableOf, IsWholeTable}
+use Rattle.acpi_write.specs.Spells.{IsWholeTable}
 use Rattle.acpi_write.specs.Values.{kind_of}
 use Rattle.acpi_write.proofs.Tables.Kinds.{facts}
 use Rattle.acpi_write.proofs.TablesWritten.WholeTables.{whole_table, length_of_parts, fits_head, widths_of, length-table_bytes}

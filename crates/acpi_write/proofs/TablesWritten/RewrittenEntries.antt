@@ -14,7 +14,6 @@ use Rattle.acpi_base.proofs.Entries.{no_cut_fault}
 use Rattle.acpi_base.proofs.Images.HeldBytes.{cases_Option}
 use Rattle.acpi_write.specs.Bodies.{entries_in}
 use Rattle.acpi_write.specs.Laws.{AreByteValues, WrittenAgain}
-use Rattle.acpi_write.specs.Spells.{SaysEntry, DoEntriesSay}
 use Rattle.acpi_write.proofs.TablesWritten.EntryRuns.{standing, cut_stands, said_standing, joined_again, entries_each}
 
 -- ---- how many bytes entries have

@@ -8,7 +8,7 @@ use Rattle.acpi_write.specs.Bodies.{IsReadableAs, whole_value_in}
 use Rattle.acpi_write.specs.Encoded.{encoded_bytes}
 use Rattle.acpi_write.specs.Laws.{WhatIsReadIsSpelled}
 use Rattle.acpi_write.specs.Spells.{Spells, OneValueSpelled}
-use Rattle.acpi_write.specs.Values.{Known, Other, kind_of}
+use Rattle.acpi_write.specs.Values.{Known, Other}
 use Rattle.acpi_write.specs.Views.{table_value, IsShaped, IsShort, DoPartsSay}
 use Rattle.acpi_write.specs.declared.table_value.TableValue as written
 use Rattle.acpi_write.proofs.Tables.Kinds.{facts, is_written, one_body}

@@ -1,4 +1,4 @@
-use Rattle.std.proofs.Common.{◌≡◌, ◌+◌, ℕ, length, refl, sym, ap, ◌∙◌}
+use Rattle.std.proofs.Common.{◌+◌, ℕ, length, refl, sym, ap, ◌∙◌}
 use Rattle.acpi_read.specs.Madts.{madt_value, madt_bytes}
 use Rattle.acpi_read.specs.Srats.{srat_value, srat_bytes}
 use Rattle.acpi_write.proofs.EntryBytes.EntryLists.{joined_values}

@@ -1,11 +1,8 @@
-use Rattle.std.proofs.Common.{◌≡◌, ◌+◌, true, ℕ, List, length, get_or, map, sym, ap, ◌∙◌, subst, arith}
-use Rattle.std.specs.List.{list_any}
+use Rattle.std.proofs.Common.{ℕ, List, length, get_or, ap, ◌∙◌, arith}
 use Rattle.std.specs.Prelude.{slice_index}
 use Rattle.acpi_base.specs.Memory.{with_bytes}
-use Rattle.acpi_write.specs.Placed.{is_narrow}
-use Rattle.acpi_write.specs.Rebuilt.{part_lengths, place_of_facs}
-use Rattle.acpi_write.specs.SetWriting.{EndsBelow, IsPart}
-use Rattle.acpi_write.specs.Views.{set_value, table_value}
+use Rattle.acpi_write.specs.Rebuilt.{place_of_facs}
+use Rattle.acpi_write.specs.Views.{set_value}
 use Rattle.acpi_write.proofs.SetParts.PartsInOrder.{place_count, part_count, first_place, none_so_far, next_part, all_put, narrow_there}
 use Rattle.acpi_write.proofs.set_writing.written_set.Goals as goal
 

@@ -1,4 +1,3 @@
-use Rattle.std.proofs.Common.{◌∙◌, ap, sym}
 use Rattle.acpi_base.specs.Entries.{entries_read_by}
 use Rattle.acpi_write.proofs.EntryBytes.EntryReading.{list_begins, list_more, list_ends}
 use Rattle.acpi_write.proofs.table_reading.entry_list.Goals as goal

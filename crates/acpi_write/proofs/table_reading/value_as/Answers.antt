@@ -1,4 +1,4 @@
-use Rattle.std.proofs.Common.{◌≡◌, ℕ, List, Option, Some, None, ap, subst}
+use Rattle.std.proofs.Common.{Option, Some, None, ap, subst}
 use Rattle.std.proofs.lemmas.Result.{IfOk-weaker}
 use Rattle.acpi_base.specs.declared.table_kind.TableKind.{TableKind}
 use Rattle.acpi_write.specs.Bodies.{IsReadableAs}
