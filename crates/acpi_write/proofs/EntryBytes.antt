@@ -5,4 +5,3 @@ pub mod EntryLists
 pub mod EntryReading
 pub mod KeptEntries
 pub mod NodeBytes
-pub mod PpttBytes

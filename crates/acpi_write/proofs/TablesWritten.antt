@@ -6,5 +6,4 @@ pub mod RewrittenEntries
 pub mod RsdpBytes
 pub mod Spelled
 pub mod Sums
-pub mod TableBytes
 pub mod WholeTables

@@ -132,7 +132,7 @@ fn pptt_body(alloc: Global, entries: &[PpttEntry<'_>]) -> Result<Vec<u8>, AllocE
 }
 
 /// The bytes of a table: its header, with the checksum that makes the sum 0, and its body.
-#[tactic(auto, using(crate::proofs::TablesWritten::TableBytes::encoded_bytes))]
+#[tactic(auto, using(crate::proofs::TablesWritten::Sums::encoded_bytes))]
 pub(crate) fn with_header(
     alloc: Global,
     signature: [u8; 4],

@@ -237,7 +237,7 @@ impl<'a> EntryBytes for PpttEntry<'a> {
         }
     }
 
-    #[tactic(auto, using(crate::proofs::EntryBytes::PpttBytes::pptt_says))]
+    #[tactic(auto, using(crate::proofs::EntryBytes::NodeBytes::pptt_says))]
     fn append(&self, bytes: &mut Vec<u8>) -> Result<(), AllocError> {
         match self {
             PpttEntry::Node(head, references) => append_node(bytes, head, references),

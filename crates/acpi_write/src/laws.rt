@@ -20,8 +20,8 @@ pub fn one_set_value()
     ensures { OneSetValue }
 {}
 
-/// The value that is read of a table is the one that its bytes say: of a MADT, an SRAT and a PPTT where entries fill it
-/// that have lengths of their types, of a SLIT where it has its cells, of a FADT of at least 116 bytes, of any other.
+/// The value that is read of a table is the one that its bytes say: of a table of each `TableKind` where the bytes can be
+/// read as those of one, and of any other.
 #[tactic(auto, using(crate::proofs::TablesWritten::Spelled::what_is_read))]
 pub fn what_is_read()
     ensures { WhatIsReadIsSpelled }

@@ -172,8 +172,7 @@ fn value_as<'a>(
     }
 }
 
-/// What tables say, in their order: the first FADT, MADT, SRAT, SLIT and PPTT by their contents, all others by their
-/// bytes.
+/// What tables say, in their order: the first of each kind by its contents, all others by their bytes.
 pub(crate) fn table_values<'a>(
     alloc: Global,
     tables: &[Listed<'a>],

@@ -31,8 +31,8 @@ references_length : (rs : List ℕ) → length (flat_map (λ r. number_bytes 4 r
 references_length [] = refl
 references_length (r ∷ rs) = omega (arith, length-append (number_bytes 4 r) (flat_map (λ r. number_bytes 4 r) rs), length-number_bytes 4 r, references_length rs)
 
-node_length : (v : pptt.NodeValue) → length (pptt_bytes (pptt.Node v)) ≡ 20 + 4 * length v.resources
-node_length v =
+pub length-node : (v : pptt.NodeValue) → length (pptt_bytes (pptt.Node v)) ≡ 20 + 4 * length v.resources
+length-node v =
     let rest = references_length v.resources in
     simp (length-append, length-number_bytes, rest) (omega arith)
 
@@ -62,7 +62,7 @@ pptt_length e =
     elim (cases_Bool (pptt.has_node_form e)) [
       | inl is ↦
           let count = length-map-range_with_len (λ j. field e (20 + 4 * j) 4) 0 (pptt.resource_count e) in
-          let whole = node_length (pptt.node_of e) in
+          let whole = length-node (pptt.node_of e) in
           let size = node_size e is in
           rw is (omega (arith, whole, count, size))
       | inr a ↦ rw a (elim (cases_Bool (pptt.has_cache_form e)) [

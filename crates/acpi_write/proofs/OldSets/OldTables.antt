@@ -1,7 +1,8 @@
 -- What the tables, the root, the RSDP and the FACS of a clean set are.
-use Rattle.std.proofs.Common.{◌≡◌, ℕ, zero, suc, ◌^◌, ◌<◌, ◌≤◌, true, List, [], ◌∷◌, length, take, drop, get_or, refl, sym, ap, ◌∙◌, subst, arith, length-drop}
-use Rattle.std.specs.List.{AllByRecursion, AllZip}
+use Rattle.std.proofs.Common.{◌≡◌, ℕ, zero, suc, ◌^◌, ◌<◌, ◌≤◌, true, List, [], ◌∷◌, length, take, drop, get_or, refl, sym, ap, ◌∙◌, subst, arith, length-drop, Option, Some, None}
+use Rattle.std.specs.List.{AllByRecursion, AllZip, All}
 use Rattle.std.proofs.lemmas.List.{length-take-le}
+use Rattle.std.proofs.lemmas.List.Elements.{All-cons, All-nil}
 use Rattle.acpi_base.specs.Memory.{Memory, IsImage, byte_of}
 use Rattle.acpi_base.specs.Fadt.{IsSoundFadtTable}
 use Rattle.acpi_base.specs.Facs.{IsFacs, facs_signature, facs_length}
@@ -20,8 +21,9 @@ use Rattle.acpi_base.proofs.Tables.Whole.{length-table}
 use Rattle.acpi_write.specs.Encoded.{FitsHead}
 use Rattle.acpi_write.specs.Laws.{AreByteValues}
 use Rattle.acpi_write.specs.Kinds.{AreReadable}
-use Rattle.acpi_write.specs.SetValues.{IsWholeAt, IsSetValue}
+use Rattle.acpi_write.specs.SetValues.{IsWholeAt, IsSetValue, IsFacsOf}
 use Rattle.acpi_write.specs.Values.{SetValue}
+use Rattle.acpi_write.specs.Rebuilt.{option_list}
 use Rattle.acpi_write.proofs.OldSets.CleanSets.{clean_readable}
 use Rattle.acpi_write.proofs.OldSets.FirstListed.{AreListed, listed_first}
 use Rattle.acpi_write.proofs.OldSets.FirstTables.{AreCleanTables}
@@ -114,3 +116,16 @@ facs_bytes m f bytes is =
       size = says_length m f 8 is.prefix bytes (omega arith) (omega (arith, is.least)) is.prefix_held is.held;
       least = omega (arith, count, is.least);
     }
+
+-- a FACS has bytes, since it has at least 64
+facs_of : (m : Memory) (fadt : List ℕ) (facs : Option (List ℕ)) → IsFacsOf m fadt facs → All (λ bytes. 0 < length bytes) (option_list facs)
+facs_of m fadt None is = All-nil (λ (bytes : List ℕ). 0 < length bytes)
+facs_of m fadt (Some bytes) is =
+    let count = length-bytes_at m _ _ bytes is.1.held in
+    let least = is.1.least in
+    All-cons (λ (b : List ℕ). 0 < length b) bytes [] (omega (arith, count, least)) (All-nil (λ (b : List ℕ). 0 < length b))
+
+pub facs_some : (m : Memory) (q : PolicyValue) (v : SetValue) → IsClean m q → IsSetValue m q.rsdp v → All (λ bytes. 0 < length bytes) (option_list v.facs)
+facs_some m q v clean said =
+    let fadt = clean stage.Fadt in
+    facs_of m fadt.whole v.facs (said.facs fadt.whole fadt.fadt)

@@ -2,17 +2,22 @@
 use Rattle.std.proofs.Common.{◌≡◌, ℕ, zero, suc, ◌+◌, ◌*◌, ◌^◌, ◌<◌, ◌≤◌, List, [], ◌∷◌, ◌++◌, length, get_or, drop, map, flat_map, Bool, true, Option, Some, None, refl, sym, ap, ◌∙◌, subst, inr, arith, length-append}
 use Rattle.std.specs.List.{list_any}
 use Rattle.std.specs.Option.{option_map}
-use Rattle.std.specs.Prelude.{◌||◌}
+use Rattle.std.specs.Prelude.{◌||◌, Result, Ok, Err, IfOk}
 use Rattle.std.specs.FinMap.{empty, get-empty}
 use Rattle.std.specs.Ordering.{nat_cmp}
 use Rattle.std.proofs.lemmas.List.{length-map, drop_more, drop_all}
 use Rattle.std.proofs.lemmas.List.Folds.{list_any_at}
+use Rattle.std.proofs.lemmas.Bool.{le-ltb}
 use Rattle.acpi_base.specs.Header.{HeadValue}
-use Rattle.acpi_base.specs.Memory.{Memory, with_bytes}
+use Rattle.acpi_base.specs.Memory.{Memory, with_bytes, byte_of, first_held}
 use Rattle.acpi_base.specs.Number.{number_bytes}
 use Rattle.acpi_base.specs.Signature.{xsdt_signature}
 use Rattle.acpi_base.proofs.Images.RunBytes.{byte_of-with_bytes_outside}
-use Rattle.acpi_write.specs.Encoded.{FitsHead, encoded_bytes_with, encoded_length, table_bytes}
+use Rattle.acpi_base.specs.Image.Adding.{add_refusal}
+use Rattle.acpi_base.specs.Listed.{fadt_signature}
+use Rattle.acpi_base.specs.declared.image.ImageFault.TheVariants.{Twice}
+use Rattle.acpi_base.proofs.Images.ByteRuns.{first_of_none}
+use Rattle.acpi_write.specs.Encoded.{FitsHead, encoded_bytes_with, encoded_length, table_bytes, encoded_bytes}
 use Rattle.acpi_write.specs.Placed.{block_ends, DoEndInside, IsPlaced, is_narrow}
 use Rattle.acpi_write.specs.Rebuilt.{aligned_address, blocks_from, block_places, facs_place, option_list, part_bytes, part_lengths, part_places, place_of_facs, rsdp_tail, with_blocks, rebuilt_image}
 use Rattle.acpi_write.specs.SetWriting.{EndsBelow, parts_at, IsPart}
@@ -20,10 +25,40 @@ use Rattle.acpi_write.specs.Values as value
 use Rattle.acpi_write.specs.Views.{set_value, table_value}
 use Rattle.acpi_write.specs.declared.set_value.SetValue.{SetValue}
 use Rattle.acpi_write.specs.declared.table_value.TableValue.{TableValue}
+use Rattle.acpi_write.specs.FadtBody.{with_facs}
+use Rattle.acpi_write.specs.declared.table_value.TableValue as written
+use Rattle.acpi_write.specs.declared.table_value.TableValue.TheVariants as table
 use Rattle.acpi_write.proofs.NewSets.NewImage.{length-block_places}
 use Rattle.acpi_write.proofs.NewSets.NewRoot.{length-slots}
 use Rattle.acpi_write.proofs.NewSets.RebuiltParts.{aligned_from}
 use Rattle.acpi_write.proofs.TablesWritten.WholeTables.{whole_table, length_of_parts}
+use Rattle.acpi_write.proofs.TablesWritten.FadtBodies.{length-with_facs}
+
+-- ---- tables
+
+pub IfOk-both : {T E : Type 0} (r : Result T E) (P Q : T → Type 0) → IfOk r P → IfOk r Q → IfOk r (λ x. P x × Q x)
+IfOk-both (Ok x) P Q p q = (p, q)
+IfOk-both (Err e) P Q p q = tt
+
+-- a FADT with the FACS's address
+pub fadt_count : (head : HeadValue) (body : List ℕ) (facs : ℕ) → 80 ≤ length body → 36 + length body < 2 ^ 32 → FitsHead head → length (table_bytes fadt_signature head (with_facs body facs)) ≡ 36 + length body
+fadt_count head body facs long short fits =
+    let same = length-with_facs body facs (omega (arith, long)) in
+    let is = whole_table fadt_signature head (with_facs body facs) refl fits (omega (arith, same, short)) in
+    length_of_parts (table_bytes fadt_signature head (with_facs body facs)) (with_facs body facs) is.0.least is.1 ∙ ap (λ (n : ℕ). 36 + n) same
+
+-- a table that is no FADT is written as it is
+pub encoded_without : (facs : ℕ) (t : written.TableValue) → ((head : _) (body : _) → t ≡ table.Fadt head body → ⊥) → encoded_bytes_with facs (table_value t) ≡ encoded_bytes (table_value t)
+encoded_without facs (table.Fadt head body) not = absurd (not head body refl)
+encoded_without facs _ not = refl
+
+-- ---- room behind all that the image holds
+
+-- bytes that are put there meet nothing
+pub never_refused : (m : Memory) (a : ℕ) (bytes : List ℕ) → EndsBelow m a → a + length bytes ≤ 2 ^ 64 → add_refusal m a bytes ≡ None
+never_refused m a bytes below fits =
+    let nothing : first_held m a (length bytes) ≡ None = first_of_none (byte_of m) a (length bytes) (λ k h. below (a + k) (omega arith)) in
+    rw (le-ltb (2 ^ 64) (a + length bytes) fits) (ap (option_map (λ x. Twice x)) nothing)
 
 -- ---- how many bytes the first parts have
 

@@ -5,7 +5,7 @@ use Rattle.acpi_write.specs.Encoded.{table_bytes}
 use Rattle.acpi_write.specs.FadtBody.{with_facs}
 use Rattle.acpi_write.specs.Views.{head_value}
 use Rattle.acpi_write.proofs.TablesWritten.FadtBodies.{length-with_facs}
-use Rattle.acpi_write.proofs.SetParts.WrittenParts.{IfOk-both, fadt_count, encoded_without}
+use Rattle.acpi_write.proofs.SetParts.PartsInOrder.{IfOk-both, fadt_count, encoded_without}
 use Rattle.acpi_write.proofs.Tables.Kinds.{is_written}
 use Rattle.acpi_write.proofs.set_writing.bytes_with.Goals as goal
 

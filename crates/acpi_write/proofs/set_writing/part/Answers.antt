@@ -1,8 +1,7 @@
 use Rattle.std.proofs.Common.{◌≡◌, ◌-◌, ◌<◌, suc, length, get_or, Some, None, ap, arith}
 use Rattle.std.proofs.lemmas.Result.{IfOk-weaker}
 use Rattle.std.specs.Option.{option_map}
-use Rattle.acpi_write.proofs.SetParts.PartsInOrder.{behind_roots, table_alone, table_behind, table_count}
-use Rattle.acpi_write.proofs.SetParts.WrittenParts.{IfOk-both}
+use Rattle.acpi_write.proofs.SetParts.PartsInOrder.{behind_roots, table_alone, table_behind, table_count, IfOk-both}
 use Rattle.acpi_write.proofs.set_writing.part.Goals as goal
 
 pub returns-in_default : goal.returns-in_default

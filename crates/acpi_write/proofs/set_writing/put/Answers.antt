@@ -1,7 +1,7 @@
 use Rattle.std.proofs.Common.{◌≡◌}
 use Rattle.std.proofs.lemmas.Result.{IfErr-at_err}
 use Rattle.acpi_base.specs.declared.image.ImageFault.TheVariants as fault
-use Rattle.acpi_write.proofs.SetParts.WrittenParts.{never_refused}
+use Rattle.acpi_write.proofs.SetParts.PartsInOrder.{never_refused}
 use Rattle.acpi_write.proofs.set_writing.put.Goals.{in-Memory, in_default-matches}
 use Rattle.acpi_write.proofs.set_writing.put.Goals as goal
 
