@@ -31,8 +31,8 @@ ContentsOf kind.Srat = SratContents
 ContentsOf kind.Slit = SlitContents
 ContentsOf kind.Pptt = PpttContents
 
--- what the bytes say as those of the kind; a FADT's with 0 for its FACS addresses, FIRMWARE_CTRL and X_FIRMWARE_CTRL, as
--- the FACS may stand elsewhere (5.2.9)
+-- what the bytes say as those of the kind; a FADT's with 0 for its FACS addresses, FIRMWARE_CTRL and X_FIRMWARE_CTRL,
+-- as the FACS may stand elsewhere (5.2.9)
 abbrev pub contents_of : (kind : TableKind) → List ℕ → ContentsOf kind
 contents_of kind.Fadt whole = with_facs (drop 36 whole) 0
 contents_of kind.Madt whole = madt_contents whole
@@ -93,7 +93,8 @@ srat_reserved = number_bytes 4 1 ++ replicate 8 0
 
 -- the bytes behind the header
 abbrev pub body_bytes : BodyValue → List ℕ
-body_bytes (Madt address flags entries) = number_bytes 4 address ++ (number_bytes 4 flags ++ flat_map madts.madt_bytes entries)
+body_bytes (Madt address flags entries) =
+    number_bytes 4 address ++ (number_bytes 4 flags ++ flat_map madts.madt_bytes entries)
 body_bytes (Srat entries) = srat_reserved ++ flat_map srats.srat_bytes entries
 body_bytes (Slit count cells) = number_bytes 8 count ++ cells
 body_bytes (Pptt entries) = flat_map pptts.pptt_bytes entries
@@ -108,19 +109,24 @@ body_with facs v = body_bytes v
 
 -- a table's bytes reach its first entry's place, and from there on are cut into entries that say these values, in their
 -- order, each of which has a length of its type where the table gives this type a meaning
-pub record SpellEntries {E : Type 0} (read : List ℕ → E) (IsOfOwnLength : E → Type 0) (first : ℕ) (bytes : List ℕ) (entries : List E) : Type 0 where
+pub record SpellEntries {E : Type 0} (read : List ℕ → E) (IsOfOwnLength : E → Type 0) (first : ℕ) (bytes : List ℕ)
+    (entries : List E) : Type 0 where
   pub long : first ≤ length bytes
   pub es : List (List ℕ)
   pub cut : IsCut (drop first bytes) es
   pub say : map read es ≡ entries
   pub lengths : All IsOfOwnLength entries
 
--- The bytes behind the header say the value: of a MADT, an SRAT and a PPTT by their entries (5.2.12, 5.2.16, 5.2.30), of a
--- SLIT by a cell for each pair of localities (5.2.17), and of a FADT by what stands behind its header, which is at least
--- 80 bytes (5.2.9). Reserved bytes may be any.
+-- The bytes behind the header say the value: of a MADT, an SRAT and a PPTT by their entries (5.2.12, 5.2.16, 5.2.30), of
+-- a SLIT by a cell for each pair of localities (5.2.17), and of a FADT by what stands behind its header, which is at
+-- least 80 bytes (5.2.9). Reserved bytes may be any.
 abbrev pub SpellsBody : BodyValue → List ℕ → Type 0
-SpellsBody (Madt address flags entries) bytes = (field bytes 36 4 ≡ address) × (field bytes 40 4 ≡ flags) × SpellEntries madt_entry madts.IsOfOwnLength 44 bytes entries
+SpellsBody (Madt address flags entries) bytes =
+    (field bytes 36 4 ≡ address)
+    × (field bytes 40 4 ≡ flags)
+    × SpellEntries madt_entry madts.IsOfOwnLength 44 bytes entries
 SpellsBody (Srat entries) bytes = SpellEntries srat_entry srats.IsOfOwnLength 48 bytes entries
-SpellsBody (Slit count cells) bytes = (length bytes ≡ 44 + count * count) × (field bytes 36 8 ≡ count) × (drop 44 bytes ≡ cells)
+SpellsBody (Slit count cells) bytes =
+    (length bytes ≡ 44 + count * count) × (field bytes 36 8 ≡ count) × (drop 44 bytes ≡ cells)
 SpellsBody (Pptt entries) bytes = SpellEntries pptt_entry (λ e. ¬ HasOtherPpttLength e) 36 bytes entries
 SpellsBody (Fadt body) bytes = (116 ≤ length bytes) × (drop 36 bytes ≡ body)

@@ -24,7 +24,8 @@ use Rattle.acpi_write.specs.Values.{Known, Other}
 -- a table's bytes say the value that is read of them, where they can be read as those of its kind; a FADT's say what
 -- stands behind its header, FACS addresses and all
 pub record IsSpelled (whole : List ℕ) : Type 0 where
-  pub known : (kind : TableKind) → has_signature whole (signature_of kind) ≡ true → IsReadableAs (Some kind) whole → Spells (Known (head_of whole) (whole_value_in kind whole)) whole
+  pub known : (kind : TableKind) → has_signature whole (signature_of kind) ≡ true → IsReadableAs (Some kind) whole
+      → Spells (Known (head_of whole) (whole_value_in kind whole)) whole
   pub other : Spells (Other whole) whole
 
 -- of whole tables
@@ -51,11 +52,12 @@ pub record KeepsContents (kind : TableKind) (whole new : List ℕ) : Type 0 wher
   pub table : IsTableOf (signature_of kind) (head_of whole) new
   pub contents : contents_of kind new ≡ contents_of kind whole
 
--- so are those that are written for what a whole table says as one of the kind, where it is long enough and entries fill it
--- if the kind has such
+-- so are those that are written for what a whole table says as one of the kind, where it is long enough and entries fill
+-- it if the kind has such
 abbrev pub ContentsAreKept : Type 0
 ContentsAreKept =
-    (kind : TableKind) (whole : List ℕ) → IsWholeTable whole → AreByteValues whole → length whole < 2 ^ 32 → IsFilledAs kind whole
+    (kind : TableKind) (whole : List ℕ) → IsWholeTable whole → AreByteValues whole → length whole < 2 ^ 32
+    → IsFilledAs kind whole
     → KeepsContents kind whole (encoded_bytes (table_value_as (Some kind) whole))
 
 -- The FADT with another FACS address, in X_FIRMWARE_CTRL, at 132, where it has at least 140 bytes, and else in

@@ -1,11 +1,14 @@
 -- Parts of a set, put one after another into an image.
-use Rattle.std.specs.Prelude.{◌≡◌, ℕ, ◌+◌, ◌≤◌, List, [], ◌∷◌, ◌++◌, length, drop, map, flat_map, slice_index, slice_index_or, None}
+use Rattle.std.specs.Prelude.{◌≡◌, ℕ, ◌+◌, ◌^◌, ◌<◌, ◌≤◌, true, List, [], ◌∷◌, ◌++◌, length, drop, map, flat_map, slice_index, slice_index_or, None}
 use Rattle.acpi_base.specs.Memory.{Memory, byte_of}
 use Rattle.acpi_base.specs.Number.{number_bytes}
 use Rattle.acpi_base.specs.Signature.{xsdt_signature}
 use Rattle.acpi_write.specs.Encoded.{encoded_bytes_with, table_bytes}
 use Rattle.acpi_write.specs.Rebuilt.{option_list, part_lengths, place_of_facs, rsdp_bytes}
+use Rattle.acpi_write.specs.Placed.{is_narrow}
 use Rattle.acpi_write.specs.Values.{SetValue}
+use Rattle.acpi_write.specs.Views.{table_value}
+use Rattle.acpi_write.specs.declared.table_value.TableValue.{TableValue}
 
 -- the image holds nothing from an address on
 abbrev pub EndsBelow : Memory → ℕ → Type 0
@@ -14,6 +17,10 @@ EndsBelow m a = (x : ℕ) → a ≤ x → byte_of m x ≡ None
 -- the FACS's address, which the FADT names, where the parts stand at these places
 abbrev pub facs_among : SetValue → List ℕ → ℕ
 facs_among v places = place_of_facs v.facs (slice_index places 2)
+
+-- the table has room for it, where it is a FADT (5.2.9)
+abbrev pub FitsFacs : ℕ → TableValue → Type 0
+FitsFacs facs t = is_narrow (table_value t) ≡ true → facs < 2 ^ 32
 
 -- the bytes of parts that stand at these places, in their order
 abbrev pub parts_at : SetValue → List ℕ → List (List ℕ)

@@ -23,9 +23,9 @@ kind_of (Slit _ _) = kind.Slit
 kind_of (Pptt _) = kind.Pptt
 kind_of (Fadt _) = kind.Fadt
 
--- what a table says
+-- what a table says; where it is known, what its header says beside its signature, length and checksum (5.2.6)
 pub data TableValue : Type 0 where
-  Known : HeadValue → BodyValue → TableValue  -- what its header says beside its signature, length and checksum (5.2.6), and what stands behind it
+  Known : HeadValue → BodyValue → TableValue  -- of the header, and of what stands behind it
   Other : List ℕ → TableValue  -- all bytes of any other table, also of a later one with such a signature
 
 -- what a set says: the RSDP's OEMID, the root's head, the listed tables in the order of their slots, and the FACS's

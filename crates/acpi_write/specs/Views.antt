@@ -49,7 +49,8 @@ head_value h =
 
 -- what a value of the program says
 abbrev pub table_value : TableValue → value.TableValue
-table_value (table.Madt head address flags entries) = value.Known (head_value head) (value.Madt address flags (map madt_value entries.items))
+table_value (table.Madt head address flags entries) =
+    value.Known (head_value head) (value.Madt address flags (map madt_value entries.items))
 table_value (table.Srat head entries) = value.Known (head_value head) (value.Srat (map srat_value entries.items))
 table_value (table.Slit head count cells) = value.Known (head_value head) (value.Slit count cells.now)
 table_value (table.Pptt head entries) = value.Known (head_value head) (value.Pptt (map pptt_value entries.items))

@@ -20,8 +20,8 @@ pub fn one_set_value()
     ensures { OneSetValue }
 {}
 
-/// The value that is read of a table is the one that its bytes say: of a table of each `TableKind` where the bytes can be
-/// read as those of one, and of any other.
+/// The value that is read of a table is the one that its bytes say: of a table of each `TableKind` where the
+/// bytes can be read as those of one, and of any other.
 #[tactic(auto, using(crate::proofs::TablesWritten::Spelled::what_is_read))]
 pub fn what_is_read()
     ensures { WhatIsReadIsSpelled }

@@ -4,9 +4,9 @@ ghost use Rattle.std.specs.Prelude.{◌≡◌, ◌+◌, ◌^◌, ◌<◌, ◌≤
 ghost use Rattle.std.specs.List.{All};
 ghost use Rattle.acpi_base.specs.Memory.{with_bytes};
 ghost use Rattle.acpi_write.specs.Encoded.{encoded_bytes_with, encoded_length};
-ghost use Rattle.acpi_write.specs.Placed.{IsPlaced, is_narrow};
+ghost use Rattle.acpi_write.specs.Placed.{IsPlaced};
 ghost use Rattle.acpi_write.specs.Rebuilt.{part_lengths, part_places, rebuilt_image, xsdt_length};
-ghost use Rattle.acpi_write.specs.SetWriting.{EndsBelow, IsPart, facs_among};
+ghost use Rattle.acpi_write.specs.SetWriting.{EndsBelow, FitsFacs, IsPart, facs_among};
 ghost use Rattle.acpi_write.specs.Views.{set_value, table_value, IsShaped, IsShort};
 
 use crate::encode::{bytes_of, with_header};
@@ -22,7 +22,7 @@ use std::alloc::{AllocError, Global};
 fn bytes_with(alloc: Global, table: &TableValue<'_>, facs: u64) -> Result<Vec<u8>, AllocError>
     requires shaped { IsShaped table.now }
     requires short { IsShort table.now }
-    requires low { is_narrow (table_value table.now) ≡ true → facs < 2 ^ 32 }
+    requires low { FitsFacs facs table.now }
     ensures bytes { IfOk result (λ bytes. bytes.items ≡ encoded_bytes_with facs (table_value table.now)) }
     ensures count { IfOk result (λ bytes. length bytes.items ≡ encoded_length (table_value table.now)) }
 {
@@ -49,7 +49,8 @@ fn put(image: &mut Image, place: u64, bytes: &[u8]) -> Result<(), AllocError>
     Ok(())
 }
 
-/// The bytes of the k-th part of a set: of the RSDP, of the XSDT, of the FACS where there is one, or of a table.
+/// The bytes of the k-th part of a set: of the RSDP, of the XSDT, of the FACS where there is one, or
+/// of a table.
 fn part(
     alloc: Global,
     value: &SetValue<'_>,
@@ -59,7 +60,7 @@ fn part(
     requires shaped { All IsShaped value.now.tables.items }
     requires short { All IsShort value.now.tables.items }
     requires size { xsdt_length (set_value value.now) < 2 ^ 32 }
-    requires low { All (λ t. is_narrow (table_value t) ≡ true → facs_among (set_value value.now) places.now < 2 ^ 32) value.now.tables.items }
+    requires low { All (FitsFacs (facs_among (set_value value.now) places.now)) value.now.tables.items }
     requires places { length places.now ≡ length (part_lengths (set_value value.now)) }
     requires index { k < length places.now }
     ensures { IfOk result (λ bytes. IsPart (set_value value.now) places.now k bytes.items) }

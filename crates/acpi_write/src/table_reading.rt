@@ -9,7 +9,7 @@ ghost use Rattle.acpi_base.specs.Number.{byte_sum};
 ghost use Rattle.acpi_base.specs.declared.table_kind.TableKind.{TableKind};
 ghost use Rattle.acpi_check.specs.HandedOn.{IsListedSet};
 ghost use Rattle.acpi_read.specs.Headers.{header_value};
-ghost use Rattle.acpi_write.specs.Bodies.{entries_in, IsReadableAs, IsReadableSlit};
+ghost use Rattle.acpi_write.specs.Bodies.{entries_in, IsReadableAs};
 ghost use Rattle.acpi_write.specs.Kinds.{AreReadable, table_of};
 ghost use Rattle.acpi_write.specs.SetValues.{table_value_as, values_of, IsWholeAt};
 ghost use Rattle.acpi_write.specs.Views.{head_value, table_value, IsShaped, IsShort};
@@ -111,19 +111,6 @@ fn read_srat<'a>(alloc: Global, srat: &Srat<'a>) -> Result<TableValue<'a>, Alloc
     Ok(TableValue::Srat { head, entries })
 }
 
-/// What a SLIT says.
-fn read_slit<'a>(table: &Table<'a>) -> TableValue<'a>
-    requires { IsReadableSlit table.now }
-    ensures value { table_value result ≡ table_value_as (Some TableKind.Slit) table.now }
-    ensures shaped { IsShaped result }
-{
-    let head = head_in(table.header());
-    let bytes = table.bytes();
-    let count = u64_at(bytes, Slit::COUNT);
-    let cells = &bytes[Slit::CELLS..];
-    TableValue::Slit { head, count, cells }
-}
-
 /// What a PPTT says.
 fn read_pptt<'a>(alloc: Global, pptt: &Pptt<'a>) -> Result<TableValue<'a>, AllocError>
     ensures value { IfOk result (λ value. table_value value ≡ table_value_as (Some TableKind.Pptt) pptt.now) }
@@ -148,7 +135,13 @@ fn known_value<'a>(
         TableKind::Fadt => read_fadt(alloc, table),
         TableKind::Madt => read_madt(alloc, &Madt::of(table.copied())),
         TableKind::Srat => read_srat(alloc, &Srat::of(table.copied())),
-        TableKind::Slit => Ok(read_slit(table)),
+        TableKind::Slit => {
+            let head = head_in(table.header());
+            let bytes = table.bytes();
+            let count = u64_at(bytes, Slit::COUNT);
+            let cells = &bytes[Slit::CELLS..];
+            Ok(TableValue::Slit { head, count, cells })
+        }
         TableKind::Pptt => read_pptt(alloc, &Pptt::of(table.copied())),
     }
 }
