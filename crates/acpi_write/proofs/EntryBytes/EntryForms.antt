@@ -13,7 +13,8 @@ pub is_entry : {V : Type 0} (k : Kind V) → 2 ≤ k.size → (e : List ℕ) (v 
 is_entry k some e v is = record { least = subst (λ (n : ℕ). 2 ≤ n) (sym is.count) some; said = is.said ∙ sym is.count }
 
 -- one of none of the types is opaque
-none_reads : {E : Type 0} (kinds : List (Kind E)) (opaque : List ℕ → E) (e : List ℕ) → ¬ IsTypeOf kinds (slice_index e 0) → value_of_kind kinds opaque e ≡ opaque e
+none_reads : {E : Type 0} (kinds : List (Kind E)) (opaque : List ℕ → E) (e : List ℕ)
+    → ¬ IsTypeOf kinds (slice_index e 0) → value_of_kind kinds opaque e ≡ opaque e
 unfolding has_form
 none_reads [] opaque e other = refl
 none_reads (k ∷ kinds) opaque e other =
@@ -21,11 +22,13 @@ none_reads (k ∷ kinds) opaque e other =
     let differs : ¬ (slice_index e 0 ≡ k.type) = λ is. other (inl is) in
     grind (arith, nat_tests)
 
-pub madt_kept : (e : List ℕ) → IsEntry e → ¬ IsTypeOf madt.madt_kinds (slice_index e 0) → madt.madt_entry e ≡ madt.Opaque e
+pub madt_kept : (e : List ℕ) → IsEntry e → ¬ IsTypeOf madt.madt_kinds (slice_index e 0)
+    → madt.madt_entry e ≡ madt.Opaque e
 unfolding madt.madt_entry
 madt_kept e is other = none_reads madt.madt_kinds madt.Opaque e other
 
-pub srat_kept : (e : List ℕ) → IsEntry e → ¬ IsTypeOf srat.srat_kinds (slice_index e 0) → srat.srat_entry e ≡ srat.Opaque e
+pub srat_kept : (e : List ℕ) → IsEntry e → ¬ IsTypeOf srat.srat_kinds (slice_index e 0)
+    → srat.srat_entry e ≡ srat.Opaque e
 unfolding srat.srat_entry
 srat_kept e is other = none_reads srat.srat_kinds srat.Opaque e other
 

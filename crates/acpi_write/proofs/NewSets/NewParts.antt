@@ -24,7 +24,8 @@ zip_behind R [] (y ∷ ys) back zip = absurd zip
 zip_behind R (x ∷ xs) (y ∷ ys) back zip = zip_behind R xs ys back zip.1
 
 -- each part stands at its place
-pub parts_stand : (v : SetValue) (base : ℕ) → map length (part_bytes v base) ≡ part_lengths v → AllZip (Holds (rebuilt_image v base)) (part_places v base) (part_bytes v base)
+pub parts_stand : (v : SetValue) (base : ℕ) → map length (part_bytes v base) ≡ part_lengths v
+    → AllZip (Holds (rebuilt_image v base)) (part_places v base) (part_bytes v base)
 parts_stand v base lengths =
     subst (λ (ns : List ℕ). AllZip (Holds (rebuilt_image v base)) (block_places base ns) (part_bytes v base)) lengths (laid_stand (rebuilt_image v base) base (part_bytes v base) (parts_are_held v base))
 

@@ -91,7 +91,8 @@ AreFirsts facs signature (Some old) (Some new) = (passed : List (List ℕ)) × I
 AreFirsts facs signature None None = Unit {0}
 AreFirsts facs signature _ _ = ⊥
 
-firsts_behind : (facs : ℕ) (before ts : List (List ℕ)) (signature : List ℕ) → length signature ≡ 4 → is_among before signature ≡ false → AreCleanBehind before ts
+firsts_behind : (facs : ℕ) (before ts : List (List ℕ)) (signature : List ℕ) → length signature ≡ 4
+    → is_among before signature ≡ false → AreCleanBehind before ts
     → AreFirsts facs signature (first_table_with signature ts) (first_table_with signature (new_behind facs before ts))
 unfolding first_table_with values_behind AreFirsts
 firsts_behind facs before [] signature four none clean = tt
@@ -102,11 +103,13 @@ firsts_behind facs before (t ∷ ts) signature four none clean =
       | inr other ↦ rw (same, other) (firsts_behind facs (before ++ t ∷ []) ts signature four (none_more before t signature none other) clean.1)
     ]
 
-firsts : (facs : ℕ) (ts : List (List ℕ)) (signature : List ℕ) → length signature ≡ 4 → AreCleanTables ts → AreFirsts facs signature (first_table_with signature ts) (first_table_with signature (new_tables facs ts))
+firsts : (facs : ℕ) (ts : List (List ℕ)) (signature : List ℕ) → length signature ≡ 4 → AreCleanTables ts
+    → AreFirsts facs signature (first_table_with signature ts) (first_table_with signature (new_tables facs ts))
 firsts facs ts signature four clean = firsts_behind facs [] ts signature four refl (of_clean ts clean)
 
 -- the first one of a kind has the contents of the old one
-pub contents_again : (facs : ℕ) (ts : List (List ℕ)) (kind : TableKind) (new : List ℕ) → AreCleanTables ts → first_table_with (signature_of kind) (new_tables facs ts) ≡ Some new
+pub contents_again : (facs : ℕ) (ts : List (List ℕ)) (kind : TableKind) (new : List ℕ) → AreCleanTables ts
+    → first_table_with (signature_of kind) (new_tables facs ts) ≡ Some new
     → (old : List ℕ) × (first_table_with (signature_of kind) ts ≡ Some old) × (contents_of kind new ≡ contents_of kind old)
 unfolding AreFirsts
 contents_again facs ts kind new clean is =
@@ -115,7 +118,8 @@ contents_again facs ts kind new clean is =
     signature : List ℕ
     signature = signature_of kind
 
-    from : (o : Option (List ℕ)) → first_table_with signature ts ≡ o → AreFirsts facs signature o (Some new) → (old : List ℕ) × (first_table_with signature ts ≡ Some old) × (contents_of kind new ≡ contents_of kind old)
+    from : (o : Option (List ℕ)) → first_table_with signature ts ≡ o → AreFirsts facs signature o (Some new)
+        → (old : List ℕ) × (first_table_with signature ts ≡ Some old) × (contents_of kind new ≡ contents_of kind old)
     from (Some old) named (passed, behind, first, written) = (old, named, ap (contents_of kind) written ∙ (new_kept facs passed old kind behind first).contents)
     from None named neither = absurd neither
 
@@ -126,7 +130,8 @@ unfolding AreFirsts
 fadt_again facs ts old clean is =
     to (first_table_with fadt_signature (new_tables facs ts)) (subst (λ (o : Option (List ℕ)). AreFirsts facs fadt_signature o (first_table_with fadt_signature (new_tables facs ts))) is (firsts facs ts fadt_signature refl clean))
   where
-    to : (o : Option (List ℕ)) → AreFirsts facs fadt_signature (Some old) o → o ≡ Some (table_bytes fadt_signature (head_of old) (with_facs (drop 36 old) facs))
+    to : (o : Option (List ℕ)) → AreFirsts facs fadt_signature (Some old) o
+        → o ≡ Some (table_bytes fadt_signature (head_of old) (with_facs (drop 36 old) facs))
     to (Some new) (passed, behind, first, written) = ap Some (written ∙ new_fadt facs passed old behind first)
     to None neither = absurd neither
 

@@ -29,7 +29,8 @@ abbrev pub new_of : ℕ → List (List ℕ) → List ℕ → List ℕ
 new_of facs before old = encoded_bytes_with facs (table_value_behind before old)
 
 -- it keeps the contents
-pub new_kept : (facs : ℕ) (before : List (List ℕ)) (old : List ℕ) (kind : TableKind) → IsCleanBehind before old → is_first before old (signature_of kind) ≡ true → KeepsContents kind old (new_of facs before old)
+pub new_kept : (facs : ℕ) (before : List (List ℕ)) (old : List ℕ) (kind : TableKind) → IsCleanBehind before old
+    → is_first before old (signature_of kind) ≡ true → KeepsContents kind old (new_of facs before old)
 new_kept facs before old kind is first =
     subst (λ v. KeepsContents kind old (encoded_bytes_with facs v)) (sym (says before old (Some kind) first)) (kept kind facs old is.clean ((facts kind).filled old (is.readable kind first)))
 

@@ -81,12 +81,16 @@ served_again q base c served has o g names =
 -- ---- what is asked of contents
 
 module _ {m n : Memory} {p base : ℕ} (same : AreSameListed m p n base) where
-  moved : (kind : TableKind) (P Q : ContentsOf kind → Type 0) → ((c : ContentsOf kind) → P c → Q c) → ForListed m p (signature_of kind) (λ whole. P (contents_of kind whole)) → ForListed n base (signature_of kind) (λ whole. Q (contents_of kind whole))
+  moved : (kind : TableKind) (P Q : ContentsOf kind → Type 0) → ((c : ContentsOf kind) → P c → Q c)
+      → ForListed m p (signature_of kind) (λ whole. P (contents_of kind whole))
+      → ForListed n base (signature_of kind) (λ whole. Q (contents_of kind whole))
   moved kind P Q weaker holds new is =
       let from = same kind new is in
       subst Q (sym from.2) (weaker (contents_of kind from.0) (holds from.0 from.1))
 
-  still : (kind : TableKind) (P : ContentsOf kind → Type 0) → ForListed m p (signature_of kind) (λ whole. P (contents_of kind whole)) → ForListed n base (signature_of kind) (λ whole. P (contents_of kind whole))
+  still : (kind : TableKind) (P : ContentsOf kind → Type 0)
+      → ForListed m p (signature_of kind) (λ whole. P (contents_of kind whole))
+      → ForListed n base (signature_of kind) (λ whole. P (contents_of kind whole))
   still kind P = moved kind P P (λ c holds. holds)
 
 -- every stage holds

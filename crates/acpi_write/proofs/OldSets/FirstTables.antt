@@ -26,7 +26,8 @@ first_table_with signature (t ∷ ts) = if has_signature t signature then Some t
 -- tables are whole, the first of each kind can be read by its contents, and the first FADT is sound
 pub record AreCleanTables (ts : List (List ℕ)) : Type 0 where
   pub each : AllByRecursion IsCleanTable ts
-  pub readable : (kind : TableKind) (t : List ℕ) → first_table_with (signature_of kind) ts ≡ Some t → IsReadableAs (Some kind) t
+  pub readable : (kind : TableKind) (t : List ℕ) → first_table_with (signature_of kind) ts ≡ Some t
+      → IsReadableAs (Some kind) t
   pub sound : (t : List ℕ) → first_table_with fadt_signature ts ≡ Some t → IsSoundFadtTable t
 
 -- the tables that are written for what these say, where the FACS stands at this address

@@ -38,7 +38,8 @@ unfolding FoundIn
 found_in test [] = tt
 found_in test (k ∷ ks) = by (test k) (find test ks) refl (found_in test ks)
   where
-    by : (here : Bool) (rest : Option TableKind) → test k ≡ here → FoundIn test ks rest → FoundIn test (k ∷ ks) (cond here (Some k) rest)
+    by : (here : Bool) (rest : Option TableKind) → test k ≡ here → FoundIn test ks rest
+        → FoundIn test (k ∷ ks) (cond here (Some k) rest)
     by true rest is found = is
     by false (Some other) is found = found
     by false None is found = (is, found)

@@ -80,10 +80,12 @@ part_count v =
     let behind = length-append (map length (option_list v.facs)) (map encoded_length v.tables) in
     omega (arith, behind, length-map v.tables encoded_length, length-map (option_list v.facs) length)
 
-pub table_count : (v : SetValue) (facs : Option (List ℕ)) → option_map (λ b. b.now) v.facs ≡ facs → length (part_lengths (set_value v)) ≡ 2 + length (option_list facs) + length v.tables.items
+pub table_count : (v : SetValue) (facs : Option (List ℕ)) → option_map (λ b. b.now) v.facs ≡ facs
+    → length (part_lengths (set_value v)) ≡ 2 + length (option_list facs) + length v.tables.items
 table_count v facs named = part_count (set_value v) ∙ (λ i. 2 + length (option_list (named i)) + length-map v.tables.items table_value i)
 
-pub place_count : (v : value.SetValue) (base : ℕ) (found : List ℕ) → found ≡ part_places v base → length found ≡ length (part_lengths v)
+pub place_count : (v : value.SetValue) (base : ℕ) (found : List ℕ) → found ≡ part_places v base
+    → length found ≡ length (part_lengths v)
 place_count v base found is = ap length is ∙ length-block_places base (part_lengths v)
 
 block_count : (v : value.SetValue) (base : ℕ) → length (part_bytes v base) ≡ length (part_lengths v)
@@ -97,7 +99,8 @@ first_place v base found is = ap (λ (xs : List ℕ). get_or xs 0 0) is
 
 -- ---- a part among the others
 
-mapped_at : {X Y Z : Type 0} (f : Y → Z) (g : X → Y) (xs : List X) (k : ℕ) (x : X) (d : Z) → k < length xs → x ≡ get_or xs k x → get_or (map f (map g xs)) k d ≡ f (g x)
+mapped_at : {X Y Z : Type 0} (f : Y → Z) (g : X → Y) (xs : List X) (k : ℕ) (x : X) (d : Z) → k < length xs
+    → x ≡ get_or xs k x → get_or (map f (map g xs)) k d ≡ f (g x)
 mapped_at f g [] k x d below is = absurd (omega arith)
 mapped_at f g (y ∷ ys) zero x d below is = ap (λ z. f (g z)) (sym is)
 mapped_at f g (y ∷ ys) (suc k) x d below is = mapped_at f g ys k x d (omega arith) is
@@ -109,18 +112,23 @@ IsBehindRoots facs place ts j bytes =
     × (length bytes ≡ get_or (map length (option_list facs) ++ map encoded_length (map table_value ts)) j 0)
 
 -- a table where there is no FACS
-pub table_alone : (place : ℕ) (ts : List TableValue) (j : ℕ) (t : TableValue) (bytes : List ℕ) → j < length ts → t ≡ get_or ts j t
-    → (bytes ≡ encoded_bytes_with 0 (table_value t)) × (length bytes ≡ encoded_length (table_value t)) → IsBehindRoots None place ts j bytes
+pub table_alone : (place : ℕ) (ts : List TableValue) (j : ℕ) (t : TableValue) (bytes : List ℕ) → j < length ts
+    → t ≡ get_or ts j t
+    → (bytes ≡ encoded_bytes_with 0 (table_value t)) × (length bytes ≡ encoded_length (table_value t))
+    → IsBehindRoots None place ts j bytes
 table_alone place ts j t bytes below is (same, count) =
     (same ∙ sym (mapped_at (encoded_bytes_with 0) table_value ts j t [] below is), count ∙ sym (mapped_at encoded_length table_value ts j t 0 below is))
 
 -- and behind one
-pub table_behind : (facs : List ℕ) (place : ℕ) (ts : List TableValue) (j : ℕ) (t : TableValue) (bytes : List ℕ) → j < length ts → t ≡ get_or ts j t
-    → (bytes ≡ encoded_bytes_with place (table_value t)) × (length bytes ≡ encoded_length (table_value t)) → IsBehindRoots (Some facs) place ts (suc j) bytes
+pub table_behind : (facs : List ℕ) (place : ℕ) (ts : List TableValue) (j : ℕ) (t : TableValue) (bytes : List ℕ)
+    → j < length ts → t ≡ get_or ts j t
+    → (bytes ≡ encoded_bytes_with place (table_value t)) × (length bytes ≡ encoded_length (table_value t))
+    → IsBehindRoots (Some facs) place ts (suc j) bytes
 table_behind facs place ts j t bytes below is (same, count) =
     (same ∙ sym (mapped_at (encoded_bytes_with place) table_value ts j t [] below is), count ∙ sym (mapped_at encoded_length table_value ts j t 0 below is))
 
-pub behind_roots : (v : SetValue) (places : List ℕ) (k j : ℕ) (facs : Option (List ℕ)) (bytes : List ℕ) → option_map (λ b. b.now) v.facs ≡ facs → k ≡ suc (suc j)
+pub behind_roots : (v : SetValue) (places : List ℕ) (k j : ℕ) (facs : Option (List ℕ)) (bytes : List ℕ)
+    → option_map (λ b. b.now) v.facs ≡ facs → k ≡ suc (suc j)
     → IsBehindRoots facs (get_or places 2 0) v.tables.items j bytes → IsPart (set_value v) places k bytes
 behind_roots v places k j facs bytes named index is =
     let here = subst (λ (f : Option (List ℕ)). IsBehindRoots f (get_or places 2 0) v.tables.items j bytes) (sym named) is in
@@ -139,7 +147,8 @@ pub record IsPartialSet (m : Memory) (found : List ℕ) (v : value.SetValue) (ba
   pub inside : DoEndInside (block_ends a (drop k (part_lengths v)))
   pub image : with_blocks m (blocks_from a (drop k (part_bytes v base))) ≡ rebuilt_image v base
 
-pub none_so_far : (v : value.SetValue) (base : ℕ) (m : Memory) (found : List ℕ) → IsPlaced v base → found ≡ part_places v base → m ≡ empty → IsPartialSet m found v base 0
+pub none_so_far : (v : value.SetValue) (base : ℕ) (m : Memory) (found : List ℕ) → IsPlaced v base
+    → found ≡ part_places v base → m ≡ empty → IsPartialSet m found v base 0
 unfolding rebuilt_image
 none_so_far v base m found placed is new =
     subst (λ (x : Memory). IsPartialSet x found v base 0) (sym new) (record { a = base; behind = λ x past. get-empty nat_cmp x; placed = is; inside = placed.inside; image = refl })
@@ -150,7 +159,9 @@ pub record IsNext (m : Memory) (found : List ℕ) (v : value.SetValue) (base k :
   pub fits : get_or found k 0 + length bytes ≤ 2 ^ 64
   pub further : (new : Memory) → new ≡ with_bytes m (get_or found k 0) bytes → IsPartialSet new found v base (k + 1)
 
-pub next_part : (m : Memory) (found : List ℕ) (v : value.SetValue) (base k : ℕ) (bytes : List ℕ) → found ≡ part_places v base → k < length found → IsPart v found k bytes → IsPartialSet m found v base k → IsNext m found v base k bytes
+pub next_part : (m : Memory) (found : List ℕ) (v : value.SetValue) (base k : ℕ) (bytes : List ℕ)
+    → found ≡ part_places v base → k < length found → IsPart v found k bytes → IsPartialSet m found v base k
+    → IsNext m found v base k bytes
 unfolding block_places block_ends with_blocks blocks_from
 next_part m found v base k bytes is below part so_far =
     let a = so_far.a in
@@ -181,7 +192,8 @@ next_part m found v base k bytes is below part so_far =
     }
 
 -- at last they are all of them
-pub all_put : (m : Memory) (found : List ℕ) (v : value.SetValue) (base k : ℕ) → found ≡ part_places v base → length found ≤ k → IsPartialSet m found v base k → m ≡ rebuilt_image v base
+pub all_put : (m : Memory) (found : List ℕ) (v : value.SetValue) (base k : ℕ) → found ≡ part_places v base
+    → length found ≤ k → IsPartialSet m found v base k → m ≡ rebuilt_image v base
 unfolding with_blocks blocks_from
 all_put m found v base k is past so_far =
     let none = drop_all k (part_bytes v base) (omega (arith, past, place_count v base found is, block_count v base)) in

@@ -23,14 +23,19 @@ pub record KindFacts (kind : TableKind) : Type 0 where
   -- what is read as one of the kind is written as one
   pub kind_is : (whole : List ℕ) → (kind_of (value_in kind whole) ≡ kind) × (kind_of (whole_value_in kind whole) ≡ kind)
   -- in as many bytes
-  pub count : (facs : ℕ) (whole : List ℕ) → 36 ≤ length whole → IsFilledAs kind whole → 36 + length (body_with facs (value_in kind whole)) ≡ length whole
+  pub count : (facs : ℕ) (whole : List ℕ) → 36 ≤ length whole → IsFilledAs kind whole
+      → 36 + length (body_with facs (value_in kind whole)) ≡ length whole
   -- which are those for no FACS
-  pub plain : (whole : List ℕ) → IsFilledAs kind whole → body_with 0 (value_in kind whole) ≡ body_bytes (value_in kind whole)
+  pub plain : (whole : List ℕ) → IsFilledAs kind whole
+      → body_with 0 (value_in kind whole) ≡ body_bytes (value_in kind whole)
   -- with the same contents
-  pub kept : (facs : ℕ) (whole new : List ℕ) → IsWrittenFor kind facs whole new → contents_of kind new ≡ contents_of kind whole
+  pub kept : (facs : ℕ) (whole new : List ℕ) → IsWrittenFor kind facs whole new
+      → contents_of kind new ≡ contents_of kind whole
   -- the bytes say it, FACS addresses and all
-  pub spelled : (whole : List ℕ) → 36 ≤ length whole → IsReadableAs (Some kind) whole → SpellsBody (whole_value_in kind whole) whole
+  pub spelled : (whole : List ℕ) → 36 ≤ length whole → IsReadableAs (Some kind) whole
+      → SpellsBody (whole_value_in kind whole) whole
   -- entries fill what can be read
   pub filled : (whole : List ℕ) → IsReadableAs (Some kind) whole → IsFilledAs kind whole
   -- that of a clean set can
-  pub readable : (m : Memory) (q : PolicyValue) (whole : List ℕ) → IsClean m q → IsListedTable m q.rsdp (signature_of kind) whole → IsReadableAs (Some kind) whole
+  pub readable : (m : Memory) (q : PolicyValue) (whole : List ℕ) → IsClean m q
+      → IsListedTable m q.rsdp (signature_of kind) whole → IsReadableAs (Some kind) whole

@@ -15,13 +15,16 @@ room : (whole : List ℕ) → 40 ≤ length whole → 4 ≤ length (drop 36 whol
 room whole long = omega (arith, length-drop 36 whole, long)
 
 -- the last one that was put in counts
-last : (facs : ℕ) (whole : List ℕ) → 40 ≤ length whole → with_facs (with_facs (drop 36 whole) 0) facs ≡ with_facs (drop 36 whole) facs
+last : (facs : ℕ) (whole : List ℕ) → 40 ≤ length whole
+    → with_facs (with_facs (drop 36 whole) 0) facs ≡ with_facs (drop 36 whole) facs
 last facs whole long = with_facs-with_facs (drop 36 whole) 0 facs (room whole long)
 
-count : (facs : ℕ) (whole : List ℕ) → 40 ≤ length whole → 36 + length (with_facs (with_facs (drop 36 whole) 0) facs) ≡ length whole
+count : (facs : ℕ) (whole : List ℕ) → 40 ≤ length whole
+    → 36 + length (with_facs (with_facs (drop 36 whole) 0) facs) ≡ length whole
 count facs whole long = omega (arith, ap length (last facs whole long), length-with_facs (drop 36 whole) facs (room whole long), length-drop 36 whole, long)
 
-kept : (facs : ℕ) (whole new : List ℕ) → IsWrittenFor kind.Fadt facs whole new → with_facs (drop 36 new) 0 ≡ with_facs (drop 36 whole) 0
+kept : (facs : ℕ) (whole new : List ℕ) → IsWrittenFor kind.Fadt facs whole new
+    → with_facs (drop 36 new) 0 ≡ with_facs (drop 36 whole) 0
 kept facs whole new is =
     ap (λ (b : List ℕ). with_facs b 0) (is.body ∙ last facs whole is.filled) ∙ with_facs-with_facs (drop 36 whole) facs 0 (room whole is.filled)
 
@@ -39,5 +42,6 @@ facts = record {
 }
 
 -- what is written for a value says it
-pub says : (body whole : List ℕ) → 36 ≤ length whole → drop 36 whole ≡ body_bytes (Fadt body) → 80 ≤ length body → SpellsBody (Fadt body) whole
+pub says : (body whole : List ℕ) → 36 ≤ length whole → drop 36 whole ≡ body_bytes (Fadt body) → 80 ≤ length body
+    → SpellsBody (Fadt body) whole
 says body whole least there long = (omega (arith, long, least, ap length there, length-drop 36 whole), there)

@@ -42,7 +42,9 @@ each_kind P all kind.Pptt = all.1.1.1.1.0
 abbrev pub IsWritten : TableValue → Type 0
 IsWritten v = Spells v (encoded_bytes v) × (length (encoded_bytes v) ≡ encoded_length v)
 
-known : (head : HeadValue) (v : BodyValue) → FitsHead head → 36 + length (body_bytes v) < 2 ^ 32 → ((whole : List ℕ) → 36 ≤ length whole → drop 36 whole ≡ body_bytes v → SpellsBody v whole) → IsWritten (Known head v)
+known : (head : HeadValue) (v : BodyValue) → FitsHead head → 36 + length (body_bytes v) < 2 ^ 32
+    → ((whole : List ℕ) → 36 ≤ length whole → drop 36 whole ≡ body_bytes v → SpellsBody v whole)
+    → IsWritten (Known head v)
 known head v fits short body =
     let is = whole_table (signature_of (kind_of v)) head (body_bytes v) (length-signature_of (kind_of v)) fits short in
     ((is.0, body _ is.0.least is.1), length_of_parts _ (body_bytes v) is.0.least is.1)
@@ -59,7 +61,8 @@ is_written (table.Other bytes) shaped short say = ((shaped, refl), length_of_par
 -- ---- one value
 
 -- bytes say one value of a kind
-pub one_body : (bytes : List ℕ) (v w : BodyValue) → kind_of v ≡ kind_of w → SpellsBody v bytes → SpellsBody w bytes → v ≡ w
+pub one_body : (bytes : List ℕ) (v w : BodyValue) → kind_of v ≡ kind_of w → SpellsBody v bytes → SpellsBody w bytes
+    → v ≡ w
 one_body bytes (Madt a f vs) (Madt b g ws) same v w = madts.one bytes a b f g vs ws v w
 one_body bytes (Srat vs) (Srat ws) same v w = srats.one bytes vs ws v w
 one_body bytes (Slit n cells) (Slit m others) same v w = slits.one bytes n m cells others v w

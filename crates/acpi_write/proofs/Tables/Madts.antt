@@ -28,11 +28,13 @@ abbrev parts_of : List ℕ → List ℕ
 parts_of whole = flat_map madt_bytes (entries_in (entries_read_by madt_entry (entries_of 44 whole)))
 
 -- how many bytes a body has
-pub length-body : (address flags : ℕ) (parts : List ℕ) → 36 + length (number_bytes 4 address ++ (number_bytes 4 flags ++ parts)) ≡ 44 + length parts
+pub length-body : (address flags : ℕ) (parts : List ℕ)
+    → 36 + length (number_bytes 4 address ++ (number_bytes 4 flags ++ parts)) ≡ 44 + length parts
 length-body address flags parts =
     omega (arith, length-append (number_bytes 4 address) (number_bytes 4 flags ++ parts), length-append (number_bytes 4 flags) parts, length-number_bytes 4 address, length-number_bytes 4 flags)
 
-count : (whole : List ℕ) → (44 ≤ length whole) × (cut_of 44 whole ≡ None) → 36 + length (body_bytes (value_in kind.Madt whole)) ≡ length whole
+count : (whole : List ℕ) → (44 ≤ length whole) × (cut_of 44 whole ≡ None)
+    → 36 + length (body_bytes (value_in kind.Madt whole)) ≡ length whole
 unfolding madt_contents
 count whole filled = length-body (field whole 36 4) (field whole 40 4) (parts_of whole) ∙ written_length madt_entry madt_bytes madt_length 44 whole filled.0 filled.1
 
@@ -66,8 +68,10 @@ own_length (entry.Opaque bytes) shaped = shaped.1
 own_length _ shaped = tt
 
 -- what is written for a value says it
-pub says : (address flags : ℕ) (entries : List MadtEntry) (whole : List ℕ) → 36 ≤ length whole → drop 36 whole ≡ body_bytes (Madt address flags (map madt_value entries)) → address < 2 ^ 32 → flags < 2 ^ 32
-    → DoEntriesSay madt_entry madt_bytes madt_value entries → All IsShapedMadt entries → SpellsBody (Madt address flags (map madt_value entries)) whole
+pub says : (address flags : ℕ) (entries : List MadtEntry) (whole : List ℕ) → 36 ≤ length whole
+    → drop 36 whole ≡ body_bytes (Madt address flags (map madt_value entries)) → address < 2 ^ 32 → flags < 2 ^ 32
+    → DoEntriesSay madt_entry madt_bytes madt_value entries → All IsShapedMadt entries
+    → SpellsBody (Madt address flags (map madt_value entries)) whole
 says address flags entries whole least body low_address low_flags say shaped =
     let parts = flat_map madt_bytes (map madt_value entries) in
     let flags_there = behind 36 4 40 whole (number_bytes 4 address) (number_bytes 4 flags ++ parts) body (length-number_bytes 4 address) refl in
@@ -81,7 +85,8 @@ says address flags entries whole least body low_address low_flags say shaped =
     )
 
 -- bytes say one
-pub one : (bytes : List ℕ) (a b f g : ℕ) (vs ws : List madt.MadtEntry) → SpellsBody (Madt a f vs) bytes → SpellsBody (Madt b g ws) bytes → Madt a f vs ≡ Madt b g ws
+pub one : (bytes : List ℕ) (a b f g : ℕ) (vs ws : List madt.MadtEntry) → SpellsBody (Madt a f vs) bytes
+    → SpellsBody (Madt b g ws) bytes → Madt a f vs ≡ Madt b g ws
 one bytes a b f g vs ws v w =
     let entries = one_entries madt_entry IsOfOwnLength 44 bytes vs ws v.2 w.2 in
     λ k. Madt ((sym v.0 ∙ w.0) k) ((sym v.1 ∙ w.1) k) (entries k)

@@ -21,7 +21,8 @@ use Rattle.acpi_write.proofs.Tables.Facts.{IsWrittenFor, KindFacts}
 use Rattle.acpi_write.proofs.TablesWritten.EntryRuns.{spelled_entries, spell_entries, one_entries}
 use Rattle.acpi_write.proofs.TablesWritten.RewrittenEntries.{entries_kept, written_length}
 
-count : (whole : List ℕ) → 36 ≤ length whole → cut_of 36 whole ≡ None → 36 + length (body_bytes (value_in kind.Pptt whole)) ≡ length whole
+count : (whole : List ℕ) → 36 ≤ length whole → cut_of 36 whole ≡ None
+    → 36 + length (body_bytes (value_in kind.Pptt whole)) ≡ length whole
 unfolding pptt_contents
 count whole least filled = written_length pptt_entry pptt_bytes pptt_length 36 whole least filled
 
@@ -49,12 +50,15 @@ own_length (entry.Opaque bytes) shaped = λ other. omega (arith, shaped.1, other
 own_length _ shaped = λ other. other
 
 -- what is written for a value says it
-pub says : (entries : List PpttEntry) (whole : List ℕ) → 36 ≤ length whole → drop 36 whole ≡ body_bytes (Pptt (map pptt_value entries)) → DoEntriesSay pptt_entry pptt_bytes pptt_value entries → All IsShapedPptt entries
+pub says : (entries : List PpttEntry) (whole : List ℕ) → 36 ≤ length whole
+    → drop 36 whole ≡ body_bytes (Pptt (map pptt_value entries))
+    → DoEntriesSay pptt_entry pptt_bytes pptt_value entries → All IsShapedPptt entries
     → SpellsBody (Pptt (map pptt_value entries)) whole
 says entries whole least body say shaped =
     let own : All (λ v. ¬ HasOtherPpttLength (pptt_value v)) entries = λ k d h. own_length (get_or entries k d) (shaped k d h) in
     spell_entries pptt_entry pptt_bytes pptt_value (λ e. ¬ HasOtherPpttLength e) 36 whole entries least body say own
 
 -- bytes say one
-pub one : (bytes : List ℕ) (vs ws : List pptt.PpttEntry) → SpellsBody (Pptt vs) bytes → SpellsBody (Pptt ws) bytes → Pptt vs ≡ Pptt ws
+pub one : (bytes : List ℕ) (vs ws : List pptt.PpttEntry) → SpellsBody (Pptt vs) bytes → SpellsBody (Pptt ws) bytes
+    → Pptt vs ≡ Pptt ws
 one bytes vs ws v w = (let entries = one_entries pptt_entry (λ e. ¬ HasOtherPpttLength e) 36 bytes vs ws v w in λ k. Pptt (entries k))

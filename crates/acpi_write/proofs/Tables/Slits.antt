@@ -42,12 +42,14 @@ facts = record {
 }
 
 -- what is written for a value says it
-pub says : (count : ℕ) (cells whole : List ℕ) → 36 ≤ length whole → drop 36 whole ≡ body_bytes (Slit count cells) → count < 2 ^ 64 → length cells ≡ count * count → SpellsBody (Slit count cells) whole
+pub says : (count : ℕ) (cells whole : List ℕ) → 36 ≤ length whole → drop 36 whole ≡ body_bytes (Slit count cells)
+    → count < 2 ^ 64 → length cells ≡ count * count → SpellsBody (Slit count cells) whole
 says count cells whole least body fits square =
     let to_cells = reaches 36 8 whole (number_bytes 8 count) cells least body (length-number_bytes 8 count) in
     let there = behind 36 8 44 whole (number_bytes 8 count) cells body (length-number_bytes 8 count) refl in
     (omega (arith, to_cells, square, ap length there, length-drop 44 whole), number_there 36 8 count whole cells body fits, there)
 
 -- bytes say one
-pub one : (bytes : List ℕ) (n m : ℕ) (cells others : List ℕ) → SpellsBody (Slit n cells) bytes → SpellsBody (Slit m others) bytes → Slit n cells ≡ Slit m others
+pub one : (bytes : List ℕ) (n m : ℕ) (cells others : List ℕ) → SpellsBody (Slit n cells) bytes
+    → SpellsBody (Slit m others) bytes → Slit n cells ≡ Slit m others
 one bytes n m cells others v w = λ k. Slit ((sym v.1 ∙ w.1) k) ((sym v.2 ∙ w.2) k)

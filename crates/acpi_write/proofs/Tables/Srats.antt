@@ -33,7 +33,8 @@ length-reserved = omega (arith, length-append (number_bytes 4 1) (replicate 8 0)
 pub length-body : (parts : List ℕ) → 36 + length (srat_reserved ++ parts) ≡ 48 + length parts
 length-body parts = omega (arith, length-append srat_reserved parts, length-reserved)
 
-count : (whole : List ℕ) → (48 ≤ length whole) × (cut_of 48 whole ≡ None) → 36 + length (body_bytes (value_in kind.Srat whole)) ≡ length whole
+count : (whole : List ℕ) → (48 ≤ length whole) × (cut_of 48 whole ≡ None)
+    → 36 + length (body_bytes (value_in kind.Srat whole)) ≡ length whole
 unfolding srat_contents
 count whole filled = length-body (parts_of whole) ∙ written_length srat_entry srat_bytes srat_length 48 whole filled.0 filled.1
 
@@ -62,7 +63,9 @@ own_length (entry.Opaque bytes) shaped = shaped.1
 own_length _ shaped = tt
 
 -- what is written for a value says it
-pub says : (entries : List SratEntry) (whole : List ℕ) → 36 ≤ length whole → drop 36 whole ≡ body_bytes (Srat (map srat_value entries)) → DoEntriesSay srat_entry srat_bytes srat_value entries → All IsShapedSrat entries
+pub says : (entries : List SratEntry) (whole : List ℕ) → 36 ≤ length whole
+    → drop 36 whole ≡ body_bytes (Srat (map srat_value entries))
+    → DoEntriesSay srat_entry srat_bytes srat_value entries → All IsShapedSrat entries
     → SpellsBody (Srat (map srat_value entries)) whole
 says entries whole least body say shaped =
     let parts = flat_map srat_bytes (map srat_value entries) in
@@ -71,5 +74,6 @@ says entries whole least body say shaped =
     spell_entries srat_entry srat_bytes srat_value IsOfOwnLength 48 whole entries to_entries (behind 36 12 48 whole srat_reserved parts body length-reserved refl) say own
 
 -- bytes say one
-pub one : (bytes : List ℕ) (vs ws : List srat.SratEntry) → SpellsBody (Srat vs) bytes → SpellsBody (Srat ws) bytes → Srat vs ≡ Srat ws
+pub one : (bytes : List ℕ) (vs ws : List srat.SratEntry) → SpellsBody (Srat vs) bytes → SpellsBody (Srat ws) bytes
+    → Srat vs ≡ Srat ws
 one bytes vs ws v w = (let entries = one_entries srat_entry IsOfOwnLength 48 bytes vs ws v w in λ k. Srat (entries k))

@@ -27,7 +27,8 @@ nothing_at_end : (left : List ℕ) → left ≡ [] → first_entry left ≡ None
 unfolding first_entry
 nothing_at_end left none = rw none refl
 
-entries_again : (n offset : ℕ) (es : List (List ℕ)) (left : List ℕ) → All IsEntry es → flat_map (λ e. e) es ≡ left → length es ≤ n → entries_from n offset left ≡ standing offset es
+entries_again : (n offset : ℕ) (es : List (List ℕ)) (left : List ℕ) → All IsEntry es → flat_map (λ e. e) es ≡ left
+    → length es ≤ n → entries_from n offset left ≡ standing offset es
 unfolding entries_from
 entries_again zero offset [] left each joined count = refl
 entries_again zero offset (e ∷ es) left each joined count = absurd (omega (arith, count))
@@ -50,12 +51,14 @@ few (e ∷ es) each =
     omega (arith, least, rest, length-append e (flat_map (λ x. x) es))
 
 -- the entries of a cut stand one after another from the first entry's place on
-pub cut_stands : (first : ℕ) (whole : List ℕ) (es : List (List ℕ)) → All IsEntry es → flat_map (λ e. e) es ≡ drop first whole → entries_of first whole ≡ standing first es
+pub cut_stands : (first : ℕ) (whole : List ℕ) (es : List (List ℕ)) → All IsEntry es
+    → flat_map (λ e. e) es ≡ drop first whole → entries_of first whole ≡ standing first es
 unfolding entries_of
 cut_stands first whole es each joined =
     entries_again (length whole) first es (drop first whole) each joined (omega (arith, few es each, ap length joined, length-drop first whole))
 
-pub said_standing : {E : Type 0} (read : List ℕ → E) (offset : ℕ) (es : List (List ℕ)) → entries_in (entries_read_by read (standing offset es)) ≡ map read es
+pub said_standing : {E : Type 0} (read : List ℕ → E) (offset : ℕ) (es : List (List ℕ))
+    → entries_in (entries_read_by read (standing offset es)) ≡ map read es
 said_standing read offset [] = refl
 said_standing read offset (e ∷ es) = ap (λ l. read e ∷ l) (said_standing read (offset + length e) es)
 
@@ -65,7 +68,8 @@ each_in {E} P entries own =
     All-map P (λ (s : PlacedEntry E). s.entry) entries (λ k d h. own (get_or entries k d).offset (get_or entries k d).entry (All-contains_itself entries k d h))
 
 -- the entries that stand in a table that they fill are spelled by its bytes
-pub spelled_entries : {E : Type 0} (read : List ℕ → E) (Own : E → Type 0) (first : ℕ) (whole : List ℕ) → first ≤ length whole → cut_of first whole ≡ None
+pub spelled_entries : {E : Type 0} (read : List ℕ → E) (Own : E → Type 0) (first : ℕ) (whole : List ℕ)
+    → first ≤ length whole → cut_of first whole ≡ None
     → ((o : ℕ) (e : E) → Stands (entries_read_by read (entries_of first whole)) o e → Own e) → SpellEntries read Own first whole (entries_in (entries_read_by read (entries_of first whole)))
 spelled_entries {E} read Own first whole long filled own =
     let cut = (no_cut_fault first whole).0 filled in
@@ -85,7 +89,8 @@ pub joined_again : {X E : Type 0} (bytes_of : E → List ℕ) (value : X → E) 
 joined_again bytes_of value [] = refl
 joined_again bytes_of value (x ∷ xs) = ap (λ (bs : List ℕ). bytes_of (value x) ++ bs) (joined_again bytes_of value xs)
 
-pub entries_each : {X E : Type 0} (read : List ℕ → E) (bytes_of : E → List ℕ) (value : X → E) (xs : List X) → DoEntriesSay read bytes_of value xs
+pub entries_each : {X E : Type 0} (read : List ℕ → E) (bytes_of : E → List ℕ) (value : X → E) (xs : List X)
+    → DoEntriesSay read bytes_of value xs
     → All IsEntry (map (λ x. bytes_of (value x)) xs) × (map read (map (λ x. bytes_of (value x)) xs) ≡ map value xs)
 entries_each read bytes_of value [] say = (All-nil _, refl)
 entries_each {X} {E} read bytes_of value (x ∷ xs) say =
@@ -107,7 +112,8 @@ spell_entries read bytes_of value Own first whole xs long behind say own =
     }
 
 -- bytes spell one list of entries
-pub one_entries : {E : Type 0} (read : List ℕ → E) (Own : E → Type 0) (first : ℕ) (bytes : List ℕ) (vs ws : List E) → SpellEntries read Own first bytes vs → SpellEntries read Own first bytes ws → vs ≡ ws
+pub one_entries : {E : Type 0} (read : List ℕ → E) (Own : E → Type 0) (first : ℕ) (bytes : List ℕ) (vs ws : List E)
+    → SpellEntries read Own first bytes vs → SpellEntries read Own first bytes ws → vs ≡ ws
 one_entries read Own first bytes vs ws a b = sym a.say ∙ ap (map read) (one_cut (drop first bytes) a.es b.es a.cut b.cut) ∙ b.say
 
 -- ---- parts of a body
@@ -118,5 +124,6 @@ behind first n at whole part rest stands count is =
     ap (λ (k : ℕ). drop k whole) is ∙ sym (drop-drop n first whole) ∙ ap (drop n) stands ∙ drop_at part rest n count
 
 -- a table reaches what stands behind a part of it
-pub reaches : (first n : ℕ) (whole part rest : List ℕ) → first ≤ length whole → drop first whole ≡ part ++ rest → length part ≡ n → first + n ≤ length whole
+pub reaches : (first n : ℕ) (whole part rest : List ℕ) → first ≤ length whole → drop first whole ≡ part ++ rest
+    → length part ≡ n → first + n ≤ length whole
 reaches first n whole part rest long stands count = omega (arith, long, count, ap length stands, length-drop first whole, length-append part rest)

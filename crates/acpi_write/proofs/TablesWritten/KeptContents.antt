@@ -20,7 +20,8 @@ pub record IsCleanTable (whole : List ℕ) : Type 0 where
   pub small : length whole < 2 ^ 32
 
 -- what is written for a table keeps its contents, wherever the FACS stands
-pub kept : (kind : TableKind) (facs : ℕ) (whole : List ℕ) → IsCleanTable whole → IsFilledAs kind whole → KeepsContents kind whole (encoded_bytes_with facs (table_value_as (Some kind) whole))
+pub kept : (kind : TableKind) (facs : ℕ) (whole : List ℕ) → IsCleanTable whole → IsFilledAs kind whole
+    → KeepsContents kind whole (encoded_bytes_with facs (table_value_as (Some kind) whole))
 kept kind facs whole is filled =
     let body = body_with facs (value_in kind whole) in
     let new = table_bytes (signature_of kind) (head_of whole) body in
@@ -33,7 +34,8 @@ kept kind facs whole is filled =
     subst (λ (k : TableKind). KeepsContents kind whole (table_bytes (signature_of k) (head_of whole) body)) (sym ((facts kind).kind_is whole).0) (record { table = table.0; contents = contents })
 
 -- where there is no FACS these are the bytes of the value
-plain : (kind : TableKind) (whole : List ℕ) → IsFilledAs kind whole → encoded_bytes_with 0 (table_value_as (Some kind) whole) ≡ encoded_bytes (table_value_as (Some kind) whole)
+plain : (kind : TableKind) (whole : List ℕ) → IsFilledAs kind whole
+    → encoded_bytes_with 0 (table_value_as (Some kind) whole) ≡ encoded_bytes (table_value_as (Some kind) whole)
 plain kind whole filled = ap (table_bytes (signature_of (kind_of (value_in kind whole))) (head_of whole)) ((facts kind).plain whole filled)
 
 pub contents_are_kept : ContentsAreKept
@@ -49,7 +51,9 @@ said_length (Some kind) whole least readable =
 said_length None whole least readable = omega (arith, least, length-drop 36 whole)
 
 -- wherever the FACS stands
-pub length-encoded_bytes_with : (facs : ℕ) (o : Option TableKind) (whole : List ℕ) → 36 ≤ length whole → IsReadableAs o whole → length (encoded_bytes_with facs (table_value_as o whole)) ≡ encoded_length (table_value_as o whole)
+pub length-encoded_bytes_with : (facs : ℕ) (o : Option TableKind) (whole : List ℕ) → 36 ≤ length whole
+    → IsReadableAs o whole
+    → length (encoded_bytes_with facs (table_value_as o whole)) ≡ encoded_length (table_value_as o whole)
 length-encoded_bytes_with facs (Some kind) whole least readable =
     let v = value_in kind whole in
     length-table_bytes (signature_of (kind_of v)) (head_of whole) (body_with facs v) (length-signature_of (kind_of v)) (widths_of whole least)
@@ -57,7 +61,8 @@ length-encoded_bytes_with facs (Some kind) whole least readable =
     ∙ sym (said_length (Some kind) whole least readable)
 length-encoded_bytes_with facs None whole least readable = omega (arith, least, length-drop 36 whole)
 
-pub said_short : (v : _) (o : Option TableKind) (whole : List ℕ) → v ≡ table_value_as o whole → (36 ≤ length whole) × (length whole < 2 ^ 32) → IsReadableAs o whole → encoded_length v < 2 ^ 32
+pub said_short : (v : _) (o : Option TableKind) (whole : List ℕ) → v ≡ table_value_as o whole
+    → (36 ≤ length whole) × (length whole < 2 ^ 32) → IsReadableAs o whole → encoded_length v < 2 ^ 32
 said_short v o whole is count readable =
     let same = ap encoded_length is ∙ said_length o whole count.0 readable in
     omega (arith, same, count.1)

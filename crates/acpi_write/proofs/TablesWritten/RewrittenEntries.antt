@@ -74,7 +74,8 @@ low_right xs ys low k =
 -- ---- entries that are read and written again
 
 module _ {E : Type 0} (read : List ℕ → E) (bytes_of : E → List ℕ) (kept : (e : List ℕ) → AreByteValues e → IsEntry e → WrittenAgain read bytes_of e) where
-  each_kept : (es : List (List ℕ)) → AreByteValues (flat_map (λ e. e) es) → All IsEntry es → All (WrittenAgain read bytes_of) es
+  each_kept : (es : List (List ℕ)) → AreByteValues (flat_map (λ e. e) es) → All IsEntry es
+      → All (WrittenAgain read bytes_of) es
   each_kept [] low each = All-nil (WrittenAgain read bytes_of)
   each_kept (e ∷ es) low each =
       All-cons (WrittenAgain read bytes_of) e es (kept e (low_left e (flat_map (λ x. x) es) low) (All-head IsEntry e es each))
@@ -91,7 +92,8 @@ module _ {E : Type 0} (read : List ℕ → E) (bytes_of : E → List ℕ) (kept 
       λ i. record { offset = same i; entry = here.says.1 i } ∷ rest i
 
   -- the entries that were written stand where they stood, and fill the table
-  pub entries_kept : (first : ℕ) (whole new : List ℕ) → AreByteValues whole → cut_of first whole ≡ None → drop first new ≡ flat_map bytes_of (entries_in (entries_read_by read (entries_of first whole)))
+  pub entries_kept : (first : ℕ) (whole new : List ℕ) → AreByteValues whole → cut_of first whole ≡ None
+      → drop first new ≡ flat_map bytes_of (entries_in (entries_read_by read (entries_of first whole)))
       → (entries_read_by read (entries_of first new) ≡ entries_read_by read (entries_of first whole)) × (cut_of first new ≡ cut_of first whole)
   entries_kept first whole new low filled written =
       let cut = (no_cut_fault first whole).0 filled in
@@ -107,11 +109,14 @@ module _ {E : Type 0} (read : List ℕ → E) (bytes_of : E → List ℕ) (kept 
       (ap (entries_read_by read) stand ∙ said_again first first es refl each ∙ ap (entries_read_by read) (sym old), none ∙ sym filled)
 
 -- they have as many bytes as the table behind the first entry's place
-pub written_length : {E : Type 0} (read : List ℕ → E) (bytes_of : E → List ℕ) → ((e : List ℕ) → length (bytes_of (read e)) ≡ length e) → (first : ℕ) (whole : List ℕ)
-    → first ≤ length whole → cut_of first whole ≡ None → first + length (flat_map bytes_of (entries_in (entries_read_by read (entries_of first whole)))) ≡ length whole
+pub written_length : {E : Type 0} (read : List ℕ → E) (bytes_of : E → List ℕ)
+    → ((e : List ℕ) → length (bytes_of (read e)) ≡ length e) → (first : ℕ) (whole : List ℕ)
+    → first ≤ length whole → cut_of first whole ≡ None
+    → first + length (flat_map bytes_of (entries_in (entries_read_by read (entries_of first whole)))) ≡ length whole
 written_length read bytes_of same first whole long filled = ap (λ (n : ℕ). first + n) (each (entries_of first whole)) ∙ filled_length first whole long filled
   where
-    each : (entries : List (PlacedEntry (List ℕ))) → length (flat_map bytes_of (entries_in (entries_read_by read entries))) ≡ sum_by (λ s. length s.entry) entries
+    each : (entries : List (PlacedEntry (List ℕ)))
+        → length (flat_map bytes_of (entries_in (entries_read_by read entries))) ≡ sum_by (λ s. length s.entry) entries
     each [] = refl
     each (s ∷ ss) =
         let joined = length-append (bytes_of (read s.entry)) (flat_map bytes_of (entries_in (entries_read_by read ss))) in

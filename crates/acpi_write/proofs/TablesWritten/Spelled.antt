@@ -16,7 +16,8 @@ use Rattle.acpi_write.proofs.Tables.Kinds.{facts, is_written, one_body}
 pub what_is_read : WhatIsReadIsSpelled
 what_is_read whole is = record { known = known; other = (is, refl) }
   where
-    known : (kind : TableKind) → has_signature whole (signature_of kind) ≡ true → IsReadableAs (Some kind) whole → Spells (Known (head_of whole) (whole_value_in kind whole)) whole
+    known : (kind : TableKind) → has_signature whole (signature_of kind) ≡ true → IsReadableAs (Some kind) whole
+        → Spells (Known (head_of whole) (whole_value_in kind whole)) whole
     known kind signed readable = (
       record {
         least = is.least;
@@ -28,7 +29,8 @@ what_is_read whole is = record { known = known; other = (is, refl) }
       (facts kind).spelled whole is.least readable,
     )
 
-pub spelled : (v : written.TableValue) (bytes : List ℕ) → IsShaped v → IsShort v → DoPartsSay v → bytes ≡ encoded_bytes (table_value v) → Spells (table_value v) bytes
+pub spelled : (v : written.TableValue) (bytes : List ℕ) → IsShaped v → IsShort v → DoPartsSay v
+    → bytes ≡ encoded_bytes (table_value v) → Spells (table_value v) bytes
 spelled v bytes shaped short say is = subst (Spells (table_value v)) (sym is) (is_written v shaped short say).0
 
 pub ruleset spelling = (spelled)

@@ -46,7 +46,8 @@ table_sum signature head body =
     closes opened _ (header_sum signature head (36 + length body) (checksum_of opened) body (closing_below opened))
 
 -- the bytes begin with the signature
-begins : (signature : List ℕ) (head : HeadValue) (body : List ℕ) → (rest : List ℕ) × (table_bytes signature head body ≡ signature ++ rest)
+begins : (signature : List ℕ) (head : HeadValue) (body : List ℕ)
+    → (rest : List ℕ) × (table_bytes signature head body ≡ signature ++ rest)
 unfolding table_bytes header_bytes
 begins signature head body = (_, append_assoc signature _ body)
 
@@ -55,7 +56,8 @@ unfolding has_signature
 own_signature signature rest = rw (take_at signature rest (length signature) refl) (nat_list_eq_equiv.refl signature)
 
 -- the bytes of a table are all of one's with this signature, and say the head and the body
-pub whole_table : (signature : List ℕ) (head : HeadValue) (body : List ℕ) → length signature ≡ 4 → FitsHead head → 36 + length body < 2 ^ 32
+pub whole_table : (signature : List ℕ) (head : HeadValue) (body : List ℕ) → length signature ≡ 4 → FitsHead head
+    → 36 + length body < 2 ^ 32
     → IsTableOf signature head (table_bytes signature head body) × (drop 36 (table_bytes signature head body) ≡ body)
 unfolding table_bytes header_of
 whole_table signature head body four head_fits short =
@@ -93,7 +95,8 @@ widths_of whole long = record {
   oem_table_id = length-take-le 8 (drop 16 whole) (omega (arith, long, length-drop 16 whole));
 }
 
-pub length-table_bytes : (signature : List ℕ) (head : HeadValue) (body : List ℕ) → length signature ≡ 4 → HasWidths head → length (table_bytes signature head body) ≡ 36 + length body
+pub length-table_bytes : (signature : List ℕ) (head : HeadValue) (body : List ℕ) → length signature ≡ 4
+    → HasWidths head → length (table_bytes signature head body) ≡ 36 + length body
 unfolding table_bytes header_bytes
 length-table_bytes signature head body four widths = simp (length-append, length-number_bytes, four, widths.oemid, widths.oem_table_id) (omega arith)
 
