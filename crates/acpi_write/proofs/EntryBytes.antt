@@ -1,9 +1,7 @@
 -- The bytes of entries: what is written for an entry, and what it says.
 pub mod EntryForms
+pub mod EntryLengths
 pub mod EntryLists
 pub mod EntryReading
 pub mod KeptEntries
-pub mod MadtBytes
 pub mod NodeBytes
-pub mod PpttBytes
-pub mod SratBytes

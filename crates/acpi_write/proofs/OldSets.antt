@@ -1,6 +1,5 @@
 -- What the tables of a clean set are, and what it says.
 pub mod CleanSets
-pub mod FacsLengths
 pub mod FirstListed
 pub mod FirstTables
 pub mod Listing

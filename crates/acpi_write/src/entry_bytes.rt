@@ -7,12 +7,9 @@ ghost use Rattle.acpi_base.specs.Layouts.{layout_bytes, HasValues};
 ghost use Rattle.acpi_base.specs.Madt.{madt_kinds, madt_entry};
 ghost use Rattle.acpi_base.specs.Srat.{srat_kinds, srat_entry};
 ghost use Rattle.acpi_base.specs.Pptt.{pptt_entry, Node};
-ghost use Rattle.acpi_read.specs.Madts.{madt_value};
-ghost use Rattle.acpi_read.specs.Srats.{srat_value};
-ghost use Rattle.acpi_read.specs.Pptts.{pptt_value, node_value};
-ghost use Rattle.acpi_read.specs.Madts.{madt_bytes};
-ghost use Rattle.acpi_read.specs.Srats.{srat_bytes};
-ghost use Rattle.acpi_read.specs.Pptts.{pptt_bytes};
+ghost use Rattle.acpi_read.specs.Madts.{madt_value, madt_bytes};
+ghost use Rattle.acpi_read.specs.Srats.{srat_value, srat_bytes};
+ghost use Rattle.acpi_read.specs.Pptts.{pptt_value, node_value, pptt_bytes};
 ghost use Rattle.acpi_write.specs.Spells.{SaysEntry};
 ghost use Rattle.acpi_write.specs.Views.{IsShapedMadt, IsShapedSrat, IsShapedPptt};
 
@@ -58,30 +55,40 @@ fn kept_size(bytes: &[u8]) -> Option<usize>
 }
 
 /// Whether an entry's type is none of a MADT's.
-#[tactic(auto, using(crate::proofs::EntryBytes::MadtBytes::madt_others))]
 fn is_other_madt(entry: &[u8]) -> bool
     requires { IsEntry entry.now }
     ensures { IsTrue result ↔ (¬ IsTypeOf madt_kinds (slice_index entry.now 0)) }
 {
-    matches!(MadtEntry::read(entry), Ok(MadtEntry::Opaque(_)))
+    !matches!(
+        entry[0],
+        LocalApic::TYPE
+            | IoApic::TYPE
+            | Override::TYPE
+            | NmiSource::TYPE
+            | LocalNmi::TYPE
+            | AddressOverride::TYPE
+            | X2apic::TYPE
+            | X2apicNmi::TYPE
+    )
 }
 
 /// Whether an entry's type is none of an SRAT's.
-#[tactic(auto, using(crate::proofs::EntryBytes::SratBytes::srat_others))]
 fn is_other_srat(entry: &[u8]) -> bool
     requires { IsEntry entry.now }
     ensures { IsTrue result ↔ (¬ IsTypeOf srat_kinds (slice_index entry.now 0)) }
 {
-    matches!(SratEntry::read(entry), Ok(SratEntry::Opaque(_)))
+    !matches!(
+        entry[0],
+        ApicDomain::TYPE | MemoryRange::TYPE | X2apicDomain::TYPE
+    )
 }
 
 /// Whether an entry's type is none of a PPTT's.
-#[tactic(auto, using(crate::proofs::EntryBytes::PpttBytes::pptt_others))]
 fn is_other_pptt(entry: &[u8]) -> bool
     requires { IsEntry entry.now }
     ensures { IsTrue result ↔ (2 ≤ slice_index entry.now 0) }
 {
-    matches!(PpttEntry::read(entry), Ok(PpttEntry::Opaque(_)))
+    entry[0] > Cache24::TYPE
 }
 
 /// How many bytes a node has. None where it does not have 4 bytes for each of its references.
@@ -136,7 +143,7 @@ impl<'a> EntryBytes for MadtEntry<'a> {
 
     ghost said_by = { λ entry bytes. SaysEntry madt_entry bytes (madt_value entry) };
 
-    #[tactic(auto, using(crate::proofs::EntryBytes::MadtBytes::madt_sizes))]
+    #[tactic(auto, using(crate::proofs::EntryBytes::EntryLists::entry_sizes))]
     fn size(&self) -> Option<usize> {
         match self {
             MadtEntry::LocalApic(_) => Some(LocalApic::LEN),
@@ -157,7 +164,7 @@ impl<'a> EntryBytes for MadtEntry<'a> {
         }
     }
 
-    #[tactic(auto, unfolding(acpi_base::specs::Madt::madt_entry, acpi_base::specs::Entries::has_form), using(crate::proofs::EntryBytes::MadtBytes::madt_kept))]
+    #[tactic(auto, unfolding(acpi_base::specs::Madt::madt_entry, acpi_base::specs::Entries::has_form), using(crate::proofs::EntryBytes::EntryForms::madt_kept))]
     fn append(&self, bytes: &mut Vec<u8>) -> Result<(), AllocError> {
         match self {
             MadtEntry::LocalApic(entry) => append_kind(bytes, entry),
@@ -180,7 +187,7 @@ impl<'a> EntryBytes for SratEntry<'a> {
 
     ghost said_by = { λ entry bytes. SaysEntry srat_entry bytes (srat_value entry) };
 
-    #[tactic(auto, using(crate::proofs::EntryBytes::SratBytes::srat_sizes))]
+    #[tactic(auto, using(crate::proofs::EntryBytes::EntryLists::entry_sizes))]
     fn size(&self) -> Option<usize> {
         match self {
             SratEntry::ApicDomain(_) => Some(ApicDomain::LEN),
@@ -196,7 +203,7 @@ impl<'a> EntryBytes for SratEntry<'a> {
         }
     }
 
-    #[tactic(auto, unfolding(acpi_base::specs::Srat::srat_entry, acpi_base::specs::Entries::has_form), using(crate::proofs::EntryBytes::SratBytes::srat_kept))]
+    #[tactic(auto, unfolding(acpi_base::specs::Srat::srat_entry, acpi_base::specs::Entries::has_form), using(crate::proofs::EntryBytes::EntryForms::srat_kept))]
     fn append(&self, bytes: &mut Vec<u8>) -> Result<(), AllocError> {
         match self {
             SratEntry::ApicDomain(entry) => append_kind(bytes, entry),
@@ -214,7 +221,7 @@ impl<'a> EntryBytes for PpttEntry<'a> {
 
     ghost said_by = { λ entry bytes. SaysEntry pptt_entry bytes (pptt_value entry) };
 
-    #[tactic(auto, using(crate::proofs::EntryBytes::PpttBytes::pptt_sizes))]
+    #[tactic(auto, using(crate::proofs::EntryBytes::EntryLists::entry_sizes))]
     fn size(&self) -> Option<usize> {
         match self {
             PpttEntry::Node(head, references) => node_size(head, references),
@@ -230,7 +237,7 @@ impl<'a> EntryBytes for PpttEntry<'a> {
         }
     }
 
-    #[tactic(auto, using(crate::proofs::EntryBytes::PpttBytes::pptt_says))]
+    #[tactic(auto, using(crate::proofs::EntryBytes::NodeBytes::pptt_says))]
     fn append(&self, bytes: &mut Vec<u8>) -> Result<(), AllocError> {
         match self {
             PpttEntry::Node(head, references) => append_node(bytes, head, references),

@@ -69,10 +69,8 @@ fn written_length(table: &TableValue<'_>) -> u64
     requires short { IsShort table.now }
     ensures length { result ≡ encoded_length (table_value table.now) }
 {
-    match size_of(table) {
-        Some(size) => size as u64,
-        None => unreachable!(),
-    }
+    // There is one for a value that is shaped.
+    size_of(table).unwrap_or(0) as u64
 }
 
 /// Appends how many bytes each table has.

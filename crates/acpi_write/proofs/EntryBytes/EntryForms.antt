@@ -1,17 +1,20 @@
 -- What entries of a table say, by the list of its kinds.
-use Rattle.std.proofs.Common.{◌≡◌, ℕ, ◌≤◌, Bool, true, false, List, [], ◌∷◌, length, refl, sym, ap, subst, ◌∙◌, inl, inr, arith}
-use Rattle.std.specs.Prelude.{◌⊎◌, ◌==◌, ◌&&◌, slice_index}
+use Rattle.std.proofs.Common.{◌≡◌, ℕ, ◌≤◌, true, false, List, [], ◌∷◌, length, refl, sym, ap, subst, ◌∙◌, inl, inr, arith}
+use Rattle.std.specs.Prelude.{◌==◌, slice_index}
 use Rattle.std.proofs.lemmas.Bool.{cases_Bool, eqb-true, and_parts}
 use Rattle.std.proofs.lemmas.Bool.Decides.{nat_tests}
 use Rattle.acpi_base.specs.Entries.{IsEntry, IsEntryOf, Kind, has_form, value_of_kind, IsTypeOf}
 use Rattle.acpi_base.specs.KindLayouts.{AreByteValues, KeepKinds}
+use Rattle.acpi_base.specs.Madt as madt
+use Rattle.acpi_base.specs.Srat as srat
 
 -- an entry of a kind is an entry
 pub is_entry : {V : Type 0} (k : Kind V) → 2 ≤ k.size → (e : List ℕ) (v : V) → IsEntryOf k e v → IsEntry e
 is_entry k some e v is = record { least = subst (λ (n : ℕ). 2 ≤ n) (sym is.count) some; said = is.said ∙ sym is.count }
 
 -- one of none of the types is opaque
-pub none_reads : {E : Type 0} (kinds : List (Kind E)) (opaque : List ℕ → E) (e : List ℕ) → ¬ IsTypeOf kinds (slice_index e 0) → value_of_kind kinds opaque e ≡ opaque e
+none_reads : {E : Type 0} (kinds : List (Kind E)) (opaque : List ℕ → E) (e : List ℕ)
+    → ¬ IsTypeOf kinds (slice_index e 0) → value_of_kind kinds opaque e ≡ opaque e
 unfolding has_form
 none_reads [] opaque e other = refl
 none_reads (k ∷ kinds) opaque e other =
@@ -19,21 +22,15 @@ none_reads (k ∷ kinds) opaque e other =
     let differs : ¬ (slice_index e 0 ≡ k.type) = λ is. other (inl is) in
     grind (arith, nat_tests)
 
--- the test is true of what each kind reads
-abbrev pub all_read : {E : Type 0} → (E → Bool) → List (Kind E) → List ℕ → Bool
-all_read test [] e = true
-all_read test (k ∷ kinds) e = test (k.read e) && all_read test kinds e
+pub madt_kept : (e : List ℕ) → IsEntry e → ¬ IsTypeOf madt.madt_kinds (slice_index e 0)
+    → madt.madt_entry e ≡ madt.Opaque e
+unfolding madt.madt_entry
+madt_kept e is other = none_reads madt.madt_kinds madt.Opaque e other
 
--- so it is of what an entry says that is not opaque
-pub typed_or_opaque : {E : Type 0} (test : E → Bool) (kinds : List (Kind E)) (opaque : List ℕ → E) (e : List ℕ) → all_read test kinds e ≡ true
-    → (test (value_of_kind kinds opaque e) ≡ true) ⊎ (value_of_kind kinds opaque e ≡ opaque e)
-typed_or_opaque test [] opaque e all = inr refl
-typed_or_opaque test (k ∷ kinds) opaque e all =
-    let both = and_parts (test (k.read e)) (all_read test kinds e) all in
-    elim (cases_Bool (has_form e k.type k.size)) [
-      | inl is ↦ rw is (inl both.0)
-      | inr not ↦ rw not (typed_or_opaque test kinds opaque e both.1)
-    ]
+pub srat_kept : (e : List ℕ) → IsEntry e → ¬ IsTypeOf srat.srat_kinds (slice_index e 0)
+    → srat.srat_entry e ≡ srat.Opaque e
+unfolding srat.srat_entry
+srat_kept e is other = none_reads srat.srat_kinds srat.Opaque e other
 
 -- ---- what is written for an entry
 

@@ -3,7 +3,7 @@ use Rattle.std.proofs.Common.{◌≡◌, ℕ, suc, ◌+◌, ◌<◌, ◌≤◌, 
 use Rattle.std.specs.Prelude.{Result, Ok, Err, OnOk}
 use Rattle.std.specs.List.{All}
 use Rattle.acpi_base.proofs.Layouts.RoundTrip.{length-number_bytes}
-use Rattle.std.proofs.lemmas.List.{drop_more, drop_all, take_all, take_more}
+use Rattle.std.proofs.lemmas.List.{drop_more, drop_all, take_all, take_more, length-replicate}
 use Rattle.std.proofs.lemmas.List.Elements.{All-push}
 
 -- what is still to come begins with the entry at the index
@@ -28,6 +28,8 @@ joined_values f value (x ∷ xs) = ap (λ (bs : List ℕ). f (value x) ++ bs) (j
 pub ruleset bodies = (joined_values, append_assoc)
 
 pub ruleset encoded_sizes = (joined_values, length-append, length-number_bytes, length-drop)
+
+pub ruleset entry_sizes = (length-append, length-number_bytes, length-replicate)
 
 pub ruleset entry_lists = (joined_more, joined_all, all_more, all_of, append_assoc, length-append)
 

@@ -1,4 +1,4 @@
--- The bytes of a node: how many there are, and what they say.
+-- The bytes of entries of a PPTT: what they say, and how many a node has.
 use Rattle.std.proofs.Common.{◌≡◌, ℕ, zero, suc, ◌+◌, ◌*◌, ◌/◌, ◌%◌, ◌≤◌, ◌<◌, List, [], ◌∷◌, ◌++◌, length, get_or, take, drop, map, flat_map, refl, sym, ap, subst, ◌∙◌, arith, append_assoc, length-append, length-drop}
 use Rattle.std.specs.Prelude.{slice_index}
 use Rattle.std.specs.List.{range_with_len}
@@ -6,27 +6,30 @@ use Rattle.std.proofs.lemmas.List.{drop_all, drop-drop, get_or-drop, take-append
 use Rattle.std.proofs.lemmas.List.FromFn.{length-map-range_with_len}
 use Rattle.acpi_base.specs.Number.{field, number_bytes}
 use Rattle.acpi_base.specs.Layouts.{layout_bytes, HasValues}
-use Rattle.acpi_base.specs.Entries.{IsEntry}
-use Rattle.acpi_base.specs.Pptt.{pptt_entry, Node}
-use Rattle.acpi_base.proofs.Layouts.RoundTrip.{length-number_bytes}
-use Rattle.acpi_read.specs.Pptts.{node_head_parts, node_head_values, node_value}
-use Rattle.acpi_read.specs.declared.pptt.node_head.NodeHead.{NodeHead}
+use Rattle.acpi_base.specs.Entries.{IsEntry, IsEntryOf}
+use Rattle.acpi_base.specs.Pptt.{pptt_entry, Node, CacheValue, cache24, cache28, Cache, Opaque}
 use Rattle.acpi_base.proofs.Layouts.Kinds.{byte_field}
-use Rattle.acpi_read.proofs.PpttKinds.{node_typed}
-use Rattle.acpi_read.specs.Pptts.{pptt_bytes}
+use Rattle.acpi_read.specs.Pptts.{node_head_parts, node_head_values, node_value, pptt_bytes}
+use Rattle.acpi_read.specs.declared.pptt.node_head.NodeHead.{NodeHead}
+use Rattle.acpi_read.proofs.PpttKinds.{node_typed, cache24_typed, cache28_typed, others_opaque}
 use Rattle.acpi_write.specs.Spells.{SaysEntry}
+use Rattle.acpi_write.proofs.EntryBytes.EntryForms.{is_entry}
+use Rattle.acpi_write.proofs.EntryBytes.EntryLengths.{length-node}
 
--- each reference has 4 bytes
-references_length : (rs : List ℕ) → length (flat_map (λ r. number_bytes 4 r) rs) ≡ 4 * length rs
-references_length [] = refl
-references_length (r ∷ rs) = omega (arith, length-append (number_bytes 4 r) (flat_map (λ r. number_bytes 4 r) rs), length-number_bytes 4 r, references_length rs)
+pub cache24_says : (e : List ℕ) (v : CacheValue) → IsEntryOf cache24 e v → SaysEntry pptt_entry e (Cache v)
+cache24_says e v is = (is_entry cache24 (omega arith) e v is, sym (cache24_typed e v is))
+
+pub cache28_says : (e : List ℕ) (v : CacheValue) → IsEntryOf cache28 e v → SaysEntry pptt_entry e (Cache v)
+cache28_says e v is = (is_entry cache28 (omega arith) e v is, sym (cache28_typed e v is))
+
+-- an entry of another type is kept as it is
+pub pptt_kept : (e : List ℕ) → IsEntry e → 2 ≤ slice_index e 0 → pptt_entry e ≡ Opaque e
+pptt_kept e is other = sym (others_opaque e (λ h. absurd (omega (arith, h, other))) (λ h. absurd (omega (arith, h, other))))
+
+pub ruleset pptt_says = (cache24_says, cache28_says, pptt_kept)
 
 pub node_length : (h : NodeHead) (references : List ℕ) → length (pptt_bytes (Node (node_value h references))) ≡ 20 + 4 * h.count
-node_length h references =
-    let v = node_value h references in
-    let count : length v.resources ≡ h.count = length-map-range_with_len (λ j. field references (4 * j) 4) 0 h.count in
-    let rest = references_length v.resources in
-    simp (length-append, length-number_bytes, rest, count) (omega arith)
+node_length h references = length-node (node_value h references) ∙ ap (λ (n : ℕ). 20 + 4 * n) (length-map-range_with_len (λ j. field references (4 * j) 4) 0 h.count)
 
 pub few_references : (h : NodeHead) → h.count ≤ 58
 few_references h = h.fits

@@ -13,8 +13,7 @@ use Rattle.acpi_write.specs.Encoded.{table_bytes}
 use Rattle.acpi_write.specs.FadtBody.{put_over, with_facs}
 use Rattle.acpi_write.specs.Laws.{FadtsNameFacs}
 use Rattle.acpi_write.proofs.TablesWritten.FadtBodies.{length-put_over, with_facs-wide, with_facs-narrow, length-with_facs}
-use Rattle.acpi_write.proofs.TablesWritten.KeptContents.{fits_head, length_of_parts}
-use Rattle.acpi_write.proofs.TablesWritten.WholeTables.{fadt_table}
+use Rattle.acpi_write.proofs.TablesWritten.WholeTables.{whole_table, length_of_parts, fits_head}
 
 -- ---- bytes put over others
 
@@ -131,7 +130,7 @@ fadts_name_facs whole facs is low small sound fits narrow =
     let behind = length-drop 36 whole in
     let least = sound.long in
     let n = length-with_facs body facs (omega (arith, behind, least)) in
-    let table = fadt_table (head_of whole) (with_facs body facs) (fits_head whole low is.least) (omega (arith, n, behind, small, least)) in
+    let table = whole_table fadt_signature (head_of whole) (with_facs body facs) refl (fits_head whole low is.least) (omega (arith, n, behind, small, least)) in
     let new = table_bytes fadt_signature (head_of whole) (with_facs body facs) in
     let count = length_of_parts new (with_facs body facs) table.0.least table.1 in
     let alike : AreAlike whole new =

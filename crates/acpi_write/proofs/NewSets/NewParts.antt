@@ -1,16 +1,13 @@
 -- Where the parts of a rebuilt image stand.
-use Rattle.std.proofs.Common.{◌≡◌, ℕ, suc, ◌+◌, ◌*◌, ◌%◌, ◌^◌, ◌<◌, ◌≤◌, List, [], ◌∷◌, ◌++◌, length, get_or, drop, map, Option, Some, None, refl, ap, ◌∙◌, subst, arith}
+use Rattle.std.proofs.Common.{◌≡◌, ℕ, suc, ◌+◌, ◌%◌, ◌^◌, ◌<◌, ◌≤◌, List, [], ◌∷◌, ◌++◌, length, get_or, drop, map, Option, Some, None, refl, subst, arith}
 use Rattle.std.specs.List.{AllByRecursion, AllZip}
-use Rattle.std.proofs.lemmas.List.{map-append}
 use Rattle.acpi_base.specs.Memory.{Memory}
-use Rattle.acpi_write.specs.Encoded.{FitsHead, encoded_length}
+use Rattle.acpi_write.specs.Encoded.{encoded_length, encoded_bytes_with}
 use Rattle.acpi_write.specs.Placed.{block_ends, DoEndInside, IsPlaced}
-use Rattle.acpi_write.specs.Rebuilt.{aligned_address, blocks_from, block_places, option_list, place_of_facs, part_lengths, part_places, part_bytes, facs_place, table_places, xsdt_length, encoded_bytes_with, rebuilt_image, HoldsBlock}
+use Rattle.acpi_write.specs.Rebuilt.{aligned_address, blocks_from, block_places, option_list, place_of_facs, part_lengths, part_places, part_bytes, facs_place, table_places, xsdt_length, rebuilt_image, HoldsBlock}
 use Rattle.acpi_write.specs.Values.{SetValue}
-use Rattle.acpi_write.proofs.NewSets.NewImage.{Holds, tables_are}
-use Rattle.acpi_write.proofs.NewSets.NewRoot.{xsdt_written}
+use Rattle.acpi_write.proofs.NewSets.NewImage.{Holds}
 use Rattle.acpi_write.proofs.NewSets.RebuiltParts.{aligned_from, parts_are_held}
-use Rattle.acpi_write.proofs.TablesWritten.RsdpBytes.{rsdp_written}
 
 -- ---- blocks at their places
 
@@ -26,27 +23,11 @@ zip_behind R xs [] back zip = zip
 zip_behind R [] (y ∷ ys) back zip = absurd zip
 zip_behind R (x ∷ xs) (y ∷ ys) back zip = zip_behind R xs ys back zip.1
 
--- the tables that are written have the lengths that places are counted with
-abbrev pub HaveTheirSizes : SetValue → ℕ → Type 0
-HaveTheirSizes v base = map length (map (encoded_bytes_with (facs_place v base)) v.tables) ≡ map encoded_length v.tables
-
-lengths_are : (v : SetValue) (base : ℕ) → length v.oemid ≡ 6 → FitsHead v.root → IsPlaced v base → HaveTheirSizes v base → map length (part_bytes v base) ≡ part_lengths v
-unfolding block_places block_ends
-lengths_are v base oemid head placed sizes =
-    let xsdt = aligned_address (base + 36) in
-    let end = placed.inside.1.0 in
-    let tables = tables_are v base placed in
-    let rsdp = rsdp_written v.oemid xsdt oemid (omega (arith, end)) in
-    let root = xsdt_written v.root (table_places v base) head (omega (arith, tables.0, placed.size)) tables.1 in
-    let root_count = root.count ∙ ap (λ (n : ℕ). 36 + 8 * n) tables.0 in
-    let behind = map-append length (option_list v.facs) (map (encoded_bytes_with (facs_place v base)) v.tables) ∙ ap (λ (ns : List ℕ). map length (option_list v.facs) ++ ns) sizes in
-    λ i. rsdp.count i ∷ root_count i ∷ behind i
-
 -- each part stands at its place
-pub parts_stand : (v : SetValue) (base : ℕ) → length v.oemid ≡ 6 → FitsHead v.root → IsPlaced v base → HaveTheirSizes v base → AllZip (Holds (rebuilt_image v base)) (part_places v base) (part_bytes v base)
-parts_stand v base oemid head placed sizes =
-    subst (λ (ns : List ℕ). AllZip (Holds (rebuilt_image v base)) (block_places base ns) (part_bytes v base)) (lengths_are v base oemid head placed sizes)
-    (laid_stand (rebuilt_image v base) base (part_bytes v base) (parts_are_held v base))
+pub parts_stand : (v : SetValue) (base : ℕ) → map length (part_bytes v base) ≡ part_lengths v
+    → AllZip (Holds (rebuilt_image v base)) (part_places v base) (part_bytes v base)
+parts_stand v base lengths =
+    subst (λ (ns : List ℕ). AllZip (Holds (rebuilt_image v base)) (block_places base ns) (part_bytes v base)) lengths (laid_stand (rebuilt_image v base) base (part_bytes v base) (parts_are_held v base))
 
 -- ---- the tables
 

@@ -1,5 +1,5 @@
 -- The tables of a rebuilt image.
-use Rattle.std.proofs.Common.{◌≡◌, ℕ, List, [], ◌∷◌, length, take, drop, map, refl, sym, ap, ◌∙◌, subst, inr, arith}
+use Rattle.std.proofs.Common.{ℕ, List, [], ◌∷◌, take, drop, map, refl, sym, ap, ◌∙◌, subst, inr, arith}
 use Rattle.std.specs.List.{AllByRecursion, AllZip, list_any}
 use Rattle.acpi_base.specs.Memory.{Memory, IsImage}
 use Rattle.acpi_base.specs.Header.{head_of}
@@ -7,11 +7,11 @@ use Rattle.acpi_base.specs.Listed.{listed_addresses, fadt_signature, IsListedTab
 use Rattle.acpi_base.specs.Policy.{PolicyValue}
 use Rattle.acpi_base.specs.Statements.{IsClean, AreSoundTables}
 use Rattle.acpi_base.proofs.Root.Slots.{slot_of_root}
-use Rattle.acpi_write.specs.Encoded.{encoded_length, table_bytes}
+use Rattle.acpi_write.specs.Encoded.{table_bytes, encoded_bytes_with}
 use Rattle.acpi_write.specs.FadtBody.{with_facs}
 use Rattle.acpi_write.specs.Laws.{NamesFacs}
 use Rattle.acpi_write.specs.Placed.{is_narrow, IsPlaced, LeadsToTables}
-use Rattle.acpi_write.specs.Rebuilt.{table_places, encoded_bytes_with, facs_place, rebuilt_image}
+use Rattle.acpi_write.specs.Rebuilt.{table_places, facs_place, rebuilt_image}
 use Rattle.acpi_write.specs.SetValues.{IsWholeAt, IsFacsOf, IsSetValue}
 use Rattle.acpi_write.specs.Values.{TableValue, SetValue}
 use Rattle.acpi_write.specs.Views.{IsWholeTable}
@@ -20,8 +20,9 @@ use Rattle.acpi_write.proofs.OldSets.FirstTables.{AreCleanTables, new_tables, cl
 use Rattle.acpi_write.proofs.NewSets.NamedFacs.{fadts_name_facs}
 use Rattle.acpi_write.proofs.NewSets.NewFacs.{place_fits}
 use Rattle.acpi_write.proofs.NewSets.NewImage.{Holds, table_held, leads_to_tables}
-use Rattle.acpi_write.proofs.NewSets.NewParts.{HasFacsPlace, HaveTheirSizes, parts_stand, tables_stand, facs_stands}
-use Rattle.acpi_write.proofs.NewSets.NewTables.{new_whole, sizes_again, fadt_again, narrow_first}
+use Rattle.acpi_write.proofs.NewSets.NewParts.{HasFacsPlace, parts_stand, tables_stand, facs_stands}
+use Rattle.acpi_write.proofs.NewSets.NewTables.{new_whole, fadt_again, narrow_first}
+use Rattle.acpi_write.proofs.SetParts.PartPlaces.{clean_parts_are_laid}
 use Rattle.acpi_write.proofs.OldSets.OldTables.{listed_of, clean_tables, oemid_is_six, root_fits_head}
 
 -- ---- what stands
@@ -47,8 +48,7 @@ new_set m q v base image clean said placed =
     let tables = clean_tables m q ts image clean (listed_of m q.rsdp v said) in
     let oemid = oemid_is_six m q.rsdp v said in
     let head = root_fits_head m q.rsdp v image said in
-    let sizes : HaveTheirSizes v base = subst (λ (vs : List TableValue). map length (map (encoded_bytes_with facs) vs) ≡ map encoded_length vs) (sym said.values) (sizes_again facs ts tables) in
-    let parts = parts_stand v base oemid head placed sizes in
+    let parts = parts_stand v base (clean_parts_are_laid m q v base clean said).lengths in
     let leads = leads_to_tables v base oemid head placed in
     let stand : AllZip (Holds n) (table_places v base) (new_tables facs ts) =
     subst (λ (vs : List TableValue). AllZip (Holds n) (table_places v base) (map (encoded_bytes_with facs) vs)) said.values (tables_stand v base parts) in
@@ -93,11 +93,11 @@ new_fadt m q v base old said placed new is =
     let ts = said.tables in
     let first = first_of_listed m q.rsdp ts fadt_signature old (listed_of m q.rsdp v said) refl is in
     let one = clean_first fadt_signature ts old new.clean first in
-    let long = (new.clean.fadt old first).long in
+    let long = (new.clean.sound old first).long in
     let facs = said.facs old is in
     record {
       facs = facs;
-      names = fadts_name_facs old place one.table one.bytes one.small (new.clean.fadt old first) (place_fits m n old v.facs place facs new.facs) (λ short.
+      names = fadts_name_facs old place one.table one.bytes one.small (new.clean.sound old first) (place_fits m n old v.facs place facs new.facs) (λ short.
           placed.low (ap (λ (vs : List TableValue). list_any is_narrow vs) said.values ∙ narrow_first ts old first (omega (arith, long)) short));
       listed = listed_first n base (new_tables place ts) fadt_signature (named_fadt old place) (new_listed v base ts new) refl (fadt_again place ts old new.clean first);
     }

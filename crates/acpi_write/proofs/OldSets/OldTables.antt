@@ -1,29 +1,35 @@
 -- What the tables, the root, the RSDP and the FACS of a clean set are.
-use Rattle.std.proofs.Common.{◌≡◌, ℕ, zero, suc, ◌^◌, ◌<◌, ◌≤◌, true, List, [], ◌∷◌, length, take, drop, get_or, Some, refl, sym, ap, ◌∙◌, subst, arith, length-drop}
-use Rattle.std.specs.List.{AllByRecursion, AllZip}
+use Rattle.std.proofs.Common.{◌≡◌, ℕ, zero, suc, ◌^◌, ◌<◌, ◌≤◌, true, List, [], ◌∷◌, length, take, drop, get_or, refl, sym, ap, ◌∙◌, subst, arith, length-drop, Option, Some, None}
+use Rattle.std.specs.List.{AllByRecursion, AllZip, All}
 use Rattle.std.proofs.lemmas.List.{length-take-le}
+use Rattle.std.proofs.lemmas.List.Elements.{All-cons, All-nil}
 use Rattle.acpi_base.specs.Memory.{Memory, IsImage, byte_of}
 use Rattle.acpi_base.specs.Fadt.{IsSoundFadtTable}
 use Rattle.acpi_base.specs.Facs.{IsFacs, facs_signature, facs_length}
-use Rattle.acpi_base.specs.Listed.{listed_addresses, fadt_signature, madt_signature, srat_signature, slit_signature, pptt_signature}
+use Rattle.acpi_base.specs.Listed.{listed_addresses, fadt_signature}
 use Rattle.acpi_base.specs.Policy.{PolicyValue}
 use Rattle.acpi_base.specs.Signature.{has_signature}
 use Rattle.acpi_base.specs.Tables.{length_of}
 use Rattle.acpi_base.specs.Statements.{IsClean}
+use Rattle.acpi_base.specs.TableKinds.{signature_of}
 use Rattle.acpi_base.specs.declared.stage.Stage.TheVariants as stage
 use Rattle.acpi_base.proofs.Images.HeldBytes.{bytes_below, held_field_below, says_length, length-bytes_at, same_value}
 use Rattle.acpi_base.proofs.Images.ByteRuns.{run_of-take}
+use Rattle.acpi_base.proofs.Tables.Kinds.{length-signature_of}
 use Rattle.acpi_base.proofs.Tables.Listed.{one_listed}
 use Rattle.acpi_base.proofs.Tables.Whole.{length-table}
 use Rattle.acpi_write.specs.Encoded.{FitsHead}
 use Rattle.acpi_write.specs.Laws.{AreByteValues}
 use Rattle.acpi_write.specs.Kinds.{AreReadable}
-use Rattle.acpi_write.specs.SetValues.{IsWholeAt, IsSetValue}
+use Rattle.acpi_write.specs.SetValues.{IsWholeAt, IsSetValue, IsFacsOf}
 use Rattle.acpi_write.specs.Values.{SetValue}
-use Rattle.acpi_write.proofs.OldSets.CleanSets.{clean_readable, readable_madt, readable_srat, readable_slit, readable_pptt}
+use Rattle.acpi_write.specs.Rebuilt.{option_list}
+use Rattle.acpi_write.proofs.OldSets.CleanSets.{clean_readable}
 use Rattle.acpi_write.proofs.OldSets.FirstListed.{AreListed, listed_first}
-use Rattle.acpi_write.proofs.OldSets.FirstTables.{first_table_with, IsCleanTable, AreCleanTables}
-use Rattle.acpi_write.proofs.TablesWritten.KeptContents.{fits_head}
+use Rattle.acpi_write.proofs.OldSets.FirstTables.{AreCleanTables}
+use Rattle.acpi_write.proofs.Tables.Kinds.{facts}
+use Rattle.acpi_write.proofs.TablesWritten.KeptContents.{IsCleanTable}
+use Rattle.acpi_write.proofs.TablesWritten.WholeTables.{fits_head}
 use Rattle.acpi_write.proofs.NewSets.NewImage.{signed_front}
 
 -- ---- of two lists
@@ -74,14 +80,11 @@ clean_each m q ts image clean are =
 
 pub clean_tables : (m : Memory) (q : PolicyValue) (ts : List (List ℕ)) → IsImage m → IsClean m q → AreListed m q.rsdp ts → AreCleanTables ts
 clean_tables m q ts image clean are =
-    let first = λ (signature : List ℕ) (t : List ℕ) (four : length signature ≡ 4) (is : first_table_with signature ts ≡ Some t). listed_first m q.rsdp ts signature t are four is in
+    let fadt = clean stage.Fadt in
     record {
       each = clean_each m q ts image clean are;
-      fadt = λ t is. subst IsSoundFadtTable (one_listed m q.rsdp fadt_signature (clean stage.Fadt).whole t (clean stage.Fadt).fadt (first fadt_signature t refl is)) (clean stage.Fadt).sound;
-      madt = λ t is. (let can = readable_madt q t (clean stage.Madt t (first madt_signature t refl is)) in (can.long, can.filled));
-      srat = λ t is. (let can = readable_srat t (clean stage.Srat t (first srat_signature t refl is)) in (can.long, can.filled));
-      slit = λ t is. (readable_slit t (clean stage.Slit t (first slit_signature t refl is))).long;
-      pptt = λ t is. (readable_pptt t (clean stage.Pptt t (first pptt_signature t refl is))).filled;
+      readable = λ kind t is. (facts kind).readable m q t clean (listed_first m q.rsdp ts (signature_of kind) t are (length-signature_of kind) is);
+      sound = λ t is. subst IsSoundFadtTable (one_listed m q.rsdp fadt_signature fadt.whole t fadt.fadt (listed_first m q.rsdp ts fadt_signature t are refl is)) fadt.sound;
     }
 
 -- ---- the RSDP and the root
@@ -113,3 +116,16 @@ facs_bytes m f bytes is =
       size = says_length m f 8 is.prefix bytes (omega arith) (omega (arith, is.least)) is.prefix_held is.held;
       least = omega (arith, count, is.least);
     }
+
+-- a FACS has bytes, since it has at least 64
+facs_of : (m : Memory) (fadt : List ℕ) (facs : Option (List ℕ)) → IsFacsOf m fadt facs → All (λ bytes. 0 < length bytes) (option_list facs)
+facs_of m fadt None is = All-nil (λ (bytes : List ℕ). 0 < length bytes)
+facs_of m fadt (Some bytes) is =
+    let count = length-bytes_at m _ _ bytes is.1.held in
+    let least = is.1.least in
+    All-cons (λ (b : List ℕ). 0 < length b) bytes [] (omega (arith, count, least)) (All-nil (λ (b : List ℕ). 0 < length b))
+
+pub facs_some : (m : Memory) (q : PolicyValue) (v : SetValue) → IsClean m q → IsSetValue m q.rsdp v → All (λ bytes. 0 < length bytes) (option_list v.facs)
+facs_some m q v clean said =
+    let fadt = clean stage.Fadt in
+    facs_of m fadt.whole v.facs (said.facs fadt.whole fadt.fadt)

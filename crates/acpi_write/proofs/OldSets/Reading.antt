@@ -1,6 +1,7 @@
 -- Which tables are read as those of a kind, and what tables say, from table to table.
 use Rattle.std.proofs.Common.{◌≡◌, ℕ, suc, ◌+◌, ◌<◌, Bool, true, false, List, [], ◌∷◌, ◌++◌, length, take, get_or, Option, Some, None, refl, sym, ap, ◌∙◌, arith, append_assoc}
 use Rattle.std.specs.Prelude.{not, ◌&&◌, ◌||◌, is_none, if◌then◌else◌}
+use Rattle.std.proofs.lemmas.List.{append-nil}
 use Rattle.std.proofs.lemmas.List.Folds.{list_any-append}
 use Rattle.std.proofs.Math.Seq.{take-suc}
 use Rattle.acpi_base.specs.Signature.{has_signature}
@@ -48,11 +49,7 @@ kind_behind tables whole firsts None has none = λ kind. rw (← has kind) (none
 -- one more table behind them
 pub values_more : (before tables : List (List ℕ)) (whole : List ℕ) → values_behind before (tables ++ whole ∷ []) ≡ values_behind before tables ++ table_value_behind (before ++ tables) whole ∷ []
 unfolding values_behind
-values_more before [] whole = ap (λ b. table_value_behind b whole ∷ []) (sym (nothing before))
-  where
-    nothing : (xs : List (List ℕ)) → xs ++ [] ≡ xs
-    nothing [] = refl
-    nothing (x ∷ xs) = ap (λ l. x ∷ l) (nothing xs)
+values_more before [] whole = ap (λ b. table_value_behind b whole ∷ []) (sym (append-nil before))
 values_more before (t ∷ ts) whole =
     ap (λ vs. table_value_behind before t ∷ vs)
     (values_more (before ++ t ∷ []) ts whole ∙ ap (λ b. values_behind (before ++ t ∷ []) ts ++ table_value_behind b whole ∷ []) (append_assoc before (t ∷ []) ts))

@@ -1,20 +1,20 @@
 -- What a table says behind others, and when another table says the same there.
-use Rattle.std.proofs.Common.{◌≡◌, ℕ, ◌+◌, true, false, List, length, take, drop, Option, Some, None, refl, sym, ap, ◌∙◌, subst, inl, inr, arith, length-drop}
+use Rattle.std.proofs.Common.{◌≡◌, ℕ, Bool, true, false, cond, List, [], ◌∷◌, length, take, Option, Some, None, refl, sym, ap, ◌∙◌, subst}
 use Rattle.std.specs.Cmp.Lexicographic.{same_text}
-use Rattle.std.proofs.lemmas.Bool.{cases_Bool, both_ways}
+use Rattle.std.specs.List.{AllByRecursion, find}
+use Rattle.std.proofs.lemmas.Bool.{both_ways}
 use Rattle.acpi_base.specs.Header.{head_of}
 use Rattle.acpi_base.specs.Signature.{has_signature}
-use Rattle.acpi_base.specs.Listed.{fadt_signature, madt_signature, srat_signature, slit_signature, pptt_signature}
 use Rattle.acpi_base.specs.TableKinds.{signature_of}
 use Rattle.acpi_base.specs.declared.table_kind.TableKind.{TableKind}
-use Rattle.acpi_base.specs.declared.table_kind.TableKind.TheVariants as kind
 use Rattle.acpi_base.proofs.Tables.Kinds.{one_kind, length-signature_of}
-use Rattle.acpi_write.specs.Encoded.{encoded_length}
-use Rattle.acpi_write.specs.Kinds.{table_value_as, is_among, IsKindBehind}
-use Rattle.acpi_write.specs.SetValues.{is_first, table_value_behind}
+use Rattle.acpi_write.specs.Bodies.{kinds}
+use Rattle.acpi_write.specs.Kinds.{is_among, IsKindBehind}
+use Rattle.acpi_write.specs.SetValues.{is_first, table_value_behind, table_value_as}
 use Rattle.acpi_write.specs.Spells.{IsTableOf}
 use Rattle.acpi_write.specs.Views.{IsWholeTable}
 use Rattle.acpi_write.proofs.OldSets.FirstTables.{first_parts}
+use Rattle.acpi_write.proofs.Tables.Kinds.{each_kind}
 
 -- ---- what a table says behind others
 
@@ -28,35 +28,33 @@ one_behind before whole (Some one) (Some other) is also =
     (first_parts (has_signature whole (signature_of one)) (is_among before (signature_of one)) is).0
     (first_parts (has_signature whole (signature_of other)) (is_among before (signature_of other)) also).0)
 
--- the first of none of the five
-none_behind : (before : List (List ℕ)) (whole : List ℕ) → is_first before whole fadt_signature ≡ false → is_first before whole madt_signature ≡ false → is_first before whole srat_signature ≡ false
-    → is_first before whole slit_signature ≡ false → is_first before whole pptt_signature ≡ false → IsKindBehind before whole None
-none_behind before whole fadt madt srat slit pptt kind.Fadt = fadt
-none_behind before whole fadt madt srat slit pptt kind.Madt = madt
-none_behind before whole fadt madt srat slit pptt kind.Srat = srat
-none_behind before whole fadt madt srat slit pptt kind.Slit = slit
-none_behind before whole fadt madt srat slit pptt kind.Pptt = pptt
+-- the first of the kinds that passes a test, or that none does
+FoundIn : (TableKind → Bool) → List TableKind → Option TableKind → Type 0
+FoundIn test ks (Some kind) = test kind ≡ true
+FoundIn test ks None = AllByRecursion (λ kind. test kind ≡ false) ks
+
+found_in : (test : TableKind → Bool) (ks : List TableKind) → FoundIn test ks (find test ks)
+unfolding FoundIn
+found_in test [] = tt
+found_in test (k ∷ ks) = by (test k) (find test ks) refl (found_in test ks)
+  where
+    by : (here : Bool) (rest : Option TableKind) → test k ≡ here → FoundIn test ks rest
+        → FoundIn test (k ∷ ks) (cond here (Some k) rest)
+    by true rest is found = is
+    by false (Some other) is found = found
+    by false None is found = (is, found)
 
 -- every table is the first of a kind or of none, and says what it says as such
 pub kind_found : (before : List (List ℕ)) (whole : List ℕ) → (kind : Option TableKind) × IsKindBehind before whole kind × (table_value_behind before whole ≡ table_value_as kind whole)
-unfolding table_value_behind
-kind_found before whole =
-    elim (cases_Bool (is_first before whole fadt_signature)) [
-      | inl is ↦ (Some kind.Fadt, is, rw is refl)
-      | inr fadt ↦ elim (cases_Bool (is_first before whole madt_signature)) [
-        | inl is ↦ (Some kind.Madt, is, rw (fadt, is) refl)
-        | inr madt ↦ elim (cases_Bool (is_first before whole srat_signature)) [
-          | inl is ↦ (Some kind.Srat, is, rw (fadt, madt, is) refl)
-          | inr srat ↦ elim (cases_Bool (is_first before whole slit_signature)) [
-            | inl is ↦ (Some kind.Slit, is, rw (fadt, madt, srat, is) refl)
-            | inr slit ↦ elim (cases_Bool (is_first before whole pptt_signature)) [
-              | inl is ↦ (Some kind.Pptt, is, rw (fadt, madt, srat, slit, is) refl)
-              | inr pptt ↦ (None, none_behind before whole fadt madt srat slit pptt, rw (fadt, madt, srat, slit, pptt) refl)
-            ]
-          ]
-        ]
-      ]
-    ]
+unfolding table_value_behind FoundIn
+kind_found before whole = (find test kinds, behind (find test kinds) (found_in test kinds), refl)
+  where
+    test : TableKind → Bool
+    test kind = is_first before whole (signature_of kind)
+
+    behind : (kind : Option TableKind) → FoundIn test kinds kind → IsKindBehind before whole kind
+    behind (Some kind) found = found
+    behind None none = each_kind (λ kind. test kind ≡ false) none
 
 pub says : (before : List (List ℕ)) (whole : List ℕ) (kind : Option TableKind) → IsKindBehind before whole kind → table_value_behind before whole ≡ table_value_as kind whole
 says before whole kind is =
@@ -74,7 +72,6 @@ pub record IsRewritten (before : List (List ℕ)) (old new : List ℕ) : Type 0 
   pub table : IsWholeTable new
   pub signature : (s : List ℕ) → length s ≡ 4 → has_signature new s ≡ has_signature old s
   pub said : (others : List (List ℕ)) → AmongAlike others before → table_value_behind others new ≡ table_value_behind before old
-  pub count : length new ≡ encoded_length (table_value_behind before old)
 
 first_letters : (bytes signature : List ℕ) → length signature ≡ 4 → has_signature bytes signature ≡ true → take 4 bytes ≡ signature
 unfolding has_signature
@@ -89,8 +86,8 @@ first_same others before new old s among has = rw (among, has) refl
 
 -- of a kind
 pub as_first : (kind : TableKind) (before : List (List ℕ)) (old new : List ℕ) → is_first before old (signature_of kind) ≡ true → IsTableOf (signature_of kind) (head_of old) new
-    → table_value_as (Some kind) new ≡ table_value_as (Some kind) old → length new ≡ encoded_length (table_value_as (Some kind) old) → IsRewritten before old new
-as_first kind before old new is table same count =
+    → table_value_as (Some kind) new ≡ table_value_as (Some kind) old → IsRewritten before old new
+as_first kind before old new is table same =
     let signature = signature_of kind in
     let four = length-signature_of kind in
     let has = (first_parts (has_signature old signature) (is_among before signature) is).0 in
@@ -100,7 +97,6 @@ as_first kind before old new is table same count =
       signature = has_same new old letters;
       said = λ others alike.
           says others new (Some kind) (first_same others before new old signature (alike signature four) (has_same new old letters signature four) ∙ is) ∙ same ∙ sym (says before old (Some kind) is);
-      count = count ∙ ap encoded_length (sym (says before old (Some kind) is));
     }
 
 -- any other
@@ -111,5 +107,4 @@ as_it_was before old none whole =
       signature = λ s four. refl;
       said = λ others alike.
           says others old None (λ kind. first_same others before old old (signature_of kind) (alike (signature_of kind) (length-signature_of kind)) refl ∙ none kind) ∙ sym (says before old None none);
-      count = (let behind = length-drop 36 old in let least = whole.least in let same : length old ≡ 36 + length (drop 36 old) = omega (arith, behind, least) in same) ∙ ap encoded_length (sym (says before old None none));
     }

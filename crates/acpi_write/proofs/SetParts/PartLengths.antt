@@ -1,21 +1,42 @@
--- The lengths of a set's parts.
-use Rattle.std.proofs.Common.{◌≡◌, ℕ, zero, suc, ◌+◌, ◌*◌, ◌<◌, ◌≤◌, List, [], ◌∷◌, ◌++◌, length, get_or, drop, map, Option, Some, None, true, false, refl, sym, ap, ◌∙◌, arith}
+-- The places and the lengths of a set's parts.
+use Rattle.std.proofs.Common.{◌≡◌, ℕ, zero, suc, ◌+◌, ◌*◌, ◌<◌, ◌≤◌, List, [], ◌∷◌, ◌++◌, length, get_or, drop, map, Option, Some, None, true, false, refl, sym, ap, ◌∙◌, arith, ◌/◌, ◌^◌, subst}
 use Rattle.std.specs.List.{All, list_any}
 use Rattle.std.specs.Option.{option_map}
 use Rattle.std.specs.Prelude.{is_some, slice_index, ◌||◌}
 use Rattle.std.proofs.lemmas.List.{drop_more, drop_all, length-map}
 use Rattle.std.proofs.lemmas.List.Elements.{All-append, All-map}
+use Rattle.std.proofs.lemmas.Simd.{map-map}
 use Rattle.acpi_write.specs.Encoded.{encoded_length}
-use Rattle.acpi_write.specs.Placed.{is_narrow}
-use Rattle.acpi_write.specs.Rebuilt.{block_places, option_list, place_of_facs, part_lengths, part_places, facs_place}
+use Rattle.acpi_write.specs.Placed.{is_narrow, block_ends, DoEndInside}
+use Rattle.acpi_write.specs.Rebuilt.{block_places, option_list, place_of_facs, part_lengths, part_places, facs_place, aligned_address}
 use Rattle.acpi_write.specs.Values as value
 use Rattle.acpi_write.specs.Views.{set_value, table_value}
 use Rattle.acpi_write.specs.declared.set_value.SetValue.{SetValue}
 use Rattle.acpi_write.specs.declared.table_value.TableValue.{TableValue}
 
-lengths_of_values : (tables : List TableValue) → map (λ t. encoded_length (table_value t)) tables ≡ map encoded_length (map table_value tables)
-lengths_of_values [] = refl
-lengths_of_values (t ∷ ts) = ap (λ (ns : List ℕ). encoded_length (table_value t) ∷ ns) (lengths_of_values ts)
+-- the length at the index is the first of those to come
+next_length : (ns : List ℕ) (i n : ℕ) → i < length ns → n ≡ get_or ns i 0 → drop i ns ≡ n ∷ drop (i + 1) ns
+next_length ns i n h e = drop_more ns i 0 h ∙ ap (λ (x : ℕ). x ∷ drop (i + 1) ns) (sym e)
+
+pub next_place : (a : ℕ) (ns : List ℕ) (i n : ℕ) → i < length ns → n ≡ get_or ns i 0 → block_places a (drop i ns) ≡ a ∷ block_places ((a + n + 63) / 64 * 64) (drop (i + 1) ns)
+unfolding block_places aligned_address
+next_place a ns i n h e = ap (block_places a) (next_length ns i n h e)
+
+pub next_inside : (a : ℕ) (ns : List ℕ) (i n : ℕ) → i < length ns → n ≡ get_or ns i 0 → DoEndInside (block_ends a (drop i ns)) → (a + n ≤ 2 ^ 64) × DoEndInside (block_ends ((a + n + 63) / 64 * 64) (drop (i + 1) ns))
+unfolding block_ends aligned_address
+next_inside a ns i n h e all = subst (λ (xs : List ℕ). DoEndInside (block_ends a xs)) (next_length ns i n h e) all
+
+pub inside_before : (a : ℕ) (ns : List ℕ) (i n : ℕ) → i < length ns → n ≡ get_or ns i 0 → a + n ≤ 2 ^ 64 → DoEndInside (block_ends ((a + n + 63) / 64 * 64) (drop (i + 1) ns)) → DoEndInside (block_ends a (drop i ns))
+unfolding block_ends aligned_address
+inside_before a ns i n h e fits all = subst (λ (xs : List ℕ). DoEndInside (block_ends a xs)) (sym (next_length ns i n h e)) (fits, all)
+
+pub no_places : (a : ℕ) (ns : List ℕ) (i : ℕ) → length ns ≤ i → block_places a (drop i ns) ≡ []
+unfolding block_places
+no_places a ns i h = ap (block_places a) (drop_all i ns h)
+
+pub none_inside : (a : ℕ) (ns : List ℕ) (i : ℕ) → length ns ≤ i → DoEndInside (block_ends a (drop i ns))
+unfolding block_ends
+none_inside a ns i h = subst (λ (xs : List ℕ). DoEndInside (block_ends a xs)) (sym (drop_all i ns h)) tt
 
 -- the lengths, as they are put together
 pub lengths_are : (v : SetValue) (lengths fs : List ℕ) → fs ≡ map length (option_list (set_value v).facs)
@@ -23,7 +44,7 @@ pub lengths_are : (v : SetValue) (lengths fs : List ℕ) → fs ≡ map length (
 lengths_are v lengths fs f l =
     let count = length-map v.tables.items table_value in
     l
-    ∙ ap (λ (ns : List ℕ). (36 ∷ (36 + 8 * length v.tables.items) ∷ fs) ++ ns) (lengths_of_values v.tables.items)
+    ∙ ap (λ (ns : List ℕ). (36 ∷ (36 + 8 * length v.tables.items) ∷ fs) ++ ns) (sym (map-map encoded_length table_value v.tables.items))
     ∙ (λ i. (36 ∷ (36 + 8 * sym count i) ∷ f i) ++ map encoded_length (map table_value v.tables.items))
 
 two_some : (x : ℕ) → All (λ n. 0 < n) (36 ∷ (36 + x) ∷ [])

@@ -2,7 +2,7 @@ use Rattle.std.proofs.Common.{◌≡◌, ◌+◌, ◌-◌, ◌%◌, ◌++◌, Li
 use Rattle.acpi_base.specs.Header.{header_with, header_bytes}
 use Rattle.acpi_write.specs.Encoded.{checksum_of}
 use Rattle.acpi_write.specs.Views.{head_value}
-use Rattle.acpi_write.proofs.TablesWritten.TableBytes.{encoded, closing_of}
+use Rattle.acpi_write.proofs.TablesWritten.Sums.{encoded, closing_of}
 use Rattle.acpi_write.proofs.encode.with_header.Goals as goal
 
 pub returns-clause-bytes : goal.returns-clause-bytes

@@ -2,7 +2,7 @@ use Rattle.std.proofs.Common.{◌≡◌, ◌+◌, ◌*◌, ◌++◌, ◌<◌, �
 use Rattle.std.proofs.lemmas.List.{append-nil}
 use Rattle.std.specs.Prelude.{is_ok}
 use Rattle.acpi_write.specs.Rebuilt.{block_places}
-use Rattle.acpi_write.proofs.SetParts.PlacedBlocks.{next_place, next_inside, inside_before, no_places, none_inside}
+use Rattle.acpi_write.proofs.SetParts.PartLengths.{next_place, next_inside, inside_before, no_places, none_inside}
 use Rattle.acpi_write.proofs.placing.places_of.Goals as goal
 
 pub returns-then-end-clause-refused : goal.returns-then-end-clause-refused

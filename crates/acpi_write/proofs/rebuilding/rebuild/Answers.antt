@@ -2,7 +2,7 @@ use Rattle.std.proofs.Common.{subst, sym}
 use Rattle.acpi_base.specs.Policy.{with_rsdp}
 use Rattle.acpi_base.specs.Statements.{IsClean}
 use Rattle.acpi_write.specs.Views.{set_value}
-use Rattle.acpi_write.proofs.OldSets.FacsLengths.{facs_some}
+use Rattle.acpi_write.proofs.OldSets.OldTables.{facs_some}
 use Rattle.acpi_write.proofs.rebuilding.rebuild.Goals as goal
 
 pub placed-requires-clause-facs : goal.placed-requires-clause-facs

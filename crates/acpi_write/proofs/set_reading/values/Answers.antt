@@ -1,4 +1,4 @@
-use Rattle.std.proofs.Common.{◌≡◌, ◌∙◌, ap, sym, subst, map, List, ℕ, Option, Some, None, Result, Ok, Err}
+use Rattle.std.proofs.Common.{◌≡◌, ◌∙◌, ap, sym, subst, map, List, ℕ, Some, Result, Ok, Err}
 use Rattle.std.specs.Prelude.{◌≢◌, IfErr}
 use Rattle.std.specs.List.{AllZip}
 use Rattle.std.specs.Option.{option_map}
@@ -17,7 +17,7 @@ use Rattle.acpi_check.specs.StageResults.{IsResultTo}
 use Rattle.acpi_check.specs.declared.refusal.Refusal.{Refusal}
 use Rattle.acpi_check.specs.declared.refusal.Refusal.TheVariants.{Fault, OutOfMemory}
 use Rattle.acpi_check.proofs.ListedSets.{listed_itself}
-use Rattle.acpi_write.specs.Kinds.{AreReadable, table_of}
+use Rattle.acpi_write.specs.Kinds.{table_of}
 use Rattle.acpi_write.specs.SetValues.{IsFacsOf, IsWholeAt, values_of}
 use Rattle.acpi_write.specs.Views.{IsValuesRefusal, values_fault_of}
 use Rattle.acpi_write.specs.declared.set_value.ValuesFault.{ValuesFault}

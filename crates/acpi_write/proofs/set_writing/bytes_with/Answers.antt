@@ -5,7 +5,8 @@ use Rattle.acpi_write.specs.Encoded.{table_bytes}
 use Rattle.acpi_write.specs.FadtBody.{with_facs}
 use Rattle.acpi_write.specs.Views.{head_value}
 use Rattle.acpi_write.proofs.TablesWritten.FadtBodies.{length-with_facs}
-use Rattle.acpi_write.proofs.SetParts.WrittenParts.{IfOk-both, encoded_count, fadt_count, encoded_without}
+use Rattle.acpi_write.proofs.SetParts.PartsInOrder.{IfOk-both, fadt_count, encoded_without}
+use Rattle.acpi_write.proofs.Tables.Kinds.{is_written}
 use Rattle.acpi_write.proofs.set_writing.bytes_with.Goals as goal
 
 pub with_header-requires : goal.with_header-requires
@@ -32,5 +33,5 @@ returns-in_ok-body-in-Fadt-clause-count c =
 pub returns-in_default : goal.returns-in_default
 returns-in_default c = record {
   bytes = IfOk-weaker c.bytes_of.result _ _ (λ bytes is. is ∙ sym (encoded_without c.args.facs c.args.table.now c.in_default.not-Fadt)) c.bytes_of.ensures.bytes;
-  count = IfOk-weaker c.bytes_of.result _ _ (λ bytes is. ap length is.0 ∙ encoded_count c.args.table.now c.requires.shaped c.requires.short is.1) (IfOk-both c.bytes_of.result _ _ c.bytes_of.ensures.bytes c.bytes_of.ensures.says);
+  count = IfOk-weaker c.bytes_of.result _ _ (λ bytes is. ap length is.0 ∙ (is_written c.args.table.now c.requires.shaped c.requires.short is.1).1) (IfOk-both c.bytes_of.result _ _ c.bytes_of.ensures.bytes c.bytes_of.ensures.says);
 }
