@@ -59,17 +59,15 @@ fn is_other_madt(entry: &[u8]) -> bool
     requires { IsEntry entry.now }
     ensures { IsTrue result ↔ (¬ IsTypeOf madt_kinds (slice_index entry.now 0)) }
 {
-    !matches!(
-        entry[0],
-        LocalApic::TYPE
-            | IoApic::TYPE
-            | Override::TYPE
-            | NmiSource::TYPE
-            | LocalNmi::TYPE
-            | AddressOverride::TYPE
-            | X2apic::TYPE
-            | X2apicNmi::TYPE
-    )
+    let number = entry[0];
+    number != LocalApic::TYPE
+        && number != IoApic::TYPE
+        && number != Override::TYPE
+        && number != NmiSource::TYPE
+        && number != LocalNmi::TYPE
+        && number != AddressOverride::TYPE
+        && number != X2apic::TYPE
+        && number != X2apicNmi::TYPE
 }
 
 /// Whether an entry's type is none of an SRAT's.
@@ -77,10 +75,8 @@ fn is_other_srat(entry: &[u8]) -> bool
     requires { IsEntry entry.now }
     ensures { IsTrue result ↔ (¬ IsTypeOf srat_kinds (slice_index entry.now 0)) }
 {
-    !matches!(
-        entry[0],
-        ApicDomain::TYPE | MemoryRange::TYPE | X2apicDomain::TYPE
-    )
+    let number = entry[0];
+    number != ApicDomain::TYPE && number != MemoryRange::TYPE && number != X2apicDomain::TYPE
 }
 
 /// Whether an entry's type is none of a PPTT's.
