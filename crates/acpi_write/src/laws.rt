@@ -45,7 +45,7 @@ pub fn fadts_name_facs()
 {}
 
 /// The rebuilt image of a set holds each of its parts, whole and at its place.
-#[tactic(auto, using(crate::proofs::NewSets::RebuiltParts::parts_are_held))]
+#[tactic(auto, using(crate::proofs::NewSets::NewImage::parts_are_held))]
 pub fn rebuilt_holds_parts()
     ensures { RebuiltHoldsParts }
 {}
