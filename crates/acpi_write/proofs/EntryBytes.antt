@@ -1,6 +1,5 @@
 -- The bytes of entries: what is written for an entry, and what it says.
 pub mod EntryForms
-pub mod EntryLengths
 pub mod EntryLists
 pub mod EntryReading
 pub mod KeptEntries

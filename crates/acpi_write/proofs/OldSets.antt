@@ -4,6 +4,4 @@ pub mod FirstListed
 pub mod FirstTables
 pub mod Listing
 pub mod OldTables
-pub mod OneSetValue
-pub mod Reading
 pub mod ValuesBehind

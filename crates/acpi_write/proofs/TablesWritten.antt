@@ -4,6 +4,5 @@ pub mod FadtBodies
 pub mod KeptContents
 pub mod RewrittenEntries
 pub mod RsdpBytes
-pub mod Spelled
 pub mod Sums
 pub mod WholeTables

@@ -216,7 +216,7 @@ pub(crate) fn bytes_of(alloc: Global, table: &TableValue<'_>) -> Result<Vec<u8>,
 ///    - the bytes of `Other` are fewer than 36, are not as many as their Length says, or do not sum to 0 modulo 256;
 /// 2. `TooLong`, where the table would have more than 4,294,967,295 bytes, which no Length says;
 /// 3. `Memory`, where the allocator is out of memory. It takes none where it refuses with one of the first two.
-#[tactic(auto, using(crate::proofs::TablesWritten::Spelled::spelling))]
+#[tactic(auto, using(crate::proofs::Tables::Kinds::spelling))]
 pub fn encode_table(alloc: Global, table: &TableValue<'_>) -> Result<Vec<u8>, WriteFault>
     ensures spells { IfOk result (λ bytes. Spells (table_value table.now) bytes.items) }
     ensures bytes { IfOk result (λ bytes. bytes.items ≡ encoded_bytes (table_value table.now)) }

@@ -160,7 +160,7 @@ impl<'a> EntryBytes for MadtEntry<'a> {
         }
     }
 
-    #[tactic(auto, unfolding(acpi_base::specs::Madt::madt_entry, acpi_base::specs::Entries::has_form), using(crate::proofs::EntryBytes::EntryForms::madt_kept))]
+    #[tactic(auto, unfolding(acpi_base::specs::Madt::madt_entry, acpi_base::specs::Entries::has_form), using(crate::proofs::EntryBytes::EntryForms::madt_opaque))]
     fn append(&self, bytes: &mut Vec<u8>) -> Result<(), AllocError> {
         match self {
             MadtEntry::LocalApic(entry) => append_kind(bytes, entry),
@@ -199,7 +199,7 @@ impl<'a> EntryBytes for SratEntry<'a> {
         }
     }
 
-    #[tactic(auto, unfolding(acpi_base::specs::Srat::srat_entry, acpi_base::specs::Entries::has_form), using(crate::proofs::EntryBytes::EntryForms::srat_kept))]
+    #[tactic(auto, unfolding(acpi_base::specs::Srat::srat_entry, acpi_base::specs::Entries::has_form), using(crate::proofs::EntryBytes::EntryForms::srat_opaque))]
     fn append(&self, bytes: &mut Vec<u8>) -> Result<(), AllocError> {
         match self {
             SratEntry::ApicDomain(entry) => append_kind(bytes, entry),

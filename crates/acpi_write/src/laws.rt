@@ -10,7 +10,7 @@ ghost use Rattle.acpi_write.specs.SetValues.{IsSetValue, OneSetValue};
 ghost use Rattle.acpi_write.specs.Spells.{OneValueSpelled};
 
 /// Bytes say at most one value of a kind, so what is written can be read in one way.
-#[tactic(auto, using(crate::proofs::TablesWritten::Spelled::one_value))]
+#[tactic(auto, using(crate::proofs::Tables::Kinds::one_value))]
 pub fn one_value()
     ensures { OneValueSpelled }
 {}
@@ -22,7 +22,7 @@ pub fn one_set_value()
 
 /// The value that is read of a table is the one that its bytes say: of a table of each `TableKind` where the
 /// bytes can be read as those of one, and of any other.
-#[tactic(auto, using(crate::proofs::TablesWritten::Spelled::what_is_read))]
+#[tactic(auto, using(crate::proofs::Tables::Kinds::what_is_read))]
 pub fn what_is_read()
     ensures { WhatIsReadIsSpelled }
 {}
@@ -45,7 +45,7 @@ pub fn fadts_name_facs()
 {}
 
 /// The rebuilt image of a set holds each of its parts, whole and at its place.
-#[tactic(auto, using(crate::proofs::NewSets::RebuiltParts::parts_are_held))]
+#[tactic(auto, using(crate::proofs::NewSets::NewImage::parts_are_held))]
 pub fn rebuilt_holds_parts()
     ensures { RebuiltHoldsParts }
 {}

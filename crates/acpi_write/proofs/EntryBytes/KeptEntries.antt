@@ -23,9 +23,8 @@ use Rattle.acpi_read.specs.Pptts.{pptt_bytes, cache_bytes, node_head_parts, node
 use Rattle.acpi_read.specs.declared.pptt.node_head.NodeHead.{NodeHead}
 use Rattle.acpi_write.specs.Spells.{SaysEntry}
 use Rattle.acpi_write.specs.Laws.{AreByteValues, EntriesAreKept}
-use Rattle.acpi_write.proofs.EntryBytes.EntryForms.{again_by}
+use Rattle.acpi_write.proofs.EntryBytes.EntryForms.{again_by, madt_length, srat_length, pptt_length, node_size, cache_sizes}
 use Rattle.acpi_write.proofs.EntryBytes.NodeBytes.{cache24_says, cache28_says, node_says}
-use Rattle.acpi_write.proofs.EntryBytes.EntryLengths.{madt_length, srat_length, pptt_length, node_size, cache_sizes}
 
 madt_again : (e : List ℕ) → AreByteValues e → IsEntry e → SaysEntry madt_entry (madt_bytes (madt_entry e)) (madt_entry e)
 unfolding madt_entry

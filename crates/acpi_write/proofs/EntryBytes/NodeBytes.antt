@@ -13,8 +13,7 @@ use Rattle.acpi_read.specs.Pptts.{node_head_parts, node_head_values, node_value,
 use Rattle.acpi_read.specs.declared.pptt.node_head.NodeHead.{NodeHead}
 use Rattle.acpi_read.proofs.PpttKinds.{node_typed, cache24_typed, cache28_typed, others_opaque}
 use Rattle.acpi_write.specs.Spells.{SaysEntry}
-use Rattle.acpi_write.proofs.EntryBytes.EntryForms.{is_entry}
-use Rattle.acpi_write.proofs.EntryBytes.EntryLengths.{length-node}
+use Rattle.acpi_write.proofs.EntryBytes.EntryForms.{is_entry, length-node}
 
 pub cache24_says : (e : List ℕ) (v : CacheValue) → IsEntryOf cache24 e v → SaysEntry pptt_entry e (Cache v)
 cache24_says e v is = (is_entry cache24 (omega arith) e v is, sym (cache24_typed e v is))

@@ -17,11 +17,9 @@ use Rattle.acpi_write.specs.SetValues.{IsFacsOf, IsSetValue}
 use Rattle.acpi_write.specs.Values.{SetValue}
 use Rattle.acpi_write.proofs.OldSets.FirstListed.{listed_first, first_of_listed}
 use Rattle.acpi_write.proofs.OldSets.FirstTables.{new_tables}
-use Rattle.acpi_write.proofs.NewSets.NewFacs.{facs_again, facs_sound_again}
-use Rattle.acpi_write.proofs.NewSets.NewSet.{IsNewSet, new_set, new_listed, new_sound_tables, named_fadt, HasNewFadt, new_fadt}
+use Rattle.acpi_write.proofs.NewSets.NewSet.{facs_again, facs_sound_again, IsNewSet, new_set, new_listed, new_sound_tables, named_fadt, HasNewFadt, new_fadt}
 use Rattle.acpi_write.proofs.NewSets.NewTables.{values_again, contents_again}
-use Rattle.acpi_write.proofs.OldSets.OldTables.{listed_of}
-use Rattle.acpi_write.proofs.OldSets.OneSetValue.{value_is_one}
+use Rattle.acpi_write.proofs.OldSets.OldTables.{listed_of, value_is_one}
 use Rattle.acpi_write.proofs.NewSets.SameStages.{AreSameListed, clean_again}
 
 -- ---- the first tables

@@ -6,8 +6,7 @@ use Rattle.acpi_write.specs.Encoded.{encoded_length, encoded_bytes_with}
 use Rattle.acpi_write.specs.Placed.{block_ends, DoEndInside, IsPlaced}
 use Rattle.acpi_write.specs.Rebuilt.{aligned_address, blocks_from, block_places, option_list, place_of_facs, part_lengths, part_places, part_bytes, facs_place, table_places, xsdt_length, rebuilt_image, HoldsBlock}
 use Rattle.acpi_write.specs.Values.{SetValue}
-use Rattle.acpi_write.proofs.NewSets.NewImage.{Holds}
-use Rattle.acpi_write.proofs.NewSets.RebuiltParts.{aligned_from, parts_are_held}
+use Rattle.acpi_write.proofs.NewSets.NewImage.{Holds, aligned_from, parts_are_held}
 
 -- ---- blocks at their places
 

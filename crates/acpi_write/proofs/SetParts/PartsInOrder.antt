@@ -28,9 +28,8 @@ use Rattle.acpi_write.specs.declared.table_value.TableValue.{TableValue}
 use Rattle.acpi_write.specs.FadtBody.{with_facs}
 use Rattle.acpi_write.specs.declared.table_value.TableValue as written
 use Rattle.acpi_write.specs.declared.table_value.TableValue.TheVariants as table
-use Rattle.acpi_write.proofs.NewSets.NewImage.{length-block_places}
+use Rattle.acpi_write.proofs.NewSets.NewImage.{length-block_places, aligned_from}
 use Rattle.acpi_write.proofs.NewSets.NewRoot.{length-slots}
-use Rattle.acpi_write.proofs.NewSets.RebuiltParts.{aligned_from}
 use Rattle.acpi_write.proofs.TablesWritten.WholeTables.{whole_table, length_of_parts}
 use Rattle.acpi_write.proofs.TablesWritten.FadtBodies.{length-with_facs}
 

@@ -10,7 +10,7 @@ use Rattle.acpi_write.specs.SetValues.{IsSetValue}
 use Rattle.acpi_write.specs.Values.{SetValue}
 use Rattle.acpi_write.specs.declared.placing.RebuildFault.{RebuildFault}
 use Rattle.acpi_write.specs.declared.placing.RebuildFault.TheVariants as fault
-use Rattle.acpi_write.proofs.OldSets.OneSetValue.{value_is_one}
+use Rattle.acpi_write.proofs.OldSets.OldTables.{value_is_one}
 
 -- whether none of the addresses is past the last one
 inside_or_not : (ns : List ℕ) → DoEndInside ns ⊎ (¬ DoEndInside ns)

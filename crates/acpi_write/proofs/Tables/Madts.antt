@@ -17,7 +17,7 @@ use Rattle.acpi_write.specs.Bodies.{entries_in, value_in, body_bytes, SpellsBody
 use Rattle.acpi_write.specs.Spells.{DoEntriesSay}
 use Rattle.acpi_write.specs.Values.{Madt}
 use Rattle.acpi_write.specs.Views.{IsShapedMadt}
-use Rattle.acpi_write.proofs.EntryBytes.EntryLengths.{madt_length}
+use Rattle.acpi_write.proofs.EntryBytes.EntryForms.{madt_length}
 use Rattle.acpi_write.proofs.EntryBytes.KeptEntries.{entries_are_kept}
 use Rattle.acpi_write.proofs.Tables.Facts.{IsWrittenFor, KindFacts}
 use Rattle.acpi_write.proofs.TablesWritten.EntryRuns.{spelled_entries, spell_entries, one_entries, behind, reaches}

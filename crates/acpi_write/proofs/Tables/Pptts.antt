@@ -15,7 +15,7 @@ use Rattle.acpi_write.specs.Bodies.{value_in, body_bytes, SpellsBody}
 use Rattle.acpi_write.specs.Spells.{DoEntriesSay}
 use Rattle.acpi_write.specs.Values.{Pptt}
 use Rattle.acpi_write.specs.Views.{IsShapedPptt}
-use Rattle.acpi_write.proofs.EntryBytes.EntryLengths.{pptt_length}
+use Rattle.acpi_write.proofs.EntryBytes.EntryForms.{pptt_length}
 use Rattle.acpi_write.proofs.EntryBytes.KeptEntries.{entries_are_kept}
 use Rattle.acpi_write.proofs.Tables.Facts.{IsWrittenFor, KindFacts}
 use Rattle.acpi_write.proofs.TablesWritten.EntryRuns.{spelled_entries, spell_entries, one_entries}

@@ -16,7 +16,7 @@ use Rattle.acpi_write.specs.Bodies.{entries_in, value_in, body_bytes, srat_reser
 use Rattle.acpi_write.specs.Spells.{DoEntriesSay}
 use Rattle.acpi_write.specs.Values.{Srat}
 use Rattle.acpi_write.specs.Views.{IsShapedSrat}
-use Rattle.acpi_write.proofs.EntryBytes.EntryLengths.{srat_length}
+use Rattle.acpi_write.proofs.EntryBytes.EntryForms.{srat_length}
 use Rattle.acpi_write.proofs.EntryBytes.KeptEntries.{entries_are_kept}
 use Rattle.acpi_write.proofs.Tables.Facts.{IsWrittenFor, KindFacts}
 use Rattle.acpi_write.proofs.TablesWritten.EntryRuns.{spelled_entries, spell_entries, one_entries, behind, reaches}

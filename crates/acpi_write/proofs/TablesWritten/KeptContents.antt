@@ -5,7 +5,7 @@ use Rattle.acpi_base.specs.TableKinds.{signature_of}
 use Rattle.acpi_base.specs.declared.table_kind.TableKind.{TableKind}
 use Rattle.acpi_base.proofs.Tables.Kinds.{length-signature_of}
 use Rattle.acpi_write.specs.Bodies.{value_in, IsFilledAs, IsReadableAs, body_with}
-use Rattle.acpi_write.specs.Encoded.{encoded_bytes, encoded_bytes_with, encoded_length, table_bytes}
+use Rattle.acpi_write.specs.Encoded.{encoded_bytes_with, encoded_length, table_bytes}
 use Rattle.acpi_write.specs.Laws.{AreByteValues, KeepsContents, ContentsAreKept}
 use Rattle.acpi_write.specs.SetValues.{table_value_as}
 use Rattle.acpi_write.specs.Spells.{IsWholeTable}
@@ -33,13 +33,10 @@ kept kind facs whole is filled =
     let contents = (facts kind).kept facs whole new (record { low = is.bytes; filled = filled; head = table.0.head_is; count = count; body = table.1 }) in
     subst (λ (k : TableKind). KeepsContents kind whole (table_bytes (signature_of k) (head_of whole) body)) (sym ((facts kind).kind_is whole).0) (record { table = table.0; contents = contents })
 
--- where there is no FACS these are the bytes of the value
-plain : (kind : TableKind) (whole : List ℕ) → IsFilledAs kind whole
-    → encoded_bytes_with 0 (table_value_as (Some kind) whole) ≡ encoded_bytes (table_value_as (Some kind) whole)
-plain kind whole filled = ap (table_bytes (signature_of (kind_of (value_in kind whole))) (head_of whole)) ((facts kind).plain whole filled)
-
 pub contents_are_kept : ContentsAreKept
-contents_are_kept kind whole is low small filled = subst (KeepsContents kind whole) (plain kind whole filled) (kept kind 0 whole (record { table = is; bytes = low; small = small }) filled)
+contents_are_kept kind whole is low small filled =
+    let plain = ap (table_bytes (signature_of (kind_of (value_in kind whole))) (head_of whole)) ((facts kind).plain whole filled) in
+    subst (KeepsContents kind whole) plain (kept kind 0 whole (record { table = is; bytes = low; small = small }) filled)
 
 -- ---- lengths
 
