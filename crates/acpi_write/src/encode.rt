@@ -59,7 +59,8 @@ fn is_whole_table(bytes: &[u8]) -> bool
 /// How many bytes the table has. None where there are none for the value.
 #[tactic(auto, using(crate::proofs::EntryBytes::EntryLists::encoded_sizes))]
 pub(crate) fn size_of(table: &TableValue<'_>) -> Option<u128>
-    ensures { MatchOption result (¬ IsShaped table.now) (λ size. IsShaped table.now × (size ≡ encoded_length (table_value table.now))) }
+    ensures { MatchOption result (¬ IsShaped table.now)
+        (λ size. IsShaped table.now × (size ≡ encoded_length (table_value table.now))) }
 {
     match table {
         TableValue::Madt { entries, .. } => Some(Entries::MADT_START as u128 + sizes(entries)?),
@@ -98,8 +99,12 @@ fn madt_body(
     entries: &[MadtEntry<'_>],
 ) -> Result<Vec<u8>, AllocError>
     requires { All IsShapedMadt entries.now }
-    ensures bytes { IfOk result (λ bytes. bytes.items ≡ number_bytes 4 address ++ (number_bytes 4 flags ++ flat_map madt_bytes (map madt_value entries.now))) }
-    ensures says { IfOk result (λ _. (address < 2 ^ 32) × (flags < 2 ^ 32) × DoEntriesSay madt_entry madt_bytes madt_value entries.now) }
+    ensures bytes { IfOk result
+        (λ bytes. bytes.items ≡ number_bytes 4 address
+        ++ (number_bytes 4 flags ++ flat_map madt_bytes (map madt_value entries.now))) }
+    ensures says { IfOk result
+        (λ _. (address < 2 ^ 32) × (flags < 2 ^ 32)
+        × DoEntriesSay madt_entry madt_bytes madt_value entries.now) }
 {
     let mut bytes = Vec::from_slice(alloc, &address.to_le_bytes())?;
     bytes.extend_from_slice(&flags.to_le_bytes())?;
@@ -111,7 +116,8 @@ fn madt_body(
 #[tactic(auto, using(crate::proofs::EntryBytes::EntryLists::bodies), unfolding(acpi_base::specs::Number::number_bytes))]
 fn srat_body(alloc: Global, entries: &[SratEntry<'_>]) -> Result<Vec<u8>, AllocError>
     requires { All IsShapedSrat entries.now }
-    ensures bytes { IfOk result (λ bytes. bytes.items ≡ srat_reserved ++ flat_map srat_bytes (map srat_value entries.now)) }
+    ensures bytes { IfOk result
+        (λ bytes. bytes.items ≡ srat_reserved ++ flat_map srat_bytes (map srat_value entries.now)) }
     ensures says { IfOk result (λ _. DoEntriesSay srat_entry srat_bytes srat_value entries.now) }
 {
     let mut bytes = Vec::from_slice(alloc, &SRAT_RESERVED)?;
@@ -123,7 +129,8 @@ fn srat_body(alloc: Global, entries: &[SratEntry<'_>]) -> Result<Vec<u8>, AllocE
 #[tactic(auto, using(crate::proofs::EntryBytes::EntryLists::bodies))]
 fn pptt_body(alloc: Global, entries: &[PpttEntry<'_>]) -> Result<Vec<u8>, AllocError>
     requires { All IsShapedPptt entries.now }
-    ensures bytes { IfOk result (λ bytes. bytes.items ≡ flat_map pptt_bytes (map pptt_value entries.now)) }
+    ensures bytes { IfOk result
+        (λ bytes. bytes.items ≡ flat_map pptt_bytes (map pptt_value entries.now)) }
     ensures says { IfOk result (λ _. DoEntriesSay pptt_entry pptt_bytes pptt_value entries.now) }
 {
     let mut bytes = Vec::new(alloc);
@@ -140,7 +147,8 @@ pub(crate) fn with_header(
     body: &[u8],
 ) -> Result<Vec<u8>, AllocError>
     requires { 36 + length body.now < 2 ^ 32 }
-    ensures bytes { IfOk result (λ bytes. bytes.items ≡ table_bytes signature (head_value head.now) body.now) }
+    ensures bytes { IfOk result
+        (λ bytes. bytes.items ≡ table_bytes signature (head_value head.now) body.now) }
     ensures fits { FitsHead (head_value head.now) }
 {
     let head = *head;
@@ -220,7 +228,8 @@ pub(crate) fn bytes_of(alloc: Global, table: &TableValue<'_>) -> Result<Vec<u8>,
 pub fn encode_table(alloc: Global, table: &TableValue<'_>) -> Result<Vec<u8>, WriteFault>
     ensures spells { IfOk result (λ bytes. Spells (table_value table.now) bytes.items) }
     ensures bytes { IfOk result (λ bytes. bytes.items ≡ encoded_bytes (table_value table.now)) }
-    ensures shaped { IfOk result (λ _. IsShaped table.now × (encoded_length (table_value table.now) < 2 ^ 32)) }
+    ensures shaped { IfOk result
+        (λ _. IsShaped table.now × (encoded_length (table_value table.now) < 2 ^ 32)) }
     ensures refused { IfErr result (IsRefusal table.now) }
 {
     let Some(size) = size_of(table) else {

@@ -26,8 +26,10 @@ const MOST: usize = 40;
 /// Adds the bytes of a structure of a fixed layout.
 fn append_layout<L: Layout>(bytes: &mut Vec<u8>, value: &L) -> Result<(), AllocError>
     requires { L.LEN ≤ 40 }
-    ensures bytes { OnOk result (bytes.new.items ≡ bytes.old.items ++ layout_bytes L.parts (L.values value.now)) }
-    ensures says { HasValues L.parts (layout_bytes L.parts (L.values value.now)) (L.values value.now) }
+    ensures bytes { OnOk result
+        (bytes.new.items ≡ bytes.old.items ++ layout_bytes L.parts (L.values value.now)) }
+    ensures says { HasValues L.parts (layout_bytes L.parts (L.values value.now))
+        (L.values value.now) }
 {
     let mut out = [0; MOST];
     let out = &mut out[..L::LEN];
@@ -38,7 +40,8 @@ fn append_layout<L: Layout>(bytes: &mut Vec<u8>, value: &L) -> Result<(), AllocE
 /// Adds the bytes of an entry of a kind.
 fn append_kind<K: EntryKind>(bytes: &mut Vec<u8>, value: &K) -> Result<(), AllocError>
     requires { K.LEN ≤ 40 }
-    ensures bytes { OnOk result (bytes.new.items ≡ bytes.old.items ++ layout_bytes K.parts (K.values value.now)) }
+    ensures bytes { OnOk result
+        (bytes.new.items ≡ bytes.old.items ++ layout_bytes K.parts (K.values value.now)) }
     ensures says { IsEntryOf K.kind (layout_bytes K.parts (K.values value.now)) (K.say value.now) }
 {
     append_layout(bytes, value)
@@ -46,7 +49,8 @@ fn append_kind<K: EntryKind>(bytes: &mut Vec<u8>, value: &K) -> Result<(), Alloc
 
 /// How many bytes an entry has that is kept as bytes. None where they do not say their own number.
 fn kept_size(bytes: &[u8]) -> Option<usize>
-    ensures { MatchOption result (¬ IsEntry bytes.now) (λ size. IsEntry bytes.now × (size ≡ length bytes.now) × (size ≤ 255)) }
+    ensures { MatchOption result (¬ IsEntry bytes.now)
+        (λ size. IsEntry bytes.now × (size ≡ length bytes.now) × (size ≤ 255)) }
 {
     if bytes.len() < 2 || usize::from(bytes[1]) != bytes.len() {
         return None;
@@ -90,7 +94,9 @@ fn is_other_pptt(entry: &[u8]) -> bool
 /// How many bytes a node has. None where it does not have 4 bytes for each of its references.
 #[tactic(auto, using(crate::proofs::EntryBytes::NodeBytes::node_sizes))]
 fn node_size(head: &NodeHead, references: &[u8]) -> Option<usize>
-    ensures { MatchOption result (length references.now ≢ 4 * head.now.count) (λ size. (length references.now ≡ 4 * head.now.count) × (size ≡ length (pptt_bytes (Node (node_value head.now references.now)))) × (size ≤ 255)) }
+    ensures { MatchOption result (length references.now ≢ 4 * head.now.count)
+        (λ size. (length references.now ≡ 4 * head.now.count)
+        × (size ≡ length (pptt_bytes (Node (node_value head.now references.now)))) × (size ≤ 255)) }
 {
     let head = *head;
     if references.len() as u64 != 4 * u64::from(head.count) {
@@ -103,8 +109,12 @@ fn node_size(head: &NodeHead, references: &[u8]) -> Option<usize>
 #[tactic(auto, using(crate::proofs::EntryBytes::NodeBytes::nodes))]
 fn append_node(bytes: &mut Vec<u8>, head: &NodeHead, references: &[u8]) -> Result<(), AllocError>
     requires { length references.now ≡ 4 * head.now.count }
-    ensures bytes { OnOk result (bytes.new.items ≡ bytes.old.items ++ pptt_bytes (Node (node_value head.now references.now))) }
-    ensures says { OnOk result (SaysEntry pptt_entry (pptt_bytes (Node (node_value head.now references.now))) (Node (node_value head.now references.now))) }
+    ensures bytes { OnOk result
+        (bytes.new.items ≡ bytes.old.items ++ pptt_bytes
+        (Node (node_value head.now references.now))) }
+    ensures says { OnOk result
+        (SaysEntry pptt_entry (pptt_bytes (Node (node_value head.now references.now)))
+        (Node (node_value head.now references.now))) }
 {
     append_layout(bytes, head)?;
     bytes.extend_from_slice(references)
@@ -123,7 +133,8 @@ pub(crate) trait EntryBytes {
 
     /// How many bytes it has. None where there are none for it.
     fn size(&self) -> Option<usize>
-        ensures { MatchOption result (¬ shaped self.now) (λ size. shaped self.now × (size ≡ length (spelled self.now)) × (size ≤ 255)) };
+        ensures { MatchOption result (¬ shaped self.now)
+            (λ size. shaped self.now × (size ≡ length (spelled self.now)) × (size ≤ 255)) };
 
     /// Adds its bytes.
     fn append(&self, bytes: &mut Vec<u8>) -> Result<(), AllocError>
@@ -247,7 +258,9 @@ impl<'a> EntryBytes for PpttEntry<'a> {
 /// How many bytes the entries have together. None where there are none for one of them.
 #[tactic(auto, using(crate::proofs::EntryBytes::EntryLists::entry_lists))]
 pub(crate) fn sizes<E: EntryBytes>(entries: &[E]) -> Option<u128>
-    ensures { MatchOption result (¬ All E.shaped entries.now) (λ size. All E.shaped entries.now × (size ≡ length (flat_map E.spelled entries.now)) × (size ≤ 255 * 2 ^ 64)) }
+    ensures { MatchOption result (¬ All E.shaped entries.now)
+        (λ size. All E.shaped entries.now × (size ≡ length (flat_map E.spelled entries.now))
+        × (size ≤ 255 * 2 ^ 64)) }
 {
     let mut total = 0;
     for entry in entries {
@@ -263,7 +276,8 @@ pub(crate) fn append_all<E: EntryBytes>(
     entries: &[E],
 ) -> Result<(), AllocError>
     requires { All E.shaped entries.now }
-    ensures bytes { OnOk result (bytes.new.items ≡ bytes.old.items ++ flat_map E.spelled entries.now) }
+    ensures bytes { OnOk result
+        (bytes.new.items ≡ bytes.old.items ++ flat_map E.spelled entries.now) }
     ensures says { OnOk result (All (λ entry. E.said_by entry (E.spelled entry)) entries.now) }
 {
     for entry in entries {

@@ -23,8 +23,10 @@ fn bytes_with(alloc: Global, table: &TableValue<'_>, facs: u64) -> Result<Vec<u8
     requires shaped { IsShaped table.now }
     requires short { IsShort table.now }
     requires low { FitsFacs facs table.now }
-    ensures bytes { IfOk result (λ bytes. bytes.items ≡ encoded_bytes_with facs (table_value table.now)) }
-    ensures count { IfOk result (λ bytes. length bytes.items ≡ encoded_length (table_value table.now)) }
+    ensures bytes { IfOk result
+        (λ bytes. bytes.items ≡ encoded_bytes_with facs (table_value table.now)) }
+    ensures count { IfOk result
+        (λ bytes. length bytes.items ≡ encoded_length (table_value table.now)) }
 {
     match table {
         TableValue::Fadt { head, body } => {
@@ -60,7 +62,8 @@ fn part(
     requires shaped { All IsShaped value.now.tables.items }
     requires short { All IsShort value.now.tables.items }
     requires size { xsdt_length (set_value value.now) < 2 ^ 32 }
-    requires low { All (FitsFacs (facs_among (set_value value.now) places.now)) value.now.tables.items }
+    requires low { All (FitsFacs (facs_among (set_value value.now) places.now))
+        value.now.tables.items }
     requires places { length places.now ≡ length (part_lengths (set_value value.now)) }
     requires index { k < length places.now }
     ensures { IfOk result (λ bytes. IsPart (set_value value.now) places.now k bytes.items) }

@@ -26,7 +26,8 @@ use std::alloc::{AllocError, Global};
 
 /// What a header says beside its signature, its length and its checksum.
 pub(crate) fn head_in(header: Header) -> Head
-    ensures { (bytes : List ℕ) → header_value header ≡ header_of bytes → head_value result ≡ head_of bytes }
+    ensures { (bytes : List ℕ) → header_value header ≡ header_of bytes
+        → head_value result ≡ head_of bytes }
 {
     let oemid = header.oemid;
     let oem_table_id = header.oem_table_id;
@@ -46,7 +47,8 @@ pub(crate) fn listed_tables<'a>(
     set: &ListedSet<'a>,
 ) -> Result<Vec<Listed<'a>>, AllocError>
     requires { IsListedSet set.now }
-    ensures { IfOk result (λ found. AllZip (IsWholeAt set.now.image.now) (listed_addresses set.now.root.bytes set.now.root.width) (map table_of found.items)) }
+    ensures { IfOk result (λ found. AllZip (IsWholeAt set.now.image.now)
+        (listed_addresses set.now.root.bytes set.now.root.width) (map table_of found.items)) }
 {
     let mut found = Vec::new(alloc);
     for slot in 0..set.root.slots() {
@@ -62,7 +64,9 @@ fn entry_list<'a, E: TableEntry<'a> + Drop>(
     alloc: Global,
     entries: TypedEntries<'a, E>,
 ) -> Result<Vec<E>, AllocError>
-    ensures entries { IfOk result (λ found. map E.value found.items ≡ entries_in (entries_read_by E.said_by entries.entry.entries.entries)) }
+    ensures entries { IfOk result
+        (λ found. map E.value found.items ≡ entries_in
+        (entries_read_by E.said_by entries.entry.entries.entries)) }
     ensures read { IfOk result (λ found. All E.IsRead found.items) }
 {
     let mut found = Vec::new(alloc);
@@ -75,7 +79,8 @@ fn entry_list<'a, E: TableEntry<'a> + Drop>(
 /// What a FADT says.
 fn read_fadt<'a>(alloc: Global, table: &Table<'a>) -> Result<TableValue<'a>, AllocError>
     requires { 116 ≤ length table.now }
-    ensures value { IfOk result (λ value. table_value value ≡ table_value_as (Some TableKind.Fadt) table.now) }
+    ensures value { IfOk result
+        (λ value. table_value value ≡ table_value_as (Some TableKind.Fadt) table.now) }
     ensures shaped { IfOk result IsShaped }
 {
     let head = head_in(table.header());
@@ -86,7 +91,8 @@ fn read_fadt<'a>(alloc: Global, table: &Table<'a>) -> Result<TableValue<'a>, All
 
 /// What a MADT says.
 fn read_madt<'a>(alloc: Global, madt: &Madt<'a>) -> Result<TableValue<'a>, AllocError>
-    ensures value { IfOk result (λ value. table_value value ≡ table_value_as (Some TableKind.Madt) madt.now) }
+    ensures value { IfOk result
+        (λ value. table_value value ≡ table_value_as (Some TableKind.Madt) madt.now) }
     ensures shaped { IfOk result IsShaped }
 {
     let head = head_in(madt.header());
@@ -103,7 +109,8 @@ fn read_madt<'a>(alloc: Global, madt: &Madt<'a>) -> Result<TableValue<'a>, Alloc
 
 /// What an SRAT says.
 fn read_srat<'a>(alloc: Global, srat: &Srat<'a>) -> Result<TableValue<'a>, AllocError>
-    ensures value { IfOk result (λ value. table_value value ≡ table_value_as (Some TableKind.Srat) srat.now) }
+    ensures value { IfOk result
+        (λ value. table_value value ≡ table_value_as (Some TableKind.Srat) srat.now) }
     ensures shaped { IfOk result IsShaped }
 {
     let head = head_in(srat.header());
@@ -113,7 +120,8 @@ fn read_srat<'a>(alloc: Global, srat: &Srat<'a>) -> Result<TableValue<'a>, Alloc
 
 /// What a PPTT says.
 fn read_pptt<'a>(alloc: Global, pptt: &Pptt<'a>) -> Result<TableValue<'a>, AllocError>
-    ensures value { IfOk result (λ value. table_value value ≡ table_value_as (Some TableKind.Pptt) pptt.now) }
+    ensures value { IfOk result
+        (λ value. table_value value ≡ table_value_as (Some TableKind.Pptt) pptt.now) }
     ensures shaped { IfOk result IsShaped }
 {
     let head = head_in(pptt.header());
@@ -128,7 +136,8 @@ fn known_value<'a>(
     kind: TableKind,
 ) -> Result<TableValue<'a>, AllocError>
     requires { IsReadableAs (Some kind) table.now }
-    ensures value { IfOk result (λ value. table_value value ≡ table_value_as (Some kind) table.now) }
+    ensures value { IfOk result
+        (λ value. table_value value ≡ table_value_as (Some kind) table.now) }
     ensures shaped { IfOk result IsShaped }
 {
     match kind {
@@ -171,7 +180,8 @@ pub(crate) fn table_values<'a>(
     tables: &[Listed<'a>],
 ) -> Result<Vec<TableValue<'a>>, AllocError>
     requires { AreReadable (map table_of tables.now) }
-    ensures values { IfOk result (λ found. map table_value found.items ≡ values_of (map table_of tables.now)) }
+    ensures values { IfOk result
+        (λ found. map table_value found.items ≡ values_of (map table_of tables.now)) }
     ensures shaped { IfOk result (λ found. All IsShaped found.items) }
     ensures short { IfOk result (λ found. All IsShort found.items) }
 {

@@ -47,7 +47,8 @@ form_of e type size is =
     let both = and_parts (slice_index e 0 == type) (length e == size) is in
     (eqb-true (slice_index e 0) type both.0, eqb-true (length e) size both.1)
 
-same_form : (e w : List ℕ) → slice_index w 0 ≡ slice_index e 0 → length w ≡ length e → (type size : ℕ) → has_form w type size ≡ has_form e type size
+same_form : (e w : List ℕ) → slice_index w 0 ≡ slice_index e 0 → length w ≡ length e → (type size : ℕ)
+    → has_form w type size ≡ has_form e type size
 unfolding has_form
 same_form e w typed count type size = rw (typed, count) refl
 
@@ -59,24 +60,29 @@ pub record IsAgain {E : Type 0} (read : List ℕ → E) (e w : List ℕ) : Type 
   pub same : read w ≡ read e
 
 -- the first kind says it, or the others do
-chosen : {E : Type 0} (k : Kind E) (kinds : List (Kind E)) (opaque : List ℕ → E) (e : List ℕ) → has_form e k.type k.size ≡ true → value_of_kind (k ∷ kinds) opaque e ≡ k.read e
+chosen : {E : Type 0} (k : Kind E) (kinds : List (Kind E)) (opaque : List ℕ → E) (e : List ℕ)
+    → has_form e k.type k.size ≡ true → value_of_kind (k ∷ kinds) opaque e ≡ k.read e
 chosen k kinds opaque e is = rw is refl
 
-passed : {E : Type 0} (k : Kind E) (kinds : List (Kind E)) (opaque : List ℕ → E) (e : List ℕ) → has_form e k.type k.size ≡ false → value_of_kind (k ∷ kinds) opaque e ≡ value_of_kind kinds opaque e
+passed : {E : Type 0} (k : Kind E) (kinds : List (Kind E)) (opaque : List ℕ → E) (e : List ℕ)
+    → has_form e k.type k.size ≡ false → value_of_kind (k ∷ kinds) opaque e ≡ value_of_kind kinds opaque e
 passed k kinds opaque e not = rw not refl
 
 -- as many bytes are written for what an entry says
-pub length_by : {E : Type 0} (write : E → List ℕ) (kinds : List (Kind E)) (opaque : List ℕ → E) → KeepKinds write kinds → ((e : List ℕ) → write (opaque e) ≡ e) → (e : List ℕ)
+pub length_by : {E : Type 0} (write : E → List ℕ) (kinds : List (Kind E)) (opaque : List ℕ → E) → KeepKinds write kinds
+    → ((e : List ℕ) → write (opaque e) ≡ e) → (e : List ℕ)
     → length (write (value_of_kind kinds opaque e)) ≡ length e
 length_by write [] opaque keep kept e = ap length (kept e)
 length_by write (k ∷ kinds) opaque keep kept e =
     elim (cases_Bool (has_form e k.type k.size)) [
-      | inl is ↦ (let form = form_of e k.type k.size is in ap (λ v. length (write v)) (chosen k kinds opaque e is) ∙ keep.0.count e form.1 ∙ sym form.1)
+      | inl is ↦ (let form = form_of e k.type k.size is in
+          ap (λ v. length (write v)) (chosen k kinds opaque e is) ∙ keep.0.count e form.1 ∙ sym form.1)
       | inr not ↦ ap (λ v. length (write v)) (passed k kinds opaque e not) ∙ length_by write kinds opaque keep.1 kept e
     ]
 
 -- and they say it again
-pub again_by : {E : Type 0} (write : E → List ℕ) (kinds : List (Kind E)) (opaque : List ℕ → E) → KeepKinds write kinds → ((e : List ℕ) → write (opaque e) ≡ e) → (e : List ℕ)
+pub again_by : {E : Type 0} (write : E → List ℕ) (kinds : List (Kind E)) (opaque : List ℕ → E) → KeepKinds write kinds
+    → ((e : List ℕ) → write (opaque e) ≡ e) → (e : List ℕ)
     → AreByteValues e → IsEntry e → IsAgain (value_of_kind kinds opaque) e (write (value_of_kind kinds opaque e))
 again_by write [] opaque keep kept e low entry =
     subst (IsAgain opaque e) (sym (kept e)) (record { entry = entry; count = refl; typed = refl; same = refl })
@@ -92,7 +98,10 @@ again_by write (k ∷ kinds) opaque keep kept e low entry =
           let here : has_form w k.type k.size ≡ true = same_form e w typed count k.type k.size ∙ is in
           subst (λ v. IsAgain (value_of_kind (k ∷ kinds) opaque) e (write v)) (sym said)
           (record {
-            entry = record { least = subst (λ (n : ℕ). 2 ≤ n) (sym count) entry.least; said = again.said ∙ sym again.count };
+            entry = record {
+              least = subst (λ (n : ℕ). 2 ≤ n) (sym count) entry.least;
+              said = again.said ∙ sym again.count;
+            };
             count = count;
             typed = typed;
             same = chosen k kinds opaque w here ∙ again.value ∙ sym said;
@@ -103,7 +112,12 @@ again_by write (k ∷ kinds) opaque keep kept e low entry =
           let again = again_by write kinds opaque keep.1 kept e low entry in
           let other : has_form w k.type k.size ≡ false = same_form e w again.typed again.count k.type k.size ∙ not in
           subst (λ v. IsAgain (value_of_kind (k ∷ kinds) opaque) e (write v)) (sym said)
-          (record { entry = again.entry; count = again.count; typed = again.typed; same = passed k kinds opaque w other ∙ again.same ∙ sym said })
+          (record {
+            entry = again.entry;
+            count = again.count;
+            typed = again.typed;
+            same = passed k kinds opaque w other ∙ again.same ∙ sym said;
+          })
     ]
 
 -- bytes of a form have its length
@@ -121,14 +135,21 @@ srat_length e = length_by srat_bytes srat.srat_kinds srat.Opaque srat_kept (λ e
 
 references_length : (rs : List ℕ) → length (flat_map (λ r. number_bytes 4 r) rs) ≡ 4 * length rs
 references_length [] = refl
-references_length (r ∷ rs) = omega (arith, length-append (number_bytes 4 r) (flat_map (λ r. number_bytes 4 r) rs), length-number_bytes 4 r, references_length rs)
+references_length (r ∷ rs) =
+    omega (
+      arith,
+      length-append (number_bytes 4 r) (flat_map (λ r. number_bytes 4 r) rs),
+      length-number_bytes 4 r,
+      references_length rs,
+    )
 
 pub length-node : (v : pptt.NodeValue) → length (pptt_bytes (pptt.Node v)) ≡ 20 + 4 * length v.resources
 length-node v =
     let rest = references_length v.resources in
     simp (length-append, length-number_bytes, rest) (omega arith)
 
-cache_length : (e : List ℕ) → (length e ≡ 24) ⊎ (length e ≡ 28) → length (pptt_bytes (pptt.Cache (pptt.cache_of e))) ≡ length e
+cache_length : (e : List ℕ) → (length e ≡ 24) ⊎ (length e ≡ 28)
+    → length (pptt_bytes (pptt.Cache (pptt.cache_of e))) ≡ length e
 cache_length e (inl short) =
     let other : (length e == 28) ≡ false = ne_eqb (length e) 28 (λ long. absurd (omega (arith, short, long))) in
     rw other (simp (length-append, length-number_bytes, short) refl)

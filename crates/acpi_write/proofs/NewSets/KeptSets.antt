@@ -25,12 +25,14 @@ use Rattle.acpi_write.proofs.NewSets.SameStages.{AreSameListed, clean_again}
 -- ---- the first tables
 
 -- the first table of each kind keeps its contents, from one set to another
-are_same : (m : Memory) (q : PolicyValue) (v : SetValue) (base : ℕ) → (said : IsSetValue m q.rsdp v) → IsNewSet v base said.tables → AreSameListed m q.rsdp (rebuilt_image v base) base
+are_same : (m : Memory) (q : PolicyValue) (v : SetValue) (base : ℕ) → (said : IsSetValue m q.rsdp v)
+    → IsNewSet v base said.tables → AreSameListed m q.rsdp (rebuilt_image v base) base
 are_same m q v base said new kind other is =
     let facs = facs_place v base in
     let ts = said.tables in
     let four = length-signature_of kind in
-    let first = first_of_listed (rebuilt_image v base) base (new_tables facs ts) (signature_of kind) other (new_listed v base ts new) four is in
+    let first = first_of_listed (rebuilt_image v base) base (new_tables facs ts) (signature_of kind) other
+    (new_listed v base ts new) four is in
     let old = contents_again facs ts kind other new.clean first in
     (old.0, listed_first m q.rsdp ts (signature_of kind) old.0 (listed_of m q.rsdp v said) four old.1, old.2)
 
@@ -42,7 +44,8 @@ record IsFadtKept (v : SetValue) (base : ℕ) : Type 0 where
   facs : (fadt : List ℕ) → IsFadt (rebuilt_image v base) base fadt → IsFacsOf (rebuilt_image v base) fadt v.facs
   facs_sound : IsSoundFacs (rebuilt_image v base) base
 
-fadt_kept : (m : Memory) (q : PolicyValue) (v : SetValue) (base : ℕ) → IsClean m q → (said : IsSetValue m q.rsdp v) → IsPlaced v base → IsNewSet v base said.tables → IsFadtKept v base
+fadt_kept : (m : Memory) (q : PolicyValue) (v : SetValue) (base : ℕ) → IsClean m q → (said : IsSetValue m q.rsdp v)
+    → IsPlaced v base → IsNewSet v base said.tables → IsFadtKept v base
 fadt_kept m q v base clean said placed new =
     let n = rebuilt_image v base in
     let place = facs_place v base in
@@ -52,7 +55,8 @@ fadt_kept m q v base clean said placed new =
     let named = named_fadt old place in
     let facs = facs_again m n old named v.facs place fadt.facs new.facs fadt.names.named in
     let sound = facs_sound_again m n old named v.facs (clean stage.Facs old is) fadt.names.reduced fadt.facs facs in
-    let one = λ (other : List ℕ) (listed : IsFadt n base other). one_listed n base fadt_signature named other fadt.listed listed in
+    let one = λ (other : List ℕ) (listed : IsFadt n base other). one_listed n base fadt_signature named other
+    fadt.listed listed in
     record {
       sound = record { whole = named; fadt = fadt.listed; sound = fadt.names.sound };
       facs = λ other listed. subst (λ (x : List ℕ). IsFacsOf n x v.facs) (one other listed) facs;
@@ -61,7 +65,8 @@ fadt_kept m q v base clean said placed new =
 
 -- ---- the whole
 
-kept_clean : (m : Memory) (q : PolicyValue) (v : SetValue) (base : ℕ) → IsClean m q → (said : IsSetValue m q.rsdp v) → IsNewSet v base said.tables → IsFadtKept v base → IsClean (rebuilt_image v base) (with_rsdp q base)
+kept_clean : (m : Memory) (q : PolicyValue) (v : SetValue) (base : ℕ) → IsClean m q → (said : IsSetValue m q.rsdp v)
+    → IsNewSet v base said.tables → IsFadtKept v base → IsClean (rebuilt_image v base) (with_rsdp q base)
 kept_clean m q v base clean said new fadt =
     let leads = new.leads in
     clean_again m (rebuilt_image v base) q base clean (are_same m q v base said new)
@@ -73,7 +78,8 @@ kept_clean m q v base clean said new fadt =
       facs = fadt.facs_sound;
     })
 
-kept_value : (m : Memory) (p : ℕ) (v : SetValue) (base : ℕ) → (said : IsSetValue m p v) → IsNewSet v base said.tables → IsFadtKept v base → IsSetValue (rebuilt_image v base) base v
+kept_value : (m : Memory) (p : ℕ) (v : SetValue) (base : ℕ) → (said : IsSetValue m p v) → IsNewSet v base said.tables
+    → IsFadtKept v base → IsSetValue (rebuilt_image v base) base v
 kept_value m p v base said new fadt =
     let leads = new.leads in
     let place = facs_place v base in

@@ -27,16 +27,20 @@ slots_behind : (x : ℕ) (xs : List ℕ) → drop 8 (flat_map (number_bytes 8) (
 slots_behind x xs = drop_at (number_bytes 8 x) (flat_map (number_bytes 8) xs) 8 (length-number_bytes 8 x)
 
 -- the k-th number
-slot_number : (xs : List ℕ) (k : ℕ) → k < length xs → get_or xs k 0 < 2 ^ 64 → field (flat_map (number_bytes 8) xs) (8 * k) 8 ≡ get_or xs k 0
+slot_number : (xs : List ℕ) (k : ℕ) → k < length xs → get_or xs k 0 < 2 ^ 64
+    → field (flat_map (number_bytes 8) xs) (8 * k) 8 ≡ get_or xs k 0
 slot_number [] k h fits = absurd (omega arith)
-slot_number (x ∷ xs) zero h fits = number_there 0 8 x (flat_map (number_bytes 8) (x ∷ xs)) (flat_map (number_bytes 8) xs) refl (omega (arith, fits))
+slot_number (x ∷ xs) zero h fits =
+    number_there 0 8 x (flat_map (number_bytes 8) (x ∷ xs)) (flat_map (number_bytes 8) xs) refl (omega (arith, fits))
 slot_number (x ∷ xs) (suc k) h fits =
     let next : 8 * suc k ≡ 8 + 8 * k = omega arith in
     ap (λ (o : ℕ). field (flat_map (number_bytes 8) (x ∷ xs)) o 8) next
     ∙ field_behind (flat_map (number_bytes 8) (x ∷ xs)) (flat_map (number_bytes 8) xs) 8 (8 * k) 8 (slots_behind x xs)
     ∙ slot_number xs k (omega arith) fits
 
-listed_rest : (whole xs : List ℕ) (k n : ℕ) → k + n ≡ length xs → ((j : ℕ) → j < length xs → field whole (36 + 8 * j) 8 ≡ get_or xs j 0) → ((j : ℕ) → j < length xs → 0 < get_or xs j 0)
+listed_rest : (whole xs : List ℕ) (k n : ℕ) → k + n ≡ length xs
+    → ((j : ℕ) → j < length xs → field whole (36 + 8 * j) 8 ≡ get_or xs j 0)
+    → ((j : ℕ) → j < length xs → 0 < get_or xs j 0)
     → listed_from whole 8 k n ≡ drop k xs
 listed_rest whole xs k zero all each some = sym (drop_all k xs (omega arith))
 listed_rest whole xs k (suc n) all each some =
@@ -61,7 +65,8 @@ xsdt_written head xs fits size are =
     let whole = table_bytes xsdt_signature head slots in
     let behind = length-slots xs in
     let table = whole_table xsdt_signature head slots refl fits (omega (arith, behind, size)) in
-    let count : length whole ≡ 36 + 8 * length xs = omega (arith, behind, length_of_parts whole slots table.0.least table.1) in
+    let count : length whole ≡ 36 + 8 * length xs = omega
+    (arith, behind, length_of_parts whole slots table.0.least table.1) in
     let n : (length whole - 36) / 8 ≡ length xs = omega (arith, count) in
     record {
       table = table.0;
@@ -69,7 +74,9 @@ xsdt_written head xs fits size are =
       lists =
           listed_is whole 8
           ∙ ap (λ (k : ℕ). listed_from whole 8 0 k) n
-          ∙ listed_rest whole xs 0 (length xs) (omega arith) (λ j below. field_behind whole slots 36 (8 * j) 8 table.1 ∙ slot_number xs j below (are.fits j below)) are.some;
+          ∙ listed_rest whole xs 0 (length xs) (omega arith)
+          (λ j below. field_behind whole slots 36 (8 * j) 8 table.1 ∙ slot_number xs j below (are.fits j below))
+          are.some;
     }
 
 pub ruleset root_slots = (length-slots)

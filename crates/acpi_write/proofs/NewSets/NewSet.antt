@@ -28,7 +28,8 @@ use Rattle.acpi_write.proofs.SetParts.PartPlaces.{clean_parts_are_laid}
 use Rattle.acpi_write.proofs.OldSets.OldTables.{listed_of, clean_tables, oemid_is_six, root_fits_head, IsFacsBytes, facs_bytes}
 
 -- its address fits
-pub place_fits : (m n : Memory) (old : List ℕ) (facs : Option (List ℕ)) (f : ℕ) → IsFacsOf m old facs → HasFacsPlace n facs f → f < 2 ^ 64
+pub place_fits : (m n : Memory) (old : List ℕ) (facs : Option (List ℕ)) (f : ℕ) → IsFacsOf m old facs
+    → HasFacsPlace n facs f → f < 2 ^ 64
 place_fits m n old None f is place = omega (arith, place)
 place_fits m n old (Some bytes) f is place =
     let least = (facs_bytes m (facs_address old) bytes is.1).least in
@@ -49,35 +50,44 @@ stands_again n bytes f are place =
     }
 
 -- it is what the new FADT names
-pub facs_again : (m n : Memory) (old new : List ℕ) (facs : Option (List ℕ)) (f : ℕ) → IsFacsOf m old facs → HasFacsPlace n facs f → facs_address new ≡ f → IsFacsOf n new facs
+pub facs_again : (m n : Memory) (old new : List ℕ) (facs : Option (List ℕ)) (f : ℕ) → IsFacsOf m old facs
+    → HasFacsPlace n facs f → facs_address new ≡ f → IsFacsOf n new facs
 facs_again m n old new None f is place named = named ∙ place
 facs_again m n old new (Some bytes) f is place named =
     let above = place.above in (
       λ nil. absurd (omega (arith, above, named, nil)),
-      subst (λ (x : ℕ). IsFacs n x bytes) (sym named) (stands_again n bytes f (facs_bytes m (facs_address old) bytes is.1) place),
+      subst (λ (x : ℕ). IsFacs n x bytes) (sym named)
+          (stands_again n bytes f (facs_bytes m (facs_address old) bytes is.1) place),
     )
 
 -- and it is sound
-pub facs_sound_again : (m n : Memory) (old new : List ℕ) (facs : Option (List ℕ)) → HasSoundFacs m old → is_reduced new ≡ is_reduced old → IsFacsOf m old facs → IsFacsOf n new facs → HasSoundFacs n new
-facs_sound_again m n old new None sound same is again = record { none = λ nil. same ∙ sound.none is; named = λ some. absurd (some again) }
-facs_sound_again m n old new (Some bytes) sound same is again = record { none = λ nil. absurd (again.0 nil); named = λ some. (bytes, again.1) }
+pub facs_sound_again : (m n : Memory) (old new : List ℕ) (facs : Option (List ℕ)) → HasSoundFacs m old
+    → is_reduced new ≡ is_reduced old → IsFacsOf m old facs → IsFacsOf n new facs → HasSoundFacs n new
+facs_sound_again m n old new None sound same is again =
+    record { none = λ nil. same ∙ sound.none is; named = λ some. absurd (some again) }
+facs_sound_again m n old new (Some bytes) sound same is again =
+    record { none = λ nil. absurd (again.0 nil); named = λ some. (bytes, again.1) }
 
 -- ---- what stands
 
-all_held : (n : Memory) (xs : List ℕ) (blocks : List (List ℕ)) → AllZip (Holds n) xs blocks → AllByRecursion IsWholeTable blocks → AllZip (IsWholeAt n) xs blocks
+all_held : (n : Memory) (xs : List ℕ) (blocks : List (List ℕ)) → AllZip (Holds n) xs blocks
+    → AllByRecursion IsWholeTable blocks → AllZip (IsWholeAt n) xs blocks
 all_held n [] [] held whole = tt
 all_held n [] (b ∷ bs) held whole = absurd held
 all_held n (x ∷ xs) [] held whole = absurd held
-all_held n (x ∷ xs) (b ∷ bs) held whole = ((take 36 b, table_held n x b held.0 whole.0.least whole.0.size), all_held n xs bs held.1 whole.1)
+all_held n (x ∷ xs) (b ∷ bs) held whole =
+    ((take 36 b, table_held n x b held.0 whole.0.least whole.0.size), all_held n xs bs held.1 whole.1)
 
 -- the rebuilt image of a set that lists these tables
 pub record IsNewSet (v : SetValue) (base : ℕ) (ts : List (List ℕ)) : Type 0 where
   pub clean : AreCleanTables ts
   pub leads : LeadsToTables v base (rebuilt_image v base)
-  pub each : AllZip (IsWholeAt (rebuilt_image v base)) (listed_addresses leads.root_bytes 8) (new_tables (facs_place v base) ts)
+  pub each : AllZip (IsWholeAt (rebuilt_image v base)) (listed_addresses leads.root_bytes 8)
+      (new_tables (facs_place v base) ts)
   pub facs : HasFacsPlace (rebuilt_image v base) v.facs (facs_place v base)
 
-pub new_set : (m : Memory) (q : PolicyValue) (v : SetValue) (base : ℕ) → IsImage m → IsClean m q → (said : IsSetValue m q.rsdp v) → IsPlaced v base → IsNewSet v base said.tables
+pub new_set : (m : Memory) (q : PolicyValue) (v : SetValue) (base : ℕ) → IsImage m → IsClean m q
+    → (said : IsSetValue m q.rsdp v) → IsPlaced v base → IsNewSet v base said.tables
 new_set m q v base image clean said placed =
     let n = rebuilt_image v base in
     let facs = facs_place v base in
@@ -88,26 +98,39 @@ new_set m q v base image clean said placed =
     let parts = parts_stand v base (clean_parts_are_laid m q v base clean said).lengths in
     let leads = leads_to_tables v base oemid head placed in
     let stand : AllZip (Holds n) (table_places v base) (new_tables facs ts) =
-    subst (λ (vs : List TableValue). AllZip (Holds n) (table_places v base) (map (encoded_bytes_with facs) vs)) said.values (tables_stand v base parts) in
+    subst (λ (vs : List TableValue). AllZip (Holds n) (table_places v base) (map (encoded_bytes_with facs) vs))
+    said.values (tables_stand v base parts) in
     record {
       clean = tables;
       leads = leads;
-      each = subst (λ (xs : List ℕ). AllZip (IsWholeAt n) xs (new_tables facs ts)) (sym leads.lists) (all_held n (table_places v base) (new_tables facs ts) stand (new_whole facs ts tables));
+      each = subst (λ (xs : List ℕ). AllZip (IsWholeAt n) xs (new_tables facs ts)) (sym leads.lists)
+          (all_held n (table_places v base) (new_tables facs ts) stand (new_whole facs ts tables));
       facs = facs_stands v base placed parts;
     }
 
-pub new_listed : (v : SetValue) (base : ℕ) (ts : List (List ℕ)) → IsNewSet v base ts → AreListed (rebuilt_image v base) base (new_tables (facs_place v base) ts)
-new_listed v base ts new = record { r = new.leads.r; d = 8; root_bytes = new.leads.root_bytes; root = new.leads.root; table = new.leads.sound.table; each = new.each }
+pub new_listed : (v : SetValue) (base : ℕ) (ts : List (List ℕ)) → IsNewSet v base ts
+    → AreListed (rebuilt_image v base) base (new_tables (facs_place v base) ts)
+new_listed v base ts new =
+    record {
+      r = new.leads.r;
+      d = 8;
+      root_bytes = new.leads.root_bytes;
+      root = new.leads.root;
+      table = new.leads.sound.table;
+      each = new.each;
+    }
 
 -- ---- stage 3
 
-pub new_sound_tables : (v : SetValue) (base : ℕ) (ts : List (List ℕ)) → IsNewSet v base ts → AreSoundTables (rebuilt_image v base) base
+pub new_sound_tables : (v : SetValue) (base : ℕ) (ts : List (List ℕ)) → IsNewSet v base ts
+    → AreSoundTables (rebuilt_image v base) base
 new_sound_tables v base ts new k a slot =
     let n = rebuilt_image v base in
     let facs = facs_place v base in
     let leads = new.leads in
     let there = slot_of_root n base leads.r 8 k a leads.root_bytes leads.root leads.sound.table slot in
-    let its = slot_table n IsWholeTable leads.root_bytes 8 (new_tables facs ts) k a (inr refl) new.each (new_whole facs ts new.clean) there in
+    let its = slot_table n IsWholeTable leads.root_bytes 8 (new_tables facs ts) k a (inr refl) new.each
+    (new_whole facs ts new.clean) there in
     record { header = its.stands.0; whole = its.t; table = its.stands.1; zero_sum = its.holds.zero_sum }
 
 -- ---- the FADT
@@ -122,7 +145,8 @@ pub record HasNewFadt (m : Memory) (p : ℕ) (v : SetValue) (base : ℕ) (old : 
   pub names : NamesFacs old (facs_place v base)
   pub listed : IsListedTable (rebuilt_image v base) base fadt_signature (named_fadt old (facs_place v base))
 
-pub new_fadt : (m : Memory) (q : PolicyValue) (v : SetValue) (base : ℕ) (old : List ℕ) → (said : IsSetValue m q.rsdp v) → IsPlaced v base → IsNewSet v base said.tables → IsListedTable m q.rsdp fadt_signature old
+pub new_fadt : (m : Memory) (q : PolicyValue) (v : SetValue) (base : ℕ) (old : List ℕ) → (said : IsSetValue m q.rsdp v)
+    → IsPlaced v base → IsNewSet v base said.tables → IsListedTable m q.rsdp fadt_signature old
     → HasNewFadt m q.rsdp v base old
 new_fadt m q v base old said placed new is =
     let n = rebuilt_image v base in
@@ -134,7 +158,10 @@ new_fadt m q v base old said placed new is =
     let facs = said.facs old is in
     record {
       facs = facs;
-      names = fadts_name_facs old place one.table one.bytes one.small (new.clean.sound old first) (place_fits m n old v.facs place facs new.facs) (λ short.
-          placed.low (ap (λ (vs : List TableValue). list_any is_narrow vs) said.values ∙ narrow_first ts old first (omega (arith, long)) short));
-      listed = listed_first n base (new_tables place ts) fadt_signature (named_fadt old place) (new_listed v base ts new) refl (fadt_again place ts old new.clean first);
+      names = fadts_name_facs old place one.table one.bytes one.small (new.clean.sound old first)
+          (place_fits m n old v.facs place facs new.facs) (λ short.
+          placed.low (ap (λ (vs : List TableValue). list_any is_narrow vs) said.values
+          ∙ narrow_first ts old first (omega (arith, long)) short));
+      listed = listed_first n base (new_tables place ts) fadt_signature (named_fadt old place)
+          (new_listed v base ts new) refl (fadt_again place ts old new.clean first);
     }

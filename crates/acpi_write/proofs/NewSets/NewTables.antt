@@ -33,10 +33,12 @@ abbrev AreCleanBehind : List (List ℕ) → List (List ℕ) → Type 0
 AreCleanBehind before [] = Unit {0}
 AreCleanBehind before (t ∷ ts) = IsCleanBehind before t × AreCleanBehind (before ++ t ∷ []) ts
 
-clean_behind : (all before ts : List (List ℕ)) → AreCleanTables all → all ≡ before ++ ts → AllByRecursion IsCleanTable ts → AreCleanBehind before ts
+clean_behind : (all before ts : List (List ℕ)) → AreCleanTables all → all ≡ before ++ ts
+    → AllByRecursion IsCleanTable ts → AreCleanBehind before ts
 clean_behind all before [] clean is each = tt
 clean_behind all before (t ∷ ts) clean is each =
-    let first = λ (s : List ℕ) (here : is_first before t s ≡ true). ap (first_table_with s) is ∙ first_is before t ts s here in (
+    let first = λ (s : List ℕ) (here : is_first before t s ≡ true). ap (first_table_with s) is
+    ∙ first_is before t ts s here in (
       record {
         clean = each.0;
         readable = λ kind here. clean.readable kind t (first (signature_of kind) here);
@@ -53,20 +55,25 @@ of_clean ts clean = clean_behind ts [] ts clean refl clean.each
 abbrev new_behind : ℕ → List (List ℕ) → List (List ℕ) → List (List ℕ)
 new_behind facs before ts = map (encoded_bytes_with facs) (values_behind before ts)
 
-alike_more : (others before : List (List ℕ)) (new old : List ℕ) → AmongAlike others before → ((s : List ℕ) → length s ≡ 4 → has_signature new s ≡ has_signature old s) → AmongAlike (others ++ new ∷ []) (before ++ old ∷ [])
+alike_more : (others before : List (List ℕ)) (new old : List ℕ) → AmongAlike others before
+    → ((s : List ℕ) → length s ≡ 4 → has_signature new s ≡ has_signature old s)
+    → AmongAlike (others ++ new ∷ []) (before ++ old ∷ [])
 alike_more others before new old alike same s four =
     let here = alike s four in
     let last = same s four in
-    list_any-append (λ x. has_signature x s) others (new ∷ []) ∙ rw (here, last) (sym (list_any-append (λ x. has_signature x s) before (old ∷ [])))
+    list_any-append (λ x. has_signature x s) others (new ∷ [])
+    ∙ rw (here, last) (sym (list_any-append (λ x. has_signature x s) before (old ∷ [])))
 
-says_again : (facs : ℕ) (others before ts : List (List ℕ)) → AmongAlike others before → AreCleanBehind before ts → values_behind others (new_behind facs before ts) ≡ values_behind before ts
+says_again : (facs : ℕ) (others before ts : List (List ℕ)) → AmongAlike others before → AreCleanBehind before ts
+    → values_behind others (new_behind facs before ts) ≡ values_behind before ts
 unfolding values_behind
 says_again facs others before [] alike clean = refl
 says_again facs others before (t ∷ ts) alike clean =
     let new = new_of facs before t in
     let here = rewritten facs before t clean.0 in
     let said = here.said others alike in
-    let rest = says_again facs (others ++ new ∷ []) (before ++ t ∷ []) ts (alike_more others before new t alike here.signature) clean.1 in
+    let rest = says_again facs (others ++ new ∷ []) (before ++ t ∷ []) ts
+    (alike_more others before new t alike here.signature) clean.1 in
     λ i. said i ∷ rest i
 
 -- the tables say what they were written for
@@ -75,10 +82,12 @@ values_again facs ts clean = says_again facs [] [] ts (λ s four. refl) (of_clea
 
 -- ---- each is whole
 
-whole_behind : (facs : ℕ) (before ts : List (List ℕ)) → AreCleanBehind before ts → AllByRecursion IsWholeTable (new_behind facs before ts)
+whole_behind : (facs : ℕ) (before ts : List (List ℕ)) → AreCleanBehind before ts
+    → AllByRecursion IsWholeTable (new_behind facs before ts)
 unfolding values_behind
 whole_behind facs before [] clean = tt
-whole_behind facs before (t ∷ ts) clean = ((rewritten facs before t clean.0).table, whole_behind facs (before ++ t ∷ []) ts clean.1)
+whole_behind facs before (t ∷ ts) clean =
+    ((rewritten facs before t clean.0).table, whole_behind facs (before ++ t ∷ []) ts clean.1)
 
 pub new_whole : (facs : ℕ) (ts : List (List ℕ)) → AreCleanTables ts → AllByRecursion IsWholeTable (new_tables facs ts)
 new_whole facs ts clean = whole_behind facs [] ts (of_clean ts clean)
@@ -87,7 +96,9 @@ new_whole facs ts clean = whole_behind facs [] ts (of_clean ts clean)
 
 -- the new table is written for the old one, which is the first with the signature behind others; or there is neither
 AreFirsts : ℕ → List ℕ → Option (List ℕ) → Option (List ℕ) → Type 0
-AreFirsts facs signature (Some old) (Some new) = (passed : List (List ℕ)) × IsCleanBehind passed old × (is_first passed old signature ≡ true) × (new ≡ new_of facs passed old)
+AreFirsts facs signature (Some old) (Some new) =
+    (passed : List (List ℕ)) × IsCleanBehind passed old × (is_first passed old signature ≡ true)
+    × (new ≡ new_of facs passed old)
 AreFirsts facs signature None None = Unit {0}
 AreFirsts facs signature _ _ = ⊥
 
@@ -100,7 +111,8 @@ firsts_behind facs before (t ∷ ts) signature four none clean =
     let same = (rewritten facs before t clean.0).signature signature four in
     elim (cases_Bool (has_signature t signature)) [
       | inl has ↦ rw (same, has) (before, clean.0, is_behind before t signature none ∙ has, refl)
-      | inr other ↦ rw (same, other) (firsts_behind facs (before ++ t ∷ []) ts signature four (none_more before t signature none other) clean.1)
+      | inr other ↦ rw (same, other)
+          (firsts_behind facs (before ++ t ∷ []) ts signature four (none_more before t signature none other) clean.1)
     ]
 
 firsts : (facs : ℕ) (ts : List (List ℕ)) (signature : List ℕ) → length signature ≡ 4 → AreCleanTables ts
@@ -110,25 +122,33 @@ firsts facs ts signature four clean = firsts_behind facs [] ts signature four re
 -- the first one of a kind has the contents of the old one
 pub contents_again : (facs : ℕ) (ts : List (List ℕ)) (kind : TableKind) (new : List ℕ) → AreCleanTables ts
     → first_table_with (signature_of kind) (new_tables facs ts) ≡ Some new
-    → (old : List ℕ) × (first_table_with (signature_of kind) ts ≡ Some old) × (contents_of kind new ≡ contents_of kind old)
+    → (old : List ℕ) × (first_table_with (signature_of kind) ts ≡ Some old)
+    × (contents_of kind new ≡ contents_of kind old)
 unfolding AreFirsts
 contents_again facs ts kind new clean is =
-    from (first_table_with signature ts) refl (subst (AreFirsts facs signature (first_table_with signature ts)) is (firsts facs ts signature (length-signature_of kind) clean))
+    from (first_table_with signature ts) refl
+    (subst (AreFirsts facs signature (first_table_with signature ts)) is
+    (firsts facs ts signature (length-signature_of kind) clean))
   where
     signature : List ℕ
     signature = signature_of kind
 
     from : (o : Option (List ℕ)) → first_table_with signature ts ≡ o → AreFirsts facs signature o (Some new)
         → (old : List ℕ) × (first_table_with signature ts ≡ Some old) × (contents_of kind new ≡ contents_of kind old)
-    from (Some old) named (passed, behind, first, written) = (old, named, ap (contents_of kind) written ∙ (new_kept facs passed old kind behind first).contents)
+    from (Some old) named (passed, behind, first, written) =
+        (old, named, ap (contents_of kind) written ∙ (new_kept facs passed old kind behind first).contents)
     from None named neither = absurd neither
 
 -- the first FADT names the FACS at this address
-pub fadt_again : (facs : ℕ) (ts : List (List ℕ)) (old : List ℕ) → AreCleanTables ts → first_table_with fadt_signature ts ≡ Some old
-    → first_table_with fadt_signature (new_tables facs ts) ≡ Some (table_bytes fadt_signature (head_of old) (with_facs (drop 36 old) facs))
+pub fadt_again : (facs : ℕ) (ts : List (List ℕ)) (old : List ℕ) → AreCleanTables ts
+    → first_table_with fadt_signature ts ≡ Some old
+    → first_table_with fadt_signature (new_tables facs ts) ≡ Some
+    (table_bytes fadt_signature (head_of old) (with_facs (drop 36 old) facs))
 unfolding AreFirsts
 fadt_again facs ts old clean is =
-    to (first_table_with fadt_signature (new_tables facs ts)) (subst (λ (o : Option (List ℕ)). AreFirsts facs fadt_signature o (first_table_with fadt_signature (new_tables facs ts))) is (firsts facs ts fadt_signature refl clean))
+    to (first_table_with fadt_signature (new_tables facs ts))
+    (subst (λ (o : Option (List ℕ)). AreFirsts facs fadt_signature o
+    (first_table_with fadt_signature (new_tables facs ts))) is (firsts facs ts fadt_signature refl clean))
   where
     to : (o : Option (List ℕ)) → AreFirsts facs fadt_signature (Some old) o
         → o ≡ Some (table_bytes fadt_signature (head_of old) (with_facs (drop 36 old) facs))
@@ -137,7 +157,9 @@ fadt_again facs ts old clean is =
 
 -- ---- a FADT of fewer than 140 bytes
 
-narrow_behind : (before ts : List (List ℕ)) (t : List ℕ) → is_among before fadt_signature ≡ false → first_table_with fadt_signature ts ≡ Some t → 40 ≤ length t → length t < 140 → list_any is_narrow (values_behind before ts) ≡ true
+narrow_behind : (before ts : List (List ℕ)) (t : List ℕ) → is_among before fadt_signature ≡ false
+    → first_table_with fadt_signature ts ≡ Some t → 40 ≤ length t → length t < 140
+    → list_any is_narrow (values_behind before ts) ≡ true
 unfolding first_table_with values_behind
 narrow_behind before [] t none is least short = absurd (cc)
 narrow_behind before (u ∷ ts) t none is least short =
@@ -147,12 +169,15 @@ narrow_behind before (u ∷ ts) t none is least short =
           let said = says before u (Some kind.Fadt) (is_behind before u fadt_signature none ∙ has) in
           let size = ap length same in
           let n = length-with_facs (drop 36 u) 0 (omega (arith, length-drop 36 u, size, least)) in
-          let narrow = lt-ltb (length (with_facs (drop 36 u) 0)) 104 (omega (arith, n, length-drop 36 u, size, least, short)) in
+          let narrow = lt-ltb (length (with_facs (drop 36 u) 0)) 104
+          (omega (arith, n, length-drop 36 u, size, least, short)) in
           rw (said, narrow) refl
       | inr other ↦
-          let rest = narrow_behind (before ++ u ∷ []) ts t (none_more before u fadt_signature none other) (subst (λ b. (if b then Some u else first_table_with fadt_signature ts) ≡ Some t) other is) least short in
+          let rest = narrow_behind (before ++ u ∷ []) ts t (none_more before u fadt_signature none other)
+          (subst (λ b. (if b then Some u else first_table_with fadt_signature ts) ≡ Some t) other is) least short in
           rw rest (or-true (is_narrow (table_value_behind before u)))
     ]
 
-pub narrow_first : (ts : List (List ℕ)) (t : List ℕ) → first_table_with fadt_signature ts ≡ Some t → 40 ≤ length t → length t < 140 → list_any is_narrow (values_of ts) ≡ true
+pub narrow_first : (ts : List (List ℕ)) (t : List ℕ) → first_table_with fadt_signature ts ≡ Some t → 40 ≤ length t
+    → length t < 140 → list_any is_narrow (values_of ts) ≡ true
 narrow_first ts t is least short = narrow_behind [] ts t refl is least short

@@ -32,26 +32,33 @@ new_of facs before old = encoded_bytes_with facs (table_value_behind before old)
 pub new_kept : (facs : ℕ) (before : List (List ℕ)) (old : List ℕ) (kind : TableKind) → IsCleanBehind before old
     → is_first before old (signature_of kind) ≡ true → KeepsContents kind old (new_of facs before old)
 new_kept facs before old kind is first =
-    subst (λ v. KeepsContents kind old (encoded_bytes_with facs v)) (sym (says before old (Some kind) first)) (kept kind facs old is.clean ((facts kind).filled old (is.readable kind first)))
+    subst (λ v. KeepsContents kind old (encoded_bytes_with facs v)) (sym (says before old (Some kind) first))
+    (kept kind facs old is.clean ((facts kind).filled old (is.readable kind first)))
 
-pub new_fadt : (facs : ℕ) (before : List (List ℕ)) (old : List ℕ) → IsCleanBehind before old → is_first before old fadt_signature ≡ true
+pub new_fadt : (facs : ℕ) (before : List (List ℕ)) (old : List ℕ) → IsCleanBehind before old
+    → is_first before old fadt_signature ≡ true
     → new_of facs before old ≡ table_bytes fadt_signature (head_of old) (with_facs (drop 36 old) facs)
 new_fadt facs before old is first =
     let long = (is.sound first).long in
     ap (encoded_bytes_with facs) (says before old (Some kind.Fadt) first)
-    ∙ ap (table_bytes fadt_signature (head_of old)) (with_facs-with_facs (drop 36 old) 0 facs (omega (arith, length-drop 36 old, long)))
+    ∙ ap (table_bytes fadt_signature (head_of old))
+    (with_facs-with_facs (drop 36 old) 0 facs (omega (arith, length-drop 36 old, long)))
 
 -- and says the same
-rewritten_as : (facs : ℕ) (before : List (List ℕ)) (old : List ℕ) → IsCleanBehind before old → (kind : Option TableKind) → IsKindBehind before old kind → IsRewritten before old (new_of facs before old)
+rewritten_as : (facs : ℕ) (before : List (List ℕ)) (old : List ℕ) → IsCleanBehind before old → (kind : Option TableKind)
+    → IsKindBehind before old kind → IsRewritten before old (new_of facs before old)
 rewritten_as facs before old is (Some kind) first =
     let again = new_kept facs before old kind is first in
     let new = new_of facs before old in
-    let same : table_value_as (Some kind) new ≡ table_value_as (Some kind) old = λ i. Known (again.table.head_is i) (value_of kind (again.contents i)) in
+    let same : table_value_as (Some kind) new ≡ table_value_as (Some kind) old =
+    λ i. Known (again.table.head_is i) (value_of kind (again.contents i)) in
     as_first kind before old new first again.table same
 rewritten_as facs before old is None none =
-    subst (λ v. IsRewritten before old (encoded_bytes_with facs v)) (sym (says before old None none)) (as_it_was before old none is.clean.table)
+    subst (λ v. IsRewritten before old (encoded_bytes_with facs v)) (sym (says before old None none))
+    (as_it_was before old none is.clean.table)
 
-pub rewritten : (facs : ℕ) (before : List (List ℕ)) (old : List ℕ) → IsCleanBehind before old → IsRewritten before old (new_of facs before old)
+pub rewritten : (facs : ℕ) (before : List (List ℕ)) (old : List ℕ) → IsCleanBehind before old
+    → IsRewritten before old (new_of facs before old)
 rewritten facs before old is =
     let found = kind_found before old in
     rewritten_as facs before old is found.0 found.1

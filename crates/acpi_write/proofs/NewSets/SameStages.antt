@@ -24,7 +24,8 @@ use Rattle.acpi_write.specs.Bodies.{ContentsOf, contents_of}
 -- each table of the image n that is the first of its kind says what that of the image m says
 abbrev pub AreSameListed : Memory → ℕ → Memory → ℕ → Type 0
 AreSameListed m p n base =
-    (kind : TableKind) (new : List ℕ) → IsListedTable n base (signature_of kind) new → (old : List ℕ) × IsListedTable m p (signature_of kind) old × (contents_of kind new ≡ contents_of kind old)
+    (kind : TableKind) (new : List ℕ) → IsListedTable n base (signature_of kind) new
+    → (old : List ℕ) × IsListedTable m p (signature_of kind) old × (contents_of kind new ≡ contents_of kind old)
 
 -- the first five stages hold
 pub record IsSoundFront (m : Memory) (p : ℕ) : Type 0 where
@@ -36,7 +37,8 @@ pub record IsSoundFront (m : Memory) (p : ℕ) : Type 0 where
 
 -- ---- the policy: what is asked of a MADT does not hang on the RSDP's address
 
-entry_again : (q : PolicyValue) (base : ℕ) (e : madt.MadtEntry) → madt.IsSoundMadtEntry q e → madt.IsSoundMadtEntry (with_rsdp q base) e
+entry_again : (q : PolicyValue) (base : ℕ) (e : madt.MadtEntry) → madt.IsSoundMadtEntry q e
+    → madt.IsSoundMadtEntry (with_rsdp q base) e
 unfolding inputs_of
 entry_again q base (madt.IoApic v) sound = sound
 entry_again q base _ sound = sound
@@ -50,17 +52,20 @@ madt_again q base c sound = record {
 }
 
 -- an entry serves the same interrupt numbers
-serves_again : (q : PolicyValue) (base start g : ℕ) (e : madt.MadtEntry) → madt.ServesFrom q start g e → madt.ServesFrom (with_rsdp q base) start g e
+serves_again : (q : PolicyValue) (base start g : ℕ) (e : madt.MadtEntry) → madt.ServesFrom q start g e
+    → madt.ServesFrom (with_rsdp q base) start g e
 unfolding inputs_of
 serves_again q base start g (madt.IoApic v) serves = serves
 serves_again q base start g e serves = absurd serves
 
-serves_before : (q : PolicyValue) (base start g : ℕ) (e : madt.MadtEntry) → madt.ServesFrom (with_rsdp q base) start g e → madt.ServesFrom q start g e
+serves_before : (q : PolicyValue) (base start g : ℕ) (e : madt.MadtEntry) → madt.ServesFrom (with_rsdp q base) start g e
+    → madt.ServesFrom q start g e
 unfolding inputs_of
 serves_before q base start g (madt.IoApic v) serves = serves
 serves_before q base start g e serves = absurd serves
 
-apart_again : (q : PolicyValue) (base : ℕ) (c : MadtContents) → AreInterruptsApart q c → AreInterruptsApart (with_rsdp q base) c
+apart_again : (q : PolicyValue) (base : ℕ) (c : MadtContents) → AreInterruptsApart q c
+    → AreInterruptsApart (with_rsdp q base) c
 apart_again q base c apart o p x clash =
     let one = clash.one_holds in
     let other = clash.other_holds in
@@ -72,7 +77,8 @@ apart_again q base c apart o p x clash =
       two = clash.two;
     })
 
-served_again : (q : PolicyValue) (base : ℕ) (c : MadtContents) → AreNamedServed q c → AreNamedServed (with_rsdp q base) c
+served_again : (q : PolicyValue) (base : ℕ) (c : MadtContents) → AreNamedServed q c
+    → AreNamedServed (with_rsdp q base) c
 served_again q base c served has o g names =
     let by = served has o g names in
     let entry = by.2 in
@@ -94,7 +100,8 @@ module _ {m n : Memory} {p base : ℕ} (same : AreSameListed m p n base) where
   still kind P = moved kind P P (λ c holds. holds)
 
 -- every stage holds
-pub clean_again : (m n : Memory) (q : PolicyValue) (base : ℕ) → IsClean m q → AreSameListed m q.rsdp n base → IsSoundFront n base → IsClean n (with_rsdp q base)
+pub clean_again : (m n : Memory) (q : PolicyValue) (base : ℕ) → IsClean m q → AreSameListed m q.rsdp n base
+    → IsSoundFront n base → IsClean n (with_rsdp q base)
 clean_again m n q base clean same front = each
   where
     each : (s : Stage) → Holds s n (with_rsdp q base)
@@ -103,8 +110,11 @@ clean_again m n q base clean same front = each
     each stage.Tables = front.tables
     each stage.Fadt = front.fadt
     each stage.Facs = front.facs
-    each stage.Madt = moved same kind.Madt (IsSoundMadt q) (IsSoundMadt (with_rsdp q base)) (madt_again q base) (clean stage.Madt)
-    each stage.Interrupts = moved same kind.Madt (AreInterruptsApart q) (AreInterruptsApart (with_rsdp q base)) (apart_again q base) (clean stage.Interrupts)
+    each stage.Madt =
+        moved same kind.Madt (IsSoundMadt q) (IsSoundMadt (with_rsdp q base)) (madt_again q base) (clean stage.Madt)
+    each stage.Interrupts =
+        moved same kind.Madt (AreInterruptsApart q) (AreInterruptsApart (with_rsdp q base)) (apart_again q base)
+        (clean stage.Interrupts)
     each stage.Overrides = still same kind.Madt DoOverridesAgree (clean stage.Overrides)
     each stage.Srat = still same kind.Srat IsSoundSrat (clean stage.Srat)
     each stage.Ranges = still same kind.Srat (AreRangesApart q.hotplug) (clean stage.Ranges)
@@ -114,11 +124,16 @@ clean_again m n q base clean same front = each
     each stage.Parents = still same kind.Pptt DoParentsEnd (clean stage.Parents)
     each stage.Caches = still same kind.Pptt DoCachesEnd (clean stage.Caches)
     each stage.Domains =
-        moved same kind.Madt (λ c. ForListed m q.rsdp srat_signature (λ whole. HaveOneDomain q.processors c (srat_contents whole))) (λ c. ForListed n base srat_signature (λ whole. HaveOneDomain q.processors c (srat_contents whole)))
+        moved same kind.Madt (λ c. ForListed m q.rsdp srat_signature
+        (λ whole. HaveOneDomain q.processors c (srat_contents whole)))
+        (λ c. ForListed n base srat_signature (λ whole. HaveOneDomain q.processors c (srat_contents whole)))
         (λ c holds. still same kind.Srat (HaveOneDomain q.processors c) holds)
         (clean stage.Domains)
-    each stage.Served = moved same kind.Madt (AreNamedServed q) (AreNamedServed (with_rsdp q base)) (served_again q base) (clean stage.Served)
+    each stage.Served =
+        moved same kind.Madt (AreNamedServed q) (AreNamedServed (with_rsdp q base)) (served_again q base)
+        (clean stage.Served)
     each stage.Leaves =
-        moved same kind.Madt (λ c. ForListed m q.rsdp pptt_signature (λ whole. AreLeavesKnown c (pptt_contents whole))) (λ c. ForListed n base pptt_signature (λ whole. AreLeavesKnown c (pptt_contents whole)))
+        moved same kind.Madt (λ c. ForListed m q.rsdp pptt_signature (λ whole. AreLeavesKnown c (pptt_contents whole)))
+        (λ c. ForListed n base pptt_signature (λ whole. AreLeavesKnown c (pptt_contents whole)))
         (λ c holds. still same kind.Pptt (AreLeavesKnown c) holds)
         (clean stage.Leaves)

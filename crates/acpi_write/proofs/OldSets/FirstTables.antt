@@ -47,7 +47,8 @@ or_parts false true e = absurd (cc)
 or_parts true b e = absurd (cc)
 
 -- it is the first of the tables before it, itself, and those behind it
-pub first_is : (before : List (List ℕ)) (t : List ℕ) (rest : List (List ℕ)) (signature : List ℕ) → is_first before t signature ≡ true → first_table_with signature (before ++ t ∷ rest) ≡ Some t
+pub first_is : (before : List (List ℕ)) (t : List ℕ) (rest : List (List ℕ)) (signature : List ℕ)
+    → is_first before t signature ≡ true → first_table_with signature (before ++ t ∷ rest) ≡ Some t
 unfolding first_table_with
 first_is [] t rest signature is = rw ((first_parts (has_signature t signature) false is).0) refl
 first_is (b ∷ before) t rest signature is =
@@ -56,17 +57,22 @@ first_is (b ∷ before) t rest signature is =
     rw others.0 (first_is before t rest signature (rw (parts.0, others.1) refl))
 
 -- of those behind others
-pub is_behind : (before : List (List ℕ)) (t signature : List ℕ) → is_among before signature ≡ false → is_first before t signature ≡ has_signature t signature
+pub is_behind : (before : List (List ℕ)) (t signature : List ℕ) → is_among before signature ≡ false
+    → is_first before t signature ≡ has_signature t signature
 is_behind before t signature none = rw none (and-true (has_signature t signature))
 
-pub none_more : (before : List (List ℕ)) (t signature : List ℕ) → is_among before signature ≡ false → has_signature t signature ≡ false → is_among (before ++ t ∷ []) signature ≡ false
-none_more before t signature none other = list_any-append (λ x. has_signature x signature) before (t ∷ []) ∙ both none other
+pub none_more : (before : List (List ℕ)) (t signature : List ℕ) → is_among before signature ≡ false
+    → has_signature t signature ≡ false → is_among (before ++ t ∷ []) signature ≡ false
+none_more before t signature none other =
+    list_any-append (λ x. has_signature x signature) before (t ∷ []) ∙ both none other
   where
-    both : is_among before signature ≡ false → has_signature t signature ≡ false → (is_among before signature || is_among (t ∷ []) signature) ≡ false
+    both : is_among before signature ≡ false → has_signature t signature ≡ false
+        → (is_among before signature || is_among (t ∷ []) signature) ≡ false
     both none other = rw (none, other) refl
 
 -- what holds of all tables holds of the first
-pub holds_of_first : (P : List ℕ → Type 0) (signature : List ℕ) (ts : List (List ℕ)) (t : List ℕ) → AllByRecursion P ts → first_table_with signature ts ≡ Some t → P t
+pub holds_of_first : (P : List ℕ → Type 0) (signature : List ℕ) (ts : List (List ℕ)) (t : List ℕ) → AllByRecursion P ts
+    → first_table_with signature ts ≡ Some t → P t
 unfolding first_table_with
 holds_of_first P signature [] t each is = absurd (cc)
 holds_of_first P signature (u ∷ ts) t each is =
@@ -75,5 +81,6 @@ holds_of_first P signature (u ∷ ts) t each is =
       | inr other ↦ holds_of_first P signature ts t each.1 (cc)
     ]
 
-pub clean_first : (signature : List ℕ) (ts : List (List ℕ)) (t : List ℕ) → AreCleanTables ts → first_table_with signature ts ≡ Some t → IsCleanTable t
+pub clean_first : (signature : List ℕ) (ts : List (List ℕ)) (t : List ℕ) → AreCleanTables ts
+    → first_table_with signature ts ≡ Some t → IsCleanTable t
 clean_first signature ts t clean is = holds_of_first IsCleanTable signature ts t clean.each is

@@ -21,12 +21,20 @@ last facs whole long = with_facs-with_facs (drop 36 whole) 0 facs (room whole lo
 
 count : (facs : ℕ) (whole : List ℕ) → 40 ≤ length whole
     → 36 + length (with_facs (with_facs (drop 36 whole) 0) facs) ≡ length whole
-count facs whole long = omega (arith, ap length (last facs whole long), length-with_facs (drop 36 whole) facs (room whole long), length-drop 36 whole, long)
+count facs whole long =
+    omega (
+      arith,
+      ap length (last facs whole long),
+      length-with_facs (drop 36 whole) facs (room whole long),
+      length-drop 36 whole,
+      long,
+    )
 
 kept : (facs : ℕ) (whole new : List ℕ) → IsWrittenFor kind.Fadt facs whole new
     → with_facs (drop 36 new) 0 ≡ with_facs (drop 36 whole) 0
 kept facs whole new is =
-    ap (λ (b : List ℕ). with_facs b 0) (is.body ∙ last facs whole is.filled) ∙ with_facs-with_facs (drop 36 whole) facs 0 (room whole is.filled)
+    ap (λ (b : List ℕ). with_facs b 0) (is.body ∙ last facs whole is.filled)
+    ∙ with_facs-with_facs (drop 36 whole) facs 0 (room whole is.filled)
 
 pub facts : KindFacts kind.Fadt
 facts = record {
@@ -38,7 +46,8 @@ facts = record {
   filled = λ whole long. omega (arith, long);
   readable = λ m q whole clean is. (
       let fadt = clean stage.Fadt in
-      subst (λ (b : List ℕ). 116 ≤ length b) (one_listed m q.rsdp fadt_signature fadt.whole whole fadt.fadt is) fadt.sound.long);
+      subst (λ (b : List ℕ). 116 ≤ length b) (one_listed m q.rsdp fadt_signature fadt.whole whole fadt.fadt is)
+      fadt.sound.long);
 }
 
 -- what is written for a value says it

@@ -53,11 +53,20 @@ known head v fits short body =
 
 pub is_written : (v : written.TableValue) → IsShaped v → IsShort v → DoPartsSay v → IsWritten (table_value v)
 is_written (table.Madt head address flags entries) shaped short say =
-    known (head_value head) (Madt address flags _) say.0 short (λ whole least body. madts.says address flags entries.items whole least body say.1 say.2 say.3 shaped)
-is_written (table.Srat head entries) shaped short say = known (head_value head) (Srat _) say.0 short (λ whole least body. srats.says entries.items whole least body say.1 shaped)
-is_written (table.Slit head count cells) shaped short say = known (head_value head) (Slit count cells.now) say.0 short (λ whole least body. slits.says count cells.now whole least body say.1 shaped)
-is_written (table.Pptt head entries) shaped short say = known (head_value head) (Pptt _) say.0 short (λ whole least body. pptts.says entries.items whole least body say.1 shaped)
-is_written (table.Fadt head body) shaped short say = known (head_value head) (Fadt body.items) say short (λ whole least there. fadts.says body.items whole least there shaped)
+    known (head_value head) (Madt address flags _) say.0 short
+    (λ whole least body. madts.says address flags entries.items whole least body say.1 say.2 say.3 shaped)
+is_written (table.Srat head entries) shaped short say =
+    known (head_value head) (Srat _) say.0 short
+    (λ whole least body. srats.says entries.items whole least body say.1 shaped)
+is_written (table.Slit head count cells) shaped short say =
+    known (head_value head) (Slit count cells.now) say.0 short
+    (λ whole least body. slits.says count cells.now whole least body say.1 shaped)
+is_written (table.Pptt head entries) shaped short say =
+    known (head_value head) (Pptt _) say.0 short
+    (λ whole least body. pptts.says entries.items whole least body say.1 shaped)
+is_written (table.Fadt head body) shaped short say =
+    known (head_value head) (Fadt body.items) say short
+    (λ whole least there. fadts.says body.items whole least there shaped)
 is_written (table.Other bytes) shaped short say = ((shaped, refl), length_of_parts bytes.now _ shaped.least refl)
 
 -- ---- one value

@@ -31,23 +31,35 @@ parts_of whole = flat_map madt_bytes (entries_in (entries_read_by madt_entry (en
 pub length-body : (address flags : ℕ) (parts : List ℕ)
     → 36 + length (number_bytes 4 address ++ (number_bytes 4 flags ++ parts)) ≡ 44 + length parts
 length-body address flags parts =
-    omega (arith, length-append (number_bytes 4 address) (number_bytes 4 flags ++ parts), length-append (number_bytes 4 flags) parts, length-number_bytes 4 address, length-number_bytes 4 flags)
+    omega (
+      arith,
+      length-append (number_bytes 4 address) (number_bytes 4 flags ++ parts),
+      length-append (number_bytes 4 flags) parts,
+      length-number_bytes 4 address,
+      length-number_bytes 4 flags,
+    )
 
 count : (whole : List ℕ) → (44 ≤ length whole) × (cut_of 44 whole ≡ None)
     → 36 + length (body_bytes (value_in kind.Madt whole)) ≡ length whole
 unfolding madt_contents
-count whole filled = length-body (field whole 36 4) (field whole 40 4) (parts_of whole) ∙ written_length madt_entry madt_bytes madt_length 44 whole filled.0 filled.1
+count whole filled =
+    length-body (field whole 36 4) (field whole 40 4) (parts_of whole)
+    ∙ written_length madt_entry madt_bytes madt_length 44 whole filled.0 filled.1
 
 kept : (facs : ℕ) (whole new : List ℕ) → IsWrittenFor kind.Madt facs whole new → madt_contents new ≡ madt_contents whole
 unfolding madt_contents
 kept facs whole new is =
     let address = field whole 36 4 in
     let flags = field whole 40 4 in
-    let flags_there = behind 36 4 40 new (number_bytes 4 address) (number_bytes 4 flags ++ parts_of whole) is.body (length-number_bytes 4 address) refl in
-    let entries_there = behind 40 4 44 new (number_bytes 4 flags) (parts_of whole) flags_there (length-number_bytes 4 flags) refl in
-    let at_36 = number_there 36 4 address new (number_bytes 4 flags ++ parts_of whole) is.body (field_below whole is.low 36 4) in
+    let flags_there = behind 36 4 40 new (number_bytes 4 address) (number_bytes 4 flags ++ parts_of whole) is.body
+    (length-number_bytes 4 address) refl in
+    let entries_there = behind 40 4 44 new (number_bytes 4 flags) (parts_of whole) flags_there
+    (length-number_bytes 4 flags) refl in
+    let at_36 = number_there 36 4 address new (number_bytes 4 flags ++ parts_of whole) is.body
+    (field_below whole is.low 36 4) in
     let at_40 = number_there 40 4 flags new (parts_of whole) flags_there (field_below whole is.low 40 4) in
-    let entries = entries_kept madt_entry madt_bytes (λ e l i. (entries_are_kept e l i).madt) 44 whole new is.low is.filled.1 entries_there in
+    let entries = entries_kept madt_entry madt_bytes (λ e l i. (entries_are_kept e l i).madt) 44 whole new is.low
+    is.filled.1 entries_there in
     λ i. record { size = is.count i; address = at_36 i; flags = at_40 i; entries = entries.0 i; cut = entries.1 i }
 
 pub facts : KindFacts kind.Madt
@@ -57,7 +69,12 @@ facts = record {
   count = λ facs whole least filled. count whole filled;
   plain = λ whole filled. refl;
   kept = kept;
-  spelled = λ whole least can. (refl, refl, spelled_entries madt_entry IsOfOwnLength 44 whole can.long can.filled can.lengths);
+  spelled = λ whole least can. (
+    refl,
+    refl,
+    spelled_entries madt_entry IsOfOwnLength 44 whole can.long can.filled
+        can.lengths,
+  );
   filled = λ whole can. (can.long, can.filled);
   readable = λ m q whole clean is. filled_madt q whole (clean stage.Madt whole is);
 }
@@ -74,11 +91,16 @@ pub says : (address flags : ℕ) (entries : List MadtEntry) (whole : List ℕ) �
     → SpellsBody (Madt address flags (map madt_value entries)) whole
 says address flags entries whole least body low_address low_flags say shaped =
     let parts = flat_map madt_bytes (map madt_value entries) in
-    let flags_there = behind 36 4 40 whole (number_bytes 4 address) (number_bytes 4 flags ++ parts) body (length-number_bytes 4 address) refl in
-    let entries_there = behind 40 4 44 whole (number_bytes 4 flags) parts flags_there (length-number_bytes 4 flags) refl in
-    let to_flags = reaches 36 4 whole (number_bytes 4 address) (number_bytes 4 flags ++ parts) least body (length-number_bytes 4 address) in
-    let to_entries = reaches 40 4 whole (number_bytes 4 flags) parts to_flags flags_there (length-number_bytes 4 flags) in
-    let own : All (λ v. IsOfOwnLength (madt_value v)) entries = λ k d h. own_length (get_or entries k d) (shaped k d h) in (
+    let flags_there = behind 36 4 40 whole (number_bytes 4 address) (number_bytes 4 flags ++ parts) body
+    (length-number_bytes 4 address) refl in
+    let entries_there = behind 40 4 44 whole (number_bytes 4 flags) parts flags_there (length-number_bytes 4 flags)
+    refl in
+    let to_flags = reaches 36 4 whole (number_bytes 4 address) (number_bytes 4 flags ++ parts) least body
+    (length-number_bytes 4 address) in
+    let to_entries = reaches 40 4 whole (number_bytes 4 flags) parts to_flags flags_there
+    (length-number_bytes 4 flags) in
+    let own : All (λ v. IsOfOwnLength (madt_value v)) entries =
+    λ k d h. own_length (get_or entries k d) (shaped k d h) in (
       number_there 36 4 address whole (number_bytes 4 flags ++ parts) body low_address,
       number_there 40 4 flags whole parts flags_there low_flags,
       spell_entries madt_entry madt_bytes madt_value IsOfOwnLength 44 whole entries to_entries entries_there say own,

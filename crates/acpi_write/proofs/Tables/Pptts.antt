@@ -29,7 +29,8 @@ count whole least filled = written_length pptt_entry pptt_bytes pptt_length 36 w
 kept : (facs : ℕ) (whole new : List ℕ) → IsWrittenFor kind.Pptt facs whole new → pptt_contents new ≡ pptt_contents whole
 unfolding pptt_contents header_of
 kept facs whole new is =
-    let entries = entries_kept pptt_entry pptt_bytes (λ e l i. (entries_are_kept e l i).pptt) 36 whole new is.low is.filled is.body in
+    let entries = entries_kept pptt_entry pptt_bytes (λ e l i. (entries_are_kept e l i).pptt) 36 whole new is.low
+    is.filled is.body in
     λ i. record { size = is.count i; revision = (is.head i).revision; entries = entries.0 i; cut = entries.1 i }
 
 pub facts : KindFacts kind.Pptt
@@ -39,7 +40,8 @@ facts = record {
   count = λ facs whole least filled. count whole least filled;
   plain = λ whole filled. refl;
   kept = kept;
-  spelled = λ whole least can. spelled_entries pptt_entry (λ e. ¬ HasOtherPpttLength e) 36 whole least can.filled can.lengths;
+  spelled = λ whole least can. spelled_entries pptt_entry (λ e. ¬ HasOtherPpttLength e) 36 whole least can.filled
+      can.lengths;
   filled = λ whole can. can.filled;
   readable = λ m q whole clean is. filled_pptt whole (clean stage.Pptt whole is);
 }
@@ -55,10 +57,12 @@ pub says : (entries : List PpttEntry) (whole : List ℕ) → 36 ≤ length whole
     → DoEntriesSay pptt_entry pptt_bytes pptt_value entries → All IsShapedPptt entries
     → SpellsBody (Pptt (map pptt_value entries)) whole
 says entries whole least body say shaped =
-    let own : All (λ v. ¬ HasOtherPpttLength (pptt_value v)) entries = λ k d h. own_length (get_or entries k d) (shaped k d h) in
+    let own : All (λ v. ¬ HasOtherPpttLength (pptt_value v)) entries =
+    λ k d h. own_length (get_or entries k d) (shaped k d h) in
     spell_entries pptt_entry pptt_bytes pptt_value (λ e. ¬ HasOtherPpttLength e) 36 whole entries least body say own
 
 -- bytes say one
 pub one : (bytes : List ℕ) (vs ws : List pptt.PpttEntry) → SpellsBody (Pptt vs) bytes → SpellsBody (Pptt ws) bytes
     → Pptt vs ≡ Pptt ws
-one bytes vs ws v w = (let entries = one_entries pptt_entry (λ e. ¬ HasOtherPpttLength e) 36 bytes vs ws v w in λ k. Pptt (entries k))
+one bytes vs ws v w =
+    (let entries = one_entries pptt_entry (λ e. ¬ HasOtherPpttLength e) 36 bytes vs ws v w in λ k. Pptt (entries k))

@@ -13,7 +13,14 @@ use Rattle.acpi_write.proofs.TablesWritten.EntryRuns.{behind, reaches}
 
 count : (whole : List ℕ) → 44 ≤ length whole → 36 + length (body_bytes (value_in kind.Slit whole)) ≡ length whole
 unfolding slit_contents
-count whole long = omega (arith, length-append (number_bytes 8 (field whole 36 8)) (drop 44 whole), length-number_bytes 8 (field whole 36 8), length-drop 44 whole, long)
+count whole long =
+    omega (
+      arith,
+      length-append (number_bytes 8 (field whole 36 8)) (drop 44 whole),
+      length-number_bytes 8 (field whole 36 8),
+      length-drop 44 whole,
+      long,
+    )
 
 kept : (facs : ℕ) (whole new : List ℕ) → IsWrittenFor kind.Slit facs whole new → slit_contents new ≡ slit_contents whole
 unfolding slit_contents
@@ -46,8 +53,11 @@ pub says : (count : ℕ) (cells whole : List ℕ) → 36 ≤ length whole → dr
     → count < 2 ^ 64 → length cells ≡ count * count → SpellsBody (Slit count cells) whole
 says count cells whole least body fits square =
     let to_cells = reaches 36 8 whole (number_bytes 8 count) cells least body (length-number_bytes 8 count) in
-    let there = behind 36 8 44 whole (number_bytes 8 count) cells body (length-number_bytes 8 count) refl in
-    (omega (arith, to_cells, square, ap length there, length-drop 44 whole), number_there 36 8 count whole cells body fits, there)
+    let there = behind 36 8 44 whole (number_bytes 8 count) cells body (length-number_bytes 8 count) refl in (
+      omega (arith, to_cells, square, ap length there, length-drop 44 whole),
+      number_there 36 8 count whole cells body fits,
+      there,
+    )
 
 -- bytes say one
 pub one : (bytes : List ℕ) (n m : ℕ) (cells others : List ℕ) → SpellsBody (Slit n cells) bytes

@@ -36,13 +36,15 @@ length-body parts = omega (arith, length-append srat_reserved parts, length-rese
 count : (whole : List ℕ) → (48 ≤ length whole) × (cut_of 48 whole ≡ None)
     → 36 + length (body_bytes (value_in kind.Srat whole)) ≡ length whole
 unfolding srat_contents
-count whole filled = length-body (parts_of whole) ∙ written_length srat_entry srat_bytes srat_length 48 whole filled.0 filled.1
+count whole filled =
+    length-body (parts_of whole) ∙ written_length srat_entry srat_bytes srat_length 48 whole filled.0 filled.1
 
 kept : (facs : ℕ) (whole new : List ℕ) → IsWrittenFor kind.Srat facs whole new → srat_contents new ≡ srat_contents whole
 unfolding srat_contents
 kept facs whole new is =
     let there = behind 36 12 48 new srat_reserved (parts_of whole) is.body length-reserved refl in
-    let entries = entries_kept srat_entry srat_bytes (λ e l i. (entries_are_kept e l i).srat) 48 whole new is.low is.filled.1 there in
+    let entries = entries_kept srat_entry srat_bytes (λ e l i. (entries_are_kept e l i).srat) 48 whole new is.low
+    is.filled.1 there in
     λ i. record { size = is.count i; entries = entries.0 i; cut = entries.1 i }
 
 pub facts : KindFacts kind.Srat
@@ -70,8 +72,10 @@ pub says : (entries : List SratEntry) (whole : List ℕ) → 36 ≤ length whole
 says entries whole least body say shaped =
     let parts = flat_map srat_bytes (map srat_value entries) in
     let to_entries = reaches 36 12 whole srat_reserved parts least body length-reserved in
-    let own : All (λ v. IsOfOwnLength (srat_value v)) entries = λ k d h. own_length (get_or entries k d) (shaped k d h) in
-    spell_entries srat_entry srat_bytes srat_value IsOfOwnLength 48 whole entries to_entries (behind 36 12 48 whole srat_reserved parts body length-reserved refl) say own
+    let own : All (λ v. IsOfOwnLength (srat_value v)) entries =
+    λ k d h. own_length (get_or entries k d) (shaped k d h) in
+    spell_entries srat_entry srat_bytes srat_value IsOfOwnLength 48 whole entries to_entries
+    (behind 36 12 48 whole srat_reserved parts body length-reserved refl) say own
 
 -- bytes say one
 pub one : (bytes : List ℕ) (vs ws : List srat.SratEntry) → SpellsBody (Srat vs) bytes → SpellsBody (Srat ws) bytes

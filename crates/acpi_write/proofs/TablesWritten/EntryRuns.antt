@@ -38,7 +38,8 @@ entries_again (suc n) offset (e ∷ es) left each joined count =
     let rest = flat_map (λ x. x) es in
     let begins = first_is e rest left here (sym joined) in
     let behind : drop (length e) left ≡ rest = ap (drop (length e)) (sym joined) ∙ drop_at e rest (length e) refl in
-    let more = entries_again n (offset + length e) es (drop (length e) left) (All-tail IsEntry e es each) (sym behind) (omega (arith, count)) in
+    let more = entries_again n (offset + length e) es (drop (length e) left) (All-tail IsEntry e es each) (sym behind)
+    (omega (arith, count)) in
     rw begins (ap (λ (l : List (PlacedEntry (List ℕ))). record { offset = offset; entry = e } ∷ l) more)
 
 -- each has at least two bytes, so there are no more of them than bytes
@@ -55,7 +56,8 @@ pub cut_stands : (first : ℕ) (whole : List ℕ) (es : List (List ℕ)) → All
     → flat_map (λ e. e) es ≡ drop first whole → entries_of first whole ≡ standing first es
 unfolding entries_of
 cut_stands first whole es each joined =
-    entries_again (length whole) first es (drop first whole) each joined (omega (arith, few es each, ap length joined, length-drop first whole))
+    entries_again (length whole) first es (drop first whole) each joined
+    (omega (arith, few es each, ap length joined, length-drop first whole))
 
 pub said_standing : {E : Type 0} (read : List ℕ → E) (offset : ℕ) (es : List (List ℕ))
     → entries_in (entries_read_by read (standing offset es)) ≡ map read es
@@ -63,14 +65,17 @@ said_standing read offset [] = refl
 said_standing read offset (e ∷ es) = ap (λ l. read e ∷ l) (said_standing read (offset + length e) es)
 
 -- of each entry that stands, and so of each of the entries
-each_in : {E : Type 0} (P : E → Type 0) (entries : List (PlacedEntry E)) → ((o : ℕ) (e : E) → Stands entries o e → P e) → All P (entries_in entries)
+each_in : {E : Type 0} (P : E → Type 0) (entries : List (PlacedEntry E)) → ((o : ℕ) (e : E) → Stands entries o e → P e)
+    → All P (entries_in entries)
 each_in {E} P entries own =
-    All-map P (λ (s : PlacedEntry E). s.entry) entries (λ k d h. own (get_or entries k d).offset (get_or entries k d).entry (All-contains_itself entries k d h))
+    All-map P (λ (s : PlacedEntry E). s.entry) entries
+    (λ k d h. own (get_or entries k d).offset (get_or entries k d).entry (All-contains_itself entries k d h))
 
 -- the entries that stand in a table that they fill are spelled by its bytes
 pub spelled_entries : {E : Type 0} (read : List ℕ → E) (Own : E → Type 0) (first : ℕ) (whole : List ℕ)
     → first ≤ length whole → cut_of first whole ≡ None
-    → ((o : ℕ) (e : E) → Stands (entries_read_by read (entries_of first whole)) o e → Own e) → SpellEntries read Own first whole (entries_in (entries_read_by read (entries_of first whole)))
+    → ((o : ℕ) (e : E) → Stands (entries_read_by read (entries_of first whole)) o e → Own e)
+    → SpellEntries read Own first whole (entries_in (entries_read_by read (entries_of first whole)))
 spelled_entries {E} read Own first whole long filled own =
     let cut = (no_cut_fault first whole).0 filled in
     let stand = cut_stands first whole cut.0 cut.1.each cut.1.joined in
@@ -99,8 +104,10 @@ entries_each {X} {E} read bytes_of value (x ∷ xs) say =
     let rest = entries_each read bytes_of value xs (All-tail P x xs say) in
     (All-cons IsEntry (bytes_of (value x)) (map (λ y. bytes_of (value y)) xs) here.0 rest.0, λ i. here.1 i ∷ rest.1 i)
 
-pub spell_entries : {X E : Type 0} (read : List ℕ → E) (bytes_of : E → List ℕ) (value : X → E) (Own : E → Type 0) (first : ℕ) (whole : List ℕ) (xs : List X)
-    → first ≤ length whole → drop first whole ≡ flat_map bytes_of (map value xs) → DoEntriesSay read bytes_of value xs → All (λ x. Own (value x)) xs → SpellEntries read Own first whole (map value xs)
+pub spell_entries : {X E : Type 0} (read : List ℕ → E) (bytes_of : E → List ℕ) (value : X → E) (Own : E → Type 0)
+    (first : ℕ) (whole : List ℕ) (xs : List X)
+    → first ≤ length whole → drop first whole ≡ flat_map bytes_of (map value xs) → DoEntriesSay read bytes_of value xs
+    → All (λ x. Own (value x)) xs → SpellEntries read Own first whole (map value xs)
 spell_entries read bytes_of value Own first whole xs long behind say own =
     let each = entries_each read bytes_of value xs say in
     record {
@@ -114,16 +121,19 @@ spell_entries read bytes_of value Own first whole xs long behind say own =
 -- bytes spell one list of entries
 pub one_entries : {E : Type 0} (read : List ℕ → E) (Own : E → Type 0) (first : ℕ) (bytes : List ℕ) (vs ws : List E)
     → SpellEntries read Own first bytes vs → SpellEntries read Own first bytes ws → vs ≡ ws
-one_entries read Own first bytes vs ws a b = sym a.say ∙ ap (map read) (one_cut (drop first bytes) a.es b.es a.cut b.cut) ∙ b.say
+one_entries read Own first bytes vs ws a b =
+    sym a.say ∙ ap (map read) (one_cut (drop first bytes) a.es b.es a.cut b.cut) ∙ b.say
 
 -- ---- parts of a body
 
 -- what stands behind a part
-pub behind : (first n at : ℕ) (whole part rest : List ℕ) → drop first whole ≡ part ++ rest → length part ≡ n → at ≡ first + n → drop at whole ≡ rest
+pub behind : (first n at : ℕ) (whole part rest : List ℕ) → drop first whole ≡ part ++ rest → length part ≡ n
+    → at ≡ first + n → drop at whole ≡ rest
 behind first n at whole part rest stands count is =
     ap (λ (k : ℕ). drop k whole) is ∙ sym (drop-drop n first whole) ∙ ap (drop n) stands ∙ drop_at part rest n count
 
 -- a table reaches what stands behind a part of it
 pub reaches : (first n : ℕ) (whole part rest : List ℕ) → first ≤ length whole → drop first whole ≡ part ++ rest
     → length part ≡ n → first + n ≤ length whole
-reaches first n whole part rest long stands count = omega (arith, long, count, ap length stands, length-drop first whole, length-append part rest)
+reaches first n whole part rest long stands count =
+    omega (arith, long, count, ap length stands, length-drop first whole, length-append part rest)

@@ -28,23 +28,30 @@ kept kind facs whole is filled =
     let size = (facts kind).count facs whole is.table.least filled in
     let small = is.small in
     let fits = fits_head whole is.bytes is.table.least in
-    let table = whole_table (signature_of kind) (head_of whole) body (length-signature_of kind) fits (omega (arith, size, small)) in
+    let table = whole_table (signature_of kind) (head_of whole) body (length-signature_of kind) fits
+    (omega (arith, size, small)) in
     let count = length_of_parts new body table.0.least table.1 ∙ size in
-    let contents = (facts kind).kept facs whole new (record { low = is.bytes; filled = filled; head = table.0.head_is; count = count; body = table.1 }) in
-    subst (λ (k : TableKind). KeepsContents kind whole (table_bytes (signature_of k) (head_of whole) body)) (sym ((facts kind).kind_is whole).0) (record { table = table.0; contents = contents })
+    let contents = (facts kind).kept facs whole new
+    (record { low = is.bytes; filled = filled; head = table.0.head_is; count = count; body = table.1 }) in
+    subst (λ (k : TableKind). KeepsContents kind whole (table_bytes (signature_of k) (head_of whole) body))
+    (sym ((facts kind).kind_is whole).0) (record { table = table.0; contents = contents })
 
 pub contents_are_kept : ContentsAreKept
 contents_are_kept kind whole is low small filled =
-    let plain = ap (table_bytes (signature_of (kind_of (value_in kind whole))) (head_of whole)) ((facts kind).plain whole filled) in
-    subst (KeepsContents kind whole) plain (kept kind 0 whole (record { table = is; bytes = low; small = small }) filled)
+    let plain = ap (table_bytes (signature_of (kind_of (value_in kind whole))) (head_of whole))
+    ((facts kind).plain whole filled) in
+    subst (KeepsContents kind whole) plain
+    (kept kind 0 whole (record { table = is; bytes = low; small = small }) filled)
 
 -- ---- lengths
 
 -- what the table says is written in as many bytes
-pub said_length : (o : Option TableKind) (whole : List ℕ) → 36 ≤ length whole → IsReadableAs o whole → encoded_length (table_value_as o whole) ≡ length whole
+pub said_length : (o : Option TableKind) (whole : List ℕ) → 36 ≤ length whole → IsReadableAs o whole
+    → encoded_length (table_value_as o whole) ≡ length whole
 said_length (Some kind) whole least readable =
     let filled = (facts kind).filled whole readable in
-    ap (λ (body : List ℕ). 36 + length body) (sym ((facts kind).plain whole filled)) ∙ (facts kind).count 0 whole least filled
+    ap (λ (body : List ℕ). 36 + length body) (sym ((facts kind).plain whole filled))
+    ∙ (facts kind).count 0 whole least filled
 said_length None whole least readable = omega (arith, least, length-drop 36 whole)
 
 -- wherever the FACS stands
@@ -53,7 +60,8 @@ pub length-encoded_bytes_with : (facs : ℕ) (o : Option TableKind) (whole : Lis
     → length (encoded_bytes_with facs (table_value_as o whole)) ≡ encoded_length (table_value_as o whole)
 length-encoded_bytes_with facs (Some kind) whole least readable =
     let v = value_in kind whole in
-    length-table_bytes (signature_of (kind_of v)) (head_of whole) (body_with facs v) (length-signature_of (kind_of v)) (widths_of whole least)
+    length-table_bytes (signature_of (kind_of v)) (head_of whole) (body_with facs v) (length-signature_of (kind_of v))
+    (widths_of whole least)
     ∙ (facts kind).count facs whole least ((facts kind).filled whole readable)
     ∙ sym (said_length (Some kind) whole least readable)
 length-encoded_bytes_with facs None whole least readable = omega (arith, least, length-drop 36 whole)

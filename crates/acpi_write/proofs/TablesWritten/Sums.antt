@@ -28,11 +28,16 @@ pub closing_alone : (xs : List ℕ) → (0 + (256 - byte_sum xs)) % 256 ≡ chec
 unfolding checksum_of
 closing_alone xs = omega arith
 
-pub encoded : (signature : List ℕ) (head : HeadValue) (body opened front items : List ℕ) (checksum : ℕ) → opened ≡ header_bytes (header_with signature (36 + length body) 0 head)
-    → checksum ≡ checksum_of (opened ++ body) → front ≡ header_bytes (header_with signature (36 + length body) checksum head) → items ≡ front ++ body → items ≡ table_bytes signature head body
+pub encoded : (signature : List ℕ) (head : HeadValue) (body opened front items : List ℕ) (checksum : ℕ)
+    → opened ≡ header_bytes (header_with signature (36 + length body) 0 head)
+    → checksum ≡ checksum_of (opened ++ body)
+    → front ≡ header_bytes (header_with signature (36 + length body) checksum head) → items ≡ front ++ body
+    → items ≡ table_bytes signature head body
 unfolding table_bytes
 encoded signature head body opened front items checksum o k f i =
     i
-    ∙ ap (λ (x : List ℕ). x ++ body) (f ∙ ap (λ (c : ℕ). header_bytes (header_with signature (36 + length body) c head)) (k ∙ ap (λ (x : List ℕ). checksum_of (x ++ body)) o))
+    ∙ ap (λ (x : List ℕ). x ++ body)
+    (f ∙ ap (λ (c : ℕ). header_bytes (header_with signature (36 + length body) c head))
+    (k ∙ ap (λ (x : List ℕ). checksum_of (x ++ body)) o))
 
 pub ruleset encoded_bytes = (closing_of, encoded)

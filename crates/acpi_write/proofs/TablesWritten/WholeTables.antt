@@ -19,7 +19,8 @@ record FitsTable (signature : List ℕ) (head : HeadValue) (body : List ℕ) : T
   head_fits : FitsHead head
   size : 36 + length body < 2 ^ 32
 
-fits_header : (signature : List ℕ) (head : HeadValue) (body : List ℕ) (checksum : ℕ) → checksum < 256 → FitsTable signature head body
+fits_header : (signature : List ℕ) (head : HeadValue) (body : List ℕ) (checksum : ℕ) → checksum < 256
+    → FitsTable signature head body
     → FitsHeader (header_with signature (36 + length body) checksum head)
 fits_header signature head body checksum low fits = record {
   signature = fits.name;
@@ -35,7 +36,8 @@ fits_header signature head body checksum low fits = record {
 
 -- the sum of a header's bytes, by the checksum
 header_sum : (signature : List ℕ) (head : HeadValue) (size checksum : ℕ) (body : List ℕ) → checksum < 256
-    → sum (header_bytes (header_with signature size checksum head) ++ body) ≡ sum (header_bytes (header_with signature size 0 head) ++ body) + checksum
+    → sum (header_bytes (header_with signature size checksum head) ++ body) ≡ sum
+    (header_bytes (header_with signature size 0 head) ++ body) + checksum
 unfolding header_bytes number_bytes
 header_sum signature head size checksum body low = simp (sum-append, sum-cons) (omega arith)
 
@@ -98,7 +100,8 @@ widths_of whole long = record {
 pub length-table_bytes : (signature : List ℕ) (head : HeadValue) (body : List ℕ) → length signature ≡ 4
     → HasWidths head → length (table_bytes signature head body) ≡ 36 + length body
 unfolding table_bytes header_bytes
-length-table_bytes signature head body four widths = simp (length-append, length-number_bytes, four, widths.oemid, widths.oem_table_id) (omega arith)
+length-table_bytes signature head body four widths =
+    simp (length-append, length-number_bytes, four, widths.oemid, widths.oem_table_id) (omega arith)
 
 -- so do its numbers
 pub fits_head : (whole : List ℕ) → AreByteValues whole → 36 ≤ length whole → FitsHead (head_of whole)

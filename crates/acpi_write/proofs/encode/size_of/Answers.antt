@@ -11,13 +11,22 @@ pub returns-in_ok-sizes-in-Madt : goal.returns-in_ok-sizes-in-Madt
 returns-in_ok-sizes-in-Madt c =
     let v = c.in-Madt in
     let sized = rw c.deref.ensures.value at c.in_ok-sizes-in-Madt.ensures in
-    rw v.is (sized.0, ap (λ (n : ℕ). 44 + n) (sized.1 ∙ ap length (sym (joined_values madt_bytes madt_value v.entries.items))) ∙ sym (madts.length-body v.address v.flags _))
+    rw v.is (
+      sized.0,
+      ap (λ (n : ℕ). 44 + n)
+          (sized.1 ∙ ap length (sym (joined_values madt_bytes madt_value v.entries.items)))
+          ∙ sym (madts.length-body v.address v.flags _),
+    )
 
 pub returns-in_ok-sizes-in-Srat : goal.returns-in_ok-sizes-in-Srat
 returns-in_ok-sizes-in-Srat c =
     let v = c.in-Srat in
     let sized = rw c.deref-in-Srat.ensures.value at c.in_ok-sizes-in-Srat.ensures in
-    rw v.is (sized.0, ap (λ (n : ℕ). 48 + n) (sized.1 ∙ ap length (sym (joined_values srat_bytes srat_value v.entries.items))) ∙ sym (srats.length-body _))
+    rw v.is (
+      sized.0,
+      ap (λ (n : ℕ). 48 + n)
+          (sized.1 ∙ ap length (sym (joined_values srat_bytes srat_value v.entries.items))) ∙ sym (srats.length-body _),
+    )
 
 pub returns-else-not-is_whole_table : goal.returns-else-not-is_whole_table
 returns-else-not-is_whole_table c =

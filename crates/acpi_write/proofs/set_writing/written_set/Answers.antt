@@ -12,10 +12,13 @@ bounds-places-0 c =
     omega (arith, place_count v c.args.base c.args.places.now c.requires.places, part_count v)
 
 pub prove-unreachable-requires : goal.prove-unreachable-requires
-prove-unreachable-requires c = c.if-prove.true (first_place (set_value c.args.value.now) c.args.base c.args.places.now c.requires.places)
+prove-unreachable-requires c =
+    c.if-prove.true (first_place (set_value c.args.value.now) c.args.base c.args.places.now c.requires.places)
 
 pub loop-k-init : goal.loop-k-init
-loop-k-init c = none_so_far (set_value c.args.value.now) c.args.base c.new-image.result c.args.places.now c.requires.placed c.requires.places c.new-image.ensures.nothing
+loop-k-init c =
+    none_so_far (set_value c.args.value.now) c.args.base c.new-image.result c.args.places.now c.requires.placed
+    c.requires.places c.new-image.ensures.nothing
 
 pub part-requires-clause-low : goal.part-requires-clause-low
 part-requires-clause-low c = λ k d below narrow.
@@ -30,12 +33,14 @@ part-requires-clause-places c = place_count (set_value c.args.value.now) c.args.
 pub put-requires-clause-behind : goal.put-requires-clause-behind
 put-requires-clause-behind c =
     let v = set_value c.args.value.now in
-    (next_part c.loop-k.image c.args.places.now v c.args.base c.loop-k.k c.in_ok-bytes.bytes.items c.requires.places c.loop-k-test.true c.in_ok-bytes.ensures c.loop-k.invariant).behind
+    (next_part c.loop-k.image c.args.places.now v c.args.base c.loop-k.k c.in_ok-bytes.bytes.items c.requires.places
+    c.loop-k-test.true c.in_ok-bytes.ensures c.loop-k.invariant).behind
 
 pub put-requires-clause-inside : goal.put-requires-clause-inside
 put-requires-clause-inside c =
     let v = set_value c.args.value.now in
-    let next = next_part c.loop-k.image c.args.places.now v c.args.base c.loop-k.k c.in_ok-bytes.bytes.items c.requires.places c.loop-k-test.true c.in_ok-bytes.ensures c.loop-k.invariant in
+    let next = next_part c.loop-k.image c.args.places.now v c.args.base c.loop-k.k c.in_ok-bytes.bytes.items
+    c.requires.places c.loop-k-test.true c.in_ok-bytes.ensures c.loop-k.invariant in
     omega (arith, next.fits, ap length c.deref.ensures.value)
 
 pub loop-k-preserved : goal.loop-k-preserved
@@ -43,8 +48,11 @@ loop-k-preserved c =
     let v = set_value c.args.value.now in
     let found = c.args.places.now in
     let k = c.loop-k.k in
-    let next = next_part c.loop-k.image found v c.args.base k c.in_ok-bytes.bytes.items c.requires.places c.loop-k-test.true c.in_ok-bytes.ensures c.loop-k.invariant in
-    next.further c.put.new.image (c.in_ok-put.ensures ∙ ap (λ (b : List ℕ). with_bytes c.loop-k.image (get_or found k 0) b) c.deref.ensures.value)
+    let next = next_part c.loop-k.image found v c.args.base k c.in_ok-bytes.bytes.items c.requires.places
+    c.loop-k-test.true c.in_ok-bytes.ensures c.loop-k.invariant in
+    next.further c.put.new.image (c.in_ok-put.ensures ∙ ap
+    (λ (b : List ℕ). with_bytes c.loop-k.image (get_or found k 0) b) c.deref.ensures.value)
 
 pub returns : goal.returns
-returns c = all_put c.loop-k.image c.args.places.now (set_value c.args.value.now) c.args.base c.loop-k.k c.requires.places (omega (arith, c.loop-k-test.false)) c.loop-k.invariant
+returns c = all_put c.loop-k.image c.args.places.now (set_value c.args.value.now) c.args.base c.loop-k.k
+    c.requires.places (omega (arith, c.loop-k-test.false)) c.loop-k.invariant

@@ -12,7 +12,8 @@ pub returns-in-Madt-clause-value : goal.returns-in-Madt-clause-value
 returns-in-Madt-clause-value c = rw c.in-Madt.is (rw (c.of.ensures, c.copied.ensures) at c.read_madt.ensures.value)
 
 pub returns-in-Srat-clause-value : goal.returns-in-Srat-clause-value
-returns-in-Srat-clause-value c = rw c.in-Srat.is (rw (c.of-in-Srat.ensures, c.copied-in-Srat.ensures) at c.read_srat.ensures.value)
+returns-in-Srat-clause-value c =
+    rw c.in-Srat.is (rw (c.of-in-Srat.ensures, c.copied-in-Srat.ensures) at c.read_srat.ensures.value)
 
 pub returns-in-Slit-clause-value : goal.returns-in-Slit-clause-value
 unfolding slit_contents
@@ -28,10 +29,12 @@ returns-in-Slit-clause-shaped c =
     let t = c.args.table.now in
     let readable = rw c.in-Slit.is at c.requires in
     let size : length t ≡ 44 + field t 36 8 * field t 36 8 = readable.size in
-    let count : c.u64_at-count.result ≡ field t 36 8 = c.u64_at-count.ensures ∙ ap (λ (b : List ℕ). field b 36 8) c.bytes-bytes.ensures.bytes in
+    let count : c.u64_at-count.result ≡ field t 36 8 = c.u64_at-count.ensures
+    ∙ ap (λ (b : List ℕ). field b 36 8) c.bytes-bytes.ensures.bytes in
     let cells = ap length (take_rest c.bytes-bytes.result.now 44 ∙ ap (drop 44) c.bytes-bytes.ensures.bytes) in
     let behind : length (drop 44 t) ≡ field t 36 8 * field t 36 8 = omega (arith, length-drop 44 t, size) in
     cells ∙ behind ∙ sym (λ i. count i * count i)
 
 pub returns-in-Pptt-clause-value : goal.returns-in-Pptt-clause-value
-returns-in-Pptt-clause-value c = rw c.in-Pptt.is (rw (c.of-in-Pptt.ensures, c.copied-in-Pptt.ensures) at c.read_pptt.ensures.value)
+returns-in-Pptt-clause-value c =
+    rw c.in-Pptt.is (rw (c.of-in-Pptt.ensures, c.copied-in-Pptt.ensures) at c.read_pptt.ensures.value)
