@@ -196,6 +196,12 @@ touched 'A kind of entry of the MADT' 'X2apicNmi|x2apic[_-]nmi'
 touched 'A stage' '\b[Ss]tage(::|\.)Overrides\b'
 touched 'An option' '(--|")hotplug\b|hotplug_|_hotplug|hotplug = '
 touched 'A line of show' '\bx2apic-nmi\b'
+touched 'A table' '[Ss]lit|SLIT'
+
+# wide COLUMNS: of the lines that `grep` gives, with their numbers, those with more columns.
+wide() { LC_ALL=C.UTF-8 grep -E "^[^:]*:[0-9]+:.{$(($1 + 1)),}$"; }
+count 'lines of proofs with more than 120 columns that are no imports' "$(grep -rn '' crates/*/proofs --include='*.antt' | wide 120 | grep -vE '^[^:]*:[0-9]+:(pub )?use ')"
+count 'clauses with more than 100 columns' "$(grep -rnE '^ *(requires|ensures) ' crates/*/src --include='*.rt' | wide 100)"
 
 count 'man/acpiset-faults.7, made of docs/FAULTS.md (<) and as it is (>)' "$(awk -f man/faults.awk docs/FAULTS.md | diff - man/acpiset-faults.7 | grep '^[<>]')"
 version=$(sed -n 's/^const VERSION: &str = "\(.*\)";$/\1/p' crates/acpi_cli/src/reply.rt)

@@ -3,6 +3,7 @@ pub mod Chains
 pub mod Elements
 pub mod Entries
 pub mod EntryOffsets
+pub mod EntrySteps
 pub mod Examples
 pub mod Facs
 pub mod Fadt

@@ -1,4 +1,4 @@
-mod EntryPasses
+pub mod EntryPasses
 pub mod ListedSets
 mod NodeLinks
 mod ProcessorNumbers

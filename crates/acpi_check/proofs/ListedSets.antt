@@ -7,4 +7,5 @@ use Rattle.acpi_check.specs.declared.set.ListedSet.{ListedSet}
 -- the set that an RSDP of an image leads to is one of its own image and its RSDP's own address
 pub listed_itself : {m : Memory} {p : ℕ} (set : ListedSet) → IsListedSetOf m p set → IsListedSet set
 listed_itself {m} {p} set is =
-    subst (λ (a : ℕ). IsListedSetOf set.image.now a set) (sym is.rsdp.address) (subst (λ (n : Memory). IsListedSetOf n p set) (sym is.image) is)
+    subst (λ (a : ℕ). IsListedSetOf set.image.now a set) (sym is.rsdp.address)
+    (subst (λ (n : Memory). IsListedSetOf n p set) (sym is.image) is)

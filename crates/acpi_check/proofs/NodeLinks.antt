@@ -1,5 +1,5 @@
 -- What the entries of a PPTT name, and the chains that they form.
-pub mod Indexed
+pub mod ChainIndices
 pub mod IndexedNodes
 pub mod KindPlaces
 pub mod LinkedNodes

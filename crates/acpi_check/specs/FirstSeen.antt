@@ -1,34 +1,64 @@
--- The first value that is given at each place, as it is kept, and what comes of a further value.
-use Rattle.std.specs.Prelude.{◌≡◌, ◌≢◌, ℕ, ◌⊎◌, List, Option, Some, None, slice_set}
+-- The first value that the entries of a table give each key, as it is kept, and what comes of a further value.
+use Rattle.std.specs.Prelude.{◌≡◌, ◌≢◌, ℕ, ◌<◌, ◌≤◌, ◌⊎◌, List, Option, Some, None, slice_set}
 use Rattle.std.specs.List.{slice_get}
+use Rattle.acpi_base.specs.Entries.{PlacedEntry, StandsWith}
 use Rattle.acpi_check.specs.declared.first_seen.FirstSeen.{FirstSeen}
+use Rattle.acpi_check.specs.declared.first_seen.Given.{Given}
+use Rattle.acpi_check.specs.declared.first_seen.OtherValue.{OtherValue}
 
--- the first value at the place is kept
+-- what is read of an entry, which gives the key k the value d where it has `Gives k d`
+abbrev pub IsGiven : {E : Type 0} → (ℕ → ℕ → E → Type 0) → E → Option Given → Type 0
+IsGiven Gives e None = (k d : ℕ) → ¬ Gives k d e
+IsGiven Gives e (Some given) = Gives given.key given.value e
+
+-- ---- an entry
+
+-- the first value of the key is kept
 abbrev pub HasFirst : List (Option FirstSeen) → ℕ → FirstSeen → Type 0
-HasFirst firsts place first = slice_get firsts place ≡ Some (Some first)
+HasFirst firsts key first = slice_get firsts key ≡ Some (Some first)
 
--- none at the place is kept
+-- none of the key is kept
 abbrev pub HasNone : List (Option FirstSeen) → ℕ → Type 0
-HasNone firsts place = slice_get firsts place ≡ Some None
+HasNone firsts key = slice_get firsts key ≡ Some None
 
--- the value is the first at its place, and is kept from now on
-pub record IsNewFirst (old new : List (Option FirstSeen)) (place : ℕ) (now : FirstSeen) : Type 0 where
-  pub none : HasNone old place
-  pub kept : new ≡ slice_set old place (Some now)
+-- the value is the first of its key, and is kept from now on
+pub record IsNewFirst (old new : List (Option FirstSeen)) (o : ℕ) (given : Given) : Type 0 where
+  pub none : HasNone old given.key
+  pub kept : new ≡ slice_set old given.key (Some (record { offset = o; value = given.value }))
 
--- the first value at its place is the same
-pub record IsLikeFirst (old new : List (Option FirstSeen)) (place : ℕ) (now : FirstSeen) : Type 0 where
+-- the first value of its key is the same
+pub record IsLikeFirst (old new : List (Option FirstSeen)) (given : Given) : Type 0 where
   pub first : FirstSeen
-  pub listed : HasFirst old place first
-  pub same : first.value ≡ now.value
+  pub listed : HasFirst old given.key first
+  pub same : first.value ≡ given.value
   pub kept : new ≡ old
 
--- the first value at its place is another
-pub record IsUnlikeFirst (old : List (Option FirstSeen)) (place : ℕ) (now first : FirstSeen) : Type 0 where
-  pub listed : HasFirst old place first
-  pub differ : first.value ≢ now.value
+-- the first value of its key is another
+pub record IsUnlikeFirst (old : List (Option FirstSeen)) (o : ℕ) (given : Given) (other : OtherValue) : Type 0 where
+  pub first : FirstSeen
+  pub listed : HasFirst old given.key first
+  pub differ : first.value ≢ given.value
+  pub is : other ≡ record { at = o; other = first.offset; key = given.key }
 
--- the value agrees with the first at its place, which is kept; or this is that first, which is another
-abbrev pub RecordsFirstSeen : List (Option FirstSeen) → List (Option FirstSeen) → ℕ → FirstSeen → Option FirstSeen → Type 0
-RecordsFirstSeen old new place now None = IsNewFirst old new place now ⊎ IsLikeFirst old new place now
-RecordsFirstSeen old new place now (Some first) = IsUnlikeFirst old place now first
+-- the entry at o gives nothing, or agrees with the first value of its key, which is kept; or it gives another value
+abbrev pub PassesGiven : List (Option FirstSeen) → List (Option FirstSeen) → ℕ → Option Given → Option OtherValue → Type 0
+PassesGiven old new o None None = new ≡ old
+PassesGiven old new o None (Some other) = ⊥
+PassesGiven old new o (Some given) None = IsNewFirst old new o given ⊎ IsLikeFirst old new given
+PassesGiven old new o (Some given) (Some other) = IsUnlikeFirst old o given other
+
+-- ---- all entries
+
+-- the entries at `at` and, before it, at `other` give the key two values
+abbrev pub IsOther : {E : Type 0} → (ℕ → ℕ → E → Type 0) → List (PlacedEntry E) → ℕ → ℕ → ℕ → Type 0
+IsOther Gives entries at other key = (d h : ℕ) × StandsWith entries at (Gives key d) × StandsWith entries other (Gives key h) × (other < at) × (d ≢ h)
+
+-- no two such entries stand before these
+pub record IsFirstOther {E : Type 0} (Gives : ℕ → ℕ → E → Type 0) (entries : List (PlacedEntry E)) (found : OtherValue) : Type 0 where
+  pub other : IsOther Gives entries found.at found.other found.key
+  pub first : (at other key : ℕ) → IsOther Gives entries at other key → (found.at < at) ⊎ ((found.at ≡ at) × (found.other ≤ other) × (found.key ≡ key))
+
+-- each key has one value at most, or this is the first entry that gives one another
+abbrev pub FindsOther : {E : Type 0} → (ℕ → ℕ → E → Type 0) → List (PlacedEntry E) → Option OtherValue → Type 0
+FindsOther Gives entries None = (o p k d h : ℕ) → StandsWith entries o (Gives k d) → StandsWith entries p (Gives k h) → d ≡ h
+FindsOther Gives entries (Some found) = IsFirstOther Gives entries found

@@ -4,7 +4,7 @@ use Rattle.std.specs.List.{filter_map}
 use Rattle.acpi_base.specs.Entries.{PlacedEntry}
 use Rattle.acpi_base.specs.Madt.{MadtEntry, LocalApic, X2apic, MadtContents}
 use Rattle.acpi_base.specs.Policy.{counts_as_enabled}
-use Rattle.acpi_check.specs.Named.{NamesAt}
+use Rattle.acpi_check.specs.NamedNumbers.{NamesAt}
 use Rattle.acpi_check.specs.declared.processors.Key.{Key}
 use Rattle.acpi_check.specs.declared.processors.Key.TheVariants as key
 

@@ -5,9 +5,9 @@ ghost use Rattle.acpi_base.specs.Chains.{NoneDangles};
 ghost use Rattle.acpi_base.specs.Pptt.{pptt_contents, AreReferencesSound, DoParentsEnd, DoCachesEnd, ParentFault, CacheFault};
 ghost use Rattle.acpi_base.specs.declared.stage.Stage.{Stage};
 ghost use Rattle.acpi_read.specs.Pptts.{pptt_value};
-ghost use Rattle.acpi_check.specs.Indexed.{IsIndexOf};
-ghost use Rattle.acpi_check.specs.Passed.{FindsFirst};
-ghost use Rattle.acpi_check.specs.Linked.{named_offset, code_of, Names, AreNodesOf, AreLinked, AreIndices, FindsCycle};
+ghost use Rattle.acpi_check.specs.ChainIndices.{IsIndexOf};
+ghost use Rattle.acpi_check.specs.PassResults.{FindsFirst};
+ghost use Rattle.acpi_check.specs.ChainNodes.{named_offset, code_of, Names, AreNodesOf, AreLinked, AreIndices, FindsCycle};
 
 use crate::nodes::{Chain, Nodes};
 use crate::refusal::{Refusal, refuse};
@@ -102,7 +102,8 @@ fn first_cycle(alloc: Global, chain: Chain, pptt: &Pptt<'_>) -> Result<Option<Wi
 /// does not. Takes memory for each node.
 pub fn parents_end(alloc: Global, pptt: &Pptt<'_>) -> Result<(), Refusal>
     requires { AreReferencesSound (pptt_contents pptt.now) }
-    ensures { FindsFirst Stage.Parents (DoParentsEnd (pptt_contents pptt.now)) (ParentFault (pptt_contents pptt.now)) result }
+    ensures { FindsFirst Stage.Parents (DoParentsEnd (pptt_contents pptt.now))
+        (ParentFault (pptt_contents pptt.now)) result }
 {
     refuse(first_cycle(alloc, Chain::Parents, pptt)?)
 }
@@ -111,7 +112,8 @@ pub fn parents_end(alloc: Global, pptt: &Pptt<'_>) -> Result<(), Refusal>
 /// chain does not. Takes memory for each cache.
 pub fn caches_end(alloc: Global, pptt: &Pptt<'_>) -> Result<(), Refusal>
     requires { AreReferencesSound (pptt_contents pptt.now) }
-    ensures { FindsFirst Stage.Caches (DoCachesEnd (pptt_contents pptt.now)) (CacheFault (pptt_contents pptt.now)) result }
+    ensures { FindsFirst Stage.Caches (DoCachesEnd (pptt_contents pptt.now))
+        (CacheFault (pptt_contents pptt.now)) result }
 {
     refuse(first_cycle(alloc, Chain::NextLevels, pptt)?)
 }

@@ -1,22 +1,23 @@
 //! Stage 16: the proximity domains in which the SRAT puts the processors of the MADT.
 
-ghost use Rattle.std.specs.Prelude.{◌≡◌, ◌<◌, ◌≤◌, AllPairs, IfOk, MatchBool, length};
+ghost use Rattle.std.specs.Prelude.{◌≡◌, ◌<◌, ◌≤◌, AllPairs, IfOk, IfSome, MatchBool, length};
 ghost use Rattle.acpi_base.specs.Across.{HaveOneDomain, DomainFault};
 ghost use Rattle.acpi_base.specs.Madt.{madt_contents};
 ghost use Rattle.acpi_base.specs.Srat.{srat_contents};
 ghost use Rattle.acpi_base.specs.declared.stage.Stage.{Stage};
 ghost use Rattle.acpi_read.specs.Srats.{srat_value};
-ghost use Rattle.acpi_check.specs.Domains.{placement_of, ArePlacements, DoAgree, PassesPlacement, FindsDomains};
-ghost use Rattle.acpi_check.specs.Passed.{FindsFirst};
+ghost use Rattle.acpi_check.specs.Domains.{placement_of, PutsPlaced, ArePlacements, DoAgree};
+ghost use Rattle.acpi_check.specs.FirstSeen.{IsGiven, FindsOther};
+ghost use Rattle.acpi_check.specs.PassResults.{FindsFirst};
 
 use crate::collected::collected;
-use crate::first_seen::{FirstSeen, record_first_seen};
+use crate::first_seen::{Given, OtherValue, pass_given};
 use crate::processors::{Key, numbers_of};
-use crate::refusal::{Refusal, refuse};
+use crate::refusal::Refusal;
 use crate::search::binary_search;
 use crate::srat::is_enabled;
 use acpi_base::{Code, Processors, Witness};
-use acpi_read::{EntryAt, Madt, Srat, SratEntry};
+use acpi_read::{Madt, Srat, SratEntry};
 use std::alloc::{AllocError, Global};
 
 /// A processor in a proximity domain. Placements compare by the processor's number, then by the domain.
@@ -45,47 +46,38 @@ fn placement_of(entry: &SratEntry<'_>) -> Option<Placement>
     }
 }
 
-/// Looks at an entry, where `firsts` has of each of the numbers the first domain before it: counts it in, or returns the
-/// fault where it puts a processor with one of the numbers in another domain.
-fn pass_entry(
-    numbers: &[u64],
-    firsts: &mut [Option<FirstSeen>],
-    at: &EntryAt<SratEntry<'_>>,
-) -> Option<Witness>
-    requires rise { AllPairs (λ i j. i < j) numbers.now }
-    requires count { length firsts.old ≡ length numbers.now }
-    ensures { PassesPlacement numbers.now at.now.offset (placement_of (srat_value at.now.entry)) firsts.old firsts.new result }
+/// The domain in which an entry puts a processor, given the place of its number among these, which rise. None where it puts
+/// none of them in one.
+fn domain_given(numbers: &[u64], entry: &SratEntry<'_>) -> Option<Given>
+    requires { AllPairs (λ i j. i < j) numbers.now }
+    ensures given { IsGiven (PutsPlaced numbers.now) (srat_value entry.now) result }
+    ensures inside { IfSome result (λ g. g.key < length numbers.now) }
 {
-    let put = placement_of(&at.entry)?;
-    let place = binary_search(numbers, u64::from(put.processor))?;
-    let now = FirstSeen {
-        offset: at.offset,
+    let put = placement_of(entry)?;
+    Some(Given {
+        key: binary_search(numbers, u64::from(put.processor))?,
         value: put.domain,
-    };
-    let first = record_first_seen(firsts, place, now)?;
-    Some(Witness {
-        code: Code::TwoDomains,
-        at: at.offset,
-        other: first.offset,
-        point: u64::from(put.processor),
     })
 }
 
-/// The fault of the first entry of an SRAT that puts a processor with one of the numbers, which rise, in another domain
-/// than an earlier entry.
+/// The first entry of an SRAT that puts a processor with one of the numbers, which rise, in another domain than an earlier
+/// entry.
 fn first_other_domain(
     alloc: Global,
     numbers: &[u64],
     srat: &Srat<'_>,
-) -> Result<Option<Witness>, AllocError>
+) -> Result<Option<OtherValue>, AllocError>
     requires { AllPairs (λ i j. i < j) numbers.now }
-    ensures { IfOk result (FindsDomains numbers.now (srat_contents srat.now)) }
+    ensures found { IfOk result
+        (FindsOther (PutsPlaced numbers.now) (srat_contents srat.now).entries) }
+    ensures inside { IfOk result (λ found. IfSome found (λ other. other.key < length numbers.now)) }
 {
     let mut entries = srat.entries();
     let mut firsts = vec![in alloc; None; numbers.len()]?;
     while let Some(at) = entries.next() {
-        if let Some(fault) = pass_entry(numbers, &mut firsts, &at) {
-            return Ok(Some(fault));
+        let given = domain_given(numbers, &at.entry);
+        if let Some(found) = pass_given(&mut firsts, at.offset, given) {
+            return Ok(Some(found));
         }
     }
     Ok(None)
@@ -126,7 +118,8 @@ pub fn one_domain(
     madt: &Madt<'_>,
     srat: &Srat<'_>,
 ) -> Result<(), Refusal>
-    ensures { FindsFirst Stage.Domains (HaveOneDomain processors (madt_contents madt.now) (srat_contents srat.now))
+    ensures { FindsFirst Stage.Domains
+        (HaveOneDomain processors (madt_contents madt.now) (srat_contents srat.now))
         (DomainFault processors (madt_contents madt.now) (srat_contents srat.now)) result }
 {
     let mut placements = placements_of(alloc, srat)?;
@@ -135,5 +128,13 @@ pub fn one_domain(
         return Ok(());
     }
     let numbers = numbers_of(alloc, Key::Enabled(processors), madt)?;
-    refuse(first_other_domain(alloc, &numbers, srat)?)
+    match first_other_domain(alloc, &numbers, srat)? {
+        None => Ok(()),
+        Some(found) => Err(Refusal::Fault(Witness {
+            code: Code::TwoDomains,
+            at: found.at,
+            other: found.other,
+            point: numbers[found.key],
+        })),
+    }
 }

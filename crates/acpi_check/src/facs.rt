@@ -13,7 +13,8 @@ use acpi_read::{Facs, Fadt};
 /// The FACS that the FADT names, which is sound, or none where none is needed; its faults are at its address, and at 0
 /// where none is named.
 pub fn sound_facs<'a>(image: &'a Image, fadt: &Fadt<'_>) -> Result<Option<Facs<'a>>, Witness>
-    ensures { (q : PolicyValue) → CleanBefore Stage.Facs image.now q → IsFadt image.now q.rsdp fadt.now
+    ensures { (q : PolicyValue) → CleanBefore Stage.Facs image.now q
+        → IsFadt image.now q.rsdp fadt.now
         → Reads Stage.Facs image.now q (IsFacsNamed image.now fadt.now) result }
 {
     match Facs::read(image, fadt) {

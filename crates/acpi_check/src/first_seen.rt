@@ -1,9 +1,18 @@
-//! The first value that is given at each place.
+//! The first value that the entries of a table give each key.
 
-ghost use Rattle.std.specs.Prelude.{◌<◌, length};
-ghost use Rattle.acpi_check.specs.FirstSeen.{RecordsFirstSeen};
+ghost use Rattle.std.specs.Prelude.{◌<◌, IfSome, length};
+ghost use Rattle.acpi_check.specs.FirstSeen.{PassesGiven};
 
-/// The first value of its kind.
+/// A value that an entry gives a key.
+#[derive(Clone, Copy)]
+pub struct Given {
+    /// The key, as an index.
+    pub key: usize,
+    /// The value.
+    pub value: u32,
+}
+
+/// The first value of a key.
 #[derive(Clone, Copy)]
 pub struct FirstSeen {
     /// Where the entry that gives it stands, from the table's start.
@@ -12,21 +21,38 @@ pub struct FirstSeen {
     pub value: u32,
 }
 
-/// Counts in a value at a place, where `firsts` has of each place the first one: returns that one where it is another.
-pub fn record_first_seen(
+/// An entry that gives a key another value than the first one.
+#[derive(Clone, Copy)]
+pub struct OtherValue {
+    /// Where the entry stands, from the table's start.
+    pub at: u64,
+    /// Where the entry that gives the first value stands.
+    pub other: u64,
+    /// The key.
+    pub key: usize,
+}
+
+/// Looks at what an entry at an offset gives, where `firsts` has of each key the first value before it: counts it in, or
+/// returns the entry where the value is another.
+pub fn pass_given(
     firsts: &mut [Option<FirstSeen>],
-    place: usize,
-    now: FirstSeen,
-) -> Option<FirstSeen>
-    requires { place < length firsts.old }
-    ensures { RecordsFirstSeen firsts.old firsts.new place now result }
+    offset: u64,
+    given: Option<Given>,
+) -> Option<OtherValue>
+    requires { IfSome given (λ g. g.key < length firsts.old) }
+    ensures { PassesGiven firsts.old firsts.new offset given result }
 {
-    match firsts[place] {
+    let Given { key, value } = given?;
+    match firsts[key] {
         None => {
-            firsts[place] = Some(now);
+            firsts[key] = Some(FirstSeen { offset, value });
             None
         }
-        Some(first) if first.value != now.value => Some(first),
+        Some(first) if first.value != value => Some(OtherValue {
+            at: offset,
+            other: first.offset,
+            key,
+        }),
         Some(_) => None,
     }
 }

@@ -37,7 +37,8 @@ pub fn served_ranges(
     policy: &Policy,
     madt: &Madt<'_>,
 ) -> Result<Vec<CompactSpan>, AllocError>
-    ensures { IfOk result (λ ranges. ranges.items ≡ ranges_of policy.now (madt_contents madt.now).entries) }
+    ensures { IfOk result (λ ranges. ranges.items ≡ ranges_of policy.now
+        (madt_contents madt.now).entries) }
 {
     collected(alloc, madt.entries(), |at| {
         served_range(policy, &at.entry)

@@ -5,7 +5,7 @@ ghost use Rattle.acpi_base.specs.Madt.{madt_contents, Serves, IsSoundMadt, AreIn
 ghost use Rattle.acpi_base.specs.declared.code.Code.{Code};
 ghost use Rattle.acpi_base.specs.declared.stage.Stage.{Stage};
 ghost use Rattle.acpi_read.specs.Madts.{madt_value};
-ghost use Rattle.acpi_check.specs.Passed.{Finds, IsOverlap};
+ghost use Rattle.acpi_check.specs.PassResults.{Finds, IsOverlap};
 ghost use Rattle.acpi_check.specs.RangeSpans.{span_value, served_span, AreSpansOf, IsOverlapResult};
 
 use crate::collected::collected;
@@ -19,7 +19,8 @@ use std::alloc::{AllocError, Global};
 /// The interrupt numbers that an I/O APIC serves, named by the entry's offset. None for another entry.
 fn served_span(policy: &Policy, at: &EntryAt<MadtEntry<'_>>) -> Option<Span>
     requires { at.now.offset < 2 ^ 32 }
-    ensures { option_map span_value result ≡ served_span policy.now at.now.offset (madt_value at.now.entry) }
+    ensures { option_map span_value result ≡ served_span policy.now at.now.offset
+        (madt_value at.now.entry) }
 {
     let MadtEntry::IoApic(io_apic) = &at.entry else {
         return None;
@@ -35,7 +36,8 @@ pub fn served_spans(
     policy: &Policy,
     madt: &Madt<'_>,
 ) -> Result<Vec<Span>, AllocError>
-    ensures { IfOk result (λ spans. AreSpansOf (Serves policy.now (madt_contents madt.now)) spans.items) }
+    ensures { IfOk result (λ spans. AreSpansOf (Serves policy.now (madt_contents madt.now))
+        spans.items) }
 {
     collected(alloc, madt.entries(), |at| served_span(policy, at))
 }

@@ -9,8 +9,8 @@ ghost use Rattle.acpi_base.specs.declared.stage.Stage.{Stage};
 ghost use Rattle.acpi_read.specs.Madts.{madt_value};
 ghost use Rattle.acpi_read.specs.Pptts.{pptt_value};
 ghost use Rattle.acpi_check.specs.Leaves.{is_typed, leaf_id};
-ghost use Rattle.acpi_check.specs.Named.{IsKnown, IsUnknown, FindsUnknown};
-ghost use Rattle.acpi_check.specs.Passed.{FindsFirst};
+ghost use Rattle.acpi_check.specs.NamedNumbers.{IsKnown, IsUnknown, FindsUnknown};
+ghost use Rattle.acpi_check.specs.PassResults.{FindsFirst};
 ghost use Rattle.acpi_check.specs.Processors.{numbers_in};
 
 use crate::collected::collected;
@@ -34,7 +34,8 @@ fn is_typed(entry: &MadtEntry<'_>) -> bool
 
 /// Whether each entry of a MADT is of such a type, so that all its processors are known.
 fn is_wholly_typed(madt: &Madt<'_>) -> bool
-    ensures { MatchBool result (IsWhollyTyped (madt_contents madt.now)) (¬ IsWhollyTyped (madt_contents madt.now)) }
+    ensures { MatchBool result (IsWhollyTyped (madt_contents madt.now))
+        (¬ IsWhollyTyped (madt_contents madt.now)) }
 {
     let mut entries = madt.entries();
     while let Some(at) = entries.next() {
@@ -74,7 +75,8 @@ fn leaf_ids(alloc: Global, pptt: &Pptt<'_>) -> Result<Vec<u64>, AllocError>
 fn own_fault(uids: &[u64], at: &EntryAt<PpttEntry<'_>>) -> Option<Witness>
     requires { AllPairs (λ i j. i < j) uids.now }
     ensures { MatchOption result (IsKnown (Contains uids.now) (leaf_id (pptt_value at.now.entry)))
-        (IsUnknown (Contains uids.now) Code.LeafUnknown at.now.offset (leaf_id (pptt_value at.now.entry))) }
+        (IsUnknown (Contains uids.now) Code.LeafUnknown at.now.offset
+        (leaf_id (pptt_value at.now.entry))) }
 {
     let id = leaf_id(&at.entry)?;
     if has(uids, id) {
@@ -91,7 +93,8 @@ fn own_fault(uids: &[u64], at: &EntryAt<PpttEntry<'_>>) -> Option<Witness>
 /// The fault of the first leaf of a PPTT whose ID is not among the UIDs.
 fn first_unknown(uids: &[u64], pptt: &Pptt<'_>) -> Option<Witness>
     requires { AllPairs (λ i j. i < j) uids.now }
-    ensures { FindsUnknown (Contains uids.now) leaf_id Code.LeafUnknown (pptt_contents pptt.now).entries result }
+    ensures { FindsUnknown (Contains uids.now) leaf_id Code.LeafUnknown
+        (pptt_contents pptt.now).entries result }
 {
     let mut entries = pptt.entries();
     while let Some(at) = entries.next() {
@@ -113,7 +116,8 @@ const HAS_LEAVES: u8 = 2;
 /// processor and the ID of each leaf, which are sorted and gone over together; only where not all IDs are seen among the UIDs
 /// are the leaves looked up one by one.
 pub fn known_leaves(alloc: Global, madt: &Madt<'_>, pptt: &Pptt<'_>) -> Result<(), Refusal>
-    ensures { FindsFirst Stage.Leaves (AreLeavesKnown (madt_contents madt.now) (pptt_contents pptt.now))
+    ensures { FindsFirst Stage.Leaves
+        (AreLeavesKnown (madt_contents madt.now) (pptt_contents pptt.now))
         (LeafFault (madt_contents madt.now) (pptt_contents pptt.now)) result }
 {
     if pptt.header().revision < HAS_LEAVES || !is_wholly_typed(madt) {

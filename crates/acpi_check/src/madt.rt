@@ -7,7 +7,7 @@ ghost use Rattle.acpi_base.specs.Madt.{madt_entry, madt_contents, IsReservedInti
 ghost use Rattle.acpi_base.specs.declared.code.Code.{Code};
 ghost use Rattle.acpi_base.specs.declared.stage.Stage.{Stage};
 ghost use Rattle.acpi_read.specs.Madts.{madt_value, IsOfOwnLength};
-ghost use Rattle.acpi_check.specs.Passed.{FindsFirst, PassesMadtEntry};
+ghost use Rattle.acpi_check.specs.PassResults.{FindsFirst, PassesMadtEntry};
 
 use crate::refusal::Refusal;
 use acpi_base::{Code, Policy, Witness};
@@ -22,7 +22,8 @@ fn is_reserved_inti(flags: u16) -> bool
 
 /// What is wrong with flags of an interrupt.
 fn inti_fault(flags: u16) -> Option<Code>
-    ensures { MatchOption result (¬ IsReservedInti flags) (λ code. (code ≡ Code.ReservedInti) × IsReservedInti flags) }
+    ensures { MatchOption result (¬ IsReservedInti flags)
+        (λ code. (code ≡ Code.ReservedInti) × IsReservedInti flags) }
 {
     is_reserved_inti(flags).then_some(Code::ReservedInti)
 }
@@ -31,7 +32,9 @@ fn inti_fault(flags: u16) -> Option<Code>
 fn own_fault(policy: &Policy, entry: &MadtEntry<'_>) -> Option<Code>
     requires { IsOfOwnLength (madt_value entry.now) }
     ensures { MatchOption result (IsSoundMadtEntry policy.now (madt_value entry.now))
-        (λ code. MadtEntryFault policy.now code (madt_value entry.now) × ((other : Code) → MadtEntryFault policy.now other (madt_value entry.now) → code_number code ≤ code_number other)) }
+        (λ code. MadtEntryFault policy.now code (madt_value entry.now)
+        × ((other : Code) → MadtEntryFault policy.now other (madt_value entry.now)
+        → code_number code ≤ code_number other)) }
 {
     match entry {
         MadtEntry::IoApic(io_apic) => {
@@ -54,7 +57,8 @@ fn pass_entry(
     entry: &Entry<'_>,
     earlier: Option<u64>,
 ) -> Result<Option<u64>, Witness>
-    ensures { PassesMadtEntry policy.now entry.now.offset (madt_entry entry.now.bytes.now) earlier result }
+    ensures { PassesMadtEntry policy.now entry.now.offset (madt_entry entry.now.bytes.now) earlier
+        result }
 {
     let offset = entry.offset;
     let read = MadtEntry::read(entry.bytes).map_err(|code| Witness::at(code, offset))?;
@@ -77,7 +81,8 @@ fn pass_entry(
 /// at 0 for a MADT that is too short.
 #[tactic(auto, using(crate::proofs::EntryPasses::MadtPass::passing))]
 pub fn sound_madt(policy: &Policy, table: Table<'_>) -> Result<(), Refusal>
-    ensures { FindsFirst Stage.Madt (IsSoundMadt policy.now (madt_contents table.entry)) (MadtFault policy.now (madt_contents table.entry)) result }
+    ensures { FindsFirst Stage.Madt (IsSoundMadt policy.now (madt_contents table.entry))
+        (MadtFault policy.now (madt_contents table.entry)) result }
 {
     let mut entries = match Entries::madt(table) {
         Ok(entries) => entries,

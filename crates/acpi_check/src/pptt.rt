@@ -2,7 +2,7 @@
 
 ghost use Rattle.acpi_base.specs.Pptt.{pptt_contents, IsCutPptt, PpttFault};
 ghost use Rattle.acpi_base.specs.declared.stage.Stage.{Stage};
-ghost use Rattle.acpi_check.specs.Passed.{FindsFirst};
+ghost use Rattle.acpi_check.specs.PassResults.{FindsFirst};
 
 use crate::refusal::Refusal;
 use acpi_base::{Code, Witness};
@@ -12,7 +12,8 @@ use acpi_read::{Entries, PpttEntry, Table};
 /// entry's offset, or at that of the bytes behind the entries.
 #[tactic(auto, using(crate::proofs::EntryPasses::PpttPass::passing))]
 pub fn sound_pptt(table: Table<'_>) -> Result<(), Refusal>
-    ensures { FindsFirst Stage.Pptt (IsCutPptt (pptt_contents table.entry)) (PpttFault (pptt_contents table.entry)) result }
+    ensures { FindsFirst Stage.Pptt (IsCutPptt (pptt_contents table.entry))
+        (PpttFault (pptt_contents table.entry)) result }
 {
     let mut entries = Entries::pptt(table);
     while let Some(entry) = entries.next() {

@@ -6,7 +6,7 @@ ghost use Rattle.acpi_base.specs.Srat.{srat_contents, Covers, IsSoundSrat, AreRa
 ghost use Rattle.acpi_base.specs.declared.code.Code.{Code};
 ghost use Rattle.acpi_base.specs.declared.stage.Stage.{Stage};
 ghost use Rattle.acpi_read.specs.Srats.{srat_value};
-ghost use Rattle.acpi_check.specs.Passed.{Finds, IsOverlap};
+ghost use Rattle.acpi_check.specs.PassResults.{Finds, IsOverlap};
 ghost use Rattle.acpi_check.specs.RangeSpans.{span_value, covered_span, earlier_clash, AreSpansOf, IsOverlapResult, IsRangesResult};
 ghost use Rattle.acpi_check.specs.RangeKinds.{counts, IsOfKind};
 
@@ -31,7 +31,8 @@ fn is_hot_pluggable(flags: u32) -> bool
 /// for a range of no bytes.
 fn covered_span(kind: RangeKind, at: &EntryAt<SratEntry<'_>>) -> Option<Span>
     requires { at.now.offset < 2 ^ 32 }
-    ensures { option_map span_value result ≡ covered_span (counts kind) at.now.offset (srat_value at.now.entry) }
+    ensures { option_map span_value result ≡ covered_span (counts kind) at.now.offset
+        (srat_value at.now.entry) }
 {
     let SratEntry::MemoryRange(range) = &at.entry else {
         return None;
@@ -51,7 +52,8 @@ fn covered_span(kind: RangeKind, at: &EntryAt<SratEntry<'_>>) -> Option<Span>
 
 /// The addresses that each enabled range of the kind covers, in the entries' order.
 fn covered_spans(alloc: Global, kind: RangeKind, srat: &Srat<'_>) -> Result<Vec<Span>, AllocError>
-    ensures { IfOk result (λ spans. AreSpansOf (Covers (IsOfKind kind) (srat_contents srat.now)) spans.items) }
+    ensures { IfOk result (λ spans. AreSpansOf (Covers (IsOfKind kind) (srat_contents srat.now))
+        spans.items) }
 {
     collected(alloc, srat.entries(), |at| covered_span(kind, at))
 }

@@ -5,8 +5,8 @@ ghost use Rattle.acpi_base.specs.Number.{field};
 ghost use Rattle.acpi_base.specs.Pptt.{pptt_contents, IsCutPptt, AreReferencesSound, ReferenceFault};
 ghost use Rattle.acpi_base.specs.declared.stage.Stage.{Stage};
 ghost use Rattle.acpi_read.specs.Pptts.{pptt_value, HasReferences};
-ghost use Rattle.acpi_check.specs.Passed.{FindsFirst};
-ghost use Rattle.acpi_check.specs.NamedPlaces.{kind_of, ArePlaces, ArePlacesSorted, NamesPlaces, IsFirstReference};
+ghost use Rattle.acpi_check.specs.PassResults.{FindsFirst};
+ghost use Rattle.acpi_check.specs.EntryPlaces.{kind_of, ArePlaces, ArePlacesSorted, NamesPlaces, IsFirstReference};
 
 use crate::places::{Kind, Places};
 use crate::refusal::Refusal;
@@ -57,8 +57,10 @@ fn places_of(alloc: Global, pptt: &Pptt<'_>) -> Result<Places, AllocError>
 fn first_dangling(offsets: &[u64], count: u32, references: &[u8]) -> Option<(u32, u32)>
     requires rising { AllPairs (λ o p. o < p) offsets.now }
     requires count { length references.now ≡ 4 * count }
-    ensures { MatchOption result ((j : ℕ) → j < count → Contains offsets.now (field references.now (4 * j) 4))
-        (λ found. (found.0 < count) × (found.1 ≡ field references.now (4 * found.0) 4) × (¬ Contains offsets.now found.1)
+    ensures { MatchOption result ((j : ℕ) → j < count
+        → Contains offsets.now (field references.now (4 * j) 4))
+        (λ found. (found.0 < count) × (found.1 ≡ field references.now (4 * found.0) 4)
+        × (¬ Contains offsets.now found.1)
         × ((j : ℕ) → j < found.0 → Contains offsets.now (field references.now (4 * j) 4))) }
 {
     for j in 0..count {
@@ -74,7 +76,8 @@ fn first_dangling(offsets: &[u64], count: u32, references: &[u8]) -> Option<(u32
 fn link_fault(code: Code, at: u64, offsets: &[u64], offset: u32) -> Option<Witness>
     requires { AllPairs (λ o p. o < p) offsets.now }
     ensures { MatchOption result ((offset ≡ 0) ⊎ Contains offsets.now offset)
-        (λ w. (w ≡ record { code = code; at = at; other = offset; point = 0 }) × (offset ≢ 0) × ¬ Contains offsets.now offset) }
+        (λ w. (w ≡ record { code = code; at = at; other = offset; point = 0 }) × (offset ≢ 0)
+        × ¬ Contains offsets.now offset) }
 {
     if offset == 0 || has(offsets, offset) {
         return None;
@@ -123,7 +126,8 @@ fn own_fault(places: &Places, at: &EntryAt<PpttEntry<'_>>) -> Option<Witness>
 /// The first fault of what the entries of a PPTT name, in the entries' order.
 fn first_fault(places: &Places, pptt: &Pptt<'_>) -> Result<(), Refusal>
     requires { ArePlaces (pptt_contents pptt.now) places.now }
-    ensures { FindsFirst Stage.References (AreReferencesSound (pptt_contents pptt.now)) (ReferenceFault (pptt_contents pptt.now)) result }
+    ensures { FindsFirst Stage.References (AreReferencesSound (pptt_contents pptt.now))
+        (ReferenceFault (pptt_contents pptt.now)) result }
 {
     let mut entries = pptt.entries();
     while let Some(at) = entries.next() {
@@ -138,7 +142,8 @@ fn first_fault(places: &Places, pptt: &Pptt<'_>) -> Result<(), Refusal>
 /// the offset of the entry that names it. Takes memory for each entry.
 pub fn sound_references(alloc: Global, pptt: &Pptt<'_>) -> Result<(), Refusal>
     requires { IsCutPptt (pptt_contents pptt.now) }
-    ensures { FindsFirst Stage.References (AreReferencesSound (pptt_contents pptt.now)) (ReferenceFault (pptt_contents pptt.now)) result }
+    ensures { FindsFirst Stage.References (AreReferencesSound (pptt_contents pptt.now))
+        (ReferenceFault (pptt_contents pptt.now)) result }
 {
     let places = places_of(alloc, pptt)?;
     first_fault(&places, pptt)

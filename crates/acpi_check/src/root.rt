@@ -16,7 +16,8 @@ use acpi_read::{Root, Rsdp};
 /// The root that the RSDP names; its faults are at the RSDP's address where it names none, else at the
 /// root's.
 pub fn sound_root<'a>(image: &'a Image, rsdp: &Rsdp) -> Result<Root<'a>, Witness>
-    ensures { (q : PolicyValue) → CleanBefore Stage.Root image.now q → IsRsdp image.now q.rsdp rsdp.now
+    ensures { (q : PolicyValue) → CleanBefore Stage.Root image.now q
+        → IsRsdp image.now q.rsdp rsdp.now
         → Reads Stage.Root image.now q (IsRootOf image.now q.rsdp) result }
 {
     match Root::read(image, rsdp) {
@@ -29,7 +30,8 @@ pub fn sound_root<'a>(image: &'a Image, rsdp: &Rsdp) -> Result<Root<'a>, Witness
 #[tactic(auto, unfolding(acpi_base::specs::Root::chosen_root))]
 fn place_of_fault(rsdp: &Rsdp, code: Code) -> u64
     ensures none { code ≡ Code.NoRoot → result ≡ rsdp.now.address }
-    ensures named { (r d : ℕ) → code ≢ Code.NoRoot → chosen_root rsdp.now.named ≡ Some (record { address = r; width = d }) → result ≡ r }
+    ensures named { (r d : ℕ) → code ≢ Code.NoRoot
+        → chosen_root rsdp.now.named ≡ Some (record { address = r; width = d }) → result ≡ r }
 {
     if code == Code::NoRoot {
         return rsdp.address();

@@ -17,7 +17,8 @@ fn interpolated_place(offsets: &[u64], offset: u64) -> usize {
 /// of entries of one length do, it looks at one of them.
 pub fn binary_search(offsets: &[u64], offset: u64) -> Option<usize>
     requires { AllPairs (λ o p. o < p) offsets.now }
-    ensures { MatchOption result (¬ Contains offsets.now offset) (λ k. (k < length offsets.now) × (slice_index offsets.now k ≡ offset)) }
+    ensures { MatchOption result (¬ Contains offsets.now offset)
+        (λ k. (k < length offsets.now) × (slice_index offsets.now k ≡ offset)) }
 {
     let place = interpolated_place(offsets, offset);
     if place < offsets.len() && offsets[place] == offset {

@@ -6,10 +6,10 @@ ghost use Rattle.acpi_base.specs.Madt.{madt_contents, AreInterruptsApart};
 ghost use Rattle.acpi_base.specs.declared.code.Code.{Code};
 ghost use Rattle.acpi_base.specs.declared.stage.Stage.{Stage};
 ghost use Rattle.acpi_read.specs.Madts.{madt_value};
-ghost use Rattle.acpi_check.specs.Named.{IsKnown, IsUnknown, FindsUnknown};
-ghost use Rattle.acpi_check.specs.Passed.{FindsFirst};
+ghost use Rattle.acpi_check.specs.NamedNumbers.{IsKnown, IsUnknown, FindsUnknown};
+ghost use Rattle.acpi_check.specs.PassResults.{FindsFirst};
 ghost use Rattle.acpi_check.specs.Processors.{numbers_in};
-ghost use Rattle.acpi_check.specs.Served.{named_gsi, AreServedSpans, AreSortedDisjoint, IsInSpans};
+ghost use Rattle.acpi_check.specs.ServedGsis.{named_gsi, AreServedSpans, AreSortedDisjoint, IsInSpans};
 
 use crate::collected::collected;
 use crate::gsi_ranges::{are_in_ranges, served_ranges};
@@ -34,7 +34,8 @@ fn named_gsi(entry: &MadtEntry<'_>) -> Option<u32>
 
 /// The interrupt numbers that overrides and NMI sources of a MADT name, in the entries' order.
 fn named_gsis(alloc: Global, madt: &Madt<'_>) -> Result<Vec<u64>, AllocError>
-    ensures { IfOk result (λ numbers. numbers.items ≡ numbers_in named_gsi (madt_contents madt.now).entries) }
+    ensures { IfOk result (λ numbers. numbers.items ≡ numbers_in named_gsi
+        (madt_contents madt.now).entries) }
 {
     collected(
         alloc,
@@ -58,7 +59,8 @@ fn are_all_served(alloc: Global, policy: &Policy, madt: &Madt<'_>) -> Result<boo
 /// The interrupt numbers that each I/O APIC of a MADT serves, as spans in rising order. Takes memory for one span for each.
 fn sorted_spans(alloc: Global, policy: &Policy, madt: &Madt<'_>) -> Result<Vec<Span>, AllocError>
     requires { AreInterruptsApart policy.now (madt_contents madt.now) }
-    ensures { IfOk result (λ spans. AreServedSpans policy.now (madt_contents madt.now) spans.items) }
+    ensures { IfOk result (λ spans. AreServedSpans policy.now (madt_contents madt.now)
+        spans.items) }
 {
     // Opens the invariant of `Policy` to the proof, and does nothing when it runs: a policy gives each I/O APIC an input
     // at least, so each serves a number.
@@ -81,8 +83,10 @@ fn is_in_spans(spans: &[Span], number: u128) -> bool
 /// The fault of an entry that names an interrupt number that none of the spans holds. None for an entry that names none.
 fn own_fault(spans: &[Span], at: &EntryAt<MadtEntry<'_>>) -> Option<Witness>
     requires { AreSortedDisjoint spans.now }
-    ensures { MatchOption result (IsKnown (IsInSpans spans.now) (named_gsi (madt_value at.now.entry)))
-        (IsUnknown (IsInSpans spans.now) Code.GsiNowhere at.now.offset (named_gsi (madt_value at.now.entry))) }
+    ensures { MatchOption result
+        (IsKnown (IsInSpans spans.now) (named_gsi (madt_value at.now.entry)))
+        (IsUnknown (IsInSpans spans.now) Code.GsiNowhere at.now.offset
+        (named_gsi (madt_value at.now.entry))) }
 {
     let gsi = named_gsi(&at.entry)?;
     if is_in_spans(spans, u128::from(gsi)) {
@@ -99,7 +103,8 @@ fn own_fault(spans: &[Span], at: &EntryAt<MadtEntry<'_>>) -> Option<Witness>
 /// The fault of the first entry of a MADT that names an interrupt number that none of the spans holds.
 fn first_unserved(spans: &[Span], madt: &Madt<'_>) -> Option<Witness>
     requires { AreSortedDisjoint spans.now }
-    ensures { FindsUnknown (IsInSpans spans.now) named_gsi Code.GsiNowhere (madt_contents madt.now).entries result }
+    ensures { FindsUnknown (IsInSpans spans.now) named_gsi Code.GsiNowhere
+        (madt_contents madt.now).entries result }
 {
     let mut entries = madt.entries();
     while let Some(at) = entries.next() {
@@ -119,7 +124,8 @@ fn first_unserved(spans: &[Span], madt: &Madt<'_>) -> Option<Witness>
 /// takes memory for one span for each I/O APIC.
 pub fn named_served(alloc: Global, policy: &Policy, madt: &Madt<'_>) -> Result<(), Refusal>
     requires { AreInterruptsApart policy.now (madt_contents madt.now) }
-    ensures { FindsFirst Stage.Served (AreNamedServed policy.now (madt_contents madt.now)) (ServedFault policy.now (madt_contents madt.now)) result }
+    ensures { FindsFirst Stage.Served (AreNamedServed policy.now (madt_contents madt.now))
+        (ServedFault policy.now (madt_contents madt.now)) result }
 {
     let all_served = are_all_served(alloc, policy, madt)?;
     if all_served {

@@ -27,7 +27,8 @@ impl<'a> ListedSet<'a> {
     pub fn table(&self, slot: u32) -> Option<Listed<'a>>
         requires set { IsListedSet self.now }
         requires inside { slot < slots_of self.now.root }
-        ensures none { IsNone result → field self.now.root.bytes (36 + self.now.root.width * slot) self.now.root.width ≡ 0 }
+        ensures none { IsNone result
+            → field self.now.root.bytes (36 + self.now.root.width * slot) self.now.root.width ≡ 0 }
         ensures some { IfSome result (IsListedIn self.now slot) }
     {
         let address = self.root.slot(slot);

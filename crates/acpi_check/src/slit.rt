@@ -2,7 +2,7 @@
 
 ghost use Rattle.acpi_base.specs.Slit.{slit_contents, IsSoundSlit, SlitFault};
 ghost use Rattle.acpi_base.specs.declared.stage.Stage.{Stage};
-ghost use Rattle.acpi_check.specs.Passed.{FindsFirst};
+ghost use Rattle.acpi_check.specs.PassResults.{FindsFirst};
 
 use crate::refusal::Refusal;
 use acpi_read::{Slit, Table};
@@ -10,7 +10,8 @@ use acpi_read::{Slit, Table};
 /// Whether a SLIT is sound. The first fault is at 0 for one that is too short, at 36 for a number of localities that does not
 /// fit its length, else at a cell's offset.
 pub fn sound_slit(table: Table<'_>) -> Result<(), Refusal>
-    ensures { FindsFirst Stage.Slit (IsSoundSlit (slit_contents table.entry)) (SlitFault (slit_contents table.entry)) result }
+    ensures { FindsFirst Stage.Slit (IsSoundSlit (slit_contents table.entry))
+        (SlitFault (slit_contents table.entry)) result }
 {
     match Slit::new(table) {
         Ok(_) => Ok(()),

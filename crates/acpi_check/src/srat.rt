@@ -8,7 +8,7 @@ ghost use Rattle.acpi_base.specs.Srat.{srat_entry, srat_contents, IsSoundSrat, I
 ghost use Rattle.acpi_base.specs.declared.code.Code.{Code};
 ghost use Rattle.acpi_base.specs.declared.stage.Stage.{Stage};
 ghost use Rattle.acpi_read.specs.Srats.{srat_value, IsOfOwnLength};
-ghost use Rattle.acpi_check.specs.Passed.{FindsFirst, PassesSratEntry};
+ghost use Rattle.acpi_check.specs.PassResults.{FindsFirst, PassesSratEntry};
 
 use crate::refusal::Refusal;
 use acpi_base::{Code, Witness};
@@ -26,7 +26,9 @@ pub fn is_enabled(flags: u32) -> bool
 fn own_fault(entry: &SratEntry<'_>) -> Option<Code>
     requires { IsOfOwnLength (srat_value entry.now) }
     ensures { MatchOption result (IsSoundSratEntry (srat_value entry.now))
-        (λ code. SratEntryFault code (srat_value entry.now) × ((other : Code) → SratEntryFault other (srat_value entry.now) → code_number code ≤ code_number other)) }
+        (λ code. SratEntryFault code (srat_value entry.now)
+        × ((other : Code) → SratEntryFault other (srat_value entry.now)
+        → code_number code ≤ code_number other)) }
 {
     match entry {
         SratEntry::MemoryRange(range) if is_enabled(range.flags) => {
@@ -53,7 +55,8 @@ fn pass_entry(entry: &Entry<'_>) -> Result<(), Witness>
 /// at 0 for an SRAT that is too short.
 #[tactic(auto, using(crate::proofs::EntryPasses::SratPass::passing))]
 pub fn sound_srat(table: Table<'_>) -> Result<(), Refusal>
-    ensures { FindsFirst Stage.Srat (IsSoundSrat (srat_contents table.entry)) (SratFault (srat_contents table.entry)) result }
+    ensures { FindsFirst Stage.Srat (IsSoundSrat (srat_contents table.entry))
+        (SratFault (srat_contents table.entry)) result }
 {
     let mut entries = match Entries::srat(table) {
         Ok(entries) => entries,

@@ -10,11 +10,11 @@ ghost use Rattle.acpi_base.specs.declared.verdict.Verdict.{Verdict};
 ghost use Rattle.acpi_check.specs.Headline.{IfNo};
 ghost use Rattle.acpi_check.specs.StageResults.{ReadsTo, IsResultTo};
 ghost use Rattle.acpi_check.specs.HandedOn.{IsListedSetOf, IsCleanSetOf};
-ghost use Rattle.acpi_check.specs.Set.{IsSetOf, IsSet, IsReady, IsSetResult};
+ghost use Rattle.acpi_check.specs.Set.{IsSetOf, IsSet};
 
 use crate::facs::sound_facs;
 use crate::fadt::sound_fadt;
-use crate::listed;
+use crate::listed::run_stage;
 use crate::refusal::Refusal;
 use crate::root::sound_root;
 use crate::rsdp::sound_rsdp;
@@ -71,7 +71,8 @@ fn stages_to(alloc: Global, image: &Image, policy: &Policy, last: Stage) -> Resu
 /// The set that the RSDP at an address leads to, where its RSDP, its root and the tables that it lists are sound; else
 /// its first fault, which is one of stages 1 to 3. They ask for nothing of a policy but the RSDP's address.
 pub fn read_set<'a>(image: &'a Image, rsdp: u64) -> Result<ListedSet<'a>, Witness>
-    ensures { (q : PolicyValue) → q.rsdp ≡ rsdp → ReadsTo Stage.Tables image.now q (IsListedSetOf image.now q.rsdp) result }
+    ensures { (q : PolicyValue) → q.rsdp ≡ rsdp
+        → ReadsTo Stage.Tables image.now q (IsListedSetOf image.now q.rsdp) result }
 {
     let rsdp = sound_rsdp(image, rsdp)?;
     let root = sound_root(image, &rsdp)?;
@@ -102,7 +103,8 @@ fn sound_set<'a, 'p>(image: &'a Image, policy: &'p Policy) -> Result<Set<'a, 'p>
 /// Asks the stages behind the FACS, up to `last`, in their order.
 fn later_stages(alloc: Global, set: &Set<'_, '_>, last: Stage) -> Result<(), Refusal>
     requires { IsSet set.now }
-    ensures { IsResultTo last set.now.listed.image.now set.now.policy.now (λ _. CleanTo last set.now.listed.image.now set.now.policy.now) result }
+    ensures { IsResultTo last set.now.listed.image.now set.now.policy.now
+        (λ _. CleanTo last set.now.listed.image.now set.now.policy.now) result }
 {
     for number in Stage::Madt.number()..last.number() + 1 {
         if let Some(stage) = Stage::new(number) {
@@ -119,7 +121,8 @@ pub fn check_set<'a>(
     image: &'a Image,
     policy: &Policy,
 ) -> Result<CleanSet<'a>, Refusal>
-    ensures { IsResultTo Stage.Leaves image.now policy.now (IsCleanSetOf image.now policy.now) result }
+    ensures { IsResultTo Stage.Leaves image.now policy.now (IsCleanSetOf image.now policy.now)
+        result }
 {
     let set = sound_set(image, policy)?;
     later_stages(alloc, &set, Stage::LAST)?;
@@ -128,28 +131,4 @@ pub fn check_set<'a>(
         fadt: set.fadt,
         facs: set.facs,
     })
-}
-
-/// Asks one stage from the MADT's on. Those that take memory are handed `alloc`; the others take none.
-fn run_stage(alloc: Global, set: &Set<'_, '_>, stage: Stage) -> Result<(), Refusal>
-    requires { IsReady stage set.now }
-    ensures { IsSetResult stage set.now result }
-{
-    match stage {
-        Stage::Madt => listed::madt(set),
-        Stage::Interrupts => listed::interrupts(alloc, set),
-        Stage::Overrides => listed::overrides(set),
-        Stage::Srat => listed::srat(set),
-        Stage::Ranges => listed::ranges(alloc, set),
-        Stage::Slit => listed::slit(set),
-        Stage::Pptt => listed::pptt(set),
-        Stage::References => listed::references(alloc, set),
-        Stage::Parents => listed::parents(alloc, set),
-        Stage::Caches => listed::caches(alloc, set),
-        Stage::Domains => listed::domains(alloc, set),
-        Stage::Served => listed::served(alloc, set),
-        Stage::Leaves => listed::leaves(alloc, set),
-        // These hold of every set.
-        Stage::Rsdp | Stage::Root | Stage::Tables | Stage::Fadt | Stage::Facs => Ok(()),
-    }
 }

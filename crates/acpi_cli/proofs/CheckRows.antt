@@ -45,8 +45,10 @@ at_row_behind id change missing (r ∷ rs) behind e =
     rw others.0 (ap (λ (rows : List Row). r ∷ rows) (at_row_behind id change missing rs behind others.1))
 
 -- or is the last where none is behind
-pub at_row_absent : (id : Text) (change : Row → List Row) (missing rows : List Row) → has_row id rows ≡ false → at_row id change missing rows ≡ rows ++ missing
-at_row_absent id change missing rows e = ap (at_row id change missing) (sym (append-nil rows)) ∙ at_row_behind id change missing rows [] e
+pub at_row_absent : (id : Text) (change : Row → List Row) (missing rows : List Row) → has_row id rows ≡ false
+    → at_row id change missing rows ≡ rows ++ missing
+at_row_absent id change missing rows e =
+    ap (at_row id change missing) (sym (append-nil rows)) ∙ at_row_behind id change missing rows [] e
 
 -- rows behind others
 pub rows_of_one_more : (options : List (Text × Option Text)) (choice : Text × Option Text)
@@ -57,23 +59,28 @@ rows_of_one_more (first ∷ options) choice =
     ∙ sym (append_assoc (option_rows first.0 first.1) (options_rows options) (option_rows choice.0 choice.1))
 
 -- no row has the id of another option
-no_other_row : (id other : Text) (value : Option Text) → bytes_eq other id ≡ false → has_row id (option_rows other value) ≡ false
+no_other_row : (id other : Text) (value : Option Text) → bytes_eq other id ≡ false
+    → has_row id (option_rows other value) ≡ false
 no_other_row id other None e = refl
 no_other_row id other (Some value) e = rw e refl
 
 -- nor do rows of which neither part has it
-no_row_in_both : (id : Text) (rows behind : List Row) → has_row id rows ≡ false → has_row id behind ≡ false → has_row id (rows ++ behind) ≡ false
+no_row_in_both : (id : Text) (rows behind : List Row) → has_row id rows ≡ false → has_row id behind ≡ false
+    → has_row id (rows ++ behind) ≡ false
 no_row_in_both id rows behind e f = rw (list_any-append, e, f) refl
 
 -- so none has an id that no option has
-pub no_option_row : (id : Text) (options : List (Text × Option Text)) → has_option id options ≡ false → has_row id (options_rows options) ≡ false
+pub no_option_row : (id : Text) (options : List (Text × Option Text)) → has_option id options ≡ false
+    → has_row id (options_rows options) ≡ false
 no_option_row id [] e = refl
 no_option_row id (choice ∷ options) e =
     let others = or_parts (bytes_eq choice.0 id) (has_option id options) e in
-    no_row_in_both id (option_rows choice.0 choice.1) (options_rows options) (no_other_row id choice.0 choice.1 others.0) (no_option_row id options others.1)
+    no_row_in_both id (option_rows choice.0 choice.1) (options_rows options)
+    (no_other_row id choice.0 choice.1 others.0) (no_option_row id options others.1)
 
 -- nor has that of the words `ADDRESS=COUNT`
-pub no_word_row : (id : Text) (words : List Text) → bytes_eq (codes "inputs") id ≡ false → has_row id (word_rows words) ≡ false
+pub no_word_row : (id : Text) (words : List Text) → bytes_eq (codes "inputs") id ≡ false
+    → has_row id (word_rows words) ≡ false
 no_word_row id [] e = refl
 no_word_row id (word ∷ words) e = rw e refl
 
@@ -97,7 +104,8 @@ finds_none id (r ∷ rs) e =
     rw others.0 (finds_none id rs others.1)
 
 -- an option is found under its id
-pub option_is_found : (id : Text) (options : List (Text × Option Text)) (behind : List Row) → are_distinct options ≡ true → has_row id behind ≡ false
+pub option_is_found : (id : Text) (options : List (Text × Option Text)) (behind : List Row)
+    → are_distinct options ≡ true → has_row id behind ≡ false
     → first_of id (options_rows options ++ behind) ≡ value_of id options
 option_is_found id [] behind distinct other = rw (finds_none id behind other) refl
 option_is_found id (choice ∷ options) behind distinct other =
@@ -109,17 +117,23 @@ option_is_found id (choice ∷ options) behind distinct other =
     none_behind : bytes_eq choice.0 id ≡ true → has_row id (options_rows options ++ behind) ≡ false
     none_behind is =
         let same : choice.0 ≡ id = (bytes_eq-Decides choice.0 id).0 is in
-        no_row_in_both id (options_rows options) behind (no_option_row id options (ap (λ (i : Text). has_option i options) (sym same) ∙ not-true _ parts.0)) other
+        no_row_in_both id (options_rows options) behind
+        (no_option_row id options (ap (λ (i : Text). has_option i options) (sym same) ∙ not-true _ parts.0)) other
 
-    go : (is : Bool) → bytes_eq choice.0 id ≡ is → (value : Option Text) → first_of id (options_rows options ++ behind) ≡ value_of id options
-        → first_of id (option_rows choice.0 value ++ options_rows options ++ behind) ≡ cond is value (value_of id options)
+    go : (is : Bool) → bytes_eq choice.0 id ≡ is → (value : Option Text)
+        → first_of id (options_rows options ++ behind) ≡ value_of id options
+        → first_of id (option_rows choice.0 value ++ options_rows options ++ behind) ≡ cond is value
+        (value_of id options)
     go true is None found = rw (finds_none id (options_rows options ++ behind) (none_behind is)) refl
     go true is (Some value) found = rw is refl
     go false is None found = found
     go false is (Some value) found = rw is found
 
 -- and so are the words `ADDRESS=COUNT`
-pub words_are_found : (options : List (Text × Option Text)) (words : List Text) → has_option (codes "inputs") options ≡ false
+pub words_are_found : (options : List (Text × Option Text)) (words : List Text)
+    → has_option (codes "inputs") options ≡ false
     → unwrap_or (all_of (codes "inputs") (options_rows options ++ word_rows words)) [] ≡ words
-words_are_found options [] e = rw (find-append, finds_none (codes "inputs") (options_rows options) (no_option_row (codes "inputs") options e)) refl
-words_are_found options (word ∷ words) e = rw (find-append, finds_none (codes "inputs") (options_rows options) (no_option_row (codes "inputs") options e)) refl
+words_are_found options [] e =
+    rw (find-append, finds_none (codes "inputs") (options_rows options) (no_option_row (codes "inputs") options e)) refl
+words_are_found options (word ∷ words) e =
+    rw (find-append, finds_none (codes "inputs") (options_rows options) (no_option_row (codes "inputs") options e)) refl

@@ -10,7 +10,8 @@ abbrev pub IsDeclared : Command → App → Type 0
 IsDeclared command line = (app_of command ≡ line) × ((out-Command command).has_globals ≡ false)
 
 -- and so it is with one argument more
-pub one_more : (old : Command) (a : Arg) (new : Command) (line : App) (rule : Rule) → IsDeclared old line → rule_of a ≡ rule → a.global ≡ false → AddsArg old a new
+pub one_more : (old : Command) (a : Arg) (new : Command) (line : App) (rule : Rule) → IsDeclared old line
+    → rule_of a ≡ rule → a.global ≡ false → AddsArg old a new
     → IsDeclared new (with_rule line rule)
 one_more old a new line rule is is_rule own adds =
     (adds.shape own ∙ ap₂ with_rule is.0 is_rule, adds.globals ∙ ap₂ (λ (x y : Bool). x || y) is.1 own)

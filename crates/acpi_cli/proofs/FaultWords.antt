@@ -60,14 +60,34 @@ line_is w = simp append_assoc
 names_itself : (w : Witness) → NumbersFit w → named_fault (witness_line w) ≡ Some w
 unfolding named_fault behind_stage behind_name behind_at
 names_itself w fits =
-    let one : behind_word (witness_line w) ≡ behind_stage w = ap behind_word (line_is w) ∙ rest_is (decimal (stage_number (stage_of w.code))) (behind_stage w) (stage_has_no_blank w.code) in
-    let name : word_of (behind_stage w) ≡ code_name w.code = first_is (code_name w.code) (behind_name w) (name_has_no_blank w.code) in
-    let two : behind_word (behind_stage w) ≡ behind_name w = rest_is (code_name w.code) (behind_name w) (name_has_no_blank w.code) in
-    let at : word_of (behind_name w) ≡ hex_text w.at = first_is (hex_text w.at) (behind_at w) (hex_has_no_blank w.at fits.0) in
-    let three : behind_word (behind_name w) ≡ behind_at w = rest_is (hex_text w.at) (behind_at w) (hex_has_no_blank w.at fits.0) in
-    let other : word_of (behind_at w) ≡ hex_text w.other = first_is (hex_text w.other) (hex_text w.point) (hex_has_no_blank w.other fits.1) in
-    let four : behind_word (behind_at w) ≡ hex_text w.point = rest_is (hex_text w.other) (hex_text w.point) (hex_has_no_blank w.other fits.1) in
-    rw (one, name, code_is_named w.code, two, at, three, other, four, number_is w.at fits.0, number_is w.other fits.1, number_is w.point fits.2) refl
+    let one : behind_word (witness_line w) ≡ behind_stage w =
+    ap behind_word (line_is w) ∙ rest_is (decimal (stage_number (stage_of w.code))) (behind_stage w)
+    (stage_has_no_blank w.code) in
+    let name : word_of (behind_stage w) ≡ code_name w.code =
+    first_is (code_name w.code) (behind_name w) (name_has_no_blank w.code) in
+    let two : behind_word (behind_stage w) ≡ behind_name w =
+    rest_is (code_name w.code) (behind_name w) (name_has_no_blank w.code) in
+    let at : word_of (behind_name w) ≡ hex_text w.at = first_is (hex_text w.at) (behind_at w)
+    (hex_has_no_blank w.at fits.0) in
+    let three : behind_word (behind_name w) ≡ behind_at w =
+    rest_is (hex_text w.at) (behind_at w) (hex_has_no_blank w.at fits.0) in
+    let other : word_of (behind_at w) ≡ hex_text w.other =
+    first_is (hex_text w.other) (hex_text w.point) (hex_has_no_blank w.other fits.1) in
+    let four : behind_word (behind_at w) ≡ hex_text w.point =
+    rest_is (hex_text w.other) (hex_text w.point) (hex_has_no_blank w.other fits.1) in
+    rw (
+      one,
+      name,
+      code_is_named w.code,
+      two,
+      at,
+      three,
+      other,
+      four,
+      number_is w.at fits.0,
+      number_is w.other fits.1,
+      number_is w.point fits.2,
+    ) refl
 
 -- ---- the fault that a text is of
 
@@ -84,7 +104,8 @@ is_read text w fits line =
     rw (named, same, fit_is_true w fits) refl
 
 -- and what is read as a fault is its text
-pub read_is_written : (text : List ℕ) (w : Witness) → written_fault text ≡ Some w → NumbersFit w × (text ≡ witness_line w)
+pub read_is_written : (text : List ℕ) (w : Witness) → written_fault text ≡ Some w
+    → NumbersFit w × (text ≡ witness_line w)
 unfolding written_fault
 read_is_written text w e =
     option_and_then_some _ (named_fault text) w e (λ v named e.
@@ -92,11 +113,14 @@ read_is_written text w e =
     let is = and_parts (bytes_eq (witness_line v) text) (numbers_fit v) same.0 in
     let parts = and_parts (nat_lt v.at (2 ^ 64)) (nat_lt v.other (2 ^ 64) && nat_lt v.point (2 ^ 64)) is.1 in
     let others = and_parts (nat_lt v.other (2 ^ 64)) (nat_lt v.point (2 ^ 64)) parts.1 in
-    subst (λ (u : Witness). NumbersFit u × (text ≡ witness_line u)) same.1
-    ((ltb-true _ _ parts.0, ltb-true _ _ others.0, ltb-true _ _ others.1), sym ((bytes_eq-Decides (witness_line v) text).0 is.0)))
+    subst (λ (u : Witness). NumbersFit u × (text ≡ witness_line u)) same.1 (
+      (ltb-true _ _ parts.0, ltb-true _ _ others.0, ltb-true _ _ others.1),
+      sym ((bytes_eq-Decides (witness_line v) text).0 is.0),
+    ))
 
 -- a text that is of no fault is not read
-pub none_is_read : (text : List ℕ) → ((w : Witness) → NumbersFit w → text ≡ witness_line w → ⊥) → None ≡ written_fault text
+pub none_is_read : (text : List ℕ) → ((w : Witness) → NumbersFit w → text ≡ witness_line w → ⊥)
+    → None ≡ written_fault text
 none_is_read text none = go (written_fault text) refl
   where
     go : (read : Option Witness) → written_fault text ≡ read → None ≡ written_fault text
@@ -115,4 +139,5 @@ stage_is_plain _ = refl
 pub fault_is_plain : (text : List ℕ) (w : Witness) → written_fault text ≡ Some w → IsPlain text
 fault_is_plain text w e =
     let is = read_is_written text w e in
-    subst IsPlain (sym (is.1 ∙ line_is w)) (plain_with_more (decimal (stage_number (stage_of w.code))) (32 ∷ behind_stage w) (stage_is_plain w.code))
+    subst IsPlain (sym (is.1 ∙ line_is w))
+    (plain_with_more (decimal (stage_number (stage_of w.code))) (32 ∷ behind_stage w) (stage_is_plain w.code))

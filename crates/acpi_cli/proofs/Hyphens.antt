@@ -23,7 +23,8 @@ ArePlain [] = Unit {0}
 ArePlain (text ∷ texts) = IsPlain text × ArePlain texts
 
 -- a text that a reader reads is plain, if it reads neither nothing nor what begins with a hyphen
-plain_if_read : {T : Type 0} (reads : Text → Option T) (text : Text) (t : T) → reads [] ≡ None → ((rest : Text) → reads (45 ∷ rest) ≡ None)
+plain_if_read : {T : Type 0} (reads : Text → Option T) (text : Text) (t : T) → reads [] ≡ None
+    → ((rest : Text) → reads (45 ∷ rest) ≡ None)
     → reads text ≡ Some t → IsPlain text
 plain_if_read reads [] t nothing hyphen e = absurd (cc)
 plain_if_read reads (c ∷ cs) t nothing hyphen e = elim (eqb_tells c 45) [
@@ -32,7 +33,8 @@ plain_if_read reads (c ∷ cs) t nothing hyphen e = elim (eqb_tells c 45) [
 ]
 
 -- nor is the value of an option that is read so
-pub value_is_plain : {T : Type 0} (reads : Option Text → Option T) (value : Option Text) (t : T) → reads (Some []) ≡ None → ((rest : Text) → reads (Some (45 ∷ rest)) ≡ None)
+pub value_is_plain : {T : Type 0} (reads : Option Text → Option T) (value : Option Text) (t : T)
+    → reads (Some []) ≡ None → ((rest : Text) → reads (Some (45 ∷ rest)) ≡ None)
     → reads value ≡ Some t → IfSome value IsPlain
 value_is_plain reads None t nothing hyphen e = tt
 value_is_plain reads (Some text) t nothing hyphen e = plain_if_read (λ text. reads (Some text)) text t nothing hyphen e
@@ -51,11 +53,13 @@ inputs_are_plain : (word : Text) (inputs : Inputs) → inputs_word word ≡ Some
 inputs_are_plain word inputs e =
     let s = spelling word inputs e in
     let address = plain_if_read (hex_word 8) s.address inputs.address refl (λ rest. no_number _ _ _) s.is_address in
-    subst IsPlain (sym s.is) (plain_with_more (s.address ++ codes "=") s.count (plain_with_more s.address (codes "=") address))
+    subst IsPlain (sym s.is) (plain_with_more (s.address ++ codes "=") s.count
+    (plain_with_more s.address (codes "=") address))
 
 -- nor any of several
 pub all_are_plain : (words : List Text) (counts : List Inputs) → all_inputs words ≡ Some counts → ArePlain words
 all_are_plain [] counts e = tt
 all_are_plain (word ∷ words) counts e =
     option_and_then_some _ (inputs_word word) counts e (λ first is e.
-    made_of _ (all_inputs words) counts e (λ rest are e. (inputs_are_plain word first is, all_are_plain words rest are)))
+    made_of _ (all_inputs words) counts e
+    (λ rest are e. (inputs_are_plain word first is, all_are_plain words rest are)))

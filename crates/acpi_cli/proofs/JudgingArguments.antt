@@ -46,19 +46,23 @@ unfoldable pub shape : Line → Shape
 shape l = record (new_shape l.name) { rules = rules l.options; disable_help_subcommand = true; is_built = true }
 
 -- the first rule that passes a test, where of all options only one passes
-finds_option : (test : Rule → Bool) (id : Text) (options : List (Text × Option Text)) → ((other : Text) → test (built_option other) ≡ bytes_eq other id) → has_option id options ≡ true
+finds_option : (test : Rule → Bool) (id : Text) (options : List (Text × Option Text))
+    → ((other : Text) → test (built_option other) ≡ bytes_eq other id) → has_option id options ≡ true
     → find test (rules options) ≡ Some (built_option id)
 unfolding rules
 finds_option test id [] tells is = absurd (true≢false (sym is))
 finds_option test id (choice ∷ options) tells is = go (bytes_eq choice.0 id) refl (finds_option test id options tells)
   where
-    go : (same : Bool) → bytes_eq choice.0 id ≡ same → (has_option id options ≡ true → find test (rules options) ≡ Some (built_option id))
+    go : (same : Bool) → bytes_eq choice.0 id ≡ same
+        → (has_option id options ≡ true → find test (rules options) ≡ Some (built_option id))
         → find test (rules (choice ∷ options)) ≡ Some (built_option id)
-    go true e others = rw (tells choice.0, e) (ap (λ (i : Text). Some (built_option i)) ((bytes_eq-Decides choice.0 id).0 e))
+    go true e others =
+        rw (tells choice.0, e) (ap (λ (i : Text). Some (built_option i)) ((bytes_eq-Decides choice.0 id).0 e))
     go false e others = rw (tells choice.0, e) (others (ap (λ (b : Bool). b || has_option id options) (sym e) ∙ is))
 
 -- `ADDRESS=COUNT` is found by its id
-finds_inputs : (options : List (Text × Option Text)) → has_option (codes "inputs") options ≡ false → arg_by_id (rules options) (codes "inputs") ≡ Some built_inputs
+finds_inputs : (options : List (Text × Option Text)) → has_option (codes "inputs") options ≡ false
+    → arg_by_id (rules options) (codes "inputs") ≡ Some built_inputs
 unfolding rules
 finds_inputs [] none = refl
 finds_inputs (choice ∷ options) none =
@@ -99,21 +103,27 @@ record Steps (l : Line) (start : Walk) (word : Text) (next : Walk) : Type 0 wher
   pub leads : walked (rules l.options) [] start word ≡ next
 
 -- no word is left
-reads_none : (l : Line) (before rows : List Row) (pending : Option (Text × List Text)) (waiting : Waiting) → Holds l before pending rows
+reads_none : (l : Line) (before rows : List Row) (pending : Option (Text × List Text)) (waiting : Waiting)
+    → Holds l before pending rows
     → Reads l (standing before pending waiting) [] rows
 unfolding clap_on_literals
-reads_none l before rows pending waiting holds = record { no_fault = refl; settles = holds.sound; gives = holds.come_to }
+reads_none l before rows pending waiting holds =
+    record { no_fault = refl; settles = holds.sound; gives = holds.come_to }
 
 -- one word more
-reads_one : (l : Line) (start next : Walk) (word : Text) (words : List Text) (rows : List Row) → Steps l start word next → Reads l next words rows
+reads_one : (l : Line) (start next : Walk) (word : Text) (words : List Text) (rows : List Row) → Steps l start word next
+    → Reads l next words rows
     → Reads l start (word ∷ words) rows
 unfolding shape clap_on_literals
 reads_one l start next word words rows steps reads = record {
-  no_fault = ap (λ (kinds : Kinds). or_else kinds (walk_fault (shape l) [] (walked (rules l.options) [] start word) words)) steps.sound
+  no_fault = ap (λ (kinds : Kinds). or_else kinds
+      (walk_fault (shape l) [] (walked (rules l.options) [] start word) words)) steps.sound
       ∙ ap (λ (w : Walk). walk_fault (shape l) [] w words) steps.leads
       ∙ reads.no_fault;
-  settles = ap (λ (w : Walk). settle_fault (rules l.options) false (fold (walked (rules l.options) []) w words).held) steps.leads ∙ reads.settles;
-  gives = ap (λ (w : Walk). (settled (rules l.options) (fold (walked (rules l.options) []) w words).held).rows) steps.leads ∙ reads.gives;
+  settles = ap (λ (w : Walk). settle_fault (rules l.options) false (fold (walked (rules l.options) []) w words).held)
+      steps.leads ∙ reads.settles;
+  gives = ap (λ (w : Walk). (settled (rules l.options) (fold (walked (rules l.options) []) w words).held).rows)
+      steps.leads ∙ reads.gives;
 }
 
 -- ---- options
@@ -125,7 +135,9 @@ names_only (Some met) id = bytes_eq met.0 id && not (is_some met.1)
 
 -- one of the options has this id, and `--ID` is no other word
 abbrev pub is_option : List (Text × Option Text) → Text → Bool
-is_option options id = has_option id options && (names_only (long_of (codes "--" ++ id)) id && not (bytes_eq (codes "--" ++ id) (codes "--")))
+is_option options id =
+    has_option id options && (names_only (long_of (codes "--" ++ id)) id && not
+    (bytes_eq (codes "--" ++ id) (codes "--")))
 
 -- `--ID VALUE` gives the option `id` its value
 record IsOption (options : List (Text × Option Text)) (id : Text) : Type 0 where
@@ -137,7 +149,8 @@ record IsOption (options : List (Text × Option Text)) (id : Text) : Type 0 wher
 -- such a word has the name of the option, and no value
 long_is : (met : Option (Text × Option Text)) (id : Text) → names_only met id ≡ true → met ≡ Some (id, None)
 long_is None id is = absurd (true≢false (sym is))
-long_is (Some (name, None)) id is = ap (λ (n : Text). Some (n, None)) ((bytes_eq-Decides name id).0 (and_parts (bytes_eq name id) true is).0)
+long_is (Some (name, None)) id is =
+    ap (λ (n : Text). Some (n, None)) ((bytes_eq-Decides name id).0 (and_parts (bytes_eq name id) true is).0)
 long_is (Some (name, Some v)) id is = absurd (true≢false (sym (and_parts (bytes_eq name id) false is).1))
 
 option_is : (options : List (Text × Option Text)) (id : Text) → is_option options id ≡ true → IsOption options id
@@ -146,14 +159,17 @@ option_is options id is =
     let words = and_parts (names_only (long_of (codes "--" ++ id)) id) _ parts.1 in
     record {
       by_id = finds_option (λ a. bytes_eq a.id id) id options (λ other. refl) parts.0;
-      by_long = finds_option (λ a. not (is_some a.index) && has_long a id) id options (λ other. or-false (bytes_eq other id)) parts.0;
+      by_long = finds_option (λ a. not (is_some a.index) && has_long a id) id options
+          (λ other. or-false (bytes_eq other id)) parts.0;
       long = long_is (long_of (codes "--" ++ id)) id words.0;
       more = not-true (bytes_eq (codes "--" ++ id) (codes "--")) words.1;
     }
 
 -- its name is read
-to_option : (l : Line) (id : Text) (rows : List Row) (pending : Option (Text × List Text)) → IsOption l.options id → settle_fault (rules l.options) false (held rows pending) ≡ []
-    → Steps l (standing rows pending idle) (codes "--" ++ id) (standing (settled_rows (rules l.options) pending rows) (Some (id, [])) (option id))
+to_option : (l : Line) (id : Text) (rows : List Row) (pending : Option (Text × List Text)) → IsOption l.options id
+    → settle_fault (rules l.options) false (held rows pending) ≡ []
+    → Steps l (standing rows pending idle) (codes "--" ++ id)
+    (standing (settled_rows (rules l.options) pending rows) (Some (id, [])) (option id))
 unfolding shape clap_on_literals
 to_option l id rows pending is sound = record {
   sound = rw (is.more, is.long, is.by_long, sound) refl;
@@ -176,21 +192,25 @@ option_behind : (l : Line) (id text : Text) (rows : List Row) → IsOption l.opt
 option_behind l id text rows is other = record {
   sound = rw (is.by_id, other) refl;
   come_to = rw is.by_id
-      (ap (with_values id AsWritten CommandLine (text ∷ [])) (at_row_absent id (λ _. []) [] rows other ∙ append-nil rows)
+      (ap (with_values id AsWritten CommandLine (text ∷ []))
+      (at_row_absent id (λ _. []) [] rows other ∙ append-nil rows)
       ∙ at_row_absent id (more_values CommandLine (text ∷ [])) _ rows other);
 }
 
 -- `--ID TEXT`, where there is a text, and then the words behind it
-reads_option : (l : Line) (id : Text) (text : Option Text) (words : List Text) (before options rows : List Row) (pending : Option (Text × List Text)) → IsOption l.options id
+reads_option : (l : Line) (id : Text) (text : Option Text) (words : List Text) (before options rows : List Row)
+    (pending : Option (Text × List Text)) → IsOption l.options id
     → IfSome text IsPlain → Holds l before pending options → has_row id options ≡ false
-    → ((now : List Row) (waits : Option (Text × List Text)) → Holds l now waits (options ++ option_rows id text) → Reads l (standing now waits idle) words rows)
+    → ((now : List Row) (waits : Option (Text × List Text)) → Holds l now waits (options ++ option_rows id text)
+    → Reads l (standing now waits idle) words rows)
     → Reads l (standing before pending idle) (option_words id text ++ words) rows
 reads_option l id None words before options rows pending is plain holds other reads =
     reads before pending (record { sound = holds.sound; come_to = holds.come_to ∙ sym (append-nil options) })
 reads_option l id (Some text) words before options rows pending is plain holds other reads =
     reads_one l _ _ _ _ _ (to_option l id before pending is holds.sound)
     (subst (λ (r : List Row). Reads l (standing r (Some (id, [])) (option id)) (text ∷ words) rows) (sym holds.come_to)
-    (reads_one l _ _ _ _ _ (to_value l id text options is plain) (reads options (Some (id, text ∷ [])) (option_behind l id text options is other))))
+    (reads_one l _ _ _ _ _ (to_value l id text options is plain)
+    (reads options (Some (id, text ∷ [])) (option_behind l id text options is other))))
 
 -- ---- words without a hyphen
 
@@ -200,8 +220,10 @@ behind true = positional
 behind false = idle
 
 -- it is the next word of `ADDRESS=COUNT`, and may come where what is pending has no fault
-to_word : (l : Line) (text : Text) (rows : List Row) (pending : Option (Text × List Text)) (is_more : Bool) → IsPlain text → settle_fault (rules l.options) false (held rows pending) ≡ []
-    → Steps l (standing rows pending (behind is_more)) text (standing (settled_rows (rules l.options) pending rows) (Some (codes "inputs", text ∷ [])) positional)
+to_word : (l : Line) (text : Text) (rows : List Row) (pending : Option (Text × List Text)) (is_more : Bool)
+    → IsPlain text → settle_fault (rules l.options) false (held rows pending) ≡ []
+    → Steps l (standing rows pending (behind is_more)) text
+    (standing (settled_rows (rules l.options) pending rows) (Some (codes "inputs", text ∷ [])) positional)
 unfolding shape clap_on_literals
 to_word l [] rows pending is_more plain sound = absurd (true≢false (sym plain))
 to_word l (c ∷ cs) rows pending true plain sound = record {
@@ -214,15 +236,18 @@ to_word l (c ∷ cs) rows pending false plain sound = record {
 }
 
 -- a word without a hyphen, and then the words behind it
-reads_word : (l : Line) (text : Text) (words : List Text) (before now rows : List Row) (pending : Option (Text × List Text)) (is_more : Bool) → IsPlain text
+reads_word : (l : Line) (text : Text) (words : List Text) (before now rows : List Row)
+    (pending : Option (Text × List Text)) (is_more : Bool) → IsPlain text
     → Holds l before pending now → Reads l (standing now (Some (codes "inputs", text ∷ [])) positional) words rows
     → Reads l (standing before pending (behind is_more)) (text ∷ words) rows
 reads_word l text words before now rows pending is_more plain holds reads =
     reads_one l _ _ _ _ _ (to_word l text before pending is_more plain holds.sound)
-    (subst (λ (r : List Row). Reads l (standing r (Some (codes "inputs", text ∷ [])) positional) words rows) (sym holds.come_to) reads)
+    (subst (λ (r : List Row). Reads l (standing r (Some (codes "inputs", text ∷ [])) positional) words rows)
+    (sym holds.come_to) reads)
 
 -- one more word is put behind those that are read
-one_more_word : (l : Line) (options : List Row) (read : List Text) (word : Text) → has_row (codes "inputs") options ≡ false
+one_more_word : (l : Line) (options : List Row) (read : List Text) (word : Text)
+    → has_row (codes "inputs") options ≡ false
     → Holds l (options ++ word_rows read) (Some (codes "inputs", word ∷ [])) (options ++ word_rows (read ++ word ∷ []))
 one_more_word l options read word other = record {
   sound = rw (finds_inputs l.options l.no_inputs) refl;
@@ -234,26 +259,36 @@ one_more_word l options read word other = record {
 
     go : (read : List Text) → more (options ++ word_rows read) ≡ options ++ word_rows (read ++ word ∷ [])
     go [] = at_row_behind (codes "inputs") (more_values CommandLine (word ∷ [])) _ options [] other
-    go (first ∷ read) = at_row_behind (codes "inputs") (more_values CommandLine (word ∷ [])) (row (codes "inputs") (word ∷ []) ∷ []) options (word_rows (first ∷ read)) other
+    go (first ∷ read) =
+        at_row_behind (codes "inputs") (more_values CommandLine (word ∷ [])) (row (codes "inputs") (word ∷ []) ∷ [])
+        options (word_rows (first ∷ read)) other
 
 -- all words after the first
-reads_words : (l : Line) (options : List Row) (read : List Text) (word : Text) (words : List Text) → has_row (codes "inputs") options ≡ false → ArePlain words
-    → Reads l (standing (options ++ word_rows read) (Some (codes "inputs", word ∷ [])) positional) words (options ++ word_rows (read ++ word ∷ words))
+reads_words : (l : Line) (options : List Row) (read : List Text) (word : Text) (words : List Text)
+    → has_row (codes "inputs") options ≡ false → ArePlain words
+    → Reads l (standing (options ++ word_rows read) (Some (codes "inputs", word ∷ [])) positional) words
+    (options ++ word_rows (read ++ word ∷ words))
 reads_words l options read word [] other plain = reads_none l _ _ _ positional (one_more_word l options read word other)
 reads_words l options read word (next ∷ words) other plain =
     reads_word l next words (options ++ word_rows read) _ _ (Some (codes "inputs", word ∷ [])) true plain.0
     (one_more_word l options read word other)
-    (subst (λ (all : List Text). Reads l (standing (options ++ word_rows (read ++ word ∷ [])) (Some (codes "inputs", next ∷ [])) positional) words (options ++ word_rows all))
+    (subst (λ (all : List Text). Reads l
+    (standing (options ++ word_rows (read ++ word ∷ [])) (Some (codes "inputs", next ∷ [])) positional) words
+    (options ++ word_rows all))
     (append_assoc read (word ∷ []) (next ∷ words)) (reads_words l options (read ++ word ∷ []) next words other plain.1))
 
 -- the words behind the options
-reads_all_words : (l : Line) (before options : List Row) (pending : Option (Text × List Text)) (words : List Text) → Holds l before pending options
-    → has_row (codes "inputs") options ≡ false → ArePlain words → Reads l (standing before pending idle) words (options ++ word_rows words)
+reads_all_words : (l : Line) (before options : List Row) (pending : Option (Text × List Text)) (words : List Text)
+    → Holds l before pending options
+    → has_row (codes "inputs") options ≡ false → ArePlain words
+    → Reads l (standing before pending idle) words (options ++ word_rows words)
 reads_all_words l before options pending [] holds other plain =
-    reads_none l before _ pending idle (record { sound = holds.sound; come_to = holds.come_to ∙ sym (append-nil options) })
+    reads_none l before _ pending idle
+    (record { sound = holds.sound; come_to = holds.come_to ∙ sym (append-nil options) })
 reads_all_words l before options pending (word ∷ words) holds other plain =
     reads_word l word words before options _ pending false plain.0 holds
-    (subst (λ (rows : List Row). Reads l (standing rows (Some (codes "inputs", word ∷ [])) positional) words (options ++ word_rows (word ∷ words))) (append-nil options)
+    (subst (λ (rows : List Row). Reads l (standing rows (Some (codes "inputs", word ∷ [])) positional) words
+    (options ++ word_rows (word ∷ words))) (append-nil options)
     (reads_words l options [] word words other plain.1))
 
 -- ---- all arguments
@@ -269,24 +304,31 @@ AllPlain [] = Unit {0}
 AllPlain (choice ∷ options) = IfSome choice.1 IsPlain × AllPlain options
 
 -- the options that are left, and the words behind them
-reads_rest : (l : Line) (done left : List (Text × Option Text)) (words : List Text) (before : List Row) (pending : Option (Text × List Text))
-    → done ++ left ≡ l.options → list_all (λ choice. is_option l.options choice.0) left ≡ true → are_new done left ≡ true → AllPlain left → ArePlain words → Holds l before pending (options_rows done)
+reads_rest : (l : Line) (done left : List (Text × Option Text)) (words : List Text) (before : List Row)
+    (pending : Option (Text × List Text))
+    → done ++ left ≡ l.options → list_all (λ choice. is_option l.options choice.0) left ≡ true
+    → are_new done left ≡ true → AllPlain left → ArePlain words → Holds l before pending (options_rows done)
     → Reads l (standing before pending idle) (options_words left words) (options_rows l.options ++ word_rows words)
 reads_rest l done [] words before pending e are new begin plain holds =
     let come_to = holds.come_to ∙ ap options_rows (sym (append-nil done) ∙ e) in
-    reads_all_words l before (options_rows l.options) pending words (record { sound = holds.sound; come_to = come_to }) (no_option_row (codes "inputs") l.options l.no_inputs) plain
+    reads_all_words l before (options_rows l.options) pending words (record { sound = holds.sound; come_to = come_to })
+    (no_option_row (codes "inputs") l.options l.no_inputs) plain
 reads_rest l done (choice ∷ left) words before pending e are new begin plain holds =
     let first = and_parts (is_option l.options choice.0) (list_all (λ choice. is_option l.options choice.0) left) are in
     let others = and_parts (not (has_option choice.0 done)) (are_new (done ++ choice ∷ []) left) new in
-    reads_option l choice.0 choice.1 (options_words left words) before (options_rows done) _ pending (option_is l.options choice.0 first.0) begin.0 holds
+    reads_option l choice.0 choice.1 (options_words left words) before (options_rows done) _ pending
+    (option_is l.options choice.0 first.0) begin.0 holds
     (no_option_row choice.0 done (not-true (has_option choice.0 done) others.0))
-    (λ now waits holds. reads_rest l (done ++ choice ∷ []) left words now waits (append_assoc done (choice ∷ []) left ∙ e) first.1 others.1 begin.1 plain
+    (λ now waits holds. reads_rest l (done ++ choice ∷ []) left words now waits
+    (append_assoc done (choice ∷ []) left ∙ e) first.1 others.1 begin.1 plain
     (record { sound = holds.sound; come_to = holds.come_to ∙ sym (rows_of_one_more done choice) }))
 
 -- all options and words of a plain line
-pub reads_options : (l : Line) (words : List Text) → list_all (λ choice. is_option l.options choice.0) l.options ≡ true → are_new [] l.options ≡ true → AllPlain l.options → ArePlain words
+pub reads_options : (l : Line) (words : List Text) → list_all (λ choice. is_option l.options choice.0) l.options ≡ true
+    → are_new [] l.options ≡ true → AllPlain l.options → ArePlain words
     → Reads l (standing [] None idle) (options_words l.options words) (options_rows l.options ++ word_rows words)
-reads_options l words are new begin plain = reads_rest l [] l.options words [] None refl are new begin plain (record { sound = refl; come_to = refl })
+reads_options l words are new begin plain =
+    reads_rest l [] l.options words [] None refl are new begin plain (record { sound = refl; come_to = refl })
 
 -- ---- at the end of the words
 
@@ -299,26 +341,38 @@ either_way false rows = refl
 no_defaults : (options : List (Text × Option Text)) (rows : List Row) → fold with_default rows (rules options) ≡ rows
 unfolding rules
 no_defaults [] rows = simp either_way
-no_defaults (choice ∷ options) rows = ap (λ (r : List Row). fold with_default r (rules options)) (either_way (has_row choice.0 rows) rows) ∙ no_defaults options rows
+no_defaults (choice ∷ options) rows =
+    ap (λ (r : List Row). fold with_default r (rules options)) (either_way (has_row choice.0 rows) rows)
+    ∙ no_defaults options rows
 
 -- so none is refused
 no_default_fault : (options : List (Text × Option Text)) (rows : List Row) → defaults_fault rows (rules options) ≡ []
 unfolding rules clap_on_literals
 no_default_fault [] rows = simp (or-true, either_way)
-no_default_fault (choice ∷ options) rows = rw (or-true, either_way (has_row choice.0 rows) rows) (no_default_fault options rows)
+no_default_fault (choice ∷ options) rows =
+    rw (or-true, either_way (has_row choice.0 rows) rows) (no_default_fault options rows)
 
 -- and none is needed
-none_needed : (options : List (Text × Option Text)) (rows : List Row) → list_any (λ (a : Rule). a.required && not (is_given a.id rows)) (rules options) ≡ false
+none_needed : (options : List (Text × Option Text)) (rows : List Row)
+    → list_any (λ (a : Rule). a.required && not (is_given a.id rows)) (rules options) ≡ false
 unfolding rules
 none_needed [] rows = refl
 none_needed (choice ∷ options) rows = none_needed options rows
 
 -- `clap` takes the words
-pub taken : (l : Line) (words : List Text) (rows : List Row) → Reads l (standing [] None idle) words rows → level_fault (shape l) [] nothing_held words false [] ≡ []
+pub taken : (l : Line) (words : List Text) (rows : List Row) → Reads l (standing [] None idle) words rows
+    → level_fault (shape l) [] nothing_held words false [] ≡ []
 unfolding shape
 taken l words rows reads =
-    rw (reads.no_fault, reads.settles, no_default_fault l.options _, none_needed l.options (finished (rules l.options) (fold (walked (rules l.options) []) (standing [] None idle) words).held)) refl
+    rw (
+      reads.no_fault,
+      reads.settles,
+      no_default_fault l.options _,
+      none_needed l.options (finished (rules l.options)
+          (fold (walked (rules l.options) []) (standing [] None idle) words).held),
+    ) refl
 
 -- what it then has read
-pub given : (l : Line) (words : List Text) (rows : List Row) → Reads l (standing [] None idle) words rows → rows_after (rules l.options) [] words ≡ rows
+pub given : (l : Line) (words : List Text) (rows : List Row) → Reads l (standing [] None idle) words rows
+    → rows_after (rules l.options) [] words ≡ rows
 given l words rows reads = no_defaults l.options _ ∙ reads.gives

@@ -27,11 +27,14 @@ use Rattle.acpi_cli.proofs.JudgingArguments.{AllPlain, Line, Reads, are_new, giv
 
 -- the walk that has come to a command keeps the words behind it
 words_behind : (c : List Rule) (names : Names) (w : Walk) (name : Text) (before words : List Text)
-    → fold (walked c names) (record w { stopped = Some (name, before) }) words ≡ record w { stopped = Some (name, before ++ words) }
+    → fold (walked c names) (record w { stopped = Some (name, before) }) words ≡ record w
+    { stopped = Some (name, before ++ words) }
 unfolding walked
-words_behind c names w name before [] = ap (λ (all : List Text). record w { stopped = Some (name, all) }) (sym (append-nil before))
+words_behind c names w name before [] =
+    ap (λ (all : List Text). record w { stopped = Some (name, all) }) (sym (append-nil before))
 words_behind c names w name before (word ∷ words) =
-    words_behind c names w name (before ++ word ∷ []) words ∙ ap (λ (all : List Text). record w { stopped = Some (name, all) }) (append_assoc before (word ∷ []) words)
+    words_behind c names w name (before ++ word ∷ []) words
+    ∙ ap (λ (all : List Text). record w { stopped = Some (name, all) }) (append_assoc before (word ∷ []) words)
 
 -- and has no fault in them
 no_fault_behind : (s : Shape) (names : Names) (w : Walk) (name : Text) (before words : List Text)
@@ -66,14 +69,19 @@ at_command : Line → List Text → Walk
 at_command l words = record (walk_from nothing_held) { stopped = Some (l.name, words) }
 
 -- the walk comes to the command
-walks_to : (l : Line) (words : List Text) → HasCommand l → walk program_line.top.rules (names_of program_line) nothing_held (l.name ∷ words) ≡ at_command l words
+walks_to : (l : Line) (words : List Text) → HasCommand l
+    → walk program_line.top.rules (names_of program_line) nothing_held (l.name ∷ words) ≡ at_command l words
 unfolding walked at_command
-walks_to l words has = rw has.met (words_behind program_line.top.rules (names_of program_line) (walk_from nothing_held) l.name [] words)
+walks_to l words has =
+    rw has.met (words_behind program_line.top.rules (names_of program_line) (walk_from nothing_held) l.name [] words)
 
 -- and has no fault up to it
-no_fault_to : (l : Line) (words : List Text) → HasCommand l → walk_fault program_line.top (names_of program_line) (walk_from nothing_held) (l.name ∷ words) ≡ []
+no_fault_to : (l : Line) (words : List Text) → HasCommand l
+    → walk_fault program_line.top (names_of program_line) (walk_from nothing_held) (l.name ∷ words) ≡ []
 unfolding walked walk_fault
-no_fault_to l words has = rw (has.met, has.no_help) (no_fault_behind program_line.top (names_of program_line) (walk_from nothing_held) l.name [] words)
+no_fault_to l words has =
+    rw (has.met, has.no_help) (no_fault_behind program_line.top (names_of program_line) (walk_from nothing_held) l.name
+    [] words)
 
 -- nor is there one in what stands before it
 no_fault_before : (l : Line) (words : List Text)
@@ -84,18 +92,22 @@ unfolding program_line command_line check_line confirm_line rebuild_line show_li
 no_fault_before l words = refl
 
 -- `PROGRAM COMMAND WORDS..`, where the words are read, is taken
-command_is_taken : (l : Line) (program : Text) (words : List Text) (rows : List Row) → HasCommand l → Reads l (standing [] None idle) words rows → is_taken (program ∷ l.name ∷ words) ≡ true
+command_is_taken : (l : Line) (program : Text) (words : List Text) (rows : List Row) → HasCommand l
+    → Reads l (standing [] None idle) words rows → is_taken (program ∷ l.name ∷ words) ≡ true
 unfolding is_taken program_line at_command
 command_is_taken l program words rows has reads =
-    ap are_none {y = []} (after_walk program_line (l.name ∷ words) (at_command l words) (walks_to l words has) (no_fault_to l words has)
+    ap are_none {y = []} (after_walk program_line (l.name ∷ words) (at_command l words) (walks_to l words has)
+    (no_fault_to l words has)
     ∙ rw (has.is, taken l words rows reads) (no_fault_before l words))
 
 -- and the command comes with these rows
-command_is_entered : (l : Line) (program : Text) (words : List Text) (rows : List Row) → HasCommand l → Reads l (standing [] None idle) words rows
+command_is_entered : (l : Line) (program : Text) (words : List Text) (rows : List Row) → HasCommand l
+    → Reads l (standing [] None idle) words rows
     → command_of (program ∷ l.name ∷ words) ≡ Some (l.name, rows)
 unfolding command_of program_line at_command shape
 command_is_entered l program words rows has reads =
-    ap (λ (w : Walk). entered program_line w.stopped) (walks_to l words has) ∙ rw (has.is, given l words rows reads) refl
+    ap (λ (w : Walk). entered program_line w.stopped) (walks_to l words has)
+    ∙ rw (has.is, given l words rows reads) refl
 
 -- ---- plain lines
 
@@ -104,7 +116,8 @@ rsdp_is_plain : (text : Option Text) (rsdp : Option ℕ) → rsdp_word text ≡ 
 rsdp_is_plain text rsdp e = value_is_plain rsdp_word text rsdp refl (λ rest. ap (option_map _) (no_number _ _ _)) e
 
 -- nor do those of the options of the policy, and the words `ADDRESS=COUNT`
-policy_is_plain : (texts : PolicyTexts) (policy : PolicyValue) → policy_words texts ≡ Some policy → AllPlain (policy_options texts) × ArePlain texts.inputs
+policy_is_plain : (texts : PolicyTexts) (policy : PolicyValue) → policy_words texts ≡ Some policy
+    → AllPlain (policy_options texts) × ArePlain texts.inputs
 policy_is_plain texts policy e =
     option_and_then_some _ (hotplug_word texts.hotplug) policy e (λ ranges is_hotplug e.
     option_and_then_some _ (processors_word texts.processors) policy e (λ who is_processors e.
@@ -112,7 +125,8 @@ policy_is_plain texts policy e =
     option_and_then_some _ (default_word texts.default_inputs) q e (λ count is_count e.
     made_of _ (all_inputs texts.inputs) q e (λ counts are_counts same. (
       (
-        value_is_plain default_word texts.default_inputs count refl (λ rest. ap (option_and_then _) (no_number _ _ _)) is_count,
+        value_is_plain default_word texts.default_inputs count refl (λ rest. ap (option_and_then _) (no_number _ _ _))
+            is_count,
         (
           value_is_plain hotplug_word texts.hotplug ranges refl (λ rest. refl) is_hotplug,
           (value_is_plain processors_word texts.processors who refl (λ rest. refl) is_processors, tt),
@@ -122,74 +136,115 @@ policy_is_plain texts policy e =
     ))))))
 
 -- a command asks for the same where its options have the same values
-asks_same : {T : Type 0} (make : Option ℕ → PolicyValue → T → Asked) (id : Text) (word : Option Text → Option T) (value given : Text → Option Text) (words inputs : List Text)
-    → ((id : Text) → bytes_eq (codes "inputs") id ≡ false → value id ≡ given id) → bytes_eq (codes "inputs") id ≡ false → words ≡ inputs
+asks_same : {T : Type 0} (make : Option ℕ → PolicyValue → T → Asked) (id : Text) (word : Option Text → Option T)
+    (value given : Text → Option Text) (words inputs : List Text)
+    → ((id : Text) → bytes_eq (codes "inputs") id ≡ false → value id ≡ given id) → bytes_eq (codes "inputs") id ≡ false
+    → words ≡ inputs
     → judging_asked make id word value words ≡ judging_asked make id word given inputs
 asks_same make id word value given words inputs same other e =
-    rw (same (codes "rsdp") refl, same (codes "default-inputs") refl, same (codes "hotplug") refl, same (codes "processors") refl, same id other, e) refl
+    rw (
+      same (codes "rsdp") refl,
+      same (codes "default-inputs") refl,
+      same (codes "hotplug") refl,
+      same (codes "processors") refl,
+      same id other,
+      e,
+    ) refl
 
 -- a plain line asks for what the values of its options say
-line_is_asked : {T : Type 0} (make : Option ℕ → PolicyValue → T → Asked) (id : Text) (word : Option Text → Option T) (l : Line) (program : Text) (words : List Text)
-    → HasCommand l → ((rows : List Row) → asked_command (Some (l.name, rows)) ≡ judging_asked make id word (values_of rows) (words_of rows)) → bytes_eq (codes "inputs") id ≡ false
-    → list_all (λ choice. is_option l.options choice.0) l.options ≡ true → are_new [] l.options ≡ true → are_distinct l.options ≡ true → AllPlain l.options → ArePlain words
-    → asked_job (program ∷ l.name ∷ options_words l.options words) ≡ judging_asked make id word (λ id. value_of id l.options) words
+line_is_asked : {T : Type 0} (make : Option ℕ → PolicyValue → T → Asked) (id : Text) (word : Option Text → Option T)
+    (l : Line) (program : Text) (words : List Text)
+    → HasCommand l → ((rows : List Row)
+    → asked_command (Some (l.name, rows)) ≡ judging_asked make id word (values_of rows) (words_of rows))
+    → bytes_eq (codes "inputs") id ≡ false
+    → list_all (λ choice. is_option l.options choice.0) l.options ≡ true → are_new [] l.options ≡ true
+    → are_distinct l.options ≡ true → AllPlain l.options → ArePlain words
+    → asked_job (program ∷ l.name ∷ options_words l.options words) ≡ judging_asked make id word
+    (λ id. value_of id l.options) words
 line_is_asked make id word l program words has asks other are new distinct begin plain =
     let rows : List Row = options_rows l.options ++ word_rows words in
     let reads = reads_options l words are new begin plain in
-    let taken : is_taken (program ∷ l.name ∷ options_words l.options words) ≡ true = command_is_taken l program _ rows has reads in
-    let entered : command_of (program ∷ l.name ∷ options_words l.options words) ≡ Some (l.name, rows) = command_is_entered l program _ rows has reads in
+    let taken : is_taken (program ∷ l.name ∷ options_words l.options words) ≡ true =
+    command_is_taken l program _ rows has reads in
+    let entered : command_of (program ∷ l.name ∷ options_words l.options words) ≡ Some (l.name, rows) =
+    command_is_entered l program _ rows has reads in
     rw (taken, entered) (asks rows)
     ∙ asks_same make id word (values_of rows) (λ id. value_of id l.options) (words_of rows) words
-    (λ id other. option_is_found id l.options (word_rows words) distinct (no_word_row id words other)) other (words_are_found l.options words l.no_inputs)
+    (λ id other. option_is_found id l.options (word_rows words) distinct (no_word_row id words other)) other
+    (words_are_found l.options words l.no_inputs)
 
 -- a plain line of `check` asks for what its arguments say
-pub check_words_asked : (program : Text) (hex number : Option Text) (texts : PolicyTexts) (rsdp : Option ℕ) (policy : PolicyValue) (last : ℕ)
+pub check_words_asked : (program : Text) (hex number : Option Text) (texts : PolicyTexts) (rsdp : Option ℕ)
+    (policy : PolicyValue) (last : ℕ)
     → rsdp_word hex ≡ Some rsdp → policy_words texts ≡ Some policy → last_word number ≡ Some last
     → asked_job (check_words program hex number texts) ≡ Some (check rsdp policy last)
 unfolding program_line command_line check_line confirm_line rebuild_line show_line find_line shape rules asked_check
 check_words_asked program hex number texts rsdp policy last a b c =
     let plain = policy_is_plain texts policy b in
-    let l : Line = record { name = codes "check"; options = (codes "rsdp", hex) ∷ (codes "through", number) ∷ policy_options texts; no_inputs = refl } in
+    let l : Line = record {
+      name = codes "check";
+      options =
+          (codes "rsdp", hex) ∷ (codes "through", number) ∷ policy_options texts;
+      no_inputs = refl;
+    } in
     let stage = value_is_plain last_word number last refl (λ rest. ap (option_and_then _) (no_number _ _ _)) c in
-    line_is_asked check (codes "through") last_word l program texts.inputs (record { no_help = refl; met = refl; is = refl }) (λ rows. refl) refl refl refl refl
+    line_is_asked check (codes "through") last_word l program texts.inputs
+    (record { no_help = refl; met = refl; is = refl }) (λ rows. refl) refl refl refl refl
     (rsdp_is_plain hex rsdp a, (stage, plain.0)) plain.1
     ∙ rw (a, b, c) refl
 
 -- a plain line of `confirm` asks for what its arguments say
-pub confirm_words_asked : (program : Text) (w : Witness) (hex : Option Text) (texts : PolicyTexts) (rsdp : Option ℕ) (policy : PolicyValue)
+pub confirm_words_asked : (program : Text) (w : Witness) (hex : Option Text) (texts : PolicyTexts) (rsdp : Option ℕ)
+    (policy : PolicyValue)
     → NumbersFit w → rsdp_word hex ≡ Some rsdp → policy_words texts ≡ Some policy
     → asked_job (confirm_words program (witness_line w) hex texts) ≡ Some (confirm rsdp policy w)
 unfolding program_line command_line check_line confirm_line rebuild_line show_line find_line shape rules asked_confirm
 confirm_words_asked program w hex texts rsdp policy fits a b =
     let plain = policy_is_plain texts policy b in
-    let l : Line = record { name = codes "confirm"; options = (codes "witness", Some (witness_line w)) ∷ (codes "rsdp", hex) ∷ policy_options texts; no_inputs = refl } in
+    let l : Line = record {
+      name = codes "confirm";
+      options =
+          (codes "witness", Some (witness_line w)) ∷ (codes "rsdp", hex) ∷ policy_options texts;
+      no_inputs = refl;
+    } in
     let fault = is_read (witness_line w) w fits refl in
-    line_is_asked confirm (codes "witness") witness_word l program texts.inputs (record { no_help = refl; met = refl; is = refl }) (λ rows. refl) refl refl refl refl
+    line_is_asked confirm (codes "witness") witness_word l program texts.inputs
+    (record { no_help = refl; met = refl; is = refl }) (λ rows. refl) refl refl refl refl
     (fault_is_plain (witness_line w) w fault, (rsdp_is_plain hex rsdp a, plain.0)) plain.1
     ∙ rw (a, b, fault) refl
 
 -- a plain line of `rebuild` asks for what its arguments say
-pub rebuild_words_asked : (program base : Text) (at : ℕ) (hex : Option Text) (texts : PolicyTexts) (rsdp : Option ℕ) (policy : PolicyValue)
+pub rebuild_words_asked : (program base : Text) (at : ℕ) (hex : Option Text) (texts : PolicyTexts) (rsdp : Option ℕ)
+    (policy : PolicyValue)
     → base_word (Some base) ≡ Some at → rsdp_word hex ≡ Some rsdp → policy_words texts ≡ Some policy
     → asked_job (rebuild_words program base hex texts) ≡ Some (rebuild rsdp policy at)
 unfolding program_line command_line check_line confirm_line rebuild_line show_line find_line shape rules asked_rebuild
 rebuild_words_asked program base at hex texts rsdp policy a b c =
     let plain = policy_is_plain texts policy c in
-    let l : Line = record { name = codes "rebuild"; options = (codes "base", Some base) ∷ (codes "rsdp", hex) ∷ policy_options texts; no_inputs = refl } in
+    let l : Line = record {
+      name = codes "rebuild";
+      options =
+          (codes "base", Some base) ∷ (codes "rsdp", hex) ∷ policy_options texts;
+      no_inputs = refl;
+    } in
     let address = value_is_plain base_word (Some base) at refl (λ rest. no_number _ _ _) a in
-    line_is_asked rebuild (codes "base") base_word l program texts.inputs (record { no_help = refl; met = refl; is = refl }) (λ rows. refl) refl refl refl refl
+    line_is_asked rebuild (codes "base") base_word l program texts.inputs
+    (record { no_help = refl; met = refl; is = refl }) (λ rows. refl) refl refl refl refl
     (address, (rsdp_is_plain hex rsdp b, plain.0)) plain.1
     ∙ rw (a, b, c) refl
 
 -- a line of `show`, where a value begins with no hyphen
-show_is_asked : (program : Text) (hex : Option Text) (rsdp : Option ℕ) → IfSome hex IsPlain → rsdp_word hex ≡ Some rsdp → asked_job (show_words program hex) ≡ Some (show rsdp)
-unfolding is_taken command_of command_line check_line confirm_line rebuild_line show_line find_line asked_show clap_on_literals
+show_is_asked : (program : Text) (hex : Option Text) (rsdp : Option ℕ) → IfSome hex IsPlain → rsdp_word hex ≡ Some rsdp
+    → asked_job (show_words program hex) ≡ Some (show rsdp)
+unfolding is_taken command_of command_line check_line confirm_line rebuild_line show_line find_line asked_show
+    clap_on_literals
 show_is_asked program None rsdp plain e = ap (option_map show) e
 show_is_asked program (Some []) rsdp plain e = absurd (true≢false (sym plain))
 show_is_asked program (Some (c ∷ cs)) rsdp plain e = simp (not-true (c == 45) plain, e)
 
 -- a plain line of `show` asks for what its argument says
-pub show_words_asked : (program : Text) (hex : Option Text) (rsdp : Option ℕ) → rsdp_word hex ≡ Some rsdp → asked_job (show_words program hex) ≡ Some (show rsdp)
+pub show_words_asked : (program : Text) (hex : Option Text) (rsdp : Option ℕ) → rsdp_word hex ≡ Some rsdp
+    → asked_job (show_words program hex) ≡ Some (show rsdp)
 show_words_asked program hex rsdp e = show_is_asked program hex rsdp (rsdp_is_plain hex rsdp e) e
 
 -- and one of `find` for a search

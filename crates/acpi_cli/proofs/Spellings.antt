@@ -25,7 +25,8 @@ lacks test c text fails all i inside is =
 -- a number has no `=`
 number_lacks : (text : List ℕ) (a : ℕ) → number_word 16 8 text ≡ Some a → Lacks 61 text
 number_lacks text a e =
-    lacks (λ c. is_digit c 16) 61 text refl (and_parts _ (list_all (λ c. is_digit c 16) text) (and_parts _ _ (cond_some _ _ _ e).0).1).1
+    lacks (λ c. is_digit c 16) 61 text refl
+    (and_parts _ (list_all (λ c. is_digit c 16) text) (and_parts _ _ (cond_some _ _ _ e).0).1).1
 
 -- nor one with `0x` before it
 prefixed_lacks : (text : List ℕ) → Lacks 61 text → Lacks 61 (48 ∷ 120 ∷ text)
@@ -47,8 +48,10 @@ address_lacks address a = go (starts_with nat_eq address (codes "0x")) refl
 -- ---- an address, a `=` and a count
 
 -- a word is read by what stands before and after its first `=`
-by_parts : (word address count : List ℕ) (a n : ℕ) → before_first is_equals_sign word ≡ address → after_first is_equals_sign word ≡ count
-    → hex_word 8 address ≡ Some a → count_word count ≡ Some n → inputs_word word ≡ Some (record { address = a; count = n })
+by_parts : (word address count : List ℕ) (a n : ℕ) → before_first is_equals_sign word ≡ address
+    → after_first is_equals_sign word ≡ count
+    → hex_word 8 address ≡ Some a → count_word count ≡ Some n
+    → inputs_word word ≡ Some (record { address = a; count = n })
 by_parts word address count a n before after is_address is_count = rw (before, after, is_address, is_count) refl
 
 -- an address, a `=` and a count are read as what they spell
@@ -57,7 +60,8 @@ pub spelled : (address count : List ℕ) (a n : ℕ) → hex_word 8 address ≡ 
 spelled address count a n is_address is_count =
     let lacks = address_lacks address a is_address in
     ap inputs_word (append_assoc address (codes "=") count)
-    ∙ by_parts (address ++ 61 ∷ count) address count a n (before_first-at 61 address count lacks) (after_first-at 61 address count lacks) is_address is_count
+    ∙ by_parts (address ++ 61 ∷ count) address count a n (before_first-at 61 address count lacks)
+    (after_first-at 61 address count lacks) is_address is_count
 
 -- what is read is an address, a `=` and a count
 pub record Spelling (word : List ℕ) (inputs : Inputs) : Type 0 where
@@ -68,7 +72,8 @@ pub record Spelling (word : List ℕ) (inputs : Inputs) : Type 0 where
   pub is_count : count_word count ≡ Some inputs.count
 
 -- a word with a count has a `=`
-has_equals : (word : List ℕ) (n : ℕ) → count_word (after_first is_equals_sign word) ≡ Some n → position_or_len is_equals_sign word < length word
+has_equals : (word : List ℕ) (n : ℕ) → count_word (after_first is_equals_sign word) ≡ Some n
+    → position_or_len is_equals_sign word < length word
 has_equals word n e = elim (cases_lt (position_or_len is_equals_sign word) (length word)) [
   | inl inside ↦ inside
   | inr behind ↦
@@ -81,13 +86,15 @@ has_equals word n e = elim (cases_lt (position_or_len is_equals_sign word) (leng
 parts : (word : List ℕ) → position_or_len is_equals_sign word < length word
     → word ≡ before_first is_equals_sign word ++ codes "=" ++ after_first is_equals_sign word
 parts word inside =
-    let here : get_or word (position_or_len is_equals_sign word) 0 ≡ 61 = (Decides-eqb _ 61).0 (passes_at_first is_equals_sign word 0 inside) in
+    let here : get_or word (position_or_len is_equals_sign word) 0 ≡ 61 =
+    (Decides-eqb _ 61).0 (passes_at_first is_equals_sign word 0 inside) in
     split_at_first is_equals_sign word 0 inside
     ∙ ap (λ byte. before_first is_equals_sign word ++ byte ∷ after_first is_equals_sign word) here
     ∙ sym (append_assoc (before_first is_equals_sign word) (codes "=") (after_first is_equals_sign word))
 
 -- what is made of a value is made of one that is there
-pub made_of : {A B P : Type 0} (f : A → B) (o : Option A) (y : B) → option_map f o ≡ Some y → ((x : A) → o ≡ Some x → f x ≡ y → P) → P
+pub made_of : {A B P : Type 0} (f : A → B) (o : Option A) (y : B) → option_map f o ≡ Some y
+    → ((x : A) → o ≡ Some x → f x ≡ y → P) → P
 made_of f None y e made = absurd (none-some y e)
 made_of f (Some x) y e made = made x refl (same_Some (f x) y e)
 

@@ -28,7 +28,8 @@ reports_asked find Find does m bytes returned reports = reports
 reports_asked _ _ does m bytes returned reports = absurd does
 
 -- so an engine that does the job does what is asked
-pub obeyed : (a : Option Asked) (job : Job) (input output : Device) (result : Result Outcome RunFault) (status : ℕ) → DoesAsked a job
+pub obeyed : (a : Option Asked) (job : Job) (input output : Device) (result : Result Outcome RunFault) (status : ℕ)
+    → DoesAsked a job
     → Runs (ReportsJob job) input output result → status ≡ exit_status result → Obeys a input output status
 obeyed None job input output result status does runs e = absurd does
 obeyed (Some what) job input output result status does runs e = elim runs [
@@ -39,7 +40,8 @@ obeyed (Some what) job input output result status does runs e = elim runs [
 ]
 
 -- arguments that are refused ask for nothing
-pub refused : (a : Option Asked) (input output : Device) (status : ℕ) → (IsSome a → fault.Words ≡ fault.Memory) → IsUntouched input → IsUntouched output
+pub refused : (a : Option Asked) (input output : Device) (status : ℕ) → (IsSome a → fault.Words ≡ fault.Memory)
+    → IsUntouched input → IsUntouched output
     → status ≡ 2 → Obeys a input output status
 refused None input output status asks nothing_read nothing_written e = (nothing_read, nothing_written, inl e)
 refused (Some what) input output status asks nothing_read nothing_written e =
@@ -57,8 +59,18 @@ consumes_nothing (Some xs) None keeps = absurd keeps
 consumes_nothing (Some xs) (Some ys) keeps = sym keeps
 
 -- where memory runs out before anything is read, that is what an engine may do
-pub starved : (a : Option Asked) (input output : Device) (status : ℕ) → IsUntouched input → IsUntouched output → status ≡ 4 → Obeys a input output status
+pub starved : (a : Option Asked) (input output : Device) (status : ℕ) → IsUntouched input → IsUntouched output
+    → status ≡ 4 → Obeys a input output status
 starved None input output status nothing_read nothing_written e = (nothing_read, nothing_written, inr e)
 starved (Some what) input output status nothing_read nothing_written e =
-    let reads : Reads input [] = record { consumed = consumes_nothing input.bytes_before input.bytes_after nothing_read.0; bounded = omega arith } in
-    (Err run.Memory, inr (run.Memory, refl, record { text = []; read = reads; sound = nothing_read.1 }, nothing_written), e)
+    let reads : Reads input [] = record
+    { consumed = consumes_nothing input.bytes_before input.bytes_after nothing_read.0; bounded = omega arith } in (
+      Err run.Memory,
+      inr (
+        run.Memory,
+        refl,
+        record { text = []; read = reads; sound = nothing_read.1 },
+        nothing_written,
+      ),
+      e,
+    )

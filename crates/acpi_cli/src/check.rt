@@ -33,7 +33,8 @@ pub fn rsdp_address(image: &Image, given: Option<u64>) -> Option<u64>
 
 /// What is reported where there is no RSDP to start from.
 pub fn no_rsdp(alloc: Global) -> Result<Output, AllocError>
-    ensures { IfOk result (λ output. (output.bytes.items ≡ codes "no rsdp\n") × (output.outcome ≡ Outcome.No)) }
+    ensures { IfOk result (λ output. (output.bytes.items ≡ codes "no rsdp\n")
+        × (output.outcome ≡ Outcome.No)) }
 {
     let bytes = Vec::from_slice(alloc, b"no rsdp\n")?;
     let outcome = Outcome::No;
@@ -48,7 +49,8 @@ fn check_output(
     mut policy: Policy,
     last: Stage,
 ) -> Result<Output, AllocError>
-    ensures { IfOk result (λ output. ReportsCheck given policy last image.now output.bytes.items output.outcome) }
+    ensures { IfOk result (λ output. ReportsCheck given policy last image.now output.bytes.items
+        output.outcome) }
 {
     let Some(address) = rsdp_address(image, given) else {
         return no_rsdp(alloc);

@@ -56,14 +56,16 @@ fn clap_text(alloc: Global, words: &[String]) -> Option<String> {
 
 /// The value that `--id` was given.
 pub fn value<'a>(options: &ArgMatches<'a>, id: &str) -> Option<&'a str>
-    ensures { option_map (λ text. text.now) result ≡ first_of id.now (rows_of (found_of options.now)) }
+    ensures { option_map (λ text. text.now) result ≡ first_of id.now
+        (rows_of (found_of options.now)) }
 {
     options.get_str(id)
 }
 
 /// The values of the positional argument `id`, in the order in which they were given.
 pub fn values<'b, 'a>(options: &'b ArgMatches<'a>, id: &str) -> &'b [&'a str]
-    ensures { map (λ text. text.now) result.now ≡ unwrap_or (all_of id.now (rows_of (found_of options.now))) [] }
+    ensures { map (λ text. text.now) result.now ≡ unwrap_or
+        (all_of id.now (rows_of (found_of options.now))) [] }
 {
     options.get_raw(id).unwrap_or_default()
 }
@@ -133,7 +135,9 @@ fn judging<'a>(
     requires command { (out-Command command).has_globals ≡ false }
     requires first { first.global ≡ false }
     requires second { second.global ≡ false }
-    ensures line { IfOk result (λ whole. app_of whole ≡ judging_line (app_of command.entry) (rule_of first.entry) (rule_of second.entry)) }
+    ensures line { IfOk result
+        (λ whole. app_of whole ≡ judging_line (app_of command.entry) (rule_of first.entry)
+        (rule_of second.entry)) }
     ensures own { IfOk result (λ whole. (out-Command whole).has_globals ≡ false) }
 {
     command

@@ -19,7 +19,8 @@ fn confirm_output(
     mut policy: Policy,
     witness: &Witness,
 ) -> Result<Output, AllocError>
-    ensures { IfOk result (λ output. ReportsConfirm given policy witness.now image.now output.bytes.items output.outcome) }
+    ensures { IfOk result (λ output. ReportsConfirm given policy witness.now image.now
+        output.bytes.items output.outcome) }
 {
     let Some(address) = rsdp_address(image, given) else {
         return no_rsdp(alloc);

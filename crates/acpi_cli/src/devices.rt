@@ -32,7 +32,8 @@ pub fn read_input<R: Read>(alloc: Global, reader: &mut Tally<R>) -> Result<Image
 
 /// Writes the output's bytes, and returns its outcome. Refuses `Device` where a write failed.
 pub fn write_output<W: Write>(writer: &mut Tally<W>, output: &Output) -> Result<Outcome, RunFault>
-    ensures { WritesOutput (device W.contents writer.old writer.new) output.now.bytes.items output.now.outcome result }
+    ensures { WritesOutput (device W.contents writer.old writer.new) output.now.bytes.items
+        output.now.outcome result }
 {
     match write_whole(writer, &output.bytes) {
         Ok(()) => Ok(output.outcome),
@@ -42,9 +43,12 @@ pub fn write_output<W: Write>(writer: &mut Tally<W>, output: &Output) -> Result<
 
 /// Writes all the bytes, by as many writes as it takes.
 fn write_whole<W: Write>(writer: &mut Tally<W>, bytes: &[u8]) -> Result<(), DeviceFailed>
-    ensures ok { OnOk result (Appends (W.contents writer.old.inner) (W.contents writer.new.inner) bytes.now) }
+    ensures ok { OnOk result
+        (Appends (W.contents writer.old.inner) (W.contents writer.new.inner) bytes.now) }
     ensures sound { OnOk result (writer.new.failures ≡ writer.old.failures) }
-    ensures err { OnErr result ((n : ℕ) × Appends (W.contents writer.old.inner) (W.contents writer.new.inner) (take n bytes.now)) }
+    ensures err { OnErr result
+        ((n : ℕ) × Appends (W.contents writer.old.inner) (W.contents writer.new.inner)
+        (take n bytes.now)) }
     ensures counted { OnErr result (CountsFailure writer.old.failures writer.new.failures) }
 {
     let mut written = 0;

@@ -32,10 +32,13 @@ pub fn check_and_confirm_agree(
     policy: &Policy,
     witness: &Witness,
 ) -> Result<Judgement, AllocError>
-    ensures yes { IfOk result (λ both. (both.verdict ≡ Verdict.Yes) ↔ IsClean image.now policy.now) }
+    ensures yes { IfOk result (λ both. (both.verdict ≡ Verdict.Yes)
+        ↔ IsClean image.now policy.now) }
     ensures no { IfOk result (λ both. IfNo (IsFirstFault image.now policy.now) both.verdict) }
-    ensures fault { IfOk result (λ both. IsTrue both.is_confirmed ↔ Fault image.now policy.now witness.now) }
-    ensures first { IfOk result (λ both. both.verdict ≡ Verdict.No witness.now → both.is_confirmed ≡ true) }
+    ensures fault { IfOk result (λ both. IsTrue both.is_confirmed
+        ↔ Fault image.now policy.now witness.now) }
+    ensures first { IfOk result (λ both. both.verdict ≡ Verdict.No witness.now
+        → both.is_confirmed ≡ true) }
     ensures none { IfOk result (λ both. both.verdict ≡ Verdict.Yes → both.is_confirmed ≡ false) }
     ensures memory { OnErr result (CleanTo Stage.Madt image.now policy.now) }
 {

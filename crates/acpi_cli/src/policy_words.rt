@@ -41,7 +41,8 @@ struct Inputs {
 ///
 /// Refuses `Words` where a word is wrong; `Memory` may be returned in place of a policy or of `Words`.
 pub fn read_policy(alloc: Global, options: &ArgMatches) -> Result<Policy, WordFault>
-    ensures policy { IfOk result (λ policy. asked_policy (rows_of (found_of options.now)) ≡ Some policy) }
+    ensures policy { IfOk result
+        (λ policy. asked_policy (rows_of (found_of options.now)) ≡ Some policy) }
     ensures refused { IfErr result (λ fault.
         IsSome (asked_policy (rows_of (found_of options.now))) → fault ≡ WordFault.Memory) }
 {
@@ -66,9 +67,12 @@ fn read_inputs(
     words: &[&str],
 ) -> Result<Policy, WordFault>
     ensures policy { IfOk result (λ policy.
-        inputs_policy (option_map (λ text. text.now) default_inputs.entry) (map (λ text. text.now) words.now) ≡ Some policy) }
+        inputs_policy (option_map (λ text. text.now) default_inputs.entry)
+        (map (λ text. text.now) words.now)
+        ≡ Some policy) }
     ensures refused { IfErr result (λ fault.
-        IsSome (inputs_policy (option_map (λ text. text.now) default_inputs.entry) (map (λ text. text.now) words.now))
+        IsSome (inputs_policy (option_map (λ text. text.now) default_inputs.entry)
+        (map (λ text. text.now) words.now))
         → fault ≡ WordFault.Memory) }
 {
     let default_inputs = default_count(default_inputs).ok_or(WordFault::Words)?;
@@ -95,7 +99,8 @@ pub fn first_counts_stand()
 /// A word is `ADDRESS=COUNT` exactly where it is an address of 1 to 8 hex digits, with `0x` before them or without, a
 /// `=`, and a count of 1 to 256 in 1 to 3 decimal digits.
 pub fn inputs_are_address_and_count()
-    ensures read { (address count : List ℕ) (a n : ℕ) → hex_word 8 address ≡ Some a → count_word count ≡ Some n
+    ensures read { (address count : List ℕ) (a n : ℕ) → hex_word 8 address ≡ Some a
+        → count_word count ≡ Some n
         → inputs_word (address ++ codes "=" ++ count) ≡ Some (record { address = a; count = n }) }
     ensures only { (word : List ℕ) (inputs : Inputs) → inputs_word word ≡ Some inputs
         → (address : List ℕ) × (count : List ℕ) × (word ≡ address ++ codes "=" ++ count)
@@ -153,10 +158,7 @@ fn default_count(word: Option<&str>) -> Option<u16>
 fn hotplug_setting(word: Option<&str>) -> Option<HotPlug>
     ensures { result ≡ hotplug_word (option_map (λ text. text.now) word.entry) }
 {
-    let Some(text) = word else {
-        return Some(HotPlug::Counted);
-    };
-    match text {
+    match word.unwrap_or("counted") {
         "counted" => Some(HotPlug::Counted),
         "apart" => Some(HotPlug::Apart),
         _ => None,
@@ -167,10 +169,7 @@ fn hotplug_setting(word: Option<&str>) -> Option<HotPlug>
 fn processors_setting(word: Option<&str>) -> Option<Processors>
     ensures { result ≡ processors_word (option_map (λ text. text.now) word.entry) }
 {
-    let Some(text) = word else {
-        return Some(Processors::Enabled);
-    };
-    match text {
+    match word.unwrap_or("enabled") {
         "enabled" => Some(Processors::Enabled),
         "usable" => Some(Processors::Usable),
         _ => None,

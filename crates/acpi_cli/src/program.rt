@@ -61,7 +61,8 @@ pub fn do_job<R: Read, W: Write>(
     writer: &mut Tally<W>,
     job: Job,
 ) -> Result<Outcome, RunFault>
-    ensures { Runs (ReportsJob job) (device R.remaining reader.old reader.new) (device W.contents writer.old writer.new) result }
+    ensures { Runs (ReportsJob job) (device R.remaining reader.old reader.new)
+        (device W.contents writer.old writer.new) result }
 {
     match job {
         Job::Check { rsdp, policy, last } => run_check(alloc, reader, writer, rsdp, policy, last),

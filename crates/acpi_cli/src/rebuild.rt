@@ -14,7 +14,8 @@ use std::io::{Read, Write};
 
 /// What is reported of a set that is not rebuilt.
 fn refused(alloc: Global, fault: RebuildFault) -> Result<Output, AllocError>
-    ensures { IfOk result (λ output. IsRefusalLine fault output.bytes.items × (output.outcome ≡ Outcome.No)) }
+    ensures { IfOk result (λ output. IsRefusalLine fault output.bytes.items
+        × (output.outcome ≡ Outcome.No)) }
 {
     let bytes = match fault {
         RebuildFault::Unaligned => Vec::from_slice(alloc, b"refused Unaligned\n")?,
@@ -36,7 +37,8 @@ fn rebuilt_output(
     policy: &Policy,
     base: u64,
 ) -> Result<Output, AllocError>
-    ensures { IfOk result (λ output. TellsRebuilt image policy.now base output.bytes.items output.outcome) }
+    ensures { IfOk result (λ output. TellsRebuilt image policy.now base output.bytes.items
+        output.outcome) }
 {
     let rebuilt = rebuild(alloc, &image, policy, base);
     drop(image);
@@ -58,7 +60,8 @@ fn rebuild_output(
     mut policy: Policy,
     base: u64,
 ) -> Result<Output, AllocError>
-    ensures { IfOk result (λ output. ReportsRebuild given policy base image output.bytes.items output.outcome) }
+    ensures { IfOk result (λ output. ReportsRebuild given policy base image output.bytes.items
+        output.outcome) }
 {
     let Some(address) = rsdp_address(&image, given) else {
         return no_rsdp(alloc);

@@ -24,7 +24,8 @@ use std::io::{Read, Write};
 
 /// What is shown of the image.
 fn show_output(alloc: Global, image: &Image, given: Option<u64>) -> Result<Output, AllocError>
-    ensures { IfOk result (λ output. ReportsShow given image.now output.bytes.items output.outcome) }
+    ensures { IfOk result (λ output. ReportsShow given image.now output.bytes.items
+        output.outcome) }
 {
     let Some(address) = rsdp_address(image, given) else {
         return no_rsdp(alloc);

@@ -242,7 +242,8 @@ fn given_witness(word: Option<&str>) -> Option<Witness>
 
 /// The stage that `--through` names, else the last of all. `None` where its value is no stage.
 fn last_stage(word: Option<&str>) -> Option<Stage>
-    ensures { option_map stage_number result ≡ last_word (option_map (λ text. text.now) word.entry) }
+    ensures { option_map stage_number result ≡ last_word
+        (option_map (λ text. text.now) word.entry) }
 {
     let Some(text) = word else {
         return Some(Stage::LAST);
@@ -253,7 +254,8 @@ fn last_stage(word: Option<&str>) -> Option<Stage>
 
 /// A value of `--witness` is read as a fault exactly where it is this fault's text, with numbers of 64 bits.
 pub fn fault_words_are_texts()
-    ensures { (text : List ℕ) (w : Witness) → (written_fault text ≡ Some w) ↔ (NumbersFit w × (text ≡ witness_line w)) }
+    ensures { (text : List ℕ) (w : Witness) → (written_fault text ≡ Some w)
+        ↔ (NumbersFit w × (text ≡ witness_line w)) }
 {}
 
 /// Each plain command line with good values is read, and as one expects: `find`; `check` with each choice of its
@@ -268,11 +270,14 @@ pub fn plain_lines_are_read()
     ensures confirm { (program : List ℕ) (w : Witness) (hex : Option (List ℕ)) (texts : PolicyTexts)
         (rsdp : Option ℕ) (policy : PolicyValue) → NumbersFit w → rsdp_word hex ≡ Some rsdp
         → policy_words texts ≡ Some policy
-        → asked_job (confirm_words program (witness_line w) hex texts) ≡ Some (Asked.confirm rsdp policy w) }
+        → asked_job (confirm_words program (witness_line w) hex texts) ≡ Some
+        (Asked.confirm rsdp policy w) }
     ensures rebuild { (program base : List ℕ) (at : ℕ) (hex : Option (List ℕ)) (texts : PolicyTexts)
-        (rsdp : Option ℕ) (policy : PolicyValue) → base_word (Some base) ≡ Some at → rsdp_word hex ≡ Some rsdp
+        (rsdp : Option ℕ) (policy : PolicyValue) → base_word (Some base) ≡ Some at
+        → rsdp_word hex ≡ Some rsdp
         → policy_words texts ≡ Some policy
         → asked_job (rebuild_words program base hex texts) ≡ Some (Asked.rebuild rsdp policy at) }
-    ensures show { (program : List ℕ) (hex : Option (List ℕ)) (rsdp : Option ℕ) → rsdp_word hex ≡ Some rsdp
+    ensures show { (program : List ℕ) (hex : Option (List ℕ)) (rsdp : Option ℕ)
+        → rsdp_word hex ≡ Some rsdp
         → asked_job (show_words program hex) ≡ Some (Asked.show rsdp) }
 {}

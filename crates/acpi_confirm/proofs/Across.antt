@@ -14,7 +14,8 @@ use Rattle.acpi_confirm.proofs.MadtFaults.{serves_from, serves_gsi, madt_size, m
 -- ---- interrupt numbers
 
 -- an I/O APIC that serves a number serves it from some start on
-pub served : (q : PolicyValue) (c : MadtContents) (g : ℕ) (b : Bool) → (IsTrue b ↔ ((o : ℕ) × StandsWith c.entries o (ServesGsi q g))) → IsTrue b ↔ IsServed q c g
+pub served : (q : PolicyValue) (c : MadtContents) (g : ℕ) (b : Bool)
+    → (IsTrue b ↔ ((o : ℕ) × StandsWith c.entries o (ServesGsi q g))) → IsTrue b ↔ IsServed q c g
 served q c g b is = (
   λ true. (let (o, stands) = is.0 true in let from = serves_from q c o g stands in (o, from.0, from.1)),
   λ (o, s, serves). is.1 (o, serves_gsi q c o s g serves),
@@ -22,8 +23,10 @@ served q c g b is = (
 
 -- ---- leaves
 
-pub wholly_typed : (c : MadtContents) → 44 ≤ c.size → c.cut ≡ None → ¬ ((o : ℕ) × StandsWith c.entries o IsOpaque) → IsWhollyTyped c
-wholly_typed c long filled none = record { long = long; filled = filled; typed = λ o e stands. none (o, (Opaque e, stands, tt)) }
+pub wholly_typed : (c : MadtContents) → 44 ≤ c.size → c.cut ≡ None → ¬ ((o : ℕ) × StandsWith c.entries o IsOpaque)
+    → IsWhollyTyped c
+wholly_typed c long filled none =
+    record { long = long; filled = filled; typed = λ o e stands. none (o, (Opaque e, stands, tt)) }
 
 not_opaque : (c : MadtContents) → IsWhollyTyped c → (o : ℕ) (e : MadtEntry) → Stands c.entries o e → ¬ IsOpaque e
 not_opaque c whole o (Opaque e) stands is = whole.typed o e stands
@@ -32,9 +35,16 @@ not_opaque c whole o _ stands is = is
 pub none_opaque : (c : MadtContents) → IsWhollyTyped c → ¬ ((o : ℕ) × StandsWith c.entries o IsOpaque)
 none_opaque c whole (o, (e, stands, is)) = not_opaque c whole o e stands is
 
-pub typed : (madt : List ℕ) (b : Bool) → 44 ≤ length madt → None ≡ cut_of 44 madt → (IsTrue b ↔ ((o : ℕ) × StandsWith (madt_contents madt).entries o IsOpaque)) → IsTrue (not b) ↔ IsWhollyTyped (madt_contents madt)
-typed madt true long filled is = (λ no_one. absurd (cc), λ whole. absurd (none_opaque (madt_contents madt) whole (is.0 refl)))
-typed madt false long filled is = (λ _. wholly_typed (madt_contents madt) (omega (arith, madt_size madt)) (madt_cut madt ∙ sym filled) (λ some. true≢false (sym (is.1 some))), λ _. refl)
+pub typed : (madt : List ℕ) (b : Bool) → 44 ≤ length madt → None ≡ cut_of 44 madt
+    → (IsTrue b ↔ ((o : ℕ) × StandsWith (madt_contents madt).entries o IsOpaque))
+    → IsTrue (not b) ↔ IsWhollyTyped (madt_contents madt)
+typed madt true long filled is =
+    (λ no_one. absurd (cc), λ whole. absurd (none_opaque (madt_contents madt) whole (is.0 refl)))
+typed madt false long filled is = (
+  λ _. wholly_typed (madt_contents madt) (omega (arith, madt_size madt)) (madt_cut madt ∙ sym filled)
+      (λ some. true≢false (sym (is.1 some))),
+  λ _. refl,
+)
 
 pub revision_is : (pptt : List ℕ) → (pptt_contents pptt).revision ≡ field pptt 8 1
 unfolding pptt_contents

@@ -17,7 +17,8 @@ pub slit_count : (slit : List ℕ) → (slit_contents slit).count ≡ field slit
 unfolding slit_contents
 slit_count slit = refl
 
-pub slit_distance : (slit : List ℕ) (i j : ℕ) → distance (slit_contents slit) i j ≡ slice_index slit (44 + ((slit_contents slit).count * i + j))
+pub slit_distance : (slit : List ℕ) (i j : ℕ)
+    → distance (slit_contents slit) i j ≡ slice_index slit (44 + ((slit_contents slit).count * i + j))
 unfolding slit_contents
 slit_distance slit i j = grind (arith, get_or-drop 44 slit (field slit 36 8 * i + j) 0)
 
@@ -44,7 +45,8 @@ one_cell c at i j a b here there =
     record { row = row; column = grind (arith, here.place, there.place) }
 
 -- P of the row and the column of the cell at an offset is P of some cell there
-some_cell : (c : SlitContents) (at : ℕ) (cell : Cell) (P : ℕ → ℕ → Type 0) (b : Bool) → HasCell c at cell → (IsTrue b ↔ P cell.row cell.column) → IsTrue b ↔ (HasSlitSize c × SomeCell c at P)
+some_cell : (c : SlitContents) (at : ℕ) (cell : Cell) (P : ℕ → ℕ → Type 0) (b : Bool) → HasCell c at cell
+    → (IsTrue b ↔ P cell.row cell.column) → IsTrue b ↔ (HasSlitSize c × SomeCell c at P)
 some_cell c at cell P b here is = (
   λ true. (here.size, (cell.row, cell.column, here.place, is.0 true)),
   λ (_, (i, j, there, holds)).
@@ -53,9 +55,12 @@ some_cell c at cell P b here is = (
 )
 
 -- what is said of the cell at an offset, and false where none stands there
-pub test_of_cell : (c : SlitContents) (at : ℕ) (P : ℕ → ℕ → Type 0) (Says : Cell → Type 0) (found : Option Cell) (test : Bool) → MatchOption found (HasNoCell c at) (HasCell c at) → MatchOption found (test ≡ false) Says
-    → ((cell : Cell) → Says cell → HasCell c at cell → (IsTrue test ↔ P cell.row cell.column)) → IsTrue test ↔ (HasSlitSize c × SomeCell c at P)
-test_of_cell c at P Says None test none is decides = rw is (λ true. absurd (cc), λ (size, (i, j, here, _)). absurd (none size i j here))
+pub test_of_cell : (c : SlitContents) (at : ℕ) (P : ℕ → ℕ → Type 0) (Says : Cell → Type 0) (found : Option Cell)
+    (test : Bool) → MatchOption found (HasNoCell c at) (HasCell c at) → MatchOption found (test ≡ false) Says
+    → ((cell : Cell) → Says cell → HasCell c at cell → (IsTrue test ↔ P cell.row cell.column))
+    → IsTrue test ↔ (HasSlitSize c × SomeCell c at P)
+test_of_cell c at P Says None test none is decides =
+    rw is (λ true. absurd (cc), λ (size, (i, j, here, _)). absurd (none size i j here))
 test_of_cell c at P Says (Some cell) test here says decides = some_cell c at cell P test here (decides cell says here)
 
 -- a cell stands behind the first 44 bytes, and within the table
@@ -69,10 +74,12 @@ pub none_before : (slit : List ℕ) (at : ℕ) → at < 44 → HasNoCell (slit_c
 none_before slit at before size i j here = omega (arith, cell_inside (slit_contents slit) at i j size here)
 
 pub none_behind : (slit : List ℕ) (at : ℕ) → length slit ≤ at → HasNoCell (slit_contents slit) at
-none_behind slit at behind size i j here = omega (arith, cell_inside (slit_contents slit) at i j size here, slit_size slit)
+none_behind slit at behind size i j here =
+    omega (arith, cell_inside (slit_contents slit) at i j size here, slit_size slit)
 
 -- a table with an offset among its cells has a row
-pub some_rows : (slit : List ℕ) (at : ℕ) → HasSlitSize (slit_contents slit) → 44 ≤ at → at < length slit → 0 < field slit 36 8
+pub some_rows : (slit : List ℕ) (at : ℕ) → HasSlitSize (slit_contents slit) → 44 ≤ at → at < length slit
+    → 0 < field slit 36 8
 some_rows slit at size from below =
     elim (cases_lt 0 (field slit 36 8)) [
       | inl some ↦ some
@@ -83,8 +90,10 @@ some_rows slit at size from below =
     ]
 
 -- and there a cell
-pub cell_there : (slit : List ℕ) (at n : ℕ) → HasSlitSize (slit_contents slit) → 44 ≤ at → at < length slit → n ≡ field slit 36 8
-    → HasCell (slit_contents slit) at (record { row = (at - 44) / n; column = (at - 44) % n; distance = slice_index slit at })
+pub cell_there : (slit : List ℕ) (at n : ℕ) → HasSlitSize (slit_contents slit) → 44 ≤ at → at < length slit
+    → n ≡ field slit 36 8
+    → HasCell (slit_contents slit) at
+    (record { row = (at - 44) / n; column = (at - 44) % n; distance = slice_index slit at })
 cell_there slit at n size from below is =
     let c = slit_contents slit in
     let place = at - 44 in

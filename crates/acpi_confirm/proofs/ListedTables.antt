@@ -14,90 +14,125 @@ use Rattle.acpi_confirm.specs.Roots.{IsWholeRoot}
 
 -- ---- one table
 
-pub listed_of_set : {m : Memory} {p d a : ℕ} {bytes signature header whole : List ℕ} → IsWholeRoot m p d bytes → IsFirstListed m bytes d signature a → IsTable m a header whole → IsListedTable m p signature whole
+pub listed_of_set : {m : Memory} {p d a : ℕ} {bytes signature header whole : List ℕ} → IsWholeRoot m p d bytes
+    → IsFirstListed m bytes d signature a → IsTable m a header whole → IsListedTable m p signature whole
 listed_of_set root first table = listed_in_root root.root root.table first table
 
 -- a set that lists a table has a root
-pub root_of_listed : {m : Memory} {p : ℕ} {signature whole : List ℕ} (listed : IsListedTable m p signature whole) → IsWholeRoot m p listed.first.d listed.first.whole
+pub root_of_listed : {m : Memory} {p : ℕ} {signature whole : List ℕ} (listed : IsListedTable m p signature whole)
+    → IsWholeRoot m p listed.first.d listed.first.whole
 root_of_listed listed = record { r = listed.first.r; root = listed.first.root; table = listed.first.table }
 
 -- and the table comes first in its slots
-pub first_of_listed : {m : Memory} {p d : ℕ} {bytes signature whole : List ℕ} → IsWholeRoot m p d bytes → (listed : IsListedTable m p signature whole) → IsFirstListed m bytes d signature listed.a
+pub first_of_listed : {m : Memory} {p d : ℕ} {bytes signature whole : List ℕ} → IsWholeRoot m p d bytes
+    → (listed : IsListedTable m p signature whole) → IsFirstListed m bytes d signature listed.a
 first_of_listed root listed = listed_of_root root.root root.table listed.first
 
 -- the table at the first address is the set's
-pub table_of_set : {m : Memory} {p d a : ℕ} {bytes signature whole : List ℕ} → IsWholeRoot m p d bytes → IsFirstListed m bytes d signature a → (listed : IsListedTable m p signature whole) → IsTable m a listed.header whole
+pub table_of_set : {m : Memory} {p d a : ℕ} {bytes signature whole : List ℕ} → IsWholeRoot m p d bytes
+    → IsFirstListed m bytes d signature a → (listed : IsListedTable m p signature whole)
+    → IsTable m a listed.header whole
 table_of_set {m} {d = d} {a = a} {bytes = bytes} {signature = signature} {whole = whole} root first listed =
-    subst (λ (b : ℕ). IsTable m b listed.header whole) (one_first_listed m bytes d signature listed.a a (first_of_listed root listed) first) listed.table
+    subst (λ (b : ℕ). IsTable m b listed.header whole)
+    (one_first_listed m bytes d signature listed.a a (first_of_listed root listed) first) listed.table
 
 -- ---- none
 
-pub none_of_set : {m : Memory} {p d : ℕ} {bytes signature : List ℕ} → IsWholeRoot m p d bytes → IsNoneListed m bytes d signature → ListsNone m p signature
+pub none_of_set : {m : Memory} {p d : ℕ} {bytes signature : List ℕ} → IsWholeRoot m p d bytes
+    → IsNoneListed m bytes d signature → ListsNone m p signature
 none_of_set root none = none_in_root root.root root.table none
 
-pub root_of_none : {m : Memory} {p : ℕ} {signature : List ℕ} (none : ListsNone m p signature) → IsWholeRoot m p none.d none.root_bytes
+pub root_of_none : {m : Memory} {p : ℕ} {signature : List ℕ} (none : ListsNone m p signature)
+    → IsWholeRoot m p none.d none.root_bytes
 root_of_none none = record { r = none.r; root = none.root; table = none.table }
 
-pub none_of_bytes : {m : Memory} {p d : ℕ} {bytes signature : List ℕ} → IsWholeRoot m p d bytes → ListsNone m p signature → IsNoneListed m bytes d signature
-none_of_bytes {m} {signature = signature} root none = of_root (λ x bs. IsNoneListed m bs x signature) none.root root.root none.table root.table none.none
+pub none_of_bytes : {m : Memory} {p d : ℕ} {bytes signature : List ℕ} → IsWholeRoot m p d bytes
+    → ListsNone m p signature → IsNoneListed m bytes d signature
+none_of_bytes {m} {signature = signature} root none =
+    of_root (λ x bs. IsNoneListed m bs x signature) none.root root.root none.table root.table none.none
 
 -- no slot has such a header exactly where the set lists none
-pub test_of_none : {m : Memory} {p d : ℕ} {bytes signature : List ℕ} (found : Option ℕ) (test : Bool) → IsWholeRoot m p d bytes → is_some found ≡ not test
-    → MatchOption found (IsNoneListed m bytes d signature) (IsFirstListed m bytes d signature) → IsTrue test ↔ ListsNone m p signature
+pub test_of_none : {m : Memory} {p d : ℕ} {bytes signature : List ℕ} (found : Option ℕ) (test : Bool)
+    → IsWholeRoot m p d bytes → is_some found ≡ not test
+    → MatchOption found (IsNoneListed m bytes d signature) (IsFirstListed m bytes d signature)
+    → IsTrue test ↔ ListsNone m p signature
 test_of_none None true root is none = (λ _. none_of_set root none, λ _. refl)
 test_of_none None false root is none = absurd cc
 test_of_none (Some a) true root is first = absurd cc
-test_of_none (Some a) false root is first = (λ yes. absurd cc, λ none. absurd (none_and_first_listed (none_of_bytes root none) first))
+test_of_none (Some a) false root is first =
+    (λ yes. absurd cc, λ none. absurd (none_and_first_listed (none_of_bytes root none) first))
 
 -- ---- a table with P of its bytes
 
 -- a test of the listed table's bytes is one of the set
-pub test_of_listed : {m : Memory} {p : ℕ} {signature whole : List ℕ} {test : Bool} (P : List ℕ → Type 0) → IsListedTable m p signature whole → (IsTrue test ↔ P whole) → IsTrue test ↔ HasListed m p signature P
-test_of_listed {m} {p} {signature} {whole} P listed decides =
-    (λ yes. (whole, listed, decides.0 yes), λ has. decides.1 (subst P (one_listed m p signature has.0 whole has.1 listed) has.2))
+pub test_of_listed : {m : Memory} {p : ℕ} {signature whole : List ℕ} {test : Bool} (P : List ℕ → Type 0)
+    → IsListedTable m p signature whole → (IsTrue test ↔ P whole) → IsTrue test ↔ HasListed m p signature P
+test_of_listed {m} {p} {signature} {whole} P listed decides = (
+  λ yes. (whole, listed, decides.0 yes),
+  λ has. decides.1
+      (subst P (one_listed m p signature has.0 whole has.1 listed) has.2),
+)
 
 -- a set that does not list the table has none
-pub none_has_listed : {m : Memory} {p : ℕ} {signature : List ℕ} (P : List ℕ → Type 0) → ((whole : List ℕ) → ¬ IsListedTable m p signature whole) → IsTrue false ↔ HasListed m p signature P
+pub none_has_listed : {m : Memory} {p : ℕ} {signature : List ℕ} (P : List ℕ → Type 0)
+    → ((whole : List ℕ) → ¬ IsListedTable m p signature whole) → IsTrue false ↔ HasListed m p signature P
 none_has_listed P none = (λ yes. absurd cc, λ has. absurd (none has.0 has.1))
 
 -- what is said of the listed table's bytes, and false where none is listed
-pub test_of_found : {m : Memory} {p : ℕ} {signature : List ℕ} (P : List ℕ → Type 0) (Says : Bor (List ℕ) → Type 0) (found : Option (Bor (List ℕ))) (test : Bool)
-    → MatchOption found ((whole : List ℕ) → ¬ IsListedTable m p signature whole) (λ whole. IsListedTable m p signature whole.now)
-    → MatchOption found (test ≡ false) Says → ((whole : Bor (List ℕ)) → Says whole → (IsTrue test ↔ P whole.now)) → IsTrue test ↔ HasListed m p signature P
+pub test_of_found : {m : Memory} {p : ℕ} {signature : List ℕ} (P : List ℕ → Type 0) (Says : Bor (List ℕ) → Type 0)
+    (found : Option (Bor (List ℕ))) (test : Bool)
+    → MatchOption found ((whole : List ℕ) → ¬ IsListedTable m p signature whole)
+    (λ whole. IsListedTable m p signature whole.now)
+    → MatchOption found (test ≡ false) Says → ((whole : Bor (List ℕ)) → Says whole → (IsTrue test ↔ P whole.now))
+    → IsTrue test ↔ HasListed m p signature P
 test_of_found P Says None test none is decides = rw is (none_has_listed P none)
 test_of_found P Says (Some whole) test listed says decides = test_of_listed P listed (decides whole says)
 
 -- the same of two tables
-pub test_of_both : {m : Memory} {p : ℕ} {first second : List ℕ} (P : List ℕ → List ℕ → Type 0) (Says : Bor (List ℕ) × Bor (List ℕ) → Type 0) (one other : Option (Bor (List ℕ))) (both : Option (Bor (List ℕ) × Bor (List ℕ))) (test : Bool)
+pub test_of_both : {m : Memory} {p : ℕ} {first second : List ℕ} (P : List ℕ → List ℕ → Type 0)
+    (Says : Bor (List ℕ) × Bor (List ℕ) → Type 0) (one other : Option (Bor (List ℕ)))
+    (both : Option (Bor (List ℕ) × Bor (List ℕ))) (test : Bool)
     → MatchOption one ((whole : List ℕ) → ¬ IsListedTable m p first whole) (λ whole. IsListedTable m p first whole.now)
-    → MatchOption other ((whole : List ℕ) → ¬ IsListedTable m p second whole) (λ whole. IsListedTable m p second whole.now)
+    → MatchOption other ((whole : List ℕ) → ¬ IsListedTable m p second whole)
+    (λ whole. IsListedTable m p second whole.now)
     → both ≡ option_zip one other → MatchOption both (test ≡ false) Says
-    → ((pair : Bor (List ℕ) × Bor (List ℕ)) → Says pair → (IsTrue test ↔ P pair.0.now pair.1.now)) → IsTrue test ↔ HasListed m p first (λ x. HasListed m p second (P x))
-test_of_both {m} {p} {first} {second} P Says None other both test none found is says decides = rw (rw is at says) (none_has_listed (λ x. HasListed m p second (P x)) none)
-test_of_both {m} {p} {first} {second} P Says (Some x) None both test listed none is says decides = test_of_listed (λ x. HasListed m p second (P x)) listed (rw (rw is at says) (none_has_listed (P x.now) none))
-test_of_both {m} {p} {first} {second} P Says (Some x) (Some y) both test listed also is says decides = test_of_listed (λ x. HasListed m p second (P x)) listed (test_of_listed (P x.now) also (decides (x, y) (rw is at says)))
+    → ((pair : Bor (List ℕ) × Bor (List ℕ)) → Says pair → (IsTrue test ↔ P pair.0.now pair.1.now))
+    → IsTrue test ↔ HasListed m p first (λ x. HasListed m p second (P x))
+test_of_both {m} {p} {first} {second} P Says None other both test none found is says decides =
+    rw (rw is at says) (none_has_listed (λ x. HasListed m p second (P x)) none)
+test_of_both {m} {p} {first} {second} P Says (Some x) None both test listed none is says decides =
+    test_of_listed (λ x. HasListed m p second (P x)) listed (rw (rw is at says) (none_has_listed (P x.now) none))
+test_of_both {m} {p} {first} {second} P Says (Some x) (Some y) both test listed also is says decides =
+    test_of_listed (λ x. HasListed m p second (P x)) listed
+    (test_of_listed (P x.now) also (decides (x, y) (rw is at says)))
 
 -- ---- the FADT and the FACS
 
-pub test_of_fadt : {m : Memory} {p at : ℕ} {fadt : List ℕ} {code : Code} {test : Bool} → IsListedTable m p fadt_signature fadt → (IsTrue test ↔ FadtTableFault fadt code at) → IsTrue test ↔ FadtFault m p code at
+pub test_of_fadt : {m : Memory} {p at : ℕ} {fadt : List ℕ} {code : Code} {test : Bool}
+    → IsListedTable m p fadt_signature fadt → (IsTrue test ↔ FadtTableFault fadt code at)
+    → IsTrue test ↔ FadtFault m p code at
 test_of_fadt {m} {p} {at} {fadt} {code} listed decides = (
   λ yes. inr (fadt, listed, decides.0 yes),
   λ fault. elim fault [
     | inl none ↦ absurd (none_and_listed none.0 listed)
-    | inr here ↦ decides.1 (subst (λ (bytes : List ℕ). FadtTableFault bytes code at) (one_listed m p fadt_signature here.0 fadt here.1 listed) here.2)
+    | inr here ↦ decides.1 (subst (λ (bytes : List ℕ). FadtTableFault bytes code at)
+        (one_listed m p fadt_signature here.0 fadt here.1 listed) here.2)
   ],
 )
 
-pub test_of_facs : {m : Memory} {p : ℕ} {fadt : List ℕ} {test : Bool} (code : Code) (at : ℕ) → IsListedTable m p fadt_signature fadt
+pub test_of_facs : {m : Memory} {p : ℕ} {fadt : List ℕ} {test : Bool} (code : Code) (at : ℕ)
+    → IsListedTable m p fadt_signature fadt
     → (IsTrue test ↔ ((116 ≤ length fadt) × NamedFacsFault m fadt code at)) → IsTrue test ↔ FacsFault m p code at
 test_of_facs {m} {p} {fadt} code at listed decides = (
   λ yes. (let here = decides.0 yes in (fadt, listed, here.0, here.1)),
-  λ fault. decides.1 (subst (λ (bytes : List ℕ). (116 ≤ length bytes) × NamedFacsFault m bytes code at) (one_listed m p fadt_signature fault.0 fadt fault.1 listed) (fault.2, fault.3)),
+  λ fault. decides.1 (subst (λ (bytes : List ℕ). (116 ≤ length bytes) × NamedFacsFault m bytes code at)
+      (one_listed m p fadt_signature fault.0 fadt fault.1 listed) (fault.2, fault.3)),
 )
 
 -- ---- options
 
 -- what holds of a value or of none follows from what does
-pub match_map : {A : Type 0} {N N' : Type 0} {S S' : A → Type 0} (o : Option A) → (N → N') → ((a : A) → S a → S' a) → MatchOption o N S → MatchOption o N' S'
+pub match_map : {A : Type 0} {N N' : Type 0} {S S' : A → Type 0} (o : Option A) → (N → N') → ((a : A) → S a → S' a)
+    → MatchOption o N S → MatchOption o N' S'
 match_map None none some here = none here
 match_map (Some a) none some here = some a here

@@ -24,7 +24,11 @@ node_type e form = form_type e 0 (20 + 4 * resource_count e) form
 pub cache_type : (e : List ℕ) → has_cache_form e ≡ true → slice_index e 0 ≡ 1
 unfolding has_cache_form
 cache_type e form =
-    elim (or_cases (has_form e 1 24) (has_form e 1 28) form) [ inl short ↦ form_type e 1 24 short | inr long ↦ form_type e 1 28 long ]
+    elim (or_cases (has_form e 1 24) (has_form e 1 28) form) [
+      | inl short ↦ form_type e 1 24 short
+      | inr long ↦
+          form_type e 1 28 long
+    ]
 
 not_true : (b : Bool) → (b ≡ true → ⊥) → b ≡ false
 not_true true not = absurd (not refl)
@@ -54,7 +58,8 @@ pptt_size pptt = refl
 pub resource_is : (e : List ℕ) (j : ℕ) → j < field e 16 4 → slice_get (resources_of e) j ≡ Some (field e (20 + 4 * j) 4)
 resource_is e j below =
     let size = length-map-range_with_len (λ i. field e (20 + 4 * i) 4) 0 (resource_count e) in
-    slice_get-get_or (resources_of e) j 0 (omega arith) ∙ ap Some (get_or-map-range_with_len (λ i. field e (20 + 4 * i) 4) 0 (resource_count e) j j 0 (omega arith) (omega arith))
+    slice_get-get_or (resources_of e) j 0 (omega arith) ∙ ap Some
+    (get_or-map-range_with_len (λ i. field e (20 + 4 * i) 4) 0 (resource_count e) j j 0 (omega arith) (omega arith))
 
 pub no_resource : (e : List ℕ) (j : ℕ) → field e 16 4 ≤ j → slice_get (resources_of e) j ≡ None
 no_resource e j past =
@@ -70,6 +75,7 @@ pub ruleset resources = (resource_is, no_resource, node_size)
 -- ---- what entries name
 
 -- what an entry names by a link is all that is named there
-pub names_of : (link : Link) (c : PpttContents) (at : ℕ) (only : Option ℕ) → IsOnly (λ p. StandsWith c.entries at (λ e. named_offset link e ≡ Some p)) only → IsOnly (Names link c at) only
+pub names_of : (link : Link) (c : PpttContents) (at : ℕ) (only : Option ℕ)
+    → IsOnly (λ p. StandsWith c.entries at (λ e. named_offset link e ≡ Some p)) only → IsOnly (Names link c at) only
 names_of Parent c at only is = is
 names_of NextLevel c at only is = is

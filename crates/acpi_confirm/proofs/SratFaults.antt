@@ -26,7 +26,9 @@ unfolding srat_contents
 srat_cut srat = refl
 
 -- the faults that an entry has by itself
-pub own_codes : (c : SratContents) (fault : Code) (at other point : ℕ) → ¬ (fault ≡ code.SratShort) → ¬ (fault ≡ code.SratEntryCut) → SratFault c fault at other point ≡ (StandsWith c.entries at (SratEntryFault fault) × AreUnused other point)
+pub own_codes : (c : SratContents) (fault : Code) (at other point : ℕ) → ¬ (fault ≡ code.SratShort)
+    → ¬ (fault ≡ code.SratEntryCut)
+    → SratFault c fault at other point ≡ (StandsWith c.entries at (SratEntryFault fault) × AreUnused other point)
 own_codes c code.SratShort at other point short cut = absurd (short refl)
 own_codes c code.SratEntryCut at other point short cut = absurd (cut refl)
 own_codes c _ at other point short cut = refl
@@ -39,8 +41,10 @@ abbrev CoversAt : SratContents → ℕ → ℕ → ℕ → Type 0
 CoversAt c o x flags = StandsWith c.entries o (CoversWith x flags)
 
 -- an enabled range with these flags covers the address as one of those that P holds of
-covers : (P : MemoryValue → Type 0) (c : SratContents) (o x flags : ℕ) → ((v : MemoryValue) → v.flags ≡ flags → P v) → CoversAt c o x flags → (s : ℕ) × Covers P c o s x
-covers P c o x flags holds (MemoryRange v, stands, (enabled, from, below, is)) = (v.base, (MemoryRange v, stands, (enabled, holds v is, refl, from, below)))
+covers : (P : MemoryValue → Type 0) (c : SratContents) (o x flags : ℕ) → ((v : MemoryValue) → v.flags ≡ flags → P v)
+    → CoversAt c o x flags → (s : ℕ) × Covers P c o s x
+covers P c o x flags holds (MemoryRange v, stands, (enabled, from, below, is)) =
+    (v.base, (MemoryRange v, stands, (enabled, holds v is, refl, from, below)))
 covers P c o x flags holds (_, stands, not) = absurd not
 
 -- and the other way round
@@ -57,24 +61,32 @@ covered P c o s x (MemoryRange v, stands, (enabled, kind, base, from, below)) =
 covered P c o s x (_, stands, not) = absurd not
 
 -- two ranges of one kind clash where both cover the address
-clash : (P : MemoryValue → Type 0) (c : SratContents) (o p x f g : ℕ) → CoversAt c o x f → CoversAt c p x g → o ≢ p → ((v : MemoryValue) → v.flags ≡ f → P v) → ((v : MemoryValue) → v.flags ≡ g → P v) → IsIntervalOverlap (Covers P c) o p x
+clash : (P : MemoryValue → Type 0) (c : SratContents) (o p x f g : ℕ) → CoversAt c o x f → CoversAt c p x g → o ≢ p
+    → ((v : MemoryValue) → v.flags ≡ f → P v) → ((v : MemoryValue) → v.flags ≡ g → P v)
+    → IsIntervalOverlap (Covers P c) o p x
 clash P c o p x f g one other apart mine its =
     let first = covers P c o x f mine one in
     let second = covers P c p x g its other in
     record { s = first.0; t = second.0; one_holds = first.1; other_holds = second.1; two = apart }
 
-of_kind : (kind : Bool) (f : ℕ) → is_hot_pluggable f ≡ kind → (v : MemoryValue) → v.flags ≡ f → is_hot_pluggable v.flags ≡ kind
+of_kind : (kind : Bool) (f : ℕ) → is_hot_pluggable f ≡ kind → (v : MemoryValue) → v.flags ≡ f
+    → is_hot_pluggable v.flags ≡ kind
 of_kind kind f is v same = ap is_hot_pluggable same ∙ is
 
-compared_apart : (c : SratContents) (o p x f g : ℕ) (kind : Bool) → is_hot_pluggable f ≡ kind → CoversAt c o x f → CoversAt c p x g → o ≢ p → is_hot_pluggable f ≡ is_hot_pluggable g → IsOverlap Apart c o p x
-compared_apart c o p x f g true is one other apart same = inr (clash IsHotPluggable c o p x f g one other apart (of_kind true f is) (of_kind true g (sym same ∙ is)))
-compared_apart c o p x f g false is one other apart same = inl (clash IsNotHotPluggable c o p x f g one other apart (of_kind false f is) (of_kind false g (sym same ∙ is)))
+compared_apart : (c : SratContents) (o p x f g : ℕ) (kind : Bool) → is_hot_pluggable f ≡ kind → CoversAt c o x f
+    → CoversAt c p x g → o ≢ p → is_hot_pluggable f ≡ is_hot_pluggable g → IsOverlap Apart c o p x
+compared_apart c o p x f g true is one other apart same =
+    inr (clash IsHotPluggable c o p x f g one other apart (of_kind true f is) (of_kind true g (sym same ∙ is)))
+compared_apart c o p x f g false is one other apart same =
+    inl (clash IsNotHotPluggable c o p x f g one other apart (of_kind false f is) (of_kind false g (sym same ∙ is)))
 
 -- two ranges that are compared cover the address
 abbrev CoverBoth : HotPlug → SratContents → ℕ → ℕ → ℕ → Type 0
 CoverBoth h c o p x = (f : ℕ) × (g : ℕ) × CoversAt c o x f × CoversAt c p x g × AreCompared h f g
 
-cover_both : (h : HotPlug) (P : MemoryValue → Type 0) (c : SratContents) (o p x : ℕ) → ((v w : MemoryValue) → P v → P w → AreCompared h v.flags w.flags) → IsIntervalOverlap (Covers P c) o p x → CoverBoth h c o p x
+cover_both : (h : HotPlug) (P : MemoryValue → Type 0) (c : SratContents) (o p x : ℕ)
+    → ((v w : MemoryValue) → P v → P w → AreCompared h v.flags w.flags) → IsIntervalOverlap (Covers P c) o p x
+    → CoverBoth h c o p x
 cover_both h P c o p x compared clash =
     let one = covered P c o clash.s x clash.one_holds in
     let other = covered P c p clash.t x clash.other_holds in

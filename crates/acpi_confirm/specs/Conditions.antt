@@ -1,4 +1,5 @@
 -- The conditions of the faults of one table, by stage, on what the table says.
+use Rattle.acpi_base.specs.Across.{ServedFault}
 use Rattle.acpi_base.specs.Policy.{PolicyValue}
 use Rattle.acpi_base.specs.Madt.{MadtContents, MadtFault, InterruptFault, OverrideFault}
 use Rattle.acpi_base.specs.Srat.{SratContents, SratFault, RangeFault}
@@ -7,11 +8,12 @@ use Rattle.acpi_base.specs.declared.stage.Stage.{Stage}
 use Rattle.acpi_base.specs.declared.stage.Stage.TheVariants as stage
 use Rattle.acpi_base.specs.declared.witness.Witness.{Witness}
 
--- of the MADT, stages 6 to 8
+-- of the MADT, stages 6 to 8 and 17
 abbrev pub MadtCondition : Stage → PolicyValue → MadtContents → Witness → Type 0
 MadtCondition stage.Madt q madt w = MadtFault q madt w.code w.at w.other w.point
 MadtCondition stage.Interrupts q madt w = InterruptFault q madt w.code w.at w.other w.point
 MadtCondition stage.Overrides q madt w = OverrideFault madt w.code w.at w.other w.point
+MadtCondition stage.Served q madt w = ServedFault q madt w.code w.at w.other w.point
 MadtCondition _ q madt w = ⊥
 
 -- of the SRAT, stages 9 and 10

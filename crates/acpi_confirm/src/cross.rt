@@ -49,7 +49,8 @@ fn has_enabled(processors: Processors, madt: &[u8], number: u64) -> bool
 
 /// The domain in which the entry at an offset puts the processor with this number.
 fn domain_at(srat: &[u8], at: u64, number: u64) -> Option<u64>
-    ensures { IsOnly (λ domain. StandsWith (srat_contents srat.now).entries at (PutsIn number domain)) result }
+    ensures { IsOnly (λ domain. StandsWith (srat_contents srat.now).entries at
+        (PutsIn number domain)) result }
 {
     entry_at(srat, srat::FIRST_ENTRY, at).and_then(|entry| match srat::read(entry) {
         SratEntry::ApicDomain {
@@ -70,7 +71,8 @@ fn domain_at(srat: &[u8], at: u64, number: u64) -> Option<u64>
 
 /// Whether two entries of the SRAT, the second of them earlier, put the processor with this number in two domains.
 fn do_domains_differ(srat: &[u8], at: u64, earlier: u64, number: u64) -> bool
-    ensures { IsTrue result ↔ ((d f : ℕ) × PutsAt (srat_contents srat.now) at number d × PutsAt (srat_contents srat.now) earlier number f × (earlier < at) × (d ≢ f)) }
+    ensures { IsTrue result ↔ ((d f : ℕ) × PutsAt (srat_contents srat.now) at number d
+        × PutsAt (srat_contents srat.now) earlier number f × (earlier < at) × (d ≢ f)) }
 {
     earlier < at
         && domain_at(srat, at, number)
@@ -80,7 +82,9 @@ fn do_domains_differ(srat: &[u8], at: u64, earlier: u64, number: u64) -> bool
 
 /// Code 57: whether the MADT and the SRAT have this fault.
 pub(crate) fn is_domain_fault(madt: &[u8], srat: &[u8], policy: &Policy, witness: &Witness) -> bool
-    ensures { IsTrue result ↔ DomainFault policy.now.processors (madt_contents madt.now) (srat_contents srat.now) witness.now.code witness.now.at witness.now.other witness.now.point }
+    ensures { IsTrue result ↔ DomainFault policy.now.processors (madt_contents madt.now)
+        (srat_contents srat.now) witness.now.code witness.now.at witness.now.other
+        witness.now.point }
 {
     match witness.code {
         Code::TwoDomains => {
@@ -129,17 +133,14 @@ fn names_gsi_at(madt: &[u8], at: u64, number: u64) -> bool
 
 /// Code 58: whether the MADT has this fault.
 pub(crate) fn is_served_fault(madt: &[u8], policy: &Policy, witness: &Witness) -> bool
-    ensures { IsTrue result ↔ ServedFault policy.now (madt_contents madt.now) witness.now.code witness.now.at witness.now.other witness.now.point }
+    ensures { IsTrue result ↔ ServedFault policy.now (madt_contents madt.now) witness.now.code
+        witness.now.at witness.now.other witness.now.point }
 {
-    match witness.code {
-        Code::GsiNowhere => {
-            witness.other == 0
-                && names_gsi_at(madt, witness.at, witness.point)
-                && has_io_apic(madt)
-                && !is_served(policy, madt, witness.point)
-        }
-        _ => false,
-    }
+    matches!(witness.code, Code::GsiNowhere)
+        && witness.other == 0
+        && names_gsi_at(madt, witness.at, witness.point)
+        && has_io_apic(madt)
+        && !is_served(policy, madt, witness.point)
 }
 
 // ---- Code 59: leaves
@@ -210,16 +211,13 @@ fn has_revision_2(pptt: &[u8]) -> bool
 
 /// Code 59: whether the MADT and the PPTT have this fault.
 pub(crate) fn is_leaf_fault(madt: &[u8], pptt: &[u8], witness: &Witness) -> bool
-    ensures { IsTrue result ↔ LeafFault (madt_contents madt.now) (pptt_contents pptt.now) witness.now.code witness.now.at witness.now.other witness.now.point }
+    ensures { IsTrue result ↔ LeafFault (madt_contents madt.now) (pptt_contents pptt.now)
+        witness.now.code witness.now.at witness.now.other witness.now.point }
 {
-    match witness.code {
-        Code::LeafUnknown => {
-            witness.other == 0
-                && has_revision_2(pptt)
-                && is_leaf_at(pptt, witness.at, witness.point)
-                && is_wholly_typed(madt)
-                && !is_uid(madt, witness.point)
-        }
-        _ => false,
-    }
+    matches!(witness.code, Code::LeafUnknown)
+        && witness.other == 0
+        && has_revision_2(pptt)
+        && is_leaf_at(pptt, witness.at, witness.point)
+        && is_wholly_typed(madt)
+        && !is_uid(madt, witness.point)
 }

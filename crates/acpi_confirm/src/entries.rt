@@ -31,7 +31,8 @@ fn first_entry(left: &[u8]) -> Option<&[u8]>
 /// The entry that stands at a start.
 #[tactic(auto, using(crate::proofs::Walks::walking))]
 fn entry_from(whole: &[u8], start: usize) -> Option<&[u8]>
-    ensures { MatchOption result (IsEnd start whole.now) (λ entry. IsNext start whole.now entry.now) }
+    ensures { MatchOption result (IsEnd start whole.now)
+        (λ entry. IsNext start whole.now entry.now) }
 {
     if start > whole.len() {
         return None;
@@ -43,7 +44,8 @@ fn entry_from(whole: &[u8], start: usize) -> Option<&[u8]>
 /// goes over the starts up to the offset.
 #[tactic(auto, using(crate::proofs::Walks::walking))]
 pub(crate) fn entry_at(whole: &[u8], first: usize, at: u64) -> Option<&[u8]>
-    ensures there { IsThere (entries_of first whole.now) at (option_map (λ entry. entry.now) result) }
+    ensures there { IsThere (entries_of first whole.now) at
+        (option_map (λ entry. entry.now) result) }
     ensures entry { IfSome result (λ entry. IsEntry entry.now) }
 {
     let mut start = first;
@@ -72,7 +74,8 @@ pub(crate) fn cut(whole: &[u8], first: usize) -> Option<u64>
 /// Whether a table has an entry that is sought.
 pub(crate) fn has_entry<F: Fn(&[u8]) -> bool>(whole: &[u8], first: usize, is_sought: F) -> bool
     requires { (entry : Bor (List ℕ)) → IsEntry entry.now → F.pre is_sought entry }
-    ensures { FindsAny (λ entry found. F.post is_sought entry found) (entries_of first whole.now) result }
+    ensures { FindsAny (λ entry found. F.post is_sought entry found) (entries_of first whole.now)
+        result }
 {
     let mut start = first;
     while let Some(entry) = entry_from(whole, start) {

@@ -28,7 +28,8 @@ pub(crate) fn is_facs_fault(image: &Image, policy: &Policy, witness: &Witness) -
 
 /// Whether the FACS that a FADT names has the fault with this code at an address.
 fn has_fault(image: &Image, fadt: &[u8], code: Code, at: u64) -> bool
-    ensures { IsTrue result ↔ ((116 ≤ length fadt.now) × NamedFacsFault image.now fadt.now code at) }
+    ensures { IsTrue result ↔ ((116 ≤ length fadt.now)
+        × NamedFacsFault image.now fadt.now code at) }
 {
     if fadt.len() < 116 {
         return false;

@@ -54,9 +54,7 @@ mod tables;
 use acpi_base::{Image, Policy, Stage, Witness};
 use facs::is_facs_fault;
 use fadt::is_fadt_fault;
-use in_tables::{
-    in_madt, in_madt_and_pptt, in_madt_and_srat, in_named_interrupts, in_pptt, in_slit, in_srat,
-};
+use in_tables::{in_madt, in_madt_and_pptt, in_madt_and_srat, in_pptt, in_slit, in_srat};
 use root::is_root_fault;
 use rsdp::is_rsdp_fault;
 use tables::is_table_fault;
@@ -75,14 +73,15 @@ pub fn confirm(image: &Image, policy: &Policy, witness: &Witness) -> bool
         Stage::Tables => is_table_fault(image, policy, witness),
         Stage::Fadt => is_fadt_fault(image, policy, witness),
         Stage::Facs => is_facs_fault(image, policy, witness),
-        Stage::Madt | Stage::Interrupts | Stage::Overrides => in_madt(image, policy, witness),
+        Stage::Madt | Stage::Interrupts | Stage::Overrides | Stage::Served => {
+            in_madt(image, policy, witness)
+        }
         Stage::Srat | Stage::Ranges => in_srat(image, policy, witness),
         Stage::Slit => in_slit(image, policy, witness),
         Stage::Pptt | Stage::References | Stage::Parents | Stage::Caches => {
             in_pptt(image, policy, witness)
         }
         Stage::Domains => in_madt_and_srat(image, policy, witness),
-        Stage::Served => in_named_interrupts(image, policy, witness),
         Stage::Leaves => in_madt_and_pptt(image, policy, witness),
     }
 }

@@ -14,7 +14,9 @@ use acpi_base::{Image, Policy};
 /// The bytes of the first listed table with the signature, where it is whole: the first slot whose address has a
 /// held header with the signature decides, and no later one is looked at.
 pub(crate) fn listed<'a>(image: &'a Image, policy: &Policy, signature: &[u8; 4]) -> Option<&'a [u8]>
-    ensures found { MatchOption result ((whole : List ℕ) → ¬ IsListedTable image.now policy.now.rsdp signature.now whole) (λ whole. IsListedTable image.now policy.now.rsdp signature.now whole.now) }
+    ensures found { MatchOption result ((whole : List ℕ)
+        → ¬ IsListedTable image.now policy.now.rsdp signature.now whole)
+        (λ whole. IsListedTable image.now policy.now.rsdp signature.now whole.now) }
     ensures count { IfSome result (λ whole. (36 ≤ length whole.now) × (length whole.now < 2 ^ 32)) }
 {
     let root = whole_root(image, policy.rsdp())?;
@@ -35,7 +37,9 @@ pub(crate) fn lists_none(image: &Image, policy: &Policy, signature: &[u8; 4]) ->
 /// The address in the first slot that has a held header with the signature.
 fn first_with(image: &Image, root: &Root<'_>, signature: &[u8; 4]) -> Option<u64>
     requires { HasSlots root.now.width root.now.bytes.now }
-    ensures { MatchOption result (IsNoneListed image.now root.now.bytes.now root.now.width signature.now) (IsFirstListed image.now root.now.bytes.now root.now.width signature.now) }
+    ensures { MatchOption result
+        (IsNoneListed image.now root.now.bytes.now root.now.width signature.now)
+        (IsFirstListed image.now root.now.bytes.now root.now.width signature.now) }
 {
     for k in 0..root.slots() {
         if let Some(address) = signed_at(image, root, k, signature) {
@@ -49,7 +53,8 @@ fn first_with(image: &Image, root: &Root<'_>, signature: &[u8; 4]) -> Option<u64
 #[tactic(auto, using(acpi_base::proofs::Root::Slots::one_slot))]
 fn signed_at(image: &Image, root: &Root<'_>, k: u64, signature: &[u8; 4]) -> Option<u64>
     requires { HasSlots root.now.width root.now.bytes.now }
-    ensures { MatchOption result ((a : ℕ) → HasSlot root.now.bytes.now root.now.width k a → ¬ IsSigned image.now a signature.now)
+    ensures { MatchOption result ((a : ℕ) → HasSlot root.now.bytes.now root.now.width k a
+        → ¬ IsSigned image.now a signature.now)
         (λ a. HasSlot root.now.bytes.now root.now.width k a × IsSigned image.now a signature.now) }
 {
     match root.slot(k) {

@@ -9,6 +9,7 @@ ghost use Rattle.acpi_confirm.specs.Conditions.{MadtCondition};
 ghost use Rattle.acpi_confirm.specs.Madts.{HasType, ServesGsi, madt_value};
 ghost use Rattle.acpi_confirm.specs.Walks.{IsOnly};
 
+use crate::cross::is_served_fault;
 use crate::entries::{cut, entry_at};
 use acpi_base::field::{u8_at, u16_at, u32_at, u64_at};
 use acpi_base::{Code, Policy, Stage, Witness};
@@ -135,7 +136,8 @@ fn is_madt_type(number: u8) -> bool
 
 /// Codes 34 to 36 and 38: whether the entry at an offset has this fault by itself.
 fn has_own_fault_at(policy: &Policy, madt: &[u8], at: u64, code: Code) -> bool
-    ensures { IsTrue result ↔ StandsWith (madt_contents madt.now).entries at (MadtEntryFault policy.now code) }
+    ensures { IsTrue result ↔ StandsWith (madt_contents madt.now).entries at
+        (MadtEntryFault policy.now code) }
 {
     entry_at(madt, FIRST_ENTRY, at).is_some_and(|entry| match (code, read(entry)) {
         (Code::MadtEntryLength, MadtEntry::Opaque(bytes)) => is_madt_type(bytes[0]),
@@ -179,7 +181,8 @@ fn is_unused(witness: &Witness) -> bool
 /// Codes 32 to 38: the table, each entry by itself, and a second address override.
 #[tactic(auto, using(crate::proofs::MadtFaults::madt_codes))]
 fn has_entry_fault(madt: &[u8], policy: &Policy, witness: &Witness) -> bool
-    ensures { IsTrue result ↔ MadtFault policy.now (madt_contents madt.now) witness.now.code witness.now.at witness.now.other witness.now.point }
+    ensures { IsTrue result ↔ MadtFault policy.now (madt_contents madt.now) witness.now.code
+        witness.now.at witness.now.other witness.now.point }
 {
     match witness.code {
         Code::MadtShort => madt.len() < 44 && witness.at == 0 && is_unused(witness),
@@ -214,7 +217,8 @@ pub(crate) fn serves(policy: &Policy, entry: &[u8], number: u64) -> bool
 
 /// Whether the entry at an offset is an I/O APIC that serves the interrupt number.
 fn serves_at(policy: &Policy, madt: &[u8], at: u64, number: u64) -> bool
-    ensures { IsTrue result ↔ StandsWith (madt_contents madt.now).entries at (ServesGsi policy.now number) }
+    ensures { IsTrue result ↔ StandsWith (madt_contents madt.now).entries at
+        (ServesGsi policy.now number) }
 {
     entry_at(madt, FIRST_ENTRY, at).is_some_and(|entry| serves(policy, entry, number))
 }
@@ -222,21 +226,19 @@ fn serves_at(policy: &Policy, madt: &[u8], at: u64, number: u64) -> bool
 /// Code 39: whether two I/O APICs serve one interrupt number.
 #[tactic(auto, using(crate::proofs::MadtFaults::gsi_clash))]
 fn has_interrupt_fault(madt: &[u8], policy: &Policy, witness: &Witness) -> bool
-    ensures { IsTrue result ↔ InterruptFault policy.now (madt_contents madt.now) witness.now.code witness.now.at witness.now.other witness.now.point }
+    ensures { IsTrue result ↔ InterruptFault policy.now (madt_contents madt.now) witness.now.code
+        witness.now.at witness.now.other witness.now.point }
 {
-    match witness.code {
-        Code::GsiClash => {
-            witness.at != witness.other
-                && serves_at(policy, madt, witness.at, witness.point)
-                && serves_at(policy, madt, witness.other, witness.point)
-        }
-        _ => false,
-    }
+    matches!(witness.code, Code::GsiClash)
+        && witness.at != witness.other
+        && serves_at(policy, madt, witness.at, witness.point)
+        && serves_at(policy, madt, witness.other, witness.point)
 }
 
 /// The interrupt number that the entry at an offset gives the source, where it is an override of it.
 fn overriding_at(madt: &[u8], at: u64, source: u64) -> Option<u32>
-    ensures { IsOnly (λ gsi. StandsWith (madt_contents madt.now).entries at (Overrides source gsi)) result }
+    ensures { IsOnly (λ gsi. StandsWith (madt_contents madt.now).entries at (Overrides source gsi))
+        result }
 {
     entry_at(madt, FIRST_ENTRY, at).and_then(|entry| match read(entry) {
         MadtEntry::Override {
@@ -250,7 +252,8 @@ fn overriding_at(madt: &[u8], at: u64, source: u64) -> Option<u32>
 
 /// Whether two overrides, the second of them earlier, give one source two interrupt numbers.
 fn do_overrides_differ(madt: &[u8], at: u64, earlier: u64, source: u64) -> bool
-    ensures { IsTrue result ↔ OverrideFault (madt_contents madt.now) Code.OverrideClash at earlier source }
+    ensures { IsTrue result ↔ OverrideFault (madt_contents madt.now) Code.OverrideClash at earlier
+        source }
 {
     earlier < at
         && overriding_at(madt, at, source)
@@ -260,22 +263,23 @@ fn do_overrides_differ(madt: &[u8], at: u64, earlier: u64, source: u64) -> bool
 
 /// Code 40: two overrides.
 fn has_override_fault(madt: &[u8], witness: &Witness) -> bool
-    ensures { IsTrue result ↔ OverrideFault (madt_contents madt.now) witness.now.code witness.now.at witness.now.other witness.now.point }
+    ensures { IsTrue result ↔ OverrideFault (madt_contents madt.now) witness.now.code witness.now.at
+        witness.now.other witness.now.point }
 {
-    match witness.code {
-        Code::OverrideClash => do_overrides_differ(madt, witness.at, witness.other, witness.point),
-        _ => false,
-    }
+    matches!(witness.code, Code::OverrideClash)
+        && do_overrides_differ(madt, witness.at, witness.other, witness.point)
 }
 
-/// Whether a fault of stages 6 to 8 stands in the MADT.
+/// Whether a fault of stages 6 to 8 or 17 stands in the MADT.
 pub(crate) fn is_madt_fault(madt: &[u8], policy: &Policy, witness: &Witness) -> bool
-    ensures { IsTrue result ↔ MadtCondition (stage_of witness.now.code) policy.now (madt_contents madt.now) witness.now }
+    ensures { IsTrue result ↔ MadtCondition (stage_of witness.now.code) policy.now
+        (madt_contents madt.now) witness.now }
 {
     match witness.code.stage() {
         Stage::Madt => has_entry_fault(madt, policy, witness),
         Stage::Interrupts => has_interrupt_fault(madt, policy, witness),
         Stage::Overrides => has_override_fault(madt, witness),
+        Stage::Served => is_served_fault(madt, policy, witness),
         _ => false,
     }
 }

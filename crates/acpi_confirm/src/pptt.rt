@@ -98,7 +98,8 @@ fn has_entry_fault_at(pptt: &[u8], code: Code, at: u64) -> bool
 
 /// Codes 50 and 51: each entry by itself.
 fn has_entry_fault(pptt: &[u8], witness: &Witness) -> bool
-    ensures { IsTrue result ↔ PpttFault (pptt_contents pptt.now) witness.now.code witness.now.at witness.now.other witness.now.point }
+    ensures { IsTrue result ↔ PpttFault (pptt_contents pptt.now) witness.now.code witness.now.at
+        witness.now.other witness.now.point }
 {
     has_entry_fault_at(pptt, witness.code, witness.at) && witness.other == 0 && witness.point == 0
 }
@@ -146,7 +147,8 @@ fn names_resource(pptt: &[u8], at: u64, index: u64, resource: u64) -> bool
 
 /// Codes 52 to 54: what entries name.
 fn has_reference_fault(pptt: &[u8], witness: &Witness) -> bool
-    ensures { IsTrue result ↔ ReferenceFault (pptt_contents pptt.now) witness.now.code witness.now.at witness.now.other witness.now.point }
+    ensures { IsTrue result ↔ ReferenceFault (pptt_contents pptt.now) witness.now.code
+        witness.now.at witness.now.other witness.now.point }
 {
     let (at, other, point) = (witness.at, witness.other, witness.point);
     match witness.code {
@@ -161,7 +163,8 @@ fn has_reference_fault(pptt: &[u8], witness: &Witness) -> bool
 
 /// Whether a fault of stages 12 to 15 stands in the PPTT.
 pub(crate) fn is_pptt_fault(pptt: &[u8], witness: &Witness) -> bool
-    ensures { IsTrue result ↔ PpttCondition (stage_of witness.now.code) (pptt_contents pptt.now) witness.now }
+    ensures { IsTrue result ↔ PpttCondition (stage_of witness.now.code) (pptt_contents pptt.now)
+        witness.now }
 {
     match witness.code.stage() {
         Stage::Pptt => has_entry_fault(pptt, witness),

@@ -43,7 +43,8 @@ pub(crate) fn is_root_fault(image: &Image, policy: &Policy, witness: &Witness) -
 
 /// Whether the RSDP at an address names a root at `at` that has the fault with this code.
 fn has_named_fault(image: &Image, rsdp: u64, at: u64, code: Code) -> bool
-    ensures { IsTrue result ↔ ((d : ℕ) × IsRoot image.now rsdp at d × RootTableFault image.now at d code) }
+    ensures { IsTrue result ↔ ((d : ℕ) × IsRoot image.now rsdp at d
+        × RootTableFault image.now at d code) }
 {
     match named_root(image, rsdp) {
         Some(root) => root.address == at && has_fault(image, root, code),
@@ -81,7 +82,8 @@ fn signature(width: u32) -> &'static [u8; 4]
 /// The addresses that the RSDP at an address names, where its 20 bytes are held, and of the extended form its 36.
 #[tactic(auto, unfolding(acpi_base::specs::Rsdp::addresses_at))]
 fn addresses_at(image: &Image, address: u64) -> Option<Addresses>
-    ensures { option_map (λ named. record { rsdt = named.rsdt; xsdt = named.xsdt }) result ≡ addresses_at image.now address }
+    ensures { option_map (λ named. record { rsdt = named.rsdt; xsdt = named.xsdt })
+        result ≡ addresses_at image.now address }
 {
     let head = image.window(address, 20)?;
     if u8_at(head, 15) < 2 {
@@ -100,7 +102,8 @@ fn addresses_at(image: &Image, address: u64) -> Option<Addresses>
 /// The XSDT where one is named, else the RSDT where one is named.
 #[tactic(auto, unfolding(acpi_base::specs::Root::chosen_root))]
 fn chosen_root(named: Addresses) -> Option<Place>
-    ensures root { option_map (λ root. record { address = root.address; width = root.width }) result ≡ chosen_root (record { rsdt = named.rsdt; xsdt = named.xsdt }) }
+    ensures root { option_map (λ root. record { address = root.address; width = root.width })
+        result ≡ chosen_root (record { rsdt = named.rsdt; xsdt = named.xsdt }) }
     ensures width { IfSome result (λ root. IsSlotWidth root.width) }
 {
     if named.xsdt != 0 {
@@ -127,9 +130,11 @@ fn names_no_root(image: &Image, address: u64) -> bool
 
 /// The place of the root that the RSDP at an address names.
 fn named_root(image: &Image, address: u64) -> Option<Place>
-    ensures found { MatchOption result ((r d : ℕ) → ¬ IsRoot image.now address r d) (λ root. IsRoot image.now address root.address root.width) }
+    ensures found { MatchOption result ((r d : ℕ) → ¬ IsRoot image.now address r d)
+        (λ root. IsRoot image.now address root.address root.width) }
     ensures width { IfSome result (λ root. IsSlotWidth root.width) }
-    ensures one { IfSome result (λ root. (r d : ℕ) → IsRoot image.now address r d → (r ≡ root.address) × (d ≡ root.width)) }
+    ensures one { IfSome result (λ root. (r d : ℕ) → IsRoot image.now address r d
+        → (r ≡ root.address) × (d ≡ root.width)) }
 {
     chosen_root(addresses_at(image, address)?)
 }
@@ -146,7 +151,9 @@ pub(crate) struct Root<'a> {
 /// The root that the RSDP at an address names, where it is a whole table with its kind's signature.
 #[tactic(auto, using(acpi_base::proofs::Tables::Whole::signed_table))]
 pub(crate) fn whole_root(image: &Image, address: u64) -> Option<Root<'_>>
-    ensures found { MatchOption result ((d : ℕ) (bytes : List ℕ) → ¬ IsWholeRoot image.now address d bytes) (λ root. IsWholeRoot image.now address root.width root.bytes.now) }
+    ensures found { MatchOption result ((d : ℕ) (bytes : List ℕ)
+        → ¬ IsWholeRoot image.now address d bytes)
+        (λ root. IsWholeRoot image.now address root.width root.bytes.now) }
     ensures slots { IfSome result (λ root. HasSlots root.width root.bytes.now) }
 {
     let place = named_root(image, address)?;
@@ -164,7 +171,8 @@ impl Root<'_> {
     /// How many slots lie wholly within its bytes, those that hold 0 too.
     pub(crate) fn slots(&self) -> u64
         requires { HasSlots self.now.width self.now.bytes.now }
-        ensures { (k : ℕ) → (k < result) ↔ (36 + self.now.width * (k + 1) ≤ length self.now.bytes.now) }
+        ensures { (k : ℕ) → (k < result)
+            ↔ (36 + self.now.width * (k + 1) ≤ length self.now.bytes.now) }
     {
         (self.bytes.len() as u64 - 36) / u64::from(self.width)
     }
@@ -173,7 +181,8 @@ impl Root<'_> {
     #[tactic(auto, using(crate::proofs::Roots::slot_end))]
     pub(crate) fn slot(&self, k: u64) -> Option<u64>
         requires { HasSlots self.now.width self.now.bytes.now }
-        ensures { MatchOption result ((a : ℕ) → ¬ HasSlot self.now.bytes.now self.now.width k a) (HasSlot self.now.bytes.now self.now.width k) }
+        ensures { MatchOption result ((a : ℕ) → ¬ HasSlot self.now.bytes.now self.now.width k a)
+            (HasSlot self.now.bytes.now self.now.width k) }
     {
         if k >= self.slots() {
             return None;

@@ -45,7 +45,8 @@ fn has_fault(image: &Image, address: u64, code: Code) -> bool
 
 /// Whether the 20 bytes of an RSDP of the extended form, of revision 2 or more, are held.
 fn is_extended(image: &Image, address: u64) -> bool
-    ensures { IsTrue result ↔ ((head : List ℕ) × (bytes_at image.now address 20 ≡ Some head) × (2 ≤ revision_of head)) }
+    ensures { IsTrue result ↔ ((head : List ℕ) × (bytes_at image.now address 20 ≡ Some head)
+        × (2 ≤ revision_of head)) }
 {
     image
         .window(address, 20)
@@ -54,8 +55,11 @@ fn is_extended(image: &Image, address: u64) -> bool
 
 /// The Length of an RSDP of the extended form whose 36 bytes are held.
 fn extended_length(image: &Image, address: u64) -> Option<u32>
-    ensures found { IfSome result (λ length. (head : List ℕ) × (prefix : List ℕ) × IsExtended image.now address head prefix × (rsdp_length prefix ≡ length)) }
-    ensures every { (head prefix : List ℕ) → IsExtended image.now address head prefix → result ≡ Some (rsdp_length prefix) }
+    ensures found { IfSome result
+        (λ length. (head : List ℕ) × (prefix : List ℕ) × IsExtended image.now address head prefix
+        × (rsdp_length prefix ≡ length)) }
+    ensures every { (head prefix : List ℕ) → IsExtended image.now address head prefix
+        → result ≡ Some (rsdp_length prefix) }
 {
     if !is_extended(image, address) {
         return None;

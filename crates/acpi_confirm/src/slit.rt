@@ -30,7 +30,8 @@ fn has_slit_size(slit: &[u8]) -> bool
 /// The cell at an offset of a table that has its cells, where one stands there.
 #[tactic(auto, using(crate::proofs::Cells::cells))]
 fn cell_at(slit: &[u8], at: u64) -> Option<Cell>
-    ensures { MatchOption result (HasNoCell (slit_contents slit.now) at) (HasCell (slit_contents slit.now) at) }
+    ensures { MatchOption result (HasNoCell (slit_contents slit.now) at)
+        (HasCell (slit_contents slit.now) at) }
 {
     if !has_slit_size(slit) {
         return None;
@@ -49,14 +50,18 @@ fn cell_at(slit: &[u8], at: u64) -> Option<Cell>
 
 /// Whether the cell at an offset is one of the diagonal, and its distance is not 10.
 fn is_wrong_diagonal(slit: &[u8], at: u64) -> bool
-    ensures { IsTrue result ↔ (HasSlitSize (slit_contents slit.now) × SomeCell (slit_contents slit.now) at (λ i j. (i ≡ j) × (distance (slit_contents slit.now) i j ≢ 10))) }
+    ensures { IsTrue result ↔ (HasSlitSize (slit_contents slit.now)
+        × SomeCell (slit_contents slit.now) at
+        (λ i j. (i ≡ j) × (distance (slit_contents slit.now) i j ≢ 10))) }
 {
     cell_at(slit, at).is_some_and(|cell| cell.row == cell.column && cell.distance != 10)
 }
 
 /// Whether the distance in the cell at an offset is below 10.
 fn is_low(slit: &[u8], at: u64) -> bool
-    ensures { IsTrue result ↔ (HasSlitSize (slit_contents slit.now) × SomeCell (slit_contents slit.now) at (λ i j. distance (slit_contents slit.now) i j < 10)) }
+    ensures { IsTrue result ↔ (HasSlitSize (slit_contents slit.now)
+        × SomeCell (slit_contents slit.now) at
+        (λ i j. distance (slit_contents slit.now) i j < 10)) }
 {
     cell_at(slit, at).is_some_and(|cell| cell.distance < 10)
 }
@@ -77,7 +82,8 @@ fn has_fault_at(slit: &[u8], code: Code, at: u64) -> bool
 
 /// Whether a fault of stage 11 stands in the SLIT.
 pub(crate) fn is_slit_fault(slit: &[u8], witness: &Witness) -> bool
-    ensures { IsTrue result ↔ SlitFault (slit_contents slit.now) witness.now.code witness.now.at witness.now.other witness.now.point }
+    ensures { IsTrue result ↔ SlitFault (slit_contents slit.now) witness.now.code witness.now.at
+        witness.now.other witness.now.point }
 {
     has_fault_at(slit, witness.code, witness.at) && witness.other == 0 && witness.point == 0
 }

@@ -125,7 +125,8 @@ fn has_own_fault_at(srat: &[u8], at: u64, code: Code) -> bool
 /// Codes 41 to 44: the table and each entry by itself.
 #[tactic(auto, using(crate::proofs::SratFaults::srat_codes))]
 fn has_entry_fault(srat: &[u8], witness: &Witness) -> bool
-    ensures { IsTrue result ↔ SratFault (srat_contents srat.now) witness.now.code witness.now.at witness.now.other witness.now.point }
+    ensures { IsTrue result ↔ SratFault (srat_contents srat.now) witness.now.code witness.now.at
+        witness.now.other witness.now.point }
 {
     if witness.other != 0 || witness.point != 0 {
         return false;
@@ -139,7 +140,8 @@ fn has_entry_fault(srat: &[u8], witness: &Witness) -> bool
 
 /// The flags of the enabled range at an offset that covers the address.
 fn covering_at(srat: &[u8], at: u64, address: u64) -> Option<u32>
-    ensures { IsOnly (λ flags. StandsWith (srat_contents srat.now).entries at (CoversWith address flags)) result }
+    ensures { IsOnly (λ flags. StandsWith (srat_contents srat.now).entries at
+        (CoversWith address flags)) result }
 {
     entry_at(srat, FIRST_ENTRY, at).and_then(|entry| match read(entry) {
         SratEntry::MemoryRange {
@@ -176,17 +178,17 @@ fn is_overlap(srat: &[u8], hotplug: HotPlug, at: u64, other: u64, address: u64) 
 
 /// Code 45: two ranges.
 fn has_range_fault(srat: &[u8], hotplug: HotPlug, witness: &Witness) -> bool
-    ensures { IsTrue result ↔ RangeFault hotplug (srat_contents srat.now) witness.now.code witness.now.at witness.now.other witness.now.point }
+    ensures { IsTrue result ↔ RangeFault hotplug (srat_contents srat.now) witness.now.code
+        witness.now.at witness.now.other witness.now.point }
 {
-    match witness.code {
-        Code::Overlap => is_overlap(srat, hotplug, witness.at, witness.other, witness.point),
-        _ => false,
-    }
+    matches!(witness.code, Code::Overlap)
+        && is_overlap(srat, hotplug, witness.at, witness.other, witness.point)
 }
 
 /// Whether a fault of stages 9 and 10 stands in the SRAT.
 pub(crate) fn is_srat_fault(srat: &[u8], policy: &Policy, witness: &Witness) -> bool
-    ensures { IsTrue result ↔ SratCondition (stage_of witness.now.code) policy.now (srat_contents srat.now) witness.now }
+    ensures { IsTrue result ↔ SratCondition (stage_of witness.now.code) policy.now
+        (srat_contents srat.now) witness.now }
 {
     match witness.code.stage() {
         Stage::Srat => has_entry_fault(srat, witness),

@@ -50,7 +50,9 @@ fn has_fault(image: &Image, address: u64, code: Code) -> bool
 
 /// The bytes of the table at an address, as many as its Length says, where that is at least 36 and they are held.
 pub(crate) fn table_at(image: &Image, address: u64) -> Option<&[u8]>
-    ensures found { MatchOption result ((header whole : List ℕ) → ¬ IsTable image.now address header whole) (λ whole. (header : List ℕ) × IsTable image.now address header whole.now) }
+    ensures found { MatchOption result ((header whole : List ℕ)
+        → ¬ IsTable image.now address header whole)
+        (λ whole. (header : List ℕ) × IsTable image.now address header whole.now) }
     ensures count { IfSome result (λ whole. (36 ≤ length whole.now) × (length whole.now < 2 ^ 32)) }
 {
     let header = image.window(address, 36)?;

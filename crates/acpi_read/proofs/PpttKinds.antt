@@ -26,8 +26,10 @@ length_of h e same =
     omega arith
 
 -- and so have those that are written
-pub written_length : (h : NodeHead) (out : List ℕ) → out ≡ layout_bytes node_head_parts (node_head_values h) → FitLayout node_head_parts (node_head_values h) → HasNodeLength out
-written_length h out is fit = subst HasNodeLength (sym is) (length_of h _ (HasValues-layout_bytes node_head_parts (node_head_values h) fit).same)
+pub written_length : (h : NodeHead) (out : List ℕ) → out ≡ layout_bytes node_head_parts (node_head_values h)
+    → FitLayout node_head_parts (node_head_values h) → HasNodeLength out
+written_length h out is fit =
+    subst HasNodeLength (sym is) (length_of h _ (HasValues-layout_bytes node_head_parts (node_head_values h) fit).same)
 
 -- ---- nodes
 
@@ -46,9 +48,12 @@ no_node_says e is typed not =
     grind (arith, nat_tests)
 
 -- the first 20 bytes have the length exactly where all have it
-length_in_head : (e : List ℕ) → (HasNodeLength (take 20 e) → HasNodeLength e) × (HasNodeLength e → HasNodeLength (take 20 e))
-length_in_head e =
-    (λ has. omega (arith, field-take e 20 1 1, field-take e 20 16 4), λ has. omega (arith, field-take e 20 1 1, field-take e 20 16 4))
+length_in_head : (e : List ℕ) → (HasNodeLength (take 20 e) → HasNodeLength e)
+    × (HasNodeLength e → HasNodeLength (take 20 e))
+length_in_head e = (
+  λ has. omega (arith, field-take e 20 1 1, field-take e 20 16 4),
+  λ has. omega (arith, field-take e 20 1 1, field-take e 20 16 4),
+)
 
 -- the references behind the head
 references_of : (e : List ℕ) (j : ℕ) → field (drop 20 e) (4 * j) 4 ≡ field e (20 + 4 * j) 4
@@ -65,7 +70,8 @@ one_node : (v w : NodeValue) → v.flags ≡ w.flags → v.parent ≡ w.parent �
 one_node v w flags parent id resources = search rules
 
 -- what is read as a head and references is what a node says
-node_is : (e references : List ℕ) (h : NodeHead) → references ≡ drop 20 e → values_at 0 node_head_parts (take 20 e) ≡ node_head_values h → node_value h references ≡ node_of e
+node_is : (e references : List ℕ) (h : NodeHead) → references ≡ drop 20 e
+    → values_at 0 node_head_parts (take 20 e) ≡ node_head_values h → node_value h references ≡ node_of e
 node_is e references h back same =
     let head_flags : field (take 20 e) 4 4 ≡ h.flags = cc in
     let head_parent : field (take 20 e) 8 4 ≡ h.parent = cc in
@@ -75,12 +81,16 @@ node_is e references h back same =
     let parent : h.parent ≡ field e 8 4 = sym head_parent ∙ field-take e 20 8 4 (omega arith) in
     let id : h.id ≡ field e 12 4 = sym head_id ∙ field-take e 20 12 4 (omega arith) in
     let count : h.count ≡ resource_count e = sym head_count ∙ field-take e 20 16 4 (omega arith) in
-    let each = same_numbers (λ j. field references (4 * j) 4) (λ j. field e (20 + 4 * j) 4) (λ j. rw back (references_of e j)) (range_with_len 0 h.count) in
-    let resources : (node_value h references).resources ≡ (node_of e).resources = each ∙ ap (λ (n : ℕ). map (λ j. field e (20 + 4 * j) 4) (range_with_len 0 n)) count in
+    let each = same_numbers (λ j. field references (4 * j) 4) (λ j. field e (20 + 4 * j) 4)
+    (λ j. rw back (references_of e j)) (range_with_len 0 h.count) in
+    let resources : (node_value h references).resources ≡ (node_of e).resources =
+    each ∙ ap (λ (n : ℕ). map (λ j. field e (20 + 4 * j) 4) (range_with_len 0 n)) count in
     one_node (node_value h references) (node_of e) flags parent id resources
 
-pub node_typed : (e head references : List ℕ) → IsEntry e → slice_index e 0 ≡ 0 → head ≡ take 20 e → references ≡ drop 20 e
-    → (h : NodeHead) → HasValues node_head_parts head (node_head_values h) → Node (node_value h references) ≡ pptt_entry e
+pub node_typed : (e head references : List ℕ) → IsEntry e → slice_index e 0 ≡ 0 → head ≡ take 20 e
+    → references ≡ drop 20 e
+    → (h : NodeHead) → HasValues node_head_parts head (node_head_values h)
+    → Node (node_value h references) ≡ pptt_entry e
 node_typed e head references is typed front back h has =
     let same = rw front at has.same in
     let says = node_says e is typed ((length_in_head e).0 (length_of h (take 20 e) same)) in
@@ -94,7 +104,8 @@ node_references e head references is front back h has =
     let count : field (take 20 e) 16 4 ≡ h.count = cc in
     omega (arith, is.said, byte_field e 1, field-take e 20 16 4, length-drop 20 e, ap length back)
 
-pub node_opaque : (e head : List ℕ) → IsEntry e → slice_index e 0 ≡ 0 → 20 ≤ length e → head ≡ take 20 e → ¬ (IsOfLayout node_head_parts head × HasNodeLength head) → pptt_entry e ≡ Opaque e
+pub node_opaque : (e head : List ℕ) → IsEntry e → slice_index e 0 ≡ 0 → 20 ≤ length e → head ≡ take 20 e
+    → ¬ (IsOfLayout node_head_parts head × HasNodeLength head) → pptt_entry e ≡ Opaque e
 node_opaque e head is typed enough front not =
     no_node_says e is typed (λ has.
     let type : field head 0 1 ≡ 0 = grind (arith, front, field-take e 20 0 1, byte_field e 0) in
@@ -107,9 +118,14 @@ node_short e is typed short = no_node_says e is typed (λ has. omega (arith, is.
 -- ---- caches
 
 -- an entry of type 1 is a cache of one of the two lengths
-cache_decides : (e : List ℕ) → slice_index e 0 ≡ 1 → ((length e ≡ 24) ⊎ (length e ≡ 28) → pptt_entry e ≡ Cache (cache_of e)) × (length e ≢ 24 → length e ≢ 28 → pptt_entry e ≡ Opaque e)
+cache_decides : (e : List ℕ) → slice_index e 0 ≡ 1
+    → ((length e ≡ 24) ⊎ (length e ≡ 28) → pptt_entry e ≡ Cache (cache_of e))
+    × (length e ≢ 24 → length e ≢ 28 → pptt_entry e ≡ Opaque e)
 unfolding pptt_entry has_node_form has_cache_form has_form
-cache_decides e typed = (λ count. elim count [ inl short ↦ rw (typed, short) refl | inr long ↦ rw (typed, long) refl ], λ not_short not_long. grind (arith, nat_tests))
+cache_decides e typed = (
+  λ count. elim count [ inl short ↦ rw (typed, short) refl | inr long ↦ rw (typed, long) refl ],
+  λ not_short not_long. grind (arith, nat_tests),
+)
 
 pub cache24_typed : (e : List ℕ) (v : CacheValue) → IsEntryOf cache24 e v → Cache v ≡ pptt_entry e
 cache24_typed e v is = sym ((cache_decides e is.typed).0 (inl is.count) ∙ ap Cache is.value)

@@ -24,7 +24,8 @@ pub slit_count : (whole : List ℕ) → (slit_contents whole).count ≡ field wh
 unfolding slit_contents
 slit_count whole = refl
 
-pub slit_distance : (whole : List ℕ) (i j : ℕ) → distance (slit_contents whole) i j ≡ slice_index whole (44 + (slit_contents whole).count * i + j)
+pub slit_distance : (whole : List ℕ) (i j : ℕ)
+    → distance (slit_contents whole) i j ≡ slice_index whole (44 + (slit_contents whole).count * i + j)
 unfolding slit_contents
 slit_distance whole i j = grind (arith, get_or-drop 44 whole (field whole 36 8 * i + j) 0)
 
@@ -33,7 +34,8 @@ slit_distance whole i j = grind (arith, get_or-drop 44 whole (field whole 36 8 *
 right_size : (whole : List ℕ) (n : ℕ) → HasRows whole n → HasSlitSize (slit_contents whole)
 right_size whole n rows = grind (arith, slit_size whole, rows.count, rows.size)
 
-distance_at : (whole : List ℕ) (n i j : ℕ) → HasRows whole n → slice_index whole (44 + n * i + j) ≡ distance (slit_contents whole) i j
+distance_at : (whole : List ℕ) (n i j : ℕ) → HasRows whole n
+    → slice_index whole (44 + n * i + j) ≡ distance (slit_contents whole) i j
 distance_at whole n i j rows = grind (arith, slit_distance whole i j, rows.count)
 
 -- where a cell is sound, so are those before the next one
@@ -41,30 +43,38 @@ next_cell : (c : SlitContents) (i j : ℕ) → AreSoundTo c i j → IsSoundCell 
 next_cell c i j before here =
     record {
       above = before.above;
-      left = λ b less. elim (cases_eq b j) [ inl is ↦ subst (λ (k : ℕ). IsSoundCell i k (distance c i k)) (sym is) here | inr other ↦ before.left b (omega arith) ];
+      left = λ b less. elim (cases_eq b j) [
+        | inl is ↦ subst (λ (k : ℕ). IsSoundCell i k (distance c i k)) (sym is) here
+        | inr other ↦ before.left b (omega arith)
+      ];
     }
 
 pub sound_cell : (whole : List ℕ) (n i j : ℕ) → HasRows whole n → AreSoundTo (slit_contents whole) i j
-    → 10 ≤ slice_index whole (44 + n * i + j) → ((i ≡ j) × (slice_index whole (44 + n * i + j) ≢ 10) → ⊥) → AreSoundTo (slit_contents whole) i (j + 1)
+    → 10 ≤ slice_index whole (44 + n * i + j) → ((i ≡ j) × (slice_index whole (44 + n * i + j) ≢ 10) → ⊥)
+    → AreSoundTo (slit_contents whole) i (j + 1)
 sound_cell whole n i j rows before high ten =
-    let here : IsSoundCell i j (slice_index whole (44 + n * i + j)) = record { least = high; diagonal = λ same. not_other _ 10 (λ other. ten (same, other)) } in
+    let here : IsSoundCell i j (slice_index whole (44 + n * i + j)) =
+    record { least = high; diagonal = λ same. not_other _ 10 (λ other. ten (same, other)) } in
     next_cell (slit_contents whole) i j before (rw (distance_at whole n i j rows) at here)
 
 -- where a row is sound, so are those above the next one
-pub sound_row : (whole : List ℕ) (n i j : ℕ) → HasRows whole n → AreSoundTo (slit_contents whole) i j → n ≤ j → AreSoundTo (slit_contents whole) (i + 1) 0
+pub sound_row : (whole : List ℕ) (n i j : ℕ) → HasRows whole n → AreSoundTo (slit_contents whole) i j → n ≤ j
+    → AreSoundTo (slit_contents whole) (i + 1) 0
 sound_row whole n i j rows before all =
     let c = slit_contents whole in
     record {
       above = λ a b less column.
           elim (cases_eq a i) [
-            | inl is ↦ subst (λ (k : ℕ). IsSoundCell k b (distance c k b)) (sym is) (before.left b (omega (arith, rows.count)))
+            | inl is ↦ subst (λ (k : ℕ). IsSoundCell k b (distance c k b)) (sym is)
+                (before.left b (omega (arith, rows.count)))
             | inr other ↦ before.above a b (omega arith) column
           ];
       left = λ b less. absurd (omega arith);
     }
 
 -- where all rows are, the table is
-pub sound_rows : (whole : List ℕ) (n i : ℕ) → HasRows whole n → AreSoundTo (slit_contents whole) i 0 → n ≤ i → IsSoundSlit (slit_contents whole)
+pub sound_rows : (whole : List ℕ) (n i : ℕ) → HasRows whole n → AreSoundTo (slit_contents whole) i 0 → n ≤ i
+    → IsSoundSlit (slit_contents whole)
 sound_rows whole n i rows all last =
     record {
       size = right_size whole n rows;
@@ -75,7 +85,8 @@ sound_rows whole n i rows all last =
 -- ---- the first fault
 
 -- a cell that is not sound is the first one, or stands behind it
-later_cell : (c : SlitContents) (i j a b : ℕ) → AreSoundTo c i j → j < c.count → b < c.count → ¬ IsSoundCell a b (distance c a b)
+later_cell : (c : SlitContents) (i j a b : ℕ) → AreSoundTo c i j → j < c.count → b < c.count
+    → ¬ IsSoundCell a b (distance c a b)
     → (cell_place c i j < cell_place c a b) ⊎ ((a ≡ i) × (b ≡ j))
 later_cell c i j a b before inside column not =
     elim (cases_lt a i) [
@@ -86,13 +97,15 @@ later_cell c i j a b before inside column not =
             | inl is ↦
                 let row : c.count * a ≡ c.count * i = ap (λ (k : ℕ). c.count * k) is in
                 elim (cases_lt b j) [
-                  | inl left ↦ absurd (not (subst (λ (k : ℕ). IsSoundCell k b (distance c k b)) (sym is) (before.left b left)))
+                  | inl left ↦ absurd
+                      (not (subst (λ (k : ℕ). IsSoundCell k b (distance c k b)) (sym is) (before.left b left)))
                   | inr right ↦ elim (cases_eq b j) [ inl same ↦ inr (is, same) | inr other ↦ inl (omega arith) ]
                 ]
           ]
     ]
 
--- a fault of a table of the right size is that of a cell which is not sound, and above the diagonal's it is not the least
+-- a fault of a table of the right size is that of a cell which is not sound, and above the diagonal's it is not the
+-- least
 record IsOfCell (c : SlitContents) (fault : Code) (at : ℕ) : Type 0 where
   a : ℕ
   b : ℕ
@@ -101,35 +114,60 @@ record IsOfCell (c : SlitContents) (fault : Code) (at : ℕ) : Type 0 where
   least : 48 ≤ code_number fault
   low : a ≢ b → 49 ≤ code_number fault
 
-cell_of : (c : SlitContents) (fault : Code) (at other point : ℕ) → HasSlitSize c → SlitFault c fault at other point → IsOfCell c fault at
+cell_of : (c : SlitContents) (fault : Code) (at other point : ℕ) → HasSlitSize c → SlitFault c fault at other point
+    → IsOfCell c fault at
 cell_of c code.SlitShort at other point size ((short, is), _, _) = absurd (omega arith)
 cell_of c code.SlitSize at other point size ((long, wrong, is), _, _) = absurd (wrong size)
 cell_of c code.SlitDiagonal at other point size ((_, (a, b, cell, wrong)), _, _) =
-    record { a = a; b = b; cell = cell; unsound = λ sound. wrong.1 (sound.diagonal wrong.0); least = omega arith; low = λ apart. absurd (apart wrong.0) }
+    record {
+      a = a;
+      b = b;
+      cell = cell;
+      unsound = λ sound. wrong.1 (sound.diagonal wrong.0);
+      least = omega arith;
+      low = λ apart. absurd (apart wrong.0);
+    }
 cell_of c code.SlitLow at other point size ((_, (a, b, cell, low)), _, _) =
-    record { a = a; b = b; cell = cell; unsound = λ sound. omega (arith, sound.least); least = omega arith; low = λ apart. omega arith }
+    record {
+      a = a;
+      b = b;
+      cell = cell;
+      unsound = λ sound. omega (arith, sound.least);
+      least = omega arith;
+      low = λ apart. omega arith;
+    }
 cell_of c _ at other point size fault = absurd fault.0
 
 -- no fault stands before that of a cell
-least_of : (c : SlitContents) (i j number : ℕ) → HasSlitSize c → j < c.count → AreSoundTo c i j → (number ≤ 48) ⊎ ((number ≤ 49) × (i ≢ j))
-    → (other : Code) (at second third : ℕ) → SlitFault c other at second third → (44 + cell_place c i j < at) ⊎ ((44 + cell_place c i j ≡ at) × (number ≤ code_number other))
+least_of : (c : SlitContents) (i j number : ℕ) → HasSlitSize c → j < c.count → AreSoundTo c i j
+    → (number ≤ 48) ⊎ ((number ≤ 49) × (i ≢ j))
+    → (other : Code) (at second third : ℕ) → SlitFault c other at second third
+    → (44 + cell_place c i j < at) ⊎ ((44 + cell_place c i j ≡ at) × (number ≤ code_number other))
 least_of c i j number size column before small other at second third fault =
     let found = cell_of c other at second third size fault in
     elim (later_cell c i j found.a found.b before column found.cell.column found.unsound) [
       | inl behind ↦ inl (omega (arith, found.cell.place))
       | inr (row, same) ↦
           let place : cell_place c found.a found.b ≡ cell_place c i j = grind arith in
-          let code : number ≤ code_number other = elim small [ inl least ↦ omega (arith, found.least) | inr (low, apart) ↦ omega (arith, found.low (λ is. apart (sym row ∙ is ∙ same))) ] in
+          let code : number ≤ code_number other =
+          elim small [
+            | inl least ↦ omega (arith, found.least)
+            | inr (low, apart) ↦
+                omega (arith, found.low (λ is. apart (sym row ∙ is ∙ same)))
+          ] in
           inr (omega (arith, found.cell.place), code)
     ]
 
 -- the cell is one of the table's, at its place
-cell_at : (whole : List ℕ) (n i j : ℕ) → HasRows whole n → i < n → j < n → IsCell (slit_contents whole) i j (44 + n * i + j)
+cell_at : (whole : List ℕ) (n i j : ℕ) → HasRows whole n → i < n → j < n
+    → IsCell (slit_contents whole) i j (44 + n * i + j)
 cell_at whole n i j rows row column =
     record { row = omega (arith, rows.count); column = omega (arith, rows.count); place = grind (arith, rows.count) }
 
-pub first_diagonal : (whole : List ℕ) (n i j : ℕ) → HasRows whole n → i < n → j < n → AreSoundTo (slit_contents whole) i j → i ≡ j → slice_index whole (44 + n * i + j) ≢ 10
-    → IsFirstSlitFault (slit_contents whole) (record { code = code.SlitDiagonal; at = 44 + n * i + j; other = 0; point = 0 })
+pub first_diagonal : (whole : List ℕ) (n i j : ℕ) → HasRows whole n → i < n → j < n
+    → AreSoundTo (slit_contents whole) i j → i ≡ j → slice_index whole (44 + n * i + j) ≢ 10
+    → IsFirstSlitFault (slit_contents whole)
+    (record { code = code.SlitDiagonal; at = 44 + n * i + j; other = 0; point = 0 })
 first_diagonal whole n i j rows row column before same other =
     let c = slit_contents whole in
     let size = right_size whole n rows in
@@ -150,24 +188,28 @@ first_low whole n i j rows row column before ten low =
     record {
       stage = refl;
       fault = ((size, (i, j, cell, rw (distance_at whole n i j rows) at low)), refl, refl);
-      least = rw (← cell.place) at (least_of (slit_contents whole) i j 49 size cell.column before (inr (omega arith, apart)));
+      least = rw (← cell.place) at (least_of (slit_contents whole) i j 49 size cell.column before
+          (inr (omega arith, apart)));
     }
 
 -- no fault stands before that of a table which is too short
-least_short : (c : SlitContents) → c.size < 44 → (other : Code) (at second third : ℕ) → SlitFault c other at second third → (0 < at) ⊎ ((0 ≡ at) × (46 ≤ code_number other))
+least_short : (c : SlitContents) → c.size < 44 → (other : Code) (at second third : ℕ)
+    → SlitFault c other at second third → (0 < at) ⊎ ((0 ≡ at) × (46 ≤ code_number other))
 least_short c short code.SlitShort at second third fault = inr (sym fault.0.1, omega arith)
 least_short c short code.SlitSize at second third fault = absurd (omega (arith, fault.0.0))
 least_short c short code.SlitDiagonal at second third fault = absurd (omega (arith, fault.0.0))
 least_short c short code.SlitLow at second third fault = absurd (omega (arith, fault.0.0))
 least_short c short _ at second third fault = absurd fault.0
 
-pub first_short : (whole : List ℕ) → length whole < 44 → IsFirstSlitFault (slit_contents whole) (record { code = code.SlitShort; at = 0; other = 0; point = 0 })
+pub first_short : (whole : List ℕ) → length whole < 44
+    → IsFirstSlitFault (slit_contents whole) (record { code = code.SlitShort; at = 0; other = 0; point = 0 })
 first_short whole less =
     let short : (slit_contents whole).size < 44 = omega (arith, slit_size whole) in
     record { stage = refl; fault = ((short, refl), refl, refl); least = least_short (slit_contents whole) short }
 
 -- nor before that of a table with another number of cells
-least_size : (c : SlitContents) → 44 ≤ c.size → ¬ HasSlitSize c → (other : Code) (at second third : ℕ) → SlitFault c other at second third → (36 < at) ⊎ ((36 ≡ at) × (47 ≤ code_number other))
+least_size : (c : SlitContents) → 44 ≤ c.size → ¬ HasSlitSize c → (other : Code) (at second third : ℕ)
+    → SlitFault c other at second third → (36 < at) ⊎ ((36 ≡ at) × (47 ≤ code_number other))
 least_size c long not code.SlitShort at second third fault = absurd (omega (arith, fault.0.0))
 least_size c long not code.SlitSize at second third fault = inr (sym fault.0.2, omega arith)
 least_size c long not code.SlitDiagonal at second third fault = absurd (not fault.0.0)

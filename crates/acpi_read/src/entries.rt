@@ -51,7 +51,8 @@ fn first_entry(left: &[u8]) -> Option<&[u8]>
 /// The entry that stands at an offset of a table, which is not past its end.
 fn entry_at(whole: &[u8], offset: usize) -> Option<&[u8]>
     requires { offset ≤ length whole.now }
-    ensures { MatchOption result (IsLast offset whole.now) (λ entry. IsNext offset whole.now entry.now) }
+    ensures { MatchOption result (IsLast offset whole.now)
+        (λ entry. IsNext offset whole.now entry.now) }
 {
     first_entry(&whole[offset..])
 }
@@ -123,7 +124,9 @@ impl<'a> Entries<'a> {
 impl<'a> Iterator for Entries<'a> {
     type Item = Entry<'a>;
 
-    ghost next_gives = { λ before entry after. YieldsFirstBy entry_value (λ left. left.entries) before entry after × (after.cut ≡ before.cut) };
+    ghost next_gives = { λ before entry after. YieldsFirstBy entry_value (λ left. left.entries)
+        before entry
+        after × (after.cut ≡ before.cut) };
 
     ghost remaining = { item_count (λ left. left.entries) };
 

@@ -32,7 +32,9 @@ impl<'a> Model for Facs<'a> {
 
     ghost view = { λ facs. record { address = facs.address; bytes = facs.bytes.now } };
 
-    ghost invariant = { λ facs. (facs.address % 64 ≡ 0) × (facs.address ≢ 0) × (64 ≤ length facs.bytes.now) × (length facs.bytes.now < 2 ^ 32) × (facs_length facs.bytes.now ≡ length facs.bytes.now) };
+    ghost invariant = { λ facs. (facs.address % 64 ≡ 0) × (facs.address ≢ 0)
+        × (64 ≤ length facs.bytes.now) × (length facs.bytes.now < 2 ^ 32)
+        × (facs_length facs.bytes.now ≡ length facs.bytes.now) };
 }
 
 impl<'a> Facs<'a> {
@@ -50,11 +52,17 @@ impl<'a> Facs<'a> {
     #[tactic(auto, using(acpi_base::proofs::Images::HeldBytes::says_length))]
     pub fn read(image: &'a Image, fadt: &Fadt<'_>) -> Result<Option<Facs<'a>>, Code>
         ensures ok { IsOk result ↔ HasSoundFacs image.now fadt.now }
-        ensures none { (result ≡ Ok None) ↔ ((is_reduced fadt.now ≡ true) × (facs_address fadt.now ≡ 0)) }
-        ensures some { IfOk result (λ found. IfSome found (λ facs. (facs.address ≡ facs_address fadt.now) × (facs.address ≢ 0) × IsFacs image.now facs.address facs.bytes)) }
-        ensures fault { IfErr result (λ code. NamedFacsFault image.now fadt.now code (facs_address fadt.now)) }
+        ensures none { (result ≡ Ok None)
+            ↔ ((is_reduced fadt.now ≡ true) × (facs_address fadt.now ≡ 0)) }
+        ensures some { IfOk result
+            (λ found. IfSome found
+            (λ facs. (facs.address ≡ facs_address fadt.now) × (facs.address ≢ 0)
+            × IsFacs image.now facs.address facs.bytes)) }
+        ensures fault { IfErr result
+            (λ code. NamedFacsFault image.now fadt.now code (facs_address fadt.now)) }
         ensures stage { IfErr result (λ code. stage_of code ≡ Stage.Facs) }
-        ensures least { IfErr result (λ code. (other : Code) (at : ℕ) → NamedFacsFault image.now fadt.now other at → code_number code ≤ code_number other) }
+        ensures least { IfErr result (λ code. (other : Code) (at : ℕ)
+            → NamedFacsFault image.now fadt.now other at → code_number code ≤ code_number other) }
     {
         let address = fadt.facs_address();
         if address == 0 {

@@ -144,10 +144,12 @@ fn address_of(bytes: &[u8], end: usize, offset: usize, narrow: usize) -> u64
 fn length_fault(bytes: &[u8]) -> Option<Witness>
     requires { 116 ≤ length bytes.now }
     ensures none { IsNone result ↔ HasBlockLengths bytes.now }
-    ensures fault { IfSome result (λ w. is_reduced bytes.now ≡ false → FadtTableFault bytes.now w.code w.at) }
+    ensures fault { IfSome result (λ w. is_reduced bytes.now ≡ false
+        → FadtTableFault bytes.now w.code w.at) }
     ensures zeros { IfSome result (λ w. (w.other ≡ 0) × (w.point ≡ 0)) }
     ensures stage { IfSome result (λ w. stage_of w.code ≡ Stage.Fadt) }
-    ensures least { IfSome result (λ w. (other : Code) (at : ℕ) → FadtTableFault bytes.now other at → (w.at < at) ⊎ ((w.at ≡ at) × (code_number w.code ≤ code_number other))) }
+    ensures least { IfSome result (λ w. (other : Code) (at : ℕ) → FadtTableFault bytes.now other at
+        → (w.at < at) ⊎ ((w.at ≡ at) × (code_number w.code ≤ code_number other))) }
 {
     if u8_at(bytes, PM1_EVT_LEN) < 4 {
         return Some(Witness::at(Code::PmEventLength, PM1_EVT_LEN as u64));
@@ -224,7 +226,9 @@ impl<'a> Fadt<'a> {
         ensures same { IfOk result (λ bytes. bytes ≡ table.entry) }
         ensures stage { IfErr result (λ code. stage_of code ≡ Stage.Fadt) }
         ensures fault { IfErr result (λ code. FadtTableFault table.entry code 0) }
-        ensures least { IfErr result (λ code. (other : Code) (at : ℕ) → FadtTableFault table.entry other at → (0 < at) ⊎ ((0 ≡ at) × (code_number code ≤ code_number other))) }
+        ensures least { IfErr result (λ code. (other : Code) (at : ℕ)
+            → FadtTableFault table.entry other at → (0 < at)
+            ⊎ ((0 ≡ at) × (code_number code ≤ code_number other))) }
     {
         if table.bytes().len() < Fadt::LEAST_LENGTH {
             return Err(Code::FadtShort);
@@ -245,9 +249,12 @@ impl<'a> Fadt<'a> {
     /// offset is not 0.
     pub fn fault(&self) -> Option<Witness>
         ensures none { IsNone result ↔ IsSoundFadtTable self.now }
-        ensures fault { IfSome result (λ w. FadtTableFault self.now w.code w.at × (w.other ≡ 0) × (w.point ≡ 0)) }
+        ensures fault { IfSome result
+            (λ w. FadtTableFault self.now w.code w.at × (w.other ≡ 0) × (w.point ≡ 0)) }
         ensures stage { IfSome result (λ w. stage_of w.code ≡ Stage.Fadt) }
-        ensures least { IfSome result (λ w. (other : Code) (at : ℕ) → FadtTableFault self.now other at → (w.at < at) ⊎ ((w.at ≡ at) × (code_number w.code ≤ code_number other))) }
+        ensures least { IfSome result (λ w. (other : Code) (at : ℕ)
+            → FadtTableFault self.now other at → (w.at < at)
+            ⊎ ((w.at ≡ at) × (code_number w.code ≤ code_number other))) }
     {
         let bytes = self.bytes();
         if !self.reduced()

@@ -71,7 +71,8 @@ impl<'a> Madt<'a> {
     /// Its entries, from offset 44 on, by what they say.
     #[tactic(auto, unfolding(acpi_base::specs::Madt::madt_contents))]
     pub fn entries(&self) -> TypedEntries<'a, MadtEntry<'a>>
-        ensures entries { entries_read_by madt_entry result.entries.entries ≡ (madt_contents self.now).entries }
+        ensures entries { entries_read_by madt_entry
+            result.entries.entries ≡ (madt_contents self.now).entries }
         ensures filled { IsFilledMadt self.now }
         ensures size { length self.now < 2 ^ 32 }
     {
@@ -117,7 +118,8 @@ impl<'a> Srat<'a> {
     /// Its entries, from offset 48 on, by what they say.
     #[tactic(auto, unfolding(acpi_base::specs::Srat::srat_contents))]
     pub fn entries(&self) -> TypedEntries<'a, SratEntry<'a>>
-        ensures entries { entries_read_by srat_entry result.entries.entries ≡ (srat_contents self.now).entries }
+        ensures entries { entries_read_by srat_entry
+            result.entries.entries ≡ (srat_contents self.now).entries }
         ensures filled { IsFilledSrat self.now }
         ensures size { length self.now < 2 ^ 32 }
     {
@@ -163,7 +165,8 @@ impl<'a> Pptt<'a> {
     /// Its entries, from offset 36 on, by what they say.
     #[tactic(auto, unfolding(acpi_base::specs::Pptt::pptt_contents))]
     pub fn entries(&self) -> TypedEntries<'a, PpttEntry<'a>>
-        ensures entries { entries_read_by pptt_entry result.entries.entries ≡ (pptt_contents self.now).entries }
+        ensures entries { entries_read_by pptt_entry
+            result.entries.entries ≡ (pptt_contents self.now).entries }
         ensures filled { IsFilledPptt self.now }
         ensures size { length self.now < 2 ^ 32 }
     {

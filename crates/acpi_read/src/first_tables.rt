@@ -80,7 +80,9 @@ impl<'a> FirstTables<'a> {
     /// Adds a table behind those before it: keeps it where it is the first of its kind, and returns the kind
     /// then.
     pub fn add(&mut self, listed: Listed<'a>) -> Option<TableKind>
-        ensures tables { (kind : TableKind) → first_table self.new kind ≡ first_signed_table (signature_of kind) (first_table self.old kind) listed.entry.table }
+        ensures tables { (kind : TableKind)
+            → first_table self.new kind ≡ first_signed_table (signature_of kind)
+            (first_table self.old kind) listed.entry.table }
         ensures kind { IsFirstOf self.old listed.entry.table result }
     {
         let kind = TableKind::of(listed.table.bytes())?;
@@ -94,7 +96,8 @@ impl<'a> FirstTables<'a> {
     /// Keeps a table as the first of a kind.
     fn keep(&mut self, kind: TableKind, listed: Listed<'a>)
         ensures kept { first_table self.new kind ≡ Some listed.entry.table }
-        ensures others { (other : TableKind) → ¬ (other ≡ kind) → first_table self.new other ≡ first_table self.old other }
+        ensures others { (other : TableKind) → ¬ (other ≡ kind)
+            → first_table self.new other ≡ first_table self.old other }
     {
         match kind {
             TableKind::Fadt => self.fadt = Some(listed),

@@ -25,8 +25,10 @@ fn has_header(image: &Image, address: u64, signature: &[u8]) -> bool
 /// The address in slot k, where a table with the signature is listed there.
 fn signed_at(image: &Image, root: &Root<'_>, k: u32, signature: &[u8]) -> Option<u64>
     requires { k < slots_of root.now }
-    ensures found { IfSome result (λ a. HasSlot root.now.bytes root.now.width k a × IsSigned image.now a signature.now) }
-    ensures none { IsNone result → (a : ℕ) → HasSlot root.now.bytes root.now.width k a → ¬ IsSigned image.now a signature.now }
+    ensures found { IfSome result
+        (λ a. HasSlot root.now.bytes root.now.width k a × IsSigned image.now a signature.now) }
+    ensures none { IsNone result → (a : ℕ) → HasSlot root.now.bytes root.now.width k a
+        → ¬ IsSigned image.now a signature.now }
 {
     let address = root.slot(k);
     if address != 0 && has_header(image, address, signature) {
@@ -42,9 +44,12 @@ fn signed_at(image: &Image, root: &Root<'_>, k: u32, signature: &[u8]) -> Option
 /// nor its sum is checked. Later tables with the same signature are ignored, which is this project's
 /// choice. Slots that hold 0 are skipped. The image may be another than the root's own.
 pub fn first(image: &Image, root: &Root<'_>, signature: [u8; 4]) -> Option<u64>
-    ensures found { IfSome result (IsFirstListed image.now root.now.bytes root.now.width signature) }
-    ensures none { IsNone result → (k a : ℕ) → HasSlot root.now.bytes root.now.width k a → ¬ IsSigned image.now a signature }
-    ensures every { (a : ℕ) → IsFirstListed image.now root.now.bytes root.now.width signature a → result ≡ Some a }
+    ensures found { IfSome result
+        (IsFirstListed image.now root.now.bytes root.now.width signature) }
+    ensures none { IsNone result → (k a : ℕ) → HasSlot root.now.bytes root.now.width k a
+        → ¬ IsSigned image.now a signature }
+    ensures every { (a : ℕ) → IsFirstListed image.now root.now.bytes root.now.width signature a
+        → result ≡ Some a }
 {
     for k in 0..root.slots() {
         if let Some(address) = signed_at(image, root, k, &signature) {

@@ -2,7 +2,7 @@
 
 mod kinds;
 
-use crate::kind::{EntryKind, typed};
+use crate::kind::{FixedKind, typed};
 use crate::typed_entries::TableEntry;
 use acpi_base::Code;
 pub use kinds::{
@@ -54,20 +54,20 @@ impl<'a> MadtEntry<'a> {
         ensures ok { IfOk result (λ entry. madt_value entry ≡ madt_entry bytes.now) }
         ensures whole { IfOk result IsWholeEntry }
         ensures length { IfOk result (λ entry. IsOfOwnLength (madt_value entry)) }
-        ensures err { IfErr result (λ code. (code ≡ Code.MadtEntryLength) × (madt_entry bytes.now ≡ Opaque bytes.now) × IsTypeOf madt_kinds (slice_index bytes.now 0)) }
+        ensures err { IfErr result
+            (λ code. (code ≡ Code.MadtEntryLength) × (madt_entry bytes.now ≡ Opaque bytes.now)
+            × IsTypeOf madt_kinds (slice_index bytes.now 0)) }
     {
+        let code = Code::MadtEntryLength;
         match bytes[0] {
-            LocalApic::TYPE => Ok(MadtEntry::LocalApic(typed(bytes, Code::MadtEntryLength)?)),
-            IoApic::TYPE => Ok(MadtEntry::IoApic(typed(bytes, Code::MadtEntryLength)?)),
-            Override::TYPE => Ok(MadtEntry::Override(typed(bytes, Code::MadtEntryLength)?)),
-            NmiSource::TYPE => Ok(MadtEntry::NmiSource(typed(bytes, Code::MadtEntryLength)?)),
-            LocalNmi::TYPE => Ok(MadtEntry::LocalNmi(typed(bytes, Code::MadtEntryLength)?)),
-            AddressOverride::TYPE => Ok(MadtEntry::AddressOverride(typed(
-                bytes,
-                Code::MadtEntryLength,
-            )?)),
-            X2apic::TYPE => Ok(MadtEntry::X2apic(typed(bytes, Code::MadtEntryLength)?)),
-            X2apicNmi::TYPE => Ok(MadtEntry::X2apicNmi(typed(bytes, Code::MadtEntryLength)?)),
+            LocalApic::TYPE => Ok(MadtEntry::LocalApic(typed(bytes, code)?)),
+            IoApic::TYPE => Ok(MadtEntry::IoApic(typed(bytes, code)?)),
+            Override::TYPE => Ok(MadtEntry::Override(typed(bytes, code)?)),
+            NmiSource::TYPE => Ok(MadtEntry::NmiSource(typed(bytes, code)?)),
+            LocalNmi::TYPE => Ok(MadtEntry::LocalNmi(typed(bytes, code)?)),
+            AddressOverride::TYPE => Ok(MadtEntry::AddressOverride(typed(bytes, code)?)),
+            X2apic::TYPE => Ok(MadtEntry::X2apic(typed(bytes, code)?)),
+            X2apicNmi::TYPE => Ok(MadtEntry::X2apicNmi(typed(bytes, code)?)),
             _ => Ok(MadtEntry::Opaque(bytes)),
         }
     }

@@ -3,7 +3,7 @@
 mod kinds;
 mod node_head;
 
-use crate::kind::{EntryKind, laid, typed};
+use crate::kind::{FixedKind, laid, typed};
 use crate::layout::Layout;
 use crate::typed_entries::TableEntry;
 use acpi_base::Code;
@@ -40,18 +40,21 @@ impl<'a> PpttEntry<'a> {
         ensures references { IfOk result HasReferences }
         ensures whole { IfOk result IsWholeEntry }
         ensures length { IfOk result (λ entry. ¬ HasOtherPpttLength (pptt_value entry)) }
-        ensures err { IfErr result (λ code. (code ≡ Code.PpttEntryLength) × (pptt_entry bytes.now ≡ Opaque bytes.now) × (slice_index bytes.now 0 ≤ 1)) }
+        ensures err { IfErr result
+            (λ code. (code ≡ Code.PpttEntryLength) × (pptt_entry bytes.now ≡ Opaque bytes.now)
+            × (slice_index bytes.now 0 ≤ 1)) }
     {
+        let code = Code::PpttEntryLength;
         match bytes[0] {
-            0 if bytes.len() < NodeHead::LEN => Err(Code::PpttEntryLength),
+            0 if bytes.len() < NodeHead::LEN => Err(code),
             0 => {
                 let (head, references) = bytes.split_at(NodeHead::LEN);
-                Ok(PpttEntry::Node(laid(head, Code::PpttEntryLength)?, references))
+                Ok(PpttEntry::Node(laid(head, code)?, references))
             }
             Cache28::TYPE if bytes.len() == Cache28::LEN => {
-                Ok(PpttEntry::Cache28(typed(bytes, Code::PpttEntryLength)?))
+                Ok(PpttEntry::Cache28(typed(bytes, code)?))
             }
-            Cache24::TYPE => Ok(PpttEntry::Cache24(typed(bytes, Code::PpttEntryLength)?)),
+            Cache24::TYPE => Ok(PpttEntry::Cache24(typed(bytes, code)?)),
             _ => Ok(PpttEntry::Opaque(bytes)),
         }
     }

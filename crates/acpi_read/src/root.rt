@@ -42,9 +42,14 @@ impl<'a> Model for Root<'a> {
 
     ghost Value = { RootValue };
 
-    ghost view = { λ root. record { address = root.address; width = root.width; bytes = root.bytes.now } };
+    ghost view = { λ root. record {
+      address = root.address;
+      width = root.width;
+      bytes = root.bytes.now;
+    } };
 
-    ghost invariant = { λ root. IsSlotWidth root.width × (36 ≤ length root.bytes.now) × (length root.bytes.now < 2 ^ 32) × (length_of root.bytes.now ≡ length root.bytes.now) };
+    ghost invariant = { λ root. IsSlotWidth root.width × (36 ≤ length root.bytes.now)
+        × (length root.bytes.now < 2 ^ 32) × (length_of root.bytes.now ≡ length root.bytes.now) };
 }
 
 /// Where the root is, and how wide its slots are.
@@ -58,7 +63,8 @@ struct Place {
 /// The XSDT where one is named, else the RSDT where one is named.
 #[tactic(auto, unfolding(acpi_base::specs::Root::chosen_root))]
 fn place_of(rsdp: &Rsdp) -> Option<Place>
-    ensures root { option_map (λ root. record { address = root.address; width = root.width }) result ≡ chosen_root rsdp.now.named }
+    ensures root { option_map (λ root. record { address = root.address; width = root.width })
+        result ≡ chosen_root rsdp.now.named }
     ensures width { IfSome result (λ root. IsSlotWidth root.width) }
 {
     if rsdp.xsdt() != 0 {
@@ -80,11 +86,16 @@ fn place_of(rsdp: &Rsdp) -> Option<Place>
 #[tactic(auto, using(acpi_base::proofs::Images::HeldBytes::says_length))]
 fn read_at(image: &Image, place: Place) -> Result<Root<'_>, Code>
     requires { IsSlotWidth place.width }
-    ensures ok { IfOk result (λ root. (root.address ≡ place.address) × (root.width ≡ place.width) × IsSoundRootTable image.now place.address place.width root.bytes) }
-    ensures sound { (whole : List ℕ) → IsSoundRootTable image.now place.address place.width whole → IsOk result }
+    ensures ok { IfOk result
+        (λ root. (root.address ≡ place.address) × (root.width ≡ place.width)
+        × IsSoundRootTable image.now place.address place.width root.bytes) }
+    ensures sound { (whole : List ℕ) → IsSoundRootTable image.now place.address place.width whole
+        → IsOk result }
     ensures fault { IfErr result (RootTableFault image.now place.address place.width) }
     ensures stage { IfErr result (λ code. stage_of code ≡ Stage.Root) }
-    ensures least { IfErr result (λ code. (other : Code) → RootTableFault image.now place.address place.width other → code_number code ≤ code_number other) }
+    ensures least { IfErr result (λ code. (other : Code)
+        → RootTableFault image.now place.address place.width other
+        → code_number code ≤ code_number other) }
 {
     let Place { address, width } = place;
     let Some(header) = image.window(address, Header::LEN as u64) else {
@@ -138,10 +149,13 @@ impl<'a> Root<'a> {
     /// `RootSum`, where its bytes do not sum to 0.
     pub fn read(image: &'a Image, rsdp: &Rsdp) -> Result<Root<'a>, Code>
         ensures ok { IfOk result (IsSoundNamedRoot image.now rsdp.now.named) }
-        ensures sound { (root : RootValue) → IsSoundNamedRoot image.now rsdp.now.named root → IsOk result }
+        ensures sound { (root : RootValue) → IsSoundNamedRoot image.now rsdp.now.named root
+            → IsOk result }
         ensures fault { IfErr result (NamedRootFault image.now rsdp.now.named) }
         ensures stage { IfErr result (λ code. stage_of code ≡ Stage.Root) }
-        ensures least { IfErr result (λ code. (other : Code) → NamedRootFault image.now rsdp.now.named other → code_number code ≤ code_number other) }
+        ensures least { IfErr result (λ code. (other : Code)
+            → NamedRootFault image.now rsdp.now.named other
+            → code_number code ≤ code_number other) }
     {
         let Some(place) = place_of(rsdp) else {
             return Err(Code::NoRoot);
@@ -152,7 +166,8 @@ impl<'a> Root<'a> {
     /// How many slots lie wholly within its bytes, those that hold 0 too.
     pub fn slots(&self) -> u32
         ensures slots { result ≡ slots_of self.now }
-        ensures inside { (k : ℕ) → (k < result) ↔ (36 + self.now.width * (k + 1) ≤ length self.now.bytes) }
+        ensures inside { (k : ℕ)
+            → (k < result) ↔ (36 + self.now.width * (k + 1) ≤ length self.now.bytes) }
     {
         (self.bytes.len() - Header::LEN) as u32 / self.width
     }

@@ -32,15 +32,31 @@ impl Model for Rsdp {
 
     ghost Value = { RsdpValue };
 
-    ghost view = { λ r. record { address = r.address; revision = r.revision; oemid = r.oemid; named = record { rsdt = r.rsdt; xsdt = r.xsdt } } };
+    ghost view = { λ r. record {
+      address = r.address;
+      revision = r.revision;
+      oemid = r.oemid;
+      named = record { rsdt = r.rsdt; xsdt = r.xsdt };
+    } };
 
-    ghost inverse = { λ v. record { address = v.address; revision = v.revision; oemid = v.oemid; rsdt = v.named.rsdt; xsdt = v.named.xsdt } };
+    ghost inverse = { λ v. record {
+      address = v.address;
+      revision = v.revision;
+      oemid = v.oemid;
+      rsdt = v.named.rsdt;
+      xsdt = v.named.xsdt;
+    } };
 }
 
 /// What the first 20 bytes say, which is all that the short form has.
 fn short_form(address: u64, head: &[u8]) -> Rsdp
     requires { 20 ≤ length head.now }
-    ensures { result ≡ record { address = address; revision = revision_of head.now; oemid = take 6 (drop 9 head.now); named = short_addresses head.now } }
+    ensures { result ≡ record {
+      address = address;
+      revision = revision_of head.now;
+      oemid = take 6 (drop 9 head.now);
+      named = short_addresses head.now;
+    } }
 {
     Rsdp {
         address,
@@ -75,7 +91,8 @@ impl Rsdp {
         ensures value { IfOk result (IsRsdp image.now address) }
         ensures fault { IfErr result (RsdpFault image.now address) }
         ensures stage { IfErr result (λ code. stage_of code ≡ Stage.Rsdp) }
-        ensures least { IfErr result (λ code. (other : Code) → RsdpFault image.now address other → code_number code ≤ code_number other) }
+        ensures least { IfErr result (λ code. (other : Code) → RsdpFault image.now address other
+            → code_number code ≤ code_number other) }
     {
         let Some(head) = image.window(address, Rsdp::SHORT_LENGTH) else {
             return Err(Code::RsdpOut);

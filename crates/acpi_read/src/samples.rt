@@ -111,20 +111,25 @@ pub(crate) fn set(alloc: Global, tables: &[(u32, &[u8])]) -> Result<Image, Fail>
     Ok(image)
 }
 
-/// The bytes are read as the value, and the value is written as `written`, where reserved bytes are 0. `out` is room
-/// for them.
-pub(crate) fn expect_layout<R: Abort, L: Layout + Copy + Debug + PartialEq>(
+/// The bytes are read as the value, and the value is written as the same bytes, save that those that the standard
+/// reserves, which are FFh here, and no others, are 0.
+pub(crate) fn expect_layout<R: Abort, L: Layout + Copy + Debug + PartialEq, const N: usize>(
     rt: &R,
     value: L,
-    bytes: &[u8],
-    written: &[u8],
-    out: &mut [u8],
+    bytes: &[u8; N],
 )
-    requires { length out.old ≡ L.LEN }
+    requires { N ≡ L.LEN }
 {
+    let mut written = *bytes;
+    for byte in &mut written {
+        if *byte == 0xff {
+            *byte = 0;
+        }
+    }
+    let out = &mut [0xff; N];
     assert_eq!(rt; L::read(bytes), Some(value));
     assert_eq!(rt; read_back(&value, out), Some(value));
-    assert_eq!(rt; *out, *written);
+    assert_eq!(rt; *out, written);
 }
 
 /// Whether the second of the bytes is their count, as that of an entry is.

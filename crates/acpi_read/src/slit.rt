@@ -38,7 +38,8 @@ fn cell_fault(bytes: &[u8], count: usize, i: usize, j: usize) -> Option<Witness>
     requires row { i < count }
     requires column { j < count }
     requires before { AreSoundTo (slit_contents bytes.now) i j }
-    ensures { MatchOption result (AreSoundTo (slit_contents bytes.now) i (j + 1)) (IsFirstSlitFault (slit_contents bytes.now)) }
+    ensures { MatchOption result (AreSoundTo (slit_contents bytes.now) i (j + 1))
+        (IsFirstSlitFault (slit_contents bytes.now)) }
 {
     let at = Slit::CELLS + count * i + j;
     let distance = bytes[at];
@@ -55,7 +56,8 @@ fn cell_fault(bytes: &[u8], count: usize, i: usize, j: usize) -> Option<Witness>
 #[tactic(auto, using(crate::proofs::SlitCells::rows))]
 fn cells_fault(bytes: &[u8], count: usize) -> Option<Witness>
     requires { HasRows bytes.now count }
-    ensures { MatchOption result (IsSoundSlit (slit_contents bytes.now)) (IsFirstSlitFault (slit_contents bytes.now)) }
+    ensures { MatchOption result (IsSoundSlit (slit_contents bytes.now))
+        (IsFirstSlitFault (slit_contents bytes.now)) }
 {
     for i in 0..count {
         for j in 0..count {

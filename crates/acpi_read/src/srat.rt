@@ -2,7 +2,7 @@
 
 mod kinds;
 
-use crate::kind::{EntryKind, typed};
+use crate::kind::{FixedKind, typed};
 use crate::typed_entries::TableEntry;
 use acpi_base::Code;
 pub use kinds::{ApicDomain, MemoryRange, X2apicDomain};
@@ -36,12 +36,15 @@ impl<'a> SratEntry<'a> {
         ensures ok { IfOk result (λ entry. srat_value entry ≡ srat_entry bytes.now) }
         ensures whole { IfOk result IsWholeEntry }
         ensures length { IfOk result (λ entry. IsOfOwnLength (srat_value entry)) }
-        ensures err { IfErr result (λ code. (code ≡ Code.SratEntryLength) × (srat_entry bytes.now ≡ Opaque bytes.now) × IsTypeOf srat_kinds (slice_index bytes.now 0)) }
+        ensures err { IfErr result
+            (λ code. (code ≡ Code.SratEntryLength) × (srat_entry bytes.now ≡ Opaque bytes.now)
+            × IsTypeOf srat_kinds (slice_index bytes.now 0)) }
     {
+        let code = Code::SratEntryLength;
         match bytes[0] {
-            ApicDomain::TYPE => Ok(SratEntry::ApicDomain(typed(bytes, Code::SratEntryLength)?)),
-            MemoryRange::TYPE => Ok(SratEntry::MemoryRange(typed(bytes, Code::SratEntryLength)?)),
-            X2apicDomain::TYPE => Ok(SratEntry::X2apicDomain(typed(bytes, Code::SratEntryLength)?)),
+            ApicDomain::TYPE => Ok(SratEntry::ApicDomain(typed(bytes, code)?)),
+            MemoryRange::TYPE => Ok(SratEntry::MemoryRange(typed(bytes, code)?)),
+            X2apicDomain::TYPE => Ok(SratEntry::X2apicDomain(typed(bytes, code)?)),
             _ => Ok(SratEntry::Opaque(bytes)),
         }
     }

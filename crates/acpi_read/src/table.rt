@@ -31,7 +31,8 @@ impl<'a> Model for Table<'a> {
 
     ghost view = { λ table. table.bytes.now };
 
-    ghost invariant = { λ table. (36 ≤ length table.bytes.now) × (length table.bytes.now < 2 ^ 32) × (length_of table.bytes.now ≡ length table.bytes.now) };
+    ghost invariant = { λ table. (36 ≤ length table.bytes.now) × (length table.bytes.now < 2 ^ 32)
+        × (length_of table.bytes.now ≡ length table.bytes.now) };
 }
 
 impl<'a> Table<'a> {
@@ -45,10 +46,12 @@ impl<'a> Table<'a> {
     #[tactic(auto, using(acpi_base::proofs::Images::HeldBytes::says_length))]
     pub fn read(image: &'a Image, address: u64) -> Result<Table<'a>, Code>
         ensures ok { IsOk result ↔ IsSoundTable image.now address }
-        ensures value { IfOk result (λ bytes. (header : List ℕ) × IsTable image.now address header bytes) }
+        ensures value { IfOk result
+            (λ bytes. (header : List ℕ) × IsTable image.now address header bytes) }
         ensures fault { IfErr result (TableFault image.now address) }
         ensures stage { IfErr result (λ code. stage_of code ≡ Stage.Tables) }
-        ensures least { IfErr result (λ code. (other : Code) → TableFault image.now address other → code_number code ≤ code_number other) }
+        ensures least { IfErr result (λ code. (other : Code) → TableFault image.now address other
+            → code_number code ≤ code_number other) }
     {
         let Some(header) = image.window(address, Header::LEN as u64) else {
             return Err(Code::TableHeaderOut);

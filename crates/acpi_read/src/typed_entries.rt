@@ -60,7 +60,8 @@ impl<'a, E> From<Entries<'a>> for TypedEntries<'a, E> {
 impl<'a, E: TableEntry<'a>> Iterator for TypedEntries<'a, E> {
     type Item = EntryAt<E>;
 
-    ghost next_gives = { λ before entry after. GivesTyped E.value E.said_by E.IsRead before.entries.entries entry after.entries.entries };
+    ghost next_gives = { λ before entry after. GivesTyped E.value E.said_by E.IsRead
+        before.entries.entries entry after.entries.entries };
 
     ghost remaining = { item_count (λ left. left.entries.entries) };
 

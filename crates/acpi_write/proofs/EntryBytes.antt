@@ -3,7 +3,4 @@ pub mod EntryForms
 pub mod EntryLists
 pub mod EntryReading
 pub mod KeptEntries
-pub mod MadtBytes
 pub mod NodeBytes
-pub mod PpttBytes
-pub mod SratBytes

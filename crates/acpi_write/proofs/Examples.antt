@@ -85,7 +85,8 @@ is_placed = record {
 }
 
 pieces : new_blocks ≡ blocks_from new_base (part_bytes whole_value new_base)
-unfolding blocks_from aligned_address block_places rsdp_bytes checksum_of table_bytes header_bytes number_bytes byte_sum put_over with_facs
+unfolding blocks_from aligned_address block_places rsdp_bytes checksum_of table_bytes header_bytes number_bytes byte_sum
+    put_over with_facs
 pieces = refl
 
 pub is_rebuilt : IsRebuilt whole_set example_policy new_base new_image

@@ -3,4 +3,5 @@ pub mod Examples
 pub mod NewSets
 pub mod OldSets
 pub mod SetParts
+pub mod Tables
 pub mod TablesWritten

@@ -1,12 +1,10 @@
 -- What stands in a rebuilt image, and that it says the same.
 pub mod KeptSets
 pub mod NamedFacs
-pub mod NewFacs
 pub mod NewImage
 pub mod NewParts
 pub mod NewRoot
 pub mod NewSet
 pub mod NewTables
-pub mod RebuiltParts
 pub mod RewrittenTables
 pub mod SameStages

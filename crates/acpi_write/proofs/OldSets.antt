@@ -1,10 +1,7 @@
 -- What the tables of a clean set are, and what it says.
 pub mod CleanSets
-pub mod FacsLengths
 pub mod FirstListed
 pub mod FirstTables
 pub mod Listing
 pub mod OldTables
-pub mod OneSetValue
-pub mod Reading
 pub mod ValuesBehind

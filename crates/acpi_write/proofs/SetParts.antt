@@ -2,6 +2,4 @@
 pub mod PartLengths
 pub mod PartPlaces
 pub mod PartsInOrder
-pub mod PlacedBlocks
 pub mod Refusals
-pub mod WrittenParts

@@ -13,7 +13,7 @@ use Rattle.acpi_base.specs.Examples.{table}
 use Rattle.acpi_base.specs.Examples.Sets.{new_leaf_bytes}
 use Rattle.acpi_base.specs.Examples.Slits.{one_locality_bytes}
 use Rattle.acpi_base.specs.Examples.WholeSets.{fadt_body, facs_bytes, madt_bytes, srat_bytes}
-use Rattle.acpi_write.specs.Values.{TableValue, Madt, Srat, Slit, Pptt, Fadt, SetValue}
+use Rattle.acpi_write.specs.Values.{TableValue, Known, Madt, Srat, Slit, Pptt, Fadt, SetValue}
 use Rattle.acpi_write.specs.Rebuilt.{PlacedBlock, with_blocks}
 
 -- ---- what the set says
@@ -52,11 +52,11 @@ pptt_entries = Node (record { flags = 10; parent = 0; id = 7; resources = [] }) 
 -- the tables in the order of their slots; the FADT's body has 0 for the FACS's address
 abbrev pub whole_tables : List TableValue
 whole_tables =
-    Fadt (head_with 2) (fadt_body (0 ∷ 0 ∷ 0 ∷ 0 ∷ []))
-    ∷ Madt (head_with 1) 0xfee00000 1 madt_entries
-    ∷ Srat (head_with 1) srat_entries
-    ∷ Slit (head_with 1) 1 (10 ∷ [])
-    ∷ Pptt (head_with 2) pptt_entries
+    Known (head_with 2) (Fadt (fadt_body (0 ∷ 0 ∷ 0 ∷ 0 ∷ [])))
+    ∷ Known (head_with 1) (Madt 0xfee00000 1 madt_entries)
+    ∷ Known (head_with 1) (Srat srat_entries)
+    ∷ Known (head_with 1) (Slit 1 (10 ∷ []))
+    ∷ Known (head_with 2) (Pptt pptt_entries)
     ∷ []
 
 -- the whole set

@@ -1,36 +1,15 @@
 -- Which tables are read as those of a kind, and what is asked of them.
-use Rattle.std.specs.Prelude.{◌≡◌, ℕ, ◌≤◌, ◌<◌, Bool, true, false, not, List, length, take, slice_index_or, Option, Some, None, is_none}
+use Rattle.std.specs.Prelude.{◌≡◌, ℕ, ◌<◌, Bool, true, false, not, List, length, take, slice_index_or, Option, Some, None, is_none}
 use Rattle.std.specs.List.{list_any}
 use Rattle.acpi_base.specs.Number.{byte_sum}
 use Rattle.acpi_base.specs.Signature.{has_signature}
 use Rattle.acpi_base.specs.TableKinds.{signature_of}
 use Rattle.acpi_base.specs.declared.table_kind.TableKind.{TableKind}
-use Rattle.acpi_base.specs.declared.table_kind.TableKind.TheVariants as kind
 use Rattle.acpi_read.specs.FirstTables.{first_table}
 use Rattle.acpi_read.specs.declared.first_tables.FirstTables.{FirstTables}
 use Rattle.acpi_read.specs.declared.first_tables.Listed.{Listed}
-use Rattle.acpi_read.specs.FilledTables.{IsFilledMadt, IsFilledSrat, IsFilledPptt}
-use Rattle.acpi_write.specs.Readable.{IsReadableSlit}
-use Rattle.acpi_write.specs.SetValues.{fadt_table_value, madt_table_value, srat_table_value, slit_table_value, pptt_table_value, is_first}
-use Rattle.acpi_write.specs.Values as value
-
--- the bytes can be read as those of the kind
-abbrev pub IsReadableAs : Option TableKind → List ℕ → Type 0
-IsReadableAs (Some kind.Fadt) whole = 116 ≤ length whole
-IsReadableAs (Some kind.Madt) whole = IsFilledMadt whole
-IsReadableAs (Some kind.Srat) whole = IsFilledSrat whole
-IsReadableAs (Some kind.Slit) whole = IsReadableSlit whole
-IsReadableAs (Some kind.Pptt) whole = IsFilledPptt whole
-IsReadableAs None whole = byte_sum whole ≡ 0
-
--- what the bytes say as those of the kind
-abbrev pub table_value_as : Option TableKind → List ℕ → value.TableValue
-table_value_as (Some kind.Fadt) whole = fadt_table_value whole
-table_value_as (Some kind.Madt) whole = madt_table_value whole
-table_value_as (Some kind.Srat) whole = srat_table_value whole
-table_value_as (Some kind.Slit) whole = slit_table_value whole
-table_value_as (Some kind.Pptt) whole = pptt_table_value whole
-table_value_as None whole = value.Other whole
+use Rattle.acpi_write.specs.Bodies.{IsReadableAs}
+use Rattle.acpi_write.specs.SetValues.{is_first}
 
 -- the kind of which a table is the first, behind those before it; none where it is the first of no kind
 abbrev pub IsKindBehind : List (List ℕ) → List ℕ → Option TableKind → Type 0

@@ -1,34 +1,31 @@
 -- What the laws of values say.
-use Rattle.std.specs.Prelude.{◌≡◌, ℕ, ◌^◌, ◌<◌, ◌≤◌, List, length, drop, None, true}
+use Rattle.std.specs.Prelude.{◌≡◌, ℕ, ◌^◌, ◌<◌, List, length, drop, Some, true}
 use Rattle.acpi_base.specs.Signature.{has_signature}
-use Rattle.acpi_base.specs.Entries.{IsEntry, cut_of}
+use Rattle.acpi_base.specs.Entries.{IsEntry}
 use Rattle.acpi_base.specs.Fadt.{IsSoundFadtTable, facs_address, is_reduced}
-use Rattle.acpi_base.specs.Listed.{fadt_signature, madt_signature, srat_signature, slit_signature, pptt_signature}
-use Rattle.acpi_write.specs.SetValues.{madt_table_value, srat_table_value, slit_table_value, pptt_table_value}
 use Rattle.acpi_base.specs.Header.{head_of}
-use Rattle.acpi_base.specs.Madt.{madt_entry, madt_contents}
-use Rattle.acpi_base.specs.Srat.{srat_entry, srat_contents}
-use Rattle.acpi_base.specs.Pptt.{pptt_entry, pptt_contents}
-use Rattle.acpi_base.specs.Slit.{slit_contents}
+use Rattle.acpi_base.specs.Listed.{fadt_signature}
+use Rattle.acpi_base.specs.Madt.{madt_entry}
+use Rattle.acpi_base.specs.Srat.{srat_entry}
+use Rattle.acpi_base.specs.Pptt.{pptt_entry}
+use Rattle.acpi_base.specs.TableKinds.{signature_of}
+use Rattle.acpi_base.specs.declared.table_kind.TableKind.{TableKind}
 pub use Rattle.acpi_base.specs.KindLayouts.{AreByteValues}
 use Rattle.acpi_read.specs.Madts.{madt_bytes}
 use Rattle.acpi_read.specs.Srats.{srat_bytes}
 use Rattle.acpi_read.specs.Pptts.{pptt_bytes}
+use Rattle.acpi_write.specs.Bodies.{contents_of, whole_value_in, IsFilledAs, IsReadableAs}
 use Rattle.acpi_write.specs.Encoded.{encoded_bytes, table_bytes}
 use Rattle.acpi_write.specs.FadtBody.{with_facs}
-use Rattle.acpi_read.specs.FilledTables.{IsFilledMadt, IsFilledSrat, IsFilledPptt}
-use Rattle.acpi_write.specs.Readable.{IsReadableSlit}
+use Rattle.acpi_write.specs.SetValues.{table_value_as}
 use Rattle.acpi_write.specs.Spells.{Spells, SaysEntry, IsTableOf, IsWholeTable}
-use Rattle.acpi_write.specs.Values.{TableValue, Fadt, Other}
+use Rattle.acpi_write.specs.Values.{Known, Other}
 
 -- a table's bytes say the value that is read of them, where they can be read as those of its kind; a FADT's say what
 -- stands behind its header, FACS addresses and all
 pub record IsSpelled (whole : List ℕ) : Type 0 where
-  pub madt : has_signature whole madt_signature ≡ true → IsFilledMadt whole → Spells (madt_table_value whole) whole
-  pub srat : has_signature whole srat_signature ≡ true → IsFilledSrat whole → Spells (srat_table_value whole) whole
-  pub slit : has_signature whole slit_signature ≡ true → IsReadableSlit whole → Spells (slit_table_value whole) whole
-  pub pptt : has_signature whole pptt_signature ≡ true → IsFilledPptt whole → Spells (pptt_table_value whole) whole
-  pub fadt : has_signature whole fadt_signature ≡ true → 116 ≤ length whole → Spells (Fadt (head_of whole) (drop 36 whole)) whole
+  pub known : (kind : TableKind) → has_signature whole (signature_of kind) ≡ true → IsReadableAs (Some kind) whole
+      → Spells (Known (head_of whole) (whole_value_in kind whole)) whole
   pub other : Spells (Other whole) whole
 
 -- of whole tables
@@ -50,22 +47,18 @@ pub record IsKept (e : List ℕ) : Type 0 where
 abbrev pub EntriesAreKept : Type 0
 EntriesAreKept = (e : List ℕ) → AreByteValues e → IsEntry e → IsKept e
 
--- the bytes that are written for the value are a table with the same signature, head and contents
-pub record KeepsContents {C : Type 0} (signature : List ℕ) (contents_of : List ℕ → C) (v : TableValue) (whole : List ℕ) : Type 0 where
-  pub table : IsTableOf signature (head_of whole) (encoded_bytes v)
-  pub contents : contents_of (encoded_bytes v) ≡ contents_of whole
+-- the new bytes are those of a table of the kind with the same head and contents
+pub record KeepsContents (kind : TableKind) (whole new : List ℕ) : Type 0 where
+  pub table : IsTableOf (signature_of kind) (head_of whole) new
+  pub contents : contents_of kind new ≡ contents_of kind whole
 
--- a table that is read as one of a kind and written again keeps its contents: a MADT, an SRAT and a PPTT where entries
--- fill it
-pub record AreContentsKept (whole : List ℕ) : Type 0 where
-  pub madt : 44 ≤ length whole → cut_of 44 whole ≡ None → KeepsContents madt_signature madt_contents (madt_table_value whole) whole
-  pub srat : 48 ≤ length whole → cut_of 48 whole ≡ None → KeepsContents srat_signature srat_contents (srat_table_value whole) whole
-  pub slit : 44 ≤ length whole → KeepsContents slit_signature slit_contents (slit_table_value whole) whole
-  pub pptt : cut_of 36 whole ≡ None → KeepsContents pptt_signature pptt_contents (pptt_table_value whole) whole
-
--- of whole tables
+-- so are those that are written for what a whole table says as one of the kind, where it is long enough and entries fill
+-- it if the kind has such
 abbrev pub ContentsAreKept : Type 0
-ContentsAreKept = (whole : List ℕ) → IsWholeTable whole → AreByteValues whole → length whole < 2 ^ 32 → AreContentsKept whole
+ContentsAreKept =
+    (kind : TableKind) (whole : List ℕ) → IsWholeTable whole → AreByteValues whole → length whole < 2 ^ 32
+    → IsFilledAs kind whole
+    → KeepsContents kind whole (encoded_bytes (table_value_as (Some kind) whole))
 
 -- The FADT with another FACS address, in X_FIRMWARE_CTRL, at 132, where it has at least 140 bytes, and else in
 -- FIRMWARE_CTRL, at 36 (5.2.9): it has the same head, is sound, its FACS address is this one, and it is of reduced hardware

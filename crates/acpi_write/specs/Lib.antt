@@ -1,10 +1,10 @@
+pub mod Bodies
 pub mod Encoded
 pub mod Examples
 pub mod FadtBody
 pub mod Kinds
 pub mod Laws
 pub mod Placed
-pub mod Readable
 pub mod Rebuilding
 pub mod Rebuilt
 pub mod SetValues

@@ -8,7 +8,7 @@ use Rattle.acpi_base.specs.Root.{IsRoot, IsSoundRootTable}
 use Rattle.acpi_base.specs.Rsdp.{IsSoundRsdp}
 use Rattle.acpi_write.specs.Encoded.{FitsHead}
 use Rattle.acpi_write.specs.Rebuilt.{aligned_address, xsdt_length, part_lengths, facs_place, table_places, rebuilt_image}
-use Rattle.acpi_write.specs.Values.{TableValue, Fadt, SetValue}
+use Rattle.acpi_write.specs.Values.{TableValue, Known, Fadt, SetValue}
 use Rattle.acpi_write.specs.declared.placing.RebuildFault.{RebuildFault}
 use Rattle.acpi_write.specs.declared.placing.RebuildFault.TheVariants as fault
 
@@ -24,7 +24,7 @@ DoEndInside addresses = AllByRecursion (λ a. a ≤ 2 ^ 64) addresses
 
 -- a FADT of fewer than 140 bytes, 36 of which are its header's: it has only 4 for the FACS's address (5.2.9)
 abbrev pub is_narrow : TableValue → Bool
-is_narrow (Fadt head body) = nat_lt (length body) 104
+is_narrow (Known _ (Fadt body)) = nat_lt (length body) 104
 is_narrow _ = false
 
 -- what the set says can stand from the base address on: this is a multiple of 64, the XSDT's Length has 32 bits, no part passes

@@ -8,12 +8,10 @@ use Rattle.acpi_base.specs.Memory.{Memory, bytes_at, with_bytes}
 use Rattle.acpi_base.specs.Number.{number_bytes}
 use Rattle.acpi_base.specs.Policy.{PolicyValue}
 use Rattle.acpi_base.specs.Signature.{rsdp_signature, xsdt_signature}
-use Rattle.acpi_base.specs.Listed.{fadt_signature}
 use Rattle.acpi_base.specs.Statements.{IsClean}
-use Rattle.acpi_write.specs.Encoded.{checksum_of, table_bytes, encoded_bytes, encoded_length}
-use Rattle.acpi_write.specs.FadtBody.{with_facs}
+use Rattle.acpi_write.specs.Encoded.{checksum_of, table_bytes, encoded_bytes_with, encoded_length}
 use Rattle.acpi_write.specs.SetValues.{IsSetValue}
-use Rattle.acpi_write.specs.Values.{TableValue, Fadt, SetValue}
+use Rattle.acpi_write.specs.Values.{SetValue}
 
 -- ---- blocks of an image
 
@@ -91,11 +89,6 @@ unfoldable pub rsdp_bytes : List ℕ → ℕ → List ℕ
 rsdp_bytes oemid xsdt =
     let head = rsdp_head oemid (checksum_of (rsdp_head oemid 0)) in
     head ++ rsdp_tail xsdt (checksum_of (head ++ rsdp_tail xsdt 0))
-
--- a table's bytes where the FACS stands at this address, which is 0 for none
-abbrev pub encoded_bytes_with : ℕ → TableValue → List ℕ
-encoded_bytes_with facs (Fadt head body) = table_bytes fadt_signature head (with_facs body facs)
-encoded_bytes_with facs v = encoded_bytes v
 
 -- the bytes of the parts, in their order
 abbrev pub part_bytes : SetValue → ℕ → List (List ℕ)

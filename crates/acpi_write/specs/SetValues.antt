@@ -1,50 +1,20 @@
 -- What a clean set of tables says, apart from where its parts stand.
-use Rattle.std.specs.Prelude.{◌≡◌, ◌≢◌, ℕ, List, [], ◌∷◌, ◌++◌, take, drop, map, Option, Some, None, Bool, not, ◌&&◌, if◌then◌else◌}
-use Rattle.std.specs.List.{AllZip, list_any}
+use Rattle.std.specs.Prelude.{◌≡◌, ◌≢◌, ℕ, List, [], ◌∷◌, ◌++◌, take, drop, Option, Some, None, Bool, not, ◌&&◌}
+use Rattle.std.specs.List.{AllZip, find, list_any}
 use Rattle.acpi_base.specs.Memory.{Memory, bytes_at}
 use Rattle.acpi_base.specs.Header.{head_of}
 use Rattle.acpi_base.specs.Signature.{has_signature}
 use Rattle.acpi_base.specs.Tables.{IsTable}
+use Rattle.acpi_base.specs.TableKinds.{signature_of}
+use Rattle.acpi_base.specs.declared.table_kind.TableKind.{TableKind}
 use Rattle.acpi_base.specs.Root.{IsRoot, IsRootTable}
-use Rattle.acpi_base.specs.Listed.{fadt_signature, madt_signature, srat_signature, slit_signature, pptt_signature, listed_addresses}
-use Rattle.acpi_base.specs.Entries.{PlacedEntry}
-use Rattle.acpi_base.specs.Madt.{madt_contents}
-use Rattle.acpi_base.specs.Srat.{srat_contents}
-use Rattle.acpi_base.specs.Slit.{slit_contents}
-use Rattle.acpi_base.specs.Pptt.{pptt_contents}
+use Rattle.acpi_base.specs.Listed.{listed_addresses}
 use Rattle.acpi_base.specs.Fadt.{IsFadt, facs_address}
 use Rattle.acpi_base.specs.Facs.{IsFacs}
 use Rattle.acpi_base.specs.Policy.{PolicyValue}
 use Rattle.acpi_base.specs.Statements.{IsClean}
-use Rattle.acpi_write.specs.FadtBody.{with_facs}
-use Rattle.acpi_write.specs.Values.{TableValue, Madt, Srat, Slit, Pptt, Fadt, Other, SetValue}
-
--- ---- what a table's bytes say as a table of a kind
-
--- entries without their offsets
-abbrev pub entries_in : {E : Type 0} → List (PlacedEntry E) → List E
-entries_in entries = map (λ s. s.entry) entries
-
--- a FADT: its bytes from 36 on, with 0 for its FACS addresses, FIRMWARE_CTRL and X_FIRMWARE_CTRL, as the FACS may stand
--- elsewhere (5.2.9)
-abbrev pub fadt_table_value : List ℕ → TableValue
-fadt_table_value whole = Fadt (head_of whole) (with_facs (drop 36 whole) 0)
-
--- a MADT (5.2.12)
-abbrev pub madt_table_value : List ℕ → TableValue
-madt_table_value whole = Madt (head_of whole) (madt_contents whole).address (madt_contents whole).flags (entries_in (madt_contents whole).entries)
-
--- an SRAT (5.2.16)
-abbrev pub srat_table_value : List ℕ → TableValue
-srat_table_value whole = Srat (head_of whole) (entries_in (srat_contents whole).entries)
-
--- a SLIT (5.2.17)
-abbrev pub slit_table_value : List ℕ → TableValue
-slit_table_value whole = Slit (head_of whole) (slit_contents whole).count (slit_contents whole).cells
-
--- a PPTT (5.2.30)
-abbrev pub pptt_table_value : List ℕ → TableValue
-pptt_table_value whole = Pptt (head_of whole) (entries_in (pptt_contents whole).entries)
+use Rattle.acpi_write.specs.Bodies.{kinds, value_in}
+use Rattle.acpi_write.specs.Values.{TableValue, Known, Other, SetValue}
 
 -- ---- what the listed tables say
 
@@ -52,16 +22,15 @@ pptt_table_value whole = Pptt (head_of whole) (entries_in (pptt_contents whole).
 abbrev pub is_first : List (List ℕ) → List ℕ → List ℕ → Bool
 is_first before whole signature = has_signature whole signature && not (list_any (λ t. has_signature t signature) before)
 
--- what a table says where these are listed before it: the first FADT, MADT, SRAT, SLIT and PPTT by their kind, any other
--- table by its bytes
+-- what a table's bytes say as those of the kind; of no kind, all its bytes
+abbrev pub table_value_as : Option TableKind → List ℕ → TableValue
+table_value_as (Some kind) whole = Known (head_of whole) (value_in kind whole)
+table_value_as None whole = Other whole
+
+-- what a table says where these are listed before it: the first FADT, MADT, SRAT and so on by its kind, any other table
+-- by its bytes
 unfoldable pub table_value_behind : List (List ℕ) → List ℕ → TableValue
-table_value_behind before whole =
-    if is_first before whole fadt_signature then fadt_table_value whole
-    else if is_first before whole madt_signature then madt_table_value whole
-    else if is_first before whole srat_signature then srat_table_value whole
-    else if is_first before whole slit_signature then slit_table_value whole
-    else if is_first before whole pptt_signature then pptt_table_value whole
-    else Other whole
+table_value_behind before whole = table_value_as (find (λ kind. is_first before whole (signature_of kind)) kinds) whole
 
 -- what tables say, in their order, where these are listed before them
 unfoldable pub values_behind : List (List ℕ) → List (List ℕ) → List TableValue

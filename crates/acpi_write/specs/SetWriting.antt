@@ -1,9 +1,11 @@
 -- Parts of a set, put one after another into an image.
-use Rattle.std.specs.Prelude.{◌≡◌, ℕ, ◌≤◌, List, ◌++◌, length, drop, map, None}
+use Rattle.std.specs.Prelude.{◌≡◌, ℕ, ◌+◌, ◌^◌, ◌<◌, ◌≤◌, true, List, [], ◌∷◌, ◌++◌, length, drop, map, flat_map, slice_index, slice_index_or, None}
 use Rattle.acpi_base.specs.Memory.{Memory, byte_of}
-use Rattle.acpi_write.specs.Encoded.{encoded_length}
-use Rattle.acpi_write.specs.Placed.{block_ends, DoEndInside}
-use Rattle.acpi_write.specs.Rebuilt.{block_places, blocks_from, with_blocks, encoded_bytes_with, option_list, facs_place, rebuilt_image}
+use Rattle.acpi_base.specs.Number.{number_bytes}
+use Rattle.acpi_base.specs.Signature.{xsdt_signature}
+use Rattle.acpi_write.specs.Encoded.{encoded_bytes_with, table_bytes}
+use Rattle.acpi_write.specs.Rebuilt.{option_list, part_lengths, place_of_facs, rsdp_bytes}
+use Rattle.acpi_write.specs.Placed.{is_narrow}
 use Rattle.acpi_write.specs.Values.{SetValue}
 use Rattle.acpi_write.specs.Views.{table_value}
 use Rattle.acpi_write.specs.declared.table_value.TableValue.{TableValue}
@@ -12,29 +14,22 @@ use Rattle.acpi_write.specs.declared.table_value.TableValue.{TableValue}
 abbrev pub EndsBelow : Memory → ℕ → Type 0
 EndsBelow m a = (x : ℕ) → a ≤ x → byte_of m x ≡ None
 
--- these are the places of blocks of these lengths that are laid from an address on, from which the image holds nothing;
--- none passes the last address
-pub record HasRoom (m : Memory) (a : ℕ) (found lengths : List ℕ) : Type 0 where
-  pub behind : EndsBelow m a
-  pub placed : found ≡ block_places a lengths
-  pub inside : DoEndInside (block_ends a lengths)
+-- the FACS's address, which the FADT names, where the parts stand at these places
+abbrev pub facs_among : SetValue → List ℕ → ℕ
+facs_among v places = place_of_facs v.facs (slice_index places 2)
 
--- how many bytes each table has
-abbrev pub table_lengths : List TableValue → List ℕ
-table_lengths tables = map (λ t. encoded_length (table_value t)) tables
+-- the table has room for it, where it is a FADT (5.2.9)
+abbrev pub FitsFacs : ℕ → TableValue → Type 0
+FitsFacs facs t = is_narrow (table_value t) ≡ true → facs < 2 ^ 32
 
--- the bytes of each table where the FACS stands at this address
-abbrev pub table_blocks : ℕ → List TableValue → List (List ℕ)
-table_blocks facs tables = map (λ t. encoded_bytes_with facs (table_value t)) tables
+-- the bytes of parts that stand at these places, in their order
+abbrev pub parts_at : SetValue → List ℕ → List (List ℕ)
+parts_at v places =
+    rsdp_bytes v.oemid (slice_index places 1)
+    ∷ table_bytes xsdt_signature v.root (flat_map (number_bytes 8) (drop (2 + length (option_list v.facs)) places))
+    ∷ (option_list v.facs ++ map (encoded_bytes_with (facs_among v places)) v.tables)
 
--- k parts were put in: there is room at the found places for those to come, of these lengths, and with these blocks the
--- image is the whole one
-pub record IsPartial (m : Memory) (found : List ℕ) (k : ℕ) (lengths : List ℕ) (blocks : List (List ℕ)) (whole : Memory) : Type 0 where
-  pub a : ℕ
-  pub room : HasRoom m a (drop k found) lengths
-  pub image : with_blocks m (blocks_from a blocks) ≡ whole
-
--- the image has the RSDP and the XSDT, and all other parts are still to come
-abbrev pub IsPartialSet : Memory → List ℕ → SetValue → ℕ → Type 0
-IsPartialSet m found v base =
-    IsPartial m found 2 (map length (option_list v.facs) ++ map encoded_length v.tables) (option_list v.facs ++ map (encoded_bytes_with (facs_place v base)) v.tables) (rebuilt_image v base)
+-- the bytes of the k-th part, as many as the places are counted with
+pub record IsPart (v : SetValue) (places : List ℕ) (k : ℕ) (bytes : List ℕ) : Type 0 where
+  pub are : bytes ≡ slice_index_or (parts_at v places) k []
+  pub count : length bytes ≡ slice_index (part_lengths v) k

@@ -12,9 +12,9 @@ use Rattle.acpi_base.specs.Entries.{IsEntry, IsTypeOf}
 use Rattle.acpi_base.specs.Madt.{madt_kinds, madt_entry}
 use Rattle.acpi_base.specs.Srat.{srat_kinds, srat_entry}
 use Rattle.acpi_base.specs.Pptt.{pptt_entry}
-use Rattle.acpi_read.specs.Madts.{madt_value}
-use Rattle.acpi_read.specs.Srats.{srat_value}
-use Rattle.acpi_read.specs.Pptts.{pptt_value, HasReferences}
+use Rattle.acpi_read.specs.Madts.{madt_value, madt_bytes}
+use Rattle.acpi_read.specs.Srats.{srat_value, srat_bytes}
+use Rattle.acpi_read.specs.Pptts.{pptt_value, HasReferences, pptt_bytes}
 use Rattle.acpi_read.specs.declared.madt.MadtEntry.{MadtEntry}
 use Rattle.acpi_read.specs.declared.madt.MadtEntry.TheVariants as madt
 use Rattle.acpi_read.specs.declared.srat.SratEntry.{SratEntry}
@@ -24,9 +24,6 @@ use Rattle.acpi_read.specs.declared.pptt.PpttEntry.TheVariants as pptt
 use Rattle.acpi_check.specs.declared.refusal.Refusal.{Refusal}
 use Rattle.acpi_check.specs.declared.refusal.Refusal.TheVariants.{Fault, OutOfMemory}
 use Rattle.acpi_write.specs.Values as value
-use Rattle.acpi_read.specs.Madts.{madt_bytes}
-use Rattle.acpi_read.specs.Srats.{srat_bytes}
-use Rattle.acpi_read.specs.Pptts.{pptt_bytes}
 use Rattle.acpi_write.specs.Encoded.{encoded_length, FitsHead}
 use Rattle.acpi_write.specs.Spells.{DoEntriesSay}
 pub use Rattle.acpi_write.specs.Spells.{IsWholeTable}
@@ -52,11 +49,12 @@ head_value h =
 
 -- what a value of the program says
 abbrev pub table_value : TableValue → value.TableValue
-table_value (table.Madt head address flags entries) = value.Madt (head_value head) address flags (map madt_value entries.items)
-table_value (table.Srat head entries) = value.Srat (head_value head) (map srat_value entries.items)
-table_value (table.Slit head count cells) = value.Slit (head_value head) count cells.now
-table_value (table.Pptt head entries) = value.Pptt (head_value head) (map pptt_value entries.items)
-table_value (table.Fadt head body) = value.Fadt (head_value head) body.items
+table_value (table.Madt head address flags entries) =
+    value.Known (head_value head) (value.Madt address flags (map madt_value entries.items))
+table_value (table.Srat head entries) = value.Known (head_value head) (value.Srat (map srat_value entries.items))
+table_value (table.Slit head count cells) = value.Known (head_value head) (value.Slit count cells.now)
+table_value (table.Pptt head entries) = value.Known (head_value head) (value.Pptt (map pptt_value entries.items))
+table_value (table.Fadt head body) = value.Known (head_value head) (value.Fadt body.items)
 table_value (table.Other bytes) = value.Other bytes.now
 
 abbrev pub set_value : SetValue → value.SetValue

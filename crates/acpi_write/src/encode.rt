@@ -4,20 +4,18 @@
 mod tests;
 
 ghost use Rattle.std.specs.Prelude.{◌≡◌, ◌≢◌, ◌+◌, ◌*◌, ◌^◌, ◌<◌, ◌≤◌, ◌++◌, length, map, flat_map, IsTrue, IfOk, IfErr, OnOk, MatchOption, ◌↔◌};
-ghost use Rattle.acpi_write.specs.Encoded.{table_bytes, encoded_bytes, body_of, encoded_length, srat_reserved, FitsHead};
+ghost use Rattle.acpi_write.specs.Encoded.{table_bytes, encoded_bytes, body_of, encoded_length, FitsHead};
 ghost use Rattle.acpi_base.specs.Number.{number_bytes};
 ghost use Rattle.acpi_base.specs.Madt.{madt_entry};
 ghost use Rattle.acpi_base.specs.Srat.{srat_entry};
 ghost use Rattle.acpi_base.specs.Pptt.{pptt_entry};
-ghost use Rattle.acpi_read.specs.Madts.{madt_value};
-ghost use Rattle.acpi_read.specs.Srats.{srat_value};
-ghost use Rattle.acpi_read.specs.Pptts.{pptt_value};
-ghost use Rattle.acpi_read.specs.Madts.{madt_bytes};
-ghost use Rattle.acpi_read.specs.Srats.{srat_bytes};
-ghost use Rattle.acpi_read.specs.Pptts.{pptt_bytes};
+ghost use Rattle.acpi_read.specs.Madts.{madt_value, madt_bytes};
+ghost use Rattle.acpi_read.specs.Srats.{srat_value, srat_bytes};
+ghost use Rattle.acpi_read.specs.Pptts.{pptt_value, pptt_bytes};
 ghost use Rattle.acpi_write.specs.Spells.{Spells, DoEntriesSay};
 ghost use Rattle.std.specs.List.{All};
 ghost use Rattle.acpi_write.specs.Views.{head_value, table_value, IsShaped, IsShapedMadt, IsShapedSrat, IsShapedPptt, IsWholeTable, DoPartsSay, IsRefusal};
+ghost use Rattle.acpi_write.specs.Bodies.{srat_reserved};
 
 use crate::entry_bytes::{append_all, sizes};
 use crate::table_value::{Head, TableValue};
@@ -61,7 +59,8 @@ fn is_whole_table(bytes: &[u8]) -> bool
 /// How many bytes the table has. None where there are none for the value.
 #[tactic(auto, using(crate::proofs::EntryBytes::EntryLists::encoded_sizes))]
 pub(crate) fn size_of(table: &TableValue<'_>) -> Option<u128>
-    ensures { MatchOption result (¬ IsShaped table.now) (λ size. IsShaped table.now × (size ≡ encoded_length (table_value table.now))) }
+    ensures { MatchOption result (¬ IsShaped table.now)
+        (λ size. IsShaped table.now × (size ≡ encoded_length (table_value table.now))) }
 {
     match table {
         TableValue::Madt { entries, .. } => Some(Entries::MADT_START as u128 + sizes(entries)?),
@@ -100,8 +99,12 @@ fn madt_body(
     entries: &[MadtEntry<'_>],
 ) -> Result<Vec<u8>, AllocError>
     requires { All IsShapedMadt entries.now }
-    ensures bytes { IfOk result (λ bytes. bytes.items ≡ number_bytes 4 address ++ (number_bytes 4 flags ++ flat_map madt_bytes (map madt_value entries.now))) }
-    ensures says { IfOk result (λ _. (address < 2 ^ 32) × (flags < 2 ^ 32) × DoEntriesSay madt_entry madt_bytes madt_value entries.now) }
+    ensures bytes { IfOk result
+        (λ bytes. bytes.items ≡ number_bytes 4 address
+        ++ (number_bytes 4 flags ++ flat_map madt_bytes (map madt_value entries.now))) }
+    ensures says { IfOk result
+        (λ _. (address < 2 ^ 32) × (flags < 2 ^ 32)
+        × DoEntriesSay madt_entry madt_bytes madt_value entries.now) }
 {
     let mut bytes = Vec::from_slice(alloc, &address.to_le_bytes())?;
     bytes.extend_from_slice(&flags.to_le_bytes())?;
@@ -113,7 +116,8 @@ fn madt_body(
 #[tactic(auto, using(crate::proofs::EntryBytes::EntryLists::bodies), unfolding(acpi_base::specs::Number::number_bytes))]
 fn srat_body(alloc: Global, entries: &[SratEntry<'_>]) -> Result<Vec<u8>, AllocError>
     requires { All IsShapedSrat entries.now }
-    ensures bytes { IfOk result (λ bytes. bytes.items ≡ srat_reserved ++ flat_map srat_bytes (map srat_value entries.now)) }
+    ensures bytes { IfOk result
+        (λ bytes. bytes.items ≡ srat_reserved ++ flat_map srat_bytes (map srat_value entries.now)) }
     ensures says { IfOk result (λ _. DoEntriesSay srat_entry srat_bytes srat_value entries.now) }
 {
     let mut bytes = Vec::from_slice(alloc, &SRAT_RESERVED)?;
@@ -121,22 +125,12 @@ fn srat_body(alloc: Global, entries: &[SratEntry<'_>]) -> Result<Vec<u8>, AllocE
     Ok(bytes)
 }
 
-/// The bytes of a SLIT behind its header.
-#[tactic(auto, unfolding(acpi_base::specs::Number::number_bytes))]
-fn slit_body(alloc: Global, count: u64, cells: &[u8]) -> Result<Vec<u8>, AllocError>
-    ensures bytes { IfOk result (λ bytes. bytes.items ≡ number_bytes 8 count ++ cells.now) }
-    ensures fits { count < 2 ^ 64 }
-{
-    let mut bytes = Vec::from_slice(alloc, &count.to_le_bytes())?;
-    bytes.extend_from_slice(cells)?;
-    Ok(bytes)
-}
-
 /// The bytes of a PPTT behind its header.
 #[tactic(auto, using(crate::proofs::EntryBytes::EntryLists::bodies))]
 fn pptt_body(alloc: Global, entries: &[PpttEntry<'_>]) -> Result<Vec<u8>, AllocError>
     requires { All IsShapedPptt entries.now }
-    ensures bytes { IfOk result (λ bytes. bytes.items ≡ flat_map pptt_bytes (map pptt_value entries.now)) }
+    ensures bytes { IfOk result
+        (λ bytes. bytes.items ≡ flat_map pptt_bytes (map pptt_value entries.now)) }
     ensures says { IfOk result (λ _. DoEntriesSay pptt_entry pptt_bytes pptt_value entries.now) }
 {
     let mut bytes = Vec::new(alloc);
@@ -145,7 +139,7 @@ fn pptt_body(alloc: Global, entries: &[PpttEntry<'_>]) -> Result<Vec<u8>, AllocE
 }
 
 /// The bytes of a table: its header, with the checksum that makes the sum 0, and its body.
-#[tactic(auto, using(crate::proofs::TablesWritten::TableBytes::encoded_bytes))]
+#[tactic(auto, using(crate::proofs::TablesWritten::Sums::encoded_bytes))]
 pub(crate) fn with_header(
     alloc: Global,
     signature: [u8; 4],
@@ -153,7 +147,8 @@ pub(crate) fn with_header(
     body: &[u8],
 ) -> Result<Vec<u8>, AllocError>
     requires { 36 + length body.now < 2 ^ 32 }
-    ensures bytes { IfOk result (λ bytes. bytes.items ≡ table_bytes signature (head_value head.now) body.now) }
+    ensures bytes { IfOk result
+        (λ bytes. bytes.items ≡ table_bytes signature (head_value head.now) body.now) }
     ensures fits { FitsHead (head_value head.now) }
 {
     let head = *head;
@@ -180,6 +175,7 @@ pub(crate) fn with_header(
 }
 
 /// The bytes of a table of which there are some, and not too many.
+#[tactic(auto, unfolding(acpi_base::specs::Number::number_bytes))]
 pub(crate) fn bytes_of(alloc: Global, table: &TableValue<'_>) -> Result<Vec<u8>, AllocError>
     requires shaped { IsShaped table.now }
     requires short { encoded_length (table_value table.now) < 2 ^ 32 }
@@ -201,7 +197,8 @@ pub(crate) fn bytes_of(alloc: Global, table: &TableValue<'_>) -> Result<Vec<u8>,
             with_header(alloc, *b"SRAT", head, &body)
         }
         TableValue::Slit { head, count, cells } => {
-            let body = slit_body(alloc, *count, cells)?;
+            let mut body = Vec::from_slice(alloc, &count.to_le_bytes())?;
+            body.extend_from_slice(cells)?;
             with_header(alloc, *b"SLIT", head, &body)
         }
         TableValue::Pptt { head, entries } => {
@@ -227,11 +224,12 @@ pub(crate) fn bytes_of(alloc: Global, table: &TableValue<'_>) -> Result<Vec<u8>,
 ///    - the bytes of `Other` are fewer than 36, are not as many as their Length says, or do not sum to 0 modulo 256;
 /// 2. `TooLong`, where the table would have more than 4,294,967,295 bytes, which no Length says;
 /// 3. `Memory`, where the allocator is out of memory. It takes none where it refuses with one of the first two.
-#[tactic(auto, using(crate::proofs::TablesWritten::Spelling::spelling))]
+#[tactic(auto, using(crate::proofs::Tables::Kinds::spelling))]
 pub fn encode_table(alloc: Global, table: &TableValue<'_>) -> Result<Vec<u8>, WriteFault>
     ensures spells { IfOk result (λ bytes. Spells (table_value table.now) bytes.items) }
     ensures bytes { IfOk result (λ bytes. bytes.items ≡ encoded_bytes (table_value table.now)) }
-    ensures shaped { IfOk result (λ _. IsShaped table.now × (encoded_length (table_value table.now) < 2 ^ 32)) }
+    ensures shaped { IfOk result
+        (λ _. IsShaped table.now × (encoded_length (table_value table.now) < 2 ^ 32)) }
     ensures refused { IfErr result (IsRefusal table.now) }
 {
     let Some(size) = size_of(table) else {

@@ -7,12 +7,9 @@ ghost use Rattle.acpi_base.specs.Layouts.{layout_bytes, HasValues};
 ghost use Rattle.acpi_base.specs.Madt.{madt_kinds, madt_entry};
 ghost use Rattle.acpi_base.specs.Srat.{srat_kinds, srat_entry};
 ghost use Rattle.acpi_base.specs.Pptt.{pptt_entry, Node};
-ghost use Rattle.acpi_read.specs.Madts.{madt_value};
-ghost use Rattle.acpi_read.specs.Srats.{srat_value};
-ghost use Rattle.acpi_read.specs.Pptts.{pptt_value, node_value};
-ghost use Rattle.acpi_read.specs.Madts.{madt_bytes};
-ghost use Rattle.acpi_read.specs.Srats.{srat_bytes};
-ghost use Rattle.acpi_read.specs.Pptts.{pptt_bytes};
+ghost use Rattle.acpi_read.specs.Madts.{madt_value, madt_bytes};
+ghost use Rattle.acpi_read.specs.Srats.{srat_value, srat_bytes};
+ghost use Rattle.acpi_read.specs.Pptts.{pptt_value, node_value, pptt_bytes};
 ghost use Rattle.acpi_write.specs.Spells.{SaysEntry};
 ghost use Rattle.acpi_write.specs.Views.{IsShapedMadt, IsShapedSrat, IsShapedPptt};
 
@@ -29,8 +26,10 @@ const MOST: usize = 40;
 /// Adds the bytes of a structure of a fixed layout.
 fn append_layout<L: Layout>(bytes: &mut Vec<u8>, value: &L) -> Result<(), AllocError>
     requires { L.LEN ≤ 40 }
-    ensures bytes { OnOk result (bytes.new.items ≡ bytes.old.items ++ layout_bytes L.parts (L.values value.now)) }
-    ensures says { HasValues L.parts (layout_bytes L.parts (L.values value.now)) (L.values value.now) }
+    ensures bytes { OnOk result
+        (bytes.new.items ≡ bytes.old.items ++ layout_bytes L.parts (L.values value.now)) }
+    ensures says { HasValues L.parts (layout_bytes L.parts (L.values value.now))
+        (L.values value.now) }
 {
     let mut out = [0; MOST];
     let out = &mut out[..L::LEN];
@@ -41,7 +40,8 @@ fn append_layout<L: Layout>(bytes: &mut Vec<u8>, value: &L) -> Result<(), AllocE
 /// Adds the bytes of an entry of a kind.
 fn append_kind<K: EntryKind>(bytes: &mut Vec<u8>, value: &K) -> Result<(), AllocError>
     requires { K.LEN ≤ 40 }
-    ensures bytes { OnOk result (bytes.new.items ≡ bytes.old.items ++ layout_bytes K.parts (K.values value.now)) }
+    ensures bytes { OnOk result
+        (bytes.new.items ≡ bytes.old.items ++ layout_bytes K.parts (K.values value.now)) }
     ensures says { IsEntryOf K.kind (layout_bytes K.parts (K.values value.now)) (K.say value.now) }
 {
     append_layout(bytes, value)
@@ -49,7 +49,8 @@ fn append_kind<K: EntryKind>(bytes: &mut Vec<u8>, value: &K) -> Result<(), Alloc
 
 /// How many bytes an entry has that is kept as bytes. None where they do not say their own number.
 fn kept_size(bytes: &[u8]) -> Option<usize>
-    ensures { MatchOption result (¬ IsEntry bytes.now) (λ size. IsEntry bytes.now × (size ≡ length bytes.now) × (size ≤ 255)) }
+    ensures { MatchOption result (¬ IsEntry bytes.now)
+        (λ size. IsEntry bytes.now × (size ≡ length bytes.now) × (size ≤ 255)) }
 {
     if bytes.len() < 2 || usize::from(bytes[1]) != bytes.len() {
         return None;
@@ -58,36 +59,44 @@ fn kept_size(bytes: &[u8]) -> Option<usize>
 }
 
 /// Whether an entry's type is none of a MADT's.
-#[tactic(auto, using(crate::proofs::EntryBytes::MadtBytes::madt_others))]
 fn is_other_madt(entry: &[u8]) -> bool
     requires { IsEntry entry.now }
     ensures { IsTrue result ↔ (¬ IsTypeOf madt_kinds (slice_index entry.now 0)) }
 {
-    matches!(MadtEntry::read(entry), Ok(MadtEntry::Opaque(_)))
+    let number = entry[0];
+    number != LocalApic::TYPE
+        && number != IoApic::TYPE
+        && number != Override::TYPE
+        && number != NmiSource::TYPE
+        && number != LocalNmi::TYPE
+        && number != AddressOverride::TYPE
+        && number != X2apic::TYPE
+        && number != X2apicNmi::TYPE
 }
 
 /// Whether an entry's type is none of an SRAT's.
-#[tactic(auto, using(crate::proofs::EntryBytes::SratBytes::srat_others))]
 fn is_other_srat(entry: &[u8]) -> bool
     requires { IsEntry entry.now }
     ensures { IsTrue result ↔ (¬ IsTypeOf srat_kinds (slice_index entry.now 0)) }
 {
-    matches!(SratEntry::read(entry), Ok(SratEntry::Opaque(_)))
+    let number = entry[0];
+    number != ApicDomain::TYPE && number != MemoryRange::TYPE && number != X2apicDomain::TYPE
 }
 
 /// Whether an entry's type is none of a PPTT's.
-#[tactic(auto, using(crate::proofs::EntryBytes::PpttBytes::pptt_others))]
 fn is_other_pptt(entry: &[u8]) -> bool
     requires { IsEntry entry.now }
     ensures { IsTrue result ↔ (2 ≤ slice_index entry.now 0) }
 {
-    matches!(PpttEntry::read(entry), Ok(PpttEntry::Opaque(_)))
+    entry[0] > Cache24::TYPE
 }
 
 /// How many bytes a node has. None where it does not have 4 bytes for each of its references.
 #[tactic(auto, using(crate::proofs::EntryBytes::NodeBytes::node_sizes))]
 fn node_size(head: &NodeHead, references: &[u8]) -> Option<usize>
-    ensures { MatchOption result (length references.now ≢ 4 * head.now.count) (λ size. (length references.now ≡ 4 * head.now.count) × (size ≡ length (pptt_bytes (Node (node_value head.now references.now)))) × (size ≤ 255)) }
+    ensures { MatchOption result (length references.now ≢ 4 * head.now.count)
+        (λ size. (length references.now ≡ 4 * head.now.count)
+        × (size ≡ length (pptt_bytes (Node (node_value head.now references.now)))) × (size ≤ 255)) }
 {
     let head = *head;
     if references.len() as u64 != 4 * u64::from(head.count) {
@@ -100,8 +109,12 @@ fn node_size(head: &NodeHead, references: &[u8]) -> Option<usize>
 #[tactic(auto, using(crate::proofs::EntryBytes::NodeBytes::nodes))]
 fn append_node(bytes: &mut Vec<u8>, head: &NodeHead, references: &[u8]) -> Result<(), AllocError>
     requires { length references.now ≡ 4 * head.now.count }
-    ensures bytes { OnOk result (bytes.new.items ≡ bytes.old.items ++ pptt_bytes (Node (node_value head.now references.now))) }
-    ensures says { OnOk result (SaysEntry pptt_entry (pptt_bytes (Node (node_value head.now references.now))) (Node (node_value head.now references.now))) }
+    ensures bytes { OnOk result
+        (bytes.new.items ≡ bytes.old.items ++ pptt_bytes
+        (Node (node_value head.now references.now))) }
+    ensures says { OnOk result
+        (SaysEntry pptt_entry (pptt_bytes (Node (node_value head.now references.now)))
+        (Node (node_value head.now references.now))) }
 {
     append_layout(bytes, head)?;
     bytes.extend_from_slice(references)
@@ -120,7 +133,8 @@ pub(crate) trait EntryBytes {
 
     /// How many bytes it has. None where there are none for it.
     fn size(&self) -> Option<usize>
-        ensures { MatchOption result (¬ shaped self.now) (λ size. shaped self.now × (size ≡ length (spelled self.now)) × (size ≤ 255)) };
+        ensures { MatchOption result (¬ shaped self.now)
+            (λ size. shaped self.now × (size ≡ length (spelled self.now)) × (size ≤ 255)) };
 
     /// Adds its bytes.
     fn append(&self, bytes: &mut Vec<u8>) -> Result<(), AllocError>
@@ -136,7 +150,7 @@ impl<'a> EntryBytes for MadtEntry<'a> {
 
     ghost said_by = { λ entry bytes. SaysEntry madt_entry bytes (madt_value entry) };
 
-    #[tactic(auto, using(crate::proofs::EntryBytes::MadtBytes::madt_sizes))]
+    #[tactic(auto, using(crate::proofs::EntryBytes::EntryLists::entry_sizes))]
     fn size(&self) -> Option<usize> {
         match self {
             MadtEntry::LocalApic(_) => Some(LocalApic::LEN),
@@ -157,7 +171,7 @@ impl<'a> EntryBytes for MadtEntry<'a> {
         }
     }
 
-    #[tactic(auto, unfolding(acpi_base::specs::Madt::madt_entry, acpi_base::specs::Entries::has_form), using(crate::proofs::EntryBytes::MadtBytes::madt_kept))]
+    #[tactic(auto, unfolding(acpi_base::specs::Madt::madt_entry, acpi_base::specs::Entries::has_form), using(crate::proofs::EntryBytes::EntryForms::madt_opaque))]
     fn append(&self, bytes: &mut Vec<u8>) -> Result<(), AllocError> {
         match self {
             MadtEntry::LocalApic(entry) => append_kind(bytes, entry),
@@ -180,7 +194,7 @@ impl<'a> EntryBytes for SratEntry<'a> {
 
     ghost said_by = { λ entry bytes. SaysEntry srat_entry bytes (srat_value entry) };
 
-    #[tactic(auto, using(crate::proofs::EntryBytes::SratBytes::srat_sizes))]
+    #[tactic(auto, using(crate::proofs::EntryBytes::EntryLists::entry_sizes))]
     fn size(&self) -> Option<usize> {
         match self {
             SratEntry::ApicDomain(_) => Some(ApicDomain::LEN),
@@ -196,7 +210,7 @@ impl<'a> EntryBytes for SratEntry<'a> {
         }
     }
 
-    #[tactic(auto, unfolding(acpi_base::specs::Srat::srat_entry, acpi_base::specs::Entries::has_form), using(crate::proofs::EntryBytes::SratBytes::srat_kept))]
+    #[tactic(auto, unfolding(acpi_base::specs::Srat::srat_entry, acpi_base::specs::Entries::has_form), using(crate::proofs::EntryBytes::EntryForms::srat_opaque))]
     fn append(&self, bytes: &mut Vec<u8>) -> Result<(), AllocError> {
         match self {
             SratEntry::ApicDomain(entry) => append_kind(bytes, entry),
@@ -214,7 +228,7 @@ impl<'a> EntryBytes for PpttEntry<'a> {
 
     ghost said_by = { λ entry bytes. SaysEntry pptt_entry bytes (pptt_value entry) };
 
-    #[tactic(auto, using(crate::proofs::EntryBytes::PpttBytes::pptt_sizes))]
+    #[tactic(auto, using(crate::proofs::EntryBytes::EntryLists::entry_sizes))]
     fn size(&self) -> Option<usize> {
         match self {
             PpttEntry::Node(head, references) => node_size(head, references),
@@ -230,7 +244,7 @@ impl<'a> EntryBytes for PpttEntry<'a> {
         }
     }
 
-    #[tactic(auto, using(crate::proofs::EntryBytes::PpttBytes::pptt_says))]
+    #[tactic(auto, using(crate::proofs::EntryBytes::NodeBytes::pptt_says))]
     fn append(&self, bytes: &mut Vec<u8>) -> Result<(), AllocError> {
         match self {
             PpttEntry::Node(head, references) => append_node(bytes, head, references),
@@ -244,7 +258,9 @@ impl<'a> EntryBytes for PpttEntry<'a> {
 /// How many bytes the entries have together. None where there are none for one of them.
 #[tactic(auto, using(crate::proofs::EntryBytes::EntryLists::entry_lists))]
 pub(crate) fn sizes<E: EntryBytes>(entries: &[E]) -> Option<u128>
-    ensures { MatchOption result (¬ All E.shaped entries.now) (λ size. All E.shaped entries.now × (size ≡ length (flat_map E.spelled entries.now)) × (size ≤ 255 * 2 ^ 64)) }
+    ensures { MatchOption result (¬ All E.shaped entries.now)
+        (λ size. All E.shaped entries.now × (size ≡ length (flat_map E.spelled entries.now))
+        × (size ≤ 255 * 2 ^ 64)) }
 {
     let mut total = 0;
     for entry in entries {
@@ -260,7 +276,8 @@ pub(crate) fn append_all<E: EntryBytes>(
     entries: &[E],
 ) -> Result<(), AllocError>
     requires { All E.shaped entries.now }
-    ensures bytes { OnOk result (bytes.new.items ≡ bytes.old.items ++ flat_map E.spelled entries.now) }
+    ensures bytes { OnOk result
+        (bytes.new.items ≡ bytes.old.items ++ flat_map E.spelled entries.now) }
     ensures says { OnOk result (All (λ entry. E.said_by entry (E.spelled entry)) entries.now) }
 {
     for entry in entries {

@@ -10,6 +10,7 @@ ghost use Rattle.acpi_write.specs.SetValues.{IsSetValue, OneSetValue};
 ghost use Rattle.acpi_write.specs.Spells.{OneValueSpelled};
 
 /// Bytes say at most one value of a kind, so what is written can be read in one way.
+#[tactic(auto, using(crate::proofs::Tables::Kinds::one_value))]
 pub fn one_value()
     ensures { OneValueSpelled }
 {}
@@ -19,8 +20,9 @@ pub fn one_set_value()
     ensures { OneSetValue }
 {}
 
-/// The value that is read of a table is the one that its bytes say: of a MADT, an SRAT and a PPTT where entries fill it
-/// that have lengths of their types, of a SLIT where it has its cells, of a FADT of at least 116 bytes, of any other.
+/// The value that is read of a table is the one that its bytes say: of a table of each `TableKind` where the
+/// bytes can be read as those of one, and of any other.
+#[tactic(auto, using(crate::proofs::Tables::Kinds::what_is_read))]
 pub fn what_is_read()
     ensures { WhatIsReadIsSpelled }
 {}
@@ -32,6 +34,7 @@ pub fn entries_are_kept()
 
 /// A table that is read by its contents and written again has the same contents: the same entries at the same offsets,
 /// where entries fill it.
+#[tactic(auto, using(crate::proofs::TablesWritten::KeptContents::contents_are_kept))]
 pub fn contents_are_kept()
     ensures { ContentsAreKept }
 {}
@@ -42,6 +45,7 @@ pub fn fadts_name_facs()
 {}
 
 /// The rebuilt image of a set holds each of its parts, whole and at its place.
+#[tactic(auto, using(crate::proofs::NewSets::NewImage::parts_are_held))]
 pub fn rebuilt_holds_parts()
     ensures { RebuiltHoldsParts }
 {}
@@ -54,6 +58,7 @@ pub fn clean_parts_are_laid()
 
 /// Where what a set says can stand from a base address on, its rebuilt image leads from there to the tables: the RSDP
 /// at that address and the XSDT that it names are sound, and the XSDT lists the tables' places.
+#[tactic(auto, using(crate::proofs::NewSets::NewImage::leads_to_tables))]
 pub fn rebuilt_leads_to_tables()
     ensures { RebuiltLeadsToTables }
 {}

@@ -2,8 +2,8 @@
 //! anew.
 //!
 //! - `values`: what a clean set says, apart from where its parts stand, or the first fault of a set that is not clean.
-//! - `TableValue`: what a table says: the MADT, the SRAT and the PPTT by their entries, the SLIT by its cells, the FADT
-//!   by its bytes behind the header, and any other table by all its bytes.
+//! - `TableValue`: what a table says: one of a `TableKind` by its contents, the FADT by its bytes behind the header, and
+//!   any other table by all its bytes.
 //! - `encode_table`: the bytes of a table that says a value, with the checksum that makes them sum to 0.
 //! - `rebuild`: the set of an image built anew from a base address on, or why it cannot be.
 //! - `laws`: what holds of the definitions: bytes say at most one value of a kind, a table that is read and written again
@@ -27,7 +27,6 @@
 
 mod encode;
 mod entry_bytes;
-mod entry_lists;
 mod fadt_body;
 pub mod laws;
 mod placing;

@@ -69,17 +69,16 @@ fn written_length(table: &TableValue<'_>) -> u64
     requires short { IsShort table.now }
     ensures length { result ≡ encoded_length (table_value table.now) }
 {
-    match size_of(table) {
-        Some(size) => size as u64,
-        None => unreachable!(),
-    }
+    // There is one for a value that is shaped.
+    size_of(table).unwrap_or(0) as u64
 }
 
 /// Appends how many bytes each table has.
 fn append_lengths(lengths: &mut Vec<u64>, tables: &[TableValue<'_>]) -> Result<(), AllocError>
     requires shaped { All IsShaped tables.now }
     requires short { All IsShort tables.now }
-    ensures { OnOk result (lengths.new.items ≡ lengths.old.items ++ map (λ t. encoded_length (table_value t)) tables.now) }
+    ensures { OnOk result (lengths.new.items ≡ lengths.old.items ++ map
+        (λ t. encoded_length (table_value t)) tables.now) }
 {
     for table in tables {
         lengths.push(written_length(table))?;
@@ -93,7 +92,8 @@ fn places_of(alloc: Global, base: u64, lengths: &[u64]) -> Result<Vec<u64>, Rebu
     requires { All (λ n. 0 < n) lengths.now }
     ensures places { IfOk result (λ found. found.items ≡ block_places base lengths.now) }
     ensures inside { IfOk result (λ _. DoEndInside (block_ends base lengths.now)) }
-    ensures refused { IfErr result (λ fault. (fault ≡ RebuildFault.Memory) ⊎ ((fault ≡ RebuildFault.PastEnd) × ¬ DoEndInside (block_ends base lengths.now))) }
+    ensures refused { IfErr result (λ fault. (fault ≡ RebuildFault.Memory)
+        ⊎ ((fault ≡ RebuildFault.PastEnd) × ¬ DoEndInside (block_ends base lengths.now))) }
 {
     let mut found = Vec::new(alloc);
     let mut next = u128::from(base);
@@ -172,7 +172,8 @@ pub(crate) fn placed(
     requires facs { All (λ bytes. 0 < length bytes) (option_list (set_value value.now).facs) }
     ensures places { IfOk result (λ found. found.items ≡ part_places (set_value value.now) base) }
     ensures placed { IfOk result (λ _. IsPlaced (set_value value.now) base) }
-    ensures refused { IfErr result (λ fault. (fault ≡ RebuildFault.Memory) ⊎ IsPlacingRefusal (set_value value.now) base fault) }
+    ensures refused { IfErr result (λ fault. (fault ≡ RebuildFault.Memory)
+        ⊎ IsPlacingRefusal (set_value value.now) base fault) }
 {
     if xsdt_length(value.tables.len()) > u128::from(u32::MAX) {
         return Err(RebuildFault::TableTooLong);

@@ -15,8 +15,8 @@ pub struct SetValue<'a> {
     pub oemid: [u8; 6],
     /// What the header of the root says, an RSDT or an XSDT.
     pub root: Head,
-    /// The listed tables, in the order of their slots; a slot that holds 0 lists none. The first FADT, MADT, SRAT, SLIT
-    /// and PPTT are read by their contents. Any other table, also a later one with such a signature, is `Other`.
+    /// The listed tables, in the order of their slots; a slot that holds 0 lists none. The first table of each
+    /// `TableKind` is read by its contents. Any other table, also a later one with such a signature, is `Other`.
     pub tables: Vec<TableValue<'a>>,
     /// The bytes of the FACS, where the FADT names one (5.2.10). The FADT's own addresses of it are 0 here.
     pub facs: Option<&'a [u8]>,

@@ -1,29 +1,33 @@
 //! What listed tables say.
 
-ghost use Rattle.std.specs.Prelude.{◌≡◌, ◌≤◌, ℕ, List, length, map, IfOk};
+ghost use Rattle.std.specs.Prelude.{◌≡◌, ◌≤◌, ℕ, List, length, map, Some, IfOk};
 ghost use Rattle.std.specs.List.{All, AllZip};
+ghost use Rattle.acpi_base.specs.Entries.{entries_read_by};
 ghost use Rattle.acpi_base.specs.Header.{header_of, head_of};
 ghost use Rattle.acpi_base.specs.Listed.{listed_addresses};
 ghost use Rattle.acpi_base.specs.Number.{byte_sum};
+ghost use Rattle.acpi_base.specs.declared.table_kind.TableKind.{TableKind};
 ghost use Rattle.acpi_check.specs.HandedOn.{IsListedSet};
 ghost use Rattle.acpi_read.specs.Headers.{header_value};
-ghost use Rattle.acpi_write.specs.Kinds.{IsReadableAs, table_value_as, AreReadable, table_of};
-ghost use Rattle.acpi_write.specs.Readable.{IsReadableSlit};
-ghost use Rattle.acpi_write.specs.SetValues.{fadt_table_value, madt_table_value, srat_table_value, slit_table_value, pptt_table_value, values_of, IsWholeAt};
+ghost use Rattle.acpi_write.specs.Bodies.{entries_in, IsReadableAs};
+ghost use Rattle.acpi_write.specs.Kinds.{AreReadable, table_of};
+ghost use Rattle.acpi_write.specs.SetValues.{table_value_as, values_of, IsWholeAt};
 ghost use Rattle.acpi_write.specs.Views.{head_value, table_value, IsShaped, IsShort};
 
-use crate::entry_lists::{madt_entries, pptt_entries, srat_entries};
 use crate::fadt_body::with_facs;
 use crate::table_value::{Head, TableValue};
 use acpi_base::TableKind;
 use acpi_base::field::u64_at;
 use acpi_check::ListedSet;
-use acpi_read::{FirstTables, Header, Layout, Listed, Madt, Pptt, Slit, Srat, Table};
+use acpi_read::{
+    FirstTables, Header, Layout, Listed, Madt, Pptt, Slit, Srat, Table, TableEntry, TypedEntries,
+};
 use std::alloc::{AllocError, Global};
 
 /// What a header says beside its signature, its length and its checksum.
 pub(crate) fn head_in(header: Header) -> Head
-    ensures { (bytes : List ℕ) → header_value header ≡ header_of bytes → head_value result ≡ head_of bytes }
+    ensures { (bytes : List ℕ) → header_value header ≡ header_of bytes
+        → head_value result ≡ head_of bytes }
 {
     let oemid = header.oemid;
     let oem_table_id = header.oem_table_id;
@@ -43,7 +47,8 @@ pub(crate) fn listed_tables<'a>(
     set: &ListedSet<'a>,
 ) -> Result<Vec<Listed<'a>>, AllocError>
     requires { IsListedSet set.now }
-    ensures { IfOk result (λ found. AllZip (IsWholeAt set.now.image.now) (listed_addresses set.now.root.bytes set.now.root.width) (map table_of found.items)) }
+    ensures { IfOk result (λ found. AllZip (IsWholeAt set.now.image.now)
+        (listed_addresses set.now.root.bytes set.now.root.width) (map table_of found.items)) }
 {
     let mut found = Vec::new(alloc);
     for slot in 0..set.root.slots() {
@@ -54,10 +59,28 @@ pub(crate) fn listed_tables<'a>(
     Ok(found)
 }
 
+/// What entries say, in their order.
+fn entry_list<'a, E: TableEntry<'a> + Drop>(
+    alloc: Global,
+    entries: TypedEntries<'a, E>,
+) -> Result<Vec<E>, AllocError>
+    ensures entries { IfOk result
+        (λ found. map E.value found.items ≡ entries_in
+        (entries_read_by E.said_by entries.entry.entries.entries)) }
+    ensures read { IfOk result (λ found. All E.IsRead found.items) }
+{
+    let mut found = Vec::new(alloc);
+    for item in entries {
+        found.push(item.entry)?;
+    }
+    Ok(found)
+}
+
 /// What a FADT says.
 fn read_fadt<'a>(alloc: Global, table: &Table<'a>) -> Result<TableValue<'a>, AllocError>
     requires { 116 ≤ length table.now }
-    ensures value { IfOk result (λ value. table_value value ≡ fadt_table_value table.now) }
+    ensures value { IfOk result
+        (λ value. table_value value ≡ table_value_as (Some TableKind.Fadt) table.now) }
     ensures shaped { IfOk result IsShaped }
 {
     let head = head_in(table.header());
@@ -68,13 +91,14 @@ fn read_fadt<'a>(alloc: Global, table: &Table<'a>) -> Result<TableValue<'a>, All
 
 /// What a MADT says.
 fn read_madt<'a>(alloc: Global, madt: &Madt<'a>) -> Result<TableValue<'a>, AllocError>
-    ensures value { IfOk result (λ value. table_value value ≡ madt_table_value madt.now) }
+    ensures value { IfOk result
+        (λ value. table_value value ≡ table_value_as (Some TableKind.Madt) madt.now) }
     ensures shaped { IfOk result IsShaped }
 {
     let head = head_in(madt.header());
     let address = madt.local_apic_address();
     let flags = madt.flags();
-    let entries = madt_entries(alloc, madt)?;
+    let entries = entry_list(alloc, madt.entries())?;
     Ok(TableValue::Madt {
         head,
         address,
@@ -85,35 +109,50 @@ fn read_madt<'a>(alloc: Global, madt: &Madt<'a>) -> Result<TableValue<'a>, Alloc
 
 /// What an SRAT says.
 fn read_srat<'a>(alloc: Global, srat: &Srat<'a>) -> Result<TableValue<'a>, AllocError>
-    ensures value { IfOk result (λ value. table_value value ≡ srat_table_value srat.now) }
+    ensures value { IfOk result
+        (λ value. table_value value ≡ table_value_as (Some TableKind.Srat) srat.now) }
     ensures shaped { IfOk result IsShaped }
 {
     let head = head_in(srat.header());
-    let entries = srat_entries(alloc, srat)?;
+    let entries = entry_list(alloc, srat.entries())?;
     Ok(TableValue::Srat { head, entries })
-}
-
-/// What a SLIT says.
-fn read_slit<'a>(table: &Table<'a>) -> TableValue<'a>
-    requires { IsReadableSlit table.now }
-    ensures value { table_value result ≡ slit_table_value table.now }
-    ensures shaped { IsShaped result }
-{
-    let head = head_in(table.header());
-    let bytes = table.bytes();
-    let count = u64_at(bytes, Slit::COUNT);
-    let cells = &bytes[Slit::CELLS..];
-    TableValue::Slit { head, count, cells }
 }
 
 /// What a PPTT says.
 fn read_pptt<'a>(alloc: Global, pptt: &Pptt<'a>) -> Result<TableValue<'a>, AllocError>
-    ensures value { IfOk result (λ value. table_value value ≡ pptt_table_value pptt.now) }
+    ensures value { IfOk result
+        (λ value. table_value value ≡ table_value_as (Some TableKind.Pptt) pptt.now) }
     ensures shaped { IfOk result IsShaped }
 {
     let head = head_in(pptt.header());
-    let entries = pptt_entries(alloc, pptt)?;
+    let entries = entry_list(alloc, pptt.entries())?;
     Ok(TableValue::Pptt { head, entries })
+}
+
+/// What a table says as one of a kind.
+fn known_value<'a>(
+    alloc: Global,
+    table: &Table<'a>,
+    kind: TableKind,
+) -> Result<TableValue<'a>, AllocError>
+    requires { IsReadableAs (Some kind) table.now }
+    ensures value { IfOk result
+        (λ value. table_value value ≡ table_value_as (Some kind) table.now) }
+    ensures shaped { IfOk result IsShaped }
+{
+    match kind {
+        TableKind::Fadt => read_fadt(alloc, table),
+        TableKind::Madt => read_madt(alloc, &Madt::of(table.copied())),
+        TableKind::Srat => read_srat(alloc, &Srat::of(table.copied())),
+        TableKind::Slit => {
+            let head = head_in(table.header());
+            let bytes = table.bytes();
+            let count = u64_at(bytes, Slit::COUNT);
+            let cells = &bytes[Slit::CELLS..];
+            Ok(TableValue::Slit { head, count, cells })
+        }
+        TableKind::Pptt => read_pptt(alloc, &Pptt::of(table.copied())),
+    }
 }
 
 /// What a table says as one of a kind, or by its bytes alone.
@@ -131,22 +170,18 @@ fn value_as<'a>(
     let bytes = table.bytes();
     match kind {
         None => Ok(TableValue::Other { bytes }),
-        Some(TableKind::Fadt) => read_fadt(alloc, table),
-        Some(TableKind::Madt) => read_madt(alloc, &Madt::of(table.copied())),
-        Some(TableKind::Srat) => read_srat(alloc, &Srat::of(table.copied())),
-        Some(TableKind::Slit) => Ok(read_slit(table)),
-        Some(TableKind::Pptt) => read_pptt(alloc, &Pptt::of(table.copied())),
+        Some(kind) => known_value(alloc, table, kind),
     }
 }
 
-/// What tables say, in their order: the first FADT, MADT, SRAT, SLIT and PPTT by their contents, all others by their
-/// bytes.
+/// What tables say, in their order: the first of each kind by its contents, all others by their bytes.
 pub(crate) fn table_values<'a>(
     alloc: Global,
     tables: &[Listed<'a>],
 ) -> Result<Vec<TableValue<'a>>, AllocError>
     requires { AreReadable (map table_of tables.now) }
-    ensures values { IfOk result (λ found. map table_value found.items ≡ values_of (map table_of tables.now)) }
+    ensures values { IfOk result
+        (λ found. map table_value found.items ≡ values_of (map table_of tables.now)) }
     ensures shaped { IfOk result (λ found. All IsShaped found.items) }
     ensures short { IfOk result (λ found. All IsShort found.items) }
 {

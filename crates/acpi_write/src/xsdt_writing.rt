@@ -30,7 +30,9 @@ pub(crate) fn xsdt_bytes(
     addresses: &[u64],
 ) -> Result<Vec<u8>, AllocError>
     requires { 36 + 8 * length addresses.now < 2 ^ 32 }
-    ensures bytes { IfOk result (λ bytes. bytes.items ≡ table_bytes xsdt_signature (head_value head.now) (flat_map (number_bytes 8) addresses.now)) }
+    ensures bytes { IfOk result
+        (λ bytes. bytes.items ≡ table_bytes xsdt_signature (head_value head.now)
+        (flat_map (number_bytes 8) addresses.now)) }
     ensures count { IfOk result (λ bytes. length bytes.items ≡ 36 + 8 * length addresses.now) }
 {
     let slots = slots(alloc, addresses)?;

@@ -16,13 +16,16 @@ own_srat : (e : srat.SratEntry) → srat.IsSoundSratEntry e → srats.IsOfOwnLen
 own_srat (srat.Opaque e) sound = sound
 own_srat _ sound = tt
 
-pub filled_madt : (q : PolicyValue) (whole : List ℕ) → madt.IsSoundMadt q (madt.madt_contents whole) → IsFilledMadt whole
+pub filled_madt : (q : PolicyValue) (whole : List ℕ) → madt.IsSoundMadt q (madt.madt_contents whole)
+    → IsFilledMadt whole
 unfolding madt.madt_contents
-filled_madt q whole sound = record { long = sound.long; filled = sound.filled; lengths = λ o e stands. own_madt q e (sound.entries o e stands) }
+filled_madt q whole sound =
+    record { long = sound.long; filled = sound.filled; lengths = λ o e stands. own_madt q e (sound.entries o e stands) }
 
 pub filled_srat : (whole : List ℕ) → srat.IsSoundSrat (srat.srat_contents whole) → IsFilledSrat whole
 unfolding srat.srat_contents
-filled_srat whole sound = record { long = sound.long; filled = sound.filled; lengths = λ o e stands. own_srat e (sound.entries o e stands) }
+filled_srat whole sound =
+    record { long = sound.long; filled = sound.filled; lengths = λ o e stands. own_srat e (sound.entries o e stands) }
 
 pub filled_pptt : (whole : List ℕ) → pptt.IsCutPptt (pptt.pptt_contents whole) → IsFilledPptt whole
 unfolding pptt.pptt_contents

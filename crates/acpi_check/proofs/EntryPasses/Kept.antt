@@ -23,18 +23,24 @@ pub map_has : {X Y : Type 0} (f : X → Y) (xs : List X) (x : X) → Contains xs
 map_has f xs x (k, below, is) = (k, omega (arith, length-map xs f), get_or-map f xs k x ∙ ap f is)
 
 -- what is kept of an element is an element of what is kept
-pub kept_has : {X Y : Type 0} (h : X → Option Y) (xs : List X) (x : X) (y : Y) → Contains xs x → h x ≡ Some y → Contains (filter_map h xs) y
+pub kept_has : {X Y : Type 0} (h : X → Option Y) (xs : List X) (x : X) (y : Y) → Contains xs x → h x ≡ Some y
+    → Contains (filter_map h xs) y
 kept_has h [] x y listed is = absurd (no_element x listed)
 kept_has h (u ∷ xs) x y listed is =
     elim (first_or_later u x xs listed) [
       | inl same ↦ rw (ap h same ∙ is) (first_element y (filter_map h xs))
       | inr later ↦
           let rest = kept_has h xs x y later is in
-          elim (h u) as (λ o. Contains (cons_option o (filter_map h xs)) y) [ None ↦ rest | Some v ↦ later_element v y (filter_map h xs) rest ]
+          elim (h u) as (λ o. Contains (cons_option o (filter_map h xs)) y) [
+            | None ↦ rest
+            | Some v ↦
+                later_element v y (filter_map h xs) rest
+          ]
     ]
 
 -- and each element of what is kept is of some element
-pub kept_from : {X Y : Type 0} (h : X → Option Y) (xs : List X) (y : Y) → Contains (filter_map h xs) y → (x : X) × Contains xs x × (h x ≡ Some y)
+pub kept_from : {X Y : Type 0} (h : X → Option Y) (xs : List X) (y : Y) → Contains (filter_map h xs) y
+    → (x : X) × Contains xs x × (h x ≡ Some y)
 kept_from {X} h [] y listed = absurd (no_element y listed)
 kept_from {X} h (u ∷ xs) y listed =
     elim (cases_Option (h u)) [
@@ -57,7 +63,8 @@ AreRising low [] = Unit {0}
 AreRising low (s ∷ rest) = (low ≤ s.offset) × AreRising (suc s.offset) rest
 
 -- so they do from any lower offset
-rising_from_less : {E : Type 0} (low high : ℕ) (entries : List (PlacedEntry E)) → low ≤ high → AreRising high entries → AreRising low entries
+rising_from_less : {E : Type 0} (low high : ℕ) (entries : List (PlacedEntry E)) → low ≤ high → AreRising high entries
+    → AreRising low entries
 rising_from_less low high [] less rises = tt
 rising_from_less low high (s ∷ rest) less rises = (omega (arith, rises.0), rises.1)
 
@@ -65,21 +72,28 @@ rising_from_less low high (s ∷ rest) less rises = (omega (arith, rises.0), ris
 first_least : (left e : List ℕ) → first_entry left ≡ Some e → 2 ≤ length e
 unfolding first_entry
 first_least left e is =
-    let parts = cond_some (nat_le 2 (length left) && nat_le 2 (slice_index left 1) && nat_le (slice_index left 1) (length left)) (take (slice_index left 1) left) e is in
+    let parts = cond_some (nat_le 2 (length left) && nat_le 2 (slice_index left 1) && nat_le (slice_index left 1)
+    (length left)) (take (slice_index left 1) left) e is in
     grind (arith, and_parts, leb-true, length-take-le, parts.0, parts.1)
 
 -- entries one behind another stand at rising offsets
-rising_from : {E : Type 0} (read : List ℕ → E) (n offset : ℕ) (left : List ℕ) → AreRising offset (entries_read_by read (entries_from n offset left))
+rising_from : {E : Type 0} (read : List ℕ → E) (n offset : ℕ) (left : List ℕ)
+    → AreRising offset (entries_read_by read (entries_from n offset left))
 unfolding entries_from
 rising_from read zero offset left = tt
 rising_from read (suc n) offset left =
     elim (cases_Option (first_entry left)) [
       | inr none ↦ rw none tt
-      | inl (e, is) ↦ rw is (omega arith, rising_from_less (suc offset) (offset + length e) _ (omega (arith, first_least left e is)) (rising_from read n (offset + length e) (drop (length e) left)))
+      | inl (e, is) ↦ rw is (
+        omega arith,
+        rising_from_less (suc offset) (offset + length e) _
+            (omega (arith, first_least left e is)) (rising_from read n (offset + length e) (drop (length e) left)),
+      )
     ]
 
 -- the entries of a table do, from the first one's place on
-pub rising : {E : Type 0} (read : List ℕ → E) (first : ℕ) (whole : List ℕ) → AreRising first (entries_read_by read (entries_of first whole))
+pub rising : {E : Type 0} (read : List ℕ → E) (first : ℕ) (whole : List ℕ)
+    → AreRising first (entries_read_by read (entries_of first whole))
 unfolding entries_of
 rising read first whole = rising_from read (length whole) first (drop first whole)
 
@@ -97,16 +111,19 @@ unfolding pptt_contents
 pptt_rising whole = rising pptt_entry 36 whole
 
 -- an entry begins before the table's end
-inside : {E : Type 0} (read : List ℕ → E) (first : ℕ) (whole : List ℕ) (s : PlacedEntry E) → Contains (entries_read_by read (entries_of first whole)) s → s.offset < length whole
+inside : {E : Type 0} (read : List ℕ → E) (first : ℕ) (whole : List ℕ) (s : PlacedEntry E)
+    → Contains (entries_read_by read (entries_of first whole)) s → s.offset < length whole
 inside read first whole s listed =
     let (bytes, here, _) = said_from read (entries_of first whole) s.offset s.entry listed in
     omega (arith, entry_within first whole s.offset bytes here)
 
-pub madt_inside : (whole : List ℕ) (s : PlacedEntry MadtEntry) → Contains (madt_contents whole).entries s → s.offset < length whole
+pub madt_inside : (whole : List ℕ) (s : PlacedEntry MadtEntry) → Contains (madt_contents whole).entries s
+    → s.offset < length whole
 unfolding madt_contents
 madt_inside whole s listed = inside madt_entry 44 whole s listed
 
-pub srat_inside : (whole : List ℕ) (s : PlacedEntry SratEntry) → Contains (srat_contents whole).entries s → s.offset < length whole
+pub srat_inside : (whole : List ℕ) (s : PlacedEntry SratEntry) → Contains (srat_contents whole).entries s
+    → s.offset < length whole
 unfolding srat_contents
 srat_inside whole s listed = inside srat_entry 48 whole s listed
 
@@ -117,17 +134,22 @@ abbrev pub AreKeyed : {E Y : Type 0} → (PlacedEntry E → Option Y) → (Y →
 AreKeyed {E} {Y} h key = (s : PlacedEntry E) (y : Y) → h s ≡ Some y → key y ≡ s.offset
 
 -- so keys are no lower than the least offset
-keys_from : {E Y : Type 0} (h : PlacedEntry E → Option Y) (key : Y → ℕ) → AreKeyed h key → (low : ℕ) (entries : List (PlacedEntry E)) → AreRising low entries → All (λ y. low ≤ key y) (filter_map h entries)
+keys_from : {E Y : Type 0} (h : PlacedEntry E → Option Y) (key : Y → ℕ) → AreKeyed h key
+    → (low : ℕ) (entries : List (PlacedEntry E)) → AreRising low entries → All (λ y. low ≤ key y) (filter_map h entries)
 keys_from h key keyed low [] rises = All-nil (λ y. low ≤ key y)
 keys_from h key keyed low (s ∷ rest) rises =
-    let later = keys_from h key keyed low rest (rising_from_less low (suc s.offset) rest (omega (arith, rises.0)) rises.1) in
+    let later = keys_from h key keyed low rest
+    (rising_from_less low (suc s.offset) rest (omega (arith, rises.0)) rises.1) in
     elim (cases_Option (h s)) [
       | inr none ↦ rw none later
-      | inl (y, is) ↦ rw is (All-cons (λ x. low ≤ key x) y (filter_map h rest) (omega (arith, rises.0, keyed s y is)) later)
+      | inl (y, is) ↦ rw is (All-cons (λ x. low ≤ key x) y (filter_map h rest) (omega (arith, rises.0, keyed s y is))
+          later)
     ]
 
 -- and each is below those behind it
-pub keys_rise : {E Y : Type 0} (h : PlacedEntry E → Option Y) (key : Y → ℕ) → AreKeyed h key → (low : ℕ) (entries : List (PlacedEntry E)) → AreRising low entries → AllPairs (λ x y. key x < key y) (filter_map h entries)
+pub keys_rise : {E Y : Type 0} (h : PlacedEntry E → Option Y) (key : Y → ℕ) → AreKeyed h key
+    → (low : ℕ) (entries : List (PlacedEntry E)) → AreRising low entries
+    → AllPairs (λ x y. key x < key y) (filter_map h entries)
 keys_rise h key keyed low [] rises = λ i j d before below. absurd (omega arith)
 keys_rise h key keyed low (s ∷ rest) rises =
     let later = keys_rise h key keyed (suc s.offset) rest rises.1 in
@@ -135,5 +157,6 @@ keys_rise h key keyed low (s ∷ rest) rises =
       | inr none ↦ rw none later
       | inl (y, is) ↦
           let above = keys_from h key keyed (suc s.offset) rest rises.1 in
-          rw is (AllPairs-cons (λ x z. key x < key z) y (filter_map h rest) (λ k d below. omega (arith, keyed s y is, above k d below)) later)
+          rw is (AllPairs-cons (λ x z. key x < key z) y (filter_map h rest)
+          (λ k d below. omega (arith, keyed s y is, above k d below)) later)
     ]

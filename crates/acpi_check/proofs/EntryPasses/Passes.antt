@@ -12,7 +12,7 @@ use Rattle.acpi_base.proofs.EntryOffsets.{cut_behind, said_from}
 use Rattle.acpi_base.specs.declared.code.Code.{Code}
 use Rattle.acpi_base.specs.declared.stage.Stage.{Stage}
 use Rattle.acpi_base.specs.declared.witness.Witness.{Witness}
-use Rattle.acpi_check.specs.Passed.{IsFirstOfTable, FindsFirst, FindsFault}
+use Rattle.acpi_check.specs.PassResults.{IsFirstOfTable, FindsFirst, FindsFault}
 use Rattle.acpi_check.specs.declared.refusal.Refusal.{Refusal}
 use Rattle.acpi_check.specs.declared.refusal.Refusal.TheVariants.{Fault}
 use Rattle.acpi_check.proofs.EntryPasses.Kept.{AreRising}
@@ -25,7 +25,8 @@ pub record HasPassed {E : Type 0} (entries left : List (PlacedEntry E)) (P : ℕ
   pub passed : (o : ℕ) (e : E) → Stands entries o e → Stands left o e ⊎ ((o < low) × P o e)
 
 -- an entry that is left stands from the least offset on
-from_low : {E : Type 0} (low : ℕ) (left : List (PlacedEntry E)) (o : ℕ) (e : E) → AreRising low left → Stands left o e → low ≤ o
+from_low : {E : Type 0} (low : ℕ) (left : List (PlacedEntry E)) (o : ℕ) (e : E) → AreRising low left → Stands left o e
+    → low ≤ o
 from_low low [] o e rises stands = absurd (no_element _ stands)
 from_low low (s ∷ left) o e rises stands =
     elim (first_or_later s (record { offset = o; entry = e }) left stands) [
@@ -34,11 +35,14 @@ from_low low (s ∷ left) o e rises stands =
     ]
 
 -- before the first entry
-pub none_passed : {E : Type 0} (low : ℕ) {entries : List (PlacedEntry E)} (P : ℕ → E → Type 0) → AreRising low entries → HasPassed entries entries P
-none_passed low P rises = record { low = low; rises = rises; listed = λ o e stands. stands; passed = λ o e stands. inl stands }
+pub none_passed : {E : Type 0} (low : ℕ) {entries : List (PlacedEntry E)} (P : ℕ → E → Type 0) → AreRising low entries
+    → HasPassed entries entries P
+none_passed low P rises =
+    record { low = low; rises = rises; listed = λ o e stands. stands; passed = λ o e stands. inl stands }
 
 -- over one more
-pub one_more : {E : Type 0} {entries : List (PlacedEntry E)} {s : PlacedEntry E} {left : List (PlacedEntry E)} {P Q : ℕ → E → Type 0} → HasPassed entries (s ∷ left) P
+pub one_more : {E : Type 0} {entries : List (PlacedEntry E)} {s : PlacedEntry E} {left : List (PlacedEntry E)}
+    {P Q : ℕ → E → Type 0} → HasPassed entries (s ∷ left) P
     → Q s.offset s.entry → ((o : ℕ) (e : E) → o < s.offset → P o e → Q o e) → HasPassed entries left Q
 one_more {E} {entries} {s} {left} {P} {Q} before here others =
     record {
@@ -63,12 +67,15 @@ one_more {E} {entries} {s} {left} {P} {Q} before here others =
         ]
 
 -- the same where this changes nothing of those before
-pub past : {E : Type 0} {entries : List (PlacedEntry E)} {s : PlacedEntry E} {left : List (PlacedEntry E)} {P : ℕ → E → Type 0} → HasPassed entries (s ∷ left) P → P s.offset s.entry → HasPassed entries left P
+pub past : {E : Type 0} {entries : List (PlacedEntry E)} {s : PlacedEntry E} {left : List (PlacedEntry E)}
+    {P : ℕ → E → Type 0} → HasPassed entries (s ∷ left) P → P s.offset s.entry → HasPassed entries left P
 past before here = one_more before here (λ o e earlier holds. holds)
 
 -- an entry was passed, or is the next, or comes behind it
-pub before_or_behind : {E : Type 0} {entries : List (PlacedEntry E)} {s : PlacedEntry E} {left : List (PlacedEntry E)} {P : ℕ → E → Type 0} → HasPassed entries (s ∷ left) P
-    → (o : ℕ) (e : E) → Stands entries o e → ((o < s.offset) × P o e) ⊎ (((o ≡ s.offset) × (e ≡ s.entry)) ⊎ (s.offset < o))
+pub before_or_behind : {E : Type 0} {entries : List (PlacedEntry E)} {s : PlacedEntry E} {left : List (PlacedEntry E)}
+    {P : ℕ → E → Type 0} → HasPassed entries (s ∷ left) P
+    → (o : ℕ) (e : E) → Stands entries o e → ((o < s.offset) × P o e)
+    ⊎ (((o ≡ s.offset) × (e ≡ s.entry)) ⊎ (s.offset < o))
 before_or_behind {s = s} {left = left} pass o e stands =
     elim (pass.passed o e stands) [
       | inr (earlier, holds) ↦ let first = pass.rises.0 in inl (omega arith, holds)
@@ -80,41 +87,53 @@ before_or_behind {s = s} {left = left} pass o e stands =
     ]
 
 -- those behind the next one come behind it
-pub left_behind : {E : Type 0} {entries : List (PlacedEntry E)} {s : PlacedEntry E} {left : List (PlacedEntry E)} {P : ℕ → E → Type 0} → HasPassed entries (s ∷ left) P
+pub left_behind : {E : Type 0} {entries : List (PlacedEntry E)} {s : PlacedEntry E} {left : List (PlacedEntry E)}
+    {P : ℕ → E → Type 0} → HasPassed entries (s ∷ left) P
     → (o : ℕ) (e : E) → Stands left o e → s.offset < o
 left_behind {s = s} {left = left} pass o e stands = from_low (suc s.offset) left o e pass.rises.1 stands
 
 -- the next one stands in the table
-pub next_stands : {E : Type 0} {entries : List (PlacedEntry E)} {s : PlacedEntry E} {left : List (PlacedEntry E)} {P : ℕ → E → Type 0} → HasPassed entries (s ∷ left) P → Stands entries s.offset s.entry
+pub next_stands : {E : Type 0} {entries : List (PlacedEntry E)} {s : PlacedEntry E} {left : List (PlacedEntry E)}
+    {P : ℕ → E → Type 0} → HasPassed entries (s ∷ left) P → Stands entries s.offset s.entry
 next_stands {s = s} {left = left} pass = pass.listed s.offset s.entry (first_element s left)
 
 -- all have P once none is left
-pub all_passed : {E : Type 0} {entries : List (PlacedEntry E)} {P : ℕ → E → Type 0} → HasPassed entries [] P → (o : ℕ) (e : E) → Stands entries o e → P o e
-all_passed pass o e stands = elim (pass.passed o e stands) [ inl left ↦ absurd (no_element _ left) | inr (earlier, holds) ↦ holds ]
+pub all_passed : {E : Type 0} {entries : List (PlacedEntry E)} {P : ℕ → E → Type 0} → HasPassed entries [] P
+    → (o : ℕ) (e : E) → Stands entries o e → P o e
+all_passed pass o e stands =
+    elim (pass.passed o e stands) [ inl left ↦ absurd (no_element _ left) | inr (earlier, holds) ↦ holds ]
 
 -- a fault that an entry has by itself comes with the least fault of the next entry or behind it, where those that were
 -- passed have none
-pub own_fault_after : {E : Type 0} {entries : List (PlacedEntry E)} {s : PlacedEntry E} {left : List (PlacedEntry E)} {P : ℕ → E → Type 0} → HasPassed entries (s ∷ left) P
-    → (IsFault : Code → E → Type 0) → ((c : Code) (o : ℕ) (e : E) → P o e → ¬ IsFault c e) → (w : Witness) → w.at ≡ s.offset → ((c : Code) → IsFault c s.entry → (code_number w.code ≤ code_number c) × AreUnused w.other w.point)
-    → (c : Code) (at other point : ℕ) → StandsWith entries at (IsFault c) → AreUnused other point → NotAfter w (record { code = c; at = at; other = other; point = point })
+pub own_fault_after : {E : Type 0} {entries : List (PlacedEntry E)} {s : PlacedEntry E} {left : List (PlacedEntry E)}
+    {P : ℕ → E → Type 0} → HasPassed entries (s ∷ left) P
+    → (IsFault : Code → E → Type 0) → ((c : Code) (o : ℕ) (e : E) → P o e → ¬ IsFault c e) → (w : Witness)
+    → w.at ≡ s.offset → ((c : Code) → IsFault c s.entry
+    → (code_number w.code ≤ code_number c) × AreUnused w.other w.point)
+    → (c : Code) (at other point : ℕ) → StandsWith entries at (IsFault c) → AreUnused other point
+    → NotAfter w (record { code = c; at = at; other = other; point = point })
 own_fault_after {s = s} pass IsFault excludes w place least c at other point (e, stands, wrong) unused =
     elim (before_or_behind pass at e stands) [
       | inl (_, passed) ↦ absurd (excludes c at e passed wrong)
       | inr (inr behind) ↦ inl (omega arith)
       | inr (inl (same, entry)) ↦
           let (first, mine) = least c (subst (IsFault c) entry wrong) in
-          not_after w (record { code = c; at = at; other = other; point = point }) (inr (place ∙ sym same, first)) (mine.0 ∙ sym unused.0) (mine.1 ∙ sym unused.1)
+          not_after w (record { code = c; at = at; other = other; point = point }) (inr (place ∙ sym same, first))
+          (mine.0 ∙ sym unused.0) (mine.1 ∙ sym unused.1)
     ]
 
 -- the next entry stands before the bytes at which none does
-pub before_cut : {E : Type 0} (read : List ℕ → E) (first : ℕ) (whole : List ℕ) (at : ℕ) {s : PlacedEntry E} {left : List (PlacedEntry E)} {P : ℕ → E → Type 0} → HasPassed (entries_read_by read (entries_of first whole)) (s ∷ left) P
+pub before_cut : {E : Type 0} (read : List ℕ → E) (first : ℕ) (whole : List ℕ) (at : ℕ) {s : PlacedEntry E}
+    {left : List (PlacedEntry E)} {P : ℕ → E → Type 0}
+    → HasPassed (entries_read_by read (entries_of first whole)) (s ∷ left) P
     → cut_of first whole ≡ Some at → s.offset < at
 before_cut read first whole at {s} pass is =
     let (e, stands, _) = said_from read (entries_of first whole) s.offset s.entry (next_stands pass) in
     cut_behind first whole at s.offset e is stands
 
 -- in a table that ends before its first entry's place none stands
-pub none_said : {E : Type 0} (read : List ℕ → E) (first : ℕ) (whole : List ℕ) → length whole < first → (o : ℕ) (e : E) → ¬ Stands (entries_read_by read (entries_of first whole)) o e
+pub none_said : {E : Type 0} (read : List ℕ → E) (first : ℕ) (whole : List ℕ) → length whole < first → (o : ℕ) (e : E)
+    → ¬ Stands (entries_read_by read (entries_of first whole)) o e
 none_said read first whole short o e stands =
     let (bytes, here, _) = said_from read (entries_of first whole) o e stands in
     (none_in_short first whole short).1 o bytes here
@@ -126,7 +145,9 @@ reported s Sound IsFault w (Ok _) err is first = absurd cc
 reported s Sound IsFault w (Err v) err is first = rw is first
 
 -- a refusal for the fault that was found, where one was, says what this says
-pub refused : (s : Stage) (Sound : Type 0) (IsFault : Code → ℕ → ℕ → ℕ → Type 0) (found : Option Witness) (r : Result ⊤ Refusal)
-    → MatchOption found (r ≡ Ok tt) (λ w. r ≡ Err (Fault w)) → FindsFault s Sound IsFault found → FindsFirst s Sound IsFault r
+pub refused : (s : Stage) (Sound : Type 0) (IsFault : Code → ℕ → ℕ → ℕ → Type 0) (found : Option Witness)
+    (r : Result ⊤ Refusal)
+    → MatchOption found (r ≡ Ok tt) (λ w. r ≡ Err (Fault w)) → FindsFault s Sound IsFault found
+    → FindsFirst s Sound IsFault r
 refused s Sound IsFault None r is sound = rw is sound
 refused s Sound IsFault (Some w) r is first = rw is first

@@ -16,7 +16,8 @@ opaque (Opaque bytes) is = (bytes, refl)
 opaque _ is = absurd (true≢false is)
 
 -- where the next one is not typed, not all are
-pub stops : (madt : MadtContents) (s : PlacedEntry MadtEntry) (left : List (PlacedEntry MadtEntry)) → IsAt madt (s ∷ left) → is_typed s.entry ≡ false → ¬ IsWhollyTyped madt
+pub stops : (madt : MadtContents) (s : PlacedEntry MadtEntry) (left : List (PlacedEntry MadtEntry))
+    → IsAt madt (s ∷ left) → is_typed s.entry ≡ false → ¬ IsWhollyTyped madt
 stops madt s left here untyped typed =
     let (bytes, is) = opaque s.entry untyped in
     typed.typed s.offset bytes (subst (Stands madt.entries s.offset) is (next_stands here))
@@ -24,4 +25,10 @@ stops madt s left here untyped typed =
 -- where none is left, typed entries fill the table
 pub ends : (whole : List ℕ) → IsFilledMadt whole → IsAt (madt_contents whole) [] → IsWhollyTyped (madt_contents whole)
 unfolding madt_contents
-ends whole full here = record { long = full.long; filled = full.filled; typed = λ o e stands. true≢false (sym (all_passed here o (Opaque e) stands)) }
+ends whole full here =
+    record {
+      long = full.long;
+      filled = full.filled;
+      typed =
+          λ o e stands. true≢false (sym (all_passed here o (Opaque e) stands));
+    }

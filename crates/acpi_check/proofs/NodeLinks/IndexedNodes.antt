@@ -9,7 +9,7 @@ use Rattle.acpi_base.specs.Entries.{PlacedEntry, Stands}
 use Rattle.acpi_base.proofs.Images.HeldBytes.{cases_Option}
 use Rattle.acpi_base.proofs.Elements.{element_of_map}
 use Rattle.acpi_graph.specs.Parents.{parent_of}
-use Rattle.acpi_check.specs.Indexed.{IsIndexOf, AreIndexed, ChainNode, nodes_of, node_offsets, AreParents}
+use Rattle.acpi_check.specs.ChainIndices.{IsIndexOf, AreIndexed, ChainNode, nodes_of, node_offsets, AreParents}
 use Rattle.acpi_check.proofs.EntryPasses.Kept.{AreRising, map_has, kept_has, kept_from, keys_rise}
 
 -- an entry names an offset
@@ -21,24 +21,38 @@ abbrev kept : {E : Type 0} → (E → Option ℕ) → PlacedEntry E → Option C
 kept read s = option_map (λ p. record { offset = s.offset; named = p }) (read s.entry)
 
 -- what is kept of an entry says this
-kept_is : {E : Type 0} (read : E → Option ℕ) (s : PlacedEntry E) (n : ChainNode) → kept read s ≡ Some n → (n.offset ≡ s.offset) × (read s.entry ≡ Some n.named)
+kept_is : {E : Type 0} (read : E → Option ℕ) (s : PlacedEntry E) (n : ChainNode) → kept read s ≡ Some n
+    → (n.offset ≡ s.offset) × (read s.entry ≡ Some n.named)
 kept_is read s n is =
     elim (cases_Option (read s.entry)) [
       | inr none ↦ absurd (none-some n (rw none at is))
-      | inl (p, gives) ↦ (let same = same_Some (record { offset = s.offset; named = p }) n (rw gives at is) in (sym (ap (λ (m : ChainNode). m.offset) same), gives ∙ ap (λ (m : ChainNode). Some m.named) same))
+      | inl (p, gives) ↦ (let same = same_Some (record { offset = s.offset; named = p }) n (rw gives at is) in
+          (sym (ap (λ (m : ChainNode). m.offset) same), gives ∙ ap (λ (m : ChainNode). Some m.named) same))
     ]
 
 -- an entry that names an offset is kept
-is_kept : {E : Type 0} (read : E → Option ℕ) (entries : List (PlacedEntry E)) (o p : ℕ) → NamesOf read entries o p → Contains (nodes_of read entries) (record { offset = o; named = p })
-is_kept {E} read entries o p (e, stands, is) = kept_has (kept read) entries (record { offset = o; entry = e }) (record { offset = o; named = p }) stands (rw is refl)
+is_kept : {E : Type 0} (read : E → Option ℕ) (entries : List (PlacedEntry E)) (o p : ℕ) → NamesOf read entries o p
+    → Contains (nodes_of read entries) (record { offset = o; named = p })
+is_kept {E} read entries o p (e, stands, is) =
+    kept_has (kept read) entries (record { offset = o; entry = e }) (record { offset = o; named = p }) stands
+    (rw is refl)
 
 -- nodes stand at rising offsets
-nodes_rise : {E : Type 0} (read : E → Option ℕ) (low : ℕ) (entries : List (PlacedEntry E)) → AreRising low entries → AllPairs (λ n m. n.offset < m.offset) (nodes_of read entries)
-nodes_rise read low entries rises = keys_rise (kept read) (λ n. n.offset) (λ s n is. (kept_is read s n is).0) low entries rises
+nodes_rise : {E : Type 0} (read : E → Option ℕ) (low : ℕ) (entries : List (PlacedEntry E)) → AreRising low entries
+    → AllPairs (λ n m. n.offset < m.offset) (nodes_of read entries)
+nodes_rise read low entries rises =
+    keys_rise (kept read) (λ n. n.offset) (λ s n is. (kept_is read s n is).0) low entries rises
 
 -- and so do their offsets
-pub offsets_rise : {E : Type 0} (read : E → Option ℕ) (low : ℕ) (entries : List (PlacedEntry E)) → AreRising low entries → AllPairs (λ o p. o < p) (node_offsets (nodes_of read entries))
-offsets_rise {E} read low entries rises = λ i j d before below. grind (arith, nodes_rise read low entries rises i j node before, get_or-map (λ (n : ChainNode). n.offset) nodes, length-map nodes (λ n. n.offset))
+pub offsets_rise : {E : Type 0} (read : E → Option ℕ) (low : ℕ) (entries : List (PlacedEntry E)) → AreRising low entries
+    → AllPairs (λ o p. o < p) (node_offsets (nodes_of read entries))
+offsets_rise {E} read low entries rises =
+    λ i j d before below. grind (
+      arith,
+      nodes_rise read low entries rises i j node before,
+      get_or-map (λ (n : ChainNode). n.offset) nodes,
+      length-map nodes (λ n. n.offset),
+    )
   where
     nodes : List ChainNode
     nodes = nodes_of read entries
@@ -47,17 +61,21 @@ offsets_rise {E} read low entries rises = λ i j d before below. grind (arith, n
     node = record { offset = 0; named = 0 }
 
 -- what a node names is among the offsets, where it names none that is not there
-pub named_there : {E : Type 0} (read : E → Option ℕ) (entries : List (PlacedEntry E)) → NoneDangles (NamesOf read entries)
-    → (n : ChainNode) → Contains (nodes_of read entries) n → (n.named ≡ 0) ⊎ Contains (node_offsets (nodes_of read entries)) n.named
+pub named_there : {E : Type 0} (read : E → Option ℕ) (entries : List (PlacedEntry E))
+    → NoneDangles (NamesOf read entries)
+    → (n : ChainNode) → Contains (nodes_of read entries) n
+    → (n.named ≡ 0) ⊎ Contains (node_offsets (nodes_of read entries)) n.named
 named_there read entries none n listed =
     let (s, stands, is) = kept_from (kept read) entries n listed in
     elim (none s.offset n.named (s.entry, stands, (kept_is read s n is).1)) [
       | inl zero ↦ inl zero
-      | inr (p, names) ↦ inr (map_has (λ (m : ChainNode). m.offset) (nodes_of read entries) (record { offset = n.named; named = p }) (is_kept read entries n.named p names))
+      | inr (p, names) ↦ inr (map_has (λ (m : ChainNode). m.offset) (nodes_of read entries)
+          (record { offset = n.named; named = p }) (is_kept read entries n.named p names))
     ]
 
 -- one node stands at an offset
-one_node : (nodes : List ChainNode) → AllPairs (λ n m. n.offset < m.offset) nodes → (n : ChainNode) → Contains nodes n → (i : ℕ) → i < length nodes → (get_or nodes i n).offset ≡ n.offset → get_or nodes i n ≡ n
+one_node : (nodes : List ChainNode) → AllPairs (λ n m. n.offset < m.offset) nodes → (n : ChainNode) → Contains nodes n
+    → (i : ℕ) → i < length nodes → (get_or nodes i n).offset ≡ n.offset → get_or nodes i n ≡ n
 one_node nodes rise n (k, below, is) i within same =
     elim (cases_order i k) [
       | inl here ↦ rw here is
@@ -67,12 +85,17 @@ one_node nodes rise n (k, below, is) i within same =
 
 -- the nodes of entries, with the index of what each names, are chains of offsets
 pub are_indexed : {E : Type 0} (read : E → Option ℕ) (low : ℕ) (entries : List (PlacedEntry E)) → AreRising low entries
-    → (parents : List (Option ℕ)) → AreParents (nodes_of read entries) parents → AreIndexed (NamesOf read entries) (node_offsets (nodes_of read entries)) parents
+    → (parents : List (Option ℕ)) → AreParents (nodes_of read entries) parents
+    → AreIndexed (NamesOf read entries) (node_offsets (nodes_of read entries)) parents
 are_indexed {E} read low entries rises parents each =
     record {
       count = omega (arith, length-map nodes (λ n. n.offset), each.count);
       rising = offsets_rise read low entries rises;
-      all = λ o. (stands o, λ here. map_has (λ (n : ChainNode). n.offset) nodes (record { offset = o; named = here.0 }) (is_kept read entries o here.0 here.1));
+      all = λ o. (
+        stands o,
+        λ here. map_has (λ (n : ChainNode). n.offset) nodes (record { offset = o; named = here.0 })
+            (is_kept read entries o here.0 here.1),
+      );
       named = named;
     }
   where
@@ -86,10 +109,12 @@ are_indexed {E} read low entries rises parents each =
         let same = kept_is read s n is in
         (n.named, (s.entry, subst (λ (k : ℕ). Stands entries k s.entry) (sym same.0 ∙ place) found, same.1))
 
-    named : (i p : ℕ) → i < length (node_offsets nodes) → NamesOf read entries (slice_index (node_offsets nodes) i) p → IsIndexOf (node_offsets nodes) p (parent_of parents i)
+    named : (i p : ℕ) → i < length (node_offsets nodes) → NamesOf read entries (slice_index (node_offsets nodes) i) p
+        → IsIndexOf (node_offsets nodes) p (parent_of parents i)
     named i p within names =
         let n : ChainNode = record { offset = slice_index (node_offsets nodes) i; named = p } in
         let inside : i < length nodes = omega (arith, within, length-map nodes (λ n. n.offset)) in
-        let is = one_node nodes (nodes_rise read low entries rises) n (is_kept read entries n.offset p names) i inside (sym (get_or-map (λ (n : ChainNode). n.offset) nodes i n 0 inside)) in
+        let is = one_node nodes (nodes_rise read low entries rises) n (is_kept read entries n.offset p names) i inside
+        (sym (get_or-map (λ (n : ChainNode). n.offset) nodes i n 0 inside)) in
         let index = rw is at (each.each i n inside) in
         rw (slice_get-get_or parents i None (omega (arith, inside, each.count))) index

@@ -12,21 +12,25 @@ use Rattle.acpi_graph.specs.Parents as graph
 use Rattle.acpi_graph.specs.Parents.{AreNodes, IsFirstStray, IfRound}
 use Rattle.acpi_graph.specs.declared.stray.Stray.{Stray}
 use Rattle.acpi_graph.specs.declared.stray.Stray.TheVariants as stray
-use Rattle.acpi_check.specs.Indexed.{AreIndexed, IsCycleResult, IsIndexOf, ChainNode, node_offsets}
-use Rattle.acpi_check.specs.Linked.{Names, named_offset, most_of, code_of, nodes_in, AreNodesOf, AreLinked, AreIndices}
+use Rattle.acpi_check.specs.ChainIndices.{AreIndexed, IsCycleResult, IsIndexOf, ChainNode, node_offsets}
+use Rattle.acpi_check.specs.ChainNodes.{Names, named_offset, most_of, code_of, nodes_in, AreNodesOf, AreLinked, AreIndices}
 use Rattle.acpi_check.specs.declared.nodes.Chain.{Chain}
 use Rattle.acpi_check.specs.declared.nodes.Chain.TheVariants as chain
 use Rattle.acpi_check.specs.declared.nodes.Nodes.{Nodes}
-use Rattle.acpi_check.proofs.NodeLinks.Indexed.{are_nodes, is_found}
+use Rattle.acpi_check.proofs.NodeLinks.ChainIndices.{are_nodes, is_found}
 use Rattle.acpi_check.proofs.NodeLinks.IndexedNodes.{offsets_rise, named_there, are_indexed}
 use Rattle.acpi_check.proofs.EntryPasses.Kept.{pptt_rising}
 
 -- ---- nodes
 
 -- where no node names an offset at which none stands, they are linked
-pub linked : (links : Chain) (whole : List ℕ) (nodes : Nodes) → NoneDangles (Names links (pptt_contents whole)) → AreNodesOf links (pptt_contents whole) nodes → AreLinked nodes
+pub linked : (links : Chain) (whole : List ℕ) (nodes : Nodes) → NoneDangles (Names links (pptt_contents whole))
+    → AreNodesOf links (pptt_contents whole) nodes → AreLinked nodes
 linked links whole nodes none are =
-    record { rising = rw (are.offsets) (offsets_rise (named_offset links) 36 said (pptt_rising whole)); each = rw (are.offsets, are.named) each }
+    record {
+      rising = rw (are.offsets) (offsets_rise (named_offset links) 36 said (pptt_rising whole));
+      each = rw (are.offsets, are.named) each;
+    }
   where
     said : List (PlacedEntry PpttEntry)
     said = (pptt_contents whole).entries
@@ -35,16 +39,21 @@ linked links whole nodes none are =
     gathered = nodes_in links (pptt_contents whole)
 
     each : (i : ℕ) → i < length (map (λ n. n.named) gathered)
-        → (slice_index (map (λ n. n.named) gathered) i ≡ 0) ⊎ Contains (node_offsets gathered) (slice_index (map (λ n. n.named) gathered) i)
+        → (slice_index (map (λ n. n.named) gathered) i ≡ 0)
+        ⊎ Contains (node_offsets gathered) (slice_index (map (λ n. n.named) gathered) i)
     each i within =
         let n : ChainNode = record { offset = 0; named = 0 } in
         let inside : i < length gathered = omega (arith, within, length-map gathered (λ (n : ChainNode). n.named)) in
-        rw (get_or-map (λ (n : ChainNode). n.named) gathered i n 0 inside) (named_there (named_offset links) said none (get_or gathered i n) (Contains-get_or gathered i n inside))
+        rw (get_or-map (λ (n : ChainNode). n.named) gathered i n 0 inside)
+        (named_there (named_offset links) said none (get_or gathered i n) (Contains-get_or gathered i n inside))
 
 -- with the index of what each names they are chains of offsets
-pub indexed : (links : Chain) (whole : List ℕ) (nodes : Nodes) (parents : List (Option ℕ)) → AreNodesOf links (pptt_contents whole) nodes → AreIndices nodes parents → AreIndexed (Names links (pptt_contents whole)) nodes.offsets.items parents
+pub indexed : (links : Chain) (whole : List ℕ) (nodes : Nodes) (parents : List (Option ℕ))
+    → AreNodesOf links (pptt_contents whole) nodes → AreIndices nodes parents
+    → AreIndexed (Names links (pptt_contents whole)) nodes.offsets.items parents
 indexed links whole nodes parents are indices =
-    rw (are.offsets) (are_indexed (named_offset links) 36 (pptt_contents whole).entries (pptt_rising whole) parents (record { count = omega (arith, indices.count, ap length are.named, size); each = each }))
+    rw (are.offsets) (are_indexed (named_offset links) 36 (pptt_contents whole).entries (pptt_rising whole) parents
+    (record { count = omega (arith, indices.count, ap length are.named, size); each = each }))
   where
     gathered : List ChainNode
     gathered = nodes_in links (pptt_contents whole)
@@ -52,27 +61,39 @@ indexed links whole nodes parents are indices =
     size : length (map (λ n. n.named) gathered) ≡ length gathered
     size = length-map gathered (λ (n : ChainNode). n.named)
 
-    each : (i : ℕ) (n : ChainNode) → i < length gathered → IsIndexOf (node_offsets gathered) (slice_index_or gathered i n).named (slice_index_or parents i None)
+    each : (i : ℕ) (n : ChainNode) → i < length gathered
+        → IsIndexOf (node_offsets gathered) (slice_index_or gathered i n).named (slice_index_or parents i None)
     each i n within =
-        let index = rw (are.offsets, are.named) at (indices.each i (omega (arith, within, ap length are.named, size))) in
+        let index = rw (are.offsets, are.named) at
+        (indices.each i (omega (arith, within, ap length are.named, size))) in
         rw (← get_or-map (λ (n : ChainNode). n.named) gathered i n 0 within) index
 
 -- ---- what is found
 
-numbered : (links : Chain) (whole : List ℕ) → IsNumbered (Names links (pptt_contents whole)) (most_of links (pptt_contents whole))
+numbered : (links : Chain) (whole : List ℕ)
+    → IsNumbered (Names links (pptt_contents whole)) (most_of links (pptt_contents whole))
 numbered chain.Parents whole = nodes_numbered whole
 numbered chain.NextLevels whole = caches_numbered whole
 
 -- what `first_stray` asks
-pub ready : (links : Chain) (whole : List ℕ) (nodes : Nodes) (parents : List (Option ℕ)) → AreNodesOf links (pptt_contents whole) nodes → AreIndices nodes parents → AreNodes parents
+pub ready : (links : Chain) (whole : List ℕ) (nodes : Nodes) (parents : List (Option ℕ))
+    → AreNodesOf links (pptt_contents whole) nodes → AreIndices nodes parents → AreNodes parents
 ready links whole nodes parents are indices = are_nodes (indexed links whole nodes parents are indices)
 
 -- and what it finds is so of the chains
-pub cycle_found : (links : Chain) (whole : List ℕ) (nodes : Nodes) (parents : List (Option ℕ)) → AreNodesOf links (pptt_contents whole) nodes → AreIndices nodes parents → (found : Stray) → ((found ≡ stray.None) ↔ graph.AllEnd parents) → IfRound found (IsFirstStray parents)
-    → IfRound found (λ node lead round. lead + round ≤ length parents) → IsCycleResult (Names links (pptt_contents whole)) (most_of links (pptt_contents whole)) (code_of links) nodes.offsets.items found
+pub cycle_found : (links : Chain) (whole : List ℕ) (nodes : Nodes) (parents : List (Option ℕ))
+    → AreNodesOf links (pptt_contents whole) nodes → AreIndices nodes parents → (found : Stray)
+    → ((found ≡ stray.None) ↔ graph.AllEnd parents) → IfRound found (IsFirstStray parents)
+    → IfRound found (λ node lead round. lead + round ≤ length parents)
+    → IsCycleResult (Names links (pptt_contents whole)) (most_of links (pptt_contents whole)) (code_of links)
+    nodes.offsets.items found
 cycle_found links whole nodes parents are indices found none first within =
-    is_found (indexed links whole nodes parents are indices) (numbered links whole) (code_of links) found none first within
+    is_found (indexed links whole nodes parents are indices) (numbered links whole) (code_of links) found none first
+    within
 
 -- a node that it finds has an offset
-pub has_offset : (links : Chain) (whole : List ℕ) (nodes : Nodes) (parents : List (Option ℕ)) → AreNodesOf links (pptt_contents whole) nodes → AreIndices nodes parents → (node lead round : ℕ) → IsFirstStray parents node lead round → node < length nodes.offsets.items
-has_offset links whole nodes parents are indices node lead round first = omega (arith, first.is_node, (indexed links whole nodes parents are indices).count)
+pub has_offset : (links : Chain) (whole : List ℕ) (nodes : Nodes) (parents : List (Option ℕ))
+    → AreNodesOf links (pptt_contents whole) nodes → AreIndices nodes parents → (node lead round : ℕ)
+    → IsFirstStray parents node lead round → node < length nodes.offsets.items
+has_offset links whole nodes parents are indices node lead round first =
+    omega (arith, first.is_node, (indexed links whole nodes parents are indices).count)

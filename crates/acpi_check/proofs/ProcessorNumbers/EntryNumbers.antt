@@ -3,19 +3,33 @@ use Rattle.std.proofs.Common.{◌≡◌, ℕ, ◌<◌, List, Option}
 use Rattle.std.specs.Prelude.{◌↔◌, AllPairs, Contains}
 use Rattle.acpi_base.specs.Entries.{PlacedEntry}
 use Rattle.acpi_base.specs.Madt.{MadtContents}
-use Rattle.acpi_check.specs.Named.{NamesAt}
+use Rattle.acpi_check.specs.NamedNumbers.{NamesAt}
 use Rattle.acpi_check.specs.Processors.{number_of, numbers_in, AreNumbers}
 use Rattle.acpi_check.specs.declared.processors.Key.{Key}
 use Rattle.acpi_check.proofs.EntryPasses.Kept.{kept_has, kept_from}
 
 -- the numbers of entries are those that entries name
-pub in_entries : {E : Type 0} (read : E → Option ℕ) (entries : List (PlacedEntry E)) (n : ℕ) → Contains (numbers_in read entries) n ↔ ((o : ℕ) × NamesAt read entries o n)
-in_entries {E} read entries n = (from, λ (o, (e, stands, is)). kept_has (λ (s : PlacedEntry E). read s.entry) entries (record { offset = o; entry = e }) n stands is)
+pub in_entries : {E : Type 0} (read : E → Option ℕ) (entries : List (PlacedEntry E)) (n : ℕ)
+    → Contains (numbers_in read entries) n ↔ ((o : ℕ) × NamesAt read entries o n)
+in_entries {E} read entries n = (
+  from,
+  λ (o, (e, stands, is)). kept_has (λ (s : PlacedEntry E). read s.entry) entries
+      (record { offset = o; entry = e }) n stands is,
+)
   where
     from : Contains (numbers_in read entries) n → (o : ℕ) × NamesAt read entries o n
-    from listed = let (s, found, is) = kept_from (λ (s : PlacedEntry E). read s.entry) entries n listed in (s.offset, (s.entry, found, is))
+    from listed = let (s, found, is) = kept_from (λ (s : PlacedEntry E). read s.entry) entries n listed in
+        (s.offset, (s.entry, found, is))
 
 -- in rising order they are those of the processors
-pub are_numbers : (k : Key) (madt : MadtContents) (gathered numbers : List ℕ) → gathered ≡ numbers_in (number_of k) madt.entries → AllPairs (λ i j. i < j) numbers → ((n : ℕ) → Contains numbers n ↔ Contains gathered n) → AreNumbers k madt numbers
+pub are_numbers : (k : Key) (madt : MadtContents) (gathered numbers : List ℕ)
+    → gathered ≡ numbers_in (number_of k) madt.entries → AllPairs (λ i j. i < j) numbers
+    → ((n : ℕ) → Contains numbers n ↔ Contains gathered n) → AreNumbers k madt numbers
 are_numbers k madt gathered numbers is rise same =
-    record { rise = rise; all = λ n. (λ listed. (in_entries (number_of k) madt.entries n).0 (rw is at ((same n).0 listed)), λ names. (same n).1 (rw is ((in_entries (number_of k) madt.entries n).1 names))) }
+    record {
+      rise = rise;
+      all = λ n. (
+        λ listed. (in_entries (number_of k) madt.entries n).0 (rw is at ((same n).0 listed)),
+        λ names. (same n).1 (rw is ((in_entries (number_of k) madt.entries n).1 names)),
+      );
+    }

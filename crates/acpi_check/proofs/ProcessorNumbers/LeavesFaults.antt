@@ -15,8 +15,8 @@ use Rattle.acpi_base.specs.declared.code.Code.TheVariants as code
 use Rattle.acpi_base.specs.declared.stage.Stage.TheVariants as stage
 use Rattle.acpi_base.specs.declared.witness.Witness.{Witness}
 use Rattle.acpi_check.specs.Leaves.{leaf_id}
-use Rattle.acpi_check.specs.Named.{FindsUnknown}
-use Rattle.acpi_check.specs.Passed.{FindsFault}
+use Rattle.acpi_check.specs.NamedNumbers.{FindsUnknown}
+use Rattle.acpi_check.specs.PassResults.{FindsFault}
 use Rattle.acpi_check.specs.Processors.{number_of, numbers_in, AreNumbers}
 use Rattle.acpi_check.specs.declared.processors.Key.TheVariants as key
 use Rattle.acpi_check.proofs.ProcessorNumbers.EntryNumbers.{in_entries}
@@ -41,7 +41,8 @@ has_uid uid (X2apic v) = (λ is. ap Some is, λ is. same_Some v.uid uid is)
 has_uid uid _ = (λ h. absurd h, λ is. none-some uid is)
 
 -- the UIDs are those of the MADT's processors
-are_uids : (madt : MadtContents) (uids : List ℕ) → AreNumbers key.Uid madt uids → (uid : ℕ) → Contains uids uid ↔ IsUid madt uid
+are_uids : (madt : MadtContents) (uids : List ℕ) → AreNumbers key.Uid madt uids → (uid : ℕ)
+    → Contains uids uid ↔ IsUid madt uid
 are_uids madt uids are uid = (from, λ (o, (e, stands, has)). (are.all uid).1 (o, (e, stands, (has_uid uid e).0 has)))
   where
     from : Contains uids uid → IsUid madt uid
@@ -55,25 +56,42 @@ unfolding pptt_contents header_of
 revision whole = refl
 
 -- what is found of the leaves is so of the tables
-pub leaves_found : (madt : MadtContents) (pptt : PpttContents) (uids : List ℕ) → AreNumbers key.Uid madt uids → 2 ≤ pptt.revision → IsWhollyTyped madt
-    → (found : Option Witness) → FindsUnknown (Contains uids) leaf_id code.LeafUnknown pptt.entries found → FindsFault stage.Leaves (AreLeavesKnown madt pptt) (LeafFault madt pptt) found
-leaves_found madt pptt uids are recent typed None all = λ _ _ o id (e, stands, leaf). (are_uids madt uids are id).0 (all o id (e, stands, (is_leaf id e).0 leaf))
+pub leaves_found : (madt : MadtContents) (pptt : PpttContents) (uids : List ℕ) → AreNumbers key.Uid madt uids
+    → 2 ≤ pptt.revision → IsWhollyTyped madt
+    → (found : Option Witness) → FindsUnknown (Contains uids) leaf_id code.LeafUnknown pptt.entries found
+    → FindsFault stage.Leaves (AreLeavesKnown madt pptt) (LeafFault madt pptt) found
+leaves_found madt pptt uids are recent typed None all =
+    λ _ _ o id (e, stands, leaf). (are_uids madt uids are id).0 (all o id (e, stands, (is_leaf id e).0 leaf))
 leaves_found madt pptt uids are recent typed (Some w) first =
-    record { own = ap stage_of first.code; fault = rw first.code fault; least = λ v wrong. least v.code v.at v.other v.point wrong }
+    record {
+      own = ap stage_of first.code;
+      fault = rw first.code fault;
+      least = λ v wrong. least v.code v.at v.other v.point wrong;
+    }
   where
     fault : LeafFault madt pptt code.LeafUnknown w.at w.other w.point
     fault =
-        let (e, stands, is) = first.names in
-        (recent, typed, (e, stands, (is_leaf w.point e).1 is), λ known. first.unknown ((are_uids madt uids are w.point).1 known), first.other)
+        let (e, stands, is) = first.names in (
+          recent,
+          typed,
+          (e, stands, (is_leaf w.point e).1 is),
+          λ known. first.unknown ((are_uids madt uids are w.point).1 known),
+          first.other,
+        )
 
-    least : (d : Code) (at other point : ℕ) → LeafFault madt pptt d at other point → NotAfter w (record { code = d; at = at; other = other; point = point })
+    least : (d : Code) (at other point : ℕ) → LeafFault madt pptt d at other point
+        → NotAfter w (record { code = d; at = at; other = other; point = point })
     least code.LeafUnknown at other point (_, _, (e, stands, leaf), unknown, zero) =
         subst (λ (k : ℕ). NotAfter w (record { code = code.LeafUnknown; at = at; other = k; point = point })) (sym zero)
-        (first.first at point (e, stands, (is_leaf point e).0 leaf) (λ listed. unknown ((are_uids madt uids are point).0 listed)))
+        (first.first at point (e, stands, (is_leaf point e).0 leaf)
+        (λ listed. unknown ((are_uids madt uids are point).0 listed)))
     least _ at other point wrong = absurd wrong
 
 -- where the IDs of all leaves are among the UIDs, all leaves are known
-pub all_known : (madt : MadtContents) (pptt : PpttContents) (uids named ids : List ℕ) → AreNumbers key.Uid madt uids → named ≡ numbers_in leaf_id pptt.entries → ((n : ℕ) → Contains ids n ↔ Contains named n)
+pub all_known : (madt : MadtContents) (pptt : PpttContents) (uids named ids : List ℕ) → AreNumbers key.Uid madt uids
+    → named ≡ numbers_in leaf_id pptt.entries → ((n : ℕ) → Contains ids n ↔ Contains named n)
     → ((n : ℕ) → Contains ids n → Contains uids n) → AreLeavesKnown madt pptt
 all_known madt pptt uids named ids are is same among recent typed o id (e, stands, leaf) =
-    (are_uids madt uids are id).0 (among id ((same id).1 (subst (λ (ns : List ℕ). Contains ns id) (sym is) ((in_entries leaf_id pptt.entries id).1 (o, (e, stands, (is_leaf id e).0 leaf))))))
+    (are_uids madt uids are id).0
+    (among id ((same id).1 (subst (λ (ns : List ℕ). Contains ns id) (sym is)
+    ((in_entries leaf_id pptt.entries id).1 (o, (e, stands, (is_leaf id e).0 leaf))))))

@@ -7,7 +7,7 @@ use Rattle.acpi_base.specs.Faults.{NotAfter}
 use Rattle.acpi_base.specs.declared.code.Code.{Code}
 use Rattle.acpi_base.specs.declared.witness.Witness.{Witness}
 use Rattle.acpi_base.proofs.Faults.Order.{not_after}
-use Rattle.acpi_check.specs.Named.{IsKnown, IsUnknown, NamesAt, IsFirstUnknown}
+use Rattle.acpi_check.specs.NamedNumbers.{IsKnown, IsUnknown, NamesAt, IsFirstUnknown}
 use Rattle.acpi_check.proofs.EntryPasses.Passes.{HasPassed, before_or_behind, next_stands, all_passed}
 
 -- the pass has these entries left, and the numbers that those before them name are known
@@ -15,8 +15,10 @@ abbrev pub IsAt : {E : Type 0} → (ℕ → Type 0) → (E → Option ℕ) → L
 IsAt Known read entries left = HasPassed entries left (λ o e. IsKnown Known (read e))
 
 -- the pass stops at the first number that is not known
-pub stops : {E : Type 0} (Known : ℕ → Type 0) (read : E → Option ℕ) {entries : List (PlacedEntry E)} {s : PlacedEntry E} {left : List (PlacedEntry E)} → IsAt Known read entries (s ∷ left)
-    → (fault : Code) (w : Witness) → IsUnknown Known fault s.offset (read s.entry) w → IsFirstUnknown Known read fault entries w
+pub stops : {E : Type 0} (Known : ℕ → Type 0) (read : E → Option ℕ) {entries : List (PlacedEntry E)} {s : PlacedEntry E}
+    {left : List (PlacedEntry E)} → IsAt Known read entries (s ∷ left)
+    → (fault : Code) (w : Witness) → IsUnknown Known fault s.offset (read s.entry) w
+    → IsFirstUnknown Known read fault entries w
 stops {E} Known read {entries} {s} {left} here fault w own =
     record {
       code = own.code;
@@ -26,16 +28,19 @@ stops {E} Known read {entries} {s} {left} here fault w own =
       first = first;
     }
   where
-    first : (o n : ℕ) → NamesAt read entries o n → ¬ Known n → NotAfter w (record { code = fault; at = o; other = 0; point = n })
+    first : (o n : ℕ) → NamesAt read entries o n → ¬ Known n
+        → NotAfter w (record { code = fault; at = o; other = 0; point = n })
     first o n (e, stands, is) unknown =
         elim (before_or_behind here o e stands) [
           | inl (_, known) ↦ absurd (unknown (known n is))
           | inr (inr behind) ↦ inl (omega (arith, own.at))
           | inr (inl (same, entry)) ↦
               let one = same_Some w.point n (sym own.names ∙ ap read (sym entry) ∙ is) in
-              not_after w (record { code = fault; at = o; other = 0; point = n }) (inr (own.at ∙ sym same, omega (arith, ap code_number own.code))) own.other one
+              not_after w (record { code = fault; at = o; other = 0; point = n })
+              (inr (own.at ∙ sym same, omega (arith, ap code_number own.code))) own.other one
         ]
 
 -- where no entry is left all are known
-pub ends : {E : Type 0} (Known : ℕ → Type 0) (read : E → Option ℕ) {entries : List (PlacedEntry E)} → IsAt Known read entries [] → (o n : ℕ) → NamesAt read entries o n → Known n
+pub ends : {E : Type 0} (Known : ℕ → Type 0) (read : E → Option ℕ) {entries : List (PlacedEntry E)}
+    → IsAt Known read entries [] → (o n : ℕ) → NamesAt read entries o n → Known n
 ends Known read here o n (e, stands, is) = all_passed here o e stands n is

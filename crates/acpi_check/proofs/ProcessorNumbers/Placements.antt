@@ -29,9 +29,13 @@ abbrev pub placed : List (PlacedEntry SratEntry) → List Placement
 placed entries = filter_map (λ s. placement_of s.entry) entries
 
 -- those of all entries are the table's
-pub are_placements : (srat : SratContents) (placements : List Placement) → placements ≡ placed srat.entries → ArePlacements srat placements
-are_placements srat placements is i d =
-    (λ listed. from (rw is at listed), λ (o, (e, stands, says)). rw is (kept_has kept srat.entries (record { offset = o; entry = e }) put stands ((puts i d e).0 says)))
+pub are_placements : (srat : SratContents) (placements : List Placement) → placements ≡ placed srat.entries
+    → ArePlacements srat placements
+are_placements srat placements is i d = (
+  λ listed. from (rw is at listed),
+  λ (o, (e, stands, says)). rw is
+      (kept_has kept srat.entries (record { offset = o; entry = e }) put stands ((puts i d e).0 says)),
+)
   where
     put : Placement
     put = record { processor = i; domain = d }
@@ -40,7 +44,8 @@ are_placements srat placements is i d =
     kept s = placement_of s.entry
 
     from : Contains (placed srat.entries) put → (o : ℕ) × PutsAt srat o i d
-    from listed = let (s, found, is) = kept_from kept srat.entries put listed in (s.offset, (s.entry, found, (puts i d s.entry).1 is))
+    from listed = let (s, found, is) = kept_from kept srat.entries put listed in
+        (s.offset, (s.entry, found, (puts i d s.entry).1 is))
 
 -- ---- sorted
 
@@ -55,10 +60,13 @@ not_above : (m n p q : ℕ) → is_lt (ordering_then (nat_cmp n m) (nat_cmp q p)
 not_above m n p q upto = grind (arith, nat_tests)
 
 -- sorted placements have their processors in rising order
-pub processors_rise : (placements : List Placement) → IsSorted placement_cmp placements → AllPairs (λ a b. a.processor ≤ b.processor) placements
+pub processors_rise : (placements : List Placement) → IsSorted placement_cmp placements
+    → AllPairs (λ a b. a.processor ≤ b.processor) placements
 processors_rise placements sorted i j d before within =
-    not_above (get_or placements i d).processor (get_or placements j d).processor (get_or placements i d).domain (get_or placements j d).domain
-    (sorted_far (λ a b. is_lt (placement_cmp a b)) (ranks_by placement_cmp_total (λ p. p)) placements sorted i j d (omega arith) within)
+    not_above (get_or placements i d).processor (get_or placements j d).processor (get_or placements i d).domain
+    (get_or placements j d).domain
+    (sorted_far (λ a b. is_lt (placement_cmp a b)) (ranks_by placement_cmp_total (λ p. p)) placements sorted i j d
+    (omega arith) within)
 
 -- ---- compared
 
@@ -67,43 +75,66 @@ abbrev pub Agree : Placement → Placement → Type 0
 Agree a b = a.processor ≡ b.processor → a.domain ≡ b.domain
 
 -- where neighbours agree, all do
-far_agree : (placements : List Placement) → AllPairs (λ a b. a.processor ≤ b.processor) placements → AllAdjacentBelow Agree placements (length placements)
+far_agree : (placements : List Placement) → AllPairs (λ a b. a.processor ≤ b.processor) placements
+    → AllAdjacentBelow Agree placements (length placements)
     → (i j : ℕ) (d : Placement) → i ≤ j → j < length placements → Agree (get_or placements i d) (get_or placements j d)
-far_agree placements rise near i zero d least within same = ap (λ (k : ℕ). (get_or placements k d).domain) {x = i} {y = zero} (omega arith)
+far_agree placements rise near i zero d least within same =
+    ap (λ (k : ℕ). (get_or placements k d).domain) {x = i} {y = zero} (omega arith)
 far_agree placements rise near i (suc j) d least within same =
     elim (eq-or-lt_of_le {n = i} {m = suc j} least) [
       | inl is ↦ ap (λ (k : ℕ). (get_or placements k d).domain) is
       | inr before ↦
-          let last : (get_or placements j d).processor ≤ (get_or placements (suc j) d).processor = rise j (suc j) d (omega arith) within in
-          let first : (get_or placements i d).processor ≤ (get_or placements j d).processor = upto i j (omega arith) (omega arith) in
-          let step : Agree (get_or placements j d) (get_or placements (suc j) d) = rw (← add-one) (near j d (omega arith)) in
-          far_agree placements rise near i j d (omega arith) (omega arith) (omega (arith, same)) ∙ step (omega (arith, same))
+          let last : (get_or placements j d).processor ≤ (get_or placements (suc j) d).processor =
+          rise j (suc j) d (omega arith) within in
+          let first : (get_or placements i d).processor ≤ (get_or placements j d).processor =
+          upto i j (omega arith) (omega arith) in
+          let step : Agree (get_or placements j d) (get_or placements (suc j) d) =
+          rw (← add-one) (near j d (omega arith)) in
+          far_agree placements rise near i j d (omega arith) (omega arith) (omega (arith, same))
+          ∙ step (omega (arith, same))
     ]
   where
-    upto : (i j : ℕ) → i ≤ j → j < length placements → (get_or placements i d).processor ≤ (get_or placements j d).processor
+    upto : (i j : ℕ) → i ≤ j → j < length placements
+        → (get_or placements i d).processor ≤ (get_or placements j d).processor
     upto i j least within =
-        elim (eq-or-lt_of_le {n = i} {m = j} least) [ inl is ↦ rw is (omega arith) | inr before ↦ rise i j d before within ]
+        elim (eq-or-lt_of_le {n = i} {m = j} least) [
+          | inl is ↦ rw is (omega arith)
+          | inr before ↦
+              rise i j d before within
+        ]
 
-pub all_agree : (placements : List Placement) → AllPairs (λ a b. a.processor ≤ b.processor) placements → AllAdjacentBelow Agree placements (length placements) → DoAgree placements
+pub all_agree : (placements : List Placement) → AllPairs (λ a b. a.processor ≤ b.processor) placements
+    → AllAdjacentBelow Agree placements (length placements) → DoAgree placements
 all_agree placements rise near a b (i, within, is) (j, inside, is_too) same =
     let there : get_or placements j a ≡ b = get_or_default placements j a b inside ∙ is_too in
     elim (cases_lt i j) [
-      | inl before ↦ sym (ap (λ (p : Placement). p.domain) is) ∙ far_agree placements rise near i j a (omega arith) inside (ap (λ (p : Placement). p.processor) is ∙ same ∙ sym (ap (λ (p : Placement). p.processor) there)) ∙ ap (λ (p : Placement). p.domain) there
-      | inr behind ↦ sym (sym (ap (λ (p : Placement). p.domain) there) ∙ far_agree placements rise near j i a (omega arith) within (ap (λ (p : Placement). p.processor) there ∙ sym same ∙ sym (ap (λ (p : Placement). p.processor) is)) ∙ ap (λ (p : Placement). p.domain) is)
+      | inl before ↦ sym (ap (λ (p : Placement). p.domain) is)
+          ∙ far_agree placements rise near i j a (omega arith) inside
+          (ap (λ (p : Placement). p.processor) is ∙ same ∙ sym (ap (λ (p : Placement). p.processor) there))
+          ∙ ap (λ (p : Placement). p.domain) there
+      | inr behind ↦ sym (sym (ap (λ (p : Placement). p.domain) there)
+          ∙ far_agree placements rise near j i a (omega arith) within
+          (ap (λ (p : Placement). p.processor) there ∙ sym same ∙ sym (ap (λ (p : Placement). p.processor) is))
+          ∙ ap (λ (p : Placement). p.domain) is)
     ]
 
 -- where the placements at two places do not, not all do
-pub two_differ : (placements : List Placement) (i j : ℕ) (d e : Placement) → i < length placements → j < length placements → (get_or placements i d).processor ≡ (get_or placements j e).processor
+pub two_differ : (placements : List Placement) (i j : ℕ) (d e : Placement) → i < length placements
+    → j < length placements → (get_or placements i d).processor ≡ (get_or placements j e).processor
     → (get_or placements i d).domain ≢ (get_or placements j e).domain → ¬ DoAgree placements
 two_differ placements i j d e within inside same differ agree =
-    differ (agree (get_or placements i d) (get_or placements j e) (Contains-get_or placements i d within) (Contains-get_or placements j e inside) same)
+    differ (agree (get_or placements i d) (get_or placements j e) (Contains-get_or placements i d within)
+    (Contains-get_or placements j e inside) same)
 
 -- ---- the tables
 
 -- where all placements agree, each processor has one domain
-pub one_domain : (p : Processors) (madt : MadtContents) (srat : SratContents) (placements sorted : List Placement) → ArePlacements srat placements → IsPermutation placements sorted → DoAgree sorted → HaveOneDomain p madt srat
+pub one_domain : (p : Processors) (madt : MadtContents) (srat : SratContents) (placements sorted : List Placement)
+    → ArePlacements srat placements → IsPermutation placements sorted → DoAgree sorted → HaveOneDomain p madt srat
 one_domain p madt srat placements sorted are moved agree i enabled o r d f one other =
-    agree (record { processor = i; domain = d }) (record { processor = i; domain = f }) (listed d o one) (listed f r other) refl
+    agree (record { processor = i; domain = d }) (record { processor = i; domain = f }) (listed d o one)
+    (listed f r other) refl
   where
     listed : (d o : ℕ) → PutsAt srat o i d → Contains sorted (record { processor = i; domain = d })
-    listed d o put = Contains-permutation placements sorted (record { processor = i; domain = d }) moved ((are i d).1 (o, put))
+    listed d o put =
+        Contains-permutation placements sorted (record { processor = i; domain = d }) moved ((are i d).1 (o, put))

@@ -13,32 +13,47 @@ use Rattle.std.proofs.lemmas.List.Sorted.{Contains-permutation, IsPermutation-sy
 use Rattle.std.proofs.lemmas.Map.Keys.{IsStrictlyIncreasing-dedup}
 
 -- each number is at least those before it
-pub never_falls : (xs : List ℕ) → AllPairs (λ x y. x < y) xs → (i j : ℕ) → i ≤ j → j < length xs → get_or xs i 0 ≤ get_or xs j 0
+pub never_falls : (xs : List ℕ) → AllPairs (λ x y. x < y) xs → (i j : ℕ) → i ≤ j → j < length xs
+    → get_or xs i 0 ≤ get_or xs j 0
 never_falls xs rise i j least within =
-    elim (cases_order i j) [ inl same ↦ rw same (omega arith) | inr (inl less) ↦ omega (arith, rise i j 0 less within) | inr (inr more) ↦ absurd (omega arith) ]
+    elim (cases_order i j) [
+      | inl same ↦ rw same (omega arith)
+      | inr (inl less) ↦
+          omega (arith, rise i j 0 less within)
+      | inr (inr more) ↦ absurd (omega arith)
+    ]
 
 -- where those before a place are less than x, and those from there on greater, x is not among them
 pub found : (xs : List ℕ) (x : ℕ) (r : Result ℕ ℕ)
-    → MatchResult r (λ i. (i < length xs) × (get_or xs i 0 ≡ x)) (λ i. (i ≤ length xs) × ((k : ℕ) → k < i → get_or xs k 0 < x) × ((k : ℕ) → i ≤ k → k < length xs → x < get_or xs k 0))
+    → MatchResult r (λ i. (i < length xs) × (get_or xs i 0 ≡ x))
+    (λ i. (i ≤ length xs) × ((k : ℕ) → k < i → get_or xs k 0 < x)
+    × ((k : ℕ) → i ≤ k → k < length xs → x < get_or xs k 0))
     → MatchOption (result_ok r) (¬ Contains xs x) (λ k. (k < length xs) × (slice_index xs k ≡ x))
 found xs x (Ok i) here = here
 found xs x (Err i) here =
     λ (k, within, is).
     let at = get_or_default xs k 0 x within in
-    elim (cases_lt k i) [ inl before ↦ omega (arith, here.1 k before, is) | inr behind ↦ omega (arith, here.2 k behind within, is) ]
+    elim (cases_lt k i) [
+      | inl before ↦ omega (arith, here.1 k before, is)
+      | inr behind ↦
+          omega (arith, here.2 k behind within, is)
+    ]
 
 -- sorted numbers rise once each that is like the one before it is dropped, and are the same numbers
-pub in_order : (xs sorted kept : List ℕ) → IsPermutation xs sorted → IsSorted nat_cmp sorted → kept ≡ dedup eqb sorted → AllPairs (λ x y. x < y) kept × ((x : ℕ) → Contains kept x ↔ Contains xs x)
+pub in_order : (xs sorted kept : List ℕ) → IsPermutation xs sorted → IsSorted nat_cmp sorted → kept ≡ dedup eqb sorted
+    → AllPairs (λ x y. x < y) kept × ((x : ℕ) → Contains kept x ↔ Contains xs x)
 in_order xs sorted kept moved order is = (
   rw is (AllPairs-from_increasing (dedup eqb sorted) (IsStrictlyIncreasing-dedup sorted order)),
   λ x. (
-    λ listed. Contains-permutation sorted xs x (IsPermutation-sym xs sorted moved) (Contains-from_dedup eqb sorted x (rw is at listed)),
+    λ listed. Contains-permutation sorted xs x (IsPermutation-sym xs sorted moved)
+        (Contains-from_dedup eqb sorted x (rw is at listed)),
     λ listed. rw is (Contains-dedup_nat sorted x (Contains-permutation xs sorted x moved listed)),
   ),
 )
 
 -- where those before a place are among others, and the one at the place is like one of these, those up to it are
-pub one_more : (asked known : List ℕ) (place j : ℕ) → ((k : ℕ) → k < place → Contains known (get_or asked k 0)) → j < length known → get_or asked place 0 ≡ get_or known j 0
+pub one_more : (asked known : List ℕ) (place j : ℕ) → ((k : ℕ) → k < place → Contains known (get_or asked k 0))
+    → j < length known → get_or asked place 0 ≡ get_or known j 0
     → (k : ℕ) → k < suc place → Contains known (get_or asked k 0)
 one_more asked known place j before within is k below =
     elim (cases_order k place) [
@@ -48,5 +63,7 @@ one_more asked known place j before within is k below =
     ]
 
 -- where those at all places are among others, all are
-pub all_among : (asked known : List ℕ) → ((k : ℕ) → k < length asked → Contains known (get_or asked k 0)) → (n : ℕ) → Contains asked n → Contains known n
-all_among asked known among n (k, within, is) = subst (Contains known) (get_or_default asked k 0 n within ∙ is) (among k within)
+pub all_among : (asked known : List ℕ) → ((k : ℕ) → k < length asked → Contains known (get_or asked k 0)) → (n : ℕ)
+    → Contains asked n → Contains known n
+all_among asked known among n (k, within, is) =
+    subst (Contains known) (get_or_default asked k 0 n within ∙ is) (among k within)

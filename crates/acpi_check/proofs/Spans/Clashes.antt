@@ -10,7 +10,8 @@ use Rattle.acpi_graph.specs.declared.span.Span.{Span}
 use Rattle.acpi_check.specs.RangeSpans.{AreSpansOf, IsOverlapResult}
 
 -- a number that two ranges hold lies in two spans
-lies_in_two : {HoldsAt : ℕ → ℕ → ℕ → Type 0} (spans : List Span) → AreSpansOf HoldsAt spans → (o p x : ℕ) → IsIntervalOverlap HoldsAt o p x → LiesInTwo spans x
+lies_in_two : {HoldsAt : ℕ → ℕ → ℕ → Type 0} (spans : List Span) → AreSpansOf HoldsAt spans → (o p x : ℕ)
+    → IsIntervalOverlap HoldsAt o p x → LiesInTwo spans x
 lies_in_two spans are o p x c =
     let one = (are.covers o c.s x).0 c.one_holds in
     let other = (are.covers p c.t x).0 c.other_holds in
@@ -25,11 +26,14 @@ lies_in_two spans are o p x c =
     }
 
 -- where no number lies in two spans, none lies in two ranges
-pub apart : {HoldsAt : ℕ → ℕ → ℕ → Type 0} (spans : List Span) → AreSpansOf HoldsAt spans → IsClear spans → AreApart HoldsAt
+pub apart : {HoldsAt : ℕ → ℕ → ℕ → Type 0} (spans : List Span) → AreSpansOf HoldsAt spans → IsClear spans
+    → AreApart HoldsAt
 apart spans are clear o p x c = clear x (lies_in_two spans are o p x c)
 
 -- the first overlap of the spans is that of the ranges
-pub first_clash : {HoldsAt : ℕ → ℕ → ℕ → Type 0} (spans : List Span) → AreSpansOf HoldsAt spans → (first second point : ℕ) → graph.IsFirstClash spans first second point → IsFirstIntervalOverlap HoldsAt first second point
+pub first_clash : {HoldsAt : ℕ → ℕ → ℕ → Type 0} (spans : List Span) → AreSpansOf HoldsAt spans
+    → (first second point : ℕ) → graph.IsFirstClash spans first second point
+    → IsFirstIntervalOverlap HoldsAt first second point
 first_clash {HoldsAt} spans are first second point found =
     let two = found.two in
     record {
@@ -41,14 +45,26 @@ first_clash {HoldsAt} spans are first second point found =
         two = two.two;
       };
       in_order = grind (arith, two.in_order, two.earlier_name, two.later_name);
-      others_after = λ p u here a b. let other = (are.covers p u point).0 here in grind (arith, two.others_after other.span other.listed other.holds, other.name, other.start, a, b, two.later_name);
+      others_after = λ p u here a b. let other = (are.covers p u point).0 here in
+          grind (
+            arith,
+            two.others_after other.span other.listed other.holds,
+            other.name,
+            other.start,
+            a,
+            b,
+            two.later_name,
+          );
       least = λ o p x c. found.least x (lies_in_two spans are o p x c);
     }
   where
     holds : (span : Span) → Contains spans span → HasNumber span point → HoldsAt span.name span.start point
-    holds span listed inside = (are.covers span.name span.start point).1 (record { span = span; listed = listed; name = refl; start = refl; holds = inside })
+    holds span listed inside =
+        (are.covers span.name span.start point).1
+        (record { span = span; listed = listed; name = refl; start = refl; holds = inside })
 
 -- what `first_clash` finds of the spans is so of the ranges
-pub is_found : {HoldsAt : ℕ → ℕ → ℕ → Type 0} (spans : List Span) → AreSpansOf HoldsAt spans → (found : Clash) → ((found ≡ overlap.None) ↔ IsClear spans) → IfAt found (graph.IsFirstClash spans) → IsOverlapResult HoldsAt found
+pub is_found : {HoldsAt : ℕ → ℕ → ℕ → Type 0} (spans : List Span) → AreSpansOf HoldsAt spans → (found : Clash)
+    → ((found ≡ overlap.None) ↔ IsClear spans) → IfAt found (graph.IsFirstClash spans) → IsOverlapResult HoldsAt found
 is_found spans are overlap.None none first = apart spans are (none.0 refl)
 is_found spans are (overlap.At a b point) none first = first_clash spans are a b point first

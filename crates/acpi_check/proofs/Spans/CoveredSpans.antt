@@ -1,5 +1,5 @@
--- The spans that are collected from the entries of an SRAT are the addresses that its enabled ranges cover, and their first
--- overlaps, by kinds of ranges, make the one that is reported.
+-- The spans that are collected from the entries of an SRAT are the addresses that its enabled ranges cover, and their
+-- first overlaps, by kinds of ranges, make the one that is reported.
 use Rattle.std.proofs.Common.{◌≡◌, ℕ, ◌+◌, ◌<◌, ◌≤◌, Bool, true, false, not, cond, List, map, Option, Some, None, refl, inl, inr, arith}
 use Rattle.std.specs.Prelude.{◌↔◌, ◌&&◌}
 use Rattle.std.proofs.lemmas.Bool.{and_parts, cases_lt, lt-ltb, le-ltb}
@@ -25,22 +25,31 @@ where_some true o v is = (refl, is)
 where_some false o v is = absurd (none-some v is)
 
 -- a span is named by its entry's offset
-named : (counts : MemoryValue → Bool) (o : ℕ) (e : SratEntry) (v : SpanValue) → covered_span counts o e ≡ Some v → v.name ≡ o
+named : (counts : MemoryValue → Bool) (o : ℕ) (e : SratEntry) (v : SpanValue) → covered_span counts o e ≡ Some v
+    → v.name ≡ o
 named counts o (MemoryRange v) span is = grind (arith, from_is, is)
 named counts o _ span is = absurd cc
 
 -- and holds the addresses that the entry covers
 covers : (counts : MemoryValue → Bool) (P : MemoryValue → Type 0) → Tests counts P → (o s x : ℕ) (e : SratEntry)
-    → CoversFrom P s x e ↔ ((v : SpanValue) × (covered_span counts o e ≡ Some v) × (v.start ≡ s) × (s ≤ x) × (x < v.end))
+    → CoversFrom P s x e ↔ ((v : SpanValue) × (covered_span counts o e ≡ Some v) × (v.start ≡ s) × (s ≤ x)
+    × (x < v.end))
 covers counts P tests o s x (MemoryRange v) = (
   λ h. rw (h.0, (tests v).1 h.1) (from_some v.base (v.base + v.size) o s x h.2 h.3 (omega (arith, h.2, h.4))),
-  λ h. let kind = where_some (is_enabled v.flags && counts v) (span_from v.base (v.base + v.size) o) h.0 h.1 in let made = from_is v.base (v.base + v.size) o h.0 kind.1 in grind (arith, and_parts, kind.0, made, h.2, h.3, h.4, (tests v).0),
+  λ h. let kind = where_some (is_enabled v.flags && counts v) (span_from v.base (v.base + v.size) o) h.0 h.1 in
+      let made = from_is v.base (v.base + v.size) o h.0 kind.1 in
+      grind (arith, and_parts, kind.0, made, h.2, h.3, h.4, (tests v).0),
 )
 covers counts P tests o s x _ = (λ h. absurd h, λ h. absurd (none-some h.0 h.1))
 
 -- the spans of a kind that are collected of all entries are the ranges of this kind
-pub covered_spans : (counts : MemoryValue → Bool) (P : MemoryValue → Type 0) → Tests counts P → (whole : List ℕ) (spans : List Span) → map span_value spans ≡ spans_of (covered_span counts) (srat_contents whole).entries → AreSpansOf (Covers P (srat_contents whole)) spans
-covered_spans counts P tests whole spans is = are_spans (CoversFrom P) (covered_span counts) (record { named = named counts; covers = covers counts P tests }) 48 _ (srat_rising whole) spans is
+pub covered_spans : (counts : MemoryValue → Bool) (P : MemoryValue → Type 0) → Tests counts P
+    → (whole : List ℕ) (spans : List Span)
+    → map span_value spans ≡ spans_of (covered_span counts) (srat_contents whole).entries
+    → AreSpansOf (Covers P (srat_contents whole)) spans
+covered_spans counts P tests whole spans is =
+    are_spans (CoversFrom P) (covered_span counts) (record { named = named counts; covers = covers counts P tests }) 48
+    _ (srat_rising whole) spans is
 
 -- a test of all ranges
 pub tests_any : Tests (λ v. true) IsAny
@@ -52,18 +61,26 @@ tests_hot v = (λ is. is, λ is. is)
 
 -- and of those that are not
 pub tests_other : Tests (λ v. not (is_hot_pluggable v.flags)) IsNotHotPluggable
-tests_other v = elim (is_hot_pluggable v.flags) as (λ b. (not b ≡ true) ↔ (b ≡ false)) [ true ↦ (λ is. absurd cc, λ is. absurd cc) | false ↦ (λ _. refl, λ _. refl) ]
+tests_other v =
+    elim (is_hot_pluggable v.flags) as (λ b. (not b ≡ true) ↔ (b ≡ false)) [
+      | true ↦
+          (λ is. absurd cc, λ is. absurd cc)
+      | false ↦ (λ _. refl, λ _. refl)
+    ]
 
 -- ---- ranges that must be apart
 
 -- where all ranges are compared, their first overlap is reported
-pub counted : (c : SratContents) (found : Clash) → IsOverlapResult (Covers IsAny c) found → IsRangesResult Counted c found
+pub counted : (c : SratContents) (found : Clash) → IsOverlapResult (Covers IsAny c) found
+    → IsRangesResult Counted c found
 counted c clash.None is = is
 counted c (clash.At first second point) is = is
 
 -- where hot-pluggable ranges are apart, the earlier of the two overlaps is reported
-pub apart : (c : SratContents) (others hots : Clash) → IsOverlapResult (Covers IsNotHotPluggable c) others → IsOverlapResult (Covers IsHotPluggable c) hots → IsRangesResult Apart c (earlier_clash others hots)
-apart c clash.None clash.None none neither = λ o p x overlap. elim overlap [ inl clash ↦ none o p x clash | inr clash ↦ neither o p x clash ]
+pub apart : (c : SratContents) (others hots : Clash) → IsOverlapResult (Covers IsNotHotPluggable c) others
+    → IsOverlapResult (Covers IsHotPluggable c) hots → IsRangesResult Apart c (earlier_clash others hots)
+apart c clash.None clash.None none neither =
+    λ o p x overlap. elim overlap [ inl clash ↦ none o p x clash | inr clash ↦ neither o p x clash ]
 apart c clash.None (clash.At a b x) none first = inr (first, λ o p y clash. absurd (none o p y clash))
 apart c (clash.At a b x) clash.None first none = inl (first, λ o p y clash. absurd (none o p y clash))
 apart c (clash.At a b x) (clash.At a' b' x') first hot_first =

@@ -17,19 +17,28 @@ use Rattle.acpi_check.specs.RangeSpans.{HasSpan, AreSpansOf, SpanValue, span_val
 -- names of spans differ where those of their values rise
 names_differ : (spans : List Span) → AllPairs (λ v w. v.name < w.name) (map span_value spans) → NamesDiffer spans
 names_differ spans rise i j d before below =
-    grind (arith, rise i j (span_value d) before (omega (arith, length-map spans span_value)), get_or-map span_value spans i d, get_or-map span_value spans j d)
+    grind (
+      arith,
+      rise i j (span_value d) before (omega (arith, length-map spans span_value)),
+      get_or-map span_value spans i d,
+      get_or-map span_value spans j d,
+    )
 
 -- `read` gives of an entry the span that holds what `Says` says of it, named by the entry's offset
 pub record IsRead {E : Type 0} (Says : ℕ → ℕ → E → Type 0) (read : ℕ → E → Option SpanValue) : Type 0 where
   pub named : (o : ℕ) (e : E) (v : SpanValue) → read o e ≡ Some v → v.name ≡ o
-  pub covers : (o s x : ℕ) (e : E) → Says s x e ↔ ((v : SpanValue) × (read o e ≡ Some v) × (v.start ≡ s) × (s ≤ x) × (x < v.end))
+  pub covers : (o s x : ℕ) (e : E)
+      → Says s x e ↔ ((v : SpanValue) × (read o e ≡ Some v) × (v.start ≡ s) × (s ≤ x) × (x < v.end))
 
 -- the spans of entries are the ranges that the entries say
-pub are_spans : {E : Type 0} (Says : ℕ → ℕ → E → Type 0) (read : ℕ → E → Option SpanValue) → IsRead Says read → (low : ℕ) (entries : List (PlacedEntry E)) → AreRising low entries
-    → (spans : List Span) → map span_value spans ≡ spans_of read entries → AreSpansOf (λ o s x. StandsWith entries o (Says s x)) spans
+pub are_spans : {E : Type 0} (Says : ℕ → ℕ → E → Type 0) (read : ℕ → E → Option SpanValue) → IsRead Says read
+    → (low : ℕ) (entries : List (PlacedEntry E)) → AreRising low entries
+    → (spans : List Span) → map span_value spans ≡ spans_of read entries
+    → AreSpansOf (λ o s x. StandsWith entries o (Says s x)) spans
 are_spans {E} Says read is_read low entries rises spans is =
     record {
-      names = names_differ spans (rw is (keys_rise kept (λ v. v.name) (λ t v gives. is_read.named t.offset t.entry v gives) low entries rises));
+      names = names_differ spans (rw is
+          (keys_rise kept (λ v. v.name) (λ t v gives. is_read.named t.offset t.entry v gives) low entries rises));
       covers = λ o s x. (has o s x, from o s x);
     }
   where
@@ -39,7 +48,8 @@ are_spans {E} Says read is_read low entries rises spans is =
     has : (o s x : ℕ) → StandsWith entries o (Says s x) → HasSpan spans o s x
     has o s x (e, stands, says) =
         let (v, gives, start, least, below) = (is_read.covers o s x e).0 says in
-        let (span, listed, value) = element_of_map span_value spans v (rw is (kept_has kept entries (record { offset = o; entry = e }) v stands gives)) in
+        let (span, listed, value) = element_of_map span_value spans v
+        (rw is (kept_has kept entries (record { offset = o; entry = e }) v stands gives)) in
         record {
           span = span;
           listed = listed;
@@ -50,18 +60,27 @@ are_spans {E} Says read is_read low entries rises spans is =
 
     from : (o s x : ℕ) → HasSpan spans o s x → StandsWith entries o (Says s x)
     from o s x h =
-        let (t, listed, gives) = kept_from kept entries (span_value h.span) (rw (← is) (map_has span_value spans h.span h.listed)) in
+        let (t, listed, gives) = kept_from kept entries (span_value h.span)
+        (rw (← is) (map_has span_value spans h.span h.listed)) in
         let place : t.offset ≡ o = sym (is_read.named t.offset t.entry (span_value h.span) gives) ∙ h.name in
-        let says = (is_read.covers t.offset s x t.entry).1 (span_value h.span, gives, h.start, omega (arith, h.start, h.holds), h.holds.below_end) in
+        let says = (is_read.covers t.offset s x t.entry).1 (
+          span_value h.span,
+          gives,
+          h.start,
+          omega (arith, h.start, h.holds),
+          h.holds.below_end,
+        ) in
         (t.entry, subst (λ (k : ℕ). Stands entries k t.entry) place listed, says)
 
 -- ---- spans
 
 -- a span from a number on is what it was made of, and is not empty
-pub from_is : (start end name : ℕ) (v : SpanValue) → span_from start end name ≡ Some v → (start < end) × (v.start ≡ start) × (v.end ≡ end) × (v.name ≡ name)
+pub from_is : (start end name : ℕ) (v : SpanValue) → span_from start end name ≡ Some v
+    → (start < end) × (v.start ≡ start) × (v.end ≡ end) × (v.name ≡ name)
 from_is start end name v is = grind (arith, nat_tests, cond_some, is)
 
 -- and there is one where a number lies in it
-pub from_some : (start end name s x : ℕ) → start ≡ s → s ≤ x → x < end → (v : SpanValue) × (span_from start end name ≡ Some v) × (v.start ≡ s) × (s ≤ x) × (x < v.end)
+pub from_some : (start end name s x : ℕ) → start ≡ s → s ≤ x → x < end
+    → (v : SpanValue) × (span_from start end name ≡ Some v) × (v.start ≡ s) × (s ≤ x) × (x < v.end)
 from_some start end name s x begins least below =
     (record { start = start; end = end; name = name }, grind (arith, nat_tests), begins, least, below)

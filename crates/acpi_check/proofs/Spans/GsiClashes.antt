@@ -11,13 +11,21 @@ use Rattle.acpi_base.specs.declared.code.Code.TheVariants as code
 use Rattle.acpi_base.specs.declared.stage.Stage.TheVariants as stage
 use Rattle.acpi_base.specs.declared.witness.Witness.{Witness}
 use Rattle.acpi_base.proofs.Faults.HoldsOrFault.{first_of_set}
-use Rattle.acpi_check.specs.Passed.{IsOverlap}
+use Rattle.acpi_check.specs.PassResults.{IsOverlap}
 use Rattle.acpi_check.proofs.Spans.ServedSpans.{clash_below}
 
 -- the first clash of the I/O APICs is the first fault of the set
-pub gsi_clash_first : (m : Memory) (q : PolicyValue) → CleanBefore stage.Interrupts m q → (whole : List ℕ) → IsListedTable m q.rsdp madt_signature whole
-    → (w : Witness) → IsOverlap code.GsiClash (IsFirstGsiClash q (madt_contents whole)) w → IsFirstFault m q w × (stage_of w.code ≡ stage.Interrupts)
-gsi_clash_first m q clean whole is w found = (first_of_set clean (record { holds = record { own = own; holds = (whole, is, fault) }; least = (whole, is, found.first) }), own)
+pub gsi_clash_first : (m : Memory) (q : PolicyValue) → CleanBefore stage.Interrupts m q → (whole : List ℕ)
+    → IsListedTable m q.rsdp madt_signature whole
+    → (w : Witness) → IsOverlap code.GsiClash (IsFirstGsiClash q (madt_contents whole)) w
+    → IsFirstFault m q w × (stage_of w.code ≡ stage.Interrupts)
+gsi_clash_first m q clean whole is w found = (
+  first_of_set clean (record {
+    holds = record { own = own; holds = (whole, is, fault) };
+    least = (whole, is, found.first);
+  }),
+  own,
+)
   where
     own : stage_of w.code ≡ stage.Interrupts
     own = ap stage_of found.code
@@ -26,5 +34,6 @@ gsi_clash_first m q clean whole is w found = (first_of_set clean (record { holds
     fault = rw found.code found.first.overlap
 
 -- and its interrupt number fits a witness
-pub gsi_clash_fits : (q : PolicyValue) (c : MadtContents) (at other point : ℕ) → IsSoundMadt q c → IsFirstGsiClash q c at other point → point < 2 ^ 64
+pub gsi_clash_fits : (q : PolicyValue) (c : MadtContents) (at other point : ℕ) → IsSoundMadt q c
+    → IsFirstGsiClash q c at other point → point < 2 ^ 64
 gsi_clash_fits q c at other point sound first = omega (arith, clash_below q c sound at other point first.overlap)

@@ -21,7 +21,7 @@ use Rattle.acpi_graph.specs.Spans.{end_of, EndsBefore, AreApart}
 use Rattle.acpi_graph.specs.declared.span.CompactSpan.{CompactSpan}
 use Rattle.acpi_check.specs.GsiRanges.{served_range, ranges_of, IsInRange, IsInRanges}
 use Rattle.acpi_check.specs.Processors.{numbers_in}
-use Rattle.acpi_check.specs.Served.{named_gsi}
+use Rattle.acpi_check.specs.ServedGsis.{named_gsi}
 use Rattle.acpi_check.proofs.ProcessorNumbers.EntryNumbers.{in_entries}
 use Rattle.acpi_check.proofs.EntryPasses.Kept.{kept_has, kept_from}
 use Rattle.acpi_check.proofs.Spans.ServedFaults.{names}
@@ -29,15 +29,21 @@ use Rattle.acpi_check.proofs.Spans.ServedFaults.{names}
 -- ---- one entry
 
 -- an I/O APIC serves the numbers of its range
-serves : (q : PolicyValue) (g : ℕ) (e : MadtEntry) (range : CompactSpan) → served_range q e ≡ Some range → IsInRange range g → ServesFrom q range.start g e
+serves : (q : PolicyValue) (g : ℕ) (e : MadtEntry) (range : CompactSpan) → served_range q e ≡ Some range
+    → IsInRange range g → ServesFrom q range.start g e
 serves q g (IoApic v) range is here =
     let same = same_Some (record { start = v.gsi_base; length = inputs_of q v.address }) range is in
     (ap (λ (r : CompactSpan). r.start) same, here.0, omega (arith, here.1, ap (λ (r : CompactSpan). r.length) same))
 serves q g _ range is here = none-some range is
 
 -- and no others
-range_of : (q : PolicyValue) (start g : ℕ) (e : MadtEntry) → ServesFrom q start g e → (range : CompactSpan) × (served_range q e ≡ Some range) × IsInRange range g
-range_of q start g (IoApic v) here = (record { start = v.gsi_base; length = inputs_of q v.address }, refl, (omega (arith, here.0, here.1), omega (arith, here.0, here.2)))
+range_of : (q : PolicyValue) (start g : ℕ) (e : MadtEntry) → ServesFrom q start g e
+    → (range : CompactSpan) × (served_range q e ≡ Some range) × IsInRange range g
+range_of q start g (IoApic v) here = (
+  record { start = v.gsi_base; length = inputs_of q v.address },
+  refl,
+  (omega (arith, here.0, here.1), omega (arith, here.0, here.2)),
+)
 range_of q start g _ here = absurd here
 
 -- ---- ranges that share a number
@@ -50,17 +56,22 @@ flips : (a b : CompactSpan) → overlap a b ≡ overlap b a
 flips a b = and_comm (nat_lt b.start (end_of a)) (nat_lt a.start (end_of b))
 
 shared : (a b : CompactSpan) (g : ℕ) → IsInRange a g → IsInRange b g → overlap a b ≡ true
-shared a b g one other = rw (lt-ltb b.start (end_of a) (omega (arith, one, other)), lt-ltb a.start (end_of b) (omega (arith, one, other))) refl
+shared a b g one other =
+    rw (lt-ltb b.start (end_of a) (omega (arith, one, other)), lt-ltb a.start (end_of b) (omega (arith, one, other)))
+    refl
 
 -- of ranges that are apart no two overlap
 none_overlaps : (ranges : List CompactSpan) → AreApart ranges → IsDistinct overlap ranges
-none_overlaps ranges apart = IsDistinct-from_apart overlap ranges (λ i j d before within. not_overlap (get_or ranges i d) (get_or ranges j d) (apart i j d before within))
+none_overlaps ranges apart =
+    IsDistinct-from_apart overlap ranges
+    (λ i j d before within. not_overlap (get_or ranges i d) (get_or ranges j d) (apart i j d before within))
   where
     not_overlap : (a b : CompactSpan) → EndsBefore a b ⊎ EndsBefore b a → overlap a b ≡ false
     not_overlap a b before = grind (arith, nat_tests, before)
 
 -- where no two ranges of entries overlap, those of two entries do not
-apart_entries : (q : PolicyValue) (entries : List (PlacedEntry MadtEntry)) → IsDistinct overlap (ranges_of q entries) → (s t : PlacedEntry MadtEntry) → Contains entries s → Contains entries t → s.offset ≢ t.offset
+apart_entries : (q : PolicyValue) (entries : List (PlacedEntry MadtEntry)) → IsDistinct overlap (ranges_of q entries)
+    → (s t : PlacedEntry MadtEntry) → Contains entries s → Contains entries t → s.offset ≢ t.offset
     → (a b : CompactSpan) → served_range q s.entry ≡ Some a → served_range q t.entry ≡ Some b → overlap a b ≡ false
 apart_entries q [] distinct s t one other differ a b is_a is_b = absurd (no_element s one)
 apart_entries q (u ∷ rest) distinct s t one other differ a b is_a is_b =
@@ -75,7 +86,9 @@ apart_entries q (u ∷ rest) distinct s t one other differ a b is_a is_b =
       | inl (y, is) ↦
           let here : IsDistinct overlap (y ∷ ranges_of q rest) = rw is at distinct in
           let apart : (z : CompactSpan) → Contains (ranges_of q rest) z → overlap y z ≡ false =
-          λ z listed. All-contains (λ w. overlap y w ≡ false) (ranges_of q rest) z (All-from_recursion (λ w. overlap y w ≡ false) (ranges_of q rest) (IsDistinct-head overlap y (ranges_of q rest) here)) listed in
+          λ z listed. All-contains (λ w. overlap y w ≡ false) (ranges_of q rest) z
+          (All-from_recursion (λ w. overlap y w ≡ false) (ranges_of q rest)
+          (IsDistinct-head overlap y (ranges_of q rest) here)) listed in
           elim (first_or_later u s rest one) [
             | inl s_first ↦ elim (first_or_later u t rest other) [
               | inl t_first ↦ absurd (differ (ap (λ (w : PlacedEntry MadtEntry). w.offset) (sym s_first ∙ t_first)))
@@ -86,8 +99,10 @@ apart_entries q (u ∷ rest) distinct s t one other differ a b is_a is_b =
             | inr s_later ↦ elim (first_or_later u t rest other) [
               | inl t_first ↦
                   let same : y ≡ b = same_Some y b (sym is ∙ ap kept t_first ∙ is_b) in
-                  flips a b ∙ subst (λ (w : CompactSpan). overlap w a ≡ false) same (apart a (kept_has kept rest s a s_later is_a))
-              | inr t_later ↦ apart_entries q rest (IsDistinct-tail overlap y (ranges_of q rest) here) s t s_later t_later differ a b is_a is_b
+                  flips a b ∙ subst (λ (w : CompactSpan). overlap w a ≡ false) same
+                  (apart a (kept_has kept rest s a s_later is_a))
+              | inr t_later ↦ apart_entries q rest (IsDistinct-tail overlap y (ranges_of q rest) here) s t s_later
+                  t_later differ a b is_a is_b
             ]
           ]
     ]
@@ -104,26 +119,38 @@ are_apart q c apart o p g clash =
     let (f, also, other) = clash.other_holds in
     let (a, is_a, in_a) = range_of q clash.s g e one in
     let (b, is_b, in_b) = range_of q clash.t g f other in
-    true≢false (sym (shared a b g in_a in_b) ∙ apart_entries q c.entries (none_overlaps (ranges_of q c.entries) apart) (record { offset = o; entry = e }) (record { offset = p; entry = f }) stands also clash.two a b is_a is_b)
+    true≢false (sym (shared a b g in_a in_b) ∙ apart_entries q c.entries (none_overlaps (ranges_of q c.entries) apart)
+    (record { offset = o; entry = e }) (record { offset = p; entry = f }) stands also clash.two a b is_a is_b)
 
 -- a number in one of the ranges is served
-pub is_served : (q : PolicyValue) (c : MadtContents) (sorted : List CompactSpan) → IsPermutation (ranges_of q c.entries) sorted → (g : ℕ) → IsInRanges sorted g → IsServed q c g
+pub is_served : (q : PolicyValue) (c : MadtContents) (sorted : List CompactSpan)
+    → IsPermutation (ranges_of q c.entries) sorted → (g : ℕ) → IsInRanges sorted g → IsServed q c g
 is_served q c sorted moved g (range, listed, here) =
-    let (s, found, is) = kept_from (λ (s : PlacedEntry MadtEntry). served_range q s.entry) c.entries range (Contains-permutation sorted (ranges_of q c.entries) range (IsPermutation-sym (ranges_of q c.entries) sorted moved) listed) in
+    let (s, found, is) = kept_from (λ (s : PlacedEntry MadtEntry). served_range q s.entry) c.entries range
+    (Contains-permutation sorted (ranges_of q c.entries) range
+    (IsPermutation-sym (ranges_of q c.entries) sorted moved) listed) in
     (s.offset, range.start, (s.entry, found, serves q g s.entry range is here))
 
 -- ---- numbers in ranges
 
 -- a number in the range at a place is in one of the list
-pub in_this : (ranges : List CompactSpan) (j : ℕ) (d : CompactSpan) (g : ℕ) → j < length ranges → IsInRange (get_or ranges j d) g → IsInRanges ranges g
+pub in_this : (ranges : List CompactSpan) (j : ℕ) (d : CompactSpan) (g : ℕ) → j < length ranges
+    → IsInRange (get_or ranges j d) g → IsInRanges ranges g
 in_this ranges j d g within here = (get_or ranges j d, Contains-get_or ranges j d within, here)
 
 -- where the numbers at all places are in ranges, all numbers are
-pub all_held : (ranges : List CompactSpan) (numbers : List ℕ) → ((k : ℕ) → k < length numbers → IsInRanges ranges (get_or numbers k 0)) → (n : ℕ) → Contains numbers n → IsInRanges ranges n
-all_held ranges numbers covers n (k, within, is) = subst (IsInRanges ranges) (get_or_default numbers k 0 n within ∙ is) (covers k within)
+pub all_held : (ranges : List CompactSpan) (numbers : List ℕ)
+    → ((k : ℕ) → k < length numbers → IsInRanges ranges (get_or numbers k 0)) → (n : ℕ) → Contains numbers n
+    → IsInRanges ranges n
+all_held ranges numbers covers n (k, within, is) =
+    subst (IsInRanges ranges) (get_or_default numbers k 0 n within ∙ is) (covers k within)
 
 -- where all numbers that entries name are in ranges, all are served
-pub named_served : (q : PolicyValue) (c : MadtContents) (sorted : List CompactSpan) (named numbers : List ℕ) → IsPermutation (ranges_of q c.entries) sorted → named ≡ numbers_in named_gsi c.entries
-    → ((n : ℕ) → Contains numbers n ↔ Contains named n) → ((n : ℕ) → Contains numbers n → IsInRanges sorted n) → AreNamedServed q c
+pub named_served : (q : PolicyValue) (c : MadtContents) (sorted : List CompactSpan) (named numbers : List ℕ)
+    → IsPermutation (ranges_of q c.entries) sorted → named ≡ numbers_in named_gsi c.entries
+    → ((n : ℕ) → Contains numbers n ↔ Contains named n) → ((n : ℕ) → Contains numbers n → IsInRanges sorted n)
+    → AreNamedServed q c
 named_served q c sorted named numbers moved is same covers io o g (e, stands, names_g) =
-    is_served q c sorted moved g (covers g ((same g).1 (subst (λ (ns : List ℕ). Contains ns g) (sym is) ((in_entries named_gsi c.entries g).1 (o, (e, stands, (names g e).0 names_g))))))
+    is_served q c sorted moved g (covers g
+    ((same g).1 (subst (λ (ns : List ℕ). Contains ns g) (sym is)
+    ((in_entries named_gsi c.entries g).1 (o, (e, stands, (names g e).0 names_g))))))

@@ -15,7 +15,7 @@ use Rattle.acpi_base.proofs.Faults.HoldsOrFault.{first_of_set}
 use Rattle.acpi_base.proofs.Srat.Ranges.{is_fault}
 use Rattle.acpi_graph.specs.declared.span.Span.{Span}
 use Rattle.acpi_check.specs.RangeSpans.{AreSpansOf, span_value, covered_span, spans_of}
-use Rattle.acpi_check.specs.Passed.{IsOverlap}
+use Rattle.acpi_check.specs.PassResults.{IsOverlap}
 use Rattle.acpi_check.specs.RangeKinds.{counts, IsOfKind}
 use Rattle.acpi_check.specs.declared.range_kind.RangeKind.{RangeKind}
 use Rattle.acpi_check.specs.declared.range_kind.RangeKind.TheVariants as kind
@@ -28,20 +28,32 @@ tests kind.HotPluggable = tests_hot
 tests kind.NotHotPluggable = tests_other
 
 -- the spans of a kind that are collected of all entries are the ranges of this kind
-pub kind_spans : (k : RangeKind) (whole : List ℕ) (spans : List Span) → map span_value spans ≡ spans_of (covered_span (counts k)) (srat_contents whole).entries → AreSpansOf (Covers (IsOfKind k) (srat_contents whole)) spans
+pub kind_spans : (k : RangeKind) (whole : List ℕ) (spans : List Span)
+    → map span_value spans ≡ spans_of (covered_span (counts k)) (srat_contents whole).entries
+    → AreSpansOf (Covers (IsOfKind k) (srat_contents whole)) spans
 kind_spans k = covered_spans (counts k) (IsOfKind k) (tests k)
 
 -- the first overlap of them is the first fault of the set
-pub overlap_first : (m : Memory) (q : PolicyValue) → CleanBefore stage.Ranges m q → (whole : List ℕ) → IsListedTable m q.rsdp srat_signature whole
-    → (w : Witness) → IsOverlap code.Overlap (IsFirstOverlap q.hotplug (srat_contents whole)) w → IsFirstFault m q w × (stage_of w.code ≡ stage.Ranges)
-overlap_first m q clean whole is w found = (first_of_set clean (record { holds = record { own = own; holds = (whole, is, fault) }; least = (whole, is, found.first) }), own)
+pub overlap_first : (m : Memory) (q : PolicyValue) → CleanBefore stage.Ranges m q → (whole : List ℕ)
+    → IsListedTable m q.rsdp srat_signature whole
+    → (w : Witness) → IsOverlap code.Overlap (IsFirstOverlap q.hotplug (srat_contents whole)) w
+    → IsFirstFault m q w × (stage_of w.code ≡ stage.Ranges)
+overlap_first m q clean whole is w found = (
+  first_of_set clean (record {
+    holds = record { own = own; holds = (whole, is, fault) };
+    least = (whole, is, found.first);
+  }),
+  own,
+)
   where
     own : stage_of w.code ≡ stage.Ranges
     own = ap stage_of found.code
 
     fault : RangeFault q.hotplug (srat_contents whole) w.code w.at w.other w.point
-    fault = rw found.code (is_fault q.hotplug (srat_contents whole) (clean stage.Srat (omega arith) whole is) w.at w.other w.point found.first)
+    fault = rw found.code (is_fault q.hotplug (srat_contents whole) (clean stage.Srat (omega arith) whole is) w.at
+        w.other w.point found.first)
 
 -- and its address fits a witness
-pub overlap_fits : (h : HotPlug) (c : SratContents) (at other point : ℕ) → IsSoundSrat c → IsFirstOverlap h c at other point → point < 2 ^ 64
+pub overlap_fits : (h : HotPlug) (c : SratContents) (at other point : ℕ) → IsSoundSrat c
+    → IsFirstOverlap h c at other point → point < 2 ^ 64
 overlap_fits h c at other point sound first = (is_fault h c sound at other point first).0

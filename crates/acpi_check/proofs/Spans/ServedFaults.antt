@@ -13,9 +13,9 @@ use Rattle.acpi_base.specs.declared.stage.Stage.TheVariants as stage
 use Rattle.acpi_base.specs.declared.witness.Witness.{Witness}
 use Rattle.acpi_base.proofs.Elements.{first_element}
 use Rattle.acpi_graph.specs.declared.span.Span.{Span}
-use Rattle.acpi_check.specs.Named.{FindsUnknown}
-use Rattle.acpi_check.specs.Passed.{FindsFault}
-use Rattle.acpi_check.specs.Served.{IsInSpans, AreServedSpans, named_gsi}
+use Rattle.acpi_check.specs.NamedNumbers.{FindsUnknown}
+use Rattle.acpi_check.specs.PassResults.{FindsFault}
+use Rattle.acpi_check.specs.ServedGsis.{IsInSpans, AreServedSpans, named_gsi}
 
 -- ---- entries
 
@@ -31,31 +31,46 @@ is_io_apic q start g (IoApic v) serves = tt
 is_io_apic q start g _ serves = absurd serves
 
 -- where there are spans there is one
-has_io_apic : (q : PolicyValue) (c : MadtContents) (spans : List Span) → AreServedSpans q c spans → 0 < length spans → HasIoApic c
+has_io_apic : (q : PolicyValue) (c : MadtContents) (spans : List Span) → AreServedSpans q c spans → 0 < length spans
+    → HasIoApic c
 has_io_apic q c [] are some = absurd (omega arith)
 has_io_apic q c (span ∷ spans) are some =
-    let (o, start, (e, stands, serves)) = (are.covers span.start).0 (span, first_element span spans, record { from_start = omega arith; below_end = span.not_empty }) in
+    let (o, start, (e, stands, serves)) = (are.covers span.start).0
+    (span, first_element span spans, record { from_start = omega arith; below_end = span.not_empty }) in
     (o, (e, stands, is_io_apic q start span.start e serves))
 
 -- ---- the table
 
 -- where there are no spans there is no I/O APIC, and nothing is stated
-pub none_served : (q : PolicyValue) (c : MadtContents) (spans : List Span) → AreServedSpans q c spans → length spans ≡ 0 → AreNamedServed q c
+pub none_served : (q : PolicyValue) (c : MadtContents) (spans : List Span) → AreServedSpans q c spans → length spans ≡ 0
+    → AreNamedServed q c
 none_served q c spans are none io o g named = absurd (omega (arith, are.some io))
 
 -- what is found of the numbers that entries name is so of the table
-pub served_found : (q : PolicyValue) (c : MadtContents) (spans : List Span) → AreServedSpans q c spans → 0 < length spans
-    → (found : Option Witness) → FindsUnknown (IsInSpans spans) named_gsi code.GsiNowhere c.entries found → FindsFault stage.Served (AreNamedServed q c) (ServedFault q c) found
-served_found q c spans are some None all = λ io o g (e, stands, named). (are.covers g).0 (all o g (e, stands, (names g e).0 named))
+pub served_found : (q : PolicyValue) (c : MadtContents) (spans : List Span) → AreServedSpans q c spans
+    → 0 < length spans
+    → (found : Option Witness) → FindsUnknown (IsInSpans spans) named_gsi code.GsiNowhere c.entries found
+    → FindsFault stage.Served (AreNamedServed q c) (ServedFault q c) found
+served_found q c spans are some None all =
+    λ io o g (e, stands, named). (are.covers g).0 (all o g (e, stands, (names g e).0 named))
 served_found q c spans are some (Some w) first =
-    record { own = ap stage_of first.code; fault = rw first.code fault; least = λ v wrong. least v.code v.at v.other v.point wrong }
+    record {
+      own = ap stage_of first.code;
+      fault = rw first.code fault;
+      least = λ v wrong. least v.code v.at v.other v.point wrong;
+    }
   where
     fault : ServedFault q c code.GsiNowhere w.at w.other w.point
     fault =
-        let (e, stands, named) = first.names in
-        (has_io_apic q c spans are some, (e, stands, (names w.point e).1 named), λ served. first.unknown ((are.covers w.point).1 served), first.other)
+        let (e, stands, named) = first.names in (
+          has_io_apic q c spans are some,
+          (e, stands, (names w.point e).1 named),
+          λ served. first.unknown ((are.covers w.point).1 served),
+          first.other,
+        )
 
-    least : (d : Code) (at other point : ℕ) → ServedFault q c d at other point → NotAfter w (record { code = d; at = at; other = other; point = point })
+    least : (d : Code) (at other point : ℕ) → ServedFault q c d at other point
+        → NotAfter w (record { code = d; at = at; other = other; point = point })
     least code.GsiNowhere at other point (_, (e, stands, named), nowhere, zero) =
         subst (λ (k : ℕ). NotAfter w (record { code = code.GsiNowhere; at = at; other = k; point = point })) (sym zero)
         (first.first at point (e, stands, (names point e).0 named) (λ covers. nowhere ((are.covers point).0 covers)))

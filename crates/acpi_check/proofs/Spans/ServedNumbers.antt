@@ -16,7 +16,7 @@ use Rattle.acpi_graph.specs.Spans.{NamesDiffer, HasNumber, IsClear}
 use Rattle.acpi_graph.specs.declared.span.Span.{Span}
 use Rattle.acpi_graph.proofs.SortedSpans.{span_cmp, in_order, names_permuted, clear_permuted}
 use Rattle.acpi_check.specs.RangeSpans.{AreSpansOf}
-use Rattle.acpi_check.specs.Served.{AreSortedDisjoint, IsInSpans, AreServedSpans}
+use Rattle.acpi_check.specs.ServedGsis.{AreSortedDisjoint, IsInSpans, AreServedSpans}
 
 -- ---- spans in rising order
 
@@ -32,7 +32,9 @@ clear {HoldsAt} spans are apart x two =
     })
   where
     is : (span : Span) → Contains spans span → HasNumber span x → HoldsAt span.name span.start x
-    is span listed holds = (are.covers span.name span.start x).1 (record { span = span; listed = listed; name = refl; start = refl; holds = holds })
+    is span listed holds =
+        (are.covers span.name span.start x).1
+        (record { span = span; listed = listed; name = refl; start = refl; holds = holds })
 
 -- sorted spans that are clear of each other rise
 rise : (spans : List Span) → NamesDiffer spans → IsSorted span_cmp spans → IsClear spans → AreSortedDisjoint spans
@@ -58,7 +60,11 @@ rise spans names sorted clears i j d before within =
     b = get_or spans j d
 
     begins : a.start ≤ b.start
-    begins = elim (in_order spans names sorted i j d before within) [ inl less ↦ omega arith | inr (same, _) ↦ omega arith ]
+    begins = elim (in_order spans names sorted i j d before within) [
+      | inl less ↦ omega arith
+      | inr (same, _) ↦
+          omega arith
+    ]
 
 -- ---- what a search by the start finds
 
@@ -83,15 +89,22 @@ none_begun spans x i zero begun (span, (k, within, is), holds) =
     grind (arith, later, is, holds.from_start)
 
 -- where the last that has begun holds x, one does
-pub last_holds : (spans : List Span) (x i : ℕ) (d : Span) → 0 < i → i ≤ length spans → IsBegun spans x i → x < (get_or spans (i - 1) d).end → IsInSpans spans x
-last_holds spans x i d some within begun below =
-    (get_or spans (i - 1) d, Contains-get_or spans (i - 1) d (omega arith), record { from_start = leb-true _ _ (begun.0 (i - 1) d (omega arith) (omega arith)); below_end = below })
+pub last_holds : (spans : List Span) (x i : ℕ) (d : Span) → 0 < i → i ≤ length spans → IsBegun spans x i
+    → x < (get_or spans (i - 1) d).end → IsInSpans spans x
+last_holds spans x i d some within begun below = (
+  get_or spans (i - 1) d,
+  Contains-get_or spans (i - 1) d (omega arith),
+  record { from_start = leb-true _ _ (begun.0 (i - 1) d (omega arith) (omega arith)); below_end = below },
+)
 
 -- and where it does not, none does
-pub last_ended : (spans : List Span) (x i : ℕ) (d : Span) → AreSortedDisjoint spans → 0 < i → i ≤ length spans → IsBegun spans x i → (get_or spans (i - 1) d).end ≤ x → ¬ IsInSpans spans x
+pub last_ended : (spans : List Span) (x i : ℕ) (d : Span) → AreSortedDisjoint spans → 0 < i → i ≤ length spans
+    → IsBegun spans x i → (get_or spans (i - 1) d).end ≤ x → ¬ IsInSpans spans x
 last_ended spans x i d rises some within begun ended (span, (k, inside, is), holds) =
-    let last : (get_or spans (i - 1) span).start < (get_or spans (i - 1) span).end = (get_or spans (i - 1) span).not_empty in
-    let ends : (get_or spans (i - 1) span).end ≤ x = subst (λ (s : Span). s.end ≤ x) (get_or_default spans (i - 1) d span (omega arith)) ended in
+    let last : (get_or spans (i - 1) span).start < (get_or spans (i - 1) span).end =
+    (get_or spans (i - 1) span).not_empty in
+    let ends : (get_or spans (i - 1) span).end ≤ x = subst (λ (s : Span). s.end ≤ x)
+    (get_or_default spans (i - 1) d span (omega arith)) ended in
     let start = ap (λ (s : Span). s.start) is in
     let end = ap (λ (s : Span). s.end) is in
     elim (cases_order k (i - 1)) [
@@ -101,11 +114,13 @@ last_ended spans x i d rises some within begun ended (span, (k, inside, is), hol
     ]
 
 -- so its end decides
-pub covers : (spans : List Span) (x i : ℕ) (d : Span) → AreSortedDisjoint spans → 0 < i → i ≤ length spans → IsBegun spans x i → MatchBool (nat_lt x (get_or spans (i - 1) d).end) (IsInSpans spans x) (¬ IsInSpans spans x)
+pub covers : (spans : List Span) (x i : ℕ) (d : Span) → AreSortedDisjoint spans → 0 < i → i ≤ length spans
+    → IsBegun spans x i → MatchBool (nat_lt x (get_or spans (i - 1) d).end) (IsInSpans spans x) (¬ IsInSpans spans x)
 covers spans x i d rises some within begun =
     elim (cases_lt x (get_or spans (i - 1) d).end) [
       | inl below ↦ rw (lt-ltb x (get_or spans (i - 1) d).end below) (last_holds spans x i d some within begun below)
-      | inr ended ↦ rw (le-ltb x (get_or spans (i - 1) d).end ended) (last_ended spans x i d rises some within begun ended)
+      | inr ended ↦ rw (le-ltb x (get_or spans (i - 1) d).end ended)
+          (last_ended spans x i d rises some within begun ended)
     ]
 
 -- ---- the interrupt numbers that are served
@@ -125,20 +140,33 @@ serves_some q is (IoApic v) io = (v.gsi_base, (refl, omega arith, omega (arith, 
 serves_some q is _ io = absurd io
 
 -- sorted spans are those of the I/O APICs, where no two serve one number
-pub are_served : (q : PolicyValue) (c : MadtContents) (spans sorted : List Span) → IsPolicy q → AreInterruptsApart q c → AreSpansOf (Serves q c) spans → IsPermutation spans sorted → IsSorted span_cmp sorted → AreServedSpans q c sorted
+pub are_served : (q : PolicyValue) (c : MadtContents) (spans sorted : List Span) → IsPolicy q → AreInterruptsApart q c
+    → AreSpansOf (Serves q c) spans → IsPermutation spans sorted → IsSorted span_cmp sorted → AreServedSpans q c sorted
 are_served q c spans sorted is apart are moved order =
     record {
-      rise = rise sorted (names_permuted spans sorted moved are.names) order (clear_permuted sorted spans back (clear spans are apart));
+      rise = rise sorted (names_permuted spans sorted moved are.names) order
+          (clear_permuted sorted spans back (clear spans are apart));
       covers = λ g. (from g, to g);
-      some = λ (o, (e, stands, io)). let (g, serves) = serves_some q is e io in let (span, (k, within, _), holds) = to g (o, g, (e, stands, serves)) in omega arith;
+      some = λ (o, (e, stands, io)). let (g, serves) = serves_some q is e io in let (span, (k, within, _), holds) =
+          to g (o, g, (e, stands, serves)) in omega arith;
     }
   where
     back : IsPermutation sorted spans
     back = IsPermutation-sym spans sorted moved
 
     from : (g : ℕ) → IsInSpans sorted g → IsServed q c g
-    from g (span, listed, holds) =
-        (span.name, span.start, (are.covers span.name span.start g).1 (record { span = span; listed = Contains-permutation sorted spans span back listed; name = refl; start = refl; holds = holds }))
+    from g (span, listed, holds) = (
+      span.name,
+      span.start,
+      (are.covers span.name span.start g).1
+          (record {
+            span = span;
+            listed = Contains-permutation sorted spans span back listed;
+            name = refl;
+            start = refl;
+            holds = holds;
+          }),
+    )
 
     to : (g : ℕ) → IsServed q c g → IsInSpans sorted g
     to g (o, start, serves) =

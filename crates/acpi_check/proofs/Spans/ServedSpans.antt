@@ -16,13 +16,19 @@ named q o (IoApic v) span is = grind (arith, from_is, is)
 named q o _ span is = absurd cc
 
 -- and holds the interrupt numbers that the entry serves
-covers : (q : PolicyValue) (o s x : ℕ) (e : MadtEntry) → ServesFrom q s x e ↔ ((v : SpanValue) × (served_span q o e ≡ Some v) × (v.start ≡ s) × (s ≤ x) × (x < v.end))
-covers q o s x (IoApic v) = (λ h. from_some v.gsi_base _ o s x h.0 h.1 (omega (arith, h.0, h.2)), λ h. grind (arith, from_is, h))
+covers : (q : PolicyValue) (o s x : ℕ) (e : MadtEntry)
+    → ServesFrom q s x e ↔ ((v : SpanValue) × (served_span q o e ≡ Some v) × (v.start ≡ s) × (s ≤ x) × (x < v.end))
+covers q o s x (IoApic v) =
+    (λ h. from_some v.gsi_base _ o s x h.0 h.1 (omega (arith, h.0, h.2)), λ h. grind (arith, from_is, h))
 covers q o s x _ = (λ h. absurd h, λ h. absurd (none-some h.0 h.1))
 
 -- the spans that are collected of all entries are the ranges that are served
-pub served_spans : (q : PolicyValue) (whole : List ℕ) (spans : List Span) → map span_value spans ≡ spans_of (served_span q) (madt_contents whole).entries → AreSpansOf (Serves q (madt_contents whole)) spans
-served_spans q whole spans is = are_spans (ServesFrom q) (served_span q) (record { named = named q; covers = covers q }) 44 _ (madt_rising whole) spans is
+pub served_spans : (q : PolicyValue) (whole : List ℕ) (spans : List Span)
+    → map span_value spans ≡ spans_of (served_span q) (madt_contents whole).entries
+    → AreSpansOf (Serves q (madt_contents whole)) spans
+served_spans q whole spans is =
+    are_spans (ServesFrom q) (served_span q) (record { named = named q; covers = covers q }) 44 _ (madt_rising whole)
+    spans is
 
 -- an interrupt number that an entry of a sound MADT serves is below 2^32
 served_below : (q : PolicyValue) (s x : ℕ) (e : MadtEntry) → IsSoundMadtEntry q e → ServesFrom q s x e → x < 2 ^ 32
@@ -30,7 +36,8 @@ served_below q s x (IoApic v) sound h = omega (arith, sound, h.0, h.2)
 served_below q s x _ sound h = absurd h
 
 -- and so is one that two I/O APICs serve
-pub clash_below : (q : PolicyValue) (c : MadtContents) → IsSoundMadt q c → (at other point : ℕ) → IsIntervalOverlap (Serves q c) at other point → point < 2 ^ 32
+pub clash_below : (q : PolicyValue) (c : MadtContents) → IsSoundMadt q c → (at other point : ℕ)
+    → IsIntervalOverlap (Serves q c) at other point → point < 2 ^ 32
 clash_below q c sound at other point clash =
     let (e, stands, h) = clash.one_holds in
     served_below q clash.s point e (sound.entries at e stands) h

@@ -32,15 +32,19 @@ use Rattle.acpi_check.specs.HandedOn.{IsFacsNamed}
 use Rattle.acpi_check.specs.Tables.{IsRootOf}
 
 -- the least fault of the RSDP
-pub rsdp_first : (m : Memory) (q : PolicyValue) (w : Witness) (p : ℕ) (c : Code) → p ≡ q.rsdp → w ≡ record { code = c; at = p; other = 0; point = 0 } → stage_of c ≡ stage.Rsdp → RsdpFault m p c
-    → ((d : Code) → RsdpFault m p d → code_number c ≤ code_number d) → IsFirstFault m q w × (stage_of w.code ≡ stage.Rsdp)
-rsdp_first m q w p c here is own fault least = rw (is, here) (first_of_set (λ s before. absurd (omega (arith, stage_from_1 s))) first, own)
+pub rsdp_first : (m : Memory) (q : PolicyValue) (w : Witness) (p : ℕ) (c : Code) → p ≡ q.rsdp
+    → w ≡ record { code = c; at = p; other = 0; point = 0 } → stage_of c ≡ stage.Rsdp → RsdpFault m p c
+    → ((d : Code) → RsdpFault m p d → code_number c ≤ code_number d)
+    → IsFirstFault m q w × (stage_of w.code ≡ stage.Rsdp)
+rsdp_first m q w p c here is own fault least =
+    rw (is, here) (first_of_set (λ s before. absurd (omega (arith, stage_from_1 s))) first, own)
   where
     first : IsFirstOfStage stage.Rsdp m q (record { code = c; at = q.rsdp; other = 0; point = 0 })
     first =
         record {
           holds = record { own = own; holds = (rw (← here) fault, refl, refl, refl) };
-          least = λ v other. not_after (record { code = c; at = q.rsdp; other = 0; point = 0 }) v (inr (sym other.holds.1, least v.code (rw here other.holds.0))) (sym other.holds.2) (sym other.holds.3);
+          least = λ v other. not_after (record { code = c; at = q.rsdp; other = 0; point = 0 }) v
+              (inr (sym other.holds.1, least v.code (rw here other.holds.0))) (sym other.holds.2) (sym other.holds.3);
         }
 
 -- the faults of a set's root are at one place
@@ -51,20 +55,31 @@ one_place m p c d at place (inr one) (inl other) = absurd (no_root_and_root othe
 one_place m p c d at place (inr one) (inr other) = (one_root m p at one.0 place other.0 one.1 other.1).0
 
 -- and are those of the root that the RSDP names
-of_named : (m : Memory) (p : ℕ) (named : Addresses) (c : Code) (at : ℕ) → addresses_at m p ≡ Some named → RootFault m p c at → NamedRootFault m named c
-of_named m p named c at read (inl (none, is, here)) = inl (is, rw (same_value none.named named none.read read) at none.none)
-of_named m p named c at read (inr (d, root, wrong)) = inr (at, d, rw (same_value root.named named root.read read) at root.chosen, wrong)
+of_named : (m : Memory) (p : ℕ) (named : Addresses) (c : Code) (at : ℕ) → addresses_at m p ≡ Some named
+    → RootFault m p c at → NamedRootFault m named c
+of_named m p named c at read (inl (none, is, here)) =
+    inl (is, rw (same_value none.named named none.read read) at none.none)
+of_named m p named c at read (inr (d, root, wrong)) =
+    inr (at, d, rw (same_value root.named named root.read read) at root.chosen, wrong)
 
 -- the first fault of the root, which is where its codes are reported
-pub root_first : (m : Memory) (q : PolicyValue) (w : Witness) (rsdp : RsdpValue) (at : ℕ) (c : Code) → CleanBefore stage.Root m q → IsRsdp m q.rsdp rsdp → w ≡ record { code = c; at = at; other = 0; point = 0 }
-    → (c ≡ code.NoRoot → at ≡ rsdp.address) → ((r d : ℕ) → c ≢ code.NoRoot → chosen_root rsdp.named ≡ Some (record { address = r; width = d }) → at ≡ r)
-    → stage_of c ≡ stage.Root → NamedRootFault m rsdp.named c → ((d : Code) → NamedRootFault m rsdp.named d → code_number c ≤ code_number d) → IsFirstFault m q w × (stage_of w.code ≡ stage.Root)
+pub root_first : (m : Memory) (q : PolicyValue) (w : Witness) (rsdp : RsdpValue) (at : ℕ) (c : Code)
+    → CleanBefore stage.Root m q → IsRsdp m q.rsdp rsdp → w ≡ record { code = c; at = at; other = 0; point = 0 }
+    → (c ≡ code.NoRoot → at ≡ rsdp.address)
+    → ((r d : ℕ) → c ≢ code.NoRoot → chosen_root rsdp.named ≡ Some (record { address = r; width = d }) → at ≡ r)
+    → stage_of c ≡ stage.Root → NamedRootFault m rsdp.named c
+    → ((d : Code) → NamedRootFault m rsdp.named d → code_number c ≤ code_number d)
+    → IsFirstFault m q w × (stage_of w.code ≡ stage.Root)
 root_first m q w rsdp at c clean read is none named own fault least = rw is (first_of_set clean first, own)
   where
     fault_there : RootFault m q.rsdp c at
     fault_there =
         elim fault [
-          | inl (no_root, nothing) ↦ inl (record { named = rsdp.named; read = read.named; none = nothing }, no_root, none no_root ∙ read.address)
+          | inl (no_root, nothing) ↦ inl (
+            record { named = rsdp.named; read = read.named; none = nothing },
+            no_root,
+            none no_root ∙ read.address,
+          )
           | inr (r, d, chosen, wrong) ↦
               let is_at = named r d (λ no_root. subst (λ (x : Code). RootTableFault m r d x) no_root wrong) chosen in
               inr (d, record { named = rsdp.named; read = read.named; chosen = rw is_at chosen }, rw is_at wrong)
@@ -74,35 +89,53 @@ root_first m q w rsdp at c clean read is none named own fault least = rw is (fir
     first =
         record {
           holds = record { own = own; holds = (fault_there, refl, refl) };
-          least = λ v other. not_after (record { code = c; at = at; other = 0; point = 0 }) v (inr (one_place m q.rsdp c v.code at v.at fault_there other.holds.0, least v.code (of_named m q.rsdp rsdp.named v.code v.at read.named other.holds.0))) (sym other.holds.1) (sym other.holds.2);
+          least = λ v other. not_after (record { code = c; at = at; other = 0; point = 0 }) v
+              (inr (
+                one_place m q.rsdp c v.code at v.at fault_there other.holds.0,
+                least v.code (of_named m q.rsdp rsdp.named v.code v.at read.named other.holds.0),
+              )) (sym other.holds.1)
+              (sym other.holds.2);
         }
 
 -- the first slot that lists a table with a fault, and that table's least fault
-pub first_table_fault : (m : Memory) (q : PolicyValue) (root : RootValue) (c : Code) (k a : ℕ) → CleanBefore stage.Tables m q → IsRootOf m q.rsdp root → HasSlot root.bytes root.width k a → stage_of c ≡ stage.Tables
-    → TableFault m a c → ((d : Code) → TableFault m a d → code_number c ≤ code_number d) → ((j b : ℕ) → j < k → HasSlot root.bytes root.width j b → IsSoundTable m b) → IsFirstFault m q (record { code = c; at = k; other = a; point = 0 })
+pub first_table_fault : (m : Memory) (q : PolicyValue) (root : RootValue) (c : Code) (k a : ℕ)
+    → CleanBefore stage.Tables m q → IsRootOf m q.rsdp root → HasSlot root.bytes root.width k a
+    → stage_of c ≡ stage.Tables
+    → TableFault m a c → ((d : Code) → TableFault m a d → code_number c ≤ code_number d)
+    → ((j b : ℕ) → j < k → HasSlot root.bytes root.width j b → IsSoundTable m b)
+    → IsFirstFault m q (record { code = c; at = k; other = a; point = 0 })
 first_table_fault m q root c k a clean is slot own fault least before =
-    first_of_set clean (record { holds = record { own = own; holds = (root_slot is.named is.sound.table slot, fault, refl) }; least = λ v here. after v here.holds.0 here.holds.1 here.holds.2 })
+    first_of_set clean
+    (record {
+      holds = record { own = own; holds = (root_slot is.named is.sound.table slot, fault, refl) };
+      least = λ v here. after v here.holds.0 here.holds.1 here.holds.2;
+    })
   where
     w : Witness
     w = record { code = c; at = k; other = a; point = 0 }
 
     after : (v : Witness) → IsSlot m q.rsdp v.at v.other → TableFault m v.other v.code → v.point ≡ 0 → NotAfter w v
     after v listed stands zero =
-        let there = slot_of_root m q.rsdp root.address root.width v.at v.other root.bytes is.named is.sound.table listed in
+        let there = slot_of_root m q.rsdp root.address root.width v.at v.other root.bytes is.named is.sound.table
+        listed in
         elim (cases_order k v.at) [
           | inl same ↦
-              let other = one_slot root.bytes root.width v.at a v.other (subst (λ (i : ℕ). HasSlot root.bytes root.width i a) same slot) there in
-              not_after w v (inr (same, least v.code (subst (λ (x : ℕ). TableFault m x v.code) (sym other) stands))) other (sym zero)
+              let other = one_slot root.bytes root.width v.at a v.other
+              (subst (λ (i : ℕ). HasSlot root.bytes root.width i a) same slot) there in
+              not_after w v (inr (same, least v.code (subst (λ (x : ℕ). TableFault m x v.code) (sym other) stands)))
+              other (sym zero)
           | inr (inl less) ↦ inl less
           | inr (inr more) ↦ absurd (excludes m v.other v.code stands (before v.at v.other more there))
         ]
 
 -- the fault of a set that lists no FADT
-pub no_fadt_first : (m : Memory) (q : PolicyValue) → CleanBefore stage.Fadt m q → ListsNone m q.rsdp fadt_signature → IsFirstFault m q (record { code = code.NoFadt; at = 0; other = 0; point = 0 })
+pub no_fadt_first : (m : Memory) (q : PolicyValue) → CleanBefore stage.Fadt m q → ListsNone m q.rsdp fadt_signature
+    → IsFirstFault m q (record { code = code.NoFadt; at = 0; other = 0; point = 0 })
 no_fadt_first m q clean none =
     first_of_set clean (record {
       holds = record { own = refl; holds = (inl (none, refl, refl), refl, refl) };
-      least = λ v here. not_after (record { code = code.NoFadt; at = 0; other = 0; point = 0 }) v (inr (alone v.code v.at here.holds.0)) (sym here.holds.1) (sym here.holds.2);
+      least = λ v here. not_after (record { code = code.NoFadt; at = 0; other = 0; point = 0 }) v
+          (inr (alone v.code v.at here.holds.0)) (sym here.holds.1) (sym here.holds.2);
     })
   where
     alone : (d : Code) (at : ℕ) → FadtFault m q.rsdp d at → (0 ≡ at) × (code_number code.NoFadt ≤ code_number d)
@@ -110,22 +143,41 @@ no_fadt_first m q clean none =
     alone d at (inr (whole, is, stands)) = absurd (none_and_listed none is)
 
 -- the first fault of the FADT's bytes
-pub fadt_first : (m : Memory) (q : PolicyValue) (whole : List ℕ) (w : Witness) → CleanBefore stage.Fadt m q → IsFadt m q.rsdp whole → stage_of w.code ≡ stage.Fadt
-    → FadtTableFault whole w.code w.at → w.other ≡ 0 → w.point ≡ 0 → ((d : Code) (at : ℕ) → FadtTableFault whole d at → (w.at < at) ⊎ ((w.at ≡ at) × (code_number w.code ≤ code_number d))) → IsFirstFault m q w
+pub fadt_first : (m : Memory) (q : PolicyValue) (whole : List ℕ) (w : Witness) → CleanBefore stage.Fadt m q
+    → IsFadt m q.rsdp whole → stage_of w.code ≡ stage.Fadt
+    → FadtTableFault whole w.code w.at → w.other ≡ 0 → w.point ≡ 0
+    → ((d : Code) (at : ℕ) → FadtTableFault whole d at → (w.at < at)
+    ⊎ ((w.at ≡ at) × (code_number w.code ≤ code_number d))) → IsFirstFault m q w
 fadt_first m q whole w clean fadt own fault other point least =
-    first_of_set clean (record { holds = record { own = own; holds = (inr (whole, fadt, fault), other, point) }; least = λ v here. not_after w v (after v here.holds.0) (rw other (sym here.holds.1)) (rw point (sym here.holds.2)) })
+    first_of_set clean (record {
+      holds = record { own = own; holds = (inr (whole, fadt, fault), other, point) };
+      least = λ v here. not_after w v (after v here.holds.0) (rw other (sym here.holds.1))
+          (rw point (sym here.holds.2));
+    })
   where
-    after : (v : Witness) → FadtFault m q.rsdp v.code v.at → (w.at < v.at) ⊎ ((w.at ≡ v.at) × (code_number w.code ≤ code_number v.code))
+    after : (v : Witness) → FadtFault m q.rsdp v.code v.at
+        → (w.at < v.at) ⊎ ((w.at ≡ v.at) × (code_number w.code ≤ code_number v.code))
     after v (inl (none, is, zero)) = absurd (none_and_listed none fadt)
-    after v (inr (bytes, is, stands)) = least v.code v.at (rw (one_listed m q.rsdp fadt_signature bytes whole is fadt) at stands)
+    after v (inr (bytes, is, stands)) =
+        least v.code v.at (rw (one_listed m q.rsdp fadt_signature bytes whole is fadt) at stands)
 
 -- the first fault of the FACS that the FADT names
-pub facs_first : (m : Memory) (q : PolicyValue) (fadt : IsSoundFadt m q.rsdp) (c : Code) → CleanBefore stage.Facs m q → stage_of c ≡ stage.Facs
-    → NamedFacsFault m fadt.whole c (facs_address fadt.whole) → ((d : Code) (at : ℕ) → NamedFacsFault m fadt.whole d at → code_number c ≤ code_number d) → IsFirstFault m q (record { code = c; at = facs_address fadt.whole; other = 0; point = 0 })
+pub facs_first : (m : Memory) (q : PolicyValue) (fadt : IsSoundFadt m q.rsdp) (c : Code) → CleanBefore stage.Facs m q
+    → stage_of c ≡ stage.Facs
+    → NamedFacsFault m fadt.whole c (facs_address fadt.whole)
+    → ((d : Code) (at : ℕ) → NamedFacsFault m fadt.whole d at → code_number c ≤ code_number d)
+    → IsFirstFault m q (record { code = c; at = facs_address fadt.whole; other = 0; point = 0 })
 facs_first m q fadt c clean own fault least =
     first_of_set clean (record {
       holds = record { own = own; holds = ((fadt.whole, fadt.fadt, fadt.sound.long, fault), refl, refl) };
-      least = λ v here. let f = here.holds.0 in not_after w v (inr (sym (place m q.rsdp fadt v.code v.at f), least v.code v.at (rw (one_listed m q.rsdp fadt_signature f.0 fadt.whole f.1 fadt.fadt) at f.3))) (sym here.holds.1) (sym here.holds.2);
+      least = λ v here. let f =
+          here.holds.0 in not_after w v
+          (inr (
+            sym (place m q.rsdp fadt v.code v.at f),
+            least v.code v.at
+                (rw (one_listed m q.rsdp fadt_signature f.0 fadt.whole f.1 fadt.fadt) at f.3),
+          )) (sym here.holds.1)
+          (sym here.holds.2);
     })
   where
     w : Witness
@@ -137,6 +189,7 @@ facs_sound m p fadt is sound = λ whole also. rw (one_listed m p fadt_signature 
 
 -- what is read is the FACS that the FADT names
 pub facs_named : (m : Memory) (fadt : List ℕ) (found : Option FacsValue) → (found ≡ None → facs_address fadt ≡ 0)
-    → IfSome found (λ facs. (facs.address ≡ facs_address fadt) × (facs.address ≢ 0) × IsFacs m facs.address facs.bytes) → IsFacsNamed m fadt found
+    → IfSome found (λ facs. (facs.address ≡ facs_address fadt) × (facs.address ≢ 0) × IsFacs m facs.address facs.bytes)
+    → IsFacsNamed m fadt found
 facs_named m fadt None none some = none refl
 facs_named m fadt (Some facs) none some = some

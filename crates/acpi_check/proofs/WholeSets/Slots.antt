@@ -25,7 +25,9 @@ pub below_none : (m : Memory) (bytes : List ℕ) (d : ℕ) (signature : List ℕ
 below_none m bytes d signature = λ j a below slot. absurd (omega arith)
 
 -- a slot that lists nothing changes nothing
-pub below_skip : (m : Memory) (bytes : List ℕ) (d k : ℕ) (signature : List ℕ) (found : Option (List ℕ)) → ((a : ℕ) → ¬ HasSlot bytes d k a) → IsFirstBelow m bytes d k signature found → IsFirstBelow m bytes d (k + 1) signature found
+pub below_skip : (m : Memory) (bytes : List ℕ) (d k : ℕ) (signature : List ℕ) (found : Option (List ℕ))
+    → ((a : ℕ) → ¬ HasSlot bytes d k a) → IsFirstBelow m bytes d k signature found
+    → IsFirstBelow m bytes d (k + 1) signature found
 below_skip m bytes d k signature None empty none = λ j a below slot.
     elim (cases_lt j k) [
       | inl less ↦ none j a less slot
@@ -34,14 +36,26 @@ below_skip m bytes d k signature None empty none = λ j a below slot.
 below_skip m bytes d k signature (Some whole) empty first = first
 
 -- a slot that lists a table
-pub below_more : (m : Memory) (bytes : List ℕ) (d k a : ℕ) (header whole signature : List ℕ) (found : Option (List ℕ)) → length signature ≡ 4 → HasSlot bytes d k a → IsTable m a header whole
-    → IsFirstBelow m bytes d k signature found → IsFirstBelow m bytes d (k + 1) signature (first_signed_table signature found whole)
+pub below_more : (m : Memory) (bytes : List ℕ) (d k a : ℕ) (header whole signature : List ℕ) (found : Option (List ℕ))
+    → length signature ≡ 4 → HasSlot bytes d k a → IsTable m a header whole
+    → IsFirstBelow m bytes d k signature found
+    → IsFirstBelow m bytes d (k + 1) signature (first_signed_table signature found whole)
 below_more m bytes d k a header whole signature (Some other) four slot table first =
-    elim (has_signature whole signature) as (λ b. IsFirstBelow m bytes d (k + 1) signature (cond (b && false) (Some whole) (Some other))) [ true ↦ first | false ↦ first ]
+    elim (has_signature whole signature) as
+    (λ b. IsFirstBelow m bytes d (k + 1) signature (cond (b && false) (Some whole) (Some other))) [
+      | true ↦
+          first
+      | false ↦ first
+    ]
 below_more m bytes d k a header whole signature None four slot table none =
     elim (cases_Bool (has_signature whole signature)) [
       | inl is ↦
-          let signed : IsSigned m a signature = record { header = header; header_held = table.header_held; signed = sym (signed_table m a header whole signature table four) ∙ is } in
+          let signed : IsSigned m a signature =
+          record {
+            header = header;
+            header_held = table.header_held;
+            signed = sym (signed_table m a header whole signature table four) ∙ is;
+          } in
           rw is (a, header, record { k = k; slot = slot; signed = signed; none_before = none }, table)
       | inr not_signed ↦ rw not_signed (λ j b below there. earlier not_signed j b below there)
     ]
@@ -49,9 +63,12 @@ below_more m bytes d k a header whole signature None four slot table none =
     unsigned : has_signature whole signature ≡ false → ¬ IsSigned m a signature
     unsigned not_signed signed =
         both_ways (has_signature whole signature) not_signed
-        (signed_table m a header whole signature table four ∙ ap (λ h. has_signature h signature) (same_value header signed.header table.header_held signed.header_held) ∙ signed.signed)
+        (signed_table m a header whole signature table four
+        ∙ ap (λ h. has_signature h signature) (same_value header signed.header table.header_held signed.header_held)
+        ∙ signed.signed)
 
-    earlier : has_signature whole signature ≡ false → (j b : ℕ) → j < k + 1 → HasSlot bytes d j b → ¬ IsSigned m b signature
+    earlier : has_signature whole signature ≡ false → (j b : ℕ) → j < k + 1 → HasSlot bytes d j b
+        → ¬ IsSigned m b signature
     earlier not_signed j b below there signed =
         elim (cases_lt j k) [
           | inl less ↦ none j b less there signed
@@ -61,46 +78,59 @@ below_more m bytes d k a header whole signature None four slot table none =
         ]
 
 -- what all slots list first is what the set lists
-pub below_all : {m : Memory} {p r d : ℕ} {bytes : List ℕ} (k : ℕ) (signature : List ℕ) (found : Option (List ℕ)) → IsRoot m p r d → IsRootTable m r d bytes
-    → ((j a : ℕ) → HasSlot bytes d j a → j < k) → IsFirstBelow m bytes d k signature found → IsListed m p signature found
+pub below_all : {m : Memory} {p r d : ℕ} {bytes : List ℕ} (k : ℕ) (signature : List ℕ) (found : Option (List ℕ))
+    → IsRoot m p r d → IsRootTable m r d bytes
+    → ((j a : ℕ) → HasSlot bytes d j a → j < k) → IsFirstBelow m bytes d k signature found
+    → IsListed m p signature found
 below_all k signature None root table all none = none_in_root root table (λ j a slot. none j a (all j a slot) slot)
 below_all k signature (Some whole) root table all (a, header, first, stands) = listed_in_root root table first stands
 
 -- ---- all kinds together
 
 -- below the first slot nothing is listed
-pub none_below : (m : Memory) (root : RootValue) (firsts : FirstTables) → ((kind : TableKind) → first_table firsts kind ≡ None) → AreFirstBelow m root 0 firsts
+pub none_below : (m : Memory) (root : RootValue) (firsts : FirstTables)
+    → ((kind : TableKind) → first_table firsts kind ≡ None) → AreFirstBelow m root 0 firsts
 none_below m root firsts none = record {
   sound = λ j a below slot. absurd (omega arith);
   first = λ kind. rw (none kind) (below_none m root.bytes root.width (signature_of kind));
 }
 
 -- a slot that lists nothing changes nothing
-pub firsts_skip : (m : Memory) (root : RootValue) (k : ℕ) (firsts : FirstTables) → ((a : ℕ) → ¬ HasSlot root.bytes root.width k a) → AreFirstBelow m root k firsts → AreFirstBelow m root (k + 1) firsts
+pub firsts_skip : (m : Memory) (root : RootValue) (k : ℕ) (firsts : FirstTables)
+    → ((a : ℕ) → ¬ HasSlot root.bytes root.width k a) → AreFirstBelow m root k firsts
+    → AreFirstBelow m root (k + 1) firsts
 firsts_skip m root k firsts empty below = record {
   sound = λ j a less slot. elim (cases_lt j k) [
     | inl before ↦ below.sound j a before slot
     | inr last ↦ absurd (empty a (subst (λ (i : ℕ). HasSlot root.bytes root.width i a) (omega arith) slot))
   ];
-  first = λ kind. below_skip m root.bytes root.width k (signature_of kind) (first_table firsts kind) empty (below.first kind);
+  first = λ kind. below_skip m root.bytes root.width k (signature_of kind) (first_table firsts kind) empty
+      (below.first kind);
 }
 
 -- a slot that lists a sound table
-pub firsts_more : (m : Memory) (root : RootValue) (k a : ℕ) (header whole : List ℕ) (old new : FirstTables) → HasSlot root.bytes root.width k a → IsSoundTable m a → IsTable m a header whole
-    → ((kind : TableKind) → first_table new kind ≡ first_signed_table (signature_of kind) (first_table old kind) whole) → AreFirstBelow m root k old → AreFirstBelow m root (k + 1) new
+pub firsts_more : (m : Memory) (root : RootValue) (k a : ℕ) (header whole : List ℕ) (old new : FirstTables)
+    → HasSlot root.bytes root.width k a → IsSoundTable m a → IsTable m a header whole
+    → ((kind : TableKind) → first_table new kind ≡ first_signed_table (signature_of kind) (first_table old kind) whole)
+    → AreFirstBelow m root k old → AreFirstBelow m root (k + 1) new
 firsts_more m root k a header whole old new slot sound table added below = record {
   sound = λ j b less there. elim (cases_lt j k) [
     | inl before ↦ below.sound j b before there
     | inr last ↦
-        let here : HasSlot root.bytes root.width k b = subst (λ (i : ℕ). HasSlot root.bytes root.width i b) (omega arith) there in
+        let here : HasSlot root.bytes root.width k b = subst (λ (i : ℕ). HasSlot root.bytes root.width i b)
+        (omega arith) there in
         subst (λ (x : ℕ). IsSoundTable m x) (one_slot root.bytes root.width k a b slot here) sound
   ];
   first = λ kind.
-      rw (added kind) (below_more m root.bytes root.width k a header whole (signature_of kind) (first_table old kind) (length-signature_of kind) slot table (below.first kind));
+      rw (added kind) (below_more m root.bytes root.width k a header whole (signature_of kind) (first_table old kind)
+      (length-signature_of kind) slot table (below.first kind));
 }
 
 -- what all slots list first are the set's tables
-pub firsts_all : (m : Memory) (p k : ℕ) (root : RootValue) (firsts : FirstTables) → IsRootOf m p root → ((j a : ℕ) → HasSlot root.bytes root.width j a → j < k) → AreFirstBelow m root k firsts → AreFirstTables m p firsts
+pub firsts_all : (m : Memory) (p k : ℕ) (root : RootValue) (firsts : FirstTables) → IsRootOf m p root
+    → ((j a : ℕ) → HasSlot root.bytes root.width j a → j < k) → AreFirstBelow m root k firsts
+    → AreFirstTables m p firsts
 firsts_all m p k root firsts is all below = record {
-  each = λ kind. below_all k (signature_of kind) (first_table firsts kind) is.named is.sound.table all (below.first kind);
+  each = λ kind. below_all k (signature_of kind) (first_table firsts kind) is.named is.sound.table all
+      (below.first kind);
 }

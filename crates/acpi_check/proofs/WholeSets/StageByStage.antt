@@ -25,21 +25,29 @@ clean_to s {m} {q} clean holds t up =
     ]
 
 -- and those up to it come before the next
-pub before_next : (s next : Stage) {m : Memory} {q : PolicyValue} → stage_number next ≡ stage_number s + 1 → CleanTo s m q → CleanBefore next m q
+pub before_next : (s next : Stage) {m : Memory} {q : PolicyValue} → stage_number next ≡ stage_number s + 1
+    → CleanTo s m q → CleanBefore next m q
 before_next s next is clean t before = clean t (omega (arith, is, before))
 
-pub clean_before : (s next : Stage) {m : Memory} {q : PolicyValue} → stage_number next ≡ stage_number s + 1 → CleanBefore s m q → Holds s m q → CleanBefore next m q
+pub clean_before : (s next : Stage) {m : Memory} {q : PolicyValue} → stage_number next ≡ stage_number s + 1
+    → CleanBefore s m q → Holds s m q → CleanBefore next m q
 clean_before s next is clean holds = before_next s next is (clean_to s clean holds)
 
 -- a fault of a stage that is handed on is one of the stages up to a later one
-pub fault_of : {T U : Type 0} (s last : Stage) {m : Memory} {q : PolicyValue} (P : T → Type 0) (Q : U → Type 0) (w : Witness) (r : Result U Witness) → IsErr r → IsErrAnd r (λ v. v ≡ w)
+pub fault_of : {T U : Type 0} (s last : Stage) {m : Memory} {q : PolicyValue} (P : T → Type 0) (Q : U → Type 0)
+    (w : Witness) (r : Result U Witness) → IsErr r → IsErrAnd r (λ v. v ≡ w)
     → stage_number s ≤ stage_number last → CleanBefore s m q → Reads s m q P (Err w) → ReadsTo last m q Q r
 fault_of s last P Q w (Ok _) err is up clean found = absurd cc
 fault_of s last {m} {q} P Q w (Err v) err is up clean found =
-    rw is (found.0, omega (arith, ap stage_number found.1, up), subst (λ (x : Stage). CleanBefore x m q) (sym found.1) clean)
+    rw is (
+      found.0,
+      omega (arith, ap stage_number found.1, up),
+      subst (λ (x : Stage). CleanBefore x m q) (sym found.1) clean,
+    )
 
 -- and so is a fault of the stages up to an earlier one
-pub passed_on : {T U : Type 0} (s last : Stage) {m : Memory} {q : PolicyValue} (P : T → Type 0) (Q : U → Type 0) (w : Witness) (r : Result U Witness) → IsErr r → IsErrAnd r (λ v. v ≡ w)
+pub passed_on : {T U : Type 0} (s last : Stage) {m : Memory} {q : PolicyValue} (P : T → Type 0) (Q : U → Type 0)
+    (w : Witness) (r : Result U Witness) → IsErr r → IsErrAnd r (λ v. v ≡ w)
     → stage_number s ≤ stage_number last → ReadsTo s m q P (Err w) → ReadsTo last m q Q r
 passed_on s last P Q w (Ok _) err is up found = absurd cc
 passed_on s last P Q w (Err v) err is up found = rw is (found.0, omega (arith, found.1, up), found.2)

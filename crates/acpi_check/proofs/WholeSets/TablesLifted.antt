@@ -1,9 +1,9 @@
 -- What is found of the tables that a set lists first is so of the set.
-use Rattle.std.proofs.Common.{◌≡◌, ℕ, List, Option, Some, None, Result, Ok, Err, sym, ◌∙◌, subst}
-use Rattle.std.specs.Prelude.{◌↔◌, ⊤}
+use Rattle.std.proofs.Common.{◌≡◌, ℕ, ◌<◌, List, Option, Some, None, Result, Ok, Err, sym, ◌∙◌, subst}
+use Rattle.std.specs.Prelude.{◌↔◌, ⊤, MatchOption}
 use Rattle.acpi_base.specs.Memory.{Memory}
 use Rattle.acpi_base.specs.Policy.{PolicyValue}
-use Rattle.acpi_base.specs.Codes.{stage_of}
+use Rattle.acpi_base.specs.Codes.{stage_number, stage_of}
 use Rattle.acpi_base.specs.Listed.{IsListed, IsListedTable, ForListed, HasListed, ListsNone}
 use Rattle.acpi_base.specs.Statements.{Holds, CleanBefore}
 use Rattle.acpi_base.specs.Faults.{FaultCondition, FaultOfStage, NotAfter, IsLeastOfStage, IsFirstFault}
@@ -17,84 +17,142 @@ use Rattle.acpi_base.specs.declared.witness.Witness.{Witness}
 use Rattle.acpi_base.proofs.Faults.ListedTables.{of_listed, for_listed}
 use Rattle.acpi_base.proofs.Faults.HoldsOrFault.{first_of_set}
 use Rattle.acpi_base.proofs.Tables.Listed.{none_and_listed}
-use Rattle.acpi_check.specs.Passed.{IsFirstOfTable, Finds, FindsFirst}
+use Rattle.acpi_check.specs.PassResults.{IsFirstOfTable, Finds, FindsFirst}
 use Rattle.acpi_check.specs.StageResults.{IsStageResult}
 use Rattle.acpi_check.specs.Tables.{AreFirstTables}
+use Rattle.acpi_check.specs.Set.{IsReady, IsSetResult}
 use Rattle.acpi_check.specs.declared.refusal.Refusal.{Refusal}
+use Rattle.acpi_check.specs.declared.set.Set.{Set}
 use Rattle.acpi_check.specs.declared.refusal.Refusal.TheVariants.{Fault, OutOfMemory}
 
 -- ---- one table
 
 -- the first table of a kind is the listed one, where the set lists it
-pub listed_of_first : {m : Memory} {p : ℕ} {firsts : FirstTables} → AreFirstTables m p firsts → (kind : TableKind) → {found : Option (List ℕ)} → found ≡ first_table firsts kind
+pub listed_of_first : {m : Memory} {p : ℕ} {firsts : FirstTables} → AreFirstTables m p firsts → (kind : TableKind)
+    → {found : Option (List ℕ)} → found ≡ first_table firsts kind
     → {whole : List ℕ} → found ≡ Some whole → IsListedTable m p (signature_of kind) whole
 listed_of_first {m} {p} all kind same is = subst (IsListed m p (signature_of kind)) (sym same ∙ is) (all.each kind)
 
 -- where there is no first, it lists none
-pub none_listed : {m : Memory} {p : ℕ} {firsts : FirstTables} → AreFirstTables m p firsts → (kind : TableKind) → {found : Option (List ℕ)} → found ≡ first_table firsts kind
+pub none_listed : {m : Memory} {p : ℕ} {firsts : FirstTables} → AreFirstTables m p firsts → (kind : TableKind)
+    → {found : Option (List ℕ)} → found ≡ first_table firsts kind
     → found ≡ None → ListsNone m p (signature_of kind)
 none_listed {m} {p} all kind same is = subst (IsListed m p (signature_of kind)) (sym same ∙ is) (all.each kind)
 
 -- nothing is stated of a table that the set does not list
-pub of_none : {m : Memory} {p : ℕ} {signature : List ℕ} (P : List ℕ → Type 0) → ListsNone m p signature → ForListed m p signature P
+pub of_none : {m : Memory} {p : ℕ} {signature : List ℕ} (P : List ℕ → Type 0) → ListsNone m p signature
+    → ForListed m p signature P
 of_none P none whole is = absurd (none_and_listed none is)
 
--- what is found of the table that it lists first is so of the set, where the stage states this of the table, and the first fault
--- of the table is the set's
-pub of_one : (s : Stage) {m : Memory} {q : PolicyValue} {signature : List ℕ} (Sound : List ℕ → Type 0) (IsFirst : List ℕ → Witness → Type 0)
+-- what is found of the table that it lists first is so of the set, where the stage states this of the table, and the
+-- first fault of the table is the set's
+pub of_one : (s : Stage) {m : Memory} {q : PolicyValue} {signature : List ℕ} (Sound : List ℕ → Type 0)
+    (IsFirst : List ℕ → Witness → Type 0)
     → (ForListed m q.rsdp signature Sound → Holds s m q)
-    → ((whole : List ℕ) → IsListedTable m q.rsdp signature whole → (w : Witness) → IsFirst whole w → IsFirstFault m q w × (stage_of w.code ≡ s))
-    → {whole : List ℕ} → IsListedTable m q.rsdp signature whole → (result : Result ⊤ Refusal) → Finds s (Sound whole) (IsFirst whole) result
+    → ((whole : List ℕ) → IsListedTable m q.rsdp signature whole → (w : Witness) → IsFirst whole w
+    → IsFirstFault m q w × (stage_of w.code ≡ s))
+    → {whole : List ℕ} → IsListedTable m q.rsdp signature whole → (result : Result ⊤ Refusal)
+    → Finds s (Sound whole) (IsFirst whole) result
     → IsStageResult s m q (λ _. ⊤) result
 of_one s Sound IsFirst holds first is (Ok _) found = (holds (for_listed Sound is found), tt)
 of_one s Sound IsFirst holds first {whole} is (Err (Fault w)) found = first whole is w found
 of_one s Sound IsFirst holds first is (Err OutOfMemory) found = found
 
 -- the first fault of a table is the set's, where the stage's faults are those of this table
-pub table_first : {s : Stage} {m : Memory} {q : PolicyValue} {signature : List ℕ} (IsFault : List ℕ → Code → ℕ → ℕ → ℕ → Type 0)
-    → ((v : Witness) → FaultCondition s m q v ↔ HasListed m q.rsdp signature (λ bytes. IsFault bytes v.code v.at v.other v.point))
+pub table_first : {s : Stage} {m : Memory} {q : PolicyValue} {signature : List ℕ}
+    (IsFault : List ℕ → Code → ℕ → ℕ → ℕ → Type 0)
+    → ((v : Witness) → FaultCondition s m q v ↔ HasListed m q.rsdp signature
+    (λ bytes. IsFault bytes v.code v.at v.other v.point))
     → ((w : Witness) → ((v : Witness) → FaultOfStage s m q v → NotAfter w v) → IsLeastOfStage s m q w)
-    → CleanBefore s m q → (whole : List ℕ) → IsListedTable m q.rsdp signature whole → (w : Witness) → IsFirstOfTable s (IsFault whole) w
+    → CleanBefore s m q → (whole : List ℕ) → IsListedTable m q.rsdp signature whole → (w : Witness)
+    → IsFirstOfTable s (IsFault whole) w
     → IsFirstFault m q w × (stage_of w.code ≡ s)
 table_first IsFault condition order clean whole is w first = (
   first_of_set clean (record {
     holds = record { own = first.own; holds = (condition w).1 (whole, is, first.fault) };
-    least = order w (λ v here. first.least v (of_listed (λ bytes. IsFault bytes v.code v.at v.other v.point) is ((condition v).0 here.holds)));
+    least = order w (λ v here. first.least v
+        (of_listed (λ bytes. IsFault bytes v.code v.at v.other v.point) is ((condition v).0 here.holds)));
   }),
   first.own,
 )
 
 -- so it is where the stage's faults are those of the table
-pub of_faults : (s : Stage) {m : Memory} {q : PolicyValue} {signature : List ℕ} (Sound : List ℕ → Type 0) (IsFault : List ℕ → Code → ℕ → ℕ → ℕ → Type 0)
+pub of_faults : (s : Stage) {m : Memory} {q : PolicyValue} {signature : List ℕ} (Sound : List ℕ → Type 0)
+    (IsFault : List ℕ → Code → ℕ → ℕ → ℕ → Type 0)
     → (ForListed m q.rsdp signature Sound → Holds s m q)
-    → ((v : Witness) → FaultCondition s m q v ↔ HasListed m q.rsdp signature (λ bytes. IsFault bytes v.code v.at v.other v.point))
+    → ((v : Witness) → FaultCondition s m q v ↔ HasListed m q.rsdp signature
+    (λ bytes. IsFault bytes v.code v.at v.other v.point))
     → ((w : Witness) → ((v : Witness) → FaultOfStage s m q v → NotAfter w v) → IsLeastOfStage s m q w)
     → CleanBefore s m q → {whole : List ℕ} → IsListedTable m q.rsdp signature whole → (result : Result ⊤ Refusal)
     → FindsFirst s (Sound whole) (IsFault whole) result → IsStageResult s m q (λ _. ⊤) result
 of_faults s Sound IsFault holds condition order clean is result found =
-    of_one s Sound (λ whole. IsFirstOfTable s (IsFault whole)) holds (table_first IsFault condition order clean) is result found
+    of_one s Sound (λ whole. IsFirstOfTable s (IsFault whole)) holds (table_first IsFault condition order clean) is
+    result found
 
 -- ---- two tables
 
 -- the first fault of two tables is the set's, where the stage's faults are those of these tables
-pub both_first : {s : Stage} {m : Memory} {q : PolicyValue} {one other : List ℕ} (IsFault : List ℕ → List ℕ → Code → ℕ → ℕ → ℕ → Type 0)
-    → ((v : Witness) → FaultCondition s m q v ↔ HasListed m q.rsdp one (λ x. HasListed m q.rsdp other (λ y. IsFault x y v.code v.at v.other v.point)))
+pub both_first : {s : Stage} {m : Memory} {q : PolicyValue} {one other : List ℕ}
+    (IsFault : List ℕ → List ℕ → Code → ℕ → ℕ → ℕ → Type 0)
+    → ((v : Witness) → FaultCondition s m q v ↔ HasListed m q.rsdp one
+    (λ x. HasListed m q.rsdp other (λ y. IsFault x y v.code v.at v.other v.point)))
     → ((w : Witness) → ((v : Witness) → FaultOfStage s m q v → NotAfter w v) → IsLeastOfStage s m q w)
     → CleanBefore s m q → (x y : List ℕ) → IsListedTable m q.rsdp one x → IsListedTable m q.rsdp other y → (w : Witness)
     → IsFirstOfTable s (IsFault x y) w → IsFirstFault m q w × (stage_of w.code ≡ s)
 both_first {m = m} {q = q} {other = other} IsFault condition order clean x y is also w first =
     table_first (IsFault x)
-    (λ v. (λ h. of_listed (λ z. HasListed m q.rsdp other (λ bytes. IsFault z bytes v.code v.at v.other v.point)) is ((condition v).0 h), λ h. (condition v).1 (x, is, h)))
+    (λ v. (
+      λ h. of_listed (λ z. HasListed m q.rsdp other (λ bytes. IsFault z bytes v.code v.at v.other v.point)) is
+          ((condition v).0 h),
+      λ h. (condition v).1 (x, is, h),
+    ))
     order clean y also w first
 
 -- so it is of two tables
-pub of_two : (s : Stage) {m : Memory} {q : PolicyValue} {one other : List ℕ} (Sound : List ℕ → List ℕ → Type 0) (IsFault : List ℕ → List ℕ → Code → ℕ → ℕ → ℕ → Type 0)
+pub of_two : (s : Stage) {m : Memory} {q : PolicyValue} {one other : List ℕ} (Sound : List ℕ → List ℕ → Type 0)
+    (IsFault : List ℕ → List ℕ → Code → ℕ → ℕ → ℕ → Type 0)
     → (ForListed m q.rsdp one (λ x. ForListed m q.rsdp other (Sound x)) → Holds s m q)
-    → ((v : Witness) → FaultCondition s m q v ↔ HasListed m q.rsdp one (λ x. HasListed m q.rsdp other (λ y. IsFault x y v.code v.at v.other v.point)))
+    → ((v : Witness) → FaultCondition s m q v ↔ HasListed m q.rsdp one
+    (λ x. HasListed m q.rsdp other (λ y. IsFault x y v.code v.at v.other v.point)))
     → ((w : Witness) → ((v : Witness) → FaultOfStage s m q v → NotAfter w v) → IsLeastOfStage s m q w)
-    → CleanBefore s m q → {x y : List ℕ} → IsListedTable m q.rsdp one x → IsListedTable m q.rsdp other y → (result : Result ⊤ Refusal)
+    → CleanBefore s m q → {x y : List ℕ} → IsListedTable m q.rsdp one x → IsListedTable m q.rsdp other y
+    → (result : Result ⊤ Refusal)
     → FindsFirst s (Sound x y) (IsFault x y) result → IsStageResult s m q (λ _. ⊤) result
 of_two s {m} {q} {one} {other} Sound IsFault holds condition order clean {x} {y} is also (Ok _) found =
     (holds (for_listed (λ z. ForListed m q.rsdp other (Sound z)) is (for_listed (Sound x) also found)), tt)
-of_two s Sound IsFault holds condition order clean {x} {y} is also (Err (Fault w)) found = both_first IsFault condition order clean x y is also w found
+of_two s Sound IsFault holds condition order clean {x} {y} is also (Err (Fault w)) found =
+    both_first IsFault condition order clean x y is also w found
 of_two s Sound IsFault holds condition order clean is also (Err OutOfMemory) found = found
+
+-- ---- a stage
+
+-- what the stages before one state holds
+pub earlier : {s t : Stage} {set : Set} → IsReady s set → s ≡ t → (e : Stage) → stage_number e < stage_number t
+    → Holds e set.listed.image.now set.policy.now
+earlier ready is e before = ready.clean e (rw is before)
+
+-- where the set does not list the table, nothing is said of it, and the stage holds
+pub unlisted : {s t : Stage} {set : Set} {first : Option (List ℕ)} {said : Option (Result ⊤ Refusal)} → IsReady s set
+    → s ≡ t
+    → (kind : TableKind) → first ≡ first_table set.listed.tables kind → first ≡ None → said ≡ None
+    → (ListsNone set.listed.image.now set.policy.now.rsdp (signature_of kind)
+    → Holds t set.listed.image.now set.policy.now)
+    → MatchOption said (IsSetResult s set (Ok tt)) (IsSetResult s set)
+unlisted ready is kind same none silent holds =
+    rw (silent, is) (holds (none_listed ready.tables.listed.tables kind same none), tt)
+
+-- where it does, what is found of the table is so of the set
+pub settled : {s t : Stage} {set : Set} {first : Option (List ℕ)} {whole : List ℕ} → IsReady s set → s ≡ t
+    → (kind : TableKind) → first ≡ first_table set.listed.tables kind → first ≡ Some whole
+    → (Sound : List ℕ → Type 0) (IsFault : List ℕ → Code → ℕ → ℕ → ℕ → Type 0)
+    → (ForListed set.listed.image.now set.policy.now.rsdp (signature_of kind) Sound
+    → Holds t set.listed.image.now set.policy.now)
+    → ((v : Witness) → FaultCondition t set.listed.image.now set.policy.now v
+    ↔ HasListed set.listed.image.now set.policy.now.rsdp (signature_of kind)
+    (λ bytes. IsFault bytes v.code v.at v.other v.point))
+    → ((w : Witness) → ((v : Witness) → FaultOfStage t set.listed.image.now set.policy.now v → NotAfter w v)
+    → IsLeastOfStage t set.listed.image.now set.policy.now w)
+    → (result : Result ⊤ Refusal) → FindsFirst t (Sound whole) (IsFault whole) result → IsSetResult s set result
+settled {t = t} ready is kind same some Sound IsFault holds condition order result found =
+    rw is (of_faults t Sound IsFault holds condition order (rw is at ready.clean)
+    (listed_of_first ready.tables.listed.tables kind same some) result found)

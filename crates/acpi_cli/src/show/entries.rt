@@ -15,7 +15,7 @@ pub enum Owner {
     Pptt,
 }
 
-/// Adds a line for each of the entries of a table, and one for the bytes behind them that are no entry.
+/// Adds a line for each of the entries of a table, and `OFFSET cut` for the bytes behind them that are no entry.
 pub fn add_entries(
     text: &mut String,
     owner: Owner,
@@ -25,7 +25,7 @@ pub fn add_entries(
         writeln!(text, "{}", EntryLine { owner, entry })?;
     }
     match entries.cut() {
-        Some(offset) => writeln!(text, "{}", CutLine { offset }),
+        Some(offset) => writeln!(text, "0x{offset:x} cut"),
         None => Ok(()),
     }
 }
@@ -51,16 +51,4 @@ impl fmt::Display for EntryLine<'_> {
 /// `entry type N length N`: an entry whose type is not one that is shown, or whose length is not one of its type.
 pub fn write_other<W: fmt::Write>(f: &mut fmt::Formatter<W>, entry: &Entry<'_>) -> fmt::Result {
     write!(f, "entry type {} length {}", entry.bytes[0], entry.bytes[1])
-}
-
-/// `OFFSET cut`.
-#[derive(Clone, Copy)]
-struct CutLine {
-    offset: u64,
-}
-
-impl fmt::Display for CutLine {
-    fn fmt<W: fmt::Write>(&self, f: &mut fmt::Formatter<W>) -> fmt::Result {
-        write!(f, "0x{:x} cut", self.offset)
-    }
 }

@@ -68,15 +68,9 @@ fn add_blocks(text: &mut String, fadt: &Fadt<'_>) -> Result<(), AllocError> {
 
 /// Adds `block NAME gas SPACE WIDTH OFFSET ACCESS ADDRESS`.
 fn add_gas(text: &mut String, name: &str, gas: Gas) -> Result<(), AllocError> {
-    let Gas {
-        space,
-        bit_width,
-        bit_offset,
-        access_size,
-        address,
-    } = gas;
-    write!(text, "block {name} gas {space} {bit_width}")?;
-    writeln!(text, " {bit_offset} {access_size} 0x{address:x}")
+    write!(text, "block {name} gas {} {}", gas.space, gas.bit_width)?;
+    write!(text, " {} {}", gas.bit_offset, gas.access_size)?;
+    writeln!(text, " 0x{:x}", gas.address)
 }
 
 /// Adds the line of the FACS, where the FADT names one: `facs ADDRESS length N version N`.

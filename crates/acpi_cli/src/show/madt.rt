@@ -4,8 +4,8 @@ use crate::show::entries::{Owner, add_entries, write_other};
 use crate::show::listed::{Unread, add_unread};
 use acpi_base::field::u32_at;
 use acpi_read::{
-    AddressOverride, Entries, Entry, IoApic, Listed, LocalApic, LocalNmi, MADT_FLAGS,
-    MADT_LOCAL_APIC_ADDRESS, MadtEntry, NmiSource, Override, TableEntry, X2apic, X2apicNmi,
+    Entries, Entry, IoApic, Listed, LocalApic, LocalNmi, MADT_FLAGS, MADT_LOCAL_APIC_ADDRESS,
+    MadtEntry, NmiSource, Override, TableEntry, X2apic, X2apicNmi,
 };
 use std::alloc::AllocError;
 use std::fmt::{self, Write};
@@ -35,10 +35,10 @@ pub fn write_madt_entry<W: fmt::Write>(
     match MadtEntry::of(entry.bytes) {
         MadtEntry::LocalApic(apic) => write_local_apic(f, apic),
         MadtEntry::IoApic(apic) => write_io_apic(f, apic),
-        MadtEntry::Override(source) => write_override(f, source),
+        MadtEntry::Override(isa) => write_override(f, isa),
         MadtEntry::NmiSource(nmi) => write_nmi_source(f, nmi),
         MadtEntry::LocalNmi(nmi) => write_local_nmi(f, nmi),
-        MadtEntry::AddressOverride(local_apics) => write_address_override(f, local_apics),
+        MadtEntry::AddressOverride(apics) => write!(f, "lapic-address 0x{:x}", apics.address),
         MadtEntry::X2apic(apic) => write_x2apic(f, apic),
         MadtEntry::X2apicNmi(nmi) => write_x2apic_nmi(f, nmi),
         MadtEntry::Opaque(_) => write_other(f, entry),
@@ -47,39 +47,25 @@ pub fn write_madt_entry<W: fmt::Write>(
 
 /// `lapic uid N id N flags FLAGS`.
 fn write_local_apic<W: fmt::Write>(f: &mut fmt::Formatter<W>, apic: LocalApic) -> fmt::Result {
-    let LocalApic {
-        uid,
-        apic_id,
-        flags,
-    } = apic;
-    write!(f, "lapic uid {uid} id {apic_id} flags 0x{flags:x}")
+    write!(f, "lapic uid {} id {}", apic.uid, apic.apic_id)?;
+    write!(f, " flags 0x{:x}", apic.flags)
 }
 
 /// `ioapic id N address ADDRESS base N`.
 fn write_io_apic<W: fmt::Write>(f: &mut fmt::Formatter<W>, apic: IoApic) -> fmt::Result {
-    let IoApic {
-        id,
-        address,
-        gsi_base,
-    } = apic;
-    write!(f, "ioapic id {id} address 0x{address:x} base {gsi_base}")
+    write!(f, "ioapic id {} address 0x{:x}", apic.id, apic.address)?;
+    write!(f, " base {}", apic.gsi_base)
 }
 
 /// `override source N gsi N flags FLAGS`.
-fn write_override<W: fmt::Write>(f: &mut fmt::Formatter<W>, source: Override) -> fmt::Result {
-    let Override {
-        source,
-        gsi,
-        flags,
-        ..
-    } = source;
-    write!(f, "override source {source} gsi {gsi} flags 0x{flags:x}")
+fn write_override<W: fmt::Write>(f: &mut fmt::Formatter<W>, isa: Override) -> fmt::Result {
+    write!(f, "override source {} gsi {}", isa.source, isa.gsi)?;
+    write!(f, " flags 0x{:x}", isa.flags)
 }
 
 /// `nmi gsi N flags FLAGS`.
 fn write_nmi_source<W: fmt::Write>(f: &mut fmt::Formatter<W>, nmi: NmiSource) -> fmt::Result {
-    let NmiSource { flags, gsi } = nmi;
-    write!(f, "nmi gsi {gsi} flags 0x{flags:x}")
+    write!(f, "nmi gsi {} flags 0x{:x}", nmi.gsi, nmi.flags)
 }
 
 /// `lapic-nmi uid N flags FLAGS lint N`.
@@ -88,23 +74,10 @@ fn write_local_nmi<W: fmt::Write>(f: &mut fmt::Formatter<W>, nmi: LocalNmi) -> f
     write!(f, "lapic-nmi uid {uid} flags 0x{flags:x} lint {lint}")
 }
 
-/// `lapic-address ADDRESS`.
-fn write_address_override<W: fmt::Write>(
-    f: &mut fmt::Formatter<W>,
-    local_apics: AddressOverride,
-) -> fmt::Result {
-    let AddressOverride { address } = local_apics;
-    write!(f, "lapic-address 0x{address:x}")
-}
-
 /// `x2apic uid N id N flags FLAGS`.
 fn write_x2apic<W: fmt::Write>(f: &mut fmt::Formatter<W>, apic: X2apic) -> fmt::Result {
-    let X2apic {
-        x2apic_id,
-        flags,
-        uid,
-    } = apic;
-    write!(f, "x2apic uid {uid} id {x2apic_id} flags 0x{flags:x}")
+    write!(f, "x2apic uid {} id {}", apic.uid, apic.x2apic_id)?;
+    write!(f, " flags 0x{:x}", apic.flags)
 }
 
 /// `x2apic-nmi uid N flags FLAGS lint N`.

@@ -50,46 +50,25 @@ fn write_node<W: fmt::Write>(
 
 /// `cache flags FLAGS next OFFSET size N sets N ways N attributes FLAGS line N`: one of 24 bytes.
 fn write_cache24<W: fmt::Write>(f: &mut fmt::Formatter<W>, cache: Cache24) -> fmt::Result {
-    let Cache24 {
-        flags,
-        next_level,
-        size,
-        sets,
-        associativity,
-        attributes,
-        line_size,
-    } = cache;
-    write!(
-        f,
-        "cache flags 0x{flags:x} next 0x{next_level:x} size {size} sets {sets}"
-    )?;
-    write!(
-        f,
-        " ways {associativity} attributes 0x{attributes:x} line {line_size}"
-    )
+    write!(f, "cache flags 0x{:x}", cache.flags)?;
+    write!(f, " next 0x{:x}", cache.next_level)?;
+    write!(f, " size {} sets {}", cache.size, cache.sets)?;
+    write!(f, " ways {}", cache.associativity)?;
+    write!(f, " attributes 0x{:x}", cache.attributes)?;
+    write!(f, " line {}", cache.line_size)
 }
 
 /// The same and `id N`: one of 28 bytes.
 fn write_cache28<W: fmt::Write>(f: &mut fmt::Formatter<W>, cache: Cache28) -> fmt::Result {
-    let Cache28 {
-        flags,
-        next_level,
-        size,
-        sets,
-        associativity,
-        attributes,
-        line_size,
-        id,
-    } = cache;
     let fields = Cache24 {
-        flags,
-        next_level,
-        size,
-        sets,
-        associativity,
-        attributes,
-        line_size,
+        flags: cache.flags,
+        next_level: cache.next_level,
+        size: cache.size,
+        sets: cache.sets,
+        associativity: cache.associativity,
+        attributes: cache.attributes,
+        line_size: cache.line_size,
     };
     write_cache24(f, fields)?;
-    write!(f, " id {id}")
+    write!(f, " id {}", cache.id)
 }

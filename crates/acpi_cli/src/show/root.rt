@@ -1,80 +1,50 @@
 //! The lines of the RSDP, of the root, and of its slots.
 
-use acpi_read::{Header, Root, Rsdp};
-use std::fmt;
+ghost use Rattle.std.specs.Prelude.{◌<◌};
+ghost use Rattle.acpi_check.specs.HandedOn.{IsListedSet};
+ghost use Rattle.acpi_read.specs.Roots.{slots_of};
 
-/// `rsdp ADDRESS revision N`.
-#[derive(Clone, Copy)]
-pub struct RsdpLine<'a>(pub &'a Rsdp);
+use acpi_check::ListedSet;
+use acpi_read::Rsdp;
+use std::alloc::AllocError;
+use std::fmt::{self, Write};
 
-impl fmt::Display for RsdpLine<'_> {
-    fn fmt<W: fmt::Write>(&self, f: &mut fmt::Formatter<W>) -> fmt::Result {
-        let RsdpLine(rsdp) = self;
-        write!(
-            f,
-            "rsdp 0x{:x} revision {}",
-            rsdp.address(),
-            rsdp.revision()
-        )
+/// Adds `rsdp ADDRESS revision N`.
+pub fn add_rsdp(text: &mut String, rsdp: &Rsdp) -> Result<(), AllocError> {
+    let address = rsdp.address();
+    let revision = rsdp.revision();
+    writeln!(text, "rsdp 0x{address:x} revision {revision}")
+}
+
+/// Adds the line of the root, `root ADDRESS RSDT length N slots N`, or the same of an XSDT, and those of its slots.
+pub fn add_root(text: &mut String, set: &ListedSet<'_>) -> Result<(), AllocError>
+    requires { IsListedSet set.now }
+{
+    let root = &set.root;
+    let kind = if root.wide() { "XSDT" } else { "RSDT" };
+    let length = root.bytes().len();
+    let slots = root.slots();
+    write!(text, "root 0x{:x} {kind}", root.address())?;
+    writeln!(text, " length {length} slots {slots}")?;
+    for slot in 0..slots {
+        add_slot(text, set, slot)?;
     }
+    Ok(())
 }
 
-/// `root ADDRESS RSDT length N slots N`, or the same of an XSDT.
-#[derive(Clone, Copy)]
-pub struct RootLine<'a>(pub &'a Root<'a>);
-
-impl fmt::Display for RootLine<'_> {
-    fn fmt<W: fmt::Write>(&self, f: &mut fmt::Formatter<W>) -> fmt::Result {
-        let RootLine(root) = self;
-        let kind = if root.wide() { "XSDT" } else { "RSDT" };
-        let length = root.bytes().len();
-        write!(
-            f,
-            "root 0x{:x} {kind} length {length} slots {}",
-            root.address(),
-            root.slots()
-        )
-    }
-}
-
-/// `slot K empty`.
-#[derive(Clone, Copy)]
-pub struct EmptySlotLine {
-    /// Which slot of the root, from 0.
-    pub slot: u32,
-}
-
-impl fmt::Display for EmptySlotLine {
-    fn fmt<W: fmt::Write>(&self, f: &mut fmt::Formatter<W>) -> fmt::Result {
-        write!(f, "slot {} empty", self.slot)
-    }
-}
-
-/// `slot K ADDRESS SIGNATURE length N revision N`.
-#[derive(Clone, Copy)]
-pub struct SlotLine {
-    /// Which slot of the root, from 0.
-    pub slot: u32,
-    /// The address that it holds.
-    pub address: u64,
-    /// The header of the table there.
-    pub header: Header,
-}
-
-impl fmt::Display for SlotLine {
-    fn fmt<W: fmt::Write>(&self, f: &mut fmt::Formatter<W>) -> fmt::Result {
-        let signature = Signature(self.header.signature);
-        let Header {
-            length,
-            revision,
-            ..
-        } = self.header;
-        write!(
-            f,
-            "slot {} 0x{:x} {signature} length {length} revision {revision}",
-            self.slot, self.address
-        )
-    }
+/// Adds the line of a slot of the root, `slot K ADDRESS SIGNATURE length N revision N`, or `slot K empty`.
+fn add_slot(text: &mut String, set: &ListedSet<'_>, slot: u32) -> Result<(), AllocError>
+    requires set { IsListedSet set.now }
+    requires inside { slot < slots_of set.now.root }
+{
+    let Some(listed) = set.table(slot) else {
+        return writeln!(text, "slot {slot} empty");
+    };
+    let header = listed.table.header();
+    let signature = Signature(header.signature);
+    write!(text, "slot {slot} 0x{:x} {signature}", listed.address)?;
+    write!(text, " length {}", header.length)?;
+    writeln!(text, " revision {}", header.revision)
 }
 
 /// A signature as four characters: those of ASCII that can be printed as they are, 20h to 7Eh, any other byte as a dot.

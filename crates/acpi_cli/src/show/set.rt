@@ -1,56 +1,26 @@
 //! All lines of a set.
 
-ghost use Rattle.std.specs.Prelude.{◌<◌};
 ghost use Rattle.acpi_check.specs.HandedOn.{IsListedSet};
-ghost use Rattle.acpi_read.specs.Roots.{slots_of};
 
 use crate::show::fadt::add_fadt;
 use crate::show::madt::add_madt;
 use crate::show::pptt::add_pptt;
-use crate::show::root::{EmptySlotLine, RootLine, RsdpLine, SlotLine};
+use crate::show::root::{add_root, add_rsdp};
 use crate::show::slit::add_slit;
 use crate::show::srat::add_srat;
 use acpi_base::TableKind;
 use acpi_check::ListedSet;
 use std::alloc::{AllocError, Global};
-use std::fmt::Write;
 
 /// All lines of a set: those of the RSDP, of the root and its slots, and of the tables that are shown line by line.
 pub fn set_text(alloc: Global, set: &ListedSet<'_>) -> Result<String, AllocError>
     requires { IsListedSet set.now }
 {
     let mut text = String::new(alloc);
-    writeln!(text, "{}", RsdpLine(&set.rsdp))?;
+    add_rsdp(&mut text, &set.rsdp)?;
     add_root(&mut text, set)?;
     add_tables(&mut text, set)?;
     Ok(text)
-}
-
-/// Adds the lines of the root and of its slots.
-fn add_root(text: &mut String, set: &ListedSet<'_>) -> Result<(), AllocError>
-    requires { IsListedSet set.now }
-{
-    writeln!(text, "{}", RootLine(&set.root))?;
-    for slot in 0..set.root.slots() {
-        add_slot(text, set, slot)?;
-    }
-    Ok(())
-}
-
-/// Adds the line of a slot of the root.
-fn add_slot(text: &mut String, set: &ListedSet<'_>, slot: u32) -> Result<(), AllocError>
-    requires set { IsListedSet set.now }
-    requires inside { slot < slots_of set.now.root }
-{
-    let Some(listed) = set.table(slot) else {
-        return writeln!(text, "{}", EmptySlotLine { slot });
-    };
-    let line = SlotLine {
-        slot,
-        address: listed.address,
-        header: listed.table.header(),
-    };
-    writeln!(text, "{line}")
 }
 
 /// Adds the lines of the first listed table of each kind, and of the FACS that the FADT names.

@@ -6,9 +6,9 @@ use crate::show::listed::{Unread, add_unread};
 use acpi_base::Code;
 use acpi_read::{Listed, Slit};
 use std::alloc::AllocError;
-use std::fmt::{self, Write};
+use std::fmt::Write;
 
-/// Adds the lines of the SLIT.
+/// Adds the lines of the SLIT: `slit ADDRESS count N`, and one for each locality.
 pub fn add_slit(text: &mut String, listed: &Listed<'_>) -> Result<(), AllocError> {
     let address = listed.address;
     let table = listed.table.copied();
@@ -24,43 +24,20 @@ pub fn add_slit(text: &mut String, listed: &Listed<'_>) -> Result<(), AllocError
         }
     };
     let count = slit.count();
-    writeln!(text, "{}", SlitLine { address, count })?;
+    writeln!(text, "slit 0x{address:x} count {count}")?;
     for row in 0..count {
-        writeln!(text, "{}", RowLine { slit: &slit, row })?;
+        add_row(text, &slit, row)?;
     }
     Ok(())
 }
 
-/// `slit ADDRESS count N`.
-#[derive(Clone, Copy)]
-struct SlitLine {
-    /// Where the SLIT stands.
-    address: u64,
-    /// How many localities there are.
-    count: u32,
-}
-
-impl fmt::Display for SlitLine {
-    fn fmt<W: fmt::Write>(&self, f: &mut fmt::Formatter<W>) -> fmt::Result {
-        write!(f, "slit 0x{:x} count {}", self.address, self.count)
+/// Adds `row I D D ..`: the distances from locality I to each locality.
+fn add_row(text: &mut String, slit: &Slit<'_>, row: u32) -> Result<(), AllocError>
+    requires { row < slit.now.count }
+{
+    write!(text, "row {row}")?;
+    for column in 0..slit.count() {
+        write!(text, " {}", slit.distance(row, column))?;
     }
-}
-
-/// `row I D D ..`: the distances from locality I to each locality.
-#[derive(Clone, Copy)]
-struct RowLine<'a> {
-    slit: &'a Slit<'a>,
-    row: u32,
-    ghost is_row: { row < slit.now.count },
-}
-
-impl fmt::Display for RowLine<'_> {
-    fn fmt<W: fmt::Write>(&self, f: &mut fmt::Formatter<W>) -> fmt::Result {
-        let RowLine { slit, row } = *self;
-        write!(f, "row {row}")?;
-        for column in 0..slit.count() {
-            write!(f, " {}", slit.distance(row, column))?;
-        }
-        Ok(())
-    }
+    writeln!(text)
 }

@@ -47,14 +47,6 @@ fn write_processor<W: fmt::Write>(
 
 /// `memory domain N base ADDRESS length N flags FLAGS`, the length in hex.
 fn write_memory_range<W: fmt::Write>(f: &mut fmt::Formatter<W>, range: MemoryRange) -> fmt::Result {
-    let MemoryRange {
-        domain,
-        base,
-        size,
-        flags,
-    } = range;
-    write!(
-        f,
-        "memory domain {domain} base 0x{base:x} length 0x{size:x} flags 0x{flags:x}"
-    )
+    write!(f, "memory domain {} base 0x{:x}", range.domain, range.base)?;
+    write!(f, " length 0x{:x} flags 0x{:x}", range.size, range.flags)
 }

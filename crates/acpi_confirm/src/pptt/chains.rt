@@ -23,7 +23,8 @@ struct Linked {
 /// otherwise starts again from the first entry.
 fn entry_named<'a>(pptt: &'a [u8], link: Link, here: Linked) -> Option<&'a [u8]>
     requires { IsOnly (Names link (pptt_contents pptt.now) here.at) (Some here.names) }
-    ensures there { IsThere (entries_of 36 pptt.now) here.names (option_map (λ entry. entry.now) result) }
+    ensures there { IsThere (entries_of 36 pptt.now) here.names
+        (option_map (λ entry. entry.now) result) }
     ensures entry { IfSome result (λ entry. IsEntry entry.now) }
 {
     if here.names < here.at {
@@ -44,7 +45,9 @@ fn named_next(pptt: &[u8], link: Link, here: Linked) -> Option<u64>
 #[tactic(auto, using(crate::proofs::Chains::steps))]
 fn step(pptt: &[u8], link: Link, here: Linked) -> Option<Linked>
     requires { IsOnly (Names link (pptt_contents pptt.now) here.at) (Some here.names) }
-    ensures { MatchOption result ((p : ℕ) → ¬ IsStep (Names link (pptt_contents pptt.now)) here.at p) (λ next. IsStepTo (Names link (pptt_contents pptt.now)) here.at next) }
+    ensures { MatchOption result
+        ((p : ℕ) → ¬ IsStep (Names link (pptt_contents pptt.now)) here.at p)
+        (λ next. IsStepTo (Names link (pptt_contents pptt.now)) here.at next) }
 {
     if here.names == 0 {
         return None;
@@ -83,11 +86,13 @@ fn steps_fit(most: u64, lead: u64, round: u64) -> bool
     round >= 1 && u128::from(lead) + u128::from(round) <= u128::from(most)
 }
 
-/// Whether `lead` steps lead from an offset to one from which `round` steps lead back to it. The steps are compared
-/// with `most` before the first is taken.
-fn is_cycle(pptt: &[u8], link: Link, most: u64, from: u64, lead: u64, round: u64) -> bool
-    ensures { IsTrue result ↔ IsCycle (Names link (pptt_contents pptt.now)) most from lead round }
+/// Whether `other` steps lead from the offset `at` to one from which `point` steps lead back to it. The steps are
+/// compared with `most` before the first is taken.
+fn is_cycle(pptt: &[u8], link: Link, most: u64, witness: &Witness) -> bool
+    ensures { IsTrue result ↔ IsCycle (Names link (pptt_contents pptt.now)) most witness.now.at
+        witness.now.other witness.now.point }
 {
+    let (from, lead, round) = (witness.at, witness.other, witness.point);
     if !steps_fit(most, lead, round) {
         return false;
     }
@@ -100,41 +105,19 @@ fn is_cycle(pptt: &[u8], link: Link, most: u64, from: u64, lead: u64, round: u64
 /// Code 55: a cycle of parents. No more than one node fits into 20 bytes.
 #[tactic(auto, using(crate::proofs::PpttEntries::pptt_size))]
 pub(super) fn has_parent_fault(pptt: &[u8], witness: &Witness) -> bool
-    ensures { IsTrue result ↔ ParentFault (pptt_contents pptt.now) witness.now.code witness.now.at witness.now.other witness.now.point }
+    ensures { IsTrue result ↔ ParentFault (pptt_contents pptt.now) witness.now.code witness.now.at
+        witness.now.other witness.now.point }
 {
-    let most = pptt.len() as u64 / 20;
-    match witness.code {
-        Code::ParentCycle => {
-            is_cycle(
-                pptt,
-                Link::Parent,
-                most,
-                witness.at,
-                witness.other,
-                witness.point,
-            )
-        }
-        _ => false,
-    }
+    matches!(witness.code, Code::ParentCycle)
+        && is_cycle(pptt, Link::Parent, pptt.len() as u64 / 20, witness)
 }
 
 /// Code 56: a cycle of next levels. No more than one cache fits into 24 bytes.
 #[tactic(auto, using(crate::proofs::PpttEntries::pptt_size))]
 pub(super) fn has_cache_fault(pptt: &[u8], witness: &Witness) -> bool
-    ensures { IsTrue result ↔ CacheFault (pptt_contents pptt.now) witness.now.code witness.now.at witness.now.other witness.now.point }
+    ensures { IsTrue result ↔ CacheFault (pptt_contents pptt.now) witness.now.code witness.now.at
+        witness.now.other witness.now.point }
 {
-    let most = pptt.len() as u64 / 24;
-    match witness.code {
-        Code::CacheCycle => {
-            is_cycle(
-                pptt,
-                Link::NextLevel,
-                most,
-                witness.at,
-                witness.other,
-                witness.point,
-            )
-        }
-        _ => false,
-    }
+    matches!(witness.code, Code::CacheCycle)
+        && is_cycle(pptt, Link::NextLevel, pptt.len() as u64 / 24, witness)
 }

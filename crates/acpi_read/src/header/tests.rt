@@ -18,7 +18,7 @@ const WAET: Header = Header {
 #[test]
 fn header_is_read_and_written(rt: HostRuntime) {
     let bytes = b"WAET\x28\0\0\0\x01\x39BOCHS BXPC    \x02\0\0\0BXPC\x01\0\0\0";
-    expect_layout(&rt, WAET, bytes, bytes, &mut [0xff; 36]);
+    expect_layout(&rt, WAET, bytes);
     assert!(rt; Header::read(&bytes[..35]).is_none());
     assert!(rt; Header::read(&[0; 37]).is_none());
 }

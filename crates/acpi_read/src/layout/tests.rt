@@ -21,9 +21,11 @@ impl Layout for Entry {
 
     const LEN: usize = 20;
 
-    ghost parts = { Fixed 200 ∷ Fixed 20 ∷ Reserved 2 ∷ NumberOf 1 ∷ Reserved 1 ∷ NumberOf 2 ∷ NumberOf 4 ∷ NumberOf 8 ∷ [] };
+    ghost parts = { Fixed 200 ∷ Fixed 20 ∷ Reserved 2 ∷ NumberOf 1 ∷ Reserved 1
+        ∷ NumberOf 2 ∷ NumberOf 4 ∷ NumberOf 8 ∷ [] };
 
-    ghost values = { λ entry. Number entry.class ∷ Number entry.interrupt ∷ Number entry.uid ∷ Number entry.base ∷ [] };
+    ghost values = { λ entry. Number entry.class ∷ Number entry.interrupt ∷ Number entry.uid
+        ∷ Number entry.base ∷ [] };
 
     fn read(bytes: &[u8]) -> Option<Entry> {
         if bytes.len() != 20 || u8_at(bytes, 0) != 200 || u8_at(bytes, 1) != 20 {
@@ -76,7 +78,7 @@ fn entry_is_written_and_read_back(rt: HostRuntime) {
         200, 20, 0xff, 0xff, 0xa1, 0xff, 0xb1, 0xb2, 0xc1, 0xc2, 0xc3, 0xc4, 0xd1, 0xd2, 0xd3,
         0xd4, 0xd5, 0xd6, 0xd7, 0xd8,
     ];
-    expect_layout(&rt, ENTRY, &bytes, &BYTES, &mut [0xff; 20]);
+    expect_layout(&rt, ENTRY, &bytes);
 }
 
 #[test]

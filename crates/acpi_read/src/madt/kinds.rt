@@ -3,20 +3,9 @@
 ghost use Rattle.std.specs.Prelude.{◌≡◌, refl};
 ghost use Rattle.std.proofs.Common.{rules};
 ghost use Rattle.acpi_base.specs.Madt as said;
-ghost use Rattle.acpi_base.specs.KindLayouts.{parts_of};
-ghost use Rattle.acpi_base.proofs.Layouts.Kinds.{lays_out};
 ghost use Rattle.acpi_read.specs.Madts as layouts;
-ghost use Rattle.acpi_read.specs.declared.madt.kinds.LocalApic.{LocalApic};
-ghost use Rattle.acpi_read.specs.declared.madt.kinds.IoApic.{IoApic};
-ghost use Rattle.acpi_read.specs.declared.madt.kinds.Override.{Override};
-ghost use Rattle.acpi_read.specs.declared.madt.kinds.NmiSource.{NmiSource};
-ghost use Rattle.acpi_read.specs.declared.madt.kinds.LocalNmi.{LocalNmi};
-ghost use Rattle.acpi_read.specs.declared.madt.kinds.AddressOverride.{AddressOverride};
-ghost use Rattle.acpi_read.specs.declared.madt.kinds.X2apic.{X2apic};
-ghost use Rattle.acpi_read.specs.declared.madt.kinds.X2apicNmi.{X2apicNmi};
 
-use crate::kind::{EntryKind, is_kind};
-use crate::layout::Layout;
+use crate::kind::FixedKind;
 use acpi_base::field::{Value, put_values, u8_at, u16_at, u32_at, u64_at};
 
 /// A processor and its local APIC (ACPI 6.5, 5.2.12.2): type 0, 8 bytes.
@@ -30,32 +19,33 @@ pub struct LocalApic {
     pub flags: u32,
 }
 
-impl Layout for LocalApic {
-    ghost LEN = { said.local_apic.size };
+impl FixedKind for LocalApic {
+    ghost Said = { said.LocalApicValue };
 
-    const LEN: usize = 8;
+    ghost layout = { layouts.local_apic_layout };
 
-    ghost parts = { parts_of layouts.local_apic_layout };
+    ghost say = { layouts.local_apic_value };
 
-    ghost values = { λ e. layouts.local_apic_layout.values (layouts.local_apic_value e) };
+    ghost TYPE = { said.local_apic.type };
 
-    fn read(bytes: &[u8]) -> Option<LocalApic> {
-        if !is_kind(bytes, Self::TYPE, Self::LEN) {
-            return None;
-        }
-        Some(LocalApic {
+    const TYPE: u8 = 0;
+
+    ghost SIZE = { said.local_apic.size };
+
+    const SIZE: usize = 8;
+
+    fn fields(bytes: &[u8]) -> LocalApic {
+        LocalApic {
             uid: u8_at(bytes, 2),
             apic_id: u8_at(bytes, 3),
             flags: u32_at(bytes, 4),
-        })
+        }
     }
 
-    fn write(&self, out: &mut [u8]) {
+    fn put_fields(&self, out: &mut [u8]) {
         put_values(
             out,
             &[
-                Value::U8(Self::TYPE),
-                Value::U8(Self::LEN as u8),
                 Value::U8(self.uid),
                 Value::U8(self.apic_id),
                 Value::U32(self.flags),
@@ -63,23 +53,7 @@ impl Layout for LocalApic {
         );
     }
 
-    ghost counted = { refl };
-
-    ghost one_value = { λ _ _ same. Prim.search rules };
-}
-
-impl EntryKind for LocalApic {
-    ghost TYPE = { said.local_apic.type };
-
-    const TYPE: u8 = 0;
-
-    ghost Said = { said.LocalApicValue };
-
-    ghost kind = { said.local_apic };
-
-    ghost say = { layouts.local_apic_value };
-
-    ghost laid = { lays_out layouts.local_apic_layout layouts.local_apic_laid layouts.local_apic_value };
+    ghost laid = { (refl, refl, layouts.local_apic_laid, λ _ _ same. Prim.search rules) };
 }
 
 /// An I/O APIC (ACPI 6.5, 5.2.12.3): type 1, 12 bytes. Byte 3 is reserved. How many inputs it has is not in
@@ -94,32 +68,33 @@ pub struct IoApic {
     pub gsi_base: u32,
 }
 
-impl Layout for IoApic {
-    ghost LEN = { said.io_apic.size };
+impl FixedKind for IoApic {
+    ghost Said = { said.IoApicValue };
 
-    const LEN: usize = 12;
+    ghost layout = { layouts.io_apic_layout };
 
-    ghost parts = { parts_of layouts.io_apic_layout };
+    ghost say = { layouts.io_apic_value };
 
-    ghost values = { λ e. layouts.io_apic_layout.values (layouts.io_apic_value e) };
+    ghost TYPE = { said.io_apic.type };
 
-    fn read(bytes: &[u8]) -> Option<IoApic> {
-        if !is_kind(bytes, Self::TYPE, Self::LEN) {
-            return None;
-        }
-        Some(IoApic {
+    const TYPE: u8 = 1;
+
+    ghost SIZE = { said.io_apic.size };
+
+    const SIZE: usize = 12;
+
+    fn fields(bytes: &[u8]) -> IoApic {
+        IoApic {
             id: u8_at(bytes, 2),
             address: u32_at(bytes, 4),
             gsi_base: u32_at(bytes, 8),
-        })
+        }
     }
 
-    fn write(&self, out: &mut [u8]) {
+    fn put_fields(&self, out: &mut [u8]) {
         put_values(
             out,
             &[
-                Value::U8(Self::TYPE),
-                Value::U8(Self::LEN as u8),
                 Value::U8(self.id),
                 Value::Zeros(1),
                 Value::U32(self.address),
@@ -128,23 +103,7 @@ impl Layout for IoApic {
         );
     }
 
-    ghost counted = { refl };
-
-    ghost one_value = { λ _ _ same. Prim.search rules };
-}
-
-impl EntryKind for IoApic {
-    ghost TYPE = { said.io_apic.type };
-
-    const TYPE: u8 = 1;
-
-    ghost Said = { said.IoApicValue };
-
-    ghost kind = { said.io_apic };
-
-    ghost say = { layouts.io_apic_value };
-
-    ghost laid = { lays_out layouts.io_apic_layout layouts.io_apic_laid layouts.io_apic_value };
+    ghost laid = { (refl, refl, layouts.io_apic_laid, λ _ _ same. Prim.search rules) };
 }
 
 /// An interrupt source override (ACPI 6.5, 5.2.12.5): type 2, 10 bytes. It gives an ISA interrupt its
@@ -161,33 +120,34 @@ pub struct Override {
     pub flags: u16,
 }
 
-impl Layout for Override {
-    ghost LEN = { said.override.size };
+impl FixedKind for Override {
+    ghost Said = { said.OverrideValue };
 
-    const LEN: usize = 10;
+    ghost layout = { layouts.override_layout };
 
-    ghost parts = { parts_of layouts.override_layout };
+    ghost say = { layouts.override_value };
 
-    ghost values = { λ e. layouts.override_layout.values (layouts.override_value e) };
+    ghost TYPE = { said.override.type };
 
-    fn read(bytes: &[u8]) -> Option<Override> {
-        if !is_kind(bytes, Self::TYPE, Self::LEN) {
-            return None;
-        }
-        Some(Override {
+    const TYPE: u8 = 2;
+
+    ghost SIZE = { said.override.size };
+
+    const SIZE: usize = 10;
+
+    fn fields(bytes: &[u8]) -> Override {
+        Override {
             bus: u8_at(bytes, 2),
             source: u8_at(bytes, 3),
             gsi: u32_at(bytes, 4),
             flags: u16_at(bytes, 8),
-        })
+        }
     }
 
-    fn write(&self, out: &mut [u8]) {
+    fn put_fields(&self, out: &mut [u8]) {
         put_values(
             out,
             &[
-                Value::U8(Self::TYPE),
-                Value::U8(Self::LEN as u8),
                 Value::U8(self.bus),
                 Value::U8(self.source),
                 Value::U32(self.gsi),
@@ -196,23 +156,7 @@ impl Layout for Override {
         );
     }
 
-    ghost counted = { refl };
-
-    ghost one_value = { λ _ _ same. Prim.search rules };
-}
-
-impl EntryKind for Override {
-    ghost TYPE = { said.override.type };
-
-    const TYPE: u8 = 2;
-
-    ghost Said = { said.OverrideValue };
-
-    ghost kind = { said.override };
-
-    ghost say = { layouts.override_value };
-
-    ghost laid = { lays_out layouts.override_layout layouts.override_laid layouts.override_value };
+    ghost laid = { (refl, refl, layouts.override_laid, λ _ _ same. Prim.search rules) };
 }
 
 /// An NMI source (ACPI 6.5, 5.2.12.6): type 3, 8 bytes. Its interrupt number is an NMI. Any flags are read.
@@ -224,54 +168,33 @@ pub struct NmiSource {
     pub gsi: u32,
 }
 
-impl Layout for NmiSource {
-    ghost LEN = { said.nmi_source.size };
+impl FixedKind for NmiSource {
+    ghost Said = { said.NmiSourceValue };
 
-    const LEN: usize = 8;
+    ghost layout = { layouts.nmi_source_layout };
 
-    ghost parts = { parts_of layouts.nmi_source_layout };
+    ghost say = { layouts.nmi_source_value };
 
-    ghost values = { λ e. layouts.nmi_source_layout.values (layouts.nmi_source_value e) };
-
-    fn read(bytes: &[u8]) -> Option<NmiSource> {
-        if !is_kind(bytes, Self::TYPE, Self::LEN) {
-            return None;
-        }
-        Some(NmiSource {
-            flags: u16_at(bytes, 2),
-            gsi: u32_at(bytes, 4),
-        })
-    }
-
-    fn write(&self, out: &mut [u8]) {
-        put_values(
-            out,
-            &[
-                Value::U8(Self::TYPE),
-                Value::U8(Self::LEN as u8),
-                Value::U16(self.flags),
-                Value::U32(self.gsi),
-            ],
-        );
-    }
-
-    ghost counted = { refl };
-
-    ghost one_value = { λ _ _ same. Prim.search rules };
-}
-
-impl EntryKind for NmiSource {
     ghost TYPE = { said.nmi_source.type };
 
     const TYPE: u8 = 3;
 
-    ghost Said = { said.NmiSourceValue };
+    ghost SIZE = { said.nmi_source.size };
 
-    ghost kind = { said.nmi_source };
+    const SIZE: usize = 8;
 
-    ghost say = { layouts.nmi_source_value };
+    fn fields(bytes: &[u8]) -> NmiSource {
+        NmiSource {
+            flags: u16_at(bytes, 2),
+            gsi: u32_at(bytes, 4),
+        }
+    }
 
-    ghost laid = { lays_out layouts.nmi_source_layout layouts.nmi_source_laid layouts.nmi_source_value };
+    fn put_fields(&self, out: &mut [u8]) {
+        put_values(out, &[Value::U16(self.flags), Value::U32(self.gsi)]);
+    }
+
+    ghost laid = { (refl, refl, layouts.nmi_source_laid, λ _ _ same. Prim.search rules) };
 }
 
 /// A local APIC NMI (ACPI 6.5, 5.2.12.7): type 4, 6 bytes. It says which input of a local APIC is an NMI.
@@ -286,32 +209,33 @@ pub struct LocalNmi {
     pub lint: u8,
 }
 
-impl Layout for LocalNmi {
-    ghost LEN = { said.local_nmi.size };
+impl FixedKind for LocalNmi {
+    ghost Said = { said.LocalNmiValue };
 
-    const LEN: usize = 6;
+    ghost layout = { layouts.local_nmi_layout };
 
-    ghost parts = { parts_of layouts.local_nmi_layout };
+    ghost say = { layouts.local_nmi_value };
 
-    ghost values = { λ e. layouts.local_nmi_layout.values (layouts.local_nmi_value e) };
+    ghost TYPE = { said.local_nmi.type };
 
-    fn read(bytes: &[u8]) -> Option<LocalNmi> {
-        if !is_kind(bytes, Self::TYPE, Self::LEN) {
-            return None;
-        }
-        Some(LocalNmi {
+    const TYPE: u8 = 4;
+
+    ghost SIZE = { said.local_nmi.size };
+
+    const SIZE: usize = 6;
+
+    fn fields(bytes: &[u8]) -> LocalNmi {
+        LocalNmi {
             uid: u8_at(bytes, 2),
             flags: u16_at(bytes, 3),
             lint: u8_at(bytes, 5),
-        })
+        }
     }
 
-    fn write(&self, out: &mut [u8]) {
+    fn put_fields(&self, out: &mut [u8]) {
         put_values(
             out,
             &[
-                Value::U8(Self::TYPE),
-                Value::U8(Self::LEN as u8),
                 Value::U8(self.uid),
                 Value::U16(self.flags),
                 Value::U8(self.lint),
@@ -319,23 +243,7 @@ impl Layout for LocalNmi {
         );
     }
 
-    ghost counted = { refl };
-
-    ghost one_value = { λ _ _ same. Prim.search rules };
-}
-
-impl EntryKind for LocalNmi {
-    ghost TYPE = { said.local_nmi.type };
-
-    const TYPE: u8 = 4;
-
-    ghost Said = { said.LocalNmiValue };
-
-    ghost kind = { said.local_nmi };
-
-    ghost say = { layouts.local_nmi_value };
-
-    ghost laid = { lays_out layouts.local_nmi_layout layouts.local_nmi_laid layouts.local_nmi_value };
+    ghost laid = { (refl, refl, layouts.local_nmi_laid, λ _ _ same. Prim.search rules) };
 }
 
 /// A local APIC address override (ACPI 6.5, 5.2.12.8): type 5, 12 bytes. Its address stands for the 32-bit
@@ -346,53 +254,32 @@ pub struct AddressOverride {
     pub address: u64,
 }
 
-impl Layout for AddressOverride {
-    ghost LEN = { said.address_override.size };
+impl FixedKind for AddressOverride {
+    ghost Said = { said.AddressOverrideValue };
 
-    const LEN: usize = 12;
+    ghost layout = { layouts.address_override_layout };
 
-    ghost parts = { parts_of layouts.address_override_layout };
+    ghost say = { layouts.address_override_value };
 
-    ghost values = { λ e. layouts.address_override_layout.values (layouts.address_override_value e) };
-
-    fn read(bytes: &[u8]) -> Option<AddressOverride> {
-        if !is_kind(bytes, Self::TYPE, Self::LEN) {
-            return None;
-        }
-        Some(AddressOverride {
-            address: u64_at(bytes, 4),
-        })
-    }
-
-    fn write(&self, out: &mut [u8]) {
-        put_values(
-            out,
-            &[
-                Value::U8(Self::TYPE),
-                Value::U8(Self::LEN as u8),
-                Value::Zeros(2),
-                Value::U64(self.address),
-            ],
-        );
-    }
-
-    ghost counted = { refl };
-
-    ghost one_value = { λ _ _ same. Prim.search rules };
-}
-
-impl EntryKind for AddressOverride {
     ghost TYPE = { said.address_override.type };
 
     const TYPE: u8 = 5;
 
-    ghost Said = { said.AddressOverrideValue };
+    ghost SIZE = { said.address_override.size };
 
-    ghost kind = { said.address_override };
+    const SIZE: usize = 12;
 
-    ghost say = { layouts.address_override_value };
+    fn fields(bytes: &[u8]) -> AddressOverride {
+        AddressOverride {
+            address: u64_at(bytes, 4),
+        }
+    }
 
-    ghost laid = { lays_out layouts.address_override_layout layouts.address_override_laid layouts.address_override_value };
+    fn put_fields(&self, out: &mut [u8]) {
+        put_values(out, &[Value::Zeros(2), Value::U64(self.address)]);
+    }
+
+    ghost laid = { (refl, refl, layouts.address_override_laid, λ _ _ same. Prim.search rules) };
 }
 
 /// A processor and its local x2APIC (ACPI 6.5, 5.2.12.12): type 9, 16 bytes. Bytes 2 and 3 are reserved.
@@ -406,32 +293,33 @@ pub struct X2apic {
     pub uid: u32,
 }
 
-impl Layout for X2apic {
-    ghost LEN = { said.x2apic.size };
+impl FixedKind for X2apic {
+    ghost Said = { said.X2apicValue };
 
-    const LEN: usize = 16;
+    ghost layout = { layouts.x2apic_layout };
 
-    ghost parts = { parts_of layouts.x2apic_layout };
+    ghost say = { layouts.x2apic_value };
 
-    ghost values = { λ e. layouts.x2apic_layout.values (layouts.x2apic_value e) };
+    ghost TYPE = { said.x2apic.type };
 
-    fn read(bytes: &[u8]) -> Option<X2apic> {
-        if !is_kind(bytes, Self::TYPE, Self::LEN) {
-            return None;
-        }
-        Some(X2apic {
+    const TYPE: u8 = 9;
+
+    ghost SIZE = { said.x2apic.size };
+
+    const SIZE: usize = 16;
+
+    fn fields(bytes: &[u8]) -> X2apic {
+        X2apic {
             x2apic_id: u32_at(bytes, 4),
             flags: u32_at(bytes, 8),
             uid: u32_at(bytes, 12),
-        })
+        }
     }
 
-    fn write(&self, out: &mut [u8]) {
+    fn put_fields(&self, out: &mut [u8]) {
         put_values(
             out,
             &[
-                Value::U8(Self::TYPE),
-                Value::U8(Self::LEN as u8),
                 Value::Zeros(2),
                 Value::U32(self.x2apic_id),
                 Value::U32(self.flags),
@@ -440,23 +328,7 @@ impl Layout for X2apic {
         );
     }
 
-    ghost counted = { refl };
-
-    ghost one_value = { λ _ _ same. Prim.search rules };
-}
-
-impl EntryKind for X2apic {
-    ghost TYPE = { said.x2apic.type };
-
-    const TYPE: u8 = 9;
-
-    ghost Said = { said.X2apicValue };
-
-    ghost kind = { said.x2apic };
-
-    ghost say = { layouts.x2apic_value };
-
-    ghost laid = { lays_out layouts.x2apic_layout layouts.x2apic_laid layouts.x2apic_value };
+    ghost laid = { (refl, refl, layouts.x2apic_laid, λ _ _ same. Prim.search rules) };
 }
 
 /// A local x2APIC NMI (ACPI 6.5, 5.2.12.13): type 0Ah, 12 bytes. It says which input of a local x2APIC is
@@ -471,32 +343,33 @@ pub struct X2apicNmi {
     pub lint: u8,
 }
 
-impl Layout for X2apicNmi {
-    ghost LEN = { said.x2apic_nmi.size };
+impl FixedKind for X2apicNmi {
+    ghost Said = { said.X2apicNmiValue };
 
-    const LEN: usize = 12;
+    ghost layout = { layouts.x2apic_nmi_layout };
 
-    ghost parts = { parts_of layouts.x2apic_nmi_layout };
+    ghost say = { layouts.x2apic_nmi_value };
 
-    ghost values = { λ e. layouts.x2apic_nmi_layout.values (layouts.x2apic_nmi_value e) };
+    ghost TYPE = { said.x2apic_nmi.type };
 
-    fn read(bytes: &[u8]) -> Option<X2apicNmi> {
-        if !is_kind(bytes, Self::TYPE, Self::LEN) {
-            return None;
-        }
-        Some(X2apicNmi {
+    const TYPE: u8 = 10;
+
+    ghost SIZE = { said.x2apic_nmi.size };
+
+    const SIZE: usize = 12;
+
+    fn fields(bytes: &[u8]) -> X2apicNmi {
+        X2apicNmi {
             flags: u16_at(bytes, 2),
             uid: u32_at(bytes, 4),
             lint: u8_at(bytes, 8),
-        })
+        }
     }
 
-    fn write(&self, out: &mut [u8]) {
+    fn put_fields(&self, out: &mut [u8]) {
         put_values(
             out,
             &[
-                Value::U8(Self::TYPE),
-                Value::U8(Self::LEN as u8),
                 Value::U16(self.flags),
                 Value::U32(self.uid),
                 Value::U8(self.lint),
@@ -505,21 +378,5 @@ impl Layout for X2apicNmi {
         );
     }
 
-    ghost counted = { refl };
-
-    ghost one_value = { λ _ _ same. Prim.search rules };
-}
-
-impl EntryKind for X2apicNmi {
-    ghost TYPE = { said.x2apic_nmi.type };
-
-    const TYPE: u8 = 10;
-
-    ghost Said = { said.X2apicNmiValue };
-
-    ghost kind = { said.x2apic_nmi };
-
-    ghost say = { layouts.x2apic_nmi_value };
-
-    ghost laid = { lays_out layouts.x2apic_nmi_layout layouts.x2apic_nmi_laid layouts.x2apic_nmi_value };
+    ghost laid = { (refl, refl, layouts.x2apic_nmi_laid, λ _ _ same. Prim.search rules) };
 }

@@ -3,14 +3,9 @@
 ghost use Rattle.std.specs.Prelude.{◌≡◌, refl};
 ghost use Rattle.std.proofs.Common.{rules};
 ghost use Rattle.acpi_base.specs.Pptt as said;
-ghost use Rattle.acpi_base.specs.KindLayouts.{parts_of};
-ghost use Rattle.acpi_base.proofs.Layouts.Kinds.{lays_out};
 ghost use Rattle.acpi_read.specs.Pptts as layouts;
-ghost use Rattle.acpi_read.specs.declared.pptt.kinds.Cache24.{Cache24};
-ghost use Rattle.acpi_read.specs.declared.pptt.kinds.Cache28.{Cache28};
 
-use crate::kind::{EntryKind, is_kind};
-use crate::layout::Layout;
+use crate::kind::FixedKind;
 use acpi_base::field::{Value, put_values, u8_at, u16_at, u32_at};
 
 /// A cache type structure without an ID (ACPI 6.5, 5.2.30.2): type 1, 24 bytes. Bytes 2 and 3 are reserved. Which other
@@ -33,20 +28,23 @@ pub struct Cache24 {
     pub line_size: u16,
 }
 
-impl Layout for Cache24 {
-    ghost LEN = { said.cache24.size };
+impl FixedKind for Cache24 {
+    ghost Said = { said.CacheValue };
 
-    const LEN: usize = 24;
+    ghost layout = { layouts.cache24_layout };
 
-    ghost parts = { parts_of layouts.cache24_layout };
+    ghost say = { layouts.cache24_value };
 
-    ghost values = { λ e. layouts.cache24_layout.values (layouts.cache24_value e) };
+    ghost TYPE = { said.cache24.type };
 
-    fn read(bytes: &[u8]) -> Option<Cache24> {
-        if !is_kind(bytes, Self::TYPE, Self::LEN) {
-            return None;
-        }
-        Some(Cache24 {
+    const TYPE: u8 = 1;
+
+    ghost SIZE = { said.cache24.size };
+
+    const SIZE: usize = 24;
+
+    fn fields(bytes: &[u8]) -> Cache24 {
+        Cache24 {
             flags: u32_at(bytes, 4),
             next_level: u32_at(bytes, 8),
             size: u32_at(bytes, 12),
@@ -54,15 +52,13 @@ impl Layout for Cache24 {
             associativity: u8_at(bytes, 20),
             attributes: u8_at(bytes, 21),
             line_size: u16_at(bytes, 22),
-        })
+        }
     }
 
-    fn write(&self, out: &mut [u8]) {
+    fn put_fields(&self, out: &mut [u8]) {
         put_values(
             out,
             &[
-                Value::U8(Self::TYPE),
-                Value::U8(Self::LEN as u8),
                 Value::Zeros(2),
                 Value::U32(self.flags),
                 Value::U32(self.next_level),
@@ -75,23 +71,7 @@ impl Layout for Cache24 {
         );
     }
 
-    ghost counted = { refl };
-
-    ghost one_value = { λ _ _ same. Prim.search rules };
-}
-
-impl EntryKind for Cache24 {
-    ghost TYPE = { said.cache24.type };
-
-    const TYPE: u8 = 1;
-
-    ghost Said = { said.CacheValue };
-
-    ghost kind = { said.cache24 };
-
-    ghost say = { layouts.cache24_value };
-
-    ghost laid = { lays_out layouts.cache24_layout layouts.cache24_laid layouts.cache24_value };
+    ghost laid = { (refl, refl, layouts.cache24_laid, λ _ _ same. Prim.search rules) };
 }
 
 /// A cache type structure with an ID (ACPI 6.5, 5.2.30.2): type 1, 28 bytes. Bytes 2 and 3 are reserved. Which other
@@ -116,20 +96,23 @@ pub struct Cache28 {
     pub id: u32,
 }
 
-impl Layout for Cache28 {
-    ghost LEN = { said.cache28.size };
+impl FixedKind for Cache28 {
+    ghost Said = { said.CacheValue };
 
-    const LEN: usize = 28;
+    ghost layout = { layouts.cache28_layout };
 
-    ghost parts = { parts_of layouts.cache28_layout };
+    ghost say = { layouts.cache28_value };
 
-    ghost values = { λ e. layouts.cache28_layout.values (layouts.cache28_value e) };
+    ghost TYPE = { said.cache28.type };
 
-    fn read(bytes: &[u8]) -> Option<Cache28> {
-        if !is_kind(bytes, Self::TYPE, Self::LEN) {
-            return None;
-        }
-        Some(Cache28 {
+    const TYPE: u8 = 1;
+
+    ghost SIZE = { said.cache28.size };
+
+    const SIZE: usize = 28;
+
+    fn fields(bytes: &[u8]) -> Cache28 {
+        Cache28 {
             flags: u32_at(bytes, 4),
             next_level: u32_at(bytes, 8),
             size: u32_at(bytes, 12),
@@ -138,15 +121,13 @@ impl Layout for Cache28 {
             attributes: u8_at(bytes, 21),
             line_size: u16_at(bytes, 22),
             id: u32_at(bytes, 24),
-        })
+        }
     }
 
-    fn write(&self, out: &mut [u8]) {
+    fn put_fields(&self, out: &mut [u8]) {
         put_values(
             out,
             &[
-                Value::U8(Self::TYPE),
-                Value::U8(Self::LEN as u8),
                 Value::Zeros(2),
                 Value::U32(self.flags),
                 Value::U32(self.next_level),
@@ -160,21 +141,5 @@ impl Layout for Cache28 {
         );
     }
 
-    ghost counted = { refl };
-
-    ghost one_value = { λ _ _ same. Prim.search rules };
-}
-
-impl EntryKind for Cache28 {
-    ghost TYPE = { said.cache28.type };
-
-    const TYPE: u8 = 1;
-
-    ghost Said = { said.CacheValue };
-
-    ghost kind = { said.cache28 };
-
-    ghost say = { layouts.cache28_value };
-
-    ghost laid = { lays_out layouts.cache28_layout layouts.cache28_laid layouts.cache28_value };
+    ghost laid = { (refl, refl, layouts.cache28_laid, λ _ _ same. Prim.search rules) };
 }

@@ -1,27 +1,8 @@
-ghost use Rattle.std.specs.Prelude.{◌≡◌, length};
-
 use super::*;
 use crate::layout::Layout;
 use crate::samples::{expect_layout, is_entry};
-use std::fmt::Debug;
 use std::process::Abort;
 use std::test::*;
-
-/// The bytes are read as the value, also as this entry, and the value is written as `written`.
-fn expect_kind<R: Abort, L: Layout + Copy + Debug + PartialEq>(
-    rt: &R,
-    value: L,
-    entry: PpttEntry,
-    bytes: &[u8],
-    written: &[u8],
-    out: &mut [u8],
-)
-    requires { length out.old ≡ L.LEN }
-{
-    assert!(rt; is_entry(bytes));
-    assert_eq!(rt; PpttEntry::read(bytes), Ok(entry));
-    expect_layout(rt, value, bytes, written, out);
-}
 
 const HEAD: NodeHead = NodeHead {
     flags: 0xa4a3_a2a1,
@@ -36,11 +17,9 @@ fn node_is_read_and_written(rt: HostRuntime) {
         0x00, 0x1c, 0xff, 0xff, 0xa1, 0xa2, 0xa3, 0xa4, 0xb1, 0xb2, 0xb3, 0xb4, 0xc1, 0xc2, 0xc3,
         0xc4, 0x02, 0x00, 0x00, 0x00, 0xd1, 0xd2, 0xd3, 0xd4, 0xe1, 0xe2, 0xe3, 0xe4,
     ];
-    let written = [
-        0x00, 0x1c, 0x00, 0x00, 0xa1, 0xa2, 0xa3, 0xa4, 0xb1, 0xb2, 0xb3, 0xb4, 0xc1, 0xc2, 0xc3,
-        0xc4, 0x02, 0x00, 0x00, 0x00,
-    ];
-    expect_layout(&rt, HEAD, &bytes[..20], &written, &mut [0xff; 20]);
+    let mut head = [0; 20];
+    head.copy_from_slice(&bytes[..20]);
+    expect_layout(&rt, HEAD, &head);
     assert!(rt; NodeHead::read(&bytes).is_none());
     assert!(rt; PpttEntry::read(&bytes) == Ok(PpttEntry::Node(HEAD, &bytes[20..])));
 }
@@ -74,81 +53,65 @@ fn node_has_the_length_of_its_resources(rt: HostRuntime) {
     }
 }
 
-const CACHE24: Cache24 = Cache24 {
-    flags: 0xa4a3_a2a1,
-    next_level: 0xb4b3_b2b1,
-    size: 0xc4c3_c2c1,
-    sets: 0xd4d3_d2d1,
-    associativity: 0xe1,
-    attributes: 0xe2,
-    line_size: 0xf2f1,
-};
-
 #[test]
 fn cache24_is_read_and_written(rt: HostRuntime) {
+    let value = Cache24 {
+        flags: 0xa4a3_a2a1,
+        next_level: 0xb4b3_b2b1,
+        size: 0xc4c3_c2c1,
+        sets: 0xd4d3_d2d1,
+        associativity: 0xe1,
+        attributes: 0xe2,
+        line_size: 0xf2f1,
+    };
     let bytes = [
         0x01, 0x18, 0xff, 0xff, 0xa1, 0xa2, 0xa3, 0xa4, 0xb1, 0xb2, 0xb3, 0xb4, 0xc1, 0xc2, 0xc3,
         0xc4, 0xd1, 0xd2, 0xd3, 0xd4, 0xe1, 0xe2, 0xf1, 0xf2,
     ];
-    let written = [
-        0x01, 0x18, 0x00, 0x00, 0xa1, 0xa2, 0xa3, 0xa4, 0xb1, 0xb2, 0xb3, 0xb4, 0xc1, 0xc2, 0xc3,
-        0xc4, 0xd1, 0xd2, 0xd3, 0xd4, 0xe1, 0xe2, 0xf1, 0xf2,
-    ];
-    let entry = PpttEntry::Cache24(CACHE24);
-    expect_kind(&rt, CACHE24, entry, &bytes, &written, &mut [0xff; 24]);
+    assert_eq!(rt; PpttEntry::read(&bytes), Ok(PpttEntry::Cache24(value)));
+    expect_layout(&rt, value, &bytes);
 }
-
-const CACHE28: Cache28 = Cache28 {
-    flags: 0xa4a3_a2a1,
-    next_level: 0xb4b3_b2b1,
-    size: 0xc4c3_c2c1,
-    sets: 0xd4d3_d2d1,
-    associativity: 0xe1,
-    attributes: 0xe2,
-    line_size: 0xf2f1,
-    id: 0x9493_9291,
-};
 
 #[test]
 fn cache28_is_read_and_written(rt: HostRuntime) {
+    let value = Cache28 {
+        flags: 0xa4a3_a2a1,
+        next_level: 0xb4b3_b2b1,
+        size: 0xc4c3_c2c1,
+        sets: 0xd4d3_d2d1,
+        associativity: 0xe1,
+        attributes: 0xe2,
+        line_size: 0xf2f1,
+        id: 0x9493_9291,
+    };
     let bytes = [
         0x01, 0x1c, 0xff, 0xff, 0xa1, 0xa2, 0xa3, 0xa4, 0xb1, 0xb2, 0xb3, 0xb4, 0xc1, 0xc2, 0xc3,
         0xc4, 0xd1, 0xd2, 0xd3, 0xd4, 0xe1, 0xe2, 0xf1, 0xf2, 0x91, 0x92, 0x93, 0x94,
     ];
-    let written = [
-        0x01, 0x1c, 0x00, 0x00, 0xa1, 0xa2, 0xa3, 0xa4, 0xb1, 0xb2, 0xb3, 0xb4, 0xc1, 0xc2, 0xc3,
-        0xc4, 0xd1, 0xd2, 0xd3, 0xd4, 0xe1, 0xe2, 0xf1, 0xf2, 0x91, 0x92, 0x93, 0x94,
-    ];
-    let entry = PpttEntry::Cache28(CACHE28);
-    expect_kind(&rt, CACHE28, entry, &bytes, &written, &mut [0xff; 28]);
+    assert_eq!(rt; PpttEntry::read(&bytes), Ok(PpttEntry::Cache28(value)));
+    expect_layout(&rt, value, &bytes);
     assert!(rt; Cache24::read(&bytes[..24]).is_none());
 }
 
-/// Bytes of another type and of other lengths, and how they are read.
-const OTHERS: [(&[u8], Result<PpttEntry, Code>); 4] = [
-    (
-        &[0x02, 0x06, 0xa1, 0xa2, 0xa3, 0xa4],
-        Ok(PpttEntry::Opaque(&[0x02, 0x06, 0xa1, 0xa2, 0xa3, 0xa4])),
-    ),
-    (
-        &[0x01, 0x06, 0xa1, 0xa2, 0xa3, 0xa4],
-        Err(Code::PpttEntryLength),
-    ),
-    (&[0x00, 0x03, 0xa1], Err(Code::PpttEntryLength)),
+/// Bytes of another type and of other lengths, and whether they are read, as opaque.
+const OTHERS: [(&[u8], bool); 4] = [
+    (&[0x02, 0x06, 0xa1, 0xa2, 0xa3, 0xa4], true),
+    (&[0x01, 0x06, 0xa1, 0xa2, 0xa3, 0xa4], false),
+    (&[0x00, 0x03, 0xa1], false),
     // A node with room for a private resource that it does not count.
-    (
-        &[
-            0x00, 0x18, 0x00, 0x00, 0xa1, 0xa2, 0xa3, 0xa4, 0xb1, 0xb2, 0xb3, 0xb4, 0xc1, 0xc2,
-            0xc3, 0xc4, 0x00, 0x00, 0x00, 0x00, 0xd1, 0xd2, 0xd3, 0xd4,
-        ],
-        Err(Code::PpttEntryLength),
-    ),
+    (&NODE, false),
+];
+
+const NODE: [u8; 24] = [
+    0x00, 0x18, 0x00, 0x00, 0xa1, 0xa2, 0xa3, 0xa4, 0xb1, 0xb2, 0xb3, 0xb4, 0xc1, 0xc2, 0xc3, 0xc4,
+    0x00, 0x00, 0x00, 0x00, 0xd1, 0xd2, 0xd3, 0xd4,
 ];
 
 #[test]
 fn other_types_are_opaque_and_other_lengths_refused(rt: HostRuntime) {
-    for (bytes, entry) in OTHERS {
+    for (bytes, is_opaque) in OTHERS {
+        let opaque = is_opaque.then_some(PpttEntry::Opaque(bytes));
         assert!(rt; is_entry(bytes));
-        assert_eq!(rt; PpttEntry::read(bytes), entry);
+        assert_eq!(rt; PpttEntry::read(bytes), opaque.ok_or(Code::PpttEntryLength));
     }
 }

@@ -3,15 +3,9 @@
 ghost use Rattle.std.specs.Prelude.{◌≡◌, refl};
 ghost use Rattle.std.proofs.Common.{rules};
 ghost use Rattle.acpi_base.specs.Srat as said;
-ghost use Rattle.acpi_base.specs.KindLayouts.{parts_of};
-ghost use Rattle.acpi_base.proofs.Layouts.Kinds.{lays_out};
 ghost use Rattle.acpi_read.specs.Srats as layouts;
-ghost use Rattle.acpi_read.specs.declared.srat.kinds.ApicDomain.{ApicDomain};
-ghost use Rattle.acpi_read.specs.declared.srat.kinds.MemoryRange.{MemoryRange};
-ghost use Rattle.acpi_read.specs.declared.srat.kinds.X2apicDomain.{X2apicDomain};
 
-use crate::kind::{EntryKind, is_kind};
-use crate::layout::Layout;
+use crate::kind::FixedKind;
 use acpi_base::field::{Value, put_values, u8_at, u32_at, u64_at};
 
 /// A processor local APIC affinity structure (ACPI 6.5, 5.2.16.1): type 0, 16 bytes. Bits 31:8 of its domain
@@ -30,41 +24,42 @@ pub struct ApicDomain {
     pub clock_domain: u32,
 }
 
-impl Layout for ApicDomain {
-    ghost LEN = { said.apic_domain.size };
+impl FixedKind for ApicDomain {
+    ghost Said = { said.ApicDomainValue };
 
-    const LEN: usize = 16;
+    ghost layout = { layouts.apic_domain_layout };
 
-    ghost parts = { parts_of layouts.apic_domain_layout };
+    ghost say = { layouts.apic_domain_value };
 
-    ghost values = { λ e. layouts.apic_domain_layout.values (layouts.apic_domain_value e) };
+    ghost TYPE = { said.apic_domain.type };
 
-    fn read(bytes: &[u8]) -> Option<ApicDomain> {
-        if !is_kind(bytes, Self::TYPE, Self::LEN) {
-            return None;
-        }
+    const TYPE: u8 = 0;
+
+    ghost SIZE = { said.apic_domain.size };
+
+    const SIZE: usize = 16;
+
+    fn fields(bytes: &[u8]) -> ApicDomain {
         let domain = [
             u8_at(bytes, 2),
             u8_at(bytes, 9),
             u8_at(bytes, 10),
             u8_at(bytes, 11),
         ];
-        Some(ApicDomain {
+        ApicDomain {
             domain: u32::from_le_bytes(domain),
             apic_id: u8_at(bytes, 3),
             flags: u32_at(bytes, 4),
             eid: u8_at(bytes, 8),
             clock_domain: u32_at(bytes, 12),
-        })
+        }
     }
 
-    fn write(&self, out: &mut [u8]) {
+    fn put_fields(&self, out: &mut [u8]) {
         let domain = self.domain.to_le_bytes();
         put_values(
             out,
             &[
-                Value::U8(Self::TYPE),
-                Value::U8(Self::LEN as u8),
                 Value::U8(domain[0]),
                 Value::U8(self.apic_id),
                 Value::U32(self.flags),
@@ -77,23 +72,7 @@ impl Layout for ApicDomain {
         );
     }
 
-    ghost counted = { refl };
-
-    ghost one_value = { λ _ _ same. Prim.search rules };
-}
-
-impl EntryKind for ApicDomain {
-    ghost TYPE = { said.apic_domain.type };
-
-    const TYPE: u8 = 0;
-
-    ghost Said = { said.ApicDomainValue };
-
-    ghost kind = { said.apic_domain };
-
-    ghost say = { layouts.apic_domain_value };
-
-    ghost laid = { lays_out layouts.apic_domain_layout layouts.apic_domain_laid layouts.apic_domain_value };
+    ghost laid = { (refl, refl, layouts.apic_domain_laid, λ _ _ same. Prim.search rules) };
 }
 
 /// A memory affinity structure (ACPI 6.5, 5.2.16.2): type 1, 40 bytes. It says in which domain a range of
@@ -110,33 +89,34 @@ pub struct MemoryRange {
     pub flags: u32,
 }
 
-impl Layout for MemoryRange {
-    ghost LEN = { said.memory_range.size };
+impl FixedKind for MemoryRange {
+    ghost Said = { said.MemoryValue };
 
-    const LEN: usize = 40;
+    ghost layout = { layouts.memory_range_layout };
 
-    ghost parts = { parts_of layouts.memory_range_layout };
+    ghost say = { layouts.memory_range_value };
 
-    ghost values = { λ e. layouts.memory_range_layout.values (layouts.memory_range_value e) };
+    ghost TYPE = { said.memory_range.type };
 
-    fn read(bytes: &[u8]) -> Option<MemoryRange> {
-        if !is_kind(bytes, Self::TYPE, Self::LEN) {
-            return None;
-        }
-        Some(MemoryRange {
+    const TYPE: u8 = 1;
+
+    ghost SIZE = { said.memory_range.size };
+
+    const SIZE: usize = 40;
+
+    fn fields(bytes: &[u8]) -> MemoryRange {
+        MemoryRange {
             domain: u32_at(bytes, 2),
             base: u64_at(bytes, 8),
             size: u64_at(bytes, 16),
             flags: u32_at(bytes, 28),
-        })
+        }
     }
 
-    fn write(&self, out: &mut [u8]) {
+    fn put_fields(&self, out: &mut [u8]) {
         put_values(
             out,
             &[
-                Value::U8(Self::TYPE),
-                Value::U8(Self::LEN as u8),
                 Value::U32(self.domain),
                 Value::Zeros(2),
                 Value::U64(self.base),
@@ -148,23 +128,7 @@ impl Layout for MemoryRange {
         );
     }
 
-    ghost counted = { refl };
-
-    ghost one_value = { λ _ _ same. Prim.search rules };
-}
-
-impl EntryKind for MemoryRange {
-    ghost TYPE = { said.memory_range.type };
-
-    const TYPE: u8 = 1;
-
-    ghost Said = { said.MemoryValue };
-
-    ghost kind = { said.memory_range };
-
-    ghost say = { layouts.memory_range_value };
-
-    ghost laid = { lays_out layouts.memory_range_layout layouts.memory_range_laid layouts.memory_range_value };
+    ghost laid = { (refl, refl, layouts.memory_range_laid, λ _ _ same. Prim.search rules) };
 }
 
 /// A processor local x2APIC affinity structure (ACPI 6.5, 5.2.16.3): type 2, 24 bytes. Bytes 2 and 3 and 20 to
@@ -181,33 +145,34 @@ pub struct X2apicDomain {
     pub clock_domain: u32,
 }
 
-impl Layout for X2apicDomain {
-    ghost LEN = { said.x2apic_domain.size };
+impl FixedKind for X2apicDomain {
+    ghost Said = { said.X2apicDomainValue };
 
-    const LEN: usize = 24;
+    ghost layout = { layouts.x2apic_domain_layout };
 
-    ghost parts = { parts_of layouts.x2apic_domain_layout };
+    ghost say = { layouts.x2apic_domain_value };
 
-    ghost values = { λ e. layouts.x2apic_domain_layout.values (layouts.x2apic_domain_value e) };
+    ghost TYPE = { said.x2apic_domain.type };
 
-    fn read(bytes: &[u8]) -> Option<X2apicDomain> {
-        if !is_kind(bytes, Self::TYPE, Self::LEN) {
-            return None;
-        }
-        Some(X2apicDomain {
+    const TYPE: u8 = 2;
+
+    ghost SIZE = { said.x2apic_domain.size };
+
+    const SIZE: usize = 24;
+
+    fn fields(bytes: &[u8]) -> X2apicDomain {
+        X2apicDomain {
             domain: u32_at(bytes, 4),
             x2apic_id: u32_at(bytes, 8),
             flags: u32_at(bytes, 12),
             clock_domain: u32_at(bytes, 16),
-        })
+        }
     }
 
-    fn write(&self, out: &mut [u8]) {
+    fn put_fields(&self, out: &mut [u8]) {
         put_values(
             out,
             &[
-                Value::U8(Self::TYPE),
-                Value::U8(Self::LEN as u8),
                 Value::Zeros(2),
                 Value::U32(self.domain),
                 Value::U32(self.x2apic_id),
@@ -218,21 +183,5 @@ impl Layout for X2apicDomain {
         );
     }
 
-    ghost counted = { refl };
-
-    ghost one_value = { λ _ _ same. Prim.search rules };
-}
-
-impl EntryKind for X2apicDomain {
-    ghost TYPE = { said.x2apic_domain.type };
-
-    const TYPE: u8 = 2;
-
-    ghost Said = { said.X2apicDomainValue };
-
-    ghost kind = { said.x2apic_domain };
-
-    ghost say = { layouts.x2apic_domain_value };
-
-    ghost laid = { lays_out layouts.x2apic_domain_layout layouts.x2apic_domain_laid layouts.x2apic_domain_value };
+    ghost laid = { (refl, refl, layouts.x2apic_domain_laid, λ _ _ same. Prim.search rules) };
 }

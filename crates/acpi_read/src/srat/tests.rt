@@ -1,88 +1,56 @@
-ghost use Rattle.std.specs.Prelude.{◌≡◌, length};
-
 use super::*;
 use crate::layout::Layout;
 use crate::samples::{expect_layout, is_entry};
-use std::fmt::Debug;
-use std::process::Abort;
 use std::test::*;
-
-/// The bytes are read as the value, also as this entry, and the value is written as `written`.
-fn expect_kind<R: Abort, L: Layout + Copy + Debug + PartialEq>(
-    rt: &R,
-    value: L,
-    entry: SratEntry,
-    bytes: &[u8],
-    written: &[u8],
-    out: &mut [u8],
-)
-    requires { length out.old ≡ L.LEN }
-{
-    assert!(rt; is_entry(bytes));
-    assert_eq!(rt; SratEntry::read(bytes), Ok(entry));
-    expect_layout(rt, value, bytes, written, out);
-}
-
-const APIC_DOMAIN: ApicDomain = ApicDomain {
-    domain: 0xa4a3_a2a1,
-    apic_id: 0xb1,
-    flags: 0xc4c3_c2c1,
-    eid: 0xd1,
-    clock_domain: 0xe4e3_e2e1,
-};
 
 #[test]
 fn apic_domain_is_read_and_written(rt: HostRuntime) {
+    let value = ApicDomain {
+        domain: 0xa4a3_a2a1,
+        apic_id: 0xb1,
+        flags: 0xc4c3_c2c1,
+        eid: 0xd1,
+        clock_domain: 0xe4e3_e2e1,
+    };
     let bytes = [
         0x00, 0x10, 0xa1, 0xb1, 0xc1, 0xc2, 0xc3, 0xc4, 0xd1, 0xa2, 0xa3, 0xa4, 0xe1, 0xe2, 0xe3,
         0xe4,
     ];
-    let entry = SratEntry::ApicDomain(APIC_DOMAIN);
-    expect_kind(&rt, APIC_DOMAIN, entry, &bytes, &bytes, &mut [0xff; 16]);
+    assert_eq!(rt; SratEntry::read(&bytes), Ok(SratEntry::ApicDomain(value)));
+    expect_layout(&rt, value, &bytes);
 }
-
-const MEMORY_RANGE: MemoryRange = MemoryRange {
-    domain: 0xa4a3_a2a1,
-    base: 0xb8b7_b6b5_b4b3_b2b1,
-    size: 0xc8c7_c6c5_c4c3_c2c1,
-    flags: 0xd4d3_d2d1,
-};
 
 #[test]
 fn memory_range_is_read_and_written(rt: HostRuntime) {
+    let value = MemoryRange {
+        domain: 0xa4a3_a2a1,
+        base: 0xb8b7_b6b5_b4b3_b2b1,
+        size: 0xc8c7_c6c5_c4c3_c2c1,
+        flags: 0xd4d3_d2d1,
+    };
     let bytes = [
         0x01, 0x28, 0xa1, 0xa2, 0xa3, 0xa4, 0xff, 0xff, 0xb1, 0xb2, 0xb3, 0xb4, 0xb5, 0xb6, 0xb7,
         0xb8, 0xc1, 0xc2, 0xc3, 0xc4, 0xc5, 0xc6, 0xc7, 0xc8, 0xff, 0xff, 0xff, 0xff, 0xd1, 0xd2,
         0xd3, 0xd4, 0xff, 0xff, 0xff, 0xff, 0xff, 0xff, 0xff, 0xff,
     ];
-    let written = [
-        0x01, 0x28, 0xa1, 0xa2, 0xa3, 0xa4, 0x00, 0x00, 0xb1, 0xb2, 0xb3, 0xb4, 0xb5, 0xb6, 0xb7,
-        0xb8, 0xc1, 0xc2, 0xc3, 0xc4, 0xc5, 0xc6, 0xc7, 0xc8, 0x00, 0x00, 0x00, 0x00, 0xd1, 0xd2,
-        0xd3, 0xd4, 0x00, 0x00, 0x00, 0x00, 0x00, 0x00, 0x00, 0x00,
-    ];
-    let entry = SratEntry::MemoryRange(MEMORY_RANGE);
-    expect_kind(&rt, MEMORY_RANGE, entry, &bytes, &written, &mut [0xff; 40]);
+    assert_eq!(rt; SratEntry::read(&bytes), Ok(SratEntry::MemoryRange(value)));
+    expect_layout(&rt, value, &bytes);
 }
-
-const X2APIC_DOMAIN: X2apicDomain = X2apicDomain {
-    domain: 0xa4a3_a2a1,
-    x2apic_id: 0xb4b3_b2b1,
-    flags: 0xc4c3_c2c1,
-    clock_domain: 0xd4d3_d2d1,
-};
 
 #[test]
 fn x2apic_domain_is_read_and_written(rt: HostRuntime) {
+    let value = X2apicDomain {
+        domain: 0xa4a3_a2a1,
+        x2apic_id: 0xb4b3_b2b1,
+        flags: 0xc4c3_c2c1,
+        clock_domain: 0xd4d3_d2d1,
+    };
     let bytes = [
         0x02, 0x18, 0xff, 0xff, 0xa1, 0xa2, 0xa3, 0xa4, 0xb1, 0xb2, 0xb3, 0xb4, 0xc1, 0xc2, 0xc3,
         0xc4, 0xd1, 0xd2, 0xd3, 0xd4, 0xff, 0xff, 0xff, 0xff,
     ];
-    let written = [
-        0x02, 0x18, 0x00, 0x00, 0xa1, 0xa2, 0xa3, 0xa4, 0xb1, 0xb2, 0xb3, 0xb4, 0xc1, 0xc2, 0xc3,
-        0xc4, 0xd1, 0xd2, 0xd3, 0xd4, 0x00, 0x00, 0x00, 0x00,
-    ];
-    let entry = SratEntry::X2apicDomain(X2APIC_DOMAIN);
-    expect_kind(&rt, X2APIC_DOMAIN, entry, &bytes, &written, &mut [0xff; 24]);
+    assert_eq!(rt; SratEntry::read(&bytes), Ok(SratEntry::X2apicDomain(value)));
+    expect_layout(&rt, value, &bytes);
 }
 
 /// Bytes of another type and of other lengths, and how they are read.

@@ -1,17 +1,27 @@
 -- What entries of a table say, by the list of its kinds.
-use Rattle.std.proofs.Common.{◌≡◌, ℕ, ◌≤◌, Bool, true, false, List, [], ◌∷◌, length, refl, sym, ap, subst, ◌∙◌, inl, inr, arith}
-use Rattle.std.specs.Prelude.{◌⊎◌, ◌==◌, ◌&&◌, slice_index}
-use Rattle.std.proofs.lemmas.Bool.{cases_Bool, eqb-true, and_parts}
+use Rattle.std.proofs.Common.{◌≡◌, ℕ, ◌≤◌, true, false, List, [], ◌∷◌, length, refl, sym, ap, subst, ◌∙◌, inl, inr, arith, ◌+◌, ◌*◌, flat_map, length-append}
+use Rattle.std.specs.Prelude.{◌==◌, slice_index, ◌⊎◌}
+use Rattle.std.proofs.lemmas.Bool.{cases_Bool, eqb-true, and_parts, eq-eqb, ne_eqb}
 use Rattle.std.proofs.lemmas.Bool.Decides.{nat_tests}
+use Rattle.std.proofs.lemmas.List.FromFn.{length-map-range_with_len}
 use Rattle.acpi_base.specs.Entries.{IsEntry, IsEntryOf, Kind, has_form, value_of_kind, IsTypeOf}
 use Rattle.acpi_base.specs.KindLayouts.{AreByteValues, KeepKinds}
+use Rattle.acpi_base.specs.Madt as madt
+use Rattle.acpi_base.specs.Srat as srat
+use Rattle.acpi_base.specs.Number.{field, number_bytes}
+use Rattle.acpi_base.specs.Pptt as pptt
+use Rattle.acpi_base.proofs.Layouts.RoundTrip.{length-number_bytes}
+use Rattle.acpi_read.specs.Madts.{madt_bytes, madt_kept}
+use Rattle.acpi_read.specs.Srats.{srat_bytes, srat_kept}
+use Rattle.acpi_read.specs.Pptts.{pptt_bytes}
 
 -- an entry of a kind is an entry
 pub is_entry : {V : Type 0} (k : Kind V) → 2 ≤ k.size → (e : List ℕ) (v : V) → IsEntryOf k e v → IsEntry e
 is_entry k some e v is = record { least = subst (λ (n : ℕ). 2 ≤ n) (sym is.count) some; said = is.said ∙ sym is.count }
 
 -- one of none of the types is opaque
-pub none_reads : {E : Type 0} (kinds : List (Kind E)) (opaque : List ℕ → E) (e : List ℕ) → ¬ IsTypeOf kinds (slice_index e 0) → value_of_kind kinds opaque e ≡ opaque e
+none_reads : {E : Type 0} (kinds : List (Kind E)) (opaque : List ℕ → E) (e : List ℕ)
+    → ¬ IsTypeOf kinds (slice_index e 0) → value_of_kind kinds opaque e ≡ opaque e
 unfolding has_form
 none_reads [] opaque e other = refl
 none_reads (k ∷ kinds) opaque e other =
@@ -19,21 +29,15 @@ none_reads (k ∷ kinds) opaque e other =
     let differs : ¬ (slice_index e 0 ≡ k.type) = λ is. other (inl is) in
     grind (arith, nat_tests)
 
--- the test is true of what each kind reads
-abbrev pub all_read : {E : Type 0} → (E → Bool) → List (Kind E) → List ℕ → Bool
-all_read test [] e = true
-all_read test (k ∷ kinds) e = test (k.read e) && all_read test kinds e
+pub madt_opaque : (e : List ℕ) → IsEntry e → ¬ IsTypeOf madt.madt_kinds (slice_index e 0)
+    → madt.madt_entry e ≡ madt.Opaque e
+unfolding madt.madt_entry
+madt_opaque e is other = none_reads madt.madt_kinds madt.Opaque e other
 
--- so it is of what an entry says that is not opaque
-pub typed_or_opaque : {E : Type 0} (test : E → Bool) (kinds : List (Kind E)) (opaque : List ℕ → E) (e : List ℕ) → all_read test kinds e ≡ true
-    → (test (value_of_kind kinds opaque e) ≡ true) ⊎ (value_of_kind kinds opaque e ≡ opaque e)
-typed_or_opaque test [] opaque e all = inr refl
-typed_or_opaque test (k ∷ kinds) opaque e all =
-    let both = and_parts (test (k.read e)) (all_read test kinds e) all in
-    elim (cases_Bool (has_form e k.type k.size)) [
-      | inl is ↦ rw is (inl both.0)
-      | inr not ↦ rw not (typed_or_opaque test kinds opaque e both.1)
-    ]
+pub srat_opaque : (e : List ℕ) → IsEntry e → ¬ IsTypeOf srat.srat_kinds (slice_index e 0)
+    → srat.srat_entry e ≡ srat.Opaque e
+unfolding srat.srat_entry
+srat_opaque e is other = none_reads srat.srat_kinds srat.Opaque e other
 
 -- ---- what is written for an entry
 
@@ -43,7 +47,8 @@ form_of e type size is =
     let both = and_parts (slice_index e 0 == type) (length e == size) is in
     (eqb-true (slice_index e 0) type both.0, eqb-true (length e) size both.1)
 
-same_form : (e w : List ℕ) → slice_index w 0 ≡ slice_index e 0 → length w ≡ length e → (type size : ℕ) → has_form w type size ≡ has_form e type size
+same_form : (e w : List ℕ) → slice_index w 0 ≡ slice_index e 0 → length w ≡ length e → (type size : ℕ)
+    → has_form w type size ≡ has_form e type size
 unfolding has_form
 same_form e w typed count type size = rw (typed, count) refl
 
@@ -55,24 +60,29 @@ pub record IsAgain {E : Type 0} (read : List ℕ → E) (e w : List ℕ) : Type 
   pub same : read w ≡ read e
 
 -- the first kind says it, or the others do
-chosen : {E : Type 0} (k : Kind E) (kinds : List (Kind E)) (opaque : List ℕ → E) (e : List ℕ) → has_form e k.type k.size ≡ true → value_of_kind (k ∷ kinds) opaque e ≡ k.read e
+chosen : {E : Type 0} (k : Kind E) (kinds : List (Kind E)) (opaque : List ℕ → E) (e : List ℕ)
+    → has_form e k.type k.size ≡ true → value_of_kind (k ∷ kinds) opaque e ≡ k.read e
 chosen k kinds opaque e is = rw is refl
 
-passed : {E : Type 0} (k : Kind E) (kinds : List (Kind E)) (opaque : List ℕ → E) (e : List ℕ) → has_form e k.type k.size ≡ false → value_of_kind (k ∷ kinds) opaque e ≡ value_of_kind kinds opaque e
+passed : {E : Type 0} (k : Kind E) (kinds : List (Kind E)) (opaque : List ℕ → E) (e : List ℕ)
+    → has_form e k.type k.size ≡ false → value_of_kind (k ∷ kinds) opaque e ≡ value_of_kind kinds opaque e
 passed k kinds opaque e not = rw not refl
 
 -- as many bytes are written for what an entry says
-pub length_by : {E : Type 0} (write : E → List ℕ) (kinds : List (Kind E)) (opaque : List ℕ → E) → KeepKinds write kinds → ((e : List ℕ) → write (opaque e) ≡ e) → (e : List ℕ)
+pub length_by : {E : Type 0} (write : E → List ℕ) (kinds : List (Kind E)) (opaque : List ℕ → E) → KeepKinds write kinds
+    → ((e : List ℕ) → write (opaque e) ≡ e) → (e : List ℕ)
     → length (write (value_of_kind kinds opaque e)) ≡ length e
 length_by write [] opaque keep kept e = ap length (kept e)
 length_by write (k ∷ kinds) opaque keep kept e =
     elim (cases_Bool (has_form e k.type k.size)) [
-      | inl is ↦ (let form = form_of e k.type k.size is in ap (λ v. length (write v)) (chosen k kinds opaque e is) ∙ keep.0.count e form.1 ∙ sym form.1)
+      | inl is ↦ (let form = form_of e k.type k.size is in
+          ap (λ v. length (write v)) (chosen k kinds opaque e is) ∙ keep.0.count e form.1 ∙ sym form.1)
       | inr not ↦ ap (λ v. length (write v)) (passed k kinds opaque e not) ∙ length_by write kinds opaque keep.1 kept e
     ]
 
 -- and they say it again
-pub again_by : {E : Type 0} (write : E → List ℕ) (kinds : List (Kind E)) (opaque : List ℕ → E) → KeepKinds write kinds → ((e : List ℕ) → write (opaque e) ≡ e) → (e : List ℕ)
+pub again_by : {E : Type 0} (write : E → List ℕ) (kinds : List (Kind E)) (opaque : List ℕ → E) → KeepKinds write kinds
+    → ((e : List ℕ) → write (opaque e) ≡ e) → (e : List ℕ)
     → AreByteValues e → IsEntry e → IsAgain (value_of_kind kinds opaque) e (write (value_of_kind kinds opaque e))
 again_by write [] opaque keep kept e low entry =
     subst (IsAgain opaque e) (sym (kept e)) (record { entry = entry; count = refl; typed = refl; same = refl })
@@ -88,7 +98,10 @@ again_by write (k ∷ kinds) opaque keep kept e low entry =
           let here : has_form w k.type k.size ≡ true = same_form e w typed count k.type k.size ∙ is in
           subst (λ v. IsAgain (value_of_kind (k ∷ kinds) opaque) e (write v)) (sym said)
           (record {
-            entry = record { least = subst (λ (n : ℕ). 2 ≤ n) (sym count) entry.least; said = again.said ∙ sym again.count };
+            entry = record {
+              least = subst (λ (n : ℕ). 2 ≤ n) (sym count) entry.least;
+              said = again.said ∙ sym again.count;
+            };
             count = count;
             typed = typed;
             same = chosen k kinds opaque w here ∙ again.value ∙ sym said;
@@ -99,5 +112,74 @@ again_by write (k ∷ kinds) opaque keep kept e low entry =
           let again = again_by write kinds opaque keep.1 kept e low entry in
           let other : has_form w k.type k.size ≡ false = same_form e w again.typed again.count k.type k.size ∙ not in
           subst (λ v. IsAgain (value_of_kind (k ∷ kinds) opaque) e (write v)) (sym said)
-          (record { entry = again.entry; count = again.count; typed = again.typed; same = passed k kinds opaque w other ∙ again.same ∙ sym said })
+          (record {
+            entry = again.entry;
+            count = again.count;
+            typed = again.typed;
+            same = passed k kinds opaque w other ∙ again.same ∙ sym said;
+          })
+    ]
+
+-- bytes of a form have its length
+form_length : (e : List ℕ) (type size : ℕ) → has_form e type size ≡ true → length e ≡ size
+unfolding has_form
+form_length e type size is = eqb-true (length e) size (and_parts (slice_index e 0 == type) (length e == size) is).1
+
+pub madt_length : (e : List ℕ) → length (madt_bytes (madt.madt_entry e)) ≡ length e
+unfolding madt.madt_entry
+madt_length e = length_by madt_bytes madt.madt_kinds madt.Opaque madt_kept (λ e. refl) e
+
+pub srat_length : (e : List ℕ) → length (srat_bytes (srat.srat_entry e)) ≡ length e
+unfolding srat.srat_entry
+srat_length e = length_by srat_bytes srat.srat_kinds srat.Opaque srat_kept (λ e. refl) e
+
+references_length : (rs : List ℕ) → length (flat_map (λ r. number_bytes 4 r) rs) ≡ 4 * length rs
+references_length [] = refl
+references_length (r ∷ rs) =
+    omega (
+      arith,
+      length-append (number_bytes 4 r) (flat_map (λ r. number_bytes 4 r) rs),
+      length-number_bytes 4 r,
+      references_length rs,
+    )
+
+pub length-node : (v : pptt.NodeValue) → length (pptt_bytes (pptt.Node v)) ≡ 20 + 4 * length v.resources
+length-node v =
+    let rest = references_length v.resources in
+    simp (length-append, length-number_bytes, rest) (omega arith)
+
+cache_length : (e : List ℕ) → (length e ≡ 24) ⊎ (length e ≡ 28)
+    → length (pptt_bytes (pptt.Cache (pptt.cache_of e))) ≡ length e
+cache_length e (inl short) =
+    let other : (length e == 28) ≡ false = ne_eqb (length e) 28 (λ long. absurd (omega (arith, short, long))) in
+    rw other (simp (length-append, length-number_bytes, short) refl)
+cache_length e (inr long) =
+    let same : (length e == 28) ≡ true = eq-eqb (length e) 28 long in
+    rw same (simp (length-append, length-number_bytes, long) refl)
+
+pub cache_sizes : (e : List ℕ) → pptt.has_cache_form e ≡ true → (length e ≡ 24) ⊎ (length e ≡ 28)
+unfolding pptt.has_cache_form
+cache_sizes e is =
+    elim (cases_Bool (has_form e 1 24)) [
+      | inl short ↦ inl (form_length e 1 24 short)
+      | inr other ↦ inr (form_length e 1 28 (sym (rw other refl) ∙ is))
+    ]
+
+pub node_size : (e : List ℕ) → pptt.has_node_form e ≡ true → length e ≡ 20 + 4 * pptt.resource_count e
+unfolding pptt.has_node_form
+node_size e is = form_length e 0 (20 + 4 * pptt.resource_count e) is
+
+pub pptt_length : (e : List ℕ) → length (pptt_bytes (pptt.pptt_entry e)) ≡ length e
+unfolding pptt.pptt_entry
+pptt_length e =
+    elim (cases_Bool (pptt.has_node_form e)) [
+      | inl is ↦
+          let count = length-map-range_with_len (λ j. field e (20 + 4 * j) 4) 0 (pptt.resource_count e) in
+          let whole = length-node (pptt.node_of e) in
+          let size = node_size e is in
+          rw is (omega (arith, whole, count, size))
+      | inr a ↦ rw a (elim (cases_Bool (pptt.has_cache_form e)) [
+        | inl is ↦ rw is (cache_length e (cache_sizes e is))
+        | inr b ↦ rw b refl
+      ])
     ]

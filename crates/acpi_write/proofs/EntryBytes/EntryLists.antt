@@ -3,7 +3,7 @@ use Rattle.std.proofs.Common.{◌≡◌, ℕ, suc, ◌+◌, ◌<◌, ◌≤◌, 
 use Rattle.std.specs.Prelude.{Result, Ok, Err, OnOk}
 use Rattle.std.specs.List.{All}
 use Rattle.acpi_base.proofs.Layouts.RoundTrip.{length-number_bytes}
-use Rattle.std.proofs.lemmas.List.{drop_more, drop_all, take_all, take_more}
+use Rattle.std.proofs.lemmas.List.{drop_more, drop_all, take_all, take_more, length-replicate}
 use Rattle.std.proofs.lemmas.List.Elements.{All-push}
 
 -- what is still to come begins with the entry at the index
@@ -14,20 +14,26 @@ joined_more f xs i x h e = ap (flat_map f) (drop_more xs i x h ∙ ap (λ y. y �
 pub joined_all : {X : Type 0} (f : X → List ℕ) (xs : List X) (i : ℕ) → length xs ≤ i → flat_map f (drop i xs) ≡ []
 joined_all f xs i h = ap (flat_map f) (drop_all i xs h)
 
-pub all_more : {X : Type 0} (P : X → Type 0) (xs : List X) (i : ℕ) (x : X) → i < length xs → x ≡ get_or xs i x → All P (take i xs) → P x → All P (take (i + 1) xs)
-all_more P xs i x h e before holds = subst (All P) (sym (take_more xs i x h ∙ ap (λ y. take i xs ++ y ∷ []) (sym e))) (All-push P (take i xs) x before holds)
+pub all_more : {X : Type 0} (P : X → Type 0) (xs : List X) (i : ℕ) (x : X) → i < length xs → x ≡ get_or xs i x
+    → All P (take i xs) → P x → All P (take (i + 1) xs)
+all_more P xs i x h e before holds =
+    subst (All P) (sym (take_more xs i x h ∙ ap (λ y. take i xs ++ y ∷ []) (sym e)))
+    (All-push P (take i xs) x before holds)
 
 pub all_of : {X : Type 0} (P : X → Type 0) (xs : List X) (i : ℕ) → length xs ≤ i → All P (take i xs) → All P xs
 all_of P xs i h all = subst (All P) (take_all i xs h) all
 
 -- joined by their values
-pub joined_values : {X V : Type 0} (f : V → List ℕ) (value : X → V) (xs : List X) → flat_map f (map value xs) ≡ flat_map (λ x. f (value x)) xs
+pub joined_values : {X V : Type 0} (f : V → List ℕ) (value : X → V) (xs : List X)
+    → flat_map f (map value xs) ≡ flat_map (λ x. f (value x)) xs
 joined_values f value [] = refl
 joined_values f value (x ∷ xs) = ap (λ (bs : List ℕ). f (value x) ++ bs) (joined_values f value xs)
 
 pub ruleset bodies = (joined_values, append_assoc)
 
 pub ruleset encoded_sizes = (joined_values, length-append, length-number_bytes, length-drop)
+
+pub ruleset entry_sizes = (length-append, length-number_bytes, length-replicate)
 
 pub ruleset entry_lists = (joined_more, joined_all, all_more, all_of, append_assoc, length-append)
 

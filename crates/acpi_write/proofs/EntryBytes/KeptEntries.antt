@@ -23,18 +23,20 @@ use Rattle.acpi_read.specs.Pptts.{pptt_bytes, cache_bytes, node_head_parts, node
 use Rattle.acpi_read.specs.declared.pptt.node_head.NodeHead.{NodeHead}
 use Rattle.acpi_write.specs.Spells.{SaysEntry}
 use Rattle.acpi_write.specs.Laws.{AreByteValues, EntriesAreKept}
-use Rattle.acpi_write.proofs.EntryBytes.EntryForms.{again_by}
-use Rattle.acpi_write.proofs.EntryBytes.PpttBytes.{cache24_says, cache28_says}
-use Rattle.acpi_write.proofs.EntryBytes.NodeBytes.{node_says}
-use Rattle.acpi_write.proofs.TablesWritten.Lengths.{madt_length, srat_length, pptt_length, node_size, cache_sizes}
+use Rattle.acpi_write.proofs.EntryBytes.EntryForms.{again_by, madt_length, srat_length, pptt_length, node_size, cache_sizes}
+use Rattle.acpi_write.proofs.EntryBytes.NodeBytes.{cache24_says, cache28_says, node_says}
 
-madt_again : (e : List ℕ) → AreByteValues e → IsEntry e → SaysEntry madt_entry (madt_bytes (madt_entry e)) (madt_entry e)
+madt_again : (e : List ℕ) → AreByteValues e → IsEntry e
+    → SaysEntry madt_entry (madt_bytes (madt_entry e)) (madt_entry e)
 unfolding madt_entry
-madt_again e low is = (let again = again_by madt_bytes madt_kinds madt.Opaque madt_kept (λ e. refl) e low is in (again.entry, again.same))
+madt_again e low is =
+    (let again = again_by madt_bytes madt_kinds madt.Opaque madt_kept (λ e. refl) e low is in (again.entry, again.same))
 
-srat_again : (e : List ℕ) → AreByteValues e → IsEntry e → SaysEntry srat_entry (srat_bytes (srat_entry e)) (srat_entry e)
+srat_again : (e : List ℕ) → AreByteValues e → IsEntry e
+    → SaysEntry srat_entry (srat_bytes (srat_entry e)) (srat_entry e)
 unfolding srat_entry
-srat_again e low is = (let again = again_by srat_bytes srat_kinds srat.Opaque srat_kept (λ e. refl) e low is in (again.entry, again.same))
+srat_again e low is =
+    (let again = again_by srat_bytes srat_kinds srat.Opaque srat_kept (λ e. refl) e low is in (again.entry, again.same))
 
 -- ---- the PPTT
 
@@ -45,23 +47,43 @@ reference_at : (e : List ℕ) (j : ℕ) → field (drop 20 e) (4 * j) 4 ≡ fiel
 unfolding field
 reference_at e j = rw (drop-drop (4 * j) 20 e) refl
 
-node_again : (e : List ℕ) → AreByteValues e → IsEntry e → length e ≡ 20 + 4 * pptt.resource_count e → PpttAgain (pptt.Node (pptt.node_of e))
+node_again : (e : List ℕ) → AreByteValues e → IsEntry e → length e ≡ 20 + 4 * pptt.resource_count e
+    → PpttAgain (pptt.Node (pptt.node_of e))
 node_again e low is size =
     let count = field e 16 4 in
     let said = is.said in
     let byte = low 1 in
     let few : count ≤ 58 = omega (arith, size, said, byte) in
-    let h : NodeHead = record { flags = field e 4 4; parent = field e 8 4; id = field e 12 4; count = count; fits = few } in
+    let h : NodeHead = record {
+      flags = field e 4 4;
+      parent = field e 8 4;
+      id = field e 12 4;
+      count = count;
+      fits = few;
+    } in
     let references = drop 20 e in
-    let below : (k : ℕ) → get_or references k 0 < 256 = λ k. subst (λ (x : ℕ). x < 256) (sym (get_or-drop 20 e k 0)) (low (20 + k)) in
+    let below : (k : ℕ) → get_or references k 0 < 256 = λ k. subst (λ (x : ℕ). x < 256) (sym (get_or-drop 20 e k 0))
+    (low (20 + k)) in
     let counted : length references ≡ 4 * count = omega (arith, size, length-drop 20 e) in
-    let fit : FitLayout node_head_parts (node_head_values h) = (omega arith, (omega (arith, few), (field_below e low 4 4, (field_below e low 8 4, (field_below e low 12 4, (field_below e low 16 4, tt)))))) in
+    let fit : FitLayout node_head_parts (node_head_values h) = (
+      omega arith,
+      (
+        omega (arith, few),
+        (field_below e low 4 4, (field_below e low 8 4, (field_below e low 12 4, (field_below e low 16 4, tt)))),
+      ),
+    ) in
     let says = node_says h references below counted (HasValues-layout_bytes node_head_parts (node_head_values h) fit) in
     let same : node_value h references ≡ pptt.node_of e =
-    λ i. record { flags = field e 4 4; parent = field e 8 4; id = field e 12 4; resources = map (λ j. reference_at e j i) (range_with_len 0 count) } in
+    λ i. record {
+      flags = field e 4 4;
+      parent = field e 8 4;
+      id = field e 12 4;
+      resources = map (λ j. reference_at e j i) (range_with_len 0 count);
+    } in
     subst (λ (v : pptt.NodeValue). PpttAgain (pptt.Node v)) same says
 
-cache_again : (e : List ℕ) → AreByteValues e → (length e ≡ 24) ⊎ (length e ≡ 28) → PpttAgain (pptt.Cache (pptt.cache_of e))
+cache_again : (e : List ℕ) → AreByteValues e → (length e ≡ 24) ⊎ (length e ≡ 28)
+    → PpttAgain (pptt.Cache (pptt.cache_of e))
 cache_again e low (inl short) =
     let v = pptt.cache_of e in
     let other : (length e == 28) ≡ false = ne_eqb (length e) 28 (λ long. absurd (omega (arith, short, long))) in
@@ -79,11 +101,13 @@ pptt_is_0 : (e : List ℕ) → pptt.has_node_form e ≡ true → pptt_entry e �
 unfolding pptt_entry
 pptt_is_0 e typed = rw typed refl
 
-pptt_is_1 : (e : List ℕ) → pptt.has_node_form e ≡ false → pptt.has_cache_form e ≡ true → pptt_entry e ≡ pptt.Cache (pptt.cache_of e)
+pptt_is_1 : (e : List ℕ) → pptt.has_node_form e ≡ false → pptt.has_cache_form e ≡ true
+    → pptt_entry e ≡ pptt.Cache (pptt.cache_of e)
 unfolding pptt_entry
 pptt_is_1 e no_0 typed = rw (no_0, typed) refl
 
-pptt_is_none : (e : List ℕ) → pptt.has_node_form e ≡ false → pptt.has_cache_form e ≡ false → pptt_entry e ≡ pptt.Opaque e
+pptt_is_none : (e : List ℕ) → pptt.has_node_form e ≡ false → pptt.has_cache_form e ≡ false
+    → pptt_entry e ≡ pptt.Opaque e
 unfolding pptt_entry
 pptt_is_none e no_0 no_1 = rw (no_0, no_1) refl
 

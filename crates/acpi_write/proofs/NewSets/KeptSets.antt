@@ -1,53 +1,40 @@
 -- The rebuilt image of a clean set holds a clean set that says the same.
-use Rattle.std.proofs.Common.{◌≡◌, ℕ, List, length, refl, sym, ap, ◌∙◌, subst}
+use Rattle.std.proofs.Common.{◌≡◌, ℕ, List, sym, ap, ◌∙◌, subst}
 use Rattle.acpi_base.specs.Memory.{Memory}
 use Rattle.acpi_base.specs.Fadt.{IsFadt, IsSoundFadt}
 use Rattle.acpi_base.specs.Facs.{HasSoundFacs, IsSoundFacs}
-use Rattle.acpi_base.specs.Listed.{fadt_signature, madt_signature, srat_signature, slit_signature, pptt_signature}
-use Rattle.acpi_base.specs.Madt.{madt_contents}
-use Rattle.acpi_base.specs.Srat.{srat_contents}
-use Rattle.acpi_base.specs.Slit.{slit_contents}
-use Rattle.acpi_base.specs.Pptt.{pptt_contents}
+use Rattle.acpi_base.specs.Listed.{fadt_signature}
 use Rattle.acpi_base.specs.Policy.{PolicyValue, with_rsdp}
 use Rattle.acpi_base.specs.Statements.{IsClean}
 use Rattle.acpi_base.specs.declared.stage.Stage.TheVariants as stage
+use Rattle.acpi_base.specs.TableKinds.{signature_of}
+use Rattle.acpi_base.proofs.Tables.Kinds.{length-signature_of}
 use Rattle.acpi_base.proofs.Tables.Listed.{one_listed}
 use Rattle.acpi_write.specs.Placed.{IsPlaced}
 use Rattle.acpi_write.specs.Rebuilding.{RebuiltSetsAreKept}
 use Rattle.acpi_write.specs.Rebuilt.{facs_place, rebuilt_image}
 use Rattle.acpi_write.specs.SetValues.{IsFacsOf, IsSetValue}
 use Rattle.acpi_write.specs.Values.{SetValue}
-use Rattle.acpi_write.proofs.OldSets.FirstListed.{AreListed, listed_first, first_of_listed}
+use Rattle.acpi_write.proofs.OldSets.FirstListed.{listed_first, first_of_listed}
 use Rattle.acpi_write.proofs.OldSets.FirstTables.{new_tables}
-use Rattle.acpi_write.proofs.NewSets.NewFacs.{facs_again, facs_sound_again}
-use Rattle.acpi_write.proofs.NewSets.NewSet.{IsNewSet, new_set, new_listed, new_sound_tables, named_fadt, HasNewFadt, new_fadt}
-use Rattle.acpi_write.proofs.NewSets.NewTables.{KeepsFirst, values_again, madt_again, srat_again, slit_again, pptt_again}
-use Rattle.acpi_write.proofs.OldSets.OldTables.{listed_of}
-use Rattle.acpi_write.proofs.OldSets.OneSetValue.{value_is_one}
-use Rattle.acpi_write.proofs.NewSets.SameStages.{SameListed, AreSameListed, clean_again}
+use Rattle.acpi_write.proofs.NewSets.NewSet.{facs_again, facs_sound_again, IsNewSet, new_set, new_listed, new_sound_tables, named_fadt, HasNewFadt, new_fadt}
+use Rattle.acpi_write.proofs.NewSets.NewTables.{values_again, contents_again}
+use Rattle.acpi_write.proofs.OldSets.OldTables.{listed_of, value_is_one}
+use Rattle.acpi_write.proofs.NewSets.SameStages.{AreSameListed, clean_again}
 
 -- ---- the first tables
 
--- the first table of a kind keeps its contents, from one set to another
-same_listed : {C : Type 0} (m n : Memory) (p base facs : ℕ) (ts : List (List ℕ)) (signature : List ℕ) (contents_of : List ℕ → C) → AreListed m p ts → AreListed n base (new_tables facs ts) → length signature ≡ 4
-    → KeepsFirst facs ts signature contents_of → SameListed m p n base signature contents_of
-same_listed m n p base facs ts signature contents_of old_listed new_listed four keeps new is =
-    let old = keeps new (first_of_listed n base (new_tables facs ts) signature new new_listed four is) in
-    (old.0, listed_first m p ts signature old.0 old_listed four old.1, old.2)
-
-are_same : (m : Memory) (q : PolicyValue) (v : SetValue) (base : ℕ) → (said : IsSetValue m q.rsdp v) → IsNewSet v base said.tables → AreSameListed m q.rsdp (rebuilt_image v base) base
-are_same m q v base said new =
-    let n = rebuilt_image v base in
+-- the first table of each kind keeps its contents, from one set to another
+are_same : (m : Memory) (q : PolicyValue) (v : SetValue) (base : ℕ) → (said : IsSetValue m q.rsdp v)
+    → IsNewSet v base said.tables → AreSameListed m q.rsdp (rebuilt_image v base) base
+are_same m q v base said new kind other is =
     let facs = facs_place v base in
     let ts = said.tables in
-    let old_listed = listed_of m q.rsdp v said in
-    let listed = new_listed v base ts new in
-    record {
-      madt = same_listed m n q.rsdp base facs ts madt_signature madt_contents old_listed listed refl (madt_again facs ts new.clean);
-      srat = same_listed m n q.rsdp base facs ts srat_signature srat_contents old_listed listed refl (srat_again facs ts new.clean);
-      slit = same_listed m n q.rsdp base facs ts slit_signature slit_contents old_listed listed refl (slit_again facs ts new.clean);
-      pptt = same_listed m n q.rsdp base facs ts pptt_signature pptt_contents old_listed listed refl (pptt_again facs ts new.clean);
-    }
+    let four = length-signature_of kind in
+    let first = first_of_listed (rebuilt_image v base) base (new_tables facs ts) (signature_of kind) other
+    (new_listed v base ts new) four is in
+    let old = contents_again facs ts kind other new.clean first in
+    (old.0, listed_first m q.rsdp ts (signature_of kind) old.0 (listed_of m q.rsdp v said) four old.1, old.2)
 
 -- ---- stages 4 and 5
 
@@ -57,7 +44,8 @@ record IsFadtKept (v : SetValue) (base : ℕ) : Type 0 where
   facs : (fadt : List ℕ) → IsFadt (rebuilt_image v base) base fadt → IsFacsOf (rebuilt_image v base) fadt v.facs
   facs_sound : IsSoundFacs (rebuilt_image v base) base
 
-fadt_kept : (m : Memory) (q : PolicyValue) (v : SetValue) (base : ℕ) → IsClean m q → (said : IsSetValue m q.rsdp v) → IsPlaced v base → IsNewSet v base said.tables → IsFadtKept v base
+fadt_kept : (m : Memory) (q : PolicyValue) (v : SetValue) (base : ℕ) → IsClean m q → (said : IsSetValue m q.rsdp v)
+    → IsPlaced v base → IsNewSet v base said.tables → IsFadtKept v base
 fadt_kept m q v base clean said placed new =
     let n = rebuilt_image v base in
     let place = facs_place v base in
@@ -67,7 +55,8 @@ fadt_kept m q v base clean said placed new =
     let named = named_fadt old place in
     let facs = facs_again m n old named v.facs place fadt.facs new.facs fadt.names.named in
     let sound = facs_sound_again m n old named v.facs (clean stage.Facs old is) fadt.names.reduced fadt.facs facs in
-    let one = λ (other : List ℕ) (listed : IsFadt n base other). one_listed n base fadt_signature named other fadt.listed listed in
+    let one = λ (other : List ℕ) (listed : IsFadt n base other). one_listed n base fadt_signature named other
+    fadt.listed listed in
     record {
       sound = record { whole = named; fadt = fadt.listed; sound = fadt.names.sound };
       facs = λ other listed. subst (λ (x : List ℕ). IsFacsOf n x v.facs) (one other listed) facs;
@@ -76,7 +65,8 @@ fadt_kept m q v base clean said placed new =
 
 -- ---- the whole
 
-kept_clean : (m : Memory) (q : PolicyValue) (v : SetValue) (base : ℕ) → IsClean m q → (said : IsSetValue m q.rsdp v) → IsNewSet v base said.tables → IsFadtKept v base → IsClean (rebuilt_image v base) (with_rsdp q base)
+kept_clean : (m : Memory) (q : PolicyValue) (v : SetValue) (base : ℕ) → IsClean m q → (said : IsSetValue m q.rsdp v)
+    → IsNewSet v base said.tables → IsFadtKept v base → IsClean (rebuilt_image v base) (with_rsdp q base)
 kept_clean m q v base clean said new fadt =
     let leads = new.leads in
     clean_again m (rebuilt_image v base) q base clean (are_same m q v base said new)
@@ -88,7 +78,8 @@ kept_clean m q v base clean said new fadt =
       facs = fadt.facs_sound;
     })
 
-kept_value : (m : Memory) (p : ℕ) (v : SetValue) (base : ℕ) → (said : IsSetValue m p v) → IsNewSet v base said.tables → IsFadtKept v base → IsSetValue (rebuilt_image v base) base v
+kept_value : (m : Memory) (p : ℕ) (v : SetValue) (base : ℕ) → (said : IsSetValue m p v) → IsNewSet v base said.tables
+    → IsFadtKept v base → IsSetValue (rebuilt_image v base) base v
 kept_value m p v base said new fadt =
     let leads = new.leads in
     let place = facs_place v base in

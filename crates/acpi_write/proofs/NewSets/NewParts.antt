@@ -1,62 +1,48 @@
 -- Where the parts of a rebuilt image stand.
-use Rattle.std.proofs.Common.{◌≡◌, ℕ, suc, ◌+◌, ◌*◌, ◌%◌, ◌^◌, ◌<◌, ◌≤◌, List, [], ◌∷◌, ◌++◌, length, get_or, drop, map, Option, Some, None, refl, ap, ◌∙◌, subst, arith}
+use Rattle.std.proofs.Common.{◌≡◌, ℕ, suc, ◌+◌, ◌%◌, ◌^◌, ◌<◌, ◌≤◌, List, [], ◌∷◌, ◌++◌, length, get_or, drop, map, Option, Some, None, refl, subst, arith}
 use Rattle.std.specs.List.{AllByRecursion, AllZip}
-use Rattle.std.proofs.lemmas.List.{map-append}
 use Rattle.acpi_base.specs.Memory.{Memory}
-use Rattle.acpi_write.specs.Encoded.{FitsHead, encoded_length}
+use Rattle.acpi_write.specs.Encoded.{encoded_length, encoded_bytes_with}
 use Rattle.acpi_write.specs.Placed.{block_ends, DoEndInside, IsPlaced}
-use Rattle.acpi_write.specs.Rebuilt.{aligned_address, blocks_from, block_places, option_list, place_of_facs, part_lengths, part_places, part_bytes, facs_place, table_places, xsdt_length, encoded_bytes_with, rebuilt_image, HoldsBlock}
+use Rattle.acpi_write.specs.Rebuilt.{aligned_address, blocks_from, block_places, option_list, place_of_facs, part_lengths, part_places, part_bytes, facs_place, table_places, xsdt_length, rebuilt_image, HoldsBlock}
 use Rattle.acpi_write.specs.Values.{SetValue}
-use Rattle.acpi_write.proofs.NewSets.NewImage.{Holds, tables_are}
-use Rattle.acpi_write.proofs.NewSets.NewRoot.{xsdt_written}
-use Rattle.acpi_write.proofs.NewSets.RebuiltParts.{aligned_from, parts_are_held}
-use Rattle.acpi_write.proofs.TablesWritten.RsdpBytes.{rsdp_written}
+use Rattle.acpi_write.proofs.NewSets.NewImage.{Holds, aligned_from, parts_are_held}
 
 -- ---- blocks at their places
 
 -- laid blocks stand at the places of blocks of their lengths
-laid_stand : (m : Memory) (a : ℕ) (blocks : List (List ℕ)) → AllByRecursion (HoldsBlock m) (blocks_from a blocks) → AllZip (Holds m) (block_places a (map length blocks)) blocks
+laid_stand : (m : Memory) (a : ℕ) (blocks : List (List ℕ)) → AllByRecursion (HoldsBlock m) (blocks_from a blocks)
+    → AllZip (Holds m) (block_places a (map length blocks)) blocks
 unfolding blocks_from block_places
 laid_stand m a [] held = tt
 laid_stand m a (b ∷ bs) held = (held.0, laid_stand m (aligned_address (a + length b)) bs held.1)
 
 -- those behind others
-zip_behind : (R : ℕ → List ℕ → Type 0) (xs : List ℕ) (front back : List (List ℕ)) → AllZip R xs (front ++ back) → AllZip R (drop (length front) xs) back
+zip_behind : (R : ℕ → List ℕ → Type 0) (xs : List ℕ) (front back : List (List ℕ)) → AllZip R xs (front ++ back)
+    → AllZip R (drop (length front) xs) back
 zip_behind R xs [] back zip = zip
 zip_behind R [] (y ∷ ys) back zip = absurd zip
 zip_behind R (x ∷ xs) (y ∷ ys) back zip = zip_behind R xs ys back zip.1
 
--- the tables that are written have the lengths that places are counted with
-abbrev pub HaveTheirSizes : SetValue → ℕ → Type 0
-HaveTheirSizes v base = map length (map (encoded_bytes_with (facs_place v base)) v.tables) ≡ map encoded_length v.tables
-
-lengths_are : (v : SetValue) (base : ℕ) → length v.oemid ≡ 6 → FitsHead v.root → IsPlaced v base → HaveTheirSizes v base → map length (part_bytes v base) ≡ part_lengths v
-unfolding block_places block_ends
-lengths_are v base oemid head placed sizes =
-    let xsdt = aligned_address (base + 36) in
-    let end = placed.inside.1.0 in
-    let tables = tables_are v base placed in
-    let rsdp = rsdp_written v.oemid xsdt oemid (omega (arith, end)) in
-    let root = xsdt_written v.root (table_places v base) head (omega (arith, tables.0, placed.size)) tables.1 in
-    let root_count = root.count ∙ ap (λ (n : ℕ). 36 + 8 * n) tables.0 in
-    let behind = map-append length (option_list v.facs) (map (encoded_bytes_with (facs_place v base)) v.tables) ∙ ap (λ (ns : List ℕ). map length (option_list v.facs) ++ ns) sizes in
-    λ i. rsdp.count i ∷ root_count i ∷ behind i
-
 -- each part stands at its place
-pub parts_stand : (v : SetValue) (base : ℕ) → length v.oemid ≡ 6 → FitsHead v.root → IsPlaced v base → HaveTheirSizes v base → AllZip (Holds (rebuilt_image v base)) (part_places v base) (part_bytes v base)
-parts_stand v base oemid head placed sizes =
-    subst (λ (ns : List ℕ). AllZip (Holds (rebuilt_image v base)) (block_places base ns) (part_bytes v base)) (lengths_are v base oemid head placed sizes)
+pub parts_stand : (v : SetValue) (base : ℕ) → map length (part_bytes v base) ≡ part_lengths v
+    → AllZip (Holds (rebuilt_image v base)) (part_places v base) (part_bytes v base)
+parts_stand v base lengths =
+    subst (λ (ns : List ℕ). AllZip (Holds (rebuilt_image v base)) (block_places base ns) (part_bytes v base)) lengths
     (laid_stand (rebuilt_image v base) base (part_bytes v base) (parts_are_held v base))
 
 -- ---- the tables
 
-pub tables_stand : (v : SetValue) (base : ℕ) → AllZip (Holds (rebuilt_image v base)) (part_places v base) (part_bytes v base)
-    → AllZip (Holds (rebuilt_image v base)) (table_places v base) (map (encoded_bytes_with (facs_place v base)) v.tables)
+pub tables_stand : (v : SetValue) (base : ℕ)
+    → AllZip (Holds (rebuilt_image v base)) (part_places v base) (part_bytes v base)
+    → AllZip (Holds (rebuilt_image v base)) (table_places v base)
+    (map (encoded_bytes_with (facs_place v base)) v.tables)
 unfolding block_places
 tables_stand v base parts =
     let two : suc (suc (length (option_list v.facs))) ≡ 2 + length (option_list v.facs) = omega arith in
     let blocks = map (encoded_bytes_with (facs_place v base)) v.tables in
-    subst (λ (k : ℕ). AllZip (Holds (rebuilt_image v base)) (drop k (part_places v base)) blocks) two (zip_behind (Holds (rebuilt_image v base)) _ (option_list v.facs) blocks parts.1.1)
+    subst (λ (k : ℕ). AllZip (Holds (rebuilt_image v base)) (drop k (part_places v base)) blocks) two
+    (zip_behind (Holds (rebuilt_image v base)) _ (option_list v.facs) blocks parts.1.1)
 
 -- ---- the FACS
 
@@ -71,20 +57,27 @@ abbrev pub HasFacsPlace : Memory → Option (List ℕ) → ℕ → Type 0
 HasFacsPlace m None f = f ≡ 0
 HasFacsPlace m (Some bytes) f = IsFacsPlace m bytes f
 
-facs_behind : (m : Memory) (facs : Option (List ℕ)) (a : ℕ) (ns : List ℕ) (blocks : List (List ℕ)) → a % 64 ≡ 0 → 0 < a → DoEndInside (block_ends a (map length (option_list facs) ++ ns))
-    → AllZip (Holds m) (block_places a (map length (option_list facs) ++ ns)) (option_list facs ++ blocks) → HasFacsPlace m facs (place_of_facs facs (get_or (block_places a (map length (option_list facs) ++ ns)) 0 0))
+facs_behind : (m : Memory) (facs : Option (List ℕ)) (a : ℕ) (ns : List ℕ) (blocks : List (List ℕ)) → a % 64 ≡ 0 → 0 < a
+    → DoEndInside (block_ends a (map length (option_list facs) ++ ns))
+    → AllZip (Holds m) (block_places a (map length (option_list facs) ++ ns)) (option_list facs ++ blocks)
+    → HasFacsPlace m facs (place_of_facs facs (get_or (block_places a (map length (option_list facs) ++ ns)) 0 0))
 unfolding block_places block_ends
 facs_behind m None a ns blocks multiple above inside stand = refl
-facs_behind m (Some bytes) a ns blocks multiple above inside stand = record { stands = stand.0; aligned = multiple; above = above; inside = inside.0 }
+facs_behind m (Some bytes) a ns blocks multiple above inside stand =
+    record { stands = stand.0; aligned = multiple; above = above; inside = inside.0 }
 
 multiple : (a : ℕ) → aligned_address a % 64 ≡ 0
 unfolding aligned_address
 multiple a = omega arith
 
-pub facs_stands : (v : SetValue) (base : ℕ) → IsPlaced v base → AllZip (Holds (rebuilt_image v base)) (part_places v base) (part_bytes v base) → HasFacsPlace (rebuilt_image v base) v.facs (facs_place v base)
+pub facs_stands : (v : SetValue) (base : ℕ) → IsPlaced v base
+    → AllZip (Holds (rebuilt_image v base)) (part_places v base) (part_bytes v base)
+    → HasFacsPlace (rebuilt_image v base) v.facs (facs_place v base)
 unfolding block_places block_ends
 facs_stands v base placed parts =
     let xsdt = aligned_address (base + 36) in
     let from = aligned_from (base + 36) in
     let past = aligned_from (xsdt + xsdt_length v) in
-    facs_behind (rebuilt_image v base) v.facs (aligned_address (xsdt + xsdt_length v)) (map encoded_length v.tables) (map (encoded_bytes_with (facs_place v base)) v.tables) (multiple (xsdt + xsdt_length v)) (omega (arith, from, past)) placed.inside.1.1 parts.1.1
+    facs_behind (rebuilt_image v base) v.facs (aligned_address (xsdt + xsdt_length v)) (map encoded_length v.tables)
+    (map (encoded_bytes_with (facs_place v base)) v.tables) (multiple (xsdt + xsdt_length v))
+    (omega (arith, from, past)) placed.inside.1.1 parts.1.1

@@ -1,6 +1,6 @@
 -- The slots of a written XSDT.
 use Rattle.std.proofs.Common.{◌≡◌, ℕ, zero, suc, ◌+◌, ◌-◌, ◌*◌, ◌/◌, ◌^◌, ◌<◌, List, [], ◌∷◌, length, get_or, drop, flat_map, refl, sym, ap, ◌∙◌, arith, length-append}
-use Rattle.std.proofs.lemmas.List.{drop_at}
+use Rattle.std.proofs.lemmas.List.{drop_all, drop_at, drop_more}
 use Rattle.acpi_base.specs.Number.{field, number_bytes}
 use Rattle.acpi_base.specs.Header.{HeadValue}
 use Rattle.acpi_base.specs.Listed.{listed_addresses}
@@ -8,10 +8,9 @@ use Rattle.acpi_base.specs.Signature.{xsdt_signature}
 use Rattle.acpi_base.proofs.Layouts.RoundTrip.{length-number_bytes, number_there}
 use Rattle.acpi_write.specs.Encoded.{FitsHead, table_bytes}
 use Rattle.acpi_write.specs.Spells.{IsTableOf}
-use Rattle.acpi_write.proofs.TablesWritten.KeptContents.{length_of_parts}
 use Rattle.acpi_write.proofs.OldSets.Listing.{listed_from, listed_is, listed_take}
 use Rattle.acpi_write.proofs.NewSets.NamedFacs.{field_behind}
-use Rattle.acpi_write.proofs.TablesWritten.WholeTables.{xsdt_table}
+use Rattle.acpi_write.proofs.TablesWritten.WholeTables.{whole_table, length_of_parts}
 
 -- addresses that a slot can list
 pub record AreAddresses (xs : List ℕ) : Type 0 where
@@ -28,30 +27,22 @@ slots_behind : (x : ℕ) (xs : List ℕ) → drop 8 (flat_map (number_bytes 8) (
 slots_behind x xs = drop_at (number_bytes 8 x) (flat_map (number_bytes 8) xs) 8 (length-number_bytes 8 x)
 
 -- the k-th number
-slot_number : (xs : List ℕ) (k : ℕ) → k < length xs → get_or xs k 0 < 2 ^ 64 → field (flat_map (number_bytes 8) xs) (8 * k) 8 ≡ get_or xs k 0
+slot_number : (xs : List ℕ) (k : ℕ) → k < length xs → get_or xs k 0 < 2 ^ 64
+    → field (flat_map (number_bytes 8) xs) (8 * k) 8 ≡ get_or xs k 0
 slot_number [] k h fits = absurd (omega arith)
-slot_number (x ∷ xs) zero h fits = number_there 0 8 x (flat_map (number_bytes 8) (x ∷ xs)) (flat_map (number_bytes 8) xs) refl (omega (arith, fits))
+slot_number (x ∷ xs) zero h fits =
+    number_there 0 8 x (flat_map (number_bytes 8) (x ∷ xs)) (flat_map (number_bytes 8) xs) refl (omega (arith, fits))
 slot_number (x ∷ xs) (suc k) h fits =
     let next : 8 * suc k ≡ 8 + 8 * k = omega arith in
     ap (λ (o : ℕ). field (flat_map (number_bytes 8) (x ∷ xs)) o 8) next
     ∙ field_behind (flat_map (number_bytes 8) (x ∷ xs)) (flat_map (number_bytes 8) xs) 8 (8 * k) 8 (slots_behind x xs)
     ∙ slot_number xs k (omega arith) fits
 
-drop-at : (xs : List ℕ) (k : ℕ) → k < length xs → drop k xs ≡ get_or xs k 0 ∷ drop (k + 1) xs
-drop-at [] k h = absurd (omega arith)
-drop-at (x ∷ xs) zero h = refl
-drop-at (x ∷ xs) (suc k) h =
-    let next : suc k + 1 ≡ suc (k + 1) = omega arith in
-    rw next (drop-at xs k (omega arith))
-
-drop-past : (xs : List ℕ) (k : ℕ) → k ≡ length xs → drop k xs ≡ []
-drop-past [] k e = rw e refl
-drop-past (x ∷ xs) zero e = absurd (omega arith)
-drop-past (x ∷ xs) (suc k) e = drop-past xs k (omega arith)
-
-listed_rest : (whole xs : List ℕ) (k n : ℕ) → k + n ≡ length xs → ((j : ℕ) → j < length xs → field whole (36 + 8 * j) 8 ≡ get_or xs j 0) → ((j : ℕ) → j < length xs → 0 < get_or xs j 0)
+listed_rest : (whole xs : List ℕ) (k n : ℕ) → k + n ≡ length xs
+    → ((j : ℕ) → j < length xs → field whole (36 + 8 * j) 8 ≡ get_or xs j 0)
+    → ((j : ℕ) → j < length xs → 0 < get_or xs j 0)
     → listed_from whole 8 k n ≡ drop k xs
-listed_rest whole xs k zero all each some = sym (drop-past xs k (omega arith))
+listed_rest whole xs k zero all each some = sym (drop_all k xs (omega arith))
 listed_rest whole xs k (suc n) all each some =
     let here = each k (omega arith) in
     let above = some k (omega arith) in
@@ -59,7 +50,7 @@ listed_rest whole xs k (suc n) all each some =
     listed_take whole 8 k n (λ nil. absurd (omega (arith, here, above, nil)))
     ∙ ap (λ (x : ℕ). x ∷ listed_from whole 8 (k + 1) n) here
     ∙ ap (λ (l : List ℕ). get_or xs k 0 ∷ l) rest
-    ∙ sym (drop-at xs k (omega arith))
+    ∙ sym (drop_more xs k 0 (omega arith))
 
 -- an XSDT that is written of addresses
 pub record IsWrittenXsdt (head : HeadValue) (xs whole : List ℕ) : Type 0 where
@@ -73,8 +64,9 @@ xsdt_written head xs fits size are =
     let slots = flat_map (number_bytes 8) xs in
     let whole = table_bytes xsdt_signature head slots in
     let behind = length-slots xs in
-    let table = xsdt_table head slots fits (omega (arith, behind, size)) in
-    let count : length whole ≡ 36 + 8 * length xs = omega (arith, behind, length_of_parts whole slots table.0.least table.1) in
+    let table = whole_table xsdt_signature head slots refl fits (omega (arith, behind, size)) in
+    let count : length whole ≡ 36 + 8 * length xs = omega
+    (arith, behind, length_of_parts whole slots table.0.least table.1) in
     let n : (length whole - 36) / 8 ≡ length xs = omega (arith, count) in
     record {
       table = table.0;
@@ -82,7 +74,9 @@ xsdt_written head xs fits size are =
       lists =
           listed_is whole 8
           ∙ ap (λ (k : ℕ). listed_from whole 8 0 k) n
-          ∙ listed_rest whole xs 0 (length xs) (omega arith) (λ j below. field_behind whole slots 36 (8 * j) 8 table.1 ∙ slot_number xs j below (are.fits j below)) are.some;
+          ∙ listed_rest whole xs 0 (length xs) (omega arith)
+          (λ j below. field_behind whole slots 36 (8 * j) 8 table.1 ∙ slot_number xs j below (are.fits j below))
+          are.some;
     }
 
 pub ruleset root_slots = (length-slots)

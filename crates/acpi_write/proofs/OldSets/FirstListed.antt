@@ -24,10 +24,13 @@ record IsFirstAt (ts : List (List ℕ)) (t signature : List ℕ) : Type 0 where
   there : get_or ts k [] ≡ t
   first : is_first (take k ts) t signature ≡ true
 
-later : (u : List ℕ) (ts : List (List ℕ)) (t signature : List ℕ) → has_signature u signature ≡ false → IsFirstAt ts t signature → IsFirstAt (u ∷ ts) t signature
-later u ts t signature other rest = record { k = suc rest.k; below = omega (arith, rest.below); there = rest.there; first = rw other rest.first }
+later : (u : List ℕ) (ts : List (List ℕ)) (t signature : List ℕ) → has_signature u signature ≡ false
+    → IsFirstAt ts t signature → IsFirstAt (u ∷ ts) t signature
+later u ts t signature other rest =
+    record { k = suc rest.k; below = omega (arith, rest.below); there = rest.there; first = rw other rest.first }
 
-first_at : (ts : List (List ℕ)) (t signature : List ℕ) → first_table_with signature ts ≡ Some t → IsFirstAt ts t signature
+first_at : (ts : List (List ℕ)) (t signature : List ℕ) → first_table_with signature ts ≡ Some t
+    → IsFirstAt ts t signature
 unfolding first_table_with
 first_at [] t signature is = absurd (cc)
 first_at (u ∷ ts) t signature is =
@@ -39,7 +42,8 @@ first_at (u ∷ ts) t signature is =
     ]
 
 -- where there is no first one, no table has the signature
-none_with : (ts : List (List ℕ)) (signature : List ℕ) → first_table_with signature ts ≡ None → AllByRecursion (λ t. has_signature t signature ≡ false) ts
+none_with : (ts : List (List ℕ)) (signature : List ℕ) → first_table_with signature ts ≡ None
+    → AllByRecursion (λ t. has_signature t signature ≡ false) ts
 unfolding first_table_with
 none_with [] signature none = tt
 none_with (u ∷ ts) signature none =
@@ -56,27 +60,34 @@ pub record IsSlotTable (m : Memory) (P : List ℕ → Type 0) (a : ℕ) : Type 0
   pub stands : IsWholeAt m a t
   pub holds : P t
 
-slot_from : (m : Memory) (P : List ℕ → Type 0) (root : List ℕ) (d j n : ℕ) (ts : List (List ℕ)) (i a : ℕ) → AllZip (IsWholeAt m) (listed_from root d j n) ts → AllByRecursion P ts → j ≤ i → i < j + n → HasSlot root d i a → IsSlotTable m P a
+slot_from : (m : Memory) (P : List ℕ → Type 0) (root : List ℕ) (d j n : ℕ) (ts : List (List ℕ)) (i a : ℕ)
+    → AllZip (IsWholeAt m) (listed_from root d j n) ts → AllByRecursion P ts → j ≤ i → i < j + n → HasSlot root d i a
+    → IsSlotTable m P a
 slot_from m P root d j zero ts i a zip all from below slot = absurd (omega arith)
 slot_from m P root d j (suc n) ts i a zip all from below slot =
     elim (cases_eq (field root (36 + d * j) d) 0) [
       | inl nil ↦
           elim (cases_eq i j) [
             | inl same ↦ absurd (slot.listed (sym slot.address ∙ ap (λ (h : ℕ). field root (36 + d * h) d) same ∙ nil))
-            | inr other ↦ slot_from m P root d (j + 1) n ts i a (subst (λ (xs : List ℕ). AllZip (IsWholeAt m) xs ts) (listed_skip root d j n nil) zip) all (omega arith) (omega arith) slot
+            | inr other ↦ slot_from m P root d (j + 1) n ts i a
+                (subst (λ (xs : List ℕ). AllZip (IsWholeAt m) xs ts) (listed_skip root d j n nil) zip) all (omega arith)
+                (omega arith) slot
           ]
       | inr some ↦
           go ts (subst (λ (xs : List ℕ). AllZip (IsWholeAt m) xs ts) (listed_take root d j n some) zip) all
           (λ us z l other. slot_from m P root d (j + 1) n us i a z l (omega (arith, other)) (omega (arith, other)) slot)
     ]
   where
-    go : (ts : List (List ℕ)) → AllZip (IsWholeAt m) (field root (36 + d * j) d ∷ listed_from root d (j + 1) n) ts → AllByRecursion P ts
-        → ((us : List (List ℕ)) → AllZip (IsWholeAt m) (listed_from root d (j + 1) n) us → AllByRecursion P us → (i ≡ j → ⊥) → IsSlotTable m P a) → IsSlotTable m P a
+    go : (ts : List (List ℕ)) → AllZip (IsWholeAt m) (field root (36 + d * j) d ∷ listed_from root d (j + 1) n) ts
+        → AllByRecursion P ts
+        → ((us : List (List ℕ)) → AllZip (IsWholeAt m) (listed_from root d (j + 1) n) us → AllByRecursion P us
+        → (i ≡ j → ⊥) → IsSlotTable m P a) → IsSlotTable m P a
     go [] zip all again = absurd zip
     go (t ∷ ts) zip all again =
         elim (cases_eq i j) [
           | inl same ↦
-              let place : field root (36 + d * j) d ≡ a = ap (λ (h : ℕ). field root (36 + d * h) d) (sym same) ∙ slot.address in
+              let place : field root (36 + d * j) d ≡ a = ap (λ (h : ℕ). field root (36 + d * h) d) (sym same)
+              ∙ slot.address in
               record { t = t; stands = subst (λ (x : ℕ). IsWholeAt m x t) place zip.0; holds = all.0 }
           | inr other ↦ again ts zip.1 all.1 other
         ]
@@ -89,9 +100,13 @@ counted root d i (inr eight) inside =
     let b : 36 + 8 * (i + 1) ≤ length root = subst (λ (x : ℕ). 36 + x * (i + 1) ≤ length root) eight inside in
     subst (λ (x : ℕ). i < 0 + (length root - 36) / x) (sym eight) (omega (arith, b))
 
-pub slot_table : (m : Memory) (P : List ℕ → Type 0) (root : List ℕ) (d : ℕ) (ts : List (List ℕ)) (i a : ℕ) → IsSlotWidth d → AllZip (IsWholeAt m) (listed_addresses root d) ts → AllByRecursion P ts → HasSlot root d i a → IsSlotTable m P a
+pub slot_table : (m : Memory) (P : List ℕ → Type 0) (root : List ℕ) (d : ℕ) (ts : List (List ℕ)) (i a : ℕ)
+    → IsSlotWidth d → AllZip (IsWholeAt m) (listed_addresses root d) ts → AllByRecursion P ts → HasSlot root d i a
+    → IsSlotTable m P a
 slot_table m P root d ts i a width zip all slot =
-    slot_from m P root d 0 ((length root - 36) / d) ts i a (subst (λ (xs : List ℕ). AllZip (IsWholeAt m) xs ts) (listed_is root d) zip) all (omega arith) (counted root d i width slot.inside) slot
+    slot_from m P root d 0 ((length root - 36) / d) ts i a
+    (subst (λ (xs : List ℕ). AllZip (IsWholeAt m) xs ts) (listed_is root d) zip) all (omega arith)
+    (counted root d i width slot.inside) slot
 
 -- ---- the set's first table with a signature is the first of the list
 
@@ -104,20 +119,27 @@ pub record AreListed (m : Memory) (p : ℕ) (ts : List (List ℕ)) : Type 0 wher
   pub table : IsRootTable m r d root_bytes
   pub each : AllZip (IsWholeAt m) (listed_addresses root_bytes d) ts
 
-pub listed_first : (m : Memory) (p : ℕ) (ts : List (List ℕ)) (signature t : List ℕ) → AreListed m p ts → length signature ≡ 4 → first_table_with signature ts ≡ Some t → IsListedTable m p signature t
+pub listed_first : (m : Memory) (p : ℕ) (ts : List (List ℕ)) (signature t : List ℕ) → AreListed m p ts
+    → length signature ≡ 4 → first_table_with signature ts ≡ Some t → IsListedTable m p signature t
 listed_first m p ts signature t are four is =
     let at = first_at ts t signature is in
     subst (λ (x : List ℕ). IsListedTable m p signature x) at.there
-    (first_listed_table m p are.r are.d are.root_bytes ts at.k [] signature are.root are.table are.each at.below four (subst (λ (x : List ℕ). is_first (take at.k ts) x signature ≡ true) (sym at.there) at.first))
+    (first_listed_table m p are.r are.d are.root_bytes ts at.k [] signature are.root are.table are.each at.below four
+    (subst (λ (x : List ℕ). is_first (take at.k ts) x signature ≡ true) (sym at.there) at.first))
 
-pub first_of_listed : (m : Memory) (p : ℕ) (ts : List (List ℕ)) (signature t : List ℕ) → AreListed m p ts → length signature ≡ 4 → IsListedTable m p signature t → first_table_with signature ts ≡ Some t
+pub first_of_listed : (m : Memory) (p : ℕ) (ts : List (List ℕ)) (signature t : List ℕ) → AreListed m p ts
+    → length signature ≡ 4 → IsListedTable m p signature t → first_table_with signature ts ≡ Some t
 first_of_listed m p ts signature t are four listed_addresses =
     elim (cases_Option (first_table_with signature ts)) [
-      | inl (u, is) ↦ is ∙ ap Some (one_listed m p signature u t (listed_first m p ts signature u are four is) listed_addresses)
+      | inl (u, is) ↦ is ∙ ap Some (one_listed m p signature u t (listed_first m p ts signature u are four is)
+          listed_addresses)
       | inr none ↦
-          let first : IsFirstListed m are.root_bytes are.d signature listed_addresses.a = listed_of_root are.root are.table listed_addresses.first in
-          let its = slot_table m (λ x. has_signature x signature ≡ false) are.root_bytes are.d ts first.k listed_addresses.a (root_width are.root) are.each (none_with ts signature none) first.slot in
+          let first : IsFirstListed m are.root_bytes are.d signature listed_addresses.a =
+          listed_of_root are.root are.table listed_addresses.first in
+          let its = slot_table m (λ x. has_signature x signature ≡ false) are.root_bytes are.d ts first.k
+          listed_addresses.a (root_width are.root) are.each (none_with ts signature none) first.slot in
           let same = same_value its.stands.0 first.signed.header its.stands.1.header_held first.signed.header_held in
-          let has : has_signature its.t signature ≡ true = signed_table m listed_addresses.a its.stands.0 its.t signature its.stands.1 four ∙ ap (λ (x : List ℕ). has_signature x signature) same ∙ first.signed.signed in
+          let has : has_signature its.t signature ≡ true = signed_table m listed_addresses.a its.stands.0 its.t
+          signature its.stands.1 four ∙ ap (λ (x : List ℕ). has_signature x signature) same ∙ first.signed.signed in
           absurd (both_ways (has_signature its.t signature) its.holds has)
     ]

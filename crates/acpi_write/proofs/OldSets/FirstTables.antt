@@ -1,19 +1,20 @@
 -- The first of a list of tables with a signature, and what is asked of the tables that are written anew.
-use Rattle.std.proofs.Common.{◌≡◌, ℕ, ◌^◌, ◌<◌, ◌≤◌, Bool, true, false, List, [], ◌∷◌, ◌++◌, length, map, Option, Some, None, refl, ◌∙◌, subst, inl, inr}
+use Rattle.std.proofs.Common.{◌≡◌, ℕ, Bool, true, false, List, [], ◌∷◌, ◌++◌, map, Option, Some, None, refl, ◌∙◌, subst, inl, inr}
 use Rattle.std.specs.Prelude.{not, ◌&&◌, ◌||◌, if◌then◌else◌}
 use Rattle.std.specs.List.{AllByRecursion}
 use Rattle.std.proofs.lemmas.Bool.{cases_Bool}
 use Rattle.std.proofs.Math.Bool.{and-true}
 use Rattle.std.proofs.lemmas.List.Folds.{list_any-append}
 use Rattle.acpi_base.specs.Signature.{has_signature}
-use Rattle.acpi_base.specs.Entries.{cut_of}
 use Rattle.acpi_base.specs.Fadt.{IsSoundFadtTable}
-use Rattle.acpi_base.specs.Listed.{fadt_signature, madt_signature, srat_signature, slit_signature, pptt_signature}
-use Rattle.acpi_write.specs.Laws.{AreByteValues}
+use Rattle.acpi_base.specs.Listed.{fadt_signature}
+use Rattle.acpi_base.specs.TableKinds.{signature_of}
+use Rattle.acpi_base.specs.declared.table_kind.TableKind.{TableKind}
+use Rattle.acpi_write.specs.Bodies.{IsReadableAs}
 use Rattle.acpi_write.specs.Kinds.{is_among}
-use Rattle.acpi_write.specs.Rebuilt.{encoded_bytes_with}
 use Rattle.acpi_write.specs.SetValues.{is_first, values_of}
-use Rattle.acpi_write.specs.Views.{IsWholeTable}
+use Rattle.acpi_write.proofs.TablesWritten.KeptContents.{IsCleanTable}
+use Rattle.acpi_write.specs.Encoded.{encoded_bytes_with}
 
 -- ---- definitions
 
@@ -22,20 +23,12 @@ unfoldable pub first_table_with : List ℕ → List (List ℕ) → Option (List 
 first_table_with signature [] = None
 first_table_with signature (t ∷ ts) = if has_signature t signature then Some t else first_table_with signature ts
 
--- a whole table in bytes, whose Length has 32 bits
-pub record IsCleanTable (whole : List ℕ) : Type 0 where
-  pub table : IsWholeTable whole
-  pub bytes : AreByteValues whole
-  pub small : length whole < 2 ^ 32
-
--- the tables are, and the first of each kind can be read by its contents; the first FADT is sound
+-- tables are whole, the first of each kind can be read by its contents, and the first FADT is sound
 pub record AreCleanTables (ts : List (List ℕ)) : Type 0 where
   pub each : AllByRecursion IsCleanTable ts
-  pub fadt : (t : List ℕ) → first_table_with fadt_signature ts ≡ Some t → IsSoundFadtTable t
-  pub madt : (t : List ℕ) → first_table_with madt_signature ts ≡ Some t → (44 ≤ length t) × (cut_of 44 t ≡ None)
-  pub srat : (t : List ℕ) → first_table_with srat_signature ts ≡ Some t → (48 ≤ length t) × (cut_of 48 t ≡ None)
-  pub slit : (t : List ℕ) → first_table_with slit_signature ts ≡ Some t → 44 ≤ length t
-  pub pptt : (t : List ℕ) → first_table_with pptt_signature ts ≡ Some t → cut_of 36 t ≡ None
+  pub readable : (kind : TableKind) (t : List ℕ) → first_table_with (signature_of kind) ts ≡ Some t
+      → IsReadableAs (Some kind) t
+  pub sound : (t : List ℕ) → first_table_with fadt_signature ts ≡ Some t → IsSoundFadtTable t
 
 -- the tables that are written for what these say, where the FACS stands at this address
 abbrev pub new_tables : ℕ → List (List ℕ) → List (List ℕ)
@@ -54,7 +47,8 @@ or_parts false true e = absurd (cc)
 or_parts true b e = absurd (cc)
 
 -- it is the first of the tables before it, itself, and those behind it
-pub first_is : (before : List (List ℕ)) (t : List ℕ) (rest : List (List ℕ)) (signature : List ℕ) → is_first before t signature ≡ true → first_table_with signature (before ++ t ∷ rest) ≡ Some t
+pub first_is : (before : List (List ℕ)) (t : List ℕ) (rest : List (List ℕ)) (signature : List ℕ)
+    → is_first before t signature ≡ true → first_table_with signature (before ++ t ∷ rest) ≡ Some t
 unfolding first_table_with
 first_is [] t rest signature is = rw ((first_parts (has_signature t signature) false is).0) refl
 first_is (b ∷ before) t rest signature is =
@@ -63,17 +57,22 @@ first_is (b ∷ before) t rest signature is =
     rw others.0 (first_is before t rest signature (rw (parts.0, others.1) refl))
 
 -- of those behind others
-pub is_behind : (before : List (List ℕ)) (t signature : List ℕ) → is_among before signature ≡ false → is_first before t signature ≡ has_signature t signature
+pub is_behind : (before : List (List ℕ)) (t signature : List ℕ) → is_among before signature ≡ false
+    → is_first before t signature ≡ has_signature t signature
 is_behind before t signature none = rw none (and-true (has_signature t signature))
 
-pub none_more : (before : List (List ℕ)) (t signature : List ℕ) → is_among before signature ≡ false → has_signature t signature ≡ false → is_among (before ++ t ∷ []) signature ≡ false
-none_more before t signature none other = list_any-append (λ x. has_signature x signature) before (t ∷ []) ∙ both none other
+pub none_more : (before : List (List ℕ)) (t signature : List ℕ) → is_among before signature ≡ false
+    → has_signature t signature ≡ false → is_among (before ++ t ∷ []) signature ≡ false
+none_more before t signature none other =
+    list_any-append (λ x. has_signature x signature) before (t ∷ []) ∙ both none other
   where
-    both : is_among before signature ≡ false → has_signature t signature ≡ false → (is_among before signature || is_among (t ∷ []) signature) ≡ false
+    both : is_among before signature ≡ false → has_signature t signature ≡ false
+        → (is_among before signature || is_among (t ∷ []) signature) ≡ false
     both none other = rw (none, other) refl
 
 -- what holds of all tables holds of the first
-pub holds_of_first : (P : List ℕ → Type 0) (signature : List ℕ) (ts : List (List ℕ)) (t : List ℕ) → AllByRecursion P ts → first_table_with signature ts ≡ Some t → P t
+pub holds_of_first : (P : List ℕ → Type 0) (signature : List ℕ) (ts : List (List ℕ)) (t : List ℕ) → AllByRecursion P ts
+    → first_table_with signature ts ≡ Some t → P t
 unfolding first_table_with
 holds_of_first P signature [] t each is = absurd (cc)
 holds_of_first P signature (u ∷ ts) t each is =
@@ -82,5 +81,6 @@ holds_of_first P signature (u ∷ ts) t each is =
       | inr other ↦ holds_of_first P signature ts t each.1 (cc)
     ]
 
-pub clean_first : (signature : List ℕ) (ts : List (List ℕ)) (t : List ℕ) → AreCleanTables ts → first_table_with signature ts ≡ Some t → IsCleanTable t
+pub clean_first : (signature : List ℕ) (ts : List (List ℕ)) (t : List ℕ) → AreCleanTables ts
+    → first_table_with signature ts ≡ Some t → IsCleanTable t
 clean_first signature ts t clean is = holds_of_first IsCleanTable signature ts t clean.each is

@@ -18,34 +18,45 @@ unfolding listed_addresses
 listed_is whole d = refl
 
 -- a slot that lists nothing is left out, and another one is not
-pub listed_skip : (root : List ℕ) (d j n : ℕ) → field root (36 + d * j) d ≡ 0 → listed_from root d j (suc n) ≡ listed_from root d (j + 1) n
+pub listed_skip : (root : List ℕ) (d j n : ℕ) → field root (36 + d * j) d ≡ 0
+    → listed_from root d j (suc n) ≡ listed_from root d (j + 1) n
 listed_skip root d j n nil = rw (eq-eqb (field root (36 + d * j) d) 0 nil) refl
 
-pub listed_take : (root : List ℕ) (d j n : ℕ) → field root (36 + d * j) d ≢ 0 → listed_from root d j (suc n) ≡ field root (36 + d * j) d ∷ listed_from root d (j + 1) n
+pub listed_take : (root : List ℕ) (d j n : ℕ) → field root (36 + d * j) d ≢ 0
+    → listed_from root d j (suc n) ≡ field root (36 + d * j) d ∷ listed_from root d (j + 1) n
 listed_take root d j n some = rw (ne_eqb (field root (36 + d * j) d) 0 some) refl
 
 -- whatever the tables of the n slots from k on are, with those found they are all tables
 abbrev pub Completes : Memory → List ℕ → ℕ → ℕ → ℕ → List (List ℕ) → Type 0
 Completes m root d k n found =
-    (rest : List (List ℕ)) → AllZip (IsWholeAt m) (listed_from root d k n) rest → AllZip (IsWholeAt m) (listed_addresses root d) (found ++ rest)
+    (rest : List (List ℕ)) → AllZip (IsWholeAt m) (listed_from root d k n) rest
+    → AllZip (IsWholeAt m) (listed_addresses root d) (found ++ rest)
 
-pub begins : (m : Memory) (root : List ℕ) (d n : ℕ) (found : List (List ℕ)) → n ≡ (length root - 36) / d → found ≡ [] → Completes m root d 0 n found
+pub begins : (m : Memory) (root : List ℕ) (d n : ℕ) (found : List (List ℕ)) → n ≡ (length root - 36) / d → found ≡ []
+    → Completes m root d 0 n found
 begins m root d n found count none rest zip =
     rw (none, listed_is root d) (subst (λ (k : ℕ). AllZip (IsWholeAt m) (listed_from root d 0 k) rest) count zip)
 
-pub skips : (m : Memory) (root : List ℕ) (d k s : ℕ) (found : List (List ℕ)) → k < s → field root (36 + d * k) d ≡ 0 → Completes m root d k (s - k) found → Completes m root d (k + 1) (s - (k + 1)) found
+pub skips : (m : Memory) (root : List ℕ) (d k s : ℕ) (found : List (List ℕ)) → k < s → field root (36 + d * k) d ≡ 0
+    → Completes m root d k (s - k) found → Completes m root d (k + 1) (s - (k + 1)) found
 skips m root d k s found below nil before rest zip =
     let n : s - k ≡ suc (s - (k + 1)) = omega arith in
-    before rest (subst (λ (xs : List ℕ). AllZip (IsWholeAt m) xs rest) (sym (ap (listed_from root d k) n ∙ listed_skip root d k (s - (k + 1)) nil)) zip)
+    before rest (subst (λ (xs : List ℕ). AllZip (IsWholeAt m) xs rest)
+    (sym (ap (listed_from root d k) n ∙ listed_skip root d k (s - (k + 1)) nil)) zip)
 
-pub takes : (m : Memory) (root : List ℕ) (d k s : ℕ) (found new : List (List ℕ)) (t : List ℕ) → k < s → field root (36 + d * k) d ≢ 0 → IsWholeAt m (field root (36 + d * k) d) t → new ≡ found ++ t ∷ []
+pub takes : (m : Memory) (root : List ℕ) (d k s : ℕ) (found new : List (List ℕ)) (t : List ℕ) → k < s
+    → field root (36 + d * k) d ≢ 0 → IsWholeAt m (field root (36 + d * k) d) t → new ≡ found ++ t ∷ []
     → Completes m root d k (s - k) found → Completes m root d (k + 1) (s - (k + 1)) new
 takes m root d k s found new t below some at pushed before rest zip =
     let n : s - k ≡ suc (s - (k + 1)) = omega arith in
-    let whole = before (t ∷ rest) (subst (λ (xs : List ℕ). AllZip (IsWholeAt m) xs (t ∷ rest)) (sym (ap (listed_from root d k) n ∙ listed_take root d k (s - (k + 1)) some)) (at, zip)) in
-    subst (AllZip (IsWholeAt m) (listed_addresses root d)) (sym (append_assoc found (t ∷ []) rest) ∙ ap (λ (f : List (List ℕ)). f ++ rest) (sym pushed)) whole
+    let whole = before (t ∷ rest)
+    (subst (λ (xs : List ℕ). AllZip (IsWholeAt m) xs (t ∷ rest))
+    (sym (ap (listed_from root d k) n ∙ listed_take root d k (s - (k + 1)) some)) (at, zip)) in
+    subst (AllZip (IsWholeAt m) (listed_addresses root d))
+    (sym (append_assoc found (t ∷ []) rest) ∙ ap (λ (f : List (List ℕ)). f ++ rest) (sym pushed)) whole
 
-pub completed : (m : Memory) (root : List ℕ) (d k s : ℕ) (found : List (List ℕ)) → s ≤ k → Completes m root d k (s - k) found → AllZip (IsWholeAt m) (listed_addresses root d) found
+pub completed : (m : Memory) (root : List ℕ) (d k s : ℕ) (found : List (List ℕ)) → s ≤ k
+    → Completes m root d k (s - k) found → AllZip (IsWholeAt m) (listed_addresses root d) found
 completed m root d k s found past before =
     let none : s - k ≡ 0 = omega arith in
     let whole = before [] (subst (λ (n : ℕ). AllZip (IsWholeAt m) (listed_from root d k n) []) (sym none) tt) in

@@ -1,84 +1,60 @@
 -- The parts of what a clean set says are as long as their places are counted from.
-use Rattle.std.proofs.Common.{◌≡◌, ℕ, suc, ◌+◌, ◌*◌, ◌<◌, ◌≤◌, List, [], ◌∷◌, ◌++◌, length, get_or, take, drop, map, flat_map, Option, Some, None, refl, sym, ap, ◌∙◌, subst, arith, append_assoc, append-nil, length-append, length-drop}
+use Rattle.std.proofs.Common.{◌≡◌, ℕ, suc, ◌+◌, ◌*◌, ◌<◌, ◌≤◌, List, [], ◌∷◌, ◌++◌, length, get_or, take, drop, map, flat_map, Option, refl, sym, ap, ◌∙◌, subst, arith, append_assoc, append-nil, length-append, length-drop}
 use Rattle.std.specs.Prelude.{slice_index}
 use Rattle.std.specs.List.{All, AllZip}
 use Rattle.std.proofs.lemmas.List.{length-map, length-take-le, map-append}
 use Rattle.std.proofs.lemmas.List.Elements.{All-nil, All-cons}
 use Rattle.acpi_base.specs.Memory.{Memory}
 use Rattle.acpi_base.specs.Number.{number_bytes}
-use Rattle.acpi_base.specs.Header.{HeadValue, header_of, header_bytes, head_of}
-use Rattle.acpi_base.specs.Listed.{fadt_signature, madt_signature, srat_signature, slit_signature, pptt_signature}
 use Rattle.acpi_base.specs.Signature.{xsdt_signature}
 use Rattle.acpi_base.specs.Tables.{IsTable}
 use Rattle.acpi_base.proofs.Images.HeldBytes.{length-bytes_at}
 use Rattle.acpi_base.proofs.Layouts.RoundTrip.{length-number_bytes}
 use Rattle.acpi_base.proofs.Tables.Whole.{length-table}
-use Rattle.acpi_write.specs.Encoded.{table_bytes, body_of, encoded_length}
-use Rattle.acpi_write.specs.FadtBody.{with_facs}
-use Rattle.acpi_write.specs.Kinds.{IsReadableAs, table_value_as, IsKindBehind}
-use Rattle.acpi_write.specs.Rebuilt.{aligned_address, blocks_from, block_places, option_list, part_lengths, part_places, part_bytes, facs_place, table_places, rsdp_bytes, encoded_bytes_with, CleanPartsAreLaid}
+use Rattle.acpi_write.specs.Encoded.{table_bytes, encoded_length, encoded_bytes_with}
+use Rattle.acpi_write.specs.Kinds.{IsKindBehind}
+use Rattle.acpi_write.specs.Rebuilt.{aligned_address, blocks_from, block_places, option_list, part_lengths, part_places, part_bytes, facs_place, table_places, rsdp_bytes, CleanPartsAreLaid}
 use Rattle.acpi_write.specs.SetValues.{IsWholeAt, table_value_behind, values_behind}
 use Rattle.acpi_write.specs.Values.{TableValue, SetValue}
 use Rattle.acpi_base.specs.declared.table_kind.TableKind.{TableKind}
-use Rattle.acpi_base.specs.declared.table_kind.TableKind.TheVariants as kind
+use Rattle.acpi_write.specs.Bodies.{IsReadableAs}
 use Rattle.acpi_write.proofs.OldSets.CleanSets.{clean_readable}
-use Rattle.acpi_write.proofs.TablesWritten.FadtBodies.{length-with_facs}
 use Rattle.acpi_write.proofs.NewSets.NewImage.{length-block_places}
 use Rattle.acpi_write.proofs.NewSets.NewRoot.{length-slots}
 use Rattle.acpi_write.proofs.OldSets.ValuesBehind.{kind_found}
+use Rattle.acpi_write.proofs.TablesWritten.KeptContents.{length-encoded_bytes_with}
+use Rattle.acpi_write.proofs.TablesWritten.WholeTables.{HasWidths, widths_of, length-table_bytes}
 
 -- blocks are laid at the places that are counted from their lengths
-laid_at_places : (a : ℕ) (blocks : List (List ℕ)) → map (λ p. p.address) (blocks_from a blocks) ≡ block_places a (map length blocks)
+laid_at_places : (a : ℕ) (blocks : List (List ℕ))
+    → map (λ p. p.address) (blocks_from a blocks) ≡ block_places a (map length blocks)
 unfolding blocks_from block_places
 laid_at_places a [] = refl
 laid_at_places a (b ∷ bs) = ap (λ (xs : List ℕ). a ∷ xs) (laid_at_places (aligned_address (a + length b)) bs)
 
 -- ---- tables
 
--- the names in a head have their widths
-record HasWidths (head : HeadValue) : Type 0 where
-  oemid : length head.oemid ≡ 6
-  oem_table_id : length head.oem_table_id ≡ 8
-
-widths_of : (whole : List ℕ) → 36 ≤ length whole → HasWidths (head_of whole)
-unfolding header_of
-widths_of whole long = record {
-  oemid = length-take-le 6 (drop 10 whole) (omega (arith, long, length-drop 10 whole));
-  oem_table_id = length-take-le 8 (drop 16 whole) (omega (arith, long, length-drop 16 whole));
-}
-
-length-table_bytes : (signature : List ℕ) (head : HeadValue) (body : List ℕ) → length signature ≡ 4 → HasWidths head → length (table_bytes signature head body) ≡ 36 + length body
-unfolding table_bytes header_bytes
-length-table_bytes signature head body four widths = simp (length-append, length-number_bytes, four, widths.oemid, widths.oem_table_id) (omega arith)
-
--- what a table says is written in as many bytes as are counted on, wherever the FACS stands
-length-encoded_bytes_with : (facs : ℕ) (o : Option TableKind) (whole : List ℕ) → 36 ≤ length whole → IsReadableAs o whole → length (encoded_bytes_with facs (table_value_as o whole)) ≡ encoded_length (table_value_as o whole)
-length-encoded_bytes_with facs (Some kind.Fadt) whole long readable =
-    let body = with_facs (drop 36 whole) 0 in
-    let behind = length-drop 36 whole in
-    let cleared = length-with_facs (drop 36 whole) 0 (omega (arith, behind, readable)) in
-    let named = length-with_facs body facs (omega (arith, behind, cleared, readable)) in
-    length-table_bytes fadt_signature (head_of whole) (with_facs body facs) refl (widths_of whole long) ∙ ap (λ (n : ℕ). 36 + n) named
-length-encoded_bytes_with facs (Some kind.Madt) whole long readable = length-table_bytes madt_signature (head_of whole) (body_of (table_value_as (Some kind.Madt) whole)) refl (widths_of whole long)
-length-encoded_bytes_with facs (Some kind.Srat) whole long readable = length-table_bytes srat_signature (head_of whole) (body_of (table_value_as (Some kind.Srat) whole)) refl (widths_of whole long)
-length-encoded_bytes_with facs (Some kind.Slit) whole long readable = length-table_bytes slit_signature (head_of whole) (body_of (table_value_as (Some kind.Slit) whole)) refl (widths_of whole long)
-length-encoded_bytes_with facs (Some kind.Pptt) whole long readable = length-table_bytes pptt_signature (head_of whole) (body_of (table_value_as (Some kind.Pptt) whole)) refl (widths_of whole long)
-length-encoded_bytes_with facs None whole long readable = omega (arith, long, length-drop 36 whole)
-
 -- of tables behind others
 lengths_behind : (facs : ℕ) (before ts : List (List ℕ)) → All (λ t. 36 ≤ length t) ts
-    → ((k : ℕ) (none : List ℕ) → k < length ts → (kind : Option TableKind) → IsKindBehind (before ++ take k ts) (get_or ts k none) kind → IsReadableAs kind (get_or ts k none))
-    → map length (map (encoded_bytes_with facs) (values_behind before ts)) ≡ map encoded_length (values_behind before ts)
+    → ((k : ℕ) (none : List ℕ) → k < length ts → (kind : Option TableKind)
+    → IsKindBehind (before ++ take k ts) (get_or ts k none) kind → IsReadableAs kind (get_or ts k none))
+    → map length (map (encoded_bytes_with facs) (values_behind before ts)) ≡ map encoded_length
+    (values_behind before ts)
 unfolding values_behind
 lengths_behind facs before [] long readable = refl
 lengths_behind facs before (t ∷ ts) long readable =
     let Fits : TableValue → Type 0 = λ v. length (encoded_bytes_with facs v) ≡ encoded_length v in
     let alone : before ++ [] ≡ before = append-nil before in
     let found = kind_found before t in
-    let first = readable 0 t (omega arith) found.0 (subst (λ (b : List (List ℕ)). IsKindBehind b t found.0) (sym alone) found.1) in
-    let here : Fits (table_value_behind before t) = subst Fits (sym found.2) (length-encoded_bytes_with facs found.0 t (long 0 t (omega arith)) first) in
-    let rest = lengths_behind facs (before ++ t ∷ []) ts (λ k d h. long (suc k) d (omega (arith, h))) (λ k none h kind is.
-    readable (suc k) none (omega (arith, h)) kind (subst (λ (b : List (List ℕ)). IsKindBehind b (get_or ts k none) kind) (append_assoc before (t ∷ []) (take k ts)) is)) in
+    let first = readable 0 t (omega arith) found.0
+    (subst (λ (b : List (List ℕ)). IsKindBehind b t found.0) (sym alone) found.1) in
+    let here : Fits (table_value_behind before t) = subst Fits (sym found.2)
+    (length-encoded_bytes_with facs found.0 t (long 0 t (omega arith)) first) in
+    let rest = lengths_behind facs (before ++ t ∷ []) ts (λ k d h. long (suc k) d (omega (arith, h)))
+    (λ k none h kind is.
+    readable (suc k) none (omega (arith, h)) kind
+    (subst (λ (b : List (List ℕ)). IsKindBehind b (get_or ts k none) kind)
+    (append_assoc before (t ∷ []) (take k ts)) is)) in
     λ i. here i ∷ rest i
 
 table_long : (m : Memory) (a : ℕ) (header whole : List ℕ) → IsTable m a header whole → 36 ≤ length whole
@@ -91,7 +67,8 @@ all_long : (m : Memory) (xs : List ℕ) (ts : List (List ℕ)) → AllZip (IsWho
 all_long m [] [] zip = All-nil (λ t. 36 ≤ length t)
 all_long m [] (t ∷ ts) zip = absurd zip
 all_long m (x ∷ xs) [] zip = absurd zip
-all_long m (x ∷ xs) (t ∷ ts) zip = All-cons (λ t. 36 ≤ length t) t ts (table_long m x zip.0.0 t zip.0.1) (all_long m xs ts zip.1)
+all_long m (x ∷ xs) (t ∷ ts) zip =
+    All-cons (λ t. 36 ≤ length t) t ts (table_long m x zip.0.0 t zip.0.1) (all_long m xs ts zip.1)
 
 -- ---- the RSDP and the XSDT
 
@@ -105,23 +82,36 @@ length-table_places v base =
     let facs = map length (option_list v.facs) in
     let tables = map encoded_length v.tables in
     let all = length-block_places base (part_lengths v) in
-    omega (arith, all, length-drop (2 + length (option_list v.facs)) (part_places v base), length-append facs tables, length-map (option_list v.facs) length, length-map v.tables encoded_length)
+    omega (
+      arith,
+      all,
+      length-drop (2 + length (option_list v.facs)) (part_places v base),
+      length-append facs tables,
+      length-map (option_list v.facs) length,
+      length-map v.tables encoded_length,
+    )
 
 pub clean_parts_are_laid : CleanPartsAreLaid
 clean_parts_are_laid m q v base clean said =
     let facs = facs_place v base in
-    let readable = clean_readable m q said.r said.d said.root_bytes said.tables clean said.root said.root_table said.each in
+    let readable = clean_readable m q said.r said.d said.root_bytes said.tables clean said.root said.root_table
+    said.each in
     let tables : map length (map (encoded_bytes_with facs) v.tables) ≡ map encoded_length v.tables =
     subst (λ ts. map length (map (encoded_bytes_with facs) ts) ≡ map encoded_length ts) (sym said.values)
-    (lengths_behind facs [] said.tables (all_long m _ said.tables said.each) (λ k none h. (readable k none h).readable)) in
-    let behind = map-append length (option_list v.facs) (map (encoded_bytes_with facs) v.tables) ∙ ap (λ (ns : List ℕ). map length (option_list v.facs) ++ ns) tables in
+    (lengths_behind facs [] said.tables (all_long m _ said.tables said.each)
+    (λ k none h. (readable k none h).readable)) in
+    let behind = map-append length (option_list v.facs) (map (encoded_bytes_with facs) v.tables)
+    ∙ ap (λ (ns : List ℕ). map length (option_list v.facs) ++ ns) tables in
     let count = length-bytes_at m q.rsdp 20 said.head said.head_held in
-    let six : length v.oemid ≡ 6 = ap length said.oemid ∙ length-take-le 6 (drop 9 said.head) (omega (arith, count, length-drop 9 said.head)) in
-    let rsdp : length (rsdp_bytes v.oemid (slice_index (part_places v base) 1)) ≡ 36 = length-rsdp_bytes v.oemid (slice_index (part_places v base) 1) six in
+    let six : length v.oemid ≡ 6 = ap length said.oemid ∙ length-take-le 6 (drop 9 said.head)
+    (omega (arith, count, length-drop 9 said.head)) in
+    let rsdp : length (rsdp_bytes v.oemid (slice_index (part_places v base) 1)) ≡ 36 =
+    length-rsdp_bytes v.oemid (slice_index (part_places v base) 1) six in
     let long = table_long m said.r said.root_table.header said.root_bytes said.root_table.table in
     let slots = flat_map (number_bytes 8) (table_places v base) in
     let widths = subst HasWidths (sym said.root_head) (widths_of said.root_bytes long) in
     let xsdt : length (table_bytes xsdt_signature v.root slots) ≡ 36 + 8 * length v.tables =
-    length-table_bytes xsdt_signature v.root slots refl widths ∙ omega (arith, length-slots (table_places v base), length-table_places v base) in
+    length-table_bytes xsdt_signature v.root slots refl widths
+    ∙ omega (arith, length-slots (table_places v base), length-table_places v base) in
     let lengths : map length (part_bytes v base) ≡ part_lengths v = λ i. rsdp i ∷ xsdt i ∷ behind i in
     record { lengths = lengths; places = laid_at_places base (part_bytes v base) ∙ ap (block_places base) lengths }

@@ -26,7 +26,8 @@ head_sum oemid c = simp (sum-append, sum-cons) (omega arith)
 tail_sum : (head : List ℕ) (xsdt c : ℕ) → sum (head ++ rsdp_tail xsdt c) ≡ sum (head ++ rsdp_tail xsdt 0) + c
 tail_sum head xsdt c = simp (sum-append, sum-cons) (omega arith)
 
-of_six : (xsdt a b c d e f : ℕ) → xsdt < 2 ^ 64 → IsWrittenRsdp (a ∷ b ∷ c ∷ d ∷ e ∷ f ∷ []) xsdt (rsdp_bytes (a ∷ b ∷ c ∷ d ∷ e ∷ f ∷ []) xsdt)
+of_six : (xsdt a b c d e f : ℕ) → xsdt < 2 ^ 64
+    → IsWrittenRsdp (a ∷ b ∷ c ∷ d ∷ e ∷ f ∷ []) xsdt (rsdp_bytes (a ∷ b ∷ c ∷ d ∷ e ∷ f ∷ []) xsdt)
 unfolding rsdp_bytes has_signature field number_bytes
 of_six xsdt a b c d e f fits =
     let oemid : List ℕ = a ∷ b ∷ c ∷ d ∷ e ∷ f ∷ [] in
@@ -46,12 +47,14 @@ of_six xsdt a b c d e f fits =
       xsdt_is = number_there 24 8 xsdt whole (checksum_of opened_whole ∷ 0 ∷ 0 ∷ 0 ∷ []) refl (omega (arith, fits));
     }
 
-pub rsdp_written : (oemid : List ℕ) (xsdt : ℕ) → length oemid ≡ 6 → xsdt < 2 ^ 64 → IsWrittenRsdp oemid xsdt (rsdp_bytes oemid xsdt)
+pub rsdp_written : (oemid : List ℕ) (xsdt : ℕ) → length oemid ≡ 6 → xsdt < 2 ^ 64
+    → IsWrittenRsdp oemid xsdt (rsdp_bytes oemid xsdt)
 rsdp_written (a ∷ b ∷ c ∷ d ∷ e ∷ f ∷ []) xsdt h fits = of_six xsdt a b c d e f fits
 rsdp_written _ xsdt h fits = absurd (omega arith)
 
 -- a head and its tail, as they are put together
-pub tail_appended : (xsdt checksum : ℕ) (head x1 x2 size address : List ℕ) → x1 ≡ head ++ size → size ≡ number_bytes 4 36 → x2 ≡ x1 ++ address → address ≡ number_bytes 8 xsdt
+pub tail_appended : (xsdt checksum : ℕ) (head x1 x2 size address : List ℕ) → x1 ≡ head ++ size
+    → size ≡ number_bytes 4 36 → x2 ≡ x1 ++ address → address ≡ number_bytes 8 xsdt
     → x2 ++ checksum ∷ 0 ∷ 0 ∷ 0 ∷ [] ≡ head ++ rsdp_tail xsdt checksum
 tail_appended xsdt checksum head x1 x2 size address e s f a =
     let last : List ℕ = checksum ∷ 0 ∷ 0 ∷ 0 ∷ [] in

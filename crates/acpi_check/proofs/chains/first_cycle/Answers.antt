@@ -8,12 +8,14 @@ parents_of-requires c = linked c.args.chain c.args.pptt.now c.in_ok-nodes.nodes 
 
 pub first_stray-requires : goal.first_stray-requires
 first_stray-requires c =
-    rw (c.deref.ensures.value) (ready c.args.chain c.args.pptt.now c.in_ok-nodes.nodes c.in_ok-parents.parents.items c.in_ok-nodes.ensures c.in_ok-parents.ensures)
+    rw (c.deref.ensures.value) (ready c.args.chain c.args.pptt.now c.in_ok-nodes.nodes c.in_ok-parents.parents.items
+    c.in_ok-nodes.ensures c.in_ok-parents.ensures)
 
 pub returns-in-None : goal.returns-in-None
 returns-in-None c =
     let e = rw c.deref.ensures.value at c.in_ok-found.ensures in
-    rw c.in-None.is at (cycle_found c.args.chain c.args.pptt.now c.in_ok-nodes.nodes c.in_ok-parents.parents.items c.in_ok-nodes.ensures c.in_ok-parents.ensures c.in_ok-found.found e.none e.first e.within)
+    rw c.in-None.is at (cycle_found c.args.chain c.args.pptt.now c.in_ok-nodes.nodes c.in_ok-parents.parents.items
+    c.in_ok-nodes.ensures c.in_ok-parents.ensures c.in_ok-found.found e.none e.first e.within)
 
 pub returns : goal.returns
 returns c =
@@ -22,7 +24,10 @@ returns c =
     let node = c.in-Round.node in
     let e = rw c.deref.ensures.value at c.in_ok-found.ensures in
     let first = rw c.in-Round.is at e.first in
-    let cycle = rw c.in-Round.is at (cycle_found c.args.chain c.args.pptt.now nodes parents c.in_ok-nodes.ensures c.in_ok-parents.ensures c.in_ok-found.found e.none e.first e.within) in
-    let inside = has_offset c.args.chain c.args.pptt.now nodes parents c.in_ok-nodes.ensures c.in_ok-parents.ensures node c.in-Round.lead c.in-Round.round first in
+    let cycle = rw c.in-Round.is at
+    (cycle_found c.args.chain c.args.pptt.now nodes parents c.in_ok-nodes.ensures c.in_ok-parents.ensures
+    c.in_ok-found.found e.none e.first e.within) in
+    let inside = has_offset c.args.chain c.args.pptt.now nodes parents c.in_ok-nodes.ensures c.in_ok-parents.ensures
+    node c.in-Round.lead c.in-Round.round first in
     let place = c.index.ensures ∙ get_or_default nodes.offsets.items node c.index.result.now 0 inside in
     (c.code_of.ensures, rw place cycle)

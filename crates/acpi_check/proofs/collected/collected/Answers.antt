@@ -4,10 +4,12 @@ use Rattle.acpi_check.proofs.collected.collected.Goals as goal
 
 pub loop-entry-preserved-in-Continue-1 : goal.loop-entry-preserved-in-Continue-1
 loop-entry-preserved-in-Continue-1 g c =
-    rw c.in_ok-push.ensures.items (one_kept (rw c.in-Some.ensures.steps.0 at c.loop-entry.invariant) (_, refl, c.in-Some-pick.ensures))
+    rw c.in_ok-push.ensures.items
+    (one_kept (rw c.in-Some.ensures.steps.0 at c.loop-entry.invariant) (_, refl, c.in-Some-pick.ensures))
 
 pub loop-entry-preserved : goal.loop-entry-preserved
-loop-entry-preserved g c = one_passed (rw c.in-Some.ensures.steps.0 at c.loop-entry.invariant) (_, refl, c.in_default.ensures)
+loop-entry-preserved g c =
+    one_passed (rw c.in-Some.ensures.steps.0 at c.loop-entry.invariant) (_, refl, c.in_default.ensures)
 
 pub returns : goal.returns
 returns g c = all_collected c.loop-entry.invariant c.in-None.ensures.steps.0

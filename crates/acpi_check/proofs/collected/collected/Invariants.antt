@@ -1,10 +1,11 @@
 use Rattle.acpi_base.specs.Entries.{entries_read_by}
-use Rattle.acpi_check.specs.Collected.{Picks}
+use Rattle.acpi_check.specs.CollectedValues.{Picks}
 use Rattle.acpi_check.proofs.EntryPasses.Collecting.{IsCollecting}
 use Rattle.acpi_check.proofs.collected.collected.Given as goal
 
 -- what is collected so far is what `pick` gives of the entries before those left
 abbrev pub invariant-loop-entry : goal.invariant-loop-entry
 invariant-loop-entry g l =
-    IsCollecting (Picks g.E.TableEntry.value (goal.F-post g l.pick)) (entries_read_by g.E.TableEntry.said_by l.fn.entries.entries.entries)
+    IsCollecting (Picks g.E.TableEntry.value (goal.F-post g l.pick))
+    (entries_read_by g.E.TableEntry.said_by l.fn.entries.entries.entries)
     (entries_read_by g.E.TableEntry.said_by l.entry-iterator.entries.entries) l.found.items

@@ -1,21 +1,33 @@
+use Rattle.std.proofs.Common.{◌∙◌}
+use Rattle.std.proofs.lemmas.List.{get_or_default}
 use Rattle.acpi_base.specs.Madt.{madt_contents}
 use Rattle.acpi_base.specs.Srat.{srat_contents}
-use Rattle.acpi_check.proofs.ProcessorNumbers.DomainsFaults.{domains_found}
-use Rattle.acpi_check.proofs.EntryPasses.Passes.{refused}
+use Rattle.acpi_check.proofs.ProcessorNumbers.DomainsFaults.{one_domain_each, two_domains}
 use Rattle.acpi_check.proofs.ProcessorNumbers.Placements.{processors_rise, one_domain}
 use Rattle.acpi_check.proofs.domains.one_domain.Goals as goal
 
 pub do_agree-requires : goal.do_agree-requires
-do_agree-requires c = rw (c.deref.ensures.value) (processors_rise c.sort_unstable.new.self.items c.sort_unstable.ensures.sorted)
+do_agree-requires c =
+    rw (c.deref.ensures.value) (processors_rise c.sort_unstable.new.self.items c.sort_unstable.ensures.sorted)
 
 pub returns-then-do_agree : goal.returns-then-do_agree
 returns-then-do_agree c =
-    one_domain c.args.processors (madt_contents c.args.madt.now) (srat_contents c.args.srat.now) c.in_ok-placements.placements.items c.sort_unstable.new.self.items c.in_ok-placements.ensures c.sort_unstable.ensures.permutation
+    one_domain c.args.processors (madt_contents c.args.madt.now) (srat_contents c.args.srat.now)
+    c.in_ok-placements.placements.items c.sort_unstable.new.self.items c.in_ok-placements.ensures
+    c.sort_unstable.ensures.permutation
     (rw c.deref.ensures.value at c.if-do_agree.ensures)
+
+pub returns-in-None : goal.returns-in-None
+returns-in-None c =
+    one_domain_each c.args.processors (madt_contents c.args.madt.now) (srat_contents c.args.srat.now)
+    c.in_ok-numbers.numbers.items c.in_ok-numbers.ensures
+    (rw (c.deref-2.ensures.value, c.in-None.is) at c.in_ok-first_other_domain.ensures.found)
 
 pub returns : goal.returns
 returns c =
-    let found = c.in_ok-first_other_domain.field-0 in
-    refused _ _ _ found c.refuse.result c.refuse.ensures
-    (domains_found c.args.processors (madt_contents c.args.madt.now) (srat_contents c.args.srat.now) c.in_ok-numbers.numbers.items c.in_ok-numbers.ensures found
-    (rw c.deref-2.ensures.value at c.in_ok-first_other_domain.ensures))
+    let numbers = c.in_ok-numbers.numbers.items in
+    let found = rw (c.deref-2.ensures.value, c.in-Some.is) at c.in_ok-first_other_domain.ensures.found in
+    let inside = rw (c.deref-2.ensures.value, c.in-Some.is) at c.in_ok-first_other_domain.ensures.inside in
+    rw (c.index.ensures ∙ get_or_default numbers c.in-Some.found.key c.index.result.now 0 inside)
+    (two_domains c.args.processors (madt_contents c.args.madt.now) (srat_contents c.args.srat.now) numbers
+    c.in_ok-numbers.ensures c.in-Some.found inside found)

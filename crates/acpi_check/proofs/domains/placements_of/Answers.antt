@@ -7,4 +7,5 @@ use Rattle.acpi_check.proofs.ProcessorNumbers.Placements.{are_placements}
 use Rattle.acpi_check.proofs.domains.placements_of.Goals as goal
 
 pub returns : goal.returns
-returns c = gathered_same srat_value (λ s. placement_of s.entry) _ c.collected.result c.collected.ensures c.entries.ensures.entries (λ at picked answers. search rules) (are_placements (srat_contents c.args.srat.now))
+returns c = gathered_same srat_value (λ s. placement_of s.entry) _ c.collected.result c.collected.ensures
+    c.entries.ensures.entries (λ at picked answers. search rules) (are_placements (srat_contents c.args.srat.now))

@@ -8,8 +8,10 @@ use Rattle.acpi_check.proofs.facs.sound_facs.Goals as goal
 
 pub returns-in-Ok : goal.returns-in-Ok
 returns-in-Ok c = λ q clean is.
-    let read = c.in-Ok.ensures in
-    (facs_sound c.args.image.now q.rsdp c.args.fadt.now is (read.ok.0 refl), facs_named c.args.image.now c.args.fadt.now c.in-Ok.facs (λ none. (read.none.0 (ap Ok none)).1) read.some)
+    let read = c.in-Ok.ensures in (
+      facs_sound c.args.image.now q.rsdp c.args.fadt.now is (read.ok.0 refl),
+      facs_named c.args.image.now c.args.fadt.now c.in-Ok.facs (λ none. (read.none.0 (ap Ok none)).1) read.some,
+    )
 
 pub returns-in-Err : goal.returns-in-Err
 returns-in-Err c = λ q clean is.

@@ -10,10 +10,12 @@ loop-range-preserved c = (
   λ k below.
       elim (cases_lt k c.loop-range.place) [
         | inl before ↦ c.loop-range.invariant.1 k before
-        | inr behind ↦ in_this c.args.ranges.now c.loop-range.range-index _ _ (omega arith) (c.end_in_range-place.ensures.covers k behind below)
+        | inr behind ↦ in_this c.args.ranges.now c.loop-range.range-index _ _ (omega arith)
+            (c.end_in_range-place.ensures.covers k behind below)
       ],
 )
 
 pub returns : goal.returns
 returns c =
-    λ all. all_held c.args.ranges.now c.args.numbers.now (λ k within. c.loop-range.invariant.1 k (grind (arith, nat_tests, all, within)))
+    λ all. all_held c.args.ranges.now c.args.numbers.now
+    (λ k within. c.loop-range.invariant.1 k (grind (arith, nat_tests, all, within)))

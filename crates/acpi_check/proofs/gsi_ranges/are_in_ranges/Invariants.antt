@@ -4,4 +4,5 @@ use Rattle.acpi_check.proofs.gsi_ranges.are_in_ranges.Given as goal
 
 -- the numbers before the place are in ranges
 abbrev pub invariant-loop-range : goal.invariant-loop-range
-invariant-loop-range l = (l.place ≤ length l.numbers) × ((k : ℕ) → k < l.place → IsInRanges l.ranges (get_or l.numbers k 0))
+invariant-loop-range l =
+    (l.place ≤ length l.numbers) × ((k : ℕ) → k < l.place → IsInRanges l.ranges (get_or l.numbers k 0))

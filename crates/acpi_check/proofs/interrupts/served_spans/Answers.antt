@@ -7,7 +7,17 @@ use Rattle.acpi_check.proofs.Spans.ServedSpans.{served_spans}
 use Rattle.acpi_check.proofs.interrupts.served_spans.Goals as goal
 
 pub collected-requires : goal.collected-requires
-collected-requires c = λ _. ((refl, tt), λ at here _ _ _ _. omega (arith, c.entries.ensures.size, madt_inside c.args.madt.now _ (rw c.entries.ensures.entries at here)))
+collected-requires c =
+    λ _. (
+      (refl, tt),
+      λ at here _ _ _ _. omega (
+        arith,
+        c.entries.ensures.size,
+        madt_inside c.args.madt.now _ (rw c.entries.ensures.entries at here),
+      ),
+    )
 
 pub returns : goal.returns
-returns c = gathered madt_value span_value (λ s. served_span c.args.policy.now s.offset s.entry) _ c.collected.result c.collected.ensures c.entries.ensures.entries (λ at picked here answers. search rules) (served_spans c.args.policy.now c.args.madt.now)
+returns c = gathered madt_value span_value (λ s. served_span c.args.policy.now s.offset s.entry) _ c.collected.result
+    c.collected.ensures c.entries.ensures.entries (λ at picked here answers. search rules)
+    (served_spans c.args.policy.now c.args.madt.now)

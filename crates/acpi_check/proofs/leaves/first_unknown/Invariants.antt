@@ -7,4 +7,6 @@ use Rattle.acpi_check.proofs.leaves.first_unknown.Given as goal
 
 -- the leaves so far are known, and the entries left are the rest of the table's
 abbrev pub invariant-loop-at : goal.invariant-loop-at
-invariant-loop-at l = IsAt (Contains l.fn.uids) leaf_id (pptt_contents l.fn.pptt).entries (entries_read_by pptt_entry l.entries.entries.entries)
+invariant-loop-at l =
+    IsAt (Contains l.fn.uids) leaf_id (pptt_contents l.fn.pptt).entries
+    (entries_read_by pptt_entry l.entries.entries.entries)

@@ -9,21 +9,29 @@ use Rattle.acpi_check.proofs.leaves.known_leaves.Goals.{then-header-lt-HAS_LEAVE
 
 pub returns-then-header-lt-HAS_LEAVES : goal.returns-then-header-lt-HAS_LEAVES
 returns-then-header-lt-HAS_LEAVES c =
-    let is : c.header.result.revision ≡ (pptt_contents c.args.pptt.now).revision = ap (λ (h : HeaderValue). h.revision) c.header.ensures ∙ revision c.args.pptt.now in
+    let is : c.header.result.revision ≡ (pptt_contents c.args.pptt.now).revision =
+    ap (λ (h : HeaderValue). h.revision) c.header.ensures ∙ revision c.args.pptt.now in
     λ recent typed.
     elim c.then-header-lt-HAS_LEAVES.branch [
-      | then-header-lt-HAS_LEAVES-via-then-header-lt-HAS_LEAVES w ↦ absurd (omega (arith, w.if-header-lt-HAS_LEAVES.true))
-      | then-header-lt-HAS_LEAVES-via-else-header-lt-HAS_LEAVES+then-not-is_wholly_typed w ↦ absurd (w.if-not-is_wholly_typed.ensures typed)
+      | then-header-lt-HAS_LEAVES-via-then-header-lt-HAS_LEAVES w ↦
+          absurd (omega (arith, w.if-header-lt-HAS_LEAVES.true))
+      | then-header-lt-HAS_LEAVES-via-else-header-lt-HAS_LEAVES+then-not-is_wholly_typed w ↦
+          absurd (w.if-not-is_wholly_typed.ensures typed)
     ]
 
 pub returns-then-is_sorted_subset : goal.returns-then-is_sorted_subset
 returns-then-is_sorted_subset c =
-    all_known (madt_contents c.args.madt.now) (pptt_contents c.args.pptt.now) c.in_ok-uids.uids.items c.in_ok-leaf_ids.field-0.items c.sorted_unique-ids.result.items c.in_ok-uids.ensures c.in_ok-leaf_ids.ensures c.sorted_unique-ids.ensures.same
+    all_known (madt_contents c.args.madt.now) (pptt_contents c.args.pptt.now) c.in_ok-uids.uids.items
+    c.in_ok-leaf_ids.field-0.items c.sorted_unique-ids.result.items c.in_ok-uids.ensures c.in_ok-leaf_ids.ensures
+    c.sorted_unique-ids.ensures.same
     ((rw (c.deref.ensures.value, c.deref-2.ensures.value) at c.if-is_sorted_subset.ensures) refl)
 
 pub returns : goal.returns
 returns c =
-    let is : c.header.result.revision ≡ (pptt_contents c.args.pptt.now).revision = ap (λ (h : HeaderValue). h.revision) c.header.ensures ∙ revision c.args.pptt.now in
+    let is : c.header.result.revision ≡ (pptt_contents c.args.pptt.now).revision =
+    ap (λ (h : HeaderValue). h.revision) c.header.ensures ∙ revision c.args.pptt.now in
     refused _ _ _ c.first_unknown.result c.refuse.result c.refuse.ensures
-    (leaves_found (madt_contents c.args.madt.now) (pptt_contents c.args.pptt.now) c.in_ok-uids.uids.items c.in_ok-uids.ensures (omega (arith, c.if-header-lt-HAS_LEAVES.false)) c.if-not-is_wholly_typed.ensures c.first_unknown.result
+    (leaves_found (madt_contents c.args.madt.now) (pptt_contents c.args.pptt.now) c.in_ok-uids.uids.items
+    c.in_ok-uids.ensures (omega (arith, c.if-header-lt-HAS_LEAVES.false)) c.if-not-is_wholly_typed.ensures
+    c.first_unknown.result
     (rw c.deref-3.ensures.value at c.first_unknown.ensures))

@@ -5,4 +5,5 @@ use Rattle.acpi_check.proofs.EntryPasses.Collecting.{gathered_same}
 use Rattle.acpi_check.proofs.leaves.leaf_ids.Goals as goal
 
 pub returns : goal.returns
-returns c = gathered_same pptt_value (λ s. leaf_id s.entry) _ c.collected.result c.collected.ensures c.entries.ensures.entries (λ at picked answers. search rules) (λ found is. is)
+returns c = gathered_same pptt_value (λ s. leaf_id s.entry) _ c.collected.result c.collected.ensures
+    c.entries.ensures.entries (λ at picked answers. search rules) (λ found is. is)

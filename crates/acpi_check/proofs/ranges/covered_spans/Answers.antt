@@ -8,7 +8,17 @@ use Rattle.acpi_check.proofs.Spans.RangeClashes.{kind_spans}
 use Rattle.acpi_check.proofs.ranges.covered_spans.Goals as goal
 
 pub collected-requires : goal.collected-requires
-collected-requires c = λ _. ((refl, tt), λ at here _ _ _ _. omega (arith, c.entries.ensures.size, srat_inside c.args.srat.now _ (rw c.entries.ensures.entries at here)))
+collected-requires c =
+    λ _. (
+      (refl, tt),
+      λ at here _ _ _ _. omega (
+        arith,
+        c.entries.ensures.size,
+        srat_inside c.args.srat.now _ (rw c.entries.ensures.entries at here),
+      ),
+    )
 
 pub returns : goal.returns
-returns c = gathered srat_value span_value (λ s. covered_span (counts c.args.kind) s.offset s.entry) _ c.collected.result c.collected.ensures c.entries.ensures.entries (λ at picked here answers. search rules) (kind_spans c.args.kind c.args.srat.now)
+returns c = gathered srat_value span_value (λ s. covered_span (counts c.args.kind) s.offset s.entry) _
+    c.collected.result c.collected.ensures c.entries.ensures.entries (λ at picked here answers. search rules)
+    (kind_spans c.args.kind c.args.srat.now)

@@ -8,4 +8,5 @@ returns-in-Ok c = λ q same. rw same (c.in-Ok.ensures.ok.0 refl, c.in-Ok.ensures
 pub returns-in-Err : goal.returns-in-Err
 returns-in-Err c = λ q same.
     let read = c.in-Err.ensures in
-    rsdp_first c.args.image.now q c.at.result c.args.address c.in-Err.code (sym same) c.at.ensures read.stage read.fault read.least
+    rsdp_first c.args.image.now q c.at.result c.args.address c.in-Err.code (sym same) c.at.ensures read.stage read.fault
+    read.least

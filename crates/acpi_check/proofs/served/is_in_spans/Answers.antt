@@ -10,13 +10,17 @@ returns-then-begun-gt0 c =
     let spans = c.args.spans.now in
     let x = c.args.number in
     let ordered = IsPartitionedBy-leb (λ (s : Span). s.start) spans x (starts_rise spans c.requires) in
-    let begun = IsPartitionPoint-from_clause (λ (s : Span). leb s.start x) _ _ c.partition_point-begun.ensures.partitioned ordered (λ a r f k. search rules) in
-    covers spans x c.partition_point-begun.result c.index-spans-begun.result c.requires (omega arith) c.partition_point-begun.ensures.bound begun
+    let begun = IsPartitionPoint-from_clause (λ (s : Span). leb s.start x) _ _
+    c.partition_point-begun.ensures.partitioned ordered (λ a r f k. search rules) in
+    covers spans x c.partition_point-begun.result c.index-spans-begun.result c.requires (omega arith)
+    c.partition_point-begun.ensures.bound begun
 
 pub returns-else-begun-gt0 : goal.returns-else-begun-gt0
 returns-else-begun-gt0 c =
     let spans = c.args.spans.now in
     let x = c.args.number in
     let ordered = IsPartitionedBy-leb (λ (s : Span). s.start) spans x (starts_rise spans c.requires) in
-    let begun = IsPartitionPoint-from_clause (λ (s : Span). leb s.start x) _ _ c.partition_point-begun.ensures.partitioned ordered (λ a r f k. search rules) in
-    rw (le-ltb 0 c.partition_point-begun.result (omega arith)) (none_begun spans x c.partition_point-begun.result (omega arith) begun)
+    let begun = IsPartitionPoint-from_clause (λ (s : Span). leb s.start x) _ _
+    c.partition_point-begun.ensures.partitioned ordered (λ a r f k. search rules) in
+    rw (le-ltb 0 c.partition_point-begun.result (omega arith))
+    (none_begun spans x c.partition_point-begun.result (omega arith) begun)

@@ -16,4 +16,5 @@ returns c =
     let spans = c.in_ok-spans.spans in
     let some : 0 < length spans.items = grind (arith, nat_tests, c.is_empty.ensures, c.if-is_empty.false, spans.ok.0) in
     refused _ _ _ c.first_unserved.result c.refuse.result c.refuse.ensures
-    (served_found c.args.policy.now (madt_contents c.args.madt.now) spans.items c.in_ok-spans.ensures some c.first_unserved.result (rw c.deref.ensures.value at c.first_unserved.ensures))
+    (served_found c.args.policy.now (madt_contents c.args.madt.now) spans.items c.in_ok-spans.ensures some
+    c.first_unserved.result (rw c.deref.ensures.value at c.first_unserved.ensures))

@@ -1,6 +1,6 @@
 use Rattle.std.proofs.Common.{refl, sym, ◌∙◌, ap, subst, Some}
 use Rattle.std.proofs.lemmas.Option.{same_Some}
-use Rattle.acpi_check.specs.Served.{IsInSpans}
+use Rattle.acpi_check.specs.ServedGsis.{IsInSpans}
 use Rattle.acpi_check.proofs.served.own_fault.Goals as goal
 
 pub returns-then-is_in_spans : goal.returns-then-is_in_spans

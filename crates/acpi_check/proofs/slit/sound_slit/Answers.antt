@@ -9,5 +9,6 @@ returns-in-Err c =
       own = first.stage;
       fault = first.fault;
       least = λ v also.
-          not_after c.in-Err.fault v (first.least v.code v.at v.other v.point also) (first.fault.1 ∙ sym also.1) (first.fault.2 ∙ sym also.2);
+          not_after c.in-Err.fault v (first.least v.code v.at v.other v.point also) (first.fault.1 ∙ sym also.1)
+          (first.fault.2 ∙ sym also.2);
     }

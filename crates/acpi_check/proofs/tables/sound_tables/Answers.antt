@@ -9,11 +9,13 @@ use Rattle.acpi_check.proofs.WholeSets.Slots.{none_below, firsts_skip, firsts_mo
 use Rattle.acpi_check.proofs.tables.sound_tables.Goals as goal
 
 -- slot k of a root, which holds an address
-slot_at : (root : RootValue) (k a end : ℕ) → ((j : ℕ) → j < end → 36 + root.width * (j + 1) ≤ length root.bytes) → k < end → a ≡ field root.bytes (36 + root.width * k) root.width → (a ≡ 0 → ⊥) → HasSlot root.bytes root.width k a
+slot_at : (root : RootValue) (k a end : ℕ) → ((j : ℕ) → j < end → 36 + root.width * (j + 1) ≤ length root.bytes)
+    → k < end → a ≡ field root.bytes (36 + root.width * k) root.width → (a ≡ 0 → ⊥) → HasSlot root.bytes root.width k a
 slot_at root k a end inside below is listed = record { inside = inside k below; address = sym is; listed = listed }
 
 -- every slot of a root stands below the end
-slots_end : (root : RootValue) (j a end k : ℕ) → ((i : ℕ) → 36 + root.width * (i + 1) ≤ length root.bytes → i < end) → end ≤ k → HasSlot root.bytes root.width j a → j < k
+slots_end : (root : RootValue) (j a end k : ℕ) → ((i : ℕ) → 36 + root.width * (i + 1) ≤ length root.bytes → i < end)
+    → end ≤ k → HasSlot root.bytes root.width j a → j < k
 slots_end root j a end k below past slot = let here = below j slot.inside in omega arith
 
 pub loop-k-init : goal.loop-k-init
@@ -22,30 +24,39 @@ loop-k-init c = none_below c.args.image.now c.args.root.now c.new-firsts.result 
 pub loop-k-preserved-then-address-eq0 : goal.loop-k-preserved-then-address-eq0
 loop-k-preserved-then-address-eq0 c =
     let root = c.args.root.now in
-    let none : (a : ℕ) → ¬ HasSlot root.bytes root.width c.loop-k.k a = λ a slot. slot.listed (sym slot.address ∙ sym c.slot-address.ensures ∙ c.if-address-eq0.true) in
+    let none : (a : ℕ) → ¬ HasSlot root.bytes root.width c.loop-k.k a =
+    λ a slot. slot.listed (sym slot.address ∙ sym c.slot-address.ensures ∙ c.if-address-eq0.true) in
     firsts_skip c.args.image.now root c.loop-k.k c.loop-k.firsts none c.loop-k.invariant
 
 pub loop-k-preserved : goal.loop-k-preserved
 loop-k-preserved c =
     let root = c.args.root.now in
-    let slot = slot_at root c.loop-k.k c.slot-address.result c.slots-k-end.result (λ j. (c.slots-k-end.ensures.inside j).0) c.loop-k-test.true c.slot-address.ensures c.if-address-eq0.false in
+    let slot = slot_at root c.loop-k.k c.slot-address.result c.slots-k-end.result
+    (λ j. (c.slots-k-end.ensures.inside j).0) c.loop-k-test.true c.slot-address.ensures c.if-address-eq0.false in
     let table = c.in-Ok.ensures.value in
-    firsts_more c.args.image.now root c.loop-k.k c.slot-address.result table.0 c.in-Ok.table c.loop-k.firsts c.add.new.self slot (c.in-Ok.ensures.ok.0 refl) table.1 c.add.ensures.tables c.loop-k.invariant
+    firsts_more c.args.image.now root c.loop-k.k c.slot-address.result table.0 c.in-Ok.table c.loop-k.firsts
+    c.add.new.self slot (c.in-Ok.ensures.ok.0 refl) table.1 c.add.ensures.tables c.loop-k.invariant
 
 pub returns-in-Err : goal.returns-in-Err
 returns-in-Err c = λ q clean is.
     let root = c.args.root.now in
-    let slot = slot_at root c.loop-k.k c.slot-address.result c.slots-k-end.result (λ j. (c.slots-k-end.ensures.inside j).0) c.loop-k-test.true c.slot-address.ensures c.if-address-eq0.false in
+    let slot = slot_at root c.loop-k.k c.slot-address.result c.slots-k-end.result
+    (λ j. (c.slots-k-end.ensures.inside j).0) c.loop-k-test.true c.slot-address.ensures c.if-address-eq0.false in
     let read = c.in-Err.ensures in
-    let first = first_table_fault c.args.image.now q root c.in-Err.code c.loop-k.k c.slot-address.result clean is slot read.stage read.fault read.least c.loop-k.invariant.sound in
+    let first = first_table_fault c.args.image.now q root c.in-Err.code c.loop-k.k c.slot-address.result clean is slot
+    read.stage read.fault read.least c.loop-k.invariant.sound in
     rw c.listed_fault.ensures (first, read.stage)
 
 pub returns : goal.returns
 returns c = λ q clean is.
     let m = c.args.image.now in
     let root = c.args.root.now in
-    let below : (j a : ℕ) → HasSlot root.bytes root.width j a → j < c.loop-k.k = λ j a slot. slots_end root j a c.slots-k-end.result c.loop-k.k (λ i. (c.slots-k-end.ensures.inside i).1) c.loop-k-test.false slot in
-    let sound : (j a : ℕ) → HasSlot root.bytes root.width j a → IsSoundTable m a = λ j a slot. c.loop-k.invariant.sound j a (below j a slot) slot in (
+    let below : (j a : ℕ) → HasSlot root.bytes root.width j a
+    → j < c.loop-k.k =
+    λ j a slot. slots_end root j a c.slots-k-end.result c.loop-k.k (λ i. (c.slots-k-end.ensures.inside i).1)
+    c.loop-k-test.false slot in
+    let sound : (j a : ℕ) → HasSlot root.bytes root.width j a
+    → IsSoundTable m a = λ j a slot. c.loop-k.invariant.sound j a (below j a slot) slot in (
       λ k a slot. sound k a (slot_of_root m q.rsdp root.address root.width k a root.bytes is.named is.sound.table slot),
       firsts_all m q.rsdp c.loop-k.k root c.loop-k.firsts is below c.loop-k.invariant,
     )

@@ -8,7 +8,8 @@ pub returns : goal.returns
 unfolding command_line find_line
 returns c =
     let check = ap (λ (a : App). a.top) c.in_ok-check.ensures.line in
-    let first = c.in_ok-subcommand.ensures.shape c.in_ok-check.ensures.own ∙ ap₂ with_subcommand c.new.ensures.app check in
+    let first = c.in_ok-subcommand.ensures.shape c.in_ok-check.ensures.own
+    ∙ ap₂ with_subcommand c.new.ensures.app check in
     let confirm = ap (λ (a : App). a.top) c.in_ok-confirm.ensures.line in
     let second = c.in_ok-subcommand-2.ensures.shape c.in_ok-confirm.ensures.own ∙ ap₂ with_subcommand first confirm in
     let rebuild = ap (λ (a : App). a.top) c.in_ok-rebuild.ensures.line in
@@ -17,5 +18,6 @@ returns c =
     let fourth = c.in_ok-subcommand-4.ensures.shape c.in_ok-show.ensures.own ∙ ap₂ with_subcommand third show in
     let find = ap (λ (a : App). a.top) c.new-2.ensures.app in
     record {
-      line = IfOk-weaker c.subcommand-5.result _ _ (λ command adds. adds.shape c.new-2.ensures.local ∙ ap₂ with_subcommand fourth find) c.subcommand-5.ensures;
+      line = IfOk-weaker c.subcommand-5.result _ _
+          (λ command adds. adds.shape c.new-2.ensures.local ∙ ap₂ with_subcommand fourth find) c.subcommand-5.ensures;
     }

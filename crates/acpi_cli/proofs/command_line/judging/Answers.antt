@@ -11,6 +11,10 @@ returns c =
     let fourth = one_more _ _ _ _ _ third c.option-2.ensures.rule c.option-2.ensures.own c.in_ok-arg-4.ensures in
     let fifth = one_more _ _ _ _ _ fourth c.option-3.ensures.rule c.option-3.ensures.own c.in_ok-arg-5.ensures in
     record {
-      line = IfOk-weaker c.arg-6.result _ _ (λ command adds. (one_more _ _ command _ _ fifth c.inputs.ensures.rule c.inputs.ensures.own adds).0) c.arg-6.ensures;
-      own = IfOk-weaker c.arg-6.result _ _ (λ command adds. (one_more _ _ command _ _ fifth c.inputs.ensures.rule c.inputs.ensures.own adds).1) c.arg-6.ensures;
+      line = IfOk-weaker c.arg-6.result _ _
+          (λ command adds. (one_more _ _ command _ _ fifth c.inputs.ensures.rule c.inputs.ensures.own adds).0)
+          c.arg-6.ensures;
+      own = IfOk-weaker c.arg-6.result _ _
+          (λ command adds. (one_more _ _ command _ _ fifth c.inputs.ensures.rule c.inputs.ensures.own adds).1)
+          c.arg-6.ensures;
     }

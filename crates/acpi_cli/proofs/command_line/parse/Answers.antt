@@ -35,7 +35,8 @@ unfolding command_of
 returns-in-Ok-try_get_matches_from-clause-command c =
     let words : List Text = map string_bytes c.args.words.now in
     let line = c.in-Ok.ensures.line in
-    (c.in-Ok-try_get_matches_from.ensures.matches (ap is_simple line ∙ simple)).1 ∙ ap (λ (a : App). subcommand_of a words) line
+    (c.in-Ok-try_get_matches_from.ensures.matches (ap is_simple line ∙ simple)).1
+    ∙ ap (λ (a : App). subcommand_of a words) line
 
 pub returns-in-Err-clause-refused : goal.returns-in-Err-clause-refused
 unfolding is_taken
@@ -43,4 +44,5 @@ returns-in-Err-clause-refused c = λ taken.
     let words : List Text = map string_bytes c.args.words.now in
     let line = c.in-Ok.ensures.line in
     let fails = c.in-Err.ensures.kinds (ap is_simple_and_free line ∙ simple_and_free) in
-    c.fault_of.ensures.memory (only_memory _ c.in-Err.error (ap (λ (a : App). are_none (fault_of a words)) line ∙ taken) fails)
+    c.fault_of.ensures.memory (only_memory _ c.in-Err.error (ap (λ (a : App). are_none (fault_of a words)) line ∙ taken)
+    fails)

@@ -7,6 +7,10 @@ pub returns : goal.returns
 unfolding show_line
 returns c =
     record {
-      line = IfOk-weaker c.arg.result _ _ (λ command adds. (one_more _ _ command _ _ (c.new.ensures.app, c.new.ensures.local) c.option.ensures.rule c.option.ensures.own adds).0) c.arg.ensures;
-      own = IfOk-weaker c.arg.result _ _ (λ command adds. (one_more _ _ command _ _ (c.new.ensures.app, c.new.ensures.local) c.option.ensures.rule c.option.ensures.own adds).1) c.arg.ensures;
+      line = IfOk-weaker c.arg.result _ _
+          (λ command adds. (one_more _ _ command _ _ (c.new.ensures.app, c.new.ensures.local) c.option.ensures.rule
+          c.option.ensures.own adds).0) c.arg.ensures;
+      own = IfOk-weaker c.arg.result _ _
+          (λ command adds. (one_more _ _ command _ _ (c.new.ensures.app, c.new.ensures.local) c.option.ensures.rule
+          c.option.ensures.own adds).1) c.arg.ensures;
     }

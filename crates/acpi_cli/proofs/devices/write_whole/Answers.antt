@@ -8,6 +8,7 @@ loop-written-preserved g c =
       prefix =
           let taken = c.in_ok-written.ensures.bound in
           omega (arith, simp (length-take, length-drop) at taken);
-      out = sent_more _ _ _ c.args.bytes.now c.loop-written.written c.in_ok-written.field-0 c.loop-written.invariant.out c.in_ok-written.ensures.bytes;
+      out = sent_more _ _ _ c.args.bytes.now c.loop-written.written c.in_ok-written.field-0 c.loop-written.invariant.out
+          c.in_ok-written.ensures.bytes;
       uncounted = c.in_ok-written.ensures.ok ∙ c.loop-written.invariant.uncounted;
     }

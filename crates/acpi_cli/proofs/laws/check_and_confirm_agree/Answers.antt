@@ -23,4 +23,5 @@ returns-clause-none c = λ yes.
     false_from_ne_true c.confirm-is_confirmed.result
     (λ confirmed.
     let fault = c.confirm-is_confirmed.ensures.fault.0 confirmed in
-    c.fault_excludes_clean.ensures.excluded c.args.image.now c.args.policy.now c.args.witness.now stage.Leaves fault (up_to_last _) (λ s below. clean s))
+    c.fault_excludes_clean.ensures.excluded c.args.image.now c.args.policy.now c.args.witness.now stage.Leaves fault
+    (up_to_last _) (λ s below. clean s))

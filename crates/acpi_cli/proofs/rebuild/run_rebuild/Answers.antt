@@ -3,4 +3,12 @@ use Rattle.acpi_cli.proofs.rebuild.run_rebuild.Goals as goal
 
 -- the image that was read, and what was reported on it
 pub returns : goal.returns
-returns g c = inl (c.in_ok-image.image, c.in-Ok.output.bytes.items, c.in-Ok.output.outcome, c.in_ok-image.ensures, c.in-Ok.ensures, c.write_output.ensures)
+returns g c =
+    inl (
+      c.in_ok-image.image,
+      c.in-Ok.output.bytes.items,
+      c.in-Ok.output.outcome,
+      c.in_ok-image.ensures,
+      c.in-Ok.ensures,
+      c.write_output.ensures,
+    )

@@ -12,8 +12,25 @@ set_text-requires c = listed_itself c.in-Ok.set (c.in-Ok.ensures (with_rsdp show
 pub returns-in-Err : goal.returns-in-Err
 returns-in-Err c =
     let found = c.in-Err.ensures (with_rsdp shown_policy c.in-Some.address) refl in
-    inr (refl, inl (record { address = c.in-Some.address; rsdp = c.in-Some.ensures.some; reported = No c.in-Err.fault; judged = (found.0, found.1); line = c.in_ok-bytes-in-Err.ensures; outcome = refl }))
+    inr (
+      refl,
+      inl (record {
+        address = c.in-Some.address;
+        rsdp = c.in-Some.ensures.some;
+        reported = No c.in-Err.fault;
+        judged = (found.0, found.1);
+        line = c.in_ok-bytes-in-Err.ensures;
+        outcome = refl;
+      }),
+    )
 
 -- these stages hold
 pub returns : goal.returns
-returns c = inl (refl, (c.in-Some.address, c.in-Some.ensures.some, (c.in-Ok.ensures (with_rsdp shown_policy c.in-Some.address) refl).0))
+returns c = inl (
+  refl,
+  (
+    c.in-Some.address,
+    c.in-Some.ensures.some,
+    (c.in-Ok.ensures (with_rsdp shown_policy c.in-Some.address) refl).0,
+  ),
+)

@@ -5,4 +5,5 @@ use Rattle.acpi_confirm.proofs.cross.is_uid.Goals as goal
 
 pub returns : goal.returns
 unfolding madt_contents
-returns c = found madt_entry _ (HasUid c.args.uid) _ c.has_entry.result c.has_entry.ensures (λ entry b answer. search (rules, tests))
+returns c = found madt_entry _ (HasUid c.args.uid) _ c.has_entry.result c.has_entry.ensures
+    (λ entry b answer. search (rules, tests))

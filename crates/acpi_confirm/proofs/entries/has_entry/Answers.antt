@@ -4,7 +4,12 @@ use Rattle.acpi_confirm.proofs.entries.has_entry.Goals as goal
 
 pub loop-entry-preserved : goal.loop-entry-preserved
 loop-entry-preserved g c =
-    over_next _ c.args.first c.loop-entry.start c.args.whole.now c.in-Some.entry.now c.loop-entry.invariant c.in-Some.ensures (c.in-Some.entry, refl, c.if-is_sought.ensures)
+    over_next _ c.args.first c.loop-entry.start c.args.whole.now c.in-Some.entry.now c.loop-entry.invariant
+    c.in-Some.ensures (c.in-Some.entry, refl, c.if-is_sought.ensures)
 
 pub returns : goal.returns
-returns g c = record { one = over_all _ c.args.first c.loop-entry.start c.args.whole.now c.loop-entry.invariant c.in_default.ensures }
+returns g c =
+    record {
+      one = over_all _ c.args.first c.loop-entry.start c.args.whole.now c.loop-entry.invariant
+          c.in_default.ensures;
+    }

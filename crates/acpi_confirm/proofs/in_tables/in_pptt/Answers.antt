@@ -3,4 +3,5 @@ use Rattle.acpi_confirm.proofs.ListedTables.{test_of_found}
 use Rattle.acpi_confirm.proofs.in_tables.in_pptt.Goals as goal
 
 pub returns : goal.returns
-returns c = test_of_found _ _ c.listed.result c.is_some_and.result c.listed.ensures.found c.is_some_and.ensures (λ whole says. search (rules, tests))
+returns c = test_of_found _ _ c.listed.result c.is_some_and.result c.listed.ensures.found c.is_some_and.ensures
+    (λ whole says. search (rules, tests))

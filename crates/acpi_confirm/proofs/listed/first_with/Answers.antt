@@ -7,8 +7,11 @@ use Rattle.acpi_confirm.proofs.listed.first_with.Goals as goal
 pub loop-k-preserved : goal.loop-k-preserved
 loop-k-preserved c =
     let root = c.args.root.now in
-    let here : (b : ℕ) → HasSlot root.bytes.now root.width c.loop-k.k b → ¬ IsSigned c.args.image.now b c.args.signature.now = c.in_default.ensures in
-    λ j b below slot signed. below_more (λ (i : ℕ). (a : ℕ) → HasSlot root.bytes.now root.width i a → ¬ IsSigned c.args.image.now a c.args.signature.now) c.loop-k.k (λ i lower a. c.loop-k.invariant i a lower) here j below b slot signed
+    let here : (b : ℕ) → HasSlot root.bytes.now root.width c.loop-k.k b
+    → ¬ IsSigned c.args.image.now b c.args.signature.now = c.in_default.ensures in
+    λ j b below slot signed. below_more (λ (i : ℕ). (a : ℕ) → HasSlot root.bytes.now root.width i a
+    → ¬ IsSigned c.args.image.now a c.args.signature.now) c.loop-k.k (λ i lower a. c.loop-k.invariant i a lower)
+    here j below b slot signed
 
 pub returns : goal.returns
 returns c = λ k a slot signed.

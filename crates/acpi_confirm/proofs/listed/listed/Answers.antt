@@ -11,20 +11,25 @@ returns-in_err-root-clause-found c =
     (λ whole listed.
     let d = listed.first.d in
     let bytes = listed.first.whole in
-    let root : IsWholeRoot c.args.image.now c.rsdp.result d bytes = subst (λ (p : ℕ). IsWholeRoot c.args.image.now p d bytes) (sym c.rsdp.ensures.value) (root_of_listed listed) in
+    let root : IsWholeRoot c.args.image.now c.rsdp.result d bytes =
+    subst (λ (p : ℕ). IsWholeRoot c.args.image.now p d bytes) (sym c.rsdp.ensures.value) (root_of_listed listed) in
     c.in_err-root.ensures.found d bytes root)
 
 pub returns-in_err-address-clause-found : goal.returns-in_err-address-clause-found
 returns-in_err-address-clause-found c =
     let none : c.from_residual-in_err-address.result ≡ None = search rules in
     let found = c.in_ok-root.root in
-    let root : IsWholeRoot c.args.image.now c.args.policy.now.rsdp found.width found.bytes.now = subst (λ (p : ℕ). IsWholeRoot c.args.image.now p found.width found.bytes.now) c.rsdp.ensures.value c.in_ok-root.ensures.found in
+    let root : IsWholeRoot c.args.image.now c.args.policy.now.rsdp found.width found.bytes.now =
+    subst (λ (p : ℕ). IsWholeRoot c.args.image.now p found.width found.bytes.now) c.rsdp.ensures.value
+    c.in_ok-root.ensures.found in
     rw none (λ whole listed. none_and_first_listed c.in_err-address.ensures (first_of_listed root listed))
 
 pub returns-clause-found : goal.returns-clause-found
 returns-clause-found c =
     let found = c.in_ok-root.root in
-    let root : IsWholeRoot c.args.image.now c.args.policy.now.rsdp found.width found.bytes.now = subst (λ (p : ℕ). IsWholeRoot c.args.image.now p found.width found.bytes.now) c.rsdp.ensures.value c.in_ok-root.ensures.found in
+    let root : IsWholeRoot c.args.image.now c.args.policy.now.rsdp found.width found.bytes.now =
+    subst (λ (p : ℕ). IsWholeRoot c.args.image.now p found.width found.bytes.now) c.rsdp.ensures.value
+    c.in_ok-root.ensures.found in
     let first = c.in_ok-address.ensures in
     match_map c.table_at.result
     (λ none whole listed. none listed.header whole (table_of_set root first listed))

@@ -5,4 +5,5 @@ use Rattle.acpi_confirm.proofs.madt.overriding_at.Goals as goal
 
 pub returns : goal.returns
 unfolding madt_contents
-returns c = only_at madt_entry _ _ _ _ c.entry_at.result c.and_then.result c.entry_at.ensures.there c.and_then.ensures (λ entry says. search (rules, tests, only_of))
+returns c = only_at madt_entry _ _ _ _ c.entry_at.result c.and_then.result c.entry_at.ensures.there c.and_then.ensures
+    (λ entry says. search (rules, tests, only_of))

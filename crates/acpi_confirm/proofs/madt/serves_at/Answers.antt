@@ -5,4 +5,5 @@ use Rattle.acpi_confirm.proofs.madt.serves_at.Goals as goal
 
 pub returns : goal.returns
 unfolding madt_contents
-returns c = test_at madt_entry _ _ _ _ c.entry_at.result c.is_some_and.result c.entry_at.ensures.there c.is_some_and.ensures (λ entry says. search (rules, tests))
+returns c = test_at madt_entry _ _ _ _ c.entry_at.result c.is_some_and.result c.entry_at.ensures.there
+    c.is_some_and.ensures (λ entry says. search (rules, tests))

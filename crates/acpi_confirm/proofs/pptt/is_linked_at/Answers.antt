@@ -4,4 +4,5 @@ use Rattle.acpi_confirm.proofs.EntriesAt.{only_some}
 use Rattle.acpi_confirm.proofs.pptt.is_linked_at.Goals as goal
 
 pub returns : goal.returns
-returns c = rw c.is_some.ensures (only_some (Names c.args.link (pptt_contents c.args.pptt.now) c.args.at) c.named_at.result c.named_at.ensures)
+returns c = rw c.is_some.ensures
+    (only_some (Names c.args.link (pptt_contents c.args.pptt.now) c.args.at) c.named_at.result c.named_at.ensures)

@@ -13,5 +13,6 @@ returns-in_err-bytes-clause-found c =
     let one = c.in_ok-place.ensures.one in
     rw none
     (λ d bytes whole.
-    let table = subst (λ (r : ℕ). IsTable c.args.image.now r whole.table.header bytes) (one whole.r d whole.root).0 whole.table.table in
+    let table = subst (λ (r : ℕ). IsTable c.args.image.now r whole.table.header bytes) (one whole.r d whole.root).0
+    whole.table.table in
     c.in_err-bytes.ensures.found whole.table.header bytes table)

@@ -6,5 +6,6 @@ use Rattle.acpi_confirm.proofs.slit.is_low.Goals as goal
 
 pub returns : goal.returns
 returns c =
-    test_of_cell (slit_contents c.args.slit.now) c.args.at (λ i j. distance (slit_contents c.args.slit.now) i j < 10) _ c.cell_at.result c.is_some_and.result c.cell_at.ensures c.is_some_and.ensures
+    test_of_cell (slit_contents c.args.slit.now) c.args.at (λ i j. distance (slit_contents c.args.slit.now) i j < 10) _
+    c.cell_at.result c.is_some_and.result c.cell_at.ensures c.is_some_and.ensures
     (λ cell says here. let is = here.says in grind (arith, nat_tests))

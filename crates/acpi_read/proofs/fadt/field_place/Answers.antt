@@ -32,5 +32,6 @@ returns-clause-place c =
 
 pub returns-clause-width : goal.returns-clause-width
 returns-clause-width c =
-    let here : has_width (get_or PLACES c.args.index nowhere) ≡ true = AllPass-from_list_all has_width PLACES widths c.args.index nowhere c.requires in
+    let here : has_width (get_or PLACES c.args.index nowhere) ≡ true =
+    AllPass-from_list_all has_width PLACES widths c.args.index nowhere c.requires in
     grind (arith, nat_tests)

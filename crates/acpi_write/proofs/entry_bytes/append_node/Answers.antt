@@ -5,4 +5,6 @@ use Rattle.acpi_write.proofs.entry_bytes.append_node.Goals as goal
 
 pub returns-clause-says : goal.returns-clause-says
 returns-clause-says c =
-    on_ok c.extend_from_slice.result _ (node_says c.args.head.now c.args.references.now (λ k. omega (arith, c.type_inv.references k)) c.requires c.in_ok-append_layout.ensures.says)
+    on_ok c.extend_from_slice.result _
+    (node_says c.args.head.now c.args.references.now (λ k. omega (arith, c.type_inv.references k)) c.requires
+    c.in_ok-append_layout.ensures.says)

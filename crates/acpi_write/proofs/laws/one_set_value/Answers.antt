@@ -1,4 +1,4 @@
-use Rattle.acpi_write.proofs.OldSets.OneSetValue.{value_is_one}
+use Rattle.acpi_write.proofs.OldSets.OldTables.{value_is_one}
 use Rattle.acpi_write.proofs.laws.one_set_value.Goals as goal
 
 pub returns : goal.returns

@@ -6,4 +6,5 @@ use Rattle.acpi_write.proofs.placing.is_one_narrow.Given as goal
 
 -- none was so far
 abbrev pub invariant-loop-table : goal.invariant-loop-table
-invariant-loop-table l = list_any is_narrow (map table_value (drop l.table-index l.tables)) ≡ list_any is_narrow (map table_value l.tables)
+invariant-loop-table l =
+    list_any is_narrow (map table_value (drop l.table-index l.tables)) ≡ list_any is_narrow (map table_value l.tables)

@@ -15,15 +15,20 @@ returns c =
     let size = c.len.ensures in
     let n : c.len.result ≡ length v.tables.items = omega (arith, size, all) in
     let front : c.push-2.new.self.items ≡ 36 ∷ (36 + 8 * length v.tables.items) ∷ [] =
-    c.in_ok-push-2.ensures.items ∙ ap (λ (xs : List ℕ). xs ++ c.xsdt_length.result ∷ []) first ∙ ap (λ (k : ℕ). 36 ∷ k ∷ []) (c.xsdt_length.ensures ∙ ap (λ (k : ℕ). 36 + 8 * k) n) in
+    c.in_ok-push-2.ensures.items ∙ ap (λ (xs : List ℕ). xs ++ c.xsdt_length.result ∷ []) first
+    ∙ ap (λ (k : ℕ). 36 ∷ k ∷ []) (c.xsdt_length.ensures ∙ ap (λ (k : ℕ). 36 + 8 * k) n) in
     let behind : List ℕ = map (λ t. encoded_length (table_value t)) v.tables.items in
     let whole : c.append_lengths.new.lengths.items ≡ c.match-value.lengths.items ++ behind =
-    c.in_ok-append_lengths.ensures ∙ ap (λ ts. c.match-value.lengths.items ++ map (λ t. encoded_length (table_value t)) ts) c.deref.ensures.value in
+    c.in_ok-append_lengths.ensures
+    ∙ ap (λ ts. c.match-value.lengths.items ++ map (λ t. encoded_length (table_value t)) ts)
+    c.deref.ensures.value in
     elim c.match-value.branch [
       | in-Some+in_ok-push-3 w ↦
           lengths_are v c.append_lengths.new.lengths.items (length w.in-Some.facs.now ∷ [])
           (ap (λ o. map length (option_list (option_map (λ b. b.now) o))) (sym w.in-Some.is))
-          (whole ∙ ap (λ (l : List ℕ). l ++ behind) (ap (λ l. l.items) w.lengths-is ∙ w.in_ok-push-3.ensures.items ∙ ap (λ (xs : List ℕ). xs ++ length w.in-Some.facs.now ∷ []) front))
+          (whole ∙ ap (λ (l : List ℕ). l ++ behind)
+          (ap (λ l. l.items) w.lengths-is ∙ w.in_ok-push-3.ensures.items
+          ∙ ap (λ (xs : List ℕ). xs ++ length w.in-Some.facs.now ∷ []) front))
       | in_default w ↦
           lengths_are v c.append_lengths.new.lengths.items []
           (ap (λ o. map length (option_list (option_map (λ b. b.now) o))) (sym w.in_default.is))

@@ -16,7 +16,9 @@ places_of-requires c =
 pub index-requires : goal.index-requires
 index-requires c =
     let v = c.args.value.now in
-    let found : c.in_ok-found.found.items ≡ part_places (set_value v) c.args.base = c.in_ok-found.ensures.places ∙ ap (block_places c.args.base) (c.deref.ensures.value ∙ c.in_ok-lengths.ensures) in
+    let found : c.in_ok-found.found.items ≡ part_places (set_value v) c.args.base =
+    c.in_ok-found.ensures.places ∙ ap (block_places c.args.base)
+    (c.deref.ensures.value ∙ c.in_ok-lengths.ensures) in
     let three = facs_is_placed v c.args.base (sym c.is_some.ensures ∙ c.if-is_some.true) in
     let count = ap length found in
     let all = c.in_ok-found.found.ok in
@@ -26,7 +28,8 @@ pub returns-then-is_one_narrow-clause-refused : goal.returns-then-is_one_narrow-
 returns-then-is_one_narrow-clause-refused c =
     let v = c.args.value.now in
     let lengths : c.deref.result.now ≡ part_lengths (set_value v) = c.deref.ensures.value ∙ c.in_ok-lengths.ensures in
-    let found : c.in_ok-found.found.items ≡ part_places (set_value v) c.args.base = c.in_ok-found.ensures.places ∙ ap (block_places c.args.base) lengths in
+    let found : c.in_ok-found.found.items ≡ part_places (set_value v) c.args.base =
+    c.in_ok-found.ensures.places ∙ ap (block_places c.args.base) lengths in
     let count = length-map v.tables.items table_value in
     let all = v.tables.ok in
     let short = c.if-xsdt_length-from.false in
@@ -38,10 +41,13 @@ returns-then-is_one_narrow-clause-refused c =
     let longer = ap length found in
     let inside : 2 < length c.in_ok-found.found.items = omega (arith, three, longer) in
     let place : c.index.result.now ≡ facs_place (set_value v) c.args.base =
-    c.index.ensures ∙ any_default c.in_ok-found.found.items 2 c.index.result.now 0 inside ∙ ap (λ (xs : List ℕ). slice_index xs 2) found ∙ sym (facs_place_is v c.args.base (sym c.is_some.ensures ∙ c.if-is_some.true)) in
+    c.index.ensures ∙ any_default c.in_ok-found.found.items 2 c.index.result.now 0 inside
+    ∙ ap (λ (xs : List ℕ). slice_index xs 2) found ∙ sym
+    (facs_place_is v c.args.base (sym c.is_some.ensures ∙ c.if-is_some.true)) in
     inr (
       omega (arith, count, all, short, size, n),
       subst (λ (ns : List ℕ). DoEndInside (block_ends c.args.base ns)) lengths c.in_ok-found.ensures.inside,
-      ap (λ ts. list_any is_narrow (map table_value ts)) (sym c.deref-then-index.ensures.value) ∙ sym c.is_one_narrow.ensures ∙ c.if-is_one_narrow.true,
+      ap (λ ts. list_any is_narrow (map table_value ts)) (sym c.deref-then-index.ensures.value)
+          ∙ sym c.is_one_narrow.ensures ∙ c.if-is_one_narrow.true,
       omega (arith, place, high),
     )

@@ -2,7 +2,7 @@ use Rattle.std.proofs.Common.{◌≡◌, ◌+◌, ◌*◌, ◌++◌, ◌<◌, �
 use Rattle.std.proofs.lemmas.List.{append-nil}
 use Rattle.std.specs.Prelude.{is_ok}
 use Rattle.acpi_write.specs.Rebuilt.{block_places}
-use Rattle.acpi_write.proofs.SetParts.PlacedBlocks.{next_place, next_inside, inside_before, no_places, none_inside}
+use Rattle.acpi_write.proofs.SetParts.PartLengths.{next_place, next_inside, inside_before, no_places, none_inside}
 use Rattle.acpi_write.proofs.placing.places_of.Goals as goal
 
 pub returns-then-end-clause-refused : goal.returns-then-end-clause-refused
@@ -11,7 +11,8 @@ returns-then-end-clause-refused c =
     inr (
       refl,
       λ all.
-          let rest = next_inside next c.args.lengths.now c.loop-length.length-index c.from.result (omega (arith, c.loop-length-test.true)) c.from.ensures (c.loop-length.invariant.past all) in
+          let rest = next_inside next c.args.lengths.now c.loop-length.length-index c.from.result
+          (omega (arith, c.loop-length-test.true)) c.from.ensures (c.loop-length.invariant.past all) in
           omega (arith, rest.0, c.if-end.true),
     )
 
@@ -31,9 +32,12 @@ loop-length-preserved c =
     record {
       low = omega (arith, top);
       found =
-          ap (λ (xs : List ℕ). xs ++ rest) (c.push.ensures.items ∙ ap (λ (t : Bool). cond t (c.loop-length.found.items ++ next ∷ []) c.loop-length.found.items) ok)
+          ap (λ (xs : List ℕ). xs ++ rest)
+          (c.push.ensures.items ∙ ap (λ (t : Bool). cond t (c.loop-length.found.items ++ next ∷ [])
+          c.loop-length.found.items) ok)
           ∙ append_assoc c.loop-length.found.items (next ∷ []) rest
-          ∙ ap (λ (xs : List ℕ). c.loop-length.found.items ++ xs) (sym (next_place next lengths i n below c.from.ensures))
+          ∙ ap (λ (xs : List ℕ). c.loop-length.found.items ++ xs)
+          (sym (next_place next lengths i n below c.from.ensures))
           ∙ before.found;
       inside = λ later. before.inside (inside_before next lengths i n below c.from.ensures fits later);
       past = λ all. (next_inside next lengths i n below c.from.ensures (before.past all)).1;
@@ -41,8 +45,13 @@ loop-length-preserved c =
 
 pub returns-clause-places : goal.returns-clause-places
 returns-clause-places c =
-    let none = no_places c.loop-length.next c.args.lengths.now c.loop-length.length-index (omega (arith, c.loop-length-test.false)) in
-    sym (append-nil c.loop-length.found.items) ∙ ap (λ (xs : List ℕ). c.loop-length.found.items ++ xs) (sym none) ∙ c.loop-length.invariant.found
+    let none = no_places c.loop-length.next c.args.lengths.now c.loop-length.length-index
+    (omega (arith, c.loop-length-test.false)) in
+    sym (append-nil c.loop-length.found.items) ∙ ap (λ (xs : List ℕ). c.loop-length.found.items ++ xs) (sym none)
+    ∙ c.loop-length.invariant.found
 
 pub returns-clause-inside : goal.returns-clause-inside
-returns-clause-inside c = c.loop-length.invariant.inside (none_inside c.loop-length.next c.args.lengths.now c.loop-length.length-index (omega (arith, c.loop-length-test.false)))
+returns-clause-inside c =
+    c.loop-length.invariant.inside
+    (none_inside c.loop-length.next c.args.lengths.now c.loop-length.length-index
+    (omega (arith, c.loop-length-test.false)))

@@ -2,18 +2,20 @@ use Rattle.std.proofs.Common.{subst, sym}
 use Rattle.acpi_base.specs.Policy.{with_rsdp}
 use Rattle.acpi_base.specs.Statements.{IsClean}
 use Rattle.acpi_write.specs.Views.{set_value}
-use Rattle.acpi_write.proofs.OldSets.FacsLengths.{facs_some}
+use Rattle.acpi_write.proofs.OldSets.OldTables.{facs_some}
 use Rattle.acpi_write.proofs.rebuilding.rebuild.Goals as goal
 
 pub placed-requires-clause-facs : goal.placed-requires-clause-facs
 placed-requires-clause-facs c =
-    facs_some c.args.image.now c.args.policy.now (set_value c.in_ok-value.value) c.in_ok-value.ensures.clean c.in_ok-value.ensures.value
+    facs_some c.args.image.now c.args.policy.now (set_value c.in_ok-value.value) c.in_ok-value.ensures.clean
+    c.in_ok-value.ensures.value
 
 -- the rebuilt image is kept as a set, so it is clean
 pub returns-clause-clean : goal.returns-clause-clean
 returns-clause-clean c =
     let kept =
-    c.rebuilt_sets_are_kept.ensures c.args.image.now c.args.policy.now (set_value c.in_ok-value.value) c.args.base c.numbers_fit.ensures.fit
+    c.rebuilt_sets_are_kept.ensures c.args.image.now c.args.policy.now (set_value c.in_ok-value.value) c.args.base
+    c.numbers_fit.ensures.fit
     c.in_ok-value.ensures.clean
     c.in_ok-value.ensures.value
     c.in_ok-places.ensures.placed

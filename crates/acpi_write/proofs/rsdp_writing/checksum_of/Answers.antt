@@ -1,5 +1,5 @@
 use Rattle.std.proofs.Common.{◌+◌, ◌-◌, ◌%◌, ℕ, ap, ◌∙◌}
-use Rattle.acpi_write.proofs.TablesWritten.TableBytes.{closing_alone}
+use Rattle.acpi_write.proofs.TablesWritten.Sums.{closing_alone}
 use Rattle.acpi_write.proofs.rsdp_writing.checksum_of.Goals as goal
 
 pub returns : goal.returns

@@ -7,4 +7,5 @@ use Rattle.acpi_write.proofs.table_reading.listed_tables.Given as goal
 abbrev pub invariant-loop-slot : goal.invariant-loop-slot
 invariant-loop-slot l =
     let root = l.set.root in
-    Completes l.set.image.now root.bytes root.width l.slot ((length root.bytes - 36) / root.width - l.slot) (map table_of l.found.items)
+    Completes l.set.image.now root.bytes root.width l.slot ((length root.bytes - 36) / root.width - l.slot)
+    (map table_of l.found.items)

@@ -1,7 +1,7 @@
 use Rattle.std.proofs.Common.{◌∙◌, ap, arith, List, ℕ, length, drop, length-drop}
 use Rattle.std.proofs.lemmas.List.{take_rest}
 use Rattle.acpi_write.specs.FadtBody.{with_facs}
-use Rattle.acpi_write.specs.Values.{Fadt}
+use Rattle.acpi_write.specs.Values.{Known, Fadt}
 use Rattle.acpi_write.proofs.TablesWritten.FadtBodies.{length-with_facs}
 use Rattle.acpi_write.proofs.table_reading.read_fadt.Goals as goal
 
@@ -10,7 +10,7 @@ returns-clause-value c =
     let head = c.head_in-head.ensures c.args.table.now c.header.ensures.fields in
     let behind = take_rest c.bytes-bytes.result.now 36 ∙ ap (drop 36) c.bytes-bytes.ensures.bytes in
     let body = c.in_ok-body.ensures ∙ ap (λ (b : List ℕ). with_facs b 0) behind in
-    λ i. Fadt (head i) (body i)
+    λ i. Known (head i) (Fadt (body i))
 
 pub returns-clause-shaped : goal.returns-clause-shaped
 returns-clause-shaped c =

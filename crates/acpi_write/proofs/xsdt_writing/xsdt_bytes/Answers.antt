@@ -10,4 +10,6 @@ pub returns-clause-count : goal.returns-clause-count
 returns-clause-count c =
     let head = head_value c.args.head.now in
     let count = xsdt_count head c.args.addresses.now c.with_header.ensures.fits c.requires in
-    IfOk-weaker c.with_header.result _ _ (λ bytes is. ap length (is ∙ ap (table_bytes xsdt_signature head) (c.deref.ensures.value ∙ c.in_ok-slots.ensures)) ∙ count) c.with_header.ensures.bytes
+    IfOk-weaker c.with_header.result _ _
+    (λ bytes is. ap length (is ∙ ap (table_bytes xsdt_signature head)
+    (c.deref.ensures.value ∙ c.in_ok-slots.ensures)) ∙ count) c.with_header.ensures.bytes
