@@ -15,7 +15,7 @@ use Rattle.acpi_base.specs.Fadt.{IsFadt, FadtTableFault, facs_address, has_flag,
 use Rattle.acpi_base.specs.Facs.{NamedFacsFault}
 use Rattle.acpi_base.specs.Faults.{FaultCondition, FaultOfStage}
 use Rattle.acpi_base.specs.Examples.WholeSets.{fadt_bytes, whole_runs, whole_set, example_policy}
-use Rattle.acpi_base.specs.Examples.AlteredSets.{altered, HasFaultWith, AreRsdpFaults, AreRootFaults, AreTableFaults, AreFadtFaults, AreFacsFaults}
+use Rattle.acpi_base.specs.Examples.AlteredSets.{altered_set, HasFaultWith, AreRsdpFaults, AreRootFaults, AreTableFaults, AreFadtFaults, AreFacsFaults}
 use Rattle.acpi_base.specs.Examples.Sets.{rsdp_at, HasFault}
 use Rattle.acpi_base.specs.declared.code.Code.{Code}
 use Rattle.acpi_base.specs.declared.code.Code.TheVariants as code
@@ -34,28 +34,30 @@ use Rattle.acpi_base.proofs.Images.ByteRuns.{run_of-agree}
 abbrev with_one : ℕ → Option ℕ → ℕ → Option ℕ
 with_one a byte x = cond (x == a) byte (lookup whole_runs x)
 
-byte_of_altered : (a : ℕ) (byte : Option ℕ) (x : ℕ) → byte_of (altered a byte) x ≡ with_one a byte x
+byte_of_altered : (a : ℕ) (byte : Option ℕ) (x : ℕ) → byte_of (altered_set a byte) x ≡ with_one a byte x
 byte_of_altered a (Some b) x = byte_of-insert whole_set a b x ∙ ap (cond (x == a) (Some b)) (byte_of_whole_set x)
 byte_of_altered a None x = byte_of-remove whole_set a x ∙ ap (cond (x == a) None) (byte_of_whole_set x)
 
-bytes_at_altered : (a : ℕ) (byte : Option ℕ) (p n : ℕ) → bytes_at (altered a byte) p n ≡ run_of (with_one a byte) p n
+bytes_at_altered : (a : ℕ) (byte : Option ℕ) (p n : ℕ)
+    → bytes_at (altered_set a byte) p n ≡ run_of (with_one a byte) p n
 bytes_at_altered a byte p n = λ i. run_of (λ x. byte_of_altered a byte x i) p n
 
 -- away from that one they are the whole set's
-byte_kept : (a : ℕ) (byte : Option ℕ) (x : ℕ) → x ≢ a → byte_of (altered a byte) x ≡ byte_of whole_set x
+byte_kept : (a : ℕ) (byte : Option ℕ) (x : ℕ) → x ≢ a → byte_of (altered_set a byte) x ≡ byte_of whole_set x
 byte_kept a byte x other = altered_is byte ∙ rw differs refl
   where
     differs : (x == a) ≡ false
     differs = grind (arith, nat_tests)
 
-    altered_is : (byte : Option ℕ) → byte_of (altered a byte) x ≡ cond (x == a) byte (byte_of whole_set x)
+    altered_is : (byte : Option ℕ) → byte_of (altered_set a byte) x ≡ cond (x == a) byte (byte_of whole_set x)
     altered_is (Some b) = byte_of-insert whole_set a b x
     altered_is None = byte_of-remove whole_set a x
 
 kept : (a : ℕ) (byte : Option ℕ) (p n : ℕ) → (a < p) ⊎ (p + n ≤ a)
-    → bytes_at (altered a byte) p n ≡ bytes_at whole_set p n
+    → bytes_at (altered_set a byte) p n ≡ bytes_at whole_set p n
 kept a byte p n away =
-    run_of-agree (byte_of (altered a byte)) (byte_of whole_set) p n (λ k less. byte_kept a byte (p + k) (other k less))
+    run_of-agree (byte_of (altered_set a byte)) (byte_of whole_set) p n
+    (λ k less. byte_kept a byte (p + k) (other k less))
   where
     other : (k : ℕ) → k < n → p + k ≢ a
     other k less = elim away [ inl below ↦ λ same. omega arith | inr above ↦ λ same. omega arith ]
@@ -70,13 +72,14 @@ of_stage {m} {fault} {at} {other} own holds =
 -- ---- the RSDP
 
 -- the bytes there
-held_rsdp : (a : ℕ) (byte : Option ℕ) (n : ℕ) → bytes_at (altered a byte) rsdp_at n ≡ run_of (with_one a byte) rsdp_at n
+held_rsdp : (a : ℕ) (byte : Option ℕ) (n : ℕ)
+    → bytes_at (altered_set a byte) rsdp_at n ≡ run_of (with_one a byte) rsdp_at n
 held_rsdp a byte n = bytes_at_altered a byte rsdp_at n
 
 -- it is of the extended form
 extended : (a : ℕ) (byte : Option ℕ) {head prefix : List ℕ} → run_of (with_one a byte) rsdp_at 20 ≡ Some head
     → 2 ≤ revision_of head → run_of (with_one a byte) rsdp_at 36 ≡ Some prefix
-    → IsExtended (altered a byte) rsdp_at head prefix
+    → IsExtended (altered_set a byte) rsdp_at head prefix
 extended a byte head revision prefix = record {
   head_held = held_rsdp a byte 20 ∙ head;
   extended = revision;
@@ -107,24 +110,24 @@ rsdp_faults = record {
 }
   where
     of_rsdp : (a : ℕ) (byte : Option ℕ) (fault : Code) → stage_of fault ≡ stage.Rsdp
-        → RsdpFault (altered a byte) rsdp_at fault → HasFaultWith a byte fault rsdp_at 0
+        → RsdpFault (altered_set a byte) rsdp_at fault → HasFaultWith a byte fault rsdp_at 0
     of_rsdp a byte fault own wrong = of_stage own (wrong, refl, refl, refl)
 
 -- ---- the root
 
 -- with another byte in the XSDT the RSDP names it as before
-names_root : (a : ℕ) (byte : Option ℕ) → 0x1000 ≤ a → a < 0x104c → IsRoot (altered a byte) rsdp_at 0x1000 8
+names_root : (a : ℕ) (byte : Option ℕ) → 0x1000 ≤ a → a < 0x104c → IsRoot (altered_set a byte) rsdp_at 0x1000 8
 names_root a byte from to =
     root_of (kept a byte rsdp_at 20 (inl (omega arith)) ∙ whole_has_root.head_held)
     (kept a byte rsdp_at 36 (inl (omega arith)) ∙ whole_has_root.rsdp_held)
 
 -- so that a fault of the XSDT is one of the set
 of_root : (a : ℕ) (byte : Option ℕ) (fault : Code) → 0x1000 ≤ a → a < 0x104c → stage_of fault ≡ stage.Root
-    → RootTableFault (altered a byte) 0x1000 8 fault → HasFaultWith a byte fault 0x1000 0
+    → RootTableFault (altered_set a byte) 0x1000 8 fault → HasFaultWith a byte fault 0x1000 0
 of_root a byte fault from to own wrong = of_stage own (inr (8, names_root a byte from to, wrong), refl, refl)
 
 -- with 0 for the XSDT's address the RSDP names no root
-no_root : HasNoRoot (altered 0xe0019 (Some 0)) rsdp_at
+no_root : HasNoRoot (altered_set 0xe0019 (Some 0)) rsdp_at
 unfolding run_of cons_both addresses_at chosen_root field
 no_root = record {
   named = record { rsdt = 0; xsdt = 0 };
@@ -153,13 +156,14 @@ root_faults = record {
   );
 }
   where
-    held : (a : ℕ) (byte : Option ℕ) (n : ℕ) → bytes_at (altered a byte) 0x1000 n ≡ run_of (with_one a byte) 0x1000 n
+    held : (a : ℕ) (byte : Option ℕ) (n : ℕ)
+        → bytes_at (altered_set a byte) 0x1000 n ≡ run_of (with_one a byte) 0x1000 n
     held a byte n = bytes_at_altered a byte 0x1000 n
 
 -- ---- the first table
 
 -- with another byte behind the XSDT the root is the whole set's
-keeps_root : (a : ℕ) (byte : Option ℕ) → 0x2000 ≤ a → a < 0xe0000 → HasRoot (altered a byte)
+keeps_root : (a : ℕ) (byte : Option ℕ) → 0x2000 ≤ a → a < 0xe0000 → HasRoot (altered_set a byte)
 keeps_root a byte from to = record {
   head_held = kept a byte rsdp_at 20 (inl (omega arith)) ∙ whole_has_root.head_held;
   rsdp_held = kept a byte rsdp_at 36 (inl (omega arith)) ∙ whole_has_root.rsdp_held;
@@ -168,13 +172,14 @@ keeps_root a byte from to = record {
 }
 
 -- the bytes at 2000h
-held_first : (a : ℕ) (byte : Option ℕ) (n : ℕ) → bytes_at (altered a byte) 0x2000 n ≡ run_of (with_one a byte) 0x2000 n
+held_first : (a : ℕ) (byte : Option ℕ) (n : ℕ)
+    → bytes_at (altered_set a byte) 0x2000 n ≡ run_of (with_one a byte) 0x2000 n
 held_first a byte n = bytes_at_altered a byte 0x2000 n
 
 -- the table there, with one byte of it changed and with this Length
 changed : (a byte size : ℕ) {header whole : List ℕ} → run_of (with_one a (Some byte)) 0x2000 36 ≡ Some header
     → length_of header ≡ size → 36 ≤ size → run_of (with_one a (Some byte)) 0x2000 size ≡ Some whole
-    → IsTable (altered a (Some byte)) 0x2000 header whole
+    → IsTable (altered_set a (Some byte)) 0x2000 header whole
 changed a byte size {header} header_held says least held = record {
   header_held = held_first a (Some byte) 36 ∙ header_held;
   least = omega (arith, says);
@@ -194,7 +199,7 @@ table_faults = record {
 }
   where
     of_table : (a : ℕ) (byte : Option ℕ) (fault : Code) → 0x2000 ≤ a → a < 0xe0000 → stage_of fault ≡ stage.Tables
-        → TableFault (altered a byte) 0x2000 fault → HasFaultWith a byte fault 0 0x2000
+        → TableFault (altered_set a byte) 0x2000 fault → HasFaultWith a byte fault 0 0x2000
     of_table a byte fault from to own wrong =
         let has = keeps_root a byte from to in
         of_stage own (root_slot (root_of_held has) (root_table_of has) first_slot, wrong, refl)
@@ -203,29 +208,29 @@ table_faults = record {
 
 -- it is the first table, where this has the signature
 is_fadt : (a : ℕ) (byte : Option ℕ) {header whole : List ℕ} → 0x2000 ≤ a → a < 0xe0000
-    → IsTable (altered a byte) 0x2000 header whole → has_signature header fadt_signature ≡ true
-    → IsFadt (altered a byte) rsdp_at whole
+    → IsTable (altered_set a byte) 0x2000 header whole → has_signature header fadt_signature ≡ true
+    → IsFadt (altered_set a byte) rsdp_at whole
 is_fadt a byte {header} from to table signed =
     let has = keeps_root a byte from to in
-    let found : IsSigned (altered a byte) 0x2000 fadt_signature =
+    let found : IsSigned (altered_set a byte) 0x2000 fadt_signature =
     record { header = header; header_held = table.header_held; signed = signed } in
     listed_in_root (root_of_held has) (root_table_of has)
     (record { k = 0; slot = first_slot; signed = found; none_before = λ j b less. absurd (omega arith) })
     table
 
 -- with another signature there is none
-no_fadt : ListsNone (altered 0x2000 (Some 0x47)) rsdp_at fadt_signature
+no_fadt : ListsNone (altered_set 0x2000 (Some 0x47)) rsdp_at fadt_signature
 unfolding run_of cons_both has_signature
 no_fadt =
     let has = keeps_root 0x2000 (Some 0x47) (omega arith) (omega arith) in
     none_in_root (root_of_held has) (root_table_of has)
-    (each_slot (λ k a. ¬ IsSigned (altered 0x2000 (Some 0x47)) a fadt_signature)
+    (each_slot (λ k a. ¬ IsSigned (altered_set 0x2000 (Some 0x47)) a fadt_signature)
     (not_signed _ fadt_signature (held_first 0x2000 (Some 0x47) 36) refl)
     (other 0x4000 (omega arith) tables.madt refl) (other 0x5000 (omega arith) tables.srat refl)
     (other 0x6000 (omega arith) tables.slit refl) (other 0x7000 (omega arith) tables.pptt refl))
   where
     other : (a : ℕ) {header whole : List ℕ} → 0x2000 < a → IsTable whole_set a header whole
-        → has_signature header fadt_signature ≡ false → ¬ IsSigned (altered 0x2000 (Some 0x47)) a fadt_signature
+        → has_signature header fadt_signature ≡ false → ¬ IsSigned (altered_set 0x2000 (Some 0x47)) a fadt_signature
     other a {header} behind table differs =
         not_signed header fadt_signature (kept 0x2000 (Some 0x47) a 36 (inl behind) ∙ table.header_held) differs
 
@@ -268,14 +273,15 @@ fadt_faults = record {
 
 -- a fault of the FACS that the FADT names is one of the set
 of_facs : (a : ℕ) (byte : Option ℕ) (fault : Code) (at : ℕ) {header whole : List ℕ} → 0x2000 ≤ a → a < 0xe0000
-    → stage_of fault ≡ stage.Facs → IsTable (altered a byte) 0x2000 header whole
+    → stage_of fault ≡ stage.Facs → IsTable (altered_set a byte) 0x2000 header whole
     → has_signature header fadt_signature ≡ true
-    → 116 ≤ length whole → NamedFacsFault (altered a byte) whole fault at → HasFaultWith a byte fault at 0
+    → 116 ≤ length whole → NamedFacsFault (altered_set a byte) whole fault at → HasFaultWith a byte fault at 0
 of_facs a byte fault at {whole = whole} from to own table signed long wrong =
     of_stage own ((whole, is_fadt a byte from to table signed, long, wrong), refl, refl)
 
 -- with another byte behind it the FADT is the whole set's
-keeps_fadt : (a : ℕ) (byte : Option ℕ) → 0x2081 ≤ a → IsTable (altered a byte) 0x2000 (take 36 fadt_bytes) fadt_bytes
+keeps_fadt : (a : ℕ) (byte : Option ℕ) → 0x2081 ≤ a
+    → IsTable (altered_set a byte) 0x2000 (take 36 fadt_bytes) fadt_bytes
 unfolding field
 keeps_fadt a byte behind = record {
   header_held = kept a byte 0x2000 36 (inr (omega arith)) ∙ tables.fadt.header_held;
@@ -300,14 +306,15 @@ facs_faults = record {
       (there, refl, _, held 0x303f None 8, omega arith, held 0x303f None 64);
 }
   where
-    held : (a : ℕ) (byte : Option ℕ) (n : ℕ) → bytes_at (altered a byte) 0x3000 n ≡ run_of (with_one a byte) 0x3000 n
+    held : (a : ℕ) (byte : Option ℕ) (n : ℕ)
+        → bytes_at (altered_set a byte) 0x3000 n ≡ run_of (with_one a byte) 0x3000 n
     held a byte n = bytes_at_altered a byte 0x3000 n
 
     there : facs_address fadt_bytes ≢ 0
     there same = omega arith
 
     named : (a : ℕ) (byte : Option ℕ) (fault : Code) → 0x3000 ≤ a → a < 0x3040 → stage_of fault ≡ stage.Facs
-        → NamedFacsFault (altered a byte) fadt_bytes fault 0x3000 → HasFaultWith a byte fault 0x3000 0
+        → NamedFacsFault (altered_set a byte) fadt_bytes fault 0x3000 → HasFaultWith a byte fault 0x3000 0
     named a byte fault from to own wrong =
         of_facs a byte fault 0x3000 (omega arith) (omega arith) own (keeps_fadt a byte (omega arith)) refl (omega arith)
         wrong

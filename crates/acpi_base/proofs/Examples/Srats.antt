@@ -10,7 +10,7 @@ use Rattle.acpi_base.specs.Entries.{first_entry, entries_from, entries_of, end_o
 use Rattle.acpi_base.specs.Overlaps.{IsIntervalOverlap, ComesBefore}
 use Rattle.acpi_base.specs.Srat.{MemoryValue, CoversFrom, Covers, IsAny, IsHotPluggable, IsNotHotPluggable, SratContents, srat_entry, srat_contents, SratFault, SratEntryFault, RangeFault, IsFirstOverlap}
 use Rattle.acpi_base.specs.Examples.{table, IsSoundExample}
-use Rattle.acpi_base.specs.Examples.Srats.{AreSratContents, AreSratFaults, AreFirstOverlaps, HasNoSratFault, example_srats, four_ranges_bytes, faulty_srat_bytes, two_processors, four_ranges, overlapping, hot_ranges, faulty_srat}
+use Rattle.acpi_base.specs.Examples.Srats.{AreSratContents, AreSratFaults, AreFirstOverlaps, HasNoSratFault, example_srats, four_ranges_bytes, faulty_srat_bytes, two_processors, four_ranges, overlapping_ranges, hot_ranges, faulty_srat}
 use Rattle.acpi_base.specs.declared.policy.HotPlug.{HotPlug}
 use Rattle.acpi_base.specs.declared.policy.HotPlug.TheVariants.{Counted, Apart}
 use Rattle.acpi_base.specs.declared.code.Code.{Code}
@@ -55,11 +55,11 @@ plain_overlap =
     overlap four_ranges 0x100000 0x3fffffff (_, (2, omega arith, refl), (refl, refl, refl, omega arith, omega arith))
     (_, (3, omega arith, refl), (refl, refl, refl, omega arith, omega arith)) (λ same. omega arith)
 
-first_overlap : RangeFault Counted overlapping code.Overlap 0x58 0x30 0x1000
+first_overlap : RangeFault Counted overlapping_ranges code.Overlap 0x58 0x30 0x1000
 unfolding has_bit
 first_overlap = (
   omega arith,
-  overlap overlapping 0 0x1000 (_, (1, omega arith, refl), (refl, tt, refl, omega arith, omega arith))
+  overlap overlapping_ranges 0 0x1000 (_, (1, omega arith, refl), (refl, tt, refl, omega arith, omega arith))
       (_, (0, omega arith, refl), (refl, tt, refl, omega arith, omega arith)) (λ same. omega arith),
 )
 
@@ -141,13 +141,13 @@ srat_faults = record {
 
 -- ---- which overlap is reported
 
-first_addresses : IsFirstOverlap Counted overlapping 0x58 0x30 0x1000
+first_addresses : IsFirstOverlap Counted overlapping_ranges 0x58 0x30 0x1000
 unfolding first_overlap
 first_addresses = record {
   overlap = first_overlap.1;
   in_order = inl (omega arith);
   others_after =
-      λ p u here not_at not_other. each_entry overlapping.entries
+      λ p u here not_at not_other. each_entry overlapping_ranges.entries
       (λ p e. p ≢ 0x58 → p ≢ 0x30 → CoversFrom IsAny u 0x1000 e → ComesBefore 0x1000 0x30 u p) (
         (λ _ not_other _. absurd (not_other refl)),
         ((λ not_at _ _. absurd (not_at refl)), ((λ _ _ covers. inr (covers.2, omega arith)), tt)),
@@ -160,9 +160,9 @@ first_addresses = record {
   ];
 }
   where
-    only : (x : ℕ) → x < 0x1000 → (o s : ℕ) → Covers IsAny overlapping o s x → o ≡ 0x58
+    only : (x : ℕ) → x < 0x1000 → (o s : ℕ) → Covers IsAny overlapping_ranges o s x → o ≡ 0x58
     only x less o s here =
-        each_entry overlapping.entries (λ o e. CoversFrom IsAny s x e → o ≡ 0x58) (
+        each_entry overlapping_ranges.entries (λ o e. CoversFrom IsAny s x e → o ≡ 0x58) (
           (λ covers. absurd (omega (arith, covers.2, covers.3))),
           ((λ _. refl), ((λ covers. absurd (omega (arith, covers.2, covers.3))), tt)),
         ) o here.0 here.1 here.2

@@ -9,13 +9,13 @@ use Rattle.acpi_base.specs.declared.code.Code.{Code}
 use Rattle.acpi_base.specs.declared.code.Code.TheVariants as code
 
 -- the whole set with this byte at an address, or with none there
-abbrev pub altered : ℕ → Option ℕ → Memory
-altered address (Some byte) = insert whole_set address byte
-altered address None = remove whole_set address
+abbrev pub altered_set : ℕ → Option ℕ → Memory
+altered_set address (Some byte) = insert whole_set address byte
+altered_set address None = remove whole_set address
 
 -- it has this fault, whose third number is 0
 abbrev pub HasFaultWith : ℕ → Option ℕ → Code → ℕ → ℕ → Type 0
-HasFaultWith address byte fault at other = HasFault (altered address byte) example_policy fault at other 0
+HasFaultWith address byte fault at other = HasFault (altered_set address byte) example_policy fault at other 0
 
 -- the faults of the RSDP at E0000h
 pub record AreRsdpFaults : Type 0 where

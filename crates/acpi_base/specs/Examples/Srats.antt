@@ -64,8 +64,8 @@ overlapping_bytes =
     ∷ 1 ∷ 40 ∷ 0 ∷ 0 ∷ 0 ∷ 0 ∷ 0 ∷ 0 ∷ 0 ∷ 0x10 ∷ 0 ∷ 0 ∷ 0 ∷ 0 ∷ 0 ∷ 0 ∷ 0 ∷ 8 ∷ 0 ∷ 0 ∷ 0 ∷ 0 ∷ 0 ∷ 0 ∷ 0 ∷ 0 ∷ 0 ∷ 0 ∷ 1 ∷ 0 ∷ 0 ∷ 0 ∷ 0 ∷ 0 ∷ 0 ∷ 0 ∷ 0 ∷ 0 ∷ 0 ∷ 0
     ∷ [])
 
-abbrev pub overlapping : SratContents
-overlapping =
+abbrev pub overlapping_ranges : SratContents
+overlapping_ranges =
     said_srat 168
     (placed_entry 48 (MemoryRange (record { domain = 0; base = 0x1000; size = 0x2000; flags = 1 }))
     ∷ placed_entry 88 (MemoryRange (record { domain = 0; base = 0; size = 0x2000; flags = 1 }))
@@ -123,7 +123,7 @@ pub record AreSratContents : Type 0 where
   pub sound : All IsSoundExample example_srats
   pub processors_say : srat_contents two_processors_bytes ≡ two_processors
   pub ranges_say : srat_contents four_ranges_bytes ≡ four_ranges
-  pub overlapping_say : srat_contents overlapping_bytes ≡ overlapping
+  pub overlapping_say : srat_contents overlapping_bytes ≡ overlapping_ranges
   pub hot_ranges_say : srat_contents hot_ranges_bytes ≡ hot_ranges
   pub faulty_says : srat_contents faulty_srat_bytes ≡ faulty_srat
 
@@ -142,7 +142,7 @@ pub record AreSratFaults : Type 0 where
 
 -- which overlap is reported
 pub record AreFirstOverlaps : Type 0 where
-  pub addresses : IsFirstOverlap Counted overlapping 0x58 0x30 0x1000
+  pub addresses : IsFirstOverlap Counted overlapping_ranges 0x58 0x30 0x1000
   pub counted : IsFirstOverlap Counted hot_ranges 0x30 0x58 0
   pub apart : IsFirstOverlap Apart hot_ranges 0x80 0xa8 0
 
