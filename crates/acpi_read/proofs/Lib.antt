@@ -1,4 +1,5 @@
 pub mod EntriesLeft
 pub mod FirstsKept
+mod ListedTables
 pub mod PpttKinds
 pub mod SlitCells

@@ -48,9 +48,9 @@
 
 mod entries;
 mod entry;
+mod entry_tables;
 mod facs;
 mod fadt;
-mod filled_tables;
 mod first_tables;
 mod gas;
 mod header;
@@ -69,21 +69,21 @@ mod typed_entries;
 
 pub use entries::Entries;
 pub use entry::Entry;
+pub use entry_tables::{Madt, Pptt, Srat};
 pub use facs::Facs;
 pub use fadt::{Block, Fadt};
-pub use filled_tables::{Madt, Pptt, Srat};
 pub use first_tables::{FirstTables, Listed};
 pub use gas::Gas;
 pub use header::Header;
 pub use kind::EntryKind;
 pub use layout::{Layout, read_back};
-pub use listed::first;
+pub use listed::{first, listed_table};
 pub use madt::{
     AddressOverride, IoApic, LocalApic, LocalNmi, MADT_FLAGS, MADT_LOCAL_APIC_ADDRESS, MadtEntry,
     NmiSource, Override, X2apic, X2apicNmi,
 };
 pub use pptt::{Cache24, Cache28, NodeHead, PpttEntry};
-pub use root::Root;
+pub use root::{Root, RootPlace, named_root};
 pub use rsdp::Rsdp;
 pub use slit::Slit;
 pub use srat::{ApicDomain, MemoryRange, SratEntry, X2apicDomain};

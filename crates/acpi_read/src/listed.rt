@@ -1,14 +1,15 @@
 //! The tables that a root lists.
 
-ghost use Rattle.std.specs.Prelude.{◌≡◌, ◌<◌, ◌↔◌, IsTrue, IsNone, IfSome, Some, ℕ};
+ghost use Rattle.std.specs.Prelude.{◌≡◌, ◌<◌, ◌↔◌, IsTrue, IsNone, IfSome, MatchOption, Some, ℕ, List};
 ghost use Rattle.acpi_base.specs.Root.{HasSlot};
-ghost use Rattle.acpi_base.specs.Listed.{IsFirstListed};
+ghost use Rattle.acpi_base.specs.Listed.{IsFirstListed, IsListedTable};
 ghost use Rattle.acpi_base.specs.Tables.{IsSigned};
 ghost use Rattle.acpi_read.specs.Roots.{slots_of};
 
 use crate::header::Header;
 use crate::layout::Layout;
 use crate::root::Root;
+use crate::table::Table;
 use acpi_base::Image;
 use acpi_base::field::is_signed;
 
@@ -57,6 +58,19 @@ pub fn first(image: &Image, root: &Root<'_>, signature: [u8; 4]) -> Option<u64>
         }
     }
     None
+}
+
+/// The first listed table with the signature of the set that the RSDP at an address leads to, where it is whole: the first slot
+/// at whose address a header with the signature is held decides, and no later one is looked at. No sum is asked for, neither of
+/// the table nor of the RSDP or the root.
+pub fn listed_table<'a>(image: &'a Image, rsdp: u64, signature: [u8; 4]) -> Option<Table<'a>>
+    ensures { MatchOption result
+        ((whole : List ℕ) → ¬ IsListedTable image.now rsdp signature whole)
+        (IsListedTable image.now rsdp signature) }
+{
+    let root = Root::whole(image, rsdp)?;
+    let address = first(image, &root, signature)?;
+    Table::whole(image, address)
 }
 
 #[cfg(test)]

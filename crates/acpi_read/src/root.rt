@@ -1,31 +1,32 @@
 //! The root of the tables.
 
-ghost use Rattle.std.specs.Prelude.{◌≡◌, ◌≤◌, ◌<◌, ◌+◌, ◌*◌, ◌^◌, ◌↔◌, List, ℕ, length, Some, IsTrue, IsOk, IfOk, IfErr, IfSome};
+ghost use Rattle.std.specs.Prelude.{◌≡◌, ◌≤◌, ◌<◌, ◌+◌, ◌*◌, ◌^◌, ◌↔◌, List, ℕ, length, Some, IsTrue, IsOk, IfOk, IfErr, IfSome, MatchOption};
 ghost use Rattle.std.specs.Option.{option_map};
 ghost use Rattle.acpi_base.specs.Codes.{code_number, stage_of};
 ghost use Rattle.acpi_base.specs.declared.stage.Stage.{Stage};
 ghost use Rattle.acpi_base.specs.Header.{header_of};
 ghost use Rattle.acpi_base.specs.Number.{field};
-ghost use Rattle.acpi_base.specs.Rsdp.{RsdpValue};
-ghost use Rattle.acpi_base.specs.Root.{chosen_root, IsSlotWidth, IsSoundRootTable, RootTableFault, NamedRootFault};
+ghost use Rattle.acpi_base.specs.Rsdp.{RsdpValue, addresses_at};
+ghost use Rattle.acpi_base.specs.Root.{chosen_root, root_signature, IsSlotWidth, IsSoundRootTable, RootTableFault, NamedRootFault};
 ghost use Rattle.acpi_base.specs.Tables.{length_of};
 ghost use Rattle.acpi_base.specs.declared.code.Code.{Code};
 ghost use Rattle.acpi_read.specs.Headers.{header_value};
-ghost use Rattle.acpi_read.specs.Roots.{RootValue, slots_of, IsSoundNamedRoot};
+ghost use Rattle.acpi_read.specs.Roots.{RootValue, place_value, slots_of, IsSoundNamedRoot, IsWholeRoot};
 
 use crate::header::{Header, header_at};
 use crate::layout::Layout;
 use crate::rsdp::Rsdp;
-use acpi_base::field::{is_signed, u32_at, u64_at};
+use crate::table::Table;
+use acpi_base::field::{is_signed, u8_at, u32_at, u64_at};
 use acpi_base::{Code, Image, sum};
 use std::marker::Model;
 
 /// The root of the tables (ACPI 6.5, 5.2.7 and 5.2.8): the XSDT or the RSDT, whose slots behind its header
 /// hold the addresses of all other tables.
 ///
-/// Its bytes summed to 0 when it was read, and were a whole number of slots. Whether tables stand at the
-/// addresses in its slots is not checked. Contracts see its address, the width of its slots in bytes and
-/// its bytes.
+/// What `read` returns sums to 0 and is a whole number of slots; of what `whole` returns neither is known. Whether tables
+/// stand at the addresses in its slots is not checked. Contracts see its address, the width of its slots in bytes and its
+/// bytes.
 #[derive(Debug, Drop)]
 pub struct Root<'a> {
     address: u64,
@@ -53,38 +54,101 @@ impl<'a> Model for Root<'a> {
 }
 
 /// Where the root is, and how wide its slots are.
+#[derive(Clone, Copy, Debug, PartialEq, Eq)]
+pub struct RootPlace {
+    /// Its address, which is not 0.
+    pub address: u64,
+    /// The width of a slot in bytes: 8 in an XSDT, 4 in an RSDT.
+    pub width: u32,
+}
+
+/// The addresses that an RSDP names; 0 names none.
 #[derive(Clone, Copy, Debug)]
-struct Place {
-    address: u64,
-    /// In bytes: 8 in an XSDT, 4 in an RSDT.
-    width: u32,
+struct Addresses {
+    rsdt: u32,
+    /// 0 in the short form.
+    xsdt: u64,
 }
 
 /// The XSDT where one is named, else the RSDT where one is named.
 #[tactic(auto, unfolding(acpi_base::specs::Root::chosen_root))]
-fn place_of(rsdp: &Rsdp) -> Option<Place>
-    ensures root { option_map (λ root. record { address = root.address; width = root.width })
-        result ≡ chosen_root rsdp.now.named }
+fn chosen_root(named: Addresses) -> Option<RootPlace>
+    ensures root { option_map place_value
+        result ≡ chosen_root (record { rsdt = named.rsdt; xsdt = named.xsdt }) }
     ensures width { IfSome result (λ root. IsSlotWidth root.width) }
 {
-    if rsdp.xsdt() != 0 {
-        return Some(Place {
-            address: rsdp.xsdt(),
+    if named.xsdt != 0 {
+        return Some(RootPlace {
+            address: named.xsdt,
             width: Root::XSDT_SLOT,
         });
     }
-    if rsdp.rsdt() != 0 {
-        return Some(Place {
-            address: u64::from(rsdp.rsdt()),
+    if named.rsdt != 0 {
+        return Some(RootPlace {
+            address: u64::from(named.rsdt),
             width: Root::RSDT_SLOT,
         });
     }
     None
 }
 
+/// The addresses that the RSDP at an address names, where its 20 bytes are held, and of the extended form its 36.
+#[tactic(auto, unfolding(acpi_base::specs::Rsdp::addresses_at))]
+fn addresses_at(image: &Image, address: u64) -> Option<Addresses>
+    ensures { option_map (λ named. record { rsdt = named.rsdt; xsdt = named.xsdt })
+        result ≡ addresses_at image.now address }
+{
+    let head = image.window(address, Rsdp::SHORT_LENGTH)?;
+    if u8_at(head, 15) < 2 {
+        return Some(Addresses {
+            rsdt: u32_at(head, 16),
+            xsdt: 0,
+        });
+    }
+    let extended = image.window(address, Rsdp::EXTENDED_LENGTH)?;
+    Some(Addresses {
+        rsdt: u32_at(extended, 16),
+        xsdt: u64_at(extended, 24),
+    })
+}
+
+/// The place of the root that the RSDP at an address names, whether the RSDP is sound or not: that of the XSDT where it names
+/// one, else of the RSDT, else none. No place is known, none at all, where the RSDP cannot be read: where its 20 bytes are not
+/// held, or of the extended form its 36. Nothing is asked of what stands at the place.
+pub fn named_root(image: &Image, rsdp: u64) -> Option<Option<RootPlace>>
+    ensures root { option_map (option_map place_value)
+        result ≡ option_map chosen_root (addresses_at image.now rsdp) }
+    ensures width { IfSome result (λ named. IfSome named (λ root. IsSlotWidth root.width)) }
+{
+    let named = addresses_at(image, rsdp)?;
+    Some(chosen_root(named))
+}
+
+/// The place of the root that an RSDP names.
+fn place_of(rsdp: &Rsdp) -> Option<RootPlace>
+    ensures root { option_map place_value result ≡ chosen_root rsdp.now.named }
+    ensures width { IfSome result (λ root. IsSlotWidth root.width) }
+{
+    chosen_root(Addresses {
+        rsdt: rsdp.rsdt(),
+        xsdt: rsdp.xsdt(),
+    })
+}
+
+/// The signature of a root with slots of this width.
+fn signature(width: u32) -> &'static [u8; 4]
+    ensures { result.now ≡ root_signature width }
+{
+    if width == Root::XSDT_SLOT {
+        b"XSDT"
+    } else {
+        b"RSDT"
+    }
+}
+
 /// The root at a place.
 #[tactic(auto, using(acpi_base::proofs::Images::HeldBytes::says_length))]
-fn read_at(image: &Image, place: Place) -> Result<Root<'_>, Code>
+fn read_at(image: &Image, place: RootPlace) -> Result<Root<'_>, Code>
     requires { IsSlotWidth place.width }
     ensures ok { IfOk result
         (λ root. (root.address ≡ place.address) × (root.width ≡ place.width)
@@ -97,16 +161,11 @@ fn read_at(image: &Image, place: Place) -> Result<Root<'_>, Code>
         → RootTableFault image.now place.address place.width other
         → code_number code ≤ code_number other) }
 {
-    let Place { address, width } = place;
+    let RootPlace { address, width } = place;
     let Some(header) = image.window(address, Header::LEN as u64) else {
         return Err(Code::RootHeaderOut);
     };
-    let signature = if width == Root::XSDT_SLOT {
-        b"XSDT"
-    } else {
-        b"RSDT"
-    };
-    if !is_signed(header, signature) {
+    if !is_signed(header, signature(width)) {
         return Err(Code::RootSignature);
     }
     let length = u32_at(header, 4);
@@ -161,6 +220,27 @@ impl<'a> Root<'a> {
             return Err(Code::NoRoot);
         };
         read_at(image, place)
+    }
+
+    /// The root that the RSDP at an address names, where it is a table with its kind's signature: whatever its bytes and
+    /// those of the RSDP sum to, and whatever part of a slot its Length leaves over. None where the RSDP cannot be read or
+    /// names none, and where no such table stands there.
+    #[tactic(auto, using(acpi_base::proofs::Tables::Whole::signed_table))]
+    pub fn whole(image: &'a Image, rsdp: u64) -> Option<Root<'a>>
+        ensures { MatchOption result ((root : RootValue) → ¬ IsWholeRoot image.now rsdp root)
+            (IsWholeRoot image.now rsdp) }
+    {
+        let RootPlace { address, width } = named_root(image, rsdp)??;
+        let table = Table::whole(image, address)?;
+        let bytes = table.bytes();
+        if !is_signed(bytes, signature(width)) {
+            return None;
+        }
+        Some(Root {
+            address,
+            width,
+            bytes,
+        })
     }
 
     /// How many slots lie wholly within its bytes, those that hold 0 too.

@@ -1,6 +1,6 @@
 //! System description tables.
 
-ghost use Rattle.std.specs.Prelude.{◌≡◌, ◌≤◌, ◌<◌, ◌^◌, ◌↔◌, List, ℕ, length, IsOk, IfOk, IfErr};
+ghost use Rattle.std.specs.Prelude.{◌≡◌, ◌≤◌, ◌<◌, ◌^◌, ◌↔◌, List, ℕ, length, IsOk, IfOk, IfErr, MatchOption};
 ghost use Rattle.acpi_base.specs.Codes.{code_number, stage_of};
 ghost use Rattle.acpi_base.specs.declared.stage.Stage.{Stage};
 ghost use Rattle.acpi_base.specs.Header.{header_of};
@@ -15,7 +15,8 @@ use acpi_base::{Code, Image};
 use std::marker::Model;
 
 /// A system description table of any kind (ACPI 6.5, 5.2.6): as many bytes as its Length says, from 36 to
-/// 2^32 - 1, which summed to 0 when it was read. Contracts see the bytes.
+/// 2^32 - 1. What is read by `read` or known to be `sound` sums to 0; what is read by `whole` may sum to anything.
+/// Contracts see the bytes.
 ///
 /// The signature, the revision and the bytes behind the header are not checked.
 #[derive(Debug, Drop)]
@@ -79,6 +80,23 @@ impl<'a> Table<'a> {
         let length = u32_at(header, 4);
         let bytes = image.window(address, u64::from(length)).unwrap();
         Table { bytes }
+    }
+
+    /// The table at an address, whatever its bytes sum to. None where none stands there: where its header's 36 bytes
+    /// are not all held, its Length is below 36, or its Length bytes are not all held.
+    #[tactic(auto, using(acpi_base::proofs::Images::HeldBytes::says_length))]
+    pub fn whole(image: &'a Image, address: u64) -> Option<Table<'a>>
+        ensures { MatchOption result
+            ((header bytes : List ℕ) → ¬ IsTable image.now address header bytes)
+            (λ bytes. (header : List ℕ) × IsTable image.now address header bytes) }
+    {
+        let header = image.window(address, Header::LEN as u64)?;
+        let length = u32_at(header, 4);
+        if length < Header::LEN as u32 {
+            return None;
+        }
+        let bytes = image.window(address, u64::from(length))?;
+        Some(Table { bytes })
     }
 
     /// Another view of the same table: several stages look at one. No byte is copied.

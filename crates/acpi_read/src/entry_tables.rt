@@ -1,12 +1,12 @@
-//! Tables that their entries fill: what is left to look at once the entries are known to be sound.
+//! Tables that are cut into entries: their fields, and their entries by what they say, as far as they stand. Nothing is asked
+//! of the entries: one whose length is none of its type is opaque, as one of another type.
 
-ghost use Rattle.std.specs.Prelude.{◌≡◌, ◌<◌, ◌^◌, length};
+ghost use Rattle.std.specs.Prelude.{◌≡◌, ◌≤◌, ◌<◌, ◌^◌, length, MatchOption};
 ghost use Rattle.acpi_base.specs.Entries.{entries_read_by};
 ghost use Rattle.acpi_base.specs.Header.{header_of};
 ghost use Rattle.acpi_base.specs.Madt.{madt_contents, madt_entry};
 ghost use Rattle.acpi_base.specs.Srat.{srat_contents, srat_entry};
 ghost use Rattle.acpi_base.specs.Pptt.{pptt_contents, pptt_entry};
-ghost use Rattle.acpi_read.specs.FilledTables.{IsFilledMadt, IsFilledSrat, IsFilledPptt};
 ghost use Rattle.acpi_read.specs.Headers.{header_value};
 
 use crate::entries::{Entries, entries_from};
@@ -19,27 +19,37 @@ use crate::typed_entries::TypedEntries;
 use acpi_base::field::u32_at;
 use std::marker::Model;
 
-/// A MADT that its entries fill, each of a length of its type (ACPI 6.5, 5.2.12). Contracts see its bytes.
+/// A MADT of at least 44 bytes, those of its fields (ACPI 6.5, 5.2.12). Contracts see its bytes.
 #[derive(Debug, Drop)]
 pub struct Madt<'a> {
     table: Table<'a>,
 }
 
 impl<'a> Model for Madt<'a> {
-    ghost use Rattle.std.specs.Prelude.{ℕ, List};
-    ghost use Rattle.acpi_read.specs.FilledTables.{IsFilledMadt};
+    ghost use Rattle.std.specs.Prelude.{◌≤◌, ℕ, List, length};
 
     ghost Value = { List ℕ };
 
     ghost view = { λ madt. madt.table };
 
-    ghost invariant = { λ madt. IsFilledMadt madt.table };
+    ghost invariant = { λ madt. 44 ≤ length madt.table };
 }
 
 impl<'a> Madt<'a> {
-    /// The view of a table that is known to be one. No byte is looked at.
+    /// The view of a table, or none where it has fewer than 44 bytes.
+    pub fn new(table: Table<'a>) -> Option<Madt<'a>>
+        ensures { MatchOption result (length table.entry < 44)
+            (λ madt. (madt ≡ table.entry) × (44 ≤ length table.entry)) }
+    {
+        if table.bytes().len() < Entries::MADT_START {
+            return None;
+        }
+        Some(Madt { table })
+    }
+
+    /// The view of a table that is known to have 44 bytes at least. No byte is looked at.
     pub fn of(table: Table<'a>) -> Madt<'a>
-        requires { IsFilledMadt table }
+        requires { 44 ≤ length table }
         ensures { result ≡ table.entry }
     {
         Madt { table }
@@ -73,7 +83,6 @@ impl<'a> Madt<'a> {
     pub fn entries(&self) -> TypedEntries<'a, MadtEntry<'a>>
         ensures entries { entries_read_by madt_entry
             result.entries.entries ≡ (madt_contents self.now).entries }
-        ensures filled { IsFilledMadt self.now }
         ensures size { length self.now < 2 ^ 32 }
     {
         // Opens the invariant of `Table` to the proof, and does nothing when it runs: a table has fewer than 2^32 bytes.
@@ -82,27 +91,37 @@ impl<'a> Madt<'a> {
     }
 }
 
-/// An SRAT that its entries fill, each of a length of its type (ACPI 6.5, 5.2.16). Contracts see its bytes.
+/// An SRAT of at least 48 bytes, those of its fields (ACPI 6.5, 5.2.16). Contracts see its bytes.
 #[derive(Debug, Drop)]
 pub struct Srat<'a> {
     table: Table<'a>,
 }
 
 impl<'a> Model for Srat<'a> {
-    ghost use Rattle.std.specs.Prelude.{ℕ, List};
-    ghost use Rattle.acpi_read.specs.FilledTables.{IsFilledSrat};
+    ghost use Rattle.std.specs.Prelude.{◌≤◌, ℕ, List, length};
 
     ghost Value = { List ℕ };
 
     ghost view = { λ srat. srat.table };
 
-    ghost invariant = { λ srat. IsFilledSrat srat.table };
+    ghost invariant = { λ srat. 48 ≤ length srat.table };
 }
 
 impl<'a> Srat<'a> {
-    /// The view of a table that is known to be one. No byte is looked at.
+    /// The view of a table, or none where it has fewer than 48 bytes.
+    pub fn new(table: Table<'a>) -> Option<Srat<'a>>
+        ensures { MatchOption result (length table.entry < 48)
+            (λ srat. (srat ≡ table.entry) × (48 ≤ length table.entry)) }
+    {
+        if table.bytes().len() < Entries::SRAT_START {
+            return None;
+        }
+        Some(Srat { table })
+    }
+
+    /// The view of a table that is known to have 48 bytes at least. No byte is looked at.
     pub fn of(table: Table<'a>) -> Srat<'a>
-        requires { IsFilledSrat table }
+        requires { 48 ≤ length table }
         ensures { result ≡ table.entry }
     {
         Srat { table }
@@ -120,7 +139,6 @@ impl<'a> Srat<'a> {
     pub fn entries(&self) -> TypedEntries<'a, SratEntry<'a>>
         ensures entries { entries_read_by srat_entry
             result.entries.entries ≡ (srat_contents self.now).entries }
-        ensures filled { IsFilledSrat self.now }
         ensures size { length self.now < 2 ^ 32 }
     {
         // Opens the invariant of `Table` to the proof, and does nothing when it runs: a table has fewer than 2^32 bytes.
@@ -129,7 +147,7 @@ impl<'a> Srat<'a> {
     }
 }
 
-/// A PPTT that its entries fill, each of a length of its type (ACPI 6.5, 5.2.30). Contracts see its bytes.
+/// A PPTT (ACPI 6.5, 5.2.30). Contracts see its bytes.
 #[derive(Debug, Drop)]
 pub struct Pptt<'a> {
     table: Table<'a>,
@@ -137,19 +155,15 @@ pub struct Pptt<'a> {
 
 impl<'a> Model for Pptt<'a> {
     ghost use Rattle.std.specs.Prelude.{ℕ, List};
-    ghost use Rattle.acpi_read.specs.FilledTables.{IsFilledPptt};
 
     ghost Value = { List ℕ };
 
     ghost view = { λ pptt. pptt.table };
-
-    ghost invariant = { λ pptt. IsFilledPptt pptt.table };
 }
 
 impl<'a> Pptt<'a> {
-    /// The view of a table that is known to be one. No byte is looked at.
+    /// The view of a table. No byte is looked at.
     pub fn of(table: Table<'a>) -> Pptt<'a>
-        requires { IsFilledPptt table }
         ensures { result ≡ table.entry }
     {
         Pptt { table }
@@ -167,7 +181,6 @@ impl<'a> Pptt<'a> {
     pub fn entries(&self) -> TypedEntries<'a, PpttEntry<'a>>
         ensures entries { entries_read_by pptt_entry
             result.entries.entries ≡ (pptt_contents self.now).entries }
-        ensures filled { IsFilledPptt self.now }
         ensures size { length self.now < 2 ^ 32 }
     {
         // Opens the invariant of `Table` to the proof, and does nothing when it runs: a table has fewer than 2^32 bytes.

@@ -1,0 +1,48 @@
+-- What a root's slots list first is what the set lists.
+use Rattle.std.proofs.Common.{◌≡◌, ℕ, Option, Some, None, List, sym, ap, subst}
+use Rattle.std.specs.Prelude.{MatchOption}
+use Rattle.std.specs.Option.{option_map}
+use Rattle.std.proofs.lemmas.Option.{same_Some}
+use Rattle.acpi_base.specs.Memory.{Memory}
+use Rattle.acpi_base.specs.Tables.{IsTable}
+use Rattle.acpi_base.specs.Root.{Root, chosen_root, IsRoot}
+use Rattle.acpi_base.specs.Rsdp.{addresses_at}
+use Rattle.acpi_base.specs.Listed.{IsFirstListed, IsListedTable}
+use Rattle.acpi_base.proofs.Tables.Listed.{one_first_listed, listed_of_root, listed_in_root}
+use Rattle.acpi_read.specs.Roots.{RootValue, IsWholeRoot}
+
+-- the RSDP names one root
+pub one_place : {m : Memory} {p r d : ℕ} {place : Root}
+    → Some (Some place) ≡ option_map chosen_root (addresses_at m p) → IsRoot m p r d → r ≡ place.address
+one_place {m} {p} {r} {d} {place} is root =
+    let root_at : Root = record { address = r; width = d } in
+    let both : Some (Some place) ≡ Some (Some root_at) = rw (root.read, root.chosen) at is in
+    sym (ap (λ (x : Root). x.address) (same_Some place root_at (same_Some (Some place) (Some root_at) both)))
+
+pub listed_of_set : {m : Memory} {p a : ℕ} {root : RootValue} {signature header whole : List ℕ} → IsWholeRoot m p root
+    → IsFirstListed m root.bytes root.width signature a → IsTable m a header whole → IsListedTable m p signature whole
+listed_of_set root first table = listed_in_root root.named root.table first table
+
+-- a set that lists a table has a root
+pub root_of_listed : {m : Memory} {p : ℕ} {signature whole : List ℕ} (listed : IsListedTable m p signature whole)
+    → IsWholeRoot m p (record { address = listed.first.r; width = listed.first.d; bytes = listed.first.whole })
+root_of_listed listed = record { named = listed.first.root; table = listed.first.table }
+
+-- and the table comes first in its slots
+pub first_of_listed : {m : Memory} {p : ℕ} {root : RootValue} {signature whole : List ℕ} → IsWholeRoot m p root
+    → (listed : IsListedTable m p signature whole) → IsFirstListed m root.bytes root.width signature listed.a
+first_of_listed root listed = listed_of_root root.named root.table listed.first
+
+-- the table at the first address is the set's
+pub table_of_set : {m : Memory} {p a : ℕ} {root : RootValue} {signature whole : List ℕ} → IsWholeRoot m p root
+    → IsFirstListed m root.bytes root.width signature a → (listed : IsListedTable m p signature whole)
+    → IsTable m a listed.header whole
+table_of_set {m} {a = a} {root = root} {signature = signature} {whole = whole} is first listed =
+    subst (λ (b : ℕ). IsTable m b listed.header whole)
+    (one_first_listed m root.bytes root.width signature listed.a a (first_of_listed is listed) first) listed.table
+
+-- what holds of a value or of none follows from what does
+pub match_map : {A : Type 0} {N N' : Type 0} {S S' : A → Type 0} (o : Option A) → (N → N') → ((a : A) → S a → S' a)
+    → MatchOption o N S → MatchOption o N' S'
+match_map None none some here = none here
+match_map (Some a) none some here = some a here
