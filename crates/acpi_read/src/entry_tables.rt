@@ -83,6 +83,7 @@ impl<'a> Madt<'a> {
     pub fn entries(&self) -> TypedEntries<'a, MadtEntry<'a>>
         ensures entries { entries_read_by madt_entry
             result.entries.entries ≡ (madt_contents self.now).entries }
+        ensures long { 44 ≤ length self.now }
         ensures size { length self.now < 2 ^ 32 }
     {
         // Opens the invariant of `Table` to the proof, and does nothing when it runs: a table has fewer than 2^32 bytes.

@@ -1,9 +1,0 @@
-use Rattle.acpi_base.specs.declared.table_kind.TableKind.TheVariants as kind
-use Rattle.acpi_check.proofs.EntryPasses.Filled.{filled_pptt}
-use Rattle.acpi_check.proofs.WholeSets.TablesLifted.{listed_of_first}
-use Rattle.acpi_check.proofs.set.Set.pptt.Goals as goal
-
-pub of-requires : goal.of-requires
-of-requires c =
-    filled_pptt _ (c.requires.holds _
-    (listed_of_first c.requires.set.listed.tables kind.Pptt c.first.ensures c.in_ok-first.was))
