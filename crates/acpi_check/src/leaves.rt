@@ -1,6 +1,6 @@
 //! Stage 18: the IDs of the PPTT's leaves among the UIDs of the MADT's processors.
 
-ghost use Rattle.std.specs.Prelude.{◌≡◌, ◌<◌, ⊤, AllPairs, Contains, IfOk, MatchBool, MatchOption};
+ghost use Rattle.std.specs.Prelude.{◌≡◌, ◌<◌, ⊤, AllPairs, Contains, IfOk, MatchBool, MatchOption, None};
 ghost use Rattle.acpi_base.specs.Across.{AreLeavesKnown, LeafFault};
 ghost use Rattle.acpi_base.specs.Madt.{madt_contents, IsWhollyTyped};
 ghost use Rattle.acpi_base.specs.Pptt.{pptt_contents};
@@ -32,8 +32,9 @@ fn is_typed(entry: &MadtEntry<'_>) -> bool
     }
 }
 
-/// Whether each entry of a MADT is of such a type, so that all its processors are known.
+/// Whether each entry of a MADT that its entries fill is of such a type, so that all its processors are known.
 fn is_wholly_typed(madt: &Madt<'_>) -> bool
+    requires { (madt_contents madt.now).cut ≡ None }
     ensures { MatchBool result (IsWhollyTyped (madt_contents madt.now))
         (¬ IsWhollyTyped (madt_contents madt.now)) }
 {
@@ -115,7 +116,10 @@ const HAS_LEAVES: u8 = 2;
 /// What exempts a set is asked first, in this order, and takes no memory. Behind it memory is taken for the UID of each
 /// processor and the ID of each leaf, which are sorted and gone over together; only where not all IDs are seen among the UIDs
 /// are the leaves looked up one by one.
+///
+/// Asks that entries fill the MADT (`Entries::cut` is none): one with bytes left behind them may have more processors.
 pub fn known_leaves(alloc: Global, madt: &Madt<'_>, pptt: &Pptt<'_>) -> Result<(), Refusal>
+    requires { (madt_contents madt.now).cut ≡ None }
     ensures { FindsFirst Stage.Leaves
         (AreLeavesKnown (madt_contents madt.now) (pptt_contents pptt.now))
         (LeafFault (madt_contents madt.now) (pptt_contents pptt.now)) result }

@@ -12,7 +12,7 @@ impl<'a> Set<'a, '_> {
     ghost use Rattle.acpi_read.specs.FirstTables.{first_table};
     ghost use Rattle.acpi_check.specs.Set.{IsSet};
 
-    /// The MADT, where one is listed: its entries fill it, each of a length of its type, as stage 6 found.
+    /// The MADT, where one is listed: it has 44 bytes at least, as stage 6 found.
     pub fn madt(&self) -> Option<Madt<'a>>
         requires holds { Holds Stage.Madt self.now.listed.image.now self.now.policy.now }
         requires set { IsSet self.now }
@@ -21,7 +21,7 @@ impl<'a> Set<'a, '_> {
         Some(Madt::of(self.listed.tables.first(TableKind::Madt)?))
     }
 
-    /// The SRAT, where one is listed: its entries fill it, each of a length of its type, as stage 9 found.
+    /// The SRAT, where one is listed: it has 48 bytes at least, as stage 9 found.
     pub fn srat(&self) -> Option<Srat<'a>>
         requires holds { Holds Stage.Srat self.now.listed.image.now self.now.policy.now }
         requires set { IsSet self.now }
@@ -30,10 +30,8 @@ impl<'a> Set<'a, '_> {
         Some(Srat::of(self.listed.tables.first(TableKind::Srat)?))
     }
 
-    /// The PPTT, where one is listed: its entries fill it, each of a length of its type, as stage 12 found.
+    /// The PPTT, where one is listed.
     pub fn pptt(&self) -> Option<Pptt<'a>>
-        requires holds { Holds Stage.Pptt self.now.listed.image.now self.now.policy.now }
-        requires set { IsSet self.now }
         ensures { result ≡ first_table self.now.listed.tables TableKind.Pptt }
     {
         Some(Pptt::of(self.listed.tables.first(TableKind::Pptt)?))

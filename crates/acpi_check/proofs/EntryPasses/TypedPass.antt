@@ -1,8 +1,7 @@
 -- A pass over the entries of a MADT to see whether all are typed.
-use Rattle.std.proofs.Common.{◌≡◌, true, false, true≢false, List, [], ◌∷◌, refl, sym, subst, ℕ}
+use Rattle.std.proofs.Common.{◌≡◌, ◌≤◌, true, false, true≢false, List, [], ◌∷◌, length, None, refl, sym, subst, ℕ}
 use Rattle.acpi_base.specs.Entries.{PlacedEntry, Stands}
 use Rattle.acpi_base.specs.Madt.{MadtEntry, MadtContents, Opaque, madt_contents, IsWhollyTyped}
-use Rattle.acpi_read.specs.FilledTables.{IsFilledMadt}
 use Rattle.acpi_check.specs.Leaves.{is_typed}
 use Rattle.acpi_check.proofs.EntryPasses.Passes.{HasPassed, next_stands, all_passed}
 
@@ -23,12 +22,13 @@ stops madt s left here untyped typed =
     typed.typed s.offset bytes (subst (Stands madt.entries s.offset) is (next_stands here))
 
 -- where none is left, typed entries fill the table
-pub ends : (whole : List ℕ) → IsFilledMadt whole → IsAt (madt_contents whole) [] → IsWhollyTyped (madt_contents whole)
+pub ends : (whole : List ℕ) → 44 ≤ length whole → (madt_contents whole).cut ≡ None → IsAt (madt_contents whole) []
+    → IsWhollyTyped (madt_contents whole)
 unfolding madt_contents
-ends whole full here =
+ends whole long filled here =
     record {
-      long = full.long;
-      filled = full.filled;
+      long = long;
+      filled = filled;
       typed =
           λ o e stands. true≢false (sym (all_passed here o (Opaque e) stands));
     }

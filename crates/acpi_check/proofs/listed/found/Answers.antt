@@ -118,9 +118,6 @@ returns-in_ok-first-in-Pptt c =
     (λ whole. IsCutPptt (pptt_contents whole)) (λ whole. PpttFault (pptt_contents whole)) (λ all. all)
     (λ v. (λ h. h, λ h. h)) (λ v least. least) c.sound_pptt.result c.sound_pptt.ensures
 
-pub pptt-requires-clause-holds : goal.pptt-requires-clause-holds
-pptt-requires-clause-holds c = earlier c.requires c.in-References.is stage.Pptt (omega arith)
-
 pub returns-in_err-pptt-in-References : goal.returns-in_err-pptt-in-References
 returns-in_err-pptt-in-References c =
     unlisted c.requires c.in-References.is kind.Pptt c.pptt.ensures c.in_err-pptt-in-References.was
@@ -137,9 +134,6 @@ returns-in_ok-pptt-in-References c =
     (λ whole. AreReferencesSound (pptt_contents whole)) (λ whole. ReferenceFault (pptt_contents whole)) (λ all. all)
     (λ v. (λ h. h, λ h. h)) (λ v least. least) c.sound_references.result c.sound_references.ensures
 
-pub pptt-requires-in-Parents-clause-holds : goal.pptt-requires-in-Parents-clause-holds
-pptt-requires-in-Parents-clause-holds c = earlier c.requires c.in-Parents.is stage.Pptt (omega arith)
-
 pub returns-in_err-pptt-in-Parents : goal.returns-in_err-pptt-in-Parents
 returns-in_err-pptt-in-Parents c =
     unlisted c.requires c.in-Parents.is kind.Pptt c.pptt-in-Parents.ensures c.in_err-pptt-in-Parents.was
@@ -155,9 +149,6 @@ returns-in_ok-pptt-in-Parents c =
     settled c.requires c.in-Parents.is kind.Pptt c.pptt-in-Parents.ensures c.in_ok-pptt-in-Parents.was
     (λ whole. DoParentsEnd (pptt_contents whole)) (λ whole. ParentFault (pptt_contents whole)) (λ all. all)
     (λ v. (λ h. h, λ h. h)) (λ v least. least) c.parents_end.result c.parents_end.ensures
-
-pub pptt-requires-in-Caches-clause-holds : goal.pptt-requires-in-Caches-clause-holds
-pptt-requires-in-Caches-clause-holds c = earlier c.requires c.in-Caches.is stage.Pptt (omega arith)
 
 pub returns-in_err-pptt-in-Caches : goal.returns-in_err-pptt-in-Caches
 returns-in_err-pptt-in-Caches c =
@@ -230,13 +221,16 @@ returns-in_err-madt-in-Leaves c =
     unlisted c.requires c.in-Leaves.is kind.Madt c.madt-in-Leaves.ensures c.in_err-madt-in-Leaves.was
     c.from_residual-in_err-madt-in-Leaves.ensures (of_none _)
 
-pub pptt-requires-in-Leaves-clause-holds : goal.pptt-requires-in-Leaves-clause-holds
-pptt-requires-in-Leaves-clause-holds c = earlier c.requires c.in-Leaves.is stage.Pptt (omega arith)
-
 pub returns-in_err-pptt-in-Leaves : goal.returns-in_err-pptt-in-Leaves
 returns-in_err-pptt-in-Leaves c =
     unlisted c.requires c.in-Leaves.is kind.Pptt c.pptt-in-Leaves.ensures c.in_err-pptt-in-Leaves.was
     c.from_residual-in_err-pptt-in-Leaves.ensures (λ none _ _. of_none _ none)
+
+pub known_leaves-requires : goal.known_leaves-requires
+known_leaves-requires c =
+    (earlier c.requires c.in-Leaves.is stage.Madt (omega arith) _
+    (listed_of_first c.requires.tables.listed.tables kind.Madt c.madt-in-Leaves.ensures
+    c.in_ok-madt-in-Leaves.was)).filled
 
 pub returns-in_ok-pptt-in-Leaves : goal.returns-in_ok-pptt-in-Leaves
 returns-in_ok-pptt-in-Leaves c =
