@@ -1,5 +1,5 @@
 -- What entries of a table say, collected for a search: ranges as spans, and the first overlap that is found of them.
-use Rattle.std.specs.Prelude.{◌≡◌, ℕ, ◌+◌, ◌&&◌, ◌↔◌, Bool, List, Contains, Option, Some, None, nat_lt, if◌then◌else◌}
+use Rattle.std.specs.Prelude.{◌≡◌, ℕ, ◌+◌, ◌^◌, ◌<◌, ◌&&◌, ◌↔◌, Bool, List, All, Contains, Option, Some, None, nat_lt, if◌then◌else◌}
 use Rattle.std.specs.List.{filter_map}
 use Rattle.acpi_base.specs.Overlaps.{AreApart, IsFirstIntervalOverlap}
 use Rattle.acpi_base.specs.Entries.{PlacedEntry}
@@ -7,7 +7,7 @@ use Rattle.acpi_base.specs.Madt.{MadtEntry, IoApic}
 use Rattle.acpi_base.specs.Policy.{PolicyValue, inputs_of}
 use Rattle.acpi_base.specs.Srat.{SratEntry, MemoryRange, MemoryValue, SratContents, is_enabled, AreRangesApart, IsFirstOverlap}
 use Rattle.acpi_base.specs.declared.policy.HotPlug.{HotPlug}
-use Rattle.acpi_graph.specs.Spans.{NamesDiffer, HasNumber}
+use Rattle.acpi_graph.specs.Spans.{NamesDiffer, HasNumber, IfAt}
 use Rattle.acpi_graph.specs.declared.clash.Clash.{Clash}
 use Rattle.acpi_graph.specs.declared.clash.Clash.TheVariants as clash
 use Rattle.acpi_graph.specs.declared.span.Span.{Span}
@@ -26,6 +26,14 @@ pub record HasSpan (spans : List Span) (o s x : ℕ) : Type 0 where
 pub record AreSpansOf (HoldsAt : ℕ → ℕ → ℕ → Type 0) (spans : List Span) : Type 0 where
   pub names : NamesDiffer spans
   pub covers : (o s x : ℕ) → HoldsAt o s x ↔ HasSpan spans o s x
+
+-- each span begins at a number of 64 bits
+abbrev pub BeginLow : List Span → Type 0
+BeginLow spans = All (λ span. span.start < 2 ^ 64) spans
+
+-- the point of an overlap, where there is one, has 64 bits
+abbrev pub HasLowPoint : Clash → Type 0
+HasLowPoint found = IfAt found (λ first second point. point < 2 ^ 64)
 
 -- what is found of these ranges: that no number lies in two, or their first overlap
 abbrev pub IsOverlapResult : (ℕ → ℕ → ℕ → Type 0) → Clash → Type 0

@@ -1,12 +1,12 @@
 //! Stage 7: the interrupt numbers that I/O APICs serve.
 
-ghost use Rattle.std.specs.Prelude.{◌≡◌, ◌<◌, ◌^◌, IfOk, option_map};
-ghost use Rattle.acpi_base.specs.Madt.{madt_contents, Serves, IsSoundMadt, AreInterruptsApart, IsFirstGsiClash};
+ghost use Rattle.std.specs.Prelude.{◌≡◌, ◌<◌, ◌^◌, IfOk, IfSome, option_map};
+ghost use Rattle.acpi_base.specs.Madt.{madt_contents, Serves, AreInterruptsApart, IsFirstGsiClash};
 ghost use Rattle.acpi_base.specs.declared.code.Code.{Code};
 ghost use Rattle.acpi_base.specs.declared.stage.Stage.{Stage};
 ghost use Rattle.acpi_read.specs.Madts.{madt_value};
 ghost use Rattle.acpi_check.specs.PassResults.{Finds, IsOverlap};
-ghost use Rattle.acpi_check.specs.RangeSpans.{span_value, served_span, AreSpansOf, IsOverlapResult};
+ghost use Rattle.acpi_check.specs.RangeSpans.{span_value, served_span, AreSpansOf, BeginLow, HasLowPoint, IsOverlapResult};
 
 use crate::collected::collected;
 use crate::gsi_ranges::served_ranges;
@@ -19,8 +19,9 @@ use std::alloc::{AllocError, Global};
 /// The interrupt numbers that an I/O APIC serves, named by the entry's offset. None for another entry.
 fn served_span(policy: &Policy, at: &EntryAt<MadtEntry<'_>>) -> Option<Span>
     requires { at.now.offset < 2 ^ 32 }
-    ensures { option_map span_value result ≡ served_span policy.now at.now.offset
+    ensures span { option_map span_value result ≡ served_span policy.now at.now.offset
         (madt_value at.now.entry) }
+    ensures low { IfSome result (λ span. span.start < 2 ^ 64) }
 {
     let MadtEntry::IoApic(io_apic) = &at.entry else {
         return None;
@@ -36,8 +37,9 @@ pub fn served_spans(
     policy: &Policy,
     madt: &Madt<'_>,
 ) -> Result<Vec<Span>, AllocError>
-    ensures { IfOk result (λ spans. AreSpansOf (Serves policy.now (madt_contents madt.now))
+    ensures spans { IfOk result (λ spans. AreSpansOf (Serves policy.now (madt_contents madt.now))
         spans.items) }
+    ensures low { IfOk result (λ spans. BeginLow spans.items) }
 {
     collected(alloc, madt.entries(), |at| served_span(policy, at))
 }
@@ -45,7 +47,8 @@ pub fn served_spans(
 /// The least interrupt number that two I/O APICs of a MADT serve, and the first two that do. Spans, which name the I/O
 /// APICs, are searched only where compact ones are not apart.
 fn first_gsi_clash(alloc: Global, policy: &Policy, madt: &Madt<'_>) -> Result<Clash, AllocError>
-    ensures { IfOk result (IsOverlapResult (Serves policy.now (madt_contents madt.now))) }
+    ensures found { IfOk result (IsOverlapResult (Serves policy.now (madt_contents madt.now))) }
+    ensures low { IfOk result HasLowPoint }
 {
     let ranges = served_ranges(alloc, policy, madt)?;
     let (is_apart, _) = are_apart(ranges);
@@ -62,7 +65,6 @@ fn first_gsi_clash(alloc: Global, policy: &Policy, madt: &Madt<'_>) -> Result<Cl
 ///
 /// Takes memory for one compact span for each I/O APIC; and where two serve one number, for one span for each.
 pub fn apart_interrupts(alloc: Global, policy: &Policy, madt: &Madt<'_>) -> Result<(), Refusal>
-    requires { IsSoundMadt policy.now (madt_contents madt.now) }
     ensures { Finds Stage.Interrupts (AreInterruptsApart policy.now (madt_contents madt.now))
         (IsOverlap Code.GsiClash (IsFirstGsiClash policy.now (madt_contents madt.now))) result }
 {

@@ -1,13 +1,13 @@
 //! Stage 10: the addresses that the SRAT's enabled ranges cover.
 
-ghost use Rattle.std.specs.Prelude.{◌≡◌, ◌<◌, ◌^◌, IfOk, option_map};
+ghost use Rattle.std.specs.Prelude.{◌≡◌, ◌<◌, ◌^◌, IfOk, IfSome, option_map};
 ghost use Rattle.acpi_base.specs.Srat as said;
-ghost use Rattle.acpi_base.specs.Srat.{srat_contents, Covers, IsSoundSrat, AreRangesApart, IsFirstOverlap};
+ghost use Rattle.acpi_base.specs.Srat.{srat_contents, Covers, AreRangesApart, IsFirstOverlap};
 ghost use Rattle.acpi_base.specs.declared.code.Code.{Code};
 ghost use Rattle.acpi_base.specs.declared.stage.Stage.{Stage};
 ghost use Rattle.acpi_read.specs.Srats.{srat_value};
 ghost use Rattle.acpi_check.specs.PassResults.{Finds, IsOverlap};
-ghost use Rattle.acpi_check.specs.RangeSpans.{span_value, covered_span, earlier_clash, AreSpansOf, IsOverlapResult, IsRangesResult};
+ghost use Rattle.acpi_check.specs.RangeSpans.{span_value, covered_span, earlier_clash, AreSpansOf, BeginLow, HasLowPoint, IsOverlapResult, IsRangesResult};
 ghost use Rattle.acpi_check.specs.RangeKinds.{counts, IsOfKind};
 
 use crate::collected::collected;
@@ -31,8 +31,9 @@ fn is_hot_pluggable(flags: u32) -> bool
 /// for a range of no bytes.
 fn covered_span(kind: RangeKind, at: &EntryAt<SratEntry<'_>>) -> Option<Span>
     requires { at.now.offset < 2 ^ 32 }
-    ensures { option_map span_value result ≡ covered_span (counts kind) at.now.offset
+    ensures span { option_map span_value result ≡ covered_span (counts kind) at.now.offset
         (srat_value at.now.entry) }
+    ensures low { IfSome result (λ span. span.start < 2 ^ 64) }
 {
     let SratEntry::MemoryRange(range) = &at.entry else {
         return None;
@@ -52,16 +53,19 @@ fn covered_span(kind: RangeKind, at: &EntryAt<SratEntry<'_>>) -> Option<Span>
 
 /// The addresses that each enabled range of the kind covers, in the entries' order.
 fn covered_spans(alloc: Global, kind: RangeKind, srat: &Srat<'_>) -> Result<Vec<Span>, AllocError>
-    ensures { IfOk result (λ spans. AreSpansOf (Covers (IsOfKind kind) (srat_contents srat.now))
-        spans.items) }
+    ensures spans { IfOk result
+        (λ spans. AreSpansOf (Covers (IsOfKind kind) (srat_contents srat.now)) spans.items) }
+    ensures low { IfOk result (λ spans. BeginLow spans.items) }
 {
     collected(alloc, srat.entries(), |at| covered_span(kind, at))
 }
 
 /// The least address that two enabled ranges of the kind cover, and the first two that do.
-#[tactic(auto, using(crate::proofs::Spans::Clashes::is_found))]
+#[tactic(auto, using(crate::proofs::Spans::Clashes::is_found, crate::proofs::Spans::Clashes::low_point))]
 fn first_of_kind(alloc: Global, kind: RangeKind, srat: &Srat<'_>) -> Result<Clash, AllocError>
-    ensures { IfOk result (IsOverlapResult (Covers (IsOfKind kind) (srat_contents srat.now))) }
+    ensures found { IfOk result
+        (IsOverlapResult (Covers (IsOfKind kind) (srat_contents srat.now))) }
+    ensures low { IfOk result HasLowPoint }
 {
     let spans = covered_spans(alloc, kind, srat)?;
     let (clash, _) = first_clash(alloc, spans)?;
@@ -89,7 +93,8 @@ fn earlier(other: Clash, hot: Clash) -> Clash
 /// that both are hot-pluggable or both are not.
 #[tactic(auto, using(crate::proofs::Spans::CoveredSpans::counted, crate::proofs::Spans::CoveredSpans::apart))]
 fn first_overlap(alloc: Global, hotplug: HotPlug, srat: &Srat<'_>) -> Result<Clash, AllocError>
-    ensures { IfOk result (IsRangesResult hotplug (srat_contents srat.now)) }
+    ensures found { IfOk result (IsRangesResult hotplug (srat_contents srat.now)) }
+    ensures low { IfOk result HasLowPoint }
 {
     match hotplug {
         HotPlug::Counted => first_of_kind(alloc, RangeKind::Any, srat),
@@ -104,7 +109,6 @@ fn first_overlap(alloc: Global, hotplug: HotPlug, srat: &Srat<'_>) -> Result<Cla
 /// Whether no address is covered by two enabled ranges of an SRAT that are compared. The first fault is at the offset of the
 /// first two that cover the least such address. Takes memory for each range that is compared.
 pub fn apart_ranges(alloc: Global, hotplug: HotPlug, srat: &Srat<'_>) -> Result<(), Refusal>
-    requires { IsSoundSrat (srat_contents srat.now) }
     ensures { Finds Stage.Ranges (AreRangesApart hotplug (srat_contents srat.now))
         (IsOverlap Code.Overlap (IsFirstOverlap hotplug (srat_contents srat.now))) result }
 {

@@ -1,10 +1,11 @@
 -- What is collected from the entries of a table, while a loop goes over them, and what the values are of which it is
 -- collected.
 use Rattle.std.proofs.Common.{◌≡◌, List, [], ◌∷◌, ◌++◌, map, Option, Some, None, Result, Ok, Err, Vec, Global, refl, sym, ◌∙◌, ap, subst}
-use Rattle.std.specs.Prelude.{Contains, IfOk, option_map}
-use Rattle.std.specs.List.{cons_option, filter_map}
+use Rattle.std.specs.Prelude.{All, Contains, IfOk, IfSome, option_map}
+use Rattle.std.specs.List.{AllByRecursion, cons_option, filter_map}
 use Rattle.std.proofs.lemmas.Grind.{common_steps}
 use Rattle.std.proofs.lemmas.List.{append-nil, append_assoc, map-id}
+use Rattle.std.proofs.lemmas.List.Elements.{All-from_recursion}
 use denote.Ref.{Bor}
 use Rattle.acpi_base.specs.Entries.{PlacedEntry}
 use Rattle.acpi_base.proofs.Elements.{first_element, later_element}
@@ -89,6 +90,25 @@ pub gathered_same : {E Said T X : Type 0} (value : E → Said) {Answers : Bor (E
 gathered_same value h P r found same each says =
     gathered value (λ x. x) h P r found same (λ at picked here answers. itself picked ∙ each at picked answers)
     (λ vs is. says vs (sym (map-id vs) ∙ is))
+
+-- what is so of each value that is given is so of all that are collected
+each_given : {S T : Type 0} {Gives : S → Option T → Type 0} (P : T → Type 0) (all : List S) (found : List T)
+    → Collects Gives all found → ((s : S) (picked : Option T) → Gives s picked → IfSome picked P)
+    → AllByRecursion P found
+each_given P [] found none each = rw none tt
+each_given P (s ∷ left) found (None, others, gives, is, more) each = rw is (each_given P left others more each)
+each_given P (s ∷ left) found (Some value, others, gives, is, more) each =
+    rw is (each s (Some value) gives, each_given P left others more each)
+
+-- in a function that returns them
+pub gathered_each : {E Said T X : Type 0} (value : E → Said) {Answers : Bor (EntryAt E) → Option T → Type 0}
+    (P : T → Type 0) (said : List (PlacedEntry Said)) (r : Result (Vec T Global) X)
+    → IfOk r (λ v. Collects (Picks value Answers) said v.items)
+    → ((at : Bor (EntryAt E)) (picked : Option T) → Answers at picked → IfSome picked P) → IfOk r (λ v. All P v.items)
+gathered_each value P said (Ok v) found each =
+    All-from_recursion P v.items
+    (each_given P said v.items found (λ s picked (at, is, answers). each at picked answers))
+gathered_each value P said (Err e) found each = tt
 
 -- what a loop that collects offsets of several kinds needs
 pub ruleset gathering = (common_steps, append_assoc, append-nil)

@@ -1,13 +1,14 @@
 -- From the first overlap of spans to that of the ranges for which the spans stand.
-use Rattle.std.proofs.Common.{◌≡◌, ℕ, List, refl, sym, ◌∙◌, arith}
+use Rattle.std.proofs.Common.{◌≡◌, ℕ, ◌^◌, ◌<◌, List, refl, sym, ◌∙◌, arith}
 use Rattle.std.specs.Prelude.{◌↔◌, Contains}
+use Rattle.std.proofs.lemmas.List.Elements.{All-contains}
 use Rattle.acpi_base.specs.Overlaps.{IsIntervalOverlap, AreApart, IsFirstIntervalOverlap}
 use Rattle.acpi_graph.specs.Spans as graph
 use Rattle.acpi_graph.specs.Spans.{HasNumber, LiesInTwo, IsClear, IfAt}
 use Rattle.acpi_graph.specs.declared.clash.Clash.{Clash}
 use Rattle.acpi_graph.specs.declared.clash.Clash.TheVariants as overlap
 use Rattle.acpi_graph.specs.declared.span.Span.{Span}
-use Rattle.acpi_check.specs.RangeSpans.{AreSpansOf, IsOverlapResult}
+use Rattle.acpi_check.specs.RangeSpans.{AreSpansOf, BeginLow, HasLowPoint, IsOverlapResult}
 
 -- a number that two ranges hold lies in two spans
 lies_in_two : {HoldsAt : ℕ → ℕ → ℕ → Type 0} (spans : List Span) → AreSpansOf HoldsAt spans → (o p x : ℕ)
@@ -62,6 +63,25 @@ first_clash {HoldsAt} spans are first second point found =
     holds span listed inside =
         (are.covers span.name span.start point).1
         (record { span = span; listed = listed; name = refl; start = refl; holds = inside })
+
+-- two spans that share a number share the start of the later one: so the first number that two share has 64 bits where
+-- spans begin at such numbers
+pub low_point : (spans : List Span) → BeginLow spans → (found : Clash) → IfAt found (graph.IsFirstClash spans)
+    → HasLowPoint found
+low_point spans low overlap.None first = tt
+low_point spans low (overlap.At a b point) first =
+    let two = first.two in
+    let shared : LiesInTwo spans two.later.start = record {
+      one = two.earlier;
+      other = two.later;
+      one_listed = two.earlier_listed;
+      other_listed = two.later_listed;
+      two = λ same. two.two (sym two.earlier_name ∙ same ∙ two.later_name);
+      one_holds = grind (arith, two.in_order, two.earlier_holds, two.later_holds);
+      other_holds = record { from_start = omega arith; below_end = two.later.not_empty };
+    } in
+    let begins = All-contains (λ (span : Span). span.start < 2 ^ 64) spans two.later low two.later_listed in
+    omega (arith, begins, first.least two.later.start shared)
 
 -- what `first_clash` finds of the spans is so of the ranges
 pub is_found : {HoldsAt : ℕ → ℕ → ℕ → Type 0} (spans : List Span) → AreSpansOf HoldsAt spans → (found : Clash)

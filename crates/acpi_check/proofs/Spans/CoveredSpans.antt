@@ -1,6 +1,6 @@
 -- The spans that are collected from the entries of an SRAT are the addresses that its enabled ranges cover, and their
 -- first overlaps, by kinds of ranges, make the one that is reported.
-use Rattle.std.proofs.Common.{◌≡◌, ℕ, ◌+◌, ◌<◌, ◌≤◌, Bool, true, false, not, cond, List, map, Option, Some, None, refl, inl, inr, arith}
+use Rattle.std.proofs.Common.{◌≡◌, ℕ, ◌+◌, ◌<◌, ◌≤◌, Bool, true, false, not, cond, nat_lt, List, map, Option, Some, None, refl, inl, inr, arith}
 use Rattle.std.specs.Prelude.{◌↔◌, ◌&&◌}
 use Rattle.std.proofs.lemmas.Bool.{and_parts, cases_lt, lt-ltb, le-ltb}
 use Rattle.std.proofs.lemmas.Option.{none-some}
@@ -9,7 +9,7 @@ use Rattle.acpi_base.specs.declared.policy.HotPlug.TheVariants.{Counted, Apart}
 use Rattle.acpi_graph.specs.declared.clash.Clash.{Clash}
 use Rattle.acpi_graph.specs.declared.clash.Clash.TheVariants as clash
 use Rattle.acpi_graph.specs.declared.span.Span.{Span}
-use Rattle.acpi_check.specs.RangeSpans.{AreSpansOf, IsOverlapResult, IsRangesResult, earlier_clash, SpanValue, span_value, span_from, covered_span, spans_of}
+use Rattle.acpi_check.specs.RangeSpans.{AreSpansOf, HasLowPoint, IsOverlapResult, IsRangesResult, earlier_clash, SpanValue, span_value, span_from, covered_span, spans_of}
 use Rattle.acpi_check.proofs.Spans.EntrySpans.{are_spans, from_is, from_some}
 use Rattle.acpi_check.proofs.EntryPasses.Kept.{srat_rising}
 
@@ -87,4 +87,15 @@ apart c (clash.At a b x) (clash.At a' b' x') first hot_first =
     elim (cases_lt x' x) [
       | inl less ↦ rw (lt-ltb x' x less) (inr (hot_first, λ o p y clash. omega (arith, less, first.least o p y clash)))
       | inr most ↦ rw (le-ltb x' x most) (inl (first, λ o p y clash. omega (arith, most, hot_first.least o p y clash)))
+    ]
+
+-- and its point has 64 bits where the points of both have
+pub earlier_low : (others hots : Clash) → HasLowPoint others → HasLowPoint hots
+    → HasLowPoint (earlier_clash others hots)
+earlier_low clash.None hots none low = low
+earlier_low (clash.At a b x) clash.None low none = low
+earlier_low (clash.At a b x) (clash.At a' b' x') low hot_low =
+    elim (nat_lt x' x) as (λ d. HasLowPoint (cond d (clash.At a' b' x') (clash.At a b x))) [
+      | true ↦ hot_low
+      | false ↦ low
     ]

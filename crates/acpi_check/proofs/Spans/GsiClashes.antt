@@ -1,10 +1,10 @@
 -- From the interrupt numbers that I/O APICs serve to the first fault of a set.
-use Rattle.std.proofs.Common.{◌≡◌, ℕ, ◌^◌, ◌<◌, List, ap, arith}
+use Rattle.std.proofs.Common.{◌≡◌, ℕ, List, ap}
 use Rattle.acpi_base.specs.Codes.{stage_of}
 use Rattle.acpi_base.specs.Memory.{Memory}
 use Rattle.acpi_base.specs.Policy.{PolicyValue}
 use Rattle.acpi_base.specs.Listed.{madt_signature, IsListedTable}
-use Rattle.acpi_base.specs.Madt.{MadtContents, madt_contents, IsSoundMadt, IsFirstGsiClash, InterruptFault}
+use Rattle.acpi_base.specs.Madt.{madt_contents, IsFirstGsiClash, InterruptFault}
 use Rattle.acpi_base.specs.Statements.{CleanBefore}
 use Rattle.acpi_base.specs.Faults.{IsFirstFault}
 use Rattle.acpi_base.specs.declared.code.Code.TheVariants as code
@@ -12,7 +12,6 @@ use Rattle.acpi_base.specs.declared.stage.Stage.TheVariants as stage
 use Rattle.acpi_base.specs.declared.witness.Witness.{Witness}
 use Rattle.acpi_base.proofs.Faults.HoldsOrFault.{first_of_set}
 use Rattle.acpi_check.specs.PassResults.{IsOverlap}
-use Rattle.acpi_check.proofs.Spans.ServedSpans.{clash_below}
 
 -- the first clash of the I/O APICs is the first fault of the set
 pub gsi_clash_first : (m : Memory) (q : PolicyValue) → CleanBefore stage.Interrupts m q → (whole : List ℕ)
@@ -32,8 +31,3 @@ gsi_clash_first m q clean whole is w found = (
 
     fault : InterruptFault q (madt_contents whole) w.code w.at w.other w.point
     fault = rw found.code found.first.overlap
-
--- and its interrupt number fits a witness
-pub gsi_clash_fits : (q : PolicyValue) (c : MadtContents) (at other point : ℕ) → IsSoundMadt q c
-    → IsFirstGsiClash q c at other point → point < 2 ^ 64
-gsi_clash_fits q c at other point sound first = omega (arith, clash_below q c sound at other point first.overlap)

@@ -1,14 +1,13 @@
 -- From the addresses that ranges cover to the first fault of a set.
-use Rattle.std.proofs.Common.{◌≡◌, ℕ, ◌^◌, ◌<◌, List, map, ap, arith}
+use Rattle.std.proofs.Common.{◌≡◌, ℕ, List, map, ap, arith}
 use Rattle.acpi_base.specs.Codes.{stage_of}
 use Rattle.acpi_base.specs.Memory.{Memory}
 use Rattle.acpi_base.specs.Policy.{PolicyValue}
 use Rattle.acpi_base.specs.Listed.{srat_signature, IsListedTable}
-use Rattle.acpi_base.specs.Srat.{SratContents, srat_contents, IsSoundSrat, Covers, IsFirstOverlap, RangeFault}
+use Rattle.acpi_base.specs.Srat.{srat_contents, Covers, IsFirstOverlap, RangeFault}
 use Rattle.acpi_base.specs.Statements.{CleanBefore}
 use Rattle.acpi_base.specs.Faults.{IsFirstFault}
 use Rattle.acpi_base.specs.declared.code.Code.TheVariants as code
-use Rattle.acpi_base.specs.declared.policy.HotPlug.{HotPlug}
 use Rattle.acpi_base.specs.declared.stage.Stage.TheVariants as stage
 use Rattle.acpi_base.specs.declared.witness.Witness.{Witness}
 use Rattle.acpi_base.proofs.Faults.HoldsOrFault.{first_of_set}
@@ -52,8 +51,3 @@ overlap_first m q clean whole is w found = (
     fault : RangeFault q.hotplug (srat_contents whole) w.code w.at w.other w.point
     fault = rw found.code (is_fault q.hotplug (srat_contents whole) (clean stage.Srat (omega arith) whole is) w.at
         w.other w.point found.first)
-
--- and its address fits a witness
-pub overlap_fits : (h : HotPlug) (c : SratContents) (at other point : ℕ) → IsSoundSrat c
-    → IsFirstOverlap h c at other point → point < 2 ^ 64
-overlap_fits h c at other point sound first = (is_fault h c sound at other point first).0

@@ -1,9 +1,8 @@
 -- The spans that are collected from the entries of a MADT are the interrupt numbers that its I/O APICs serve.
-use Rattle.std.proofs.Common.{◌≡◌, ℕ, ◌^◌, ◌<◌, ◌≤◌, List, map, Some, arith}
+use Rattle.std.proofs.Common.{◌≡◌, ℕ, ◌<◌, ◌≤◌, List, map, Some, arith}
 use Rattle.std.specs.Prelude.{◌↔◌}
 use Rattle.std.proofs.lemmas.Option.{none-some}
-use Rattle.acpi_base.specs.Overlaps.{IsIntervalOverlap}
-use Rattle.acpi_base.specs.Madt.{MadtEntry, IoApic, MadtContents, madt_contents, IsSoundMadt, IsSoundMadtEntry, ServesFrom, Serves}
+use Rattle.acpi_base.specs.Madt.{MadtEntry, IoApic, madt_contents, ServesFrom, Serves}
 use Rattle.acpi_base.specs.Policy.{PolicyValue}
 use Rattle.acpi_graph.specs.declared.span.Span.{Span}
 use Rattle.acpi_check.specs.RangeSpans.{AreSpansOf, SpanValue, span_value, served_span, spans_of}
@@ -29,15 +28,3 @@ pub served_spans : (q : PolicyValue) (whole : List ℕ) (spans : List Span)
 served_spans q whole spans is =
     are_spans (ServesFrom q) (served_span q) (record { named = named q; covers = covers q }) 44 _ (madt_rising whole)
     spans is
-
--- an interrupt number that an entry of a sound MADT serves is below 2^32
-served_below : (q : PolicyValue) (s x : ℕ) (e : MadtEntry) → IsSoundMadtEntry q e → ServesFrom q s x e → x < 2 ^ 32
-served_below q s x (IoApic v) sound h = omega (arith, sound, h.0, h.2)
-served_below q s x _ sound h = absurd h
-
--- and so is one that two I/O APICs serve
-pub clash_below : (q : PolicyValue) (c : MadtContents) → IsSoundMadt q c → (at other point : ℕ)
-    → IsIntervalOverlap (Serves q c) at other point → point < 2 ^ 32
-clash_below q c sound at other point clash =
-    let (e, stands, h) = clash.one_holds in
-    served_below q clash.s point e (sound.entries at e stands) h

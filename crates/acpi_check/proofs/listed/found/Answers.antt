@@ -33,11 +33,6 @@ returns-in_err-madt-in-Interrupts c =
     unlisted c.requires c.in-Interrupts.is kind.Madt c.madt.ensures c.in_err-madt-in-Interrupts.was
     c.from_residual-in_err-madt-in-Interrupts.ensures (of_none _)
 
-pub apart_interrupts-requires : goal.apart_interrupts-requires
-apart_interrupts-requires c =
-    earlier c.requires c.in-Interrupts.is stage.Madt (omega arith) _
-    (listed_of_first c.requires.tables.listed.tables kind.Madt c.madt.ensures c.in_ok-madt-in-Interrupts.was)
-
 pub returns-in_ok-madt-in-Interrupts : goal.returns-in_ok-madt-in-Interrupts
 returns-in_ok-madt-in-Interrupts c =
     rw c.in-Interrupts.is
@@ -80,11 +75,6 @@ pub returns-in_err-srat-in-Ranges : goal.returns-in_err-srat-in-Ranges
 returns-in_err-srat-in-Ranges c =
     unlisted c.requires c.in-Ranges.is kind.Srat c.srat.ensures c.in_err-srat-in-Ranges.was
     c.from_residual-in_err-srat-in-Ranges.ensures (of_none _)
-
-pub apart_ranges-requires : goal.apart_ranges-requires
-apart_ranges-requires c =
-    earlier c.requires c.in-Ranges.is stage.Srat (omega arith) _
-    (listed_of_first c.requires.tables.listed.tables kind.Srat c.srat.ensures c.in_ok-srat-in-Ranges.was)
 
 pub returns-in_ok-srat-in-Ranges : goal.returns-in_ok-srat-in-Ranges
 returns-in_ok-srat-in-Ranges c =

@@ -1,8 +1,9 @@
-use Rattle.std.proofs.Common.{rules, refl, arith}
+use Rattle.std.proofs.Common.{rules, refl, ◌^◌, ◌<◌, arith}
+use Rattle.acpi_graph.specs.declared.span.Span.{Span}
 use Rattle.acpi_read.specs.Srats.{srat_value}
 use Rattle.acpi_check.specs.RangeSpans.{span_value, covered_span}
 use Rattle.acpi_check.specs.RangeKinds.{counts}
-use Rattle.acpi_check.proofs.EntryPasses.Collecting.{gathered}
+use Rattle.acpi_check.proofs.EntryPasses.Collecting.{gathered, gathered_each}
 use Rattle.acpi_check.proofs.EntryPasses.Kept.{srat_inside}
 use Rattle.acpi_check.proofs.Spans.RangeClashes.{kind_spans}
 use Rattle.acpi_check.proofs.ranges.covered_spans.Goals as goal
@@ -19,6 +20,11 @@ collected-requires c =
     )
 
 pub returns : goal.returns
-returns c = gathered srat_value span_value (λ s. covered_span (counts c.args.kind) s.offset s.entry) _
-    c.collected.result c.collected.ensures c.entries.ensures.entries (λ at picked here answers. search rules)
-    (kind_spans c.args.kind c.args.srat.now)
+returns c =
+    record {
+      spans = gathered srat_value span_value (λ s. covered_span (counts c.args.kind) s.offset s.entry) _
+          c.collected.result c.collected.ensures c.entries.ensures.entries (λ at picked here answers. search rules)
+          (kind_spans c.args.kind c.args.srat.now);
+      low = gathered_each srat_value (λ (span : Span). span.start < 2 ^ 64) _ c.collected.result c.collected.ensures
+          (λ at picked answers. search rules);
+    }
