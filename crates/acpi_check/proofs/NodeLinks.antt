@@ -1,4 +1,5 @@
 -- What the entries of a PPTT name, and the chains that they form.
+pub mod ChainFaults
 pub mod ChainIndices
 pub mod IndexedNodes
 pub mod KindPlaces

@@ -1,7 +1,7 @@
 -- Chains of offsets as chains of indices, and the first cycle that is found of them.
-use Rattle.std.specs.Prelude.{◌≡◌, ◌≢◌, ◌↔◌, ℕ, ◌<◌, List, AllPairs, Contains, length, map, slice_index, slice_index_or, option_map, Option, Some, None}
+use Rattle.std.specs.Prelude.{◌≡◌, ◌≢◌, ◌↔◌, ◌⊎◌, ℕ, ◌<◌, List, AllPairs, Contains, length, map, slice_index, slice_index_or, option_map, Option, Some, None}
 use Rattle.std.specs.List.{filter_map}
-use Rattle.acpi_base.specs.Chains.{IsAt, IsCycle, AllEnd}
+use Rattle.acpi_base.specs.Chains.{IsAt, IsCycle}
 use Rattle.acpi_base.specs.Entries.{PlacedEntry}
 use Rattle.acpi_base.specs.Faults.{NotAfter}
 use Rattle.acpi_base.specs.declared.code.Code.{Code}
@@ -9,9 +9,9 @@ use Rattle.acpi_graph.specs.Parents.{parent_of}
 use Rattle.acpi_graph.specs.declared.stray.Stray.{Stray}
 use Rattle.acpi_graph.specs.declared.stray.Stray.TheVariants as stray
 
--- the index of p among the offsets, or none where p is 0
+-- the index of p among the offsets, or none where p is 0 or is not among them
 abbrev pub IsIndexOf : List ℕ → ℕ → Option ℕ → Type 0
-IsIndexOf offsets p None = p ≡ 0
+IsIndexOf offsets p None = (p ≡ 0) ⊎ (¬ Contains offsets p)
 IsIndexOf offsets p (Some j) = (p ≢ 0) × (j < length offsets) × (slice_index offsets j ≡ p)
 
 -- the offsets are those at which one of the kind stands, in rising order, and each has for its parent the index of the
@@ -27,9 +27,9 @@ pub record IsFirstCycle (Names : ℕ → ℕ → Type 0) (most : ℕ) (fault : C
   pub cycle : IsCycle Names most o lead round
   pub least : (p l r : ℕ) → IsCycle Names most p l r → NotAfter (record { code = fault; at = o; other = lead; point = round }) (record { code = fault; at = p; other = l; point = r })
 
--- what is found of the chains over these offsets: that all end, or the cycle that is reported
+-- what is found of the chains over these offsets: that none goes round, or the cycle that is reported
 abbrev pub IsCycleResult : (ℕ → ℕ → Type 0) → ℕ → Code → List ℕ → Stray → Type 0
-IsCycleResult Names most fault offsets stray.None = AllEnd Names
+IsCycleResult Names most fault offsets stray.None = (o lead round : ℕ) → ¬ IsCycle Names most o lead round
 IsCycleResult Names most fault offsets (stray.Round node lead round) =
     IsFirstCycle Names most fault (slice_index offsets node) lead round
 

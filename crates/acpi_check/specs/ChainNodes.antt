@@ -1,6 +1,6 @@
 -- Nodes of chains as they are collected from a PPTT, and what is found of their chains.
-use Rattle.std.specs.Prelude.{◌≡◌, ◌<◌, ◌⊎◌, ℕ, List, AllPairs, Contains, length, map, slice_index, slice_index_or, Option, Some, None}
-use Rattle.acpi_base.specs.Chains.{AllEnd}
+use Rattle.std.specs.Prelude.{◌≡◌, ◌<◌, ℕ, List, length, map, slice_index, slice_index_or, Option, Some, None}
+use Rattle.acpi_base.specs.Chains.{IsCycle}
 use Rattle.acpi_base.specs.Pptt.{PpttEntry, PpttContents, parent_of, next_level_of, Says, most_nodes, most_caches}
 use Rattle.acpi_base.specs.declared.code.Code.{Code}
 use Rattle.acpi_base.specs.declared.code.Code.TheVariants as code
@@ -42,11 +42,6 @@ pub record AreNodesOf (links : Chain) (c : PpttContents) (nodes : Nodes) : Type 
   pub offsets : nodes.offsets.items ≡ node_offsets (nodes_in links c)
   pub named : nodes.named.items ≡ map (λ n. n.named) (nodes_in links c)
 
--- the offsets rise, and each node names none, or one of them
-pub record AreLinked (nodes : Nodes) : Type 0 where
-  pub rising : AllPairs (λ o p. o < p) nodes.offsets.items
-  pub each : (i : ℕ) → i < length nodes.named.items → (slice_index nodes.named.items i ≡ 0) ⊎ Contains nodes.offsets.items (slice_index nodes.named.items i)
-
 -- each parent is the index of what the node at its place names
 pub record AreIndices (nodes : Nodes) (parents : List (Option ℕ)) : Type 0 where
   pub count : length parents ≡ length nodes.named.items
@@ -54,7 +49,7 @@ pub record AreIndices (nodes : Nodes) (parents : List (Option ℕ)) : Type 0 whe
 
 -- ---- what is found
 
--- all chains end, or this is the fault of the cycle that is reported
+-- no chain goes round, or this is the fault of the cycle that is reported
 abbrev pub FindsCycle : Chain → PpttContents → Option Witness → Type 0
-FindsCycle links c None = AllEnd (Names links c)
+FindsCycle links c None = (o lead round : ℕ) → ¬ IsCycle (Names links c) (most_of links c) o lead round
 FindsCycle links c (Some w) = (w.code ≡ code_of links) × IsFirstCycle (Names links c) (most_of links c) (code_of links) w.at w.other w.point

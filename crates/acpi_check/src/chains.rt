@@ -1,13 +1,12 @@
 //! Stages 14 and 15: the chains of Parents and of Next Levels in the PPTT.
 
-ghost use Rattle.std.specs.Prelude.{◌≡◌, ◌⊎◌, AllPairs, Contains, IfOk, ◌<◌};
-ghost use Rattle.acpi_base.specs.Chains.{NoneDangles};
+ghost use Rattle.std.specs.Prelude.{◌≡◌, AllPairs, IfOk, ◌<◌};
 ghost use Rattle.acpi_base.specs.Pptt.{pptt_contents, AreReferencesSound, DoParentsEnd, DoCachesEnd, ParentFault, CacheFault};
 ghost use Rattle.acpi_base.specs.declared.stage.Stage.{Stage};
 ghost use Rattle.acpi_read.specs.Pptts.{pptt_value};
 ghost use Rattle.acpi_check.specs.ChainIndices.{IsIndexOf};
 ghost use Rattle.acpi_check.specs.PassResults.{FindsFirst};
-ghost use Rattle.acpi_check.specs.ChainNodes.{named_offset, code_of, Names, AreNodesOf, AreLinked, AreIndices, FindsCycle};
+ghost use Rattle.acpi_check.specs.ChainNodes.{named_offset, code_of, AreNodesOf, AreIndices, FindsCycle};
 
 use crate::nodes::{Chain, Nodes};
 use crate::refusal::{Refusal, refuse};
@@ -45,10 +44,9 @@ fn nodes_of(alloc: Global, chain: Chain, pptt: &Pptt<'_>) -> Result<Nodes, Alloc
     Ok(Nodes { offsets, named })
 }
 
-/// The index of what a node names among offsets that rise; none where it names none.
+/// The index of what a node names among offsets that rise; none where it names none of them, as 0 does.
 fn index_of(offsets: &[u64], named: u32) -> Option<usize>
-    requires rising { AllPairs (λ o p. o < p) offsets.now }
-    requires there { (named ≡ 0) ⊎ Contains offsets.now named }
+    requires { AllPairs (λ o p. o < p) offsets.now }
     ensures { IsIndexOf offsets.now named result }
 {
     if named == 0 {
@@ -57,9 +55,9 @@ fn index_of(offsets: &[u64], named: u32) -> Option<usize>
     binary_search(offsets, u64::from(named))
 }
 
-/// For each node the index of what it names.
+/// For each node the index of what it names, where that is a node.
 fn parents_of(alloc: Global, nodes: &Nodes) -> Result<Vec<Option<usize>>, AllocError>
-    requires { AreLinked nodes.now }
+    requires { AllPairs (λ o p. o < p) nodes.now.offsets.items }
     ensures { IfOk result (λ parents. AreIndices nodes.now parents.items) }
 {
     let mut parents = Vec::new(alloc);
@@ -79,9 +77,13 @@ fn code_of(chain: Chain) -> Code
     }
 }
 
-/// The fault of the first node of a PPTT whose chain does not end.
-fn first_cycle(alloc: Global, chain: Chain, pptt: &Pptt<'_>) -> Result<Option<Witness>, AllocError>
-    requires { NoneDangles (Names chain (pptt_contents pptt.now)) }
+/// The fault of the first node of a PPTT whose chain goes round, or none where no chain does. A chain ends where a node
+/// names 0, and where it names an offset at which none of its kind stands.
+pub fn first_cycle(
+    alloc: Global,
+    chain: Chain,
+    pptt: &Pptt<'_>,
+) -> Result<Option<Witness>, AllocError>
     ensures { IfOk result (FindsCycle chain (pptt_contents pptt.now)) }
 {
     let nodes = nodes_of(alloc, chain, pptt)?;

@@ -1,11 +1,11 @@
 -- From the first cycle of indices to that of the offsets for which the indices stand.
-use Rattle.std.proofs.Common.{◌≡◌, ℕ, zero, suc, ◌+◌, ◌<◌, ◌≤◌, List, [], ◌∷◌, length, get_or, Option, Some, None, refl, sym, ◌∙◌, ap, subst, inl, inr, arith}
+use Rattle.std.proofs.Common.{◌≡◌, ℕ, zero, suc, ◌+◌, ◌<◌, ◌≤◌, List, length, get_or, Option, Some, refl, sym, ◌∙◌, ap, subst, inl, inr, arith}
 use Rattle.std.specs.Prelude.{◌↔◌, slice_index}
 use Rattle.std.proofs.lemmas.Bool.{cases_order, cases_lt, cases_eq}
 use Rattle.std.proofs.lemmas.List.{get_or_default}
 use Rattle.std.proofs.lemmas.List.Elements.{Contains-get_or}
 use Rattle.std.proofs.lemmas.Option.{same_Some, slice_get-get_or}
-use Rattle.acpi_base.specs.Chains.{IsAt, IsStep, Ends, AllEnd, LeadsTo, IsCycle}
+use Rattle.acpi_base.specs.Chains.{IsAt, IsStep, LeadsTo, IsCycle}
 use Rattle.acpi_base.proofs.Chains.{IsNumbered, pigeonhole, cycle_begins}
 use Rattle.acpi_base.proofs.Faults.Least.{witness}
 use Rattle.acpi_base.proofs.Images.HeldBytes.{cases_Option}
@@ -46,7 +46,11 @@ step_up : {Names : ℕ → ℕ → Type 0} {offsets : List ℕ} {parents : List 
     → (j : ℕ) × (parent_of parents i ≡ Some j) × (j < length offsets) × (at offsets j ≡ p)
 step_up {Names} {offsets} {parents} are i p within step =
     elim (cases_Option (parent_of parents i)) [
-      | inr none ↦ absurd (step.some (rw none at (are.named i p within step.names)))
+      | inr none ↦
+          elim (rw none at (are.named i p within step.names)) [
+            | inl none ↦ absurd (step.some none)
+            | inr nowhere ↦ absurd (nowhere ((are.all p).1 step.there))
+          ]
       | inl (j, is) ↦ let place = rw is at (are.named i p within step.names) in (j, is, place.1, place.2)
     ]
 
@@ -132,28 +136,13 @@ are_nodes {Names} {offsets} {parents} are k d below =
           rw is (omega (arith, are.count, (step_down are k j (omega (arith, below, are.count)) parent).0))
     ]
 
--- a chain of indices that ends is one of offsets that ends
-ends : {Names : ℕ → ℕ → Type 0} {offsets : List ℕ} {parents : List (Option ℕ)} → AreIndexed Names offsets parents
-    → (k i : ℕ) → i < length offsets → node_after parents i k ≡ None → Ends Names (at offsets i)
-ends are zero i within over = absurd cc
-ends {Names} {offsets} {parents} are (suc k) i within over =
-    elim (cases_Option (parent_of parents i)) [
-      | inl (j, parent) ↦
-          let (below, step) = step_down are i j within parent in
-          let (rest, chain) = ends are k j below (sym (after_first parents i j k parent) ∙ over) in
-          (at offsets j ∷ rest, (step, chain))
-      | inr none ↦
-          let (p, names) = there are i within in
-          ([], subst (Names (at offsets i)) (rw none at (are.named i p within names)) names)
-    ]
-
--- where all chains of indices end, so do those of offsets
-all_end : {Names : ℕ → ℕ → Type 0} {offsets : List ℕ} {parents : List (Option ℕ)} → AreIndexed Names offsets parents
-    → graph.AllEnd parents → AllEnd Names
-all_end {Names} {offsets} {parents} are end o here =
-    let (i, within, is) = indexed are o here in
-    let (steps, over) = end i (omega (arith, within, are.count)) in
-    rw (← is) (ends are steps i within over)
+-- where all chains of indices end, none of offsets goes round
+none_round : {Names : ℕ → ℕ → Type 0} {offsets : List ℕ} {parents : List (Option ℕ)} → AreIndexed Names offsets parents
+    → (most : ℕ) → graph.AllEnd parents → (o lead round : ℕ) → ¬ IsCycle Names most o lead round
+none_round {Names} {offsets} {parents} are most end o lead round c =
+    let (i, within, is) = indexed are o (cycle_begins Names most o lead round c) in
+    never_ends parents i lead round (returns are most i lead round within (rw is c))
+    (end i (omega (arith, within, are.count)))
 
 -- the offsets are no more than have numbers of their own
 pub room : {Names : ℕ → ℕ → Type 0} {offsets : List ℕ} {parents : List (Option ℕ)} {most : ℕ}
@@ -216,6 +205,6 @@ pub is_found : {Names : ℕ → ℕ → Type 0} {offsets : List ℕ} {parents : 
     → ((found ≡ stray.None) ↔ graph.AllEnd parents) → IfRound found (IsFirstStray parents)
     → IfRound found (λ node lead round. lead + round ≤ length parents)
     → IsCycleResult Names most fault offsets found
-is_found are numbered fault stray.None none first within = all_end are (none.0 refl)
+is_found {most = most} are numbered fault stray.None none first within = none_round are most (none.0 refl)
 is_found {Names} {offsets} {parents} {most} are numbered fault (stray.Round node lead round) none first within =
     first_cycle are most (room are numbered) fault node lead round first within

@@ -1,10 +1,10 @@
 -- Nodes that are collected from the entries of a table, with the index of what each names, are chains of offsets.
 use Rattle.std.proofs.Common.{◌≡◌, ℕ, ◌<◌, List, length, get_or, Option, Some, None, refl, sym, ◌∙◌, ap, subst, inl, inr, arith}
-use Rattle.std.specs.Prelude.{◌⊎◌, AllPairs, Contains, slice_index, option_map}
+use Rattle.std.specs.Prelude.{AllPairs, Contains, slice_index, option_map}
 use Rattle.std.proofs.lemmas.Bool.{cases_order}
 use Rattle.std.proofs.lemmas.List.{length-map, get_or-map}
 use Rattle.std.proofs.lemmas.Option.{none-some, same_Some, slice_get-get_or}
-use Rattle.acpi_base.specs.Chains.{IsAt, NoneDangles}
+use Rattle.acpi_base.specs.Chains.{IsAt}
 use Rattle.acpi_base.specs.Entries.{PlacedEntry, Stands}
 use Rattle.acpi_base.proofs.Images.HeldBytes.{cases_Option}
 use Rattle.acpi_base.proofs.Elements.{element_of_map}
@@ -59,19 +59,6 @@ offsets_rise {E} read low entries rises =
 
     node : ChainNode
     node = record { offset = 0; named = 0 }
-
--- what a node names is among the offsets, where it names none that is not there
-pub named_there : {E : Type 0} (read : E → Option ℕ) (entries : List (PlacedEntry E))
-    → NoneDangles (NamesOf read entries)
-    → (n : ChainNode) → Contains (nodes_of read entries) n
-    → (n.named ≡ 0) ⊎ Contains (node_offsets (nodes_of read entries)) n.named
-named_there read entries none n listed =
-    let (s, stands, is) = kept_from (kept read) entries n listed in
-    elim (none s.offset n.named (s.entry, stands, (kept_is read s n is).1)) [
-      | inl zero ↦ inl zero
-      | inr (p, names) ↦ inr (map_has (λ (m : ChainNode). m.offset) (nodes_of read entries)
-          (record { offset = n.named; named = p }) (is_kept read entries n.named p names))
-    ]
 
 -- one node stands at an offset
 one_node : (nodes : List ChainNode) → AllPairs (λ n m. n.offset < m.offset) nodes → (n : ChainNode) → Contains nodes n

@@ -1,11 +1,8 @@
 -- Nodes that are collected from a PPTT, with the index of what each names, are its chains.
-use Rattle.std.proofs.Common.{◌≡◌, ℕ, ◌+◌, ◌<◌, ◌≤◌, List, length, map, get_or, Option, None, ap, arith}
-use Rattle.std.specs.Prelude.{◌⊎◌, ◌↔◌, Contains, slice_index, slice_index_or}
+use Rattle.std.proofs.Common.{◌≡◌, ℕ, ◌+◌, ◌<◌, ◌≤◌, List, length, map, Option, None, ap, arith}
+use Rattle.std.specs.Prelude.{◌↔◌, AllPairs, slice_index_or}
 use Rattle.std.proofs.lemmas.List.{length-map, get_or-map}
-use Rattle.std.proofs.lemmas.List.Elements.{Contains-get_or}
-use Rattle.acpi_base.specs.Chains.{NoneDangles}
-use Rattle.acpi_base.specs.Entries.{PlacedEntry}
-use Rattle.acpi_base.specs.Pptt.{PpttEntry, pptt_contents}
+use Rattle.acpi_base.specs.Pptt.{pptt_contents}
 use Rattle.acpi_base.proofs.Chains.{IsNumbered}
 use Rattle.acpi_base.proofs.Pptt.Places.{nodes_numbered, caches_numbered}
 use Rattle.acpi_graph.specs.Parents as graph
@@ -13,39 +10,21 @@ use Rattle.acpi_graph.specs.Parents.{AreNodes, IsFirstStray, IfRound}
 use Rattle.acpi_graph.specs.declared.stray.Stray.{Stray}
 use Rattle.acpi_graph.specs.declared.stray.Stray.TheVariants as stray
 use Rattle.acpi_check.specs.ChainIndices.{AreIndexed, IsCycleResult, IsIndexOf, ChainNode, node_offsets}
-use Rattle.acpi_check.specs.ChainNodes.{Names, named_offset, most_of, code_of, nodes_in, AreNodesOf, AreLinked, AreIndices}
+use Rattle.acpi_check.specs.ChainNodes.{Names, named_offset, most_of, code_of, nodes_in, AreNodesOf, AreIndices}
 use Rattle.acpi_check.specs.declared.nodes.Chain.{Chain}
 use Rattle.acpi_check.specs.declared.nodes.Chain.TheVariants as chain
 use Rattle.acpi_check.specs.declared.nodes.Nodes.{Nodes}
 use Rattle.acpi_check.proofs.NodeLinks.ChainIndices.{are_nodes, is_found}
-use Rattle.acpi_check.proofs.NodeLinks.IndexedNodes.{offsets_rise, named_there, are_indexed}
+use Rattle.acpi_check.proofs.NodeLinks.IndexedNodes.{offsets_rise, are_indexed}
 use Rattle.acpi_check.proofs.EntryPasses.Kept.{pptt_rising}
 
 -- ---- nodes
 
--- where no node names an offset at which none stands, they are linked
-pub linked : (links : Chain) (whole : List ℕ) (nodes : Nodes) → NoneDangles (Names links (pptt_contents whole))
-    → AreNodesOf links (pptt_contents whole) nodes → AreLinked nodes
-linked links whole nodes none are =
-    record {
-      rising = rw (are.offsets) (offsets_rise (named_offset links) 36 said (pptt_rising whole));
-      each = rw (are.offsets, are.named) each;
-    }
-  where
-    said : List (PlacedEntry PpttEntry)
-    said = (pptt_contents whole).entries
-
-    gathered : List ChainNode
-    gathered = nodes_in links (pptt_contents whole)
-
-    each : (i : ℕ) → i < length (map (λ n. n.named) gathered)
-        → (slice_index (map (λ n. n.named) gathered) i ≡ 0)
-        ⊎ Contains (node_offsets gathered) (slice_index (map (λ n. n.named) gathered) i)
-    each i within =
-        let n : ChainNode = record { offset = 0; named = 0 } in
-        let inside : i < length gathered = omega (arith, within, length-map gathered (λ (n : ChainNode). n.named)) in
-        rw (get_or-map (λ (n : ChainNode). n.named) gathered i n 0 inside)
-        (named_there (named_offset links) said none (get_or gathered i n) (Contains-get_or gathered i n inside))
+-- their offsets rise
+pub nodes_rise : (links : Chain) (whole : List ℕ) (nodes : Nodes) → AreNodesOf links (pptt_contents whole) nodes
+    → AllPairs (λ o p. o < p) nodes.offsets.items
+nodes_rise links whole nodes are =
+    rw (are.offsets) (offsets_rise (named_offset links) 36 (pptt_contents whole).entries (pptt_rising whole))
 
 -- with the index of what each names they are chains of offsets
 pub indexed : (links : Chain) (whole : List ℕ) (nodes : Nodes) (parents : List (Option ℕ))

@@ -1,10 +1,10 @@
 use Rattle.std.proofs.Common.{◌∙◌}
 use Rattle.std.proofs.lemmas.List.{get_or_default}
-use Rattle.acpi_check.proofs.NodeLinks.LinkedNodes.{linked, ready, cycle_found, has_offset}
+use Rattle.acpi_check.proofs.NodeLinks.LinkedNodes.{nodes_rise, ready, cycle_found, has_offset}
 use Rattle.acpi_check.proofs.chains.first_cycle.Goals as goal
 
 pub parents_of-requires : goal.parents_of-requires
-parents_of-requires c = linked c.args.chain c.args.pptt.now c.in_ok-nodes.nodes c.requires c.in_ok-nodes.ensures
+parents_of-requires c = nodes_rise c.args.chain c.args.pptt.now c.in_ok-nodes.nodes c.in_ok-nodes.ensures
 
 pub first_stray-requires : goal.first_stray-requires
 first_stray-requires c =
