@@ -6,9 +6,13 @@ use Rattle.acpi_base.specs.Policy.{PolicyValue}
 use Rattle.acpi_graph.specs.Spans.{HasNumber}
 use Rattle.acpi_graph.specs.declared.span.Span.{Span}
 
--- each span ends before those behind it begin
-abbrev pub AreSortedDisjoint : List Span → Type 0
-AreSortedDisjoint spans = AllPairs (λ a b. a.end ≤ b.start) spans
+-- the spans begin in rising order
+abbrev pub DoStartsRise : List Span → Type 0
+DoStartsRise spans = AllPairs (λ a b. a.start ≤ b.start) spans
+
+-- and end in rising order too
+abbrev pub DoBothRise : List Span → Type 0
+DoBothRise spans = AllPairs (λ a b. (a.start ≤ b.start) × (a.end ≤ b.end)) spans
 
 -- a span of the list holds the number
 abbrev pub IsInSpans : List Span → ℕ → Type 0
@@ -16,7 +20,7 @@ IsInSpans spans x = (span : Span) × Contains spans span × HasNumber span x
 
 -- these are the interrupt numbers that the I/O APICs serve; each serves some
 pub record AreServedSpans (q : PolicyValue) (c : MadtContents) (spans : List Span) : Type 0 where
-  pub rise : AreSortedDisjoint spans
+  pub rise : DoBothRise spans
   pub covers : (g : ℕ) → IsInSpans spans g ↔ IsServed q c g
   pub some : HasIoApic c → 0 < length spans
 

@@ -59,7 +59,8 @@ fn end_in_range(numbers: &[u64], from: usize, range: &CompactSpan) -> usize
     numbers.len()
 }
 
-/// Whether all numbers are in ranges, where both are sorted and no two ranges share a number: it goes over both once.
+/// Whether all numbers are seen to be in ranges: it goes over both once. Where both are sorted and no two ranges share a
+/// number, it sees all that are; else a `false` says nothing.
 pub fn are_in_ranges(ranges: &[CompactSpan], numbers: &[u64]) -> bool
     ensures { IsTrue result → ((n : ℕ) → Contains numbers.now n → IsInRanges ranges.now n) }
 {

@@ -1,15 +1,15 @@
 //! Stage 17: the interrupt numbers that overrides and NMI sources of the MADT name, among those that its I/O APICs serve.
 
-ghost use Rattle.std.specs.Prelude.{◌≡◌, ⊤, IfOk, IsTrue, MatchBool, MatchOption};
+ghost use Rattle.std.specs.Prelude.{◌≡◌, ◌↔◌, ℕ, IfOk, IsTrue, MatchBool, MatchOption};
 ghost use Rattle.acpi_base.specs.Across.{AreNamedServed, ServedFault};
-ghost use Rattle.acpi_base.specs.Madt.{madt_contents, AreInterruptsApart};
+ghost use Rattle.acpi_base.specs.Madt.{madt_contents};
 ghost use Rattle.acpi_base.specs.declared.code.Code.{Code};
 ghost use Rattle.acpi_base.specs.declared.stage.Stage.{Stage};
 ghost use Rattle.acpi_read.specs.Madts.{madt_value};
 ghost use Rattle.acpi_check.specs.NamedNumbers.{IsKnown, IsUnknown, FindsUnknown};
 ghost use Rattle.acpi_check.specs.PassResults.{FindsFirst};
 ghost use Rattle.acpi_check.specs.Processors.{numbers_in};
-ghost use Rattle.acpi_check.specs.ServedGsis.{named_gsi, AreServedSpans, AreSortedDisjoint, IsInSpans};
+ghost use Rattle.acpi_check.specs.ServedGsis.{named_gsi, AreServedSpans, DoStartsRise, DoBothRise, IsInSpans};
 
 use crate::collected::collected;
 use crate::gsi_ranges::{are_in_ranges, served_ranges};
@@ -56,9 +56,26 @@ fn are_all_served(alloc: Global, policy: &Policy, madt: &Madt<'_>) -> Result<boo
     Ok(are_in_ranges(&ranges, &numbers))
 }
 
-/// The interrupt numbers that each I/O APIC of a MADT serves, as spans in rising order. Takes memory for one span for each.
+/// Raises the end of each span to the greatest end of those before it, where that is greater. Spans that begin in rising order
+/// hold the same numbers as before: what is added to a span is held by an earlier one.
+fn raise_ends(spans: &mut [Span])
+    requires { DoStartsRise spans.old }
+    ensures rise { DoBothRise spans.new }
+    ensures same { (x : ℕ) → IsInSpans spans.new x ↔ IsInSpans spans.old x }
+{
+    for next in 1..spans.len() {
+        let span = spans[next];
+        spans[next] = Span {
+            start: span.start,
+            name: span.name,
+            end: span.end.max(spans[next - 1].end),
+        };
+    }
+}
+
+/// The interrupt numbers that I/O APICs of a MADT serve, as spans whose starts and ends rise. Takes memory for one span for
+/// each I/O APIC.
 fn sorted_spans(alloc: Global, policy: &Policy, madt: &Madt<'_>) -> Result<Vec<Span>, AllocError>
-    requires { AreInterruptsApart policy.now (madt_contents madt.now) }
     ensures { IfOk result (λ spans. AreServedSpans policy.now (madt_contents madt.now)
         spans.items) }
 {
@@ -67,13 +84,14 @@ fn sorted_spans(alloc: Global, policy: &Policy, madt: &Madt<'_>) -> Result<Vec<S
     let _ = policy.rsdp();
     let mut spans = served_spans(alloc, policy, madt)?;
     spans.sort_unstable();
+    raise_ends(&mut spans);
     Ok(spans)
 }
 
-/// Whether a number is in one of the spans: each ends before the next begins, so only the last one that begins at the number
-/// or below it can. It is found by binary search.
+/// Whether a number is in one of the spans: of those that begin at the number or below it the last one has the greatest end,
+/// so it holds the number where any does. It is found by binary search.
 fn is_in_spans(spans: &[Span], number: u128) -> bool
-    requires { AreSortedDisjoint spans.now }
+    requires { DoBothRise spans.now }
     ensures { MatchBool result (IsInSpans spans.now number) (¬ IsInSpans spans.now number) }
 {
     let begun = spans.partition_point(|span| span.start <= number);
@@ -82,7 +100,7 @@ fn is_in_spans(spans: &[Span], number: u128) -> bool
 
 /// The fault of an entry that names an interrupt number that none of the spans holds. None for an entry that names none.
 fn own_fault(spans: &[Span], at: &EntryAt<MadtEntry<'_>>) -> Option<Witness>
-    requires { AreSortedDisjoint spans.now }
+    requires { DoBothRise spans.now }
     ensures { MatchOption result
         (IsKnown (IsInSpans spans.now) (named_gsi (madt_value at.now.entry)))
         (IsUnknown (IsInSpans spans.now) Code.GsiNowhere at.now.offset
@@ -102,7 +120,7 @@ fn own_fault(spans: &[Span], at: &EntryAt<MadtEntry<'_>>) -> Option<Witness>
 
 /// The fault of the first entry of a MADT that names an interrupt number that none of the spans holds.
 fn first_unserved(spans: &[Span], madt: &Madt<'_>) -> Option<Witness>
-    requires { AreSortedDisjoint spans.now }
+    requires { DoBothRise spans.now }
     ensures { FindsUnknown (IsInSpans spans.now) named_gsi Code.GsiNowhere
         (madt_contents madt.now).entries result }
 {
@@ -123,7 +141,6 @@ fn first_unserved(spans: &[Span], madt: &Madt<'_>) -> Option<Witness>
 /// one number for each override and each NMI source. Only where they are not, the first that is not served is looked for, which
 /// takes memory for one span for each I/O APIC.
 pub fn named_served(alloc: Global, policy: &Policy, madt: &Madt<'_>) -> Result<(), Refusal>
-    requires { AreInterruptsApart policy.now (madt_contents madt.now) }
     ensures { FindsFirst Stage.Served (AreNamedServed policy.now (madt_contents madt.now))
         (ServedFault policy.now (madt_contents madt.now)) result }
 {

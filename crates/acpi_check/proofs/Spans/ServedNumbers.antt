@@ -1,6 +1,6 @@
 -- Spans in rising order are looked through for the interrupt numbers that I/O APICs serve.
 use Rattle.std.proofs.Common.{◌≡◌, ℕ, ◌-◌, ◌<◌, ◌≤◌, true, false, List, length, get_or, nat_lt, leb, refl, sym, ap, subst, inl, inr, arith}
-use Rattle.std.specs.Prelude.{Contains, MatchBool}
+use Rattle.std.specs.Prelude.{◌↔◌, MatchBool}
 use Rattle.std.specs.FinMap.{get}
 use Rattle.std.specs.List.Sorted.{IsPermutation, IsSorted, IsNonDecreasingBy, IsPartitionPoint}
 use Rattle.std.proofs.lemmas.Bool.{cases_lt, cases_order, leb-true, leb-false, lt-ltb, le-ltb}
@@ -8,73 +8,33 @@ use Rattle.std.proofs.lemmas.List.{get_or_default}
 use Rattle.std.proofs.lemmas.List.Elements.{Contains-get_or}
 use Rattle.std.proofs.lemmas.List.Sorted.{Contains-permutation, IsPermutation-sym}
 use Rattle.acpi_base.specs.Across.{IsIoApic, IsServed}
-use Rattle.acpi_base.specs.Overlaps.{AreApart}
-use Rattle.acpi_base.specs.Madt.{MadtEntry, IoApic, MadtContents, ServesFrom, Serves, AreInterruptsApart}
+use Rattle.acpi_base.specs.Madt.{MadtEntry, IoApic, MadtContents, ServesFrom, Serves}
 use Rattle.acpi_base.specs.Policy.{PolicyValue, IsPolicy, inputs_of}
 use Rattle.acpi_base.proofs.Images.HeldBytes.{cases_Option}
-use Rattle.acpi_graph.specs.Spans.{NamesDiffer, HasNumber, IsClear}
+use Rattle.acpi_graph.specs.Spans.{NamesDiffer}
 use Rattle.acpi_graph.specs.declared.span.Span.{Span}
-use Rattle.acpi_graph.proofs.SortedSpans.{span_cmp, in_order, names_permuted, clear_permuted}
+use Rattle.acpi_graph.proofs.SortedSpans.{span_cmp, in_order}
 use Rattle.acpi_check.specs.RangeSpans.{AreSpansOf}
-use Rattle.acpi_check.specs.ServedGsis.{AreSortedDisjoint, IsInSpans, AreServedSpans}
+use Rattle.acpi_check.specs.ServedGsis.{DoStartsRise, DoBothRise, IsInSpans, AreServedSpans}
 
 -- ---- spans in rising order
 
--- where no number lies in two ranges, none lies in two spans
-clear : {HoldsAt : ℕ → ℕ → ℕ → Type 0} (spans : List Span) → AreSpansOf HoldsAt spans → AreApart HoldsAt → IsClear spans
-clear {HoldsAt} spans are apart x two =
-    apart two.one.name two.other.name x (record {
-      s = two.one.start;
-      t = two.other.start;
-      one_holds = is two.one two.one_listed two.one_holds;
-      other_holds = is two.other two.other_listed two.other_holds;
-      two = two.two;
-    })
-  where
-    is : (span : Span) → Contains spans span → HasNumber span x → HoldsAt span.name span.start x
-    is span listed holds =
-        (are.covers span.name span.start x).1
-        (record { span = span; listed = listed; name = refl; start = refl; holds = holds })
-
--- sorted spans that are clear of each other rise
-rise : (spans : List Span) → NamesDiffer spans → IsSorted span_cmp spans → IsClear spans → AreSortedDisjoint spans
-rise spans names sorted clears i j d before within =
-    elim (cases_lt b.start a.end) [
-      | inr ends ↦ ends
-      | inl overlap ↦
-          absurd (clears b.start (record {
-            one = a;
-            other = b;
-            one_listed = Contains-get_or spans i d (omega arith);
-            other_listed = Contains-get_or spans j d within;
-            two = names i j d before within;
-            one_holds = record { from_start = begins; below_end = overlap };
-            other_holds = record { from_start = omega arith; below_end = b.not_empty };
-          }))
-    ]
-  where
-    a : Span
-    a = get_or spans i d
-
-    b : Span
-    b = get_or spans j d
-
-    begins : a.start ≤ b.start
-    begins = elim (in_order spans names sorted i j d before within) [
-      | inl less ↦ omega arith
-      | inr (same, _) ↦
-          omega arith
+-- sorted spans begin in rising order
+pub sorted_starts : (spans : List Span) → NamesDiffer spans → IsSorted span_cmp spans → DoStartsRise spans
+sorted_starts spans names sorted i j d before within =
+    elim (in_order spans names sorted i j d before within) [
+      | inl less ↦ omega (arith, less)
+      | inr (same, _) ↦ omega (arith, same)
     ]
 
 -- ---- what a search by the start finds
 
--- spans that rise begin in rising order
-pub starts_rise : (spans : List Span) → AreSortedDisjoint spans → IsNonDecreasingBy (λ s. s.start) spans
+-- a span begins no later than those behind it and itself
+pub starts_rise : (spans : List Span) → DoBothRise spans → IsNonDecreasingBy (λ s. s.start) spans
 starts_rise spans rises i j d least within =
-    let filled : (get_or spans i d).start < (get_or spans i d).end = (get_or spans i d).not_empty in
     elim (cases_order i j) [
       | inl same ↦ rw same (omega arith)
-      | inr (inl less) ↦ omega (arith, rises i j d less within)
+      | inr (inl less) ↦ (rises i j d less within).0
       | inr (inr more) ↦ absurd (omega arith)
     ]
 
@@ -97,24 +57,22 @@ last_holds spans x i d some within begun below = (
   record { from_start = leb-true _ _ (begun.0 (i - 1) d (omega arith) (omega arith)); below_end = below },
 )
 
--- and where it does not, none does
-pub last_ended : (spans : List Span) (x i : ℕ) (d : Span) → AreSortedDisjoint spans → 0 < i → i ≤ length spans
+-- and where it does not, none does: it ends last of those that have begun
+pub last_ended : (spans : List Span) (x i : ℕ) (d : Span) → DoBothRise spans → 0 < i → i ≤ length spans
     → IsBegun spans x i → (get_or spans (i - 1) d).end ≤ x → ¬ IsInSpans spans x
 last_ended spans x i d rises some within begun ended (span, (k, inside, is), holds) =
-    let last : (get_or spans (i - 1) span).start < (get_or spans (i - 1) span).end =
-    (get_or spans (i - 1) span).not_empty in
     let ends : (get_or spans (i - 1) span).end ≤ x = subst (λ (s : Span). s.end ≤ x)
     (get_or_default spans (i - 1) d span (omega arith)) ended in
     let start = ap (λ (s : Span). s.start) is in
     let end = ap (λ (s : Span). s.end) is in
     elim (cases_order k (i - 1)) [
       | inl same ↦ omega (arith, end, holds.below_end, subst (λ (j : ℕ). (get_or spans j span).end ≤ x) (sym same) ends)
-      | inr (inl less) ↦ omega (arith, end, holds.below_end, rises k (i - 1) span less (omega arith))
+      | inr (inl less) ↦ omega (arith, end, holds.below_end, (rises k (i - 1) span less (omega arith)).1)
       | inr (inr more) ↦ omega (arith, start, holds.from_start, leb-false _ _ (begun.1 k span (omega arith) inside))
     ]
 
 -- so its end decides
-pub covers : (spans : List Span) (x i : ℕ) (d : Span) → AreSortedDisjoint spans → 0 < i → i ≤ length spans
+pub covers : (spans : List Span) (x i : ℕ) (d : Span) → DoBothRise spans → 0 < i → i ≤ length spans
     → IsBegun spans x i → MatchBool (nat_lt x (get_or spans (i - 1) d).end) (IsInSpans spans x) (¬ IsInSpans spans x)
 covers spans x i d rises some within begun =
     elim (cases_lt x (get_or spans (i - 1) d).end) [
@@ -139,36 +97,34 @@ serves_some : (q : PolicyValue) → IsPolicy q → (e : MadtEntry) → IsIoApic 
 serves_some q is (IoApic v) io = (v.gsi_base, (refl, omega arith, omega (arith, one_input q is v.address)))
 serves_some q is _ io = absurd io
 
--- sorted spans are those of the I/O APICs, where no two serve one number
-pub are_served : (q : PolicyValue) (c : MadtContents) (spans sorted : List Span) → IsPolicy q → AreInterruptsApart q c
-    → AreSpansOf (Serves q c) spans → IsPermutation spans sorted → IsSorted span_cmp sorted → AreServedSpans q c sorted
-are_served q c spans sorted is apart are moved order =
+-- spans that hold what those of the I/O APICs hold, in another order, are theirs
+pub are_served : (q : PolicyValue) (c : MadtContents) (spans sorted raised : List Span) → IsPolicy q
+    → AreSpansOf (Serves q c) spans → IsPermutation spans sorted → DoBothRise raised
+    → ((x : ℕ) → IsInSpans raised x ↔ IsInSpans sorted x) → AreServedSpans q c raised
+are_served q c spans sorted raised is are moved rise same =
     record {
-      rise = rise sorted (names_permuted spans sorted moved are.names) order
-          (clear_permuted sorted spans back (clear spans are apart));
+      rise = rise;
       covers = λ g. (from g, to g);
       some = λ (o, (e, stands, io)). let (g, serves) = serves_some q is e io in let (span, (k, within, _), holds) =
           to g (o, g, (e, stands, serves)) in omega arith;
     }
   where
-    back : IsPermutation sorted spans
-    back = IsPermutation-sym spans sorted moved
+    from : (g : ℕ) → IsInSpans raised g → IsServed q c g
+    from g held =
+        let (span, listed, holds) = (same g).0 held in (
+          span.name,
+          span.start,
+          (are.covers span.name span.start g).1
+              (record {
+                span = span;
+                listed = Contains-permutation sorted spans span (IsPermutation-sym spans sorted moved) listed;
+                name = refl;
+                start = refl;
+                holds = holds;
+              }),
+        )
 
-    from : (g : ℕ) → IsInSpans sorted g → IsServed q c g
-    from g (span, listed, holds) = (
-      span.name,
-      span.start,
-      (are.covers span.name span.start g).1
-          (record {
-            span = span;
-            listed = Contains-permutation sorted spans span back listed;
-            name = refl;
-            start = refl;
-            holds = holds;
-          }),
-    )
-
-    to : (g : ℕ) → IsServed q c g → IsInSpans sorted g
+    to : (g : ℕ) → IsServed q c g → IsInSpans raised g
     to g (o, start, serves) =
         let has = (are.covers o start g).0 serves in
-        (has.span, Contains-permutation spans sorted has.span moved has.listed, has.holds)
+        (same g).1 (has.span, Contains-permutation spans sorted has.span moved has.listed, has.holds)

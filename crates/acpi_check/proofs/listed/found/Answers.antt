@@ -191,11 +191,6 @@ returns-in_err-madt-in-Served c =
     unlisted c.requires c.in-Served.is kind.Madt c.madt-in-Served.ensures c.in_err-madt-in-Served.was
     c.from_residual-in_err-madt-in-Served.ensures (of_none _)
 
-pub named_served-requires : goal.named_served-requires
-named_served-requires c =
-    earlier c.requires c.in-Served.is stage.Interrupts (omega arith) _
-    (listed_of_first c.requires.tables.listed.tables kind.Madt c.madt-in-Served.ensures c.in_ok-madt-in-Served.was)
-
 pub returns-in_ok-madt-in-Served : goal.returns-in_ok-madt-in-Served
 returns-in_ok-madt-in-Served c =
     settled c.requires c.in-Served.is kind.Madt c.madt-in-Served.ensures c.in_ok-madt-in-Served.was
