@@ -77,8 +77,13 @@ fn code_of(chain: Chain) -> Code
     }
 }
 
-/// The fault of the first node of a PPTT whose chain goes round, or none where no chain does. A chain ends where a node
-/// names 0, and where it names an offset at which none of its kind stands.
+/// The fault of the first node of a PPTT whose chain goes round, or none where no chain does: nodes and their Parents (ACPI
+/// 6.5, 5.2.30.1), or caches and their Next Levels (5.2.30.2). Any PPTT may be asked, whatever its entries. A chain ends
+/// where a node names 0, and where it names an offset at which none of its kind stands.
+///
+/// The fault has the code `ParentCycle`, or `CacheCycle` of caches: `at` is the node's offset, in bytes from the table's start;
+/// `other` is the least number of steps from it into its cycle, and `point` the least number of steps once round, at least 1.
+/// Refuses `AllocError` out of memory: it takes some for each node of the kind.
 pub fn first_cycle(
     alloc: Global,
     chain: Chain,

@@ -10,7 +10,7 @@ ghost use Rattle.acpi_check.specs.Domains.{placement_of, PutsPlaced, ArePlacemen
 ghost use Rattle.acpi_check.specs.FirstSeen.{IsGiven, FindsOther};
 ghost use Rattle.acpi_check.specs.PassResults.{FindsFirst};
 
-use crate::collected::collected;
+use crate::collecting::collected;
 use crate::first_seen::{Given, OtherValue, pass_given};
 use crate::processors::{Key, numbers_of};
 use crate::refusal::Refusal;
@@ -106,12 +106,16 @@ fn do_agree(placements: &[Placement]) -> bool
     true
 }
 
-/// Whether an SRAT puts no processor of a MADT that counts as enabled in two domains. The first fault is at the first entry of
-/// the SRAT that puts a processor in another domain than the first entry that is of it, whose offset is `other`; `point` is the
-/// processor's APIC ID or x2APIC ID.
+/// Whether an SRAT puts no processor of a MADT that counts as enabled in two proximity domains (ACPI 6.5, 5.2.16.1 and
+/// 5.2.16.3; 5.2.12.2 and 5.2.12.12). APIC IDs and x2APIC IDs are one number space. Any two tables may be asked, whatever their
+/// entries.
 ///
-/// Takes memory for each enabled entry of the SRAT that puts a processor in a domain; and where some processor is put in two,
-/// also for each processor that counts as enabled.
+/// Refuses `Fault` with the code `TwoDomains`: `at` is the offset, in bytes from the SRAT's start, of its first entry that puts
+/// such a processor in another domain than its first entry that is of it, whose offset is `other`; `point` is the processor's
+/// APIC ID or x2APIC ID, of 32 bits.
+///
+/// Refuses `OutOfMemory`: it takes memory for each enabled entry of the SRAT that puts a processor in a domain; and where some
+/// processor is put in two, also for each processor that counts as enabled.
 pub fn one_domain(
     alloc: Global,
     processors: Processors,

@@ -5,7 +5,7 @@ ghost use Rattle.acpi_base.specs.Madt.{madt_contents};
 ghost use Rattle.acpi_read.specs.Madts.{madt_value};
 ghost use Rattle.acpi_check.specs.GsiRanges.{served_range, ranges_of, IsInRange, IsInRanges, AreInRange};
 
-use crate::collected::collected;
+use crate::collecting::collected;
 use acpi_base::Policy;
 use acpi_graph::CompactSpan;
 use acpi_read::{Madt, MadtEntry};

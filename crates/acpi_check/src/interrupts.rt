@@ -8,7 +8,7 @@ ghost use Rattle.acpi_read.specs.Madts.{madt_value};
 ghost use Rattle.acpi_check.specs.PassResults.{Finds, IsOverlap};
 ghost use Rattle.acpi_check.specs.RangeSpans.{span_value, served_span, AreSpansOf, BeginLow, HasLowPoint, IsOverlapResult};
 
-use crate::collected::collected;
+use crate::collecting::collected;
 use crate::gsi_ranges::served_ranges;
 use crate::refusal::Refusal;
 use acpi_base::{Code, Policy, Witness};
@@ -60,10 +60,13 @@ fn first_gsi_clash(alloc: Global, policy: &Policy, madt: &Madt<'_>) -> Result<Cl
     Ok(clash)
 }
 
-/// Whether no interrupt number is served by two I/O APICs of a MADT. The first fault names the least number that two serve, and
-/// the first two that serve it, by their first number and then by their offset.
+/// Whether no interrupt number is served by two I/O APICs of a MADT (ACPI 6.5, 5.2.12.3). One serves the numbers from its
+/// Global System Interrupt Base on, as many as the policy gives it inputs. Any MADT may be asked, whatever its entries.
 ///
-/// Takes memory for one compact span for each I/O APIC; and where two serve one number, for one span for each.
+/// Refuses `Fault` with the code `GsiClash` where two serve one number: `point` is the least such number, which is below 2^32;
+/// `at` and `other` are the offsets, in bytes from the table's start, of the first two that serve it, by their first number and
+/// then by their offset. Refuses `OutOfMemory`: it takes memory for a compact span of 8 bytes for each I/O APIC; and where two
+/// serve one number, for a span for each.
 pub fn apart_interrupts(alloc: Global, policy: &Policy, madt: &Madt<'_>) -> Result<(), Refusal>
     ensures { Finds Stage.Interrupts (AreInterruptsApart policy.now (madt_contents madt.now))
         (IsOverlap Code.GsiClash (IsFirstGsiClash policy.now (madt_contents madt.now))) result }

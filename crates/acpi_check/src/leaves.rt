@@ -13,7 +13,7 @@ ghost use Rattle.acpi_check.specs.NamedNumbers.{IsKnown, IsUnknown, FindsUnknown
 ghost use Rattle.acpi_check.specs.PassResults.{FindsFirst};
 ghost use Rattle.acpi_check.specs.Processors.{numbers_in};
 
-use crate::collected::collected;
+use crate::collecting::collected;
 use crate::processors::{Key, numbers_of};
 use crate::refusal::{Refusal, refuse};
 use crate::search::{has, sorted_unique};
@@ -109,15 +109,17 @@ fn first_unknown(uids: &[u64], pptt: &Pptt<'_>) -> Option<Witness>
 /// The Revision of the PPTT that first has the flag of a leaf.
 const HAS_LEAVES: u8 = 2;
 
-/// Whether the ID of each leaf of a PPTT is the UID of a processor of a MADT, enabled or not, or the PPTT's Revision is below
-/// 2, or the MADT has an entry of a type that is not read here. A leaf is a node whose flags say that it is one and that its ID
-/// is valid. The first fault is at the offset of the first leaf whose ID is no UID; `other` is 0, and `point` is the ID.
+/// Whether the ID of each leaf of a PPTT is the UID of a processor of a MADT, enabled or not (ACPI 6.5, 5.2.30.1; 5.2.12.2
+/// and 5.2.12.12), or the PPTT's Revision is below 2, or the MADT has an entry of a type that is not read here. A leaf is a
+/// node whose flags say that it is one and that its ID is valid. Any PPTT may be asked; of the MADT it is asked that its
+/// entries fill it, which `Entries::cut` says by none: bytes left behind them may be of further processors.
 ///
-/// What exempts a set is asked first, in this order, and takes no memory. Behind it memory is taken for the UID of each
-/// processor and the ID of each leaf, which are sorted and gone over together; only where not all IDs are seen among the UIDs
-/// are the leaves looked up one by one.
+/// Refuses `Fault` with the code `LeafUnknown`: `at` is the offset, in bytes from the PPTT's start, of the first leaf whose ID
+/// is no UID; `other` is 0, and `point` is the ID, of 32 bits.
 ///
-/// Asks that entries fill the MADT (`Entries::cut` is none): one with bytes left behind them may have more processors.
+/// Refuses `OutOfMemory`. What exempts tables is asked first, in this order, and takes no memory. Behind it memory is taken for
+/// the UID of each processor and the ID of each leaf, which are sorted and gone over together; only where not all IDs are seen
+/// among the UIDs are the leaves looked up one by one.
 pub fn known_leaves(alloc: Global, madt: &Madt<'_>, pptt: &Pptt<'_>) -> Result<(), Refusal>
     requires { (madt_contents madt.now).cut ≡ None }
     ensures { FindsFirst Stage.Leaves

@@ -6,6 +6,10 @@
 //! `read_set` and `check_set` hand on the set of which stages 1 to 3, or all eighteen, hold. Stages 7, 10 and 13 to 18
 //! take memory; the others take none.
 //!
+//! The finders of stages that have one code are public: `apart_interrupts`, `agreeing_overrides`, `apart_ranges`,
+//! `first_cycle`, `one_domain`, `named_served` and `known_leaves` ask nothing of earlier stages, and may be called on any
+//! table. So are `collected`, which they gather values with, and the searches that they look them up by.
+//!
 //! An example, of `crates/acpi_cli/src/check.rt`, where the set at an address is checked under a policy up to a stage:
 //!
 //! ```rust
@@ -16,7 +20,7 @@
 #![tactic(auto)]
 
 mod chains;
-mod collected;
+mod collecting;
 mod domains;
 mod facs;
 mod fadt;
@@ -47,6 +51,16 @@ mod stages;
 mod subset;
 mod tables;
 
+pub use chains::first_cycle;
+pub use collecting::collected;
+pub use domains::one_domain;
+pub use interrupts::apart_interrupts;
+pub use leaves::known_leaves;
+pub use nodes::Chain;
+pub use overrides::agreeing_overrides;
+pub use ranges::apart_ranges;
 pub use refusal::Refusal;
+pub use search::{binary_search, has, sorted_unique};
+pub use served::named_served;
 pub use set::{CleanSet, ListedSet};
 pub use stages::{check, check_set, check_to, read_set};

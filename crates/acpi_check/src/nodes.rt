@@ -1,11 +1,11 @@
 //! Nodes of chains in a PPTT.
 
-/// What the nodes of chains are, and how each names the next one.
+/// What the nodes of chains in a PPTT are, and how each names the next one.
 #[derive(Clone, Copy)]
 pub enum Chain {
-    /// Processor hierarchy nodes, by their Parents.
+    /// Processor hierarchy nodes, by their Parents (ACPI 6.5, 5.2.30.1).
     Parents,
-    /// Caches, by their Next Levels.
+    /// Caches, by their Next Levels (5.2.30.2).
     NextLevels,
 }
 

@@ -30,8 +30,12 @@ fn number_given(entry: &MadtEntry<'_>) -> Option<Given>
     }
 }
 
-/// Whether a MADT's overrides give each Source one interrupt number. The first fault is at the first override that gives its
-/// Source another number than the first override of this Source, whose offset is `other`; `point` is the Source.
+/// Whether a MADT's overrides give each Source one interrupt number (ACPI 6.5, 5.2.12.5), whatever their bus. Any MADT may be
+/// asked, whatever its entries. It takes no memory.
+///
+/// Refuses `Fault` with the code `OverrideClash` where one gives its Source another number than an earlier one: `at` is the
+/// offset, in bytes from the table's start, of the first that gives its Source another number than the first override of this
+/// Source, whose offset is `other`; `point` is the Source, from 0 to 255.
 pub fn agreeing_overrides(madt: &Madt<'_>) -> Result<(), Refusal>
     ensures settled { FindsFirst Stage.Overrides (DoOverridesAgree (madt_contents madt.now))
         (OverrideFault (madt_contents madt.now)) result }

@@ -6,7 +6,7 @@ ghost use Rattle.acpi_base.specs.Policy.{counts_as_enabled};
 ghost use Rattle.acpi_read.specs.Madts.{madt_value};
 ghost use Rattle.acpi_check.specs.Processors.{number_of, AreNumbers};
 
-use crate::collected::collected;
+use crate::collecting::collected;
 use crate::search::sorted_unique;
 use acpi_base::Processors;
 use acpi_read::{Madt, MadtEntry};

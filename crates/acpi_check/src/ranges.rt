@@ -10,7 +10,7 @@ ghost use Rattle.acpi_check.specs.PassResults.{Finds, IsOverlap};
 ghost use Rattle.acpi_check.specs.RangeSpans.{span_value, covered_span, earlier_clash, AreSpansOf, BeginLow, HasLowPoint, IsOverlapResult, IsRangesResult};
 ghost use Rattle.acpi_check.specs.RangeKinds.{counts, IsOfKind};
 
-use crate::collected::collected;
+use crate::collecting::collected;
 use crate::range_kind::RangeKind;
 use crate::refusal::Refusal;
 use crate::srat::is_enabled;
@@ -106,8 +106,14 @@ fn first_overlap(alloc: Global, hotplug: HotPlug, srat: &Srat<'_>) -> Result<Cla
     }
 }
 
-/// Whether no address is covered by two enabled ranges of an SRAT that are compared. The first fault is at the offset of the
-/// first two that cover the least such address. Takes memory for each range that is compared.
+/// Whether no address is covered by two enabled ranges of an SRAT that are compared (ACPI 6.5, 5.2.16.2): any two where
+/// hot-pluggable ranges are counted, else two that both are hot-pluggable or both are not. A range of no bytes covers none.
+/// Any SRAT may be asked, whatever its entries, also one whose ranges go on past 2^64.
+///
+/// Refuses `Fault` with the code `Overlap` where two cover one address: `point` is the least such address, of 64 bits; `at`
+/// and `other` are the offsets, in bytes from the table's start, of the first two that cover it, by their base and then by
+/// their offset. Where they are compared by kind, both are of one kind; at one least address those are named that are not
+/// hot-pluggable. Refuses `OutOfMemory`: it takes memory for a span for each range that is compared.
 pub fn apart_ranges(alloc: Global, hotplug: HotPlug, srat: &Srat<'_>) -> Result<(), Refusal>
     ensures { Finds Stage.Ranges (AreRangesApart hotplug (srat_contents srat.now))
         (IsOverlap Code.Overlap (IsFirstOverlap hotplug (srat_contents srat.now))) result }

@@ -9,7 +9,7 @@ use std::alloc::AllocError;
 /// Why a stage does not hand on what it checks.
 #[derive(Clone, Copy)]
 pub enum Refusal {
-    /// The set's first fault, which is one of the stage's.
+    /// The first fault of the set, or of the tables that were handed over: it is one of the stage's.
     Fault(Witness),
     /// Out of memory. The stages up to 6 take none.
     OutOfMemory,

@@ -13,8 +13,9 @@ fn interpolated_place(offsets: &[u64], offset: u64) -> usize {
     (offset.saturating_sub(*first).saturating_mul(steps) / span) as usize
 }
 
-/// The place of an offset among offsets that rise, or none where it is not among them. Where they rise evenly, as those
-/// of entries of one length do, it looks at one of them.
+/// The place, from 0 on, of an offset among offsets that rise, or none where it is not among them. Any numbers of 64 bits may
+/// be searched. Where they rise evenly, as offsets of entries of one length do (ACPI 6.5, 5.2.30), it looks at one of them;
+/// else at as many as a binary search does. It takes no memory.
 pub fn binary_search(offsets: &[u64], offset: u64) -> Option<usize>
     requires { AllPairs (λ o p. o < p) offsets.now }
     ensures { MatchOption result (¬ Contains offsets.now offset)
@@ -27,7 +28,8 @@ pub fn binary_search(offsets: &[u64], offset: u64) -> Option<usize>
     offsets.binary_search(&offset).ok()
 }
 
-/// Whether an offset is among offsets that rise.
+/// Whether an offset of 32 bits, as entries of a PPTT name them (ACPI 6.5, 5.2.30), is among offsets that rise. It takes no
+/// memory.
 pub fn has(offsets: &[u64], offset: u32) -> bool
     requires { AllPairs (λ o p. o < p) offsets.now }
     ensures { MatchBool result (Contains offsets.now offset) (¬ Contains offsets.now offset) }
@@ -38,7 +40,8 @@ pub fn has(offsets: &[u64], offset: u32) -> bool
     }
 }
 
-/// The numbers in rising order, each once.
+/// The numbers in rising order, each once, as `binary_search` and `has` ask for them. It sorts them in place, and takes no
+/// memory.
 pub fn sorted_unique(mut numbers: Vec<u64>) -> Vec<u64>
     ensures rise { AllPairs (λ i j. i < j) result.items }
     ensures same { (n : ℕ) → Contains result.items n ↔ Contains numbers.items n }

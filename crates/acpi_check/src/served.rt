@@ -11,7 +11,7 @@ ghost use Rattle.acpi_check.specs.PassResults.{FindsFirst};
 ghost use Rattle.acpi_check.specs.Processors.{numbers_in};
 ghost use Rattle.acpi_check.specs.ServedGsis.{named_gsi, AreServedSpans, DoStartsRise, DoBothRise, IsInSpans};
 
-use crate::collected::collected;
+use crate::collecting::collected;
 use crate::gsi_ranges::{are_in_ranges, served_ranges};
 use crate::interrupts::served_spans;
 use crate::refusal::{Refusal, refuse};
@@ -133,13 +133,16 @@ fn first_unserved(spans: &[Span], madt: &Madt<'_>) -> Option<Witness>
     None
 }
 
-/// Whether an I/O APIC of a MADT serves each interrupt number that an override or an NMI source names, or the MADT has no I/O
-/// APIC. The first fault is at the offset of the first entry that names a number that none serves; `other` is 0, and `point`
-/// is the number.
+/// Whether an I/O APIC of a MADT serves each interrupt number that an override or an NMI source names (ACPI 6.5, 5.2.12.3,
+/// 5.2.12.5 and 5.2.12.6), or the MADT has no I/O APIC. Any MADT may be asked, whatever its entries, also one of which two I/O
+/// APICs serve one number.
 ///
-/// First it is asked whether all numbers are seen to be served, which takes memory for one compact span for each I/O APIC and
-/// one number for each override and each NMI source. Only where they are not, the first that is not served is looked for, which
-/// takes memory for one span for each I/O APIC.
+/// Refuses `Fault` with the code `GsiNowhere`: `at` is the offset, in bytes from the table's start, of the first entry that
+/// names a number that none serves; `other` is 0, and `point` is the number, of 32 bits.
+///
+/// Refuses `OutOfMemory`. First it is asked whether all numbers are seen to be served, which takes memory for a compact span
+/// of 8 bytes for each I/O APIC and a number for each override and each NMI source. Only where they are not, the first that
+/// is not served is looked for, which takes memory for a span for each I/O APIC.
 pub fn named_served(alloc: Global, policy: &Policy, madt: &Madt<'_>) -> Result<(), Refusal>
     ensures { FindsFirst Stage.Served (AreNamedServed policy.now (madt_contents madt.now))
         (ServedFault policy.now (madt_contents madt.now)) result }

@@ -1,6 +1,6 @@
 use Rattle.std.proofs.Common.{refl}
 use Rattle.acpi_check.proofs.EntryPasses.Collecting.{one_kept, one_passed, all_collected}
-use Rattle.acpi_check.proofs.collected.collected.Goals as goal
+use Rattle.acpi_check.proofs.collecting.collected.Goals as goal
 
 pub loop-entry-preserved-in-Continue-1 : goal.loop-entry-preserved-in-Continue-1
 loop-entry-preserved-in-Continue-1 g c =

@@ -1,7 +1,7 @@
 use Rattle.acpi_base.specs.Entries.{entries_read_by}
 use Rattle.acpi_check.specs.CollectedValues.{Picks}
 use Rattle.acpi_check.proofs.EntryPasses.Collecting.{IsCollecting}
-use Rattle.acpi_check.proofs.collected.collected.Given as goal
+use Rattle.acpi_check.proofs.collecting.collected.Given as goal
 
 -- what is collected so far is what `pick` gives of the entries before those left
 abbrev pub invariant-loop-entry : goal.invariant-loop-entry
