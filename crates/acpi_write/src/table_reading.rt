@@ -8,6 +8,7 @@ ghost use Rattle.acpi_base.specs.Listed.{listed_addresses};
 ghost use Rattle.acpi_base.specs.Number.{byte_sum};
 ghost use Rattle.acpi_base.specs.declared.table_kind.TableKind.{TableKind};
 ghost use Rattle.acpi_check.specs.HandedOn.{IsListedSet};
+ghost use Rattle.acpi_read.specs.FilledTables.{IsFilledMadt, IsFilledSrat, IsFilledPptt};
 ghost use Rattle.acpi_read.specs.Headers.{header_value};
 ghost use Rattle.acpi_write.specs.Bodies.{entries_in, IsReadableAs};
 ghost use Rattle.acpi_write.specs.Kinds.{AreReadable, table_of};
@@ -89,8 +90,9 @@ fn read_fadt<'a>(alloc: Global, table: &Table<'a>) -> Result<TableValue<'a>, All
     Ok(TableValue::Fadt { head, body })
 }
 
-/// What a MADT says.
+/// What a MADT says that entries fill, each of a length of its type.
 fn read_madt<'a>(alloc: Global, madt: &Madt<'a>) -> Result<TableValue<'a>, AllocError>
+    requires { IsFilledMadt madt.now }
     ensures value { IfOk result
         (λ value. table_value value ≡ table_value_as (Some TableKind.Madt) madt.now) }
     ensures shaped { IfOk result IsShaped }
@@ -107,8 +109,9 @@ fn read_madt<'a>(alloc: Global, madt: &Madt<'a>) -> Result<TableValue<'a>, Alloc
     })
 }
 
-/// What an SRAT says.
+/// What an SRAT says that entries fill, each of a length of its type.
 fn read_srat<'a>(alloc: Global, srat: &Srat<'a>) -> Result<TableValue<'a>, AllocError>
+    requires { IsFilledSrat srat.now }
     ensures value { IfOk result
         (λ value. table_value value ≡ table_value_as (Some TableKind.Srat) srat.now) }
     ensures shaped { IfOk result IsShaped }
@@ -118,8 +121,9 @@ fn read_srat<'a>(alloc: Global, srat: &Srat<'a>) -> Result<TableValue<'a>, Alloc
     Ok(TableValue::Srat { head, entries })
 }
 
-/// What a PPTT says.
+/// What a PPTT says that entries fill, each of a length of its type.
 fn read_pptt<'a>(alloc: Global, pptt: &Pptt<'a>) -> Result<TableValue<'a>, AllocError>
+    requires { IsFilledPptt pptt.now }
     ensures value { IfOk result
         (λ value. table_value value ≡ table_value_as (Some TableKind.Pptt) pptt.now) }
     ensures shaped { IfOk result IsShaped }

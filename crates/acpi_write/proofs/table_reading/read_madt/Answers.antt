@@ -17,5 +17,5 @@ returns-clause-shaped c = λ k d below.
     let found = c.in_ok-entries.entries.items in
     let entries = c.in_ok-entries.ensures.entries ∙ ap entries_in c.entries.ensures.entries in
     let own = all_found madt_value IsOfOwnLength found (madt_contents c.args.madt.now).entries entries
-    c.entries.ensures.filled.lengths in
+    c.requires.lengths in
     madt_shaped (get_or found k d) (c.in_ok-entries.ensures.read k d below) (own k d below)
