@@ -1,0 +1,7 @@
+mod FirstEntries
+mod LeastPlaces
+mod MadtFaults
+mod OfSets
+mod Picked
+mod Shorts
+mod SratFaults

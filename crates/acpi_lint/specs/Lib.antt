@@ -1,0 +1,7 @@
+-- What the contracts of the linter cite.
+pub mod FirstPicked
+pub mod MadtPlaces
+pub mod Places
+pub mod SratPlaces
+pub mod StageFaults
+pub mod WholeTables

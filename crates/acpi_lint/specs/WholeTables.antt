@@ -1,0 +1,27 @@
+-- The tables of a set that are looked at, as far as they are whole.
+use Rattle.std.specs.Prelude.{ℕ, List, Option, MatchOption}
+use Rattle.acpi_base.specs.Memory.{Memory}
+use Rattle.acpi_base.specs.Listed.{IsListedTable}
+use Rattle.acpi_base.specs.TableKinds.{signature_of}
+use Rattle.acpi_base.specs.declared.table_kind.TableKind.{TableKind}
+use Rattle.acpi_base.specs.declared.table_kind.TableKind.TheVariants as kind
+use Rattle.acpi_read.specs.Roots.{RootValue, IsWholeRoot}
+use Rattle.acpi_lint.specs.declared.whole_tables.WholeTables.{WholeTables}
+
+-- these are the bytes of the set's first listed table with the signature, or there is none that is whole
+abbrev pub IsFound : Memory → ℕ → List ℕ → Option (List ℕ) → Type 0
+IsFound m p signature found =
+    MatchOption found ((whole : List ℕ) → ¬ IsListedTable m p signature whole) (IsListedTable m p signature)
+
+-- the table of a kind
+abbrev pub table_of : WholeTables → TableKind → Option (List ℕ)
+table_of tables kind.Fadt = tables.fadt
+table_of tables kind.Madt = tables.madt
+table_of tables kind.Srat = tables.srat
+table_of tables kind.Slit = tables.slit
+table_of tables kind.Pptt = tables.pptt
+
+-- these are the root and the tables of the set that the RSDP at p leads to
+pub record AreWholeTables (m : Memory) (p : ℕ) (tables : WholeTables) : Type 0 where
+  pub root : MatchOption tables.root ((root : RootValue) → ¬ IsWholeRoot m p root) (IsWholeRoot m p)
+  pub listed : (kind : TableKind) → IsFound m p (signature_of kind) (table_of tables kind)

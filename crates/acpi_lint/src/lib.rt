@@ -1,0 +1,11 @@
+//! All that is wrong with a set of tables: of each code the first fault, and of each rule of advice the first finding.
+//!
+//! Nothing is asked of earlier stages: a table whose sum is wrong is looked at all the same, and a reference that leads
+//! nowhere ends its chain.
+#![tactic(auto)]
+
+mod madt;
+mod passes;
+mod place;
+mod srat;
+mod whole_tables;

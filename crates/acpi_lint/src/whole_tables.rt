@@ -1,0 +1,63 @@
+//! The tables of a set that are looked at.
+
+ghost use Rattle.std.specs.Prelude.{◌≡◌};
+ghost use Rattle.acpi_base.specs.TableKinds.{signature_of};
+ghost use Rattle.acpi_lint.specs.WholeTables.{IsFound, table_of, AreWholeTables};
+
+use acpi_base::{Image, TableKind};
+use acpi_read::{Root, Table, listed_table};
+
+/// The root of a set and the first listed table of each kind, where they are whole, whatever they sum to. They are looked for
+/// once.
+#[derive(Drop)]
+pub struct WholeTables<'a> {
+    /// The root.
+    pub root: Option<Root<'a>>,
+    /// The FADT.
+    pub fadt: Option<Table<'a>>,
+    /// The MADT.
+    pub madt: Option<Table<'a>>,
+    /// The SRAT.
+    pub srat: Option<Table<'a>>,
+    /// The SLIT.
+    pub slit: Option<Table<'a>>,
+    /// The PPTT.
+    pub pptt: Option<Table<'a>>,
+}
+
+/// The first listed table of a kind of the set that the RSDP at an address leads to.
+fn found<'a>(image: &'a Image, rsdp: u64, kind: TableKind) -> Option<Table<'a>>
+    ensures { IsFound image.now rsdp (signature_of kind) result }
+{
+    listed_table(image, rsdp, *kind.signature())
+}
+
+impl<'a> WholeTables<'a> {
+    /// Those of the set that the RSDP at an address leads to.
+    pub fn of(image: &'a Image, rsdp: u64) -> WholeTables<'a>
+        ensures { AreWholeTables image.now rsdp result }
+    {
+        WholeTables {
+            root: Root::whole(image, rsdp),
+            fadt: found(image, rsdp, TableKind::Fadt),
+            madt: found(image, rsdp, TableKind::Madt),
+            srat: found(image, rsdp, TableKind::Srat),
+            slit: found(image, rsdp, TableKind::Slit),
+            pptt: found(image, rsdp, TableKind::Pptt),
+        }
+    }
+
+    /// The table of a kind, where there is one.
+    pub fn table(&self, kind: TableKind) -> Option<Table<'a>>
+        ensures { result ≡ table_of self.now kind }
+    {
+        let place = match kind {
+            TableKind::Fadt => &self.fadt,
+            TableKind::Madt => &self.madt,
+            TableKind::Srat => &self.srat,
+            TableKind::Slit => &self.slit,
+            TableKind::Pptt => &self.pptt,
+        };
+        Some(place.as_ref()?.copied())
+    }
+}
