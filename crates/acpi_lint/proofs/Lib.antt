@@ -5,3 +5,4 @@ mod OfSets
 mod Picked
 mod Shorts
 mod SratFaults
+mod StageVerdicts

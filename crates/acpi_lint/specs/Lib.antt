@@ -4,4 +4,5 @@ pub mod MadtPlaces
 pub mod Places
 pub mod SratPlaces
 pub mod StageFaults
+pub mod Verdicts
 pub mod WholeTables

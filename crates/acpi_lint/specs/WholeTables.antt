@@ -1,5 +1,5 @@
 -- The tables of a set that are looked at, as far as they are whole.
-use Rattle.std.specs.Prelude.{ℕ, List, Option, MatchOption}
+use Rattle.std.specs.Prelude.{◌≡◌, ℕ, ◌<◌, ◌≤◌, List, length, Option, Some, None, MatchOption}
 use Rattle.acpi_base.specs.Memory.{Memory}
 use Rattle.acpi_base.specs.Listed.{IsListedTable}
 use Rattle.acpi_base.specs.TableKinds.{signature_of}
@@ -25,3 +25,8 @@ table_of tables kind.Pptt = tables.pptt
 pub record AreWholeTables (m : Memory) (p : ℕ) (tables : WholeTables) : Type 0 where
   pub root : MatchOption tables.root ((root : RootValue) → ¬ IsWholeRoot m p root) (IsWholeRoot m p)
   pub listed : (kind : TableKind) → IsFound m p (signature_of kind) (table_of tables kind)
+
+-- this is the table that was found, of so many bytes at least; or none was found, or it is shorter
+abbrev pub IsLong : ℕ → Option (List ℕ) → Option (List ℕ) → Type 0
+IsLong least found None = (whole : List ℕ) → found ≡ Some whole → length whole < least
+IsLong least found (Some whole) = (found ≡ Some whole) × (least ≤ length whole)

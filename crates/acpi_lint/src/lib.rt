@@ -8,4 +8,5 @@ mod madt;
 mod passes;
 mod place;
 mod srat;
+mod verdicts;
 mod whole_tables;

@@ -2,10 +2,10 @@
 
 ghost use Rattle.std.specs.Prelude.{◌≡◌};
 ghost use Rattle.acpi_base.specs.TableKinds.{signature_of};
-ghost use Rattle.acpi_lint.specs.WholeTables.{IsFound, table_of, AreWholeTables};
+ghost use Rattle.acpi_lint.specs.WholeTables.{IsFound, IsLong, table_of, AreWholeTables};
 
 use acpi_base::{Image, TableKind};
-use acpi_read::{Root, Table, listed_table};
+use acpi_read::{Fadt, Madt, Pptt, Root, Srat, Table, listed_table};
 
 /// The root of a set and the first listed table of each kind, where they are whole, whatever they sum to. They are looked for
 /// once.
@@ -59,5 +59,33 @@ impl<'a> WholeTables<'a> {
             TableKind::Pptt => &self.pptt,
         };
         Some(place.as_ref()?.copied())
+    }
+
+    /// The FADT, where it has the 116 bytes that are always looked at.
+    pub fn fadt(&self) -> Option<Fadt<'a>>
+        ensures { IsLong 116 self.now.fadt result }
+    {
+        Fadt::new(self.table(TableKind::Fadt)?).ok()
+    }
+
+    /// The MADT, where it has the 44 bytes of its fields.
+    pub fn madt(&self) -> Option<Madt<'a>>
+        ensures { IsLong 44 self.now.madt result }
+    {
+        Madt::new(self.table(TableKind::Madt)?)
+    }
+
+    /// The SRAT, where it has the 48 bytes of its fields.
+    pub fn srat(&self) -> Option<Srat<'a>>
+        ensures { IsLong 48 self.now.srat result }
+    {
+        Srat::new(self.table(TableKind::Srat)?)
+    }
+
+    /// The PPTT.
+    pub fn pptt(&self) -> Option<Pptt<'a>>
+        ensures { result ≡ self.now.pptt }
+    {
+        Some(Pptt::of(self.table(TableKind::Pptt)?))
     }
 }

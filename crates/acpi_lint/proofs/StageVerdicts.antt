@@ -1,0 +1,41 @@
+-- From the verdict of a stage that has one code to the least place of its faults.
+use Rattle.std.proofs.Common.{◌≡◌, ℕ, Option, Some, None, Result, Ok, Err, refl, sym, ◌∙◌, ap, subst, inl, inr, arith}
+use Rattle.std.specs.Prelude.{⊤}
+use Rattle.acpi_base.specs.Codes.{code_number}
+use Rattle.acpi_base.specs.Faults.{NotAfter}
+use Rattle.acpi_base.specs.declared.code.Code.{Code}
+use Rattle.acpi_base.specs.declared.stage.Stage.{Stage}
+use Rattle.acpi_base.specs.declared.witness.Witness.{Witness}
+use Rattle.acpi_check.specs.PassResults.{FindsFirst}
+use Rattle.acpi_check.specs.declared.refusal.Refusal.{Refusal}
+use Rattle.acpi_check.specs.declared.refusal.Refusal.TheVariants.{Fault, OutOfMemory}
+use Rattle.acpi_lint.specs.Places.{IsNotAfter, FindsLeast}
+use Rattle.acpi_lint.specs.Verdicts.{IsPlaceOf}
+use Rattle.acpi_lint.specs.declared.place.Place.{Place}
+
+-- the place of a witness
+abbrev pub place : Witness → Place
+place w = record { at = w.at; other = w.other; point = w.point }
+
+-- of two faults with one code the order is that of their places
+pub place_not_after : (w v : Witness) → w.code ≡ v.code → NotAfter w v → IsNotAfter (place w) v.at v.other v.point
+place_not_after w v same (inl before) = inl before
+place_not_after w v same (inr (at, inl less)) = absurd (omega (arith, less, ap code_number same))
+place_not_after w v same (inr (at, inr (code, rest))) = inr (at, rest)
+
+-- a stage that has one code finds the least place of it
+pub of_verdict : (s : Stage) (c : Code) (Sound : Type 0) (IsFault : Code → ℕ → ℕ → ℕ → Type 0)
+    → ((at other point : ℕ) → IsFault c at other point → ¬ Sound)
+    → ((d : Code) (at other point : ℕ) → IsFault d at other point → d ≡ c)
+    → (verdict : Result ⊤ Refusal) (found : Option Place) → FindsFirst s Sound IsFault verdict → IsPlaceOf verdict found
+    → FindsLeast (IsFault c) found
+of_verdict s c Sound IsFault excludes one (Ok _) None sound is = λ at other point fault. excludes at other point fault sound
+of_verdict s c Sound IsFault excludes one (Err (Fault w)) (Some p) first is =
+    let code : w.code ≡ c = one w.code w.at w.other w.point first.fault in
+    rw is record {
+      here = rw code at first.fault;
+      least = λ at other point fault.
+          place_not_after w (record { code = c; at = at; other = other; point = point }) code
+          (first.least (record { code = c; at = at; other = other; point = point }) fault);
+    }
+of_verdict s c Sound IsFault excludes one _ _ found is = absurd is

@@ -1,0 +1,23 @@
+//! What the stages on single tables find.
+
+ghost use Rattle.std.specs.Prelude.{IfOk};
+ghost use Rattle.acpi_lint.specs.Verdicts.{IsPlaceOf};
+
+use crate::place::Place;
+use acpi_check::Refusal;
+use std::alloc::AllocError;
+
+/// The place of the fault that a stage finds.
+pub fn place_of(verdict: Result<(), Refusal>) -> Result<Option<Place>, AllocError>
+    ensures { IfOk result (IsPlaceOf verdict) }
+{
+    match verdict {
+        Ok(()) => Ok(None),
+        Err(Refusal::Fault(fault)) => Ok(Some(Place {
+            at: fault.at,
+            other: fault.other,
+            point: fault.point,
+        })),
+        Err(Refusal::OutOfMemory) => Err(AllocError),
+    }
+}
