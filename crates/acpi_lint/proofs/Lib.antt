@@ -2,6 +2,7 @@ mod FirstEntries
 mod LeastPlaces
 mod MadtFaults
 mod OfSets
+mod OneCodes
 mod Picked
 mod Shorts
 mod SratFaults

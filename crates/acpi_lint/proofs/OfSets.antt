@@ -1,15 +1,16 @@
 -- From a table to the set that lists it.
-use Rattle.std.proofs.Common.{◌≡◌, ℕ, List, Option, Some, None}
-use Rattle.std.specs.Prelude.{MatchOption}
+use Rattle.std.proofs.Common.{◌≡◌, ℕ, ◌<◌, ◌≤◌, List, length, Option, Some, None, Result, Ok, Err, ap, refl}
+use Rattle.std.specs.Prelude.{IfOk, MatchOption}
 use Rattle.acpi_base.specs.Memory.{Memory}
 use Rattle.acpi_base.specs.Listed.{fadt_signature, madt_signature, srat_signature, slit_signature, pptt_signature, IsListedTable, HasListed}
 use Rattle.acpi_base.specs.TableKinds.{signature_of}
 use Rattle.acpi_base.specs.declared.table_kind.TableKind.{TableKind}
 use Rattle.acpi_base.specs.declared.table_kind.TableKind.TheVariants as kind
 use Rattle.acpi_base.proofs.Faults.ListedTables.{of_listed}
+use Rattle.acpi_base.proofs.Tables.Listed.{one_listed}
 use Rattle.acpi_read.specs.Roots.{RootValue, IsWholeRoot}
 use Rattle.acpi_lint.specs.Places.{FindsLeast}
-use Rattle.acpi_lint.specs.WholeTables.{IsFound, table_of, AreWholeTables}
+use Rattle.acpi_lint.specs.WholeTables.{IsFound, IsLong, table_of, AreWholeTables}
 use Rattle.acpi_lint.specs.declared.place.Place.{Place}
 use Rattle.acpi_lint.specs.declared.whole_tables.WholeTables.{WholeTables}
 use Rattle.acpi_lint.proofs.LeastPlaces.{least_as}
@@ -39,6 +40,23 @@ pub of_not_found : (m : Memory) (p : ℕ) (signature : List ℕ) {found : Option
     (P : List ℕ → ℕ → ℕ → ℕ → Type 0) → IsFound m p signature found → found ≡ None
     → FindsLeast (λ at other point. HasListed m p signature (λ bytes. P bytes at other point)) None
 of_not_found m p signature P looked is = of_no_table P (rw is at looked)
+
+-- a table that is found and long enough says what the set says
+pub some_long : (m : Memory) (p : ℕ) (signature : List ℕ) (P : List ℕ → ℕ → ℕ → ℕ → Type 0) {X : Type 0}
+    {found : Option (List ℕ)} {whole : List ℕ} (r : Result (Option Place) X) → IsFound m p signature found
+    → found ≡ Some whole → IfOk r (FindsLeast (P whole))
+    → IfOk r (FindsLeast (λ at other point. HasListed m p signature (λ bytes. P bytes at other point)))
+some_long m p signature P (Ok place) looked is least = of_found m p signature P place looked is least
+some_long m p signature P (Err e) looked is least = tt
+
+-- and one that is not found, or too short, says nothing where those that are too short say nothing
+pub none_long : (m : Memory) (p : ℕ) (signature : List ℕ) (least : ℕ) (P : List ℕ → ℕ → ℕ → ℕ → Type 0)
+    (found : Option (List ℕ)) → IsFound m p signature found → IsLong least found None
+    → ((whole : List ℕ) → length whole < least → (at other point : ℕ) → ¬ P whole at other point)
+    → FindsLeast (λ at other point. HasListed m p signature (λ bytes. P bytes at other point)) None
+none_long m p signature least P None looked long short = of_no_table P looked
+none_long m p signature least P (Some bytes) looked long short =
+    of_table P None looked (short bytes (long bytes refl))
 
 -- the root and the table of each kind are those of the set
 pub are_whole : {m : Memory} {p : ℕ} (tables : WholeTables)

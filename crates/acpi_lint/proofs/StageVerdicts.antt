@@ -1,6 +1,6 @@
 -- From the verdict of a stage that has one code to the least place of its faults.
 use Rattle.std.proofs.Common.{◌≡◌, ℕ, Option, Some, None, Result, Ok, Err, refl, sym, ◌∙◌, ap, subst, inl, inr, arith}
-use Rattle.std.specs.Prelude.{⊤}
+use Rattle.std.specs.Prelude.{⊤, IfOk}
 use Rattle.acpi_base.specs.Codes.{code_number}
 use Rattle.acpi_base.specs.Faults.{NotAfter}
 use Rattle.acpi_base.specs.declared.code.Code.{Code}
@@ -39,3 +39,13 @@ of_verdict s c Sound IsFault excludes one (Err (Fault w)) (Some p) first is =
           (first.least (record { code = c; at = at; other = other; point = point }) fault);
     }
 of_verdict s c Sound IsFault excludes one _ _ found is = absurd is
+
+-- the same where memory may run out
+pub verdict_found : (s : Stage) (c : Code) (Sound : Type 0) (IsFault : Code → ℕ → ℕ → ℕ → Type 0) {X : Type 0}
+    → ((at other point : ℕ) → IsFault c at other point → ¬ Sound)
+    → ((d : Code) (at other point : ℕ) → IsFault d at other point → d ≡ c)
+    → (verdict : Result ⊤ Refusal) (r : Result (Option Place) X) → FindsFirst s Sound IsFault verdict
+    → IfOk r (IsPlaceOf verdict) → IfOk r (FindsLeast (IsFault c))
+verdict_found s c Sound IsFault excludes one verdict (Ok found) first is =
+    of_verdict s c Sound IsFault excludes one verdict found first is
+verdict_found s c Sound IsFault excludes one verdict (Err e) first is = tt

@@ -1,12 +1,23 @@
 -- Where an image is at fault with a code.
-use Rattle.std.specs.Prelude.{ℕ}
+use Rattle.std.specs.Prelude.{ℕ, Option, option_map}
 use Rattle.acpi_base.specs.Memory.{Memory}
 use Rattle.acpi_base.specs.Policy.{PolicyValue}
 use Rattle.acpi_base.specs.Faults.{FaultCondition}
+use Rattle.acpi_base.specs.Lint.FirstOfCode.{FindsFirstOfCode}
 use Rattle.acpi_base.specs.declared.code.Code.{Code}
 use Rattle.acpi_base.specs.declared.stage.Stage.{Stage}
+use Rattle.acpi_base.specs.declared.witness.Witness.{Witness}
+use Rattle.acpi_lint.specs.declared.place.Place.{Place}
 
 -- the condition of the stage's faults with this code holds of these numbers
 abbrev pub IsFaultOfStage : Stage → Code → Memory → PolicyValue → ℕ → ℕ → ℕ → Type 0
 IsFaultOfStage stage fault m q at other point =
     FaultCondition stage m q (record { code = fault; at = at; other = other; point = point })
+
+-- the fault with this code at a place
+abbrev pub fault_at : Code → Place → Witness
+fault_at fault p = record { code = fault; at = p.at; other = p.other; point = p.point }
+
+-- the image has no fault with the code, or the first one is at this place
+abbrev pub FindsFirstAt : Code → Memory → PolicyValue → Option Place → Type 0
+FindsFirstAt fault m q found = FindsFirstOfCode fault m q (option_map (fault_at fault) found)

@@ -5,6 +5,7 @@
 #![tactic(auto)]
 
 mod madt;
+mod one_code;
 mod passes;
 mod place;
 mod srat;

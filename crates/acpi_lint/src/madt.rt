@@ -124,7 +124,7 @@ fn second_address_override(policy: &Policy, madt: &Madt<'_>) -> Option<Place>
 
 /// The offset of the bytes behind a MADT's entries at which none stands, if there are any.
 #[tactic(auto, unfolding(acpi_base::specs::Madt::madt_contents))]
-fn madt_cut(table: &Table<'_>) -> Option<u64>
+pub fn madt_cut(table: &Table<'_>) -> Option<u64>
     ensures { result ≡ (madt_contents table.now).cut }
 {
     match Entries::madt(table.copied()) {

@@ -1,6 +1,6 @@
 //! What the stages on single tables find.
 
-ghost use Rattle.std.specs.Prelude.{IfOk};
+ghost use Rattle.std.specs.Prelude.{◌<◌, ◌^◌, IfOk, IfSome};
 ghost use Rattle.acpi_lint.specs.Verdicts.{IsPlaceOf};
 
 use crate::place::Place;
@@ -9,7 +9,8 @@ use std::alloc::AllocError;
 
 /// The place of the fault that a stage finds.
 pub fn place_of(verdict: Result<(), Refusal>) -> Result<Option<Place>, AllocError>
-    ensures { IfOk result (IsPlaceOf verdict) }
+    ensures place { IfOk result (IsPlaceOf verdict) }
+    ensures fits { IfOk result (λ found. IfSome found (λ place. place.point < 2 ^ 64)) }
 {
     match verdict {
         Ok(()) => Ok(None),

@@ -1,0 +1,167 @@
+-- Stages that have one code.
+use Rattle.std.proofs.Common.{◌≡◌, ℕ, ◌^◌, ◌<◌, List, length, Option, Some, None, Result, Ok, Err, refl, sym, subst, inl, inr, arith}
+use Rattle.std.specs.Prelude.{⊤, IfOk, IfSome}
+use Rattle.acpi_base.specs.Memory.{Memory}
+use Rattle.acpi_base.specs.Across.{ServedFault, DomainFault, LeafFault}
+use Rattle.acpi_base.specs.Chains.{IsCycle}
+use Rattle.acpi_base.specs.Contents.{HasMadt, HasSrat}
+use Rattle.acpi_base.specs.Faults.{Fault, FaultOfStage}
+use Rattle.acpi_base.specs.Lint.FirstOfCode.{IsFirstOfCode}
+use Rattle.acpi_base.specs.Listed.{madt_signature, srat_signature, IsListedTable}
+use Rattle.acpi_base.specs.Madt.{MadtContents, madt_contents, OverrideFault, InterruptFault, AreInterruptsApart, IsFirstGsiClash}
+use Rattle.acpi_base.specs.Policy.{PolicyValue}
+use Rattle.acpi_base.specs.Pptt.{PpttContents}
+use Rattle.acpi_base.specs.Srat.{SratContents, srat_contents, IsOverlap, AreRangesApart, RangeFault, IsFirstOverlap}
+use Rattle.acpi_base.specs.declared.code.Code.{Code}
+use Rattle.acpi_base.specs.declared.code.Code.TheVariants as code
+use Rattle.acpi_base.specs.declared.policy.HotPlug.{HotPlug}
+use Rattle.acpi_base.specs.declared.policy.HotPlug.TheVariants.{Counted, Apart}
+use Rattle.acpi_base.specs.declared.policy.Processors.{Processors}
+use Rattle.acpi_base.specs.declared.stage.Stage.TheVariants as stage
+use Rattle.acpi_base.specs.declared.witness.Witness.{Witness}
+use Rattle.acpi_base.proofs.Faults.ListedTables.{of_listed}
+use Rattle.acpi_check.specs.ChainNodes.{Names, most_of, code_of, FindsCycle}
+use Rattle.acpi_check.specs.PassResults as results
+use Rattle.acpi_check.specs.PassResults.{Finds}
+use Rattle.acpi_check.specs.declared.nodes.Chain.{Chain}
+use Rattle.acpi_check.specs.declared.refusal.Refusal.{Refusal}
+use Rattle.acpi_check.specs.declared.refusal.Refusal.TheVariants as refusal
+use Rattle.acpi_lint.specs.Places.{IsLeast}
+use Rattle.acpi_lint.specs.StageFaults.{FindsFirstAt, fault_at}
+use Rattle.acpi_lint.specs.Verdicts.{IsPlaceOf}
+use Rattle.acpi_lint.specs.WholeTables.{IsFound, IsLong}
+use Rattle.acpi_lint.specs.declared.place.Place.{Place}
+use Rattle.acpi_lint.proofs.MadtFaults as madts
+use Rattle.acpi_lint.proofs.OfSets.{none_long}
+use Rattle.acpi_lint.proofs.SratFaults as srats
+use Rattle.acpi_lint.proofs.StageVerdicts.{place, place_not_after}
+
+-- ---- their codes
+
+pub one_override_clash : (c : MadtContents) (fault : Code) (at other point : ℕ) → OverrideFault c fault at other point
+    → fault ≡ code.OverrideClash
+one_override_clash c code.OverrideClash at other point wrong = refl
+one_override_clash c _ at other point wrong = absurd wrong
+
+pub one_two_domains : (p : Processors) (madt : MadtContents) (srat : SratContents) (fault : Code) (at other point : ℕ)
+    → DomainFault p madt srat fault at other point → fault ≡ code.TwoDomains
+one_two_domains p madt srat code.TwoDomains at other point wrong = refl
+one_two_domains p madt srat _ at other point wrong = absurd wrong
+
+pub one_gsi_nowhere : (q : PolicyValue) (c : MadtContents) (fault : Code) (at other point : ℕ)
+    → ServedFault q c fault at other point → fault ≡ code.GsiNowhere
+one_gsi_nowhere q c code.GsiNowhere at other point wrong = refl
+one_gsi_nowhere q c _ at other point wrong = absurd wrong
+
+pub one_leaf_unknown : (madt : MadtContents) (pptt : PpttContents) (fault : Code) (at other point : ℕ)
+    → LeafFault madt pptt fault at other point → fault ≡ code.LeafUnknown
+one_leaf_unknown madt pptt code.LeafUnknown at other point wrong = refl
+one_leaf_unknown madt pptt _ at other point wrong = absurd wrong
+
+-- ---- cycles
+
+-- the cycle that is reported is at the least place
+pub cycle_least : (links : Chain) (c : PpttContents) (w : Witness) → FindsCycle links c (Some w)
+    → IsLeast (IsCycle (Names links c) (most_of links c)) (place w)
+cycle_least links c w (_, first) =
+    record {
+      here = first.cycle;
+      least = λ at other point cycle.
+          place_not_after (record { code = code_of links; at = w.at; other = w.other; point = w.point })
+          (record { code = code_of links; at = at; other = other; point = point }) refl
+          (first.least at other point cycle);
+    }
+
+-- ---- overlaps, which have an order of their own
+
+-- the first interrupt number that two I/O APICs serve
+pub gsi_found : (m : Memory) (q : PolicyValue) (whole : List ℕ) → IsListedTable m q.rsdp madt_signature whole
+    → (verdict : Result ⊤ Refusal) (found : Option Place)
+    → Finds stage.Interrupts (AreInterruptsApart q (madt_contents whole))
+    (results.IsOverlap code.GsiClash (IsFirstGsiClash q (madt_contents whole))) verdict
+    → IsPlaceOf verdict found → FindsFirstAt code.GsiClash m q found
+gsi_found m q whole is (Ok _) None apart same = λ w own fault.
+    let holds : HasMadt m q (λ madt. InterruptFault q madt code.GsiClash w.at w.other w.point) =
+    (subst (λ (c : Code). Fault m q (record { code = c; at = w.at; other = w.other; point = w.point })) own fault).holds in
+    apart w.at w.other w.point
+    (of_listed (λ bytes. InterruptFault q (madt_contents bytes) code.GsiClash w.at w.other w.point) is holds)
+gsi_found m q whole is (Err (refusal.Fault w)) (Some p) first same =
+    rw same (refl, record { fault = record { own = refl; holds = (whole, is, first.first.overlap) }; least = (whole, is, first.first) })
+gsi_found m q whole is _ _ found same = absurd same
+
+is_overlap : (h : HotPlug) (c : SratContents) (at other point : ℕ) → IsFirstOverlap h c at other point
+    → IsOverlap h c at other point
+is_overlap Counted c at other point first = first.overlap
+is_overlap Apart c at other point (inl (first, _)) = inl first.overlap
+is_overlap Apart c at other point (inr (first, _)) = inr first.overlap
+
+-- the first address that two ranges cover that are compared
+pub overlap_found : (m : Memory) (q : PolicyValue) (whole : List ℕ) → IsListedTable m q.rsdp srat_signature whole
+    → (verdict : Result ⊤ Refusal) (found : Option Place)
+    → Finds stage.Ranges (AreRangesApart q.hotplug (srat_contents whole))
+    (results.IsOverlap code.Overlap (IsFirstOverlap q.hotplug (srat_contents whole))) verdict
+    → IsPlaceOf verdict found → IfSome found (λ p. p.point < 2 ^ 64) → FindsFirstAt code.Overlap m q found
+overlap_found m q whole is (Ok _) None apart same fits = λ w own fault.
+    let holds : HasSrat m q (λ srat. (w.point < 2 ^ 64) × IsOverlap q.hotplug srat w.at w.other w.point) =
+    (subst (λ (c : Code). Fault m q (record { code = c; at = w.at; other = w.other; point = w.point })) own fault).holds in
+    apart w.at w.other w.point
+    (of_listed (λ bytes. (w.point < 2 ^ 64) × IsOverlap q.hotplug (srat_contents bytes) w.at w.other w.point) is holds).1
+overlap_found m q whole is (Err (refusal.Fault w)) (Some p) first same fits =
+    let below : w.point < 2 ^ 64 = rw same at fits in
+    rw same (
+      refl,
+      record {
+        fault = record {
+          own = refl;
+          holds = (whole, is, (below, is_overlap q.hotplug (srat_contents whole) w.at w.other w.point first.first));
+        };
+        least = (whole, is, first.first);
+      },
+    )
+overlap_found m q whole is _ _ found same fits = absurd same
+
+-- the same where memory may run out
+pub gsi_result : (m : Memory) (q : PolicyValue) (whole : List ℕ) {X : Type 0}
+    → IsListedTable m q.rsdp madt_signature whole → (verdict : Result ⊤ Refusal) (r : Result (Option Place) X)
+    → Finds stage.Interrupts (AreInterruptsApart q (madt_contents whole))
+    (results.IsOverlap code.GsiClash (IsFirstGsiClash q (madt_contents whole))) verdict
+    → IfOk r (IsPlaceOf verdict) → IfOk r (FindsFirstAt code.GsiClash m q)
+gsi_result m q whole is verdict (Ok found) finds same = gsi_found m q whole is verdict found finds same
+gsi_result m q whole is verdict (Err e) finds same = tt
+
+pub overlap_result : (m : Memory) (q : PolicyValue) (whole : List ℕ) {X : Type 0}
+    → IsListedTable m q.rsdp srat_signature whole → (verdict : Result ⊤ Refusal) (r : Result (Option Place) X)
+    → Finds stage.Ranges (AreRangesApart q.hotplug (srat_contents whole))
+    (results.IsOverlap code.Overlap (IsFirstOverlap q.hotplug (srat_contents whole))) verdict
+    → IfOk r (IsPlaceOf verdict) → IfOk r (λ found. IfSome found (λ p. p.point < 2 ^ 64))
+    → IfOk r (FindsFirstAt code.Overlap m q)
+overlap_result m q whole is verdict (Ok found) finds same fits = overlap_found m q whole is verdict found finds same fits
+overlap_result m q whole is verdict (Err e) finds same fits = tt
+
+-- where no table is found that is long enough there is none
+pub no_gsi : (m : Memory) (q : PolicyValue) (found : Option (List ℕ)) → IsFound m q.rsdp madt_signature found
+    → IsLong 44 found None → FindsFirstAt code.GsiClash m q None
+no_gsi m q found looked long = λ w own fault.
+    let holds : HasMadt m q (λ madt. InterruptFault q madt code.GsiClash w.at w.other w.point) =
+    (subst (λ (c : Code). Fault m q (record { code = c; at = w.at; other = w.other; point = w.point })) own fault).holds in
+    none_long m q.rsdp madt_signature 44 (λ bytes. InterruptFault q (madt_contents bytes) code.GsiClash) found looked long
+    (λ whole less at other point overlap. madts.none_stands whole less at overlap.one_holds.0 overlap.one_holds.1)
+    w.at w.other w.point holds
+
+pub no_overlap : (m : Memory) (q : PolicyValue) (found : Option (List ℕ)) → IsFound m q.rsdp srat_signature found
+    → IsLong 48 found None → FindsFirstAt code.Overlap m q None
+no_overlap m q found looked long = λ w own fault.
+    let holds : HasSrat m q (λ srat. RangeFault q.hotplug srat code.Overlap w.at w.other w.point) =
+    (subst (λ (c : Code). Fault m q (record { code = c; at = w.at; other = w.other; point = w.point })) own fault).holds in
+    none_long m q.rsdp srat_signature 48 (λ bytes. RangeFault q.hotplug (srat_contents bytes) code.Overlap) found looked
+    long (λ whole less at other point wrong. none_covered q.hotplug whole less at other point wrong.1)
+    w.at w.other w.point holds
+  where
+    none_covered : (h : HotPlug) (whole : List ℕ) → length whole < 48 → (at other point : ℕ)
+        → ¬ IsOverlap h (srat_contents whole) at other point
+    none_covered Counted whole less at other point overlap =
+        srats.none_stands whole less at overlap.one_holds.0 overlap.one_holds.1
+    none_covered Apart whole less at other point (inl overlap) =
+        srats.none_stands whole less at overlap.one_holds.0 overlap.one_holds.1
+    none_covered Apart whole less at other point (inr overlap) =
+        srats.none_stands whole less at overlap.one_holds.0 overlap.one_holds.1

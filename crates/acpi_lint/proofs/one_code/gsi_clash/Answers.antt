@@ -1,0 +1,15 @@
+use Rattle.std.proofs.Common.{Some}
+use Rattle.acpi_base.specs.Madt.{madt_contents}
+use Rattle.acpi_base.specs.declared.table_kind.TableKind.TheVariants as kind
+use Rattle.acpi_lint.proofs.MadtFaults.{none_stands}
+use Rattle.acpi_lint.proofs.OneCodes.{gsi_result, no_gsi}
+use Rattle.acpi_lint.proofs.one_code.gsi_clash.Goals as goal
+
+pub returns-in-Some : goal.returns-in-Some
+returns-in-Some c = λ m are.
+    gsi_result m c.args.policy.now c.in-Some.madt (rw c.in-Some.ensures.0 at are.listed kind.Madt)
+    c.apart_interrupts.result c.place_of.result c.apart_interrupts.ensures c.place_of.ensures.place
+
+pub returns-in-None : goal.returns-in-None
+returns-in-None c = λ m are.
+    no_gsi m c.args.policy.now c.args.tables.now.madt (are.listed kind.Madt) c.in-None.ensures

@@ -1,0 +1,179 @@
+//! Codes 39, 40, 45 and 55 to 59: those of stages that have one code. What a stage finds on single tables is asked of the
+//! set's, whatever the earlier stages find.
+
+ghost use Rattle.std.specs.Prelude.{IfOk};
+ghost use Rattle.acpi_base.specs.Chains.{IsCycle};
+ghost use Rattle.acpi_base.specs.Memory.{Memory};
+ghost use Rattle.acpi_base.specs.Pptt.{pptt_contents};
+ghost use Rattle.acpi_base.specs.declared.code.Code.{Code};
+ghost use Rattle.acpi_base.specs.declared.stage.Stage.{Stage};
+ghost use Rattle.acpi_check.specs.ChainNodes.{Names, most_of};
+ghost use Rattle.acpi_lint.specs.Places.{FindsLeast};
+ghost use Rattle.acpi_lint.specs.StageFaults.{IsFaultOfStage, FindsFirstAt};
+ghost use Rattle.acpi_lint.specs.WholeTables.{AreWholeTables};
+
+use crate::madt::madt_cut;
+use crate::place::Place;
+use crate::verdicts::place_of;
+use crate::whole_tables::WholeTables;
+use acpi_base::{Policy, TableKind};
+use acpi_check::{
+    Chain, agreeing_overrides, apart_interrupts, apart_ranges, first_cycle, known_leaves, named_served, one_domain,
+};
+use acpi_read::{Madt, Pptt};
+use std::alloc::{AllocError, Global};
+
+/// The place of the first override of a set's MADT that gives its Source another interrupt number than an earlier one.
+pub fn override_clash(
+    tables: &WholeTables<'_>,
+    policy: &Policy,
+) -> Result<Option<Place>, AllocError>
+    ensures { (m : Memory) → AreWholeTables m policy.now.rsdp tables.now
+        → IfOk result (FindsLeast
+        (IsFaultOfStage Stage.Overrides Code.OverrideClash m policy.now)) }
+{
+    match tables.madt() {
+        Some(madt) => place_of(agreeing_overrides(&madt)),
+        None => Ok(None),
+    }
+}
+
+/// The place of the first entry of a set's MADT that names an interrupt number that none of its I/O APICs serves. Takes memory
+/// as the stage does.
+pub fn gsi_nowhere(
+    alloc: Global,
+    tables: &WholeTables<'_>,
+    policy: &Policy,
+) -> Result<Option<Place>, AllocError>
+    ensures { (m : Memory) → AreWholeTables m policy.now.rsdp tables.now
+        → IfOk result (FindsLeast (IsFaultOfStage Stage.Served Code.GsiNowhere m policy.now)) }
+{
+    match tables.madt() {
+        Some(madt) => place_of(named_served(alloc, policy, &madt)),
+        None => Ok(None),
+    }
+}
+
+/// The place of the least interrupt number that two I/O APICs of a set's MADT serve. Takes memory as the stage does.
+pub fn gsi_clash(
+    alloc: Global,
+    tables: &WholeTables<'_>,
+    policy: &Policy,
+) -> Result<Option<Place>, AllocError>
+    ensures { (m : Memory) → AreWholeTables m policy.now.rsdp tables.now
+        → IfOk result (FindsFirstAt Code.GsiClash m policy.now) }
+{
+    match tables.madt() {
+        Some(madt) => place_of(apart_interrupts(alloc, policy, &madt)),
+        None => Ok(None),
+    }
+}
+
+/// The place of the least address that two ranges of a set's SRAT cover that are compared. Takes memory as the stage does.
+pub fn overlap(
+    alloc: Global,
+    tables: &WholeTables<'_>,
+    policy: &Policy,
+) -> Result<Option<Place>, AllocError>
+    ensures { (m : Memory) → AreWholeTables m policy.now.rsdp tables.now
+        → IfOk result (FindsFirstAt Code.Overlap m policy.now) }
+{
+    match tables.srat() {
+        Some(srat) => place_of(apart_ranges(alloc, policy.hotplug(), &srat)),
+        None => Ok(None),
+    }
+}
+
+/// The place of the first node of a PPTT whose chain goes round.
+fn cycle_place(
+    alloc: Global,
+    chain: Chain,
+    pptt: &Pptt<'_>,
+) -> Result<Option<Place>, AllocError>
+    ensures { IfOk result (FindsLeast
+        (IsCycle (Names chain (pptt_contents pptt.now)) (most_of chain (pptt_contents pptt.now)))) }
+{
+    match first_cycle(alloc, chain, pptt)? {
+        Some(fault) => Ok(Some(Place {
+            at: fault.at,
+            other: fault.other,
+            point: fault.point,
+        })),
+        None => Ok(None),
+    }
+}
+
+/// The place of the first node of a set's PPTT whose chain of Parents goes round; a Parent that leads nowhere ends a chain.
+/// Takes memory for each node.
+pub fn parent_cycle(
+    alloc: Global,
+    tables: &WholeTables<'_>,
+    policy: &Policy,
+) -> Result<Option<Place>, AllocError>
+    ensures { (m : Memory) → AreWholeTables m policy.now.rsdp tables.now
+        → IfOk result (FindsLeast (IsFaultOfStage Stage.Parents Code.ParentCycle m policy.now)) }
+{
+    match tables.pptt() {
+        Some(pptt) => cycle_place(alloc, Chain::Parents, &pptt),
+        None => Ok(None),
+    }
+}
+
+/// The same of caches and their Next Levels. Takes memory for each cache.
+pub fn cache_cycle(
+    alloc: Global,
+    tables: &WholeTables<'_>,
+    policy: &Policy,
+) -> Result<Option<Place>, AllocError>
+    ensures { (m : Memory) → AreWholeTables m policy.now.rsdp tables.now
+        → IfOk result (FindsLeast (IsFaultOfStage Stage.Caches Code.CacheCycle m policy.now)) }
+{
+    match tables.pptt() {
+        Some(pptt) => cycle_place(alloc, Chain::NextLevels, &pptt),
+        None => Ok(None),
+    }
+}
+
+/// The place of the first entry of a set's SRAT that puts a processor of its MADT that counts as enabled in another domain than
+/// the first entry that is of it. Takes memory as the stage does.
+pub fn two_domains(
+    alloc: Global,
+    tables: &WholeTables<'_>,
+    policy: &Policy,
+) -> Result<Option<Place>, AllocError>
+    ensures { (m : Memory) → AreWholeTables m policy.now.rsdp tables.now
+        → IfOk result (FindsLeast (IsFaultOfStage Stage.Domains Code.TwoDomains m policy.now)) }
+{
+    let Some(madt) = tables.madt() else {
+        return Ok(None);
+    };
+    let Some(srat) = tables.srat() else {
+        return Ok(None);
+    };
+    place_of(one_domain(alloc, policy.processors(), &madt, &srat))
+}
+
+/// The place of the first leaf of a set's PPTT whose ID is the UID of no processor of its MADT, where the MADT's entries fill it
+/// and all are of types that are read. Takes memory as the stage does.
+pub fn leaf_unknown(
+    alloc: Global,
+    tables: &WholeTables<'_>,
+    policy: &Policy,
+) -> Result<Option<Place>, AllocError>
+    ensures { (m : Memory) → AreWholeTables m policy.now.rsdp tables.now
+        → IfOk result (FindsLeast (IsFaultOfStage Stage.Leaves Code.LeafUnknown m policy.now)) }
+{
+    let Some(table) = tables.table(TableKind::Madt) else {
+        return Ok(None);
+    };
+    if let Some(_) = madt_cut(&table) {
+        return Ok(None);
+    }
+    let Some(madt) = Madt::new(table) else {
+        return Ok(None);
+    };
+    let Some(pptt) = tables.pptt() else {
+        return Ok(None);
+    };
+    place_of(known_leaves(alloc, &madt, &pptt))
+}
