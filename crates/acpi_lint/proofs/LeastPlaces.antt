@@ -1,5 +1,7 @@
 -- The least place of findings, by what is said of it.
-use Rattle.std.proofs.Common.{◌≡◌, ℕ, ◌<◌, ◌≤◌, List, Option, Some, None, sym, ◌∙◌, inl, inr, refl, arith}
+use Rattle.std.proofs.Common.{◌≡◌, ℕ, ◌<◌, ◌≤◌, List, Option, Some, None, sym, subst, ◌∙◌, inl, inr, refl, arith}
+use Rattle.std.specs.Prelude.{◌⊎◌, IfSome}
+use Rattle.std.proofs.lemmas.Option.{same_Some}
 use Rattle.std.proofs.lemmas.Bool.{cases_lt}
 use Rattle.acpi_base.specs.Entries.{PlacedEntry, StandsWith, AreUnused}
 use Rattle.acpi_lint.specs.Places.{IsNotAfter, IsLeast, FindsLeast}
@@ -23,6 +25,40 @@ pub least_outside : {E : Type 0} (entries : List (PlacedEntry E)) (P : E → Typ
 least_outside entries P X found least =
     least_as found (λ at other point (e, here, (holds, said)). ((e, here, holds), said))
     (λ at other point ((e, here, holds), said). (e, here, (holds, said))) least
+
+-- ---- the lesser of two
+
+-- the order is transitive
+not_after_trans : (p q : Place) (at other point : ℕ) → IsNotAfter p q.at q.other q.point → IsNotAfter q at other point
+    → IsNotAfter p at other point
+not_after_trans p q at other point before after = grind arith
+
+-- one more place is found: the lesser of it and the least so far is the least
+pub finds_one_more : {P Q : ℕ → ℕ → ℕ → Type 0} (least : Option Place) (place r : Place) → FindsLeast P least
+    → Q place.at place.other place.point → ((at other point : ℕ) → P at other point → Q at other point)
+    → ((at other point : ℕ) → Q at other point
+    → P at other point ⊎ (place ≡ record { at = at; other = other; point = point }))
+    → (r ≡ place) ⊎ (least ≡ Some r) → IsNotAfter r place.at place.other place.point
+    → IfSome least (λ l. IsNotAfter r l.at l.other l.point) → FindsLeast Q (Some r)
+finds_one_more {P} {Q} least place r found here more split one after before =
+    record {
+      here = holds least found one;
+      least = λ at other point holds. upto least found before at other point (split at other point holds);
+    }
+  where
+    holds : (least : Option Place) → FindsLeast P least → (r ≡ place) ⊎ (least ≡ Some r) → Q r.at r.other r.point
+    holds least found (inl is) = rw is here
+    holds None found (inr is) = cc
+    holds (Some l) found (inr is) =
+        subst (λ (p : Place). Q p.at p.other p.point) (same_Some l r is) (more l.at l.other l.point found.here)
+
+    upto : (least : Option Place) → FindsLeast P least → IfSome least (λ l. IsNotAfter r l.at l.other l.point)
+        → (at other point : ℕ) → P at other point ⊎ (place ≡ record { at = at; other = other; point = point })
+        → IsNotAfter r at other point
+    upto least found before at other point (inr is) = rw is at after
+    upto None found before at other point (inl p) = absurd (found at other point p)
+    upto (Some l) found before at other point (inl p) =
+        not_after_trans r l at other point before (found.least at other point p)
 
 -- ---- the second of a kind
 

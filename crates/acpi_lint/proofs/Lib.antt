@@ -1,9 +1,16 @@
+mod CollectedNumbers
 mod FirstEntries
+mod LeafNumbers
 mod LeastPlaces
 mod MadtFaults
 mod OfSets
 mod OneCodes
 mod Picked
+mod SameNumbers
+mod SameRules
 mod Shorts
+mod SortedNumbers
 mod SratFaults
 mod StageVerdicts
+mod UidDomains
+mod UnlikeNumbers

@@ -4,10 +4,14 @@
 //! nowhere ends its chain.
 #![tactic(auto)]
 
+mod leaves;
 mod madt;
+mod numbered;
 mod one_code;
 mod passes;
 mod place;
+mod processors;
+mod same;
 mod srat;
 mod verdicts;
 mod whole_tables;

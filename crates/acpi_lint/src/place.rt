@@ -1,7 +1,8 @@
 //! Places of findings.
 
-/// Where something is found: up to three numbers, as the fault or the advice says. Those that it does not use are 0.
-#[derive(Clone, Copy, Debug, PartialEq, Eq)]
+/// Where something is found: up to three numbers, as the fault or the advice says. Those that it does not use are 0. Places
+/// compare by `at`, then by `other`, then by `point`.
+#[derive(Clone, Copy, Debug, PartialEq, Eq, PartialOrd, Ord)]
 pub struct Place {
     /// Where it is reported.
     pub at: u64,

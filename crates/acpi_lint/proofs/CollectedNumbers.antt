@@ -1,0 +1,153 @@
+-- Numbers that are collected from the entries of a table, each with its place for its value.
+use Rattle.std.proofs.Common.{◌≡◌, ℕ, List, Option, Some, None, Result, Vec, Global, refl, sym, ap, subst}
+use Rattle.std.specs.Prelude.{◌↔◌, Contains, IfOk, option_map}
+use Rattle.std.specs.List.{filter_map}
+use Rattle.std.proofs.lemmas.Option.{same_Some}
+use denote.Ref.{Bor}
+use Rattle.acpi_base.specs.Entries.{PlacedEntry}
+use Rattle.acpi_base.specs.Lint.Numbered.{NamesAt, IsLater}
+use Rattle.acpi_base.specs.Madt.{MadtEntry, madt_contents}
+use Rattle.acpi_base.specs.Pptt.{PpttEntry, pptt_contents}
+use Rattle.acpi_read.specs.Madts.{madt_value}
+use Rattle.acpi_read.specs.Pptts.{pptt_value}
+use Rattle.acpi_read.specs.TypedEntries.{entry_at_value}
+use Rattle.acpi_read.specs.declared.madt.MadtEntry as madts
+use Rattle.acpi_read.specs.declared.pptt.PpttEntry as pptts
+use Rattle.acpi_read.specs.declared.typed_entries.EntryAt.{EntryAt}
+use Rattle.acpi_check.specs.CollectedValues.{Picks, Collects}
+use Rattle.acpi_check.proofs.EntryPasses.Collecting.{gathered_same}
+use Rattle.acpi_check.proofs.EntryPasses.Kept.{AreRising, kept_has, kept_from, keys_rise, madt_rising, pptt_rising}
+use Rattle.acpi_lint.specs.Numbered.{at_place, HasAt, AreNumbersAt}
+use Rattle.acpi_lint.specs.Places.{FindsLeast}
+use Rattle.acpi_lint.specs.declared.numbered.Numbered.{Numbered}
+use Rattle.acpi_lint.specs.declared.place.Place.{Place}
+use Rattle.acpi_lint.proofs.LeastPlaces.{least_as}
+
+-- ---- collected
+
+-- the numbers that `read` gives of entries, each at its place
+abbrev pub numbers_at : {E : Type 0} → (PlacedEntry E → Option ℕ) → List (PlacedEntry E) → List Numbered
+numbers_at read entries = filter_map (λ s. option_map (at_place s.offset) (read s)) entries
+
+-- what is made of a number is made at its place
+at_its_place : (at : ℕ) (number : Option ℕ) (g : Numbered) → option_map (at_place at) number ≡ Some g
+    → (g ≡ at_place g.at g.number) × (g.at ≡ at) × (number ≡ Some g.number)
+at_its_place at None g is = cc
+at_its_place at (Some n) g is =
+    let same : at_place at n ≡ g = same_Some (at_place at n) g is in
+    rw (← same) (refl, refl, refl)
+
+-- an entry of which `read` gives the number n is listed at the offset
+abbrev pub IsReadAt : {E : Type 0} → (PlacedEntry E → Option ℕ) → List (PlacedEntry E) → ℕ → ℕ → Type 0
+IsReadAt {E} read entries at n =
+    (s : PlacedEntry E) × Contains entries s × (s.offset ≡ at) × (read s ≡ Some n)
+
+-- they are the numbers of listed entries
+pub are_numbers : {E : Type 0} (read : PlacedEntry E → Option ℕ) (StandsAt : ℕ → ℕ → Type 0) (low : ℕ)
+    (entries : List (PlacedEntry E)) (given : List Numbered) → AreRising low entries → given ≡ numbers_at read entries
+    → ((at n : ℕ) → IsReadAt read entries at n ↔ StandsAt at n) → AreNumbersAt StandsAt given
+are_numbers {E} read StandsAt low entries given rises is same =
+    record {
+      rise = rw is
+          (keys_rise make (λ g. g.at) (λ s g picked. (at_its_place s.offset (read s) g picked).1) low entries rises);
+      placed = λ g listed. placed g (kept_from make entries g (rw is at listed));
+      all = λ at n. (
+        λ listed. (same at n).0 (from at n (kept_from make entries (at_place at n) (rw is at listed))),
+        λ stands. rw is (to at n ((same at n).1 stands)),
+      );
+    }
+  where
+    make : PlacedEntry E → Option Numbered
+    make s = option_map (at_place s.offset) (read s)
+
+    placed : (g : Numbered) → ((s : PlacedEntry E) × Contains entries s × (make s ≡ Some g)) → g.value ≡ g.at
+    placed g (s, listed, picked) = ap (λ (x : Numbered). x.value) (at_its_place s.offset (read s) g picked).0
+
+    from : (at n : ℕ) → ((s : PlacedEntry E) × Contains entries s × (make s ≡ Some (at_place at n)))
+        → IsReadAt read entries at n
+    from at n (s, listed, picked) =
+        let parts = at_its_place s.offset (read s) (at_place at n) picked in
+        (s, listed, sym parts.1, parts.2)
+
+    to : (at n : ℕ) → IsReadAt read entries at n → Contains (numbers_at read entries) (at_place at n)
+    to at n (s, listed, here, number) =
+        kept_has make entries s (at_place at n) listed (rw number (ap (λ (o : ℕ). Some (at_place o n)) here))
+
+-- where it is read of what an entry says, it is what the entry names
+pub as_named : {E : Type 0} (read : E → Option ℕ) (entries : List (PlacedEntry E)) (at n : ℕ)
+    → IsReadAt (λ s. read s.entry) entries at n ↔ NamesAt read entries at n
+as_named {E} read entries at n = (
+  λ (s, listed, here, number).
+      (s.entry, subst (λ (o : ℕ). Contains entries (record { offset = o; entry = s.entry })) here listed, number),
+  λ (e, stands, number). (record { offset = at; entry = e }, stands, refl, number),
+)
+
+-- so they are where each call answers the number of its entry
+pub gathered_numbers : {E Said X : Type 0} (value : E → Said) {Answers : Bor (EntryAt E) → Option Numbered → Type 0}
+    (read : PlacedEntry Said → Option ℕ) (StandsAt : ℕ → ℕ → Type 0) (low : ℕ)
+    {said entries : List (PlacedEntry Said)} (r : Result (Vec Numbered Global) X) → AreRising low entries
+    → ((at n : ℕ) → IsReadAt read entries at n ↔ StandsAt at n)
+    → IfOk r (λ v. Collects (Picks value Answers) said v.items) → said ≡ entries
+    → ((at : Bor (EntryAt E)) (picked : Option Numbered) → Answers at picked
+    → picked ≡ option_map (at_place at.now.offset) (read (entry_at_value value at.now)))
+    → IfOk r (λ v. AreNumbersAt StandsAt v.items)
+gathered_numbers value read StandsAt low {entries = entries} r rises stands found same each =
+    gathered_same value (λ s. option_map (at_place s.offset) (read s)) (AreNumbersAt StandsAt) r found same each
+    (λ given is. are_numbers read StandsAt low entries given rises is stands)
+
+-- those of a MADT
+pub madt_numbers : {X : Type 0} (read : MadtEntry → Option ℕ) (whole : List ℕ)
+    {Answers : Bor (EntryAt madts.MadtEntry) → Option Numbered → Type 0} {said : List (PlacedEntry MadtEntry)}
+    (r : Result (Vec Numbered Global) X) → IfOk r (λ v. Collects (Picks madt_value Answers) said v.items)
+    → said ≡ (madt_contents whole).entries
+    → ((at : Bor (EntryAt madts.MadtEntry)) (picked : Option Numbered) → Answers at picked
+    → picked ≡ option_map (at_place at.now.offset) (read (madt_value at.now.entry)))
+    → IfOk r (λ v. AreNumbersAt (NamesAt read (madt_contents whole).entries) v.items)
+madt_numbers read whole r found same each =
+    gathered_numbers madt_value (λ s. read s.entry) (NamesAt read (madt_contents whole).entries) 44 r
+    (madt_rising whole) (as_named read (madt_contents whole).entries) found same each
+
+-- and of a PPTT
+pub pptt_numbers : {X : Type 0} (read : PpttEntry → Option ℕ) (whole : List ℕ)
+    {Answers : Bor (EntryAt pptts.PpttEntry) → Option Numbered → Type 0} {said : List (PlacedEntry PpttEntry)}
+    (r : Result (Vec Numbered Global) X) → IfOk r (λ v. Collects (Picks pptt_value Answers) said v.items)
+    → said ≡ (pptt_contents whole).entries
+    → ((at : Bor (EntryAt pptts.PpttEntry)) (picked : Option Numbered) → Answers at picked
+    → picked ≡ option_map (at_place at.now.offset) (read (pptt_value at.now.entry)))
+    → IfOk r (λ v. AreNumbersAt (NamesAt read (pptt_contents whole).entries) v.items)
+pptt_numbers read whole r found same each =
+    gathered_numbers pptt_value (λ s. read s.entry) (NamesAt read (pptt_contents whole).entries) 36 r
+    (pptt_rising whole) (as_named read (pptt_contents whole).entries) found same each
+
+-- where A and B put the same numbers at places, those of A are those of B
+pub numbers_as : {A B : ℕ → ℕ → Type 0} (given : List Numbered) → ((at n : ℕ) → A at n ↔ B at n)
+    → AreNumbersAt A given → AreNumbersAt B given
+numbers_as given same are =
+    record {
+      rise = are.rise;
+      placed = are.placed;
+      all = λ at n. (λ has. (same at n).0 ((are.all at n).0 has), λ stands. (are.all at n).1 ((same at n).1 stands));
+    }
+
+-- ---- the first one that stands twice
+
+-- where A and B put the same numbers at places, those that stand twice are the same
+same_later : {A B : ℕ → ℕ → Type 0} (at other x : ℕ) → ((p n : ℕ) → A p n → B p n) → ((p n : ℕ) → B p n → A p n)
+    → IsLater A at other x → IsLater B at other x
+same_later at other x to from later =
+    record {
+      here = to at x later.here;
+      earlier = to other x later.earlier;
+      before = later.before;
+      first = λ p there. later.first p (from p x there);
+    }
+
+pub found_twice : {StandsAt : ℕ → ℕ → Type 0} (given : List Numbered) (found : Option Place)
+    → AreNumbersAt StandsAt given → FindsLeast (IsLater (HasAt given)) found → FindsLeast (IsLater StandsAt) found
+found_twice given found are least =
+    least_as found
+    (λ at other point later. same_later at other point (λ p n has. (are.all p n).0 has)
+    (λ p n stands. (are.all p n).1 stands) later)
+    (λ at other point later. same_later at other point (λ p n stands. (are.all p n).1 stands)
+    (λ p n has. (are.all p n).0 has) later)
+    least

@@ -1,0 +1,74 @@
+-- Numbers whose value is their place: one that is given again is one whose value is another than at its first place.
+use Rattle.std.proofs.Common.{◌≡◌, ℕ, ◌<◌, ◌≤◌, List, Option, sym, ◌∙◌, ap, subst, refl, inl, inr, arith}
+use Rattle.std.specs.Prelude.{Contains}
+use Rattle.std.proofs.Math.Nat.{eq-or-lt_of_le}
+use Rattle.acpi_base.specs.Lint.Numbered.{IsLater}
+use Rattle.acpi_lint.specs.Numbered.{IsNoLater, IsUnlikeAt, HasAt}
+use Rattle.acpi_lint.specs.Places.{FindsLeast}
+use Rattle.acpi_lint.specs.declared.numbered.Numbered.{Numbered}
+use Rattle.acpi_lint.specs.declared.numbered.Order.TheVariants.{Later}
+use Rattle.acpi_lint.specs.declared.place.Place.{Place}
+use Rattle.acpi_lint.proofs.LeastPlaces.{least_as}
+
+-- the value of each is its place
+abbrev pub AreAtPlaces : List Numbered → Type 0
+AreAtPlaces given = (g : Numbered) → Contains given g → g.value ≡ g.at
+
+-- such a one is given at its place
+has_at : (given : List Numbered) (g : Numbered) → AreAtPlaces given → Contains given g → HasAt given g.at g.number
+has_at given g placed listed =
+    subst (Contains given) (ap (λ (v : ℕ). record { number = g.number; at = g.at; value = v }) (placed g listed)) listed
+
+later_from : (given : List Numbered) (at other point : ℕ) → AreAtPlaces given → IsUnlikeAt Later given at other point
+    → IsLater (HasAt given) at other point
+later_from given at other point placed (g, f, unlike, is) =
+    rw (← ap (λ (p : Place). p.at) is, ← ap (λ (p : Place). p.other) is, ← ap (λ (p : Place). p.point) is)
+    (record {
+      here = has_at given g placed unlike.listed;
+      earlier = rw unlike.same (has_at given f placed unlike.first.listed);
+      before = before (unlike.first.least g unlike.listed unlike.same);
+      first = λ p there.
+          upto p (unlike.first.least (record { number = g.number; at = p; value = p }) there unlike.same);
+    })
+  where
+    before : IsNoLater f g → f.at < g.at
+    before (inl less) = less
+    before (inr (same, rest)) =
+        absurd (unlike.differ (placed g unlike.listed ∙ sym same ∙ sym (placed f unlike.first.listed)))
+
+    upto : (p : ℕ) → IsNoLater f (record { number = g.number; at = p; value = p }) → f.at ≤ p
+    upto p (inl less) = omega arith
+    upto p (inr (same, rest)) = omega (arith, same)
+
+later_to : (given : List Numbered) (at other point : ℕ) → AreAtPlaces given → IsLater (HasAt given) at other point
+    → IsUnlikeAt Later given at other point
+later_to given at other point placed later = (
+  record { number = point; at = at; value = at },
+  record { number = point; at = other; value = other },
+  record {
+    first =
+        record {
+          listed = later.earlier;
+          least = λ g listed same. upto g listed (later.first g.at (rw (← same) (has_at given g placed listed)));
+        };
+    listed = later.here;
+    same = refl;
+    differ = λ same. omega (arith, same, later.before);
+  },
+  refl,
+)
+  where
+    upto : (g : Numbered) → Contains given g → other ≤ g.at
+        → IsNoLater (record { number = point; at = other; value = other }) g
+    upto g listed least =
+        elim (eq-or-lt_of_le {n = other} {m = g.at} least) [
+          | inl same ↦ inr (same, omega (arith, same, placed g listed))
+          | inr less ↦ inl less
+        ]
+
+-- so the least place is the same
+pub found_later : (given : List Numbered) (found : Option Place) → AreAtPlaces given
+    → FindsLeast (IsUnlikeAt Later given) found → FindsLeast (IsLater (HasAt given)) found
+found_later given found placed least =
+    least_as found (λ at other point holds. later_from given at other point placed holds)
+    (λ at other point holds. later_to given at other point placed holds) least

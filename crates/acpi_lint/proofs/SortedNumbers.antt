@@ -1,0 +1,66 @@
+-- Numbers that are given at places, once they are sorted.
+use Rattle.std.proofs.Common.{◌≡◌, ℕ, ◌<◌, ◌≤◌, ◌⊎◌, List, get_or, Option, false, Ordering, arith}
+use Rattle.std.specs.Prelude.{AllPairs, Contains}
+use Rattle.std.specs.Cmp.{IsTotalOrder}
+use Rattle.std.specs.List.Sorted.{IsPermutation, IsSorted}
+use Rattle.std.specs.Ordering.{nat_cmp, ordering_then, is_lt}
+use Rattle.std.proofs.lemmas.Bool.Decides.{nat_tests}
+use Rattle.std.proofs.lemmas.Cmp.{nat_cmp_total, on_total, then_total}
+use Rattle.std.proofs.lemmas.List.Sorted.{ranks_by, sorted_far, Contains-permutation, IsPermutation-sym}
+use Rattle.acpi_lint.specs.Numbered.{IsNotAbove, IsUnlike, IsUnlikeAt}
+use Rattle.acpi_lint.specs.Places.{FindsLeast}
+use Rattle.acpi_lint.specs.declared.numbered.Numbered.{Numbered}
+use Rattle.acpi_lint.specs.declared.numbered.Order.{Order}
+use Rattle.acpi_lint.specs.declared.place.Place.{Place}
+use Rattle.acpi_lint.proofs.LeastPlaces.{least_as}
+
+-- how they compare
+abbrev numbered_cmp : Numbered → Numbered → Ordering
+numbered_cmp a b =
+    ordering_then (nat_cmp a.number b.number) (ordering_then (nat_cmp a.at b.at) (nat_cmp a.value b.value))
+
+numbered_cmp_total : IsTotalOrder numbered_cmp
+numbered_cmp_total =
+    then_total (on_total (λ n. n.number) nat_cmp_total)
+    (then_total (on_total (λ n. n.at) nat_cmp_total) (on_total (λ n. n.value) nat_cmp_total))
+
+not_above : (m n p q v w : ℕ)
+    → is_lt (ordering_then (nat_cmp n m) (ordering_then (nat_cmp q p) (nat_cmp w v))) ≡ false
+    → (m < n) ⊎ ((m ≡ n) × ((p < q) ⊎ ((p ≡ q) × (v ≤ w))))
+not_above m n p q v w upto = grind (arith, nat_tests)
+
+-- sorted, each stands before those that are not below it
+pub in_order : (sorted : List Numbered) → IsSorted numbered_cmp sorted → AllPairs IsNotAbove sorted
+in_order sorted order i j d before within =
+    not_above (get_or sorted i d).number (get_or sorted j d).number (get_or sorted i d).at (get_or sorted j d).at
+    (get_or sorted i d).value (get_or sorted j d).value
+    (sorted_far (λ a b. is_lt (numbered_cmp a b)) (ranks_by numbered_cmp_total (λ n. n)) sorted order i j d
+    (omega arith) within)
+
+-- in another order the same numbers have another value than at their first places
+moved_unlike : (given others : List Numbered) (g f : Numbered) → ((x : Numbered) → Contains given x → Contains others x)
+    → ((x : Numbered) → Contains others x → Contains given x) → IsUnlike given g f → IsUnlike others g f
+moved_unlike given others g f to from unlike =
+    record {
+      first =
+          record {
+            listed = to f unlike.first.listed;
+            least = λ x listed same. unlike.first.least x (from x listed) same;
+          };
+      listed = to g unlike.listed;
+      same = unlike.same;
+      differ = unlike.differ;
+    }
+
+pub found_moved : (order : Order) (given sorted : List Numbered) (found : Option Place) → IsPermutation given sorted
+    → FindsLeast (IsUnlikeAt order sorted) found → FindsLeast (IsUnlikeAt order given) found
+found_moved order given sorted found moved least =
+    least_as found
+    (λ at other point (g, f, unlike, is). (g, f, moved_unlike sorted given g f back there unlike, is))
+    (λ at other point (g, f, unlike, is). (g, f, moved_unlike given sorted g f there back unlike, is)) least
+  where
+    there : (x : Numbered) → Contains given x → Contains sorted x
+    there x listed = Contains-permutation given sorted x moved listed
+
+    back : (x : Numbered) → Contains sorted x → Contains given x
+    back x listed = Contains-permutation sorted given x (IsPermutation-sym given sorted moved) listed

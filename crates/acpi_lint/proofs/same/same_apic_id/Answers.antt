@@ -1,0 +1,17 @@
+use Rattle.std.proofs.Common.{rules, Ok}
+use Rattle.std.specs.Prelude.{⊤}
+use Rattle.acpi_base.specs.Lint.Processors.{apic_id_on}
+use Rattle.acpi_lint.proofs.CollectedNumbers.{madt_numbers, found_twice}
+use Rattle.acpi_lint.proofs.same.same_apic_id.Goals as goal
+
+pub first_same-requires : goal.first_same-requires
+first_same-requires c =
+    (madt_numbers {X = ⊤} apic_id_on c.args.madt.now (Ok c.in_ok-numbers.numbers) c.in_ok-numbers.ensures
+    c.entries.ensures.entries (λ at picked answers. search rules)).placed
+
+pub returns : goal.returns
+returns c =
+    found_twice c.in_ok-numbers.numbers.items c.first_same.result
+    (madt_numbers {X = ⊤} apic_id_on c.args.madt.now (Ok c.in_ok-numbers.numbers) c.in_ok-numbers.ensures
+    c.entries.ensures.entries (λ at picked answers. search rules))
+    c.first_same.ensures

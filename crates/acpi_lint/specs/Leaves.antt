@@ -1,0 +1,25 @@
+-- The leaves of a PPTT: by what they say, and by what no node names.
+use Rattle.std.specs.Prelude.{ℕ, Option, Some, None, List, ◌==◌, if◌then◌else◌}
+use Rattle.std.specs.List.{list_any}
+use Rattle.acpi_base.specs.Lint.Numbered.{NamesAt}
+use Rattle.acpi_base.specs.Lint.Processors.{IsParent}
+use Rattle.acpi_base.specs.Number.{has_bit}
+use Rattle.acpi_base.specs.Pptt.{PpttEntry, Node, PpttContents}
+
+-- the ID of a node whose flags say that it is valid
+abbrev pub valid_id : PpttEntry → Option ℕ
+valid_id (Node v) = if has_bit v.flags 1 then Some v.id else None
+valid_id _ = None
+
+-- the same of a node whose flags say that it is a leaf
+abbrev pub said_leaf_id : PpttEntry → Option ℕ
+said_leaf_id (Node v) = if has_bit v.flags 3 then valid_id (Node v) else None
+said_leaf_id _ = None
+
+-- the ID of a node at the offset o, where that is none of the parents
+abbrev pub unnamed_id : List ℕ → ℕ → PpttEntry → Option ℕ
+unnamed_id parents o e = if list_any (λ p. p == o) parents then None else valid_id e
+
+-- a node with this ID, which is valid, stands at o, and no node names it as its Parent
+abbrev pub IsUnnamedAt : PpttContents → ℕ → ℕ → Type 0
+IsUnnamedAt c o id = NamesAt valid_id c.entries o id × ¬ IsParent c o

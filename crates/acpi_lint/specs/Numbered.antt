@@ -1,0 +1,51 @@
+-- Values that are given to numbers at places.
+use Rattle.std.specs.Prelude.{◌≡◌, ◌≢◌, ℕ, ◌<◌, ◌≤◌, ◌⊎◌, ◌↔◌, List, AllPairs, Contains}
+use Rattle.acpi_lint.specs.declared.numbered.Numbered.{Numbered}
+use Rattle.acpi_lint.specs.declared.numbered.Order.{Order}
+use Rattle.acpi_lint.specs.declared.numbered.Order.TheVariants.{Later, First}
+use Rattle.acpi_lint.specs.declared.place.Place.{Place}
+
+-- a is given at an earlier place than b, or at the same one with no greater value
+abbrev pub IsNoLater : Numbered → Numbered → Type 0
+IsNoLater a b = (a.at < b.at) ⊎ ((a.at ≡ b.at) × (a.value ≤ b.value))
+
+-- a's number is less than b's, or a is of the same number and given no later
+abbrev pub IsNotAbove : Numbered → Numbered → Type 0
+IsNotAbove a b = (a.number < b.number) ⊎ ((a.number ≡ b.number) × IsNoLater a b)
+
+-- among these f is the first of its number
+pub record IsFirstOfNumber (given : List Numbered) (f : Numbered) : Type 0 where
+  pub listed : Contains given f
+  pub least : (g : Numbered) → Contains given g → g.number ≡ f.number → IsNoLater f g
+
+-- among these f is the first of its number, and g gives that number another value
+pub record IsUnlike (given : List Numbered) (g f : Numbered) : Type 0 where
+  pub first : IsFirstOfNumber given f
+  pub listed : Contains given g
+  pub same : g.number ≡ f.number
+  pub differ : g.value ≢ f.value
+
+-- the place at which that is reported
+abbrev pub unlike_place : Order → Numbered → Numbered → Place
+unlike_place Later g f = record { at = g.at; other = f.at; point = g.number }
+unlike_place First g f = record { at = f.at; other = g.at; point = g.number }
+
+-- at these numbers it is reported that a number is given another value than at its first place
+abbrev pub IsUnlikeAt : Order → List Numbered → ℕ → ℕ → ℕ → Type 0
+IsUnlikeAt order given at other point =
+    (g : Numbered) × (f : Numbered) × IsUnlike given g f
+    × (unlike_place order g f ≡ record { at = at; other = other; point = point })
+
+-- the number n at a place, which is also the value that it is given there
+abbrev pub at_place : ℕ → ℕ → Numbered
+at_place at n = record { number = n; at = at; value = at }
+
+-- it is among these
+abbrev pub HasAt : List Numbered → ℕ → ℕ → Type 0
+HasAt given at n = Contains given (at_place at n)
+
+-- these are the numbers of which `StandsAt at n` says where they stand, each with its place for its value; the places rise
+pub record AreNumbersAt (StandsAt : ℕ → ℕ → Type 0) (given : List Numbered) : Type 0 where
+  pub rise : AllPairs (λ a b. a.at < b.at) given
+  pub placed : (g : Numbered) → Contains given g → g.value ≡ g.at
+  pub all : (at n : ℕ) → HasAt given at n ↔ StandsAt at n

@@ -1,0 +1,114 @@
+//! The leaves of a PPTT.
+
+ghost use Rattle.std.specs.Prelude.{◌≡◌, ◌<◌, ◌↔◌, ℕ, AllPairs, Contains, IfOk};
+ghost use Rattle.acpi_base.specs.Lint.Numbered.{NamesAt};
+ghost use Rattle.acpi_base.specs.Lint.Processors.{IsLeafAt, IsParent};
+ghost use Rattle.acpi_base.specs.Pptt.{pptt_contents, parent_of};
+ghost use Rattle.acpi_read.specs.Pptts.{pptt_value};
+ghost use Rattle.acpi_lint.specs.Leaves.{valid_id, said_leaf_id, unnamed_id, IsUnnamedAt};
+ghost use Rattle.acpi_lint.specs.Numbered.{AreNumbersAt};
+
+use crate::numbered::{Numbered, at_place};
+use acpi_check::{binary_search, collected, sorted_unique};
+use acpi_read::{EntryAt, Pptt, PpttEntry};
+use std::alloc::{AllocError, Global};
+
+/// A PPTT's Revision.
+#[tactic(auto, unfolding(acpi_base::specs::Header::header_of, acpi_base::specs::Pptt::pptt_contents))]
+pub fn revision(pptt: &Pptt<'_>) -> u8
+    ensures { result ≡ (pptt_contents pptt.now).revision }
+{
+    pptt.header().revision
+}
+
+/// The ID of a node that has a valid one, as bit 1 of its flags says.
+#[tactic(auto, unfolding(acpi_base::specs::Number::has_bit))]
+fn valid_id(entry: &PpttEntry<'_>) -> Option<u32>
+    ensures { result ≡ valid_id (pptt_value entry.now) }
+{
+    match entry {
+        PpttEntry::Node(head, _) => (head.flags >> 1 & 1 == 1).then_some(head.id),
+        _ => None,
+    }
+}
+
+/// The same of a node that says that it is a leaf, in bit 3.
+#[tactic(auto, unfolding(acpi_base::specs::Number::has_bit))]
+fn said_leaf_id(entry: &PpttEntry<'_>) -> Option<u32>
+    ensures { result ≡ said_leaf_id (pptt_value entry.now) }
+{
+    match entry {
+        PpttEntry::Node(head, _) if head.flags >> 3 & 1 == 1 => valid_id(entry),
+        _ => None,
+    }
+}
+
+/// The nodes that say that they are leaves.
+fn said_leaves(alloc: Global, pptt: &Pptt<'_>) -> Result<Vec<Numbered>, AllocError>
+    ensures { IfOk result (λ leaves. AreNumbersAt
+        (NamesAt said_leaf_id (pptt_contents pptt.now).entries) leaves.items) }
+{
+    collected(alloc, pptt.entries(), |at| {
+        at_place(at.offset, said_leaf_id(&at.entry))
+    })
+}
+
+/// The Parent of a node.
+fn parent_of(entry: &PpttEntry<'_>) -> Option<u32>
+    ensures { result ≡ parent_of (pptt_value entry.now) }
+{
+    match entry {
+        PpttEntry::Node(head, _) => Some(head.parent),
+        _ => None,
+    }
+}
+
+/// The offsets that nodes name as their Parents, in rising order.
+fn parents_of(alloc: Global, pptt: &Pptt<'_>) -> Result<Vec<u64>, AllocError>
+    ensures rise { IfOk result (λ parents. AllPairs (λ o p. o < p) parents.items) }
+    ensures all { IfOk result (λ parents. (o : ℕ) →
+        Contains parents.items o ↔ IsParent (pptt_contents pptt.now) o) }
+{
+    let parents = collected(alloc, pptt.entries(), |at| {
+        parent_of(&at.entry).map(u64::from)
+    })?;
+    Ok(sorted_unique(parents))
+}
+
+/// The ID of a node that has a valid one and does not stand at one of these offsets, which rise.
+fn unnamed_id(parents: &[u64], at: &EntryAt<PpttEntry<'_>>) -> Option<u32>
+    requires { AllPairs (λ o p. o < p) parents.now }
+    ensures { result ≡ unnamed_id parents.now at.now.offset (pptt_value at.now.entry) }
+{
+    match binary_search(parents, at.offset) {
+        Some(_) => None,
+        None => valid_id(&at.entry),
+    }
+}
+
+/// The nodes that no node names as its Parent.
+fn unnamed_leaves(alloc: Global, pptt: &Pptt<'_>) -> Result<Vec<Numbered>, AllocError>
+    ensures { IfOk result (λ leaves. AreNumbersAt (IsUnnamedAt (pptt_contents pptt.now))
+        leaves.items) }
+{
+    let parents = parents_of(alloc, pptt)?;
+    collected(alloc, pptt.entries(), |at| {
+        at_place(at.offset, unnamed_id(&parents, at))
+    })
+}
+
+/// The Revision of the PPTT that first has the flag of a leaf.
+const HAS_LEAVES: u8 = 2;
+
+/// The ACPI processor IDs of a PPTT's leaves, each with its leaf's offset; the offsets rise. Takes memory for each leaf, and
+/// below Revision 2 also for each node.
+pub fn leaves_of(alloc: Global, pptt: &Pptt<'_>) -> Result<Vec<Numbered>, AllocError>
+    ensures { IfOk result (λ leaves. AreNumbersAt (IsLeafAt (pptt_contents pptt.now))
+        leaves.items) }
+{
+    if revision(pptt) < HAS_LEAVES {
+        unnamed_leaves(alloc, pptt)
+    } else {
+        said_leaves(alloc, pptt)
+    }
+}

@@ -1,0 +1,106 @@
+//! Numbers that are given at places, and those that are given again with another value.
+
+ghost use Rattle.std.specs.Prelude.{◌≡◌, ◌⊎◌, AllPairs, Contains, IfSome, Some};
+ghost use Rattle.std.specs.Option.{option_map};
+ghost use Rattle.acpi_base.specs.Lint.Numbered.{IsLater};
+ghost use Rattle.acpi_lint.specs.Numbered.{IsNotAbove, IsUnlikeAt, HasAt, at_place, unlike_place};
+ghost use Rattle.acpi_lint.specs.Places.{FindsLeast, IsNotAfter};
+
+use crate::place::Place;
+
+/// A value that is given to a number at a place. They compare by the number, then by the place, then by the value.
+#[derive(Clone, Copy, Debug, PartialEq, Eq, PartialOrd, Ord)]
+pub struct Numbered {
+    /// The number.
+    pub number: u64,
+    /// Where the value is given.
+    pub at: u64,
+    /// The value.
+    pub value: u64,
+}
+
+/// The number that stands at a place, with that place for its value.
+pub fn at_place(at: u64, number: Option<u32>) -> Option<Numbered>
+    ensures { result ≡ option_map (at_place at) number }
+{
+    let number = number?;
+    Some(Numbered {
+        number: u64::from(number),
+        at,
+        value: at,
+    })
+}
+
+/// At which of two places it is reported that a number's value is another one than at its first place.
+#[derive(Clone, Copy, Debug)]
+pub enum Order {
+    /// At the later one.
+    Later,
+    /// At the first one.
+    First,
+}
+
+impl Order {
+    /// The place of such a number, whose value is another one here.
+    fn place(self, here: &Numbered, first: &Numbered) -> Place
+        ensures { result ≡ unlike_place self here.now first.now }
+    {
+        let (at, other) = match self {
+            Order::Later => (here.at, first.at),
+            Order::First => (first.at, here.at),
+        };
+        Place {
+            at,
+            other,
+            point: here.number,
+        }
+    }
+}
+
+/// The lesser of two places.
+fn lesser(least: Option<Place>, place: Place) -> Place
+    ensures one { (result ≡ place) ⊎ (least ≡ Some result) }
+    ensures after { IsNotAfter result place.at place.other place.point }
+    ensures before { IfSome least (λ l. IsNotAfter result l.at l.other l.point) }
+{
+    match least {
+        Some(least) if least <= place => least,
+        _ => place,
+    }
+}
+
+/// The least place of a number whose value is another one than at its first place. Those of one number stand side by side,
+/// its first one before the others.
+fn least_unlike(sorted: &[Numbered], order: Order) -> Option<Place>
+    requires { AllPairs IsNotAbove sorted.now }
+    ensures { FindsLeast (IsUnlikeAt order sorted.now) result }
+{
+    let mut first = *sorted.first()?;
+    let mut least = None;
+    for here in sorted {
+        if here.number != first.number {
+            first = *here;
+        }
+        if here.value != first.value {
+            least = Some(lesser(least, order.place(here, &first)));
+        }
+    }
+    least
+}
+
+/// The least place of a number whose value is another one than at its first place.
+pub fn first_unlike(mut given: Vec<Numbered>, order: Order) -> Option<Place>
+    ensures { FindsLeast (IsUnlikeAt order given.items) result }
+{
+    given.sort_unstable();
+    least_unlike(&given, order)
+}
+
+/// The first place at which a number stands that also stands at an earlier one; `other` is the first of these, and `point` the
+/// number. The value that is given with a number is its place.
+pub fn first_same(given: Vec<Numbered>) -> Option<Place>
+    requires { (g : Numbered) → Contains given.items g → g.value ≡ g.at }
+    ensures { FindsLeast (IsLater (HasAt given.items)) result }
+{
+    first_unlike(given, Order::Later)
+}

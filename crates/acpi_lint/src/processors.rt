@@ -1,0 +1,231 @@
+//! Numbers that entries give: those of processors, and what else is compared with them or looked up.
+
+ghost use Rattle.std.specs.Prelude.{◌≡◌, ◌≤◌, ◌||◌, length, IsTrue};
+ghost use Rattle.std.specs.Option.{option_map};
+ghost use Rattle.acpi_base.specs.Lint.MadtAdvice.{io_apic_address, io_apic_id, nmi_uid};
+ghost use Rattle.acpi_base.specs.Lint.PpttAdvice.{cache_id};
+ghost use Rattle.acpi_base.specs.Lint.Processors.{is_gicc, processor_of, uid_of, uid_on, apic_id_of, apic_id_on, gicc_uid_on, is_gicc_affinity, placed_apic_id, placed_uid, processor_domain, any_domain};
+ghost use Rattle.acpi_base.specs.Number.{has_bit};
+ghost use Rattle.acpi_read.specs.Madts.{madt_value};
+ghost use Rattle.acpi_read.specs.Pptts.{pptt_value};
+ghost use Rattle.acpi_read.specs.Srats.{srat_value};
+ghost use Rattle.acpi_lint.specs.ProcessorValues.{processor_value};
+
+use acpi_base::field::u32_at;
+use acpi_read::{MadtEntry, PpttEntry, SratEntry};
+
+/// A processor, as an entry of a MADT describes it.
+#[derive(Clone, Copy)]
+pub struct Processor {
+    /// Its UID.
+    pub uid: u32,
+    /// Its APIC ID or x2APIC ID: they are one number space. A GIC CPU interface has none.
+    pub apic_id: Option<u32>,
+    /// Whether it is Enabled or Online Capable, or of a GIC CPU interface Enabled.
+    pub on: bool,
+}
+
+/// Whether flags have bit 0, which is Enabled in the flags of each entry that is asked here.
+#[tactic(auto, unfolding(acpi_base::specs::Number::has_bit))]
+fn is_enabled(flags: u32) -> bool
+    ensures { result ≡ has_bit flags 0 }
+{
+    flags & 1 == 1
+}
+
+/// Whether the flags of a local APIC or a local x2APIC say Enabled or Online Capable.
+#[tactic(auto, unfolding(acpi_base::specs::Number::has_bit))]
+fn is_on(flags: u32) -> bool
+    ensures { result ≡ has_bit flags 0 || has_bit flags 1 }
+{
+    let is_online_capable = flags >> 1 & 1 == 1;
+    is_enabled(flags) || is_online_capable
+}
+
+// ---- the MADT
+
+/// The type of a GIC CPU interface (ACPI 6.5, 5.2.12.14).
+const GICC: u8 = 11;
+
+/// The length of a GIC CPU interface in ACPI 5.0. Later ones are longer.
+const GICC_LEN: usize = 40;
+
+/// Whether the bytes are a GIC CPU interface of at least that length.
+fn is_gicc(bytes: &[u8]) -> bool
+    ensures value { result ≡ is_gicc bytes.now }
+    ensures size { IsTrue result → 40 ≤ length bytes.now }
+{
+    bytes.len() >= GICC_LEN && bytes[0] == GICC
+}
+
+/// The processor that an entry describes. None for another entry.
+fn processor_of(entry: &MadtEntry<'_>) -> Option<Processor>
+    ensures { option_map processor_value result ≡ processor_of (madt_value entry.now) }
+{
+    match entry {
+        MadtEntry::LocalApic(processor) => Some(Processor {
+            uid: u32::from(processor.uid),
+            apic_id: Some(u32::from(processor.apic_id)),
+            on: is_on(processor.flags),
+        }),
+        MadtEntry::X2apic(processor) => Some(Processor {
+            uid: processor.uid,
+            apic_id: Some(processor.x2apic_id),
+            on: is_on(processor.flags),
+        }),
+        MadtEntry::Opaque(bytes) if is_gicc(bytes) => Some(Processor {
+            uid: u32_at(bytes, 8),
+            apic_id: None,
+            on: is_enabled(u32_at(bytes, 12)),
+        }),
+        _ => None,
+    }
+}
+
+/// The UID of a processor.
+pub fn uid_of(entry: &MadtEntry<'_>) -> Option<u32>
+    ensures { result ≡ uid_of (madt_value entry.now) }
+{
+    let processor = processor_of(entry)?;
+    Some(processor.uid)
+}
+
+/// The UID of a processor that is on.
+pub fn uid_on(entry: &MadtEntry<'_>) -> Option<u32>
+    ensures { result ≡ uid_on (madt_value entry.now) }
+{
+    let processor = processor_of(entry)?;
+    processor.on.then_some(processor.uid)
+}
+
+/// The APIC ID or x2APIC ID of a processor that has one.
+pub fn apic_id_of(entry: &MadtEntry<'_>) -> Option<u32>
+    ensures { result ≡ apic_id_of (madt_value entry.now) }
+{
+    processor_of(entry)?.apic_id
+}
+
+/// The same of a processor that is on.
+pub fn apic_id_on(entry: &MadtEntry<'_>) -> Option<u32>
+    ensures { result ≡ apic_id_on (madt_value entry.now) }
+{
+    let processor = processor_of(entry)?;
+    if processor.on {
+        processor.apic_id
+    } else {
+        None
+    }
+}
+
+/// The UID of a GIC CPU interface that is on.
+pub fn gicc_uid_on(entry: &MadtEntry<'_>) -> Option<u32>
+    ensures { result ≡ gicc_uid_on (madt_value entry.now) }
+{
+    match entry {
+        MadtEntry::Opaque(_) => uid_on(entry),
+        _ => None,
+    }
+}
+
+/// The UID to which a local APIC NMI or local x2APIC NMI applies. None where it applies to all processors.
+pub fn nmi_uid(entry: &MadtEntry<'_>) -> Option<u32>
+    ensures { result ≡ nmi_uid (madt_value entry.now) }
+{
+    match entry {
+        MadtEntry::LocalNmi(nmi) if nmi.uid != u8::MAX => Some(u32::from(nmi.uid)),
+        MadtEntry::X2apicNmi(nmi) if nmi.uid != u32::MAX => Some(nmi.uid),
+        _ => None,
+    }
+}
+
+/// The ID of an I/O APIC.
+pub fn io_apic_id(entry: &MadtEntry<'_>) -> Option<u32>
+    ensures { result ≡ io_apic_id (madt_value entry.now) }
+{
+    match entry {
+        MadtEntry::IoApic(io_apic) => Some(u32::from(io_apic.id)),
+        _ => None,
+    }
+}
+
+/// The address of an I/O APIC.
+pub fn io_apic_address(entry: &MadtEntry<'_>) -> Option<u32>
+    ensures { result ≡ io_apic_address (madt_value entry.now) }
+{
+    match entry {
+        MadtEntry::IoApic(io_apic) => Some(io_apic.address),
+        _ => None,
+    }
+}
+
+// ---- the SRAT
+
+/// The type of a GICC affinity (ACPI 6.5, 5.2.16.4).
+const GICC_AFFINITY: u8 = 3;
+
+/// The length of a GICC affinity.
+const GICC_AFFINITY_LEN: usize = 18;
+
+/// Whether the bytes are a GICC affinity that is enabled.
+fn is_gicc_affinity(bytes: &[u8]) -> bool
+    ensures value { result ≡ is_gicc_affinity bytes.now }
+    ensures size { IsTrue result → length bytes.now ≡ 18 }
+{
+    bytes.len() == GICC_AFFINITY_LEN && bytes[0] == GICC_AFFINITY && is_enabled(u32_at(bytes, 10))
+}
+
+/// The APIC ID or x2APIC ID that an enabled affinity places.
+pub fn placed_apic_id(entry: &SratEntry<'_>) -> Option<u32>
+    ensures { result ≡ placed_apic_id (srat_value entry.now) }
+{
+    match entry {
+        SratEntry::ApicDomain(put) => is_enabled(put.flags).then_some(u32::from(put.apic_id)),
+        SratEntry::X2apicDomain(put) => is_enabled(put.flags).then_some(put.x2apic_id),
+        _ => None,
+    }
+}
+
+/// The UID that an enabled GICC affinity places.
+pub fn placed_uid(entry: &SratEntry<'_>) -> Option<u32>
+    ensures { result ≡ placed_uid (srat_value entry.now) }
+{
+    match entry {
+        SratEntry::Opaque(bytes) if is_gicc_affinity(bytes) => Some(u32_at(bytes, 6)),
+        _ => None,
+    }
+}
+
+/// The domain in which an enabled affinity places its processor.
+pub fn processor_domain(entry: &SratEntry<'_>) -> Option<u32>
+    ensures { result ≡ processor_domain (srat_value entry.now) }
+{
+    match entry {
+        SratEntry::ApicDomain(put) => is_enabled(put.flags).then_some(put.domain),
+        SratEntry::X2apicDomain(put) => is_enabled(put.flags).then_some(put.domain),
+        SratEntry::Opaque(bytes) if is_gicc_affinity(bytes) => Some(u32_at(bytes, 2)),
+        _ => None,
+    }
+}
+
+/// The same, or the domain of an enabled range of memory.
+pub fn any_domain(entry: &SratEntry<'_>) -> Option<u32>
+    ensures { result ≡ any_domain (srat_value entry.now) }
+{
+    match entry {
+        SratEntry::MemoryRange(range) => is_enabled(range.flags).then_some(range.domain),
+        _ => processor_domain(entry),
+    }
+}
+
+// ---- the PPTT
+
+/// The Cache ID of a cache that has a valid one, as bit 7 of its flags says.
+#[tactic(auto, unfolding(acpi_base::specs::Number::has_bit))]
+pub fn cache_id(entry: &PpttEntry<'_>) -> Option<u32>
+    ensures { result ≡ cache_id (pptt_value entry.now) }
+{
+    match entry {
+        PpttEntry::Cache28(cache) => (cache.flags >> 7 & 1 == 1).then_some(cache.id),
+        _ => None,
+    }
+}
