@@ -1,19 +1,21 @@
 -- The first fault of each code: it is one, it is there where there is a fault, and the first fault of an image is one.
-use Rattle.std.proofs.Common.{◌≡◌, ℕ, ◌≤◌, refl, sym, subst, inl, inr, arith}
+use Rattle.std.proofs.Common.{◌≡◌, ℕ, ◌≤◌, List, [], ◌∷◌, refl, sym, subst, inl, inr, arith}
 use Rattle.acpi_base.specs.Memory.{Memory}
 use Rattle.acpi_base.specs.Policy.{PolicyValue}
 use Rattle.acpi_base.specs.Codes.{stage_number, stage_of}
 use Rattle.acpi_base.specs.Statements.{IsClean}
 use Rattle.acpi_base.specs.Faults.{Fault, FaultOfStage, IsLeastOfStage, IsFirstFault}
 use Rattle.acpi_base.specs.Lint.FirstOfCode.{IsLeastOfCode, IsFirstOfCode}
-use Rattle.acpi_base.specs.Lint.Laws.{CleanWithoutFaults, CleanWithoutFirsts, FirstIsFirstOfCode, OneFirstOfCode, OneFirstAdvice}
+use Rattle.acpi_base.specs.Lint.Laws.{CleanWithoutFaults, CleanWithoutFirsts, FirstIsFirstOfCode, OneFirstOfCode, OneFirstAdvice, NoneReportedOfClean, FirstIsReported, ReportedAreFaults}
 use Rattle.acpi_base.specs.Lint.Advice.{NotAfter}
+use Rattle.acpi_base.specs.Lint.Findings.{AreFirstFaults}
 use Rattle.acpi_base.specs.declared.code.Code.{Code}
 use Rattle.acpi_base.specs.declared.code.Code.TheVariants as code
 use Rattle.acpi_base.specs.declared.rule.Advice.{Advice}
 use Rattle.acpi_base.specs.declared.stage.Stage.{Stage}
 use Rattle.acpi_base.specs.declared.stage.Stage.TheVariants as stage
 use Rattle.acpi_base.specs.declared.witness.Witness.{Witness}
+use Rattle.acpi_base.proofs.Elements.{first_element, no_element}
 use Rattle.acpi_base.proofs.Faults.HoldsOrFault.{IsFirstOfStage}
 use Rattle.acpi_base.proofs.Faults.Laws.{clean_or_first_fault}
 use Rattle.acpi_base.proofs.Faults.Order.{same_witness}
@@ -78,6 +80,27 @@ pub one_first_of_code : OneFirstOfCode
 one_first_of_code m q w v same one other =
     one_of_code m q w v v.code same refl one.fault other.fault
     (subst (λ (c : Code). IsLeastOfCode c m q w) same one.least) other.least
+
+-- ---- the first faults of all codes
+
+pub first_is_reported : FirstIsReported
+first_is_reported m q faults w are first = (are.all w).1 (first_is_first_of_code m q w first)
+
+pub reported_are_faults : ReportedAreFaults
+reported_are_faults m q faults w are listed = ((are.all w).0 listed).fault
+
+-- none is reported of an image exactly where it is clean
+none_or_some : (m : Memory) (q : PolicyValue) (faults : List Witness) → AreFirstFaults m q faults → IsClean m q
+    → faults ≡ []
+none_or_some m q [] are clean = refl
+none_or_some m q (w ∷ faults) are clean =
+    absurd (without_fault m q clean w ((are.all w).0 (first_element w faults)).fault)
+
+pub none_reported : NoneReportedOfClean
+none_reported m q faults are = (
+  λ none. clean_without m q (λ w first. no_element w (rw none at (first_is_reported m q faults w are first))),
+  none_or_some m q faults are,
+)
 
 -- ---- advice
 

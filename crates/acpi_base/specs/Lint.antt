@@ -1,6 +1,7 @@
 -- All that is wrong with an image, and not only its first fault.
 pub mod Advice
 pub mod FadtAdvice
+pub mod Findings
 pub mod FirstOfCode
 pub mod Laws
 pub mod MadtAdvice

@@ -12,7 +12,7 @@ ghost use Rattle.acpi_base.specs.Examples.Slits.{AreSlitContents, AreSlitFaults,
 ghost use Rattle.acpi_base.specs.Examples.Srats.{AreSratContents, AreSratFaults, AreFirstOverlaps, HasNoSratFault};
 ghost use Rattle.acpi_base.specs.Examples.WholeSets.{whole_set, example_policy};
 ghost use Rattle.acpi_base.specs.Laws.{FaultsExcludeClean, FaultsFit, CleanOrFaulty, CleanOrFirstFault, OneFirstFault, OneVerdict, RootsListSlots, TextsDiffer};
-ghost use Rattle.acpi_base.specs.Lint.Laws.{CleanWithoutFaults, CleanWithoutFirsts, FirstIsFirstOfCode, OneFirstOfCode, OneFirstAdvice};
+ghost use Rattle.acpi_base.specs.Lint.Laws.{CleanWithoutFaults, CleanWithoutFirsts, FirstIsFirstOfCode, OneFirstOfCode, OneFirstAdvice, NoneReportedOfClean, FirstIsReported, ReportedAreFaults};
 ghost use Rattle.acpi_base.specs.Pptt.{ParentsEndOrGoRound, CachesEndOrGoRound};
 ghost use Rattle.acpi_base.specs.Statements.{IsClean};
 ghost use Rattle.acpi_base.specs.Text.WrittenText.{WrittenIsText, OneWritten};
@@ -52,6 +52,14 @@ pub fn one_first_fault()
 pub fn clean_without_faults()
     ensures faults { CleanWithoutFaults }
     ensures firsts { CleanWithoutFirsts }
+{}
+
+/// Of the first faults of all codes: there is none exactly where all stages hold; the first fault of the image, which is
+/// reported as its verdict, is among them; and each is a fault.
+pub fn reported_faults()
+    ensures none { NoneReportedOfClean }
+    ensures first { FirstIsReported }
+    ensures faults { ReportedAreFaults }
 {}
 
 /// The first fault of an image, which is reported as its verdict, is the first of its code.

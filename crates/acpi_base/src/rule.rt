@@ -1,6 +1,6 @@
 //! Advice: what breaks none of the statements, and is likely wrong all the same.
 
-ghost use Rattle.std.specs.Prelude.{◌≡◌};
+ghost use Rattle.std.specs.Prelude.{◌≡◌, ◌≤◌, ◌↔◌, IsSome, IfSome};
 ghost use Rattle.acpi_base.specs.Lint.Rules.{rule_name, rule_number};
 
 /// A rule of advice. A set of tables may have a reason to break one, so no rule is a fault. Sections are those of ACPI 6.5.
@@ -65,6 +65,44 @@ pub enum Rule {
 }
 
 impl Rule {
+    /// The rule with this number, from 101 to 128.
+    pub fn new(number: u8) -> Option<Rule>
+        ensures some { IsSome result ↔ ((101 ≤ number) × (number ≤ 128)) }
+        ensures same { IfSome result (λ rule. rule_number rule ≡ number) }
+    {
+        match number {
+            101 => Some(Rule::ListedTwice),
+            102 => Some(Rule::SecondTable),
+            103 => Some(Rule::ListedApart),
+            104 => Some(Rule::FadtOfRevision),
+            105 => Some(Rule::FacsDiffers),
+            106 => Some(Rule::DsdtDiffers),
+            107 => Some(Rule::BlockDiffers),
+            108 => Some(Rule::SciNowhere),
+            109 => Some(Rule::SameUid),
+            110 => Some(Rule::SameApicId),
+            111 => Some(Rule::IoApicAtZero),
+            112 => Some(Rule::SameIoApicId),
+            113 => Some(Rule::SameIoApicAddress),
+            114 => Some(Rule::NmiNowhere),
+            115 => Some(Rule::SecondGicd),
+            116 => Some(Rule::NoProcessor),
+            117 => Some(Rule::TwoUidDomains),
+            118 => Some(Rule::AffinityNowhere),
+            119 => Some(Rule::NoDomain),
+            120 => Some(Rule::DomainPastSlit),
+            121 => Some(Rule::SlitDiffers),
+            122 => Some(Rule::SameLeaf),
+            123 => Some(Rule::CacheShape),
+            124 => Some(Rule::SameCacheId),
+            125 => Some(Rule::NoLeaf),
+            126 => Some(Rule::LeafNowhere),
+            127 => Some(Rule::MadtUnread),
+            128 => Some(Rule::SratUnread),
+            _ => None,
+        }
+    }
+
     /// The rule's number, from 101 to 128.
     pub fn number(self) -> u8
         ensures { result ≡ rule_number self }

@@ -1,10 +1,11 @@
 -- The laws of the first faults of all codes.
-use Rattle.std.specs.Prelude.{◌≡◌, ◌↔◌}
+use Rattle.std.specs.Prelude.{◌≡◌, ◌↔◌, List, [], Contains}
 use Rattle.acpi_base.specs.Memory.{Memory}
 use Rattle.acpi_base.specs.Policy.{PolicyValue}
 use Rattle.acpi_base.specs.Statements.{IsClean}
 use Rattle.acpi_base.specs.Faults.{Fault, IsFirstFault}
 use Rattle.acpi_base.specs.Lint.Advice.{IsFirstAdvice}
+use Rattle.acpi_base.specs.Lint.Findings.{AreFirstFaults}
 use Rattle.acpi_base.specs.Lint.FirstOfCode.{IsFirstOfCode}
 use Rattle.acpi_base.specs.declared.rule.Advice.{Advice}
 use Rattle.acpi_base.specs.declared.witness.Witness.{Witness}
@@ -30,3 +31,18 @@ OneFirstOfCode =
 abbrev pub OneFirstAdvice : Type 0
 OneFirstAdvice =
     (m : Memory) (q : PolicyValue) (a b : Advice) → a.rule ≡ b.rule → IsFirstAdvice m q a → IsFirstAdvice m q b → a ≡ b
+
+-- no fault is reported exactly where all stages hold
+abbrev pub NoneReportedOfClean : Type 0
+NoneReportedOfClean =
+    (m : Memory) (q : PolicyValue) (faults : List Witness) → AreFirstFaults m q faults → (faults ≡ []) ↔ IsClean m q
+
+-- the first fault of an image is reported
+abbrev pub FirstIsReported : Type 0
+FirstIsReported =
+    (m : Memory) (q : PolicyValue) (faults : List Witness) (w : Witness) → AreFirstFaults m q faults → IsFirstFault m q w → Contains faults w
+
+-- and all that are reported are faults
+abbrev pub ReportedAreFaults : Type 0
+ReportedAreFaults =
+    (m : Memory) (q : PolicyValue) (faults : List Witness) (w : Witness) → AreFirstFaults m q faults → Contains faults w → Fault m q w
