@@ -1,11 +1,13 @@
 mod CollectedNumbers
 mod FirstEntries
+mod FirstOfCodes
 mod LeafNumbers
 mod LeastPlaces
 mod MadtFaults
 mod OfSets
 mod OneCodes
 mod Picked
+mod RisingLists
 mod SameNumbers
 mod SameRules
 mod Shorts

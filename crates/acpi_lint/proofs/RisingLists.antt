@@ -1,0 +1,73 @@
+-- Lists in which keys rise, made by adding what has the next key.
+use Rattle.std.proofs.Common.{◌≡◌, ◌≢◌, ℕ, suc, ◌+◌, ◌<◌, ◌≤◌, List, [], ◌∷◌, ◌++◌, length, get_or, ap, sym, ◌∙◌, inl, inr, arith, refl}
+use Rattle.std.specs.Prelude.{◌⊎◌, ◌↔◌, AllPairs, Contains}
+use Rattle.std.proofs.Math.ListN.{get_or-append}
+use Rattle.std.proofs.Math.Seq.{get_or-append_seam}
+use Rattle.std.proofs.lemmas.Bool.{cases_lt, cases_eq}
+use Rattle.std.proofs.lemmas.List.{length-append}
+use Rattle.std.proofs.lemmas.List.Elements.{Contains-append_left, Contains-append_right, Contains-append_cases, Contains-get_or}
+use Rattle.acpi_base.proofs.Elements.{first_element, first_or_later, no_element}
+
+-- these are all with P whose keys are below n, and their keys rise
+pub record IsUpTo {X : Type 0} (P : X → Type 0) (key : X → ℕ) (n : ℕ) (xs : List X) : Type 0 where
+  pub listed : (x : X) → Contains xs x → P x × (key x < n)
+  pub all : (x : X) → P x → key x < n → Contains xs x
+  pub rise : AllPairs (λ x y. key x < key y) xs
+
+-- none is below a number that is below all keys
+pub none_below : {X : Type 0} (P : X → Type 0) (key : X → ℕ) (n : ℕ) → ((x : X) → P x → n ≤ key x)
+    → IsUpTo P key n []
+none_below P key n above =
+    record {
+      listed = λ x here. absurd (no_element x here);
+      all = λ x holds below. absurd (omega (arith, above x holds, below));
+      rise = λ i j d before within. absurd (omega (arith, within));
+    }
+
+-- where none has the next key the list stays
+pub none_next : {X : Type 0} {P : X → Type 0} {key : X → ℕ} {n : ℕ} {xs : List X} → IsUpTo P key n xs
+    → ((x : X) → P x → key x ≢ n) → IsUpTo P key (suc n) xs
+none_next {key = key} {n = n} before none =
+    record {
+      listed = λ x here. (let (holds, below) = before.listed x here in (holds, omega arith));
+      all = λ x holds below. before.all x holds
+          (elim (cases_eq (key x) n) [ inl same ↦ absurd (none x holds same) | inr differs ↦ omega (arith, differs, below) ]);
+      rise = before.rise;
+    }
+
+-- keys rise where one more comes last that has the greatest
+rise_more : {X : Type 0} (key : X → ℕ) (xs : List X) (y : X) → AllPairs (λ x z. key x < key z) xs
+    → ((x : X) → Contains xs x → key x < key y) → AllPairs (λ x z. key x < key z) (xs ++ y ∷ [])
+rise_more {X} key xs y rise below i j d before within =
+    let inside : i < length xs = omega (arith, before, within, length-append xs (y ∷ [])) in
+    let first : get_or (xs ++ y ∷ []) i d ≡ get_or xs i d = get_or-append xs (y ∷ []) d i inside in
+    elim (cases_lt j (length xs)) [
+      | inl early ↦
+          rw (first, get_or-append xs (y ∷ []) d j early) (rise i j d before early)
+      | inr late ↦
+          let last : j ≡ length xs = omega (arith, late, within, length-append xs (y ∷ [])) in
+          rw (first, last, get_or-append_seam xs y [] d) (below (get_or xs i d) (Contains-get_or xs i d inside))
+    ]
+
+-- what has the next key comes last
+pub one_next : {X : Type 0} {P : X → Type 0} {key : X → ℕ} {n : ℕ} {xs : List X} (y : X) → IsUpTo P key n xs → P y
+    → key y ≡ n → ((x : X) → P x → key x ≡ n → x ≡ y) → IsUpTo P key (suc n) (xs ++ y ∷ [])
+one_next {X} {P} {key} {n} {xs} y before holds next one =
+    record {
+      listed = λ x here. elim (Contains-append_cases xs (y ∷ []) x here) [
+        | inl early ↦ (let (holds, below) = before.listed x early in (holds, omega arith))
+        | inr late ↦ last x late
+      ];
+      all = λ x also below. elim (cases_eq (key x) n) [
+        | inl same ↦ rw (one x also same) (Contains-append_right xs (y ∷ []) y (first_element y []))
+        | inr differs ↦ Contains-append_left xs (y ∷ []) x (before.all x also (omega (arith, differs, below)))
+      ];
+      rise = rise_more key xs y before.rise (λ x here. omega (arith, (before.listed x here).1, next));
+    }
+  where
+    last : (x : X) → Contains (y ∷ []) x → P x × (key x < suc n)
+    last x late =
+        elim (first_or_later y x [] late) [
+          | inl same ↦ rw (← same) (holds, omega (arith, next))
+          | inr none ↦ absurd (no_element x none)
+        ]
