@@ -4,14 +4,23 @@
 //! nowhere ends its chain.
 #![tactic(auto)]
 
+mod caches;
+mod facs;
+mod fadt;
+mod fadt_advice;
 mod leaves;
 mod madt;
 mod numbered;
 mod one_code;
 mod passes;
 mod place;
+mod pptt;
 mod processors;
+mod root;
+mod rsdp;
 mod same;
+mod slit;
+mod slots;
 mod srat;
 mod verdicts;
 mod whole_tables;

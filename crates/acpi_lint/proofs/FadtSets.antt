@@ -1,0 +1,73 @@
+-- Faults of the FADT of a set.
+use Rattle.std.proofs.Common.{◌≢◌, ℕ, List, Option, Some, None, refl, inl, inr}
+use Rattle.std.specs.Prelude.{◌↔◌, IsTrue, IsNone, IfSome, Bool}
+use Rattle.acpi_base.specs.Listed.{fadt_signature, IsNoneListed, IsFirstListed, IsFirstTable, ListsNone, IsListedTable, HasListed}
+use Rattle.acpi_base.specs.Memory.{Memory}
+use Rattle.acpi_base.specs.Policy.{PolicyValue}
+use Rattle.acpi_base.specs.declared.code.Code.{Code}
+use Rattle.acpi_base.specs.declared.code.Code.TheVariants as code
+use Rattle.acpi_base.specs.declared.stage.Stage.TheVariants as stage
+use Rattle.acpi_base.proofs.Tables.Listed.{none_and_first_listed, listed_of_root, none_in_root}
+use Rattle.acpi_read.specs.Roots.{RootValue, IsWholeRoot}
+use Rattle.acpi_lint.specs.FadtPlaces.{IsFadtFault}
+use Rattle.acpi_lint.specs.Places.{FindsLeast}
+use Rattle.acpi_lint.specs.StageFaults.{IsFaultOfStage}
+use Rattle.acpi_lint.specs.declared.place.Place.{Place}
+use Rattle.acpi_lint.proofs.LeastPlaces.{least_as}
+use Rattle.acpi_lint.proofs.OfSets.{of_table, of_no_table}
+
+-- ---- a set that lists none
+
+-- the first header in the slots of a set's root is the first of the set
+first_in_root : {m : Memory} {p a : ℕ} {root : RootValue} {signature : List ℕ} → IsWholeRoot m p root
+    → IsFirstListed m root.bytes root.width signature a → IsFirstTable m p signature a
+first_in_root {root = root} is first =
+    record { r = root.address; d = root.width; whole = root.bytes; root = is.named; table = is.table; first = first }
+
+-- a set lists none with a signature exactly where none is first in its root
+pub lists_none : {m : Memory} {p : ℕ} {root : RootValue} {signature : List ℕ} (found : Option ℕ) (b : Bool)
+    → (IsTrue b ↔ IsNone found) → IsWholeRoot m p root → IfSome found (IsFirstListed m root.bytes root.width signature)
+    → (IsNone found → IsNoneListed m root.bytes root.width signature) → IsTrue b ↔ ListsNone m p signature
+lists_none None b test is first none = (
+  λ true. none_in_root is.named is.table (none refl),
+  λ lists. test.1 refl,
+)
+lists_none (Some a) b test is first none = (
+  λ true. (let no_one : IsNone (Some a) = test.0 true in absurd cc),
+  λ lists. absurd (none_and_first_listed lists.none (listed_of_root lists.root lists.table (first_in_root is first))),
+)
+
+-- a set with no whole root does not list none
+pub no_root_lists : {m : Memory} {p : ℕ} {signature : List ℕ} → ((root : RootValue) → ¬ IsWholeRoot m p root)
+    → ¬ ListsNone m p signature
+no_root_lists none lists =
+    none (record { address = lists.r; width = lists.d; bytes = lists.root_bytes })
+    (record { named = lists.root; table = lists.table })
+
+-- ---- a set that lists one
+
+-- faults of the stage are those of the table, where it is not that none is listed
+faults_as : (m : Memory) (q : PolicyValue) (fault : Code) (found : Option Place) → fault ≢ code.NoFadt
+    → FindsLeast (λ at other point. HasListed m q.rsdp fadt_signature (λ bytes. IsFadtFault bytes fault at other point))
+    found
+    → FindsLeast (IsFaultOfStage stage.Fadt fault m q) found
+faults_as m q fault found differs first =
+    least_as found
+    (λ at other point (whole, listed, (wrong, unused)). (inr (whole, listed, wrong), unused.0, unused.1))
+    (λ at other point (holds, second, third).
+    elim holds [
+      | inl none ↦ absurd (differs none.1)
+      | inr (whole, listed, wrong) ↦ (whole, listed, (wrong, (second, third)))
+    ]) first
+
+pub fault_in_fadt : {m : Memory} {whole : List ℕ} (q : PolicyValue) (fault : Code) (found : Option Place)
+    → fault ≢ code.NoFadt → IsListedTable m q.rsdp fadt_signature whole → FindsLeast (IsFadtFault whole fault) found
+    → FindsLeast (IsFaultOfStage stage.Fadt fault m q) found
+fault_in_fadt {m} q fault found differs listed first =
+    faults_as m q fault found differs (of_table (λ bytes. IsFadtFault bytes fault) found listed first)
+
+pub no_fault_without_fadt : {m : Memory} (q : PolicyValue) (fault : Code) → fault ≢ code.NoFadt
+    → ((whole : List ℕ) → ¬ IsListedTable m q.rsdp fadt_signature whole)
+    → FindsLeast (IsFaultOfStage stage.Fadt fault m q) None
+no_fault_without_fadt {m} q fault differs none =
+    faults_as m q fault None differs (of_no_table (λ bytes. IsFadtFault bytes fault) none)

@@ -1,0 +1,66 @@
+//! Codes 26 to 31: the FACS that the FADT names (ACPI 6.5, 5.2.10).
+
+ghost use Rattle.std.specs.Prelude.{◌≡◌, ◌≢◌, ◌↔◌, IsTrue};
+ghost use Rattle.acpi_base.specs.Fadt.{facs_address};
+ghost use Rattle.acpi_base.specs.Facs.{NamedFacsFault};
+ghost use Rattle.acpi_base.specs.Policy.{PolicyValue};
+ghost use Rattle.acpi_base.specs.declared.stage.Stage.{Stage};
+ghost use Rattle.acpi_lint.specs.FacsPlaces.{IsFacsFault, IsFacsFaultOf};
+ghost use Rattle.acpi_lint.specs.Places.{FindsLeast};
+ghost use Rattle.acpi_lint.specs.StageFaults.{IsFaultOfStage};
+ghost use Rattle.acpi_lint.specs.WholeTables.{AreWholeTables};
+
+use crate::place::Place;
+use crate::whole_tables::WholeTables;
+use acpi_base::field::{is_signed, u32_at};
+use acpi_base::{Code, Image, TableKind};
+use acpi_read::{Fadt, Table};
+
+/// Whether the FACS at the address that a FADT names, which is not 0, has the fault with this code. All are looked for, also
+/// where earlier bytes are wrong.
+fn has_fault(image: &Image, fadt: &Fadt<'_>, address: u64, code: Code) -> bool
+    requires named { address ≡ facs_address fadt.now }
+    requires some { address ≢ 0 }
+    ensures { IsTrue result ↔ NamedFacsFault image.now fadt.now code address }
+{
+    let Some(prefix) = image.window(address, 8) else {
+        return code == Code::FacsHeaderOut || (code == Code::FacsAlign && address % 64 != 0);
+    };
+    let length = u32_at(prefix, 4);
+    match code {
+        Code::FacsAlign => address % 64 != 0,
+        Code::FacsSignature => !is_signed(prefix, b"FACS"),
+        Code::FacsLength => length < 64,
+        Code::FacsOut => length >= 64 && image.window(address, u64::from(length)).is_none(),
+        _ => false,
+    }
+}
+
+/// The fault with this code of the FACS that a FADT names, at its address, or at 0 where none is named.
+fn named_fault(image: &Image, fadt: &Fadt<'_>, code: Code) -> Option<Place>
+    ensures { FindsLeast (IsFacsFault image.now fadt.now code) result }
+{
+    let address = fadt.facs_address();
+    let is_wrong = if address == 0 {
+        code == Code::NoFacs && !fadt.reduced()
+    } else {
+        has_fault(image, fadt, address, code)
+    };
+    is_wrong.then_some(Place::at(address))
+}
+
+/// The same of the table of a FADT: one of fewer than 116 bytes gives none.
+fn table_fault(image: &Image, table: Table<'_>, code: Code) -> Option<Place>
+    ensures { FindsLeast (IsFacsFaultOf image.now table.entry code) result }
+{
+    named_fault(image, &Fadt::new(table).ok()?, code)
+}
+
+/// The fault with this code of the FACS that the set's FADT names: its address, or 0 where none is named. The tables are those
+/// of the image's set.
+pub fn facs_fault(image: &Image, tables: &WholeTables<'_>, code: Code) -> Option<Place>
+    ensures { (q : PolicyValue) → AreWholeTables image.now q.rsdp tables.now
+        → FindsLeast (IsFaultOfStage Stage.Facs code image.now q) result }
+{
+    table_fault(image, tables.table(TableKind::Fadt)?, code)
+}

@@ -1,0 +1,103 @@
+//! Advice on a FADT of at least 116 bytes (ACPI 6.5, 5.2.9): fields that say two things, and fields that are missing.
+
+ghost use Rattle.std.specs.Prelude.{◌≡◌, ◌≤◌, ◌<◌, ◌+◌, ◌*◌, ◌↔◌, IsTrue, length};
+ghost use Rattle.acpi_base.specs.Lint.FadtAdvice.{fields_length, IsFadtOfRevision, IsFacsDiffers, IsDsdtDiffers, IsBlockDiffers};
+ghost use Rattle.acpi_lint.specs.FadtPlaces.{AreTwoFields, IsBlock};
+ghost use Rattle.acpi_lint.specs.Places.{FindsLeast};
+
+use crate::place::Place;
+use acpi_base::field::{u8_at, u32_at, u64_at};
+use acpi_read::Fadt;
+
+/// How many bytes a FADT of this Revision has at least, those of all its fields; 0 below Revision 3.
+fn fields_length(revision: u8) -> u64
+    ensures { result ≡ fields_length revision }
+{
+    match revision {
+        0..=2 => 0,
+        3 | 4 => 244,
+        5 => 268,
+        _ => 276,
+    }
+}
+
+/// The FADT's Length, at 4, where it is shorter than its Revision has fields; and that length.
+pub fn fadt_of_revision(fadt: &Fadt<'_>) -> Option<Place>
+    ensures { FindsLeast (IsFadtOfRevision fadt.now) result }
+{
+    let bytes = fadt.bytes();
+    let length = bytes.len() as u64;
+    let least = fields_length(u8_at(bytes, 8));
+    if length >= least {
+        return None;
+    }
+    Some(Place {
+        at: 4,
+        other: length,
+        point: least,
+    })
+}
+
+/// The field of 4 bytes at `narrow` and that of 8 bytes at `wide`, where both are there and not 0, and differ. Offsets lie in the
+/// 276 bytes of all fields.
+fn two_fields(bytes: &[u8], narrow: usize, wide: usize) -> Option<Place>
+    requires narrow { narrow + 4 ≤ length bytes.now }
+    requires wide { wide < 276 }
+    ensures { FindsLeast (AreTwoFields bytes.now narrow wide) result }
+{
+    if wide + 8 > bytes.len() {
+        return None;
+    }
+    let other = u64::from(u32_at(bytes, narrow));
+    let point = u64_at(bytes, wide);
+    if other == 0 || point == 0 || other == point {
+        return None;
+    }
+    Some(Place {
+        at: narrow as u64,
+        other,
+        point,
+    })
+}
+
+/// FIRMWARE_CTRL, at 36, and X_FIRMWARE_CTRL, where they name two addresses.
+pub fn facs_differs(fadt: &Fadt<'_>) -> Option<Place>
+    ensures { FindsLeast (IsFacsDiffers fadt.now) result }
+{
+    two_fields(fadt.bytes(), 36, 132)
+}
+
+/// DSDT, at 40, and X_DSDT, where they name two addresses.
+pub fn dsdt_differs(fadt: &Fadt<'_>) -> Option<Place>
+    ensures { FindsLeast (IsDsdtDiffers fadt.now) result }
+{
+    two_fields(fadt.bytes(), 40, 140)
+}
+
+/// The addresses of register block k, where the X_ structure is of system I/O and names another than the field of 4 bytes.
+fn block_at(bytes: &[u8], k: usize) -> Option<Place>
+    requires long { 116 ≤ length bytes.now }
+    requires block { k < 8 }
+    ensures { FindsLeast (IsBlock bytes.now k) result }
+{
+    let structure = 148 + 12 * k;
+    if structure + 12 > bytes.len() || u8_at(bytes, structure) != 1 {
+        return None;
+    }
+    two_fields(bytes, 56 + 4 * k, structure + 4)
+}
+
+/// The first register block with two addresses, where the hardware is not reduced.
+pub fn block_differs(fadt: &Fadt<'_>) -> Option<Place>
+    ensures { FindsLeast (IsBlockDiffers fadt.now) result }
+{
+    if fadt.reduced() {
+        return None;
+    }
+    for k in 0..8 {
+        if let Some(place) = block_at(fadt.bytes(), k) {
+            return Some(place);
+        }
+    }
+    None
+}

@@ -1,0 +1,139 @@
+//! Codes 46 to 49, and advice on the SLIT (ACPI 6.5, 5.2.17). Its cells are asked where it has its size.
+
+ghost use Rattle.std.specs.Prelude.{◌≡◌, ◌<◌, ◌↔◌, IsTrue, MatchOption};
+ghost use Rattle.acpi_base.specs.Memory.{Memory};
+ghost use Rattle.acpi_base.specs.Slit.{slit_contents, HasSlitSize, SlitFault};
+ghost use Rattle.acpi_base.specs.Lint.SlitAdvice.{IsSlitDiffers};
+ghost use Rattle.acpi_base.specs.declared.code.Code.{Code};
+ghost use Rattle.acpi_base.specs.declared.stage.Stage.{Stage};
+ghost use Rattle.acpi_read.specs.Slits.{HasRows};
+ghost use Rattle.acpi_lint.specs.Places.{FindsLeast};
+ghost use Rattle.acpi_lint.specs.SlitPlaces.{IsRowDiffers, IsSizedDiffers};
+ghost use Rattle.acpi_lint.specs.StageFaults.{IsFaultOfStage};
+ghost use Rattle.acpi_lint.specs.WholeTables.{AreWholeTables};
+
+use crate::passes::short_place;
+use crate::place::Place;
+use crate::whole_tables::WholeTables;
+use acpi_base::field::u64_at;
+use acpi_base::{Code, Policy, TableKind};
+use acpi_read::{Slit, Table};
+
+/// How many rows of as many cells a table has, where behind its first 44 bytes it has these and nothing else.
+fn rows(bytes: &[u8]) -> Option<usize>
+    ensures { MatchOption result (¬ HasSlitSize (slit_contents bytes.now)) (HasRows bytes.now) }
+{
+    if bytes.len() < Slit::CELLS {
+        return None;
+    }
+    let count = u64_at(bytes, Slit::COUNT);
+    if Slit::CELLS as u128 + u128::from(count) * u128::from(count) != bytes.len() as u128 {
+        return None;
+    }
+    Some(count as usize)
+}
+
+/// The place of the size, where it is not that of the rows.
+fn size_place(bytes: &[u8]) -> Option<Place>
+    ensures { FindsLeast (SlitFault (slit_contents bytes.now) Code.SlitSize) result }
+{
+    if bytes.len() < Slit::CELLS {
+        return None;
+    }
+    match rows(bytes) {
+        Some(_) => None,
+        None => Some(Place::at(Slit::COUNT as u64)),
+    }
+}
+
+/// The place of the first cell on the diagonal that is not 10.
+fn diagonal_place(bytes: &[u8], count: usize) -> Option<Place>
+    requires { HasRows bytes.now count }
+    ensures { FindsLeast (SlitFault (slit_contents bytes.now) Code.SlitDiagonal) result }
+{
+    for i in 0..count {
+        let at = Slit::CELLS + count * i + i;
+        if bytes[at] != 10 {
+            return Some(Place::at(at as u64));
+        }
+    }
+    None
+}
+
+/// The place of the first cell that is below 10.
+fn low_place(bytes: &[u8], count: usize) -> Option<Place>
+    requires { HasRows bytes.now count }
+    ensures { FindsLeast (SlitFault (slit_contents bytes.now) Code.SlitLow) result }
+{
+    for at in Slit::CELLS..bytes.len() {
+        if bytes[at] < 10 {
+            return Some(Place::at(at as u64));
+        }
+    }
+    None
+}
+
+/// The place of the first fault with this code of a SLIT's bytes. None for a code of another stage.
+fn table_fault(code: Code, table: Table<'_>) -> Option<Place>
+    ensures { FindsLeast (SlitFault (slit_contents table.entry) code) result }
+{
+    let bytes = table.bytes();
+    match code {
+        Code::SlitShort => short_place(&table, Slit::CELLS),
+        Code::SlitSize => size_place(bytes),
+        Code::SlitDiagonal => diagonal_place(bytes, rows(bytes)?),
+        Code::SlitLow => low_place(bytes, rows(bytes)?),
+        _ => None,
+    }
+}
+
+/// The place of the first fault with this code of a set's SLIT. None for a code of another stage, and where the set lists no
+/// SLIT that is whole.
+pub fn slit_fault(tables: &WholeTables<'_>, policy: &Policy, code: Code) -> Option<Place>
+    ensures { (m : Memory) → AreWholeTables m policy.now.rsdp tables.now
+        → FindsLeast (IsFaultOfStage Stage.Slit code m policy.now) result }
+{
+    table_fault(code, tables.table(TableKind::Slit)?)
+}
+
+/// The places of the first two cells, from locality i to a later one and back, that differ.
+fn row_differs(bytes: &[u8], count: usize, i: usize) -> Option<Place>
+    requires rows { HasRows bytes.now count }
+    requires row { i < count }
+    ensures { FindsLeast (IsRowDiffers (slit_contents bytes.now) i) result }
+{
+    for j in i + 1..count {
+        let there = Slit::CELLS + count * i + j;
+        let back = Slit::CELLS + count * j + i;
+        if bytes[there] != bytes[back] {
+            return Some(Place {
+                at: there as u64,
+                other: back as u64,
+                point: 0,
+            });
+        }
+    }
+    None
+}
+
+/// The same of all localities.
+fn rows_differ(bytes: &[u8], count: usize) -> Option<Place>
+    requires { HasRows bytes.now count }
+    ensures { FindsLeast (IsSlitDiffers (slit_contents bytes.now)) result }
+{
+    for i in 0..count {
+        if let Some(place) = row_differs(bytes, count, i) {
+            return Some(place);
+        }
+    }
+    None
+}
+
+/// The place of the first distance of a SLIT that differs from that of the way back: of its cell, and of the other's. None where
+/// the SLIT does not have its size.
+pub fn slit_differs(table: Table<'_>) -> Option<Place>
+    ensures { FindsLeast (IsSizedDiffers (slit_contents table.entry)) result }
+{
+    let bytes = table.bytes();
+    rows_differ(bytes, rows(bytes)?)
+}
