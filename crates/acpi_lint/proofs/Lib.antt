@@ -8,12 +8,14 @@ mod FirstSlots
 mod LeafNumbers
 mod LeastPlaces
 mod MadtFaults
+mod NamedPlaces
 mod OfSets
 mod OneCodes
 mod OnePlace
 mod Picked
 mod PowersOfTwo
 mod PpttFaults
+mod ReportedFaults
 mod RisingLists
 mod RootPlaces
 mod SameNumbers

@@ -1,5 +1,5 @@
 -- Lists in which keys rise, made by adding what has the next key.
-use Rattle.std.proofs.Common.{◌≡◌, ◌≢◌, ℕ, suc, ◌+◌, ◌<◌, ◌≤◌, List, [], ◌∷◌, ◌++◌, length, get_or, ap, sym, ◌∙◌, inl, inr, arith, refl}
+use Rattle.std.proofs.Common.{◌≡◌, ◌≢◌, ℕ, ◌+◌, ◌<◌, ◌≤◌, List, [], ◌∷◌, ◌++◌, length, get_or, ap, sym, ◌∙◌, inl, inr, arith, refl}
 use Rattle.std.specs.Prelude.{◌⊎◌, ◌↔◌, AllPairs, Contains}
 use Rattle.std.proofs.Math.ListN.{get_or-append}
 use Rattle.std.proofs.Math.Seq.{get_or-append_seam}
@@ -26,7 +26,7 @@ none_below P key n above =
 
 -- where none has the next key the list stays
 pub none_next : {X : Type 0} {P : X → Type 0} {key : X → ℕ} {n : ℕ} {xs : List X} → IsUpTo P key n xs
-    → ((x : X) → P x → key x ≢ n) → IsUpTo P key (suc n) xs
+    → ((x : X) → P x → key x ≢ n) → IsUpTo P key (n + 1) xs
 none_next {key = key} {n = n} before none =
     record {
       listed = λ x here. (let (holds, below) = before.listed x here in (holds, omega arith));
@@ -51,7 +51,7 @@ rise_more {X} key xs y rise below i j d before within =
 
 -- what has the next key comes last
 pub one_next : {X : Type 0} {P : X → Type 0} {key : X → ℕ} {n : ℕ} {xs : List X} (y : X) → IsUpTo P key n xs → P y
-    → key y ≡ n → ((x : X) → P x → key x ≡ n → x ≡ y) → IsUpTo P key (suc n) (xs ++ y ∷ [])
+    → key y ≡ n → ((x : X) → P x → key x ≡ n → x ≡ y) → IsUpTo P key (n + 1) (xs ++ y ∷ [])
 one_next {X} {P} {key} {n} {xs} y before holds next one =
     record {
       listed = λ x here. elim (Contains-append_cases xs (y ∷ []) x here) [
@@ -65,7 +65,7 @@ one_next {X} {P} {key} {n} {xs} y before holds next one =
       rise = rise_more key xs y before.rise (λ x here. omega (arith, (before.listed x here).1, next));
     }
   where
-    last : (x : X) → Contains (y ∷ []) x → P x × (key x < suc n)
+    last : (x : X) → Contains (y ∷ []) x → P x × (key x < n + 1)
     last x late =
         elim (first_or_later y x [] late) [
           | inl same ↦ rw (← same) (holds, omega (arith, next))

@@ -182,7 +182,8 @@ no_low whole n o rows all high = λ at other point ((_, (a, b, cell, less)), non
     let here = placed whole n a b at rows cell in
     omega (
       arith,
-      high at (omega (arith, here.place)) (omega (arith, here.place, rows.size, row_before n a b n 0 here.column here.row)),
+      high at (omega (arith, here.place))
+          (omega (arith, here.place, rows.size, row_before n a b n 0 here.column here.row)),
       low_at whole n a b at rows cell less,
     )
 

@@ -8,6 +8,7 @@ pub mod Numbered
 pub mod Places
 pub mod PpttPlaces
 pub mod ProcessorValues
+pub mod References
 pub mod SameNumbers
 pub mod SlitPlaces
 pub mod Slots

@@ -1,9 +1,10 @@
 -- Where an image is at fault with a code.
-use Rattle.std.specs.Prelude.{ℕ, Option, option_map}
+use Rattle.std.specs.Prelude.{◌≡◌, ℕ, Option, Some, None, option_map}
+use Rattle.acpi_base.specs.Codes.{code_number}
 use Rattle.acpi_base.specs.Memory.{Memory}
 use Rattle.acpi_base.specs.Policy.{PolicyValue}
 use Rattle.acpi_base.specs.Faults.{FaultCondition}
-use Rattle.acpi_base.specs.Lint.FirstOfCode.{FindsFirstOfCode}
+use Rattle.acpi_base.specs.Lint.FirstOfCode.{IsFirstOfCode, FindsFirstOfCode}
 use Rattle.acpi_base.specs.declared.code.Code.{Code}
 use Rattle.acpi_base.specs.declared.stage.Stage.{Stage}
 use Rattle.acpi_base.specs.declared.witness.Witness.{Witness}
@@ -21,3 +22,8 @@ fault_at fault p = record { code = fault; at = p.at; other = p.other; point = p.
 -- the image has no fault with the code, or the first one is at this place
 abbrev pub FindsFirstAt : Code → Memory → PolicyValue → Option Place → Type 0
 FindsFirstAt fault m q found = FindsFirstOfCode fault m q (option_map (fault_at fault) found)
+
+-- the image has no fault with the code of this number, or this is the first one
+abbrev pub FindsFirstOfNumber : ℕ → Memory → PolicyValue → Option Witness → Type 0
+FindsFirstOfNumber number m q None = (w : Witness) → code_number w.code ≡ number → ¬ IsFirstOfCode m q w
+FindsFirstOfNumber number m q (Some w) = (code_number w.code ≡ number) × IsFirstOfCode m q w

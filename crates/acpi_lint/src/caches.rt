@@ -56,7 +56,8 @@ fn odd_place(at: &EntryAt<PpttEntry<'_>>) -> Option<Place>
     is_odd_cache(&at.entry).then_some(Place::at(at.offset))
 }
 
-/// The place of the first cache of a PPTT whose Number of Sets is valid and 0, or whose Line Size is valid and no power of two.
+/// The place of the first cache of a PPTT whose Number of Sets is valid and 0, or whose Line Size is valid and no power
+/// of two.
 pub fn cache_shape(pptt: &Pptt<'_>) -> Option<Place>
     ensures { FindsLeast (IsCacheShape (pptt_contents pptt.now)) result }
 {

@@ -30,7 +30,7 @@ fn has_other_length(entry: &PpttEntry<'_>) -> bool
     }
 }
 
-/// The place of such an entry.
+/// The place of an entry of such a length.
 fn other_length_place(at: &EntryAt<PpttEntry<'_>>) -> Option<Place>
     requires { IsWholeEntry at.now.entry }
     ensures { FindsOwn IsOtherLength (entry_at_value pptt_value at.now) result }
@@ -38,7 +38,7 @@ fn other_length_place(at: &EntryAt<PpttEntry<'_>>) -> Option<Place>
     has_other_length(&at.entry).then_some(Place::at(at.offset))
 }
 
-/// The place of the first such entry of a PPTT.
+/// The place of the first of them in a PPTT.
 fn first_other_length(pptt: &Pptt<'_>) -> Option<Place>
     ensures { FindsLeast (PpttFault (pptt_contents pptt.now) Code.PpttEntryLength) result }
 {
@@ -64,8 +64,8 @@ fn table_fault(code: Code, table: Table<'_>) -> Option<Place>
     }
 }
 
-/// The place of the first fault with this code of a set's PPTT. None for a code of another stage, and where the set lists no
-/// PPTT that is whole.
+/// The place of the first fault with this code of a set's PPTT. None for a code of another stage, and where the set
+/// lists no PPTT that is whole.
 pub fn pptt_fault(tables: &WholeTables<'_>, policy: &Policy, code: Code) -> Option<Place>
     ensures { (m : Memory) → AreWholeTables m policy.now.rsdp tables.now
         → FindsLeast (IsFaultOfStage Stage.Pptt code m policy.now) result }

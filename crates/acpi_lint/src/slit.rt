@@ -1,6 +1,6 @@
 //! Codes 46 to 49, and advice on the SLIT (ACPI 6.5, 5.2.17). Its cells are asked where it has its size.
 
-ghost use Rattle.std.specs.Prelude.{◌≡◌, ◌<◌, ◌↔◌, IsTrue, MatchOption};
+ghost use Rattle.std.specs.Prelude.{◌<◌, MatchOption};
 ghost use Rattle.acpi_base.specs.Memory.{Memory};
 ghost use Rattle.acpi_base.specs.Slit.{slit_contents, HasSlitSize, SlitFault};
 ghost use Rattle.acpi_base.specs.Lint.SlitAdvice.{IsSlitDiffers};
@@ -19,7 +19,7 @@ use acpi_base::field::u64_at;
 use acpi_base::{Code, Policy, TableKind};
 use acpi_read::{Slit, Table};
 
-/// How many rows of as many cells a table has, where behind its first 44 bytes it has these and nothing else.
+/// How many rows of as many cells a table has, where it has these behind its first 44 bytes, and nothing else.
 fn rows(bytes: &[u8]) -> Option<usize>
     ensures { MatchOption result (¬ HasSlitSize (slit_contents bytes.now)) (HasRows bytes.now) }
 {
@@ -87,8 +87,8 @@ fn table_fault(code: Code, table: Table<'_>) -> Option<Place>
     }
 }
 
-/// The place of the first fault with this code of a set's SLIT. None for a code of another stage, and where the set lists no
-/// SLIT that is whole.
+/// The place of the first fault with this code of a set's SLIT. None for a code of another stage, and where the set
+/// lists no SLIT that is whole.
 pub fn slit_fault(tables: &WholeTables<'_>, policy: &Policy, code: Code) -> Option<Place>
     ensures { (m : Memory) → AreWholeTables m policy.now.rsdp tables.now
         → FindsLeast (IsFaultOfStage Stage.Slit code m policy.now) result }
@@ -96,7 +96,7 @@ pub fn slit_fault(tables: &WholeTables<'_>, policy: &Policy, code: Code) -> Opti
     table_fault(code, tables.table(TableKind::Slit)?)
 }
 
-/// The places of the first two cells, from locality i to a later one and back, that differ.
+/// The place of the first distance from locality i to a later one that differs from that of the way back.
 fn row_differs(bytes: &[u8], count: usize, i: usize) -> Option<Place>
     requires rows { HasRows bytes.now count }
     requires row { i < count }
@@ -116,7 +116,7 @@ fn row_differs(bytes: &[u8], count: usize, i: usize) -> Option<Place>
     None
 }
 
-/// The same of all localities.
+/// The place of the first such distance of all localities.
 fn rows_differ(bytes: &[u8], count: usize) -> Option<Place>
     requires { HasRows bytes.now count }
     ensures { FindsLeast (IsSlitDiffers (slit_contents bytes.now)) result }
@@ -129,8 +129,8 @@ fn rows_differ(bytes: &[u8], count: usize) -> Option<Place>
     None
 }
 
-/// The place of the first distance of a SLIT that differs from that of the way back: of its cell, and of the other's. None where
-/// the SLIT does not have its size.
+/// The place of the first distance of a SLIT that differs from that of the way back: of its cell, and of the other's.
+/// None where the SLIT does not have its size.
 pub fn slit_differs(table: Table<'_>) -> Option<Place>
     ensures { FindsLeast (IsSizedDiffers (slit_contents table.entry)) result }
 {

@@ -1,0 +1,169 @@
+-- What the entries of a PPTT name that is at none of some offsets, and where it dangles.
+use Rattle.std.proofs.Common.{◌≡◌, ℕ, ◌*◌, ◌<◌, ◌≤◌, Bool, true, true≢false, List, map, Option, Some, None, Result, Ok, Err, refl, sym, ◌∙◌, ap, subst, inl, inr, arith}
+use Rattle.std.specs.Prelude.{◌↔◌, ◌⊎◌, AllPairs, Contains, IfOk, is_some, not, slice_get}
+use Rattle.std.specs.List.{filter_map, range_with_len}
+use Rattle.std.proofs.lemmas.Bool.{cases_order, eqb-false, not-true, ne_eqb}
+use Rattle.std.proofs.lemmas.List.FromFn.{length-map-range_with_len, get_or-map-range_with_len}
+use Rattle.std.proofs.lemmas.Option.{cond_some, slice_get_within, slice_get-get_or, get_or_from_slice_get}
+use Rattle.acpi_base.specs.Chains.{IsAt}
+use Rattle.acpi_base.specs.Entries.{PlacedEntry, Stands, StandsWith}
+use Rattle.acpi_base.specs.Number.{field}
+use Rattle.acpi_base.specs.Pptt.{PpttEntry, Node, NodeValue, PpttContents, pptt_contents, Says, IsResourceAt, ReferenceFault}
+use Rattle.acpi_base.specs.declared.code.Code.TheVariants as code
+use Rattle.acpi_check.proofs.EntryPasses.Kept.{AreRising, kept_has, kept_from, keys_rise, pptt_rising}
+use Rattle.acpi_base.proofs.Images.HeldBytes.{cases_Option}
+use Rattle.acpi_lint.specs.FirstPicked.{FindsOwn}
+use Rattle.acpi_lint.specs.Places.{FindsLeast}
+use Rattle.acpi_lint.specs.References.{linked, offset_where, is_linked, is_resource, AreOffsets, IsDanglingLink, NamesNoLink, NamesNoResource}
+use Rattle.acpi_lint.specs.declared.place.Place.{Place}
+use Rattle.acpi_lint.specs.declared.references.Link.{Link}
+use Rattle.acpi_lint.proofs.FirstEntries.{IsFaultAt}
+use Rattle.acpi_lint.proofs.LeastPlaces.{least_as}
+
+-- ---- offsets
+
+offset_is : (test : PpttEntry → Bool) (s : PlacedEntry PpttEntry) (o : ℕ) → offset_where test s ≡ Some o
+    → (test s.entry ≡ true) × (o ≡ s.offset)
+offset_is test s o is = (let parts = cond_some (test s.entry) s.offset o is in (parts.0, sym parts.1))
+
+-- the offsets are those at which entries stand that pass the test
+stand : (test : PpttEntry → Bool) (entries : List (PlacedEntry PpttEntry)) (o : ℕ)
+    → Contains (filter_map (offset_where test) entries) o ↔ StandsWith entries o (λ e. test e ≡ true)
+stand test entries o = (
+  from,
+  λ (e, stands, is). kept_has (offset_where test) entries (record { offset = o; entry = e }) o stands (rw is refl),
+)
+  where
+    from : Contains (filter_map (offset_where test) entries) o → StandsWith entries o (λ e. test e ≡ true)
+    from listed =
+        let (s, found, gives) = kept_from (offset_where test) entries o listed in
+        let (passes, same) = offset_is test s o gives in
+        (s.entry, subst (λ (k : ℕ). Stands entries k s.entry) (sym same) found, passes)
+
+-- and rise
+rise : (test : PpttEntry → Bool) (low : ℕ) (entries : List (PlacedEntry PpttEntry)) → AreRising low entries
+    → AllPairs (λ o p. o < p) (filter_map (offset_where test) entries)
+rise test low entries rises =
+    keys_rise (offset_where test) (λ o. o) (λ s o is. (offset_is test s o is).1) low entries rises
+
+-- those of entries with a link are the places of their kind
+pub linked_there : (kind : Link) (whole offsets : List ℕ)
+    → offsets ≡ filter_map (offset_where (is_linked kind)) (pptt_contents whole).entries
+    → AreOffsets (IsAt (Says (linked kind) (pptt_contents whole))) offsets
+linked_there kind whole offsets are =
+    let said = (pptt_contents whole).entries in
+    record {
+      rise = rw are (rise (is_linked kind) 36 said (pptt_rising whole));
+      each = λ o. rw are (
+        λ listed. (let (e, stands, is) = (stand (is_linked kind) said o).0 listed in
+            elim (cases_Option (linked kind e)) [
+              | inl (p, names) ↦ (p, (e, stands, names))
+              | inr none ↦ absurd (true≢false (sym is ∙ ap is_some none))
+            ]),
+        λ (p, (e, stands, names)). (stand (is_linked kind) said o).1 (e, stands, ap is_some names),
+      );
+    }
+
+-- those of entries of another type than a node are the places of private resources
+pub resources_there : (whole offsets : List ℕ)
+    → offsets ≡ filter_map (offset_where is_resource) (pptt_contents whole).entries
+    → AreOffsets (IsResourceAt (pptt_contents whole)) offsets
+resources_there whole offsets are =
+    let said = (pptt_contents whole).entries in
+    record {
+      rise = rw are (rise is_resource 36 said (pptt_rising whole));
+      each = λ o. rw are (
+        λ listed. (let (e, stands, is) = (stand is_resource said o).0 listed in
+            (e, stands, eqb-false _ _ (not-true _ is))),
+        λ (e, stands, other). (stand is_resource said o).1 (e, stands, ap not (ne_eqb _ _ other)),
+      );
+    }
+
+-- ---- what dangles
+
+-- an entry that is linked to none of the places of its kind dangles
+pub links_dangle : (kind : Link) (c : PpttContents) (offsets : List ℕ) (found : Option Place)
+    → AreOffsets (IsAt (Says (linked kind) c)) offsets
+    → FindsLeast (IsFaultAt (NamesNoLink kind offsets) c.entries) found
+    → FindsLeast (IsDanglingLink kind c) found
+links_dangle kind c offsets found are least =
+    least_as found
+    (λ at other point (e, stands, (is, some, not, zero)).
+    (record { names = (e, stands, is); some = some; nowhere = λ there. not ((are.each other).1 there) }, zero))
+    (λ at other point (dangles, zero).
+    let (e, stands, is) = dangles.names in
+    (e, stands, (is, dangles.some, λ listed. dangles.nowhere ((are.each other).0 listed), zero)))
+    least
+
+-- and so does a private resource that is none of the places of theirs
+pub resources_dangle : (c : PpttContents) (offsets : List ℕ) (found : Option Place)
+    → AreOffsets (IsResourceAt c) offsets → FindsLeast (IsFaultAt (NamesNoResource offsets) c.entries) found
+    → FindsLeast (ReferenceFault c code.DanglingResource) found
+resources_dangle c offsets found are least =
+    least_as found
+    (λ at other point (e, stands, (is, not)). ((e, stands, is), λ there. not ((are.each point).1 there)))
+    (λ at other point ((e, stands, is), nowhere). (e, stands, (is, λ listed. nowhere ((are.each point).0 listed))))
+    least
+
+-- ---- private resources
+
+-- the numbers in the bytes of so many references
+abbrev numbers_in : List ℕ → ℕ → List ℕ
+numbers_in references count = map (λ j. field references (4 * j) 4) (range_with_len 0 count)
+
+-- resource j is the number in its place
+number_is : (references : List ℕ) (count j r : ℕ) → slice_get (numbers_in references count) j ≡ Some r
+    → (j < count) × (r ≡ field references (4 * j) 4)
+number_is references count j r is =
+    let size = length-map-range_with_len (λ i. field references (4 * i) 4) 0 count in
+    let within = slice_get_within (numbers_in references count) j r is in (
+      omega arith,
+      sym (get_or_from_slice_get (numbers_in references count) j r 0 is)
+          ∙ get_or-map-range_with_len (λ i. field references (4 * i) 4) 0 count j j 0 (omega arith) (omega arith),
+    )
+
+-- and each number in its place is a resource
+is_number : (references : List ℕ) (count j : ℕ) → j < count
+    → slice_get (numbers_in references count) j ≡ Some (field references (4 * j) 4)
+is_number references count j below =
+    let size = length-map-range_with_len (λ i. field references (4 * i) 4) 0 count in
+    slice_get-get_or (numbers_in references count) j 0 (omega arith)
+    ∙ ap Some (get_or-map-range_with_len (λ i. field references (4 * i) 4) 0 count j j 0 (omega arith) (omega arith))
+
+-- a node all of whose private resources are there
+pub none_missing : (offsets references : List ℕ) (count : ℕ) (s : PlacedEntry PpttEntry) (v : NodeValue)
+    → s.entry ≡ Node v → v.resources ≡ numbers_in references count
+    → ((j : ℕ) → j < count → Contains offsets (field references (4 * j) 4)) → FindsOwn (NamesNoResource offsets) s None
+none_missing offsets references count s v node are all = λ other point (is, not).
+    let (below, number) = number_is references count other point (rw are at (rw node at is)) in
+    not (rw number (all other below))
+
+-- and one of which the first that is not is this one
+pub first_missing : (offsets references : List ℕ) (count j : ℕ) (s : PlacedEntry PpttEntry) (v : NodeValue)
+    → s.entry ≡ Node v → v.resources ≡ numbers_in references count → j < count
+    → ¬ Contains offsets (field references (4 * j) 4)
+    → ((i : ℕ) → i < j → Contains offsets (field references (4 * i) 4))
+    → FindsOwn (NamesNoResource offsets) s
+    (Some (record { at = s.offset; other = j; point = field references (4 * j) 4 }))
+first_missing offsets references count j s v node are below missing before = (
+  refl,
+  (rw (node, are) (is_number references count j below), missing),
+  least,
+)
+  where
+    least : (other point : ℕ) → NamesNoResource offsets s.offset s.entry other point
+        → (j < other) ⊎ ((j ≡ other) × (field references (4 * j) 4 ≤ point))
+    least other point (is, not) =
+        let (inside, number) = number_is references count other point (rw are at (rw node at is)) in
+        elim (cases_order other j) [
+          | inl same ↦ inr (sym same, omega (arith, number, ap (λ i. field references (4 * i) 4) same))
+          | inr (inl less) ↦ absurd (not (rw number (before other less)))
+          | inr (inr more) ↦ inl more
+        ]
+
+-- ---- results
+
+-- what holds of one value of a result holds of another where it does
+pub of_ok : {X Y : Type 0} {P Q : X → Type 0} (r : Result X Y) → ((x : X) → P x → Q x) → IfOk r P → IfOk r Q
+of_ok (Ok x) there holds = there x holds
+of_ok (Err y) there holds = tt

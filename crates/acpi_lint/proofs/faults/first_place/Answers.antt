@@ -1,0 +1,109 @@
+use Rattle.std.proofs.Common.{◌≡◌, sym, ◌∙◌, arith, subst}
+use Rattle.std.specs.Prelude.{IfOk}
+use Rattle.acpi_base.specs.Codes.{stage_of}
+use Rattle.acpi_base.specs.declared.code.Code.{Code}
+use Rattle.acpi_base.specs.declared.stage.Stage.TheVariants as stage
+use Rattle.acpi_lint.specs.StageFaults.{FindsFirstAt}
+use Rattle.acpi_lint.proofs.FirstOfCodes.{first_of_stage, first_of_result, gsi_clash_alone, override_clash_alone, overlap_alone, parent_cycle_alone, cache_cycle_alone, two_domains_alone, gsi_nowhere_alone, leaf_unknown_alone}
+use Rattle.acpi_lint.proofs.faults.first_place.Goals as goal
+
+pub returns-in-Rsdp : goal.returns-in-Rsdp
+returns-in-Rsdp c =
+    first_of_stage c.args.image.now c.args.policy.now stage.Rsdp c.args.code (sym c.stage.ensures ∙ c.in-Rsdp.is)
+    (λ e. omega (arith, e), λ e. omega (arith, e)) c.rsdp_fault.result c.rsdp_fault.ensures
+
+pub returns-in-Root : goal.returns-in-Root
+returns-in-Root c =
+    first_of_stage c.args.image.now c.args.policy.now stage.Root c.args.code (sym c.stage.ensures ∙ c.in-Root.is)
+    (λ e. omega (arith, e), λ e. omega (arith, e)) c.root_fault.result c.root_fault.ensures
+
+pub returns-in-Tables : goal.returns-in-Tables
+returns-in-Tables c =
+    first_of_stage c.args.image.now c.args.policy.now stage.Tables c.args.code (sym c.stage.ensures ∙ c.in-Tables.is)
+    (λ e. omega (arith, e), λ e. omega (arith, e)) c.slot_fault.result (c.slot_fault.ensures c.args.policy.now c.requires)
+
+pub returns-in-Fadt : goal.returns-in-Fadt
+returns-in-Fadt c =
+    first_of_stage c.args.image.now c.args.policy.now stage.Fadt c.args.code (sym c.stage.ensures ∙ c.in-Fadt.is)
+    (λ e. omega (arith, e), λ e. omega (arith, e)) c.fadt_fault.result (c.fadt_fault.ensures c.args.policy.now c.requires)
+
+pub returns-in-Facs : goal.returns-in-Facs
+returns-in-Facs c =
+    first_of_stage c.args.image.now c.args.policy.now stage.Facs c.args.code (sym c.stage.ensures ∙ c.in-Facs.is)
+    (λ e. omega (arith, e), λ e. omega (arith, e)) c.facs_fault.result (c.facs_fault.ensures c.args.policy.now c.requires)
+
+pub returns-in-Madt : goal.returns-in-Madt
+returns-in-Madt c =
+    first_of_stage c.args.image.now c.args.policy.now stage.Madt c.args.code (sym c.stage.ensures ∙ c.in-Madt.is)
+    (λ e. omega (arith, e), λ e. omega (arith, e)) c.madt_fault.result (c.madt_fault.ensures c.args.image.now c.requires)
+
+pub returns-in-Srat : goal.returns-in-Srat
+returns-in-Srat c =
+    first_of_stage c.args.image.now c.args.policy.now stage.Srat c.args.code (sym c.stage.ensures ∙ c.in-Srat.is)
+    (λ e. omega (arith, e), λ e. omega (arith, e)) c.srat_fault.result (c.srat_fault.ensures c.args.image.now c.requires)
+
+pub returns-in-Slit : goal.returns-in-Slit
+returns-in-Slit c =
+    first_of_stage c.args.image.now c.args.policy.now stage.Slit c.args.code (sym c.stage.ensures ∙ c.in-Slit.is)
+    (λ e. omega (arith, e), λ e. omega (arith, e)) c.slit_fault.result (c.slit_fault.ensures c.args.image.now c.requires)
+
+pub returns-in-Pptt : goal.returns-in-Pptt
+returns-in-Pptt c =
+    first_of_stage c.args.image.now c.args.policy.now stage.Pptt c.args.code (sym c.stage.ensures ∙ c.in-Pptt.is)
+    (λ e. omega (arith, e), λ e. omega (arith, e)) c.pptt_fault.result (c.pptt_fault.ensures c.args.image.now c.requires)
+
+pub returns-in-References : goal.returns-in-References
+returns-in-References c =
+    first_of_result c.args.image.now c.args.policy.now stage.References c.args.code
+    (sym c.stage.ensures ∙ c.in-References.is) (λ e. omega (arith, e), λ e. omega (arith, e)) c.reference_fault.result
+    (c.reference_fault.ensures c.args.image.now c.requires)
+
+pub returns-in-Overrides : goal.returns-in-Overrides
+returns-in-Overrides c =
+    let code : stage_of c.args.code ≡ stage.Overrides = sym c.stage.ensures ∙ c.in-Overrides.is in
+    first_of_result c.args.image.now c.args.policy.now stage.Overrides c.args.code code
+    (λ e. omega (arith, e), λ e. omega (arith, e)) c.override_clash.result
+    (rw (override_clash_alone c.args.code code) (c.override_clash.ensures c.args.image.now c.requires))
+
+pub returns-in-Parents : goal.returns-in-Parents
+returns-in-Parents c =
+    let code : stage_of c.args.code ≡ stage.Parents = sym c.stage.ensures ∙ c.in-Parents.is in
+    first_of_result c.args.image.now c.args.policy.now stage.Parents c.args.code code
+    (λ e. omega (arith, e), λ e. omega (arith, e)) c.parent_cycle.result
+    (rw (parent_cycle_alone c.args.code code) (c.parent_cycle.ensures c.args.image.now c.requires))
+
+pub returns-in-Caches : goal.returns-in-Caches
+returns-in-Caches c =
+    let code : stage_of c.args.code ≡ stage.Caches = sym c.stage.ensures ∙ c.in-Caches.is in
+    first_of_result c.args.image.now c.args.policy.now stage.Caches c.args.code code
+    (λ e. omega (arith, e), λ e. omega (arith, e)) c.cache_cycle.result
+    (rw (cache_cycle_alone c.args.code code) (c.cache_cycle.ensures c.args.image.now c.requires))
+
+pub returns-in-Domains : goal.returns-in-Domains
+returns-in-Domains c =
+    let code : stage_of c.args.code ≡ stage.Domains = sym c.stage.ensures ∙ c.in-Domains.is in
+    first_of_result c.args.image.now c.args.policy.now stage.Domains c.args.code code
+    (λ e. omega (arith, e), λ e. omega (arith, e)) c.two_domains.result
+    (rw (two_domains_alone c.args.code code) (c.two_domains.ensures c.args.image.now c.requires))
+
+pub returns-in-Served : goal.returns-in-Served
+returns-in-Served c =
+    let code : stage_of c.args.code ≡ stage.Served = sym c.stage.ensures ∙ c.in-Served.is in
+    first_of_result c.args.image.now c.args.policy.now stage.Served c.args.code code
+    (λ e. omega (arith, e), λ e. omega (arith, e)) c.gsi_nowhere.result
+    (rw (gsi_nowhere_alone c.args.code code) (c.gsi_nowhere.ensures c.args.image.now c.requires))
+
+pub returns-in-Leaves : goal.returns-in-Leaves
+returns-in-Leaves c =
+    let code : stage_of c.args.code ≡ stage.Leaves = sym c.stage.ensures ∙ c.in-Leaves.is in
+    first_of_result c.args.image.now c.args.policy.now stage.Leaves c.args.code code
+    (λ e. omega (arith, e), λ e. omega (arith, e)) c.leaf_unknown.result
+    (rw (leaf_unknown_alone c.args.code code) (c.leaf_unknown.ensures c.args.image.now c.requires))
+
+pub returns-in-Interrupts : goal.returns-in-Interrupts
+returns-in-Interrupts c =
+    rw (gsi_clash_alone c.args.code (sym c.stage.ensures ∙ c.in-Interrupts.is)) (c.gsi_clash.ensures c.args.image.now c.requires)
+
+pub returns-in-Ranges : goal.returns-in-Ranges
+returns-in-Ranges c =
+    rw (overlap_alone c.args.code (sym c.stage.ensures ∙ c.in-Ranges.is)) (c.overlap.ensures c.args.image.now c.requires)

@@ -1,0 +1,18 @@
+use Rattle.std.proofs.Common.{rules}
+use Rattle.acpi_base.specs.Pptt.{pptt_contents}
+use Rattle.acpi_read.specs.Pptts.{pptt_value}
+use Rattle.acpi_check.proofs.EntryPasses.Kept.{pptt_rising}
+use Rattle.acpi_lint.specs.Places.{FindsLeast}
+use Rattle.acpi_lint.specs.References.{NamesNoLink}
+use Rattle.acpi_lint.proofs.FirstEntries.{IsFaultAt, least_of_entries}
+use Rattle.acpi_lint.proofs.NamedPlaces.{links_dangle}
+use Rattle.acpi_lint.proofs.references.dangling_link.Goals as goal
+
+pub returns : goal.returns
+returns c =
+    let offsets = c.in_ok-offsets.offsets.items in
+    let said = pptt_contents c.args.pptt.now in
+    let found : FindsLeast (IsFaultAt (NamesNoLink c.args.link offsets) said.entries) c.first_picked.result =
+    least_of_entries pptt_value (NamesNoLink c.args.link offsets) 36 c.first_picked.result c.first_picked.ensures
+    c.entries.ensures.entries (pptt_rising c.args.pptt.now) (λ at picked here answers. search rules) in
+    links_dangle c.args.link said offsets c.first_picked.result c.in_ok-offsets.ensures found

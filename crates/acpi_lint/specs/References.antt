@@ -1,0 +1,40 @@
+-- What the entries of a PPTT name that is not there (ACPI 6.5, 5.2.30).
+use Rattle.std.specs.Prelude.{◌≡◌, ◌≢◌, ◌<◌, ◌↔◌, ℕ, Bool, List, AllPairs, Contains, Option, Some, None, is_some, not, ◌==◌, if◌then◌else◌}
+use Rattle.acpi_base.specs.Chains.{Dangles}
+use Rattle.acpi_base.specs.Entries.{PlacedEntry}
+use Rattle.acpi_base.specs.Pptt.{PpttEntry, PpttContents, parent_of, next_level_of, resource_of, pptt_type, Says}
+use Rattle.acpi_lint.specs.declared.references.Link.{Link}
+use Rattle.acpi_lint.specs.declared.references.Link.TheVariants as link
+
+-- what an entry says that it is linked to: a node its Parent, a cache its Next Level
+abbrev pub linked : Link → PpttEntry → Option ℕ
+linked link.Parent = parent_of
+linked link.NextLevel = next_level_of
+
+-- the offset of an entry that passes the test
+abbrev pub offset_where : (PpttEntry → Bool) → PlacedEntry PpttEntry → Option ℕ
+offset_where test s = if test s.entry then Some s.offset else None
+
+abbrev pub is_linked : Link → PpttEntry → Bool
+is_linked kind e = is_some (linked kind e)
+
+abbrev pub is_resource : PpttEntry → Bool
+is_resource e = not (pptt_type e == 0)
+
+-- these are the offsets of which `IsThere` holds, in rising order
+pub record AreOffsets (IsThere : ℕ → Type 0) (offsets : List ℕ) : Type 0 where
+  pub rise : AllPairs (λ o p. o < p) offsets
+  pub each : (o : ℕ) → Contains offsets o ↔ IsThere o
+
+-- where a link dangles
+abbrev pub IsDanglingLink : Link → PpttContents → ℕ → ℕ → ℕ → Type 0
+IsDanglingLink kind c at other point = Dangles (Says (linked kind) c) at other × (point ≡ 0)
+
+-- the entry is linked to an offset that is none of these, and not 0, which names nothing
+abbrev pub NamesNoLink : Link → List ℕ → ℕ → PpttEntry → ℕ → ℕ → Type 0
+NamesNoLink kind offsets at e other point =
+    (linked kind e ≡ Some other) × (other ≢ 0) × (¬ Contains offsets other) × (point ≡ 0)
+
+-- a private resource of the entry is none of these
+abbrev pub NamesNoResource : List ℕ → ℕ → PpttEntry → ℕ → ℕ → Type 0
+NamesNoResource offsets at e other point = (resource_of other e ≡ Some point) × ¬ Contains offsets point

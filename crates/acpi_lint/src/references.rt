@@ -1,0 +1,184 @@
+//! Codes 52 to 54: what the entries of the PPTT name (ACPI 6.5, 5.2.30), whatever their lengths are.
+
+ghost use Rattle.std.specs.Prelude.{◌≡◌, ◌<◌, ◌*◌, ℕ, AllPairs, Contains, IfOk, MatchOption, length};
+ghost use Rattle.acpi_base.specs.Chains.{IsAt};
+ghost use Rattle.acpi_base.specs.Memory.{Memory};
+ghost use Rattle.acpi_base.specs.Number.{field};
+ghost use Rattle.acpi_base.specs.Pptt.{pptt_contents, Says, IsResourceAt, ReferenceFault};
+ghost use Rattle.acpi_base.specs.declared.code.Code.{Code};
+ghost use Rattle.acpi_base.specs.declared.stage.Stage.{Stage};
+ghost use Rattle.acpi_read.specs.Pptts.{pptt_value, HasReferences};
+ghost use Rattle.acpi_read.specs.TypedEntries.{entry_at_value};
+ghost use Rattle.acpi_lint.specs.FirstPicked.{FindsOwn};
+ghost use Rattle.acpi_lint.specs.Places.{FindsLeast};
+ghost use Rattle.acpi_lint.specs.References.{linked, is_linked, is_resource, offset_where, AreOffsets, IsDanglingLink, NamesNoLink, NamesNoResource};
+ghost use Rattle.acpi_lint.specs.StageFaults.{IsFaultOfStage};
+ghost use Rattle.acpi_lint.specs.WholeTables.{AreWholeTables};
+
+use crate::passes::first_picked;
+use crate::place::Place;
+use crate::whole_tables::WholeTables;
+use acpi_base::field::u32_at;
+use acpi_base::{Code, Policy, TableKind};
+use acpi_check::{collected, has};
+use acpi_read::{EntryAt, Pptt, PpttEntry};
+use std::alloc::{AllocError, Global};
+
+/// What an entry is linked to by its offset: another of its own kind.
+#[derive(Clone, Copy)]
+enum Link {
+    /// A node to its Parent.
+    Parent,
+    /// A cache to its Next Level.
+    NextLevel,
+}
+
+/// The offset to which an entry is linked, where it has such a link. 0 is none.
+fn linked(link: Link, entry: &PpttEntry<'_>) -> Option<u32>
+    ensures { result ≡ linked link (pptt_value entry.now) }
+{
+    match (link, entry) {
+        (Link::Parent, PpttEntry::Node(head, _)) => Some(head.parent),
+        (Link::NextLevel, PpttEntry::Cache24(cache)) => Some(cache.next_level),
+        (Link::NextLevel, PpttEntry::Cache28(cache)) => Some(cache.next_level),
+        _ => None,
+    }
+}
+
+/// The offset of an entry that has such a link, so that another may be linked to it.
+fn linked_offset(link: Link, at: &EntryAt<PpttEntry<'_>>) -> Option<u64>
+    ensures { result ≡ offset_where (is_linked link) (entry_at_value pptt_value at.now) }
+{
+    linked(link, &at.entry).is_some().then_some(at.offset)
+}
+
+/// The offsets of a PPTT's entries that have such a link.
+fn linked_offsets(alloc: Global, link: Link, pptt: &Pptt<'_>) -> Result<Vec<u64>, AllocError>
+    ensures { IfOk result (λ offsets.
+        AreOffsets (IsAt (Says (linked link) (pptt_contents pptt.now))) offsets.items) }
+{
+    collected(alloc, pptt.entries(), |at| linked_offset(link, at))
+}
+
+/// The place of an entry that is linked to none of these offsets.
+fn unlinked_place(link: Link, offsets: &[u64], at: &EntryAt<PpttEntry<'_>>) -> Option<Place>
+    requires { AllPairs (λ o p. o < p) offsets.now }
+    ensures { FindsOwn (NamesNoLink link offsets.now) (entry_at_value pptt_value at.now) result }
+{
+    let offset = linked(link, &at.entry)?;
+    if offset == 0 || has(offsets, offset) {
+        return None;
+    }
+    Some(Place {
+        at: at.offset,
+        other: u64::from(offset),
+        point: 0,
+    })
+}
+
+/// The place of the first entry of a PPTT that is linked to an offset at which none of its kind stands.
+fn dangling_link(alloc: Global, link: Link, pptt: &Pptt<'_>) -> Result<Option<Place>, AllocError>
+    ensures { IfOk result (FindsLeast (IsDanglingLink link (pptt_contents pptt.now))) }
+{
+    let offsets = linked_offsets(alloc, link, pptt)?;
+    Ok(first_picked(pptt.entries(), |at| unlinked_place(link, &offsets, at)))
+}
+
+/// Whether an entry may be a private resource: it is of another type than a node, also one that is not read.
+fn is_resource(entry: &PpttEntry<'_>) -> bool
+    ensures { result ≡ is_resource (pptt_value entry.now) }
+{
+    match entry {
+        PpttEntry::Node(..) => false,
+        PpttEntry::Cache24(_) | PpttEntry::Cache28(_) => true,
+        PpttEntry::Opaque(bytes) => bytes.first().is_some_and(|number| *number != 0),
+    }
+}
+
+/// The offset of such an entry.
+fn resource_offset(at: &EntryAt<PpttEntry<'_>>) -> Option<u64>
+    ensures { result ≡ offset_where is_resource (entry_at_value pptt_value at.now) }
+{
+    is_resource(&at.entry).then_some(at.offset)
+}
+
+/// The offsets of such entries of a PPTT.
+fn resource_offsets(alloc: Global, pptt: &Pptt<'_>) -> Result<Vec<u64>, AllocError>
+    ensures { IfOk result (λ offsets. AreOffsets (IsResourceAt (pptt_contents pptt.now))
+        offsets.items) }
+{
+    collected(alloc, pptt.entries(), resource_offset)
+}
+
+/// The number of the first of a node's private resources, of so many, that is at none of these offsets.
+fn first_missing(offsets: &[u64], count: u32, references: &[u8]) -> Option<u32>
+    requires rising { AllPairs (λ o p. o < p) offsets.now }
+    requires count { length references.now ≡ 4 * count }
+    ensures { MatchOption result ((j : ℕ) → j < count
+        → Contains offsets.now (field references.now (4 * j) 4))
+        (λ found. (found < count) × (¬ Contains offsets.now (field references.now (4 * found) 4))
+        × ((j : ℕ) → j < found → Contains offsets.now (field references.now (4 * j) 4))) }
+{
+    for j in 0..count {
+        if !has(offsets, u32_at(references, 4 * j as usize)) {
+            return Some(j);
+        }
+    }
+    None
+}
+
+/// The place of the first private resource of an entry that is at none of these offsets.
+fn missing_place(offsets: &[u64], at: &EntryAt<PpttEntry<'_>>) -> Option<Place>
+    requires rising { AllPairs (λ o p. o < p) offsets.now }
+    requires references { HasReferences at.now.entry }
+    ensures { FindsOwn (NamesNoResource offsets.now) (entry_at_value pptt_value at.now) result }
+{
+    let PpttEntry::Node(head, references) = at.entry else {
+        return None;
+    };
+    let number = first_missing(offsets, head.count, references)?;
+    Some(Place {
+        at: at.offset,
+        other: u64::from(number),
+        point: u64::from(u32_at(references, 4 * number as usize)),
+    })
+}
+
+/// The place of the first private resource of a PPTT's nodes that is at none of its entries of another type.
+fn dangling_resource(alloc: Global, pptt: &Pptt<'_>) -> Result<Option<Place>, AllocError>
+    ensures { IfOk result (FindsLeast
+        (ReferenceFault (pptt_contents pptt.now) Code.DanglingResource)) }
+{
+    let offsets = resource_offsets(alloc, pptt)?;
+    Ok(first_picked(pptt.entries(), |at| missing_place(&offsets, at)))
+}
+
+/// The place of the first fault with this code of what a PPTT's entries name. None for a code of another stage.
+fn table_fault(alloc: Global, code: Code, pptt: &Pptt<'_>) -> Result<Option<Place>, AllocError>
+    ensures { IfOk result (FindsLeast (ReferenceFault (pptt_contents pptt.now) code)) }
+{
+    match code {
+        Code::DanglingParent => dangling_link(alloc, Link::Parent, pptt),
+        Code::DanglingResource => dangling_resource(alloc, pptt),
+        Code::DanglingCache => dangling_link(alloc, Link::NextLevel, pptt),
+        _ => Ok(None),
+    }
+}
+
+/// The place of the first fault with this code of what the entries of a set's PPTT name. None for a code of another
+/// stage, and where the set lists no PPTT that is whole: then it takes no memory. Else it takes some for each entry
+/// that may be named.
+pub fn reference_fault(
+    alloc: Global,
+    tables: &WholeTables<'_>,
+    policy: &Policy,
+    code: Code,
+) -> Result<Option<Place>, AllocError>
+    ensures { (m : Memory) → AreWholeTables m policy.now.rsdp tables.now
+        → IfOk result (FindsLeast (IsFaultOfStage Stage.References code m policy.now)) }
+{
+    match tables.table(TableKind::Pptt) {
+        Some(table) => table_fault(alloc, code, &Pptt::of(table)),
+        None => Ok(None),
+    }
+}
