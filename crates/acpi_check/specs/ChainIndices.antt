@@ -3,11 +3,11 @@ use Rattle.std.specs.Prelude.{◌≡◌, ◌≢◌, ◌↔◌, ◌⊎◌, ℕ, �
 use Rattle.std.specs.List.{filter_map}
 use Rattle.acpi_base.specs.Chains.{IsAt, IsCycle}
 use Rattle.acpi_base.specs.Entries.{PlacedEntry}
-use Rattle.acpi_base.specs.Faults.{NotAfter}
 use Rattle.acpi_base.specs.declared.code.Code.{Code}
 use Rattle.acpi_graph.specs.Parents.{parent_of}
 use Rattle.acpi_graph.specs.declared.stray.Stray.{Stray}
 use Rattle.acpi_graph.specs.declared.stray.Stray.TheVariants as stray
+use Rattle.acpi_check.specs.ChainCycles.{IsFirstCycle}
 
 -- the index of p among the offsets, or none where p is 0 or is not among them
 abbrev pub IsIndexOf : List ℕ → ℕ → Option ℕ → Type 0
@@ -21,11 +21,6 @@ pub record AreIndexed (Names : ℕ → ℕ → Type 0) (offsets : List ℕ) (par
   pub rising : AllPairs (λ o p. o < p) offsets
   pub all : (o : ℕ) → Contains offsets o ↔ IsAt Names o
   pub named : (i p : ℕ) → i < length offsets → Names (slice_index offsets i) p → IsIndexOf offsets p (parent_of parents i)
-
--- the cycle that is reported, under this code: as a fault it stands before all others
-pub record IsFirstCycle (Names : ℕ → ℕ → Type 0) (most : ℕ) (fault : Code) (o lead round : ℕ) : Type 0 where
-  pub cycle : IsCycle Names most o lead round
-  pub least : (p l r : ℕ) → IsCycle Names most p l r → NotAfter (record { code = fault; at = o; other = lead; point = round }) (record { code = fault; at = p; other = l; point = r })
 
 -- what is found of the chains over these offsets: that none goes round, or the cycle that is reported
 abbrev pub IsCycleResult : (ℕ → ℕ → Type 0) → ℕ → Code → List ℕ → Stray → Type 0

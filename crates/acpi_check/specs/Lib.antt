@@ -1,4 +1,5 @@
 -- What the contracts of the checker cite.
+pub mod ChainCycles
 pub mod ChainIndices
 pub mod ChainNodes
 pub mod CollectedValues
@@ -18,4 +19,5 @@ pub mod RangeSpans
 pub mod ServedGsis
 pub mod Set
 pub mod StageResults
+pub mod TableResults
 pub mod Tables

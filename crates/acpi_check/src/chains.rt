@@ -5,8 +5,9 @@ ghost use Rattle.acpi_base.specs.Pptt.{pptt_contents, AreReferencesSound, DoPare
 ghost use Rattle.acpi_base.specs.declared.stage.Stage.{Stage};
 ghost use Rattle.acpi_read.specs.Pptts.{pptt_value};
 ghost use Rattle.acpi_check.specs.ChainIndices.{IsIndexOf};
-ghost use Rattle.acpi_check.specs.PassResults.{FindsFirst};
-ghost use Rattle.acpi_check.specs.ChainNodes.{named_offset, code_of, AreNodesOf, AreIndices, FindsCycle};
+ghost use Rattle.acpi_check.specs.TableResults.{FindsFirst};
+ghost use Rattle.acpi_check.specs.ChainNodes.{AreNodesOf, AreIndices};
+ghost use Rattle.acpi_check.specs.ChainCycles.{named_offset, code_of, FindsCycle};
 
 use crate::nodes::{Chain, Nodes};
 use crate::refusal::{Refusal, refuse};

@@ -8,7 +8,7 @@ ghost use Rattle.acpi_base.specs.declared.stage.Stage.{Stage};
 ghost use Rattle.acpi_read.specs.Srats.{srat_value};
 ghost use Rattle.acpi_check.specs.Domains.{placement_of, PutsPlaced, ArePlacements, DoAgree};
 ghost use Rattle.acpi_check.specs.FirstSeen.{IsGiven, FindsOther};
-ghost use Rattle.acpi_check.specs.PassResults.{FindsFirst};
+ghost use Rattle.acpi_check.specs.TableResults.{FindsFirst};
 
 use crate::collecting::collected;
 use crate::first_seen::{Given, OtherValue, pass_given};

@@ -5,7 +5,7 @@ ghost use Rattle.acpi_base.specs.Madt.{madt_contents, Serves, AreInterruptsApart
 ghost use Rattle.acpi_base.specs.declared.code.Code.{Code};
 ghost use Rattle.acpi_base.specs.declared.stage.Stage.{Stage};
 ghost use Rattle.acpi_read.specs.Madts.{madt_value};
-ghost use Rattle.acpi_check.specs.PassResults.{Finds, IsOverlap};
+ghost use Rattle.acpi_check.specs.TableResults.{Finds, IsOverlap};
 ghost use Rattle.acpi_check.specs.RangeSpans.{span_value, served_span, AreSpansOf, BeginLow, HasLowPoint, IsOverlapResult};
 
 use crate::collecting::collected;

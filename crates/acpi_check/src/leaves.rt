@@ -10,7 +10,7 @@ ghost use Rattle.acpi_read.specs.Madts.{madt_value};
 ghost use Rattle.acpi_read.specs.Pptts.{pptt_value};
 ghost use Rattle.acpi_check.specs.Leaves.{is_typed, leaf_id};
 ghost use Rattle.acpi_check.specs.NamedNumbers.{IsKnown, IsUnknown, FindsUnknown};
-ghost use Rattle.acpi_check.specs.PassResults.{FindsFirst};
+ghost use Rattle.acpi_check.specs.TableResults.{FindsFirst};
 ghost use Rattle.acpi_check.specs.Processors.{numbers_in};
 
 use crate::collecting::collected;

@@ -7,7 +7,8 @@ ghost use Rattle.acpi_base.specs.Madt.{madt_entry, madt_contents, IsReservedInti
 ghost use Rattle.acpi_base.specs.declared.code.Code.{Code};
 ghost use Rattle.acpi_base.specs.declared.stage.Stage.{Stage};
 ghost use Rattle.acpi_read.specs.Madts.{madt_value, IsOfOwnLength};
-ghost use Rattle.acpi_check.specs.PassResults.{FindsFirst, PassesMadtEntry};
+ghost use Rattle.acpi_check.specs.PassResults.{PassesMadtEntry};
+ghost use Rattle.acpi_check.specs.TableResults.{FindsFirst};
 
 use crate::refusal::Refusal;
 use acpi_base::{Code, Policy, Witness};

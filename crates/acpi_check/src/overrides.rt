@@ -5,7 +5,7 @@ ghost use Rattle.acpi_base.specs.Madt.{madt_contents, Overrides, DoOverridesAgre
 ghost use Rattle.acpi_base.specs.declared.stage.Stage.{Stage};
 ghost use Rattle.acpi_read.specs.Madts.{madt_value};
 ghost use Rattle.acpi_check.specs.FirstSeen.{IsGiven};
-ghost use Rattle.acpi_check.specs.PassResults.{FindsFirst};
+ghost use Rattle.acpi_check.specs.TableResults.{FindsFirst};
 ghost use Rattle.acpi_check.specs.declared.refusal.Refusal.{Refusal};
 
 use crate::first_seen::{Given, pass_given};

@@ -2,7 +2,7 @@
 
 ghost use Rattle.acpi_base.specs.Pptt.{pptt_contents, IsCutPptt, PpttFault};
 ghost use Rattle.acpi_base.specs.declared.stage.Stage.{Stage};
-ghost use Rattle.acpi_check.specs.PassResults.{FindsFirst};
+ghost use Rattle.acpi_check.specs.TableResults.{FindsFirst};
 
 use crate::refusal::Refusal;
 use acpi_base::{Code, Witness};

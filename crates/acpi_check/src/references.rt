@@ -5,7 +5,7 @@ ghost use Rattle.acpi_base.specs.Number.{field};
 ghost use Rattle.acpi_base.specs.Pptt.{pptt_contents, IsCutPptt, AreReferencesSound, ReferenceFault};
 ghost use Rattle.acpi_base.specs.declared.stage.Stage.{Stage};
 ghost use Rattle.acpi_read.specs.Pptts.{pptt_value, HasReferences};
-ghost use Rattle.acpi_check.specs.PassResults.{FindsFirst};
+ghost use Rattle.acpi_check.specs.TableResults.{FindsFirst};
 ghost use Rattle.acpi_check.specs.EntryPlaces.{kind_of, ArePlaces, ArePlacesSorted, NamesPlaces, IsFirstReference};
 
 use crate::places::{Kind, Places};

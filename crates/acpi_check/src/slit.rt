@@ -2,7 +2,7 @@
 
 ghost use Rattle.acpi_base.specs.Slit.{slit_contents, IsSoundSlit, SlitFault};
 ghost use Rattle.acpi_base.specs.declared.stage.Stage.{Stage};
-ghost use Rattle.acpi_check.specs.PassResults.{FindsFirst};
+ghost use Rattle.acpi_check.specs.TableResults.{FindsFirst};
 
 use crate::refusal::Refusal;
 use acpi_read::{Slit, Table};

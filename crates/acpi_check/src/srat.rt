@@ -8,7 +8,8 @@ ghost use Rattle.acpi_base.specs.Srat.{srat_entry, srat_contents, IsSoundSrat, I
 ghost use Rattle.acpi_base.specs.declared.code.Code.{Code};
 ghost use Rattle.acpi_base.specs.declared.stage.Stage.{Stage};
 ghost use Rattle.acpi_read.specs.Srats.{srat_value, IsOfOwnLength};
-ghost use Rattle.acpi_check.specs.PassResults.{FindsFirst, PassesSratEntry};
+ghost use Rattle.acpi_check.specs.PassResults.{PassesSratEntry};
+ghost use Rattle.acpi_check.specs.TableResults.{FindsFirst};
 
 use crate::refusal::Refusal;
 use acpi_base::{Code, Witness};

@@ -6,7 +6,7 @@ use Rattle.acpi_base.specs.declared.code.Code.{Code}
 use Rattle.acpi_base.specs.declared.code.Code.TheVariants as code
 use Rattle.acpi_base.specs.declared.stage.Stage.TheVariants as stage
 use Rattle.acpi_check.specs.FirstSeen.{IsFirstOther}
-use Rattle.acpi_check.specs.PassResults.{IsFirstOfTable}
+use Rattle.acpi_check.specs.TableResults.{IsFirstOfTable}
 use Rattle.acpi_check.specs.declared.first_seen.OtherValue.{OtherValue}
 use Rattle.acpi_check.proofs.EntryPasses.ValuesPass.{in_order}
 

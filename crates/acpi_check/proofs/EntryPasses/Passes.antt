@@ -12,7 +12,8 @@ use Rattle.acpi_base.proofs.EntryOffsets.{cut_behind, said_from}
 use Rattle.acpi_base.specs.declared.code.Code.{Code}
 use Rattle.acpi_base.specs.declared.stage.Stage.{Stage}
 use Rattle.acpi_base.specs.declared.witness.Witness.{Witness}
-use Rattle.acpi_check.specs.PassResults.{IsFirstOfTable, FindsFirst, FindsFault}
+use Rattle.acpi_check.specs.PassResults.{FindsFault}
+use Rattle.acpi_check.specs.TableResults.{IsFirstOfTable, FindsFirst}
 use Rattle.acpi_check.specs.declared.refusal.Refusal.{Refusal}
 use Rattle.acpi_check.specs.declared.refusal.Refusal.TheVariants.{Fault}
 use Rattle.acpi_check.proofs.EntryPasses.Kept.{AreRising}

@@ -11,7 +11,7 @@ use Rattle.acpi_base.specs.declared.stage.Stage.TheVariants as stage
 use Rattle.acpi_base.specs.declared.witness.Witness.{Witness}
 use Rattle.acpi_base.proofs.Faults.Order.{not_after}
 use Rattle.acpi_base.proofs.Images.HeldBytes.{same_value}
-use Rattle.acpi_check.specs.PassResults.{IsFirstOfTable}
+use Rattle.acpi_check.specs.TableResults.{IsFirstOfTable}
 use Rattle.acpi_check.proofs.EntryPasses.Kept.{rising}
 use Rattle.acpi_check.proofs.EntryPasses.Passes.{HasPassed, none_passed, one_more, before_or_behind, before_cut, next_stands, all_passed}
 

@@ -12,7 +12,8 @@ use Rattle.acpi_base.proofs.Faults.Order.{not_after}
 use Rattle.acpi_base.proofs.Entries.{none_in_short}
 use Rattle.acpi_base.proofs.Images.HeldBytes.{none_and_some, same_value}
 use Rattle.acpi_base.proofs.Srat.Faults.{entry_excludes}
-use Rattle.acpi_check.specs.PassResults.{IsFirstOfTable, IsOwnFault, PassesSratEntry}
+use Rattle.acpi_check.specs.PassResults.{IsOwnFault, PassesSratEntry}
+use Rattle.acpi_check.specs.TableResults.{IsFirstOfTable}
 use Rattle.acpi_check.proofs.EntryPasses.Kept.{rising}
 use Rattle.acpi_check.proofs.EntryPasses.Passes.{HasPassed, none_passed, one_more, next_stands, all_passed, own_fault_after, before_cut, none_said}
 

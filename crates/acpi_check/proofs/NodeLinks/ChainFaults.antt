@@ -11,9 +11,9 @@ use Rattle.acpi_base.specs.declared.stage.Stage.TheVariants as stage
 use Rattle.acpi_base.specs.declared.witness.Witness.{Witness}
 use Rattle.acpi_base.proofs.Faults.Least.{witness}
 use Rattle.acpi_base.proofs.Pptt.Chains.{parents_end_or_go_round, caches_end_or_go_round}
-use Rattle.acpi_check.specs.ChainIndices.{IsFirstCycle}
-use Rattle.acpi_check.specs.ChainNodes.{FindsCycle}
-use Rattle.acpi_check.specs.PassResults.{IsFirstOfTable, FindsFault}
+use Rattle.acpi_check.specs.ChainCycles.{IsFirstCycle, FindsCycle}
+use Rattle.acpi_check.specs.PassResults.{FindsFault}
+use Rattle.acpi_check.specs.TableResults.{IsFirstOfTable}
 use Rattle.acpi_check.specs.declared.nodes.Chain.TheVariants as chain
 
 -- where each chain ends or goes round, and none goes round, all end

@@ -10,7 +10,8 @@ use Rattle.acpi_graph.specs.Parents.{AreNodes, IsFirstStray, IfRound}
 use Rattle.acpi_graph.specs.declared.stray.Stray.{Stray}
 use Rattle.acpi_graph.specs.declared.stray.Stray.TheVariants as stray
 use Rattle.acpi_check.specs.ChainIndices.{AreIndexed, IsCycleResult, IsIndexOf, ChainNode, node_offsets}
-use Rattle.acpi_check.specs.ChainNodes.{Names, named_offset, most_of, code_of, nodes_in, AreNodesOf, AreIndices}
+use Rattle.acpi_check.specs.ChainNodes.{nodes_in, AreNodesOf, AreIndices}
+use Rattle.acpi_check.specs.ChainCycles.{Names, named_offset, most_of, code_of}
 use Rattle.acpi_check.specs.declared.nodes.Chain.{Chain}
 use Rattle.acpi_check.specs.declared.nodes.Chain.TheVariants as chain
 use Rattle.acpi_check.specs.declared.nodes.Nodes.{Nodes}

@@ -8,7 +8,7 @@ use Rattle.acpi_base.specs.declared.code.Code.{Code}
 use Rattle.acpi_base.specs.declared.code.Code.TheVariants as code
 use Rattle.acpi_base.specs.declared.stage.Stage.TheVariants as stage
 use Rattle.acpi_base.specs.declared.witness.Witness.{Witness}
-use Rattle.acpi_check.specs.PassResults.{IsFirstOfTable}
+use Rattle.acpi_check.specs.TableResults.{IsFirstOfTable}
 use Rattle.acpi_check.specs.EntryPlaces.{ArePlaces, NamesPlaces, EntryReferenceFault, IsFirstReference}
 use Rattle.acpi_check.specs.declared.places.Places.{Places}
 use Rattle.acpi_check.proofs.EntryPasses.Passes.{HasPassed, before_or_behind, next_stands, all_passed}

@@ -11,7 +11,7 @@ use Rattle.acpi_base.specs.declared.code.Code.TheVariants as code
 use Rattle.acpi_base.specs.declared.stage.Stage.TheVariants as stage
 use Rattle.acpi_base.specs.declared.witness.Witness.{Witness}
 use Rattle.acpi_base.proofs.Faults.HoldsOrFault.{first_of_set}
-use Rattle.acpi_check.specs.PassResults.{IsOverlap}
+use Rattle.acpi_check.specs.TableResults.{IsOverlap}
 
 -- the first clash of the I/O APICs is the first fault of the set
 pub gsi_clash_first : (m : Memory) (q : PolicyValue) → CleanBefore stage.Interrupts m q → (whole : List ℕ)
