@@ -20,9 +20,9 @@ use Rattle.acpi_base.specs.declared.policy.Processors.{Processors}
 use Rattle.acpi_base.specs.declared.stage.Stage.TheVariants as stage
 use Rattle.acpi_base.specs.declared.witness.Witness.{Witness}
 use Rattle.acpi_base.proofs.Faults.ListedTables.{of_listed}
-use Rattle.acpi_check.specs.ChainNodes.{Names, most_of, code_of, FindsCycle}
-use Rattle.acpi_check.specs.PassResults as results
-use Rattle.acpi_check.specs.PassResults.{Finds}
+use Rattle.acpi_check.specs.ChainCycles.{Names, most_of, code_of, FindsCycle}
+use Rattle.acpi_check.specs.TableResults as results
+use Rattle.acpi_check.specs.TableResults.{Finds}
 use Rattle.acpi_check.specs.declared.nodes.Chain.{Chain}
 use Rattle.acpi_check.specs.declared.refusal.Refusal.{Refusal}
 use Rattle.acpi_check.specs.declared.refusal.Refusal.TheVariants as refusal
