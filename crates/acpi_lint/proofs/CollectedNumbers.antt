@@ -132,7 +132,7 @@ numbers_as given same are =
 -- ---- the first one that stands twice
 
 -- where A and B put the same numbers at places, those that stand twice are the same
-same_later : {A B : ℕ → ℕ → Type 0} (at other x : ℕ) → ((p n : ℕ) → A p n → B p n) → ((p n : ℕ) → B p n → A p n)
+pub same_later : {A B : ℕ → ℕ → Type 0} (at other x : ℕ) → ((p n : ℕ) → A p n → B p n) → ((p n : ℕ) → B p n → A p n)
     → IsLater A at other x → IsLater B at other x
 same_later at other x to from later =
     record {

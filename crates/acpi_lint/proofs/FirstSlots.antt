@@ -43,7 +43,7 @@ place_of other_of point_of s =
     record { at = s.number; other = other_of s.address; point = point_of s.address }
 
 -- no answer is no of an address of which it holds
-not_wanted : (Is : ℕ → Type 0) (Answers : ℕ → Bool → Type 0) (a : ℕ)
+pub not_wanted : (Is : ℕ → Type 0) (Answers : ℕ → Bool → Type 0) (a : ℕ)
     → ((a : ℕ) (b : Bool) → Answers a b → IsTrue b ↔ Is a) → Answers a false → ¬ Is a
 not_wanted Is Answers a decides answer holds =
     let wanted : IsTrue false = (decides a false answer).1 holds in

@@ -1,3 +1,5 @@
+mod AdviceOfSets
+mod AnyEntries
 mod CacheShapes
 mod CollectedNumbers
 mod FacsSets
@@ -5,8 +7,10 @@ mod FadtSets
 mod FirstEntries
 mod FirstOfCodes
 mod FirstSlots
+mod KnownOnes
 mod LeafNumbers
 mod LeastPlaces
+mod ListedAddresses
 mod MadtFaults
 mod NamedPlaces
 mod OfSets
@@ -15,15 +19,20 @@ mod OnePlace
 mod Picked
 mod PowersOfTwo
 mod PpttFaults
+mod ReportedAdvice
 mod ReportedFaults
 mod RisingLists
 mod RootPlaces
 mod SameNumbers
 mod SameRules
+mod SciGsis
+mod SecondTables
 mod Shorts
 mod SlitFaults
+mod SomeEntries
 mod SortedNumbers
 mod SratFaults
 mod StageVerdicts
 mod UidDomains
+mod UnknownOnes
 mod UnlikeNumbers

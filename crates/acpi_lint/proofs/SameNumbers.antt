@@ -15,7 +15,7 @@ abbrev pub AreAtPlaces : List Numbered → Type 0
 AreAtPlaces given = (g : Numbered) → Contains given g → g.value ≡ g.at
 
 -- such a one is given at its place
-has_at : (given : List Numbered) (g : Numbered) → AreAtPlaces given → Contains given g → HasAt given g.at g.number
+pub has_at : (given : List Numbered) (g : Numbered) → AreAtPlaces given → Contains given g → HasAt given g.at g.number
 has_at given g placed listed =
     subst (Contains given) (ap (λ (v : ℕ). record { number = g.number; at = g.at; value = v }) (placed g listed)) listed
 

@@ -2,9 +2,12 @@
 pub mod FacsPlaces
 pub mod FadtPlaces
 pub mod FirstPicked
+pub mod KnownNumbers
 pub mod Leaves
 pub mod MadtPlaces
 pub mod Numbered
+pub mod Overrides
+pub mod OwnAdvice
 pub mod Places
 pub mod PpttPlaces
 pub mod ProcessorValues
@@ -14,5 +17,7 @@ pub mod SlitPlaces
 pub mod Slots
 pub mod SratPlaces
 pub mod StageFaults
+pub mod TableRules
+pub mod UnknownNumbers
 pub mod Verdicts
 pub mod WholeTables

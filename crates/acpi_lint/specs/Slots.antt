@@ -1,9 +1,13 @@
 -- What is looked for in the slots of a root (ACPI 6.5, 5.2.7, 5.2.8).
-use Rattle.std.specs.Prelude.{ℕ, ◌<◌, ◌⊎◌, Bool, true, false, Option, Some, None, IfSome}
-use Rattle.acpi_base.specs.Facs.{facs_signature}
-use Rattle.acpi_base.specs.Lint.Slots.{dsdt_signature}
+use Rattle.std.specs.Prelude.{◌≡◌, ◌≢◌, ℕ, ◌<◌, ◌≤◌, ◌⊎◌, ◌↔◌, Bool, true, false, List, Option, Some, None, IfSome, Contains}
+use Rattle.acpi_base.specs.Lint.Slots.{ListsSigned}
 use Rattle.acpi_base.specs.Memory.{Memory}
-use Rattle.acpi_base.specs.Tables.{IsSigned}
+use Rattle.acpi_base.specs.TableKinds.{signature_of}
+use Rattle.acpi_base.specs.declared.table_kind.TableKind.{TableKind}
+use Rattle.acpi_lint.specs.Numbered.{HasAt}
+use Rattle.acpi_lint.specs.Places.{IsNotAfter}
+use Rattle.acpi_lint.specs.declared.numbered.Numbered.{Numbered}
+use Rattle.acpi_lint.specs.declared.place.Place.{Place}
 use Rattle.acpi_lint.specs.declared.slots.Slot.{Slot}
 
 -- the slot k stands before this one, or there is none
@@ -17,6 +21,22 @@ pub record FindsSlot (Lists : ℕ → ℕ → Type 0) (Answers : ℕ → Bool �
   pub here : IfSome found (λ s. Lists s.number s.address × Answers s.address true)
   pub before : (k a : ℕ) → StandsBefore k found → Lists k a → Answers a false
 
--- a header is held at a, with the signature of a DSDT or a FACS
-abbrev pub IsSignedApart : Memory → ℕ → Type 0
-IsSignedApart m a = IsSigned m a dsdt_signature ⊎ IsSigned m a facs_signature
+-- these are the listed addresses, each with the number of its slot for its place and for its value
+pub record AreListed (Lists : ℕ → ℕ → Type 0) (given : List Numbered) : Type 0 where
+  pub placed : (g : Numbered) → Contains given g → g.value ≡ g.at
+  pub all : (k a : ℕ) → HasAt given k a ↔ Lists k a
+
+-- as `IsSecondTable`, of tables of this kind
+pub record IsSecondOf (m : Memory) (p : ℕ) (kind : TableKind) (at other point : ℕ) : Type 0 where
+  pub here : ListsSigned m p (signature_of kind) at point
+  pub a : ℕ
+  pub there : ListsSigned m p (signature_of kind) other a
+  pub first : (k b : ℕ) → ListsSigned m p (signature_of kind) k b → other ≤ k
+  pub differs : a ≢ point
+
+-- the lesser of two places, or the one that there is
+abbrev pub IsLesser : Option Place → Option Place → Option Place → Type 0
+IsLesser None two found = found ≡ two
+IsLesser (Some p) None found = found ≡ Some p
+IsLesser (Some p) (Some q) found =
+    ((found ≡ Some p) × IsNotAfter p q.at q.other q.point) ⊎ ((found ≡ Some q) × IsNotAfter q p.at p.other p.point)

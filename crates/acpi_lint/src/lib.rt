@@ -4,13 +4,17 @@
 //! nowhere ends its chain.
 #![tactic(auto)]
 
+mod advice;
 mod caches;
 mod facs;
 mod fadt;
 mod fadt_advice;
 mod faults;
+mod findings;
+mod known_numbers;
 mod leaves;
 mod madt;
+mod nowhere;
 mod numbered;
 mod one_code;
 mod passes;
@@ -21,8 +25,14 @@ mod references;
 mod root;
 mod rsdp;
 mod same;
+mod sci;
 mod slit;
+mod slot_advice;
 mod slots;
 mod srat;
+mod table_rules;
+mod unread;
 mod verdicts;
 mod whole_tables;
+
+pub use findings::{Findings, lint};

@@ -45,13 +45,13 @@ fn is_on(flags: u32) -> bool
 // ---- the MADT
 
 /// The type of a GIC CPU interface (ACPI 6.5, 5.2.12.14).
-const GICC: u8 = 11;
+pub const GICC: u8 = 11;
 
 /// The length of a GIC CPU interface in ACPI 5.0. Later ones are longer.
 const GICC_LEN: usize = 40;
 
 /// Whether the bytes are a GIC CPU interface of at least that length.
-fn is_gicc(bytes: &[u8]) -> bool
+pub fn is_gicc(bytes: &[u8]) -> bool
     ensures value { result ≡ is_gicc bytes.now }
     ensures size { IsTrue result → 40 ≤ length bytes.now }
 {
@@ -161,10 +161,10 @@ pub fn io_apic_address(entry: &MadtEntry<'_>) -> Option<u32>
 // ---- the SRAT
 
 /// The type of a GICC affinity (ACPI 6.5, 5.2.16.4).
-const GICC_AFFINITY: u8 = 3;
+pub const GICC_AFFINITY: u8 = 3;
 
 /// The length of a GICC affinity.
-const GICC_AFFINITY_LEN: usize = 18;
+pub const GICC_AFFINITY_LEN: usize = 18;
 
 /// Whether the bytes are a GICC affinity that is enabled.
 fn is_gicc_affinity(bytes: &[u8]) -> bool

@@ -20,7 +20,7 @@ use acpi_base::{Code, Policy, TableKind};
 use acpi_read::{Slit, Table};
 
 /// How many rows of as many cells a table has, where it has these behind its first 44 bytes, and nothing else.
-fn rows(bytes: &[u8]) -> Option<usize>
+pub fn rows(bytes: &[u8]) -> Option<usize>
     ensures { MatchOption result (¬ HasSlitSize (slit_contents bytes.now)) (HasRows bytes.now) }
 {
     if bytes.len() < Slit::CELLS {

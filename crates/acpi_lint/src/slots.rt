@@ -1,20 +1,18 @@
-//! Codes 15 to 18 and the first rules of advice: what the slots of the root list (ACPI 6.5, 5.2.6 to 5.2.8).
+//! Codes 15 to 18: the tables that the slots of the root list (ACPI 6.5, 5.2.6 to 5.2.8).
 
 ghost use Rattle.std.specs.Prelude.{◌↔◌, ℕ, IsTrue};
-ghost use Rattle.acpi_base.specs.Lint.Slots.{IsListedApart};
 ghost use Rattle.acpi_base.specs.Memory.{Memory};
 ghost use Rattle.acpi_base.specs.Policy.{PolicyValue};
 ghost use Rattle.acpi_base.specs.Root.{HasSlot, IsSlot};
 ghost use Rattle.acpi_base.specs.Tables.{TableFault};
 ghost use Rattle.acpi_base.specs.declared.stage.Stage.{Stage};
 ghost use Rattle.acpi_lint.specs.Places.{FindsLeast};
-ghost use Rattle.acpi_lint.specs.Slots.{FindsSlot, IsSignedApart};
+ghost use Rattle.acpi_lint.specs.Slots.{FindsSlot};
 ghost use Rattle.acpi_lint.specs.StageFaults.{IsFaultOfStage};
 ghost use Rattle.acpi_lint.specs.WholeTables.{AreWholeTables};
 
 use crate::place::Place;
 use crate::whole_tables::WholeTables;
-use acpi_base::field::is_signed;
 use acpi_base::{Code, Image};
 use acpi_read::{Root, Table};
 
@@ -45,7 +43,7 @@ fn first_slot<F: Fn(u64) -> bool>(root: &Root<'_>, wanted: F) -> Option<Slot>
 }
 
 /// The first slot of the root of these tables whose address is wanted.
-fn first_listed<F: Fn(u64) -> bool>(tables: &WholeTables<'_>, wanted: F) -> Option<Slot>
+pub fn first_listed<F: Fn(u64) -> bool>(tables: &WholeTables<'_>, wanted: F) -> Option<Slot>
     requires { F.IsAlwaysCallable wanted }
     ensures { (m : Memory) (p : ℕ) → AreWholeTables m p tables.now
         → FindsSlot (IsSlot m p) (F.post wanted) result }
@@ -73,28 +71,5 @@ pub fn slot_fault(image: &Image, tables: &WholeTables<'_>, code: Code) -> Option
         at: slot.number,
         other: slot.address,
         point: 0,
-    })
-}
-
-/// Whether a header is held at an address whose signature is that of a DSDT or a FACS.
-fn is_signed_apart(image: &Image, address: u64) -> bool
-    ensures { IsTrue result ↔ IsSignedApart image.now address }
-{
-    match image.window(address, 36) {
-        Some(header) => is_signed(header, b"DSDT") || is_signed(header, b"FACS"),
-        None => false,
-    }
-}
-
-/// The first slot that lists a DSDT or a FACS, which the FADT alone names. The tables are those of the image's set.
-pub fn listed_apart(image: &Image, tables: &WholeTables<'_>) -> Option<Place>
-    ensures { (p : ℕ) → AreWholeTables image.now p tables.now
-        → FindsLeast (IsListedApart image.now p) result }
-{
-    let slot = first_listed(tables, |address| is_signed_apart(image, address));
-    slot.map(|slot| Place {
-        at: slot.number,
-        other: 0,
-        point: slot.address,
     })
 }

@@ -1,0 +1,60 @@
+-- Numbers that are collected and then sorted are those that are known.
+use Rattle.std.proofs.Common.{◌≡◌, ℕ, ◌<◌, List, [], ◌∷◌, Option, Some, subst, inl, inr}
+use Rattle.std.specs.Prelude.{◌↔◌, AllPairs, Contains, map}
+use Rattle.std.specs.List.{filter_map}
+use Rattle.acpi_base.specs.Entries.{PlacedEntry}
+use Rattle.acpi_base.specs.Lint.Numbered.{IsNamed}
+use Rattle.acpi_base.proofs.Elements.{first_element, later_element, first_or_later, no_element}
+use Rattle.acpi_check.proofs.EntryPasses.Kept.{kept_has, kept_from, map_has}
+use Rattle.acpi_lint.specs.KnownNumbers.{AreKnown}
+use Rattle.acpi_lint.specs.Numbered.{at_place, AreNumbersAt}
+use Rattle.acpi_lint.specs.declared.numbered.Numbered.{Numbered}
+use Rattle.acpi_lint.proofs.SameNumbers.{has_at}
+
+-- those of entries are those that entries name
+pub are_known : {E : Type 0} (read : E → Option ℕ) (entries : List (PlacedEntry E)) (gathered numbers : List ℕ)
+    → gathered ≡ filter_map (λ s. read s.entry) entries → AllPairs (λ i j. i < j) numbers
+    → ((n : ℕ) → Contains numbers n ↔ Contains gathered n) → AreKnown (IsNamed read entries) numbers
+are_known {E} read entries gathered numbers is rise same =
+    record {
+      rise = rise;
+      all = λ n. (
+        λ listed. from n (kept_from make entries n (rw is at ((same n).0 listed))),
+        λ (o, (e, stands, names)). (same n).1
+            (rw is (kept_has make entries (record { offset = o; entry = e }) n stands names)),
+      );
+    }
+  where
+    make : PlacedEntry E → Option ℕ
+    make s = read s.entry
+
+    from : (n : ℕ) → ((s : PlacedEntry E) × Contains entries s × (make s ≡ Some n)) → IsNamed read entries n
+    from n (s, listed, names) = (s.offset, (s.entry, listed, names))
+
+-- what a map has it makes of an element
+map_from : {X Y : Type 0} (f : X → Y) (xs : List X) (y : Y) → Contains (map f xs) y
+    → (x : X) × Contains xs x × (f x ≡ y)
+map_from f [] y listed = absurd (no_element y listed)
+map_from f (u ∷ xs) y listed =
+    elim (first_or_later (f u) y (map f xs) listed) [
+      | inl is ↦ (u, first_element u xs, is)
+      | inr later ↦ let (x, here, is) = map_from f xs y later in (x, later_element u x xs here, is)
+    ]
+
+-- and those that stand at places stand at some place
+pub are_placed : (StandsAt : ℕ → ℕ → Type 0) (given : List Numbered) (gathered numbers : List ℕ)
+    → AreNumbersAt StandsAt given → gathered ≡ map (λ g. g.number) given → AllPairs (λ i j. i < j) numbers
+    → ((n : ℕ) → Contains numbers n ↔ Contains gathered n) → AreKnown (λ n. (at : ℕ) × StandsAt at n) numbers
+are_placed StandsAt given gathered numbers are is rise same =
+    record {
+      rise = rise;
+      all = λ n. (
+        λ listed. from n (map_from (λ g. g.number) given n (rw is at ((same n).0 listed))),
+        λ (at, stands). (same n).1
+            (rw is (map_has (λ (g : Numbered). g.number) given (at_place at n) ((are.all at n).1 stands))),
+      );
+    }
+  where
+    from : (n : ℕ) → ((g : Numbered) × Contains given g × (g.number ≡ n)) → (at : ℕ) × StandsAt at n
+    from n (g, listed, number) =
+        (g.at, subst (StandsAt g.at) number ((are.all g.at g.number).0 (has_at given g are.placed listed)))

@@ -1,0 +1,175 @@
+-- Numbers that are none of those that are known: what is found of entries by lists of known numbers is what the rules say.
+use Rattle.std.proofs.Common.{◌≡◌, ℕ, ◌+◌, ◌<◌, ◌≤◌, ◌⊎◌, List, get_or, length, Option, Some, None, Result, Ok, Err, refl, sym, ◌∙◌, ap, subst, inl, inr, arith}
+use Rattle.std.specs.Prelude.{◌↔◌, AllPairs, Contains, IfOk}
+use Rattle.std.proofs.lemmas.Bool.{cases_order}
+use Rattle.std.proofs.lemmas.List.Elements.{Contains-get_or}
+use Rattle.std.proofs.lemmas.List.{get_or_default}
+use Rattle.std.proofs.lemmas.Option.{none-some, same_Some}
+use Rattle.acpi_base.specs.Entries.{PlacedEntry}
+use Rattle.acpi_base.specs.Lint.Numbered.{NamesAt}
+use Rattle.acpi_lint.specs.FirstPicked.{FindsOwn}
+use Rattle.acpi_lint.specs.KnownNumbers.{AreKnown}
+use Rattle.acpi_lint.specs.Numbered.{at_place, AreNumbersAt}
+use Rattle.acpi_lint.specs.Places.{IsLeast, FindsLeast}
+use Rattle.acpi_lint.specs.UnknownNumbers.{IsUnknown, IsUnknownAt}
+use Rattle.acpi_lint.specs.declared.numbered.Numbered.{Numbered}
+use Rattle.acpi_lint.specs.declared.place.Place.{Place}
+use Rattle.acpi_lint.proofs.FirstEntries.{IsFaultAt}
+use Rattle.acpi_lint.proofs.LeastPlaces.{least_as}
+use Rattle.acpi_lint.proofs.SameNumbers.{has_at}
+
+-- ---- what a rule asks of the tables as a whole
+
+pub least_asked : {A : Type 0} (P : ℕ → ℕ → ℕ → Type 0) (found : Option Place) → A → FindsLeast P found
+    → FindsLeast (λ at other point. A × P at other point) found
+least_asked P found asked least =
+    least_as found (λ at other point holds. (asked, holds)) (λ at other point (_, holds). holds) least
+
+-- ---- entries of one number
+
+-- an entry of a number that is none of the known ones stands at `at`
+abbrev pub IsUnknownNamed : {E : Type 0} → (E → Option ℕ) → (ℕ → Type 0) → List (PlacedEntry E) → ℕ → ℕ → ℕ → Type 0
+IsUnknownNamed read IsKnown entries at other point =
+    NamesAt read entries at point × (¬ IsKnown point) × (other ≡ 0)
+
+pub unknown_named : {E : Type 0} (read : E → Option ℕ) (IsKnown : ℕ → Type 0) (entries : List (PlacedEntry E))
+    (known : List ℕ) (found : Option Place) → AreKnown IsKnown known
+    → FindsLeast (IsFaultAt (λ at e. IsUnknown known at (read e)) entries) found
+    → FindsLeast (IsUnknownNamed read IsKnown entries) found
+unknown_named read IsKnown entries known found are least =
+    least_as found
+    (λ at other point (e, stands, (is, none, unused)).
+    ((e, stands, is), λ named. none ((are.all point).1 named), unused))
+    (λ at other point ((e, stands, is), none, unused).
+    (e, stands, (is, λ listed. none ((are.all point).0 listed), unused)))
+    least
+
+-- ---- entries of one of two numbers
+
+-- the one that it has is unknown
+abbrev pub IsUnknownOfTwo : {E : Type 0} → List ℕ → List ℕ → (E → Option ℕ) → (E → Option ℕ) → ℕ → E → ℕ → ℕ → Type 0
+IsUnknownOfTwo ids uids first second at e other point =
+    IsUnknown ids at (first e) other point ⊎ IsUnknown uids at (second e) other point
+
+-- what is found is by what is at fault
+own_as : {E N : Type 0} (P : ℕ → N → ℕ → ℕ → Type 0) (Q : ℕ → E → ℕ → ℕ → Type 0) (s : PlacedEntry E) (number : N)
+    (found : Option Place) → ((other point : ℕ) → P s.offset number other point → Q s.offset s.entry other point)
+    → ((other point : ℕ) → Q s.offset s.entry other point → P s.offset number other point)
+    → FindsOwn P (record { offset = s.offset; entry = number }) found → FindsOwn Q s found
+own_as P Q s number None to from none = λ other point wrong. none other point (from other point wrong)
+own_as P Q s number (Some p) to from (place, wrong, least) =
+    (place, to p.other p.point wrong, λ other point fault. least other point (from other point fault))
+
+-- where an entry has no number of the one kind, what is found of the other is all
+pub own_first : {E : Type 0} (ids uids : List ℕ) (first second : E → Option ℕ) (s : PlacedEntry E)
+    (found : Option Place) → second s.entry ≡ None
+    → FindsOwn (IsUnknown ids) (record { offset = s.offset; entry = first s.entry }) found
+    → FindsOwn (IsUnknownOfTwo ids uids first second) s found
+own_first ids uids first second s found none own =
+    own_as (IsUnknown ids) (IsUnknownOfTwo ids uids first second) s (first s.entry) found (λ other point wrong. inl wrong)
+    (λ other point wrong.
+    elim wrong [ inl is ↦ is | inr (is, _, _) ↦ absurd (none-some point (sym none ∙ is)) ]) own
+
+pub own_second : {E : Type 0} (ids uids : List ℕ) (first second : E → Option ℕ) (s : PlacedEntry E)
+    (found : Option Place) → first s.entry ≡ None
+    → FindsOwn (IsUnknown uids) (record { offset = s.offset; entry = second s.entry }) found
+    → FindsOwn (IsUnknownOfTwo ids uids first second) s found
+own_second ids uids first second s found none own =
+    own_as (IsUnknown uids) (IsUnknownOfTwo ids uids first second) s (second s.entry) found
+    (λ other point wrong. inr wrong)
+    (λ other point wrong.
+    elim wrong [ inr is ↦ is | inl (is, _, _) ↦ absurd (none-some point (sym none ∙ is)) ]) own
+
+-- such an entry stands at `at`
+abbrev pub IsUnknownNamedOfTwo : {E : Type 0} → (E → Option ℕ) → (ℕ → Type 0) → (E → Option ℕ) → (ℕ → Type 0)
+    → List (PlacedEntry E) → ℕ → ℕ → ℕ → Type 0
+IsUnknownNamedOfTwo first IsId second IsUid entries at other point =
+    ((NamesAt first entries at point × ¬ IsId point) ⊎ (NamesAt second entries at point × ¬ IsUid point)) × (other ≡ 0)
+
+pub unknown_of_two : {E : Type 0} (first second : E → Option ℕ) (IsId IsUid : ℕ → Type 0)
+    (entries : List (PlacedEntry E)) (ids uids : List ℕ) (found : Option Place) → AreKnown IsId ids
+    → AreKnown IsUid uids → FindsLeast (IsFaultAt (IsUnknownOfTwo ids uids first second) entries) found
+    → FindsLeast (IsUnknownNamedOfTwo first IsId second IsUid entries) found
+unknown_of_two {E} first second IsId IsUid entries ids uids found some others least = least_as found to from least
+  where
+    to : (at other point : ℕ) → IsFaultAt (IsUnknownOfTwo ids uids first second) entries at other point
+        → IsUnknownNamedOfTwo first IsId second IsUid entries at other point
+    to at other point (e, stands, inl (is, none, unused)) =
+        (inl ((e, stands, is), λ named. none ((some.all point).1 named)), unused)
+    to at other point (e, stands, inr (is, none, unused)) =
+        (inr ((e, stands, is), λ named. none ((others.all point).1 named)), unused)
+
+    from : (at other point : ℕ) → IsUnknownNamedOfTwo first IsId second IsUid entries at other point
+        → IsFaultAt (IsUnknownOfTwo ids uids first second) entries at other point
+    from at other point (inl ((e, stands, is), none), unused) =
+        (e, stands, inl (is, λ listed. none ((some.all point).0 listed), unused))
+    from at other point (inr ((e, stands, is), none), unused) =
+        (e, stands, inr (is, λ listed. none ((others.all point).0 listed), unused))
+
+-- ---- numbers at places
+
+-- those before the place i are known
+abbrev pub AreKnownBefore : List ℕ → List Numbered → ℕ → Type 0
+AreKnownBefore known given i = (k : ℕ) (d : Numbered) → k < i → k < length given → Contains known (get_or given k d).number
+
+pub one_known : (known : List ℕ) (given : List Numbered) (i : ℕ) (d : Numbered) → i < length given
+    → Contains known (get_or given i d).number → AreKnownBefore known given i → AreKnownBefore known given (i + 1)
+one_known known given i d within has before k e less below =
+    elim (cases_order k i) [
+      | inl same ↦ rw (same, ← get_or_default given i d e within) has
+      | inr (inl earlier) ↦ before k e earlier below
+      | inr (inr later) ↦ absurd (omega arith)
+    ]
+
+pub one_unknown : (known : List ℕ) (given : List Numbered) (i : ℕ) (d : Numbered)
+    → AllPairs (λ a b. a.at < b.at) given → i < length given → ¬ Contains known (get_or given i d).number
+    → AreKnownBefore known given i
+    → IsLeast (IsUnknownAt known given)
+    (record { at = (get_or given i d).at; other = 0; point = (get_or given i d).number })
+one_unknown known given i d rise within none before =
+    record {
+      here = (get_or given i d, Contains-get_or given i d within, refl, (refl, none, refl));
+      least = λ at other point (g, (k, below, is), place, (number, unknown, unused)).
+          elim (cases_order k i) [
+            | inr (inl earlier) ↦
+                absurd (unknown (subst (Contains known) (ap (λ (x : Numbered). x.number) is
+                ∙ same_Some g.number point number) (before k g earlier below)))
+            | inl same ↦
+                let first : get_or given i d ≡ g =
+                get_or_default given i d g within ∙ subst (λ (j : ℕ). get_or given j g ≡ g) same is in
+                let numbers : (get_or given i d).number ≡ point =
+                ap (λ (x : Numbered). x.number) first ∙ same_Some g.number point number in
+                inr (ap (λ (x : Numbered). x.at) first ∙ place, inr (sym unused, omega (arith, numbers)))
+            | inr (inr later) ↦
+                let first = ap (λ (x : Numbered). x.at) (get_or_default given i d g within) in
+                let second = ap (λ (x : Numbered). x.at) is in
+                inl (omega (arith, rise i k g later below, first, second, place))
+          ];
+    }
+
+pub all_known : (known : List ℕ) (given : List Numbered) (i : ℕ) → length given ≤ i → AreKnownBefore known given i
+    → FindsLeast (IsUnknownAt known given) None
+all_known known given i passed before at other point (g, (k, below, is), place, (number, none, unused)) =
+    none (subst (Contains known) (ap (λ (x : Numbered). x.number) is ∙ same_Some g.number point number)
+    (before k g (omega arith) below))
+
+-- so it is of those that stand at places
+pub unknown_placed : (IsKnown : ℕ → Type 0) (StandsAt : ℕ → ℕ → Type 0) (known : List ℕ) (given : List Numbered)
+    (found : Option Place) → AreKnown IsKnown known → AreNumbersAt StandsAt given
+    → FindsLeast (IsUnknownAt known given) found
+    → FindsLeast (λ at other point. StandsAt at point × (¬ IsKnown point) × (other ≡ 0)) found
+unknown_placed IsKnown StandsAt known given found are placed least = least_as found to from least
+  where
+    to : (at other point : ℕ) → IsUnknownAt known given at other point
+        → StandsAt at point × (¬ IsKnown point) × (other ≡ 0)
+    to at other point (g, listed, place, (number, none, unused)) = (
+      rw (← place, ← same_Some g.number point number)
+          ((placed.all g.at g.number).0 (has_at given g placed.placed listed)),
+      λ is. none ((are.all point).1 is),
+      unused,
+    )
+
+    from : (at other point : ℕ) → StandsAt at point × (¬ IsKnown point) × (other ≡ 0)
+        → IsUnknownAt known given at other point
+    from at other point (stands, none, unused) =
+        (at_place at point, (placed.all at point).1 stands, refl, (refl, λ listed. none ((are.all point).0 listed), unused))

@@ -1,0 +1,13 @@
+use Rattle.acpi_lint.proofs.table_rules.fadt_rule.Goals as goal
+
+pub returns-in-FadtOfRevision : goal.returns-in-FadtOfRevision
+returns-in-FadtOfRevision c = rw c.in-FadtOfRevision.is c.fadt_of_revision.ensures
+
+pub returns-in-FacsDiffers : goal.returns-in-FacsDiffers
+returns-in-FacsDiffers c = rw c.in-FacsDiffers.is c.facs_differs.ensures
+
+pub returns-in-DsdtDiffers : goal.returns-in-DsdtDiffers
+returns-in-DsdtDiffers c = rw c.in-DsdtDiffers.is c.dsdt_differs.ensures
+
+pub returns-in-BlockDiffers : goal.returns-in-BlockDiffers
+returns-in-BlockDiffers c = rw c.in-BlockDiffers.is c.block_differs.ensures

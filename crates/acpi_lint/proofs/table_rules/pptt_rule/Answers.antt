@@ -1,0 +1,10 @@
+use Rattle.acpi_lint.proofs.table_rules.pptt_rule.Goals as goal
+
+pub returns-in-SameLeaf : goal.returns-in-SameLeaf
+returns-in-SameLeaf c = rw c.in-SameLeaf.is c.same_leaf.ensures
+
+pub returns-in-CacheShape : goal.returns-in-CacheShape
+returns-in-CacheShape c = rw c.in-CacheShape.is c.cache_shape.ensures
+
+pub returns-in-SameCacheId : goal.returns-in-SameCacheId
+returns-in-SameCacheId c = rw c.in-SameCacheId.is c.same_cache_id.ensures

@@ -1,0 +1,30 @@
+-- Numbers that are none of those that are known.
+use Rattle.std.specs.Prelude.{◌≡◌, ℕ, ◌≤◌, ◌⊎◌, List, Contains, Option, Some}
+use Rattle.acpi_base.specs.Lint.Processors.{apic_id_on, gicc_uid_on, placed_apic_id, placed_uid, any_domain}
+use Rattle.acpi_base.specs.Madt.{MadtEntry}
+use Rattle.acpi_base.specs.Srat.{SratEntry}
+use Rattle.acpi_lint.specs.declared.numbered.Numbered.{Numbered}
+
+-- the number that is given at `at`, if any, is `point`, which is none of the known ones
+abbrev pub IsUnknown : List ℕ → ℕ → Option ℕ → ℕ → ℕ → Type 0
+IsUnknown known at number other point = (number ≡ Some point) × (¬ Contains known point) × (other ≡ 0)
+
+-- the affinity is of an APIC ID or x2APIC ID that is none of these, or of a UID that is none of those
+abbrev pub IsUnknownAffinity : List ℕ → List ℕ → ℕ → SratEntry → ℕ → ℕ → Type 0
+IsUnknownAffinity ids uids at e other point =
+    IsUnknown ids at (placed_apic_id e) other point ⊎ IsUnknown uids at (placed_uid e) other point
+
+-- the same of a processor that is on, of a GIC CPU interface by its UID
+abbrev pub IsUnplaced : List ℕ → List ℕ → ℕ → MadtEntry → ℕ → ℕ → Type 0
+IsUnplaced ids uids at e other point =
+    IsUnknown ids at (apic_id_on e) other point ⊎ IsUnknown uids at (gicc_uid_on e) other point
+
+-- the entry is of a domain that is past the localities
+abbrev pub IsPastHere : ℕ → ℕ → SratEntry → ℕ → ℕ → Type 0
+IsPastHere localities at e other point =
+    (any_domain e ≡ Some point) × (localities ≤ point) × (other ≡ localities)
+
+-- one of these numbers is given at `at` and is none of the known ones
+abbrev pub IsUnknownAt : List ℕ → List Numbered → ℕ → ℕ → ℕ → Type 0
+IsUnknownAt known given at other point =
+    (g : Numbered) × Contains given g × (g.at ≡ at) × IsUnknown known at (Some g.number) other point

@@ -1,0 +1,218 @@
+//! Rules on numbers that are looked up elsewhere and are not there: UIDs, APIC IDs and x2APIC IDs among those of the MADT's
+//! processors, of the SRAT's affinities or of the PPTT's leaves, and domains among the SLIT's localities. What a rule asks of the
+//! tables as a whole is asked first.
+
+ghost use Rattle.std.specs.Prelude.{◌<◌, AllPairs, IfOk};
+ghost use Rattle.acpi_base.specs.Lint.MadtAdvice.{IsNmiNowhere, IsNoProcessor};
+ghost use Rattle.acpi_base.specs.Lint.PpttAdvice.{IsNoLeaf, IsLeafNowhere};
+ghost use Rattle.acpi_base.specs.Lint.SratAdvice.{IsAffinityNowhere, IsNoDomain, IsDomainPastSlit};
+ghost use Rattle.acpi_base.specs.Madt.{madt_contents};
+ghost use Rattle.acpi_base.specs.Pptt.{pptt_contents};
+ghost use Rattle.acpi_base.specs.Srat.{srat_contents};
+ghost use Rattle.acpi_read.specs.Madts.{madt_value};
+ghost use Rattle.acpi_read.specs.Srats.{srat_value};
+ghost use Rattle.acpi_read.specs.TypedEntries.{entry_at_value};
+ghost use Rattle.acpi_lint.specs.FirstPicked.{FindsOwn};
+ghost use Rattle.acpi_lint.specs.Places.{FindsLeast};
+ghost use Rattle.acpi_lint.specs.UnknownNumbers.{IsUnknown, IsUnknownAffinity, IsUnplaced, IsPastHere, IsUnknownAt};
+
+use crate::known_numbers::{
+    apic_ids, are_processors_read, has_gicc, is_any_on, is_any_placed, leaf_ids, placed_apic_ids,
+    placed_uids, uids,
+};
+use crate::leaves::leaves_of;
+use crate::numbered::Numbered;
+use crate::passes::first_picked;
+use crate::place::Place;
+use crate::processors::{
+    any_domain, apic_id_on, gicc_uid_on, nmi_uid, placed_apic_id, placed_uid, uid_on,
+};
+use acpi_check::{binary_search, has};
+use acpi_read::{EntryAt, Madt, MadtEntry, Pptt, Srat, SratEntry};
+use std::alloc::{AllocError, Global};
+
+/// The place of a number, where there is one, that is none of these, which rise.
+fn unknown_place(known: &[u64], at: u64, number: Option<u32>) -> Option<Place>
+    requires { AllPairs (λ i j. i < j) known.now }
+    ensures { FindsOwn (IsUnknown known.now) (record { offset = at; entry = number }) result }
+{
+    let number = number?;
+    if has(known, number) {
+        return None;
+    }
+    Some(Place {
+        at,
+        other: 0,
+        point: u64::from(number),
+    })
+}
+
+// ---- the MADT alone
+
+/// The place of a MADT that has no processor that is on, where the rules read all of them.
+pub fn no_processor(madt: &Madt<'_>) -> Option<Place>
+    ensures { FindsLeast (IsNoProcessor (madt_contents madt.now)) result }
+{
+    if !are_processors_read(madt) {
+        return None;
+    }
+    if is_any_on(madt) {
+        return None;
+    }
+    Some(Place::at(0))
+}
+
+/// The first local APIC NMI or local x2APIC NMI of a UID that no processor has, where the rules read all of them; `point` is
+/// the UID. Takes memory for the UID of each processor.
+pub fn nmi_nowhere(alloc: Global, madt: &Madt<'_>) -> Result<Option<Place>, AllocError>
+    ensures { IfOk result (FindsLeast (IsNmiNowhere (madt_contents madt.now))) }
+{
+    if !are_processors_read(madt) {
+        return Ok(None);
+    }
+    let uids = uids(alloc, madt)?;
+    Ok(first_picked(madt.entries(), |at| {
+        unknown_place(&uids, at.offset, nmi_uid(&at.entry))
+    }))
+}
+
+// ---- the MADT and the SRAT
+
+/// The place of an affinity whose number is unknown: its APIC ID or x2APIC ID, or of a GICC affinity its UID.
+fn unknown_affinity(ids: &[u64], uids: &[u64], at: &EntryAt<SratEntry<'_>>) -> Option<Place>
+    requires ids { AllPairs (λ i j. i < j) ids.now }
+    requires uids { AllPairs (λ i j. i < j) uids.now }
+    ensures { FindsOwn (IsUnknownAffinity ids.now uids.now) (entry_at_value srat_value at.now)
+        result }
+{
+    match placed_uid(&at.entry) {
+        Some(uid) => unknown_place(uids, at.offset, Some(uid)),
+        None => unknown_place(ids, at.offset, placed_apic_id(&at.entry)),
+    }
+}
+
+/// The first affinity of an SRAT that is of no processor of a MADT, where the rules read all of them; `point` is the number that
+/// none has. Takes memory for the numbers of each processor.
+pub fn affinity_nowhere(
+    alloc: Global,
+    madt: &Madt<'_>,
+    srat: &Srat<'_>,
+) -> Result<Option<Place>, AllocError>
+    ensures { IfOk result (FindsLeast
+        (IsAffinityNowhere (madt_contents madt.now) (srat_contents srat.now))) }
+{
+    if !are_processors_read(madt) {
+        return Ok(None);
+    }
+    let ids = apic_ids(alloc, madt)?;
+    let uids = uids(alloc, madt)?;
+    Ok(first_picked(srat.entries(), |at| { unknown_affinity(&ids, &uids, at) }))
+}
+
+/// The place of a processor that is on and whose number is unknown: its APIC ID or x2APIC ID, or of a GIC CPU interface its UID.
+fn unplaced(ids: &[u64], uids: &[u64], at: &EntryAt<MadtEntry<'_>>) -> Option<Place>
+    requires ids { AllPairs (λ i j. i < j) ids.now }
+    requires uids { AllPairs (λ i j. i < j) uids.now }
+    ensures { FindsOwn (IsUnplaced ids.now uids.now) (entry_at_value madt_value at.now) result }
+{
+    match gicc_uid_on(&at.entry) {
+        Some(uid) => unknown_place(uids, at.offset, Some(uid)),
+        None => unknown_place(ids, at.offset, apic_id_on(&at.entry)),
+    }
+}
+
+/// The first processor of a MADT that is on and of which an SRAT has no affinity, where it has some, and the rules read all
+/// processors; `point` is its number. Takes memory for each affinity.
+pub fn no_domain(
+    alloc: Global,
+    madt: &Madt<'_>,
+    srat: &Srat<'_>,
+) -> Result<Option<Place>, AllocError>
+    ensures { IfOk result (FindsLeast
+        (IsNoDomain (madt_contents madt.now) (srat_contents srat.now))) }
+{
+    if !are_processors_read(madt) || !is_any_placed(srat) {
+        return Ok(None);
+    }
+    let ids = placed_apic_ids(alloc, srat)?;
+    let uids = placed_uids(alloc, srat)?;
+    Ok(first_picked(madt.entries(), |at| { unplaced(&ids, &uids, at) }))
+}
+
+// ---- the SRAT and the SLIT
+
+/// The place of an entry whose domain is none of the localities.
+fn past_place(localities: u64, at: &EntryAt<SratEntry<'_>>) -> Option<Place>
+    ensures { FindsOwn (IsPastHere localities) (entry_at_value srat_value at.now) result }
+{
+    let domain = u64::from(any_domain(&at.entry)?);
+    (domain >= localities).then_some(Place {
+        at: at.offset,
+        other: localities,
+        point: domain,
+    })
+}
+
+/// The first entry of an SRAT whose domain, `point`, is none of a SLIT's localities, of which there are so many, which is
+/// `other`.
+pub fn domain_past_slit(localities: u64, srat: &Srat<'_>) -> Option<Place>
+    ensures { FindsLeast (IsDomainPastSlit (srat_contents srat.now) localities) result }
+{
+    first_picked(srat.entries(), |at| past_place(localities, at))
+}
+
+// ---- the MADT and the PPTT
+
+/// The first processor of a MADT that is on and of which a PPTT has no leaf, where it has some, and the rules read all
+/// processors; `point` is its UID. Takes memory for each leaf, and below Revision 2 for each node.
+pub fn no_leaf(alloc: Global, madt: &Madt<'_>, pptt: &Pptt<'_>) -> Result<Option<Place>, AllocError>
+    ensures { IfOk result (FindsLeast
+        (IsNoLeaf (madt_contents madt.now) (pptt_contents pptt.now))) }
+{
+    if !are_processors_read(madt) {
+        return Ok(None);
+    }
+    let ids = leaf_ids(alloc, pptt)?;
+    if ids.is_empty() {
+        return Ok(None);
+    }
+    Ok(first_picked(madt.entries(), |at| {
+        unknown_place(&ids, at.offset, uid_on(&at.entry))
+    }))
+}
+
+/// The place of the first of these numbers that is none of the known ones, which rise. Their places rise.
+fn first_unknown(known: &[u64], given: &[Numbered]) -> Option<Place>
+    requires known { AllPairs (λ i j. i < j) known.now }
+    requires given { AllPairs (λ a b. a.at < b.at) given.now }
+    ensures { FindsLeast (IsUnknownAt known.now given.now) result }
+{
+    for leaf in given {
+        if binary_search(known, leaf.number).is_none() {
+            return Some(Place {
+                at: leaf.at,
+                other: 0,
+                point: leaf.number,
+            });
+        }
+    }
+    None
+}
+
+/// The first leaf of a PPTT whose ID, `point`, is no processor's UID, where the MADT has a GIC CPU interface, and the rules read
+/// all processors. Takes memory for the UID of each processor and for each leaf, and below Revision 2 for each node.
+pub fn leaf_nowhere(
+    alloc: Global,
+    madt: &Madt<'_>,
+    pptt: &Pptt<'_>,
+) -> Result<Option<Place>, AllocError>
+    ensures { IfOk result (FindsLeast
+        (IsLeafNowhere (madt_contents madt.now) (pptt_contents pptt.now))) }
+{
+    if !are_processors_read(madt) || !has_gicc(madt) {
+        return Ok(None);
+    }
+    let uids = uids(alloc, madt)?;
+    let leaves = leaves_of(alloc, pptt)?;
+    Ok(first_unknown(&uids, &leaves))
+}

@@ -1,0 +1,104 @@
+//! Advice on the interrupt of a FADT, SCI_INT, among those that the I/O APICs of a MADT serve (ACPI 6.5, 5.2.9, 5.2.12).
+
+ghost use Rattle.std.specs.Prelude.{◌≡◌, ◌↔◌, ℕ, IsTrue};
+ghost use Rattle.acpi_base.specs.Across.{HasIoApic, IsServed};
+ghost use Rattle.acpi_base.specs.Lint.FadtAdvice.{IsGsiOf, IsSciNowhere};
+ghost use Rattle.acpi_base.specs.Madt.{madt_contents};
+ghost use Rattle.acpi_read.specs.Madts.{madt_value};
+ghost use Rattle.acpi_read.specs.TypedEntries.{entry_at_value};
+ghost use Rattle.acpi_lint.specs.FirstPicked.{FindsOwn};
+ghost use Rattle.acpi_lint.specs.Overrides.{IsOwnOverride, IsOverrideAt, ServesNumber, IsNowhere};
+ghost use Rattle.acpi_lint.specs.Places.{FindsLeast};
+
+use crate::passes::first_picked;
+use crate::place::Place;
+use acpi_base::Policy;
+use acpi_base::field::u16_at;
+use acpi_read::{EntryAt, Fadt, Madt, MadtEntry};
+
+/// The place of an override of an ISA interrupt, with the interrupt number that it gives it.
+fn own_override(source: u16, at: &EntryAt<MadtEntry<'_>>) -> Option<Place>
+    ensures { FindsOwn (IsOwnOverride source) (entry_at_value madt_value at.now) result }
+{
+    match &at.entry {
+        MadtEntry::Override(named) if named.bus == 0 && u16::from(named.source) == source => {
+            Some(Place {
+                at: at.offset,
+                other: u64::from(named.gsi),
+                point: 0,
+            })
+        }
+        _ => None,
+    }
+}
+
+/// The place of the first override of an ISA interrupt, with the interrupt number that it gives it.
+fn first_override(madt: &Madt<'_>, source: u16) -> Option<Place>
+    ensures { FindsLeast (IsOverrideAt source (madt_contents madt.now)) result }
+{
+    first_picked(madt.entries(), |at| own_override(source, at))
+}
+
+/// The interrupt number of an ISA interrupt: that of its first override, or else its own.
+fn gsi_of(madt: &Madt<'_>, source: u16) -> u64
+    ensures is { IsGsiOf (madt_contents madt.now) source result }
+    ensures one { (g : ℕ) → IsGsiOf (madt_contents madt.now) source g → g ≡ result }
+{
+    match first_override(madt, source) {
+        Some(place) => place.other,
+        None => u64::from(source),
+    }
+}
+
+/// Whether a MADT has an I/O APIC.
+fn has_io_apic(madt: &Madt<'_>) -> bool
+    ensures { IsTrue result ↔ HasIoApic (madt_contents madt.now) }
+{
+    first_picked(madt.entries(), |at| {
+        matches!(at.entry, MadtEntry::IoApic(_)).then_some(at.offset)
+    })
+    .is_some()
+}
+
+/// Whether an entry is an I/O APIC that serves an interrupt number.
+fn serves(policy: &Policy, entry: &MadtEntry<'_>, gsi: u64) -> bool
+    ensures { IsTrue result ↔ ServesNumber policy.now gsi (madt_value entry.now) }
+{
+    match entry {
+        MadtEntry::IoApic(io_apic) => {
+            let start = u64::from(io_apic.gsi_base);
+            start <= gsi && gsi < start + u64::from(policy.inputs_of(io_apic.address))
+        }
+        _ => false,
+    }
+}
+
+/// Whether an I/O APIC of a MADT serves an interrupt number.
+fn is_served(policy: &Policy, madt: &Madt<'_>, gsi: u64) -> bool
+    ensures { IsTrue result ↔ IsServed policy.now (madt_contents madt.now) gsi }
+{
+    first_picked(madt.entries(), |at| {
+        serves(policy, &at.entry, gsi).then_some(at.offset)
+    })
+    .is_some()
+}
+
+/// Whether none of the I/O APICs of a MADT serves an interrupt number, though there are some, and the hardware is not reduced.
+fn is_nowhere(policy: &Policy, fadt: &Fadt<'_>, madt: &Madt<'_>, gsi: u64) -> bool
+    ensures { IsTrue result ↔ IsNowhere policy.now fadt.now (madt_contents madt.now) gsi }
+{
+    !fadt.reduced() && has_io_apic(madt) && !is_served(policy, madt, gsi)
+}
+
+/// SCI_INT, at 46, where the hardware is not reduced, and its interrupt number is one that none of the I/O APICs serves though
+/// there are some.
+pub fn sci_nowhere(policy: &Policy, fadt: &Fadt<'_>, madt: &Madt<'_>) -> Option<Place>
+    ensures { FindsLeast (IsSciNowhere policy.now fadt.now (madt_contents madt.now)) result }
+{
+    let gsi = gsi_of(madt, u16_at(fadt.bytes(), 46));
+    is_nowhere(policy, fadt, madt, gsi).then_some(Place {
+        at: 46,
+        other: 0,
+        point: gsi,
+    })
+}
