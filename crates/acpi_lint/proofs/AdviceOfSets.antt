@@ -2,11 +2,14 @@
 use Rattle.std.proofs.Common.{◌≡◌, ℕ, ◌<◌, ◌≤◌, List, length, Option, Some, None, Result, Ok, Err, refl, arith}
 use Rattle.std.specs.Prelude.{IfOk}
 use Rattle.acpi_base.specs.Lint.Sets.{OfFadt, OfMadt, OfSrat}
+use Rattle.acpi_base.specs.Lint.SratAdvice.{IsDomainPastSlit}
 use Rattle.acpi_base.specs.Listed.{fadt_signature, madt_signature, srat_signature}
 use Rattle.acpi_base.specs.Madt.{MadtContents, madt_contents}
 use Rattle.acpi_base.specs.Memory.{Memory}
 use Rattle.acpi_base.specs.Policy.{PolicyValue}
+use Rattle.acpi_base.specs.Slit.{slit_contents, HasSlitSize}
 use Rattle.acpi_base.specs.Srat.{SratContents, srat_contents}
+use Rattle.acpi_read.specs.Slits.{HasRows}
 use Rattle.acpi_lint.specs.Places.{FindsLeast}
 use Rattle.acpi_lint.specs.WholeTables.{IsFound, IsLong}
 use Rattle.acpi_lint.specs.declared.place.Place.{Place}
@@ -78,3 +81,18 @@ none_srat m q P found looked short =
     none_long m q.rsdp srat_signature 48
     (λ bytes at other point. (48 ≤ (srat_contents bytes).size) × P (srat_contents bytes) at other point) found
     looked short (λ whole less at other point (long, _). omega (arith, less, long))
+
+-- ---- the SRAT and the SLIT
+
+sized : (slit : List ℕ) (n : ℕ) → HasRows slit n → HasSlitSize (slit_contents slit)
+unfolding slit_contents
+sized slit n rows = rw rows.count rows.size
+
+-- a SLIT with so many rows has its size, and so many localities
+pub past_sized : (srat : SratContents) (slit : List ℕ) (n : ℕ) (found : Option Place) → HasRows slit n
+    → FindsLeast (IsDomainPastSlit srat n) found
+    → FindsLeast (λ at other point. HasSlitSize (slit_contents slit)
+    × IsDomainPastSlit srat (slit_contents slit).count at other point) found
+past_sized srat slit n found rows least =
+    least_as found (λ at other point past. (sized slit n rows, rw rows.count past))
+    (λ at other point (_, past). rw rows.count at past) least

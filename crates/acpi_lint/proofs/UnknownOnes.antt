@@ -1,31 +1,56 @@
 -- Numbers that are none of those that are known: what is found of entries by lists of known numbers is what the rules say.
-use Rattle.std.proofs.Common.{◌≡◌, ℕ, ◌+◌, ◌<◌, ◌≤◌, ◌⊎◌, List, get_or, length, Option, Some, None, Result, Ok, Err, refl, sym, ◌∙◌, ap, subst, inl, inr, arith}
-use Rattle.std.specs.Prelude.{◌↔◌, AllPairs, Contains, IfOk}
+use Rattle.std.proofs.Common.{◌≡◌, ◌≢◌, ℕ, ◌+◌, ◌<◌, ◌≤◌, ◌⊎◌, List, get_or, length, Option, Some, None, Bool, true, false, refl, sym, ◌∙◌, ap, subst, inl, inr, arith}
+use Rattle.std.specs.Prelude.{if◌then◌else◌, AllPairs, Contains, MatchOption, slice_index}
+use Rattle.std.specs.Option.{is_some, option_and_then}
 use Rattle.std.proofs.lemmas.Bool.{cases_order}
 use Rattle.std.proofs.lemmas.List.Elements.{Contains-get_or}
 use Rattle.std.proofs.lemmas.List.{get_or_default}
 use Rattle.std.proofs.lemmas.Option.{none-some, same_Some}
 use Rattle.acpi_base.specs.Entries.{PlacedEntry}
 use Rattle.acpi_base.specs.Lint.Numbered.{NamesAt}
+use Rattle.acpi_base.specs.Lint.Processors.{Processor, is_gicc, apic_id_on, gicc_uid_on, placed_apic_id, placed_uid}
+use Rattle.acpi_base.specs.Madt as madt
+use Rattle.acpi_base.specs.Number.{field, has_bit}
+use Rattle.acpi_base.specs.Srat as srat
 use Rattle.acpi_lint.specs.FirstPicked.{FindsOwn}
 use Rattle.acpi_lint.specs.KnownNumbers.{AreKnown}
 use Rattle.acpi_lint.specs.Numbered.{at_place, AreNumbersAt}
 use Rattle.acpi_lint.specs.Places.{IsLeast, FindsLeast}
-use Rattle.acpi_lint.specs.UnknownNumbers.{IsUnknown, IsUnknownAt}
+use Rattle.acpi_lint.specs.UnknownNumbers.{IsUnknown, IsUnknownOf, IsUnknownAt}
 use Rattle.acpi_lint.specs.declared.numbered.Numbered.{Numbered}
 use Rattle.acpi_lint.specs.declared.place.Place.{Place}
 use Rattle.acpi_lint.proofs.FirstEntries.{IsFaultAt}
 use Rattle.acpi_lint.proofs.LeastPlaces.{least_as}
 use Rattle.acpi_lint.proofs.SameNumbers.{has_at}
 
--- ---- what a rule asks of the tables as a whole
+-- ---- whether any is known
 
-pub least_asked : {A : Type 0} (P : ℕ → ℕ → ℕ → Type 0) (found : Option Place) → A → FindsLeast P found
-    → FindsLeast (λ at other point. A × P at other point) found
-least_asked P found asked least =
-    least_as found (λ at other point holds. (asked, holds)) (λ at other point (_, holds). holds) least
+pub none_known : {IsKnown : ℕ → Type 0} (known : List ℕ) → AreKnown IsKnown known → length known ≡ 0 → (n : ℕ)
+    → ¬ IsKnown n
+none_known known are none n is = let (k, within, _) = (are.all n).1 is in omega (arith, within, none)
+
+pub some_known : {IsKnown : ℕ → Type 0} (known : List ℕ) → AreKnown IsKnown known → length known ≢ 0
+    → (n : ℕ) × IsKnown n
+some_known known are some =
+    (slice_index known 0, (are.all (slice_index known 0)).0 (Contains-get_or known 0 0 (omega (arith, some))))
 
 -- ---- entries of one number
+
+-- what is found of a number is found of the entry that has it
+own_as : {E N : Type 0} (P : ℕ → N → ℕ → ℕ → Type 0) (Q : ℕ → E → ℕ → ℕ → Type 0) (s : PlacedEntry E) (number : N)
+    (found : Option Place) → ((other point : ℕ) → P s.offset number other point → Q s.offset s.entry other point)
+    → ((other point : ℕ) → Q s.offset s.entry other point → P s.offset number other point)
+    → FindsOwn P (record { offset = s.offset; entry = number }) found → FindsOwn Q s found
+own_as P Q s number None to from none = λ other point wrong. none other point (from other point wrong)
+own_as P Q s number (Some p) to from (place, wrong, least) =
+    (place, to p.other p.point wrong, λ other point fault. least other point (from other point fault))
+
+pub own_number : {E : Type 0} (read : E → Option ℕ) (known : List ℕ) (s : PlacedEntry E) (found : Option Place)
+    → FindsOwn (IsUnknown known) (record { offset = s.offset; entry = read s.entry }) found
+    → FindsOwn (IsUnknownOf read known) s found
+own_number read known s found own =
+    own_as (IsUnknown known) (IsUnknownOf read known) s (read s.entry) found (λ other point wrong. wrong)
+    (λ other point wrong. wrong) own
 
 -- an entry of a number that is none of the known ones stands at `at`
 abbrev pub IsUnknownNamed : {E : Type 0} → (E → Option ℕ) → (ℕ → Type 0) → List (PlacedEntry E) → ℕ → ℕ → ℕ → Type 0
@@ -34,7 +59,7 @@ IsUnknownNamed read IsKnown entries at other point =
 
 pub unknown_named : {E : Type 0} (read : E → Option ℕ) (IsKnown : ℕ → Type 0) (entries : List (PlacedEntry E))
     (known : List ℕ) (found : Option Place) → AreKnown IsKnown known
-    → FindsLeast (IsFaultAt (λ at e. IsUnknown known at (read e)) entries) found
+    → FindsLeast (IsFaultAt (IsUnknownOf read known) entries) found
     → FindsLeast (IsUnknownNamed read IsKnown entries) found
 unknown_named read IsKnown entries known found are least =
     least_as found
@@ -50,15 +75,6 @@ unknown_named read IsKnown entries known found are least =
 abbrev pub IsUnknownOfTwo : {E : Type 0} → List ℕ → List ℕ → (E → Option ℕ) → (E → Option ℕ) → ℕ → E → ℕ → ℕ → Type 0
 IsUnknownOfTwo ids uids first second at e other point =
     IsUnknown ids at (first e) other point ⊎ IsUnknown uids at (second e) other point
-
--- what is found is by what is at fault
-own_as : {E N : Type 0} (P : ℕ → N → ℕ → ℕ → Type 0) (Q : ℕ → E → ℕ → ℕ → Type 0) (s : PlacedEntry E) (number : N)
-    (found : Option Place) → ((other point : ℕ) → P s.offset number other point → Q s.offset s.entry other point)
-    → ((other point : ℕ) → Q s.offset s.entry other point → P s.offset number other point)
-    → FindsOwn P (record { offset = s.offset; entry = number }) found → FindsOwn Q s found
-own_as P Q s number None to from none = λ other point wrong. none other point (from other point wrong)
-own_as P Q s number (Some p) to from (place, wrong, least) =
-    (place, to p.other p.point wrong, λ other point fault. least other point (from other point fault))
 
 -- where an entry has no number of the one kind, what is found of the other is all
 pub own_first : {E : Type 0} (ids uids : List ℕ) (first second : E → Option ℕ) (s : PlacedEntry E)
@@ -79,6 +95,23 @@ own_second ids uids first second s found none own =
     (λ other point wrong. inr wrong)
     (λ other point wrong.
     elim wrong [ inr is ↦ is | inl (is, _, _) ↦ absurd (none-some point (sym none ∙ is)) ]) own
+
+-- an affinity has one number, and a processor too
+pub affinity_has_one : (e : srat.SratEntry) (uid : ℕ) → placed_uid e ≡ Some uid → placed_apic_id e ≡ None
+affinity_has_one (srat.ApicDomain v) uid is = cc
+affinity_has_one (srat.X2apicDomain v) uid is = cc
+affinity_has_one e uid is = refl
+
+none_of_gicc : (gicc on : Bool) (uid : ℕ)
+    → option_and_then (λ (p : Processor). if p.on then p.apic_id else None)
+    (if gicc then Some (record { uid = uid; apic_id = None; on = on }) else None) ≡ None
+none_of_gicc false on uid = refl
+none_of_gicc true true uid = refl
+none_of_gicc true false uid = refl
+
+pub processor_has_one : (e : madt.MadtEntry) (uid : ℕ) → gicc_uid_on e ≡ Some uid → apic_id_on e ≡ None
+processor_has_one (madt.Opaque e) uid is = none_of_gicc (is_gicc e) (has_bit (field e 12 4) 0) (field e 8 4)
+processor_has_one e uid is = cc
 
 -- such an entry stands at `at`
 abbrev pub IsUnknownNamedOfTwo : {E : Type 0} → (E → Option ℕ) → (ℕ → Type 0) → (E → Option ℕ) → (ℕ → Type 0)
@@ -107,6 +140,20 @@ unknown_of_two {E} first second IsId IsUid entries ids uids found some others le
         (e, stands, inr (is, λ listed. none ((others.all point).0 listed), unused))
 
 -- ---- numbers at places
+
+-- what a search tells
+abbrev pub IsSearch : List ℕ → ℕ → Option ℕ → Type 0
+IsSearch known n found = MatchOption found (¬ Contains known n) (λ k. (k < length known) × (slice_index known k ≡ n))
+
+pub not_found : (known : List ℕ) (n : ℕ) (found : Option ℕ) → IsSearch known n found → is_some found ≡ false
+    → ¬ Contains known n
+not_found known n None none is = none
+not_found known n (Some k) here is = cc
+
+pub is_found : (known : List ℕ) (n : ℕ) (found : Option ℕ) → IsSearch known n found → is_some found ≡ true
+    → Contains known n
+is_found known n None none is = cc
+is_found known n (Some k) (within, here) is = (k, within, get_or_default known k n 0 within ∙ here)
 
 -- those before the place i are known
 abbrev pub AreKnownBefore : List ℕ → List Numbered → ℕ → Type 0

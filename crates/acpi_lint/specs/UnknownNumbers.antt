@@ -9,6 +9,10 @@ use Rattle.acpi_lint.specs.declared.numbered.Numbered.{Numbered}
 abbrev pub IsUnknown : List ℕ → ℕ → Option ℕ → ℕ → ℕ → Type 0
 IsUnknown known at number other point = (number ≡ Some point) × (¬ Contains known point) × (other ≡ 0)
 
+-- the same of the number that `read` gives of an entry at `at`
+abbrev pub IsUnknownOf : {E : Type 0} → (E → Option ℕ) → List ℕ → ℕ → E → ℕ → ℕ → Type 0
+IsUnknownOf read known at e other point = IsUnknown known at (read e) other point
+
 -- the affinity is of an APIC ID or x2APIC ID that is none of these, or of a UID that is none of those
 abbrev pub IsUnknownAffinity : List ℕ → List ℕ → ℕ → SratEntry → ℕ → ℕ → Type 0
 IsUnknownAffinity ids uids at e other point =

@@ -3,8 +3,9 @@
 //! tables as a whole is asked first.
 
 ghost use Rattle.std.specs.Prelude.{◌<◌, AllPairs, IfOk};
-ghost use Rattle.acpi_base.specs.Lint.MadtAdvice.{IsNmiNowhere, IsNoProcessor};
+ghost use Rattle.acpi_base.specs.Lint.MadtAdvice.{nmi_uid, IsNmiNowhere, IsNoProcessor};
 ghost use Rattle.acpi_base.specs.Lint.PpttAdvice.{IsNoLeaf, IsLeafNowhere};
+ghost use Rattle.acpi_base.specs.Lint.Processors.{uid_on};
 ghost use Rattle.acpi_base.specs.Lint.SratAdvice.{IsAffinityNowhere, IsNoDomain, IsDomainPastSlit};
 ghost use Rattle.acpi_base.specs.Madt.{madt_contents};
 ghost use Rattle.acpi_base.specs.Pptt.{pptt_contents};
@@ -14,7 +15,7 @@ ghost use Rattle.acpi_read.specs.Srats.{srat_value};
 ghost use Rattle.acpi_read.specs.TypedEntries.{entry_at_value};
 ghost use Rattle.acpi_lint.specs.FirstPicked.{FindsOwn};
 ghost use Rattle.acpi_lint.specs.Places.{FindsLeast};
-ghost use Rattle.acpi_lint.specs.UnknownNumbers.{IsUnknown, IsUnknownAffinity, IsUnplaced, IsPastHere, IsUnknownAt};
+ghost use Rattle.acpi_lint.specs.UnknownNumbers.{IsUnknown, IsUnknownOf, IsUnknownAffinity, IsUnplaced, IsPastHere, IsUnknownAt};
 
 use crate::known_numbers::{
     apic_ids, are_processors_read, has_gicc, is_any_on, is_any_placed, leaf_ids, placed_apic_ids,
@@ -62,6 +63,14 @@ pub fn no_processor(madt: &Madt<'_>) -> Option<Place>
     Some(Place::at(0))
 }
 
+/// The place of a local APIC NMI or local x2APIC NMI of a UID that is none of these.
+fn unknown_nmi(uids: &[u64], at: &EntryAt<MadtEntry<'_>>) -> Option<Place>
+    requires { AllPairs (λ i j. i < j) uids.now }
+    ensures { FindsOwn (IsUnknownOf nmi_uid uids.now) (entry_at_value madt_value at.now) result }
+{
+    unknown_place(uids, at.offset, nmi_uid(&at.entry))
+}
+
 /// The first local APIC NMI or local x2APIC NMI of a UID that no processor has, where the rules read all of them; `point` is
 /// the UID. Takes memory for the UID of each processor.
 pub fn nmi_nowhere(alloc: Global, madt: &Madt<'_>) -> Result<Option<Place>, AllocError>
@@ -71,9 +80,8 @@ pub fn nmi_nowhere(alloc: Global, madt: &Madt<'_>) -> Result<Option<Place>, Allo
         return Ok(None);
     }
     let uids = uids(alloc, madt)?;
-    Ok(first_picked(madt.entries(), |at| {
-        unknown_place(&uids, at.offset, nmi_uid(&at.entry))
-    }))
+    let uids = uids.as_slice();
+    Ok(first_picked(madt.entries(), |at| unknown_nmi(uids, at)))
 }
 
 // ---- the MADT and the SRAT
@@ -106,7 +114,9 @@ pub fn affinity_nowhere(
     }
     let ids = apic_ids(alloc, madt)?;
     let uids = uids(alloc, madt)?;
-    Ok(first_picked(srat.entries(), |at| { unknown_affinity(&ids, &uids, at) }))
+    let ids = ids.as_slice();
+    let uids = uids.as_slice();
+    Ok(first_picked(srat.entries(), |at| unknown_affinity(ids, uids, at)))
 }
 
 /// The place of a processor that is on and whose number is unknown: its APIC ID or x2APIC ID, or of a GIC CPU interface its UID.
@@ -136,7 +146,9 @@ pub fn no_domain(
     }
     let ids = placed_apic_ids(alloc, srat)?;
     let uids = placed_uids(alloc, srat)?;
-    Ok(first_picked(madt.entries(), |at| { unplaced(&ids, &uids, at) }))
+    let ids = ids.as_slice();
+    let uids = uids.as_slice();
+    Ok(first_picked(madt.entries(), |at| unplaced(ids, uids, at)))
 }
 
 // ---- the SRAT and the SLIT
@@ -163,6 +175,14 @@ pub fn domain_past_slit(localities: u64, srat: &Srat<'_>) -> Option<Place>
 
 // ---- the MADT and the PPTT
 
+/// The place of a processor that is on and whose UID is none of the leaves' IDs.
+fn leafless(ids: &[u64], at: &EntryAt<MadtEntry<'_>>) -> Option<Place>
+    requires { AllPairs (λ i j. i < j) ids.now }
+    ensures { FindsOwn (IsUnknownOf uid_on ids.now) (entry_at_value madt_value at.now) result }
+{
+    unknown_place(ids, at.offset, uid_on(&at.entry))
+}
+
 /// The first processor of a MADT that is on and of which a PPTT has no leaf, where it has some, and the rules read all
 /// processors; `point` is its UID. Takes memory for each leaf, and below Revision 2 for each node.
 pub fn no_leaf(alloc: Global, madt: &Madt<'_>, pptt: &Pptt<'_>) -> Result<Option<Place>, AllocError>
@@ -176,9 +196,8 @@ pub fn no_leaf(alloc: Global, madt: &Madt<'_>, pptt: &Pptt<'_>) -> Result<Option
     if ids.is_empty() {
         return Ok(None);
     }
-    Ok(first_picked(madt.entries(), |at| {
-        unknown_place(&ids, at.offset, uid_on(&at.entry))
-    }))
+    let ids = ids.as_slice();
+    Ok(first_picked(madt.entries(), |at| leafless(ids, at)))
 }
 
 /// The place of the first of these numbers that is none of the known ones, which rise. Their places rise.

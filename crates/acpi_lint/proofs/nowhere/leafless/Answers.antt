@@ -1,0 +1,10 @@
+use Rattle.acpi_base.specs.Lint.Processors.{uid_on}
+use Rattle.acpi_read.specs.Madts.{madt_value}
+use Rattle.acpi_read.specs.TypedEntries.{entry_at_value}
+use Rattle.acpi_lint.proofs.UnknownOnes.{own_number}
+use Rattle.acpi_lint.proofs.nowhere.leafless.Goals as goal
+
+pub returns : goal.returns
+returns c =
+    own_number uid_on c.args.ids.now (entry_at_value madt_value c.args.at.now) c.unknown_place.result
+    (rw c.uid_on.ensures at c.unknown_place.ensures)

@@ -1,0 +1,29 @@
+use Rattle.std.proofs.Common.{rules}
+use Rattle.acpi_base.specs.Lint.Numbered.{IsNamed}
+use Rattle.acpi_base.specs.Lint.Processors.{apic_id_on, gicc_uid_on, placed_apic_id, placed_uid}
+use Rattle.acpi_base.specs.Madt.{madt_contents}
+use Rattle.acpi_base.specs.Srat.{srat_contents}
+use Rattle.acpi_read.specs.Madts.{madt_value}
+use Rattle.acpi_check.proofs.EntryPasses.Kept.{madt_rising}
+use Rattle.acpi_lint.specs.UnknownNumbers.{IsUnplaced}
+use Rattle.acpi_lint.proofs.FirstEntries.{least_of_entries}
+use Rattle.acpi_lint.proofs.LeastPlaces.{least_as}
+use Rattle.acpi_lint.proofs.UnknownOnes.{unknown_of_two}
+use Rattle.acpi_lint.proofs.nowhere.no_domain.Goals as goal
+
+pub returns : goal.returns
+returns c =
+    let entries = (madt_contents c.args.madt.now).entries in
+    let others = (srat_contents c.args.srat.now).entries in
+    let ids = c.as_slice-ids.result.now in
+    let uids = c.as_slice-uids.result.now in
+    let found = c.first_picked.result in
+    let asked = c.are_processors_read.ensures.0 c.if-not-are_processors_read.false in
+    let some = c.is_any_placed.ensures.0 c.if-not-is_any_placed.false in
+    least_as found (λ at other point (sides, unused). (asked, some, sides, unused))
+    (λ at other point (_, _, sides, unused). (sides, unused))
+    (unknown_of_two apic_id_on gicc_uid_on (IsNamed placed_apic_id others) (IsNamed placed_uid others) entries ids uids found
+    (rw (← c.as_slice-ids.ensures.value) at c.in_ok-ids.ensures)
+    (rw (← c.as_slice-uids.ensures.value) at c.in_ok-uids.ensures)
+    (least_of_entries madt_value (IsUnplaced ids uids) 44 found c.first_picked.ensures c.entries.ensures.entries
+    (madt_rising c.args.madt.now) (λ at picked here answers. search rules)))
