@@ -1,5 +1,5 @@
 -- From advice on tables to advice on the set that lists them.
-use Rattle.std.proofs.Common.{◌≡◌, ℕ, ◌<◌, ◌≤◌, List, length, Option, Some, None, Result, Ok, Err, refl, arith}
+use Rattle.std.proofs.Common.{ℕ, ◌≤◌, List, length, Option, Some, None, Result, Ok, Err, arith}
 use Rattle.std.specs.Prelude.{IfOk}
 use Rattle.acpi_base.specs.Lint.Sets.{OfFadt, OfMadt, OfSrat}
 use Rattle.acpi_base.specs.Lint.SratAdvice.{IsDomainPastSlit}

@@ -1,9 +1,9 @@
 -- Whether something is picked of any entry of a table.
-use Rattle.std.proofs.Common.{◌≡◌, ℕ, List, [], ◌∷◌, Option, Some, None, Bool, true, false, refl, sym, ap, subst, inl, inr}
+use Rattle.std.proofs.Common.{◌≡◌, ℕ, List, [], ◌∷◌, Option, Some, None, Bool, true, false, refl, sym, subst, inl, inr}
 use Rattle.std.specs.Prelude.{◌↔◌, Contains, IsTrue, MatchOption, not}
 use Rattle.std.specs.Option.{is_some}
 use denote.Ref.{Bor}
-use Rattle.acpi_base.specs.Entries.{PlacedEntry, Stands, StandsWith}
+use Rattle.acpi_base.specs.Entries.{PlacedEntry, StandsWith}
 use Rattle.acpi_base.proofs.Elements.{first_element, later_element, first_or_later, no_element}
 use Rattle.acpi_read.specs.TypedEntries.{entry_at_value}
 use Rattle.acpi_read.specs.declared.typed_entries.EntryAt.{EntryAt}

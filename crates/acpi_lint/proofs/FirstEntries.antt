@@ -1,5 +1,5 @@
 -- What is picked first of the entries of a table is the least place.
-use Rattle.std.proofs.Common.{◌≡◌, ℕ, suc, ◌<◌, ◌≤◌, List, [], ◌∷◌, Option, Some, None, sym, ◌∙◌, ap, subst, inl, inr, arith, refl}
+use Rattle.std.proofs.Common.{◌≡◌, ℕ, suc, ◌<◌, List, [], ◌∷◌, Option, Some, None, sym, ◌∙◌, ap, subst, inl, inr, arith}
 use Rattle.std.specs.Prelude.{◌⊎◌, Contains}
 use denote.Ref.{Bor}
 use Rattle.acpi_base.specs.Entries.{PlacedEntry, Stands, StandsWith}
@@ -10,7 +10,7 @@ use Rattle.acpi_check.specs.CollectedValues.{Picks}
 use Rattle.acpi_check.proofs.EntryPasses.Kept.{AreRising}
 use Rattle.acpi_check.proofs.EntryPasses.Passes.{none_passed, left_behind}
 use Rattle.acpi_lint.specs.FirstPicked.{PicksFirst, FindsOwn}
-use Rattle.acpi_lint.specs.Places.{IsNotAfter, IsLeast, FindsLeast}
+use Rattle.acpi_lint.specs.Places.{IsLeast, FindsLeast}
 use Rattle.acpi_lint.specs.declared.place.Place.{Place}
 
 -- an entry stands at `at` that is at fault with these two numbers

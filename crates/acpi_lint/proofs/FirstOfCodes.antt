@@ -1,5 +1,5 @@
 -- From what is found of a stage's code to the first fault with the code.
-use Rattle.std.proofs.Common.{◌≡◌, ◌≢◌, ℕ, Option, Some, None, Result, Ok, Err, refl, sym, ap, subst, inl, inr, arith}
+use Rattle.std.proofs.Common.{◌≡◌, ◌≢◌, Option, Some, None, Result, Ok, Err, refl, sym, ap, subst, inl, inr, arith}
 use Rattle.std.specs.Prelude.{IfOk}
 use Rattle.acpi_base.specs.Codes.{code_number, stage_number, stage_of}
 use Rattle.acpi_base.specs.Memory.{Memory}

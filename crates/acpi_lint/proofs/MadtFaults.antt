@@ -1,5 +1,5 @@
 -- The faults of a MADT, by their codes.
-use Rattle.std.proofs.Common.{◌≡◌, ◌≢◌, ℕ, ◌<◌, List, length, Option, Some, None, refl, sym, ◌∙◌, ap, inl, inr, arith}
+use Rattle.std.proofs.Common.{◌≡◌, ◌≢◌, ℕ, ◌<◌, List, length, Option, Some, None, refl, sym, ◌∙◌, inr, arith}
 use Rattle.std.proofs.lemmas.Option.{none-some, same_Some}
 use Rattle.acpi_base.specs.Entries.{Stands}
 use Rattle.acpi_base.specs.Madt.{MadtEntry, madt_entry, madt_contents, MadtContents, MadtFault}
@@ -11,7 +11,6 @@ use Rattle.acpi_check.proofs.EntryPasses.Passes.{none_said}
 use Rattle.acpi_lint.specs.MadtPlaces.{IsOwnFaultAt}
 use Rattle.acpi_lint.specs.Places.{FindsLeast}
 use Rattle.acpi_lint.specs.declared.place.Place.{Place}
-use Rattle.acpi_lint.proofs.LeastPlaces.{least_as}
 
 -- a MADT that is too short has no entries, and no fault of theirs
 pub none_stands : (whole : List ℕ) → length whole < 44 → (o : ℕ) (e : MadtEntry) → ¬ Stands (madt_contents whole).entries o e

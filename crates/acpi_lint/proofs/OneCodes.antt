@@ -1,12 +1,11 @@
 -- Stages that have one code.
-use Rattle.std.proofs.Common.{◌≡◌, ℕ, ◌^◌, ◌<◌, List, length, Option, Some, None, Result, Ok, Err, refl, sym, subst, inl, inr, arith}
+use Rattle.std.proofs.Common.{◌≡◌, ℕ, ◌^◌, ◌<◌, List, length, Option, Some, None, Result, Ok, Err, refl, subst, inl, inr}
 use Rattle.std.specs.Prelude.{⊤, IfOk, IfSome}
 use Rattle.acpi_base.specs.Memory.{Memory}
 use Rattle.acpi_base.specs.Across.{ServedFault, DomainFault, LeafFault}
 use Rattle.acpi_base.specs.Chains.{IsCycle}
 use Rattle.acpi_base.specs.Contents.{HasMadt, HasSrat}
-use Rattle.acpi_base.specs.Faults.{Fault, FaultOfStage}
-use Rattle.acpi_base.specs.Lint.FirstOfCode.{IsFirstOfCode}
+use Rattle.acpi_base.specs.Faults.{Fault}
 use Rattle.acpi_base.specs.Listed.{madt_signature, srat_signature, IsListedTable}
 use Rattle.acpi_base.specs.Madt.{MadtContents, madt_contents, OverrideFault, InterruptFault, AreInterruptsApart, IsFirstGsiClash}
 use Rattle.acpi_base.specs.Policy.{PolicyValue}
@@ -27,7 +26,7 @@ use Rattle.acpi_check.specs.declared.nodes.Chain.{Chain}
 use Rattle.acpi_check.specs.declared.refusal.Refusal.{Refusal}
 use Rattle.acpi_check.specs.declared.refusal.Refusal.TheVariants as refusal
 use Rattle.acpi_lint.specs.Places.{IsLeast}
-use Rattle.acpi_lint.specs.StageFaults.{FindsFirstAt, fault_at}
+use Rattle.acpi_lint.specs.StageFaults.{FindsFirstAt}
 use Rattle.acpi_lint.specs.Verdicts.{IsPlaceOf}
 use Rattle.acpi_lint.specs.WholeTables.{IsFound, IsLong}
 use Rattle.acpi_lint.specs.declared.place.Place.{Place}

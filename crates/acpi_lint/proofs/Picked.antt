@@ -1,7 +1,7 @@
 -- A pass over entries up to the first of which something is picked.
 use Rattle.std.proofs.Common.{◌≡◌, List, [], ◌∷◌, Option, Some, None, refl, inl, inr}
 use Rattle.std.specs.Prelude.{Contains}
-use Rattle.acpi_base.proofs.Elements.{first_element, later_element}
+use Rattle.acpi_base.proofs.Elements.{later_element}
 use Rattle.acpi_lint.specs.FirstPicked.{PicksFirst}
 
 -- what is picked first of those left is picked first of all

@@ -1,5 +1,5 @@
 -- From the verdict of a stage that has one code to the least place of its faults.
-use Rattle.std.proofs.Common.{◌≡◌, ℕ, Option, Some, None, Result, Ok, Err, refl, sym, ◌∙◌, ap, subst, inl, inr, arith}
+use Rattle.std.proofs.Common.{◌≡◌, ℕ, Option, Some, None, Result, Ok, Err, ap, inl, inr, arith}
 use Rattle.std.specs.Prelude.{⊤, IfOk}
 use Rattle.acpi_base.specs.Codes.{code_number}
 use Rattle.acpi_base.specs.Faults.{NotAfter}
@@ -8,7 +8,7 @@ use Rattle.acpi_base.specs.declared.stage.Stage.{Stage}
 use Rattle.acpi_base.specs.declared.witness.Witness.{Witness}
 use Rattle.acpi_check.specs.TableResults.{FindsFirst}
 use Rattle.acpi_check.specs.declared.refusal.Refusal.{Refusal}
-use Rattle.acpi_check.specs.declared.refusal.Refusal.TheVariants.{Fault, OutOfMemory}
+use Rattle.acpi_check.specs.declared.refusal.Refusal.TheVariants.{Fault}
 use Rattle.acpi_lint.specs.Places.{IsNotAfter, FindsLeast}
 use Rattle.acpi_lint.specs.Verdicts.{IsPlaceOf}
 use Rattle.acpi_lint.specs.declared.place.Place.{Place}

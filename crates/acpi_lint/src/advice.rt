@@ -33,11 +33,7 @@ fn of_fadt(tables: &WholeTables<'_>, rule: Rule) -> Option<Place>
 }
 
 /// The first finding of a rule on a set's MADT alone.
-fn of_madt(
-    alloc: Global,
-    tables: &WholeTables<'_>,
-    rule: Rule,
-) -> Result<Option<Place>, AllocError>
+fn of_madt(alloc: Global, tables: &WholeTables<'_>, rule: Rule) -> Result<Option<Place>, AllocError>
     ensures { (m : Memory) (q : PolicyValue) → AreWholeTables m q.rsdp tables.now
         → IfOk result (FindsLeast
         (λ at other point. OfMadt m q (λ madt. MadtRule rule madt at other point))) }
@@ -49,11 +45,7 @@ fn of_madt(
 }
 
 /// The first finding of a rule on a set's SRAT alone.
-fn of_srat(
-    alloc: Global,
-    tables: &WholeTables<'_>,
-    rule: Rule,
-) -> Result<Option<Place>, AllocError>
+fn of_srat(alloc: Global, tables: &WholeTables<'_>, rule: Rule) -> Result<Option<Place>, AllocError>
     ensures { (m : Memory) (q : PolicyValue) → AreWholeTables m q.rsdp tables.now
         → IfOk result (FindsLeast
         (λ at other point. OfSrat m q (λ srat. SratRule rule srat at other point))) }
@@ -65,11 +57,7 @@ fn of_srat(
 }
 
 /// The first finding of a rule on a set's PPTT alone.
-fn of_pptt(
-    alloc: Global,
-    tables: &WholeTables<'_>,
-    rule: Rule,
-) -> Result<Option<Place>, AllocError>
+fn of_pptt(alloc: Global, tables: &WholeTables<'_>, rule: Rule) -> Result<Option<Place>, AllocError>
     ensures { (m : Memory) (q : PolicyValue) → AreWholeTables m q.rsdp tables.now
         → IfOk result (FindsLeast
         (λ at other point. HasPptt m q (λ pptt. PpttRule rule pptt at other point))) }

@@ -18,7 +18,8 @@ use crate::verdicts::place_of;
 use crate::whole_tables::WholeTables;
 use acpi_base::{Policy, TableKind};
 use acpi_check::{
-    Chain, agreeing_overrides, apart_interrupts, apart_ranges, first_cycle, known_leaves, named_served, one_domain,
+    Chain, agreeing_overrides, apart_interrupts, apart_ranges, first_cycle, known_leaves,
+    named_served, one_domain,
 };
 use acpi_read::{Madt, Pptt};
 use std::alloc::{AllocError, Global};
@@ -85,11 +86,7 @@ pub fn overlap(
 }
 
 /// The place of the first node of a PPTT whose chain goes round.
-fn cycle_place(
-    alloc: Global,
-    chain: Chain,
-    pptt: &Pptt<'_>,
-) -> Result<Option<Place>, AllocError>
+fn cycle_place(alloc: Global, chain: Chain, pptt: &Pptt<'_>) -> Result<Option<Place>, AllocError>
     ensures { IfOk result (FindsLeast
         (IsCycle (Names chain (pptt_contents pptt.now)) (most_of chain (pptt_contents pptt.now)))) }
 {

@@ -36,11 +36,7 @@ pub fn fadt_rule(rule: Rule, fadt: &Fadt<'_>) -> Option<Place>
 }
 
 /// That of a rule on the MADT alone.
-pub fn madt_rule(
-    alloc: Global,
-    rule: Rule,
-    madt: &Madt<'_>,
-) -> Result<Option<Place>, AllocError>
+pub fn madt_rule(alloc: Global, rule: Rule, madt: &Madt<'_>) -> Result<Option<Place>, AllocError>
     ensures { IfOk result (FindsLeast (MadtRule rule (madt_contents madt.now))) }
 {
     match rule {
@@ -58,11 +54,7 @@ pub fn madt_rule(
 }
 
 /// That of a rule on the SRAT alone.
-pub fn srat_rule(
-    alloc: Global,
-    rule: Rule,
-    srat: &Srat<'_>,
-) -> Result<Option<Place>, AllocError>
+pub fn srat_rule(alloc: Global, rule: Rule, srat: &Srat<'_>) -> Result<Option<Place>, AllocError>
     ensures { IfOk result (FindsLeast (SratRule rule (srat_contents srat.now))) }
 {
     match rule {
@@ -90,11 +82,7 @@ pub fn domain_rule(
 }
 
 /// That of a rule on the PPTT alone.
-pub fn pptt_rule(
-    alloc: Global,
-    rule: Rule,
-    pptt: &Pptt<'_>,
-) -> Result<Option<Place>, AllocError>
+pub fn pptt_rule(alloc: Global, rule: Rule, pptt: &Pptt<'_>) -> Result<Option<Place>, AllocError>
     ensures { IfOk result (FindsLeast (PpttRule rule (pptt_contents pptt.now))) }
 {
     match rule {

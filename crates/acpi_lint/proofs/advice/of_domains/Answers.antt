@@ -1,4 +1,4 @@
-use Rattle.std.proofs.Common.{ℕ, List, None, Ok}
+use Rattle.std.proofs.Common.{ℕ, None, Ok}
 use Rattle.std.specs.Prelude.{⊤}
 use Rattle.acpi_base.specs.Lint.Sets.{OfSrat}
 use Rattle.acpi_base.specs.Madt.{MadtContents, madt_contents}

@@ -1,9 +1,6 @@
-use Rattle.std.proofs.Common.{◌≡◌, sym, ◌∙◌, arith, subst}
-use Rattle.std.specs.Prelude.{IfOk}
+use Rattle.std.proofs.Common.{◌≡◌, sym, ◌∙◌, arith}
 use Rattle.acpi_base.specs.Codes.{stage_of}
-use Rattle.acpi_base.specs.declared.code.Code.{Code}
 use Rattle.acpi_base.specs.declared.stage.Stage.TheVariants as stage
-use Rattle.acpi_lint.specs.StageFaults.{FindsFirstAt}
 use Rattle.acpi_lint.proofs.FirstOfCodes.{first_of_stage, first_of_result, gsi_clash_alone, override_clash_alone, overlap_alone, parent_cycle_alone, cache_cycle_alone, two_domains_alone, gsi_nowhere_alone, leaf_unknown_alone}
 use Rattle.acpi_lint.proofs.faults.first_place.Goals as goal
 

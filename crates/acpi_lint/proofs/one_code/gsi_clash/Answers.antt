@@ -1,7 +1,4 @@
-use Rattle.std.proofs.Common.{Some}
-use Rattle.acpi_base.specs.Madt.{madt_contents}
 use Rattle.acpi_base.specs.declared.table_kind.TableKind.TheVariants as kind
-use Rattle.acpi_lint.proofs.MadtFaults.{none_stands}
 use Rattle.acpi_lint.proofs.OneCodes.{gsi_result, no_gsi}
 use Rattle.acpi_lint.proofs.one_code.gsi_clash.Goals as goal
 

@@ -1,7 +1,5 @@
-use Rattle.std.proofs.Common.{◌≡◌, None, ap, arith, rules}
-use Rattle.acpi_base.specs.Codes.{code_number}
+use Rattle.std.proofs.Common.{◌≡◌, None, rules}
 use Rattle.acpi_base.specs.Srat.{srat_contents}
-use Rattle.acpi_base.specs.declared.code.Code.TheVariants as code
 use Rattle.acpi_lint.proofs.SratFaults.{none_in_short_srat, own}
 use Rattle.acpi_lint.proofs.srat.table_fault.Goals as goal
 
