@@ -192,6 +192,7 @@ touched() {
   count "$1: listed files that do not name $2" "$(grep -LE "$2" ${told:-none-is-listed} 2>&1)"
 }
 touched 'A fault code' '\bGsiPastEnd\b'
+touched 'A rule of advice' 'CacheShape|cache_shape'
 touched 'A kind of entry of the MADT' 'X2apicNmi|x2apic[_-]nmi'
 touched 'A stage' '\b[Ss]tage(::|\.)Overrides\b'
 touched 'An option' '(--|")hotplug\b|hotplug_|_hotplug|hotplug = '
