@@ -153,6 +153,9 @@ same 'what a part of FAULTS.md has to say (<) and what it says (>)' "$asked" "$c
 stages=$(sed -n 's/^stage_number stage\.[A-Za-z]* = \([0-9]*\)$/\1/p' crates/acpi_base/specs/Codes.antt)
 listed=$(sed -n 's/^| \([0-9]*\) | .* | [0-9to, ]* |$/\1/p' docs/FAULTS.md)
 same 'stages (<) and those that FAULTS.md lists (>)' "$stages" "$listed"
+rules=$(sed -n 's/^rule_number rule\.\([A-Za-z]*\) = \([0-9]*\)$/\2 \1/p' crates/acpi_base/specs/Lint/Rules.antt)
+listed=$(sed -n '/^## Advice$/,/^## /s/^| \([0-9]* [A-Za-z]*\) | .*/\1/p' docs/TABLES.md)
+same 'rules of advice (<) and those that TABLES.md lists (>)' "$rules" "$listed"
 headline=$(sed -n '/^## The headline$/,/^## /{/^```rust$/,/^```$/p}' README.md | grep -v '^```')
 # contract FUNCTION FILE: what stands before the function's body.
 contract() { sed -n "/^pub fn $1[(<]/,/^{\$/p" "$2" | grep -v '^{$'; }
@@ -192,6 +195,7 @@ touched() {
   count "$1: listed files that do not name $2" "$(grep -LE "$2" ${told:-none-is-listed} 2>&1)"
 }
 touched 'A fault code' '\bGsiPastEnd\b'
+touched 'A rule of advice' 'CacheShape|cache_shape'
 touched 'A kind of entry of the MADT' 'X2apicNmi|x2apic[_-]nmi'
 touched 'A stage' '\b[Ss]tage(::|\.)Overrides\b'
 touched 'An option' '(--|")hotplug\b|hotplug_|_hotplug|hotplug = '
