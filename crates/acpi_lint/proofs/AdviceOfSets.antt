@@ -30,7 +30,8 @@ pub some_fadt : (m : Memory) (q : PolicyValue) (P : List ℕ → ℕ → ℕ →
     → IsLong 116 found (Some whole) → IfOk r (FindsLeast (P whole))
     → IfOk r (FindsLeast (λ at other point. OfFadt m q (λ fadt. P fadt at other point)))
 some_fadt m q P {whole = whole} r looked (is, long) least =
-    some_long m q.rsdp fadt_signature (λ bytes at other point. (116 ≤ length bytes) × P bytes at other point) r looked is
+    some_long m q.rsdp fadt_signature (λ bytes at other point. (116 ≤ length bytes) × P bytes at other point) r looked
+    is
     (beside (P whole) (116 ≤ length whole) long r least)
 
 pub none_fadt : (m : Memory) (q : PolicyValue) (P : List ℕ → ℕ → ℕ → ℕ → Type 0) (found : Option (List ℕ))

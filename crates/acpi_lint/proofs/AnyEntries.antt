@@ -32,7 +32,8 @@ any_left P s left none (t, here, holds) =
 
 pub any_picked : {S T : Type 0} (Gives : S → Option T → Type 0) (P : S → Type 0) (all : List S) (found : Option T)
     → PicksFirst Gives all found
-    → ((s : S) (picked : Option T) → Contains all s → Gives s picked → IsWhere (P s) picked) → IsWhere (IsAny P all) found
+    → ((s : S) (picked : Option T) → Contains all s → Gives s picked → IsWhere (P s) picked)
+    → IsWhere (IsAny P all) found
 unfolding PicksFirst
 any_picked Gives P [] found is each = rw is (λ (s, here, holds). no_element s here)
 any_picked Gives P (s ∷ left) None (none, more) each = λ any.

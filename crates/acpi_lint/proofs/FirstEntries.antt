@@ -34,7 +34,8 @@ here_or_behind {E} s left o e stands =
 -- where the first entry is at fault at no numbers, the least place is that of the others
 from_left : {E : Type 0} (IsFault : ℕ → E → ℕ → ℕ → Type 0) (s : PlacedEntry E) (left : List (PlacedEntry E))
     → ((other point : ℕ) → ¬ IsFault s.offset s.entry other point)
-    → (found : Option Place) → FindsLeast (IsFaultAt IsFault left) found → FindsLeast (IsFaultAt IsFault (s ∷ left)) found
+    → (found : Option Place) → FindsLeast (IsFaultAt IsFault left) found
+    → FindsLeast (IsFaultAt IsFault (s ∷ left)) found
 from_left IsFault s left none None sound = λ at other point (e, stands, wrong).
     elim (here_or_behind s left at e stands) [
       | inl (place, entry) ↦
@@ -43,7 +44,11 @@ from_left IsFault s left none None sound = λ at other point (e, stands, wrong).
     ]
 from_left {E} IsFault s left none (Some p) first =
     record {
-      here = (first.here.0, later_element s (record { offset = p.at; entry = first.here.0 }) left first.here.1, first.here.2);
+      here = (
+        first.here.0,
+        later_element s (record { offset = p.at; entry = first.here.0 }) left first.here.1,
+        first.here.2,
+      );
       least = λ at other point (e, stands, wrong).
           elim (here_or_behind s left at e stands) [
             | inl (place, entry) ↦ absurd (none other point (rw (place, entry) wrong))
@@ -81,7 +86,8 @@ least_picked IsFault low (s ∷ left) rises Gives each (Some p) (inl gives) =
     at_first IsFault low s left rises p (each s (Some p) (first_element s left) gives)
 least_picked IsFault low (s ∷ left) rises Gives each (Some p) (inr (none, more)) =
     from_left IsFault s left (each s None (first_element s left) none) (Some p)
-    (least_picked IsFault (suc s.offset) left rises.1 Gives (λ t q here. each t q (later_element s t left here)) (Some p)
+    (least_picked IsFault (suc s.offset) left rises.1 Gives (λ t q here. each t q (later_element s t left here))
+    (Some p)
     more)
 
 -- the same of what a call answers of each entry of a table

@@ -37,7 +37,8 @@ condition : (m : Memory) (q : PolicyValue) (s : Stage) (c : Code) (w : Witness) 
     → Fault m q w → IsFaultOfStage s c m q w.at w.other w.point
 condition m q s c w is same fault =
     subst (λ (t : Stage). FaultCondition t m q (record { code = c; at = w.at; other = w.other; point = w.point })) is
-    (subst (λ (d : Code). Fault m q (record { code = d; at = w.at; other = w.other; point = w.point })) same fault).holds
+    (subst (λ (d : Code). Fault m q (record { code = d; at = w.at; other = w.other; point = w.point })) same
+    fault).holds
 
 -- the least place of a code's faults is that of the first
 pub first_of_stage : (m : Memory) (q : PolicyValue) (s : Stage) (c : Code) → stage_of c ≡ s → IsPlain s

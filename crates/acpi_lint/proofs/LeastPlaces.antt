@@ -29,7 +29,8 @@ least_outside entries P X found least =
 -- ---- the lesser of two
 
 -- the order is transitive
-pub not_after_trans : (p q : Place) (at other point : ℕ) → IsNotAfter p q.at q.other q.point → IsNotAfter q at other point
+pub not_after_trans : (p q : Place) (at other point : ℕ) → IsNotAfter p q.at q.other q.point
+    → IsNotAfter q at other point
     → IsNotAfter p at other point
 not_after_trans p q at other point before after = grind arith
 

@@ -13,7 +13,8 @@ use Rattle.acpi_lint.specs.Places.{FindsLeast}
 use Rattle.acpi_lint.specs.declared.place.Place.{Place}
 
 -- a MADT that is too short has no entries, and no fault of theirs
-pub none_stands : (whole : List ℕ) → length whole < 44 → (o : ℕ) (e : MadtEntry) → ¬ Stands (madt_contents whole).entries o e
+pub none_stands : (whole : List ℕ) → length whole < 44 → (o : ℕ) (e : MadtEntry)
+    → ¬ Stands (madt_contents whole).entries o e
 unfolding madt_contents
 none_stands whole less o e stands = none_said madt_entry 44 whole less o e stands
 

@@ -5,7 +5,8 @@ use Rattle.acpi_base.specs.Memory.{Memory}
 use Rattle.acpi_base.specs.Across.{ServedFault, DomainFault, LeafFault}
 use Rattle.acpi_base.specs.Chains.{IsCycle}
 use Rattle.acpi_base.specs.Contents.{HasMadt, HasSrat}
-use Rattle.acpi_base.specs.Faults.{Fault}
+use Rattle.acpi_base.specs.Codes.{stage_of}
+use Rattle.acpi_base.specs.Faults.{Fault, FaultCondition}
 use Rattle.acpi_base.specs.Listed.{madt_signature, srat_signature, IsListedTable}
 use Rattle.acpi_base.specs.Madt.{MadtContents, madt_contents, OverrideFault, InterruptFault, AreInterruptsApart, IsFirstGsiClash}
 use Rattle.acpi_base.specs.Policy.{PolicyValue}
@@ -73,6 +74,14 @@ cycle_least links c w (_, first) =
 
 -- ---- overlaps, which have an order of their own
 
+-- what a fault with a code says
+held : (m : Memory) (q : PolicyValue) (c : Code) (w : Witness) → w.code ≡ c → Fault m q w
+    → FaultCondition (stage_of c) m q (record { code = c; at = w.at; other = w.other; point = w.point })
+held m q c w own fault =
+    let same = subst (λ (d : Code). Fault m q (record { code = d; at = w.at; other = w.other; point = w.point })) own
+    fault in
+    same.holds
+
 -- the first interrupt number that two I/O APICs serve
 pub gsi_found : (m : Memory) (q : PolicyValue) (whole : List ℕ) → IsListedTable m q.rsdp madt_signature whole
     → (verdict : Result ⊤ Refusal) (found : Option Place)
@@ -81,11 +90,17 @@ pub gsi_found : (m : Memory) (q : PolicyValue) (whole : List ℕ) → IsListedTa
     → IsPlaceOf verdict found → FindsFirstAt code.GsiClash m q found
 gsi_found m q whole is (Ok _) None apart same = λ w own fault.
     let holds : HasMadt m q (λ madt. InterruptFault q madt code.GsiClash w.at w.other w.point) =
-    (subst (λ (c : Code). Fault m q (record { code = c; at = w.at; other = w.other; point = w.point })) own fault).holds in
+    held m q code.GsiClash w own fault in
     apart w.at w.other w.point
     (of_listed (λ bytes. InterruptFault q (madt_contents bytes) code.GsiClash w.at w.other w.point) is holds)
 gsi_found m q whole is (Err (refusal.Fault w)) (Some p) first same =
-    rw same (refl, record { fault = record { own = refl; holds = (whole, is, first.first.overlap) }; least = (whole, is, first.first) })
+    rw same (
+      refl,
+      record {
+        fault = record { own = refl; holds = (whole, is, first.first.overlap) };
+        least = (whole, is, first.first);
+      },
+    )
 gsi_found m q whole is _ _ found same = absurd same
 
 is_overlap : (h : HotPlug) (c : SratContents) (at other point : ℕ) → IsFirstOverlap h c at other point
@@ -102,9 +117,10 @@ pub overlap_found : (m : Memory) (q : PolicyValue) (whole : List ℕ) → IsList
     → IsPlaceOf verdict found → IfSome found (λ p. p.point < 2 ^ 64) → FindsFirstAt code.Overlap m q found
 overlap_found m q whole is (Ok _) None apart same fits = λ w own fault.
     let holds : HasSrat m q (λ srat. (w.point < 2 ^ 64) × IsOverlap q.hotplug srat w.at w.other w.point) =
-    (subst (λ (c : Code). Fault m q (record { code = c; at = w.at; other = w.other; point = w.point })) own fault).holds in
+    held m q code.Overlap w own fault in
     apart w.at w.other w.point
-    (of_listed (λ bytes. (w.point < 2 ^ 64) × IsOverlap q.hotplug (srat_contents bytes) w.at w.other w.point) is holds).1
+    (of_listed (λ bytes. (w.point < 2 ^ 64) × IsOverlap q.hotplug (srat_contents bytes) w.at w.other w.point) is
+    holds).1
 overlap_found m q whole is (Err (refusal.Fault w)) (Some p) first same fits =
     let below : w.point < 2 ^ 64 = rw same at fits in
     rw same (
@@ -134,7 +150,8 @@ pub overlap_result : (m : Memory) (q : PolicyValue) (whole : List ℕ) {X : Type
     (results.IsOverlap code.Overlap (IsFirstOverlap q.hotplug (srat_contents whole))) verdict
     → IfOk r (IsPlaceOf verdict) → IfOk r (λ found. IfSome found (λ p. p.point < 2 ^ 64))
     → IfOk r (FindsFirstAt code.Overlap m q)
-overlap_result m q whole is verdict (Ok found) finds same fits = overlap_found m q whole is verdict found finds same fits
+overlap_result m q whole is verdict (Ok found) finds same fits = overlap_found m q whole is verdict found finds same
+    fits
 overlap_result m q whole is verdict (Err e) finds same fits = tt
 
 -- where no table is found that is long enough there is none
@@ -142,8 +159,9 @@ pub no_gsi : (m : Memory) (q : PolicyValue) (found : Option (List ℕ)) → IsFo
     → IsLong 44 found None → FindsFirstAt code.GsiClash m q None
 no_gsi m q found looked long = λ w own fault.
     let holds : HasMadt m q (λ madt. InterruptFault q madt code.GsiClash w.at w.other w.point) =
-    (subst (λ (c : Code). Fault m q (record { code = c; at = w.at; other = w.other; point = w.point })) own fault).holds in
-    none_long m q.rsdp madt_signature 44 (λ bytes. InterruptFault q (madt_contents bytes) code.GsiClash) found looked long
+    held m q code.GsiClash w own fault in
+    none_long m q.rsdp madt_signature 44 (λ bytes. InterruptFault q (madt_contents bytes) code.GsiClash) found looked
+    long
     (λ whole less at other point overlap. madts.none_stands whole less at overlap.one_holds.0 overlap.one_holds.1)
     w.at w.other w.point holds
 
@@ -151,7 +169,7 @@ pub no_overlap : (m : Memory) (q : PolicyValue) (found : Option (List ℕ)) → 
     → IsLong 48 found None → FindsFirstAt code.Overlap m q None
 no_overlap m q found looked long = λ w own fault.
     let holds : HasSrat m q (λ srat. RangeFault q.hotplug srat code.Overlap w.at w.other w.point) =
-    (subst (λ (c : Code). Fault m q (record { code = c; at = w.at; other = w.other; point = w.point })) own fault).holds in
+    held m q code.Overlap w own fault in
     none_long m q.rsdp srat_signature 48 (λ bytes. RangeFault q.hotplug (srat_contents bytes) code.Overlap) found looked
     long (λ whole less at other point wrong. none_covered q.hotplug whole less at other point wrong.1)
     w.at w.other w.point holds

@@ -31,7 +31,11 @@ none_next {key = key} {n = n} before none =
     record {
       listed = λ x here. (let (holds, below) = before.listed x here in (holds, omega arith));
       all = λ x holds below. before.all x holds
-          (elim (cases_eq (key x) n) [ inl same ↦ absurd (none x holds same) | inr differs ↦ omega (arith, differs, below) ]);
+          (elim (cases_eq (key x) n) [
+            | inl same ↦ absurd (none x holds same)
+            | inr differs ↦ omega
+                (arith, differs, below)
+          ]);
       rise = before.rise;
     }
 

@@ -12,7 +12,8 @@ use Rattle.acpi_lint.specs.Places.{FindsLeast}
 use Rattle.acpi_lint.specs.declared.place.Place.{Place}
 
 -- a SRAT that is too short has no entries, and no fault of theirs
-pub none_stands : (whole : List ℕ) → length whole < 48 → (o : ℕ) (e : SratEntry) → ¬ Stands (srat_contents whole).entries o e
+pub none_stands : (whole : List ℕ) → length whole < 48 → (o : ℕ) (e : SratEntry)
+    → ¬ Stands (srat_contents whole).entries o e
 unfolding srat_contents
 none_stands whole less o e stands = none_said srat_entry 48 whole less o e stands
 

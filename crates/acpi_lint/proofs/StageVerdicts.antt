@@ -29,7 +29,8 @@ pub of_verdict : (s : Stage) (c : Code) (Sound : Type 0) (IsFault : Code → ℕ
     → ((d : Code) (at other point : ℕ) → IsFault d at other point → d ≡ c)
     → (verdict : Result ⊤ Refusal) (found : Option Place) → FindsFirst s Sound IsFault verdict → IsPlaceOf verdict found
     → FindsLeast (IsFault c) found
-of_verdict s c Sound IsFault excludes one (Ok _) None sound is = λ at other point fault. excludes at other point fault sound
+of_verdict s c Sound IsFault excludes one (Ok _) None sound is = λ at other point fault. excludes at other point fault
+    sound
 of_verdict s c Sound IsFault excludes one (Err (Fault w)) (Some p) first is =
     let code : w.code ≡ c = one w.code w.at w.other w.point first.fault in
     rw is record {

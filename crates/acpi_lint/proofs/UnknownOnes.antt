@@ -82,7 +82,8 @@ pub own_first : {E : Type 0} (ids uids : List ℕ) (first second : E → Option 
     → FindsOwn (IsUnknown ids) (record { offset = s.offset; entry = first s.entry }) found
     → FindsOwn (IsUnknownOfTwo ids uids first second) s found
 own_first ids uids first second s found none own =
-    own_as (IsUnknown ids) (IsUnknownOfTwo ids uids first second) s (first s.entry) found (λ other point wrong. inl wrong)
+    own_as (IsUnknown ids) (IsUnknownOfTwo ids uids first second) s (first s.entry) found
+    (λ other point wrong. inl wrong)
     (λ other point wrong.
     elim wrong [ inl is ↦ is | inr (is, _, _) ↦ absurd (none-some point (sym none ∙ is)) ]) own
 
@@ -157,7 +158,8 @@ is_found known n (Some k) (within, here) is = (k, within, get_or_default known k
 
 -- those before the place i are known
 abbrev pub AreKnownBefore : List ℕ → List Numbered → ℕ → Type 0
-AreKnownBefore known given i = (k : ℕ) (d : Numbered) → k < i → k < length given → Contains known (get_or given k d).number
+AreKnownBefore known given i = (k : ℕ) (d : Numbered) → k < i → k < length given
+    → Contains known (get_or given k d).number
 
 pub one_known : (known : List ℕ) (given : List Numbered) (i : ℕ) (d : Numbered) → i < length given
     → Contains known (get_or given i d).number → AreKnownBefore known given i → AreKnownBefore known given (i + 1)
@@ -218,5 +220,9 @@ unknown_placed IsKnown StandsAt known given found are placed least = least_as fo
 
     from : (at other point : ℕ) → StandsAt at point × (¬ IsKnown point) × (other ≡ 0)
         → IsUnknownAt known given at other point
-    from at other point (stands, none, unused) =
-        (at_place at point, (placed.all at point).1 stands, refl, (refl, λ listed. none ((are.all point).0 listed), unused))
+    from at other point (stands, none, unused) = (
+      at_place at point,
+      (placed.all at point).1 stands,
+      refl,
+      (refl, λ listed. none ((are.all point).0 listed), unused),
+    )

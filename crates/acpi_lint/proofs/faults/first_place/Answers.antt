@@ -17,37 +17,44 @@ returns-in-Root c =
 pub returns-in-Tables : goal.returns-in-Tables
 returns-in-Tables c =
     first_of_stage c.args.image.now c.args.policy.now stage.Tables c.args.code (sym c.stage.ensures ∙ c.in-Tables.is)
-    (λ e. omega (arith, e), λ e. omega (arith, e)) c.slot_fault.result (c.slot_fault.ensures c.args.policy.now c.requires)
+    (λ e. omega (arith, e), λ e. omega (arith, e)) c.slot_fault.result
+    (c.slot_fault.ensures c.args.policy.now c.requires)
 
 pub returns-in-Fadt : goal.returns-in-Fadt
 returns-in-Fadt c =
     first_of_stage c.args.image.now c.args.policy.now stage.Fadt c.args.code (sym c.stage.ensures ∙ c.in-Fadt.is)
-    (λ e. omega (arith, e), λ e. omega (arith, e)) c.fadt_fault.result (c.fadt_fault.ensures c.args.policy.now c.requires)
+    (λ e. omega (arith, e), λ e. omega (arith, e)) c.fadt_fault.result
+    (c.fadt_fault.ensures c.args.policy.now c.requires)
 
 pub returns-in-Facs : goal.returns-in-Facs
 returns-in-Facs c =
     first_of_stage c.args.image.now c.args.policy.now stage.Facs c.args.code (sym c.stage.ensures ∙ c.in-Facs.is)
-    (λ e. omega (arith, e), λ e. omega (arith, e)) c.facs_fault.result (c.facs_fault.ensures c.args.policy.now c.requires)
+    (λ e. omega (arith, e), λ e. omega (arith, e)) c.facs_fault.result
+    (c.facs_fault.ensures c.args.policy.now c.requires)
 
 pub returns-in-Madt : goal.returns-in-Madt
 returns-in-Madt c =
     first_of_stage c.args.image.now c.args.policy.now stage.Madt c.args.code (sym c.stage.ensures ∙ c.in-Madt.is)
-    (λ e. omega (arith, e), λ e. omega (arith, e)) c.madt_fault.result (c.madt_fault.ensures c.args.image.now c.requires)
+    (λ e. omega (arith, e), λ e. omega (arith, e)) c.madt_fault.result
+    (c.madt_fault.ensures c.args.image.now c.requires)
 
 pub returns-in-Srat : goal.returns-in-Srat
 returns-in-Srat c =
     first_of_stage c.args.image.now c.args.policy.now stage.Srat c.args.code (sym c.stage.ensures ∙ c.in-Srat.is)
-    (λ e. omega (arith, e), λ e. omega (arith, e)) c.srat_fault.result (c.srat_fault.ensures c.args.image.now c.requires)
+    (λ e. omega (arith, e), λ e. omega (arith, e)) c.srat_fault.result
+    (c.srat_fault.ensures c.args.image.now c.requires)
 
 pub returns-in-Slit : goal.returns-in-Slit
 returns-in-Slit c =
     first_of_stage c.args.image.now c.args.policy.now stage.Slit c.args.code (sym c.stage.ensures ∙ c.in-Slit.is)
-    (λ e. omega (arith, e), λ e. omega (arith, e)) c.slit_fault.result (c.slit_fault.ensures c.args.image.now c.requires)
+    (λ e. omega (arith, e), λ e. omega (arith, e)) c.slit_fault.result
+    (c.slit_fault.ensures c.args.image.now c.requires)
 
 pub returns-in-Pptt : goal.returns-in-Pptt
 returns-in-Pptt c =
     first_of_stage c.args.image.now c.args.policy.now stage.Pptt c.args.code (sym c.stage.ensures ∙ c.in-Pptt.is)
-    (λ e. omega (arith, e), λ e. omega (arith, e)) c.pptt_fault.result (c.pptt_fault.ensures c.args.image.now c.requires)
+    (λ e. omega (arith, e), λ e. omega (arith, e)) c.pptt_fault.result
+    (c.pptt_fault.ensures c.args.image.now c.requires)
 
 pub returns-in-References : goal.returns-in-References
 returns-in-References c =
@@ -99,8 +106,10 @@ returns-in-Leaves c =
 
 pub returns-in-Interrupts : goal.returns-in-Interrupts
 returns-in-Interrupts c =
-    rw (gsi_clash_alone c.args.code (sym c.stage.ensures ∙ c.in-Interrupts.is)) (c.gsi_clash.ensures c.args.image.now c.requires)
+    rw (gsi_clash_alone c.args.code (sym c.stage.ensures ∙ c.in-Interrupts.is))
+    (c.gsi_clash.ensures c.args.image.now c.requires)
 
 pub returns-in-Ranges : goal.returns-in-Ranges
 returns-in-Ranges c =
-    rw (overlap_alone c.args.code (sym c.stage.ensures ∙ c.in-Ranges.is)) (c.overlap.ensures c.args.image.now c.requires)
+    rw (overlap_alone c.args.code (sym c.stage.ensures ∙ c.in-Ranges.is))
+    (c.overlap.ensures c.args.image.now c.requires)

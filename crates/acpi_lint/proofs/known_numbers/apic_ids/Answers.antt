@@ -9,7 +9,8 @@ use Rattle.acpi_lint.proofs.known_numbers.apic_ids.Goals as goal
 
 pub returns : goal.returns
 returns c =
-    are_known apic_id_of (madt_contents c.args.madt.now).entries c.in_ok-numbers.numbers.items c.sorted_unique.result.items
+    are_known apic_id_of (madt_contents c.args.madt.now).entries c.in_ok-numbers.numbers.items
+    c.sorted_unique.result.items
     (gathered_same {X = ⊤} madt_value (λ s. apic_id_of s.entry) _ (Ok c.in_ok-numbers.numbers) c.in_ok-numbers.ensures
     c.entries.ensures.entries (λ at picked answers. search rules) (λ found is. is))
     c.sorted_unique.ensures.rise c.sorted_unique.ensures.same

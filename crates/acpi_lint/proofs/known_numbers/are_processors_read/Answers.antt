@@ -7,5 +7,6 @@ use Rattle.acpi_lint.proofs.known_numbers.are_processors_read.Goals as goal
 pub returns : goal.returns
 returns c =
     where_none c.first_picked-other.result c.is_none.result
-    (any_entry madt_value IsOtherProcessor c.first_picked-other.result c.first_picked-other.ensures c.entries.ensures.entries
+    (any_entry madt_value IsOtherProcessor c.first_picked-other.result c.first_picked-other.ensures
+    c.entries.ensures.entries
     (λ at picked here answers. search rules)) c.is_none.ensures

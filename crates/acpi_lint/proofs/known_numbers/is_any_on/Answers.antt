@@ -9,5 +9,7 @@ pub returns : goal.returns
 returns c =
     any_named uid_on (madt_contents c.args.madt.now).entries c.is_some.result
     (where_some c.first_picked-uid.result c.is_some.result
-    (any_entry madt_value (HasSome uid_on) c.first_picked-uid.result c.first_picked-uid.ensures c.entries.ensures.entries
-    (λ at picked here answers. number_where (uid_on (madt_value at.now.entry)) picked (search rules))) c.is_some.ensures)
+    (any_entry madt_value (HasSome uid_on) c.first_picked-uid.result c.first_picked-uid.ensures
+    c.entries.ensures.entries
+    (λ at picked here answers. number_where (uid_on (madt_value at.now.entry)) picked (search rules)))
+    c.is_some.ensures)

@@ -9,5 +9,7 @@ pub returns : goal.returns
 returns c =
     any_named processor_domain (srat_contents c.args.srat.now).entries c.is_some.result
     (where_some c.first_picked-domain.result c.is_some.result
-    (any_entry srat_value (HasSome processor_domain) c.first_picked-domain.result c.first_picked-domain.ensures c.entries.ensures.entries
-    (λ at picked here answers. number_where (processor_domain (srat_value at.now.entry)) picked (search rules))) c.is_some.ensures)
+    (any_entry srat_value (HasSome processor_domain) c.first_picked-domain.result c.first_picked-domain.ensures
+    c.entries.ensures.entries
+    (λ at picked here answers. number_where (processor_domain (srat_value at.now.entry)) picked (search rules)))
+    c.is_some.ensures)

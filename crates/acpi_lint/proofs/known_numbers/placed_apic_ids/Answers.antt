@@ -9,7 +9,9 @@ use Rattle.acpi_lint.proofs.known_numbers.placed_apic_ids.Goals as goal
 
 pub returns : goal.returns
 returns c =
-    are_known placed_apic_id (srat_contents c.args.srat.now).entries c.in_ok-numbers.numbers.items c.sorted_unique.result.items
-    (gathered_same {X = ⊤} srat_value (λ s. placed_apic_id s.entry) _ (Ok c.in_ok-numbers.numbers) c.in_ok-numbers.ensures
+    are_known placed_apic_id (srat_contents c.args.srat.now).entries c.in_ok-numbers.numbers.items
+    c.sorted_unique.result.items
+    (gathered_same {X = ⊤} srat_value (λ s. placed_apic_id s.entry) _ (Ok c.in_ok-numbers.numbers)
+    c.in_ok-numbers.ensures
     c.entries.ensures.entries (λ at picked answers. search rules) (λ found is. is))
     c.sorted_unique.ensures.rise c.sorted_unique.ensures.same

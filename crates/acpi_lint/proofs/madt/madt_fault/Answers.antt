@@ -14,5 +14,6 @@ returns-in_err-table c = λ m are.
 
 pub returns : goal.returns
 returns c = λ m are.
-    of_found m c.args.policy.now.rsdp madt_signature (λ bytes at other point. MadtFault c.args.policy.now (madt_contents bytes) c.args.code at other point)
+    of_found m c.args.policy.now.rsdp madt_signature
+    (λ bytes at other point. MadtFault c.args.policy.now (madt_contents bytes) c.args.code at other point)
     c.table_fault.result (are.listed kind.Madt) (sym c.table.ensures ∙ c.in_ok-table.was) c.table_fault.ensures

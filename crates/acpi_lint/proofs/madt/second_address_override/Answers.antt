@@ -37,5 +37,6 @@ returns c =
     first_two {IsAt = IsAt c.args.madt.now} c.in_ok-first.first c.first_picked-2.result
     (least_outside entries IsAddressOverride (λ at other point. AreUnused other point)
     (Some c.in_ok-first.first) (rw c.in_ok-first.was at first))
-    (least_as c.first_picked-2.result (λ at other point (e, here, (over, less, is, unused)). ((e, here, over), less, is, unused))
+    (least_as c.first_picked-2.result (λ at other point (e, here, (over, less, is, unused)).
+    ((e, here, over), less, is, unused))
     (λ at other point ((e, here, over), less, is, unused). (e, here, (over, less, is, unused))) behind)

@@ -9,12 +9,15 @@ none = record { number = 0; at = 0; value = 0 }
 pub returns-then-is_none : goal.returns-then-is_none
 returns-then-is_none c =
     one_unknown c.args.known.now c.args.given.now c.loop-leaf.leaf-index none c.requires.given c.loop-leaf-test.true
-    (not_found c.args.known.now _ c.binary_search.result c.binary_search.ensures c.if-is_none.ensures) c.loop-leaf.invariant
+    (not_found c.args.known.now _ c.binary_search.result c.binary_search.ensures c.if-is_none.ensures)
+    c.loop-leaf.invariant
 
 pub loop-leaf-preserved : goal.loop-leaf-preserved
 loop-leaf-preserved c =
     one_known c.args.known.now c.args.given.now c.loop-leaf.leaf-index none c.loop-leaf-test.true
-    (is_found c.args.known.now _ c.binary_search.result c.binary_search.ensures c.if-is_none.ensures) c.loop-leaf.invariant
+    (is_found c.args.known.now _ c.binary_search.result c.binary_search.ensures c.if-is_none.ensures)
+    c.loop-leaf.invariant
 
 pub returns : goal.returns
-returns c = all_known c.args.known.now c.args.given.now c.loop-leaf.leaf-index c.loop-leaf-test.false c.loop-leaf.invariant
+returns c = all_known c.args.known.now c.args.given.now c.loop-leaf.leaf-index c.loop-leaf-test.false
+    c.loop-leaf.invariant

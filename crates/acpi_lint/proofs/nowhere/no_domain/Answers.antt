@@ -22,7 +22,8 @@ returns c =
     let some = c.is_any_placed.ensures.0 c.if-not-is_any_placed.false in
     least_as found (λ at other point (sides, unused). (asked, some, sides, unused))
     (λ at other point (_, _, sides, unused). (sides, unused))
-    (unknown_of_two apic_id_on gicc_uid_on (IsNamed placed_apic_id others) (IsNamed placed_uid others) entries ids uids found
+    (unknown_of_two apic_id_on gicc_uid_on (IsNamed placed_apic_id others) (IsNamed placed_uid others) entries ids
+    uids found
     (rw (← c.as_slice-ids.ensures.value) at c.in_ok-ids.ensures)
     (rw (← c.as_slice-uids.ensures.value) at c.in_ok-uids.ensures)
     (least_of_entries madt_value (IsUnplaced ids uids) 44 found c.first_picked.ensures c.entries.ensures.entries

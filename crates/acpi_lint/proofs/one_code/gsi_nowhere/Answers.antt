@@ -14,14 +14,18 @@ use Rattle.acpi_lint.proofs.one_code.gsi_nowhere.Goals as goal
 pub returns-in-Some : goal.returns-in-Some
 returns-in-Some c = λ m are.
     let whole = c.in-Some.madt in
-    some_long m c.args.policy.now.rsdp madt_signature (λ bytes. ServedFault c.args.policy.now (madt_contents bytes) code.GsiNowhere) c.place_of.result
+    some_long m c.args.policy.now.rsdp madt_signature
+    (λ bytes. ServedFault c.args.policy.now (madt_contents bytes) code.GsiNowhere) c.place_of.result
     (are.listed kind.Madt) c.in-Some.ensures.0
-    (verdict_found stage.Served code.GsiNowhere (AreNamedServed c.args.policy.now (madt_contents whole)) (ServedFault c.args.policy.now (madt_contents whole))
-    (excludes c.args.policy.now (madt_contents whole) code.GsiNowhere) (one_gsi_nowhere c.args.policy.now (madt_contents whole))
+    (verdict_found stage.Served code.GsiNowhere (AreNamedServed c.args.policy.now (madt_contents whole))
+    (ServedFault c.args.policy.now (madt_contents whole))
+    (excludes c.args.policy.now (madt_contents whole) code.GsiNowhere)
+    (one_gsi_nowhere c.args.policy.now (madt_contents whole))
     c.named_served.result c.place_of.result c.named_served.ensures c.place_of.ensures.place)
 
 pub returns-in-None : goal.returns-in-None
 returns-in-None c = λ m are.
-    none_long m c.args.policy.now.rsdp madt_signature 44 (λ bytes. ServedFault c.args.policy.now (madt_contents bytes) code.GsiNowhere) c.args.tables.now.madt
+    none_long m c.args.policy.now.rsdp madt_signature 44
+    (λ bytes. ServedFault c.args.policy.now (madt_contents bytes) code.GsiNowhere) c.args.tables.now.madt
     (are.listed kind.Madt) c.in-None.ensures
     (λ whole less at other point (some, (e, stands, names), _, _). none_stands whole less at e stands)

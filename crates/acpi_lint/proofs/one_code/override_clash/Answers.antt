@@ -14,14 +14,17 @@ use Rattle.acpi_lint.proofs.one_code.override_clash.Goals as goal
 pub returns-in-Some : goal.returns-in-Some
 returns-in-Some c = λ m are.
     let whole = c.in-Some.madt in
-    some_long m c.args.policy.now.rsdp madt_signature (λ bytes. OverrideFault (madt_contents bytes) code.OverrideClash) c.place_of.result
+    some_long m c.args.policy.now.rsdp madt_signature
+    (λ bytes. OverrideFault (madt_contents bytes) code.OverrideClash) c.place_of.result
     (are.listed kind.Madt) c.in-Some.ensures.0
-    (verdict_found stage.Overrides code.OverrideClash (DoOverridesAgree (madt_contents whole)) (OverrideFault (madt_contents whole))
+    (verdict_found stage.Overrides code.OverrideClash (DoOverridesAgree (madt_contents whole))
+    (OverrideFault (madt_contents whole))
     (excludes (madt_contents whole) code.OverrideClash) (one_override_clash (madt_contents whole))
     c.agreeing_overrides.result c.place_of.result c.agreeing_overrides.ensures.settled c.place_of.ensures.place)
 
 pub returns-in-None : goal.returns-in-None
 returns-in-None c = λ m are.
-    none_long m c.args.policy.now.rsdp madt_signature 44 (λ bytes. OverrideFault (madt_contents bytes) code.OverrideClash) c.args.tables.now.madt
+    none_long m c.args.policy.now.rsdp madt_signature 44
+    (λ bytes. OverrideFault (madt_contents bytes) code.OverrideClash) c.args.tables.now.madt
     (are.listed kind.Madt) c.in-None.ensures
     (λ whole less at other point (g, h, (e, stands, gives), _, _, _). none_stands whole less at e stands)
