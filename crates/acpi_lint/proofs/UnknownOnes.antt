@@ -1,4 +1,5 @@
--- Numbers that are none of those that are known: what is found of entries by lists of known numbers is what the rules say.
+-- Numbers that are none of those that are known: what is found of entries by lists of known numbers is what the rules
+-- say.
 use Rattle.std.proofs.Common.{◌≡◌, ◌≢◌, ℕ, ◌+◌, ◌<◌, ◌≤◌, ◌⊎◌, List, get_or, length, Option, Some, None, Bool, true, false, refl, sym, ◌∙◌, ap, subst, inl, inr, arith}
 use Rattle.std.specs.Prelude.{if◌then◌else◌, AllPairs, Contains, MatchOption, slice_index}
 use Rattle.std.specs.Option.{is_some, option_and_then}
