@@ -2,6 +2,33 @@
 //!
 //! Nothing is asked of earlier stages: a table whose sum is wrong is looked at all the same, and a reference that leads
 //! nowhere ends its chain.
+//!
+//! An example, of `crates/acpi_lint/src/tests.rt`. The RSDP at E0000h has a wrong byte in its signature, and so a wrong sum. It
+//! names an RSDT that lists the address 2000h in slots 0 and 1, where nothing stands.
+//!
+//! ```rust
+//! let policy = Policy::new(alloc, 0xe0000, 24)?;
+//! let found = lint(alloc, &image, &policy)?;
+//! let faults = [
+//!     Witness::at(Code::RsdpSignature, 0xe0000),
+//!     Witness::at(Code::RsdpSum, 0xe0000),
+//!     Witness {
+//!         code: Code::TableHeaderOut,
+//!         at: 0,
+//!         other: 0x2000,
+//!         point: 0,
+//!     },
+//!     Witness::at(Code::NoFadt, 0),
+//! ];
+//! let advice = [Advice {
+//!     rule: Rule::ListedTwice,
+//!     at: 1,
+//!     other: 0,
+//!     point: 0x2000,
+//! }];
+//! assert_eq!(rt; found.faults.as_slice(), faults.as_slice());
+//! assert_eq!(rt; found.advice.as_slice(), advice.as_slice());
+//! ```
 #![tactic(auto)]
 
 mod advice;
@@ -36,3 +63,6 @@ mod verdicts;
 mod whole_tables;
 
 pub use findings::{Findings, lint};
+
+#[cfg(test)]
+mod tests;
