@@ -1,3 +1,5 @@
+use Rattle.std.proofs.Common.{sym, ◌∙◌}
+use Rattle.std.proofs.lemmas.Bool.{false≢true}
 use Rattle.acpi_confirm.proofs.cross.is_domain_fault.Goals as goal
 
 pub returns-then-do_domains_differ : goal.returns-then-do_domains_differ
@@ -11,7 +13,7 @@ returns-then-do_domains_differ c =
 pub returns-else-do_domains_differ : goal.returns-else-do_domains_differ
 returns-else-do_domains_differ c =
     rw c.in-TwoDomains.is (
-      λ yes. absurd cc,
+      λ yes. absurd (false≢true (sym c.if-do_domains_differ.false ∙ yes)),
       λ (enabled, d, f, one, other, before, apart). c.do_domains_differ.ensures.1
           (d, f, one, other, before, apart),
     )

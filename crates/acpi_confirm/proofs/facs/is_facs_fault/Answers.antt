@@ -1,3 +1,4 @@
+use Rattle.std.proofs.lemmas.Bool.{false≢true}
 use Rattle.acpi_confirm.proofs.ListedTables.{test_of_facs}
 use Rattle.acpi_confirm.proofs.facs.is_facs_fault.Goals as goal
 
@@ -7,4 +8,4 @@ returns-in-Some c =
     (λ yes. (test.0 yes, c.if-witness-ne0.false, c.if-witness-ne0-2.false), λ fault. test.1 fault.0)
 
 pub returns-in-None : goal.returns-in-None
-returns-in-None c = (λ yes. absurd cc, λ fault. absurd (c.in-None.ensures.found fault.0.0 fault.0.1))
+returns-in-None c = (λ yes. absurd (false≢true yes), λ fault. absurd (c.in-None.ensures.found fault.0.0 fault.0.1))

@@ -1,4 +1,5 @@
 use Rattle.std.proofs.Common.{inl, inr}
+use Rattle.std.proofs.lemmas.Bool.{false≢true}
 use Rattle.acpi_confirm.proofs.ListedTables.{test_of_fadt}
 use Rattle.acpi_confirm.proofs.fadt.is_fadt_fault.Goals as goal
 
@@ -9,7 +10,7 @@ returns-in-Some c =
 
 pub returns-in-None : goal.returns-in-None
 returns-in-None c = (
-  λ yes. absurd cc,
+  λ yes. absurd (false≢true yes),
   λ fault. elim fault.0 [
     | inl none ↦ absurd (c.in_default.not-NoFadt none.1)
     | inr here ↦ absurd (c.in-None.ensures.found here.0 here.1)

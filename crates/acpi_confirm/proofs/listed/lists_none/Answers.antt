@@ -1,4 +1,5 @@
 use Rattle.std.proofs.Common.{ℕ, subst, sym}
+use Rattle.std.proofs.lemmas.Bool.{false≢true}
 use Rattle.acpi_confirm.specs.Roots.{IsWholeRoot}
 use Rattle.acpi_confirm.proofs.ListedTables.{root_of_none, test_of_none}
 use Rattle.acpi_confirm.proofs.listed.lists_none.Goals as goal
@@ -13,7 +14,7 @@ returns-in-Some c =
 
 pub returns-in-None : goal.returns-in-None
 returns-in-None c = (
-  λ yes. absurd cc,
+  λ yes. absurd (false≢true yes),
   λ none.
       let root : IsWholeRoot c.args.image.now c.rsdp.result none.d none.root_bytes =
       subst (λ (p : ℕ). IsWholeRoot c.args.image.now p none.d none.root_bytes) (sym c.rsdp.ensures.value)
