@@ -1,6 +1,14 @@
 use Rattle.std.proofs.Common.{refl}
+use Rattle.acpi_base.proofs.Elements.{first_element}
 use Rattle.acpi_confirm.proofs.Walks.{over_next, over_all}
 use Rattle.acpi_confirm.proofs.entries.has_entry.Goals as goal
+
+pub returns-then-is_sought : goal.returns-then-is_sought
+returns-then-is_sought g c =
+    let start = c.loop-entry.start in
+    let entry = c.in-Some.entry in
+    let stands = c.loop-entry.invariant.listed start entry.now (rw c.in-Some.ensures.first (first_element _ _)) in
+    record { one = (start, entry, stands, c.if-is_sought.ensures) }
 
 pub loop-entry-preserved : goal.loop-entry-preserved
 loop-entry-preserved g c =
