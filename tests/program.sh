@@ -98,6 +98,16 @@ runs "no RSDP with a right sum to show" 1 'no rsdp\n' '' "$scratch/sum" show
 runs "nothing to show" 1 'no rsdp\n' '' /dev/null show
 runs "firmware sb-q35-default, its whole region, shown" 0 "$(cat show/images/sb-q35-default.txt)\n" '' "$scratch/region" show
 
+# ---- all findings: what is found in each set is in tests/lint
+runs "the smallest set, all findings" 1 'no 4 NoFadt 0x0 0x0 0x0\n' '' "$smallest" lint
+runs "the smallest set, all findings, strictly" 1 'no 4 NoFadt 0x0 0x0 0x0\n' '' "$smallest" lint --strict --rsdp e0000
+runs "nothing to look through" 1 'no rsdp\n' '' /dev/null lint
+runs "no RSDP at the address, all findings" 1 'no 1 RsdpOut 0x1000f 0x0 0x0\n' '' /dev/null lint --rsdp 1000f
+runs "firmware sb-q35-default, all findings" 0 'yes\n' '' images/sb-q35-default.img.txt lint --strict --rsdp f59e0
+unread='yes\nadvice MadtUnread 0x184 0xd 0x0\n'
+runs "firmware q10-efi-virt-smp4, all findings" 0 "$unread" '' images/q10-efi-virt-smp4.img.txt lint --rsdp 4f0b0018
+runs "firmware q10-efi-virt-smp4, all findings, strictly" 1 "$unread" '' images/q10-efi-virt-smp4.img.txt lint --strict --rsdp 4f0b0018
+
 # ---- sets that are rebuilt: what is rebuilt of each is in tests/rebuild
 runs "the smallest set, rebuilt" 1 'no 4 NoFadt 0x0 0x0 0x0\n' '' "$smallest" rebuild --rsdp e0000 --base e0000
 runs "the smallest set, a wrong base address" 1 'refused Unaligned\n' '' "$smallest" rebuild --rsdp e0000 --base e0020
@@ -131,13 +141,14 @@ printf '\n' >>"$scratch/text"
 runs "a text of 67,108,865 bytes" 3 '' 'acpiset: too long\n' "$scratch/text" check --rsdp e0000
 rm "$scratch/text"
 runs "half a pair to show" 3 '' 'acpiset: line 2: bad line\n' "$scratch/half" show --rsdp e0000
+runs "half a pair to look through" 3 '' 'acpiset: line 2: bad line\n' "$scratch/half" lint --strict
 runs "half a pair to rebuild" 3 '' 'acpiset: line 2: bad line\n' "$scratch/half" rebuild --base e0020
 runs "half a pair, and a fault to confirm" 3 '' 'acpiset: line 2: bad line\n' "$scratch/half" confirm --rsdp e0000 --witness "$overlap"
 runs "half a pair, a fault to confirm, and no RSDP" 3 '' 'acpiset: line 2: bad line\n' "$scratch/half" confirm --witness "$overlap"
 
 # ---- arguments that are refused
 usage="usage: acpiset check [OPTION].. [ADDRESS=COUNT].. < IMAGE
-       acpiset confirm|rebuild|show|find [OPTION].. < IMAGE
+       acpiset lint|confirm|rebuild|show|find [OPTION].. < IMAGE
 For more: acpiset --help, man acpiset, or docs/TROUBLESHOOTING.md#words"
 
 # says TEXT ARGUMENTS..: the arguments are refused with this text.
@@ -176,6 +187,7 @@ helps --help
 helps check --help
 helps show -h
 helps rebuild --help
+helps lint --strict --help
 helps help
 helps help check
 says "version 0.1.0, $last stages" --version
@@ -247,6 +259,15 @@ refuses "a value is required for '--rsdp <HEX>' but none was supplied" show --rs
 refuses "the argument '--rsdp <HEX>' cannot be used multiple times" show --rsdp e0000 --rsdp e0000
 refuses "unexpected argument '--through' found" show --rsdp e0000 --through 3
 refuses "unexpected argument 'fec00000=24' found" show fec00000=24
+refuses "the argument '--strict' cannot be used multiple times" lint --strict --strict
+refuses "unexpected value 'yes' for '--strict' found; no more were expected" lint --strict=yes
+refuses "unexpected argument '--strict' found" check --strict
+refuses "unexpected argument '--json' found" lint --json
+refuses "--rsdp 'xyz': an address is 1 to 16 hex digits, with 0x before them or without" lint --rsdp xyz --strict
+refuses "--processors 'both': processors are enabled or usable" lint --processors both
+refuses "'strict': what is no option is ADDRESS=COUNT, such as fec00000=24" lint strict
+hints "unexpected argument '--through' found" "a similar argument exists: '--hotplug'" lint --through 3
+hints "unrecognized subcommand 'lin'" "some similar subcommands exist: 'find', 'lint'" lin
 refuses "an argument is not UTF-8" check --rsdp $'\xff'
 refuses "an argument is not UTF-8" check $'fec00000=24\xff'
 

@@ -129,6 +129,33 @@ def setting_cases():
         yield from input_cases(line, 0xFEC00000, count)
 
 
+# ---- all findings
+# Lines that are read, and whether advice counts.
+LINTED = [
+    ("acpiset lint", False),
+    ("acpiset lint --rsdp e0000", False),
+    ("acpiset lint --strict", True),
+    ("acpiset lint --strict --rsdp e0000", True),
+    ("acpiset lint --rsdp=0xe0000 --processors usable --strict", True),
+    ("acpiset lint fec00000=8 --strict --default-inputs 1", True),
+    ("acpiset lint --hotplug apart -- fec00000=8", False),
+]
+# Two I/O APICs with one ID and no processor, in a table that slots 1 and 2 list: advice, and no fault.
+ADVISED = image_of(fadt(), madt(io_apic(0xFEC00000, 0), io_apic(0xFEC01000, 24)), slots=[0x2000, 0x3000, 0x3000])
+ADVICE = "advice ListedTwice 0x2 0x1 0x3000\nadvice SameIoApicId 0x38 0x2c 0x0\nadvice NoProcessor 0x0 0x0 0x0"
+
+
+def lint_cases():
+    """Each line with the lines of lint and its status, on a set with advice and on one with a fault."""
+    for line, is_strict in LINTED:
+        yield line, text_of(ADVISED), f"yes\n{ADVICE}", int(is_strict)
+        pieces, fault = FAULTY[4]
+        yield line, text_of(pieces), fault, 1
+    for line, least in (("acpiset lint", 24), ("acpiset lint --default-inputs 16", 16), ("acpiset lint fec00000=32", 32)):
+        pieces = image_of(fadt(), madt(io_apic(0xFEC00000, 0), override(9, least), lapic(0, 0)))
+        yield line, text_of(pieces), f"no 17 GsiNowhere 0x38 0x0 {least:#x}", 1
+
+
 # ---- lines that are refused
 REFUSED = """acpiset
 acpiset --help
@@ -206,6 +233,22 @@ acpiset check --processors Usable
 acpiset check --processors apart
 acpiset check --processors usable --processors usable
 acpiset find --processors usable
+acpiset Lint
+acpiset lint --strict --strict
+acpiset lint --strict=true
+acpiset lint --strict true
+acpiset lint -strict
+acpiset lint --through 3
+acpiset lint --rsdp
+acpiset lint --rsdp g --strict
+acpiset lint --default-inputs 0
+acpiset lint fec00000
+acpiset lint --hotplug both
+acpiset lint --processors online
+acpiset --strict lint
+acpiset check --strict
+acpiset confirm --strict
+acpiset show --strict
 acpiset rebuild --rsdp e0000
 acpiset rebuild --base
 acpiset rebuild --base 10000000000000000
@@ -233,6 +276,11 @@ MESSAGES = [
     ),
     ("acpiset check --hotplug both", "--hotplug 'both': hot-pluggable ranges are counted or apart"),
     ("acpiset check --processors online", "--processors 'online': processors are enabled or usable"),
+    ("acpiset lint --strict --strict", "the argument '--strict' cannot be used multiple times"),
+    ("acpiset lint --strict=true", "unexpected value 'true' for '--strict' found; no more were expected"),
+    ("acpiset lint --rsdp f59e0h", f"--rsdp 'f59e0h': {ADDRESS}"),
+    ("acpiset lint strict", "'strict': what is no option is ADDRESS=COUNT, such as fec00000=24"),
+    ("acpiset check --strict", "unexpected argument '--strict' found"),
     ("acpiset rebuild --base e0000h", f"--base 'e0000h': {ADDRESS}"),
     ("acpiset rebuild", f"rebuild needs --base HEX: {ADDRESS}"),
     # The first wrong word is named, and an option before any word.
@@ -251,9 +299,10 @@ def told(program, line, text):
 def cases(program):
     """Each case with the answer and the expected one."""
     answers = [*read_cases(), *(case for row in INPUTS for case in input_cases(*row)), *setting_cases(), many_counts()]
-    for line, text, answer in answers:
+    answers = [(*case, int(case[2] != "yes")) for case in answers]
+    for line, text, answer, status in [*answers, *lint_cases()]:
         run = told(program, line, text)
-        expected = (0 if answer == "yes" else 1, answer + "\n", "")
+        expected = (status, answer + "\n", "")
         yield line, (run.returncode, run.stdout.decode(), run.stderr.decode()), expected
     smallest = text_of({RSDP_AT: rsdp(), RSDT_AT: rsdt()})
     for line in REFUSED:

@@ -7,6 +7,7 @@
 //! - `field`: numbers and bytes at an offset in a table, read and written.
 //! - `Code`, `Stage`, `Witness`, `Verdict`: what can be wrong, in which part of the check, where, and the
 //!   result of a check. `witness_text` and `verdict_text` write them.
+//! - `Rule`, `Advice`: what is likely wrong and no fault, and where. `advice_text` writes it.
 //! - `TableKind`: the five kinds of tables whose contents are read, with their signatures.
 //! - `Policy`: the settings of a check.
 //! - `Tally`: a reader or writer that counts its failures.
@@ -47,7 +48,7 @@ pub use stage::Stage;
 pub use table_kind::TableKind;
 pub use tally::{DeviceFailed, Tally};
 pub use text::fault_parsing::parse_witness;
-pub use text::fault_text::{verdict_text, witness_text};
+pub use text::fault_text::{advice_text, verdict_text, witness_text};
 pub use text::image_text::{ImageText, read_image};
 pub use text::{TextFault, written_text};
 pub use verdict::Verdict;

@@ -15,7 +15,7 @@ use Rattle.acpi_base.specs.Laws.{NumbersFit}
 use Rattle.acpi_base.specs.Policy.{PolicyValue}
 use Rattle.acpi_base.specs.Text.WitnessText.{witness_line}
 use Rattle.acpi_base.specs.declared.witness.Witness.{Witness}
-use Rattle.acpi_cli.specs.CommandLine.{Asked, PolicyTexts, are_none, asked_job, base_word, check, asked_check, check_line, check_words, asked_command, command_line, command_of, confirm, asked_confirm, confirm_line, confirm_words, default_word, find, find_line, find_words, hotplug_word, inputs_policy, is_taken, judging_asked, last_word, options_words, policy_options, policy_words, processors_word, rebuild, asked_rebuild, rebuild_line, rebuild_words, rsdp_word, show, asked_show, show_line, show_words, values_of, witness_word, words_of}
+use Rattle.acpi_cli.specs.CommandLine.{Asked, PolicyTexts, are_none, asked_job, base_word, check, asked_check, check_line, check_words, asked_command, command_line, command_of, confirm, asked_confirm, confirm_line, confirm_words, default_word, find, find_line, find_words, hotplug_word, inputs_policy, is_taken, judging_asked, last_word, lint_line, options_words, policy_options, policy_words, processors_word, rebuild, asked_rebuild, rebuild_line, rebuild_words, rsdp_word, show, asked_show, show_line, show_words, values_of, witness_word, words_of}
 use Rattle.acpi_cli.specs.Words.{all_inputs}
 use Rattle.acpi_cli.proofs.FaultWords.{fault_is_plain, is_read}
 use Rattle.acpi_cli.proofs.CheckRows.{are_distinct, no_word_row, option_is_found, options_rows, value_of, word_rows, words_are_found}
@@ -55,7 +55,7 @@ after_walk a words w e fault = rw (fault, e) refl
 
 -- the whole command line as `clap` builds it
 program_line : App
-unfolding command_line check_line confirm_line rebuild_line show_line find_line
+unfolding command_line check_line lint_line confirm_line rebuild_line show_line find_line
 program_line = built command_line
 
 -- the program has the command of such a line
@@ -88,7 +88,8 @@ no_fault_before : (l : Line) (words : List Text)
     → or_else (settle_fault program_line.top.rules program_line.top.args_override_self (at_command l words).held)
     (or_else (defaults_fault (settled program_line.top.rules (at_command l words).held).rows program_line.top.rules)
     (check_fault program_line.top (finished program_line.top.rules (at_command l words).held) true)) ≡ []
-unfolding program_line command_line check_line confirm_line rebuild_line show_line find_line at_command clap_on_literals
+unfolding program_line command_line check_line lint_line confirm_line rebuild_line show_line find_line at_command
+    clap_on_literals
 no_fault_before l words = refl
 
 -- `PROGRAM COMMAND WORDS..`, where the words are read, is taken
@@ -178,7 +179,8 @@ pub check_words_asked : (program : Text) (hex number : Option Text) (texts : Pol
     (policy : PolicyValue) (last : ℕ)
     → rsdp_word hex ≡ Some rsdp → policy_words texts ≡ Some policy → last_word number ≡ Some last
     → asked_job (check_words program hex number texts) ≡ Some (check rsdp policy last)
-unfolding program_line command_line check_line confirm_line rebuild_line show_line find_line shape rules asked_check
+unfolding program_line command_line check_line lint_line confirm_line rebuild_line show_line find_line shape rules
+    asked_check
 check_words_asked program hex number texts rsdp policy last a b c =
     let plain = policy_is_plain texts policy b in
     let l : Line = record {
@@ -198,7 +200,8 @@ pub confirm_words_asked : (program : Text) (w : Witness) (hex : Option Text) (te
     (policy : PolicyValue)
     → NumbersFit w → rsdp_word hex ≡ Some rsdp → policy_words texts ≡ Some policy
     → asked_job (confirm_words program (witness_line w) hex texts) ≡ Some (confirm rsdp policy w)
-unfolding program_line command_line check_line confirm_line rebuild_line show_line find_line shape rules asked_confirm
+unfolding program_line command_line check_line lint_line confirm_line rebuild_line show_line find_line shape rules
+    asked_confirm
 confirm_words_asked program w hex texts rsdp policy fits a b =
     let plain = policy_is_plain texts policy b in
     let l : Line = record {
@@ -218,7 +221,8 @@ pub rebuild_words_asked : (program base : Text) (at : ℕ) (hex : Option Text) (
     (policy : PolicyValue)
     → base_word (Some base) ≡ Some at → rsdp_word hex ≡ Some rsdp → policy_words texts ≡ Some policy
     → asked_job (rebuild_words program base hex texts) ≡ Some (rebuild rsdp policy at)
-unfolding program_line command_line check_line confirm_line rebuild_line show_line find_line shape rules asked_rebuild
+unfolding program_line command_line check_line lint_line confirm_line rebuild_line show_line find_line shape rules
+    asked_rebuild
 rebuild_words_asked program base at hex texts rsdp policy a b c =
     let plain = policy_is_plain texts policy c in
     let l : Line = record {
@@ -236,7 +240,8 @@ rebuild_words_asked program base at hex texts rsdp policy a b c =
 -- a line of `show`, where a value begins with no hyphen
 show_is_asked : (program : Text) (hex : Option Text) (rsdp : Option ℕ) → IfSome hex IsPlain → rsdp_word hex ≡ Some rsdp
     → asked_job (show_words program hex) ≡ Some (show rsdp)
-unfolding is_taken command_of command_line check_line confirm_line rebuild_line show_line find_line asked_show
+unfolding is_taken command_of command_line check_line lint_line confirm_line rebuild_line show_line find_line
+    asked_show
     clap_on_literals
 show_is_asked program None rsdp plain e = ap (option_map show) e
 show_is_asked program (Some []) rsdp plain e = absurd (true≢false (sym plain))
@@ -249,5 +254,6 @@ show_words_asked program hex rsdp e = show_is_asked program hex rsdp (rsdp_is_pl
 
 -- and one of `find` for a search
 pub find_words_asked : (program : Text) → asked_job (find_words program) ≡ Some find
-unfolding is_taken command_of command_line check_line confirm_line rebuild_line show_line find_line clap_on_literals
+unfolding is_taken command_of command_line check_line lint_line confirm_line rebuild_line show_line find_line
+    clap_on_literals
 find_words_asked program = refl

@@ -3,7 +3,7 @@ use Rattle.std.proofs.Common.{◌≡◌, ℕ, List, [], Option, Some, None, Err,
 use Rattle.std.specs.Prelude.{IsSome, Result}
 use Rattle.std.specs.Io.KnownBytes.{Consumes, Keeps}
 use Rattle.acpi_base.specs.Memory.{Memory}
-use Rattle.acpi_cli.specs.CommandLine.{Asked, Does, DoesAsked, check, confirm, find, rebuild, show}
+use Rattle.acpi_cli.specs.CommandLine.{Asked, Does, DoesAsked, check, confirm, find, lint, rebuild, show}
 use Rattle.acpi_cli.specs.Engine.{Device, Reads, ReportsJob, Runs}
 use Rattle.acpi_cli.specs.Outcome.{exit_status}
 use Rattle.acpi_cli.specs.Program.{IsUntouched, Obeys, ReportsAsked}
@@ -11,7 +11,7 @@ use Rattle.acpi_cli.specs.declared.outcome.Outcome.{Outcome}
 use Rattle.acpi_cli.specs.declared.outcome.RunFault.{RunFault}
 use Rattle.acpi_cli.specs.declared.outcome.RunFault.TheVariants as run
 use Rattle.acpi_cli.specs.declared.words.Job.{Job}
-use Rattle.acpi_cli.specs.declared.words.Job.TheVariants.{Check, Confirm, Find, Rebuild, Show}
+use Rattle.acpi_cli.specs.declared.words.Job.TheVariants.{Check, Confirm, Find, Lint, Rebuild, Show}
 use Rattle.acpi_cli.specs.declared.words.WordFault.TheVariants as fault
 
 -- a job that does what is asked reports it
@@ -19,6 +19,8 @@ reports_asked : (what : Asked) (job : Job) → Does what job → (m : Memory) (b
     → ReportsJob job m bytes returned → ReportsAsked what m bytes returned
 reports_asked (check rsdp policy last) (Check given held stage) does m bytes returned reports =
     (stage, does.2, rw (sym does.0, sym does.1) reports)
+reports_asked (lint rsdp policy strict) (Lint given held is_strict) does m bytes returned reports =
+    rw (sym does.0, sym does.1, sym does.2) reports
 reports_asked (confirm rsdp policy w) (Confirm given held witness) does m bytes returned reports =
     rw (sym does.0, sym does.1, sym does.2) reports
 reports_asked (rebuild rsdp policy base) (Rebuild given held at) does m bytes returned reports =

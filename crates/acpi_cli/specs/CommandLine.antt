@@ -4,7 +4,7 @@ use Rattle.std.specs.Prelude.{if◌then◌else◌, codes, find as find_first, fo
 use Rattle.std.specs.Str.{bytes_eq}
 use Rattle.clap.specs.Words.{App, Kinds, Row, Rule, Text, all_of, fault_of, first_of, new_app, new_rule}
 use Rattle.clap.specs.Words.{subcommand_of, with_rule, with_subcommand}
-use Rattle.clap.specs.declared.builder.action.ArgAction.TheVariants.{Append, Set}
+use Rattle.clap.specs.declared.builder.action.ArgAction.TheVariants.{Append, Set, SetTrue}
 use Rattle.acpi_base.specs.Codes.{stage_number}
 use Rattle.acpi_base.specs.Policy.{PolicyValue, new_policy, with_input}
 use Rattle.acpi_base.specs.declared.policy.HotPlug.{HotPlug}
@@ -15,7 +15,7 @@ use Rattle.acpi_base.specs.declared.witness.Witness.{Witness}
 use Rattle.acpi_cli.specs.Words.{all_inputs, count_word, decimal_word, written_fault, hex_word}
 use Rattle.acpi_cli.specs.declared.policy_words.Inputs.{Inputs}
 use Rattle.acpi_cli.specs.declared.words.Job.{Job}
-use Rattle.acpi_cli.specs.declared.words.Job.TheVariants.{Check, Confirm, Find, Rebuild, Show}
+use Rattle.acpi_cli.specs.declared.words.Job.TheVariants.{Check, Confirm, Find, Lint, Rebuild, Show}
 
 -- ---- the command line, as it is declared to `clap`
 
@@ -23,27 +23,38 @@ use Rattle.acpi_cli.specs.declared.words.Job.TheVariants.{Check, Confirm, Find, 
 abbrev pub option_rule : Text → Rule
 option_rule name = record (new_rule name) { long = Some name; action = Some Set; value_names = 1 }
 
+-- `--NAME`, without a value
+abbrev pub flag_rule : Text → Rule
+flag_rule name = record (new_rule name) { long = Some name; action = Some SetTrue }
+
 -- `ADDRESS=COUNT`, any number of times
 abbrev pub inputs_rule : Rule
 inputs_rule = record (new_rule (codes "inputs")) { action = Some Append; value_names = 1 }
 
--- `.. --default-inputs N --hotplug SETTING --processors SETTING ADDRESS=COUNT..`, behind a command's own options
-abbrev pub with_policy_options : App → App
-with_policy_options line =
-    with_rule (with_rule (with_rule (with_rule
+-- `.. --default-inputs N --hotplug SETTING --processors SETTING`, behind a command's own options
+abbrev pub with_setting_options : App → App
+with_setting_options line =
+    with_rule (with_rule (with_rule
     line
     (option_rule (codes "default-inputs")))
     (option_rule (codes "hotplug")))
-    (option_rule (codes "processors")))
-    inputs_rule
+    (option_rule (codes "processors"))
 
 -- a command with two options of its own, and those of the policy
 abbrev pub judging_line : App → Rule → Rule → App
-judging_line line first second = with_policy_options (with_rule (with_rule line first) second)
+judging_line line first second = with_rule (with_setting_options (with_rule (with_rule line first) second)) inputs_rule
 
 -- `check --rsdp HEX --through N --default-inputs N --hotplug SETTING --processors SETTING ADDRESS=COUNT..`
 unfoldable pub check_line : App
 check_line = judging_line (new_app (codes "check")) (option_rule (codes "rsdp")) (option_rule (codes "through"))
+
+-- `lint --rsdp HEX --default-inputs N --hotplug SETTING --processors SETTING --strict ADDRESS=COUNT..`
+unfoldable pub lint_line : App
+lint_line =
+    with_rule (with_rule
+    (with_setting_options (with_rule (new_app (codes "lint")) (option_rule (codes "rsdp"))))
+    (flag_rule (codes "strict")))
+    inputs_rule
 
 -- `confirm --witness FAULT --rsdp HEX --default-inputs N --hotplug SETTING --processors SETTING ADDRESS=COUNT..`
 unfoldable pub confirm_line : App
@@ -64,9 +75,10 @@ find_line = new_app (codes "find")
 -- `acpiset COMMAND ..`
 unfoldable pub command_line : App
 command_line =
-    with_subcommand (with_subcommand (with_subcommand (with_subcommand (with_subcommand
+    with_subcommand (with_subcommand (with_subcommand (with_subcommand (with_subcommand (with_subcommand
     (new_app (codes "acpiset"))
     check_line.top)
+    lint_line.top)
     confirm_line.top)
     rebuild_line.top)
     show_line.top)
@@ -89,6 +101,8 @@ command_of = subcommand_of command_line
 pub data Asked : Type 0 where
   -- the RSDP's address, where it is given, the policy, and the number of the last stage
   check : Option ℕ → PolicyValue → ℕ → Asked
+  -- the RSDP's address, where it is given, the policy, and whether advice is a bad outcome too
+  lint : Option ℕ → PolicyValue → Bool → Asked
   -- the RSDP's address, where it is given, the policy, and the fault
   confirm : Option ℕ → PolicyValue → Witness → Asked
   -- the RSDP's address, where it is given, the policy, and the base address
@@ -110,6 +124,15 @@ stage_of_number n = if nat_le 1 n && nat_le n 18 then Some n else None
 abbrev pub last_word : Option Text → Option ℕ
 last_word None = Some 18
 last_word (Some text) = option_and_then stage_of_number (decimal_word 2 text)
+
+-- whether a flag is given, by the value that `clap` then gives it
+abbrev pub is_set : Option Text → Bool
+is_set None = false
+is_set (Some text) = bytes_eq text (codes "true")
+
+-- `--strict`
+abbrev pub strict_word : Option Text → Option Bool
+strict_word value = Some (is_set value)
 
 -- `--witness FAULT`: there is no job without it
 abbrev pub witness_word : Option Text → Option Witness
@@ -212,6 +235,10 @@ judging_asked make id word value words =
 unfoldable pub asked_check : List Row → Option Asked
 asked_check options = judging_asked check (codes "through") last_word (values_of options) (words_of options)
 
+-- the options of `lint`
+unfoldable pub asked_lint : List Row → Option Asked
+asked_lint options = judging_asked lint (codes "strict") strict_word (values_of options) (words_of options)
+
 -- the options of `confirm`
 unfoldable pub asked_confirm : List Row → Option Asked
 asked_confirm options = judging_asked confirm (codes "witness") witness_word (values_of options) (words_of options)
@@ -229,13 +256,15 @@ asked_command None = None
 asked_command (Some command) =
     if bytes_eq command.0 (codes "check")
     then asked_check command.1
+    else (if bytes_eq command.0 (codes "lint")
+    then asked_lint command.1
     else (if bytes_eq command.0 (codes "confirm")
     then asked_confirm command.1
     else (if bytes_eq command.0 (codes "rebuild")
     then asked_rebuild command.1
     else (if bytes_eq command.0 (codes "show")
     then asked_show command.1
-    else (if bytes_eq command.0 (codes "find") then Some find else None))))
+    else (if bytes_eq command.0 (codes "find") then Some find else None)))))
 
 -- what a whole command line asks for, where it is one
 abbrev pub asked_job : List Text → Option Asked
@@ -292,6 +321,8 @@ show_words program rsdp = program ∷ codes "show" ∷ option_words (codes "rsdp
 abbrev pub Does : Asked → Job → Type 0
 Does (check rsdp policy last) (Check given carried stage) =
     (given ≡ rsdp) × (carried ≡ policy) × (stage_number stage ≡ last)
+Does (lint rsdp policy strict) (Lint given carried is_strict) =
+    (given ≡ rsdp) × (carried ≡ policy) × (is_strict ≡ strict)
 Does (confirm rsdp policy w) (Confirm given carried witness) =
     (given ≡ rsdp) × (carried ≡ policy) × (witness ≡ w)
 Does (rebuild rsdp policy base) (Rebuild given carried at) =

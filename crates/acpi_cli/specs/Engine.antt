@@ -1,5 +1,6 @@
 -- What an engine reads, writes and returns.
-use Rattle.std.specs.Prelude.{◌≡◌, ◌≤◌, ◌⊎◌, ◌+◌, ◌++◌, ℕ, List, length, take, codes, Option, Some, None, Result, Ok, Err, true}
+use Rattle.std.specs.Prelude.{◌≡◌, ◌≤◌, ◌⊎◌, ◌+◌, ◌++◌, ℕ, Bool, if◌then◌else◌, List, [], ◌∷◌, length, take, codes, Option, Some, None, Result, Ok, Err, true}
+use Rattle.std.specs.List.{flat_map}
 use Rattle.std.specs.Io.KnownBytes.{Appends, Consumes, IsAtEnd, Keeps}
 use Rattle.acpi_base.specs.Memory.{Memory}
 use Rattle.acpi_base.specs.Policy.{PolicyValue, new_policy, with_rsdp}
@@ -8,9 +9,11 @@ use Rattle.acpi_base.specs.Text.TextReading.{IsFaultlessPrefix, IsRefusal, is_of
 use Rattle.acpi_base.specs.Tally.{CountedDevice, CountsFailure}
 use Rattle.acpi_base.specs.RsdpSearch.{IsFound, IsNowhere}
 use Rattle.acpi_base.specs.Faults.{Fault, IsVerdict}
+use Rattle.acpi_base.specs.Lint.Findings.{AreFindings}
 use Rattle.acpi_base.specs.Statements.{CleanTo}
-use Rattle.acpi_base.specs.Text.WitnessText.{hex_text, verdict_line}
+use Rattle.acpi_base.specs.Text.WitnessText.{advice_line, hex_text, verdict_line}
 use Rattle.acpi_base.specs.Text.WrittenText.{IsWritten}
+use Rattle.acpi_base.specs.declared.rule.Advice.{Advice}
 use Rattle.acpi_base.specs.declared.stage.Stage.{Stage}
 use Rattle.acpi_base.specs.declared.stage.Stage.TheVariants as stage
 use Rattle.acpi_base.specs.declared.text.TextFault.{TextFault}
@@ -21,7 +24,7 @@ use Rattle.acpi_write.specs.Rebuilding.{IsRebuilt, IsRebuildRefusal}
 use Rattle.acpi_write.specs.declared.placing.RebuildFault.{RebuildFault}
 use Rattle.acpi_write.specs.declared.placing.RebuildFault.TheVariants as refusal
 use Rattle.acpi_cli.specs.declared.words.Job.{Job}
-use Rattle.acpi_cli.specs.declared.words.Job.TheVariants.{Check, Confirm, Find, Rebuild, Show}
+use Rattle.acpi_cli.specs.declared.words.Job.TheVariants.{Check, Confirm, Find, Lint, Rebuild, Show}
 use Rattle.acpi_cli.specs.declared.outcome.Outcome.{Outcome}
 use Rattle.acpi_cli.specs.declared.outcome.Outcome.TheVariants as outcome
 use Rattle.acpi_cli.specs.declared.outcome.RunFault.{RunFault}
@@ -161,6 +164,36 @@ pub record ReportsNoRsdp (given : Option ℕ) (m : Memory) (bytes : List ℕ) (r
 abbrev pub ReportsCheck : Option ℕ → PolicyValue → Stage → Memory → List ℕ → Outcome → Type 0
 ReportsCheck given q last m bytes returned = ReportsVerdict given q last m bytes returned ⊎ ReportsNoRsdp given m bytes returned
 
+-- the lines of the faults that are reported: `yes` where there is none
+abbrev pub fault_lines : List Witness → List ℕ
+fault_lines [] = codes "yes\n"
+fault_lines (w ∷ ws) = flat_map (λ w. verdict_line (verdict.No w)) (w ∷ ws)
+
+-- and behind them those of the advice
+abbrev pub finding_lines : List Witness → List Advice → List ℕ
+finding_lines faults advice = fault_lines faults ++ flat_map advice_line advice
+
+-- the outcome of a search for all findings: a bad one where there is a fault, and where the search is strict also where there
+-- is advice
+abbrev pub outcome_of_findings : Bool → List Witness → List Advice → Outcome
+outcome_of_findings strict [] [] = outcome.Yes
+outcome_of_findings strict [] (a ∷ advice) = if strict then outcome.No else outcome.Yes
+outcome_of_findings strict (w ∷ faults) advice = outcome.No
+
+-- a search for all that is wrong reports the first fault of each code, and the first finding of each rule of advice
+pub record ReportsFindings (given : Option ℕ) (q : PolicyValue) (strict : Bool) (m : Memory) (bytes : List ℕ) (returned : Outcome) : Type 0 where
+  pub address : ℕ
+  pub rsdp : IsRsdpAddress given m address
+  pub faults : List Witness
+  pub advice : List Advice
+  pub found : AreFindings m (with_rsdp q address) faults advice
+  pub lines : bytes ≡ finding_lines faults advice
+  pub outcome : returned ≡ outcome_of_findings strict faults advice
+
+-- what such a search reports on an image
+abbrev pub ReportsLint : Option ℕ → PolicyValue → Bool → Memory → List ℕ → Outcome → Type 0
+ReportsLint given q strict m bytes returned = ReportsFindings given q strict m bytes returned ⊎ ReportsNoRsdp given m bytes returned
+
 -- `true` is reported of a fault of the image, and `false` of everything else, with the outcome that goes with it
 abbrev pub TellsFault : Memory → PolicyValue → Witness → List ℕ → Outcome → Type 0
 TellsFault m q w bytes returned =
@@ -223,6 +256,7 @@ ReportsFound m bytes returned =
 -- what a job reports on an image
 abbrev pub ReportsJob : Job → Memory → List ℕ → Outcome → Type 0
 ReportsJob (Check given policy last) = ReportsCheck given policy last
+ReportsJob (Lint given policy strict) = ReportsLint given policy strict
 ReportsJob (Confirm given policy w) = ReportsConfirm given policy w
 ReportsJob (Rebuild given policy base) = ReportsRebuild given policy base
 ReportsJob (Show given) = ReportsShow given

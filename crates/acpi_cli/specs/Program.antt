@@ -4,8 +4,8 @@ use Rattle.std.specs.Io.KnownBytes.{Keeps}
 use Rattle.acpi_base.specs.Memory.{Memory}
 use Rattle.acpi_base.specs.Codes.{stage_number}
 use Rattle.acpi_base.specs.declared.stage.Stage.{Stage}
-use Rattle.acpi_cli.specs.CommandLine.{Asked, check, confirm, find, rebuild, show}
-use Rattle.acpi_cli.specs.Engine.{Device, HasNotFailed, ReportsCheck, ReportsConfirm, ReportsFound, ReportsRebuild, ReportsShow, Runs}
+use Rattle.acpi_cli.specs.CommandLine.{Asked, check, confirm, find, lint, rebuild, show}
+use Rattle.acpi_cli.specs.Engine.{Device, HasNotFailed, ReportsCheck, ReportsConfirm, ReportsFound, ReportsLint, ReportsRebuild, ReportsShow, Runs}
 use Rattle.acpi_cli.specs.Outcome.{exit_status}
 use Rattle.acpi_cli.specs.declared.outcome.Outcome.{Outcome}
 use Rattle.acpi_cli.specs.declared.outcome.RunFault.{RunFault}
@@ -14,6 +14,7 @@ use Rattle.acpi_cli.specs.declared.outcome.RunFault.{RunFault}
 abbrev pub ReportsAsked : Asked → Memory → List ℕ → Outcome → Type 0
 ReportsAsked (check given policy last) m bytes returned =
     (stage : Stage) × (stage_number stage ≡ last) × ReportsCheck given policy stage m bytes returned
+ReportsAsked (lint given policy strict) m bytes returned = ReportsLint given policy strict m bytes returned
 ReportsAsked (confirm given policy w) m bytes returned = ReportsConfirm given policy w m bytes returned
 ReportsAsked (rebuild given policy base) m bytes returned = ReportsRebuild given policy base m bytes returned
 ReportsAsked (show given) m bytes returned = ReportsShow given m bytes returned

@@ -4,7 +4,7 @@ ghost use Rattle.std.specs.Prelude.{◌≡◌, ◌≢◌, [], IfErr, IfOk, false
 ghost use Rattle.std.specs.String.{string_bytes};
 ghost use Rattle.clap.specs.Words.{all_of, app_of, first_of, found_of, kind_of, rows_of, rule_of, subcommand_rows_of};
 ghost use Rattle.clap.specs.declared.builder.command.Command.TheViews.{out-Command};
-ghost use Rattle.acpi_cli.specs.CommandLine.{check_line, command_line, confirm_line, command_of, inputs_rule, is_taken, judging_line, option_rule, rebuild_line, show_line};
+ghost use Rattle.acpi_cli.specs.CommandLine.{check_line, command_line, confirm_line, command_of, flag_rule, inputs_rule, is_set, is_taken, judging_line, lint_line, option_rule, rebuild_line, show_line, with_setting_options};
 
 use crate::words::WordFault;
 use clap::error::ErrorKind;
@@ -62,6 +62,13 @@ pub fn value<'a>(options: &ArgMatches<'a>, id: &str) -> Option<&'a str>
     options.get_str(id)
 }
 
+/// Whether the flag `--id` was given.
+pub fn is_set(options: &ArgMatches, id: &str) -> bool
+    ensures { result ≡ is_set (first_of id.now (rows_of (found_of options.now))) }
+{
+    value(options, id) == Some("true")
+}
+
 /// The values of the positional argument `id`, in the order in which they were given.
 pub fn values<'b, 'a>(options: &'b ArgMatches<'a>, id: &str) -> &'b [&'a str]
     ensures { map (λ text. text.now) result.now ≡ unwrap_or
@@ -86,6 +93,7 @@ fn acpiset<'a>(alloc: Global) -> Result<Command<'a>, AllocError>
 {
     Command::new(alloc, "acpiset")
         .subcommand(check(alloc)?)?
+        .subcommand(lint(alloc)?)?
         .subcommand(confirm(alloc)?)?
         .subcommand(rebuild(alloc)?)?
         .subcommand(show(alloc)?)?
@@ -101,6 +109,17 @@ fn check<'a>(alloc: Global) -> Result<Command<'a>, AllocError>
     let rsdp = option(alloc, "rsdp", "HEX");
     let through = option(alloc, "through", "N");
     judging(alloc, command, rsdp, through)
+}
+
+#[tactic(auto, unfolding(crate::specs::CommandLine::lint_line))]
+fn lint<'a>(alloc: Global) -> Result<Command<'a>, AllocError>
+    ensures line { IfOk result (λ command. app_of command ≡ lint_line) }
+    ensures own { IfOk result (λ command. (out-Command command).has_globals ≡ false) }
+{
+    let command = Command::new(alloc, "lint").arg(option(alloc, "rsdp", "HEX"))?;
+    with_settings(alloc, command)?
+        .arg(flag(alloc, "strict"))?
+        .arg(inputs(alloc))
 }
 
 #[tactic(auto, unfolding(crate::specs::CommandLine::confirm_line))]
@@ -140,13 +159,20 @@ fn judging<'a>(
         (rule_of second.entry)) }
     ensures own { IfOk result (λ whole. (out-Command whole).has_globals ≡ false) }
 {
+    with_settings(alloc, command.arg(first)?.arg(second)?)?.arg(inputs(alloc))
+}
+
+/// The command with the options that say how to judge: those that `read_policy` reads, but for `ADDRESS=COUNT`.
+fn with_settings<'a>(alloc: Global, command: Command<'a>) -> Result<Command<'a>, AllocError>
+    requires command { (out-Command command).has_globals ≡ false }
+    ensures line { IfOk result
+        (λ whole. app_of whole ≡ with_setting_options (app_of command.entry)) }
+    ensures own { IfOk result (λ whole. (out-Command whole).has_globals ≡ false) }
+{
     command
-        .arg(first)?
-        .arg(second)?
         .arg(option(alloc, "default-inputs", "N"))?
         .arg(option(alloc, "hotplug", "SETTING"))?
-        .arg(option(alloc, "processors", "SETTING"))?
-        .arg(inputs(alloc))
+        .arg(option(alloc, "processors", "SETTING"))
 }
 
 fn show<'a>(alloc: Global) -> Result<Command<'a>, AllocError>
@@ -165,6 +191,16 @@ fn option<'a>(alloc: Global, name: &'a str, value: &'a str) -> Arg<'a>
         .long(name)
         .action(ArgAction::Set)
         .value_name(value)
+}
+
+/// `--NAME`, which takes no value, at most once.
+fn flag<'a>(alloc: Global, name: &'a str) -> Arg<'a>
+    ensures rule { rule_of result ≡ flag_rule name.entry.now }
+    ensures own { result.global ≡ false }
+{
+    Arg::new(alloc, name)
+        .long(name)
+        .action(ArgAction::SetTrue)
 }
 
 /// `ADDRESS=COUNT`, any number of times.

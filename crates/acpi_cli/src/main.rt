@@ -1,5 +1,5 @@
-//! The program: reads its arguments, and checks the image on standard input, confirms a fault of it, rebuilds its set of
-//! tables at another address, shows what its tables say, or looks for the RSDP in it.
+//! The program: reads its arguments, and checks the image on standard input, lists all that is wrong with it, confirms a fault of
+//! it, rebuilds its set of tables at another address, shows what its tables say, or looks for the RSDP in it.
 #![tactic(auto)]
 
 mod check;
@@ -8,6 +8,7 @@ mod confirm;
 mod devices;
 mod find;
 mod laws;
+mod lint;
 mod number_words;
 mod outcome;
 mod policy_words;

@@ -9,6 +9,7 @@ ghost use Rattle.acpi_cli.specs.Program.{Obeys};
 use crate::check::run_check;
 use crate::confirm::run_confirm;
 use crate::find::run_find;
+use crate::lint::run_lint;
 use crate::outcome::{Outcome, RunFault, status_of};
 use crate::rebuild::run_rebuild;
 use crate::reply::Reply;
@@ -66,6 +67,11 @@ pub fn do_job<R: Read, W: Write>(
 {
     match job {
         Job::Check { rsdp, policy, last } => run_check(alloc, reader, writer, rsdp, policy, last),
+        Job::Lint {
+            rsdp,
+            policy,
+            is_strict,
+        } => run_lint(alloc, reader, writer, rsdp, policy, is_strict),
         Job::Confirm {
             rsdp,
             policy,

@@ -18,7 +18,7 @@ Specification 6.5, section 5.2. Its verdicts are proved: docs/PROMISES.md.
 
 /// The usage in two lines, and where there is more.
 const SHORT_USAGE: &str = "usage: acpiset check [OPTION].. [ADDRESS=COUNT].. < IMAGE
-       acpiset confirm|rebuild|show|find [OPTION].. < IMAGE
+       acpiset lint|confirm|rebuild|show|find [OPTION].. < IMAGE
 For more: acpiset --help, man acpiset, or docs/TROUBLESHOOTING.md#words";
 
 /// A reply to arguments that ask for no job.

@@ -130,6 +130,55 @@ fn a_check_writes_the_verdict_of_the_stages_that_are_asked_for(
     Ok(())
 }
 
+/// The clean set, whose slot 1 lists the FADT once more. The RSDT's sum stays 0: its Length grows by 4, and the slot's digits by 20h.
+const LISTS_TWICE: &[u8] = b"@e0000
+52 53 44 20 50 54 52 20 4b 41 41 41 41 41 41 00
+00 10 00 00
+@1000
+52 53 44 54 2c 00 00 00 01 c2 41 41 41 41 41 41
+41 41 41 41 41 41 41 41 01 00 00 00 41 41 41 41
+01 00 00 00 00 20 00 00 00 20 00 00
+@2000
+46 41 43 50 74 00 00 00 01 cd 41 41 41 41 41 41
+41 41 41 41 41 41 41 41 01 00 00 00 41 41 41 41
+01 00 00 00 00 00 00 00 00 00 00 00 00 00 00 00
+00 00 00 00 00 00 00 00 00 00 00 00 00 00 00 00
+00 00 00 00 00 00 00 00 00 00 00 00 00 00 00 00
+00 00 00 00 00 00 00 00 00 00 00 00 00 00 00 00
+00 00 00 00 00 00 00 00 00 00 00 00 00 00 00 00
+00 00 10 00
+";
+
+/// What is wrong where the RSDP of an empty image is looked for at 0.
+const NOTHING: &[u8] = b"no 1 RsdpOut 0x0 0x0 0x0\n";
+
+/// What is found in the set that lists its FADT twice.
+const LISTED_TWICE: &[u8] = b"yes\nadvice ListedTwice 0x1 0x0 0x2000\n";
+
+/// Texts, the address that is given, whether the search is strict, and the outcome and the lines.
+const LINTS: [(&[u8], Option<u64>, bool, Outcome, &[u8]); 5] = [
+    (CLEAN, None, true, Outcome::Yes, b"yes\n"),
+    (LISTS_TWICE, None, false, Outcome::Yes, LISTED_TWICE),
+    (LISTS_TWICE, None, true, Outcome::No, LISTED_TWICE),
+    (b"", Some(0), false, Outcome::No, NOTHING),
+    (b"", None, false, Outcome::No, b"no rsdp\n"),
+];
+
+#[test]
+fn all_that_is_wrong_is_written(rt: HostRuntime) -> Result<(), Fail> {
+    let alloc = rt.alloc();
+    for (text, rsdp, is_strict, outcome, lines) in LINTS {
+        let policy = Policy::new(alloc, 0, 24)?;
+        let job = Job::Lint {
+            rsdp,
+            policy,
+            is_strict,
+        };
+        expect_report(&rt, alloc, text, job, outcome, lines)?;
+    }
+    Ok(())
+}
+
 /// Texts, the address that is given, a number of the fault NoFadt, and the outcome and the line.
 const CONFIRMS: [(&[u8], Option<u64>, u64, Outcome, &[u8]); 4] = [
     (LISTS_NOTHING, Some(0xe0000), 0, Outcome::Yes, b"true\n"),
@@ -224,6 +273,7 @@ fn an_rsdp_is_found_where_one_stands(rt: HostRuntime) -> Result<(), Fail> {
 #[derive(Clone, Copy, Debug)]
 enum Command {
     Check,
+    Lint,
     Confirm,
     Rebuild,
     Show,
@@ -231,8 +281,9 @@ enum Command {
 }
 
 /// All commands, each with the first three bytes that its job writes on the set that lists nothing.
-const COMMANDS: [(Command, [u8; 3]); 5] = [
+const COMMANDS: [(Command, [u8; 3]); 6] = [
     (Command::Check, *b"yes"),
+    (Command::Lint, *b"no "),
     (Command::Confirm, *b"tru"),
     (Command::Rebuild, *b"no "),
     (Command::Show, *b"rsd"),
@@ -248,6 +299,11 @@ fn job(alloc: Global, command: Command) -> Result<Job, PolicyFault> {
             rsdp,
             policy,
             last: Stage::Tables,
+        },
+        Command::Lint => Job::Lint {
+            rsdp,
+            policy,
+            is_strict: false,
         },
         Command::Confirm => Job::Confirm {
             rsdp,

@@ -8,6 +8,9 @@ const COMMANDS: &str = "usage:
   acpiset check [--rsdp HEX] [--through N]
                 [--default-inputs N] [ADDRESS=COUNT]..
                 [--hotplug counted|apart] [--processors enabled|usable]
+  acpiset lint [--rsdp HEX] [--strict]
+                [--default-inputs N] [ADDRESS=COUNT]..
+                [--hotplug counted|apart] [--processors enabled|usable]
   acpiset confirm --witness FAULT [--rsdp HEX]
                 [--default-inputs N] [ADDRESS=COUNT]..
                 [--hotplug counted|apart] [--processors enabled|usable]
@@ -24,6 +27,11 @@ fault. confirm judges one fault, apart from check, and writes `true` where the
 image has it, or `false`. show writes what the tables say, a line for each
 entry, where the first 3 stages hold, and else what check --through 3 writes.
 
+lint writes all that is wrong: `yes`, or a line `no` with the first fault of
+each name, whatever the stages before it find; and behind it a line `advice`
+with the first finding of each rule of advice that is broken. Advice is no
+fault: it says what is likely wrong and breaks none of the rules of check.
+
 rebuild writes a set to which check says yes anew at another address, as the
 text of an image that holds this set and nothing else. Of any other set it
 writes what check writes. Where the set cannot stand at that address it writes
@@ -38,7 +46,8 @@ NeedsLow, a FACS above 4 GiB and a FADT too short for its address; TableTooLong.
                multiple of 64, in as many digits as --rsdp
   --rsdp HEX   the address of the RSDP: 1 to 16 hex digits, with 0x before
                them or without; if absent, the one that find finds, and where
-               there is none these four write `no rsdp`
+               there is none these five write `no rsdp`
+  --strict     lint's exit status is 1 also where there is advice and no fault
 ";
 
 const POLICY: &str = "  --default-inputs N
@@ -74,13 +83,15 @@ line of pairs of hex digits is bytes, and # begins a comment:
   52 53 44 20  # and so on
 
 A fault is written as `3 TableSum 0x1 0x3000 0x0`: the stage, the fault's
-name, where it is, and two more numbers that say what it is about.
+name, where it is, and two more numbers that say what it is about. Advice is
+written as `advice SlitDiffers 0x2d 0x30 0x0`: the rule's name, and the same.
 
 For example:
 
   acpiset check --rsdp f59e0 < image.txt
   acpiset check --default-inputs 16 fec00000=32 0xfec01000=8 < image.txt
   acpiset check --hotplug apart --processors usable < image.txt
+  acpiset lint --rsdp f59e0 < image.txt
   acpiset show --rsdp f59e0 < image.txt
   acpiset rebuild --rsdp f59e0 --base 7ffe0000 < image.txt > new.txt
   acpiset confirm --rsdp f59e0 --witness '3 TableSum 0x1 0x3000 0x0' < image.txt

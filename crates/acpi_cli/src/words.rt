@@ -8,11 +8,11 @@ ghost use Rattle.acpi_base.specs.Laws.{NumbersFit};
 ghost use Rattle.acpi_base.specs.Policy.{PolicyValue};
 ghost use Rattle.acpi_base.specs.Text.WitnessText.{witness_line};
 ghost use Rattle.acpi_base.specs.declared.witness.Witness.{Witness};
-ghost use Rattle.acpi_cli.specs.CommandLine.{Asked, DoesAsked, PolicyTexts, asked_job, base_word, asked_check, check_words, asked_confirm, confirm_words};
+ghost use Rattle.acpi_cli.specs.CommandLine.{Asked, DoesAsked, PolicyTexts, asked_job, base_word, asked_check, check_words, asked_confirm, confirm_words, asked_lint};
 ghost use Rattle.acpi_cli.specs.CommandLine.{find_words, last_word, policy_words, asked_rebuild, rebuild_words, rsdp_word, asked_show, show_words, witness_word};
 ghost use Rattle.acpi_cli.specs.Words.{written_fault};
 
-use crate::command_line::{clap_message, parse, value};
+use crate::command_line::{clap_message, is_set, parse, value};
 use crate::number_words::{decimal_number, hex_number};
 use crate::policy_words::{policy_message, read_policy, refused_value};
 use acpi_base::{Policy, Stage, Witness, parse_witness};
@@ -36,6 +36,13 @@ pub enum Job {
         rsdp: Option<u64>,
         policy: Policy,
         last: Stage,
+    },
+    /// Report the first fault of each code and the first finding of each rule of advice, of the tables that the RSDP leads to: the
+    /// RSDP at `rsdp`, or the one that is found. The policy's own RSDP address is 0. With `is_strict` advice is a bad outcome too.
+    Lint {
+        rsdp: Option<u64>,
+        policy: Policy,
+        is_strict: bool,
     },
     /// Judge whether the witness is a fault of the tables that the RSDP leads to: the RSDP at `rsdp`, or the
     /// one that is found. The policy's own RSDP address is 0.
@@ -73,8 +80,9 @@ pub enum WordFault {
 /// The job that the arguments `words` ask for, of which the first is the program's name.
 ///
 /// The commands are `find`, `show [--rsdp HEX]`, `check [--rsdp HEX] [--through N] [--default-inputs N] [--hotplug SETTING]
-/// [--processors SETTING] [ADDRESS=COUNT]..`, and `confirm` and `rebuild` with the same options as `check`, save that in the
-/// place of `--through N` the one has `--witness FAULT`, the other `--base HEX`, which they need. FAULT is a fault as
+/// [--processors SETTING] [ADDRESS=COUNT]..`, and `lint`, `confirm` and `rebuild` with the same options as `check`, save that in
+/// the place of `--through N` `lint` has the flag `--strict`, `confirm` `--witness FAULT` and `rebuild` `--base HEX`, which these
+/// two need. FAULT is a fault as
 /// `check` writes it (`parse_witness`), in one argument. HEX is an address of 1 to 16 hex digits, with `0x` before them
 /// or without. The N of `--through` is a stage of one or two decimal digits, from 1 to 18, which it also is
 /// if absent. The setting of `--hotplug` is `counted`, which it also is if absent, or `apart`
@@ -96,6 +104,7 @@ pub fn read_words(alloc: Global, words: &[String]) -> Result<Job, WordFault>
     let (name, options) = matches.subcommand().ok_or(WordFault::Words)?;
     match name {
         "check" => check_job(alloc, options),
+        "lint" => lint_job(alloc, options),
         "confirm" => confirm_job(alloc, options),
         "rebuild" => rebuild_job(alloc, options),
         "show" => show_job(options),
@@ -115,6 +124,23 @@ fn check_job(alloc: Global, options: &ArgMatches) -> Result<Job, WordFault>
     let last = last_stage(value(options, "through")).ok_or(WordFault::Words)?;
     let policy = read_policy(alloc, options)?;
     Ok(Job::Check { rsdp, policy, last })
+}
+
+/// The job of `lint` with these options.
+#[tactic(auto, unfolding(crate::specs::CommandLine::asked_lint))]
+fn lint_job(alloc: Global, options: &ArgMatches) -> Result<Job, WordFault>
+    ensures job { IfOk result (DoesAsked (asked_lint (rows_of (found_of options.now)))) }
+    ensures refused { IfErr result (λ fault.
+        IsSome (asked_lint (rows_of (found_of options.now))) → fault ≡ WordFault.Memory) }
+{
+    let rsdp = given_address(value(options, "rsdp")).ok_or(WordFault::Words)?;
+    let is_strict = is_set(options, "strict");
+    let policy = read_policy(alloc, options)?;
+    Ok(Job::Lint {
+        rsdp,
+        policy,
+        is_strict,
+    })
 }
 
 /// The job of `confirm` with these options.

@@ -1,5 +1,5 @@
 use super::*;
-use crate::Code;
+use crate::{Code, Rule};
 use std::process::Abort;
 
 /// A fault of the code with this number.
@@ -43,5 +43,19 @@ fn lines_of_verdicts(rt: HostRuntime) -> Result<(), AllocError> {
     let no = verdict_text(rt.alloc(), &no)?;
     assert!(rt; yes.as_slice() == b"yes\n".as_slice());
     assert!(rt; no.as_slice() == b"no 7 GsiClash 0x2c 0x38 0x18\n".as_slice());
+    Ok(())
+}
+
+#[test]
+fn a_line_of_advice(rt: HostRuntime) -> Result<(), AllocError> {
+    let advice = Advice {
+        rule: Rule::SciNowhere,
+        at: 46,
+        other: 0,
+        point: u64::MAX,
+    };
+    let line = advice_text(rt.alloc(), &advice)?;
+    let wanted = b"advice SciNowhere 0x2e 0x0 0xffffffffffffffff\n";
+    assert!(rt; line.as_slice() == wanted.as_slice());
     Ok(())
 }

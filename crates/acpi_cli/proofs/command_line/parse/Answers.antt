@@ -4,16 +4,16 @@ use Rattle.clap.specs.Words.{App, HasKind, Kinds, Text, fault_of, is_simple, is_
 use Rattle.clap.specs.declared.error.Error.{Error}
 use Rattle.clap.specs.declared.error.kind.ErrorKind.TheVariants.{OutOfMemory}
 use Rattle.clap.proofs.OnLiterals.{clap_on_literals}
-use Rattle.acpi_cli.specs.CommandLine.{are_none, check_line, command_line, confirm_line, find_line, command_of, is_taken, rebuild_line, show_line}
+use Rattle.acpi_cli.specs.CommandLine.{are_none, check_line, command_line, confirm_line, find_line, command_of, is_taken, lint_line, rebuild_line, show_line}
 use Rattle.acpi_cli.proofs.command_line.parse.Goals as goal
 
 -- the arguments of the command line decide its matches and its faults
 simple : is_simple command_line ≡ true
-unfolding command_line check_line confirm_line rebuild_line show_line find_line clap_on_literals
+unfolding command_line check_line lint_line confirm_line rebuild_line show_line find_line clap_on_literals
 simple = refl
 
 simple_and_free : is_simple_and_free command_line ≡ true
-unfolding command_line check_line confirm_line rebuild_line show_line find_line clap_on_literals
+unfolding command_line check_line lint_line confirm_line rebuild_line show_line find_line clap_on_literals
 simple_and_free = refl
 
 -- an error with no fault in the arguments is one of memory

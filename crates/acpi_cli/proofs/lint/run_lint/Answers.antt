@@ -1,0 +1,14 @@
+use Rattle.std.proofs.Common.{inl}
+use Rattle.acpi_cli.proofs.lint.run_lint.Goals as goal
+
+-- the image that was read, and what was reported on it
+pub returns : goal.returns
+returns g c =
+    inl (
+      c.in_ok-image.image,
+      c.in-Ok.output.bytes.items,
+      c.in-Ok.output.outcome,
+      c.in_ok-image.ensures,
+      c.in-Ok.ensures,
+      c.write_output.ensures,
+    )

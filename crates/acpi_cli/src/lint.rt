@@ -1,0 +1,96 @@
+//! The engine of the command `lint`.
+
+ghost use Rattle.std.specs.Prelude.{◌≡◌, IfOk};
+ghost use Rattle.acpi_cli.specs.Engine.{device, Runs, ReportsLint, fault_lines, finding_lines, outcome_of_findings};
+
+use crate::check::{no_rsdp, rsdp_address};
+use crate::devices::{Output, read_input, write_output};
+use crate::outcome::{Outcome, RunFault};
+use acpi_base::{Image, Policy, Tally, Verdict, Witness, advice_text, verdict_text};
+use acpi_lint::{Findings, lint};
+use std::alloc::{AllocError, Global};
+use std::io::{Read, Write};
+
+/// The lines of the faults: `yes` where there is none.
+fn fault_text(alloc: Global, faults: &[Witness]) -> Result<Vec<u8>, AllocError>
+    ensures { IfOk result (λ text. text.items ≡ fault_lines faults.now) }
+{
+    if faults.is_empty() {
+        return verdict_text(alloc, &Verdict::Yes);
+    }
+    let mut text = Vec::new(alloc);
+    for fault in faults {
+        text.extend_from_slice(&verdict_text(alloc, &Verdict::No(*fault))?)?;
+    }
+    Ok(text)
+}
+
+/// The lines of the faults, and behind them those of the advice.
+fn finding_text(alloc: Global, findings: &Findings) -> Result<Vec<u8>, AllocError>
+    ensures { IfOk result (λ text.
+        text.items ≡ finding_lines findings.now.faults.items findings.now.advice.items) }
+{
+    let mut text = fault_text(alloc, &findings.faults)?;
+    for advice in &findings.advice {
+        text.extend_from_slice(&advice_text(alloc, advice)?)?;
+    }
+    Ok(text)
+}
+
+/// The outcome that goes with these findings. With `is_strict` advice alone is a bad one too.
+fn outcome_of(findings: &Findings, is_strict: bool) -> Outcome
+    ensures { result ≡ outcome_of_findings is_strict findings.now.faults.items
+        findings.now.advice.items }
+{
+    let is_bad = !findings.faults.is_empty() || is_strict && !findings.advice.is_empty();
+    if is_bad { Outcome::No } else { Outcome::Yes }
+}
+
+/// What is reported on the image.
+fn lint_output(
+    alloc: Global,
+    image: &Image,
+    given: Option<u64>,
+    mut policy: Policy,
+    is_strict: bool,
+) -> Result<Output, AllocError>
+    ensures { IfOk result (λ output. ReportsLint given policy is_strict image.now output.bytes.items
+        output.outcome) }
+{
+    let Some(address) = rsdp_address(image, given) else {
+        return no_rsdp(alloc);
+    };
+    policy.set_rsdp(address);
+    let findings = lint(alloc, image, &policy)?;
+    let bytes = finding_text(alloc, &findings)?;
+    let outcome = outcome_of(&findings, is_strict);
+    Ok(Output { bytes, outcome })
+}
+
+/// Looks for all that is wrong with the tables of the image whose text is on `reader`, from the RSDP at the address `rsdp`, or
+/// where it is `None` from the one that is found. The policy's own address is not looked at.
+///
+/// Writes a line `no` with the first fault of each code that has one, or `yes` where none has, and behind these a line `advice`
+/// with the first finding of each rule that is broken. Returns `No` where there is a fault, and with `is_strict` also where there is
+/// advice, else `Yes`. Where no address is given and none is found it writes `no rsdp` and returns `No`. Nothing is written before
+/// the image is read and judged and all lines are made. Refuses `Image` where the input is no image text, `Memory`, and `Device`
+/// where a read or a write failed; what was written then is a prefix of the lines.
+pub fn run_lint<R: Read, W: Write>(
+    alloc: Global,
+    reader: &mut Tally<R>,
+    writer: &mut Tally<W>,
+    rsdp: Option<u64>,
+    policy: Policy,
+    is_strict: bool,
+) -> Result<Outcome, RunFault>
+    ensures { Runs (ReportsLint rsdp policy is_strict)
+        (device R.remaining reader.old reader.new)
+        (device W.contents writer.old writer.new)
+        result }
+{
+    let image = read_input(alloc, reader)?;
+    let Ok(output) = lint_output(alloc, &image, rsdp, policy, is_strict) else {
+        return Err(RunFault::Memory);
+    };
+    write_output(writer, &output)
+}
