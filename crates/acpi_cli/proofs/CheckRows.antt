@@ -7,9 +7,10 @@ use Rattle.std.proofs.lemmas.Bool.{and_parts, not-true, or_parts}
 use Rattle.std.proofs.lemmas.List.Folds.{find-append, list_any-append}
 use Rattle.std.proofs.lemmas.Slice.Eq.{bytes_eq-Decides}
 use Rattle.clap.specs.Words.{Row, Text, all_of, first_of}
+use Rattle.acpi_cli.specs.CommandLine.{is_set}
 use Rattle.clap.specs.Walk.{at_row, has_row}
 use Rattle.clap.specs.declared.builder.value_parser.Reading.TheVariants.{AsWritten}
-use Rattle.clap.specs.declared.parser.matches.ValueSource.TheVariants.{CommandLine}
+use Rattle.clap.specs.declared.parser.matches.ValueSource.TheVariants.{CommandLine, DefaultValue}
 
 -- what was read of one argument
 abbrev pub row : Text → List Text → Row
@@ -24,6 +25,23 @@ option_rows id (Some value) = row id (value ∷ []) ∷ []
 abbrev pub word_rows : List Text → List Row
 word_rows [] = []
 word_rows (word ∷ words) = row (codes "inputs") (word ∷ words) ∷ []
+
+-- what was read of `--strict`, where the command has this flag: that it is given
+abbrev pub flag_rows : Option Bool → List Row
+flag_rows None = []
+flag_rows (Some false) = []
+flag_rows (Some true) = row (codes "strict") (codes "true" ∷ []) ∷ []
+
+-- or else the value that it then has
+abbrev pub default_flag_rows : Option Bool → List Row
+default_flag_rows None = []
+default_flag_rows (Some true) = []
+default_flag_rows (Some false) =
+    record (row (codes "strict") (codes "false" ∷ [])) { source = Some DefaultValue } ∷ []
+
+-- all that was read behind the options
+abbrev pub rows_behind : Option Bool → List Text → List Row
+rows_behind flag words = flag_rows flag ++ word_rows words ++ default_flag_rows flag
 
 -- what was read of several options, each an id and a value
 abbrev pub options_rows : List (Text × Option Text) → List Row
@@ -65,7 +83,7 @@ no_other_row id other None e = refl
 no_other_row id other (Some value) e = rw e refl
 
 -- nor do rows of which neither part has it
-no_row_in_both : (id : Text) (rows behind : List Row) → has_row id rows ≡ false → has_row id behind ≡ false
+pub no_row_in_both : (id : Text) (rows behind : List Row) → has_row id rows ≡ false → has_row id behind ≡ false
     → has_row id (rows ++ behind) ≡ false
 no_row_in_both id rows behind e f = rw (list_any-append, e, f) refl
 
@@ -83,6 +101,15 @@ pub no_word_row : (id : Text) (words : List Text) → bytes_eq (codes "inputs") 
     → has_row id (word_rows words) ≡ false
 no_word_row id [] e = refl
 no_word_row id (word ∷ words) e = rw e refl
+
+-- nor have the words and the flag together
+pub no_row_behind : (id : Text) (flag : Option Bool) (words : List Text) → bytes_eq (codes "inputs") id ≡ false
+    → bytes_eq (codes "strict") id ≡ false → has_row id (rows_behind flag words) ≡ false
+no_row_behind id None words e other = no_row_in_both id (word_rows words) [] (no_word_row id words e) refl
+no_row_behind id (Some true) words e other =
+    rw other (no_row_in_both id (word_rows words) [] (no_word_row id words e) refl)
+no_row_behind id (Some false) words e other =
+    no_row_in_both id (word_rows words) (default_flag_rows (Some false)) (no_word_row id words e) (rw other refl)
 
 -- ---- where the arguments are found
 
@@ -130,10 +157,31 @@ option_is_found id (choice ∷ options) behind distinct other =
     go false is (Some value) found = rw is found
 
 -- and so are the words `ADDRESS=COUNT`
-pub words_are_found : (options : List (Text × Option Text)) (words : List Text)
+pub words_are_found : (options : List (Text × Option Text)) (flag : Option Bool) (words : List Text)
     → has_option (codes "inputs") options ≡ false
-    → unwrap_or (all_of (codes "inputs") (options_rows options ++ word_rows words)) [] ≡ words
-words_are_found options [] e =
-    rw (find-append, finds_none (codes "inputs") (options_rows options) (no_option_row (codes "inputs") options e)) refl
-words_are_found options (word ∷ words) e =
-    rw (find-append, finds_none (codes "inputs") (options_rows options) (no_option_row (codes "inputs") options e)) refl
+    → unwrap_or (all_of (codes "inputs") (options_rows options ++ rows_behind flag words)) [] ≡ words
+words_are_found options flag words e =
+    rw (find-append, finds_none (codes "inputs") (options_rows options) (no_option_row (codes "inputs") options e))
+    (go flag words)
+  where
+    go : (flag : Option Bool) (words : List Text) → unwrap_or (all_of (codes "inputs") (rows_behind flag words)) [] ≡ words
+    go None [] = refl
+    go None (word ∷ words) = refl
+    go (Some true) [] = refl
+    go (Some true) (word ∷ words) = refl
+    go (Some false) [] = refl
+    go (Some false) (word ∷ words) = refl
+
+-- and whether `--strict` is given
+pub flag_is_found : (options : List (Text × Option Text)) (is_given : Bool) (words : List Text)
+    → has_option (codes "strict") options ≡ false
+    → is_set (first_of (codes "strict") (options_rows options ++ rows_behind (Some is_given) words)) ≡ is_given
+flag_is_found options is_given words e =
+    rw (find-append, finds_none (codes "strict") (options_rows options) (no_option_row (codes "strict") options e))
+    (go is_given words)
+  where
+    go : (is_given : Bool) (words : List Text)
+        → is_set (first_of (codes "strict") (rows_behind (Some is_given) words)) ≡ is_given
+    go true words = refl
+    go false [] = refl
+    go false (word ∷ words) = refl

@@ -1,5 +1,5 @@
 -- Command lines whose arguments stand a space apart, and what they ask for.
-use Rattle.std.proofs.Common.{◌≡◌, ◌∙◌, ◌++◌, ℕ, List, [], ◌∷◌, Option, Some, None, true, false, true≢false, codes, append_assoc, append-nil, refl, ap, sym, ◌==◌}
+use Rattle.std.proofs.Common.{◌≡◌, ◌∙◌, ◌++◌, ℕ, Bool, List, [], ◌∷◌, Option, Some, None, true, false, true≢false, cond, codes, append_assoc, append-nil, refl, ap, sym, ◌==◌}
 use Rattle.std.specs.Prelude.{IfSome, find as find_first, fold, is_some, option_and_then, option_map}
 use Rattle.std.specs.List.{list_all}
 use Rattle.std.specs.Str.{bytes_eq}
@@ -15,13 +15,13 @@ use Rattle.acpi_base.specs.Laws.{NumbersFit}
 use Rattle.acpi_base.specs.Policy.{PolicyValue}
 use Rattle.acpi_base.specs.Text.WitnessText.{witness_line}
 use Rattle.acpi_base.specs.declared.witness.Witness.{Witness}
-use Rattle.acpi_cli.specs.CommandLine.{Asked, PolicyTexts, are_none, asked_job, base_word, check, asked_check, check_line, check_words, asked_command, command_line, command_of, confirm, asked_confirm, confirm_line, confirm_words, default_word, find, find_line, find_words, hotplug_word, inputs_policy, is_taken, judging_asked, last_word, lint_line, options_words, policy_options, policy_words, processors_word, rebuild, asked_rebuild, rebuild_line, rebuild_words, rsdp_word, show, asked_show, show_line, show_words, values_of, witness_word, words_of}
+use Rattle.acpi_cli.specs.CommandLine.{Asked, PolicyTexts, are_none, asked_job, base_word, check, asked_check, check_line, check_words, asked_command, command_line, command_of, confirm, asked_confirm, confirm_line, confirm_words, default_word, find, find_line, find_words, hotplug_word, inputs_policy, is_taken, judging_asked, last_word, lint, asked_lint, lint_line, lint_words, options_words, policy_options, policy_words, processors_word, rebuild, asked_rebuild, rebuild_line, rebuild_words, rsdp_word, show, asked_show, show_line, show_words, strict_word, values_of, witness_word, words_of}
 use Rattle.acpi_cli.specs.Words.{all_inputs}
 use Rattle.acpi_cli.proofs.FaultWords.{fault_is_plain, is_read}
-use Rattle.acpi_cli.proofs.CheckRows.{are_distinct, no_word_row, option_is_found, options_rows, value_of, word_rows, words_are_found}
+use Rattle.acpi_cli.proofs.CheckRows.{are_distinct, flag_is_found, no_row_behind, option_is_found, options_rows, rows_behind, value_of, words_are_found}
 use Rattle.acpi_cli.proofs.Hyphens.{ArePlain, IsPlain, all_are_plain, no_number, value_is_plain}
 use Rattle.acpi_cli.proofs.Spellings.{made_of}
-use Rattle.acpi_cli.proofs.JudgingArguments.{AllPlain, Line, Reads, are_new, given, is_option, reads_options, rules, shape, standing, taken}
+use Rattle.acpi_cli.proofs.JudgingArguments.{AllPlain, Line, Reads, all_given, are_new, flag_words, flagged, given, is_option, reads_options, rules, shape, standing, taken}
 
 -- ---- what stands before the arguments of a command
 
@@ -104,7 +104,7 @@ command_is_taken l program words rows has reads =
 -- and the command comes with these rows
 command_is_entered : (l : Line) (program : Text) (words : List Text) (rows : List Row) → HasCommand l
     → Reads l (standing [] None idle) words rows
-    → command_of (program ∷ l.name ∷ words) ≡ Some (l.name, rows)
+    → command_of (program ∷ l.name ∷ words) ≡ Some (l.name, flagged l.flag rows)
 unfolding command_of program_line at_command shape
 command_is_entered l program words rows has reads =
     ap (λ (w : Walk). entered program_line w.stopped) (walks_to l words has)
@@ -136,43 +136,70 @@ policy_is_plain texts policy e =
       all_are_plain texts.inputs counts are_counts,
     ))))))
 
+-- what is read of a plain line
+abbrev rows_of_line : Line → List Text → List Row
+rows_of_line l words = options_rows l.options ++ rows_behind l.flag words
+
+-- the options of a line are distinct and its own, and their values begin with no hyphen, nor does a word
+record IsPlainLine (l : Line) (words : List Text) : Type 0 where
+  pub command : HasCommand l
+  pub own : list_all (λ choice. is_option l.options choice.0) l.options ≡ true
+  pub new : are_new [] l.options ≡ true
+  pub distinct : are_distinct l.options ≡ true
+  pub values : AllPlain l.options
+  pub words : ArePlain words
+
+-- a plain line asks for what its command asks for with what is read
+line_is_read : (l : Line) (program : Text) (words : List Text) → IsPlainLine l words
+    → asked_job (program ∷ l.name ∷ options_words l.options (flag_words l.flag ++ words))
+    ≡ asked_command (Some (l.name, rows_of_line l words))
+line_is_read l program words plain =
+    let reads = reads_options l words plain.own plain.new plain.values plain.words in
+    let taken : is_taken (program ∷ l.name ∷ options_words l.options (flag_words l.flag ++ words)) ≡ true =
+    command_is_taken l program _ _ plain.command reads in
+    let entered : command_of (program ∷ l.name ∷ options_words l.options (flag_words l.flag ++ words))
+        ≡ Some (l.name, rows_of_line l words) =
+    command_is_entered l program _ _ plain.command reads
+    ∙ ap (λ (rows : List Row). Some (l.name, rows)) (all_given l.options l.flag words l.no_strict) in
+    rw (taken, entered) refl
+
+-- an option of it is found
+option_of_line : (l : Line) (words : List Text) (id : Text) → are_distinct l.options ≡ true
+    → bytes_eq (codes "inputs") id ≡ false → bytes_eq (codes "strict") id ≡ false
+    → values_of (rows_of_line l words) id ≡ value_of id l.options
+option_of_line l words id distinct other another =
+    option_is_found id l.options (rows_behind l.flag words) distinct (no_row_behind id l.flag words other another)
+
 -- a command asks for the same where its options have the same values
 asks_same : {T : Type 0} (make : Option ℕ → PolicyValue → T → Asked) (id : Text) (word : Option Text → Option T)
     (value given : Text → Option Text) (words inputs : List Text)
-    → ((id : Text) → bytes_eq (codes "inputs") id ≡ false → value id ≡ given id) → bytes_eq (codes "inputs") id ≡ false
-    → words ≡ inputs
+    → ((id : Text) → bytes_eq (codes "inputs") id ≡ false → bytes_eq (codes "strict") id ≡ false → value id ≡ given id)
+    → word (value id) ≡ word (given id) → words ≡ inputs
     → judging_asked make id word value words ≡ judging_asked make id word given inputs
-asks_same make id word value given words inputs same other e =
+asks_same make id word value given words inputs same own e =
     rw (
-      same (codes "rsdp") refl,
-      same (codes "default-inputs") refl,
-      same (codes "hotplug") refl,
-      same (codes "processors") refl,
-      same id other,
+      same (codes "rsdp") refl refl,
+      same (codes "default-inputs") refl refl,
+      same (codes "hotplug") refl refl,
+      same (codes "processors") refl refl,
+      own,
       e,
     ) refl
 
 -- a plain line asks for what the values of its options say
 line_is_asked : {T : Type 0} (make : Option ℕ → PolicyValue → T → Asked) (id : Text) (word : Option Text → Option T)
     (l : Line) (program : Text) (words : List Text)
-    → HasCommand l → ((rows : List Row)
+    → IsPlainLine l words → ((rows : List Row)
     → asked_command (Some (l.name, rows)) ≡ judging_asked make id word (values_of rows) (words_of rows))
-    → bytes_eq (codes "inputs") id ≡ false
-    → list_all (λ choice. is_option l.options choice.0) l.options ≡ true → are_new [] l.options ≡ true
-    → are_distinct l.options ≡ true → AllPlain l.options → ArePlain words
-    → asked_job (program ∷ l.name ∷ options_words l.options words) ≡ judging_asked make id word
-    (λ id. value_of id l.options) words
-line_is_asked make id word l program words has asks other are new distinct begin plain =
-    let rows : List Row = options_rows l.options ++ word_rows words in
-    let reads = reads_options l words are new begin plain in
-    let taken : is_taken (program ∷ l.name ∷ options_words l.options words) ≡ true =
-    command_is_taken l program _ rows has reads in
-    let entered : command_of (program ∷ l.name ∷ options_words l.options words) ≡ Some (l.name, rows) =
-    command_is_entered l program _ rows has reads in
-    rw (taken, entered) (asks rows)
+    → bytes_eq (codes "inputs") id ≡ false → bytes_eq (codes "strict") id ≡ false
+    → asked_job (program ∷ l.name ∷ options_words l.options (flag_words l.flag ++ words))
+    ≡ judging_asked make id word (λ id. value_of id l.options) words
+line_is_asked make id word l program words plain asks other another =
+    let rows = rows_of_line l words in
+    line_is_read l program words plain ∙ asks rows
     ∙ asks_same make id word (values_of rows) (λ id. value_of id l.options) (words_of rows) words
-    (λ id other. option_is_found id l.options (word_rows words) distinct (no_word_row id words other)) other
-    (words_are_found l.options words l.no_inputs)
+    (λ id other another. option_of_line l words id plain.distinct other another)
+    (ap word (option_of_line l words id plain.distinct other another)) (words_are_found l.options l.flag words l.no_inputs)
 
 -- a plain line of `check` asks for what its arguments say
 pub check_words_asked : (program : Text) (hex number : Option Text) (texts : PolicyTexts) (rsdp : Option ℕ)
@@ -187,13 +214,54 @@ check_words_asked program hex number texts rsdp policy last a b c =
       name = codes "check";
       options =
           (codes "rsdp", hex) ∷ (codes "through", number) ∷ policy_options texts;
+      flag = None;
       no_inputs = refl;
+      no_strict = refl;
     } in
     let stage = value_is_plain last_word number last refl (λ rest. ap (option_and_then _) (no_number _ _ _)) c in
     line_is_asked check (codes "through") last_word l program texts.inputs
-    (record { no_help = refl; met = refl; is = refl }) (λ rows. refl) refl refl refl refl
-    (rsdp_is_plain hex rsdp a, (stage, plain.0)) plain.1
+    (record {
+      command = record { no_help = refl; met = refl; is = refl };
+      own = refl;
+      new = refl;
+      distinct = refl;
+      values = (rsdp_is_plain hex rsdp a, (stage, plain.0));
+      words = plain.1;
+    }) (λ rows. refl) refl refl
     ∙ rw (a, b, c) refl
+
+-- a plain line of `lint` asks for what its arguments say
+pub lint_words_asked : (program : Text) (hex : Option Text) (texts : PolicyTexts) (strict : Bool) (rsdp : Option ℕ)
+    (policy : PolicyValue) → rsdp_word hex ≡ Some rsdp → policy_words texts ≡ Some policy
+    → asked_job (lint_words program hex texts strict) ≡ Some (lint rsdp policy strict)
+unfolding program_line command_line check_line lint_line confirm_line rebuild_line show_line find_line shape rules
+    asked_lint
+lint_words_asked program hex texts strict rsdp policy a b =
+    let plain = policy_is_plain texts policy b in
+    let l : Line = record {
+      name = codes "lint";
+      options =
+          (codes "rsdp", hex) ∷ policy_options texts;
+      flag = Some strict;
+      no_inputs = refl;
+      no_strict = refl;
+    } in
+    let rows = rows_of_line l texts.inputs in
+    line_is_read l program texts.inputs
+    (record {
+      command = record { no_help = refl; met = refl; is = refl };
+      own = refl;
+      new = refl;
+      distinct = refl;
+      values = (rsdp_is_plain hex rsdp a, plain.0);
+      words = plain.1;
+    })
+    ∙ asks_same lint (codes "strict") strict_word (values_of rows)
+    (λ id. cond (bytes_eq (codes "strict") id) (values_of rows id) (value_of id l.options))
+    (words_of rows) texts.inputs
+    (λ id other another. rw another (option_of_line l texts.inputs id refl other another))
+    refl (words_are_found l.options l.flag texts.inputs l.no_inputs)
+    ∙ rw (a, b, flag_is_found l.options strict texts.inputs l.no_strict) refl
 
 -- a plain line of `confirm` asks for what its arguments say
 pub confirm_words_asked : (program : Text) (w : Witness) (hex : Option Text) (texts : PolicyTexts) (rsdp : Option ℕ)
@@ -208,12 +276,20 @@ confirm_words_asked program w hex texts rsdp policy fits a b =
       name = codes "confirm";
       options =
           (codes "witness", Some (witness_line w)) ∷ (codes "rsdp", hex) ∷ policy_options texts;
+      flag = None;
       no_inputs = refl;
+      no_strict = refl;
     } in
     let fault = is_read (witness_line w) w fits refl in
     line_is_asked confirm (codes "witness") witness_word l program texts.inputs
-    (record { no_help = refl; met = refl; is = refl }) (λ rows. refl) refl refl refl refl
-    (fault_is_plain (witness_line w) w fault, (rsdp_is_plain hex rsdp a, plain.0)) plain.1
+    (record {
+      command = record { no_help = refl; met = refl; is = refl };
+      own = refl;
+      new = refl;
+      distinct = refl;
+      values = (fault_is_plain (witness_line w) w fault, (rsdp_is_plain hex rsdp a, plain.0));
+      words = plain.1;
+    }) (λ rows. refl) refl refl
     ∙ rw (a, b, fault) refl
 
 -- a plain line of `rebuild` asks for what its arguments say
@@ -229,12 +305,20 @@ rebuild_words_asked program base at hex texts rsdp policy a b c =
       name = codes "rebuild";
       options =
           (codes "base", Some base) ∷ (codes "rsdp", hex) ∷ policy_options texts;
+      flag = None;
       no_inputs = refl;
+      no_strict = refl;
     } in
     let address = value_is_plain base_word (Some base) at refl (λ rest. no_number _ _ _) a in
     line_is_asked rebuild (codes "base") base_word l program texts.inputs
-    (record { no_help = refl; met = refl; is = refl }) (λ rows. refl) refl refl refl refl
-    (address, (rsdp_is_plain hex rsdp b, plain.0)) plain.1
+    (record {
+      command = record { no_help = refl; met = refl; is = refl };
+      own = refl;
+      new = refl;
+      distinct = refl;
+      values = (address, (rsdp_is_plain hex rsdp b, plain.0));
+      words = plain.1;
+    }) (λ rows. refl) refl refl
     ∙ rw (a, b, c) refl
 
 -- a line of `show`, where a value begins with no hyphen

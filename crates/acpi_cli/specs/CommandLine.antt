@@ -300,6 +300,17 @@ check_words program rsdp through texts =
     program ∷ codes "check"
     ∷ options_words ((codes "rsdp", rsdp) ∷ (codes "through", through) ∷ policy_options texts) texts.inputs
 
+-- `--strict`, where it is given
+abbrev pub strict_words : Bool → List Text
+strict_words false = []
+strict_words true = codes "--strict" ∷ []
+
+-- `PROGRAM lint`, the options that are given, `--strict`, where it is given, and what is said of the policy
+abbrev pub lint_words : Text → Option Text → PolicyTexts → Bool → List Text
+lint_words program rsdp texts strict =
+    program ∷ codes "lint"
+    ∷ options_words ((codes "rsdp", rsdp) ∷ policy_options texts) (strict_words strict ++ texts.inputs)
+
 -- `PROGRAM confirm`, the fault's text, the options that are given, and what is said of the policy
 abbrev pub confirm_words : Text → Text → Option Text → PolicyTexts → List Text
 confirm_words program fault rsdp texts =

@@ -1,6 +1,6 @@
 //! What the arguments of the command line ask for.
 
-ghost use Rattle.std.specs.Prelude.{◌≡◌, ◌↔◌, ℕ, List, Option, IfErr, IfOk, IsSome, Some, map, option_map};
+ghost use Rattle.std.specs.Prelude.{◌≡◌, ◌↔◌, ℕ, Bool, List, Option, IfErr, IfOk, IsSome, Some, map, option_map};
 ghost use Rattle.std.specs.String.{string_bytes};
 ghost use Rattle.clap.specs.Words.{found_of, rows_of};
 ghost use Rattle.acpi_base.specs.Codes.{stage_number};
@@ -9,7 +9,7 @@ ghost use Rattle.acpi_base.specs.Policy.{PolicyValue};
 ghost use Rattle.acpi_base.specs.Text.WitnessText.{witness_line};
 ghost use Rattle.acpi_base.specs.declared.witness.Witness.{Witness};
 ghost use Rattle.acpi_cli.specs.CommandLine.{Asked, DoesAsked, PolicyTexts, asked_job, base_word, asked_check, check_words, asked_confirm, confirm_words, asked_lint};
-ghost use Rattle.acpi_cli.specs.CommandLine.{find_words, last_word, policy_words, asked_rebuild, rebuild_words, rsdp_word, asked_show, show_words, witness_word};
+ghost use Rattle.acpi_cli.specs.CommandLine.{find_words, last_word, lint_words, policy_words, asked_rebuild, rebuild_words, rsdp_word, asked_show, show_words, witness_word};
 ghost use Rattle.acpi_cli.specs.Words.{written_fault};
 
 use crate::command_line::{clap_message, is_set, parse, value};
@@ -285,14 +285,18 @@ pub fn fault_words_are_texts()
 {}
 
 /// Each plain command line with good values is read, and as one expects: `find`; `check` with each choice of its
-/// options, in this order, and then any number of words `ADDRESS=COUNT`; so `confirm` of each fault, as it is written, and
-/// `rebuild` to each address; and `show`, with its option and without.
+/// options, in this order, and then any number of words `ADDRESS=COUNT`; so `lint`, with its flag and without, `confirm` of each
+/// fault, as it is written, and `rebuild` to each address; and `show`, with its option and without.
 pub fn plain_lines_are_read()
     ensures find { (program : List ℕ) → asked_job (find_words program) ≡ Some Asked.find }
     ensures check { (program : List ℕ) (hex number : Option (List ℕ)) (texts : PolicyTexts)
         (rsdp : Option ℕ) (policy : PolicyValue) (last : ℕ) → rsdp_word hex ≡ Some rsdp
         → policy_words texts ≡ Some policy → last_word number ≡ Some last
         → asked_job (check_words program hex number texts) ≡ Some (Asked.check rsdp policy last) }
+    ensures lint { (program : List ℕ) (hex : Option (List ℕ)) (texts : PolicyTexts) (strict : Bool)
+        (rsdp : Option ℕ) (policy : PolicyValue) → rsdp_word hex ≡ Some rsdp
+        → policy_words texts ≡ Some policy
+        → asked_job (lint_words program hex texts strict) ≡ Some (Asked.lint rsdp policy strict) }
     ensures confirm { (program : List ℕ) (w : Witness) (hex : Option (List ℕ)) (texts : PolicyTexts)
         (rsdp : Option ℕ) (policy : PolicyValue) → NumbersFit w → rsdp_word hex ≡ Some rsdp
         → policy_words texts ≡ Some policy
