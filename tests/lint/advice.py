@@ -149,15 +149,13 @@ def slot_advice(facts):
 
 
 def fadt_advice(facts):
-    table = facts.tables.table(b"FACP")
-    if table:
-        revision = table.number(8, 1)
-        least = LENGTHS.get(revision, LAST_LENGTH) if revision >= 3 else 0
-        if len(table) < least:
-            yield Finding("FadtOfRevision", 4, len(table), least)
     fadt = facts.fadt
     if not fadt:
         return
+    revision, length = fadt.bytes.number(8, 1), len(fadt.bytes)
+    least = LENGTHS.get(revision, LAST_LENGTH) if revision >= 3 else 0
+    if length < least:
+        yield Finding("FadtOfRevision", 4, length, least)
     for name, narrow, wide in (("FacsDiffers", 36, 132), ("DsdtDiffers", 40, 140)):
         if 0 != fadt.field(narrow, 4) != fadt.field(wide, 8) != 0:
             yield Finding(name, narrow, fadt.field(narrow, 4), fadt.field(wide, 8))

@@ -176,6 +176,7 @@ expected(
     "advice FadtOfRevision 0x4 0xf4 0x114",
 )
 expected("a FADT that is cut", image_of(old_fadt(6, 244)[:243]), "no 3 TableOut 0x0 0x2000 0x0")
+expected("a FADT of Revision 6 and Length 115", image_of(table(b"FACP", bytes(79), 6)), "no 4 FadtShort 0x0 0x0 0x0")
 advised(
     "a second FADT, shorter than its Revision", image_of(old_fadt(6, 276), old_fadt(6, 244)), "SecondTable 0x1 0x0 0x3000"
 )
@@ -648,6 +649,7 @@ localities("memory before a processor", 2, [memory_of(0, 0, 16), memory_of(2, 16
 localities("a processor before memory", 2, [apic_domain(0, 9), memory_of(2, 16, 16)], "DomainPastSlit 0x30 0x2 0x9")
 localities("no localities", 0, [apic_domain(0, 0)], "DomainPastSlit 0x30 0x0 0x0")
 localities("no localities and no affinities", 0, [memory_of(0, 0, 0, 0)])
+advised("a SLIT of no localities", listed(slit(0)))
 advised("domains and no SLIT", listed(srat(apic_domain(0, 9))))
 expected("domains, and a SLIT of another size", listed(slit(2, [10, 20, 20]), srat(apic_domain(0, 9))), "no 11 SlitSize 0x24 0x0 0x0")
 expected("domains, and a SLIT of 43 bytes", listed(table(b"SLIT", bytes(7)), srat(apic_domain(0, 9))), "no 11 SlitShort 0x0 0x0 0x0")
@@ -939,6 +941,17 @@ expected(
     "no 14 ParentCycle 0x3c 0x0 0x1",
     "no 15 CacheCycle 0x80 0x0 0x1",
     "advice CacheShape 0x64 0x0 0x0",
+)
+expected(
+    "ranges of one base, the longer one first",
+    listed(srat(memory(0x1000, 0x2000), memory(0, 0x2000), memory(0x1000, 0x800))),
+    "no 10 Overlap 0x58 0x30 0x1000",
+)
+expected(
+    "I/O APICs from one number on, the one with more inputs first",
+    listed(madt(ON, numbered_io_apic(0, 0xFEC00000, 8), numbered_io_apic(1, 0xFEC10000, 8))),
+    "no 7 GsiClash 0x34 0x40 0x8",
+    words="--rsdp e0000 fec00000=24 fec10000=8",
 )
 TWO_DOMAINS = listed(madt(lapic(0, 5, 0b10)), srat(apic_domain(5, 0), x2apic_domain(5, 1)))
 advised("two domains of a processor that is online capable", TWO_DOMAINS)

@@ -188,7 +188,7 @@ def entry_faults(table, entries: Entries | None):
 def first_clash(spans):
     """Of (start, end, offset): the least number that two hold, behind the first two by start and offset that hold it; None
     where none does."""
-    spans = sorted(span for span in spans if span[0] < span[1])
+    spans = sorted((span for span in spans if span[0] < span[1]), key=lambda span: (span[0], span[2]))
     reached = 0
     for start, end, _ in spans:
         if start < reached:
