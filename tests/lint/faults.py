@@ -8,7 +8,7 @@ from itertools import chain
 
 from image import (
     HEADER, Entries, Fadt, Finding, MadtEntries, PpttEntries, SratEntries, domain_of, fadt_of, is_enabled, slit_count, whole_table,
-)  # fmt: skip
+)
 
 TOP = 1 << 64
 
