@@ -686,6 +686,11 @@ def hierarchy(name, entries, *advice, revision=2, processors=None):
     advised(name, listed(*tables), *advice)
 
 
+def named(uid, parent=0):
+    """A node whose ID is valid: before Revision 2 a leaf, where no node names it as its Parent."""
+    return leaf(uid, parent, IS_ID_VALID)
+
+
 hierarchy("two leaves", [leaf(0), leaf(1)])
 hierarchy("two leaves of one ID", [leaf(3), leaf(3)], "SameLeaf 0x38 0x24 0x3")
 hierarchy("three leaves of one ID", [leaf(2), leaf(3), leaf(3), leaf(3)], "SameLeaf 0x4c 0x38 0x3")
@@ -694,27 +699,28 @@ hierarchy("a leaf and a package of one ID", [leaf(3, flags=IS_ID_VALID | 1), lea
 hierarchy("a leaf and one whose ID is not valid", [leaf(3, flags=IS_LEAF), leaf(3)])
 hierarchy("a leaf that is a parent, by its flags", [leaf(3), leaf(3, parent=36)], "SameLeaf 0x38 0x24 0x3")
 for revision in (0, 1):
-    hierarchy(f"two nodes of Revision {revision} and of one ID", [leaf(3, flags=IS_ID_VALID), leaf(3, flags=IS_ID_VALID)], "SameLeaf 0x38 0x24 0x3", revision=revision)
+    two_nodes = [named(3), named(3)]
+    hierarchy(f"two nodes of Revision {revision} and of one ID", two_nodes, "SameLeaf 0x38 0x24 0x3", revision=revision)
 for revision in (2, 3, 255):
-    hierarchy(f"two nodes of Revision {revision} and of one ID", [leaf(3, flags=IS_ID_VALID), leaf(3, flags=IS_ID_VALID)], revision=revision)
-hierarchy("a parent and its node of one ID", [leaf(3, flags=IS_ID_VALID), leaf(3, parent=36, flags=IS_ID_VALID)], revision=1)
+    hierarchy(f"two nodes of Revision {revision} and of one ID", [named(3), named(3)], revision=revision)
+hierarchy("a parent and its node of one ID", [named(3), named(3, 36)], revision=1)
 hierarchy("a parent and its node of one ID, with the flag of a leaf", [leaf(3), leaf(3, parent=36)], revision=1)
 hierarchy(
     "two nodes under one that has their ID",
-    [leaf(3, flags=IS_ID_VALID), leaf(3, parent=36, flags=IS_ID_VALID), leaf(3, parent=36, flags=IS_ID_VALID)],
+    [named(3), named(3, 36), named(3, 36)],
     "SameLeaf 0x4c 0x38 0x3",
     revision=1,
 )
 hierarchy("nodes of Revision 1 whose ID is not valid", [leaf(3, flags=0), leaf(3, flags=IS_LEAF)], revision=1)
-hierarchy("a parent of a node whose ID is not valid", [leaf(3, flags=IS_ID_VALID), leaf(3, flags=IS_ID_VALID), leaf(0, parent=36, flags=0)], revision=1)
+hierarchy("a parent of a node whose ID is not valid", [named(3), named(3), leaf(0, parent=36, flags=0)], revision=1)
 expected(
     "a node that is its own parent is no leaf of Revision 1",
-    listed(pptt(leaf(3, parent=36, flags=IS_ID_VALID), leaf(3, flags=IS_ID_VALID), revision=1)),
+    listed(pptt(named(3, 36), named(3), revision=1)),
     "no 14 ParentCycle 0x24 0x0 0x1",
 )
 expected(
     "a parent of an entry that is no node is a leaf of Revision 1",
-    listed(pptt(leaf(3, flags=IS_ID_VALID), leaf(3, flags=IS_ID_VALID), node(36, length=24) + bytes(4), revision=1)),
+    listed(pptt(named(3), named(3), node(36, length=24) + bytes(4), revision=1)),
     "no 12 PpttEntryLength 0x4c 0x0 0x0",
     "advice SameLeaf 0x38 0x24 0x3",
 )
@@ -731,10 +737,10 @@ hierarchy("a processor that is no leaf, and is off", [leaf(0)], processors=(lapi
 hierarchy("a processor that is no leaf, and is online capable", [leaf(0)], "NoLeaf 0x34 0x0 0x1", processors=(lapic(0, 0), lapic(1, 1, 2)))
 hierarchy("an x2APIC that is no leaf", [leaf(0)], "NoLeaf 0x34 0x0 0x100", processors=(lapic(0, 0), x2apic(0x100, 1)))
 hierarchy("a processor whose APIC ID is that of a leaf", [leaf(0)], "NoLeaf 0x34 0x0 0x5", processors=(lapic(0, 1), lapic(5, 0)))
-hierarchy("processors, and no leaf", [leaf(0, flags=IS_ID_VALID), shaped_cache(0)], processors=TWO_PROCESSORS)
+hierarchy("processors, and no leaf", [named(0), shaped_cache(0)], processors=TWO_PROCESSORS)
 hierarchy("processors, and a PPTT without entries", [], processors=TWO_PROCESSORS)
-hierarchy("a processor that is no leaf, and a node of Revision 1", [leaf(0, flags=IS_ID_VALID)], "NoLeaf 0x34 0x0 0x1", processors=TWO_PROCESSORS, revision=1)
-hierarchy("processors that are parents in Revision 1", [leaf(0, flags=IS_ID_VALID), leaf(1, parent=36, flags=IS_ID_VALID)], "NoLeaf 0x2c 0x0 0x0", processors=TWO_PROCESSORS, revision=1)
+hierarchy("a processor that is no leaf, and a node of Revision 1", [named(0)], "NoLeaf 0x34 0x0 0x1", processors=TWO_PROCESSORS, revision=1)
+hierarchy("processors that are parents in Revision 1", [named(0), named(1, 36)], "NoLeaf 0x2c 0x0 0x0", processors=TWO_PROCESSORS, revision=1)
 for kind in (7, 17, 24):
     hierarchy(
         f"a processor that is no leaf, and an entry of type {kind}",
@@ -754,8 +760,8 @@ hierarchy("a leaf of no GICC, which are off", [leaf(9)], "NoProcessor 0x0 0x0 0x
 hierarchy("a leaf of no GICC of 40 bytes", [leaf(6), leaf(9)], "LeafNowhere 0x38 0x0 0x9", processors=[gicc(6, length=40)])
 hierarchy("a leaf of no GICC, one of them too short", [leaf(6), leaf(9)], "MadtUnread 0x7c 0xb 0x0", processors=(gicc(6), gicc(9, length=39)))
 hierarchy("a leaf of no GICC, and an entry of type 24", [leaf(6), leaf(9)], "MadtUnread 0x7c 0x18 0x0", processors=(gicc(6), other(24)))
-hierarchy("a leaf of no GICC, in Revision 1", [leaf(6, flags=IS_ID_VALID), leaf(9, flags=IS_ID_VALID)], "LeafNowhere 0x38 0x0 0x9", processors=[gicc(6)], revision=1)
-hierarchy("an ID of a node that is no leaf, and of no GICC", [leaf(6), leaf(9, flags=IS_ID_VALID)], processors=[gicc(6)])
+hierarchy("a leaf of no GICC, in Revision 1", [named(6), named(9)], "LeafNowhere 0x38 0x0 0x9", processors=[gicc(6)], revision=1)
+hierarchy("an ID of a node that is no leaf, and of no GICC", [leaf(6), named(9)], processors=[gicc(6)])
 expected(
     "a leaf of no local APIC",
     listed(pptt(leaf(0), leaf(9)), madt(lapic(0, 0))),
@@ -781,7 +787,8 @@ for line in (1, 2, 64, 256, 0x8000):
     caches(f"a line of {line} bytes", [shaped_cache(LINE_VALID, line=line)])
 caches("a line of 96 bytes, which is not valid", [shaped_cache(0xFF ^ LINE_VALID, line=96)])
 caches("a line of 96 bytes, of 24 bytes", [shaped_cache(LINE_VALID, line=96, length=24)], "CacheShape 0x24 0x0 0x0")
-caches("the second and the third cache", [shaped_cache(0x7F), shaped_cache(LINE_VALID, line=0), shaped_cache(SETS_VALID, sets=0)], "CacheShape 0x40 0x0 0x0")
+THREE_CACHES = [shaped_cache(0x7F), shaped_cache(LINE_VALID, line=0), shaped_cache(SETS_VALID, sets=0)]
+caches("the second and the third cache", THREE_CACHES, "CacheShape 0x40 0x0 0x0")
 expected(
     "a cache of no sets that is too long",
     listed(pptt(shaped_cache(SETS_VALID, sets=0)[:1] + b"\x1d" + shaped_cache(SETS_VALID, sets=0)[2:] + b"\0")),

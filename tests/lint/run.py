@@ -5,6 +5,7 @@ reports is confirmed, and that of `check` is among them.
 
 usage: run.py PROGRAM; the last line is 'lint: N passed, M failed'."""
 
+import subprocess
 import sys
 from concurrent.futures import ThreadPoolExecutor
 from dataclasses import dataclass
@@ -30,6 +31,9 @@ STRICT = {
     "a cache of no sets": 1,
     "entries of types 13 to 16": 1,
 }
+# Words that are refused, and texts that are no image, with what is reported of them.
+REFUSED = ("--through 3", "--witness 1", "--base 0", "--hotplug all", "--processors all", "0=257", "--default-inputs 0", "--rsdp x", "--strict=1")
+NO_IMAGE = {b"@0\n1\n": "line 2: bad line", b"01\n": "line 1: no address", b"@0\n01\n@0\n01\n": "address 0x0 twice"}
 SEEN_BY_CHECK, ALL_MISTAKES = 9, 26
 
 
@@ -122,6 +126,22 @@ def strict(cases):
         cases.writes(f"{name}, strict", ["lint", *it.words.split(), "--strict"], text_in(it.pieces), status, told)
 
 
+def refused(cases):
+    """Words and texts that are refused, and a device that takes nothing."""
+    clean = firmware_text("sb-q35-default")
+    for words in REFUSED:
+        status, told, complaint = cases.run(["lint", *words.split()], clean)
+        right = status == 2 and told == "" and complaint.startswith("acpiset: ")
+        cases.count(f"lint {words}", "" if right else f"{status}, {told}, {complaint}")
+    for text, complaint in NO_IMAGE.items():
+        told = cases.run(["lint"], text)
+        cases.count(complaint, "" if told == (3, "", f"acpiset: {complaint}\n") else f"{told}")
+    with open("/dev/full", "wb") as full:
+        run = subprocess.run([cases.program, "lint"], input=clean, stdout=full, stderr=subprocess.PIPE, timeout=60)
+    told = (run.returncode, run.stderr)
+    cases.count("a full device", "" if told == (4, b"acpiset: device\n") else f"{told}")
+
+
 def mistakes(cases):
     """How many of the mistakes are seen, and by what."""
     by_check = sum(it.is_seen_by_check for it in MISTAKES)
@@ -148,6 +168,7 @@ def main():
     cases = LintCases(program)
     cases.all_of([*by_hand(), *compared()])
     strict(cases)
+    refused(cases)
     mistakes(cases)
     judged_by_hand(cases)
     print(f"lint: {cases.passed} passed, {cases.failed} failed")
