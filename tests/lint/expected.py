@@ -960,6 +960,17 @@ expected(
     "no 7 GsiClash 0x34 0x40 0x8",
     words="--rsdp e0000 fec00000=24 fec10000=8",
 )
+expected(
+    "a locality at 9 from itself, and at 11", listed(slit(2, [9, 20, 20, 11])), "no 11 SlitDiagonal 0x2c 0x0 0x0", "no 11 SlitLow 0x2c 0x0 0x0"
+)
+advised("interrupt numbers up to 2^32", listed(madt(ON, io_apic(0xFEC00000, 2**32 - 24))))
+advised("a range up to 2^64", listed(srat(memory(2**64 - 0x1000, 0x1000))))
+advised("a resource of a type that no rule names", listed(pptt(node(resources=[60]), other(2, 30))))
+expected(
+    "a node that leads to a cycle of two, and another to one of three",
+    listed(pptt(node(56), node(76), node(56), node(116), node(136), node(156), node(116))),
+    "no 14 ParentCycle 0x24 0x1 0x2",
+)
 TWO_DOMAINS = listed(madt(lapic(0, 5, 0b10)), srat(apic_domain(5, 0), x2apic_domain(5, 1)))
 advised("two domains of a processor that is online capable", TWO_DOMAINS)
 expected(
