@@ -7,7 +7,7 @@ from bisect import bisect_right
 from itertools import chain
 
 from image import (
-    HEADER, Entries, Fadt, Finding, MadtEntries, PpttEntries, SratEntries, domain_of, fadt_of, is_enabled, slit_count, whole_table,
+    HEADER, Entries, Fadt, Finding, MadtEntries, SratEntries, domain_of, fadt_of, is_enabled, slit_count, whole_table,
 )
 
 TOP = 1 << 64

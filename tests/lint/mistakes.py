@@ -3,7 +3,6 @@ each, worked out by hand from the rules in docs/TABLES.md and docs/FAULTS.md and
 Nine of 26 break a rule that `check` looks at; the others are seen by advice alone."""
 
 from dataclasses import dataclass, field
-from pathlib import Path
 
 from image import Image, TableSet
 from parts import *

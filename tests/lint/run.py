@@ -11,7 +11,7 @@ from concurrent.futures import ThreadPoolExecutor
 from dataclasses import dataclass
 
 from expected import EXPECTED
-from judge import NO_RSDP, Image, judge, status_of
+from judge import NO_RSDP, judge, status_of
 from mistakes import MISTAKES, UNCHANGED, firmware_text
 from sets import SHOWN
 
