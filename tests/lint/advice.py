@@ -1,0 +1,321 @@
+"""The advice on an image, by the rules of docs/TABLES.md and the sections of ACPI 6.5 that are named below: a second reading,
+which shares no code with the program. A rule whose tables or fields are not there is kept.
+
+Each function gives findings; of those with one name the least by their numbers is the first."""
+
+from dataclasses import dataclass
+from functools import cached_property
+from itertools import chain
+
+from faults import Numbers, served
+from image import Finding, TableSet, domain_of, fadt_of, is_enabled, slit_count
+
+RULES = """
+    ListedTwice SecondTable ListedApart FadtOfRevision FacsDiffers DsdtDiffers BlockDiffers SciNowhere
+    SameUid SameApicId IoApicAtZero SameIoApicId SameIoApicAddress NmiNowhere SecondGicd NoProcessor
+    TwoUidDomains AffinityNowhere NoDomain DomainPastSlit SlitDiffers
+    SameLeaf CacheShape SameCacheId NoLeaf LeafNowhere MadtUnread SratUnread
+""".split()
+
+READ_ONCE = (b"FACP", b"APIC", b"SRAT", b"SLIT", b"PPTT")
+NAMED_BY_FADT = (b"DSDT", b"FACS")
+
+# How long a FADT of each revision is, at least (5.2.9).
+LENGTHS = {3: 244, 4: 244, 5: 268}
+LAST_LENGTH = 276
+
+# The register blocks: the offsets of the 4-byte address and of the generic address structure (5.2.9).
+BLOCKS = ((56, 148), (60, 160), (64, 172), (68, 184), (72, 196), (76, 208), (80, 220), (84, 232))
+SYSTEM_IO = 1
+
+# Types of entries of the MADT (5.2.12) and of the SRAT (5.2.16).
+GICC, GICD = 11, 12
+GICC_LENGTH = 40
+OTHER_PROCESSORS = (7, 17, 24)
+GICC_AFFINITY = 3
+GICC_AFFINITY_LENGTH = 18
+ALL_PROCESSORS = {4: 0xFF, 10: 0xFFFFFFFF}
+
+
+@dataclass(frozen=True)
+class Processor:
+    """A processor of the MADT (5.2.12.2, 5.2.12.12, 5.2.12.14). One of a GIC has no APIC ID."""
+
+    offset: int
+    uid: int
+    apic_id: int | None
+    is_on: bool
+
+
+@dataclass(frozen=True)
+class Affinity:
+    """An enabled affinity of a processor: its number is an APIC ID, or a UID (5.2.16.1, 5.2.16.3, 5.2.16.4)."""
+
+    offset: int
+    number: int
+    domain: int
+    is_of_uid: bool
+
+
+def processor_of(entry):
+    """The processor that an entry of the MADT describes, or None."""
+    n = entry.number
+    match (entry.kind, len(entry)):
+        case (0, 8):
+            return Processor(entry.offset, n(2, 1), n(3, 1), n(4, 4) & 0b11 != 0)
+        case (9, 16):
+            return Processor(entry.offset, n(12, 4), n(4, 4), n(8, 4) & 0b11 != 0)
+        case (11, length) if length >= GICC_LENGTH:
+            return Processor(entry.offset, n(8, 4), None, n(12, 4) & 1 != 0)
+    return None
+
+
+def affinity_of(entry):
+    """The affinity that an entry of the SRAT describes, or None."""
+    n = entry.number
+    match (entry.kind, len(entry)):
+        case (0, 16) if is_enabled(n(4, 4)):
+            return Affinity(entry.offset, n(3, 1), domain_of(entry), False)
+        case (2, 24) if is_enabled(n(12, 4)):
+            return Affinity(entry.offset, n(8, 4), domain_of(entry), False)
+        case (3, 18) if is_enabled(n(10, 4)):
+            return Affinity(entry.offset, n(6, 4), domain_of(entry), True)
+    return None
+
+
+class Facts:
+    """What the rules ask of a set, read once."""
+
+    def __init__(self, tables: TableSet, policy):
+        self.tables, self.policy = tables, policy
+        self.fadt = fadt_of(tables)
+        self.madt, self.srat, self.pptt = tables.madt, tables.srat, tables.pptt
+        madt_entries = self.madt.entries if self.madt else []
+        srat_entries = self.srat.entries if self.srat else []
+        self.processors = [it for it in map(processor_of, madt_entries) if it]
+        self.on = [it for it in self.processors if it.is_on]
+        self.affinities = [it for it in map(affinity_of, srat_entries) if it]
+        self.has_gicc = any(it.apic_id is None for it in self.processors)
+        # processors that no rule reads
+        self.is_mixed = any(entry.kind in OTHER_PROCESSORS or is_short_gicc(entry) for entry in madt_entries)
+        self.knows_processors = self.madt is not None and not self.is_mixed
+
+    @cached_property
+    def uids(self):
+        return {it.uid for it in self.processors}
+
+    @cached_property
+    def apic_ids(self):
+        return {it.apic_id for it in self.processors if it.apic_id is not None}
+
+    @cached_property
+    def leaves(self):
+        """The leaves of the PPTT (5.2.30.1). Before Revision 2 they have no flag, and are what is no parent."""
+        nodes = [node for node in (self.pptt.typed(0) if self.pptt else []) if node.number(4, 4) >> 1 & 1]
+        if self.pptt and self.tables.table(b"PPTT").number(8, 1) >= 2:
+            return [node for node in nodes if node.number(4, 4) >> 3 & 1]
+        parents = {node.number(8, 4) for node in (self.pptt.typed(0) if self.pptt else [])}
+        return [node for node in nodes if node.offset not in parents]
+
+
+def is_short_gicc(entry):
+    return entry.kind == GICC and len(entry) < GICC_LENGTH
+
+
+def same(name, numbered):
+    """The later ones of those with one number, each with the first of them, from (offset, number)."""
+    first = {}
+    for offset, number in numbered:
+        if first.setdefault(number, offset) != offset:
+            yield Finding(name, offset, first[number], number)
+
+
+# ---- slots (5.2.7)
+
+
+def slot_advice(facts):
+    tables = facts.tables
+    yield from same("ListedTwice", tables.slots.items())
+    for slot, header in tables.headers.items():
+        signature, address = header.data[:4], tables.slots[slot]
+        first = tables.first_slots[signature]
+        if signature in READ_ONCE and address != tables.slots[first]:
+            yield Finding("SecondTable", slot, first, address)
+        if signature in NAMED_BY_FADT:
+            yield Finding("ListedApart", slot, 0, address)
+
+
+# ---- the FADT (5.2.9)
+
+
+def fadt_advice(facts):
+    fadt = facts.fadt
+    if not fadt:
+        return
+    revision, length = fadt.bytes.number(8, 1), len(fadt.bytes)
+    least = LENGTHS.get(revision, LAST_LENGTH) if revision >= 3 else 0
+    if length < least:
+        yield Finding("FadtOfRevision", 4, length, least)
+    for name, narrow, wide in (("FacsDiffers", 36, 132), ("DsdtDiffers", 40, 140)):
+        if 0 != fadt.field(narrow, 4) != fadt.field(wide, 8) != 0:
+            yield Finding(name, narrow, fadt.field(narrow, 4), fadt.field(wide, 8))
+    if not fadt.reduced:
+        yield from block_advice(fadt)
+        yield from sci_advice(facts)
+
+
+def block_advice(fadt):
+    for narrow, wide in BLOCKS:
+        port, address = fadt.field(narrow, 4), fadt.field(wide + 4, 8)
+        if 0 != port != address != 0 and fadt.field(wide, 1) == SYSTEM_IO:
+            yield Finding("BlockDiffers", narrow, port, address)
+
+
+def sci_advice(facts):
+    """The interrupt number of the SCI, which an override of the ISA bus may give (5.2.12.5)."""
+    sci = facts.fadt.field(46, 2)
+    overrides = facts.madt.typed(2) if facts.madt else []
+    numbers = [entry.number(4, 4) for entry in overrides if entry.number(2, 1) == 0 and entry.number(3, 1) == sci]
+    gsi = numbers[0] if numbers else sci
+    spans = served(facts.madt, facts.policy) if facts.madt else []
+    if spans and gsi not in Numbers(spans):
+        yield Finding("SciNowhere", 46, 0, gsi)
+
+
+# ---- the MADT (5.2.12)
+
+
+def madt_advice(facts):
+    if not facts.madt:
+        return
+    yield from same("SameUid", ((it.offset, it.uid) for it in facts.on))
+    yield from same("SameApicId", ((it.offset, it.apic_id) for it in facts.on if it.apic_id is not None))
+    yield from io_apic_advice(facts.madt.typed(1))
+    yield from nmi_advice(facts)
+    controllers = [entry.offset for entry in facts.madt.entries if entry.kind == GICD]
+    for offset in controllers[1:]:
+        yield Finding("SecondGicd", offset, controllers[0])
+    if not facts.is_mixed and not facts.on:
+        yield Finding("NoProcessor")
+
+
+def io_apic_advice(io_apics):
+    addresses = [(entry.offset, entry.number(4, 4)) for entry in io_apics]
+    for offset, address in addresses:
+        if address == 0:
+            yield Finding("IoApicAtZero", offset)
+    yield from same("SameIoApicId", ((entry.offset, entry.number(2, 1)) for entry in io_apics))
+    yield from same("SameIoApicAddress", ((offset, address) for offset, address in addresses if address))
+
+
+def nmi_advice(facts):
+    if facts.is_mixed:
+        return
+    for entry in facts.madt.typed(4, 10):
+        uid = entry.number(2, 1) if entry.kind == 4 else entry.number(4, 4)
+        if uid != ALL_PROCESSORS[entry.kind] and uid not in facts.uids:
+            yield Finding("NmiNowhere", entry.offset, 0, uid)
+
+
+# ---- the SRAT (5.2.16) and the SLIT (5.2.17)
+
+
+def srat_advice(facts):
+    first = {}
+    for it in facts.affinities:
+        if it.is_of_uid:
+            earlier = first.setdefault(it.number, it)
+            if it.domain != earlier.domain:
+                yield Finding("TwoUidDomains", earlier.offset, it.offset, it.number)
+    if not facts.knows_processors:
+        return
+    for it in facts.affinities:
+        if it.number not in (facts.uids if it.is_of_uid else facts.apic_ids):
+            yield Finding("AffinityNowhere", it.offset, 0, it.number)
+    yield from domain_advice(facts)
+
+
+def domain_advice(facts):
+    """Processors that are on and in no domain, where the SRAT has some."""
+    if not facts.affinities:
+        return
+    named = {(it.is_of_uid, it.number) for it in facts.affinities}
+    for it in facts.on:
+        is_of_uid = it.apic_id is None
+        number = it.uid if is_of_uid else it.apic_id
+        if (is_of_uid, number) not in named:
+            yield Finding("NoDomain", it.offset, 0, number)
+
+
+def slit_advice(facts):
+    table = facts.tables.table(b"SLIT")
+    count = slit_count(table)
+    if count is None:
+        return
+    ranges = facts.srat.typed(1) if facts.srat else []
+    domains = [(it.offset, it.domain) for it in facts.affinities]
+    domains += [(entry.offset, domain_of(entry)) for entry in ranges if is_enabled(entry.number(28, 4))]
+    for offset, domain in domains:
+        if domain >= count:
+            yield Finding("DomainPastSlit", offset, count, domain)
+    for i in range(count):
+        for j in range(i + 1, count):
+            here, there = 44 + count * i + j, 44 + count * j + i
+            if table.data[here] != table.data[there]:
+                yield Finding("SlitDiffers", here, there)
+                return
+
+
+# ---- the PPTT (5.2.30)
+
+
+def pptt_advice(facts):
+    if not facts.pptt:
+        return
+    yield from same("SameLeaf", ((node.offset, node.number(12, 4)) for node in facts.leaves))
+    caches = facts.pptt.typed(1)
+    for cache in caches:
+        if has_odd_shape(cache):
+            yield Finding("CacheShape", cache.offset)
+    if facts.tables.table(b"PPTT").number(8, 1) >= 3:
+        named = [cache for cache in caches if len(cache) == 28 and cache.number(4, 4) >> 7 & 1]
+        yield from same("SameCacheId", ((cache.offset, cache.number(24, 4)) for cache in named))
+    yield from leaf_advice(facts)
+
+
+def has_odd_shape(cache):
+    flags, sets, line = cache.number(4, 4), cache.number(16, 4), cache.number(22, 2)
+    return (flags >> 1 & 1 == 1 and sets == 0) or (flags >> 6 & 1 == 1 and line.bit_count() != 1)
+
+
+def leaf_advice(facts):
+    if facts.is_mixed:
+        return
+    if facts.leaves:
+        ids = {node.number(12, 4) for node in facts.leaves}
+        for it in facts.on:
+            if it.uid not in ids:
+                yield Finding("NoLeaf", it.offset, 0, it.uid)
+    if facts.has_gicc:
+        for node in facts.leaves:
+            if node.number(12, 4) not in facts.uids:
+                yield Finding("LeafNowhere", node.offset, 0, node.number(12, 4))
+
+
+# ---- entries that nothing reads
+
+
+def unread(facts):
+    for entry in facts.madt.entries if facts.madt else []:
+        if entry.kind not in (*range(6), 9, 10, GICC, GICD) or is_short_gicc(entry):
+            yield Finding("MadtUnread", entry.offset, entry.kind)
+    for entry in facts.srat.entries if facts.srat else []:
+        if entry.kind not in range(4) or (entry.kind == GICC_AFFINITY and len(entry) != GICC_AFFINITY_LENGTH):
+            yield Finding("SratUnread", entry.offset, entry.kind)
+
+
+def all_advice(tables, policy):
+    """At least the first finding of each broken rule."""
+    facts = Facts(tables, policy)
+    each = (slot_advice, fadt_advice, madt_advice, srat_advice, slit_advice, pptt_advice, unread)
+    return chain.from_iterable(advice(facts) for advice in each)

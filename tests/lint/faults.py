@@ -1,0 +1,414 @@
+"""The faults of an image, by the rules of docs/TABLES.md and the sections of ACPI 6.5 that are named below: a second reading,
+which shares no code with the program. A fault stands whether or not others do.
+
+Each function gives findings; of those with one name the least by their numbers is the first."""
+
+from bisect import bisect_right
+from itertools import chain
+
+from image import (
+    HEADER, Entries, Fadt, Finding, MadtEntries, SratEntries, domain_of, fadt_of, is_enabled, slit_count, whole_table,
+)
+
+TOP = 1 << 64
+
+# The names of the faults by stage, in the order of their codes.
+STAGES = {
+    1: "RsdpOut RsdpSignature RsdpSum RsdpTailOut RsdpLength RsdpLongOut RsdpExtendedSum",
+    2: "NoRoot RootHeaderOut RootSignature RootLength RootOut RootRagged RootSum",
+    3: "TableHeaderOut TableLength TableOut TableSum",
+    4: "NoFadt FadtShort PmEventLength PmControlLength PmTimerLength GpeLength ResetRegister",
+    5: "NoFacs FacsAlign FacsHeaderOut FacsSignature FacsLength FacsOut",
+    6: "MadtShort MadtEntryCut MadtEntryLength OverrideBus ReservedInti SecondAddressOverride GsiPastEnd",
+    7: "GsiClash",
+    8: "OverrideClash",
+    9: "SratShort SratEntryCut SratEntryLength RangePastEnd",
+    10: "Overlap",
+    11: "SlitShort SlitSize SlitDiagonal SlitLow",
+    12: "PpttEntryCut PpttEntryLength",
+    13: "DanglingParent DanglingResource DanglingCache",
+    14: "ParentCycle",
+    15: "CacheCycle",
+    16: "TwoDomains",
+    17: "GsiNowhere",
+    18: "LeafUnknown",
+}
+STAGE_OF = {name: stage for stage, names in STAGES.items() for name in names.split()}
+
+
+# ---- the RSDP (5.2.5.3) and the root (5.2.7, 5.2.8)
+
+
+def rsdp_faults(tables):
+    image, at = tables.image, tables.rsdp
+    head = image.held(at, 20)
+    if not head:
+        yield Finding("RsdpOut", at)
+        return
+    if head.data[:8] != b"RSD PTR ":
+        yield Finding("RsdpSignature", at)
+    if not head.sums_to_0():
+        yield Finding("RsdpSum", at)
+    if head.number(15, 1) < 2:
+        return
+    long = image.held(at, 36)
+    if not long:
+        yield Finding("RsdpTailOut", at)
+    elif long.number(20, 4) < 36:
+        yield Finding("RsdpLength", at)
+    elif not image.held(at, long.number(20, 4)):
+        yield Finding("RsdpLongOut", at)
+    elif not image.held(at, long.number(20, 4)).sums_to_0():
+        yield Finding("RsdpExtendedSum", at)
+
+
+def root_faults(tables):
+    image, at = tables.image, tables.root_at
+    if at is None:
+        return
+    if at == 0:
+        yield Finding("NoRoot", tables.rsdp)
+        return
+    header = image.held(at, HEADER)
+    if not header:
+        yield Finding("RootHeaderOut", at)
+        return
+    if header.data[:4] != tables.signature:
+        yield Finding("RootSignature", at)
+    length = header.number(4, 4)
+    if length < HEADER:
+        yield Finding("RootLength", at)
+        return
+    if (length - HEADER) % tables.width:
+        yield Finding("RootRagged", at)
+    whole = image.held(at, length)
+    if not whole:
+        yield Finding("RootOut", at)
+    elif not whole.sums_to_0():
+        yield Finding("RootSum", at)
+
+
+def table_fault(image, address):
+    """The name of what is wrong with the table at this address, or None (5.2.6)."""
+    header = image.held(address, HEADER)
+    if not header:
+        return "TableHeaderOut"
+    if header.number(4, 4) < HEADER:
+        return "TableLength"
+    whole = whole_table(image, address)
+    if not whole:
+        return "TableOut"
+    return None if whole.sums_to_0() else "TableSum"
+
+
+def table_faults(tables):
+    wrong = {address: table_fault(tables.image, address) for address in set(tables.slots.values())}
+    for slot, address in tables.slots.items():
+        if wrong[address]:
+            yield Finding(wrong[address], slot, address)
+
+
+# ---- the FADT and the FACS (5.2.9, 5.2.10)
+
+
+def fadt_faults(tables):
+    if tables.root and b"FACP" not in tables.first_slots:
+        yield Finding("NoFadt")
+    table = tables.table(b"FACP")
+    if table and len(table) < Fadt.LEAST:
+        yield Finding("FadtShort")
+    fadt = fadt_of(tables)
+    if not fadt:
+        return
+    if not fadt.reduced:
+        yield from block_faults(fadt)
+    if fadt.flags >> 10 & 1 and len(table) >= 129:
+        space, width, offset = table.data[116:119]
+        if space > 2 or width != 8 or offset != 0:
+            yield Finding("ResetRegister", 116)
+
+
+def block_faults(fadt):
+    """The lengths of register blocks, of full hardware."""
+    if fadt.field(88, 1) < 4:
+        yield Finding("PmEventLength", 88)
+    if fadt.field(89, 1) < 2:
+        yield Finding("PmControlLength", 89)
+    if fadt.field(91, 1) not in (0, 4):
+        yield Finding("PmTimerLength", 91)
+    for at in (92, 93):
+        if fadt.field(at, 1) % 2:
+            yield Finding("GpeLength", at)
+
+
+def facs_faults(tables):
+    fadt = fadt_of(tables)
+    if not fadt:
+        return
+    at = fadt.facs
+    if at == 0:
+        if not fadt.reduced:
+            yield Finding("NoFacs")
+        return
+    if at % 64:
+        yield Finding("FacsAlign", at)
+    head = tables.image.held(at, 8)
+    if not head:
+        yield Finding("FacsHeaderOut", at)
+        return
+    if head.data[:4] != b"FACS":
+        yield Finding("FacsSignature", at)
+    length = head.number(4, 4)
+    if length < 64:
+        yield Finding("FacsLength", at)
+    elif not tables.image.held(at, length):
+        yield Finding("FacsOut", at)
+
+
+# ---- entries, and spans of numbers
+
+
+def short_fault(tables, name, signature, least):
+    table = tables.table(signature)
+    if table and len(table) < least:
+        yield Finding(name)
+
+
+def entry_faults(table, entries: Entries | None):
+    """Where no entry stands, and entries of a type of the table with another length."""
+    if not entries:
+        return
+    if entries.cut is not None:
+        yield Finding(f"{table}EntryCut", entries.cut)
+    for entry in entries.entries:
+        if entry.kind in entries.LENGTHS and not entries.is_typed(entry):
+            yield Finding(f"{table}EntryLength", entry.offset)
+
+
+def first_clash(spans):
+    """Of (start, end, offset): the least number that two hold, behind the first two by start and offset that hold it; None
+    where none does."""
+    spans = sorted((span for span in spans if span[0] < span[1]), key=lambda span: (span[0], span[2]))
+    reached = 0
+    for start, end, _ in spans:
+        if start < reached:
+            holders = [offset for first, last, offset in spans if first <= start < last]
+            return holders[0], holders[1], start
+        reached = max(reached, end)
+    return None
+
+
+class Numbers:
+    """The numbers that spans hold, for look-ups."""
+
+    def __init__(self, spans):
+        self.starts, self.ends = [], []
+        for start, end, _ in sorted(spans):
+            if self.ends and start <= self.ends[-1]:
+                self.ends[-1] = max(self.ends[-1], end)
+            else:
+                self.starts.append(start)
+                self.ends.append(end)
+
+    def __len__(self):
+        return len(self.starts)
+
+    def __contains__(self, number):
+        place = bisect_right(self.starts, number)
+        return place > 0 and number < self.ends[place - 1]
+
+
+# ---- the MADT (5.2.12)
+
+
+def madt_faults(tables, policy):
+    yield from short_fault(tables, "MadtShort", b"APIC", MadtEntries.FIRST)
+    yield from entry_faults("Madt", tables.madt)
+    if not tables.madt:
+        return
+    madt = tables.madt
+    for entry in madt.typed(2):
+        if entry.number(2, 1):
+            yield Finding("OverrideBus", entry.offset)
+    for entry in madt.typed(2, 3, 4, 10):
+        flags = entry.number({2: 8, 3: 2, 4: 3, 10: 2}[entry.kind], 2)
+        if 0b10 in (flags & 3, flags >> 2 & 3):
+            yield Finding("ReservedInti", entry.offset)
+    addresses = madt.typed(5)
+    for entry in addresses[1:]:
+        yield Finding("SecondAddressOverride", entry.offset, addresses[0].offset)
+    spans = served(madt, policy)
+    for _, end, offset in spans:
+        if end > 1 << 32:
+            yield Finding("GsiPastEnd", offset)
+    clash = first_clash(spans)
+    if clash:
+        yield Finding("GsiClash", *clash)
+    yield from override_clashes(madt)
+
+
+def served(madt, policy):
+    """The interrupt numbers of each I/O APIC (5.2.12.3)."""
+    for_each = ((entry.number(8, 4), policy.inputs_of(entry.number(4, 4)), entry.offset) for entry in madt.typed(1))
+    return [(base, base + inputs, offset) for base, inputs, offset in for_each]
+
+
+def override_clashes(madt):
+    """The first override that gives a Source another number than an earlier one (5.2.12.5)."""
+    seen = {}
+    for entry in madt.typed(2):
+        source = entry.number(3, 1)
+        gsi, earlier = seen.setdefault(source, (entry.number(4, 4), entry.offset))
+        if entry.number(4, 4) != gsi:
+            yield Finding("OverrideClash", entry.offset, earlier, source)
+            return
+
+
+def gsi_faults(tables, policy):
+    """Interrupt numbers that are named and that no I/O APIC serves (5.2.12.5, 5.2.12.6)."""
+    numbers = Numbers(served(tables.madt, policy)) if tables.madt else None
+    if not numbers:
+        return
+    for entry in tables.madt.typed(2, 3):
+        if entry.number(4, 4) not in numbers:
+            yield Finding("GsiNowhere", entry.offset, 0, entry.number(4, 4))
+            return
+
+
+# ---- the SRAT (5.2.16)
+
+
+def srat_faults(tables, policy):
+    yield from short_fault(tables, "SratShort", b"SRAT", SratEntries.FIRST)
+    yield from entry_faults("Srat", tables.srat)
+    ranges = [entry for entry in tables.srat.typed(1) if is_enabled(entry.number(28, 4))] if tables.srat else []
+    for entry in ranges:
+        if entry.number(8, 8) + entry.number(16, 8) > TOP:
+            yield Finding("RangePastEnd", entry.offset)
+    kinds = (0, 1) if policy.hotplug == "apart" else (None,)
+    clashes = []
+    for kind in kinds:
+        spans = [span_of(entry) for entry in ranges if kind is None or entry.number(28, 4) >> 1 & 1 == kind]
+        clash = first_clash(spans)
+        if clash:
+            clashes.append(clash)
+    if clashes:
+        # at a tie the first one, of memory that is not hot-pluggable
+        yield Finding("Overlap", *min(clashes, key=lambda clash: clash[2]))
+
+
+def span_of(entry):
+    base = entry.number(8, 8)
+    return base, base + entry.number(16, 8), entry.offset
+
+
+def domain_faults(tables, policy):
+    """Processors in two proximity domains (5.2.16.1, 5.2.16.3)."""
+    if not tables.madt or not tables.srat:
+        return
+    asked = 0b11 if policy.processors == "usable" else 0b01
+    processors = {entry.number(3, 1) for entry in tables.madt.typed(0) if entry.number(4, 4) & asked}
+    processors |= {entry.number(4, 4) for entry in tables.madt.typed(9) if entry.number(8, 4) & asked}
+    first = {}
+    for entry in tables.srat.typed(0, 2):
+        number, flags = (entry.number(3, 1), entry.number(4, 4)) if entry.kind == 0 else (entry.number(8, 4), entry.number(12, 4))
+        if number not in processors or not is_enabled(flags):
+            continue
+        domain, offset = first.setdefault(number, (domain_of(entry), entry.offset))
+        if domain_of(entry) != domain:
+            yield Finding("TwoDomains", entry.offset, offset, number)
+            return
+
+
+# ---- the SLIT (5.2.17)
+
+
+def slit_faults(tables):
+    yield from short_fault(tables, "SlitShort", b"SLIT", 44)
+    table = tables.table(b"SLIT")
+    if not table or len(table) < 44:
+        return
+    count = slit_count(table)
+    if count is None:
+        yield Finding("SlitSize", 36)
+        return
+    cells = table.data[44:]
+    for place in range(count):
+        if cells[place * count + place] != 10:
+            yield Finding("SlitDiagonal", 44 + place * count + place)
+    for place, cell in enumerate(cells):
+        if cell < 10:
+            yield Finding("SlitLow", 44 + place)
+
+
+# ---- the PPTT (5.2.30)
+
+
+def pptt_faults(tables):
+    pptt = tables.pptt
+    yield from entry_faults("Pptt", pptt)
+    if not pptt:
+        return
+    nodes = {entry.offset: entry for entry in pptt.typed(0)}
+    caches = {entry.offset: entry for entry in pptt.typed(1)}
+    resources = {entry.offset for entry in pptt.entries if entry.kind != 0}
+    for offset, node in nodes.items():
+        if node.number(8, 4) and node.number(8, 4) not in nodes:
+            yield Finding("DanglingParent", offset, node.number(8, 4))
+        for place in range(node.number(16, 4)):
+            if node.number(20 + 4 * place, 4) not in resources:
+                yield Finding("DanglingResource", offset, place, node.number(20 + 4 * place, 4))
+    for offset, cache in caches.items():
+        if cache.number(8, 4) and cache.number(8, 4) not in caches:
+            yield Finding("DanglingCache", offset, cache.number(8, 4))
+    for name, entries in (("ParentCycle", nodes), ("CacheCycle", caches)):
+        cycle = first_cycle({offset: entry.number(8, 4) for offset, entry in entries.items()})
+        if cycle:
+            yield Finding(name, *cycle)
+
+
+def first_cycle(parents):
+    """The least offset whose chain does not end, how many steps lead to the cycle, and how many go around it; None where all
+    chains end. A chain ends at a parent that is none of these."""
+    ended = set()
+    for offset in parents:
+        path = {}
+        at = offset
+        while at in parents and at not in ended and at not in path:
+            path[at] = len(path)
+            at = parents[at]
+        if at in path:
+            return offset, path[at], len(path) - path[at]
+        ended.update(path)
+    return None
+
+
+def leaf_faults(tables):
+    """Leaves that are no processor of the MADT, where all its entries are of types that are read."""
+    table, madt = tables.table(b"PPTT"), tables.madt
+    if not tables.pptt or table.number(8, 1) < 2 or not madt or madt.cut is not None:
+        return
+    if not all(madt.is_typed(entry) for entry in madt.entries):
+        return
+    uids = {entry.number(2, 1) for entry in madt.typed(0)} | {entry.number(12, 4) for entry in madt.typed(9)}
+    for node in tables.pptt.typed(0):
+        if node.number(4, 4) & 0b1010 == 0b1010 and node.number(12, 4) not in uids:
+            yield Finding("LeafUnknown", node.offset, 0, node.number(12, 4))
+
+
+def all_faults(tables, policy):
+    """At least the first fault of each name."""
+    return chain(
+        rsdp_faults(tables),
+        root_faults(tables),
+        table_faults(tables),
+        fadt_faults(tables),
+        facs_faults(tables),
+        madt_faults(tables, policy),
+        srat_faults(tables, policy),
+        slit_faults(tables),
+        pptt_faults(tables),
+        domain_faults(tables, policy),
+        gsi_faults(tables, policy),
+        leaf_faults(tables),
+    )

@@ -1,0 +1,216 @@
+"""What the second reading of `lint` reads: an image, the policy, the tables that the RSDP leads to, and their entries, from the
+layouts of ACPI 6.5, section 5.2, alone. A table is read where its bytes are held, whatever they sum to."""
+
+import sys
+from dataclasses import dataclass, field
+from pathlib import Path
+
+sys.path += [str(Path(__file__).parent.parent / place) for place in ("rows", "show")]
+
+from reader import Bytes, Image
+
+HEADER = 36
+# Where `find_rsdp` looks (5.2.5.1).
+PLACES = range(0xE0000, 0x100000, 16)
+
+
+@dataclass
+class Policy:
+    """What the tables do not say: the inputs of the I/O APICs, and what is counted."""
+
+    default_inputs: int = 24
+    inputs: dict[int, int] = field(default_factory=dict)
+    hotplug: str = "counted"
+    processors: str = "enabled"
+
+    def inputs_of(self, address):
+        return self.inputs.get(address, self.default_inputs)
+
+
+@dataclass(frozen=True)
+class Finding:
+    """A fault or a broken rule: its name and its three numbers."""
+
+    name: str
+    at: int = 0
+    other: int = 0
+    point: int = 0
+
+    @property
+    def numbers(self):
+        return (self.at, self.other, self.point)
+
+    def __str__(self):
+        return " ".join((self.name, *map(hex, self.numbers)))
+
+
+def find_rsdp(image):
+    """The least address at which a search finds an RSDP, or None."""
+    for address in PLACES:
+        head = image.held(address, 20)
+        if head and head.data[:8] == b"RSD PTR " and head.sums_to_0():
+            return address
+    return None
+
+
+# ---- entries: byte 0 is the type and byte 1 the length (5.2.12, 5.2.16, 5.2.30)
+
+
+class Entry(Bytes):
+    """An entry of a table, with its offset."""
+
+    def __init__(self, offset, data):
+        super().__init__(data)
+        self.offset = offset
+        self.kind = self.data[0]
+
+
+@dataclass
+class Entries:
+    """The entries that stand one after another from the first place on, and where the next one does not stand, if one does
+    not."""
+
+    entries: list[Entry]
+    cut: int | None
+
+    def typed(self, *kinds):
+        """Those of these types that have a length of their type."""
+        return [entry for entry in self.entries if entry.kind in kinds and self.is_typed(entry)]
+
+
+class MadtEntries(Entries):
+    FIRST = 44
+    LENGTHS = {0: 8, 1: 12, 2: 10, 3: 8, 4: 6, 5: 12, 9: 16, 10: 12}
+
+    def is_typed(self, entry):
+        return len(entry) == self.LENGTHS.get(entry.kind)
+
+
+class SratEntries(MadtEntries):
+    FIRST = 48
+    LENGTHS = {0: 16, 1: 40, 2: 24}
+
+
+class PpttEntries(Entries):
+    FIRST = 36
+    LENGTHS = {0: "20 and 4 for each reference", 1: "24 or 28"}
+
+    def is_typed(self, entry):
+        if entry.kind == 0:
+            return len(entry) >= 20 and len(entry) == 20 + 4 * entry.number(16, 4)
+        return entry.kind == 1 and len(entry) in (24, 28)
+
+
+def entries_of(kind, table):
+    """The entries of a table of this kind, or None where there is no such table or it ends before its first entry's place."""
+    if table is None or len(table) < kind.FIRST:
+        return None
+    entries, at, data = [], kind.FIRST, table.data
+    while at < len(data):
+        size = data[at + 1] if at + 2 <= len(data) else 0
+        if size < 2 or at + size > len(data):
+            return kind(entries, at)
+        entries.append(Entry(at, data[at : at + size]))
+        at += size
+    return kind(entries, None)
+
+
+def is_enabled(flags):
+    return flags & 1 == 1
+
+
+def domain_of(entry):
+    """The proximity domain of an SRAT entry of type 0, 1, 2 or 3 (5.2.16)."""
+    if entry.kind == 0:
+        return entry.number(2, 1) + (entry.number(9, 3) << 8)
+    return entry.number(4 if entry.kind == 2 else 2, 4)
+
+
+# ---- the tables
+
+
+def whole_table(image, address):
+    """A table's bytes, where its header and all of its Length, of at least 36, are held; else None (5.2.6)."""
+    header = image.held(address, HEADER)
+    length = header.number(4, 4) if header else 0
+    return image.held(address, length) if length >= HEADER else None
+
+
+class TableSet:
+    """What an RSDP leads to, as far as it is there.
+
+    `root_at` is None where the RSDP cannot be read and 0 where it names no root, `root` None where that is not whole;
+    `slots` are the addresses that it lists, by slot, without those of 0; `headers` the headers that are held there."""
+
+    def __init__(self, image, rsdp):
+        self.image, self.rsdp = image, rsdp
+        self.root_at, self.width = self.root_place()
+        self.signature = b"XSDT" if self.width == 8 else b"RSDT"
+        self.root = whole_table(image, self.root_at) if self.root_at else None
+        if self.root and self.root.data[:4] != self.signature:
+            self.root = None
+        self.slots = self.listed()
+        held = {address: image.held(address, HEADER) for address in set(self.slots.values())}
+        self.headers = {slot: held[address] for slot, address in self.slots.items() if held[address]}
+        self.first_slots = {}
+        for slot, header in self.headers.items():
+            self.first_slots.setdefault(header.data[:4], slot)
+        self.madt = entries_of(MadtEntries, self.table(b"APIC"))
+        self.srat = entries_of(SratEntries, self.table(b"SRAT"))
+        self.pptt = entries_of(PpttEntries, self.table(b"PPTT"))
+
+    def root_place(self):
+        """The root's address and the width of its slots (5.2.5.3)."""
+        head = self.image.held(self.rsdp, 20)
+        if not head:
+            return None, 0
+        if head.number(15, 1) >= 2:
+            long = self.image.held(self.rsdp, 36)
+            if not long:
+                return None, 0
+            if long.number(24, 8):
+                return long.number(24, 8), 8
+        return head.number(16, 4), 4
+
+    def listed(self):
+        """The slots that lie wholly below the root's Length (5.2.7, 5.2.8)."""
+        if not self.root:
+            return {}
+        count = (len(self.root) - HEADER) // self.width
+        addresses = (self.root.number(HEADER + self.width * slot, self.width) for slot in range(count))
+        return {slot: address for slot, address in enumerate(addresses) if address}
+
+    def table(self, signature):
+        """The first listed table with the signature, where it is whole; else None."""
+        slot = self.first_slots.get(signature)
+        return None if slot is None else whole_table(self.image, self.slots[slot])
+
+
+class Fadt:
+    """The fields of a FADT of at least 116 bytes. A field exists where it lies wholly below Length (5.2.9)."""
+
+    LEAST = 116
+
+    def __init__(self, table):
+        self.bytes = table
+        self.flags = table.number(112, 4)
+        self.reduced = self.flags >> 20 & 1 == 1
+        self.facs = self.field(132, 8) or self.field(36, 4)
+
+    def field(self, at, size):
+        """The field's number, 0 where it does not exist."""
+        return self.bytes.number(at, size) if at + size <= len(self.bytes) else 0
+
+
+def fadt_of(tables):
+    """The FADT of a set, or None where there is none with all fields of the least Length."""
+    table = tables.table(b"FACP")
+    return Fadt(table) if table and len(table) >= Fadt.LEAST else None
+
+
+def slit_count(table):
+    """How many localities a SLIT has, or None where its Length is not that of so many (5.2.17)."""
+    if table is None or len(table) < 44:
+        return None
+    count = table.number(36, 8)
+    return count if len(table) == 44 + count * count else None
