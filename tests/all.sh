@@ -17,7 +17,7 @@ ran() {
   echo $? >"$log.status"
 }
 
-scripts=(refusals.py recipes.sh show/run.py rows/texts.py program.sh tools.sh refused_calls.py rebuild/run.py rows/confirm.py install.sh rows/run.py rows/words.py rows/examples.py documents.sh)
+scripts=(refusals.py recipes.sh show/run.py lint/run.py rows/texts.py program.sh tools.sh refused_calls.py rebuild/run.py rows/confirm.py install.sh rows/run.py rows/words.py rows/examples.py documents.sh)
 for script in "${scripts[@]}"; do
   while [ "$(jobs -rp | wc -l)" -ge "$(nproc)" ]; do wait -n; done
   case $script in

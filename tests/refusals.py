@@ -21,8 +21,11 @@ from itertools import count
 from pathlib import Path
 
 HERE = Path(__file__).parent
-sys.path += [str(HERE / "rows"), str(HERE / "show"), str(HERE / "rebuild")]
+sys.path += [str(HERE / "rows"), str(HERE / "show"), str(HERE / "rebuild"), str(HERE / "lint")]
 
+from cases import text_in
+from expected import EXPECTED
+from judge import judge
 from preloaded import build_object, numbers
 from reader import shown
 from rebuilder import rebuilt
@@ -93,12 +96,19 @@ ENTRIES = image_of(
 BASE = 0x7FFE0000
 
 
+def lint_run(name, text, words):
+    """All findings, as a second program tells them."""
+    lines, status = judge(words, text)
+    return Run(name, text, ["lint", *words], status, "".join(line + "\n" for line in lines))
+
+
 def clean_runs(name, text, address, found, lines, anew):
     """Each command on a clean set whose RSDP stands at this address, in hex: what a search says of it, what is shown, and the
     set rebuilt. A line added here puts a command to all tests."""
     rsdp = ["--rsdp", address]
     return [
         Run(f"check, {name}", text, ["check", *rsdp], 0, "yes\n"),
+        lint_run(f"lint, {name}", text, rsdp),
         Run(f"confirm, {name}", text, ["confirm", *rsdp, "--witness", NO_FADT], 1, "false\n"),
         Run(f"rebuild, {name}", text, ["rebuild", *rsdp, "--base", f"{BASE:x}"], 0, anew),
         Run(f"find, {name}", text, ["find"], int(found == "none"), f"rsdp {found}\n"),
@@ -135,11 +145,19 @@ def row_run(row):
 LATER_STAGES = (7, 10, 13, 14, 15, 16, 17, 18)
 
 
+# Sets with several findings, by their names in tests/lint.
+FOUND = ("a fault in each of four tables", "two UIDs and two APIC IDs")
+
+
 def faulty_runs():
-    """A check that finds a fault of each of these stages, one that goes round a longer cycle, and an overlap confirmed."""
+    """A check that finds a fault of each of these stages, one that goes round a longer cycle, findings of several kinds, and an
+    overlap confirmed."""
     for stage in LATER_STAGES:
         yield row_run(next(row for row in ROWS if row.answer.startswith(f"no {stage} ")))
     yield row_run(next(row for row in ROWS if row.name == "two nodes that lead to a cycle of three"))
+    for name in FOUND:
+        it = next(it for it in EXPECTED if it.name == name)
+        yield lint_run(f"lint, {name}", text_in(it.pieces), it.words.split())
     words = ["confirm", "--rsdp", "e0000", "--witness", "10 Overlap 0x80 0xa8 0x3fffffff"]
     yield Run("confirm, two ranges that share an address", text_of(OVERLAP), words, 0, "true\n")
 
