@@ -21,7 +21,7 @@ sys.dont_write_bytecode = True
 TOP = os.path.join(os.path.dirname(os.path.abspath(__file__)), "..")
 sys.path.insert(0, os.path.join(TOP, "tests", "rows"))
 
-from examples import EXAMPLE, PART, changed, image_of, text_of
+from examples import EXAMPLE, FIRST_RULE, PART, changed, image_of, text_of
 from tables import number
 
 STAGE = re.compile(r"^## Stages? (\d+):", re.M)
@@ -143,9 +143,11 @@ def version(words):
 
 
 def faults_of(document):
-    """Each fault's stage, name and example."""
+    """Each fault's stage, name and example. Rules of advice are no faults."""
     stages = [(match.start(), int(match.group(1))) for match in STAGE.finditer(document)]
     for part in PART.finditer(document):
+        if int(part.group(1)) >= FIRST_RULE:
+            continue
         stage = [stage for at, stage in stages if at < part.start()][-1]
         yield stage, part.group(2), EXAMPLE.search(part.group(3)).group(1)
 

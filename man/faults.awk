@@ -64,8 +64,8 @@ BEGIN {
 }
 
 /^# / { next }
-/^## Index$/ { skipped = 1; next }
-/^## / { skipped = 0 }
+/^## Index$/ || /^### Index of advice$/ { skipped = 1; next }
+/^##/ { skipped = 0 }
 skipped { next }
 
 /^```/ {

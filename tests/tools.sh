@@ -171,11 +171,53 @@ explained_lines() {
   input="$scratch/line" status=2 refuses 'usage: ' explain --help
 }
 
-# Each fault that the document has a part on.
+# explains_not LINE TEXT ARGUMENTS..: what is printed of this line does not have the text.
+explains_not() {
+  local line=$1 text=$2
+  shift 2
+  printf '%b' "$line" >"$scratch/line"
+  input="$scratch/line" tool 0 '' explain "$@"
+  ! grep -qF -- "$text" "$scratch/out" || wrong="$wrong; standard output $(cat "$scratch/out")"
+  count "explain of $line $*" "$wrong"
+}
+
+# Lines of advice, and the structures of which `yes` does not speak.
+explained_advice() {
+  local arm="$images/q10-efi-virt-smp4.img.txt" caches="$images/q11-efi-virt-caches.img.txt"
+  explains 'advice SlitDiffers 0x2d 0x2e 0x0\n' '121 SlitDiffers'
+  explains 'advice SlitDiffers 0x2d 0x2e 0x0\n' 'the other distance at offset 0x2e (46), at 0x502e:' "$images/example.img.txt"
+  explains 'advice ListedTwice 0x3 0x2 0x47fc198e\n' 'slot 2 lists it too' --rsdp 47fe0000 "$caches"
+  explains 'advice ListedTwice 0x3 0x2 0x47fc198f\n' 'slot 3 does not list this address: is this the image' --rsdp 47fe0000 "$caches"
+  explains 'advice SciNowhere 0x2e 0x0 0x0\n' 'an override of SCI_INT at offset 0x54 (84), at 0x3054:' "$images/example.img.txt"
+  explains 'yes\n' '  type 13 (GIC MSI frame): 1 at offset 0x184 (388): not looked at' --rsdp 4f0b0018 "$arm"
+  explains 'yes\n' '  type 11 (GICC): 4, the first at offset 0x44 (68): looked at by the advice of lint only' "$arm"
+  explains 'yes\n' '  type 15 (GIC ITS): 1 at offset 0x2d4 (724): not looked at' --rsdp 47fe0000 "$caches"
+  explains_not 'yes\n' 'In the image:' "$images/sb-q35-default.img.txt"
+  explains_not 'yes\n' 'In the image:'
+  explains 'yes\n' 'no RSDP is found in it' "$scratch/table.image"
+  explains 'yes\n' '  type 3 (GICC affinity): 1 at offset 0x30 (48): not looked at' --rsdp e0000 "$scratch/unread.image"
+  explains 'yes\n' '  type 3 (GICC affinity): 2, the first at offset 0x3e (62): looked at by the advice of lint only' --rsdp e0000 "$scratch/unread.image"
+  explains 'yes\n' '  type 11 (GICC): 1 at offset 0x2c (44): not looked at' --rsdp e0000 "$scratch/unread.image"
+  explains 'yes\n' '  type 16 (multiprocessor wakeup): 1 at offset 0x53 (83): not looked at' --rsdp e0000 "$scratch/unread.image"
+  explains 'yes\nadvice ListedTwice 0x3 0x2 0x47fc198e\n' '101 ListedTwice'
+  explains 'yes\nadvice ListedTwice 0x3 0x2 0x47fc198e\n' 'every rule'
+  printf 'advice TableSum 0x0 0x0 0x0\n' >"$scratch/line"
+  input="$scratch/line" refuses 'no line that acpiset check or find writes' explain
+  printf 'no 18 ListedTwice 0x0 0x0 0x0\n' >"$scratch/line"
+  input="$scratch/line" refuses 'no line that acpiset check or find writes' explain
+  printf 'no 18 Severities 0x0 0x0 0x0\n' >"$scratch/line"
+  input="$scratch/line" refuses 'no line that acpiset check or find writes' explain
+}
+
+# Each fault and each rule of advice that the document has a part on.
 all_faults() {
   local number part stage
   while read -r number part stage; do
-    explains "no $stage $part 0x0 0x0 0x0\n" "$number $part"
+    if [ "$number" -gt 100 ]; then
+      explains "advice $part 0x0 0x0 0x0\n" "$number $part"
+    else
+      explains "no $stage $part 0x0 0x0 0x0\n" "$number $part"
+    fi
   done < <(awk '/^## Stage / { stage = $3; sub(/:$/, "", stage) } /^### [0-9]/ { print $2, $3, stage }' ../docs/FAULTS.md)
 }
 
@@ -191,6 +233,7 @@ while IFS=, read -r shell awk; do
   raw_tables
   dumped_texts
   explained_lines
+  explained_advice
   [ "$shell" != sh ] || all_faults
 done <<'LIST'
 sh,awk

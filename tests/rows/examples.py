@@ -1,7 +1,8 @@
 #!/usr/bin/env python3
 """Runs the built program on the examples of docs/FAULTS.md: each one's bytes put into the set of
 tests/images/example.img.txt make it print the line that the example has. And tools/explain finds in each image what the
-line is about.
+line is about. The examples of advice begin with that set and the bytes that the document puts into it first: `lint` prints
+`yes` and the line of the example.
 
 usage: examples.py PROGRAM; the last line is 'examples: N passed, M failed'."""
 
@@ -15,6 +16,8 @@ TOP = os.path.join(os.path.dirname(os.path.abspath(__file__)), "..", "..")
 PART = re.compile(r"^### (\d+) (\w+)$(.*?)(?=^##|\Z)", re.M | re.S)
 EXAMPLE = re.compile(r"^- Example: (.*?): `([^`]*)`\.$", re.M | re.S)
 CHANGE = re.compile(r"`@([0-9a-f]+) ([-0-9a-f\s]+)`")
+ADVICE = re.compile(r"^### Examples of advice$(.*?)^##", re.M | re.S)
+FIRST_RULE = 101
 
 
 def image_of(text):
@@ -62,18 +65,24 @@ def unexplained(line, text):
     return "" if is_found and "is this the image" not in found else f"explain: {run.stderr.decode()}{found}"
 
 
-def wrong(program, image, name, part):
-    """What is wrong with a part's example; nothing where it is right."""
+def told(program, command, text):
+    """What the program says of an image: its status, and what it writes to standard output and standard error."""
+    run = subprocess.run([program, command, "--rsdp", "e0000"], input=text, capture_output=True, timeout=60)
+    return run.returncode, run.stdout.decode(), run.stderr.decode()
+
+
+def wrong(program, image, name, part, command):
+    """What is wrong with a part's example, a fault of `check` or advice of `lint`; nothing where it is right."""
     example = EXAMPLE.search(part)
     if not example:
         return "no example"
     changes, line = example.groups()
-    if line.split()[2] != name:
+    if name not in line.split()[1:3]:
         return f"the example's line is '{line}'"
     text = text_of(changed(image, changes))
-    run = subprocess.run([program, "check", "--rsdp", "e0000"], input=text, capture_output=True, timeout=60)
-    told = (run.returncode, run.stdout.decode(), run.stderr.decode())
-    return unexplained(line, text) if told == (1, line + "\n", "") else f"{told}, not {line}"
+    found = told(program, command, text)
+    due = (1, line + "\n", "") if command == "check" else (0, f"yes\n{line}\n", "")
+    return unexplained(line, text) if found == due else f"{found}, not {line}"
 
 
 def main():
@@ -81,8 +90,16 @@ def main():
     with open(f"{TOP}/tests/images/example.img.txt") as file:
         image = image_of(file.read())
     with open(f"{TOP}/docs/FAULTS.md") as file:
-        parts = PART.findall(file.read())
-    faults = {f"{number} {name}": wrong(program, image, name, part) for number, name, part in parts}
+        document = file.read()
+    advised = changed(image, ADVICE.search(document).group(1))
+    faults = {}
+    for number, name, part in PART.findall(document):
+        if int(number) < FIRST_RULE:
+            faults[f"{number} {name}"] = wrong(program, image, name, part, "check")
+        else:
+            faults[f"{number} {name}"] = wrong(program, advised, name, part, "lint")
+    found = told(program, "lint", text_of(advised))
+    faults["the set of the examples of advice"] = "" if found == (0, "yes\n", "") else str(found)
     run = subprocess.run([program, "check"], input=text_of(image), capture_output=True, timeout=60)
     faults["the set itself"] = "" if run.stdout == b"yes\n" else run.stdout.decode()
     for name, fault in faults.items():

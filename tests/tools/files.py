@@ -98,6 +98,13 @@ def files():
     yield "returns.txt", dump_of(whole).replace(b"\n", b"\r\n")
     yield "utf16.txt", dump_of(whole).decode().encode("utf-16")
 
+    # A set with structures at which the stages do not look, and an image without an RSDP.
+    short_gicc, wakeup = bytes([11, 39]) + bytes(37), bytes([16, 16]) + bytes(14)
+    affinity = bytes([3, 18]) + bytes(16)
+    unread = image_of_files(FADT, madt(short_gicc, wakeup), srat(bytes([3, 14]) + bytes(12), affinity, affinity))
+    yield "unread.image", text_of(unread)
+    yield "table.image", text_of({0x2000: FADT})
+
     # Sets with a wrong sum, and the byte that closes it.
     clean = {RSDP_AT: extended_rsdp(), XSDT_AT: xsdt(0x2000, 0x3000), 0x2000: FADT, 0x3000: HPET, FACS_AT: facs()}
     for name, at, place, sums in (
