@@ -164,7 +164,8 @@ words_are_found options flag words e =
     rw (find-append, finds_none (codes "inputs") (options_rows options) (no_option_row (codes "inputs") options e))
     (go flag words)
   where
-    go : (flag : Option Bool) (words : List Text) → unwrap_or (all_of (codes "inputs") (rows_behind flag words)) [] ≡ words
+    go : (flag : Option Bool) (words : List Text)
+        → unwrap_or (all_of (codes "inputs") (rows_behind flag words)) [] ≡ words
     go None [] = refl
     go None (word ∷ words) = refl
     go (Some true) [] = refl

@@ -41,7 +41,7 @@ rules [] None = filled_from 1 (inputs_rule ∷ help_rule ∷ [])
 rules [] (Some is_given) = filled_from 1 (flag_rule (codes "strict") ∷ inputs_rule ∷ help_rule ∷ [])
 rules (choice ∷ options) flag = built_option choice.0 ∷ rules options flag
 
--- a command, what stands in the line for each of its options, and whether `--strict` does, where the command has this flag
+-- a command, what stands in the line for each of its options, and whether `--strict` does, where the command has it
 pub record Line : Type 0 where
   pub name : Text
   pub options : List (Text × Option Text)
@@ -111,8 +111,10 @@ standing rows pending waiting =
 -- from here on the words have no fault, and give these rows
 pub record Reads (l : Line) (start : Walk) (words : List Text) (rows : List Row) : Type 0 where
   pub no_fault : walk_fault (shape l) [] start words ≡ []
-  pub settles : settle_fault (rules l.options l.flag) false (fold (walked (rules l.options l.flag) []) start words).held ≡ []
-  pub gives : (settled (rules l.options l.flag) (fold (walked (rules l.options l.flag) []) start words).held).rows ≡ rows
+  pub settles : settle_fault (rules l.options l.flag) false (fold (walked (rules l.options l.flag) []) start words).held
+      ≡ []
+  pub gives : (settled (rules l.options l.flag) (fold (walked (rules l.options l.flag) []) start words).held).rows
+      ≡ rows
 
 -- what is read so far and what is pending come to these rows
 record Holds (l : Line) (before : List Row) (pending : Option (Text × List Text)) (rows : List Row) : Type 0 where
@@ -142,9 +144,11 @@ reads_one l start next word words rows steps reads = record {
       (walk_fault (shape l) [] (walked (rules l.options l.flag) [] start word) words)) steps.sound
       ∙ ap (λ (w : Walk). walk_fault (shape l) [] w words) steps.leads
       ∙ reads.no_fault;
-  settles = ap (λ (w : Walk). settle_fault (rules l.options l.flag) false (fold (walked (rules l.options l.flag) []) w words).held)
+  settles = ap (λ (w : Walk). settle_fault (rules l.options l.flag) false
+      (fold (walked (rules l.options l.flag) []) w words).held)
       steps.leads ∙ reads.settles;
-  gives = ap (λ (w : Walk). (settled (rules l.options l.flag) (fold (walked (rules l.options l.flag) []) w words).held).rows)
+  gives = ap (λ (w : Walk). (settled (rules l.options l.flag)
+      (fold (walked (rules l.options l.flag) []) w words).held).rows)
       steps.leads ∙ reads.gives;
 }
 
@@ -189,7 +193,8 @@ option_is options flag id is =
     }
 
 -- its name is read
-to_option : (l : Line) (id : Text) (rows : List Row) (pending : Option (Text × List Text)) → IsOption l.options l.flag id
+to_option : (l : Line) (id : Text) (rows : List Row) (pending : Option (Text × List Text))
+    → IsOption l.options l.flag id
     → settle_fault (rules l.options l.flag) false (held rows pending) ≡ []
     → Steps l (standing rows pending idle) (codes "--" ++ id)
     (standing (settled_rows (rules l.options l.flag) pending rows) (Some (id, [])) (option id))
@@ -393,7 +398,8 @@ reads_rest l done [] words before pending e are new begin plain holds =
 reads_rest l done (choice ∷ left) words before pending e are new begin plain holds =
     let first = and_parts (is_option l.options choice.0) (list_all (λ choice. is_option l.options choice.0) left) are in
     let others = and_parts (not (has_option choice.0 done)) (are_new (done ++ choice ∷ []) left) new in
-    reads_option l choice.0 choice.1 (options_words left (flag_words l.flag ++ words)) before (options_rows done) _ pending
+    reads_option l choice.0 choice.1 (options_words left (flag_words l.flag ++ words)) before (options_rows done) _
+    pending
     (option_is l.options l.flag choice.0 first.0) begin.0 holds
     (no_option_row choice.0 done (not-true (has_option choice.0 done) others.0))
     (λ now waits holds. reads_rest l (done ++ choice ∷ []) left words now waits
@@ -470,7 +476,8 @@ pub all_given : (options : List (Text × Option Text)) (flag : Option Bool) (wor
     → has_option (codes "strict") options ≡ false
     → flagged flag (options_rows options ++ flag_rows flag ++ word_rows words)
     ≡ options_rows options ++ rows_behind flag words
-all_given options None words none = ap (λ (r : List Row). options_rows options ++ r) (sym (append-nil (word_rows words)))
+all_given options None words none =
+    ap (λ (r : List Row). options_rows options ++ r) (sym (append-nil (word_rows words)))
 all_given options (Some true) words none =
     rw (list_any-append, or-true)
     (ap (λ (r : List Row). options_rows options ++ flag_rows (Some true) ++ r) (sym (append-nil (word_rows words))))

@@ -199,7 +199,8 @@ line_is_asked make id word l program words plain asks other another =
     line_is_read l program words plain ∙ asks rows
     ∙ asks_same make id word (values_of rows) (λ id. value_of id l.options) (words_of rows) words
     (λ id other another. option_of_line l words id plain.distinct other another)
-    (ap word (option_of_line l words id plain.distinct other another)) (words_are_found l.options l.flag words l.no_inputs)
+    (ap word (option_of_line l words id plain.distinct other another))
+    (words_are_found l.options l.flag words l.no_inputs)
 
 -- a plain line of `check` asks for what its arguments say
 pub check_words_asked : (program : Text) (hex number : Option Text) (texts : PolicyTexts) (rsdp : Option ℕ)
