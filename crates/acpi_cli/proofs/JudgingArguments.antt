@@ -354,7 +354,7 @@ reads_flag : (l : Line) (flag : Option Bool) (before options : List Row) (pendin
     (words : List Text)
     → l.flag ≡ flag → Holds l before pending options → has_row (codes "inputs") options ≡ false
     → has_row (codes "strict") options ≡ false → ArePlain words
-    → Reads l (standing before pending idle) (flag_words flag ++ words) (options ++ flag_rows flag ++ word_rows words)
+    → Reads l (standing before pending idle) (flag_words flag ++ words) (options ++ (flag_rows flag ++ word_rows words))
 reads_flag l None before options pending words is holds other new plain =
     reads_all_words l before options pending words holds other plain
 reads_flag l (Some false) before options pending words is holds other new plain =
@@ -364,7 +364,7 @@ reads_flag l (Some true) before options pending words is holds other new plain =
     (flag_behind l true before pending is holds.sound
     (ap (has_row (codes "strict")) holds.come_to ∙ new))
     (subst (λ (r : List Row). Reads l (standing (r ++ flag_rows (Some true)) None idle) words
-    (options ++ flag_rows (Some true) ++ word_rows words)) (sym holds.come_to)
+    (options ++ (flag_rows (Some true) ++ word_rows words))) (sym holds.come_to)
     (subst (λ (all : List Row). Reads l (standing (options ++ flag_rows (Some true)) None idle) words all)
     (append_assoc options (flag_rows (Some true)) (word_rows words))
     (reads_all_words l (options ++ flag_rows (Some true)) (options ++ flag_rows (Some true)) None words
@@ -389,7 +389,7 @@ reads_rest : (l : Line) (done left : List (Text × Option Text)) (words : List T
     → done ++ left ≡ l.options → list_all (λ choice. is_option l.options choice.0) left ≡ true
     → are_new done left ≡ true → AllPlain left → ArePlain words → Holds l before pending (options_rows done)
     → Reads l (standing before pending idle) (options_words left (flag_words l.flag ++ words))
-    (options_rows l.options ++ flag_rows l.flag ++ word_rows words)
+    (options_rows l.options ++ (flag_rows l.flag ++ word_rows words))
 reads_rest l done [] words before pending e are new begin plain holds =
     let come_to = holds.come_to ∙ ap options_rows (sym (append-nil done) ∙ e) in
     reads_flag l l.flag before (options_rows l.options) pending words refl
@@ -410,7 +410,7 @@ reads_rest l done (choice ∷ left) words before pending e are new begin plain h
 pub reads_options : (l : Line) (words : List Text) → list_all (λ choice. is_option l.options choice.0) l.options ≡ true
     → are_new [] l.options ≡ true → AllPlain l.options → ArePlain words
     → Reads l (standing [] None idle) (options_words l.options (flag_words l.flag ++ words))
-    (options_rows l.options ++ flag_rows l.flag ++ word_rows words)
+    (options_rows l.options ++ (flag_rows l.flag ++ word_rows words))
 reads_options l words are new begin plain =
     reads_rest l [] l.options words [] None refl are new begin plain (record { sound = refl; come_to = refl })
 
@@ -474,16 +474,17 @@ given l words rows reads = no_defaults l.options l.flag _ ∙ ap (flagged l.flag
 -- of a plain line these are the options, the flag, where it is given, the words, and else the flag's value
 pub all_given : (options : List (Text × Option Text)) (flag : Option Bool) (words : List Text)
     → has_option (codes "strict") options ≡ false
-    → flagged flag (options_rows options ++ flag_rows flag ++ word_rows words)
+    → flagged flag (options_rows options ++ (flag_rows flag ++ word_rows words))
     ≡ options_rows options ++ rows_behind flag words
 all_given options None words none =
     ap (λ (r : List Row). options_rows options ++ r) (sym (append-nil (word_rows words)))
 all_given options (Some true) words none =
     rw (list_any-append, or-true)
-    (ap (λ (r : List Row). options_rows options ++ flag_rows (Some true) ++ r) (sym (append-nil (word_rows words))))
+    (ap (λ (r : List Row). options_rows options ++ (flag_rows (Some true) ++ r)) (sym (append-nil (word_rows words))))
 all_given options (Some false) words none =
     rw other
-    (at_row_absent (codes "strict") (more_values DefaultValue (codes "false" ∷ [])) _ _ other
+    (at_row_absent (codes "strict") (more_values DefaultValue (codes "false" ∷ [])) (default_flag_rows (Some false))
+    (options_rows options ++ word_rows words) other
     ∙ append_assoc (options_rows options) (word_rows words) (default_flag_rows (Some false)))
   where
     other : has_row (codes "strict") (options_rows options ++ word_rows words) ≡ false

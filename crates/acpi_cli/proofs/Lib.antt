@@ -4,6 +4,7 @@ pub mod JudgingArguments
 pub mod CheckRows
 pub mod Declared
 pub mod FaultWords
+pub mod FindingLines
 pub mod FirstCounts
 pub mod InputsWords
 pub mod Statuses

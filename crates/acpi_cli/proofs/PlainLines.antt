@@ -147,14 +147,14 @@ record IsPlainLine (l : Line) (words : List Text) : Type 0 where
   pub new : are_new [] l.options ≡ true
   pub distinct : are_distinct l.options ≡ true
   pub values : AllPlain l.options
-  pub words : ArePlain words
+  pub inputs : ArePlain words
 
 -- a plain line asks for what its command asks for with what is read
 line_is_read : (l : Line) (program : Text) (words : List Text) → IsPlainLine l words
     → asked_job (program ∷ l.name ∷ options_words l.options (flag_words l.flag ++ words))
     ≡ asked_command (Some (l.name, rows_of_line l words))
 line_is_read l program words plain =
-    let reads = reads_options l words plain.own plain.new plain.values plain.words in
+    let reads = reads_options l words plain.own plain.new plain.values plain.inputs in
     let taken : is_taken (program ∷ l.name ∷ options_words l.options (flag_words l.flag ++ words)) ≡ true =
     command_is_taken l program _ _ plain.command reads in
     let entered : command_of (program ∷ l.name ∷ options_words l.options (flag_words l.flag ++ words))
@@ -227,7 +227,7 @@ check_words_asked program hex number texts rsdp policy last a b c =
       new = refl;
       distinct = refl;
       values = (rsdp_is_plain hex rsdp a, (stage, plain.0));
-      words = plain.1;
+      inputs = plain.1;
     }) (λ rows. refl) refl refl
     ∙ rw (a, b, c) refl
 
@@ -255,7 +255,7 @@ lint_words_asked program hex texts strict rsdp policy a b =
       new = refl;
       distinct = refl;
       values = (rsdp_is_plain hex rsdp a, plain.0);
-      words = plain.1;
+      inputs = plain.1;
     })
     ∙ asks_same lint (codes "strict") strict_word (values_of rows)
     (λ id. cond (bytes_eq (codes "strict") id) (values_of rows id) (value_of id l.options))
@@ -289,7 +289,7 @@ confirm_words_asked program w hex texts rsdp policy fits a b =
       new = refl;
       distinct = refl;
       values = (fault_is_plain (witness_line w) w fault, (rsdp_is_plain hex rsdp a, plain.0));
-      words = plain.1;
+      inputs = plain.1;
     }) (λ rows. refl) refl refl
     ∙ rw (a, b, fault) refl
 
@@ -318,7 +318,7 @@ rebuild_words_asked program base at hex texts rsdp policy a b c =
       new = refl;
       distinct = refl;
       values = (address, (rsdp_is_plain hex rsdp b, plain.0));
-      words = plain.1;
+      inputs = plain.1;
     }) (λ rows. refl) refl refl
     ∙ rw (a, b, c) refl
 

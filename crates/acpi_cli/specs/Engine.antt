@@ -164,10 +164,14 @@ pub record ReportsNoRsdp (given : Option ℕ) (m : Memory) (bytes : List ℕ) (r
 abbrev pub ReportsCheck : Option ℕ → PolicyValue → Stage → Memory → List ℕ → Outcome → Type 0
 ReportsCheck given q last m bytes returned = ReportsVerdict given q last m bytes returned ⊎ ReportsNoRsdp given m bytes returned
 
+-- the line of a fault
+abbrev pub no_line : Witness → List ℕ
+no_line w = verdict_line (verdict.No w)
+
 -- the lines of the faults that are reported: `yes` where there is none
 abbrev pub fault_lines : List Witness → List ℕ
-fault_lines [] = codes "yes\n"
-fault_lines (w ∷ ws) = flat_map (λ w. verdict_line (verdict.No w)) (w ∷ ws)
+fault_lines [] = verdict_line verdict.Yes
+fault_lines (w ∷ ws) = flat_map no_line (w ∷ ws)
 
 -- and behind them those of the advice
 abbrev pub finding_lines : List Witness → List Advice → List ℕ

@@ -1,7 +1,8 @@
 //! The engine of the command `lint`.
 
 ghost use Rattle.std.specs.Prelude.{◌≡◌, IfOk};
-ghost use Rattle.acpi_cli.specs.Engine.{device, Runs, ReportsLint, fault_lines, finding_lines, outcome_of_findings};
+ghost use Rattle.std.specs.List.{flat_map};
+ghost use Rattle.acpi_cli.specs.Engine.{device, no_line, Runs, ReportsLint, fault_lines, finding_lines, outcome_of_findings};
 
 use crate::check::{no_rsdp, rsdp_address};
 use crate::devices::{Output, read_input, write_output};
@@ -11,18 +12,27 @@ use acpi_lint::{Findings, lint};
 use std::alloc::{AllocError, Global};
 use std::io::{Read, Write};
 
-/// The lines of the faults: `yes` where there is none.
-fn fault_text(alloc: Global, faults: &[Witness]) -> Result<Vec<u8>, AllocError>
-    ensures { IfOk result (λ text. text.items ≡ fault_lines faults.now) }
+/// A line for each of the faults.
+fn no_text(alloc: Global, faults: &[Witness]) -> Result<Vec<u8>, AllocError>
+    ensures { IfOk result (λ text. text.items ≡ flat_map no_line faults.now) }
 {
-    if faults.is_empty() {
-        return verdict_text(alloc, &Verdict::Yes);
-    }
     let mut text = Vec::new(alloc);
     for fault in faults {
         text.extend_from_slice(&verdict_text(alloc, &Verdict::No(*fault))?)?;
     }
     Ok(text)
+}
+
+/// The lines of the faults: `yes` where there is none.
+#[tactic(auto, using(crate::proofs::FindingLines::lines_of_faults))]
+fn fault_text(alloc: Global, faults: &[Witness]) -> Result<Vec<u8>, AllocError>
+    ensures { IfOk result (λ text. text.items ≡ fault_lines faults.now) }
+{
+    if faults.is_empty() {
+        verdict_text(alloc, &Verdict::Yes)
+    } else {
+        no_text(alloc, faults)
+    }
 }
 
 /// The lines of the faults, and behind them those of the advice.
