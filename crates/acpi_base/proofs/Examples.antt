@@ -1,4 +1,7 @@
 -- What holds of each entry of an example, and what of none.
+pub mod Advice
+pub mod AdviceMadt
+pub mod AdviceSrat
 pub mod AlteredSets
 pub mod CleanSet
 pub mod WholeSets

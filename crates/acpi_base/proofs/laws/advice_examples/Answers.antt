@@ -1,0 +1,6 @@
+use Rattle.acpi_base.proofs.Examples.AdviceMadt.{madt_advised}
+use Rattle.acpi_base.proofs.Examples.AdviceSrat.{srat_advised}
+use Rattle.acpi_base.proofs.laws.advice_examples.Goals as goal
+
+pub returns : goal.returns
+returns c = record { madt = madt_advised; srat_and_slit = srat_advised }
