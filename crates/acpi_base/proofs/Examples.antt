@@ -1,6 +1,7 @@
 -- What holds of each entry of an example, and what of none.
 pub mod Advice
 pub mod AdviceMadt
+pub mod AdvicePptt
 pub mod AdviceSrat
 pub mod AlteredSets
 pub mod CleanSet

@@ -5,6 +5,7 @@ ghost use Rattle.acpi_base.specs.Memory.{Memory, IsImage, bytes_at, Has, AreByte
 ghost use Rattle.acpi_base.specs.Policy.{PolicyValue, IsPolicy};
 ghost use Rattle.acpi_base.specs.Entries.{OneCut, EntriesStand, CutIsStart, NoCutFault, CutsWhereAllStand, NoneInShort};
 ghost use Rattle.acpi_base.specs.Examples.AdviceMadt.{IsMadtAdvised};
+ghost use Rattle.acpi_base.specs.Examples.AdvicePptt.{IsPpttAdvised};
 ghost use Rattle.acpi_base.specs.Examples.AdviceSrat.{IsSratAdvised};
 ghost use Rattle.acpi_base.specs.Examples.AlteredSets.{AreRsdpFaults, AreRootFaults, AreTableFaults, AreFadtFaults, AreFacsFaults};
 ghost use Rattle.acpi_base.specs.Examples.Madts.{AreMadtContents, AreMadtFaults, IsFirstInterrupt, HasNoMadtFault};
@@ -211,6 +212,7 @@ pub fn altered_set_examples()
 pub fn advice_examples()
     ensures madt { IsMadtAdvised }
     ensures srat_and_slit { IsSratAdvised }
+    ensures pptt { IsPpttAdvised }
 {}
 
 /// The written form of an image is read as the image, where a text may be so long, and an image has one written form.
