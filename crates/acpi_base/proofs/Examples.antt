@@ -1,5 +1,6 @@
 -- What holds of each entry of an example, and what of none.
 pub mod Advice
+pub mod AdviceFadt
 pub mod AdviceMadt
 pub mod AdvicePptt
 pub mod AdviceSrat

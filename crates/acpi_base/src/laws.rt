@@ -4,6 +4,7 @@ ghost use Rattle.std.specs.Prelude.{◌≡◌, ℕ, ◌↔◌, List, Some, IsSom
 ghost use Rattle.acpi_base.specs.Memory.{Memory, IsImage, bytes_at, Has, AreBytes};
 ghost use Rattle.acpi_base.specs.Policy.{PolicyValue, IsPolicy};
 ghost use Rattle.acpi_base.specs.Entries.{OneCut, EntriesStand, CutIsStart, NoCutFault, CutsWhereAllStand, NoneInShort};
+ghost use Rattle.acpi_base.specs.Examples.AdviceFadt.{IsFadtAdvised};
 ghost use Rattle.acpi_base.specs.Examples.AdviceMadt.{IsMadtAdvised};
 ghost use Rattle.acpi_base.specs.Examples.AdvicePptt.{IsPpttAdvised};
 ghost use Rattle.acpi_base.specs.Examples.AdviceSrat.{IsSratAdvised};
@@ -210,6 +211,7 @@ pub fn altered_set_examples()
 
 /// Examples of advice: each rule once broken, at these numbers, and once kept, at none.
 pub fn advice_examples()
+    ensures fadt { (q : PolicyValue) → IsFadtAdvised q }
     ensures madt { IsMadtAdvised }
     ensures srat_and_slit { IsSratAdvised }
     ensures pptt { IsPpttAdvised }

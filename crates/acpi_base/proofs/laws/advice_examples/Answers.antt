@@ -1,7 +1,8 @@
+use Rattle.acpi_base.proofs.Examples.AdviceFadt.{fadt_advised}
 use Rattle.acpi_base.proofs.Examples.AdviceMadt.{madt_advised}
 use Rattle.acpi_base.proofs.Examples.AdvicePptt.{pptt_advised}
 use Rattle.acpi_base.proofs.Examples.AdviceSrat.{srat_advised}
 use Rattle.acpi_base.proofs.laws.advice_examples.Goals as goal
 
 pub returns : goal.returns
-returns c = record { madt = madt_advised; srat_and_slit = srat_advised; pptt = pptt_advised }
+returns c = record { fadt = fadt_advised; madt = madt_advised; srat_and_slit = srat_advised; pptt = pptt_advised }
