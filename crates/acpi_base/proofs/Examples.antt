@@ -3,6 +3,7 @@ pub mod Advice
 pub mod AdviceFadt
 pub mod AdviceMadt
 pub mod AdvicePptt
+pub mod AdviceSlots
 pub mod AdviceSrat
 pub mod AlteredSets
 pub mod CleanSet

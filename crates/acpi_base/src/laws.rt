@@ -7,6 +7,7 @@ ghost use Rattle.acpi_base.specs.Entries.{OneCut, EntriesStand, CutIsStart, NoCu
 ghost use Rattle.acpi_base.specs.Examples.AdviceFadt.{IsFadtAdvised};
 ghost use Rattle.acpi_base.specs.Examples.AdviceMadt.{IsMadtAdvised};
 ghost use Rattle.acpi_base.specs.Examples.AdvicePptt.{IsPpttAdvised};
+ghost use Rattle.acpi_base.specs.Examples.AdviceSlots.{AreSlotsAdvised};
 ghost use Rattle.acpi_base.specs.Examples.AdviceSrat.{IsSratAdvised};
 ghost use Rattle.acpi_base.specs.Examples.AlteredSets.{AreRsdpFaults, AreRootFaults, AreTableFaults, AreFadtFaults, AreFacsFaults};
 ghost use Rattle.acpi_base.specs.Examples.Madts.{AreMadtContents, AreMadtFaults, IsFirstInterrupt, HasNoMadtFault};
@@ -211,6 +212,7 @@ pub fn altered_set_examples()
 
 /// Examples of advice: each rule once broken, at these numbers, and once kept, at none.
 pub fn advice_examples()
+    ensures slots { AreSlotsAdvised }
     ensures fadt { (q : PolicyValue) → IsFadtAdvised q }
     ensures madt { IsMadtAdvised }
     ensures srat_and_slit { IsSratAdvised }
