@@ -210,7 +210,7 @@ pub fn altered_set_examples()
     ensures facs_faults { AreFacsFaults }
 {}
 
-/// Examples of advice: each rule once broken, at these numbers, and once kept, at none.
+/// Examples of advice: each rule is broken by some small tables, at three numbers, and kept by others, close by, at none.
 pub fn advice_examples()
     ensures slots { AreSlotsAdvised }
     ensures fadt { (q : PolicyValue) → IsFadtAdvised q }

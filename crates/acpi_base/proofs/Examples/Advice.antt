@@ -1,10 +1,10 @@
 -- What the examples of advice share: entries that stand alone or two together, and the numbers that they say.
-use Rattle.std.proofs.Common.{◌≡◌, ℕ, ◌<◌, ◌≤◌, [], ◌∷◌, refl, inl, inr, arith}
+use Rattle.std.proofs.Common.{◌≡◌, ℕ, ◌<◌, [], ◌∷◌, refl, inl, inr, arith}
 use Rattle.std.specs.Prelude.{◌≢◌, ◌⊎◌, Option, Some, List}
 use Rattle.std.specs.List.{AllByRecursion}
 use Rattle.std.proofs.lemmas.Option.{same_Some}
-use Rattle.acpi_base.specs.Entries.{PlacedEntry, Stands, StandsWith}
-use Rattle.acpi_base.specs.Madt.{MadtEntry, MadtContents}
+use Rattle.acpi_base.specs.Entries.{PlacedEntry, Stands}
+use Rattle.acpi_base.specs.Madt.{MadtContents}
 use Rattle.acpi_base.specs.Lint.Numbered.{NamesAt, IsNamed, IsLater}
 use Rattle.acpi_base.specs.Lint.Processors.{AreProcessorsRead, IsOtherProcessor}
 use Rattle.acpi_base.specs.Examples.{placed_entry}

@@ -1,16 +1,17 @@
 -- The examples of advice on the FADT, by computing.
-use Rattle.std.proofs.Common.{◌≡◌, ℕ, ◌+◌, ◌*◌, ◌<◌, ◌≤◌, true, List, [], ◌∷◌, length, refl, sym, ◌∙◌, subst, inl, inr, arith}
+use Rattle.std.proofs.Common.{◌≡◌, ℕ, ◌+◌, ◌*◌, ◌<◌, ◌≤◌, List, length, refl, sym, ◌∙◌, subst, inl, inr, arith}
 use Rattle.std.specs.Prelude.{◌≢◌}
+use Rattle.std.specs.List.{AllByRecursion}
 use Rattle.std.proofs.lemmas.Bool.{both_ways}
 use Rattle.acpi_base.specs.Number.{field}
 use Rattle.acpi_base.specs.Across.{IsIoApic, IsServed}
-use Rattle.acpi_base.specs.Entries.{StandsWith}
+use Rattle.acpi_base.specs.Entries.{Stands, StandsWith}
 use Rattle.acpi_base.specs.Fadt.{has_flag, gas_at}
 use Rattle.acpi_base.specs.Madt.{Override, MadtContents, ServesFrom}
 use Rattle.acpi_base.specs.Policy.{PolicyValue, inputs_of}
 use Rattle.acpi_base.specs.Lint.FadtAdvice.{DoFieldsDiffer, IsBlockDiffers, IsOverrideOf, IsGsiOf}
 use Rattle.acpi_base.specs.Examples.Advice.{one_entry, processor}
-use Rattle.acpi_base.specs.Examples.AdviceFadt.{facs_fadt, dsdt_fadt, block_fadt, io_apic_entry, overridden, AreOfRevision, AreAddressesOdd, AreBlocksOdd, AreScisNowhere, IsFadtAdvised}
+use Rattle.acpi_base.specs.Examples.AdviceFadt.{facs_fadt, dsdt_fadt, block_fadt, io_apic_entry, overridden, twice_overridden, AreOfRevision, AreAddressesOdd, AreBlocksOdd, AreScisNowhere, IsFadtAdvised}
 use Rattle.acpi_base.proofs.Examples.{each_entry, none_stands, never}
 
 -- ---- the Revision
@@ -64,7 +65,7 @@ addresses_odd = record {
   facs = (
     refl,
     differ {whole = facs_fadt 0x30 0x40} 36 132 (omega arith) (omega arith) (λ same. omega arith) (λ same. omega arith)
-    (λ same. omega arith),
+        (λ same. omega arith),
   );
   facs_same = λ at other point it. same_fields (facs_fadt 0x30 0x30) 36 132 other point refl it.1;
   no_narrow_facs = λ at other point it. no_narrow (facs_fadt 0 0x40) 36 132 other point refl it.1;
@@ -73,7 +74,7 @@ addresses_odd = record {
   dsdt = (
     refl,
     differ {whole = dsdt_fadt 0x30 0x40} 40 140 (omega arith) (omega arith) (λ same. omega arith) (λ same. omega arith)
-    (λ same. omega arith),
+        (λ same. omega arith),
   );
   dsdt_same = λ at other point it. same_fields (dsdt_fadt 0x30 0x30) 40 140 other point refl it.1;
   no_narrow_dsdt = λ at other point it. no_narrow (dsdt_fadt 0 0x40) 40 140 other point refl it.1;
@@ -92,7 +93,7 @@ first_block whole at other point short it =
     let wide : 152 + 12 * it.k ≡ 152 = omega arith in
     let gas : 148 + 12 * it.k ≡ 148 = omega arith in (
       subst (λ (x : ℕ). DoFieldsDiffer whole 56 x other point) wide
-      (subst (λ (x : ℕ). DoFieldsDiffer whole x (152 + 12 * it.k) other point) place it.differ),
+          (subst (λ (x : ℕ). DoFieldsDiffer whole x (152 + 12 * it.k) other point) place it.differ),
       subst (λ (x : ℕ). (gas_at whole x).space ≡ 1) gas it.space,
     )
 
@@ -121,6 +122,8 @@ blocks_odd = record {
       (first_block (block_fadt 0 4 1 4) at other point (omega arith) it).0;
   no_narrow = λ at other point it. no_narrow (block_fadt 0 0 1 5) 56 152 other point refl
       (first_block (block_fadt 0 0 1 5) at other point (omega arith) it).0;
+  no_wide = λ at other point it. no_wide (block_fadt 0 4 1 0) 56 152 other point refl
+      (first_block (block_fadt 0 4 1 0) at other point (omega arith) it).0;
   reduced = λ at other point it. both_ways _ it.not_reduced refl;
   in_memory = λ at other point it. omega (
     arith,
@@ -131,32 +134,39 @@ blocks_odd = record {
 -- ---- SCI_INT
 
 -- the number 24 is not served with 24 inputs, and is with 25
-not_served : (q : PolicyValue) → inputs_of q 0xfec00000 ≡ 24 → ¬ IsServed q overridden 24
-not_served q inputs (o, start, here) =
-    none_stands overridden.entries o (λ o e. ServesFrom q start 24 e)
+not_served : (q : PolicyValue) (bus : ℕ) → inputs_of q 0xfec00000 ≡ 24 → ¬ IsServed q (overridden bus) 24
+not_served q bus inputs (o, start, here) =
+    none_stands (overridden bus).entries o (λ o e. ServesFrom q start 24 e)
     ((λ h. omega (arith, h.0, h.2, inputs)), (never, tt)) here
 
-is_served : (q : PolicyValue) (n : ℕ) → inputs_of q 0xfec00000 ≡ 25 → 24 ≡ n → IsServed q overridden n
+is_served : (q : PolicyValue) (n : ℕ) → inputs_of q 0xfec00000 ≡ 25 → 24 ≡ n → IsServed q (overridden 0) n
 is_served q n inputs is =
-    subst (IsServed q overridden) is (44, 0, (_, (0, omega arith, refl), (refl, omega arith, omega (arith, inputs))))
+    subst (IsServed q (overridden 0)) is
+    (44, 0, (_, (0, omega arith, refl), (refl, omega arith, omega (arith, inputs))))
+
+-- 9 is, with 24
+nine_served : (q : PolicyValue) (c : MadtContents) (n : ℕ) → inputs_of q 0xfec00000 ≡ 24 → 9 ≡ n
+    → Stands c.entries 44 io_apic_entry → IsServed q c n
+nine_served q c n inputs is stands =
+    subst (IsServed q c) is (44, 0, (io_apic_entry, stands, (refl, omega arith, omega (arith, inputs))))
 
 -- no override is of ISA interrupt 24
-not_overridden : (o : ℕ) → ¬ StandsWith overridden.entries o (IsOverrideOf 24)
-not_overridden o = none_stands overridden.entries o (λ o e. IsOverrideOf 24 e) (never, ((λ h. omega (arith, h.1)), tt))
+not_overridden : (o : ℕ) → ¬ StandsWith (overridden 0).entries o (IsOverrideOf 24)
+not_overridden o =
+    none_stands (overridden 0).entries o (λ o e. IsOverrideOf 24 e) (never, ((λ h. omega (arith, h.1)), tt))
 
 -- ISA interrupt 9 has the number 24
-overridden_gsi : (g : ℕ) → IsGsiOf overridden 9 g → 24 ≡ g
+overridden_gsi : (g : ℕ) → IsGsiOf (overridden 0) 9 g → 24 ≡ g
 overridden_gsi g (inl it) =
-    each_entry overridden.entries (λ o e. e ≡ Override it.v → 24 ≡ it.v.gsi)
+    each_entry (overridden 0).entries (λ o e. e ≡ Override it.v → 24 ≡ it.v.gsi)
     ((λ is. absurd cc), ((λ is. cc), tt)) it.at (Override it.v) it.stands refl ∙ it.is
 overridden_gsi g (inr (none, _)) = absurd (none 56 (_, (1, omega arith, refl), (refl, refl)))
 
--- its own where no override stands
-own_gsi : (g : ℕ) → IsGsiOf (one_entry 12 io_apic_entry) 9 g → 9 ≡ g
-own_gsi g (inl it) =
-    absurd (each_entry (one_entry 12 io_apic_entry).entries (λ o e. ¬ (e ≡ Override it.v)) ((λ is. cc), tt) it.at
-    (Override it.v) it.stands refl)
-own_gsi g (inr (_, is)) = sym is
+-- its own where no override of its is of bus 0
+own_gsi : (c : MadtContents) (g : ℕ) → AllByRecursion (λ s. ¬ IsOverrideOf 9 s.entry) c.entries → IsGsiOf c 9 g → 9 ≡ g
+own_gsi c g none (inl it) =
+    absurd (none_stands c.entries it.at (λ o e. IsOverrideOf 9 e) none (Override it.v, it.stands, it.of))
+own_gsi c g none (inr (_, is)) = sym is
 
 scis_nowhere : (q : PolicyValue) → AreScisNowhere q
 unfolding field has_flag
@@ -170,25 +180,40 @@ scis_nowhere q = record {
       stands = (1, omega arith, refl);
       of = (refl, refl);
       is = refl;
-      first = λ p here. each_entry overridden.entries (λ o e. IsOverrideOf 9 e → 56 ≤ o)
+      first = λ p here. each_entry (overridden 0).entries (λ o e. IsOverrideOf 9 e → 56 ≤ o)
           ((λ h. absurd h), ((λ _. omega arith), tt)) p here.0 here.1 here.2;
     });
     some = (44, (_, (0, omega arith, refl), tt));
-    nowhere = not_served q inputs;
+    nowhere = not_served q 0 inputs;
+  };
+  first = λ inputs. record {
+    not_reduced = refl;
+    place = (refl, refl);
+    number = inl (record {
+      at = 56;
+      v = _;
+      stands = (1, omega arith, refl);
+      of = (refl, refl);
+      is = refl;
+      first = λ p here. each_entry twice_overridden.entries (λ o e. IsOverrideOf 9 e → 56 ≤ o)
+          ((λ h. absurd h), ((λ _. omega arith), ((λ _. omega arith), tt))) p here.0 here.1 here.2;
+    });
+    some = (44, (_, (0, omega arith, refl), tt));
+    nowhere = λ served. none_stands twice_overridden.entries served.0 (λ o e. ServesFrom q served.1 24 e)
+        ((λ h. omega (arith, h.0, h.2, inputs)), (never, (never, tt))) served.2;
   };
   own = λ inputs. record {
     not_reduced = refl;
     place = (refl, refl);
     number = inr (not_overridden, refl);
     some = (44, (_, (0, omega arith, refl), tt));
-    nowhere = not_served q inputs;
+    nowhere = not_served q 0 inputs;
   };
   served = λ inputs at other point it. it.nowhere (is_served q point inputs (overridden_gsi point it.number));
-  no_override = λ inputs at other point it. it.nowhere (
-    44,
-    0,
-    (_, (0, omega arith, refl), (refl, omega arith, omega (arith, inputs, own_gsi point it.number))),
-  );
+  no_override = λ inputs at other point it. it.nowhere (nine_served q (one_entry 12 io_apic_entry) point inputs
+      (own_gsi (one_entry 12 io_apic_entry) point (never, tt) it.number) (0, omega arith, refl));
+  other_bus = λ inputs at other point it. it.nowhere (nine_served q (overridden 1) point inputs
+      (own_gsi (overridden 1) point (never, ((λ h. omega (arith, h.0)), tt)) it.number) (0, omega arith, refl));
   reduced = λ at other point it. both_ways _ it.not_reduced refl;
   no_io_apic =
       λ at other point it. none_stands (one_entry 8 (processor 1)).entries it.some.0 (λ o e. IsIoApic e) (never, tt)

@@ -1,14 +1,15 @@
 -- The examples of advice on the MADT, by computing.
-use Rattle.std.proofs.Common.{◌≡◌, ℕ, [], ◌∷◌, refl, sym, subst, inl, inr, arith}
+use Rattle.std.proofs.Common.{◌≡◌, ℕ, ◌≤◌, [], ◌∷◌, refl, sym, subst, inl, inr, arith}
 use Rattle.std.specs.Prelude.{◌-◌, ◌^◌, List, slice_index, Some}
 use Rattle.std.proofs.lemmas.Option.{none-some, same_Some}
 use Rattle.acpi_base.specs.Number.{field, has_bit}
-use Rattle.acpi_base.specs.Madt.{MadtEntry, Opaque, IoApic}
+use Rattle.acpi_base.specs.Madt.{Opaque}
 use Rattle.acpi_base.specs.Lint.MadtAdvice.{nmi_uid, io_apic_address, io_apic_id, gicd, IsUnreadEntry}
 use Rattle.acpi_base.specs.Lint.Numbered.{IsNamed, NamesAt}
 use Rattle.acpi_base.specs.Lint.Processors.{uid_of, uid_on, apic_id_on}
-use Rattle.acpi_base.specs.Examples.Advice.{one_entry, two_entries, processor, gicc}
-use Rattle.acpi_base.specs.Examples.AdviceMadt.{two_processors, local_nmi, x2apic_nmi, with_nmi, io_apics, distributor, read_entries, AreSameProcessors, AreNoProcessors, AreNmisNowhere, AreControllers, AreMadtUnread, IsMadtAdvised}
+use Rattle.acpi_base.specs.Examples.Madts.{said_madt}
+use Rattle.acpi_base.specs.Examples.Advice.{one_entry, processor}
+use Rattle.acpi_base.specs.Examples.AdviceMadt.{three_processors, local_nmi, x2apic_nmi, with_nmi, io_apics, distributor, read_entries, AreSameProcessors, AreNoProcessors, AreNmisNowhere, AreControllers, AreMadtUnread, IsMadtAdvised}
 use Rattle.acpi_base.proofs.Examples.{none_stands, each_entry, never}
 use Rattle.acpi_base.proofs.Examples.Advice.{both_say, two_differ, unnamed, other_number, all_read}
 
@@ -16,6 +17,14 @@ same_processors : AreSameProcessors
 unfolding has_bit field
 same_processors = record {
   uid = both_say uid_on 44 _ 52 _ 3 refl refl (omega arith);
+  third = record {
+    here = (_, (2, omega arith, refl), refl);
+    earlier = (_, (0, omega arith, refl), refl);
+    before = omega arith;
+    first = λ p names. each_entry three_processors.entries (λ o e. 44 ≤ o)
+        (omega arith, (omega arith, (omega arith, tt))) p names.0 names.1;
+  };
+  not_second = λ it. omega (arith, it.first 44 (_, (0, omega arith, refl), refl));
   uids_differ = two_differ uid_on 44 _ 52 _ (λ n one two. omega (arith, same_Some 3 n one, same_Some 4 n two));
   uid_off = two_differ uid_on 44 _ 52 _ (λ n one two. none-some n two);
   gicc_uid = both_say uid_on 44 _ 52 _ 3 refl refl (omega arith);
@@ -34,6 +43,12 @@ no_processors = record {
     refl,
     (refl, refl),
   );
+  empty = (
+    all_read (said_madt 44 []) tt,
+    (λ uid. unnamed uid_on (said_madt 44 []).entries uid tt),
+    refl,
+    (refl, refl),
+  );
   capable = λ at other point it. it.1 3 (44, (_, (0, omega arith, refl), refl));
   gicc_on = λ at other point it. it.1 3 (44, (_, (0, omega arith, refl), refl));
   not_read = λ at other point it. it.0 44 (_, (0, omega arith, refl), inl refl);
@@ -45,7 +60,7 @@ nmis_nowhere = record {
     all_read (with_nmi 6 (local_nmi 4)) (never, (never, tt)),
     (_, (1, omega arith, refl), refl),
     unnamed uid_of (with_nmi 6 (local_nmi 4)).entries 4
-    (other_number 3 4 (λ same. omega arith), (none-some 4, tt)),
+        (other_number 3 4 (λ same. omega arith), (none-some 4, tt)),
     refl,
   );
   local_known =
@@ -58,12 +73,12 @@ nmis_nowhere = record {
     all_read (with_nmi 12 (x2apic_nmi 255)) (never, (never, tt)),
     (_, (1, omega arith, refl), refl),
     unnamed uid_of (with_nmi 12 (x2apic_nmi 255)).entries 255
-    (other_number 3 255 (λ same. omega arith), (none-some 255, tt)),
+        (other_number 3 255 (λ same. omega arith), (none-some 255, tt)),
     refl,
   );
   wide_all =
-      λ at other point it. none_stands (with_nmi 12 (x2apic_nmi (2 ^ 32 - 1))).entries at (λ o e. nmi_uid e ≡ Some point)
-      (none-some point, (none-some point, tt)) it.1;
+      λ at other point it. none_stands (with_nmi 12 (x2apic_nmi (2 ^ 32 - 1))).entries at
+      (λ o e. nmi_uid e ≡ Some point) (none-some point, (none-some point, tt)) it.1;
   not_read = λ at other point it. it.0 44 (_, (0, omega arith, refl), inl refl);
 }
   where
@@ -75,8 +90,8 @@ controllers : AreControllers
 controllers = record {
   at_zero = ((_, (1, omega arith, refl), refl), (refl, refl));
   not_at_zero =
-      λ at other point it. none_stands (io_apics 0xfec00000 2 0xfec01000).entries at (λ o e. io_apic_address e ≡ Some 0)
-      (
+      λ at other point it. none_stands (io_apics 0xfec00000 2 0xfec01000).entries at
+      (λ o e. io_apic_address e ≡ Some 0) (
         other_number 0xfec00000 0 (λ same. omega arith),
         (other_number 0xfec01000 0 (λ same. omega arith), tt),
       ) it.0;
@@ -104,31 +119,23 @@ read_bytes bytes other read (e, is, unread, _) = read (subst IsUnreadEntry same 
 
 unread : AreMadtUnread
 unread = record {
-  six = (
-    (
-      _,
-      (0, omega arith, refl),
-      (_, refl, inl (omega arith, (λ same. omega arith), (λ same. omega arith), (λ same. omega arith), (λ same. omega arith)), refl),
-    ),
-    refl,
-  );
+  six = ((_, (0, omega arith, refl), (_, refl, six, refl)), refl);
   short = ((_, (0, omega arith, refl), (_, refl, inr (refl, omega arith), refl)), refl);
   all_read =
       λ at other point it. none_stands read_entries.entries at
-      (λ o e. (bytes : List ℕ) × (e ≡ Opaque bytes) × IsUnreadEntry bytes × (other ≡ slice_index bytes 0))
-      (
+      (λ o e. (bytes : List ℕ) × (e ≡ Opaque bytes) × IsUnreadEntry bytes × (other ≡ slice_index bytes 0)) (
         (λ h. of_processor h.0 h.1),
         (
-          read_bytes _ other (λ is. elim is [ | inl h ↦ h.3 refl | inr h ↦ omega (arith, h.1) ]),
+          read_bytes _ other (λ is. elim is [ inl h ↦ h.3 refl | inr h ↦ omega (arith, h.1) ]),
           (
-            read_bytes _ other (λ is. elim is [ | inl h ↦ h.4 refl | inr h ↦ omega (arith, h.0) ]),
+            read_bytes _ other (λ is. elim is [ inl h ↦ h.4 refl | inr h ↦ omega (arith, h.0) ]),
             (
               read_bytes _ other (λ is. omega arith),
               (
                 read_bytes _ other (λ is. omega arith),
                 (
                   read_bytes _ other (λ is. omega arith),
-                  (read_bytes _ other (λ is. elim is [ | inl h ↦ h.4 refl | inr h ↦ omega (arith, h.0) ]), tt),
+                  (read_bytes _ other (λ is. elim is [ inl h ↦ h.4 refl | inr h ↦ omega (arith, h.0) ]), tt),
                 ),
               ),
             ),
@@ -137,6 +144,9 @@ unread = record {
       ) it.0;
 }
   where
+    six : IsUnreadEntry (6 ∷ 4 ∷ 0 ∷ 0 ∷ [])
+    six = inl (omega arith, λ same. omega arith, λ same. omega arith, λ same. omega arith, λ same. omega arith)
+
     of_processor : (bytes : List ℕ) → ¬ (processor 1 ≡ Opaque bytes)
     of_processor bytes is = cc
 

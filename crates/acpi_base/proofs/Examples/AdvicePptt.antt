@@ -1,17 +1,17 @@
 -- The examples of advice on the PPTT, by computing.
-use Rattle.std.proofs.Common.{◌≡◌, ℕ, ◌<◌, ◌≤◌, true, [], ◌∷◌, refl, sym, ◌∙◌, subst, inl, inr, arith}
-use Rattle.std.specs.Prelude.{◌≢◌, ◌^◌, Some}
+use Rattle.std.proofs.Common.{◌≡◌, ℕ, ◌≤◌, true, [], refl, sym, ◌∙◌, subst, inl, inr, arith}
+use Rattle.std.specs.Prelude.{◌≢◌, Some}
 use Rattle.std.proofs.Math.Nat.{pow-le-pow_right}
 use Rattle.std.proofs.lemmas.Bool.{both_ways, cases_lt}
 use Rattle.std.proofs.lemmas.Nat.{pow_pos}
 use Rattle.std.proofs.lemmas.Option.{none-some, same_Some}
 use Rattle.acpi_base.specs.Number.{field, has_bit}
-use Rattle.acpi_base.specs.Pptt.{PpttContents, NodeValue, Node, CacheValue, Cache, parent_of}
+use Rattle.acpi_base.specs.Pptt.{Node, CacheValue, Cache, parent_of}
 use Rattle.acpi_base.specs.Lint.Processors.{uid_of, uid_on, IsGicc, IsParent, IsLeafAt, IsLeafId}
 use Rattle.acpi_base.specs.Lint.Numbered.{IsNamed}
 use Rattle.acpi_base.specs.Lint.PpttAdvice.{IsPowerOfTwo, HasOddShape, cache_id}
-use Rattle.acpi_base.specs.Examples.Advice.{one_entry, two_entries, processor, gicc, short_gicc, sapic}
-use Rattle.acpi_base.specs.Examples.AdvicePptt.{two_nodes, one_node, one_cache, two_caches, AreSameLeaves, AreCacheShapes, AreSameCacheIds, AreNoLeaves, AreLeavesNowhere, IsPpttAdvised}
+use Rattle.acpi_base.specs.Examples.Advice.{one_entry, processor, gicc}
+use Rattle.acpi_base.specs.Examples.AdvicePptt.{two_nodes, one_node, one_cache, AreSameLeaves, AreCacheShapes, AreSameCacheIds, AreNoLeaves, AreLeavesNowhere, IsPpttAdvised}
 use Rattle.acpi_base.proofs.Examples.{each_entry, none_stands, never}
 use Rattle.acpi_base.proofs.Examples.Advice.{both_say, two_differ, unnamed, other_number, all_read}
 
@@ -109,11 +109,11 @@ cache_shapes = record {
   least =
       λ at other point it. none_stands (one_cache 0x42 1 1).entries at
       (λ o e. (v : CacheValue) × (e ≡ Cache v) × HasOddShape v)
-      (not_odd _ (λ odd. elim odd [ | inl h ↦ omega (arith, h.1) | inr h ↦ h.1 (0, refl) ]), tt) it.0;
+      (not_odd _ (λ odd. elim odd [ inl h ↦ omega (arith, h.1) | inr h ↦ h.1 (0, refl) ]), tt) it.0;
   not_valid =
       λ at other point it. none_stands (one_cache 0xbd 0 48).entries at
       (λ o e. (v : CacheValue) × (e ≡ Cache v) × HasOddShape v)
-      (not_odd _ (λ odd. elim odd [ | inl h ↦ both_ways _ refl h.0 | inr h ↦ both_ways _ refl h.0 ]), tt) it.0;
+      (not_odd _ (λ odd. elim odd [ inl h ↦ both_ways _ refl h.0 | inr h ↦ both_ways _ refl h.0 ]), tt) it.0;
 }
 
 same_cache_ids : AreSameCacheIds
@@ -122,6 +122,9 @@ same_cache_ids = record {
   same = (omega arith, both_say cache_id 36 _ 64 _ 3 refl refl (omega arith));
   old = λ at other point it. omega (arith, it.0);
   not_valid = λ at other point it. two_differ cache_id 36 _ 64 _ (λ n one two. none-some n two) at other point it.1;
+  differ = λ at other point it. two_differ cache_id 36 _ 64 _
+      (λ n one two. omega (arith, same_Some 3 n one, same_Some 4 n two)) at other point it.1;
+  no_id = λ at other point it. two_differ cache_id 36 _ 64 _ (λ n one two. none-some n two) at other point it.1;
 }
 
 -- ---- processors and leaves

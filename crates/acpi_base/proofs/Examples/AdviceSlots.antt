@@ -13,9 +13,9 @@ use Rattle.acpi_base.specs.TableKinds.{signature_of}
 use Rattle.acpi_base.specs.Tables.{IsSigned}
 use Rattle.acpi_base.specs.Lint.Slots.{IsSecondTable, ListsSigned, dsdt_signature}
 use Rattle.acpi_base.specs.Examples.Madts.{two_io_apics_bytes}
-use Rattle.acpi_base.specs.Examples.Sets.{rsdp_at, rsdp_bytes, rsdt_bytes, named_bytes, uid_bytes, new_leaf_bytes, leaf_set, two_madts}
+use Rattle.acpi_base.specs.Examples.Sets.{rsdp_at, rsdp_bytes, rsdt_bytes, named_bytes, uid_bytes, new_leaf_bytes, leaf_set}
 use Rattle.acpi_base.specs.Examples.WholeSets.{facs_bytes}
-use Rattle.acpi_base.specs.Examples.AdviceSlots.{twice_bytes, twice_set, dsdt_bytes, apart_set, AreSlotsAdvised}
+use Rattle.acpi_base.specs.Examples.AdviceSlots.{twice_bytes, twice_set, dsdt_bytes, AreSlotsAdvised}
 use Rattle.acpi_base.specs.declared.table_kind.TableKind.{TableKind}
 use Rattle.acpi_base.specs.declared.table_kind.TableKind.TheVariants as kind
 use Rattle.acpi_base.proofs.Examples.Sets.{bytes_of_runs, root, root_table, slot_0, slot_1, madt_tables, leaf_tables}
@@ -159,14 +159,14 @@ slots_advised = record {
   dsdt = (
     inl (
       root_slot (root dsdt_bytes facs_bytes) (root_table dsdt_bytes facs_bytes) slot_0,
-      record { header = dsdt_bytes; header_held = bytes_of_runs dsdt_bytes facs_bytes 0x2000 36; signed = refl },
+      record { header = _; header_held = bytes_of_runs dsdt_bytes facs_bytes 0x2000 36; signed = refl },
     ),
     refl,
   );
   facs = (
     inr (
       root_slot (root dsdt_bytes facs_bytes) (root_table dsdt_bytes facs_bytes) slot_1,
-      record { header = take 36 facs_bytes; header_held = bytes_of_runs dsdt_bytes facs_bytes 0x3000 36; signed = refl },
+      record { header = _; header_held = bytes_of_runs dsdt_bytes facs_bytes 0x3000 36; signed = refl },
     ),
     refl,
   );

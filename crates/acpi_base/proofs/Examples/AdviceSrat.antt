@@ -1,10 +1,9 @@
 -- The examples of advice on the SRAT and the SLIT, by computing.
-use Rattle.std.proofs.Common.{◌≡◌, ℕ, zero, suc, ◌<◌, ◌≤◌, [], ◌∷◌, refl, sym, ◌∙◌, subst, inl, inr, arith}
-use Rattle.std.specs.Prelude.{◌⊎◌, List, slice_index, Some}
+use Rattle.std.proofs.Common.{◌≡◌, ℕ, zero, suc, ◌<◌, ◌≤◌, refl, sym, ◌∙◌, subst, inl, inr, arith}
+use Rattle.std.specs.Prelude.{List, slice_index, Some}
 use Rattle.std.specs.List.{AllByRecursion}
 use Rattle.std.proofs.lemmas.Option.{none-some, same_Some}
 use Rattle.acpi_base.specs.Number.{field, has_bit}
-use Rattle.acpi_base.specs.Entries.{StandsWith}
 use Rattle.acpi_base.specs.Madt.{MadtEntry, MadtContents}
 use Rattle.acpi_base.specs.Srat.{SratEntry, Opaque, SratContents}
 use Rattle.acpi_base.specs.Slit.{distance}
@@ -12,8 +11,8 @@ use Rattle.acpi_base.specs.Lint.Numbered.{NamesAt, IsNamed}
 use Rattle.acpi_base.specs.Lint.Processors.{uid_of, apic_id_of, apic_id_on, gicc_uid_on, placed_apic_id, placed_uid, processor_domain, any_domain}
 use Rattle.acpi_base.specs.Lint.SratAdvice.{IsTwoUidDomains, IsAffinityNowhere, IsNoDomain, IsUnreadEntry}
 use Rattle.acpi_base.specs.Examples.Slits.{low_diagonal}
-use Rattle.acpi_base.specs.Examples.Advice.{IsKept, one_entry, two_entries, processor, gicc, sapic}
-use Rattle.acpi_base.specs.Examples.AdviceSrat.{one_affinity, apic_affinity, gicc_affinity, empty_range, two_giccs, read_affinities, AreTwoUidDomains, AreAffinitiesNowhere, AreNoDomains, AreDomainsPastSlit, AreSratUnread, AreSlitsAdvised, IsSratAdvised}
+use Rattle.acpi_base.specs.Examples.Advice.{IsKept, one_entry, processor, gicc}
+use Rattle.acpi_base.specs.Examples.AdviceSrat.{one_affinity, apic_affinity, x2apic_affinity, gicc_affinity, empty_range, two_giccs, read_affinities, AreTwoUidDomains, AreAffinitiesNowhere, AreNoDomains, AreDomainsPastSlit, AreSratUnread, AreSlitsAdvised, IsSratAdvised}
 use Rattle.acpi_base.proofs.Examples.{each_entry, none_stands, never}
 use Rattle.acpi_base.proofs.Examples.Advice.{of_numbers, unnamed, other_number, all_read}
 
@@ -21,7 +20,8 @@ use Rattle.acpi_base.proofs.Examples.Advice.{of_numbers, unnamed, other_number, 
 
 -- affinities of one domain place no UID in two
 one_domain : (c : SratContents) (domain : ℕ)
-    → AllByRecursion (λ s. (x : ℕ) → processor_domain s.entry ≡ Some x → domain ≡ x) c.entries → IsKept (IsTwoUidDomains c)
+    → AllByRecursion (λ s. (x : ℕ) → processor_domain s.entry ≡ Some x → domain ≡ x) c.entries
+    → IsKept (IsTwoUidDomains c)
 one_domain c domain each at other point it = it.differ (sym (of at it.d it.first.1) ∙ of other it.f it.here.1)
   where
     of : (o x : ℕ) → NamesAt processor_domain c.entries o x → domain ≡ x
@@ -93,6 +93,9 @@ affinities_nowhere = record {
   known =
       affinity_known (one_entry 8 (processor 0)) 16 (apic_affinity 5 0 1) (λ n is. id_named 0 n (same_Some 5 n is))
       (λ n is. absurd (none-some n is));
+  wide_known =
+      affinity_known (one_entry 8 (processor 0)) 24 (x2apic_affinity 5) (λ n is. id_named 0 n (same_Some 5 n is))
+      (λ n is. absurd (none-some n is));
   disabled =
       affinity_known (one_entry 8 (processor 0)) 16 (apic_affinity 6 0 0) (λ n is. absurd (none-some n is))
       (λ n is. absurd (none-some n is));
@@ -136,7 +139,7 @@ no_domains = record {
     inl (
       (_, (0, omega arith, refl), refl),
       unnamed placed_apic_id (one_affinity 16 (apic_affinity 6 0 1)).entries 5
-      (other_number 6 5 (λ same. omega arith), tt),
+          (other_number 6 5 (λ same. omega arith), tt),
     ),
     refl,
   );
@@ -197,12 +200,11 @@ unread = record {
   short = ((_, (0, omega arith, refl), (_, refl, inr (refl, λ same. omega arith), refl)), refl);
   all_read =
       λ at other point it. none_stands read_affinities.entries at
-      (λ o e. (bytes : List ℕ) × (e ≡ Opaque bytes) × IsUnreadEntry bytes × (other ≡ slice_index bytes 0))
-      (
-        read_bytes _ other (λ is. elim is [ | inl h ↦ omega arith | inr h ↦ h.1 refl ]),
+      (λ o e. (bytes : List ℕ) × (e ≡ Opaque bytes) × IsUnreadEntry bytes × (other ≡ slice_index bytes 0)) (
+        read_bytes _ other (λ is. elim is [ inl h ↦ omega arith | inr h ↦ h.1 refl ]),
         (
           (λ h. of_processor h.0 h.1),
-          (read_bytes _ other (λ is. elim is [ | inl h ↦ omega arith | inr h ↦ omega (arith, h.0) ]), tt),
+          (read_bytes _ other (λ is. elim is [ inl h ↦ omega arith | inr h ↦ omega (arith, h.0) ]), tt),
         ),
       ) it.0;
 }

@@ -43,7 +43,8 @@ abbrev pub runs : List ℕ → List ℕ → List Run
 runs one other = run_at rsdp_at rsdp_bytes ∷ run_at 0x1000 rsdt_bytes ∷ run_at 0x2000 one ∷ run_at 0x3000 other ∷ []
 
 -- its bytes are those of its runs
-pub bytes_of_runs : (one other : List ℕ) (a n : ℕ) → bytes_at (set_of one other) a n ≡ run_of (lookup (runs one other)) a n
+pub bytes_of_runs : (one other : List ℕ) (a n : ℕ)
+    → bytes_at (set_of one other) a n ≡ run_of (lookup (runs one other)) a n
 bytes_of_runs one other a n = λ i. run_of (λ x. byte_of_memory_of (runs one other) x i) a n
 
 -- it is an image where the two tables are bytes, fewer than 1000h each

@@ -1,5 +1,5 @@
 -- What is stated of the examples of advice, and the MADTs that several of them have.
-use Rattle.std.specs.Prelude.{ℕ, ◌+◌, List, [], ◌∷◌, ◌++◌, replicate}
+use Rattle.std.specs.Prelude.{ℕ, ◌+◌, [], ◌∷◌, ◌++◌, replicate}
 use Rattle.acpi_base.specs.Madt.{MadtEntry, LocalApic, Opaque, MadtContents}
 use Rattle.acpi_base.specs.Examples.{placed_entry}
 use Rattle.acpi_base.specs.Examples.Madts.{said_madt}

@@ -4,7 +4,8 @@ use Rattle.acpi_base.specs.Listed.{fadt_signature}
 use Rattle.acpi_base.specs.Policy.{PolicyValue, inputs_of}
 use Rattle.acpi_base.specs.Madt.{MadtEntry, IoApic, Override, MadtContents}
 use Rattle.acpi_base.specs.Lint.FadtAdvice.{IsFadtOfRevision, IsFacsDiffers, IsDsdtDiffers, IsBlockDiffers, IsSciNowhere}
-use Rattle.acpi_base.specs.Examples.{table}
+use Rattle.acpi_base.specs.Examples.{table, placed_entry}
+use Rattle.acpi_base.specs.Examples.Madts.{said_madt}
 use Rattle.acpi_base.specs.Examples.Advice.{IsKept, one_entry, two_entries, processor}
 
 -- ---- the FADTs
@@ -29,7 +30,7 @@ dsdt_fadt narrow wide =
     table fadt_signature 148 2 0
     (replicate 4 0 ++ 0 ∷ narrow ∷ 0 ∷ 0 ∷ replicate 96 0 ++ 0 ∷ wide ∷ replicate 6 0)
 
--- one of 147 bytes
+-- one of 147 bytes, in which the last byte of X_DSDT is missing
 abbrev pub cut_dsdt_fadt : List ℕ
 cut_dsdt_fadt =
     table fadt_signature 147 2 0 (replicate 4 0 ++ 0 ∷ 0x30 ∷ 0 ∷ 0 ∷ replicate 96 0 ++ 0 ∷ 0x40 ∷ replicate 5 0)
@@ -59,9 +60,22 @@ sci_fadt sci flags = table fadt_signature 116 1 0 (replicate 10 0 ++ sci ∷ 0 �
 abbrev pub io_apic_entry : MadtEntry
 io_apic_entry = IoApic (record { id = 0; address = 0xfec00000; gsi_base = 0 })
 
--- it, and an override that gives ISA interrupt 9 the number 24 (5.2.12.5)
-abbrev pub overridden : MadtContents
-overridden = two_entries 12 io_apic_entry 10 (Override (record { bus = 0; source = 9; gsi = 24; flags = 0 }))
+-- an override that gives interrupt 9 of a bus this number; bus 0 is ISA (5.2.12.5)
+abbrev pub override : ℕ → ℕ → MadtEntry
+override bus gsi = Override (record { bus = bus; source = 9; gsi = gsi; flags = 0 })
+
+-- the I/O APIC, and an override to 24 of this bus
+abbrev pub overridden : ℕ → MadtContents
+overridden bus = two_entries 12 io_apic_entry 10 (override bus 24)
+
+-- it, and two overrides, first to 24 and then to 10
+abbrev pub twice_overridden : MadtContents
+twice_overridden =
+    said_madt 76
+    (placed_entry 44 io_apic_entry
+    ∷ placed_entry 56 (override 0 24)
+    ∷ placed_entry 66 (override 0 10)
+    ∷ [])
 
 -- ---- what is stated of them
 
@@ -97,17 +111,20 @@ pub record AreBlocksOdd : Type 0 where
   pub last : IsBlockDiffers last_block_fadt 0x54 0x500 0x600
   pub same : IsKept (IsBlockDiffers (block_fadt 0 4 1 4))
   pub no_narrow : IsKept (IsBlockDiffers (block_fadt 0 0 1 5))
+  pub no_wide : IsKept (IsBlockDiffers (block_fadt 0 4 1 0))
   pub reduced : IsKept (IsBlockDiffers (block_fadt 0x10 4 1 5))
   pub in_memory : IsKept (IsBlockDiffers (block_fadt 0 4 0 5))
 
--- SCI_INT 9 is overridden to 24, and 24 itself is not, which an I/O APIC with 24 inputs does not serve; not so with 25,
--- without the override, on reduced hardware, or without an I/O APIC
+-- SCI_INT 9 has the number 24 by its first override, and SCI_INT 24 by none, which an I/O APIC with 24 inputs does not serve;
+-- not so with 25, without the override, where that is of another bus, on reduced hardware, or without an I/O APIC
 pub record AreScisNowhere (q : PolicyValue) : Type 0 where
-  pub nowhere : inputs_of q 0xfec00000 ≡ 24 → IsSciNowhere q (sci_fadt 9 0) overridden 0x2e 0 24
-  pub own : inputs_of q 0xfec00000 ≡ 24 → IsSciNowhere q (sci_fadt 24 0) overridden 0x2e 0 24
-  pub served : inputs_of q 0xfec00000 ≡ 25 → IsKept (IsSciNowhere q (sci_fadt 9 0) overridden)
+  pub nowhere : inputs_of q 0xfec00000 ≡ 24 → IsSciNowhere q (sci_fadt 9 0) (overridden 0) 0x2e 0 24
+  pub first : inputs_of q 0xfec00000 ≡ 24 → IsSciNowhere q (sci_fadt 9 0) twice_overridden 0x2e 0 24
+  pub own : inputs_of q 0xfec00000 ≡ 24 → IsSciNowhere q (sci_fadt 24 0) (overridden 0) 0x2e 0 24
+  pub served : inputs_of q 0xfec00000 ≡ 25 → IsKept (IsSciNowhere q (sci_fadt 9 0) (overridden 0))
   pub no_override : inputs_of q 0xfec00000 ≡ 24 → IsKept (IsSciNowhere q (sci_fadt 9 0) (one_entry 12 io_apic_entry))
-  pub reduced : IsKept (IsSciNowhere q (sci_fadt 9 0x10) overridden)
+  pub other_bus : inputs_of q 0xfec00000 ≡ 24 → IsKept (IsSciNowhere q (sci_fadt 9 0) (overridden 1))
+  pub reduced : IsKept (IsSciNowhere q (sci_fadt 9 0x10) (overridden 0))
   pub no_io_apic : IsKept (IsSciNowhere q (sci_fadt 9 0) (one_entry 8 (processor 1)))
 
 -- all of them

@@ -12,6 +12,15 @@ use Rattle.acpi_base.specs.Examples.Advice.{IsKept, one_entry, two_entries, proc
 abbrev pub two_processors : ℕ → ℕ → ℕ → MadtContents
 two_processors uid id flags = two_entries 8 (processor 1) 16 (X2apic (record { x2apic_id = id; flags = flags; uid = uid }))
 
+-- three processors of the UID 3
+abbrev pub three_processors : MadtContents
+three_processors =
+    said_madt 84
+    (placed_entry 44 (processor 1)
+    ∷ placed_entry 52 (X2apic (record { x2apic_id = 6; flags = 1; uid = 3 }))
+    ∷ placed_entry 68 (X2apic (record { x2apic_id = 7; flags = 1; uid = 3 }))
+    ∷ [])
+
 -- NMIs of this UID (5.2.12.7, 5.2.12.13)
 abbrev pub local_nmi : ℕ → MadtEntry
 local_nmi uid = LocalNmi (record { uid = uid; flags = 0; lint = 1 })
@@ -53,9 +62,11 @@ read_entries =
 -- ---- what is stated of them
 
 -- UIDs and APIC IDs: two that are on have one, where bit 1 is Online Capable, save of a GIC CPU interface; not so where
--- the second is off, or has another
+-- the second is off, or has another. Of three the first is named, not the second.
 pub record AreSameProcessors : Type 0 where
   pub uid : IsSameUid (two_processors 3 6 2) 0x34 0x2c 3
+  pub third : IsSameUid three_processors 0x44 0x2c 3
+  pub not_second : ¬ IsSameUid three_processors 0x44 0x34 3
   pub uids_differ : IsKept (IsSameUid (two_processors 4 5 2))
   pub uid_off : IsKept (IsSameUid (two_processors 3 5 0))
   pub gicc_uid : IsSameUid (two_entries 8 (processor 1) 40 (gicc 3 1)) 0x34 0x2c 3
@@ -64,9 +75,10 @@ pub record AreSameProcessors : Type 0 where
   pub ids_differ : IsKept (IsSameApicId (two_processors 3 6 2))
   pub id_off : IsKept (IsSameApicId (two_processors 3 5 0))
 
--- no processor is on; not so where one is Online Capable, or where a local SAPIC is not read
+-- no processor is on, or there is none; not so where one is Online Capable, or where a local SAPIC is not read
 pub record AreNoProcessors : Type 0 where
   pub off : IsNoProcessor (one_entry 8 (processor 0)) 0 0 0
+  pub empty : IsNoProcessor (said_madt 44 []) 0 0 0
   pub capable : IsKept (IsNoProcessor (one_entry 8 (processor 2)))
   pub gicc_on : IsKept (IsNoProcessor (one_entry 40 (gicc 3 1)))
   pub not_read : IsKept (IsNoProcessor (one_entry 16 sapic))

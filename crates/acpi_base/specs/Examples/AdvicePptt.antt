@@ -1,5 +1,5 @@
 -- Examples of advice on the PPTT: each rule broken, and kept (ACPI 6.5, 5.2.30).
-use Rattle.std.specs.Prelude.{ℕ, List, [], ◌∷◌, Some, None}
+use Rattle.std.specs.Prelude.{ℕ, List, [], ◌∷◌, Option, Some, None}
 use Rattle.acpi_base.specs.Entries.{PlacedEntry}
 use Rattle.acpi_base.specs.Pptt.{PpttEntry, Node, Cache, PpttContents}
 use Rattle.acpi_base.specs.Lint.PpttAdvice.{IsSameLeaf, IsCacheShape, IsSameCacheId, IsNoLeaf, IsLeafNowhere}
@@ -25,9 +25,9 @@ two_nodes revision flags parent =
 abbrev pub one_node : ℕ → ℕ → PpttContents
 one_node flags id = pptt_of 2 56 (placed_entry 36 (node flags 0 id) ∷ [])
 
--- a cache with these flags, Number of Sets and Line Size, of the Cache ID 3 (5.2.30.2)
-abbrev pub cache : ℕ → ℕ → ℕ → PpttEntry
-cache flags sets line_size =
+-- a cache with these flags, Number of Sets and Line Size, and this Cache ID, which one of 24 bytes lacks (5.2.30.2)
+abbrev pub cache : ℕ → ℕ → ℕ → Option ℕ → PpttEntry
+cache flags sets line_size id =
     Cache (record {
       flags = flags;
       next_level = 0;
@@ -36,16 +36,16 @@ cache flags sets line_size =
       associativity = 0;
       attributes = 0;
       line_size = line_size;
-      id = Some 3;
+      id = id;
     })
 
 abbrev pub one_cache : ℕ → ℕ → ℕ → PpttContents
-one_cache flags sets line_size = pptt_of 2 64 (placed_entry 36 (cache flags sets line_size) ∷ [])
+one_cache flags sets line_size = pptt_of 2 60 (placed_entry 36 (cache flags sets line_size None) ∷ [])
 
--- two caches of the Cache ID 3, which is valid in the first
-abbrev pub two_caches : ℕ → ℕ → PpttContents
-two_caches revision flags =
-    pptt_of revision 92 (placed_entry 36 (cache 0x80 1 64) ∷ placed_entry 64 (cache flags 1 64) ∷ [])
+-- a cache of the Cache ID 3, which is valid, and another one
+abbrev pub two_caches : ℕ → ℕ → ℕ → Option ℕ → PpttContents
+two_caches revision size flags id =
+    pptt_of revision size (placed_entry 36 (cache 0x80 1 64 (Some 3)) ∷ placed_entry 64 (cache flags 1 64 id) ∷ [])
 
 -- ---- what is stated of them
 
@@ -65,11 +65,13 @@ pub record AreCacheShapes : Type 0 where
   pub least : IsKept (IsCacheShape (one_cache 0x42 1 1))
   pub not_valid : IsKept (IsCacheShape (one_cache 0xbd 0 48))
 
--- two caches of one Cache ID; not so at Revision 2, or where the second is not valid
+-- two caches of one Cache ID; not so at Revision 2, or where the second's is not valid, is another one, or is not there
 pub record AreSameCacheIds : Type 0 where
-  pub same : IsSameCacheId (two_caches 3 0x80) 0x40 0x24 3
-  pub old : IsKept (IsSameCacheId (two_caches 2 0x80))
-  pub not_valid : IsKept (IsSameCacheId (two_caches 3 0x7f))
+  pub same : IsSameCacheId (two_caches 3 92 0x80 (Some 3)) 0x40 0x24 3
+  pub old : IsKept (IsSameCacheId (two_caches 2 92 0x80 (Some 3)))
+  pub not_valid : IsKept (IsSameCacheId (two_caches 3 92 0x7f (Some 3)))
+  pub differ : IsKept (IsSameCacheId (two_caches 3 92 0x80 (Some 4)))
+  pub no_id : IsKept (IsSameCacheId (two_caches 3 88 0x80 None))
 
 -- a processor that is on and has no leaf; not so where it has one, is off, where there is no leaf, or a local SAPIC is not
 -- read

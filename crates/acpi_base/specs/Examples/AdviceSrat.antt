@@ -1,6 +1,6 @@
 -- Examples of advice on the SRAT and the SLIT: each rule broken, and kept (ACPI 6.5, 5.2.16, 5.2.17).
 use Rattle.std.specs.Prelude.{ℕ, ◌+◌, [], ◌∷◌, replicate}
-use Rattle.acpi_base.specs.Srat.{SratEntry, ApicDomain, MemoryRange, Opaque, SratContents}
+use Rattle.acpi_base.specs.Srat.{SratEntry, ApicDomain, MemoryRange, X2apicDomain, Opaque, SratContents}
 use Rattle.acpi_base.specs.Lint.SratAdvice.{IsTwoUidDomains, IsAffinityNowhere, IsNoDomain, IsDomainPastSlit, IsSratUnread}
 use Rattle.acpi_base.specs.Lint.SlitAdvice.{IsSlitDiffers}
 use Rattle.acpi_base.specs.Examples.{placed_entry}
@@ -18,6 +18,10 @@ one_affinity size entry = said_srat (48 + size) (placed_entry 48 entry ∷ [])
 abbrev pub apic_affinity : ℕ → ℕ → ℕ → SratEntry
 apic_affinity id domain flags =
     ApicDomain (record { domain = domain; apic_id = id; flags = flags; eid = 0; clock_domain = 0 })
+
+-- one of a local x2APIC of this ID in domain 0 (5.2.16.3)
+abbrev pub x2apic_affinity : ℕ → SratEntry
+x2apic_affinity id = X2apicDomain (record { domain = 0; x2apic_id = id; flags = 1; clock_domain = 0 })
 
 -- one of a GIC CPU interface of this UID (5.2.16.4)
 abbrev pub gicc_affinity : ℕ → ℕ → ℕ → SratEntry
@@ -51,11 +55,12 @@ pub record AreTwoUidDomains : Type 0 where
   pub same_domain : IsKept (IsTwoUidDomains (two_giccs 3 0 1))
   pub other_uid : IsKept (IsTwoUidDomains (two_giccs 4 1 1))
 
--- an affinity of no processor; not so where the processor is off, the affinity not enabled, or a local SAPIC not read. An
--- APIC ID is no UID.
+-- an affinity of no processor; not so where the processor is off, the affinity not enabled, or a local SAPIC not read.
+-- APIC IDs and x2APIC IDs are one number space, and UIDs another.
 pub record AreAffinitiesNowhere : Type 0 where
   pub nowhere : IsAffinityNowhere (one_entry 8 (processor 0)) (one_affinity 16 (apic_affinity 6 0 1)) 0x30 0 6
   pub known : IsKept (IsAffinityNowhere (one_entry 8 (processor 0)) (one_affinity 16 (apic_affinity 5 0 1)))
+  pub wide_known : IsKept (IsAffinityNowhere (one_entry 8 (processor 0)) (one_affinity 24 (x2apic_affinity 5)))
   pub disabled : IsKept (IsAffinityNowhere (one_entry 8 (processor 0)) (one_affinity 16 (apic_affinity 6 0 0)))
   pub no_uid : IsAffinityNowhere (one_entry 8 (processor 0)) (one_affinity 18 (gicc_affinity 5 0 1)) 0x30 0 5
   pub uid : IsKept (IsAffinityNowhere (one_entry 8 (processor 0)) (one_affinity 18 (gicc_affinity 3 0 1)))
