@@ -1,4 +1,10 @@
 -- What holds of each entry of an example, and what of none.
+pub mod Advice
+pub mod AdviceFadt
+pub mod AdviceMadt
+pub mod AdvicePptt
+pub mod AdviceSlots
+pub mod AdviceSrat
 pub mod AlteredSets
 pub mod CleanSet
 pub mod WholeSets

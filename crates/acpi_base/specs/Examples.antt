@@ -1,4 +1,10 @@
 -- Examples of tables, each worked out by hand from the rules: their bytes, what they say, and their faults.
+pub mod Advice
+pub mod AdviceFadt
+pub mod AdviceMadt
+pub mod AdvicePptt
+pub mod AdviceSlots
+pub mod AdviceSrat
 pub mod AlteredSets
 pub mod WholeSets
 pub mod Madts

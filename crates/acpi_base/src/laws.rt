@@ -4,6 +4,11 @@ ghost use Rattle.std.specs.Prelude.{◌≡◌, ℕ, ◌↔◌, List, Some, IsSom
 ghost use Rattle.acpi_base.specs.Memory.{Memory, IsImage, bytes_at, Has, AreBytes};
 ghost use Rattle.acpi_base.specs.Policy.{PolicyValue, IsPolicy};
 ghost use Rattle.acpi_base.specs.Entries.{OneCut, EntriesStand, CutIsStart, NoCutFault, CutsWhereAllStand, NoneInShort};
+ghost use Rattle.acpi_base.specs.Examples.AdviceFadt.{IsFadtAdvised};
+ghost use Rattle.acpi_base.specs.Examples.AdviceMadt.{IsMadtAdvised};
+ghost use Rattle.acpi_base.specs.Examples.AdvicePptt.{IsPpttAdvised};
+ghost use Rattle.acpi_base.specs.Examples.AdviceSlots.{AreSlotsAdvised};
+ghost use Rattle.acpi_base.specs.Examples.AdviceSrat.{IsSratAdvised};
 ghost use Rattle.acpi_base.specs.Examples.AlteredSets.{AreRsdpFaults, AreRootFaults, AreTableFaults, AreFadtFaults, AreFacsFaults};
 ghost use Rattle.acpi_base.specs.Examples.Madts.{AreMadtContents, AreMadtFaults, IsFirstInterrupt, HasNoMadtFault};
 ghost use Rattle.acpi_base.specs.Examples.Pptts.{ArePpttContents, ArePpttFaults, AreCycleFaults, HasNoPpttFault};
@@ -203,6 +208,15 @@ pub fn altered_set_examples()
     ensures table_faults { AreTableFaults }
     ensures fadt_faults { AreFadtFaults }
     ensures facs_faults { AreFacsFaults }
+{}
+
+/// Examples of advice: each rule is broken by some small tables, at three numbers, and kept by others, close by, at none.
+pub fn advice_examples()
+    ensures slots { AreSlotsAdvised }
+    ensures fadt { (q : PolicyValue) → IsFadtAdvised q }
+    ensures madt { IsMadtAdvised }
+    ensures srat_and_slit { IsSratAdvised }
+    ensures pptt { IsPpttAdvised }
 {}
 
 /// The written form of an image is read as the image, where a text may be so long, and an image has one written form.

@@ -39,11 +39,12 @@ use Rattle.acpi_base.proofs.Root.Slots.{root_slot}
 -- ---- the image of two tables
 
 -- its runs
-abbrev runs : List ℕ → List ℕ → List Run
+abbrev pub runs : List ℕ → List ℕ → List Run
 runs one other = run_at rsdp_at rsdp_bytes ∷ run_at 0x1000 rsdt_bytes ∷ run_at 0x2000 one ∷ run_at 0x3000 other ∷ []
 
 -- its bytes are those of its runs
-bytes_of_runs : (one other : List ℕ) (a n : ℕ) → bytes_at (set_of one other) a n ≡ run_of (lookup (runs one other)) a n
+pub bytes_of_runs : (one other : List ℕ) (a n : ℕ)
+    → bytes_at (set_of one other) a n ≡ run_of (lookup (runs one other)) a n
 bytes_of_runs one other a n = λ i. run_of (λ x. byte_of_memory_of (runs one other) x i) a n
 
 -- it is an image where the two tables are bytes, fewer than 1000h each
@@ -65,7 +66,7 @@ is_image one other size other_size bytes other_bytes = image_of (runs one other)
     )
 
 -- the RSDP names the RSDT
-root : (one other : List ℕ) → IsRoot (set_of one other) rsdp_at 0x1000 4
+pub root : (one other : List ℕ) → IsRoot (set_of one other) rsdp_at 0x1000 4
 unfolding run_of cons_both addresses_at chosen_root field
 root one other = record { named = record { rsdt = 0x1000; xsdt = 0 }; read = rw held refl; chosen = refl }
   where
@@ -73,7 +74,7 @@ root one other = record { named = record { rsdt = 0x1000; xsdt = 0 }; read = rw 
     held = bytes_of_runs one other rsdp_at 20
 
 -- and the RSDT stands there
-root_table : (one other : List ℕ) → IsRootTable (set_of one other) 0x1000 4 rsdt_bytes
+pub root_table : (one other : List ℕ) → IsRootTable (set_of one other) 0x1000 4 rsdt_bytes
 unfolding run_of cons_both has_signature field
 root_table one other = record {
   header = take 36 rsdt_bytes;
@@ -86,18 +87,18 @@ root_table one other = record {
 }
 
 -- its slots hold the addresses of the two tables
-slot_0 : HasSlot rsdt_bytes 4 0 0x2000
+pub slot_0 : HasSlot rsdt_bytes 4 0 0x2000
 unfolding field
 slot_0 = record { inside = omega arith; address = refl; listed = λ same. omega arith }
 
-slot_1 : HasSlot rsdt_bytes 4 1 0x3000
+pub slot_1 : HasSlot rsdt_bytes 4 1 0x3000
 unfolding field
 slot_1 = record { inside = omega arith; address = refl; listed = λ same. omega arith }
 
 -- the two tables stand whole
-record AreTables (one other : List ℕ) : Type 0 where
-  first : IsTable (set_of one other) 0x2000 (take 36 one) one
-  second : IsTable (set_of one other) 0x3000 (take 36 other) other
+pub record AreTables (one other : List ℕ) : Type 0 where
+  pub first : IsTable (set_of one other) 0x2000 (take 36 one) one
+  pub second : IsTable (set_of one other) 0x3000 (take 36 other) other
 
 -- they do where the runs have their bytes
 tables_of : (one other : List ℕ) → run_of (lookup (runs one other)) 0x2000 36 ≡ Some (take 36 one)
@@ -171,11 +172,11 @@ unfolding run_of cons_both field
 processor_tables checksum flags =
     tables_of (processor_bytes checksum flags) two_processors_bytes refl refl refl refl (omega arith) (omega arith)
 
-madt_tables : AreTables named_bytes two_io_apics_bytes
+pub madt_tables : AreTables named_bytes two_io_apics_bytes
 unfolding run_of cons_both field
 madt_tables = tables_of named_bytes two_io_apics_bytes refl refl refl refl (omega arith) (omega arith)
 
-leaf_tables : (revision checksum : ℕ) → AreTables uid_bytes (leaf_bytes revision checksum)
+pub leaf_tables : (revision checksum : ℕ) → AreTables uid_bytes (leaf_bytes revision checksum)
 unfolding run_of cons_both field
 leaf_tables revision checksum =
     tables_of uid_bytes (leaf_bytes revision checksum) refl refl refl refl (omega arith) (omega arith)
