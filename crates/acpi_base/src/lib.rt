@@ -16,8 +16,8 @@
 //! ```rust
 //! let mut reader = Tally::new(b"@1000\n01 02\n03 # the last byte\n".as_slice());
 //! let image = read_image(alloc, &mut reader)?;
-//! assert_eq!(rt; image.window(0x1000, 3), Some([1, 2, 3].as_slice()));
-//! assert_eq!(rt; image.window(0x1000, 4), None);
+//! assert!(rt; image.window(0x1000, 3) == Some([1, 2, 3].as_slice()));
+//! assert!(rt; image.window(0x1000, 4).is_none());
 //! ```
 //!
 //! `specs/` has the definitions, a file a subject. None depends on a function of the code.

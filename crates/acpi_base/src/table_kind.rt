@@ -61,15 +61,22 @@ mod tests {
     use super::*;
     use std::test::*;
 
+    /// The first bytes of tables, and the kind of each.
+    const STARTS: [(&[u8], Option<TableKind>); 8] = [
+        (b"FACP\xf4\0\0\0", Some(TableKind::Fadt)),
+        (b"APIC", Some(TableKind::Madt)),
+        (b"SRAT", Some(TableKind::Srat)),
+        (b"SLIT", Some(TableKind::Slit)),
+        (b"PPTT", Some(TableKind::Pptt)),
+        (b"FACS", None),
+        (b"APIc", None),
+        (b"SLI", None),
+    ];
+
     #[test]
     fn kinds_are_known_by_their_signatures(rt: HostRuntime) {
-        assert_eq!(rt; TableKind::of(b"FACP\xf4\0\0\0"), Some(TableKind::Fadt));
-        assert_eq!(rt; TableKind::of(b"APIC"), Some(TableKind::Madt));
-        assert_eq!(rt; TableKind::of(b"SRAT"), Some(TableKind::Srat));
-        assert_eq!(rt; TableKind::of(b"SLIT"), Some(TableKind::Slit));
-        assert_eq!(rt; TableKind::of(b"PPTT"), Some(TableKind::Pptt));
-        assert_eq!(rt; TableKind::of(b"FACS"), None);
-        assert_eq!(rt; TableKind::of(b"APIc"), None);
-        assert_eq!(rt; TableKind::of(b"SLI"), None);
+        for (bytes, kind) in &STARTS {
+            assert!(rt; TableKind::of(bytes) == *kind, "{bytes:?}");
+        }
     }
 }

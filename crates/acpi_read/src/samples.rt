@@ -5,7 +5,7 @@ ghost use Rattle.acpi_base.specs.Entries.{IsEntry};
 
 use crate::header::Header;
 use crate::layout::{Layout, read_back};
-use acpi_base::{Image, sum};
+use acpi_base::{Image, ImageFault, sum};
 use std::alloc::Global;
 use std::fmt::Debug;
 use std::process::Abort;
@@ -64,15 +64,29 @@ pub(crate) fn extended_rsdp(rsdt: u32, xsdt: u64) -> [u8; 36] {
     bytes
 }
 
+/// Adds bytes to the image, each piece at its address.
+fn add_all(image: &mut Image, pieces: &[(u64, &[u8])]) -> Result<(), ImageFault> {
+    for (address, bytes) in pieces {
+        image.add(*address, bytes)?;
+    }
+    Ok(())
+}
+
+/// An image of these bytes, each piece at its address.
+pub(crate) fn image_of(alloc: Global, pieces: &[(u64, &[u8])]) -> Result<Image, Fail> {
+    let mut image = Image::new(alloc);
+    add_all(&mut image, pieces)?;
+    Ok(image)
+}
+
 /// An image that holds one table, at 1000h.
 pub(crate) fn image_of_table(
     alloc: Global,
     signature: [u8; 4],
     body: &[u8],
 ) -> Result<Image, Fail> {
-    let mut image = Image::new(alloc);
-    image.add(0x1000, &table(alloc, signature, 1, body)?)?;
-    Ok(image)
+    let bytes = table(alloc, signature, 1, body)?;
+    image_of(alloc, &[(0x1000, &bytes)])
 }
 
 /// A FACS of 64 bytes, of which those behind its length are 0.
@@ -99,15 +113,20 @@ fn slots(alloc: Global, tables: &[(u32, &[u8])]) -> Result<Vec<u8>, Fail> {
     Ok(slots)
 }
 
-/// An image with an RSDP at E0000h and an RSDT at 1000h, which lists these tables, each at its address.
-pub(crate) fn set(alloc: Global, tables: &[(u32, &[u8])]) -> Result<Image, Fail> {
-    let rsdt = table(alloc, *b"RSDT", 1, &slots(alloc, tables)?)?;
-    let mut image = Image::new(alloc);
+/// Adds to the image an RSDP at E0000h, whose RSDT is at 1000h, and these tables, each at its address.
+fn add_tables(image: &mut Image, tables: &[(u32, &[u8])]) -> Result<(), ImageFault> {
     image.add(0xe0000, &rsdp(0x1000))?;
-    image.add(0x1000, &rsdt)?;
     for (address, bytes) in tables {
         image.add(u64::from(*address), bytes)?;
     }
+    Ok(())
+}
+
+/// An image with an RSDP at E0000h and an RSDT at 1000h, which lists these tables, each at its address.
+pub(crate) fn set(alloc: Global, tables: &[(u32, &[u8])]) -> Result<Image, Fail> {
+    let slots = slots(alloc, tables)?;
+    let mut image = image_of_table(alloc, *b"RSDT", &slots)?;
+    add_tables(&mut image, tables)?;
     Ok(image)
 }
 
@@ -127,9 +146,9 @@ pub(crate) fn expect_layout<R: Abort, L: Layout + Copy + Debug + PartialEq, cons
         }
     }
     let out = &mut [0xff; N];
-    assert_eq!(rt; L::read(bytes), Some(value));
-    assert_eq!(rt; read_back(&value, out), Some(value));
-    assert_eq!(rt; *out, written);
+    assert!(rt; L::read(bytes) == Some(value));
+    assert!(rt; read_back(&value, out) == Some(value));
+    assert!(rt; *out == written);
 }
 
 /// Whether the second of the bytes is their count, as that of an entry is.

@@ -84,14 +84,19 @@ const IMAGES: [Case; 5] = [
     ),
 ];
 
+/// Looks into an image.
+fn check_windows(rt: &impl Abort, image: &Image, windows: &[Window]) {
+    for (address, count, bytes) in windows {
+        assert!(rt; image.window(*address, *count) == *bytes, "{address:#x}");
+    }
+}
+
 /// Builds an image, and looks into it.
 fn check_image(rt: &impl Abort, alloc: Global, case: &Case) {
     let (pieces, windows, (address, byte)) = case;
     let image = image_of(rt, alloc, pieces);
+    check_windows(rt, &image, windows);
     assert!(rt; image.byte_at(*address) == *byte, "{address:#x}");
-    for (address, count, bytes) in *windows {
-        assert!(rt; image.window(*address, *count) == *bytes, "{address:#x}");
-    }
 }
 
 #[test]

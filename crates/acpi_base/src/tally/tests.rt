@@ -109,6 +109,12 @@ const WRITES: [(&[u8], Result<usize, DeviceFailed>, u64); 9] = [
     (b"", Ok(0), 5),
 ];
 
+/// What is returned of a write of these bytes, and the failures from then on.
+fn write(tally: &mut Tally<Scripted>, bytes: &[u8]) -> (Result<usize, DeviceFailed>, u64) {
+    let written = tally.write(bytes);
+    (written, tally.failures())
+}
+
 #[test]
 fn writes_are_counted_where_they_fail(rt: HostRuntime) {
     let mut tally = Tally::new(Scripted {
@@ -116,8 +122,7 @@ fn writes_are_counted_where_they_fail(rt: HostRuntime) {
         calls: 0,
     });
     for (bytes, result, failures) in &WRITES {
-        let written = tally.write(bytes);
-        let told = (written, tally.failures());
+        let told = write(&mut tally, bytes);
         assert!(rt;
             told == (*result, *failures),
             "{told:?}, not {failures} failures"
@@ -127,11 +132,15 @@ fn writes_are_counted_where_they_fail(rt: HostRuntime) {
 }
 
 #[test]
-fn passes_bytes_on(rt: HostRuntime) {
+fn passes_written_bytes_on(rt: HostRuntime) {
     let mut writer = Tally::new(Vec::new(rt.alloc()));
     let written = writer.write(b"abc");
     assert!(rt; written == Ok(3), "{written:?}");
     assert!(rt; writer.into_inner().as_slice() == b"abc".as_slice());
+}
+
+#[test]
+fn passes_read_bytes_on(rt: HostRuntime) {
     let mut reader = Tally::new(b"abc".as_slice());
     let mut buffer = [7; 5];
     assert!(rt; reader.read(&mut buffer) == Ok(3));

@@ -173,8 +173,8 @@ fn judge_thirds(
 ) -> Result<(), AllocError> {
     let (a, b) = first;
     let (c, d) = second;
-    for (e, f) in RANGES {
-        for (x, y, z) in ORDERS {
+    for &(e, f) in &RANGES {
+        for &(x, y, z) in &ORDERS {
             judge(rt, alloc, &[(a, b, x), (c, d, y), (e, f, z)])?;
         }
     }
@@ -184,9 +184,9 @@ fn judge_thirds(
 #[test]
 fn agrees_with_the_plain_search(rt: HostRuntime) -> Result<(), Fail> {
     let alloc = rt.alloc();
-    for (a, b) in RANGES {
+    for &(a, b) in &RANGES {
         judge(&rt, alloc, &[(a, b, 1)])?;
-        for (c, d) in RANGES {
+        for &(c, d) in &RANGES {
             judge(&rt, alloc, &[(a, b, 1), (c, d, 2)])?;
             judge(&rt, alloc, &[(a, b, 2), (c, d, 1)])?;
             judge_thirds(&rt, alloc, (a, b), (c, d))?;

@@ -114,7 +114,7 @@ fn judge(rt: &impl Abort, alloc: Global, count: u8, number: usize) -> Result<(),
 
 #[test]
 fn agrees_with_the_plain_walk(rt: HostRuntime) -> Result<(), Fail> {
-    for (count, lists) in [(0, 1), (1, 2), (2, 9), (3, 64), (4, 625), (5, 7776)] {
+    for &(count, lists) in &[(0, 1), (1, 2), (2, 9), (3, 64), (4, 625), (5, 7776)] {
         for number in 0..lists {
             judge(&rt, rt.alloc(), count, number)?;
         }

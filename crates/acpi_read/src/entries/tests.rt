@@ -1,52 +1,65 @@
 use super::*;
 use crate::samples::image_of_table;
-use acpi_base::Image;
-use std::process::Abort;
+use acpi_base::{Image, TableKind};
 use std::test::*;
 
-/// The entries are these, each at its offset, and behind them nothing is cut off.
-fn expect_entries(rt: &impl Abort, mut entries: Entries<'_>, expected: &[(u64, &[u8])]) {
-    for (offset, bytes) in expected {
-        let entry = entries.next().map(|entry| (entry.offset, entry.bytes));
-        assert_eq!(rt; entry, Some((*offset, *bytes)));
+/// A table's signature and body, and the entries that stand in it, each at its offset.
+type Case<'a> = ([u8; 4], &'a [u8], &'a [(u64, &'a [u8])]);
+
+/// Tables behind whose entries nothing is cut off.
+const TABLES: [Case; 3] = [
+    (
+        *b"APIC",
+        &[
+            0, 0, 0xe0, 0xfe, 1, 0, 0, 0, 0xc1, 3, 0xa1, 0xc2, 2, 0xc3, 4, 0xa2, 0xa3,
+        ],
+        &[
+            (44, &[0xc1, 3, 0xa1]),
+            (47, &[0xc2, 2]),
+            (49, &[0xc3, 4, 0xa2, 0xa3]),
+        ],
+    ),
+    // Its first 12 bytes behind the header would be entries of a PPTT.
+    (
+        *b"SRAT",
+        &[1, 3, 0, 0, 9, 0, 0, 0, 0, 0, 0, 0, 0xc1, 3, 0xa1],
+        &[(48, &[0xc1, 3, 0xa1])],
+    ),
+    (
+        *b"PPTT",
+        &[0xc1, 3, 0xa1, 0xc2, 2],
+        &[(36, &[0xc1, 3, 0xa1]), (39, &[0xc2, 2])],
+    ),
+];
+
+/// The entries of the table of the image, as its signature says.
+fn entries_of(image: &Image) -> Result<Entries<'_>, Code> {
+    let table = Table::read(image, 0x1000)?;
+    match TableKind::of(table.bytes()) {
+        Some(TableKind::Madt) => Entries::madt(table),
+        Some(TableKind::Srat) => Entries::srat(table),
+        _ => Ok(Entries::pptt(table)),
     }
-    assert!(rt; entries.next().is_none() && entries.cut().is_none());
+}
+
+/// Whether the entries of the table of the image are these, and nothing is cut off behind them.
+fn has_entries(image: &Image, expected: &[(u64, &[u8])]) -> Result<bool, Code> {
+    let mut entries = entries_of(image)?;
+    for (offset, bytes) in expected {
+        match entries.next() {
+            Some(entry) if entry.offset == *offset && entry.bytes == *bytes => {}
+            _ => return Ok(false),
+        }
+    }
+    Ok(entries.next().is_none() && entries.cut().is_none())
 }
 
 #[test]
-fn entries_of_a_madt(rt: HostRuntime) -> Result<(), Fail> {
-    let body = [
-        0, 0, 0xe0, 0xfe, 1, 0, 0, 0, 0xc1, 3, 0xa1, 0xc2, 2, 0xc3, 4, 0xa2, 0xa3,
-    ];
-    let expected: [(u64, &[u8]); 3] = [
-        (44, &[0xc1, 3, 0xa1]),
-        (47, &[0xc2, 2]),
-        (49, &[0xc3, 4, 0xa2, 0xa3]),
-    ];
-    let image = image_of_table(rt.alloc(), *b"APIC", &body)?;
-    let entries = Entries::madt(Table::read(&image, 0x1000)?)?;
-    expect_entries(&rt, entries, &expected);
-    Ok(())
-}
-
-// Its first 12 bytes behind the header would be entries of a PPTT.
-#[test]
-fn entries_of_an_srat(rt: HostRuntime) -> Result<(), Fail> {
-    let body = [1, 3, 0, 0, 9, 0, 0, 0, 0, 0, 0, 0, 0xc1, 3, 0xa1];
-    let expected: [(u64, &[u8]); 1] = [(48, &[0xc1, 3, 0xa1])];
-    let image = image_of_table(rt.alloc(), *b"SRAT", &body)?;
-    let entries = Entries::srat(Table::read(&image, 0x1000)?)?;
-    expect_entries(&rt, entries, &expected);
-    Ok(())
-}
-
-#[test]
-fn entries_of_a_pptt(rt: HostRuntime) -> Result<(), Fail> {
-    let body = [0xc1, 3, 0xa1, 0xc2, 2];
-    let expected: [(u64, &[u8]); 2] = [(36, &[0xc1, 3, 0xa1]), (39, &[0xc2, 2])];
-    let image = image_of_table(rt.alloc(), *b"PPTT", &body)?;
-    let entries = Entries::pptt(Table::read(&image, 0x1000)?);
-    expect_entries(&rt, entries, &expected);
+fn entries_stand_at_their_offsets(rt: HostRuntime) -> Result<(), Fail> {
+    for (signature, body, expected) in &TABLES {
+        let image = image_of_table(rt.alloc(), *signature, body)?;
+        assert!(rt; has_entries(&image, expected) == Ok(true), "{body:?}");
+    }
     Ok(())
 }
 
@@ -60,23 +73,26 @@ fn last_and_cut(image: &Image) -> Result<(Option<u64>, Option<u64>), Code> {
     Ok((last, entries.cut()))
 }
 
+/// Bodies of a PPTT, the offset of the last entry of each, and where it is cut behind that.
+const CUT: [(&[u8], Option<u64>, Option<u64>); 7] = [
+    (&[], None, None),
+    // A single byte.
+    (&[7], None, Some(36)),
+    (&[0xc1, 3, 0xa1, 7], Some(36), Some(39)),
+    // Lengths of 0 and 1.
+    (&[0xc1, 3, 0xa1, 7, 0], Some(36), Some(39)),
+    (&[0xc1, 3, 0xa1, 7, 1, 0xc2, 2], Some(36), Some(39)),
+    // A length past the end by one byte, and one up to the end.
+    (&[0xc1, 2, 7, 5, 0xa1, 0xa2], Some(36), Some(38)),
+    (&[0xc1, 2, 7, 4, 0xa1, 0xa2], Some(38), None),
+];
+
 #[test]
 fn what_is_no_entry_is_cut_off(rt: HostRuntime) -> Result<(), Fail> {
-    let bodies: [(&[u8], Option<u64>, Option<u64>); 7] = [
-        (&[], None, None),
-        // A single byte.
-        (&[7], None, Some(36)),
-        (&[0xc1, 3, 0xa1, 7], Some(36), Some(39)),
-        // Lengths of 0 and 1.
-        (&[0xc1, 3, 0xa1, 7, 0], Some(36), Some(39)),
-        (&[0xc1, 3, 0xa1, 7, 1, 0xc2, 2], Some(36), Some(39)),
-        // A length past the end by one byte, and one up to the end.
-        (&[0xc1, 2, 7, 5, 0xa1, 0xa2], Some(36), Some(38)),
-        (&[0xc1, 2, 7, 4, 0xa1, 0xa2], Some(38), None),
-    ];
-    for (body, last, cut) in bodies {
+    for (body, last, cut) in &CUT {
         let image = image_of_table(rt.alloc(), *b"PPTT", body)?;
-        assert_eq!(rt; last_and_cut(&image)?, (last, cut), "{body:?}");
+        let told = last_and_cut(&image);
+        assert!(rt; told == Ok((*last, *cut)), "{body:?}: {told:?}");
     }
     Ok(())
 }
@@ -88,17 +104,20 @@ fn refusals(image: &Image) -> Result<[Option<Code>; 2], Code> {
     Ok([madt, srat])
 }
 
+/// Bodies, and why each has no entries of a MADT, and none of an SRAT.
+const SHORT: [(&[u8], [Option<Code>; 2]); 4] = [
+    (&[0; 7], [Some(Code::MadtShort), Some(Code::SratShort)]),
+    (&[0; 8], [None, Some(Code::SratShort)]),
+    (&[0; 11], [None, Some(Code::SratShort)]),
+    (&[0; 12], [None, None]),
+];
+
 #[test]
 fn short_tables_have_no_entries(rt: HostRuntime) -> Result<(), Fail> {
-    let bodies: [(&[u8], Option<Code>, Option<Code>); 4] = [
-        (&[0; 7], Some(Code::MadtShort), Some(Code::SratShort)),
-        (&[0; 8], None, Some(Code::SratShort)),
-        (&[0; 11], None, Some(Code::SratShort)),
-        (&[0; 12], None, None),
-    ];
-    for (body, madt, srat) in bodies {
+    for (body, faults) in &SHORT {
         let image = image_of_table(rt.alloc(), *b"TEST", body)?;
-        assert_eq!(rt; refusals(&image)?, [madt, srat], "{body:?}");
+        let told = refusals(&image);
+        assert!(rt; told == Ok(*faults), "{body:?}: {told:?}");
     }
     Ok(())
 }

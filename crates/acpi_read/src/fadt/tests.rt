@@ -1,5 +1,5 @@
 use super::*;
-use crate::samples::table;
+use crate::samples::image_of_table;
 use acpi_base::Image;
 use std::alloc::Global;
 use std::process::Abort;
@@ -60,22 +60,28 @@ fn body_of(alloc: Global, fields: &[(u8, u8, u64)]) -> Result<Vec<u8>, Fail> {
 fn expect_fields(rt: &impl Abort, fadt: &Fadt<'_>, fields: &[(u8, u8, u64)]) {
     for (number, _, value) in fields {
         assert!(rt; *number < 41);
-        assert_eq!(rt; fadt.field(*number), Some(*value), "{number}");
+        let told = fadt.field(*number);
+        assert!(rt; told == Some(*value), "{number}: {told:?}");
     }
+}
+
+/// The FADT of the image has the fields, all its bytes, and no fault.
+fn expect_fadt(rt: &impl Abort, image: &Image) -> Result<(), Code> {
+    let fadt = Fadt::new(Table::read(image, 0x1000)?)?;
+    expect_fields(rt, &fadt, &FIELDS);
+    assert!(rt; fadt.field(38).is_none());
+    assert!(rt; image.window(0x1000, 116) == Some(fadt.bytes()));
+    assert!(rt; fadt.header().signature == *b"FACP");
+    assert!(rt; fadt.fault().is_none() && !fadt.reduced());
+    Ok(())
 }
 
 // What else it says is shown by tests/show.
 #[test]
 fn fields_have_their_numbers(rt: HostRuntime) -> Result<(), Fail> {
     let body = body_of(rt.alloc(), &FIELDS)?;
-    let bytes = table(rt.alloc(), *b"FACP", 1, &body)?;
-    let mut image = Image::new(rt.alloc());
-    image.add(0x2000, &bytes)?;
-    let fadt = Fadt::new(Table::read(&image, 0x2000)?)?;
-    expect_fields(&rt, &fadt, &FIELDS);
-    assert!(rt; fadt.field(38).is_none());
-    assert!(rt; fadt.bytes() == bytes.as_slice());
-    assert!(rt; fadt.header().signature == *b"FACP");
-    assert!(rt; fadt.fault().is_none() && !fadt.reduced());
+    let image = image_of_table(rt.alloc(), *b"FACP", &body)?;
+    let told = expect_fadt(&rt, &image);
+    assert!(rt; told == Ok(()), "{told:?}");
     Ok(())
 }

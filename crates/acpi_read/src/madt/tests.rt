@@ -1,7 +1,15 @@
 use super::*;
 use crate::layout::Layout;
 use crate::samples::{expect_layout, is_entry};
+use std::process::Abort;
 use std::test::*;
+
+/// The bytes are read as the entry.
+fn expect_entry(rt: &impl Abort, bytes: &[u8], entry: MadtEntry) {
+    assert!(rt; is_entry(bytes));
+    let told = MadtEntry::read(bytes);
+    assert!(rt; told == Ok(entry), "{told:?}");
+}
 
 #[test]
 fn local_apic_is_read_and_written(rt: HostRuntime) {
@@ -11,7 +19,7 @@ fn local_apic_is_read_and_written(rt: HostRuntime) {
         flags: 0xc4c3_c2c1,
     };
     let bytes = [0x00, 0x08, 0xa1, 0xb1, 0xc1, 0xc2, 0xc3, 0xc4];
-    assert_eq!(rt; MadtEntry::read(&bytes), Ok(MadtEntry::LocalApic(value)));
+    expect_entry(&rt, &bytes, MadtEntry::LocalApic(value));
     expect_layout(&rt, value, &bytes);
 }
 
@@ -25,7 +33,7 @@ fn io_apic_is_read_and_written(rt: HostRuntime) {
     let bytes = [
         0x01, 0x0c, 0xa1, 0xff, 0xb1, 0xb2, 0xb3, 0xb4, 0xc1, 0xc2, 0xc3, 0xc4,
     ];
-    assert_eq!(rt; MadtEntry::read(&bytes), Ok(MadtEntry::IoApic(value)));
+    expect_entry(&rt, &bytes, MadtEntry::IoApic(value));
     expect_layout(&rt, value, &bytes);
 }
 
@@ -38,7 +46,7 @@ fn override_is_read_and_written(rt: HostRuntime) {
         flags: 0xd2d1,
     };
     let bytes = [0x02, 0x0a, 0xa1, 0xb1, 0xc1, 0xc2, 0xc3, 0xc4, 0xd1, 0xd2];
-    assert_eq!(rt; MadtEntry::read(&bytes), Ok(MadtEntry::Override(value)));
+    expect_entry(&rt, &bytes, MadtEntry::Override(value));
     expect_layout(&rt, value, &bytes);
 }
 
@@ -49,7 +57,7 @@ fn nmi_source_is_read_and_written(rt: HostRuntime) {
         gsi: 0xb4b3_b2b1,
     };
     let bytes = [0x03, 0x08, 0xa1, 0xa2, 0xb1, 0xb2, 0xb3, 0xb4];
-    assert_eq!(rt; MadtEntry::read(&bytes), Ok(MadtEntry::NmiSource(value)));
+    expect_entry(&rt, &bytes, MadtEntry::NmiSource(value));
     expect_layout(&rt, value, &bytes);
 }
 
@@ -61,7 +69,7 @@ fn local_nmi_is_read_and_written(rt: HostRuntime) {
         lint: 0xc1,
     };
     let bytes = [0x04, 0x06, 0xa1, 0xb1, 0xb2, 0xc1];
-    assert_eq!(rt; MadtEntry::read(&bytes), Ok(MadtEntry::LocalNmi(value)));
+    expect_entry(&rt, &bytes, MadtEntry::LocalNmi(value));
     expect_layout(&rt, value, &bytes);
 }
 
@@ -73,10 +81,7 @@ fn address_override_is_read_and_written(rt: HostRuntime) {
     let bytes = [
         0x05, 0x0c, 0xff, 0xff, 0xa1, 0xa2, 0xa3, 0xa4, 0xa5, 0xa6, 0xa7, 0xa8,
     ];
-    assert_eq!(rt;
-        MadtEntry::read(&bytes),
-        Ok(MadtEntry::AddressOverride(value))
-    );
+    expect_entry(&rt, &bytes, MadtEntry::AddressOverride(value));
     expect_layout(&rt, value, &bytes);
 }
 
@@ -91,7 +96,7 @@ fn x2apic_is_read_and_written(rt: HostRuntime) {
         0x09, 0x10, 0xff, 0xff, 0xa1, 0xa2, 0xa3, 0xa4, 0xb1, 0xb2, 0xb3, 0xb4, 0xc1, 0xc2, 0xc3,
         0xc4,
     ];
-    assert_eq!(rt; MadtEntry::read(&bytes), Ok(MadtEntry::X2apic(value)));
+    expect_entry(&rt, &bytes, MadtEntry::X2apic(value));
     expect_layout(&rt, value, &bytes);
 }
 
@@ -105,7 +110,7 @@ fn x2apic_nmi_is_read_and_written(rt: HostRuntime) {
     let bytes = [
         0x0a, 0x0c, 0xa1, 0xa2, 0xb1, 0xb2, 0xb3, 0xb4, 0xc1, 0xff, 0xff, 0xff,
     ];
-    assert_eq!(rt; MadtEntry::read(&bytes), Ok(MadtEntry::X2apicNmi(value)));
+    expect_entry(&rt, &bytes, MadtEntry::X2apicNmi(value));
     expect_layout(&rt, value, &bytes);
 }
 
@@ -120,10 +125,14 @@ const OTHERS: [(&[u8], bool); 5] = [
 
 #[test]
 fn other_types_are_opaque_and_other_lengths_refused(rt: HostRuntime) {
-    for (bytes, is_opaque) in OTHERS {
-        let opaque = is_opaque.then_some(MadtEntry::Opaque(bytes));
+    for (bytes, is_opaque) in &OTHERS {
         assert!(rt; is_entry(bytes));
-        assert_eq!(rt; MadtEntry::read(bytes), opaque.ok_or(Code::MadtEntryLength));
+        let read = MadtEntry::read(bytes);
+        let opaque = is_opaque.then_some(MadtEntry::Opaque(bytes));
+        assert!(rt;
+            read == opaque.ok_or(Code::MadtEntryLength),
+            "{bytes:?}: {read:?}"
+        );
         assert!(rt; LocalNmi::read(bytes).is_none(), "{bytes:?}");
     }
     // As long as a Local APIC NMI is, with the length byte 8.

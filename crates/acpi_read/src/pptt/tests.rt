@@ -37,7 +37,7 @@ fn is_node_read(rt: &impl Abort, length: u8, count: u8) -> bool {
     let bytes = node(length, count);
     let is_read = NodeHead::read(&bytes).is_some();
     if is_entry(&bytes) {
-        assert_eq!(rt; PpttEntry::read(&bytes).is_ok(), is_read, "{count}");
+        assert!(rt; PpttEntry::read(&bytes).is_ok() == is_read, "{count}");
     }
     is_read
 }
@@ -68,7 +68,7 @@ fn cache24_is_read_and_written(rt: HostRuntime) {
         0x01, 0x18, 0xff, 0xff, 0xa1, 0xa2, 0xa3, 0xa4, 0xb1, 0xb2, 0xb3, 0xb4, 0xc1, 0xc2, 0xc3,
         0xc4, 0xd1, 0xd2, 0xd3, 0xd4, 0xe1, 0xe2, 0xf1, 0xf2,
     ];
-    assert_eq!(rt; PpttEntry::read(&bytes), Ok(PpttEntry::Cache24(value)));
+    assert!(rt; PpttEntry::read(&bytes) == Ok(PpttEntry::Cache24(value)));
     expect_layout(&rt, value, &bytes);
 }
 
@@ -88,7 +88,7 @@ fn cache28_is_read_and_written(rt: HostRuntime) {
         0x01, 0x1c, 0xff, 0xff, 0xa1, 0xa2, 0xa3, 0xa4, 0xb1, 0xb2, 0xb3, 0xb4, 0xc1, 0xc2, 0xc3,
         0xc4, 0xd1, 0xd2, 0xd3, 0xd4, 0xe1, 0xe2, 0xf1, 0xf2, 0x91, 0x92, 0x93, 0x94,
     ];
-    assert_eq!(rt; PpttEntry::read(&bytes), Ok(PpttEntry::Cache28(value)));
+    assert!(rt; PpttEntry::read(&bytes) == Ok(PpttEntry::Cache28(value)));
     expect_layout(&rt, value, &bytes);
     assert!(rt; Cache24::read(&bytes[..24]).is_none());
 }
@@ -109,9 +109,13 @@ const NODE: [u8; 24] = [
 
 #[test]
 fn other_types_are_opaque_and_other_lengths_refused(rt: HostRuntime) {
-    for (bytes, is_opaque) in OTHERS {
-        let opaque = is_opaque.then_some(PpttEntry::Opaque(bytes));
+    for (bytes, is_opaque) in &OTHERS {
         assert!(rt; is_entry(bytes));
-        assert_eq!(rt; PpttEntry::read(bytes), opaque.ok_or(Code::PpttEntryLength));
+        let read = PpttEntry::read(bytes);
+        let opaque = is_opaque.then_some(PpttEntry::Opaque(bytes));
+        assert!(rt;
+            read == opaque.ok_or(Code::PpttEntryLength),
+            "{bytes:?}: {read:?}"
+        );
     }
 }

@@ -1,5 +1,5 @@
 use super::*;
-use crate::samples::{extended_rsdp, set, table};
+use crate::samples::{extended_rsdp, image_of, set, table};
 use std::process::Abort;
 use std::test::*;
 
@@ -13,21 +13,22 @@ fn expect_root(
 ) -> Result<(), Code> {
     let rsdp = Rsdp::read(image, 0xe0000)?;
     let root = Root::read(image, &rsdp)?;
-    assert_eq!(rt; (root.address(), root.wide()), (address, wide));
+    assert!(rt; root.address() == address && root.wide() == wide);
     let mut k = 0;
     for slot in slots {
         assert!(rt; k < root.slots());
-        assert_eq!(rt; root.slot(k), *slot);
+        assert!(rt; root.slot(k) == *slot, "{k}");
         k += 1;
     }
-    assert_eq!(rt; k, root.slots());
+    assert!(rt; k == root.slots());
     Ok(())
 }
 
 #[test]
 fn slots_of_an_rsdt(rt: HostRuntime) -> Result<(), Fail> {
     let image = set(rt.alloc(), &[(0x2000, &[]), (0x7fe_2214, &[])])?;
-    expect_root(&rt, &image, 0x1000, false, &[0x2000, 0x7fe_2214])?;
+    let told = expect_root(&rt, &image, 0x1000, false, &[0x2000, 0x7fe_2214]);
+    assert!(rt; told == Ok(()), "{told:?}");
     Ok(())
 }
 
@@ -35,9 +36,10 @@ fn slots_of_an_rsdt(rt: HostRuntime) -> Result<(), Fail> {
 #[test]
 fn xsdt_goes_before_the_rsdt(rt: HostRuntime) -> Result<(), Fail> {
     let body = [0, 0, 0, 0, 0, 0, 0, 0, 0x14, 0x22, 0xfe, 7, 1, 0, 0, 0];
-    let mut image = Image::new(rt.alloc());
-    image.add(0xe0000, &extended_rsdp(0x1000, 0x1_0000_1100))?;
-    image.add(0x1_0000_1100, &table(rt.alloc(), *b"XSDT", 1, &body)?)?;
-    expect_root(&rt, &image, 0x1_0000_1100, true, &[0, 0x1_07fe_2214])?;
+    let xsdt = table(rt.alloc(), *b"XSDT", 1, &body)?;
+    let rsdp = extended_rsdp(0x1000, 0x1_0000_1100);
+    let image = image_of(rt.alloc(), &[(0xe0000, &rsdp), (0x1_0000_1100, &xsdt)])?;
+    let told = expect_root(&rt, &image, 0x1_0000_1100, true, &[0, 0x1_07fe_2214]);
+    assert!(rt; told == Ok(()), "{told:?}");
     Ok(())
 }

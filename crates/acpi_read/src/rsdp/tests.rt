@@ -1,5 +1,5 @@
 use super::*;
-use crate::samples::{extended_rsdp, rsdp};
+use crate::samples::{extended_rsdp, image_of, rsdp};
 use std::process::Abort;
 use std::test::*;
 
@@ -10,21 +10,21 @@ fn expect_rsdp(
     address: u64,
     fields: (u8, [u8; 6], u32, u64),
 ) -> Result<(), Code> {
+    let (revision, oemid, rsdt, xsdt) = fields;
     let rsdp = Rsdp::read(image, address)?;
-    assert_eq!(rt; rsdp.address(), address);
-    assert_eq!(rt;
-        (rsdp.revision(), rsdp.oemid(), rsdp.rsdt(), rsdp.xsdt()),
-        fields
-    );
+    assert!(rt; rsdp.address() == address);
+    assert!(rt; rsdp.revision() == revision && rsdp.oemid() == oemid);
+    assert!(rt; rsdp.rsdt() == rsdt && rsdp.xsdt() == xsdt);
     Ok(())
 }
 
 #[test]
 fn fields_of_the_short_and_the_extended_form(rt: HostRuntime) -> Result<(), Fail> {
-    let mut image = Image::new(rt.alloc());
-    image.add(0xf59e0, &rsdp(0x07fe_223c))?;
-    image.add(0xe0000, &extended_rsdp(0x1000, 0x1_0000_1100))?;
-    expect_rsdp(&rt, &image, 0xf59e0, (0, *b"BOCHS ", 0x07fe_223c, 0))?;
-    expect_rsdp(&rt, &image, 0xe0000, (2, *b"AAAAAA", 0x1000, 0x1_0000_1100))?;
+    let extended = extended_rsdp(0x1000, 0x1_0000_1100);
+    let pieces: [(u64, &[u8]); 2] = [(0xf59e0, &rsdp(0x07fe_223c)), (0xe0000, &extended)];
+    let image = image_of(rt.alloc(), &pieces)?;
+    let short = expect_rsdp(&rt, &image, 0xf59e0, (0, *b"BOCHS ", 0x07fe_223c, 0));
+    let extended = expect_rsdp(&rt, &image, 0xe0000, (2, *b"AAAAAA", 0x1000, 0x1_0000_1100));
+    assert!(rt; short == Ok(()) && extended == Ok(()));
     Ok(())
 }

@@ -1,7 +1,15 @@
 use super::*;
 use crate::layout::Layout;
 use crate::samples::{expect_layout, is_entry};
+use std::process::Abort;
 use std::test::*;
+
+/// The bytes are read as the entry.
+fn expect_entry(rt: &impl Abort, bytes: &[u8], entry: SratEntry) {
+    assert!(rt; is_entry(bytes));
+    let told = SratEntry::read(bytes);
+    assert!(rt; told == Ok(entry), "{told:?}");
+}
 
 #[test]
 fn apic_domain_is_read_and_written(rt: HostRuntime) {
@@ -16,7 +24,7 @@ fn apic_domain_is_read_and_written(rt: HostRuntime) {
         0x00, 0x10, 0xa1, 0xb1, 0xc1, 0xc2, 0xc3, 0xc4, 0xd1, 0xa2, 0xa3, 0xa4, 0xe1, 0xe2, 0xe3,
         0xe4,
     ];
-    assert_eq!(rt; SratEntry::read(&bytes), Ok(SratEntry::ApicDomain(value)));
+    expect_entry(&rt, &bytes, SratEntry::ApicDomain(value));
     expect_layout(&rt, value, &bytes);
 }
 
@@ -33,7 +41,7 @@ fn memory_range_is_read_and_written(rt: HostRuntime) {
         0xb8, 0xc1, 0xc2, 0xc3, 0xc4, 0xc5, 0xc6, 0xc7, 0xc8, 0xff, 0xff, 0xff, 0xff, 0xd1, 0xd2,
         0xd3, 0xd4, 0xff, 0xff, 0xff, 0xff, 0xff, 0xff, 0xff, 0xff,
     ];
-    assert_eq!(rt; SratEntry::read(&bytes), Ok(SratEntry::MemoryRange(value)));
+    expect_entry(&rt, &bytes, SratEntry::MemoryRange(value));
     expect_layout(&rt, value, &bytes);
 }
 
@@ -49,7 +57,7 @@ fn x2apic_domain_is_read_and_written(rt: HostRuntime) {
         0x02, 0x18, 0xff, 0xff, 0xa1, 0xa2, 0xa3, 0xa4, 0xb1, 0xb2, 0xb3, 0xb4, 0xc1, 0xc2, 0xc3,
         0xc4, 0xd1, 0xd2, 0xd3, 0xd4, 0xff, 0xff, 0xff, 0xff,
     ];
-    assert_eq!(rt; SratEntry::read(&bytes), Ok(SratEntry::X2apicDomain(value)));
+    expect_entry(&rt, &bytes, SratEntry::X2apicDomain(value));
     expect_layout(&rt, value, &bytes);
 }
 
@@ -71,9 +79,10 @@ const LONG: [u8; 17] = [
 
 #[test]
 fn other_types_are_opaque_and_other_lengths_refused(rt: HostRuntime) {
-    for (bytes, entry) in OTHERS {
+    for (bytes, entry) in &OTHERS {
         assert!(rt; is_entry(bytes));
-        assert_eq!(rt; SratEntry::read(bytes), entry);
+        let read = SratEntry::read(bytes);
+        assert!(rt; read == *entry, "{bytes:?}: {read:?}");
         assert!(rt; ApicDomain::read(bytes).is_none(), "{bytes:?}");
         assert!(rt; X2apicDomain::read(bytes).is_none(), "{bytes:?}");
     }

@@ -1,5 +1,5 @@
 use super::*;
-use crate::samples::table;
+use crate::samples::{image_of, table};
 use std::process::Abort;
 use std::test::*;
 
@@ -8,19 +8,17 @@ fn expect_table(rt: &impl Abort, image: &Image, address: u64, bytes: &[u8]) -> R
     let table = Table::read(image, address)?;
     assert!(rt; table.bytes() == bytes && table.copied().bytes() == bytes);
     let header = table.header();
-    assert_eq!(rt;
-        (header.signature, header.length, header.oemid),
-        (*b"WAET", 40, *b"BOCHS ")
-    );
+    assert!(rt; header.signature == *b"WAET" && header.length == 40);
+    assert!(rt; header.oemid == *b"BOCHS ");
     Ok(())
 }
 
 #[test]
 fn table_has_its_length(rt: HostRuntime) -> Result<(), Fail> {
     let bytes = table(rt.alloc(), *b"WAET", 1, &[2, 0, 0, 0])?;
-    let mut image = Image::new(rt.alloc());
-    image.add(0x3000, &bytes)?;
-    expect_table(&rt, &image, 0x3000, &bytes)?;
+    let image = image_of(rt.alloc(), &[(0x3000, &bytes)])?;
+    let told = expect_table(&rt, &image, 0x3000, &bytes);
+    assert!(rt; told == Ok(()), "{told:?}");
     let beyond = Table::read(&image, 0x3005);
     assert!(rt; beyond.err() == Some(Code::TableHeaderOut));
     Ok(())

@@ -1,5 +1,5 @@
 -- Lists of entries, one by one.
-use Rattle.std.proofs.Common.{◌≡◌, ℕ, suc, ◌+◌, ◌<◌, ◌≤◌, List, [], ◌∷◌, ◌++◌, length, get_or, take, drop, map, flat_map, refl, sym, ap, subst, ◌∙◌, arith, append_assoc, length-append, length-drop}
+use Rattle.std.proofs.Common.{◌≡◌, ℕ, suc, ◌+◌, ◌<◌, ◌≤◌, List, [], ◌∷◌, ◌++◌, length, get_or, take, drop, map, flat_map, refl, sym, ap, subst, ◌∙◌, arith, append_assoc, append-nil, length-append, length-drop}
 use Rattle.std.specs.Prelude.{Result, Ok, Err, OnOk}
 use Rattle.std.specs.List.{All}
 use Rattle.acpi_base.proofs.Layouts.RoundTrip.{length-number_bytes}
@@ -22,6 +22,19 @@ all_more P xs i x h e before holds =
 
 pub all_of : {X : Type 0} (P : X → Type 0) (xs : List X) (i : ℕ) → length xs ≤ i → All P (take i xs) → All P xs
 all_of P xs i h all = subst (All P) (take_all i xs h) all
+
+-- once the bytes of the entry at the index are added, those of the entries behind it are still to come
+pub appended_more : {X : Type 0} (f : X → List ℕ) (xs : List X) (i : ℕ) (x : X) → i < length xs → x ≡ get_or xs i x
+    → (before after all : List ℕ) → after ≡ before ++ f x → before ++ flat_map f (drop i xs) ≡ all
+    → after ++ flat_map f (drop (i + 1) xs) ≡ all
+appended_more f xs i x h e before after all added was =
+    rw added (rw append_assoc (rw (← joined_more f xs i x h e) was))
+
+-- behind the last entry all are added
+pub appended_all : {X : Type 0} (f : X → List ℕ) (xs : List X) (i : ℕ) → length xs ≤ i → (after all : List ℕ)
+    → after ++ flat_map f (drop i xs) ≡ all → after ≡ all
+appended_all f xs i h after all was =
+    sym (append-nil after) ∙ ap (λ (bs : List ℕ). after ++ bs) (sym (joined_all f xs i h)) ∙ was
 
 -- joined by their values
 pub joined_values : {X V : Type 0} (f : V → List ℕ) (value : X → V) (xs : List X)

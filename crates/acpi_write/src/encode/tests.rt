@@ -32,7 +32,7 @@ fn a_slit_of_one_cell(rt: HostRuntime) -> Result<(), Fail> {
         1, 0, 0, 0, 0, 0, 0, 0, 0x0a,
     ];
     let bytes = encode_table(rt.alloc(), &slit)?;
-    assert_eq!(rt; bytes.as_slice(), expected.as_slice());
+    assert!(rt; bytes.as_slice() == expected.as_slice(), "{bytes:?}");
     Ok(())
 }
 
@@ -47,7 +47,7 @@ fn expect_table(
     requires { 36 + length body.now < 2 ^ 32 }
 {
     let bytes = encode_table(alloc, &value)?;
-    assert_eq!(rt; bytes.get(36..), Some(body));
+    assert!(rt; bytes.get(36..) == Some(body), "{bytes:?}");
     assert!(rt; bytes.starts_with(&header_before(body, signature)));
     Ok(())
 }
@@ -163,20 +163,22 @@ fn values_of_another_shape(rt: HostRuntime) -> Result<(), Fail> {
         fault_of_kept(alloc, &[0x0b, 3])?,
         fault_of_body(alloc, &[0; 79])?,
     ];
-    assert_eq!(rt; faults, [Some(WriteFault::Shape); 5]);
+    assert!(rt; faults == [Some(WriteFault::Shape); 5], "{faults:?}");
     Ok(())
 }
 
+/// Faults, and how each is told.
+const TEXTS: [(WriteFault, &str); 3] = [
+    (WriteFault::Shape, "no bytes for the value"),
+    (WriteFault::TooLong, "table too long"),
+    (WriteFault::Memory, "out of memory"),
+];
+
 #[test]
 fn texts_of_faults(rt: HostRuntime) -> Result<(), Fail> {
-    let texts = [
-        (WriteFault::Shape, "no bytes for the value"),
-        (WriteFault::TooLong, "table too long"),
-        (WriteFault::Memory, "out of memory"),
-    ];
-    for (fault, wanted) in texts {
+    for (fault, wanted) in &TEXTS {
         let text = fault.to_string(rt.alloc())?;
-        assert_eq!(rt; text.as_str(), wanted);
+        assert!(rt; text.as_str() == *wanted, "{text}");
     }
     Ok(())
 }

@@ -40,24 +40,30 @@ fn refused(alloc: Global, image: Image, base: u64) -> Result<Option<RebuildFault
     Ok(rebuild(alloc, &image, &policy, base).err())
 }
 
+/// Addresses that hold nothing in the set at 0123456789ABCDC0h: where its parts were, and behind each part.
+const AROUND: [u64; 6] = [
+    0xe0000,
+    0x1000,
+    0x2000,
+    0x0123_4567_89ab_cde4,
+    0x0123_4567_89ab_ce2c,
+    0x0123_4567_89ab_ceb4,
+];
+
+/// Whether the image holds the parts of the set at 0123456789ABCDC0h.
+fn holds_parts(image: &Image) -> bool {
+    let slots = 0x0123_4567_89ab_ce40u64.to_le_bytes();
+    let rsdp = extended_rsdp(0x0123_4567_89ab_ce00);
+    holds(image, 0x0123_4567_89ab_cdc0, &rsdp)
+        && holds_table(image, 0x0123_4567_89ab_ce00, *b"XSDT", &slots)
+        && holds_table(image, 0x0123_4567_89ab_ce40, *b"FACP", &reduced_body())
+}
+
 #[test]
 fn a_set_at_a_high_address(rt: HostRuntime) -> Result<(), Fail> {
-    let alloc = rt.alloc();
-    let new = rebuilt(alloc, set(alloc, &reduced_body())?, 0x0123_4567_89ab_cdc0)?;
-    let rsdp = extended_rsdp(0x0123_4567_89ab_ce00);
-    let slots = 0x0123_4567_89ab_ce40u64.to_le_bytes();
-    let holds_parts = holds(&new, 0x0123_4567_89ab_cdc0, &rsdp)
-        && holds_table(&new, 0x0123_4567_89ab_ce00, *b"XSDT", &slots)
-        && holds_table(&new, 0x0123_4567_89ab_ce40, *b"FACP", &reduced_body());
-    let around = [
-        0xe0000,
-        0x1000,
-        0x2000,
-        0x0123_4567_89ab_cde4,
-        0x0123_4567_89ab_ce2c,
-        0x0123_4567_89ab_ceb4,
-    ];
-    assert!(rt; holds_parts && is_clear_at(&new, &around));
+    let image = set(rt.alloc(), &reduced_body())?;
+    let new = rebuilt(rt.alloc(), image, 0x0123_4567_89ab_cdc0)?;
+    assert!(rt; holds_parts(&new) && is_clear_at(&new, &AROUND));
     Ok(())
 }
 
@@ -73,51 +79,64 @@ fn set_with_facs(alloc: Global) -> Result<Image, ImageFault> {
 
 // A FADT of 116 bytes has 4 for the FACS's address.
 #[test]
-fn a_facs_below_4_gib(rt: HostRuntime) -> Result<(), Fail> {
-    let alloc = rt.alloc();
-    let fault = refused(alloc, set_with_facs(alloc)?, 0xffff_ff80)?;
-    assert_eq!(rt; fault, Some(RebuildFault::NeedsLow));
-
-    let new = rebuilt(alloc, set_with_facs(alloc)?, 0xffff_ff40)?;
-    let body = fadt_body(0xffff_ffc0, LENGTHS, 0);
-    let holds_facs = holds(&new, 0xffff_ffc0, &facs());
-    assert!(rt; holds_facs && holds_table(&new, 0x1_0000_0000, *b"FACP", &body));
+fn a_facs_above_4_gib(rt: HostRuntime) -> Result<(), Fail> {
+    let image = set_with_facs(rt.alloc())?;
+    let fault = refused(rt.alloc(), image, 0xffff_ff80)?;
+    assert!(rt; fault == Some(RebuildFault::NeedsLow), "{fault:?}");
     Ok(())
 }
 
-// The parts have 36, 44 and 116 bytes.
 #[test]
-fn refusals_by_the_address(rt: HostRuntime) -> Result<(), Fail> {
+fn a_facs_below_4_gib(rt: HostRuntime) -> Result<(), Fail> {
+    let image = set_with_facs(rt.alloc())?;
+    let new = rebuilt(rt.alloc(), image, 0xffff_ff40)?;
+    let body = fadt_body(0xffff_ffc0, LENGTHS, 0);
+    assert!(rt; holds(&new, 0xffff_ffc0, &facs()));
+    assert!(rt; holds_table(&new, 0x1_0000_0000, *b"FACP", &body));
+    Ok(())
+}
+
+#[test]
+fn refusals_of_an_image_of_nothing(rt: HostRuntime) -> Result<(), Fail> {
     let alloc = rt.alloc();
     let unaligned = refused(alloc, Image::new(alloc), 0x20)?;
     assert!(rt; matches!(unaligned, Some(RebuildFault::Unaligned)));
     let unclean = refused(alloc, Image::new(alloc), 0)?;
     assert!(rt; matches!(unclean, Some(RebuildFault::NotClean(_))));
+    Ok(())
+}
 
-    let cases = [
-        (0xffff_ffff_ffff_ff00, None),
-        (0xffff_ffff_ffff_ff40, Some(RebuildFault::PastEnd)),
-        (0xffff_ffff_ffff_ffc0, Some(RebuildFault::PastEnd)),
-    ];
-    for (base, fault) in cases {
-        let image = set(alloc, &reduced_body())?;
-        assert_eq!(rt; refused(alloc, image, base)?, fault, "{base:x}");
+/// Base addresses of a set whose parts have 36, 44 and 116 bytes, and why it is not rebuilt there.
+const ADDRESSES: [(u64, Option<RebuildFault>); 3] = [
+    (0xffff_ffff_ffff_ff00, None),
+    (0xffff_ffff_ffff_ff40, Some(RebuildFault::PastEnd)),
+    (0xffff_ffff_ffff_ffc0, Some(RebuildFault::PastEnd)),
+];
+
+#[test]
+fn refusals_by_the_address(rt: HostRuntime) -> Result<(), Fail> {
+    for (base, fault) in &ADDRESSES {
+        let image = set(rt.alloc(), &reduced_body())?;
+        let told = refused(rt.alloc(), image, *base)?;
+        assert!(rt; told == *fault, "{base:x}: {told:?}");
     }
     Ok(())
 }
 
+/// Refusals, and how each is told.
+const NAMES: [(RebuildFault, &str); 5] = [
+    (RebuildFault::Unaligned, "base address not a multiple of 64"),
+    (RebuildFault::TableTooLong, "table too long"),
+    (RebuildFault::PastEnd, "past the last address"),
+    (RebuildFault::NeedsLow, "the FACS needs a lower address"),
+    (RebuildFault::Memory, "out of memory"),
+];
+
 #[test]
 fn names_of_refusals(rt: HostRuntime) -> Result<(), Fail> {
-    let names = [
-        (RebuildFault::Unaligned, "base address not a multiple of 64"),
-        (RebuildFault::TableTooLong, "table too long"),
-        (RebuildFault::PastEnd, "past the last address"),
-        (RebuildFault::NeedsLow, "the FACS needs a lower address"),
-        (RebuildFault::Memory, "out of memory"),
-    ];
-    for (fault, name) in names {
+    for (fault, name) in &NAMES {
         let text = fault.to_string(rt.alloc())?;
-        assert_eq!(rt; text.as_str(), name);
+        assert!(rt; text.as_str() == *name, "{text}");
     }
     Ok(())
 }

@@ -1,12 +1,20 @@
 use super::*;
 use crate::table_value::TableValue;
 use crate::test_sets::{policy, reduced_body, set};
-use acpi_base::{Code, Witness};
+use acpi_base::{Code, PolicyFault, Witness};
 use std::test::Fail;
 
 /// Why an image that holds nothing has no value, if it has none.
-fn fault_of_nothing(alloc: Global, policy: &Policy) -> Option<ValuesFault> {
-    values(alloc, &Image::new(alloc), policy).err()
+fn fault_of_nothing(alloc: Global) -> Result<Option<ValuesFault>, PolicyFault> {
+    let policy = policy(alloc)?;
+    Ok(values(alloc, &Image::new(alloc), &policy).err())
+}
+
+#[test]
+fn an_image_of_nothing(rt: HostRuntime) -> Result<(), Fail> {
+    let fault = fault_of_nothing(rt.alloc())?;
+    assert!(rt; matches!(fault, Some(ValuesFault::NotClean(_))));
+    Ok(())
 }
 
 /// Whether the value is of a set with a FADT alone.
@@ -19,9 +27,6 @@ fn is_of_a_fadt(value: &SetValue<'_>) -> bool {
 #[test]
 fn a_set_of_a_fadt(rt: HostRuntime) -> Result<(), Fail> {
     let policy = policy(rt.alloc())?;
-    let fault = fault_of_nothing(rt.alloc(), &policy);
-    assert!(rt; matches!(fault, Some(ValuesFault::NotClean(_))));
-
     let image = set(rt.alloc(), &reduced_body())?;
     let value = values(rt.alloc(), &image, &policy)?;
     assert!(rt; is_of_a_fadt(&value));
@@ -35,9 +40,9 @@ fn texts_of_faults(rt: HostRuntime) -> Result<(), Fail> {
         (ValuesFault::NotClean(no_fadt), "the set is not clean"),
         (ValuesFault::Memory, "out of memory"),
     ];
-    for (fault, wanted) in texts {
+    for (fault, wanted) in &texts {
         let text = fault.to_string(rt.alloc())?;
-        assert_eq!(rt; text.as_str(), wanted);
+        assert!(rt; text.as_str() == *wanted, "{text}");
     }
     Ok(())
 }

@@ -39,10 +39,14 @@ fn texts_of_faults(rt: HostRuntime) -> Result<(), AllocError> {
 #[test]
 fn lines_of_verdicts(rt: HostRuntime) -> Result<(), AllocError> {
     let no = Verdict::No(fault(&rt, 39, 0x2c, 0x38, 0x18));
-    let yes = verdict_text(rt.alloc(), &Verdict::Yes)?;
-    let no = verdict_text(rt.alloc(), &no)?;
-    assert!(rt; yes.as_slice() == b"yes\n".as_slice());
-    assert!(rt; no.as_slice() == b"no 7 GsiClash 0x2c 0x38 0x18\n".as_slice());
+    let lines = [
+        (Verdict::Yes, "yes\n"),
+        (no, "no 7 GsiClash 0x2c 0x38 0x18\n"),
+    ];
+    for (verdict, wanted) in &lines {
+        let text = verdict_text(rt.alloc(), verdict)?;
+        assert!(rt; text.as_slice() == wanted.as_bytes(), "{wanted}");
+    }
     Ok(())
 }
 
