@@ -1,7 +1,9 @@
+mod AbsentTypes
 mod AdviceOfSets
 mod AnyEntries
 mod CacheShapes
 mod CollectedNumbers
+mod EntryKinds
 mod FacsSets
 mod FadtSets
 mod FirstEntries
@@ -33,6 +35,7 @@ mod SomeEntries
 mod SortedNumbers
 mod SratFaults
 mod StageVerdicts
+mod TypesSeen
 mod UidDomains
 mod UnknownOnes
 mod UnlikeNumbers

@@ -3,13 +3,16 @@ use Rattle.std.proofs.Common.{◌≡◌, ℕ, ◌<◌, List, length, Option, Som
 use Rattle.std.specs.Prelude.{IfOk, MatchOption}
 use Rattle.acpi_base.specs.Memory.{Memory}
 use Rattle.acpi_base.specs.Listed.{fadt_signature, madt_signature, srat_signature, slit_signature, pptt_signature, IsListedTable, HasListed}
+use Rattle.acpi_base.specs.Madt.{madt_contents}
+use Rattle.acpi_base.specs.Srat.{srat_contents}
 use Rattle.acpi_base.specs.TableKinds.{signature_of}
 use Rattle.acpi_base.specs.declared.table_kind.TableKind.{TableKind}
 use Rattle.acpi_base.specs.declared.table_kind.TableKind.TheVariants as kind
 use Rattle.acpi_base.proofs.Faults.ListedTables.{of_listed}
 use Rattle.acpi_read.specs.Roots.{RootValue, IsWholeRoot}
+use Rattle.acpi_lint.specs.EntryTypes.{madt_type, srat_type, AreTypesOf}
 use Rattle.acpi_lint.specs.Places.{FindsLeast}
-use Rattle.acpi_lint.specs.WholeTables.{IsFound, IsLong, table_of, AreWholeTables}
+use Rattle.acpi_lint.specs.WholeTables.{IsFound, IsLong, table_of, AreTyped, AreWholeTables}
 use Rattle.acpi_lint.specs.declared.place.Place.{Place}
 use Rattle.acpi_lint.specs.declared.whole_tables.WholeTables.{WholeTables}
 use Rattle.acpi_lint.proofs.LeastPlaces.{least_as}
@@ -62,8 +65,8 @@ pub are_whole : {m : Memory} {p : ℕ} (tables : WholeTables)
     → MatchOption tables.root ((root : RootValue) → ¬ IsWholeRoot m p root) (IsWholeRoot m p)
     → IsFound m p fadt_signature tables.fadt → IsFound m p madt_signature tables.madt
     → IsFound m p srat_signature tables.srat → IsFound m p slit_signature tables.slit
-    → IsFound m p pptt_signature tables.pptt → AreWholeTables m p tables
-are_whole {m} {p} tables root fadt madt srat slit pptt = record { root = root; listed = listed }
+    → IsFound m p pptt_signature tables.pptt → AreTyped tables → AreWholeTables m p tables
+are_whole {m} {p} tables root fadt madt srat slit pptt typed = record { root = root; listed = listed; typed = typed }
   where
     listed : (k : TableKind) → IsFound m p (signature_of k) (table_of tables k)
     listed kind.Fadt = fadt
@@ -71,3 +74,12 @@ are_whole {m} {p} tables root fadt madt srat slit pptt = record { root = root; l
     listed kind.Srat = srat
     listed kind.Slit = slit
     listed kind.Pptt = pptt
+
+-- the types that are kept of a table that is found are those of its entries
+pub madt_seen : (tables : WholeTables) (whole : List ℕ) → AreTyped tables → tables.madt ≡ Some whole
+    → AreTypesOf madt_type tables.madt_types (madt_contents whole).entries
+madt_seen tables whole typed is = rw is at typed.madt
+
+pub srat_seen : (tables : WholeTables) (whole : List ℕ) → AreTyped tables → tables.srat ≡ Some whole
+    → AreTypesOf srat_type tables.srat_types (srat_contents whole).entries
+srat_seen tables whole typed is = rw is at typed.srat

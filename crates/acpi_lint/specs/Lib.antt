@@ -1,4 +1,5 @@
 -- What the contracts of the linter cite.
+pub mod EntryTypes
 pub mod FacsPlaces
 pub mod FadtPlaces
 pub mod FirstPicked

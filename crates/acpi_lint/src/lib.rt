@@ -31,8 +31,10 @@
 //! ```
 #![tactic(auto)]
 
+mod absent_types;
 mod advice;
 mod caches;
+mod entry_types;
 mod facs;
 mod fadt;
 mod fadt_advice;

@@ -15,6 +15,7 @@ ghost use Rattle.acpi_lint.specs.Places.{FindsLeast};
 ghost use Rattle.acpi_lint.specs.StageFaults.{IsFaultOfStage};
 ghost use Rattle.acpi_lint.specs.WholeTables.{AreWholeTables};
 
+use crate::absent_types::may_be_at_fault_in_madt;
 use crate::passes::{cut, first_picked, short_place};
 use crate::place::Place;
 use crate::whole_tables::WholeTables;
@@ -151,5 +152,9 @@ pub fn madt_fault(tables: &WholeTables<'_>, policy: &Policy, code: Code) -> Opti
     ensures { (m : Memory) → AreWholeTables m policy.now.rsdp tables.now
         → FindsLeast (IsFaultOfStage Stage.Madt code m policy.now) result }
 {
-    table_fault(policy, code, tables.table(TableKind::Madt)?)
+    let table = tables.table(TableKind::Madt)?;
+    if !may_be_at_fault_in_madt(code, &tables.madt_types) {
+        return None;
+    }
+    table_fault(policy, code, table)
 }

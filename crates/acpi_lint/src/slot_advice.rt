@@ -1,7 +1,8 @@
 //! Advice on the slots of the root: what is listed again, and what is not to be listed (ACPI 6.5, 5.2.7, 5.2.8).
 
-ghost use Rattle.std.specs.Prelude.{◌↔◌, ℕ, IfOk, IsTrue};
-ghost use Rattle.acpi_base.specs.Lint.Slots.{IsListedTwice, IsSecondTable, IsListedApart};
+ghost use Rattle.std.specs.Prelude.{◌↔◌, ◌⊎◌, ℕ, IfOk, IsTrue};
+ghost use Rattle.acpi_base.specs.Facs.{facs_signature};
+ghost use Rattle.acpi_base.specs.Lint.Slots.{dsdt_signature, IsListedTwice, IsSecondTable, IsListedApart};
 ghost use Rattle.acpi_base.specs.Memory.{Memory};
 ghost use Rattle.acpi_base.specs.Root.{HasSlot};
 ghost use Rattle.acpi_base.specs.Tables.{IsSigned};
@@ -101,14 +102,23 @@ pub fn second_table(image: &Image, tables: &WholeTables<'_>) -> Option<Place>
     lesser(place, second_of(image, tables, TableKind::Pptt))
 }
 
+/// Whether the header of a DSDT or of a FACS is held at an address.
+fn is_apart(image: &Image, address: u64) -> bool
+    ensures { IsTrue result
+        ↔ (IsSigned image.now address dsdt_signature ⊎ IsSigned image.now address facs_signature) }
+{
+    match image.window(address, 36) {
+        Some(header) => is_signed(header, b"DSDT") || is_signed(header, b"FACS"),
+        None => false,
+    }
+}
+
 /// The first slot that lists a DSDT or a FACS, which the FADT alone names. The tables are those of the image's set.
 pub fn listed_apart(image: &Image, tables: &WholeTables<'_>) -> Option<Place>
     ensures { (p : ℕ) → AreWholeTables image.now p tables.now
         → FindsLeast (IsListedApart image.now p) result }
 {
-    let slot = first_listed(tables, |address| {
-        has_header(image, address, b"DSDT") || has_header(image, address, b"FACS")
-    });
+    let slot = first_listed(tables, |address| is_apart(image, address));
     slot.map(|slot| Place {
         at: slot.number,
         other: 0,

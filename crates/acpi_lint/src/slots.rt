@@ -1,7 +1,8 @@
 //! Codes 15 to 18: the tables that the slots of the root list (ACPI 6.5, 5.2.6 to 5.2.8).
 
-ghost use Rattle.std.specs.Prelude.{◌↔◌, ℕ, IsTrue};
-ghost use Rattle.acpi_base.specs.Memory.{Memory};
+ghost use Rattle.std.specs.Prelude.{◌≡◌, ◌≢◌, ◌<◌, ◌↔◌, ℕ, List, IsTrue};
+ghost use Rattle.acpi_base.specs.Memory.{Memory, bytes_at};
+ghost use Rattle.acpi_base.specs.Number.{byte_sum};
 ghost use Rattle.acpi_base.specs.Policy.{PolicyValue};
 ghost use Rattle.acpi_base.specs.Root.{HasSlot, IsSlot};
 ghost use Rattle.acpi_base.specs.Tables.{TableFault};
@@ -13,8 +14,9 @@ ghost use Rattle.acpi_lint.specs.WholeTables.{AreWholeTables};
 
 use crate::place::Place;
 use crate::whole_tables::WholeTables;
+use acpi_base::field::u32_at;
 use acpi_base::{Code, Image};
-use acpi_read::{Root, Table};
+use acpi_read::Root;
 
 /// A slot of the root that lists an address.
 #[derive(Clone, Copy, Debug)]
@@ -51,13 +53,31 @@ pub fn first_listed<F: Fn(u64) -> bool>(tables: &WholeTables<'_>, wanted: F) -> 
     first_slot(tables.root.as_ref()?, wanted)
 }
 
-/// Whether the table at an address has the fault with this code. A table has one of these faults at most.
+/// Whether so many bytes are held at an address and do not sum to 0.
+fn has_wrong_sum(image: &Image, address: u64, length: u32) -> bool
+    ensures { IsTrue result ↔ ((whole : List ℕ) × (bytes_at image.now address length ≡ Some whole)
+        × (byte_sum whole ≢ 0)) }
+{
+    match image.window_sum(address, u64::from(length)) {
+        Some(total) => total != 0,
+        None => false,
+    }
+}
+
+/// Whether the table at an address has the fault with this code. A table has one of these faults at most, and no more of it is
+/// looked at than the code asks for.
 fn has_fault(image: &Image, address: u64, code: Code) -> bool
     ensures { IsTrue result ↔ TableFault image.now address code }
 {
-    match Table::read(image, address) {
-        Ok(_) => false,
-        Err(fault) => fault == code,
+    let Some(header) = image.window(address, 36) else {
+        return code == Code::TableHeaderOut;
+    };
+    let length = u32_at(header, 4);
+    match code {
+        Code::TableLength => length < 36,
+        Code::TableOut => length >= 36 && image.window(address, u64::from(length)).is_none(),
+        Code::TableSum => length >= 36 && has_wrong_sum(image, address, length),
+        _ => false,
     }
 }
 

@@ -13,6 +13,7 @@ ghost use Rattle.acpi_lint.specs.Places.{FindsLeast};
 ghost use Rattle.acpi_lint.specs.StageFaults.{IsFaultOfStage};
 ghost use Rattle.acpi_lint.specs.WholeTables.{AreWholeTables};
 
+use crate::absent_types::may_be_at_fault_in_srat;
 use crate::passes::{cut, first_picked, short_place};
 use crate::place::Place;
 use crate::whole_tables::WholeTables;
@@ -97,5 +98,9 @@ pub fn srat_fault(tables: &WholeTables<'_>, policy: &Policy, code: Code) -> Opti
     ensures { (m : Memory) → AreWholeTables m policy.now.rsdp tables.now
         → FindsLeast (IsFaultOfStage Stage.Srat code m policy.now) result }
 {
-    table_fault(code, tables.table(TableKind::Srat)?)
+    let table = tables.table(TableKind::Srat)?;
+    if !may_be_at_fault_in_srat(code, &tables.srat_types) {
+        return None;
+    }
+    table_fault(code, table)
 }

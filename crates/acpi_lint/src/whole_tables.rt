@@ -4,11 +4,12 @@ ghost use Rattle.std.specs.Prelude.{◌≡◌};
 ghost use Rattle.acpi_base.specs.TableKinds.{signature_of};
 ghost use Rattle.acpi_lint.specs.WholeTables.{IsFound, IsLong, table_of, AreWholeTables};
 
+use crate::entry_types::EntryTypes;
 use acpi_base::{Image, TableKind};
 use acpi_read::{Fadt, Madt, Pptt, Root, Srat, Table, listed_table};
 
 /// The root of a set and the first listed table of each kind, where they are whole, whatever they sum to. They are looked for
-/// once.
+/// once, and so are the types of the entries of the MADT and the SRAT.
 #[derive(Drop)]
 pub struct WholeTables<'a> {
     /// The root.
@@ -17,8 +18,12 @@ pub struct WholeTables<'a> {
     pub fadt: Option<Table<'a>>,
     /// The MADT.
     pub madt: Option<Table<'a>>,
+    /// The types of the MADT's entries.
+    pub madt_types: EntryTypes,
     /// The SRAT.
     pub srat: Option<Table<'a>>,
+    /// The types of the SRAT's entries.
+    pub srat_types: EntryTypes,
     /// The SLIT.
     pub slit: Option<Table<'a>>,
     /// The PPTT.
@@ -37,11 +42,17 @@ impl<'a> WholeTables<'a> {
     pub fn of(image: &'a Image, rsdp: u64) -> WholeTables<'a>
         ensures { AreWholeTables image.now rsdp result }
     {
+        let madt = found(image, rsdp, TableKind::Madt);
+        let madt_types = EntryTypes::madt(&madt);
+        let srat = found(image, rsdp, TableKind::Srat);
+        let srat_types = EntryTypes::srat(&srat);
         WholeTables {
             root: Root::whole(image, rsdp),
             fadt: found(image, rsdp, TableKind::Fadt),
-            madt: found(image, rsdp, TableKind::Madt),
-            srat: found(image, rsdp, TableKind::Srat),
+            madt,
+            madt_types,
+            srat,
+            srat_types,
             slit: found(image, rsdp, TableKind::Slit),
             pptt: found(image, rsdp, TableKind::Pptt),
         }

@@ -1,0 +1,15 @@
+use Rattle.acpi_lint.proofs.EntryKinds.{madt_types}
+use Rattle.acpi_lint.proofs.MadtFaults.{none_stands}
+use Rattle.acpi_lint.proofs.Shorts.{refused}
+use Rattle.acpi_lint.proofs.entry_types.EntryTypes.madt.Goals as goal
+
+pub returns-in-Ok : goal.returns-in-Ok
+returns-in-Ok c =
+    let seen = c.of.ensures in
+    rw c.in-Some.is (madt_types c.of.result c.in-Some.table (rw (c.in-Ok.ensures.entries, c.copied.ensures) at seen))
+
+pub returns-in-Err : goal.returns-in-Err
+returns-in-Err c =
+    rw c.in-Some.is
+    (λ o e stands. absurd (none_stands c.in-Some.table
+    (refused 44 _ (rw c.copied.ensures at c.in-Err.ensures.ok.1)) o e stands))

@@ -1,0 +1,37 @@
+-- The types of the entries of a table.
+use Rattle.std.specs.Prelude.{◌≡◌, ℕ, List, slice_index, slice_index_or, true, false}
+use Rattle.acpi_base.specs.Entries.{PlacedEntry, Stands}
+use Rattle.acpi_base.specs.Madt as madt
+use Rattle.acpi_base.specs.Srat as srat
+use Rattle.acpi_lint.specs.declared.entry_types.EntryTypes.{EntryTypes}
+
+-- the type in an entry's bytes
+abbrev pub type_in : List ℕ → ℕ
+type_in e = slice_index e 0
+
+-- the type of what an entry of a MADT says
+abbrev pub madt_type : madt.MadtEntry → ℕ
+madt_type (madt.LocalApic v) = 0
+madt_type (madt.IoApic v) = 1
+madt_type (madt.Override v) = 2
+madt_type (madt.NmiSource v) = 3
+madt_type (madt.LocalNmi v) = 4
+madt_type (madt.AddressOverride v) = 5
+madt_type (madt.X2apic v) = 9
+madt_type (madt.X2apicNmi v) = 10
+madt_type (madt.Opaque e) = type_in e
+
+-- the same of an entry of an SRAT
+abbrev pub srat_type : srat.SratEntry → ℕ
+srat_type (srat.ApicDomain v) = 0
+srat_type (srat.MemoryRange v) = 1
+srat_type (srat.X2apicDomain v) = 2
+srat_type (srat.Opaque e) = type_in e
+
+-- the type is one of these
+abbrev pub IsSeen : EntryTypes → ℕ → Type 0
+IsSeen types n = slice_index_or types.seen n false ≡ true
+
+-- each entry that stands has one of these types
+abbrev pub AreTypesOf : {E : Type 0} → (E → ℕ) → EntryTypes → List (PlacedEntry E) → Type 0
+AreTypesOf {E} type_of types entries = (o : ℕ) (e : E) → Stands entries o e → IsSeen types (type_of e)
