@@ -70,7 +70,11 @@ pub fn placed_uids(alloc: Global, srat: &Srat<'_>) -> Result<Vec<u64>, AllocErro
 fn without_places(alloc: Global, given: &[Numbered]) -> Result<Vec<u64>, AllocError>
     ensures { IfOk result (λ numbers. numbers.items ≡ map (λ g. g.number) given.now) }
 {
-    given.iter().map(|g| g.number).collect(alloc)
+    let mut numbers = Vec::new(alloc);
+    for numbered in given {
+        numbers.push(numbered.number)?;
+    }
+    Ok(numbers)
 }
 
 /// The ACPI processor IDs of a PPTT's leaves. Takes memory for each leaf, and below Revision 2 also for each node.
