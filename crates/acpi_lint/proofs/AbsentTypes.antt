@@ -8,8 +8,8 @@ use Rattle.acpi_base.specs.Across.{IsIoApic}
 use Rattle.acpi_base.specs.Entries.{PlacedEntry, StandsWith, Kind, IsTypeOf}
 use Rattle.acpi_base.specs.Lint.MadtAdvice.{io_apic_address, io_apic_id, nmi_uid, gicd}
 use Rattle.acpi_base.specs.Lint.Processors.{Processor, is_gicc, is_gicc_affinity, processor_of, uid_on, apic_id_on, placed_uid}
-use Rattle.acpi_base.specs.Madt.{MadtEntry, LocalApic, IoApic, Override, NmiSource, LocalNmi, AddressOverride, X2apic, X2apicNmi, Opaque, madt_kinds, IsAddressOverride, HasReservedInti, MadtEntryFault, MadtContents, ServesFrom, AreInterruptsApart, Overrides, NamesGsi}
-use Rattle.acpi_base.specs.Number.{field, has_bit}
+use Rattle.acpi_base.specs.Madt.{MadtEntry, LocalApic, IoApic, Override, NmiSource, LocalNmi, AddressOverride, X2apic, X2apicNmi, Opaque, madt_kinds, IsAddressOverride, MadtEntryFault, MadtContents, ServesFrom, AreInterruptsApart, Overrides, NamesGsi}
+use Rattle.acpi_base.specs.Number.{field}
 use Rattle.acpi_base.specs.Overlaps.{IsIntervalOverlap}
 use Rattle.acpi_base.specs.Policy.{PolicyValue}
 use Rattle.acpi_base.specs.Srat as srat
@@ -18,7 +18,7 @@ use Rattle.acpi_base.specs.declared.code.Code.TheVariants as code
 use Rattle.acpi_base.specs.declared.policy.HotPlug.{HotPlug}
 use Rattle.acpi_base.specs.declared.policy.HotPlug.TheVariants.{Counted, Apart}
 use Rattle.acpi_base.proofs.Elements.{first_element, later_element, first_or_later, no_element}
-use Rattle.acpi_lint.specs.EntryTypes.{type_in, madt_type, srat_type, IsSeen, AreTypesOf}
+use Rattle.acpi_lint.specs.EntryTypes.{madt_type, srat_type, IsSeen, AreTypesOf}
 use Rattle.acpi_lint.specs.declared.entry_types.EntryTypes.{EntryTypes}
 
 -- none of these is a type that is seen
@@ -74,7 +74,8 @@ processor_typed (Opaque e) p is =
 processor_typed _ p is = absurd (none-some p is)
 
 -- what is made of a value is made of some value
-made_of : {A B : Type 0} (f : A → Option B) (o : Option A) (b : B) → option_and_then f o ≡ Some b → (a : A) × (o ≡ Some a)
+made_of : {A B : Type 0} (f : A → Option B) (o : Option A) (b : B) → option_and_then f o ≡ Some b
+    → (a : A) × (o ≡ Some a)
 made_of f None b is = absurd (none-some b is)
 made_of f (Some a) b is = (a, refl)
 
@@ -103,7 +104,8 @@ nmi_typed n _ is = absurd (none-some n is)
 
 pub gicd_typed : (n : ℕ) → HasTypeOf madt_type (12 ∷ []) (λ e. gicd e ≡ Some n)
 gicd_typed n (Opaque e) is =
-    cond_both (slice_index e 0 == 12) (Some 0) None (λ (x : Option ℕ). x ≡ Some n → Contains (12 ∷ []) (slice_index e 0))
+    cond_both (slice_index e 0 == 12) (Some 0) None
+    (λ (x : Option ℕ). x ≡ Some n → Contains (12 ∷ []) (slice_index e 0))
     (λ same _. (zero, omega arith, sym (eqb-true _ _ same))) (λ _ none. absurd (none-some n none)) is
 gicd_typed n _ is = absurd (none-some n is)
 

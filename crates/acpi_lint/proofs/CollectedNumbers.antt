@@ -1,5 +1,5 @@
 -- Numbers that are collected from the entries of a table, each with its place for its value.
-use Rattle.std.proofs.Common.{◌≡◌, ℕ, List, Option, Some, None, Result, Vec, Global, refl, sym, ap, subst}
+use Rattle.std.proofs.Common.{◌≡◌, ℕ, List, Option, Some, None, Result, Ok, Err, Vec, Global, refl, sym, ap, subst}
 use Rattle.std.specs.Prelude.{◌↔◌, Contains, IfOk, option_map}
 use Rattle.std.specs.List.{filter_map}
 use Rattle.std.proofs.lemmas.Option.{same_Some}
@@ -142,12 +142,18 @@ same_later at other x to from later =
       first = λ p there. later.first p (from p x there);
     }
 
-pub found_twice : {StandsAt : ℕ → ℕ → Type 0} (given : List Numbered) (found : Option Place)
-    → AreNumbersAt StandsAt given → FindsLeast (IsLater (HasAt given)) found → FindsLeast (IsLater StandsAt) found
-found_twice given found are least =
+-- what follows of what is found follows of it where memory may run out
+pub each_ok : {A X : Type 0} {P Q : A → Type 0} (r : Result A X) → ((a : A) → P a → Q a) → IfOk r P → IfOk r Q
+each_ok (Ok a) follows holds = follows a holds
+each_ok (Err e) follows holds = tt
+
+pub found_twice : {X : Type 0} {StandsAt : ℕ → ℕ → Type 0} (given : List Numbered) (r : Result (Option Place) X)
+    → AreNumbersAt StandsAt given → IfOk r (FindsLeast (IsLater (HasAt given))) → IfOk r (FindsLeast (IsLater StandsAt))
+found_twice given r are least =
+    each_ok r (λ found holds.
     least_as found
     (λ at other point later. same_later at other point (λ p n has. (are.all p n).0 has)
     (λ p n stands. (are.all p n).1 stands) later)
     (λ at other point later. same_later at other point (λ p n stands. (are.all p n).1 stands)
     (λ p n has. (are.all p n).0 has) later)
-    least
+    holds) least

@@ -1,7 +1,7 @@
 -- The types of a table's entries, by what the entries say.
 use Rattle.std.proofs.Common.{◌≡◌, ℕ, List, [], ◌∷◌, true, refl, sym, ◌∙◌, subst, ap}
 use Rattle.std.proofs.lemmas.Bool.{and_parts, eqb-true, cond_both}
-use Rattle.acpi_base.specs.Entries.{PlacedEntry, Stands, Kind, entries_of, entries_read_by, value_of_kind, has_form}
+use Rattle.acpi_base.specs.Entries.{PlacedEntry, Kind, entries_of, entries_read_by, value_of_kind, has_form}
 use Rattle.acpi_base.specs.Madt.{Opaque, madt_kinds, madt_entry, madt_contents}
 use Rattle.acpi_base.specs.Srat as srat
 use Rattle.acpi_base.specs.Srat.{srat_kinds, srat_entry, srat_contents}
@@ -20,7 +20,8 @@ HaveTypes type_of (k ∷ kinds) = ((e : List ℕ) → type_of (k.read e) ≡ k.t
 
 -- so what the bytes of an entry say has the type in them
 kinds_typed : {E : Type 0} (type_of : E → ℕ) (kinds : List (Kind E)) (opaque : List ℕ → E) → HaveTypes type_of kinds
-    → ((e : List ℕ) → type_of (opaque e) ≡ type_in e) → (e : List ℕ) → type_of (value_of_kind kinds opaque e) ≡ type_in e
+    → ((e : List ℕ) → type_of (opaque e) ≡ type_in e) → (e : List ℕ)
+    → type_of (value_of_kind kinds opaque e) ≡ type_in e
 kinds_typed type_of [] opaque typed others e = others e
 kinds_typed type_of (k ∷ kinds) opaque typed others e =
     cond_both (has_form e k.type k.size) (k.read e) (value_of_kind kinds opaque e) (λ v. type_of v ≡ type_in e)

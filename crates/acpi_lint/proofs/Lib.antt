@@ -6,6 +6,7 @@ mod CollectedNumbers
 mod EntryKinds
 mod FacsSets
 mod FadtSets
+mod FewNumbers
 mod FirstEntries
 mod FirstOfCodes
 mod FirstSlots

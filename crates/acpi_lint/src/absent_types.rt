@@ -11,6 +11,7 @@ ghost use Rattle.acpi_lint.specs.TableRules.{MadtRule, SratRule};
 
 use crate::entry_types::EntryTypes;
 use crate::processors::{GICC, GICC_AFFINITY};
+use crate::unread::GICD;
 use acpi_base::{Code, Rule};
 
 // ---- the MADT (ACPI 6.5, 5.2.12)
@@ -38,9 +39,6 @@ const X2APIC: u8 = 9;
 
 /// The type of a local x2APIC NMI.
 const X2APIC_NMI: u8 = 10;
-
-/// The type of a GIC distributor.
-const GICD: u8 = 12;
 
 /// Whether a rule on the MADT alone may be broken where its entries have these types. A `true` says nothing.
 pub fn may_break_in_madt(rule: Rule, types: &EntryTypes) -> bool

@@ -1,12 +1,13 @@
 //! Numbers that are given at places, and those that are given again with another value.
 
-ghost use Rattle.std.specs.Prelude.{◌≡◌, ◌⊎◌, AllPairs, Contains, IfSome, Some};
+ghost use Rattle.std.specs.Prelude.{◌≡◌, ◌<◌, ◌⊎◌, AllPairs, Contains, IfOk, IfSome, Some};
 ghost use Rattle.std.specs.Option.{option_map};
 ghost use Rattle.acpi_base.specs.Lint.Numbered.{IsLater};
 ghost use Rattle.acpi_lint.specs.Numbered.{IsNotAbove, IsUnlikeAt, HasAt, at_place, unlike_place};
 ghost use Rattle.acpi_lint.specs.Places.{FindsLeast, IsNotAfter};
 
 use crate::place::Place;
+use std::alloc::{AllocError, Global};
 
 /// A value that is given to a number at a place. They compare by the number, then by the place, then by the value.
 #[derive(Clone, Copy, Debug, PartialEq, Eq, PartialOrd, Ord)]
@@ -103,4 +104,22 @@ pub fn first_same(given: Vec<Numbered>) -> Option<Place>
     ensures { FindsLeast (IsLater (HasAt given.items)) result }
 {
     first_unlike(given, Order::Later)
+}
+
+/// How many numbers are compared before all are. IDs of one byte repeat among so many.
+const FEW: usize = 1024;
+
+/// The same of numbers whose places rise. The first few are compared first: where one of them repeats, no other is looked at.
+/// Takes memory for those.
+pub fn first_repeated(alloc: Global, given: Vec<Numbered>) -> Result<Option<Place>, AllocError>
+    requires rise { AllPairs (λ a b. a.at < b.at) given.items }
+    requires placed { (g : Numbered) → Contains given.items g → g.value ≡ g.at }
+    ensures { IfOk result (FindsLeast (IsLater (HasAt given.items))) }
+{
+    let few = FEW.min(given.len());
+    let first = given[..few].iter().copied().collect(alloc)?;
+    if let Some(place) = first_unlike(first, Order::Later) {
+        return Ok(Some(place));
+    }
+    Ok(first_same(given))
 }

@@ -13,7 +13,7 @@ ghost use Rattle.acpi_lint.specs.Places.{FindsLeast};
 ghost use Rattle.acpi_lint.specs.SameNumbers.{domain_of_uid, nonzero_io_apic_address};
 
 use crate::leaves::{leaves_of, revision};
-use crate::numbered::{Numbered, Order, at_place, first_same, first_unlike};
+use crate::numbered::{Numbered, Order, at_place, first_repeated, first_unlike};
 use crate::place::Place;
 use crate::processors::{
     apic_id_on, cache_id, io_apic_address, io_apic_id, placed_uid, processor_domain, uid_on,
@@ -31,7 +31,7 @@ pub fn same_uid(alloc: Global, madt: &Madt<'_>) -> Result<Option<Place>, AllocEr
     let numbers = collected(alloc, madt.entries(), |at| {
         at_place(at.offset, uid_on(&at.entry))
     })?;
-    Ok(first_same(numbers))
+    first_repeated(alloc, numbers)
 }
 
 /// The first processor that is on and has the APIC ID or x2APIC ID of an earlier one. Takes memory for that of each.
@@ -41,7 +41,7 @@ pub fn same_apic_id(alloc: Global, madt: &Madt<'_>) -> Result<Option<Place>, All
     let numbers = collected(alloc, madt.entries(), |at| {
         at_place(at.offset, apic_id_on(&at.entry))
     })?;
-    Ok(first_same(numbers))
+    first_repeated(alloc, numbers)
 }
 
 /// The first I/O APIC that has the ID of an earlier one. Takes memory for the ID of each.
@@ -51,7 +51,7 @@ pub fn same_io_apic_id(alloc: Global, madt: &Madt<'_>) -> Result<Option<Place>, 
     let numbers = collected(alloc, madt.entries(), |at| {
         at_place(at.offset, io_apic_id(&at.entry))
     })?;
-    Ok(first_same(numbers))
+    first_repeated(alloc, numbers)
 }
 
 /// The address of an I/O APIC, where it is not 0.
@@ -69,7 +69,7 @@ pub fn same_io_apic_address(alloc: Global, madt: &Madt<'_>) -> Result<Option<Pla
     let numbers = collected(alloc, madt.entries(), |at| {
         at_place(at.offset, nonzero_io_apic_address(&at.entry))
     })?;
-    Ok(first_same(numbers))
+    first_repeated(alloc, numbers)
 }
 
 // ---- the PPTT
@@ -88,7 +88,7 @@ pub fn same_cache_id(alloc: Global, pptt: &Pptt<'_>) -> Result<Option<Place>, Al
     let numbers = collected(alloc, pptt.entries(), |at| {
         at_place(at.offset, cache_id(&at.entry))
     })?;
-    Ok(first_same(numbers))
+    first_repeated(alloc, numbers)
 }
 
 /// The first leaf that has the ACPI processor ID of an earlier one. Takes memory for each leaf, and below Revision 2 for each
@@ -97,7 +97,7 @@ pub fn same_leaf(alloc: Global, pptt: &Pptt<'_>) -> Result<Option<Place>, AllocE
     ensures { IfOk result (FindsLeast (IsSameLeaf (pptt_contents pptt.now))) }
 {
     let leaves = leaves_of(alloc, pptt)?;
-    Ok(first_same(leaves))
+    first_repeated(alloc, leaves)
 }
 
 // ---- the SRAT

@@ -17,7 +17,7 @@ ghost use Rattle.acpi_lint.specs.FirstPicked.{FindsOwn};
 ghost use Rattle.acpi_lint.specs.OwnAdvice.{IsZeroHere, IsMadtUnreadHere, IsSratUnreadHere};
 ghost use Rattle.acpi_lint.specs.Places.{FindsLeast};
 
-use crate::numbered::{at_place, first_same};
+use crate::numbered::{at_place, first_repeated};
 use crate::passes::first_picked;
 use crate::place::Place;
 use crate::processors::{GICC, GICC_AFFINITY, GICC_AFFINITY_LEN, io_apic_address, is_gicc};
@@ -43,7 +43,7 @@ pub fn io_apic_at_zero(madt: &Madt<'_>) -> Option<Place>
 }
 
 /// The type of a GIC distributor (ACPI 6.5, 5.2.12.15).
-const GICD: u8 = 12;
+pub const GICD: u8 = 12;
 
 /// The number of a GIC distributor: all have the number 0.
 fn gicd(entry: &MadtEntry<'_>) -> Option<u32>
@@ -62,7 +62,7 @@ pub fn second_gicd(alloc: Global, madt: &Madt<'_>) -> Result<Option<Place>, Allo
     let distributors = collected(alloc, madt.entries(), |at| {
         at_place(at.offset, gicd(&at.entry))
     })?;
-    Ok(first_same(distributors))
+    first_repeated(alloc, distributors)
 }
 
 /// Whether the bytes of an entry are such that neither the stages nor these rules read them. Those of a type that the stages

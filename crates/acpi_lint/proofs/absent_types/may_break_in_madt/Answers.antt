@@ -20,8 +20,8 @@ returns-in-SameApicId c = λ madt seen no.
     let absent = all_absent types processors c.has_any-in-SameApicId.result c.has_any-in-SameApicId.ensures no in
     rw c.in-SameApicId.is
     (λ at other point later.
-    none_of madt_type types processors (λ e. apic_id_on e ≡ Some point) (apic_id_typed point) absent madt.entries seen at
-    later.here)
+    none_of madt_type types processors (λ e. apic_id_on e ≡ Some point) (apic_id_typed point) absent madt.entries seen
+    at later.here)
 
 pub returns-in-IoApicAtZero : goal.returns-in-IoApicAtZero
 returns-in-IoApicAtZero c = λ madt seen no.
@@ -29,7 +29,8 @@ returns-in-IoApicAtZero c = λ madt seen no.
     let absent = one_absent types 1 c.has.result c.has.ensures no in
     rw c.in-IoApicAtZero.is
     (λ at other point (here, unused).
-    none_of madt_type types (1 ∷ []) (λ e. io_apic_address e ≡ Some 0) (address_typed 0) absent madt.entries seen at here)
+    none_of madt_type types (1 ∷ []) (λ e. io_apic_address e ≡ Some 0) (address_typed 0) absent madt.entries seen at
+    here)
 
 pub returns-in-SameIoApicId : goal.returns-in-SameIoApicId
 returns-in-SameIoApicId c = λ madt seen no.
@@ -46,8 +47,8 @@ returns-in-SameIoApicAddress c = λ madt seen no.
     let absent = one_absent types 1 c.has-in-SameIoApicAddress.result c.has-in-SameIoApicAddress.ensures no in
     rw c.in-SameIoApicAddress.is
     (λ at other point (later, nonzero).
-    none_of madt_type types (1 ∷ []) (λ e. io_apic_address e ≡ Some point) (address_typed point) absent madt.entries seen
-    at later.here)
+    none_of madt_type types (1 ∷ []) (λ e. io_apic_address e ≡ Some point) (address_typed point) absent madt.entries
+    seen at later.here)
 
 pub returns-in-NmiNowhere : goal.returns-in-NmiNowhere
 returns-in-NmiNowhere c = λ madt seen no.
@@ -64,4 +65,5 @@ returns-in-SecondGicd c = λ madt seen no.
     let absent = one_absent types 12 c.has-in-SecondGicd.result c.has-in-SecondGicd.ensures no in
     rw c.in-SecondGicd.is
     (λ at other point later.
-    none_of madt_type types (12 ∷ []) (λ e. gicd e ≡ Some point) (gicd_typed point) absent madt.entries seen at later.here)
+    none_of madt_type types (12 ∷ []) (λ e. gicd e ≡ Some point) (gicd_typed point) absent madt.entries seen at
+    later.here)

@@ -1,4 +1,4 @@
-use Rattle.std.proofs.Common.{◌≡◌, ℕ, List, None, Some, sym, ◌∙◌, rules}
+use Rattle.std.proofs.Common.{◌≡◌, None, Some, sym, ◌∙◌, rules}
 use Rattle.acpi_base.specs.Listed.{madt_signature}
 use Rattle.acpi_base.specs.Madt.{madt_contents, MadtFault}
 use Rattle.acpi_base.specs.declared.table_kind.TableKind.TheVariants as kind
@@ -18,7 +18,8 @@ returns-then-not-may_be_at_fault_in_madt c = λ m are.
     let whole = c.in_ok-table.table in
     let is : c.args.tables.now.madt ≡ Some whole = sym c.table.ensures ∙ c.in_ok-table.was in
     of_found m q.rsdp madt_signature
-    (λ bytes at other point. MadtFault q (madt_contents bytes) c.args.code at other point) None (are.listed kind.Madt) is
+    (λ bytes at other point. MadtFault q (madt_contents bytes) c.args.code at other point) None
+    (are.listed kind.Madt) is
     (c.may_be_at_fault_in_madt.ensures q (madt_contents whole) (madt_seen c.args.tables.now whole are.typed is)
     c.if-not-may_be_at_fault_in_madt.true)
 

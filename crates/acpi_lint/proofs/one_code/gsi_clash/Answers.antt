@@ -1,8 +1,7 @@
-use Rattle.std.proofs.Common.{[], ◌∷◌, None, Ok}
+use Rattle.std.proofs.Common.{None, Ok}
 use Rattle.std.specs.Prelude.{⊤}
-use Rattle.acpi_base.specs.Madt.{madt_contents, AreInterruptsApart}
+use Rattle.acpi_base.specs.Madt.{madt_contents}
 use Rattle.acpi_base.specs.declared.table_kind.TableKind.TheVariants as kind
-use Rattle.acpi_lint.specs.EntryTypes.{madt_type}
 use Rattle.acpi_lint.proofs.AbsentTypes.{one_absent, none_serve}
 use Rattle.acpi_lint.proofs.OfSets.{madt_seen}
 use Rattle.acpi_lint.proofs.OneCodes.{gsi_result, no_gsi}

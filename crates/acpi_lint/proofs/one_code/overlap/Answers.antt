@@ -1,4 +1,4 @@
-use Rattle.std.proofs.Common.{[], ◌∷◌, None, Ok}
+use Rattle.std.proofs.Common.{None, Ok}
 use Rattle.std.specs.Prelude.{⊤}
 use Rattle.acpi_base.specs.Srat.{srat_contents}
 use Rattle.acpi_base.specs.declared.table_kind.TableKind.TheVariants as kind

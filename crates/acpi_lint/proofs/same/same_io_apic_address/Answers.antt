@@ -2,19 +2,21 @@ use Rattle.std.proofs.Common.{rules, Ok}
 use Rattle.std.specs.Prelude.{⊤}
 use Rattle.acpi_base.specs.Madt.{madt_contents}
 use Rattle.acpi_lint.specs.SameNumbers.{nonzero_io_apic_address}
-use Rattle.acpi_lint.proofs.CollectedNumbers.{madt_numbers, found_twice}
+use Rattle.acpi_lint.proofs.CollectedNumbers.{madt_numbers, each_ok, found_twice}
 use Rattle.acpi_lint.proofs.SameRules.{found_address}
 use Rattle.acpi_lint.proofs.same.same_io_apic_address.Goals as goal
 
-pub first_same-requires : goal.first_same-requires
-first_same-requires c =
-    (madt_numbers {X = ⊤} nonzero_io_apic_address c.args.madt.now (Ok c.in_ok-numbers.numbers) c.in_ok-numbers.ensures
-    c.entries.ensures.entries (λ at picked answers. search rules)).placed
+pub first_repeated-requires : goal.first_repeated-requires
+first_repeated-requires c =
+    let are =
+    madt_numbers {X = ⊤} nonzero_io_apic_address c.args.madt.now (Ok c.in_ok-numbers.numbers) c.in_ok-numbers.ensures
+    c.entries.ensures.entries (λ at picked answers. search rules) in
+    record { rise = are.rise; placed = are.placed }
 
 pub returns : goal.returns
 returns c =
-    found_address (madt_contents c.args.madt.now) c.first_same.result
-    (found_twice c.in_ok-numbers.numbers.items c.first_same.result
+    each_ok c.first_repeated.result (λ found. found_address (madt_contents c.args.madt.now) found)
+    (found_twice c.in_ok-numbers.numbers.items c.first_repeated.result
     (madt_numbers {X = ⊤} nonzero_io_apic_address c.args.madt.now (Ok c.in_ok-numbers.numbers) c.in_ok-numbers.ensures
     c.entries.ensures.entries (λ at picked answers. search rules))
-    c.first_same.ensures)
+    c.first_repeated.ensures)

@@ -4,14 +4,16 @@ use Rattle.acpi_base.specs.Lint.MadtAdvice.{io_apic_id}
 use Rattle.acpi_lint.proofs.CollectedNumbers.{madt_numbers, found_twice}
 use Rattle.acpi_lint.proofs.same.same_io_apic_id.Goals as goal
 
-pub first_same-requires : goal.first_same-requires
-first_same-requires c =
-    (madt_numbers {X = ⊤} io_apic_id c.args.madt.now (Ok c.in_ok-numbers.numbers) c.in_ok-numbers.ensures
-    c.entries.ensures.entries (λ at picked answers. search rules)).placed
+pub first_repeated-requires : goal.first_repeated-requires
+first_repeated-requires c =
+    let are =
+    madt_numbers {X = ⊤} io_apic_id c.args.madt.now (Ok c.in_ok-numbers.numbers) c.in_ok-numbers.ensures
+    c.entries.ensures.entries (λ at picked answers. search rules) in
+    record { rise = are.rise; placed = are.placed }
 
 pub returns : goal.returns
 returns c =
-    found_twice c.in_ok-numbers.numbers.items c.first_same.result
+    found_twice c.in_ok-numbers.numbers.items c.first_repeated.result
     (madt_numbers {X = ⊤} io_apic_id c.args.madt.now (Ok c.in_ok-numbers.numbers) c.in_ok-numbers.ensures
     c.entries.ensures.entries (λ at picked answers. search rules))
-    c.first_same.ensures
+    c.first_repeated.ensures

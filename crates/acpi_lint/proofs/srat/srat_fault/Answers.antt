@@ -1,4 +1,4 @@
-use Rattle.std.proofs.Common.{◌≡◌, ℕ, List, None, Some, sym, ◌∙◌, rules}
+use Rattle.std.proofs.Common.{◌≡◌, None, Some, sym, ◌∙◌, rules}
 use Rattle.acpi_base.specs.Listed.{srat_signature}
 use Rattle.acpi_base.specs.Srat.{srat_contents, SratFault}
 use Rattle.acpi_base.specs.declared.table_kind.TableKind.TheVariants as kind

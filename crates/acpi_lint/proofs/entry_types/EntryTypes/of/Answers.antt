@@ -1,4 +1,4 @@
-use Rattle.std.proofs.Common.{length, rules, arith, ◌≡◌, ◌<◌}
+use Rattle.std.proofs.Common.{length, rules, arith, ◌<◌}
 use Rattle.acpi_lint.specs.EntryTypes.{type_in}
 use Rattle.acpi_lint.proofs.TypesSeen.{seen_next, all_seen}
 use Rattle.acpi_lint.proofs.entry_types.EntryTypes.of.Goals as goal
