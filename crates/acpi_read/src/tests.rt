@@ -3,7 +3,7 @@ use crate::*;
 use acpi_base::{Code, Image};
 use std::test::*;
 
-/// The lines of the example at the head of the crate: on the FADT here, on the MADT below.
+/// The lines of the example at the head of the crate.
 fn example(image: &Image) -> Result<(), Code> {
     let rsdp = Rsdp::read(image, 0xe0000)?;
     let root = Root::read(image, &rsdp)?;
@@ -11,12 +11,7 @@ fn example(image: &Image) -> Result<(), Code> {
         let fadt = Fadt::new(Table::read(image, address)?)?;
         let facs = Facs::read(image, &fadt)?;
     }
-    example_of_a_madt(image, &root)
-}
-
-/// Its lines on the MADT.
-fn example_of_a_madt(image: &Image, root: &Root<'_>) -> Result<(), Code> {
-    if let Some(address) = first(image, root, *b"APIC") {
+    if let Some(address) = first(image, &root, *b"APIC") {
         let mut entries = Entries::madt(Table::read(image, address)?)?;
         while let Some(entry) = entries.next() {
             if let MadtEntry::IoApic(io_apic) = MadtEntry::read(entry.bytes)? {}
