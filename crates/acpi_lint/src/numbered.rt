@@ -117,7 +117,7 @@ pub fn first_repeated(alloc: Global, given: Vec<Numbered>) -> Result<Option<Plac
     ensures { IfOk result (FindsLeast (IsLater (HasAt given.items))) }
 {
     let few = FEW.min(given.len());
-    let first = given[..few].iter().copied().collect(alloc)?;
+    let first = Vec::from_slice(alloc, &given[..few])?;
     if let Some(place) = first_unlike(first, Order::Later) {
         return Ok(Some(place));
     }
