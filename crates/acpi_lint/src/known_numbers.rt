@@ -1,7 +1,7 @@
 //! Numbers that are looked up, in rising order: those of the processors of a MADT, of the affinities of an SRAT, and of the
 //! leaves of a PPTT. And whether tables have entries of a kind at all, without which a rule is not asked.
 
-ghost use Rattle.std.specs.Prelude.{◌≡◌, ◌≤◌, ◌↔◌, ℕ, length, map, IfOk, IsTrue};
+ghost use Rattle.std.specs.Prelude.{◌≡◌, ◌<◌, ◌≤◌, ◌↔◌, ℕ, length, map, AllPairs, IfOk, IsTrue};
 ghost use Rattle.acpi_base.specs.Entries.{StandsWith};
 ghost use Rattle.acpi_base.specs.Lint.Numbered.{IsNamed};
 ghost use Rattle.acpi_base.specs.Lint.Processors.{uid_of, uid_on, apic_id_of, placed_apic_id, placed_uid, processor_domain, IsGicc, IsOtherProcessor, AreProcessorsRead, IsLeafId};
@@ -10,7 +10,7 @@ ghost use Rattle.acpi_base.specs.Madt as madts;
 ghost use Rattle.acpi_base.specs.Pptt.{pptt_contents};
 ghost use Rattle.acpi_base.specs.Srat.{srat_contents};
 ghost use Rattle.acpi_read.specs.Madts.{madt_value, IsWholeEntry};
-ghost use Rattle.acpi_lint.specs.KnownNumbers.{AreKnown, IsAnyNamed};
+ghost use Rattle.acpi_lint.specs.KnownNumbers.{AreKnown, IsKnownAmong, IsAnyNamed};
 
 use crate::leaves::leaves_of;
 use crate::numbered::Numbered;
@@ -31,6 +31,20 @@ pub fn uids(alloc: Global, madt: &Madt<'_>) -> Result<Vec<u64>, AllocError>
 {
     let numbers = collected(alloc, madt.entries(), |at| uid_of(&at.entry).map(u64::from))?;
     Ok(sorted_unique(numbers))
+}
+
+/// The same, of which those alone are asked that an SRAT places: where it places none, there may be fewer. Takes memory for each
+/// where it places some.
+pub fn uids_for(alloc: Global, madt: &Madt<'_>, srat: &Srat<'_>) -> Result<Vec<u64>, AllocError>
+    ensures rise { IfOk result (λ uids. AllPairs (λ i j. i < j) uids.items) }
+    ensures all { IfOk result (λ uids. IsKnownAmong
+        (IsNamed placed_uid (srat_contents srat.now).entries)
+        (IsNamed uid_of (madt_contents madt.now).entries) uids.items) }
+{
+    if !is_any_uid_placed(srat) {
+        return Ok(Vec::new(alloc));
+    }
+    uids(alloc, madt)
 }
 
 /// Their APIC IDs and x2APIC IDs. Takes memory for each.
@@ -149,6 +163,14 @@ pub fn has_gicc(madt: &Madt<'_>) -> bool
         is_gicc_entry(&at.entry).then_some(())
     });
     gicc.is_some()
+}
+
+/// Whether an SRAT has an enabled GICC affinity, which places a processor by its UID.
+fn is_any_uid_placed(srat: &Srat<'_>) -> bool
+    ensures { IsTrue result ↔ IsAnyNamed placed_uid (srat_contents srat.now).entries }
+{
+    let uid = first_picked(srat.entries(), |at| placed_uid(&at.entry));
+    uid.is_some()
 }
 
 /// Whether an SRAT has an enabled affinity of a processor.

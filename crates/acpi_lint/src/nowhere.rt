@@ -19,7 +19,7 @@ ghost use Rattle.acpi_lint.specs.UnknownNumbers.{IsUnknown, IsUnknownOf, IsUnkno
 
 use crate::known_numbers::{
     apic_ids, are_processors_read, has_gicc, is_any_on, is_any_placed, leaf_ids, placed_apic_ids,
-    placed_uids, uids,
+    placed_uids, uids, uids_for,
 };
 use crate::leaves::leaves_of;
 use crate::numbered::Numbered;
@@ -113,7 +113,7 @@ pub fn affinity_nowhere(
         return Ok(None);
     }
     let ids = apic_ids(alloc, madt)?;
-    let uids = uids(alloc, madt)?;
+    let uids = uids_for(alloc, madt, srat)?;
     let ids = ids.as_slice();
     let uids = uids.as_slice();
     Ok(first_picked(srat.entries(), |at| unknown_affinity(ids, uids, at)))

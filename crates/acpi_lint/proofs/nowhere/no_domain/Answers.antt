@@ -25,6 +25,6 @@ returns c =
     (unknown_of_two apic_id_on gicc_uid_on (IsNamed placed_apic_id others) (IsNamed placed_uid others) entries ids
     uids found
     (rw (← c.as_slice-ids.ensures.value) at c.in_ok-ids.ensures)
-    (rw (← c.as_slice-uids.ensures.value) at c.in_ok-uids.ensures)
+    (let known = rw (← c.as_slice-uids.ensures.value) at c.in_ok-uids.ensures in λ n named. known.all n)
     (least_of_entries madt_value (IsUnplaced ids uids) 44 found c.first_picked.ensures c.entries.ensures.entries
     (madt_rising c.args.madt.now) (λ at picked here answers. search rules)))
