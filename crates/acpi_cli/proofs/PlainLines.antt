@@ -158,7 +158,7 @@ line_is_read l program words plain =
     let taken : is_taken (program ∷ l.name ∷ options_words l.options (flag_words l.flag ++ words)) ≡ true =
     command_is_taken l program _ _ plain.command reads in
     let entered : command_of (program ∷ l.name ∷ options_words l.options (flag_words l.flag ++ words))
-        ≡ Some (l.name, rows_of_line l words) =
+    ≡ Some (l.name, rows_of_line l words) =
     command_is_entered l program _ _ plain.command reads
     ∙ ap (λ (rows : List Row). Some (l.name, rows)) (all_given l.options l.flag words l.no_strict) in
     rw (taken, entered) refl

@@ -198,9 +198,7 @@ fn flag<'a>(alloc: Global, name: &'a str) -> Arg<'a>
     ensures rule { rule_of result ≡ flag_rule name.entry.now }
     ensures own { result.global ≡ false }
 {
-    Arg::new(alloc, name)
-        .long(name)
-        .action(ArgAction::SetTrue)
+    Arg::new(alloc, name).long(name).action(ArgAction::SetTrue)
 }
 
 /// `ADDRESS=COUNT`, any number of times.
