@@ -1,5 +1,5 @@
 -- The lines of faults.
-use Rattle.std.proofs.Common.{◌≡◌, List, [], ◌∷◌, false, length, true≢false, refl, sym}
+use Rattle.std.proofs.Common.{◌≡◌, List, [], ◌∷◌, false, length, true≢false, refl}
 use Rattle.std.specs.Prelude.{◌==◌}
 use Rattle.std.specs.List.{flat_map}
 use Rattle.acpi_base.specs.declared.witness.Witness.{Witness}
