@@ -1,0 +1,95 @@
+-- The numbers that say a result.
+use Rattle.std.specs.Prelude.{ℕ, ◌×◌, ◌++◌, Bool, true, false, List, [], ◌∷◌, length, take, drop, map, Option, Some, None, Result, Ok, Err}
+use Rattle.acpi_base.specs.Codes.{code_number, stage_number, stage_of}
+use Rattle.acpi_base.specs.Lint.Rules.{rule_number}
+use Rattle.acpi_base.specs.declared.rule.Advice.{Advice}
+use Rattle.acpi_base.specs.declared.verdict.Verdict.{Verdict}
+use Rattle.acpi_base.specs.declared.verdict.Verdict.TheVariants.{Yes, No}
+use Rattle.acpi_base.specs.declared.witness.Witness.{Witness}
+use Rattle.acpi_c.specs.Kinds.{kind_number}
+use Rattle.acpi_c.specs.declared.answer.Answer.{Answer}
+use Rattle.acpi_c.specs.declared.answer.Finding.{Finding}
+use Rattle.acpi_c.specs.declared.kind.Kind.{Kind}
+use Rattle.acpi_c.specs.declared.kind.Kind.TheVariants as kind
+use Rattle.acpi_c.specs.declared.refusal.Refusal.{Refusal}
+use Rattle.acpi_c.specs.declared.refusal.Refusal.TheVariants as refusal
+
+-- a kind, and no more: the other numbers are 0
+abbrev pub plain_answer : Kind → Answer
+plain_answer kind = record { kind = kind_number kind; stage = 0; code = 0; at = 0; other = 0; point = 0 }
+
+-- `at` is the index or the line of what is refused, and `other` the address that is covered twice
+abbrev pub refusal_answer : Refusal → Answer
+refusal_answer refusal.OutOfMemory = plain_answer kind.OutOfMemory
+refusal_answer refusal.Size = plain_answer kind.BadSize
+refusal_answer refusal.DefaultInputs = plain_answer kind.BadDefaultInputs
+refusal_answer refusal.HotPlug = plain_answer kind.BadHotPlug
+refusal_answer refusal.Processors = plain_answer kind.BadProcessors
+refusal_answer (refusal.Inputs index) = record (plain_answer kind.BadInputs) { at = index }
+refusal_answer refusal.Stage = plain_answer kind.BadStage
+refusal_answer refusal.Code = plain_answer kind.BadCode
+refusal_answer (refusal.PiecePastEnd index) = record (plain_answer kind.PiecePastEnd) { at = index }
+refusal_answer (refusal.PiecesOverlap index address) = record (plain_answer kind.PiecesOverlap) { at = index; other = address }
+refusal_answer (refusal.BadLine line) = record (plain_answer kind.BadLine) { at = line }
+refusal_answer (refusal.NoAddress line) = record (plain_answer kind.NoAddress) { at = line }
+refusal_answer (refusal.TextOverlap address) = record (plain_answer kind.TextOverlap) { other = address }
+refusal_answer (refusal.TextPastEnd line) = record (plain_answer kind.TextPastEnd) { at = line }
+refusal_answer refusal.TextTooLong = plain_answer kind.TextTooLong
+
+-- a fault's stage and code are numbers
+abbrev pub check_answer : Result Verdict Refusal → Answer
+check_answer (Ok Yes) = plain_answer kind.Yes
+check_answer (Ok (No w)) =
+    record {
+      kind = kind_number kind.No;
+      stage = stage_number (stage_of w.code);
+      code = code_number w.code;
+      at = w.at;
+      other = w.other;
+      point = w.point;
+    }
+check_answer (Err r) = refusal_answer r
+
+abbrev pub confirm_answer : Result Bool Refusal → Answer
+confirm_answer (Ok true) = plain_answer kind.Yes
+confirm_answer (Ok false) = plain_answer kind.No
+confirm_answer (Err r) = refusal_answer r
+
+-- `at` is the RSDP's address
+abbrev pub find_answer : Result (Option ℕ) Refusal → Answer
+find_answer (Ok (Some p)) = record (plain_answer kind.Yes) { at = p }
+find_answer (Ok None) = plain_answer kind.No
+find_answer (Err r) = refusal_answer r
+
+-- yes where there is no fault. `at` is the number of faults, and `other` of findings of advice.
+abbrev pub lint_answer : Result (List Witness × List Advice) Refusal → Answer
+lint_answer (Ok found) = counted (kind_of found.0) (length found.0) (length found.1)
+  where
+    abbrev pub kind_of : List Witness → Kind
+    kind_of [] = kind.Yes
+    kind_of (w ∷ rest) = kind.No
+
+    abbrev pub counted : Kind → ℕ → ℕ → Answer
+    counted kind faults advice = record (plain_answer kind) { at = faults; other = advice }
+lint_answer (Err r) = refusal_answer r
+
+-- ---- findings
+
+abbrev pub fault_finding : Witness → Finding
+fault_finding w = record { number = code_number w.code; at = w.at; other = w.other; point = w.point }
+
+abbrev pub advice_finding : Advice → Finding
+advice_finding a = record { number = rule_number a.rule; at = a.at; other = a.other; point = a.point }
+
+-- the faults, and behind them the advice
+abbrev pub all_findings : List Witness → List Advice → List Finding
+all_findings faults advice = map fault_finding faults ++ map advice_finding advice
+
+-- the caller's array: the first of these findings are written to it, as many as fit, and what is behind them stays
+abbrev pub written_over : List Finding → List Finding → List Finding
+written_over found room = take (length room) found ++ drop (length found) room
+
+-- nothing is written where the call is refused
+abbrev pub written : Result (List Witness × List Advice) Refusal → List Finding → List Finding
+written (Ok found) room = written_over (all_findings found.0 found.1) room
+written (Err r) room = room

@@ -1,0 +1,8 @@
+-- What the contracts of the exported functions cite.
+pub mod Answers
+pub mod Kinds
+pub mod Laws
+pub mod Pieces
+pub mod Results
+pub mod Settings
+pub mod Sources

@@ -1,0 +1,84 @@
+-- What each call finds, or why it is refused.
+use Rattle.std.specs.Prelude.{◌≡◌, ◌↔◌, ℕ, ◌⊎◌, ◌×◌, Bool, IsTrue, List, Option, Some, None, Result, Ok, Err}
+use Rattle.std.specs.Option.{option_or}
+use Rattle.acpi_base.specs.Codes.{code_number, stage_number}
+use Rattle.acpi_base.specs.Faults.{Fault, IsVerdict}
+use Rattle.acpi_base.specs.Lint.Findings.{AreFindings}
+use Rattle.acpi_base.specs.Memory.{Memory}
+use Rattle.acpi_base.specs.Policy.{PolicyValue}
+use Rattle.acpi_base.specs.RsdpSearch.{IsFound, IsNowhere}
+use Rattle.acpi_base.specs.declared.code.Code.{Code}
+use Rattle.acpi_base.specs.declared.rule.Advice.{Advice}
+use Rattle.acpi_base.specs.declared.stage.Stage.{Stage}
+use Rattle.acpi_base.specs.declared.verdict.Verdict.{Verdict}
+use Rattle.acpi_base.specs.declared.witness.Witness.{Witness}
+use Rattle.acpi_c.specs.Settings.{policy_of, policy_refusal, stage_refusal, code_refusal}
+use Rattle.acpi_c.specs.Sources.{Source}
+use Rattle.acpi_c.specs.declared.answer.Finding.{Finding}
+use Rattle.acpi_c.specs.declared.refusal.Refusal.{Refusal}
+use Rattle.acpi_c.specs.declared.refusal.Refusal.TheVariants as refusal
+use Rattle.acpi_c.specs.declared.settings.Inputs.{Inputs}
+use Rattle.acpi_c.specs.declared.settings.Settings.{Settings}
+
+-- The refusal of a call: what is wrong with its numbers, where something is; else what is wrong with what was passed as an
+-- image. Instead of either it may be that memory ran out.
+abbrev pub IsRefusal : Option Refusal → Source → Refusal → Type 0
+IsRefusal numbers source r = (r ≡ refusal.OutOfMemory) ⊎ (numbers ≡ Some r) ⊎ ((numbers ≡ None) × source.Refuses r)
+
+-- the image that was passed, and the policy
+pub record Asks (source : Source) (settings : Settings) (inputs : List Inputs) (m : Memory) (q : PolicyValue) : Type 0 where
+  pub image : source.Is m
+  pub policy : policy_of settings inputs ≡ Ok q
+
+-- ---- a check
+
+-- the verdict is right through the stage that the settings name
+pub record Judges (source : Source) (settings : Settings) (inputs : List Inputs) (v : Verdict) : Type 0 where
+  pub image : Memory
+  pub policy : PolicyValue
+  pub asked : Asks source settings inputs image policy
+  pub last : Stage
+  pub through : stage_number last ≡ settings.through
+  pub verdict : IsVerdict last image policy v
+
+abbrev pub Checks : Source → Settings → List Inputs → Result Verdict Refusal → Type 0
+Checks source settings inputs (Ok v) = Judges source settings inputs v
+Checks source settings inputs (Err r) =
+    IsRefusal (option_or (policy_refusal settings inputs) (stage_refusal settings.through)) source r
+
+-- ---- a confirmation
+
+-- whether the finding is a fault of the image
+pub record Tells (source : Source) (settings : Settings) (inputs : List Inputs) (f : Finding) (b : Bool) : Type 0 where
+  pub image : Memory
+  pub policy : PolicyValue
+  pub asked : Asks source settings inputs image policy
+  pub code : Code
+  pub number : code_number code ≡ f.number
+  pub fault : IsTrue b ↔ Fault image policy (record { code = code; at = f.at; other = f.other; point = f.point })
+
+abbrev pub Confirms : Source → Settings → List Inputs → Finding → Result Bool Refusal → Type 0
+Confirms source settings inputs f (Ok b) = Tells source settings inputs f b
+Confirms source settings inputs f (Err r) =
+    IsRefusal (option_or (policy_refusal settings inputs) (code_refusal f.number)) source r
+
+-- ---- all findings
+
+-- these are the faults and the advice that are reported of the image
+pub record Reports (source : Source) (settings : Settings) (inputs : List Inputs) (faults : List Witness) (advice : List Advice)
+: Type 0 where
+  pub image : Memory
+  pub policy : PolicyValue
+  pub asked : Asks source settings inputs image policy
+  pub findings : AreFindings image policy faults advice
+
+abbrev pub Lints : Source → Settings → List Inputs → Result (List Witness × List Advice) Refusal → Type 0
+Lints source settings inputs (Ok found) = Reports source settings inputs found.0 found.1
+Lints source settings inputs (Err r) = IsRefusal (policy_refusal settings inputs) source r
+
+-- ---- the search for the RSDP
+
+abbrev pub Finds : Source → Result (Option ℕ) Refusal → Type 0
+Finds source (Ok (Some p)) = (m : Memory) × source.Is m × IsFound m p
+Finds source (Ok None) = (m : Memory) × source.Is m × IsNowhere m
+Finds source (Err r) = IsRefusal None source r

@@ -1,0 +1,66 @@
+-- The policy that settings and numbers of inputs make up.
+use Rattle.std.specs.Prelude.{ℕ, suc, ◌==◌, ◌&&◌, nat_le, List, [], ◌∷◌, Option, Some, None, Result, Ok, Err, if◌then◌else◌}
+use Rattle.std.specs.Option.{option_map_or, option_or}
+use Rattle.acpi_base.specs.Policy.{PolicyValue, new_policy, with_input}
+use Rattle.acpi_base.specs.Text.ImageText.{on_ok}
+use Rattle.acpi_base.specs.declared.policy.HotPlug.{HotPlug}
+use Rattle.acpi_base.specs.declared.policy.HotPlug.TheVariants.{Counted, Apart}
+use Rattle.acpi_base.specs.declared.policy.Processors.{Processors}
+use Rattle.acpi_base.specs.declared.policy.Processors.TheVariants.{Enabled, Usable}
+use Rattle.acpi_c.specs.declared.refusal.Refusal.{Refusal}
+use Rattle.acpi_c.specs.declared.refusal.Refusal.TheVariants as refusal
+use Rattle.acpi_c.specs.declared.settings.Inputs.{Inputs}
+use Rattle.acpi_c.specs.declared.settings.Settings.{Settings}
+
+-- a number of inputs lies from 1 to 256
+abbrev pub count_of : ℕ → Option ℕ
+count_of n = if nat_le 1 n && nat_le n 256 then Some n else None
+
+-- the setting of hot-pluggable ranges
+abbrev pub hotplug_of : ℕ → Option HotPlug
+hotplug_of n = if n == 0 then Some Counted else (if n == 1 then Some Apart else None)
+
+-- the setting of processors
+abbrev pub processors_of : ℕ → Option Processors
+processors_of n = if n == 0 then Some Enabled else (if n == 1 then Some Usable else None)
+
+-- what f makes of a number, or this refusal where there is none
+abbrev pub given : {A B : Type 0} → Option A → Refusal → (A → Result B Refusal) → Result B Refusal
+given (Some x) r f = f x
+given None r f = Err r
+
+-- the policy of the settings, without a number of inputs for any one I/O APIC
+abbrev pub settings_policy : Settings → Result PolicyValue Refusal
+settings_policy s =
+    if s.size == 32
+    then given (count_of s.default_inputs) refusal.DefaultInputs (λ count.
+         given (hotplug_of s.hotplug) refusal.HotPlug (λ hotplug.
+         given (processors_of s.processors) refusal.Processors (λ processors.
+         Ok (record (new_policy s.rsdp count) { hotplug = hotplug; processors = processors }))))
+    else Err refusal.Size
+
+-- the policy with these numbers of inputs, of which the first one has this index: the first number of an address counts
+abbrev pub with_inputs : ℕ → PolicyValue → List Inputs → Result PolicyValue Refusal
+with_inputs index q [] = Ok q
+with_inputs index q (own ∷ rest) =
+    given (count_of own.count) (refusal.Inputs index) (λ count. with_inputs (suc index) (with_input q own.address count) rest)
+
+-- the policy of settings and numbers of inputs, or the first of them that is none, in the order in which they are looked at
+abbrev pub policy_of : Settings → List Inputs → Result PolicyValue Refusal
+policy_of s inputs = on_ok (settings_policy s) (λ q. with_inputs 0 q inputs)
+
+-- why there is no policy
+abbrev pub policy_refusal : Settings → List Inputs → Option Refusal
+policy_refusal s inputs = refusal_in (policy_of s inputs)
+  where
+    abbrev pub refusal_in : {A : Type 0} → Result A Refusal → Option Refusal
+    refusal_in (Ok x) = None
+    refusal_in (Err r) = Some r
+
+-- a stage has a number from 1 to 18
+abbrev pub stage_refusal : ℕ → Option Refusal
+stage_refusal n = if nat_le 1 n && nat_le n 18 then None else Some refusal.Stage
+
+-- a fault code has a number from 1 to 59
+abbrev pub code_refusal : ℕ → Option Refusal
+code_refusal n = if nat_le 1 n && nat_le n 59 then None else Some refusal.Code

@@ -1,0 +1,140 @@
+//! Answers as numbers.
+
+ghost use Rattle.std.specs.Prelude.{◌≡◌, IfOk, Ok, ◌++◌, map, OnOk};
+ghost use Rattle.acpi_c.specs.Answers.{advice_finding, all_findings, check_answer, confirm_answer, fault_finding, find_answer, plain_answer, refusal_answer};
+
+use crate::kind::Kind;
+use crate::refusal::Refusal;
+use acpi_base::{Advice, Verdict, Witness};
+
+/// A fault, or a finding of advice, as numbers.
+#[repr(C)]
+#[derive(Clone, Copy)]
+pub struct Finding {
+    /// The number of the fault's code, 1 to 59, or of the rule of advice, 101 to 128.
+    pub number: u32,
+    /// The first number: what the three say depends on the code or the rule. One that is not used is 0.
+    pub at: u64,
+    /// The second number.
+    pub other: u64,
+    /// The third number.
+    pub point: u64,
+}
+
+/// What a call answers. A number that a kind does not use is 0.
+#[repr(C)]
+#[derive(Clone, Copy)]
+pub struct Answer {
+    /// The number of the kind.
+    pub kind: u32,
+    /// Of a fault that a check reports: the stage, 1 to 18.
+    pub stage: u32,
+    /// Of a fault that a check reports: the number of its code, 1 to 59.
+    pub code: u32,
+    /// Of a fault: its first number. Of a search: the RSDP's address. Of all findings: how many faults there are. Of a refusal:
+    /// the index of the piece or of the number of inputs, from 0 on, or the line of the text, from 1 on.
+    pub at: u64,
+    /// Of a fault: its second number. Of all findings: how many findings of advice there are. Of an overlap: the least address
+    /// that is covered twice.
+    pub other: u64,
+    /// Of a fault: its third number.
+    pub point: u64,
+}
+
+impl Answer {
+    /// A kind, and no more.
+    pub fn plain(kind: Kind) -> Answer
+        ensures { result ≡ plain_answer kind }
+    {
+        Answer {
+            kind: kind.number(),
+            stage: 0,
+            code: 0,
+            at: 0,
+            other: 0,
+            point: 0,
+        }
+    }
+
+    /// A kind with a first number.
+    pub fn with_at(kind: Kind, at: u64) -> Answer
+        ensures { result ≡ record (plain_answer kind) { at = at } }
+    {
+        Answer {
+            at,
+            ..Answer::plain(kind)
+        }
+    }
+
+    /// A kind with two numbers.
+    pub fn with_two(kind: Kind, at: u64, other: u64) -> Answer
+        ensures { result ≡ record (plain_answer kind) { at = at; other = other } }
+    {
+        Answer {
+            at,
+            other,
+            ..Answer::plain(kind)
+        }
+    }
+}
+
+impl From<Refusal> for Answer {
+    ghost from_gives = { λ refusal answer. answer ≡ refusal_answer refusal };
+
+    fn from(refusal: Refusal) -> Answer {
+        match refusal {
+            Refusal::OutOfMemory => Answer::plain(Kind::OutOfMemory),
+            Refusal::Size => Answer::plain(Kind::BadSize),
+            Refusal::DefaultInputs => Answer::plain(Kind::BadDefaultInputs),
+            Refusal::HotPlug => Answer::plain(Kind::BadHotPlug),
+            Refusal::Processors => Answer::plain(Kind::BadProcessors),
+            Refusal::Inputs { index } => Answer::with_at(Kind::BadInputs, index),
+            Refusal::Stage => Answer::plain(Kind::BadStage),
+            Refusal::Code => Answer::plain(Kind::BadCode),
+            Refusal::PiecePastEnd { index } => Answer::with_at(Kind::PiecePastEnd, index),
+            Refusal::PiecesOverlap { index, address } => {
+                Answer::with_two(Kind::PiecesOverlap, index, address)
+            }
+            Refusal::BadLine { line } => Answer::with_at(Kind::BadLine, line),
+            Refusal::NoAddress { line } => Answer::with_at(Kind::NoAddress, line),
+            Refusal::TextOverlap { address } => Answer::with_two(Kind::TextOverlap, 0, address),
+            Refusal::TextPastEnd { line } => Answer::with_at(Kind::TextPastEnd, line),
+            Refusal::TextTooLong => Answer::plain(Kind::TextTooLong),
+        }
+    }
+}
+
+impl From<Verdict> for Answer {
+    ghost from_gives = { λ verdict answer. answer ≡ check_answer (Ok verdict) };
+
+    fn from(verdict: Verdict) -> Answer {
+        match verdict {
+            Verdict::Yes => Answer::plain(Kind::Yes),
+            Verdict::No(fault) => Answer {
+                kind: Kind::No.number(),
+                stage: u32::from(fault.code.stage().number()),
+                code: u32::from(fault.code.number()),
+                at: fault.at,
+                other: fault.other,
+                point: fault.point,
+            },
+        }
+    }
+}
+
+/// The answer to a question.
+pub fn yes_or_no(is_so: bool) -> Answer
+    ensures { result ≡ confirm_answer (Ok is_so) }
+{
+    Answer::plain(if is_so { Kind::Yes } else { Kind::No })
+}
+
+/// The answer of a search for the RSDP.
+pub fn found(address: Option<u64>) -> Answer
+    ensures { result ≡ find_answer (Ok address) }
+{
+    match address {
+        Some(address) => Answer::with_at(Kind::Yes, address),
+        None => Answer::plain(Kind::No),
+    }
+}

@@ -1,0 +1,74 @@
+//! One fault, confirmed for C.
+
+ghost use Rattle.std.specs.Prelude.{◌≡◌, Bool, IfErr, IfOk, Result, Some};
+ghost use Rattle.acpi_base.specs.Codes.{code_number};
+ghost use Rattle.acpi_c.specs.Answers.{confirm_answer};
+ghost use Rattle.acpi_c.specs.Results.{Confirms};
+ghost use Rattle.acpi_c.specs.Settings.{code_refusal};
+ghost use Rattle.acpi_c.specs.Sources.{pieces_source};
+ghost use Rattle.acpi_c.specs.declared.refusal.Refusal.{Refusal};
+
+use crate::answer::{Answer, Finding, yes_or_no};
+use crate::pieces::{Piece, image_of_pieces};
+use crate::refusal::Refusal;
+use crate::settings::{Inputs, Settings, policy_of};
+use acpi_base::{Code, Witness};
+use acpi_confirm::confirm;
+use std::alloc::Global;
+
+/// The fault code that the finding names.
+fn code_of(finding: &Finding) -> Result<Code, Refusal>
+    ensures ok { IfOk result (λ code. code_number code ≡ finding.now.number) }
+    ensures err { IfErr result (λ refusal. code_refusal finding.now.number ≡ Some refusal) }
+{
+    u8::try_from(finding.number)
+        .ok()
+        .and_then(Code::new)
+        .ok_or(Refusal::Code)
+}
+
+/// Whether the finding is a fault of the image of the pieces.
+fn confirmed(
+    alloc: Global,
+    pieces: &[Piece<'_>],
+    inputs: &[Inputs],
+    settings: &Settings,
+    finding: &Finding,
+) -> Result<bool, Refusal>
+    ensures { Confirms (pieces_source pieces.now) settings.now inputs.now finding.now result }
+{
+    let policy = policy_of(alloc, settings, inputs)?;
+    let code = code_of(finding)?;
+    let image = image_of_pieces(alloc, pieces)?;
+    let witness = Witness {
+        code,
+        at: finding.at,
+        other: finding.other,
+        point: finding.point,
+    };
+    Ok(confirm(&image, &policy, &witness))
+}
+
+/// Whether the finding is a fault of the image that the pieces make up. It need not be the first one.
+///
+/// Refuses, in this order:
+/// `BadSize`, `BadDefaultInputs`, `BadHotPlug`, `BadProcessors`, `BadInputs`, `PiecePastEnd`, `PiecesOverlap`, `OutOfMemory` as
+/// `acpiset_check` does, and behind `BadInputs`
+/// `BadCode`, where the finding's number is outside 1 to 59. A finding of advice has such a number.
+#[unsafe(no_mangle)]
+pub extern "C" fn acpiset_confirm(
+    alloc: Global,
+    pieces: &[Piece<'_>],
+    inputs: &[Inputs],
+    settings: &Settings,
+    finding: &Finding,
+) -> Answer
+    ensures { (judged : Result Bool Refusal)
+        × Confirms (pieces_source pieces.now) settings.now inputs.now finding.now judged
+        × (result ≡ confirm_answer judged) }
+{
+    match confirmed(alloc, pieces, inputs, settings, finding) {
+        Ok(is_so) => yes_or_no(is_so),
+        Err(refusal) => Answer::from(refusal),
+    }
+}

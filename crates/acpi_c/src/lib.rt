@@ -1,0 +1,40 @@
+//! The checker as a static library for C, and for whatever calls C.
+//!
+//! An image is passed as pieces, each an address and the bytes from there on, or as image text. `acpiset_check` and
+//! `acpiset_check_text` return the verdict on its tables, `acpiset_confirm` whether one fault is there, `acpiset_lint` all
+//! findings, `acpiset_find` where the RSDP is, and `acpiset_abi` the version of these functions and structs. Nothing that is
+//! passed is kept, and nothing that is returned has to be freed.
+//!
+//! No function has a `requires`: whatever the addresses, bytes, counts and settings are, it returns an answer. C owes what the
+//! types say: pointers and lengths that hold. `bindings/c/acpiset.h` declares the functions for C.
+//!
+//! `pieces` makes an image of pieces, `text` of a text; `settings` makes a policy; `refusal` says why a call is refused, and
+//! `answer` writes a result as numbers.
+#![tactic(auto)]
+
+mod answer;
+mod check;
+mod confirm;
+mod find;
+mod kind;
+pub mod laws;
+mod lint;
+mod pieces;
+mod refusal;
+mod settings;
+mod text;
+
+pub use answer::{Answer, Finding};
+pub use kind::Kind;
+pub use pieces::Piece;
+pub use settings::{Inputs, Settings};
+
+ghost use Rattle.std.specs.Prelude.{◌≡◌};
+
+/// The version of the functions and the structs. It changes where one of them does.
+#[unsafe(no_mangle)]
+pub extern "C" fn acpiset_abi() -> u32
+    ensures { result ≡ 1 }
+{
+    1
+}

@@ -1,0 +1,136 @@
+//! What a call is given beside the image.
+
+ghost use Rattle.std.specs.Prelude.{◌≡◌, ◌⊎◌, Err, IfErr, IfOk};
+ghost use Rattle.acpi_base.specs.Codes.{stage_number};
+ghost use Rattle.acpi_c.specs.Settings.{count_of, hotplug_of, policy_of, processors_of, settings_policy, stage_refusal};
+ghost use Rattle.acpi_c.specs.declared.refusal.Refusal.{Refusal};
+
+use crate::refusal::Refusal;
+use acpi_base::{HotPlug, Policy, PolicyFault, Processors, Stage};
+use std::alloc::Global;
+
+/// How many inputs an I/O APIC has.
+#[repr(C)]
+#[derive(Clone, Copy)]
+pub struct Inputs {
+    /// The I/O APIC's address, as the MADT says it.
+    pub address: u32,
+    /// The number of its inputs, 1 to 256.
+    pub count: u32,
+}
+
+/// What a call is given beside the image and the numbers of inputs.
+#[repr(C)]
+#[derive(Clone, Copy)]
+pub struct Settings {
+    /// The size of this struct in bytes, which is 32.
+    pub size: usize,
+    /// The RSDP's address.
+    pub rsdp: u64,
+    /// The number of inputs, 1 to 256, of each I/O APIC that is given none of its own.
+    pub default_inputs: u32,
+    /// 0: hot-pluggable ranges of memory are compared with all others; 1: with one another alone.
+    pub hotplug: u32,
+    /// 0: processors with the flag Enabled count as enabled; 1: also those with Online Capable.
+    pub processors: u32,
+    /// The last stage that a check goes through, 1 to 18. No other call looks at it.
+    pub through: u32,
+}
+
+/// The size of `Settings` in bytes.
+const SIZE: usize = 32;
+
+/// A number of inputs, where it is 1 to 256.
+fn count_of(number: u32) -> Option<u16>
+    ensures { result ≡ count_of number }
+{
+    if number == 0 || number > 256 {
+        return None;
+    }
+    Some(number as u16)
+}
+
+/// The setting of hot-pluggable ranges.
+fn hotplug_of(number: u32) -> Option<HotPlug>
+    ensures { result ≡ hotplug_of number }
+{
+    match number {
+        0 => Some(HotPlug::Counted),
+        1 => Some(HotPlug::Apart),
+        _ => None,
+    }
+}
+
+/// The setting of processors.
+fn processors_of(number: u32) -> Option<Processors>
+    ensures { result ≡ processors_of number }
+{
+    match number {
+        0 => Some(Processors::Enabled),
+        1 => Some(Processors::Usable),
+        _ => None,
+    }
+}
+
+/// The policy of the settings, without a number of inputs for any one I/O APIC. Takes no memory.
+///
+/// Refuses, in this order: `Size`, `DefaultInputs`, `HotPlug`, `Processors`.
+fn settings_policy(alloc: Global, settings: &Settings) -> Result<Policy, Refusal>
+    ensures { result ≡ settings_policy settings.now }
+{
+    if settings.size != SIZE {
+        return Err(Refusal::Size);
+    }
+    let Some(default_inputs) = count_of(settings.default_inputs) else {
+        return Err(Refusal::DefaultInputs);
+    };
+    let Ok(mut policy) = Policy::new(alloc, settings.rsdp, default_inputs) else {
+        return Err(Refusal::DefaultInputs);
+    };
+    policy.set_hotplug(hotplug_of(settings.hotplug).ok_or(Refusal::HotPlug)?);
+    policy.set_processors(processors_of(settings.processors).ok_or(Refusal::Processors)?);
+    Ok(policy)
+}
+
+/// Gives the I/O APIC its number of inputs, unless it has one.
+fn add_inputs(policy: &mut Policy, index: usize, inputs: &Inputs) -> Result<(), Refusal>
+{
+    let Some(count) = count_of(inputs.count) else {
+        return Err(Refusal::Inputs {
+            index: index as u64,
+        });
+    };
+    match policy.add_input(inputs.address, count) {
+        Ok(()) => Ok(()),
+        Err(_) => Err(Refusal::OutOfMemory),
+    }
+}
+
+/// The policy of the settings and the numbers of inputs. Where an address is given two, the first one counts.
+///
+/// Refuses, in this order: as `settings_policy` does; `Inputs`, for the first number outside 1 to 256; `OutOfMemory`, which
+/// may also come in the place of a later `Inputs`.
+pub fn policy_of(
+    alloc: Global,
+    settings: &Settings,
+    inputs: &[Inputs],
+) -> Result<Policy, Refusal>
+    ensures { (result ≡ Err Refusal.OutOfMemory) ⊎ (result ≡ policy_of settings.now inputs.now) }
+{
+    let mut policy = settings_policy(alloc, settings)?;
+    for (index, own) in inputs.iter().enumerate() {
+        add_inputs(&mut policy, index, own)?;
+    }
+    Ok(policy)
+}
+
+/// The last stage that a check goes through.
+pub fn last_stage(settings: &Settings) -> Result<Stage, Refusal>
+    ensures ok { IfOk result (λ stage. stage_number stage ≡ settings.now.through) }
+    ensures err { IfErr result (λ refusal. stage_refusal settings.now.through ≡ Some refusal) }
+{
+    u8::try_from(settings.through)
+        .ok()
+        .and_then(Stage::new)
+        .ok_or(Refusal::Stage)
+}
