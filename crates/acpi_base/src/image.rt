@@ -11,6 +11,7 @@ ghost use Rattle.acpi_base.specs.Image.Segments.{IsSound, runs_of};
 
 mod address_bitmap;
 pub(crate) mod builder;
+pub(crate) mod pieces;
 mod prefix_sums;
 mod runs;
 mod segments;

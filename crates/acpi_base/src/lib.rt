@@ -1,8 +1,8 @@
 //! What every part of the ACPI table checker stands on: images of a machine's memory, the text that they are
 //! read from, the codes of faults, and the definitions of what a sound set of tables is.
 //!
-//! - `Image`: bytes at 64-bit addresses. `read_image` reads one from image text, `ImageText` from such a text in pieces, and
-//!   `written_text::image_text` writes it.
+//! - `Image`: bytes at 64-bit addresses. `ImagePieces` builds one of pieces in any order. `read_image` reads one
+//!   from image text, `ImageText` from such a text in pieces, and `written_text::image_text` writes it.
 //! - `sum`, `find_rsdp`: a checksum, and the search for the RSDP.
 //! - `field`: numbers and bytes at an offset in a table, read and written.
 //! - `Code`, `Stage`, `Witness`, `Verdict`: what can be wrong, in which part of the check, where, and the
@@ -41,6 +41,7 @@ mod witness;
 pub use checksum::sum;
 pub use code::Code;
 pub use find::find_rsdp;
+pub use image::pieces::ImagePieces;
 pub use image::{Image, ImageFault};
 pub use policy::{HotPlug, Policy, PolicyFault, Processors};
 pub use rule::{Advice, Rule};

@@ -61,16 +61,15 @@ find_answer (Ok (Some p)) = record (plain_answer kind.Yes) { at = p }
 find_answer (Ok None) = plain_answer kind.No
 find_answer (Err r) = refusal_answer r
 
--- yes where there is no fault. `at` is the number of faults, and `other` of findings of advice.
-abbrev pub lint_answer : Result (List Witness × List Advice) Refusal → Answer
-lint_answer (Ok found) = counted (kind_of found.0) (length found.0) (length found.1)
-  where
-    abbrev pub kind_of : List Witness → Kind
-    kind_of [] = kind.Yes
-    kind_of (w ∷ rest) = kind.No
+-- yes where there is no fault
+abbrev pub kind_of_faults : List Witness → Kind
+kind_of_faults [] = kind.Yes
+kind_of_faults (w ∷ rest) = kind.No
 
-    abbrev pub counted : Kind → ℕ → ℕ → Answer
-    counted kind faults advice = record (plain_answer kind) { at = faults; other = advice }
+-- `at` is the number of faults, and `other` that of the findings of advice
+abbrev pub lint_answer : Result (List Witness × List Advice) Refusal → Answer
+lint_answer (Ok found) =
+    record (plain_answer (kind_of_faults found.0)) { at = length found.0; other = length found.1 }
 lint_answer (Err r) = refusal_answer r
 
 -- ---- findings

@@ -1,6 +1,5 @@
 -- The policy that settings and numbers of inputs make up.
 use Rattle.std.specs.Prelude.{ℕ, suc, ◌==◌, ◌&&◌, nat_le, List, [], ◌∷◌, Option, Some, None, Result, Ok, Err, if◌then◌else◌}
-use Rattle.std.specs.Option.{option_map_or, option_or}
 use Rattle.acpi_base.specs.Policy.{PolicyValue, new_policy, with_input}
 use Rattle.acpi_base.specs.Text.ImageText.{on_ok}
 use Rattle.acpi_base.specs.declared.policy.HotPlug.{HotPlug}
@@ -49,13 +48,13 @@ with_inputs index q (own ∷ rest) =
 abbrev pub policy_of : Settings → List Inputs → Result PolicyValue Refusal
 policy_of s inputs = on_ok (settings_policy s) (λ q. with_inputs 0 q inputs)
 
+abbrev pub refusal_in : Result PolicyValue Refusal → Option Refusal
+refusal_in (Ok q) = None
+refusal_in (Err r) = Some r
+
 -- why there is no policy
 abbrev pub policy_refusal : Settings → List Inputs → Option Refusal
 policy_refusal s inputs = refusal_in (policy_of s inputs)
-  where
-    abbrev pub refusal_in : {A : Type 0} → Result A Refusal → Option Refusal
-    refusal_in (Ok x) = None
-    refusal_in (Err r) = Some r
 
 -- a stage has a number from 1 to 18
 abbrev pub stage_refusal : ℕ → Option Refusal

@@ -1,10 +1,9 @@
 //! Images that are passed as pieces.
 
-ghost use Rattle.std.specs.FinMap.{empty};
 ghost use Rattle.acpi_c.specs.Sources.{Reads, pieces_source};
 
 use crate::refusal::Refusal;
-use acpi_base::Image;
+use acpi_base::{Image, ImagePieces};
 use std::alloc::Global;
 
 /// Bytes of an image, and where they are.
@@ -17,15 +16,20 @@ pub struct Piece<'a> {
     pub bytes: &'a [u8],
 }
 
-/// The image that the pieces make up.
-///
-/// Refuses, for the first piece that cannot be added to those before it, in this order:
-/// `PiecePastEnd`, where it passes the address 2^64 - 1;
-/// `PiecesOverlap`, where it shares addresses with those before it, with the least of them;
-/// `OutOfMemory`. A piece without bytes is always added, and takes no memory.
-///
-/// Pieces whose addresses rise are appended one by one. A piece that is not behind all before it costs a copy of these.
-pub fn image_of_pieces(alloc: Global, pieces: &[Piece<'_>]) -> Result<Image, Refusal>
+/// Whether each piece begins where the one before it ends, or behind that.
+fn are_rising(pieces: &[Piece<'_>]) -> bool {
+    let mut end = 0;
+    for piece in pieces {
+        if piece.address < end {
+            return false;
+        }
+        end = piece.address.saturating_add(piece.bytes.len() as u64);
+    }
+    true
+}
+
+/// The image of pieces that rise, of which each is appended.
+fn image_of_rising(alloc: Global, pieces: &[Piece<'_>]) -> Result<Image, Refusal>
     ensures { Reads (pieces_source pieces.now) result }
 {
     let mut image = Image::new(alloc);
@@ -35,4 +39,36 @@ pub fn image_of_pieces(alloc: Global, pieces: &[Piece<'_>]) -> Result<Image, Ref
         }
     }
     Ok(image)
+}
+
+/// The image of pieces in any order.
+fn image_of_any(alloc: Global, pieces: &[Piece<'_>]) -> Result<Image, Refusal>
+    ensures { Reads (pieces_source pieces.now) result }
+{
+    let mut built = ImagePieces::new(alloc);
+    for (index, piece) in pieces.iter().enumerate() {
+        if let Err(fault) = built.add(piece.address, piece.bytes) {
+            return Err(Refusal::of_piece(index as u64, fault));
+        }
+    }
+    let image = built.finish()?;
+    Ok(image)
+}
+
+/// The image that the pieces make up.
+///
+/// Refuses, for the first piece that cannot be added to those before it, in this order:
+/// `PiecePastEnd`, where it passes the address 2^64 - 1;
+/// `PiecesOverlap`, where it shares addresses with those before it, with the least of them;
+/// `OutOfMemory`. A piece without bytes is always added.
+///
+/// Pieces by rising addresses are the usual case, and are appended with no search. Others are marked and sorted.
+pub fn image_of_pieces(alloc: Global, pieces: &[Piece<'_>]) -> Result<Image, Refusal>
+    ensures { Reads (pieces_source pieces.now) result }
+{
+    if are_rising(pieces) {
+        image_of_rising(alloc, pieces)
+    } else {
+        image_of_any(alloc, pieces)
+    }
 }

@@ -1,7 +1,8 @@
 //! What a call is given beside the image.
 
-ghost use Rattle.std.specs.Prelude.{◌≡◌, ◌⊎◌, Err, IfErr, IfOk};
+ghost use Rattle.std.specs.Prelude.{◌≡◌, ◌⊎◌, ℕ, Err, IfErr, IfOk, None, OnOk, Some};
 ghost use Rattle.acpi_base.specs.Codes.{stage_number};
+ghost use Rattle.acpi_base.specs.Policy.{with_input};
 ghost use Rattle.acpi_c.specs.Settings.{count_of, hotplug_of, policy_of, processors_of, settings_policy, stage_refusal};
 ghost use Rattle.acpi_c.specs.declared.refusal.Refusal.{Refusal};
 
@@ -94,6 +95,10 @@ fn settings_policy(alloc: Global, settings: &Settings) -> Result<Policy, Refusal
 
 /// Gives the I/O APIC its number of inputs, unless it has one.
 fn add_inputs(policy: &mut Policy, index: usize, inputs: &Inputs) -> Result<(), Refusal>
+    ensures ok { OnOk result ((count : ℕ) × (count_of inputs.now.count ≡ Some count)
+        × (policy.new ≡ with_input policy.old inputs.now.address count)) }
+    ensures err { IfErr result (λ refusal. (refusal ≡ Refusal.OutOfMemory)
+        ⊎ ((refusal ≡ Refusal.Inputs index) × (count_of inputs.now.count ≡ None))) }
 {
     let Some(count) = count_of(inputs.count) else {
         return Err(Refusal::Inputs {

@@ -11,21 +11,21 @@ type_in e = slice_index e 0
 
 -- the type of what an entry of a MADT says
 abbrev pub madt_type : madt.MadtEntry → ℕ
-madt_type (madt.LocalApic v) = 0
-madt_type (madt.IoApic v) = 1
-madt_type (madt.Override v) = 2
-madt_type (madt.NmiSource v) = 3
-madt_type (madt.LocalNmi v) = 4
-madt_type (madt.AddressOverride v) = 5
-madt_type (madt.X2apic v) = 9
-madt_type (madt.X2apicNmi v) = 10
+madt_type (madt.LocalApic v) = madt.local_apic.type
+madt_type (madt.IoApic v) = madt.io_apic.type
+madt_type (madt.Override v) = madt.override.type
+madt_type (madt.NmiSource v) = madt.nmi_source.type
+madt_type (madt.LocalNmi v) = madt.local_nmi.type
+madt_type (madt.AddressOverride v) = madt.address_override.type
+madt_type (madt.X2apic v) = madt.x2apic.type
+madt_type (madt.X2apicNmi v) = madt.x2apic_nmi.type
 madt_type (madt.Opaque e) = type_in e
 
 -- the same of an entry of an SRAT
 abbrev pub srat_type : srat.SratEntry → ℕ
-srat_type (srat.ApicDomain v) = 0
-srat_type (srat.MemoryRange v) = 1
-srat_type (srat.X2apicDomain v) = 2
+srat_type (srat.ApicDomain v) = srat.apic_domain.type
+srat_type (srat.MemoryRange v) = srat.memory_range.type
+srat_type (srat.X2apicDomain v) = srat.x2apic_domain.type
 srat_type (srat.Opaque e) = type_in e
 
 -- the type is one of these

@@ -13,32 +13,36 @@ use crate::entry_types::EntryTypes;
 use crate::processors::{GICC, GICC_AFFINITY};
 use crate::unread::GICD;
 use acpi_base::{Code, Rule};
+use acpi_read::{
+    AddressOverride, ApicDomain, EntryKind, IoApic, LocalApic, LocalNmi, MemoryRange, NmiSource,
+    Override, X2apic, X2apicDomain, X2apicNmi,
+};
 
 // ---- the MADT (ACPI 6.5, 5.2.12)
 
 /// The type of a local APIC.
-const LOCAL_APIC: u8 = 0;
+const LOCAL_APIC: u8 = LocalApic::TYPE;
 
 /// The type of an I/O APIC.
-pub const IO_APIC: u8 = 1;
+pub const IO_APIC: u8 = IoApic::TYPE;
 
 /// The type of an override.
-pub const OVERRIDE: u8 = 2;
+pub const OVERRIDE: u8 = Override::TYPE;
 
 /// The type of an NMI source.
-pub const NMI_SOURCE: u8 = 3;
+pub const NMI_SOURCE: u8 = NmiSource::TYPE;
 
 /// The type of a local APIC NMI.
-const LOCAL_NMI: u8 = 4;
+const LOCAL_NMI: u8 = LocalNmi::TYPE;
 
 /// The type of an address override.
-const ADDRESS_OVERRIDE: u8 = 5;
+const ADDRESS_OVERRIDE: u8 = AddressOverride::TYPE;
 
 /// The type of a local x2APIC.
-const X2APIC: u8 = 9;
+const X2APIC: u8 = X2apic::TYPE;
 
 /// The type of a local x2APIC NMI.
-const X2APIC_NMI: u8 = 10;
+const X2APIC_NMI: u8 = X2apicNmi::TYPE;
 
 /// Whether a rule on the MADT alone may be broken where its entries have these types. A `true` says nothing.
 pub fn may_break_in_madt(rule: Rule, types: &EntryTypes) -> bool
@@ -84,13 +88,13 @@ pub fn may_be_at_fault_in_madt(code: Code, types: &EntryTypes) -> bool
 // ---- the SRAT (ACPI 6.5, 5.2.16)
 
 /// The type of an affinity of a local APIC.
-const APIC_AFFINITY: u8 = 0;
+const APIC_AFFINITY: u8 = ApicDomain::TYPE;
 
 /// The type of a range of memory.
-pub const MEMORY_RANGE: u8 = 1;
+pub const MEMORY_RANGE: u8 = MemoryRange::TYPE;
 
 /// The type of an affinity of a local x2APIC.
-const X2APIC_AFFINITY: u8 = 2;
+const X2APIC_AFFINITY: u8 = X2apicDomain::TYPE;
 
 /// Whether a rule on the SRAT alone may be broken where its entries have these types. A `true` says nothing.
 pub fn may_break_in_srat(rule: Rule, types: &EntryTypes) -> bool

@@ -1,3 +1,4 @@
+use super::pieces::ImagePieces;
 use super::*;
 use std::process::Abort;
 
@@ -15,6 +16,16 @@ fn image_of(rt: &impl Abort, alloc: Global, pieces: &[Added]) -> Image {
         assert!(rt; added == *result, "{address:#x}: {added:?}");
     }
     image
+}
+
+/// The image of these pieces.
+fn image_of_pieces(rt: &impl Abort, alloc: Global, pieces: &[Added]) -> Image {
+    let mut built = ImagePieces::new(alloc);
+    for (address, bytes, result) in pieces {
+        let added = built.add(*address, bytes);
+        assert!(rt; added == *result, "{address:#x}: {added:?}");
+    }
+    built.finish().expect(rt, "memory")
 }
 
 /// What is added to an image, windows of it, and a byte that is looked up.
@@ -92,16 +103,16 @@ fn check_windows(rt: &impl Abort, image: &Image, windows: &[Window]) {
 }
 
 /// Builds an image, and looks into it.
-fn check_image(rt: &impl Abort, alloc: Global, case: &Case) {
-    let (pieces, windows, (address, byte)) = case;
-    let image = image_of(rt, alloc, pieces);
-    check_windows(rt, &image, windows);
+fn check_image(rt: &impl Abort, image: &Image, case: &Case) {
+    let (_, windows, (address, byte)) = case;
+    check_windows(rt, image, windows);
     assert!(rt; image.byte_at(*address) == *byte, "{address:#x}");
 }
 
 #[test]
 fn images_hold_what_was_added(rt: HostRuntime) {
     for case in &IMAGES {
-        check_image(&rt, rt.alloc(), case);
+        check_image(&rt, &image_of(&rt, rt.alloc(), case.0), case);
+        check_image(&rt, &image_of_pieces(&rt, rt.alloc(), case.0), case);
     }
 }

@@ -1,0 +1,51 @@
+-- One verdict on one image, and what a search finds.
+use Rattle.std.proofs.Common.{◌≡◌, ℕ, ◌∙◌, List, Option, Some, None, Result, Ok, sym, subst, ap, refl}
+use Rattle.std.specs.Prelude.{IfSome, IsNone}
+use Rattle.std.specs.FinMap.{empty}
+use Rattle.acpi_base.specs.Codes.{stage_number}
+use Rattle.acpi_base.specs.Faults.{IsVerdict}
+use Rattle.acpi_base.specs.Memory.{Memory}
+use Rattle.acpi_base.specs.RsdpSearch.{IsFound, IsNowhere}
+use Rattle.acpi_base.specs.Text.ImageText.{IsText, Reading}
+use Rattle.acpi_base.specs.Text.TextLaws.{RunReadsText}
+use Rattle.acpi_base.specs.Text.TextMachine.{ReaderState, EndsAs, initial_state, text_result, run}
+use Rattle.acpi_base.proofs.Faults.Laws.{one_verdict}
+use Rattle.acpi_base.proofs.Faults.Numbers.{same_stage}
+use Rattle.acpi_c.specs.Laws.{OneAnswer}
+use Rattle.acpi_c.specs.Results.{Finds, Judges}
+use Rattle.acpi_c.specs.Sources.{Source}
+
+-- what is found in the image is found in what was passed
+pub finds : (source : Source) (m : Memory) (found : Option ℕ) → source.Is m → IfSome found (IsFound m)
+    → (IsNone found → IsNowhere m) → Finds source (Ok found)
+finds source m None is some none = (m, is, none refl)
+finds source m (Some p) is some none = (m, is, some)
+
+-- ---- one verdict
+
+ok_same : {A E : Type 0} (x y : A) → Ok {A} {E} x ≡ Ok y → x ≡ y
+ok_same x y e = cc
+
+-- a text has one image
+text_image : (text : List ℕ) (m n : Memory) → IsText text m → IsText text n → m ≡ n
+text_image text m n one other =
+    let same : one.0 ≡ other.0 = ok_same one.0 other.0 (sym one.1 ∙ other.1) in
+    sym one.2 ∙ ap (λ (r : Reading). r.image) same ∙ other.2
+
+pub one_answer : OneAnswer
+one_answer pieces text m settings inputs v w made is one other =
+    let image : one.image ≡ m = ok_same one.image m (sym one.asked.image ∙ made) in
+    let same : other.image ≡ one.image = text_image text other.image m other.asked.image is ∙ sym image in
+    let policy : other.policy ≡ one.policy = ok_same other.policy one.policy (sym other.asked.policy ∙ one.asked.policy) in
+    let last : other.last ≡ one.last = same_stage other.last one.last (other.through ∙ sym one.through) in
+    one_verdict one.last one.image one.policy v w one.verdict
+    (subst (λ s. IsVerdict s one.image one.policy w) last
+    (subst (λ q. IsVerdict other.last one.image q w) policy
+    (subst (λ n. IsVerdict other.last n other.policy w) same other.verdict)))
+
+-- ---- texts
+
+-- the image with which a reader of the whole text ends is the text's
+pub text_ends : RunReadsText → (text : List ℕ) (s : ReaderState) (m : Memory) → s ≡ run initial_state text → EndsAs s m
+    → IsText text m
+text_ends law text s m e ends = (ends.0, sym (law text) ∙ ap text_result (sym e) ∙ ends.1, ends.2)

@@ -1,0 +1,4 @@
+mod Answers
+mod Pieces
+mod PiecesMean
+mod RefusedPieces
