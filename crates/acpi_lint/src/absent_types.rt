@@ -20,42 +20,18 @@ use acpi_read::{
 
 // ---- the MADT (ACPI 6.5, 5.2.12)
 
-/// The type of a local APIC.
-const LOCAL_APIC: u8 = LocalApic::TYPE;
-
-/// The type of an I/O APIC.
-pub const IO_APIC: u8 = IoApic::TYPE;
-
-/// The type of an override.
-pub const OVERRIDE: u8 = Override::TYPE;
-
-/// The type of an NMI source.
-pub const NMI_SOURCE: u8 = NmiSource::TYPE;
-
-/// The type of a local APIC NMI.
-const LOCAL_NMI: u8 = LocalNmi::TYPE;
-
-/// The type of an address override.
-const ADDRESS_OVERRIDE: u8 = AddressOverride::TYPE;
-
-/// The type of a local x2APIC.
-const X2APIC: u8 = X2apic::TYPE;
-
-/// The type of a local x2APIC NMI.
-const X2APIC_NMI: u8 = X2apicNmi::TYPE;
-
 /// Whether a rule on the MADT alone may be broken where its entries have these types. A `true` says nothing.
 pub fn may_break_in_madt(rule: Rule, types: &EntryTypes) -> bool
     ensures { (madt : MadtContents) → AreTypesOf madt_type types.now madt.entries
         → result ≡ false → FindsLeast (MadtRule rule madt) None }
 {
     match rule {
-        Rule::SameUid => types.has_any(&[LOCAL_APIC, X2APIC, GICC]),
-        Rule::SameApicId => types.has_any(&[LOCAL_APIC, X2APIC, GICC]),
-        Rule::IoApicAtZero => types.has(IO_APIC),
-        Rule::SameIoApicId => types.has(IO_APIC),
-        Rule::SameIoApicAddress => types.has(IO_APIC),
-        Rule::NmiNowhere => types.has_any(&[LOCAL_NMI, X2APIC_NMI]),
+        Rule::SameUid => types.has_any(&[LocalApic::TYPE, X2apic::TYPE, GICC]),
+        Rule::SameApicId => types.has_any(&[LocalApic::TYPE, X2apic::TYPE, GICC]),
+        Rule::IoApicAtZero => types.has(IoApic::TYPE),
+        Rule::SameIoApicId => types.has(IoApic::TYPE),
+        Rule::SameIoApicAddress => types.has(IoApic::TYPE),
+        Rule::NmiNowhere => types.has_any(&[LocalNmi::TYPE, X2apicNmi::TYPE]),
         Rule::SecondGicd => types.has(GICD),
         _ => true,
     }
@@ -68,33 +44,29 @@ pub fn may_be_at_fault_in_madt(code: Code, types: &EntryTypes) -> bool
 {
     match code {
         Code::MadtEntryLength => types.has_any(&[
-            LOCAL_APIC,
-            IO_APIC,
-            OVERRIDE,
-            NMI_SOURCE,
-            LOCAL_NMI,
-            ADDRESS_OVERRIDE,
-            X2APIC,
-            X2APIC_NMI,
+            LocalApic::TYPE,
+            IoApic::TYPE,
+            Override::TYPE,
+            NmiSource::TYPE,
+            LocalNmi::TYPE,
+            AddressOverride::TYPE,
+            X2apic::TYPE,
+            X2apicNmi::TYPE,
         ]),
-        Code::OverrideBus => types.has(OVERRIDE),
-        Code::ReservedInti => types.has_any(&[OVERRIDE, NMI_SOURCE, LOCAL_NMI, X2APIC_NMI]),
-        Code::SecondAddressOverride => types.has(ADDRESS_OVERRIDE),
-        Code::GsiPastEnd => types.has(IO_APIC),
+        Code::OverrideBus => types.has(Override::TYPE),
+        Code::ReservedInti => types.has_any(&[
+            Override::TYPE,
+            NmiSource::TYPE,
+            LocalNmi::TYPE,
+            X2apicNmi::TYPE,
+        ]),
+        Code::SecondAddressOverride => types.has(AddressOverride::TYPE),
+        Code::GsiPastEnd => types.has(IoApic::TYPE),
         _ => true,
     }
 }
 
 // ---- the SRAT (ACPI 6.5, 5.2.16)
-
-/// The type of an affinity of a local APIC.
-const APIC_AFFINITY: u8 = ApicDomain::TYPE;
-
-/// The type of a range of memory.
-pub const MEMORY_RANGE: u8 = MemoryRange::TYPE;
-
-/// The type of an affinity of a local x2APIC.
-const X2APIC_AFFINITY: u8 = X2apicDomain::TYPE;
 
 /// Whether a rule on the SRAT alone may be broken where its entries have these types. A `true` says nothing.
 pub fn may_break_in_srat(rule: Rule, types: &EntryTypes) -> bool
@@ -113,8 +85,12 @@ pub fn may_be_at_fault_in_srat(code: Code, types: &EntryTypes) -> bool
         → result ≡ false → FindsLeast (SratFault srat code) None }
 {
     match code {
-        Code::SratEntryLength => types.has_any(&[APIC_AFFINITY, MEMORY_RANGE, X2APIC_AFFINITY]),
-        Code::RangePastEnd => types.has(MEMORY_RANGE),
+        Code::SratEntryLength => types.has_any(&[
+            ApicDomain::TYPE,
+            MemoryRange::TYPE,
+            X2apicDomain::TYPE,
+        ]),
+        Code::RangePastEnd => types.has(MemoryRange::TYPE),
         _ => true,
     }
 }
