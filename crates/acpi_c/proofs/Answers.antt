@@ -1,19 +1,27 @@
 -- One verdict on one image, and what a search finds.
-use Rattle.std.proofs.Common.{◌≡◌, ℕ, ◌∙◌, List, Option, Some, None, Result, Ok, sym, subst, ap, refl}
+use Rattle.std.proofs.Common.{◌≡◌, ◌⊎◌, inl, inr, ℕ, ◌∙◌, List, Option, Some, None, Result, Ok, Err, sym, subst, ap, refl}
 use Rattle.std.specs.Prelude.{IfSome, IsNone}
 use Rattle.std.specs.FinMap.{empty}
 use Rattle.acpi_base.specs.Codes.{stage_number}
 use Rattle.acpi_base.specs.Faults.{IsVerdict}
 use Rattle.acpi_base.specs.Memory.{Memory}
+use Rattle.acpi_base.specs.Policy.{PolicyValue}
 use Rattle.acpi_base.specs.RsdpSearch.{IsFound, IsNowhere}
 use Rattle.acpi_base.specs.Text.ImageText.{IsText, Reading}
 use Rattle.acpi_base.specs.Text.TextLaws.{RunReadsText}
 use Rattle.acpi_base.specs.Text.TextMachine.{ReaderState, EndsAs, initial_state, text_result, run}
 use Rattle.acpi_base.proofs.Faults.Laws.{one_verdict}
 use Rattle.acpi_base.proofs.Faults.Numbers.{same_stage}
+use Rattle.acpi_base.specs.declared.stage.Stage.{Stage}
+use Rattle.acpi_base.specs.declared.verdict.Verdict.{Verdict}
 use Rattle.acpi_c.specs.Laws.{OneAnswer}
 use Rattle.acpi_c.specs.Results.{Finds, Judges}
+use Rattle.acpi_c.specs.Settings.{policy_of}
 use Rattle.acpi_c.specs.Sources.{Source}
+use Rattle.acpi_c.specs.declared.refusal.Refusal.{Refusal}
+use Rattle.acpi_c.specs.declared.refusal.Refusal.TheVariants.{OutOfMemory}
+use Rattle.acpi_c.specs.declared.settings.Inputs.{Inputs}
+use Rattle.acpi_c.specs.declared.settings.Settings.{Settings}
 
 -- what is found in the image is found in what was passed
 pub finds : (source : Source) (m : Memory) (found : Option ℕ) → source.Is m → IfSome found (IsFound m)
@@ -21,9 +29,29 @@ pub finds : (source : Source) (m : Memory) (found : Option ℕ) → source.Is m 
 finds source m None is some none = (m, is, none refl)
 finds source m (Some p) is some none = (m, is, some)
 
+-- ---- a verdict on what was passed
+
+ok_policy : (q : PolicyValue) (policy : Result PolicyValue Refusal) → (◌≡◌ {A = Result PolicyValue Refusal} (Ok q) (Err OutOfMemory)) ⊎ (Ok q ≡ policy)
+    → policy ≡ Ok q
+ok_policy q policy (inl never) = absurd (cc)
+ok_policy q policy (inr is) = sym is
+
+pub judges : (source : Source) (settings : Settings) (inputs : List Inputs) (m : Memory) (q : PolicyValue) (last : Stage) (v : Verdict)
+    → source.Is m → (◌≡◌ {A = Result PolicyValue Refusal} (Ok q) (Err OutOfMemory)) ⊎ (Ok q ≡ policy_of settings inputs)
+    → stage_number last ≡ settings.through → IsVerdict last m q v → Judges source settings inputs v
+judges source settings inputs m q last v is policy through verdict =
+    record {
+      image = m;
+      policy = q;
+      asked = record { image = is; policy = ok_policy q (policy_of settings inputs) policy };
+      last = last;
+      through = through;
+      verdict = verdict;
+    }
+
 -- ---- one verdict
 
-ok_same : {A E : Type 0} (x y : A) → Ok {A} {E} x ≡ Ok y → x ≡ y
+ok_same : {A E : Type 0} (x y : A) → ◌≡◌ {A = Result A E} (Ok x) (Ok y) → x ≡ y
 ok_same x y e = cc
 
 -- a text has one image

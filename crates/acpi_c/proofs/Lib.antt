@@ -1,4 +1,4 @@
+mod AddedPieces
 mod Answers
-mod Pieces
 mod PiecesMean
 mod RefusedPieces

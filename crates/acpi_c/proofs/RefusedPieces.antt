@@ -1,5 +1,5 @@
 -- Which pieces are refused, and why.
-use Rattle.std.proofs.Common.{◌≡◌, ◌⊎◌, inl, inr, ℕ, zero, suc, ◌+◌, ◌-◌, ◌^◌, ◌<◌, ◌≤◌, Bool, true, false, cond, List, [], ◌∷◌, ◌++◌, length, slice_get, Option, Some, None, IsSome, is_some, Result, Ok, Err, refl, sym, subst, ap, ◌∙◌, arith, add-zero, add-suc}
+use Rattle.std.proofs.Common.{◌≡◌, ◌⊎◌, inl, inr, ℕ, zero, suc, ◌+◌, ◌-◌, ◌^◌, ◌<◌, ◌≤◌, Bool, true, false, cond, List, [], ◌∷◌, ◌++◌, length, slice_get, Option, Some, None, IsSome, is_some, Result, Ok, Err, refl, sym, subst, ap, ◌∙◌, arith, add-zero}
 use Rattle.std.specs.Prelude.{◌↔◌, nat_lt}
 use Rattle.std.specs.FinMap.{empty}
 use Rattle.std.specs.Option.{option_map}
@@ -61,6 +61,7 @@ refused (p ∷ ps) i m r e =
         own h = cc
     go more None free h =
         let rest = more h in
+        let place : suc i + length rest.earlier ≡ i + suc (length rest.earlier) = omega arith in
         record {
           piece = rest.piece;
           earlier = p ∷ rest.earlier;
@@ -70,7 +71,7 @@ refused (p ∷ ps) i m r e =
           made = rw free rest.made;
           fault = rest.fault;
           why = rest.why;
-          same = rest.same ∙ ap (λ k. piece_refusal k rest.fault) (sym (add-suc i (length rest.earlier)));
+          same = rest.same ∙ ap (λ k. piece_refusal k rest.fault) place;
         }
 
 -- pieces that have such a one are refused
@@ -94,7 +95,9 @@ refuse (q ∷ earlier) i m image p later fault made why =
         (with_pieces (suc i) (with_bytes m q.address q.bytes.now) (earlier ++ (p ∷ later)))
         ≡ Err (piece_refusal (i + suc (length earlier)) fault)
     go more (Some f) free h = absurd (cc)
-    go more None free h = rw free (more h ∙ ap (λ k. Err (piece_refusal k fault)) (sym (add-suc i (length earlier))))
+    go more None free h =
+        let place : suc i + length earlier ≡ i + suc (length earlier) = omega arith in
+        rw free (more h ∙ ap (λ k. Err (piece_refusal k fault)) place)
 
 -- ---- the first address that is held
 
@@ -112,10 +115,11 @@ nothing (Some x) e = absurd (cc)
 first_found : (f : ℕ → Option ℕ) (a n x : ℕ) → least_defined f a n ≡ Some x → IsFirstAt f a n x
 unfolding least_defined
 first_found f a zero x e = absurd (cc)
-first_found f a (suc n) x e = go (is_some (f a)) refl e
+first_found f a (suc n) x e = go (λ h. first_found f (a + 1) n x h) (is_some (f a)) refl e
   where
-    go : (t : Bool) → is_some (f a) ≡ t → cond t (Some a) (least_defined f (a + 1) n) ≡ Some x → IsFirstAt f a (suc n) x
-    go true s h =
+    go : (least_defined f (a + 1) n ≡ Some x → IsFirstAt f (a + 1) n x) → (t : Bool) → is_some (f a) ≡ t
+        → cond t (Some a) (least_defined f (a + 1) n) ≡ Some x → IsFirstAt f a (suc n) x
+    go later true s h =
         let same : a ≡ x = cc in
         record {
           from = omega (arith, same);
@@ -123,8 +127,8 @@ first_found f a (suc n) x e = go (is_some (f a)) refl e
           some = subst (λ y. IsSome (f y)) same s;
           none = λ y l m. absurd (omega (arith, same));
         }
-    go false s h =
-        let rest = first_found f (a + 1) n x h in
+    go later false s h =
+        let rest = later h in
         record {
           from = omega (arith, rest.from);
           below = omega (arith, rest.below);
@@ -159,7 +163,7 @@ past_fault image.Memory k index e = absurd (cc)
 behind : (ps : List Piece) (r : Refusal) (index : ℕ) (it : Refused 0 empty ps r) → 0 + length it.earlier ≡ index
     → StandsBehind ps index it.piece it.earlier
 behind ps r index it e =
-    record { later = it.later; all = it.all; index = omega (arith, e); image = it.image; made = it.made }
+    record { later = it.later; all = it.all; count = omega (arith, e); image = it.image; made = it.made }
 
 past_end_there : (ps : List Piece) (index : ℕ) → Refused 0 empty ps (PiecePastEnd index) → IsPastEnd ps index
 past_end_there ps index it =
@@ -176,7 +180,7 @@ past_end_back : (ps : List Piece) (index : ℕ) → IsPastEnd ps index → with_
 past_end_back ps index h =
     let test : nat_lt (2 ^ 64) (h.piece.address + length h.piece.bytes.now) ≡ true = grind (arith, nat_tests, h.past) in
     let why : add_refusal h.behind.image h.piece.address h.piece.bytes.now ≡ Some PastEnd = rw test refl in
-    let same : 0 + length h.earlier ≡ index = omega (arith, h.behind.index) in
+    let same : 0 + length h.earlier ≡ index = omega (arith, h.behind.count) in
     subst (λ l. with_pieces 0 empty l ≡ Err (PiecePastEnd index)) (sym h.behind.all)
     (refuse h.earlier 0 empty h.behind.image h.piece h.behind.later PastEnd h.behind.made why
     ∙ ap (λ k. Err (PiecePastEnd k)) same)
@@ -259,7 +263,7 @@ overlap_back ps index a h =
     let test : nat_lt (2 ^ 64) (h.piece.address + length h.piece.bytes.now) ≡ false = grind (arith, nat_tests, h.fits) in
     let first = shared_first h.behind.image h.piece h.earlier a h.behind.made h.own h.taken h.least in
     let why : add_refusal h.behind.image h.piece.address h.piece.bytes.now ≡ Some (Twice a) = rw (test, first) refl in
-    let same : 0 + length h.earlier ≡ index = omega (arith, h.behind.index) in
+    let same : 0 + length h.earlier ≡ index = omega (arith, h.behind.count) in
     subst (λ l. with_pieces 0 empty l ≡ Err (PiecesOverlap index a)) (sym h.behind.all)
     (refuse h.earlier 0 empty h.behind.image h.piece h.behind.later (Twice a) h.behind.made why
     ∙ ap (λ k. Err (PiecesOverlap k a)) same)

@@ -1,5 +1,5 @@
 -- The numbers that say a result.
-use Rattle.std.specs.Prelude.{ℕ, ◌×◌, ◌++◌, Bool, true, false, List, [], ◌∷◌, length, take, drop, map, Option, Some, None, Result, Ok, Err}
+use Rattle.std.specs.Prelude.{ℕ, ◌++◌, Bool, true, false, List, [], ◌∷◌, length, take, drop, map, Option, Some, None, Result, Ok, Err}
 use Rattle.acpi_base.specs.Codes.{code_number, stage_number, stage_of}
 use Rattle.acpi_base.specs.Lint.Rules.{rule_number}
 use Rattle.acpi_base.specs.declared.rule.Advice.{Advice}

@@ -32,7 +32,7 @@ PiecesMean =
 pub record StandsBehind (pieces : List Piece) (index : ℕ) (p : Piece) (earlier : List Piece) : Type 0 where
   pub later : List Piece
   pub all : pieces ≡ earlier ++ (p ∷ later)
-  pub index : length earlier ≡ index
+  pub count : length earlier ≡ index
   pub image : Memory
   pub made : with_pieces 0 empty earlier ≡ Ok image
 

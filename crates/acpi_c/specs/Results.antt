@@ -1,5 +1,5 @@
 -- What each call finds, or why it is refused.
-use Rattle.std.specs.Prelude.{◌≡◌, ◌↔◌, ℕ, ◌⊎◌, ◌×◌, Bool, IsTrue, List, Option, Some, None, Result, Ok, Err}
+use Rattle.std.specs.Prelude.{◌≡◌, ◌↔◌, ℕ, ◌⊎◌, Bool, IsTrue, List, Option, Some, None, Result, Ok, Err}
 use Rattle.std.specs.Option.{option_or}
 use Rattle.acpi_base.specs.Codes.{code_number, stage_number}
 use Rattle.acpi_base.specs.Faults.{Fault, IsVerdict}
@@ -65,15 +65,14 @@ Confirms source settings inputs f (Err r) =
 -- ---- all findings
 
 -- these are the faults and the advice that are reported of the image
-pub record Reports (source : Source) (settings : Settings) (inputs : List Inputs) (faults : List Witness) (advice : List Advice)
-: Type 0 where
+pub record Reports (source : Source) (settings : Settings) (inputs : List Inputs) (found : List Witness × List Advice) : Type 0 where
   pub image : Memory
   pub policy : PolicyValue
   pub asked : Asks source settings inputs image policy
-  pub findings : AreFindings image policy faults advice
+  pub findings : AreFindings image policy found.0 found.1
 
 abbrev pub Lints : Source → Settings → List Inputs → Result (List Witness × List Advice) Refusal → Type 0
-Lints source settings inputs (Ok found) = Reports source settings inputs found.0 found.1
+Lints source settings inputs (Ok found) = Reports source settings inputs found
 Lints source settings inputs (Err r) = IsRefusal (policy_refusal settings inputs) source r
 
 -- ---- the search for the RSDP

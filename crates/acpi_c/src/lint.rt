@@ -27,8 +27,8 @@ fn searched(
     settings: &Settings,
 ) -> Result<Findings, Refusal>
     ensures { MatchResult result
-        (λ found. Reports (pieces_source pieces.now) settings.now inputs.now found.faults.items
-            found.advice.items)
+        (λ found. Reports (pieces_source pieces.now) settings.now inputs.now
+            (found.faults.items, found.advice.items))
         (IsRefusal (policy_refusal settings.now inputs.now) (pieces_source pieces.now)) }
 {
     let policy = policy_of(alloc, settings, inputs)?;

@@ -13,12 +13,32 @@ use crate::entry_types::EntryTypes;
 use crate::processors::{GICC, GICC_AFFINITY};
 use crate::unread::GICD;
 use acpi_base::{Code, Rule};
-use acpi_read::{
-    AddressOverride, ApicDomain, EntryKind, IoApic, LocalApic, LocalNmi, MemoryRange, NmiSource,
-    Override, X2apic, X2apicDomain, X2apicNmi,
-};
 
 // ---- the MADT (ACPI 6.5, 5.2.12)
+
+/// The type of a local APIC.
+const LOCAL_APIC: u8 = 0;
+
+/// The type of an I/O APIC.
+pub const IO_APIC: u8 = 1;
+
+/// The type of an override.
+pub const OVERRIDE: u8 = 2;
+
+/// The type of an NMI source.
+pub const NMI_SOURCE: u8 = 3;
+
+/// The type of a local APIC NMI.
+const LOCAL_NMI: u8 = 4;
+
+/// The type of an address override.
+const ADDRESS_OVERRIDE: u8 = 5;
+
+/// The type of a local x2APIC.
+const X2APIC: u8 = 9;
+
+/// The type of a local x2APIC NMI.
+const X2APIC_NMI: u8 = 10;
 
 /// Whether a rule on the MADT alone may be broken where its entries have these types. A `true` says nothing.
 pub fn may_break_in_madt(rule: Rule, types: &EntryTypes) -> bool
@@ -26,12 +46,12 @@ pub fn may_break_in_madt(rule: Rule, types: &EntryTypes) -> bool
         → result ≡ false → FindsLeast (MadtRule rule madt) None }
 {
     match rule {
-        Rule::SameUid => types.has_any(&[LocalApic::TYPE, X2apic::TYPE, GICC]),
-        Rule::SameApicId => types.has_any(&[LocalApic::TYPE, X2apic::TYPE, GICC]),
-        Rule::IoApicAtZero => types.has(IoApic::TYPE),
-        Rule::SameIoApicId => types.has(IoApic::TYPE),
-        Rule::SameIoApicAddress => types.has(IoApic::TYPE),
-        Rule::NmiNowhere => types.has_any(&[LocalNmi::TYPE, X2apicNmi::TYPE]),
+        Rule::SameUid => types.has_any(&[LOCAL_APIC, X2APIC, GICC]),
+        Rule::SameApicId => types.has_any(&[LOCAL_APIC, X2APIC, GICC]),
+        Rule::IoApicAtZero => types.has(IO_APIC),
+        Rule::SameIoApicId => types.has(IO_APIC),
+        Rule::SameIoApicAddress => types.has(IO_APIC),
+        Rule::NmiNowhere => types.has_any(&[LOCAL_NMI, X2APIC_NMI]),
         Rule::SecondGicd => types.has(GICD),
         _ => true,
     }
@@ -44,29 +64,33 @@ pub fn may_be_at_fault_in_madt(code: Code, types: &EntryTypes) -> bool
 {
     match code {
         Code::MadtEntryLength => types.has_any(&[
-            LocalApic::TYPE,
-            IoApic::TYPE,
-            Override::TYPE,
-            NmiSource::TYPE,
-            LocalNmi::TYPE,
-            AddressOverride::TYPE,
-            X2apic::TYPE,
-            X2apicNmi::TYPE,
+            LOCAL_APIC,
+            IO_APIC,
+            OVERRIDE,
+            NMI_SOURCE,
+            LOCAL_NMI,
+            ADDRESS_OVERRIDE,
+            X2APIC,
+            X2APIC_NMI,
         ]),
-        Code::OverrideBus => types.has(Override::TYPE),
-        Code::ReservedInti => types.has_any(&[
-            Override::TYPE,
-            NmiSource::TYPE,
-            LocalNmi::TYPE,
-            X2apicNmi::TYPE,
-        ]),
-        Code::SecondAddressOverride => types.has(AddressOverride::TYPE),
-        Code::GsiPastEnd => types.has(IoApic::TYPE),
+        Code::OverrideBus => types.has(OVERRIDE),
+        Code::ReservedInti => types.has_any(&[OVERRIDE, NMI_SOURCE, LOCAL_NMI, X2APIC_NMI]),
+        Code::SecondAddressOverride => types.has(ADDRESS_OVERRIDE),
+        Code::GsiPastEnd => types.has(IO_APIC),
         _ => true,
     }
 }
 
 // ---- the SRAT (ACPI 6.5, 5.2.16)
+
+/// The type of an affinity of a local APIC.
+const APIC_AFFINITY: u8 = 0;
+
+/// The type of a range of memory.
+pub const MEMORY_RANGE: u8 = 1;
+
+/// The type of an affinity of a local x2APIC.
+const X2APIC_AFFINITY: u8 = 2;
 
 /// Whether a rule on the SRAT alone may be broken where its entries have these types. A `true` says nothing.
 pub fn may_break_in_srat(rule: Rule, types: &EntryTypes) -> bool
@@ -85,12 +109,8 @@ pub fn may_be_at_fault_in_srat(code: Code, types: &EntryTypes) -> bool
         → result ≡ false → FindsLeast (SratFault srat code) None }
 {
     match code {
-        Code::SratEntryLength => types.has_any(&[
-            ApicDomain::TYPE,
-            MemoryRange::TYPE,
-            X2apicDomain::TYPE,
-        ]),
-        Code::RangePastEnd => types.has(MemoryRange::TYPE),
+        Code::SratEntryLength => types.has_any(&[APIC_AFFINITY, MEMORY_RANGE, X2APIC_AFFINITY]),
+        Code::RangePastEnd => types.has(MEMORY_RANGE),
         _ => true,
     }
 }

@@ -13,7 +13,7 @@ ghost use Rattle.acpi_lint.specs.StageFaults.{FindsAdviceOfNumber};
 ghost use Rattle.acpi_lint.specs.TableRules.{FadtRule, MadtRule, SratRule, DomainRule, PpttRule, LeafRule};
 ghost use Rattle.acpi_lint.specs.WholeTables.{AreWholeTables};
 
-use crate::absent_types::{may_break_in_madt, may_break_in_srat};
+use crate::absent_types::{IO_APIC, may_break_in_madt, may_break_in_srat};
 use crate::nowhere::domain_past_slit;
 use crate::place::Place;
 use crate::sci::sci_nowhere;
@@ -22,7 +22,6 @@ use crate::slot_advice::{listed_apart, listed_twice, second_table};
 use crate::table_rules::{domain_rule, fadt_rule, leaf_rule, madt_rule, pptt_rule, srat_rule};
 use crate::whole_tables::WholeTables;
 use acpi_base::{Advice, Image, Policy, Rule, TableKind};
-use acpi_read::{EntryKind, IoApic};
 use std::alloc::{AllocError, Global};
 
 /// The first finding of a rule on a set's FADT alone.
@@ -121,7 +120,7 @@ fn of_sci(tables: &WholeTables<'_>, policy: &Policy) -> Option<Place>
 {
     let fadt = tables.fadt()?;
     let madt = tables.madt()?;
-    if !tables.madt_types.has(IoApic::TYPE) {
+    if !tables.madt_types.has(IO_APIC) {
         return None;
     }
     sci_nowhere(policy, &fadt, &madt)

@@ -12,6 +12,7 @@ ghost use Rattle.acpi_lint.specs.Places.{FindsLeast};
 ghost use Rattle.acpi_lint.specs.StageFaults.{IsFaultOfStage, FindsFirstAt};
 ghost use Rattle.acpi_lint.specs.WholeTables.{AreWholeTables};
 
+use crate::absent_types::{IO_APIC, MEMORY_RANGE, NMI_SOURCE, OVERRIDE};
 use crate::madt::madt_cut;
 use crate::place::Place;
 use crate::verdicts::place_of;
@@ -21,7 +22,7 @@ use acpi_check::{
     Chain, agreeing_overrides, apart_interrupts, apart_ranges, first_cycle, known_leaves,
     named_served, one_domain,
 };
-use acpi_read::{EntryKind, IoApic, Madt, MemoryRange, NmiSource, Override, Pptt};
+use acpi_read::{Madt, Pptt};
 use std::alloc::{AllocError, Global};
 
 /// The place of the first override of a set's MADT that gives its Source another interrupt number than an earlier one.
@@ -36,7 +37,7 @@ pub fn override_clash(
     let Some(madt) = tables.madt() else {
         return Ok(None);
     };
-    if !tables.madt_types.has(Override::TYPE) {
+    if !tables.madt_types.has(OVERRIDE) {
         return Ok(None);
     }
     place_of(agreeing_overrides(&madt))
@@ -55,13 +56,10 @@ pub fn gsi_nowhere(
     let Some(madt) = tables.madt() else {
         return Ok(None);
     };
-    if !tables.madt_types.has(IoApic::TYPE) {
+    if !tables.madt_types.has(IO_APIC) {
         return Ok(None);
     }
-    if !tables
-        .madt_types
-        .has_any(&[Override::TYPE, NmiSource::TYPE])
-    {
+    if !tables.madt_types.has_any(&[OVERRIDE, NMI_SOURCE]) {
         return Ok(None);
     }
     place_of(named_served(alloc, policy, &madt))
@@ -79,7 +77,7 @@ pub fn gsi_clash(
     let Some(madt) = tables.madt() else {
         return Ok(None);
     };
-    if !tables.madt_types.has(IoApic::TYPE) {
+    if !tables.madt_types.has(IO_APIC) {
         return Ok(None);
     }
     place_of(apart_interrupts(alloc, policy, &madt))
@@ -97,7 +95,7 @@ pub fn overlap(
     let Some(srat) = tables.srat() else {
         return Ok(None);
     };
-    if !tables.srat_types.has(MemoryRange::TYPE) {
+    if !tables.srat_types.has(MEMORY_RANGE) {
         return Ok(None);
     }
     place_of(apart_ranges(alloc, policy.hotplug(), &srat))
