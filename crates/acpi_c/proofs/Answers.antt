@@ -1,9 +1,10 @@
 -- One verdict on one image, and what a search finds.
 use Rattle.std.proofs.Common.{◌≡◌, ◌⊎◌, inl, inr, ℕ, ◌∙◌, List, Option, Some, None, Result, Ok, Err, sym, subst, ap, refl}
-use Rattle.std.specs.Prelude.{IfSome, IsNone}
+use Rattle.std.specs.Prelude.{◌↔◌, Bool, IfSome, IsNone, IsTrue}
 use Rattle.std.specs.FinMap.{empty}
-use Rattle.acpi_base.specs.Codes.{stage_number}
-use Rattle.acpi_base.specs.Faults.{IsVerdict}
+use Rattle.acpi_base.specs.Codes.{code_number, stage_number}
+use Rattle.acpi_base.specs.Faults.{Fault, IsVerdict}
+use Rattle.acpi_base.specs.Lint.Findings.{AreFindings}
 use Rattle.acpi_base.specs.Memory.{Memory}
 use Rattle.acpi_base.specs.Policy.{PolicyValue}
 use Rattle.acpi_base.specs.RsdpSearch.{IsFound, IsNowhere}
@@ -12,12 +13,16 @@ use Rattle.acpi_base.specs.Text.TextLaws.{RunReadsText}
 use Rattle.acpi_base.specs.Text.TextMachine.{ReaderState, EndsAs, initial_state, text_result, run}
 use Rattle.acpi_base.proofs.Faults.Laws.{one_verdict}
 use Rattle.acpi_base.proofs.Faults.Numbers.{same_stage}
+use Rattle.acpi_base.specs.declared.code.Code.{Code}
+use Rattle.acpi_base.specs.declared.rule.Advice.{Advice}
 use Rattle.acpi_base.specs.declared.stage.Stage.{Stage}
 use Rattle.acpi_base.specs.declared.verdict.Verdict.{Verdict}
+use Rattle.acpi_base.specs.declared.witness.Witness.{Witness}
 use Rattle.acpi_c.specs.Laws.{OneAnswer}
-use Rattle.acpi_c.specs.Results.{Finds, Judges}
+use Rattle.acpi_c.specs.Results.{Finds, Judges, Reports, Tells}
 use Rattle.acpi_c.specs.Settings.{policy_of}
 use Rattle.acpi_c.specs.Sources.{Source}
+use Rattle.acpi_c.specs.declared.answer.Finding.{Finding}
 use Rattle.acpi_c.specs.declared.refusal.Refusal.{Refusal}
 use Rattle.acpi_c.specs.declared.refusal.Refusal.TheVariants.{OutOfMemory}
 use Rattle.acpi_c.specs.declared.settings.Inputs.{Inputs}
@@ -47,6 +52,34 @@ judges source settings inputs m q last v is policy through verdict =
       last = last;
       through = through;
       verdict = verdict;
+    }
+
+pub tells : (source : Source) (settings : Settings) (inputs : List Inputs) (f : Finding) (m : Memory) (q : PolicyValue) (code : Code)
+    (b : Bool) → source.Is m
+    → (◌≡◌ {A = Result PolicyValue Refusal} (Ok q) (Err OutOfMemory)) ⊎ (Ok q ≡ policy_of settings inputs)
+    → code_number code ≡ f.number
+    → IsTrue b ↔ Fault m q (record { code = code; at = f.at; other = f.other; point = f.point })
+    → Tells source settings inputs f b
+tells source settings inputs f m q code b is policy number fault =
+    record {
+      image = m;
+      policy = q;
+      asked = record { image = is; policy = ok_policy q (policy_of settings inputs) policy };
+      code = code;
+      number = number;
+      fault = fault;
+    }
+
+pub reports : (source : Source) (settings : Settings) (inputs : List Inputs) (m : Memory) (q : PolicyValue) (faults : List Witness)
+    (advice : List Advice) → source.Is m
+    → (◌≡◌ {A = Result PolicyValue Refusal} (Ok q) (Err OutOfMemory)) ⊎ (Ok q ≡ policy_of settings inputs)
+    → AreFindings m q faults advice → Reports source settings inputs (faults, advice)
+reports source settings inputs m q faults advice is policy found =
+    record {
+      image = m;
+      policy = q;
+      asked = record { image = is; policy = ok_policy q (policy_of settings inputs) policy };
+      findings = found;
     }
 
 -- ---- one verdict

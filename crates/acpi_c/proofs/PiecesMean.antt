@@ -87,7 +87,7 @@ all_mean (p ∷ ps) i m n e a b =
           λ x. elim (rest.0 x)
               [ inl y ↦ elim (one.0 y) [ inl z ↦ inl z | inr z ↦ inr (inl z) ] | inr y ↦ inr (inr y) ],
           λ x. elim x [
-            inl z ↦ rest.1 (inl (one.1 (inl z)))
+            | inl z ↦ rest.1 (inl (one.1 (inl z)))
             | inr y ↦ elim y [ inl z ↦ rest.1 (inl (one.1 (inr z))) | inr z ↦ rest.1 (inr z) ]
           ],
         )
@@ -105,6 +105,7 @@ same_byte (Some b) q h = sym ((h b).0 refl)
 
 pub one_image : OneImage
 one_image ps qs m n e f same =
-    same_memory m n (λ a. same_byte (byte_of m a) (byte_of n a) (λ b.
-    (λ h. (pieces_mean qs n f a b).1 ((same a b).0 ((pieces_mean ps m e a b).0 h)),
-    λ h. (pieces_mean ps m e a b).1 ((same a b).1 ((pieces_mean qs n f a b).0 h)))))
+    same_memory m n (λ a. same_byte (byte_of m a) (byte_of n a) (λ b. (
+      λ h. (pieces_mean qs n f a b).1 ((same a b).0 ((pieces_mean ps m e a b).0 h)),
+      λ h. (pieces_mean ps m e a b).1 ((same a b).1 ((pieces_mean qs n f a b).0 h)),
+    )))

@@ -134,7 +134,7 @@ first_found f a (suc n) x e = go (λ h. first_found f (a + 1) n x h) (is_some (f
           below = omega (arith, rest.below);
           some = rest.some;
           none = λ y l m. elim (cases_lt a y) [
-            inl above ↦ rest.none y (omega arith) m
+            | inl above ↦ rest.none y (omega arith) m
             | inr at ↦ (let same : a ≡ y = omega arith in nothing (f y) (subst (λ z. is_some (f z) ≡ false) same s))
           ];
         }
@@ -253,7 +253,7 @@ shared_first m p earlier a made own taken least =
         go None e = refl
         go (Some c) e =
             let mine = value_of (byte_at p (p.address + j))
-                (held_some (run_at p.address p.bytes.now) (p.address + j) (omega arith) (omega (arith, inside, below))) in
+            (held_some (run_at p.address p.bytes.now) (p.address + j) (omega arith) (omega (arith, inside, below))) in
             let theirs = (pieces_mean earlier m made (p.address + j) c).0 e in
             let above = least (p.address + j) mine.0 c (byte_at_has p (p.address + j) mine.0 mine.1) theirs in
             absurd (omega (arith, above, below))

@@ -33,9 +33,9 @@ abbrev pub settings_policy : Settings → Result PolicyValue Refusal
 settings_policy s =
     if s.size == 32
     then given (count_of s.default_inputs) refusal.DefaultInputs (λ count.
-         given (hotplug_of s.hotplug) refusal.HotPlug (λ hotplug.
-         given (processors_of s.processors) refusal.Processors (λ processors.
-         Ok (record (new_policy s.rsdp count) { hotplug = hotplug; processors = processors }))))
+    given (hotplug_of s.hotplug) refusal.HotPlug (λ hotplug.
+    given (processors_of s.processors) refusal.Processors (λ processors.
+    Ok (record (new_policy s.rsdp count) { hotplug = hotplug; processors = processors }))))
     else Err refusal.Size
 
 -- the policy with these numbers of inputs, of which the first one has this index: the first number of an address counts

@@ -24,12 +24,12 @@ mod refusal;
 mod settings;
 mod text;
 
+ghost use Rattle.std.specs.Prelude.{◌≡◌};
+
 pub use answer::{Answer, Finding};
 pub use kind::Kind;
 pub use pieces::Piece;
 pub use settings::{Inputs, Settings};
-
-ghost use Rattle.std.specs.Prelude.{◌≡◌};
 
 /// The version of the functions and the structs. It changes where one of them does.
 #[unsafe(no_mangle)]

@@ -1,6 +1,6 @@
 //! All findings, for C.
 
-ghost use Rattle.std.specs.Prelude.{◌≡◌, ◌×◌, ◌++◌, List, Result, Ok, IfOk, MatchResult, map};
+ghost use Rattle.std.specs.Prelude.{◌≡◌, ◌++◌, List, Result, Ok, IfOk, MatchResult, OnOk, map};
 ghost use Rattle.acpi_base.specs.declared.rule.Advice.{Advice};
 ghost use Rattle.acpi_base.specs.declared.witness.Witness.{Witness};
 ghost use Rattle.acpi_c.specs.Answers.{advice_finding, all_findings, fault_finding, lint_answer, written, written_over};
@@ -17,24 +17,26 @@ use crate::refusal::Refusal;
 use crate::settings::{Inputs, Settings, policy_of};
 use acpi_base::{Advice, Witness};
 use acpi_lint::{Findings, lint};
-use std::alloc::Global;
+use std::alloc::{AllocError, Global};
 
-/// All findings on the image of the pieces.
+/// All findings on the image of the pieces, and the same as numbers.
 fn searched(
     alloc: Global,
     pieces: &[Piece<'_>],
     inputs: &[Inputs],
     settings: &Settings,
-) -> Result<Findings, Refusal>
+) -> Result<(Findings, Vec<Finding>), Refusal>
     ensures { MatchResult result
-        (λ found. Reports (pieces_source pieces.now) settings.now inputs.now
-            (found.faults.items, found.advice.items))
+        (λ both. Reports (pieces_source pieces.now) settings.now inputs.now
+        (both.0.faults.items, both.0.advice.items)
+        × (both.1.items ≡ all_findings both.0.faults.items both.0.advice.items))
         (IsRefusal (policy_refusal settings.now inputs.now) (pieces_source pieces.now)) }
 {
     let policy = policy_of(alloc, settings, inputs)?;
     let image = image_of_pieces(alloc, pieces)?;
-    let findings = lint(alloc, &image, &policy)?;
-    Ok(findings)
+    let found = lint(alloc, &image, &policy)?;
+    let all = numbers_of(alloc, &found)?;
+    Ok((found, all))
 }
 
 /// A fault as numbers.
@@ -61,32 +63,35 @@ fn advice_finding(advice: &Advice) -> Finding
     }
 }
 
-/// Writes the faults to the array, as many as fit.
-fn write_faults(room: &mut [Finding], faults: &[Witness])
-    ensures { room.new ≡ written_over (map fault_finding faults.now) room.old }
+/// The faults as numbers, and behind them the advice.
+fn numbers_of(alloc: Global, found: &Findings) -> Result<Vec<Finding>, AllocError>
+    ensures { IfOk result (λ all.
+        all.items ≡ all_findings found.now.faults.items found.now.advice.items) }
 {
-    for (slot, fault) in room.iter_mut().zip(faults) {
-        *slot = fault_finding(fault);
+    let mut all = Vec::new(alloc);
+    for fault in &found.faults {
+        all.push(fault_finding(fault))?;
     }
+    add_advice(&mut all, &found.advice)?;
+    Ok(all)
 }
 
-/// Writes the findings of advice to the array, as many as fit.
-fn write_advice(room: &mut [Finding], advice: &[Advice])
-    ensures { room.new ≡ written_over (map advice_finding advice.now) room.old }
+/// Adds findings of advice as numbers.
+fn add_advice(all: &mut Vec<Finding>, advice: &[Advice]) -> Result<(), AllocError>
+    ensures { OnOk result (all.new.items ≡ all.old.items ++ map advice_finding advice.now) }
 {
-    for (slot, own) in room.iter_mut().zip(advice) {
-        *slot = advice_finding(own);
+    for own in advice {
+        all.push(advice_finding(own))?;
     }
+    Ok(())
 }
 
-/// Writes the faults, and behind them the advice.
-fn write_findings(room: &mut [Finding], found: &Findings)
-    ensures { room.new ≡ written_over (all_findings found.now.faults.items found.now.advice.items) room.old }
+/// Copies the findings to the array, as many as fit.
+fn copy_findings(room: &mut [Finding], all: &[Finding])
+    ensures { room.new ≡ written_over all.now room.old }
 {
-    write_faults(room, &found.faults);
-    if let Some(rest) = room.get_mut(found.faults.len()..) {
-        write_advice(rest, &found.advice);
-    }
+    let count = room.len().min(all.len());
+    room[..count].copy_from_slice(&all[..count]);
 }
 
 /// How many findings there are.
@@ -98,11 +103,7 @@ fn answer_of(found: &Findings) -> Answer
     } else {
         Kind::No
     };
-    Answer::with_two(
-        kind,
-        found.faults.len() as u64,
-        found.advice.len() as u64,
-    )
+    Answer::with_two(kind, found.faults.len() as u64, found.advice.len() as u64)
 }
 
 /// All that is wrong with the tables of the image that the pieces make up: the first fault of each code that has one, in the
@@ -129,8 +130,8 @@ pub extern "C" fn acpiset_lint(
         × (findings.new ≡ written found findings.old) }
 {
     match searched(alloc, pieces, inputs, settings) {
-        Ok(found) => {
-            write_findings(findings, &found);
+        Ok((found, all)) => {
+            copy_findings(findings, &all);
             answer_of(&found)
         }
         Err(refusal) => Answer::from(refusal),

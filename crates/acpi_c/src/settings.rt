@@ -115,11 +115,7 @@ fn add_inputs(policy: &mut Policy, index: usize, inputs: &Inputs) -> Result<(), 
 ///
 /// Refuses, in this order: as `settings_policy` does; `Inputs`, for the first number outside 1 to 256; `OutOfMemory`, which
 /// may also come in the place of a later `Inputs`.
-pub fn policy_of(
-    alloc: Global,
-    settings: &Settings,
-    inputs: &[Inputs],
-) -> Result<Policy, Refusal>
+pub fn policy_of(alloc: Global, settings: &Settings, inputs: &[Inputs]) -> Result<Policy, Refusal>
     ensures { (result ≡ Err Refusal.OutOfMemory) ⊎ (result ≡ policy_of settings.now inputs.now) }
 {
     let mut policy = settings_policy(alloc, settings)?;
