@@ -17,25 +17,27 @@ abbrev pub IsAdded : Memory → Piece → Result (Unit {0}) ImageFault → Type 
 IsAdded m p added =
     MatchOption (add_refusal m p.address p.bytes.now) (IsOkUnless added image.Memory) (λ fault. added ≡ Err fault)
 
+-- what the pieces behind this one make up, once it was added
+abbrev pub with_rest : List Piece → ℕ → Memory → Piece → Result Memory Refusal
+with_rest ps index m p = with_pieces (suc index) (with_bytes m p.address p.bytes.now) (drop (suc index) ps)
+
 -- the pieces from this index on are the one there, and those behind it
 next : (ps : List Piece) (index : ℕ) (d : Piece) (m : Memory) → index < length ps
     → with_pieces index m (drop index ps) ≡ with_pieces 0 empty ps
     → unless_refused (add_refusal m (get_or ps index d).address (get_or ps index d).bytes.now) index
-    (with_pieces (suc index) (with_bytes m (get_or ps index d).address (get_or ps index d).bytes.now) (drop (suc index) ps))
-    ≡ with_pieces 0 empty ps
+    (with_rest ps index m (get_or ps index d)) ≡ with_pieces 0 empty ps
 next ps index d m below so_far = ap (λ l. with_pieces index m l) (sym (drop-cons ps index d below)) ∙ so_far
 
-pub refused_piece : (ps : List Piece) (index : ℕ) (d : Piece) (m : Memory) (added : Result (Unit {0}) ImageFault) (fault : ImageFault)
-    (r : Refusal) → index < length ps → with_pieces index m (drop index ps) ≡ with_pieces 0 empty ps
+pub refused_piece : (ps : List Piece) (index : ℕ) (d : Piece) (m : Memory) (added : Result (Unit {0}) ImageFault)
+    (fault : ImageFault) (r : Refusal) → index < length ps
+    → with_pieces index m (drop index ps) ≡ with_pieces 0 empty ps
     → IsAdded m (get_or ps index d) added → added ≡ Err fault → r ≡ piece_refusal index fault
     → (r ≡ OutOfMemory) ⊎ (with_pieces 0 empty ps ≡ Err r)
 refused_piece ps index d m added fault r below so_far is err same =
     go (add_refusal m (get_or ps index d).address (get_or ps index d).bytes.now) is (next ps index d m below so_far)
   where
     go : (o : Option ImageFault) → MatchOption o (IsOkUnless added image.Memory) (λ f. added ≡ Err f)
-        → unless_refused o index
-        (with_pieces (suc index) (with_bytes m (get_or ps index d).address (get_or ps index d).bytes.now) (drop (suc index) ps))
-        ≡ with_pieces 0 empty ps
+        → unless_refused o index (with_rest ps index m (get_or ps index d)) ≡ with_pieces 0 empty ps
         → (r ≡ OutOfMemory) ⊎ (with_pieces 0 empty ps ≡ Err r)
     go (Some f) here all =
         let same_fault : f ≡ fault = cc in
@@ -44,8 +46,8 @@ refused_piece ps index d m added fault r below so_far is err same =
         let out : fault ≡ image.Memory = subst (λ a. IsOkUnless a image.Memory) err here in
         inl (same ∙ ap (λ x. piece_refusal index x) out)
 
-pub added_piece : (ps : List Piece) (index : ℕ) (d : Piece) (m n : Memory) (added : Result (Unit {0}) ImageFault) (x : Unit {0})
-    → index < length ps → with_pieces index m (drop index ps) ≡ with_pieces 0 empty ps
+pub added_piece : (ps : List Piece) (index : ℕ) (d : Piece) (m n : Memory) (added : Result (Unit {0}) ImageFault)
+    (x : Unit {0}) → index < length ps → with_pieces index m (drop index ps) ≡ with_pieces 0 empty ps
     → IsAdded m (get_or ps index d) added
     → OnOk added (n ≡ with_bytes m (get_or ps index d).address (get_or ps index d).bytes.now) → added ≡ Ok x
     → with_pieces (index + 1) n (drop (index + 1) ps) ≡ with_pieces 0 empty ps
@@ -57,10 +59,7 @@ added_piece ps index d m n added x below so_far is ok was =
     ∙ go (add_refusal m (get_or ps index d).address (get_or ps index d).bytes.now) is (next ps index d m below so_far))
   where
     go : (o : Option ImageFault) → MatchOption o (IsOkUnless added image.Memory) (λ f. added ≡ Err f)
-        → unless_refused o index
-        (with_pieces (suc index) (with_bytes m (get_or ps index d).address (get_or ps index d).bytes.now) (drop (suc index) ps))
-        ≡ with_pieces 0 empty ps
-        → with_pieces (suc index) (with_bytes m (get_or ps index d).address (get_or ps index d).bytes.now) (drop (suc index) ps)
-        ≡ with_pieces 0 empty ps
+        → unless_refused o index (with_rest ps index m (get_or ps index d)) ≡ with_pieces 0 empty ps
+        → with_rest ps index m (get_or ps index d) ≡ with_pieces 0 empty ps
     go (Some f) here all = absurd (cc)
     go None here all = all

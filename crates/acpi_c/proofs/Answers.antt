@@ -36,13 +36,16 @@ finds source m (Some p) is some none = (m, is, some)
 
 -- ---- a verdict on what was passed
 
-ok_policy : (q : PolicyValue) (policy : Result PolicyValue Refusal) → (◌≡◌ {A = Result PolicyValue Refusal} (Ok q) (Err OutOfMemory)) ⊎ (Ok q ≡ policy)
-    → policy ≡ Ok q
+-- a policy that was read is that of the settings
+abbrev pub IsRead : PolicyValue → Result PolicyValue Refusal → Type 0
+IsRead q policy = (◌≡◌ {A = Result PolicyValue Refusal} (Ok q) (Err OutOfMemory)) ⊎ (Ok q ≡ policy)
+
+ok_policy : (q : PolicyValue) (policy : Result PolicyValue Refusal) → IsRead q policy → policy ≡ Ok q
 ok_policy q policy (inl never) = absurd (cc)
 ok_policy q policy (inr is) = sym is
 
-pub judges : (source : Source) (settings : Settings) (inputs : List Inputs) (m : Memory) (q : PolicyValue) (last : Stage) (v : Verdict)
-    → source.Is m → (◌≡◌ {A = Result PolicyValue Refusal} (Ok q) (Err OutOfMemory)) ⊎ (Ok q ≡ policy_of settings inputs)
+pub judges : (source : Source) (settings : Settings) (inputs : List Inputs) (m : Memory) (q : PolicyValue)
+    (last : Stage) (v : Verdict) → source.Is m → IsRead q (policy_of settings inputs)
     → stage_number last ≡ settings.through → IsVerdict last m q v → Judges source settings inputs v
 judges source settings inputs m q last v is policy through verdict =
     record {
@@ -54,9 +57,8 @@ judges source settings inputs m q last v is policy through verdict =
       verdict = verdict;
     }
 
-pub tells : (source : Source) (settings : Settings) (inputs : List Inputs) (f : Finding) (m : Memory) (q : PolicyValue) (code : Code)
-    (b : Bool) → source.Is m
-    → (◌≡◌ {A = Result PolicyValue Refusal} (Ok q) (Err OutOfMemory)) ⊎ (Ok q ≡ policy_of settings inputs)
+pub tells : (source : Source) (settings : Settings) (inputs : List Inputs) (f : Finding) (m : Memory) (q : PolicyValue)
+    (code : Code) (b : Bool) → source.Is m → IsRead q (policy_of settings inputs)
     → code_number code ≡ f.number
     → IsTrue b ↔ Fault m q (record { code = code; at = f.at; other = f.other; point = f.point })
     → Tells source settings inputs f b
@@ -70,9 +72,8 @@ tells source settings inputs f m q code b is policy number fault =
       fault = fault;
     }
 
-pub reports : (source : Source) (settings : Settings) (inputs : List Inputs) (m : Memory) (q : PolicyValue) (faults : List Witness)
-    (advice : List Advice) → source.Is m
-    → (◌≡◌ {A = Result PolicyValue Refusal} (Ok q) (Err OutOfMemory)) ⊎ (Ok q ≡ policy_of settings inputs)
+pub reports : (source : Source) (settings : Settings) (inputs : List Inputs) (m : Memory) (q : PolicyValue)
+    (faults : List Witness) (advice : List Advice) → source.Is m → IsRead q (policy_of settings inputs)
     → AreFindings m q faults advice → Reports source settings inputs (faults, advice)
 reports source settings inputs m q faults advice is policy found =
     record {
@@ -97,7 +98,8 @@ pub one_answer : OneAnswer
 one_answer pieces text m settings inputs v w made is one other =
     let image : one.image ≡ m = ok_same one.image m (sym one.asked.image ∙ made) in
     let same : other.image ≡ one.image = text_image text other.image m other.asked.image is ∙ sym image in
-    let policy : other.policy ≡ one.policy = ok_same other.policy one.policy (sym other.asked.policy ∙ one.asked.policy) in
+    let policy : other.policy ≡ one.policy =
+        ok_same other.policy one.policy (sym other.asked.policy ∙ one.asked.policy) in
     let last : other.last ≡ one.last = same_stage other.last one.last (other.through ∙ sym one.through) in
     one_verdict one.last one.image one.policy v w one.verdict
     (subst (λ s. IsVerdict s one.image one.policy w) last

@@ -73,7 +73,8 @@ all_mean [] i m n e a b = (λ h. inl (subst (λ o. byte_of o a ≡ Some b) (sym 
     back (inl h) = subst (λ o. byte_of o a ≡ Some b) (ok e) h
     back (inr never) = absurd never
 all_mean (p ∷ ps) i m n e a b =
-    go (λ h. all_mean ps (suc i) (with_bytes m p.address p.bytes.now) n h a b) (add_refusal m p.address p.bytes.now) refl e
+    go (λ h. all_mean ps (suc i) (with_bytes m p.address p.bytes.now) n h a b)
+    (add_refusal m p.address p.bytes.now) refl e
   where
     go : (with_pieces (suc i) (with_bytes m p.address p.bytes.now) ps ≡ Ok n
         → (byte_of n a ≡ Some b) ↔ ((byte_of (with_bytes m p.address p.bytes.now) a ≡ Some b) ⊎ HaveByte ps a b))
@@ -95,7 +96,8 @@ all_mean (p ∷ ps) i m n e a b =
 pub pieces_mean : PiecesMean
 pieces_mean ps m e a b =
     let all = all_mean ps 0 empty m e a b in
-    (λ h. elim (all.0 h) [ inl never ↦ absurd (cc (sym (get-empty nat_cmp a) ∙ never)) | inr s ↦ s ], λ s. all.1 (inr s))
+    let nothing : byte_of empty a ≡ Some b → ⊥ = λ h. cc (sym (get-empty nat_cmp a) ∙ h) in
+    (λ h. elim (all.0 h) [ inl never ↦ absurd (nothing never) | inr s ↦ s ], λ s. all.1 (inr s))
 
 -- the images have the same byte at an address, if what the one has the other has
 same_byte : (o q : Option ℕ) → ((b : ℕ) → (o ≡ Some b) ↔ (q ≡ Some b)) → o ≡ q

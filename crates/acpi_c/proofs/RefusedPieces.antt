@@ -154,7 +154,8 @@ value_of (Some b) s = (b, refl)
 
 -- ---- past the last address
 
-past_fault : (fault : ImageFault) (k index : ℕ) → PiecePastEnd index ≡ piece_refusal k fault → (fault ≡ PastEnd) × (k ≡ index)
+past_fault : (fault : ImageFault) (k index : ℕ) → PiecePastEnd index ≡ piece_refusal k fault
+    → (fault ≡ PastEnd) × (k ≡ index)
 past_fault image.PastEnd k index e = (refl, cc)
 past_fault (image.Twice a) k index e = absurd (cc)
 past_fault image.Memory k index e = absurd (cc)
@@ -168,7 +169,8 @@ behind ps r index it e =
 past_end_there : (ps : List Piece) (index : ℕ) → Refused 0 empty ps (PiecePastEnd index) → IsPastEnd ps index
 past_end_there ps index it =
     let known = past_fault it.fault (0 + length it.earlier) index it.same in
-    let test = past_end _ _ (subst (λ f. add_refusal it.image it.piece.address it.piece.bytes.now ≡ Some f) known.0 it.why) in
+    let why = subst (λ f. add_refusal it.image it.piece.address it.piece.bytes.now ≡ Some f) known.0 it.why in
+    let test = past_end _ _ why in
     record {
       piece = it.piece;
       earlier = it.earlier;
@@ -198,15 +200,18 @@ overlap_fault (image.Twice b) k index a e = (let same : b ≡ a = cc in ap (λ x
 overlap_fault image.Memory k index a e = absurd (cc)
 
 -- the piece has a byte at its first address that is held
-own_byte : (m : Memory) (p : Piece) (a : ℕ) → IsFirstAt (byte_of m) p.address (length p.bytes.now) a → (b : ℕ) × HasByte p a b
+own_byte : (m : Memory) (p : Piece) (a : ℕ) → IsFirstAt (byte_of m) p.address (length p.bytes.now) a
+    → (b : ℕ) × HasByte p a b
 own_byte m p a first =
     let found = value_of (byte_at p a) (held_some (run_at p.address p.bytes.now) a first.from first.below) in
     (found.0, byte_at_has p a found.0 found.1)
 
 -- no lesser address of the piece is one of the earlier pieces'
 least_shared : (m : Memory) (p : Piece) (earlier : List Piece) (a : ℕ) → with_pieces 0 empty earlier ≡ Ok m
-    → IsFirstAt (byte_of m) p.address (length p.bytes.now) a → (x b c : ℕ) → HasByte p x b → HaveByte earlier x c → a ≤ x
-least_shared m p earlier a made first x b c own there = elim (cases_lt x a) [ inl below ↦ absurd (never below) | inr above ↦ above ]
+    → IsFirstAt (byte_of m) p.address (length p.bytes.now) a
+    → (x b c : ℕ) → HasByte p x b → HaveByte earlier x c → a ≤ x
+least_shared m p earlier a made first x b c own there =
+    elim (cases_lt x a) [ inl below ↦ absurd (never below) | inr above ↦ above ]
   where
     never : x < a → ⊥
     never below =
@@ -217,7 +222,8 @@ least_shared m p earlier a made first x b c own there = elim (cases_lt x a) [ in
 overlap_there : (ps : List Piece) (index a : ℕ) → Refused 0 empty ps (PiecesOverlap index a) → IsOverlap ps index a
 overlap_there ps index a it =
     let known = overlap_fault it.fault (0 + length it.earlier) index a it.same in
-    let tests = overlap _ _ a (subst (λ f. add_refusal it.image it.piece.address it.piece.bytes.now ≡ Some f) known.0 it.why) in
+    let why = subst (λ f. add_refusal it.image it.piece.address it.piece.bytes.now ≡ Some f) known.0 it.why in
+    let tests = overlap _ _ a why in
     let first = first_found (byte_of it.image) it.piece.address (length it.piece.bytes.now) a tests.1 in
     let taken = value_of (byte_of it.image a) first.some in
     record {
@@ -258,9 +264,11 @@ shared_first m p earlier a made own taken least =
             let above = least (p.address + j) mine.0 c (byte_at_has p (p.address + j) mine.0 mine.1) theirs in
             absurd (omega (arith, above, below))
 
-overlap_back : (ps : List Piece) (index a : ℕ) → IsOverlap ps index a → with_pieces 0 empty ps ≡ Err (PiecesOverlap index a)
+overlap_back : (ps : List Piece) (index a : ℕ) → IsOverlap ps index a
+    → with_pieces 0 empty ps ≡ Err (PiecesOverlap index a)
 overlap_back ps index a h =
-    let test : nat_lt (2 ^ 64) (h.piece.address + length h.piece.bytes.now) ≡ false = grind (arith, nat_tests, h.fits) in
+    let test : nat_lt (2 ^ 64) (h.piece.address + length h.piece.bytes.now) ≡ false =
+        grind (arith, nat_tests, h.fits) in
     let first = shared_first h.behind.image h.piece h.earlier a h.behind.made h.own h.taken h.least in
     let why : add_refusal h.behind.image h.piece.address h.piece.bytes.now ≡ Some (Twice a) = rw (test, first) refl in
     let same : 0 + length h.earlier ≡ index = omega (arith, h.behind.count) in
