@@ -8,6 +8,25 @@
 //! No function has a `requires`: whatever the addresses, bytes, counts and settings are, it returns an answer. C owes what the
 //! types say: pointers and lengths that hold. `bindings/c/acpiset.h` declares the functions for C.
 //!
+//! An example, of `crates/acpi_c/src/tests.rt`: the second piece has an address of the first one.
+//!
+//! ```rust
+//! let pieces = [
+//!     Piece {
+//!         address: 0x1000,
+//!         bytes: &[1, 2],
+//!     },
+//!     Piece {
+//!         address: 0xfff,
+//!         bytes: &[3, 4],
+//!     },
+//! ];
+//! let answer = acpiset_check(alloc, &pieces, &[], &SETTINGS);
+//! assert!(rt; answer.kind == Kind::PiecesOverlap.number());
+//! assert!(rt; answer.at == 1);
+//! assert!(rt; answer.other == 0x1000);
+//! ```
+//!
 //! `pieces` makes an image of pieces, `text` of a text; `settings` makes a policy; `refusal` says why a call is refused, and
 //! `answer` writes a result as numbers.
 #![tactic(auto)]
@@ -22,6 +41,8 @@ mod lint;
 mod pieces;
 mod refusal;
 mod settings;
+#[cfg(test)]
+mod tests;
 mod text;
 
 ghost use Rattle.std.specs.Prelude.{◌≡◌};
