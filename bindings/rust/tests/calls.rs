@@ -235,15 +235,11 @@ fn pieces_come_in_any_order_and_size() {
     pieces.reverse();
     assert_eq!(check(&pieces, &settings), verdict);
     for size in [1, 7, 64] {
-        let cut = |piece: Piece<'static>| {
-            (piece.address..)
-                .step_by(size)
-                .zip(piece.bytes.chunks(size))
-                .map(|(address, bytes)| Piece::new(address, bytes))
-                .collect::<Vec<_>>()
-        };
-        let leaked: &'static Image = Box::leak(Box::new(image.clone()));
-        let mut small: Vec<_> = leaked.pieces().into_iter().flat_map(cut).collect();
+        let mut small: Vec<_> = image
+            .pieces()
+            .iter()
+            .flat_map(|piece| cut(piece, size))
+            .collect();
         small.reverse();
         assert_eq!(
             (check(&small, &settings), &lint(&small, &settings)),
@@ -251,6 +247,16 @@ fn pieces_come_in_any_order_and_size() {
             "{size}"
         );
     }
+}
+
+/// The same bytes in pieces of this size, the last one less.
+fn cut<'a>(piece: &Piece<'a>, size: usize) -> Vec<Piece<'a>> {
+    let chunks = piece.bytes.chunks(size);
+    let addresses = (piece.address..).step_by(size);
+    addresses
+        .zip(chunks)
+        .map(|(address, bytes)| Piece::new(address, bytes))
+        .collect()
 }
 
 #[test]
