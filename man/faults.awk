@@ -96,5 +96,6 @@ in_block { print roff($0); next }
 END {
   flush_text()
   print ".SH SEE ALSO"
-  print ".BR acpiset (1)"
+  print ".BR acpiset (1),"
+  print ".BR acpiset (3)"
 }

@@ -16,7 +16,7 @@ FNR == 1 { type = "" }
 }
 /^ *ghost next_gives = / { yields = "next_gives " }
 /^}/ { type = yields = "" }
-/^ *(pub )?fn / {
+/^ *(pub )?(extern "C" )?fn / {
   is_public = $1 == "pub" || is_trait
   sub(/.*fn /, "")
   sub(/[^a-z0-9_].*/, "")

@@ -15,7 +15,9 @@ from pathlib import Path
 
 TOP = Path(__file__).resolve().parent.parent
 README = TOP / "README.md"
-CRATES = re.findall(r"^([a-z_]+):", (TOP / "crates.txt").read_text(), re.M)
+CRATES = re.findall(r"^([a-z_]+)(?: staticlib)?:", (TOP / "crates.txt").read_text(), re.M)
+# Those that are libraries for C: what they export is functions alone.
+FOR_C = re.findall(r"^([a-z_]+) staticlib:", (TOP / "crates.txt").read_text(), re.M)
 # A name without a crate in README's tables is of this one.
 BASE = "acpi_base"
 # The public calls of the program, which exports nothing, as tests/documents.sh has them; and its laws.
@@ -25,9 +27,9 @@ HEADLINE = {"acpi_check::check", "acpi_confirm::confirm", "acpi_cli::check_and_c
 
 IMPORT = re.compile(r"^ *(?:ghost |pub )?use Rattle\.(\w+)\.specs\.([\w.]+?)(?:\.\{(.*)\}| as (\w+))?;?$", re.M)
 # An item at the left margin, up to the line that ends it.
-ITEM = re.compile(r"^(?:pub )?(?:fn|impl|struct|trait)\b(?:[^\n]*(?:;|\{\})$|.*?^(?:\}|\{\})$)", re.M | re.S)
+ITEM = re.compile(r'^(?:pub )?(?:extern "C" )?(?:fn|impl|struct|trait)\b(?:[^\n]*(?:;|\{\})$|.*?^(?:\}|\{\})$)', re.M | re.S)
 # A function's name and what stands before its body.
-HEAD = re.compile(r"^ *(pub )?fn (\w+)(.*?)(?:^ *\{\}?$|;$| \{$)", re.M | re.S)
+HEAD = re.compile(r'^ *(pub )?(?:extern "C" )?fn (\w+)(.*?)(?:^ *\{\}?$|;$| \{$)', re.M | re.S)
 # What a trait, an impl or a struct says in ghost code, save proofs: what they prove stands in the trait.
 GHOST = re.compile(r"^ *(?:pub )?ghost (?!use|counted =|one_value =|laid =)(\w+)(.*?)[;,]$", re.M | re.S)
 
@@ -56,7 +58,7 @@ def imports(text):
 def private_types(path):
     """The types that it imports and that their library does not export."""
     for crate, module, _, _ in IMPORT.findall(path.read_text()):
-        if crate in CRATES and module.startswith("declared.") and library_of(crate).exists():
+        if crate in CRATES and crate not in FOR_C and module.startswith("declared.") and library_of(crate).exists():
             name = re.search(r"\.([A-Z]\w*)", module)[1]
             if name not in exported(crate):
                 yield name
@@ -81,8 +83,11 @@ def library_of(crate):
 
 @cache
 def exported(crate):
-    """The names that a library exports, and its public functions; of the program its public calls and its laws."""
+    """The names that a library exports, and its public functions; of a library for C the functions that C can call, and its laws;
+    of the program its public calls and its laws."""
     library = library_of(crate)
+    if crate in FOR_C:
+        return {name for path in sources(crate) for name in re.findall(r'^pub extern "C" fn (\w+)' if path.stem != "laws" else r"^pub fn (\w+)", path.read_text(), re.M)}
     if not library.exists():
         items = [(path, item) for path in sources(crate) for item in ITEM.findall(path.read_text())]
         calls = [(path, item, re.match(r"pub fn (\w+)", item)) for path, item in items]
@@ -107,7 +112,7 @@ def clauses(head):
 
 def promises(item, names):
     """The public functions and ghost parts of an item, each with what it says. Of a model a caller sees its type alone."""
-    free = re.match(r"pub fn (\w+)", item)
+    free = re.match(r'pub (?:extern "C" )?fn (\w+)', item)
     block = re.match(r"(?:pub (?:struct|trait)|impl(?:<[^>]*>)?) (?:(\w+)(?:<.*>)? for )?(\w+)", item)
     if free and free[1] in names:
         yield free[1], clauses(HEAD.match(item)[3])

@@ -22,12 +22,20 @@ same() { count "$1" "$(diff <(sort -u <<<"$2") <(sort -u <<<"$3") | grep '^[<>]'
 # within WHAT FIRST SECOND: each name of the first list is in the second.
 within() { count "$1" "$(comm -23 <(sort -u <<<"$2") <(sort -u <<<"$3"))"; }
 
+# The crates, and those that are libraries for C.
+crates=$(sed -n 's/^\([a-z_]*\)\( staticlib\)\{0,1\}:.*/\1/p' crates.txt)
+for_c=$(sed -n 's/^\([a-z_]*\) staticlib:.*/\1/p' crates.txt)
+
 # ---- edits: exported functions have wrong bodies that the prover must refuse
 
 # exports CRATE: the names that a library exports: those in `pub use` of src/lib.rt, and the functions of its public
-# modules. Laws stand apart.
+# modules; of a library for C the functions that C can call. Laws stand apart.
 exports() {
   local names module
+  if grep -qx "$1" <<<"$for_c"; then
+    cat "crates/$1"/src/*.rt | sed -n 's/^pub extern "C" fn \([a-z0-9_]*\).*/\1/p' | tr '\n' ' '
+    return
+  fi
   names=$(sed -n '/^pub use /,/;/p' "crates/$1"/src/lib.rt | sed 's/^pub use [a-z_:]*:://' | tr -cs 'A-Za-z0-9_' ' ')
   printf '%s ' "$names"
   for module in $names $(sed -n 's/^pub mod \([a-z_]*\);$/\1/p' "crates/$1"/src/lib.rt | grep -vx laws); do
@@ -56,7 +64,7 @@ functions() {
       next
     }
     /^}/ { type = "" }
-    /^ *(pub(\([a-z]+\))? )?fn / {
+    /^ *(pub(\([a-z]+\))? )?(extern "C" )?fn / {
       is_pub = $1 == "pub"
       is_law = !/->|&mut /
       part = /[{}]$/ ? "" : "head"
@@ -87,7 +95,7 @@ functions() {
 # Functions whose names differ in digits alone, as those of each width of a number, are a family: one edit is enough.
 family() { tr -d '0-9'; }
 
-for crate in $(sed -n 's/^\([a-z_]*\):.*/\1/p' crates.txt); do
+for crate in $crates; do
   all=$(functions "$crate")
   edited=$(for edit in "crates/$crate"/must-fail/*.edit; do basename "$edit" .edit; done | sed 's/-.*//')
   within "$crate: functions that no edit is named for" "$(sed -n 's/^+//p' <<<"$all" | family)" "$(family <<<"$edited")"
@@ -114,7 +122,7 @@ calls_told() {
     sed -n 's/^| `\([^`]*\)` | .* | \(.*\) |$/\1\t\2/p' | sed 's/one without a name/its one/; s/[`,]//g; s/$/ /'
 }
 
-for crate in $(sed -n 's/^\([a-z_]*\):.*/\1/p' crates.txt); do
+for crate in $crates; do
   same "$crate: public calls and their clauses (<) and those of PROMISES.md (>)" "$(calls "$crate")" "$(calls_told "$crate")"
 done
 refusals=$(sed -n '/^## Every public call$/,/^## Wrong/p' docs/PROMISES.md | sed -n 's/^| `[^`]*` | \(.*\) | .* |$/\1/p' | grep -o '`[A-Za-z]*`' | tr -d '`')
@@ -131,6 +139,7 @@ within 'runs of which a sample of requests is refused, and that PROMISES.md does
 bare() { sed 's/^ *//; s/ *\/\/ .*$//'; }
 
 for head in crates/*/src/lib.rt; do
+  grep -qx "$(cut -d / -f 2 <<<"$head")" <<<"$for_c" && continue
   example=$(sed -n '/^\/\/! ```rust$/,/^\/\/! ```$/s/^\/\/! \{0,1\}//p' "$head" | grep -v '^```' | bare)
   found=
   for file in $(grep -rlF "$(tail -n 1 <<<"$example")" crates/*/src); do
@@ -180,14 +189,14 @@ contracts=$(
 same 'the contracts of the headline, as README has them (<) and in the code (>)' "$headline" "$contracts"
 
 count 'definitions that public contracts rest on' "$(tests/definitions.py 2>&1)"
-for crate in $(sed -n 's/^\([a-z_]*\):.*/\1/p' crates.txt); do
+for crate in $crates; do
   files=$(for file in "crates/$crate"/specs/*.antt; do basename "$file" .antt; done | grep -vx Lib)
   part=$(sed -n '/^## Definitions$/,/^## /p' docs/ARCHITECTURE.md)
   [ "$crate" = acpi_base ] || part=$(grep "^| \`$crate\` |" <<<"$part")
   within "$crate: files of definitions that ARCHITECTURE.md does not name" "$files" "$(grep -o '`[A-Z][A-Za-z]*`' <<<"$part" | tr -d '`')"
 done
 
-paths=$(cat README.md docs/*.md | grep -o '`\(crates\|docs\|tests\|bench\|tools\|man\|scripts\|release\)/[A-Za-z0-9_./-]*[A-Za-z0-9_]`' | tr -d '`' | sort -u)
+paths=$(cat README.md docs/*.md | grep -o '`\(bindings\|crates\|docs\|examples\|tests\|bench\|tools\|man\|scripts\|release\)/[A-Za-z0-9_./-]*[A-Za-z0-9_]`' | tr -d '`' | sort -u)
 there=$(while read -r path; do [ -e "$path" ] && printf '%s\n' "$path"; done <<<"$paths")
 same 'files that the documents name (<) and that are there (>)' "$paths" "$there"
 parts=$(cat README.md docs/*.md | grep -o '`\(src\|specs\)/[A-Za-z0-9_/]*\.\(rt\|antt\)`' | tr -d '`' | sort -u)
@@ -212,6 +221,7 @@ touched 'A kind of entry of the MADT' 'X2apicNmi|x2apic[_-]nmi'
 touched 'A stage' '\b[Ss]tage(::|\.)Overrides\b'
 touched 'An option' '(--|")hotplug\b|hotplug_|_hotplug|hotplug = '
 touched 'A line of show' '\bx2apic-nmi\b'
+touched 'A kind of answer of the library' '[Pp]ieces_?[Oo]verlap|PIECES_OVERLAP'
 touched 'A table' '[Ss]lit|SLIT'
 
 # wide COLUMNS: of the lines that `grep` gives, with their numbers, those with more columns.
@@ -233,6 +243,26 @@ within 'options that man/acpiset.1 does not explain' "$options" "$(terms OPTIONS
 commands=$(sed -n 's/.*Command::new(alloc, "\([a-z]*\)").*/\1/p' crates/acpi_cli/src/command_line.rt | grep -vx acpiset)
 same 'commands (<) and those in the synopsis of man/acpiset.1 (>)' "$commands" "$(page SYNOPSIS | sed -n 's/^\.B acpiset //p')"
 same 'commands (<) and those that man/acpiset.1 explains (>)' "$commands" "$(terms DESCRIPTION | sed -n 's/^\.B //p')"
+
+# ---- the library: what its header declares is in its documents
+
+header=bindings/c/acpiset.h
+kinds=$(sed -n '/^enum acpiset_kind {$/,/^};$/s/^ *\(ACPISET_[A-Z_]*\) = \([0-9]*\).*/\1 \2/p' "$header")
+refusals=$(awk '$2 > 1' <<<"$kinds")
+same 'refusals in acpiset.h (<) and in LIBRARY.md (>)' "$refusals" "$(sed -n 's/^| `\(ACPISET_[A-Z_]*\)` | \([0-9]*\) | .*/\1 \2/p' docs/LIBRARY.md)"
+same 'refusals in acpiset.h (<) and in man/acpiset.3 (>)' "$refusals" "$(sed -n 's/^\.BR \(ACPISET_[A-Z_]*\) " (\([0-9]*\))"$/\1 \2/p' man/acpiset.3)"
+within 'refusals that the order in LIBRARY.md leaves out' "$(sed 's/^ACPISET_//; s/ .*//' <<<"$refusals")" \
+  "$(sed -n '/first one in this order/,/^## /p' docs/LIBRARY.md | grep -o '`[A-Z_]*`' | tr -d '`')"
+declared=$(sed -n 's/^struct acpiset_answer \(acpiset_[a-z_]*\)(.*/\1/p; s/^uint32_t \(acpiset_[a-z_]*\)(.*/\1/p' "$header")
+same 'functions of acpiset.h (<) and those that LIBRARY.md lists (>)' "$declared" "$(sed -n '/^## The calls$/,/^## /p' docs/LIBRARY.md | sed -n '/^| `acpiset_/p' | cut -d '|' -f 2 | grep -o 'acpiset_[a-z_]*')"
+same 'functions of acpiset.h (<) and those that man/acpiset.3 explains (>)' "$declared" "$(sed -n '/^\.SH DESCRIPTION$/,/^\.SH SETTINGS$/s/^\.B \(acpiset_[a-z_]*\)$/\1/p' man/acpiset.3)"
+# members STRUCT: what its fields are called.
+members() { sed -n "/^struct $1 {\$/,/^};\$/{s/;.*//;s/^ .* \**\([a-z_]*\)\$/\1/p;}" "$header"; }
+told=$(sed -n '/^\.SH SYNOPSIS$/,/^\.SH DESCRIPTION$/p' man/acpiset.3 | grep -o '[a-z_]*[,;]' | tr -d ',;')
+within 'fields that the synopsis of man/acpiset.3 does not name' "$(for own in piece inputs settings finding answer; do members "acpiset_$own"; done)" "$told"
+within 'settings that LIBRARY.md does not explain' "$(members acpiset_settings | grep -vx size)" "$(sed -n '/^## Settings$/,/^## /s/^| `\([a-z_]*\)`.*/\1/p' docs/LIBRARY.md)"
+
+count 'the Rust crate, and what its lists are written from' "$(bindings/rust/lists.py --check 2>&1)"
 
 printf 'documents: %d passed, %d failed\n' "$passed" "$failed"
 [ "$failed" = 0 ]

@@ -1,12 +1,13 @@
 #!/usr/bin/env bash
-# Runs the recipes of README.md, docs/RECIPES.md, docs/REBUILD.md and docs/TROUBLESHOOTING.md whose tools are on the machine, and
-# compares what they print with the page.
+# Runs the recipes of README.md, docs/LIBRARY.md, docs/RECIPES.md, docs/REBUILD.md and docs/TROUBLESHOOTING.md whose tools are on
+# the machine, and compares what they print with the page.
 # usage: tests/recipes.sh PROGRAM; it names those that it left out, and the last line is 'recipes: N passed, M failed, L left out'.
-# A recipe that runs QEMU and fails is run once more with more time to boot.
+# A recipe that runs QEMU and fails is run once more with more time to boot. Recipes with the library find it as if it were
+# installed: that of the folder `library`, as `make library` leaves it, or of the folder that the variable LIBRARY names.
 #
 # A recipe is a block of sh behind a line '<!-- recipe NAME needs: WORDS -->', and the block of text behind it is what it prints;
 # or it is a block of console, whose lines with a '$ ' are the commands, and the others what they print. A word is a command, root,
-# file:PATH, command:NAME for a command of the program, or iasl:VERSION. With 'own' it prints what the machine has: then only its end
+# library, file:PATH, command:NAME for a command of the program, iasl:VERSION, or cargo:VERSION for this or a later one. With 'own' it prints what the machine has: then only its end
 # is looked at. A block behind '<!-- file NAME -->' is a file that recipes use. All run in one folder and in one shell, so each finds
 # what those before it left. The folder has ./acpiset, tools and tests, as the top of the repository.
 set -u
@@ -22,6 +23,15 @@ ln -s "$SOURCE/tools" "$SOURCE/tests" "$SOURCE/bench" "$scratch/work"
 ln -s "$program" "$scratch/bin/acpiset"
 for tool in tools/*; do ln -s "$SOURCE/$tool" "$scratch/bin/acpiset-${tool#tools/}"; done
 PATH="$scratch/bin:$PATH"
+library=$(realpath "${LIBRARY:-library}")
+if [ -r "$library/libacpiset.a" ]; then
+  mkdir "$scratch/library"
+  ln -s "$library/libacpiset.a" "$scratch/library"
+  printf 'libdir=%s\nName: acpiset\nDescription: acpiset\nVersion: 0\nCflags: -I%s\nLibs: -L${libdir} -lacpiset\n' \
+    "$scratch/library" "$SOURCE/bindings/c" >"$scratch/library/acpiset.pc"
+  export PKG_CONFIG_PATH="$scratch/library"
+  unset ACPISET_LIB_DIR
+fi
 passed=0
 failed=0
 left=0
@@ -41,7 +51,7 @@ awk -v folder="$scratch/blocks" '
   /^```/ { inside = 0; commands = ""; next }
   inside && commands != "" && /^\$ / { print substr($0, 3) > commands; next }
   inside && target != "" { print > target }
-' README.md docs/RECIPES.md docs/REBUILD.md docs/TROUBLESHOOTING.md
+' README.md docs/LIBRARY.md docs/RECIPES.md docs/REBUILD.md docs/TROUBLESHOOTING.md
 
 # lacks NEEDS: the words of what a recipe needs that this machine lacks.
 lacks() {
@@ -52,6 +62,8 @@ lacks() {
       root) [ "$(id -u)" = 0 ] || printf ' %s' "$word" ;;
       file:*) [ -r "${word#file:}" ] || printf ' %s' "$word" ;;
       command:*) "$program" --help 2>&1 | grep -q "acpiset ${word#command:}" || printf ' %s' "$word" ;;
+      library) pkg-config --exists acpiset 2>"$scratch/found" || printf ' %s' "$word" ;;
+      cargo:*) printf '%s\n' "${word#cargo:}" "$(cargo --version 2>"$scratch/found" | cut -d ' ' -f 2)" | sort -V -C || printf ' %s' "$word" ;;
       iasl:*) iasl -v 2>"$scratch/found" | grep -q "version ${word#iasl:}" || printf ' %s' "$word" ;;
       *) command -v "$word" >"$scratch/found" || printf ' %s' "$word" ;;
     esac

@@ -1,0 +1,532 @@
+//! The stages, codes and rules.
+
+// Written by lists.py from definitions and docs/FAULTS.md: change those, and run it again.
+
+use crate::numbered::numbered;
+
+numbered! {
+    /// A part of a check. Each stage is looked at only if all earlier ones hold. Sections are those of ACPI 6.5.
+    Stage {
+        /// The RSDP (5.2.5.3).
+        Rsdp = 1,
+        /// The RSDT or XSDT (5.2.7, 5.2.8).
+        Root = 2,
+        /// Each listed table's header, length and sum (5.2.6).
+        Tables = 3,
+        /// The FADT (5.2.9).
+        Fadt = 4,
+        /// The FACS (5.2.10).
+        Facs = 5,
+        /// The MADT's entries (5.2.12).
+        Madt = 6,
+        /// Interrupt numbers: none is served by two I/O APICs (5.2.12.3).
+        Interrupts = 7,
+        /// Interrupt source overrides: none contradicts another (5.2.12.5).
+        Overrides = 8,
+        /// The SRAT's entries (5.2.16).
+        Srat = 9,
+        /// Memory ranges: no address lies in two (5.2.16.2).
+        Ranges = 10,
+        /// The SLIT (5.2.17).
+        Slit = 11,
+        /// The PPTT's entries (5.2.30).
+        Pptt = 12,
+        /// References of the PPTT's entries (5.2.30).
+        References = 13,
+        /// Chains of parents end (5.2.30.1).
+        Parents = 14,
+        /// Chains of caches end (5.2.30.2).
+        Caches = 15,
+        /// No enabled processor has two proximity domains (5.2.12, 5.2.16).
+        Domains = 16,
+        /// Each interrupt number that is spoken of is served (5.2.12).
+        Served = 17,
+        /// Each leaf of the PPTT is a processor of the MADT (5.2.12, 5.2.30.1).
+        Leaves = 18,
+    }
+}
+
+numbered! {
+    /// What is wrong with a set of tables. The manual page `acpiset-faults(7)` and docs/FAULTS.md of the repository say
+    /// of each code what it means for an operating system and what is to be fixed. "Numbers" are those of a
+    /// [`Fault`](crate::Fault): offsets are from the start of a table, and slots are those of the RSDT or XSDT, from 0
+    /// on.
+    Code {
+        /// The 20 bytes at the RSDP's address are not all in the image.
+        ///
+        /// Numbers: `at` is the RSDP's address.
+        RsdpOut = 1,
+        /// The 20 bytes are held, and the first 8 are not `RSD PTR ` (the last one is a blank).
+        ///
+        /// Numbers: `at` is the RSDP's address.
+        RsdpSignature = 2,
+        /// The first 20 bytes are held, and do not sum to 0 modulo 256.
+        ///
+        /// Numbers: `at` is the RSDP's address.
+        RsdpSum = 3,
+        /// The Revision is 2 or more, but the 36 bytes are not all in the image.
+        ///
+        /// Numbers: `at` is the RSDP's address.
+        RsdpTailOut = 4,
+        /// The Revision is 2 or more, and Length at 20 is below 36.
+        ///
+        /// Numbers: `at` is the RSDP's address.
+        RsdpLength = 5,
+        /// The Revision is 2 or more, and Length is at least 36, but the Length bytes are not all in the image.
+        ///
+        /// Numbers: `at` is the RSDP's address.
+        RsdpLongOut = 6,
+        /// The Revision is 2 or more, and the Length bytes do not sum to 0.
+        ///
+        /// Numbers: `at` is the RSDP's address.
+        RsdpExtendedSum = 7,
+        /// The RSDP names neither an RSDT nor an XSDT. In the short form only RsdtAddress counts.
+        ///
+        /// Numbers: `at` is the RSDP's address.
+        NoRoot = 8,
+        /// The 36 bytes of the root's header are not all in the image.
+        ///
+        /// Numbers: `at` is the root's address.
+        RootHeaderOut = 9,
+        /// The root does not begin with `XSDT` where XsdtAddress names it, or with `RSDT` where RsdtAddress does.
+        ///
+        /// Numbers: `at` is the root's address.
+        RootSignature = 10,
+        /// The root's Length is below 36, less than its header.
+        ///
+        /// Numbers: `at` is the root's address.
+        RootLength = 11,
+        /// Length is at least 36, but the root's Length bytes are not all in the image.
+        ///
+        /// Numbers: `at` is the root's address.
+        RootOut = 12,
+        /// Length is at least 36, and Length - 36 is no multiple of the slot's width (4 in an RSDT, 8 in an XSDT).
+        ///
+        /// Numbers: `at` is the root's address.
+        RootRagged = 13,
+        /// The root's Length bytes do not sum to 0.
+        ///
+        /// Numbers: `at` is the root's address.
+        RootSum = 14,
+        /// The 36 bytes of the header are not all in the image.
+        ///
+        /// Numbers: `at` is the slot's number, `other` the table's address.
+        TableHeaderOut = 15,
+        /// The table's Length is below 36, less than its header.
+        ///
+        /// Numbers: `at` is the slot's number, `other` the table's address.
+        TableLength = 16,
+        /// Length is at least 36, but the Length bytes are not all in the image.
+        ///
+        /// Numbers: `at` is the slot's number, `other` the table's address.
+        TableOut = 17,
+        /// The table's Length bytes do not sum to 0.
+        ///
+        /// Numbers: `at` is the slot's number, `other` the table's address.
+        TableSum = 18,
+        /// No slot lists a table with the signature `FACP`.
+        ///
+        /// Numbers: all 0.
+        NoFadt = 19,
+        /// The FADT's Length is below 116, so that Flags at 112 does not exist.
+        ///
+        /// Numbers: all 0.
+        FadtShort = 20,
+        /// The hardware is not reduced, and PM1_EVT_LEN is below 4.
+        ///
+        /// Numbers: `at` is 0x58 (88), the field's offset.
+        PmEventLength = 21,
+        /// The hardware is not reduced, and PM1_CNT_LEN is below 2.
+        ///
+        /// Numbers: `at` is 0x59 (89), the field's offset.
+        PmControlLength = 22,
+        /// The hardware is not reduced, and PM_TMR_LEN is neither 0 nor 4.
+        ///
+        /// Numbers: `at` is 0x5b (91), the field's offset.
+        PmTimerLength = 23,
+        /// The hardware is not reduced, and the length of a GPE block is odd.
+        ///
+        /// Numbers: `at` is the field's offset: 0x5c (92) for GPE0_BLK_LEN, 0x5d (93) for GPE1_BLK_LEN. Where both are
+        /// odd, 0x5c is reported.
+        GpeLength = 24,
+        /// RESET_REG_SUP is set and Length is at least 129, but RESET_REG has an address space above 2, a bit width
+        /// other than 8, or a bit offset other than 0.
+        ///
+        /// Numbers: `at` is 0x74 (116), the field's offset.
+        ResetRegister = 25,
+        /// The hardware is not reduced, and the FADT names no FACS: neither X_FIRMWARE_CTRL, where it exists, nor
+        /// FIRMWARE_CTRL has an address.
+        ///
+        /// Numbers: all 0.
+        NoFacs = 26,
+        /// The FACS's address is no multiple of 64.
+        ///
+        /// Numbers: `at` is the FACS's address.
+        FacsAlign = 27,
+        /// The first 8 bytes at the FACS's address are not all in the image.
+        ///
+        /// Numbers: `at` is the FACS's address.
+        FacsHeaderOut = 28,
+        /// The 8 bytes are there, but do not begin with `FACS`.
+        ///
+        /// Numbers: `at` is the FACS's address.
+        FacsSignature = 29,
+        /// The FACS's Length is below 64.
+        ///
+        /// Numbers: `at` is the FACS's address.
+        FacsLength = 30,
+        /// Length is at least 64, but the Length bytes are not all in the image.
+        ///
+        /// Numbers: `at` is the FACS's address.
+        FacsOut = 31,
+        /// The MADT's Length is below 44, so it ends within its fixed fields.
+        ///
+        /// Numbers: all 0.
+        MadtShort = 32,
+        /// Bytes are left behind the last entry at which no entry stands: a single byte, a length of 0 or 1, or a
+        /// length that goes past the table's end.
+        ///
+        /// Numbers: `at` is the offset of those bytes.
+        MadtEntryCut = 33,
+        /// An entry of type 0 to 5, 9 or 10 has another length than its type has (8, 12, 10, 8, 6, 12, 16, 12).
+        ///
+        /// Numbers: `at` is the entry's offset.
+        MadtEntryLength = 34,
+        /// The Bus of an interrupt source override is not 0, the ISA bus, which is the only one (5.2.12.5).
+        ///
+        /// Numbers: `at` is the entry's offset.
+        OverrideBus = 35,
+        /// The flags of an interrupt have the polarity, bits 1:0, or the trigger mode, bits 3:2, 10b, which is
+        /// reserved. The entry is an override, an NMI source, or an NMI of a local APIC or x2APIC.
+        ///
+        /// Numbers: `at` is the entry's offset.
+        ReservedInti = 36,
+        /// A second entry overrides the local APICs' address.
+        ///
+        /// Numbers: `at` is its offset, `other` that of the first such entry.
+        SecondAddressOverride = 37,
+        /// The interrupt numbers of an I/O APIC, Global System Interrupt Base and as many as it has inputs, go past
+        /// 2^32.
+        ///
+        /// Numbers: `at` is the entry's offset.
+        GsiPastEnd = 38,
+        /// Two I/O APICs serve one interrupt number.
+        ///
+        /// Numbers: `at` and `other` are the offsets of their entries, `point` is the number. It is the least that two
+        /// serve; the entries are the first two that serve it, by their base and then by their place.
+        GsiClash = 39,
+        /// Two overrides give one Source two interrupt numbers.
+        ///
+        /// Numbers: `at` is the offset of the later one, `other` that of the earlier one, `point` is the Source, an ISA
+        /// interrupt.
+        OverrideClash = 40,
+        /// The SRAT's Length is below 48, so it ends within its reserved bytes.
+        ///
+        /// Numbers: all 0.
+        SratShort = 41,
+        /// Bytes are left behind the last entry at which no entry stands: a single byte, a length of 0 or 1, or a
+        /// length that goes past the table's end.
+        ///
+        /// Numbers: `at` is the offset of those bytes.
+        SratEntryCut = 42,
+        /// An entry of type 0, 1 or 2 has another length than its type has (16, 40, 24).
+        ///
+        /// Numbers: `at` is the entry's offset.
+        SratEntryLength = 43,
+        /// An enabled memory range goes past 2^64: Base Address plus Length is above it.
+        ///
+        /// Numbers: `at` is the entry's offset.
+        RangePastEnd = 44,
+        /// Two enabled memory ranges cover one address.
+        ///
+        /// Numbers: `at` and `other` are the offsets of their entries, `point` is the address. It is the least that two
+        /// cover; the entries are the first two that cover it, by their base and then by their place.
+        Overlap = 45,
+        /// The SLIT's Length is below 44, so that N is not in it.
+        ///
+        /// Numbers: all 0.
+        SlitShort = 46,
+        /// Length is not 44 + N * N.
+        ///
+        /// Numbers: `at` is 0x24 (36), the offset of N.
+        SlitSize = 47,
+        /// The distance from a locality to itself is not 10.
+        ///
+        /// Numbers: `at` is the offset of the distance.
+        SlitDiagonal = 48,
+        /// A distance is below 10. The values 0 to 9 are reserved.
+        ///
+        /// Numbers: `at` is the offset of the distance. On the diagonal such a distance is a SlitDiagonal too, which is
+        /// reported.
+        SlitLow = 49,
+        /// Bytes are left behind the last entry at which no entry stands: a single byte, a length of 0 or 1, or a
+        /// length that goes past the table's end.
+        ///
+        /// Numbers: `at` is the offset of those bytes.
+        PpttEntryCut = 50,
+        /// A node, type 0, has another length than 20 and 4 for each of its private resources, as their number at 16
+        /// says; or a cache, type 1, has another length than 24 or 28.
+        ///
+        /// Numbers: `at` is the entry's offset.
+        PpttEntryLength = 51,
+        /// A node's Parent is not 0, and no node begins there.
+        ///
+        /// Numbers: `at` is the node's offset, `other` is the Parent.
+        DanglingParent = 52,
+        /// No entry begins at a private resource of a node, or a node does. 0 is no offset of an entry either: a node
+        /// without private resources says that their number is 0.
+        ///
+        /// Numbers: `at` is the node's offset, `other` the number of the private resource, from 0 on, `point` is the
+        /// offset that it holds.
+        DanglingResource = 53,
+        /// A cache's Next Level of Cache is not 0, and no cache begins there.
+        ///
+        /// Numbers: `at` is the cache's offset, `other` is the Next Level of Cache.
+        DanglingCache = 54,
+        /// From a node on, the Parents come back to a node that they have led to.
+        ///
+        /// Numbers: `at` is the node's offset. After `other` steps a node of the cycle is reached, and `point` steps
+        /// lead around the cycle. The node with the least offset is reported whose chain does not end, with the least
+        /// numbers of steps.
+        ParentCycle = 55,
+        /// From a cache on, the Next Levels come back to a cache that they have led to.
+        ///
+        /// Numbers: as for ParentCycle, of caches.
+        CacheCycle = 56,
+        /// Two enabled entries of the SRAT put one processor in two proximity domains, and the MADT has this processor
+        /// enabled.
+        ///
+        /// Numbers: `at` and `other` are the offsets of the entries in the SRAT, `other` the lesser one; `point` is the
+        /// processor's APIC ID or X2APIC ID.
+        TwoDomains = 57,
+        /// An interrupt source override or an NMI source of the MADT names an interrupt number that no I/O APIC serves,
+        /// though the MADT has an I/O APIC.
+        ///
+        /// Numbers: `at` is the entry's offset in the MADT, `point` is the number.
+        GsiNowhere = 58,
+        /// A node of the PPTT is a leaf with a valid ACPI Processor ID, flags bit 3 and bit 1, and no processor of the
+        /// MADT, enabled or not, has this UID.
+        ///
+        /// Numbers: `at` is the node's offset in the PPTT, `point` is the ACPI Processor ID.
+        LeafUnknown = 59,
+    }
+}
+
+impl Code {
+    /// The stage that it is a fault of; none of a code that this version of the crate does not know.
+    #[must_use]
+    #[rustfmt::skip]
+    pub const fn stage(self) -> Option<Stage> {
+        Some(match self {
+            Code::RsdpOut
+            | Code::RsdpSignature
+            | Code::RsdpSum
+            | Code::RsdpTailOut
+            | Code::RsdpLength
+            | Code::RsdpLongOut
+            | Code::RsdpExtendedSum => Stage::Rsdp,
+            Code::NoRoot
+            | Code::RootHeaderOut
+            | Code::RootSignature
+            | Code::RootLength
+            | Code::RootOut
+            | Code::RootRagged
+            | Code::RootSum => Stage::Root,
+            Code::TableHeaderOut
+            | Code::TableLength
+            | Code::TableOut
+            | Code::TableSum => Stage::Tables,
+            Code::NoFadt
+            | Code::FadtShort
+            | Code::PmEventLength
+            | Code::PmControlLength
+            | Code::PmTimerLength
+            | Code::GpeLength
+            | Code::ResetRegister => Stage::Fadt,
+            Code::NoFacs
+            | Code::FacsAlign
+            | Code::FacsHeaderOut
+            | Code::FacsSignature
+            | Code::FacsLength
+            | Code::FacsOut => Stage::Facs,
+            Code::MadtShort
+            | Code::MadtEntryCut
+            | Code::MadtEntryLength
+            | Code::OverrideBus
+            | Code::ReservedInti
+            | Code::SecondAddressOverride
+            | Code::GsiPastEnd => Stage::Madt,
+            Code::GsiClash => Stage::Interrupts,
+            Code::OverrideClash => Stage::Overrides,
+            Code::SratShort
+            | Code::SratEntryCut
+            | Code::SratEntryLength
+            | Code::RangePastEnd => Stage::Srat,
+            Code::Overlap => Stage::Ranges,
+            Code::SlitShort
+            | Code::SlitSize
+            | Code::SlitDiagonal
+            | Code::SlitLow => Stage::Slit,
+            Code::PpttEntryCut
+            | Code::PpttEntryLength => Stage::Pptt,
+            Code::DanglingParent
+            | Code::DanglingResource
+            | Code::DanglingCache => Stage::References,
+            Code::ParentCycle => Stage::Parents,
+            Code::CacheCycle => Stage::Caches,
+            Code::TwoDomains => Stage::Domains,
+            Code::GsiNowhere => Stage::Served,
+            Code::LeafUnknown => Stage::Leaves,
+            Code::Unknown { .. } => return None,
+        })
+    }
+}
+
+numbered! {
+    /// A rule of advice. A set of tables may have a reason to break one, so no rule is a fault. "Numbers" are those of
+    /// an [`Advice`](crate::Advice), as with [`Code`].
+    Rule {
+        /// A slot holds the same address as an earlier slot. Slots that hold 0 are not compared.
+        ///
+        /// Numbers: `at` is the slot's number, from 0, `other` that of the first slot with this address, `point` is the
+        /// address.
+        ListedTwice = 101,
+        /// A slot lists a FADT, MADT, SRAT, SLIT or PPTT, and an earlier slot lists a table with the same signature at
+        /// another address (5.2). A table counts if its header, 36 bytes, is in the image.
+        ///
+        /// Numbers: `at` is the slot's number, `other` that of the first slot with this signature, `point` is the
+        /// address in slot `at`.
+        SecondTable = 102,
+        /// A slot lists a DSDT or a FACS. These two are not listed in the XSDT or RSDT: the FADT holds their addresses
+        /// (5.2.9).
+        ///
+        /// Numbers: `at` is the slot's number, `point` is the address in it.
+        ListedApart = 103,
+        /// The FADT is shorter than the fields of its Revision: fewer than 244 bytes at Revision 3 or 4, 268 at 5, 276
+        /// from 6 on.
+        ///
+        /// Numbers: `at` is 0x4, the offset of Length, `other` is Length, `point` is the length that the Revision
+        /// needs.
+        FadtOfRevision = 104,
+        /// FIRMWARE_CTRL and X_FIRMWARE_CTRL exist, neither is 0, and they differ.
+        ///
+        /// Numbers: `at` is 0x24 (36), the offset of FIRMWARE_CTRL, `other` is FIRMWARE_CTRL, `point` is
+        /// X_FIRMWARE_CTRL.
+        FacsDiffers = 105,
+        /// DSDT and X_DSDT exist, neither is 0, and they differ.
+        ///
+        /// Numbers: `at` is 0x28 (40), the offset of DSDT, `other` is DSDT, `point` is X_DSDT.
+        DsdtDiffers = 106,
+        /// The hardware is not reduced, and a register block's 4-byte address and the address in its X_ structure both
+        /// exist, neither is 0, and they differ. The X_ structure's address space is 1, system I/O.
+        ///
+        /// Numbers: `at` is the offset of the 4-byte address, `other` is this address, `point` is the address in the X_
+        /// structure, which is at 148 + 3 * (`at` - 56).
+        BlockDiffers = 107,
+        /// The hardware is not reduced, the MADT has I/O APICs, and none of them serves the interrupt number of the
+        /// SCI. That number is given by the first interrupt source override of bus 0 with SCI_INT as its Source
+        /// (5.2.12.5); without one it is SCI_INT itself.
+        ///
+        /// Numbers: `at` is 0x2e (46), the offset of SCI_INT in the FADT, `point` is the interrupt number.
+        SciNowhere = 108,
+        /// A usable processor has the ACPI Processor UID of an earlier usable one.
+        ///
+        /// Numbers: `at` is the structure's offset, `other` that of the first usable one with this UID, `point` is the
+        /// UID.
+        SameUid = 109,
+        /// A usable processor has the APIC ID or X2APIC ID of an earlier usable one.
+        ///
+        /// Numbers: `at` is the structure's offset, `other` that of the first usable one with this ID, `point` is the
+        /// ID.
+        SameApicId = 110,
+        /// The I/O APIC Address of an I/O APIC is 0 (5.2.12.3).
+        ///
+        /// Numbers: `at` is the structure's offset.
+        IoApicAtZero = 111,
+        /// An I/O APIC has the I/O APIC ID of an earlier one (5.2.12.3).
+        ///
+        /// Numbers: `at` is the structure's offset, `other` that of the first I/O APIC with this ID, `point` is the ID.
+        SameIoApicId = 112,
+        /// An I/O APIC has the I/O APIC Address of an earlier one, other than 0 (5.2.12.3).
+        ///
+        /// Numbers: `at` is the structure's offset, `other` that of the first I/O APIC with this address, `point` is
+        /// the address.
+        SameIoApicAddress = 113,
+        /// A Local APIC NMI (5.2.12.7) or Local x2APIC NMI (5.2.12.13) names a UID that no processor has, usable or
+        /// not. 0xff in the first kind and 0xffffffff in the second mean all processors. Applies only if all processors
+        /// are read.
+        ///
+        /// Numbers: `at` is the structure's offset, `point` is the UID.
+        NmiNowhere = 114,
+        /// The MADT has a second GIC Distributor structure (5.2.12.15), type 12, of any length.
+        ///
+        /// Numbers: `at` is the structure's offset, `other` that of the first one.
+        SecondGicd = 115,
+        /// The MADT has no usable processor. Applies only if all processors are read.
+        ///
+        /// Numbers: all 0.
+        NoProcessor = 116,
+        /// Two GICC affinities assign the same ACPI Processor UID to different proximity domains (5.2.16.4). For
+        /// processors with an APIC ID this is the fault TwoDomains.
+        ///
+        /// Numbers: `at` is the offset of the first affinity with this UID, `other` that of the one with another
+        /// domain, `point` is the UID.
+        TwoUidDomains = 117,
+        /// No processor of the MADT, usable or not, has the APIC ID or X2APIC ID that an affinity names, or the UID
+        /// that a GICC affinity names. Applies only if all processors are read.
+        ///
+        /// Numbers: `at` is the affinity's offset, `point` is its APIC ID, X2APIC ID or UID.
+        AffinityNowhere = 118,
+        /// The SRAT has affinities, but none names the APIC ID or X2APIC ID of a usable processor of the MADT, or, of a
+        /// usable GICC, no GICC affinity names its UID. Applies only if all processors are read.
+        ///
+        /// Numbers: `at` is the processor's offset in the MADT, `point` is its APIC ID or X2APIC ID, of a GICC its UID.
+        NoDomain = 119,
+        /// The proximity domain of an affinity, or of an enabled memory range of any length, is N or above, where N is
+        /// the SLIT's number of localities (5.2.17).
+        ///
+        /// Numbers: `at` is the offset in the SRAT, `other` is N, `point` is the domain.
+        DomainPastSlit = 120,
+        /// The distance from locality i to locality j is not the distance from j to i.
+        ///
+        /// Numbers: `at` is the offset of the distance from i to j, with i below j, `other` that of the distance from j
+        /// to i.
+        SlitDiffers = 121,
+        /// A leaf has the ACPI Processor ID of an earlier leaf (5.2.30.1).
+        ///
+        /// Numbers: `at` is the leaf's offset, `other` that of the first leaf with this ID, `point` is the ID.
+        SameLeaf = 122,
+        /// A cache's flags say that its Number of Sets is valid, bit 1, and it is 0; or that its Line Size is valid,
+        /// bit 6, and it is not a power of two (5.2.30.2).
+        ///
+        /// Numbers: `at` is the cache's offset.
+        CacheShape = 123,
+        /// The PPTT's Revision is 3 or more, and a cache with a valid Cache ID, bit 7 of its flags, has that of an
+        /// earlier one (5.2.30.2).
+        ///
+        /// Numbers: `at` is the cache's offset, `other` that of the first cache with this Cache ID, `point` is the
+        /// Cache ID.
+        SameCacheId = 124,
+        /// The PPTT has leaves, but none has the UID of a usable processor of the MADT. Applies only if all processors
+        /// are read.
+        ///
+        /// Numbers: `at` is the processor's offset in the MADT, `point` is its UID.
+        NoLeaf = 125,
+        /// The MADT has a GICC of 40 bytes or more, and no processor, usable or not, has the ACPI Processor ID of a
+        /// leaf as its UID. Applies only if all processors are read. For a MADT with types 0 to 5, 9 and 10 only, this
+        /// is the fault LeafUnknown.
+        ///
+        /// Numbers: `at` is the leaf's offset, `point` is its ACPI Processor ID.
+        LeafNowhere = 126,
+        /// The MADT has a structure that no stage and no rule looks at: one of a type other than 0 to 5 and 9 to 12, or
+        /// a GICC (11) shorter than 40 bytes. `acpiset` uses only its type and length.
+        ///
+        /// Numbers: `at` is the offset of the first one, `other` its type.
+        MadtUnread = 127,
+        /// The SRAT has a structure that no stage and no rule looks at: one of type 4 or above, or one of type 3 whose
+        /// length is not 18. `acpiset` uses only its type and length.
+        ///
+        /// Numbers: `at` is the offset of the first one, `other` its type.
+        SratUnread = 128,
+    }
+}

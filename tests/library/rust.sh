@@ -1,0 +1,97 @@
+#!/usr/bin/env bash
+# Builds the Rust crate of bindings/rust with the built library, and runs its tests.
+# usage: tests/library/rust.sh LIBRARY_FOLDER, the folder of libacpiset.a; the last line is 'rust bindings: N passed, M failed',
+# or 'left out: ..' if there is no cargo, or one that is too old. Nothing is downloaded, and nothing is written into the tree.
+set -u
+library=$(realpath "${1:?usage: tests/library/rust.sh LIBRARY_FOLDER}")
+[ -r "$library/libacpiset.a" ] || { printf '%s: no libacpiset.a\n' "$library" >&2; exit 1; }
+cd "$(dirname "$0")/../../bindings/rust"
+command -v cargo >/dev/null && command -v rustc >/dev/null || { echo 'left out: no cargo'; exit 0; }
+needed=$(sed -n 's/^rust-version = "\(.*\)"/\1/p' Cargo.toml)
+version=$(rustc --version | cut -d ' ' -f 2)
+[ "$(printf '%s\n' "$needed" "$version" | sort -V | head -n 1)" = "$needed" ] || { printf 'left out: rustc %s is older than %s\n' "$version" "$needed"; exit 0; }
+
+scratch=$(mktemp -d)
+trap 'rm -rf "$scratch"' EXIT
+export CARGO_TARGET_DIR="$scratch/target" CARGO_TERM_COLOR=never ACPISET_LIB_DIR="$library"
+unset RUSTFLAGS RUSTDOCFLAGS PKG_CONFIG PKG_CONFIG_LIBDIR
+passed=0
+failed=0
+
+# ran WHAT COMMAND..: counts a command that has to end well.
+ran() {
+  if "${@:2}" >"$scratch/log" 2>&1; then
+    passed=$((passed + 1))
+  else
+    failed=$((failed + 1))
+    printf '%s:\n%s\n' "$1" "$(cat "$scratch/log")"
+  fi
+}
+
+# says WHAT TEXT COMMAND..: counts a command that has to fail and to say this.
+says() {
+  if ! "${@:3}" >"$scratch/log" 2>&1 && grep -qF -- "$2" "$scratch/log"; then
+    passed=$((passed + 1))
+  else
+    failed=$((failed + 1))
+    printf '%s, which has to fail with "%s":\n%s\n' "$1" "$2" "$(cat "$scratch/log")"
+  fi
+}
+
+# tests COMMAND..: counts the tests that cargo runs.
+tests() {
+  "$@" >"$scratch/log" 2>&1
+  local status=$? counts
+  counts=$(sed -n 's/^test result: [a-zA-Z]*\. \([0-9]*\) passed; \([0-9]*\) failed;.*/\1 \2/p' "$scratch/log" | awk '{ passed += $1; failed += $2 } END { print passed + 0, failed + 0 }')
+  passed=$((passed + ${counts% *}))
+  failed=$((failed + ${counts#* }))
+  [ "$status" = 0 ] || printf '%s:\n%s\n' "$*" "$(cat "$scratch/log")"
+  if [ "$status" != 0 ] && [ "${counts#* }" = 0 ]; then failed=$((failed + 1)); fi
+}
+
+# ---- the crate
+tests cargo test --offline --locked --quiet
+ran 'the crate without std' cargo build --offline --locked --quiet --no-default-features
+if cargo clippy --version >/dev/null 2>&1; then
+  ran 'clippy' cargo clippy --offline --locked --quiet --all-targets -- -D warnings
+  ran 'clippy without std' cargo clippy --offline --locked --quiet --no-default-features -- -D warnings
+else
+  echo 'left out: clippy'
+fi
+if cargo fmt --version >/dev/null 2>&1; then
+  ran 'the layout of the sources' cargo fmt --check
+else
+  echo 'left out: rustfmt'
+fi
+ran 'its documentation' env RUSTDOCFLAGS='-D warnings' cargo doc --offline --locked --quiet --no-deps
+
+# ---- its build script
+build() { env "$@" cargo build --offline --locked --quiet; }
+mkdir "$scratch/empty" "$scratch/installed"
+printf 'libdir=%s\nName: acpiset\nDescription: acpiset\nVersion: 0\nLibs: -L${libdir} -lacpiset\n' "$library" >"$scratch/installed/acpiset.pc"
+says 'a folder without the library' 'which has no libacpiset.a' build ACPISET_LIB_DIR="$scratch/empty"
+says 'a relative path' 'which is no absolute path' build ACPISET_LIB_DIR=lib
+says 'no library' 'Set ACPISET_LIB_DIR to the folder that has it' build -u ACPISET_LIB_DIR PKG_CONFIG_LIBDIR="$scratch/empty"
+says 'no library and no pkg-config' 'Set ACPISET_LIB_DIR to the folder that has it' build -u ACPISET_LIB_DIR PKG_CONFIG="$scratch/none"
+if command -v pkg-config >/dev/null; then
+  ran 'the library of pkg-config' build -u ACPISET_LIB_DIR PKG_CONFIG_PATH="$scratch/installed"
+else
+  echo 'left out: pkg-config'
+fi
+
+# ---- libraries of later versions
+if command -v cc >/dev/null && command -v ar >/dev/null; then
+  for version in 1 2; do
+    later=$scratch/later$version
+    mkdir "$later"
+    ran "the library of version $version" cc -O1 -Wall -Wextra -Werror -DVERSION=$version -I ../c -c tests/later_library.c -o "$later/later.o"
+    ran "the archive of version $version" ar rcs "$later/libacpiset.a" "$later/later.o"
+  done
+  tests env ACPISET_LIB_DIR="$scratch/later1" cargo test --offline --locked --quiet --test later_library later_library -- --ignored
+  tests env ACPISET_LIB_DIR="$scratch/later2" cargo test --offline --locked --quiet --test later_library version_2 -- --ignored
+else
+  echo 'left out: later libraries, for want of a C compiler'
+fi
+
+printf 'rust bindings: %d passed, %d failed\n' "$passed" "$failed"
+[ "$failed" = 0 ]
