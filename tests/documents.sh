@@ -221,7 +221,7 @@ touched 'A kind of entry of the MADT' 'X2apicNmi|x2apic[_-]nmi'
 touched 'A stage' '\b[Ss]tage(::|\.)Overrides\b'
 touched 'An option' '(--|")hotplug\b|hotplug_|_hotplug|hotplug = '
 touched 'A line of show' '\bx2apic-nmi\b'
-touched 'A kind of answer of the library' '[Pp]ieces_?[Oo]verlap|PIECES_OVERLAP'
+touched 'A kind of answer of the library' '[Pp]iece_?[Pp]ast_?[Ee]nd|PIECE_PAST_END'
 touched 'A table' '[Ss]lit|SLIT'
 
 # wide COLUMNS: of the lines that `grep` gives, with their numbers, those with more columns.

@@ -111,13 +111,13 @@ struct acpiset_answer acpiset_confirm(const struct acpiset_piece *pieces, size_t
                                       const struct acpiset_inputs *inputs, size_t inputs_count,
                                       const struct acpiset_settings *settings, const struct acpiset_finding *finding);
 
-/* The most findings that acpiset_lint reports. */
+/* The most findings that acpiset_lint of this version reports. A shared library of a later version may count more. */
 #define ACPISET_MOST_FINDINGS 87
 
 /* All that is wrong: the first fault of each code that has one, and then the first finding of each rule of advice that is
  * broken, both by number. The answer is ACPISET_YES if there is no fault, else ACPISET_NO, with the number of faults in `at`
  * and of findings of advice in `other`. Of these at+other findings the first `findings_count` are written to `findings`, which
- * may be NULL if `findings_count` is 0. With any other answer nothing is written. */
+ * may be NULL if `findings_count` is 0: read no more of them than findings_count. With any other answer nothing is written. */
 struct acpiset_answer acpiset_lint(const struct acpiset_piece *pieces, size_t pieces_count,
                                    const struct acpiset_inputs *inputs, size_t inputs_count,
                                    const struct acpiset_settings *settings,
