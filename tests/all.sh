@@ -18,10 +18,13 @@ ran() {
 }
 
 scripts=(refusals.py recipes.sh show/run.py lint/run.py rows/texts.py program.sh tools.sh refused_calls.py rebuild/run.py rows/confirm.py install.sh rows/run.py rows/words.py rows/examples.py documents.sh)
+# The library is tested where `make library` has left it.
+[ ! -e library/libacpiset.a ] || scripts=(library/run.py "${scripts[@]}")
 for script in "${scripts[@]}"; do
   while [ "$(jobs -rp | wc -l)" -ge "$(nproc)" ]; do wait -n; done
   case $script in
     documents.sh) ran "$script" & ;;
+    library/run.py) ran "$script" "$program" library & ;;
     refused_calls.py) ran "$script" "${tests[@]}" & ;;
     *) ran "$script" "$program" & ;;
   esac

@@ -190,4 +190,5 @@ def main():
     sys.exit(1 if faults or unused else 0)
 
 
-main()
+if __name__ == "__main__":
+    main()

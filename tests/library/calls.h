@@ -1,0 +1,32 @@
+/* Every call on one image, for programs that ask the same again and again. */
+#ifndef CALLS_H
+#define CALLS_H
+
+#include "common.h"
+
+enum call { CHECK, CHECK_TEXT, CONFIRM, LINT, FIND, CALLS };
+
+extern const char *const call_names[CALLS];
+
+/* An image as text and as pieces, and what is asked of it. */
+struct subject {
+    const char *name;
+    const char *text;
+    size_t length;
+    struct image image;
+    const struct acpiset_inputs *inputs;
+    size_t inputs_count;
+    struct acpiset_settings settings;
+    struct acpiset_finding fault; /* the first one; of a clean image NO_FADT, which is not in it */
+    struct acpiset_finding *findings;
+    size_t findings_count;
+};
+
+/* The subjects of arguments that are an RSDP's address in hex and a file of image text, in turn. Each is asked with settings and
+ * inputs that are not the usual ones. */
+struct subject *subjects_of(int argc, char **argv, size_t *count);
+void free_subjects(struct subject *subjects, size_t count);
+
+struct acpiset_answer ask(enum call call, const struct subject *subject);
+
+#endif

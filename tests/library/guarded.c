@@ -1,0 +1,112 @@
+/* All that is passed lies between pages that nobody may touch, at the start of a page and then at the end of one, and all but the
+ * array of findings may not be written to: a read or write outside ends the program.
+ * usage: guarded RSDP FILE [RSDP FILE].. */
+#define _DEFAULT_SOURCE
+#include "calls.h"
+
+#include <stdlib.h>
+#include <string.h>
+#include <sys/mman.h>
+#include <unistd.h>
+
+static size_t page;
+static bool is_at_end;
+
+/* Maps that are given back all at once. */
+struct map {
+    void *start;
+    size_t size;
+};
+static struct map *maps;
+static size_t maps_count;
+
+/* A copy of the bytes between two guarded pages. */
+static void *guarded(const void *bytes, size_t size, int protection) {
+    size_t inside = (size + page - 1) / page * page;
+    size_t whole = inside + 2 * page;
+    char *start = (char *)mmap(NULL, whole, PROT_NONE, MAP_PRIVATE | MAP_ANONYMOUS, -1, 0);
+    if (start == MAP_FAILED) exit(2);
+    char *first = start + page + (is_at_end ? inside - size : 0);
+    if (inside) {
+        if (mprotect(start + page, inside, PROT_READ | PROT_WRITE) != 0) exit(2);
+        memcpy(first, bytes, size);
+        if (mprotect(start + page, inside, protection) != 0) exit(2);
+    }
+    maps = (struct map *)realloc(maps, (maps_count + 1) * sizeof *maps);
+    if (!maps) exit(2);
+    struct map map = {start, whole};
+    maps[maps_count++] = map;
+    return first;
+}
+
+static void unmap_all(void) {
+    for (size_t i = 0; i < maps_count; i++) munmap(maps[i].start, maps[i].size);
+    maps_count = 0;
+}
+
+/* The subject with all that is passed guarded, and two pieces more, which have no bytes. */
+static struct subject guarded_subject(const struct subject *subject) {
+    struct subject it = *subject;
+    size_t count = subject->image.count + 2;
+    struct acpiset_piece *pieces = (struct acpiset_piece *)block_of(count * sizeof *pieces);
+    for (size_t i = 0; i < subject->image.count; i++) {
+        pieces[i] = subject->image.pieces[i];
+        pieces[i].bytes = (const uint8_t *)guarded(pieces[i].bytes, pieces[i].length, PROT_READ);
+    }
+    for (size_t i = subject->image.count; i < count; i++) {
+        pieces[i].address = i;
+        pieces[i].bytes = (const uint8_t *)guarded(NULL, 0, PROT_READ);
+        pieces[i].length = 0;
+    }
+    it.image.pieces = (struct acpiset_piece *)guarded(pieces, count * sizeof *pieces, PROT_READ);
+    it.image.count = count;
+    free(pieces);
+    it.text = (const char *)guarded(subject->text, subject->length, PROT_READ);
+    it.inputs = (const struct acpiset_inputs *)guarded(subject->inputs, subject->inputs_count * sizeof *subject->inputs, PROT_READ);
+    return it;
+}
+
+/* The calls again, with settings and a fault that are guarded too. */
+static struct acpiset_answer ask_guarded(enum call call, const struct subject *it) {
+    const struct acpiset_settings *settings =
+        (const struct acpiset_settings *)guarded(&it->settings, sizeof it->settings, PROT_READ);
+    const struct acpiset_finding *fault = (const struct acpiset_finding *)guarded(&it->fault, sizeof it->fault, PROT_READ);
+    const struct acpiset_piece *pieces = it->image.pieces;
+    size_t count = it->image.count;
+    switch (call) {
+    case CHECK: return acpiset_check(pieces, count, it->inputs, it->inputs_count, settings);
+    case CHECK_TEXT: return acpiset_check_text(it->text, it->length, it->inputs, it->inputs_count, settings);
+    case CONFIRM: return acpiset_confirm(pieces, count, it->inputs, it->inputs_count, settings, fault);
+    case LINT: return acpiset_lint(pieces, count, it->inputs, it->inputs_count, settings, it->findings, it->findings_count);
+    default: return acpiset_find(pieces, count);
+    }
+}
+
+/* Each call, and acpiset_lint with arrays of every size up to one more than is needed. */
+static void ask_all(const struct subject *subject) {
+    struct subject it = guarded_subject(subject);
+    for (int call = 0; call < CALLS; call++)
+        expect(ask_guarded((enum call)call, &it), ask((enum call)call, subject), "%s: %s, guarded", subject->name, call_names[call]);
+    struct acpiset_answer answer = ask(LINT, subject);
+    static const struct acpiset_finding empty[ACPISET_MOST_FINDINGS + 1] = {{0, 0, 0, 0}};
+    size_t total = (size_t)(answer.at + answer.other);
+    for (size_t room = 0; room <= total + 1; room++) {
+        it.findings = (struct acpiset_finding *)guarded(empty, room * sizeof empty[0], PROT_READ | PROT_WRITE);
+        it.findings_count = room;
+        expect(ask_guarded(LINT, &it), answer, "%s: lint, a guarded array of %zu", subject->name, room);
+    }
+    unmap_all();
+}
+
+int main(int argc, char **argv) {
+    page = (size_t)sysconf(_SC_PAGESIZE);
+    size_t count;
+    struct subject *subjects = subjects_of(argc, argv, &count);
+    for (int place = 0; place < 2; place++) {
+        is_at_end = place == 1;
+        for (size_t i = 0; i < count; i++) ask_all(&subjects[i]);
+    }
+    free(maps);
+    free_subjects(subjects, count);
+    return report("guarded");
+}

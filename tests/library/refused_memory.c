@@ -1,0 +1,66 @@
+/* Each request for memory of each call is refused in its turn, alone and with all that follow: the answer is OUT_OF_MEMORY, no block
+ * is left, and nothing is written to the caller's array.
+ * usage: refused_memory RSDP FILE [RSDP FILE].. */
+#include "calls.h"
+#include "counted_memory.h"
+
+#include <string.h>
+
+#define FILLER 0xa5
+
+static struct acpiset_finding findings[ACPISET_MOST_FINDINGS];
+
+static bool is_untouched(void) {
+    for (size_t i = 0; i < sizeof findings; i++)
+        if (((const unsigned char *)findings)[i] != FILLER) return false;
+    return true;
+}
+
+/* A call with this request refused. */
+static void refuse(enum call call, const struct subject *subject, long number, bool and_later) {
+    const char *name = call_names[call], *how = and_later ? " and later ones" : "";
+    memset(findings, FILLER, sizeof findings);
+    long before = live_blocks();
+    refuse_request(number, and_later);
+    struct acpiset_answer answer = ask(call, subject);
+    refuse_request(0, false);
+    expect(answer, answer_of(ACPISET_OUT_OF_MEMORY, 0, 0), "%s: %s, request %ld%s", subject->name, name, number, how);
+    count_case(live_blocks() == before, "%s: %s, request %ld%s: %ld blocks are left", subject->name, name, number, how,
+               live_blocks() - before);
+    count_case(is_untouched(), "%s: %s, request %ld%s: the array was written to", subject->name, name, number, how);
+}
+
+/* How many requests a call makes. */
+static long refuse_each(enum call call, const struct subject *subject) {
+    long before = live_blocks();
+    refuse_request(0, false);
+    struct acpiset_answer usual = ask(call, subject);
+    long requests = requests_made();
+    count_case(usual.kind <= ACPISET_NO, "%s: %s", subject->name, call_names[call]);
+    count_case(live_blocks() == before, "%s: %s: %ld blocks are left", subject->name, call_names[call], live_blocks() - before);
+    for (long number = 1; number <= requests; number++) {
+        refuse(call, subject, number, false);
+        refuse(call, subject, number, true);
+    }
+    expect(ask(call, subject), usual, "%s: %s, asked again", subject->name, call_names[call]);
+    return requests;
+}
+
+int main(int argc, char **argv) {
+    size_t count;
+    struct subject *subjects = subjects_of(argc, argv, &count);
+    long requests[CALLS] = {0};
+    for (size_t i = 0; i < count; i++) {
+        subjects[i].findings = findings;
+        subjects[i].findings_count = ACPISET_MOST_FINDINGS;
+        for (int call = 0; call < CALLS; call++) requests[call] += refuse_each((enum call)call, &subjects[i]);
+    }
+    refuse_request(0, false);
+    count_case(acpiset_abi() == ACPISET_ABI && requests_made() == 0, "acpiset_abi takes no memory");
+    printf("requests for memory, each refused:");
+    for (int call = 0; call < CALLS; call++) printf(" %s %ld", call_names[call], requests[call]);
+    printf("\n");
+    free_subjects(subjects, count);
+    count_case(live_blocks() == 0, "%ld blocks are left of the program's own", live_blocks());
+    return report("refused_memory");
+}
