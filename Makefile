@@ -1,6 +1,7 @@
 # acpiset: try, build, run, test, library, install. To try, build and test, the toolchain's `rt` must be on the PATH.
 PREFIX ?= /usr/local
 program := crates/acpi_cli/out/acpi_cli
+archive := crates/acpi_c/out/libacpi_c.a
 
 # What `try` runs the program on, beside the example, and the program's arguments for it.
 IMAGE ?=
@@ -29,6 +30,9 @@ alone := scripts/alone
 # Ends make in one line where the toolchain is missing. It is expanded where a recipe begins.
 needs_toolchain = $(if $(shell command -v rt || :),,$(error the Rattle toolchain is missing: put the folder of its command `rt` on the PATH, or take the archive of a release, which needs no toolchain (README.md)))
 
+# Makes the library of what was proved, so that it is tested too; not on a machine without a C compiler.
+link_library = { ! command -v cc >/dev/null || scripts/library $(archive); }
+
 .PHONY: try run build test gate library bench install install-library uninstall dist clean
 
 # Builds the program without a proof, and runs it on the example and on IMAGE.
@@ -47,15 +51,15 @@ acpiset: build
 
 # Goes on from what `build` or `gate` left: proves and builds what is not, and runs all tests.
 test:
-	$(needs_toolchain)@$(alone) sh -c 'scripts/prove tests && tests/all.sh $(program) crates/*/out/*_tests'
+	$(needs_toolchain)@$(alone) sh -c 'scripts/prove tests && $(link_library) && tests/all.sh $(program) crates/*/out/*_tests'
 
 # Proves everything from nothing, tries each wrong body that must be refused, and runs all tests.
 gate:
-	$(needs_toolchain)@$(alone) sh -c 'scripts/prove gate && tests/all.sh $(program) crates/*/out/*_tests'
+	$(needs_toolchain)@$(alone) sh -c 'scripts/prove gate && $(link_library) && tests/all.sh $(program) crates/*/out/*_tests'
 
 # Proves the library for C and C++, and leaves it as library/libacpiset.a and library/libacpiset.so.1.
 library:
-	$(needs_toolchain)@$(alone) sh -c 'scripts/prove library && scripts/library crates/acpi_c/out/libacpi_c.a'
+	$(needs_toolchain)@$(alone) sh -c 'scripts/prove library && scripts/library $(archive)'
 
 # Prints speed and memory beside other programs; not part of the tests.
 bench: build

@@ -1,12 +1,12 @@
-/* A fuzz target for code that builds ACPI tables: whatever machine it is asked for, the tables have to be sound.
+/* A fuzz target for code that builds ACPI tables: for every machine the tables have to be valid, and without advice.
  *
  *     clang -g -fsanitize=fuzzer,address fuzz_builder.c -lacpiset -o fuzz_builder && ./fuzz_builder
  *
- * Without libFuzzer, with so many machines at random:
+ * Without libFuzzer, for 10,000 random machines:
  *
  *     cc -DPLAIN_MAIN fuzz_builder.c -lacpiset -o fuzz_builder && ./fuzz_builder 10000
  *
- * With a builder of your own, which takes the place of the one below:
+ * With your own builder instead of the one below:
  *
  *     cc -DPLAIN_MAIN -DBUILDER='"my_builder.c"' fuzz_builder.c my_objects.o -lacpiset -o fuzz_builder */
 #include <acpiset.h>
@@ -16,7 +16,7 @@
 #include <stdlib.h>
 #include <string.h>
 
-/* ---- what is asked for: put here what your builder is given */
+/* ---- the machine: replace this with what your builder takes */
 
 enum { MOST_PROCESSORS = 64, MOST_NODES = 8, MOST_IO_APICS = 4, MOST_PIECES = 16, RSDP_AT = 0xe0000 };
 
@@ -55,7 +55,7 @@ static void set_checksum(size_t from, size_t at, size_t length) {
     memory[from + at] = (uint8_t)-sum;
 }
 
-/* Where the tables are in the guest's memory: one behind another, in an order of their own. */
+/* Where the tables are in the guest's memory, one after another. */
 enum { TABLES_AT = 0x7fe0000 };
 
 static size_t begin(const char *signature, uint8_t revision) {
@@ -163,7 +163,7 @@ static size_t build_tables(const struct machine *machine, struct acpiset_piece *
     put(slit, 8);
     uint64_t xsdt = finish(start);
 
-    /* the RSDP is built behind the tables and then moved */
+    /* the RSDP is built after the tables and then copied */
     size_t end = used;
     memcpy(memory + end, "RSD PTR ", 8);
     memory[end + 15] = 2;
@@ -181,7 +181,7 @@ static size_t build_tables(const struct machine *machine, struct acpiset_piece *
 
 /* ---- the target */
 
-/* The next byte of the input, or 0 behind its end. */
+/* The next byte of the input, or 0 after its end. */
 static unsigned next(const uint8_t **data, size_t *size) {
     if (*size == 0) return 0;
     --*size;
@@ -240,7 +240,7 @@ int main(int argc, char **argv) {
         }
         LLVMFuzzerTestOneInput(data, sizeof data);
     }
-    printf("%ld machines: their tables are sound\n", machines);
+    printf("%ld machines: all tables are valid\n", machines);
     return 0;
 }
 #endif

@@ -1,5 +1,4 @@
-/* A unit test of ACPI tables: they are built in memory, as firmware or a hypervisor builds them for a guest, and the library says
- * whether they are sound.
+/* A unit test of ACPI tables, as firmware or a hypervisor builds them: they are built in memory, and the library checks them.
  *
  *     cc unit_test.c -lacpiset -o unit_test && ./unit_test */
 #include <acpiset.h>
@@ -55,7 +54,15 @@ static struct table begin(const char *signature, uint8_t revision) {
 
 /* ---- a machine with four processors in two nodes of 2 GiB */
 
-enum { RSDP_AT = 0xe0000, XSDT_AT = 0x7fe0000, FACS_AT = 0x7fe1000, FADT_AT = 0x7fe2000, MADT_AT = 0x7fe3000, SRAT_AT = 0x7fe4000, SLIT_AT = 0x7fe5000 };
+enum {
+    RSDP_AT = 0xe0000,
+    XSDT_AT = 0x7fe0000,
+    FACS_AT = 0x7fe1000,
+    FADT_AT = 0x7fe2000,
+    MADT_AT = 0x7fe3000,
+    SRAT_AT = 0x7fe4000,
+    SLIT_AT = 0x7fe5000
+};
 enum { PROCESSORS = 4, NODES = 2 };
 
 struct machine {
@@ -203,7 +210,7 @@ static void expect(const char *name, const struct machine *machine, uint32_t cod
                acpiset_number_name(answer.code), answer.at, answer.other, answer.point, code ? acpiset_number_name(code) : "no fault");
 }
 
-/* Expects a sound set and one finding of advice, or none if the rule is 0. */
+/* Expects no fault and one finding of advice, of this rule; or none if it is 0. */
 static void expect_advice(const char *name, const struct machine *machine, uint32_t rule) {
     struct acpiset_piece pieces[8];
     size_t pieces_count = pieces_of(machine, pieces);
@@ -219,9 +226,9 @@ static void expect_advice(const char *name, const struct machine *machine, uint3
 
 /* ---- the tests */
 
-static void sound_tables(void) {
+static void valid_tables(void) {
     struct machine machine = make_machine();
-    expect("the tables are sound", &machine, 0);
+    expect("the tables are valid", &machine, 0);
     expect_advice("nothing else is odd", &machine, 0);
 }
 
@@ -268,7 +275,7 @@ static void two_processors_of_one_uid(void) {
 
 int main(void) {
     if (acpiset_abi() != ACPISET_ABI) return 2;
-    sound_tables();
+    valid_tables();
     changed_after_checksum();
     wrong_address();
     missing_interrupt();

@@ -225,44 +225,55 @@ struct piece_case {
 };
 
 #define PIECE(address, length) {(address), zeros, (length)}
-#define NONE {0, NULL, 0}
 
 static const struct piece_case piece_cases[] = {
     /* up to the last address and past it */
-    {"16 bytes up to the end", {PIECE(LAST - 15, 16), NONE, NONE, NONE}, 1, ACPISET_YES, 0, 0},
-    {"17 bytes past the end", {PIECE(LAST - 15, 17), NONE, NONE, NONE}, 1, ACPISET_PIECE_PAST_END, 0, 0},
-    {"a byte at the last address", {PIECE(LAST, 1), NONE, NONE, NONE}, 1, ACPISET_YES, 0, 0},
-    {"two bytes at the last address", {PIECE(LAST, 2), NONE, NONE, NONE}, 1, ACPISET_PIECE_PAST_END, 0, 0},
-    {"no bytes at the last address", {PIECE(LAST, 0), NONE, NONE, NONE}, 1, ACPISET_YES, 0, 0},
-    {"a second piece past the end", {PIECE(0x1000, 16), PIECE(LAST - 7, 9), NONE, NONE}, 2, ACPISET_PIECE_PAST_END, 1, 0},
-    {"the first and the last address", {PIECE(0, 1), PIECE(LAST, 1), NONE, NONE}, 2, ACPISET_YES, 0, 0},
-    {"the first address, and past the end", {PIECE(0, 1), PIECE(LAST, 2), NONE, NONE}, 2, ACPISET_PIECE_PAST_END, 1, 0},
-    {"a piece behind the end, of pieces before it",
+    {"16 bytes up to the end", {PIECE(LAST - 15, 16)}, 1, ACPISET_YES, 0, 0},
+    {"17 bytes past the end", {PIECE(LAST - 15, 17)}, 1, ACPISET_PIECE_PAST_END, 0, 0},
+    {"a byte at the last address", {PIECE(LAST, 1)}, 1, ACPISET_YES, 0, 0},
+    {"two bytes at the last address", {PIECE(LAST, 2)}, 1, ACPISET_PIECE_PAST_END, 0, 0},
+    {"no bytes at the last address", {PIECE(LAST, 0)}, 1, ACPISET_YES, 0, 0},
+    {"a second piece past the end", {PIECE(0x1000, 16), PIECE(LAST - 7, 9)}, 2, ACPISET_PIECE_PAST_END, 1, 0},
+    {"the first and the last address", {PIECE(0, 1), PIECE(LAST, 1)}, 2, ACPISET_YES, 0, 0},
+    {"the first address, and past the end", {PIECE(0, 1), PIECE(LAST, 2)}, 2, ACPISET_PIECE_PAST_END, 1, 0},
+    {"falling pieces, and one past the end",
      {PIECE(0x3000, 16), PIECE(0x2000, 16), PIECE(0x1000, 16), PIECE(LAST, 64)}, 4, ACPISET_PIECE_PAST_END, 3, 0},
     /* pieces that share addresses */
-    {"the same piece twice", {PIECE(0x1000, 16), PIECE(0x1000, 16), NONE, NONE}, 2, ACPISET_PIECES_OVERLAP, 1, 0x1000},
-    {"the end of a piece", {PIECE(0x1000, 16), PIECE(0x1008, 16), NONE, NONE}, 2, ACPISET_PIECES_OVERLAP, 1, 0x1008},
-    {"the last byte of a piece", {PIECE(0x1000, 16), PIECE(0x100f, 16), NONE, NONE}, 2, ACPISET_PIECES_OVERLAP, 1, 0x100f},
-    {"the start of a piece", {PIECE(0x1000, 16), PIECE(0xff8, 16), NONE, NONE}, 2, ACPISET_PIECES_OVERLAP, 1, 0x1000},
-    {"the first byte of a piece", {PIECE(0x1000, 16), PIECE(0xff1, 16), NONE, NONE}, 2, ACPISET_PIECES_OVERLAP, 1, 0x1000},
-    {"a piece inside another", {PIECE(0x1000, 64), PIECE(0x1010, 1), NONE, NONE}, 2, ACPISET_PIECES_OVERLAP, 1, 0x1010},
-    {"a piece around another", {PIECE(0x1000, 16), PIECE(0xff0, 64), NONE, NONE}, 2, ACPISET_PIECES_OVERLAP, 1, 0x1000},
-    {"pieces that touch", {PIECE(0x1000, 16), PIECE(0x1010, 16), PIECE(0xff0, 16), NONE}, 3, ACPISET_YES, 0, 0},
-    {"the last of three", {PIECE(0x1000, 16), PIECE(0x1010, 16), PIECE(0x100f, 2), NONE}, 3, ACPISET_PIECES_OVERLAP, 2, 0x100f},
-    {"the least address of two overlaps", {PIECE(0x1010, 16), PIECE(0x1000, 8), PIECE(0x1007, 16), NONE}, 3, ACPISET_PIECES_OVERLAP, 2, 0x1007},
-    {"the least address, of the later piece", {PIECE(0x1020, 16), PIECE(0x1000, 16), PIECE(0x1008, 64), NONE}, 3, ACPISET_PIECES_OVERLAP, 2, 0x1008},
-    {"the least address, of the earlier piece", {PIECE(0x1000, 16), PIECE(0x1020, 16), PIECE(0x1008, 64), NONE}, 3, ACPISET_PIECES_OVERLAP, 2, 0x1008},
-    {"the first of two overlaps", {PIECE(0x1000, 16), PIECE(0x1004, 1), PIECE(0x1000, 1), NONE}, 3, ACPISET_PIECES_OVERLAP, 1, 0x1004},
-    {"the first address twice", {PIECE(0, 1), PIECE(0, 1), NONE, NONE}, 2, ACPISET_PIECES_OVERLAP, 1, 0},
-    {"the last address twice", {PIECE(LAST, 1), PIECE(LAST - 7, 8), NONE, NONE}, 2, ACPISET_PIECES_OVERLAP, 1, LAST},
+    {"the same piece twice", {PIECE(0x1000, 16), PIECE(0x1000, 16)}, 2, ACPISET_PIECES_OVERLAP, 1, 0x1000},
+    {"the end of a piece", {PIECE(0x1000, 16), PIECE(0x1008, 16)}, 2, ACPISET_PIECES_OVERLAP, 1, 0x1008},
+    {"the last byte of a piece", {PIECE(0x1000, 16), PIECE(0x100f, 16)}, 2, ACPISET_PIECES_OVERLAP, 1, 0x100f},
+    {"the start of a piece", {PIECE(0x1000, 16), PIECE(0xff8, 16)}, 2, ACPISET_PIECES_OVERLAP, 1, 0x1000},
+    {"the first byte of a piece", {PIECE(0x1000, 16), PIECE(0xff1, 16)}, 2, ACPISET_PIECES_OVERLAP, 1, 0x1000},
+    {"a piece inside another", {PIECE(0x1000, 64), PIECE(0x1010, 1)}, 2, ACPISET_PIECES_OVERLAP, 1, 0x1010},
+    {"a piece around another", {PIECE(0x1000, 16), PIECE(0xff0, 64)}, 2, ACPISET_PIECES_OVERLAP, 1, 0x1000},
+    {"pieces that touch", {PIECE(0x1000, 16), PIECE(0x1010, 16), PIECE(0xff0, 16)}, 3, ACPISET_YES, 0, 0},
+    {"the last of three", {PIECE(0x1000, 16), PIECE(0x1010, 16), PIECE(0x100f, 2)}, 3, ACPISET_PIECES_OVERLAP, 2, 0x100f},
+    {"the least address of two overlaps",
+     {PIECE(0x1010, 16), PIECE(0x1000, 8), PIECE(0x1007, 16)}, 3, ACPISET_PIECES_OVERLAP, 2, 0x1007},
+    {"the least address, of the later piece",
+     {PIECE(0x1020, 16), PIECE(0x1000, 16), PIECE(0x1008, 64)}, 3, ACPISET_PIECES_OVERLAP, 2, 0x1008},
+    {"the least address, of the earlier piece",
+     {PIECE(0x1000, 16), PIECE(0x1020, 16), PIECE(0x1008, 64)}, 3, ACPISET_PIECES_OVERLAP, 2, 0x1008},
+    {"the first of two overlaps",
+     {PIECE(0x1000, 16), PIECE(0x1004, 1), PIECE(0x1000, 1)}, 3, ACPISET_PIECES_OVERLAP, 1, 0x1004},
+    {"the first address twice", {PIECE(0, 1), PIECE(0, 1)}, 2, ACPISET_PIECES_OVERLAP, 1, 0},
+    {"the last address twice", {PIECE(LAST, 1), PIECE(LAST, 1)}, 2, ACPISET_PIECES_OVERLAP, 1, LAST},
+    {"the last address, and a piece up to it", {PIECE(LAST, 1), PIECE(LAST - 7, 8)}, 2, ACPISET_PIECES_OVERLAP, 1, LAST},
+    {"the last address, and two bytes from it on", {PIECE(LAST, 1), PIECE(LAST, 2)}, 2, ACPISET_PIECE_PAST_END, 1, 0},
+    {"no bytes at the last address, and pieces before it",
+     {PIECE(LAST, 0), PIECE(0x1000, 16), PIECE(0x1008, 1)}, 3, ACPISET_PIECES_OVERLAP, 2, 0x1008},
     /* which comes first */
-    {"past the end, and an overlap of one piece", {PIECE(LAST, 1), PIECE(LAST - 7, 9), NONE, NONE}, 2, ACPISET_PIECE_PAST_END, 1, 0},
-    {"an overlap, and then past the end", {PIECE(0x1000, 16), PIECE(0x1008, 16), PIECE(LAST, 2), NONE}, 3, ACPISET_PIECES_OVERLAP, 1, 0x1008},
-    {"past the end, and then an overlap", {PIECE(LAST, 2), PIECE(0x1000, 16), PIECE(0x1008, 16), NONE}, 3, ACPISET_PIECE_PAST_END, 0, 0},
+    {"past the end, and an overlap of one piece", {PIECE(LAST, 1), PIECE(LAST - 7, 9)}, 2, ACPISET_PIECE_PAST_END, 1, 0},
+    {"an overlap, and then past the end",
+     {PIECE(0x1000, 16), PIECE(0x1008, 16), PIECE(LAST, 2)}, 3, ACPISET_PIECES_OVERLAP, 1, 0x1008},
+    {"past the end, and then an overlap",
+     {PIECE(LAST, 2), PIECE(0x1000, 16), PIECE(0x1008, 16)}, 3, ACPISET_PIECE_PAST_END, 0, 0},
     /* pieces without bytes */
-    {"no bytes inside a piece", {PIECE(0x1000, 16), PIECE(0x1008, 0), {0x1000, NULL, 0}, {LAST, NULL, 0}}, 4, ACPISET_YES, 0, 0},
-    {"no bytes before a piece", {PIECE(0x1008, 0), {0x1008, NULL, 0}, PIECE(0x1000, 16), NONE}, 4, ACPISET_YES, 0, 0},
-    {"an overlap behind pieces without bytes", {PIECE(0x1000, 16), PIECE(0x1008, 0), {0x1000, NULL, 0}, PIECE(0x1000, 1)}, 4, ACPISET_PIECES_OVERLAP, 3, 0x1000},
+    {"no bytes inside a piece",
+     {PIECE(0x1000, 16), PIECE(0x1008, 0), {0x1000, NULL, 0}, {LAST, NULL, 0}}, 4, ACPISET_YES, 0, 0},
+    {"no bytes before a piece", {PIECE(0x1008, 0), {0x1008, NULL, 0}, PIECE(0x1000, 16)}, 4, ACPISET_YES, 0, 0},
+    {"an overlap after pieces without bytes",
+     {PIECE(0x1000, 16), PIECE(0x1008, 0), {0x1000, NULL, 0}, PIECE(0x1000, 1)}, 4, ACPISET_PIECES_OVERLAP, 3, 0x1000},
 };
 
 static void pieces(void) {
@@ -273,7 +284,8 @@ static void pieces(void) {
         request.pieces_count = it->count;
         for (int call = CHECK; call <= FIND; call++) {
             if (call == CHECK_TEXT) continue;
-            struct acpiset_answer wanted = it->kind == ACPISET_YES ? answer_on_nothing((enum call)call) : answer_of(it->kind, it->at, it->other);
+            struct acpiset_answer wanted =
+                it->kind == ACPISET_YES ? answer_on_nothing((enum call)call) : answer_of(it->kind, it->at, it->other);
             expect(ask((enum call)call, &request), wanted, "%s, %s", names[call], it->name);
         }
     }

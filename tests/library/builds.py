@@ -20,6 +20,7 @@ SOURCES = {
     "header": ["header.c"],
     "bad_input": ["bad_input.c", "common.c"],
     "through_pieces": ["through_pieces.c", "common.c"],
+    "many_pieces": ["many_pieces.c", "common.c"],
     "findings": ["findings.c", *CALLS],
     "guarded": ["guarded.c", *CALLS],
     "refused_memory": ["refused_memory.c", "counted_memory.c", *CALLS],

@@ -8,7 +8,7 @@ enum call { CHECK, CHECK_TEXT, CONFIRM, LINT, FIND, CALLS };
 
 extern const char *const call_names[CALLS];
 
-/* An image as text and as pieces, and what is asked of it. */
+/* An image as text and as pieces, and the arguments of the calls on it. */
 struct subject {
     const char *name;
     const char *text;
@@ -22,8 +22,7 @@ struct subject {
     size_t findings_count;
 };
 
-/* The subjects of arguments that are an RSDP's address in hex and a file of image text, in turn. Each is asked with settings and
- * inputs that are not the usual ones. */
+/* The subjects that the arguments name: an RSDP's address in hex and a file of image text, for each. */
 struct subject *subjects_of(int argc, char **argv, size_t *count);
 void free_subjects(struct subject *subjects, size_t count);
 

@@ -65,7 +65,7 @@ static int digit_of(char c) {
     return -1;
 }
 
-/* Reads the data of a line, without its comment, behind the bytes that are there. Returns how many there are then. */
+/* Appends the data of a line, without its comment, to the bytes. Returns how many there are now. */
 static size_t read_data(const char *line, const char *end, uint8_t *bytes, size_t used) {
     for (const char *at = line; at < end; at++) {
         int high = digit_of(*at);

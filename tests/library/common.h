@@ -17,7 +17,7 @@ void *block_of(size_t size);
 /* A block of these bytes and no more, so that a sanitizer sees a read past them. */
 uint8_t *copy_of(const void *bytes, size_t size);
 
-/* All that a stream or a file has, with its size; a zero byte is behind it. */
+/* The rest of a stream or a file, and its size; a zero byte follows it. */
 char *read_stream(FILE *stream, size_t *size);
 char *read_file(const char *path, size_t *size);
 
@@ -32,7 +32,7 @@ struct image {
     size_t count;
 };
 
-/* The image of an image text without a fault: a piece for the data behind each address. */
+/* The image of a valid image text: one piece for the data after each address. */
 struct image read_image(const char *text, size_t length);
 void free_image(struct image *image);
 

@@ -1,4 +1,4 @@
-/* Arrays of every size for findings: as many are written as fit, in the order of their numbers, and what is behind them stays.
+/* Arrays of several sizes for findings: as many as fit are written, by number, and the rest of the array stays as it is.
  * usage: findings RSDP FILE [RSDP FILE].. */
 #include "calls.h"
 
@@ -42,9 +42,10 @@ static void sizes(struct subject *subject) {
     struct acpiset_answer answer = ask_lint(subject, room, ROOM);
     memcpy(all, room, sizeof all);
     size_t total = (size_t)(answer.at + answer.other);
-    count_case(total <= ACPISET_MOST_FINDINGS && answer.kind == (answer.at ? ACPISET_NO : ACPISET_YES), "%s: how many findings", subject->name);
+    bool is_right = total <= ACPISET_MOST_FINDINGS && answer.kind == (answer.at ? ACPISET_NO : ACPISET_YES);
+    count_case(is_right, "%s: how many findings", subject->name);
     count_case(is_in_order(answer), "%s: the order of findings", subject->name);
-    count_case(is_untouched_from(total), "%s: what is behind all findings", subject->name);
+    count_case(is_untouched_from(total), "%s: the elements after all findings", subject->name);
     expect(ask_lint(subject, NULL, 0), answer, "%s: no array", subject->name);
     const size_t rooms[] = {0, 1, 2, total / 2, total ? total - 1 : 0, total, total + 1, ACPISET_MOST_FINDINGS, ROOM};
     for (size_t i = 0; i < sizeof rooms / sizeof rooms[0]; i++) {
@@ -53,7 +54,7 @@ static void sizes(struct subject *subject) {
         bool is_same = true;
         for (size_t j = 0; j < written; j++) is_same = is_same && same_findings(&room[j], &all[j]);
         count_case(is_same, "%s: findings in an array of %zu", subject->name, rooms[i]);
-        count_case(is_untouched_from(written), "%s: what is behind an array of %zu", subject->name, rooms[i]);
+        count_case(is_untouched_from(written), "%s: the elements after an array of %zu", subject->name, rooms[i]);
     }
 }
 
@@ -73,14 +74,14 @@ static void refused(struct subject *subject) {
     struct subject it = *subject;
     it.settings.size = 0;
     expect(ask_lint(&it, room, ROOM), answer_of(ACPISET_BAD_SIZE, 0, 0), "%s: a wrong size", it.name);
-    count_case(is_untouched_from(0), "%s: findings behind a wrong size", it.name);
+    count_case(is_untouched_from(0), "%s: findings after a wrong size", it.name);
 
     static const struct acpiset_inputs inputs[] = {{1, 0}};
     it = *subject;
     it.inputs = inputs;
     it.inputs_count = 1;
     expect(ask_lint(&it, room, ROOM), answer_of(ACPISET_BAD_INPUTS, 0, 0), "%s: wrong inputs", it.name);
-    count_case(is_untouched_from(0), "%s: findings behind wrong inputs", it.name);
+    count_case(is_untouched_from(0), "%s: findings after wrong inputs", it.name);
 
     static const uint8_t byte = 0;
     static const struct acpiset_piece twice[] = {{0x1000, &byte, 1}, {0x1000, &byte, 1}};
@@ -88,7 +89,7 @@ static void refused(struct subject *subject) {
     it.image.pieces = (struct acpiset_piece *)twice;
     it.image.count = 2;
     expect(ask_lint(&it, room, ROOM), answer_of(ACPISET_PIECES_OVERLAP, 1, 0x1000), "%s: an overlap", it.name);
-    count_case(is_untouched_from(0), "%s: findings behind an overlap", it.name);
+    count_case(is_untouched_from(0), "%s: findings after an overlap", it.name);
 }
 
 int main(int argc, char **argv) {

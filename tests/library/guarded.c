@@ -23,8 +23,8 @@ static size_t maps_count;
 /* A copy of the bytes between two guarded pages. */
 static void *guarded(const void *bytes, size_t size, int protection) {
     size_t inside = (size + page - 1) / page * page;
-    size_t whole = inside + 2 * page;
-    char *start = (char *)mmap(NULL, whole, PROT_NONE, MAP_PRIVATE | MAP_ANONYMOUS, -1, 0);
+    size_t size_of_map = inside + 2 * page;
+    char *start = (char *)mmap(NULL, size_of_map, PROT_NONE, MAP_PRIVATE | MAP_ANONYMOUS, -1, 0);
     if (start == MAP_FAILED) exit(2);
     char *first = start + page + (is_at_end ? inside - size : 0);
     if (inside) {
@@ -34,7 +34,7 @@ static void *guarded(const void *bytes, size_t size, int protection) {
     }
     maps = (struct map *)realloc(maps, (maps_count + 1) * sizeof *maps);
     if (!maps) exit(2);
-    struct map map = {start, whole};
+    struct map map = {start, size_of_map};
     maps[maps_count++] = map;
     return first;
 }

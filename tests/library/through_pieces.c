@@ -1,14 +1,14 @@
-/* Answers what the program acpiset is asked, by calls of the library, and prints the program's lines.
+/* Takes the commands of the program acpiset, calls the library, and prints the lines that the program prints.
  * usage: through_pieces COMMAND [OPTION].. [ADDRESS=COUNT].. < TEXT
  *        through_pieces --batch < JOBS
  *
- * COMMAND is check, lint, confirm or find, with the options that it has there. It reads image text; the data behind each address
+ * COMMAND is check, lint, confirm or find, with the options that it has there. It reads image text; the data after each address
  * is a piece. Two options more say how the image is passed:
  *   --text         as text (check alone; the RSDP is still looked for among the pieces)
  *   --pieces SEED  as pieces that are cut at random places, mixed with pieces without bytes, and in another order
  *
  * Jobs come one after another: the number of arguments and a line end, each argument and a line end, the number of bytes of the text
- * and a line end, and the text. Behind the lines of each answer stands a line with `=` and the status. */
+ * and a line end, and the text. The lines of each answer are followed by a line with `=` and the status. */
 #include "common.h"
 
 #include <inttypes.h>
@@ -131,13 +131,13 @@ static void push(struct image *image, uint64_t address, const uint8_t *bytes, si
     image->pieces[image->count++] = piece;
 }
 
-/* A piece without bytes, anywhere: at a held address, at another one, or at the last one. */
+/* Adds a piece without bytes: at an address of the image, at a random one, or at the last one. */
 static void push_nothing(struct image *image, const struct acpiset_piece *near) {
     const uint64_t addresses[] = {near->address, near->address + near->length / 2, below(UINT64_MAX), UINT64_MAX};
     push(image, addresses[below(4)], below(2) ? NULL : copy_of("", 0), 0);
 }
 
-/* The same image, cut at random places and in another order. Bytes that a call may not read are not behind any piece. */
+/* The same image, cut at random places and in a random order. Each piece has a block of its own. */
 static struct image shuffled(const struct image *image, uint64_t seed) {
     struct image other = {NULL, 0};
     state = seed;
@@ -268,7 +268,7 @@ static int answer(char **words, size_t words_count, const char *text, size_t len
 
 /* ---- jobs */
 
-/* The line from the place on, which is moved behind it; its end becomes a zero byte. */
+/* The line that begins at the place, with a zero byte instead of its end. The place moves to the next line. */
 static char *next_line(char **place) {
     char *line = *place, *end = strchr(line, '\n');
     if (!end) fail("no line end", line);
