@@ -25,10 +25,13 @@ SOURCES = {
     "guarded": ["guarded.c", *CALLS],
     "refused_memory": ["refused_memory.c", "counted_memory.c", *CALLS],
     "threads": ["threads.c", "counted_memory.c", *CALLS],
+    "stack": ["stack.c", *CALLS],
     "speed": ["speed.c", *CALLS],
 }
 # Those that count blocks, so that the library's own calls have to be linked with them.
 WITH_COUNTS = ("refused_memory", "threads")
+# Those that measure, of which sanitizers change the results.
+MEASURES = ("stack", "speed")
 
 
 def first_of(*names):
@@ -47,7 +50,7 @@ class Build:
 
     def programs(self):
         """The programs that are built in this way."""
-        return [it for it in SOURCES if not (self.is_shared and it in WITH_COUNTS)]
+        return [it for it in SOURCES if not (self.is_shared and it in WITH_COUNTS or self.is_sanitized and it in MEASURES)]
 
     def path(self, scratch, program):
         return scratch / f"{program}-{self.name.replace(' ', '-')}"

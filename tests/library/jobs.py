@@ -12,6 +12,7 @@ sys.path += [str(HERE.parent / place) for place in ("rows", "show", "rebuild", "
 from cases import FIRMWARE, IMAGES, text_in
 from confirm import ASKED, questions_of
 from expected import EXPECTED
+from fuzz import case_of
 from judged import JUDGED
 from many import MANY
 from mistakes import MISTAKES, UNCHANGED, firmware_text
@@ -20,6 +21,7 @@ from sets import SHOWN
 from tables import *
 
 GOOD = ("yes", "rsdp 0x", "true")
+SEED = 1
 
 
 @dataclass
@@ -120,12 +122,24 @@ def of_sets():
                 yield Job(name, ("check", *rsdp, *settings, "--through", str(stage)), text)
 
 
+RANDOM_SETS = 300
+
+
+def at_random():
+    """Random sets, and random changes of other sets, as tests/lint/fuzz.py makes them. The program is asked."""
+    for place in range(RANDOM_SETS):
+        words, text = case_of(SEED, place)
+        words = [word for word in words if word != "--strict"]
+        for command in ("check", "lint"):
+            yield Job(f"random set {place}", (command, *words), text)
+
+
 def of_faults(answered):
     """The faults that these jobs found, confirmed, and with another number."""
     for job in answered:
         if job.words[0] != "check":
             continue
-        words = [word for word in job.words[1:]]
+        words = list(job.words[1:])
         if "--through" in words:
             at = words.index("--through")
             del words[at : at + 2]
@@ -152,7 +166,7 @@ def texts():
     words = ("check", "--rsdp", "e0000")
     for at in range(len(TEXT)):
         yield Job(f"the first {at} bytes of a text", words, TEXT[:at], is_faulty=True)
-    dice = random.Random(1)
+    dice = random.Random(SEED)
     for place in range(MUTATIONS):
         text = bytearray(TEXT)
         for _ in range(dice.choice((1, 1, 1, 2, 4))):

@@ -21,7 +21,7 @@ HERE = Path(__file__).resolve().parent
 sys.path.insert(0, str(HERE))
 
 from builds import HEADER, SOURCES, TOP, builds_of, refused_by, syntaxes
-from jobs import STAGES, all_findings, confirmations, firmware, of_faults, of_sets, rows, texts
+from jobs import STAGES, all_findings, at_random, confirmations, firmware, of_faults, of_sets, rows, texts
 
 from advice import RULES
 from cases import FIRMWARE, IMAGES, Cases, text_in
@@ -35,7 +35,10 @@ from tables import *
 SECONDS = 300
 FUNCTIONS = {"acpiset_check", "acpiset_check_text", "acpiset_confirm", "acpiset_lint", "acpiset_find", "acpiset_abi"}
 FROM_OUTSIDE = {"malloc", "realloc", "free", "memcpy", "memmove", "memset", "memcmp", "bcmp"}
+# The most bytes of the shared object.
 MOST_BYTES = 200_000
+# Image texts that are larger are tried in one build alone.
+LARGE = 100_000
 
 
 def run(words, **how):
@@ -60,6 +63,13 @@ def difference(told, right):
     return "; ".join(f"{name} {what}" for what, names in (("too many", told - right), ("missing", right - told)) for name in sorted(names))
 
 
+def stripped_size(path, scratch):
+    """The bytes of a file without the symbols that nobody needs, where that can be done here."""
+    stripped = scratch / path.name
+    is_stripped = shutil.which("strip") and run(["strip", "--strip-unneeded", "-o", stripped, path])[1] == 0
+    return (stripped if is_stripped else path).stat().st_size
+
+
 def files(cases, folder, scratch):
     """What the files export and need, and how large they are."""
     if not shutil.which("nm"):
@@ -80,13 +90,9 @@ def files(cases, folder, scratch):
     cases.count("what the shared object needs", difference(needed - FROM_OUTSIDE, set()))
     link = folder / "libacpiset.so"
     cases.count("the name without a version", "" if link.is_symlink() and os.readlink(link) == shared.name else "no link to it")
-    bytes_of = {}
-    for path in (archive, shared):
-        stripped = scratch / path.name
-        run(["strip", "--strip-unneeded", "-o", stripped, path])
-        bytes_of[path.name] = stripped.stat().st_size if stripped.exists() else path.stat().st_size
-    cases.count("sizes", "" if all(size < MOST_BYTES for size in bytes_of.values()) else f"{bytes_of}")
-    print("bytes, stripped: " + ", ".join(f"{name} {size}" for name, size in bytes_of.items()))
+    sizes = {path.name: stripped_size(path, scratch) for path in (archive, shared)}
+    cases.count("the size of the shared object", "" if sizes[shared.name] < MOST_BYTES else f"{sizes}")
+    print("bytes, stripped: " + ", ".join(f"{name} {size}" for name, size in sizes.items()))
     if shutil.which("readelf"):
         shared_object(cases, shared)
 
@@ -232,7 +238,8 @@ class Subject:
 
 
 def subjects(scratch):
-    """Images of firmware; a clean set; a fault of each stage; the sets with the most findings; and many pieces in falling order."""
+    """Images of firmware; a clean set; a fault of each stage; the sets with the most findings; and many pieces in falling order.
+    None is so large that it cannot be asked a thousand times."""
     made = [("a whole set", WHOLE), *((f"stage {row.answer.split()[1]}", row.pieces) for row in one_of_each_stage())]
     with_most = sorted((it for it in EXPECTED if it.words == "--rsdp e0000"), key=lambda it: -len(it.lines))[:6]
     made += [(f"findings {place}", it.pieces) for place, it in enumerate(with_most)]
@@ -245,17 +252,21 @@ def subjects(scratch):
         yield Subject("e0000", path)
 
 
+def large_subject(scratch):
+    path = scratch / "4,096-processors.img.txt"
+    path.write_bytes(text_in(many_processors()))
+    return Subject("e0000", path)
+
+
 def words_of(some):
     return [word for it in some for word in (it.rsdp, it.path)]
 
 
 def speeds(build, scratch):
     """How long calls take. Nothing is expected of it."""
-    path = scratch / "4,096-processors.img.txt"
-    path.write_bytes(text_in(many_processors()))
     usual = ("sb-q35-default", "sb-q35-numa4-dist", "q11-efi-virt-caches")
     guests = [Subject(IMAGES[name], FIRMWARE / f"{name}.img.txt") for name in usual]
-    told, status = run([build.path(scratch, "speed"), *words_of([*guests, Subject("e0000", path)])])
+    told, status = run([build.path(scratch, "speed"), *words_of([*guests, large_subject(scratch)])])
     print(re.sub(r"^\S*/", "", told, flags=re.M), end="" if status == 0 else f"speed: status {status}\n")
 
 
@@ -275,7 +286,7 @@ def all_jobs(program):
     """All that is asked, with answers."""
     with ThreadPoolExecutor() as pool:
         ask = lambda jobs: list(pool.map(lambda job: answered(program, job), jobs))
-        asked = ask([*rows(), *confirmations(), *all_findings(), *of_sets(), *texts()])
+        asked = ask([*rows(), *confirmations(), *all_findings(), *of_sets(), *at_random(), *texts()])
         return asked + ask(of_faults([job for job in asked if not job.is_faulty]))
 
 
@@ -328,12 +339,6 @@ def compared(cases, build, scratch, jobs):
         for faults in pool.map(lambda chunk: wrong_answers(path, build.environment(), chunk), asked):
             for fault in faults:
                 cases.count(f"through_pieces, {build.name}", fault)
-
-
-def some_of(jobs, place):
-    """A part of the small jobs, another one for each place, for builds of which one has answered all."""
-    small = [job for job in jobs if len(job.text) < 100_000]
-    return small[place :: 5]
 
 
 # ---- examples
@@ -442,8 +447,8 @@ def compiled(cases, builds, scratch):
 
 def tested(cases, build, place, built, scratch, jobs, some):
     """Runs what was built in one way."""
-    words = {"bad_input": [], "many_pieces": [str(MANY_PIECES)]}
-    for program in ("bad_input", "many_pieces", "findings", "guarded", "refused_memory", "threads"):
+    words = {"bad_input": [], "many_pieces": [str(MANY_PIECES)], "stack": words_of([*some, large_subject(scratch)])}
+    for program in ("bad_input", "many_pieces", "findings", "guarded", "refused_memory", "threads", "stack"):
         if (build.name, program) in built:
             lines = counted(cases, build, program, [build.path(scratch, program), *words.get(program, words_of(some))])
             if place == 0:
@@ -454,7 +459,7 @@ def tested(cases, build, place, built, scratch, jobs, some):
         wrong = difference(set(told.splitlines()), set(right)) or ("" if told.splitlines() == right and status == 0 else f"{told}, status {status}")
         cases.count(f"header.c, {build.name}", wrong)
     if (build.name, "through_pieces") in built:
-        compared(cases, build, scratch, jobs if place == 0 else some_of(jobs, place))
+        compared(cases, build, scratch, [job for job in jobs if place == 0 or len(job.text) < LARGE])
     if not build.is_shared:
         examples(cases, build, scratch)
 
