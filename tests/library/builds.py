@@ -2,14 +2,19 @@
 object, and with sanitizers."""
 
 import os
+import re
 import shutil
 import subprocess
+import sys
 from dataclasses import dataclass
 from pathlib import Path
 
 HERE = Path(__file__).resolve().parent
 TOP = HERE.parent.parent
 HEADER = TOP / "bindings" / "c" / "acpiset.h"
+# The other tests, whose sets and second programs are used here.
+sys.path += [str(HERE.parent / place) for place in ("rows", "show", "rebuild", "lint")]
+SECONDS = 300
 STRICT = ["-Wall", "-Wextra", "-pedantic", "-Werror"]
 COUNTED = ["-Wl,--wrap=malloc,--wrap=realloc,--wrap=free"]
 SANITIZERS = ["-fsanitize=address,undefined", "-fno-sanitize-recover=all", "-fno-omit-frame-pointer"]
@@ -32,6 +37,37 @@ SOURCES = {
 WITH_COUNTS = ("refused_memory", "threads")
 # Those that measure, of which sanitizers change the results.
 MEASURES = ("stack", "speed")
+
+
+def run(words, **how):
+    """What a command prints, and its status."""
+    try:
+        ended = subprocess.run(words, stdout=subprocess.PIPE, stderr=subprocess.STDOUT, timeout=SECONDS, **how)
+    except subprocess.TimeoutExpired:
+        return f"no end in {SECONDS} seconds", None
+    return ended.stdout.decode(errors="replace"), ended.returncode
+
+
+def difference(told, right):
+    """What one set has too many and too few."""
+    parts = (("too many", told - right), ("missing", right - told))
+    return "; ".join(f"{name} {what}" for what, names in parts for name in sorted(names))
+
+
+def counted(cases, build, program, words):
+    """Adds the cases of a program whose last line says how many passed."""
+    told, status = run(words, env=build.environment())
+    *lines, last = told.splitlines() or [""]
+    found = re.fullmatch(r"\w+: (\d+) passed, (\d+) failed", last)
+    if found and status == (0 if found[2] == "0" else 1):
+        cases.passed += int(found[1])
+        cases.failed += int(found[2])
+        if found[2] == "0":
+            return lines
+        print(f"{program}, {build.name}:", *lines[:40], last, sep="\n")
+        return []
+    cases.count(f"{program}, {build.name}", f"status {status}: {told[-3000:]}")
+    return []
 
 
 def first_of(*names):
@@ -60,7 +96,7 @@ class Build:
         counted = COUNTED if program in WITH_COUNTS else []
         words = [*self.command, *STRICT, f"-I{HEADER.parent}", f"-I{HERE}", *options, *sources]
         words += ["-x", "none", *self.linked, *counted, "-pthread", "-o", self.path(scratch, program)]
-        built = subprocess.run(words, capture_output=True, text=True, timeout=300)
+        built = subprocess.run(words, capture_output=True, text=True, timeout=SECONDS)
         return "" if built.returncode == 0 else f"{built.stdout}{built.stderr}" or f"status {built.returncode}"
 
     def environment(self):
@@ -72,7 +108,7 @@ def works_with(command, options, scratch):
     """Whether a program can be compiled with these options and then runs."""
     source, program = scratch / "nothing.c", scratch / "nothing"
     source.write_text("int main(void) { return 0; }\n")
-    built = subprocess.run([*command, *options, source, "-o", program], capture_output=True, timeout=300)
+    built = subprocess.run([*command, *options, source, "-o", program], capture_output=True, timeout=SECONDS)
     return built.returncode == 0 and subprocess.run([program], capture_output=True, timeout=60).returncode == 0
 
 

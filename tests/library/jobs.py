@@ -1,13 +1,11 @@
 """What the library is asked beside the program: sets of the other tests, with their arguments and answers; and the same sets under
 other settings, about which the program is asked too."""
 
+import gzip
 import random
-import sys
 from dataclasses import dataclass
-from pathlib import Path
 
-HERE = Path(__file__).resolve().parent
-sys.path += [str(HERE.parent / place) for place in ("rows", "show", "rebuild", "lint")]
+import builds  # the folders of the other tests
 
 from cases import FIRMWARE, IMAGES, text_in
 from confirm import ASKED, questions_of
@@ -120,6 +118,13 @@ def of_sets():
             yield Job(name, ("lint", *rsdp, *settings), text)
             for stage in STAGES:
                 yield Job(name, ("check", *rsdp, *settings, "--through", str(stage)), text)
+
+
+def region():
+    """A part of a guest's memory, of which the tables are a few pages."""
+    text = gzip.decompress((FIRMWARE / "sb-q35-default.region.img.txt.gz").read_bytes())
+    for command in ("find", "check", "lint"):
+        yield Job("sb-q35-default.region", (command,), text)
 
 
 RANDOM_SETS = 300
