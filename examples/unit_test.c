@@ -219,7 +219,8 @@ static void expect_advice(const char *name, const struct machine *machine, uint3
     struct acpiset_answer answer = acpiset_lint(pieces, pieces_count, NULL, 0, &settings, findings, ACPISET_MOST_FINDINGS);
     bool is_right = answer.kind == ACPISET_YES && answer.other == (rule ? 1 : 0) && (!rule || findings[0].number == rule);
     count(name, is_right);
-    for (uint64_t i = 0; !is_right && answer.kind <= ACPISET_NO && i < answer.at + answer.other; i++)
+    if (is_right || answer.kind > ACPISET_NO) return;
+    for (uint64_t i = 0; i < answer.at + answer.other && i < ACPISET_MOST_FINDINGS; i++)
         printf("  %s 0x%" PRIx64 " 0x%" PRIx64 " 0x%" PRIx64 "\n", acpiset_number_name(findings[i].number), findings[i].at,
                findings[i].other, findings[i].point);
 }

@@ -210,7 +210,7 @@ static int print_confirm(struct acpiset_answer answer) {
 static int print_lint(struct acpiset_answer answer, const struct acpiset_finding *findings) {
     if (answer.kind > ACPISET_NO) return print_refusal(answer);
     if (answer.kind == ACPISET_YES) puts("yes");
-    for (uint64_t i = 0; i < answer.at + answer.other; i++) {
+    for (uint64_t i = 0; i < answer.at + answer.other && i < ACPISET_MOST_FINDINGS; i++) {
         const struct acpiset_finding *it = &findings[i];
         if (i < answer.at) print_fault(it->number, it->at, it->other, it->point);
         else print_finding("advice", it->number, it->at, it->other, it->point);
