@@ -53,7 +53,7 @@ struct acpiset_settings {
 
 /* The usual settings, as an initializer. */
 #define ACPISET_SETTINGS(rsdp) \
-    { sizeof(struct acpiset_settings), (rsdp), 24, ACPISET_HOTPLUG_COUNTED, ACPISET_PROCESSORS_ENABLED, 18 }
+    { sizeof(struct acpiset_settings), (uint64_t)(rsdp), 24, ACPISET_HOTPLUG_COUNTED, ACPISET_PROCESSORS_ENABLED, 18 }
 
 /* A fault, or a finding of advice. What the three numbers are depends on the code or the rule: acpiset-faults(7). */
 struct acpiset_finding {
@@ -65,7 +65,7 @@ struct acpiset_finding {
 
 /* What an answer says. A kind is never renumbered; later versions may add some. */
 enum acpiset_kind {
-    ACPISET_YES = 0,                /* the tables are sound; the fault is in the image; the RSDP was found; there is no fault */
+    ACPISET_YES = 0,                /* the tables are valid; the fault is in the image; the RSDP was found; there is no fault */
     ACPISET_NO = 1,                 /* there is a fault; the fault is not in the image; no RSDP was found */
     ACPISET_OUT_OF_MEMORY = 2,      /* malloc or realloc returned NULL */
     ACPISET_BAD_SIZE = 3,           /* settings.size is not sizeof(struct acpiset_settings) */
@@ -101,7 +101,7 @@ struct acpiset_answer acpiset_check(const struct acpiset_piece *pieces, size_t p
                                     const struct acpiset_inputs *inputs, size_t inputs_count,
                                     const struct acpiset_settings *settings);
 
-/* The same for the image whose image text this is. The text need not end with a zero byte. */
+/* The same, of an image that is passed as image text, which need not end with a zero byte. `text` may be NULL if `length` is 0. */
 struct acpiset_answer acpiset_check_text(const char *text, size_t length,
                                          const struct acpiset_inputs *inputs, size_t inputs_count,
                                          const struct acpiset_settings *settings);

@@ -99,7 +99,7 @@ one_answer pieces text m settings inputs v w made is one other =
     let image : one.image ≡ m = ok_same one.image m (sym one.asked.image ∙ made) in
     let same : other.image ≡ one.image = text_image text other.image m other.asked.image is ∙ sym image in
     let policy : other.policy ≡ one.policy =
-        ok_same other.policy one.policy (sym other.asked.policy ∙ one.asked.policy) in
+    ok_same other.policy one.policy (sym other.asked.policy ∙ one.asked.policy) in
     let last : other.last ≡ one.last = same_stage other.last one.last (other.through ∙ sym one.through) in
     one_verdict one.last one.image one.policy v w one.verdict
     (subst (λ s. IsVerdict s one.image one.policy w) last

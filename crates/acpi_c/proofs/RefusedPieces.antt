@@ -268,7 +268,7 @@ overlap_back : (ps : List Piece) (index a : ℕ) → IsOverlap ps index a
     → with_pieces 0 empty ps ≡ Err (PiecesOverlap index a)
 overlap_back ps index a h =
     let test : nat_lt (2 ^ 64) (h.piece.address + length h.piece.bytes.now) ≡ false =
-        grind (arith, nat_tests, h.fits) in
+    grind (arith, nat_tests, h.fits) in
     let first = shared_first h.behind.image h.piece h.earlier a h.behind.made h.own h.taken h.least in
     let why : add_refusal h.behind.image h.piece.address h.piece.bytes.now ≡ Some (Twice a) = rw (test, first) refl in
     let same : 0 + length h.earlier ≡ index = omega (arith, h.behind.count) in

@@ -21,7 +21,7 @@
 //!         bytes: &[3, 4],
 //!     },
 //! ];
-//! let answer = acpiset_check(alloc, &pieces, &[], &SETTINGS);
+//! let answer = answered(acpiset_check(alloc, &pieces, &[], &SETTINGS))?; // unless memory ran out
 //! assert!(rt; answer.kind == Kind::PiecesOverlap.number());
 //! assert!(rt; answer.at == 1);
 //! assert!(rt; answer.other == 0x1000);

@@ -16,6 +16,9 @@ pub struct Piece<'a> {
     pub bytes: &'a [u8],
 }
 
+/// So many pieces at most are added one by one whatever their order is: to copy what is there costs less than to mark each address.
+const FEW: usize = 16;
+
 /// Whether each piece begins where the one before it ends, or behind that.
 fn are_rising(pieces: &[Piece<'_>]) -> bool {
     let mut end = 0;
@@ -28,8 +31,8 @@ fn are_rising(pieces: &[Piece<'_>]) -> bool {
     true
 }
 
-/// The image of pieces that rise, of which each is appended.
-fn image_of_rising(alloc: Global, pieces: &[Piece<'_>]) -> Result<Image, Refusal>
+/// The image of the pieces, added one by one.
+fn image_by_adding(alloc: Global, pieces: &[Piece<'_>]) -> Result<Image, Refusal>
     ensures { Reads (pieces_source pieces.now) result }
 {
     let mut image = Image::new(alloc);
@@ -41,8 +44,8 @@ fn image_of_rising(alloc: Global, pieces: &[Piece<'_>]) -> Result<Image, Refusal
     Ok(image)
 }
 
-/// The image of pieces in any order.
-fn image_of_any(alloc: Global, pieces: &[Piece<'_>]) -> Result<Image, Refusal>
+/// The image of the pieces, which are marked and sorted.
+fn image_by_sorting(alloc: Global, pieces: &[Piece<'_>]) -> Result<Image, Refusal>
     ensures { Reads (pieces_source pieces.now) result }
 {
     let mut built = ImagePieces::new(alloc);
@@ -62,13 +65,14 @@ fn image_of_any(alloc: Global, pieces: &[Piece<'_>]) -> Result<Image, Refusal>
 /// `PiecesOverlap`, where it shares addresses with those before it, with the least of them;
 /// `OutOfMemory`. A piece without bytes is always added.
 ///
-/// Pieces by rising addresses are the usual case, and are appended with no search. Others are marked and sorted.
+/// Pieces by rising addresses are appended with no search. Of others up to 16 cost a copy each of those before them; more are
+/// marked and sorted.
 pub fn image_of_pieces(alloc: Global, pieces: &[Piece<'_>]) -> Result<Image, Refusal>
     ensures { Reads (pieces_source pieces.now) result }
 {
-    if are_rising(pieces) {
-        image_of_rising(alloc, pieces)
+    if pieces.len() <= FEW || are_rising(pieces) {
+        image_by_adding(alloc, pieces)
     } else {
-        image_of_any(alloc, pieces)
+        image_by_sorting(alloc, pieces)
     }
 }

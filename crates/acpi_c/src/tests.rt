@@ -1,12 +1,13 @@
-use crate::answer::Finding;
+use crate::answer::{Answer, Finding};
 use crate::check::{acpiset_check, acpiset_check_text};
 use crate::confirm::acpiset_confirm;
 use crate::kind::Kind;
 use crate::lint::acpiset_lint;
 use crate::pieces::Piece;
 use crate::settings::{Inputs, Settings};
-use std::alloc::Global;
+use std::alloc::{AllocError, Global};
 use std::process::Abort;
+use std::test::*;
 
 /// The usual settings, with the RSDP at E0000h.
 const SETTINGS: Settings = Settings {
@@ -71,6 +72,14 @@ const REFUSED: [Refused; 5] = [
     ),
 ];
 
+/// The answer, unless memory ran out.
+fn answered(answer: Answer) -> Result<Answer, AllocError> {
+    if answer.kind == Kind::OutOfMemory.number() {
+        return Err(AllocError);
+    }
+    Ok(answer)
+}
+
 #[test]
 fn settings_are_refused(rt: HostRuntime) {
     for (settings, inputs, kind) in &REFUSED {
@@ -80,7 +89,7 @@ fn settings_are_refused(rt: HostRuntime) {
 }
 
 /// The second piece has an address of the first one.
-fn refuse_an_overlap(rt: &impl Abort, alloc: Global) {
+fn refuse_an_overlap(rt: &impl Abort, alloc: Global) -> Result<(), AllocError> {
     let pieces = [
         Piece {
             address: 0x1000,
@@ -91,14 +100,15 @@ fn refuse_an_overlap(rt: &impl Abort, alloc: Global) {
             bytes: &[3, 4],
         },
     ];
-    let answer = acpiset_check(alloc, &pieces, &[], &SETTINGS);
+    let answer = answered(acpiset_check(alloc, &pieces, &[], &SETTINGS))?;
     assert!(rt; answer.kind == Kind::PiecesOverlap.number());
     assert!(rt; answer.at == 1);
     assert!(rt; answer.other == 0x1000);
+    Ok(())
 }
 
 /// An image without an RSDP has one fault, which is reported by each call.
-fn report_a_fault(rt: &impl Abort, alloc: Global) {
+fn report_a_fault(rt: &impl Abort, alloc: Global) -> Result<(), AllocError> {
     let none = Finding {
         number: 0,
         at: 0,
@@ -106,18 +116,20 @@ fn report_a_fault(rt: &impl Abort, alloc: Global) {
         point: 0,
     };
     let mut findings = [none; 2];
-    let answer = acpiset_check_text(alloc, b"@1000\n01 02\n", &[], &SETTINGS);
+    let answer = answered(acpiset_check_text(alloc, b"@1000\n01 02\n", &[], &SETTINGS))?;
     assert!(rt; answer.kind == Kind::No.number() && answer.code == 1);
-    let answer = acpiset_lint(alloc, &[], &[], &SETTINGS, &mut findings);
+    let answer = answered(acpiset_lint(alloc, &[], &[], &SETTINGS, &mut findings))?;
     assert!(rt; answer.kind == Kind::No.number() && answer.at == 1);
     assert!(rt; findings[0].number == 1 && findings[0].at == 0xe0000);
     assert!(rt; findings[1].number == 0);
-    let answer = acpiset_confirm(alloc, &[], &[], &SETTINGS, &findings[0]);
+    let answer = answered(acpiset_confirm(alloc, &[], &[], &SETTINGS, &findings[0]))?;
     assert!(rt; answer.kind == Kind::Yes.number());
+    Ok(())
 }
 
 #[test]
-fn calls_answer(rt: HostRuntime) {
-    refuse_an_overlap(&rt, rt.alloc());
-    report_a_fault(&rt, rt.alloc());
+fn calls_answer(rt: HostRuntime) -> Result<(), Fail> {
+    refuse_an_overlap(&rt, rt.alloc())?;
+    report_a_fault(&rt, rt.alloc())?;
+    Ok(())
 }

@@ -1,5 +1,5 @@
 use Rattle.acpi_c.proofs.AddedPieces.{added_piece, refused_piece}
-use Rattle.acpi_c.proofs.pieces.image_of_rising.Goals as goal
+use Rattle.acpi_c.proofs.pieces.image_by_adding.Goals as goal
 
 pub returns-in-Err : goal.returns-in-Err
 returns-in-Err c =
