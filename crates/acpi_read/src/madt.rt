@@ -49,6 +49,7 @@ impl<'a> MadtEntry<'a> {
     /// Refuses those of a type above that have another length with `MadtEntryLength`. Neither the bus of an
     /// override nor any flags are checked.
     #[tactic(auto, unfolding(acpi_base::specs::Madt::madt_entry, acpi_base::specs::Entries::has_form))]
+    #[inline(always)]
     pub fn read(bytes: &'a [u8]) -> Result<MadtEntry<'a>, Code>
         requires { IsEntry bytes.now }
         ensures ok { IfOk result (λ entry. madt_value entry ≡ madt_entry bytes.now) }
@@ -86,6 +87,7 @@ impl<'a> TableEntry<'a> for MadtEntry<'a> {
 
     ghost IsRead = { IsWholeEntry };
 
+    #[inline(always)]
     fn of(bytes: &'a [u8]) -> MadtEntry<'a> {
         MadtEntry::read(bytes).unwrap_or(MadtEntry::Opaque(bytes))
     }

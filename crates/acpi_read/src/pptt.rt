@@ -34,6 +34,7 @@ impl<'a> PpttEntry<'a> {
     /// Refuses those of types 0 and 1 that do not have a length of their type with `PpttEntryLength`. What an
     /// entry names by its offset is not looked at.
     #[tactic(auto, using(crate::proofs::PpttKinds::pptt_opaque))]
+    #[inline(always)]
     pub fn read(bytes: &'a [u8]) -> Result<PpttEntry<'a>, Code>
         requires { IsEntry bytes.now }
         ensures ok { IfOk result (λ entry. pptt_value entry ≡ pptt_entry bytes.now) }
@@ -73,6 +74,7 @@ impl<'a> TableEntry<'a> for PpttEntry<'a> {
 
     ghost IsRead = { λ entry. HasReferences entry × IsWholeEntry entry };
 
+    #[inline(always)]
     fn of(bytes: &'a [u8]) -> PpttEntry<'a> {
         PpttEntry::read(bytes).unwrap_or(PpttEntry::Opaque(bytes))
     }

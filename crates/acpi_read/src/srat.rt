@@ -31,6 +31,7 @@ impl<'a> SratEntry<'a> {
     /// Refuses those of a type above that have another length with `SratEntryLength`. Neither flags nor ranges
     /// are checked.
     #[tactic(auto, unfolding(acpi_base::specs::Srat::srat_entry, acpi_base::specs::Entries::has_form))]
+    #[inline(always)]
     pub fn read(bytes: &'a [u8]) -> Result<SratEntry<'a>, Code>
         requires { IsEntry bytes.now }
         ensures ok { IfOk result (λ entry. srat_value entry ≡ srat_entry bytes.now) }
@@ -63,6 +64,7 @@ impl<'a> TableEntry<'a> for SratEntry<'a> {
 
     ghost IsRead = { IsWholeEntry };
 
+    #[inline(always)]
     fn of(bytes: &'a [u8]) -> SratEntry<'a> {
         SratEntry::read(bytes).unwrap_or(SratEntry::Opaque(bytes))
     }

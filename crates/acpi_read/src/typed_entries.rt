@@ -65,6 +65,8 @@ impl<'a, E: TableEntry<'a>> Iterator for TypedEntries<'a, E> {
 
     ghost remaining = { item_count (λ left. left.entries.entries) };
 
+    // Who goes over the entries mostly looks at those of one type: the fields of the others need not be read.
+    #[inline(always)]
     fn next(&mut self) -> Option<EntryAt<E>> {
         let Entry { offset, bytes } = self.entries.next()?;
         let entry = E::of(bytes);
