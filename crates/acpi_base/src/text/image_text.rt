@@ -27,7 +27,7 @@ use std::marker::Model;
 const MAX_TEXT: usize = 67_108_864;
 
 /// How many bytes one read asks for.
-const PIECE: usize = 16_384;
+const PIECE: usize = 65_536;
 
 /// An image text that comes in pieces, which may be cut anywhere. One unfinished line is kept, and no more of
 /// the text.

@@ -1,6 +1,8 @@
 //! Reading a text that comes in pieces: one unfinished line is kept, and no more of the text.
 
-ghost use Rattle.std.specs.Prelude.{◌≡◌, ◌≤◌, ◌<◌, ◌≢◌, ◌⊎◌, ◌++◌, ℕ, [], length, slice_index, OnOk, IfOk, IfErr};
+ghost use Rattle.std.specs.Prelude.{◌≡◌, ◌+◌, ◌≤◌, ◌<◌, ◌≢◌, ◌⊎◌, ◌++◌, ◌==◌, ℕ, [], length, not, slice_index, OnOk, IfOk, IfErr};
+ghost use Rattle.std.specs.List.{prefix_len};
+ghost use Rattle.std.specs.Simd.Lanes.{chunk};
 ghost use Rattle.acpi_base.specs.Memory.{IsImage};
 ghost use Rattle.acpi_base.specs.Image.Builder.{IsBuilder};
 ghost use Rattle.acpi_base.specs.Text.ImageText.{read_line, start};
@@ -13,9 +15,26 @@ use super::line_parser::{LineParser, MAX_LINE};
 use crate::image::Image;
 use crate::text::TextFault;
 use std::alloc::Global;
+use std::simd::prelude::*;
 
-/// Where the first LF stands; the length where there is none.
-fn line_end(text: &[u8]) -> usize
+/// How many bytes the block of 64 from `at` on has before its first LF; 64 where it has none.
+#[inline(always)]
+fn before_line_feed(text: &[u8], at: usize) -> usize
+    requires { at + 64 ≤ length text.now }
+    ensures { result ≡ prefix_len (λ x. not (x == 10)) (chunk at 64 text.now) }
+{
+    let line_feeds = u8x64::from_slice(&text[at..])
+        .simd_eq(u8x64::splat(b'\n'))
+        .to_bitmask();
+    if line_feeds == 0 {
+        64
+    } else {
+        line_feeds.trailing_zeros() as usize
+    }
+}
+
+/// The same as `line_end`, byte by byte.
+fn line_end_of_short(text: &[u8]) -> usize
     ensures within { result ≤ length text.now }
     ensures before { (k : ℕ) → k < result → slice_index text.now k ≢ 10 }
     ensures found { result < length text.now → slice_index text.now result ≡ 10 }
@@ -26,6 +45,22 @@ fn line_end(text: &[u8]) -> usize
         }
     }
     text.len()
+}
+
+/// Where the first LF stands; the length where there is none.
+fn line_end(text: &[u8]) -> usize
+    ensures within { result ≤ length text.now }
+    ensures before { (k : ℕ) → k < result → slice_index text.now k ≢ 10 }
+    ensures found { result < length text.now → slice_index text.now result ≡ 10 }
+{
+    let blocks = text.len() / 64;
+    for block in 0..blocks {
+        let before = before_line_feed(text, 64 * block);
+        if before < 64 {
+            return 64 * block + before;
+        }
+    }
+    64 * blocks + line_end_of_short(&text[64 * blocks..])
 }
 
 /// What has been read, and what has come of the line that has not ended.
