@@ -1,3 +1,4 @@
+pub mod Adopted
 pub mod Bitmaps
 pub mod Builders
 pub mod ByteRuns

@@ -17,7 +17,7 @@ none_in_block text at before none room e k l =
     elim (cases_lt k at) [
       | inl below ↦ none k below
       | inr from ↦ eqb-false (get_or text k 0) 10
-        (run_in_chunk_fails (λ x. eqb x 10) text at 64 before 0 room e k from l)
+          (run_in_chunk_fails (λ x. eqb x 10) text at 64 before 0 room e k from l)
     ]
 
 pub found_in_block : (text : List ℕ) (at before : ℕ) → at + 64 ≤ length text
@@ -38,6 +38,6 @@ none_behind text at before none behind k l =
     elim (cases_lt k at) [
       | inl below ↦ none k below
       | inr from ↦
-        let place : at + (k - at) ≡ k = omega arith in
-        (λ is. behind (k - at) (omega arith) (get_or-drop at text (k - at) 0 ∙ ap (λ i. get_or text i 0) place ∙ is))
+          let place : at + (k - at) ≡ k = omega arith in
+          (λ is. behind (k - at) (omega arith) (get_or-drop at text (k - at) 0 ∙ ap (λ i. get_or text i 0) place ∙ is))
     ]

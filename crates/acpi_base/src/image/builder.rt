@@ -9,10 +9,11 @@ ghost use Rattle.std.specs.FinMap.{empty};
 ghost use Rattle.acpi_base.specs.Image.Adding.{add_refusal};
 ghost use Rattle.acpi_base.specs.Memory.{IsImage, with_bytes, first_held};
 ghost use Rattle.acpi_base.specs.Image.Runs.{lesser_address, memory_of};
-ghost use Rattle.acpi_base.specs.Image.Pieces.{runs_in};
-ghost use Rattle.acpi_base.specs.Image.Segments.{IsSound, memory_in};
+ghost use Rattle.acpi_base.specs.Image.Pieces.{end_at, runs_in};
+ghost use Rattle.std.specs.List.{AllByRecursion};
+ghost use Rattle.acpi_base.specs.Image.Segments.{AreSegments, AreSegmentsApart, IsSound, memory_in};
 ghost use Rattle.acpi_base.specs.Image.Bitmap.{IsMarked};
-ghost use Rattle.acpi_base.specs.Image.Builder.{AreEnded, AreInOrder, IsBuilder, IsOpenMarked, builder_memory};
+ghost use Rattle.acpi_base.specs.Image.Builder.{AreEnded, AreInOrder, ArePiecesWithRoom, IsBuilder, IsOpenMarked, builder_memory};
 
 use super::address_bitmap::AddressBitmap;
 use super::segments::Segments;
@@ -66,6 +67,32 @@ fn lesser_address(first: Option<u64>, second: Option<u64>) -> Option<u64>
         (Some(first), None) => Some(first),
         (None, second) => second,
     }
+}
+
+/// Whether the pieces stand in the order of their addresses, each before `base`, and between any two of them, and behind the last,
+/// there is an address that none has.
+fn are_apart(pieces: &[(u64, Span)], base: u64) -> bool
+    requires { AllByRecursion (λ p. 0 < p.1.len) pieces.now }
+    ensures apart { result ≡ true → AreSegmentsApart pieces.now }
+    ensures below { result ≡ true → AllByRecursion (λ p. end_at p < base) pieces.now }
+{
+    let mut next = base;
+    for i in (0..pieces.len()).rev() {
+        let (first, span) = pieces[i];
+        if next <= first || next - first <= span.len as u64 {
+            return false;
+        }
+        next = first;
+    }
+    true
+}
+
+/// Whether the bytes lie in the store as they do in an image: a piece is open, and each came behind those before it.
+fn are_laid_out(store: &[u8], ended: &[(u64, Span)], base: u64, start: usize) -> bool
+    requires { ArePiecesWithRoom store.now ended.now base start 0 }
+    ensures { result ≡ true → AreSegments store.now ended.now base start }
+{
+    start < store.len() && are_apart(ended, base)
 }
 
 /// The pieces' bytes in the order of their addresses.
@@ -250,11 +277,27 @@ impl ImageBuilder {
         Ok(())
     }
 
-    /// The image of all pieces.
-    pub fn finish(self, alloc: Global) -> Result<Image, AllocError>
+    /// The image of pieces whose bytes stay where they lie.
+    fn adopt(self, alloc: Global) -> Result<Segments, AllocError>
+        requires { AreSegments self.store.items self.ended.items self.base self.start }
+        ensures sound { IfOk result IsSound }
+        ensures same { IfOk result (λ segments. memory_in segments ≡ builder_memory self) }
+    {
+        let ImageBuilder {
+            store,
+            ended,
+            base,
+            start,
+            ..
+        } = self;
+        Segments::of(alloc, store, ended, base, start)
+    }
+
+    /// The segments of all pieces, which are sorted.
+    fn sort(self, alloc: Global) -> Result<Segments, AllocError>
         requires { IsBuilder self }
-        ensures same { IfOk result (λ image. image ≡ builder_memory self) }
-        ensures image { IfOk result IsImage }
+        ensures sound { IfOk result IsSound }
+        ensures same { IfOk result (λ segments. memory_in segments ≡ builder_memory self) }
     {
         let mut pieces = self;
         pieces.close()?;
@@ -266,7 +309,20 @@ impl ImageBuilder {
         } = pieces;
         // No bytes come any more, and sorting takes no memory: so the most that is held at once is less.
         drop(marks);
-        let segments = lay_out(alloc, &store, ended)?;
+        lay_out(alloc, &store, ended)
+    }
+
+    /// The image of all pieces.
+    pub fn finish(self, alloc: Global) -> Result<Image, AllocError>
+        requires { IsBuilder self }
+        ensures same { IfOk result (λ image. image ≡ builder_memory self) }
+        ensures image { IfOk result IsImage }
+    {
+        let segments = if are_laid_out(&self.store, &self.ended, self.base, self.start) {
+            self.adopt(alloc)?
+        } else {
+            self.sort(alloc)?
+        };
         Ok(Image { segments, alloc })
     }
 }
