@@ -6,7 +6,6 @@ ghost use Rattle.acpi_base.specs.Text.ImageText.{digit_of, is_blank, is_hex_digi
 ghost use Rattle.acpi_base.specs.Text.Lines.{data_line, line_with};
 
 use super::digit::digit_value;
-use super::row::parse_row;
 use std::alloc::AllocError;
 
 /// What a line says.
@@ -138,16 +137,10 @@ fn parse_data(line: &[u8], bytes: &mut Vec<u8>) -> Result<bool, AllocError>
 }
 
 /// What a line says, its LF left off. The bytes of a data line go into the vector, in place of what it had.
-/// A row as most texts write it is read first, at once.
 #[tactic(auto, unfolding(crate::specs::Text::ImageText::line_of, crate::specs::Text::ImageText::form_of))]
 pub fn parse_line(line: &[u8], bytes: &mut Vec<u8>) -> Result<Form, AllocError>
     ensures { IfOk result (λ form. line_with form bytes.new.items ≡ line_of line.now) }
 {
-    if let Some(row) = parse_row(line) {
-        bytes.clear();
-        bytes.extend_from_slice(&row)?;
-        return Ok(Form::Data);
-    }
     let rest = cut_blanks(cut_comment(cut_cr(line)));
     if rest.is_empty() {
         return Ok(Form::Blank);

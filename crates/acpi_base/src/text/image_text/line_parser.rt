@@ -8,6 +8,7 @@ ghost use Rattle.acpi_base.specs.Text.Lines.{Refuses, line_with, reading_of};
 
 use super::MAX_TEXT;
 use super::line::{Form, parse_line};
+use super::row::parse_row;
 use crate::image::builder::ImageBuilder;
 use crate::image::{Image, ImageFault};
 use crate::text::TextFault;
@@ -134,6 +135,10 @@ impl LineParser {
         }
         self.lines += 1;
         self.through = through;
+        // A row as most texts write it is read at once, and its bytes are copied once.
+        if let Some(row) = parse_row(line) {
+            return self.put_data(&row);
+        }
         match parse_line(line, bytes) {
             Ok(form) => self.take_line(form, bytes),
             Err(_) => Err(TextFault::Memory),
