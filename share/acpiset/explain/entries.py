@@ -1,11 +1,13 @@
 """What lines on the structures of the MADT, the SRAT and the PPTT are about."""
 
+from .fixed import found_fadt
 from .image import ADDRESSES
 from .program import MISMATCH
 from .report import both
-from .tables import FIRST, LENGTHS, UNREAD
+from .tables import FIRST, LENGTHS, UNREAD, layout_of, little
 
 MOST_LISTED = 32
+MOST_OF_CHAIN = 1000
 # Codes whose second number is the offset of another structure.
 PAIRS = {37, 39, 40, 45, 57, 109, 110, 112, 113, 115, 117, 122, 124}
 
@@ -14,14 +16,14 @@ LOOKED_IN = {
     59: ("APIC", "the MADT's processors have the UIDs", (0, 9), "uid"),
     114: ("APIC", "the MADT's processors have the UIDs", (0, 9, 11), "uid"),
     118: ("APIC", "the MADT's processors have the APIC IDs", (0, 9), "id"),
-    125: ("PPTT", "the PPTT's nodes with a valid ID have the IDs", (0,), "id"),
+    125: ("PPTT", "the PPTT's leaves have the IDs", (0,), "id"),
     126: ("APIC", "the MADT's processors have the UIDs", (0, 9, 11), "uid"),
 }
 
 
 def beginning(report, table):
     least = FIRST[table.signature]
-    report.field(table, "its beginning", 0, least)
+    report.field(table, "its beginning", 0, min(least, table.length))
     report.say(f"Length is {table.length}, and must be at least {least}")
 
 
@@ -69,14 +71,22 @@ def say_served(report, io_apic):
     report.say(f"  {io_apic.offset:#x} serves {first} to {end - 1} (0x{first:x} to 0x{end - 1:x}), with {end - first} inputs")
 
 
+def listing(report, what, structures, say_more=None):
+    """The first structures of some, as `show` writes them, and how many more there are."""
+    count = 0
+    report.say(what)
+    for one in structures:
+        count += 1
+        if count <= MOST_LISTED:
+            report.say(f"  {one.shown()}")
+            if say_more:
+                say_more(report, one)
+    if count == 0 or count > MOST_LISTED:
+        report.say(f"  and {count - MOST_LISTED} more" if count else "  none")
+
+
 def io_apics(report, table):
-    found = [one for one in table.structures(1) if one.word == "ioapic"]
-    report.say("the MADT's I/O APICs:" if found else "the MADT has no I/O APIC")
-    for one in found[:MOST_LISTED]:
-        report.say(f"  {one.shown}")
-        say_served(report, one)
-    if len(found) > MOST_LISTED:
-        report.say(f"  and {len(found) - MOST_LISTED} more")
+    listing(report, "the MADT's I/O APICs:", (one for one in table.structures(1) if one.word == "ioapic"), say_served)
 
 
 def whole_table(report, signature, code, at):
@@ -99,7 +109,7 @@ def madt(report, code, at, other, point):
         return
     if code == 116:
         report.field(table, "its beginning", 0, 44)
-        looked_for(report, 114)
+        listing(report, "the MADT's processors:", table.structures(0, 9, 11))
         return
     found = report.named(table, "the structure", at)
     second = report.named(table, "the other structure", other) if code in PAIRS else None
@@ -179,12 +189,12 @@ def pptt(report, code, at, other, point):
     if code in PAIRS:
         report.named(table, "the other structure", other)
     elif code == 52:
-        reference(report, table, other, "a node")
+        reference(report, table, other, "a node, type 0")
     elif code == 53 and is_one(found, "node"):
         report.field(table, f"private resource {other}", at + 20 + 4 * other, 4)
-        reference(report, table, point, "a structure of another type than 0")
+        reference(report, table, point, "of another type")
     elif code == 54:
-        reference(report, table, other, "a cache")
+        reference(report, table, other, "a cache, type 1")
     elif code in LOOKED_IN:
         looked_for(report, code)
 
@@ -194,7 +204,7 @@ def reference(report, table, at, due):
     before = table.before(at)
     if table.begins(at):
         found = report.structure(table, "what is named", at)
-        report.say(f"it is of type {found.type}, not {due}")
+        report.say(f"it is of type {found.type}, and has to be {due}")
     elif before and at < before.offset + before.size:
         report.say(f"no structure begins at offset {both(at)}: it is inside this one")
         report.structure(table, "the structure", before.offset)
@@ -204,30 +214,45 @@ def reference(report, table, at, due):
 
 def cycle(report, table, code, at, counts):
     """All nodes or caches of a chain from one on, until one comes again."""
-    word, link = ("node", "parent") if code == 55 else ("cache", "next")
-    steps = {}
-    found = table.structure(at)
-    while is_one(found, word) and found.offset not in steps:
-        steps[found.offset] = len(steps)
-        report.structure(table, f"the {word}" if len(steps) == 1 else f"{word} {len(steps)} of the chain", found.offset)
-        found = table.structure(found.fields[link])
-    if not found or found.offset not in steps:
+    word = "node" if code == 55 else "cache"
+    steps, named = chain(table, word, at)
+    for offset in [*steps][:MOST_OF_CHAIN]:
+        report.structure(table, f"{word} {steps[offset] + 1} of the chain" if steps[offset] else f"the {word}", offset)
+    if len(steps) > MOST_OF_CHAIN:
+        report.say(f"and {len(steps) - MOST_OF_CHAIN} more, up to the one at {[*steps][-1]:#x}")
+    if named not in steps:
         report.say(f"the chain comes to no {word} again: {MISMATCH}")
         return
-    lead = steps[found.offset]
-    report.say(f"it names the one at {found.offset:#x} again: {len(steps) - lead} of these {len(steps)} are the cycle")
-    if counts != (lead, len(steps) - lead):
+    lead, around = steps[named], len(steps) - steps[named]
+    report.say(f"it names the one at {named:#x} again: {around} of these {len(steps)} are the cycle")
+    if counts != (lead, around):
         report.say(f"the line says {counts[0]} steps to it and {counts[1]} around it: {MISMATCH}")
+
+
+def chain(table, word, at):
+    """The offsets from a node or cache on, each with its number, and the one that the last of them names. Both kinds have it at 8."""
+    marks, data, steps = table.marks(), table.data, {}
+    while at not in steps and at < len(marks) and marks[at] and layout_of(table.signature, data, at)[0] == word:
+        steps[at] = len(steps)
+        at = little(data, at + 8, 4)
+    return steps, at
 
 
 def looked_for(report, code):
     """The numbers among which one was looked for."""
     signature, what, types, name = LOOKED_IN[code]
-    table, numbers = report.tables.first(signature), set()
-    for one in table.structures(*types) if table else ():
-        if name in one.fields and (code != 125 or one.fields["flags"] >> 1 & 1):
-            numbers.add(one.fields[name])
-    report.say(f"{what} {in_ranges(numbers)}")
+    table = report.tables.first(signature)
+    numbers = () if not table else leaves(table) if code == 125 else table.values(name, *types)
+    report.say(f"{what} {in_ranges(set(numbers))}")
+
+
+def leaves(table):
+    """The IDs of leaves: of nodes with a valid ID that their flags call leaves, or that no Parent names if the Revision is below 2."""
+    nodes = (one for one in table.structures(0) if one.fields.get("flags", 0) & 2)
+    if table.number(8, 1) >= 2:
+        return (one.fields["id"] for one in nodes if one.fields["flags"] & 8)
+    parents = set(table.values("parent", 0))
+    return (one.fields["id"] for one in nodes if one.offset not in parents)
 
 
 def affinities(report, processor):
@@ -253,13 +278,14 @@ def in_ranges(numbers):
 
 def sci(report):
     """SCI_INT, its overrides, and the I/O APICs that would have to serve it."""
-    table = report.table("FACP")
+    table = found_fadt(report)
     if not table:
         return
     report.field(table, "SCI_INT", 46, 2)
     source = table.number(46, 2)
     report.say(f"SCI_INT is {source}")
-    if not (apic := report.table("APIC")):
+    apic = report.table("APIC")
+    if not apic:
         return
     for one in apic.structures(2):
         if is_one(one, "override") and one.number(2, 1) == 0 and one.fields["source"] == source:
@@ -267,21 +293,32 @@ def sci(report):
     io_apics(report, apic)
 
 
+def is_advised(signature, kind, size):
+    """Whether rules of advice look at a type that no stage looks at."""
+    if signature == "SRAT":
+        return kind == 3 and size == 18
+    return kind == 12 or kind == 11 and size >= 40
+
+
 def unread(report, signature):
     """Which structures of a table the stages do not look at, by type."""
     table = report.tables.first(signature)
     staged = (0, 1, 2) if signature == "SRAT" else (0, 1, 2, 3, 4, 5, 9, 10)
-    kinds = {}
+    alike, kinds = {}, {}
     for at in table.places() if table else ():
-        kind, size = table.data[at], table.data[at + 1]
-        if kind in staged:
-            continue
-        is_advised = kind == 3 and size == 18 if signature == "SRAT" else kind == 12 or kind == 11 and size >= 40
-        kinds.setdefault((kind, is_advised), []).append(at)
+        key = table.data[at : at + 2]
+        if key not in alike:
+            alike[key] = [0, at]
+        alike[key][0] += 1
+    for (kind, size), (count, at) in alike.items():
+        if kind not in staged:
+            found = kinds.setdefault((kind, is_advised(signature, kind, size)), [0, at])
+            found[0] += count
     if kinds:
-        report.say("`yes` does not cover these structures:") if not report.lines else None
+        if not report.lines:
+            report.say("`yes` does not cover these structures:")
         report.say(table.told)
-    for (kind, is_advised), places in kinds.items():
+    for (kind, is_read), (count, at) in kinds.items():
         name = f" ({UNREAD[signature, kind]})" if (signature, kind) in UNREAD else ""
-        first = f"{len(places)}{', the first' if len(places) > 1 else ''} at offset {both(places[0])}"
-        report.say(f"  type {kind}{name}: {first}: {'looked at by the advice of lint only' if is_advised else 'not looked at'}")
+        first = f"{count}{', the first' if count > 1 else ''} at offset {both(at)}"
+        report.say(f"  type {kind}{name}: {first}: {'looked at by the advice of lint only' if is_read else 'not looked at'}")

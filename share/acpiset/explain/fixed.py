@@ -89,8 +89,18 @@ def signatures(report):
         report.say(f"the slots list: {', '.join(names) or 'nothing'}{more}")
 
 
-def fadt(report, code, at):
+def found_fadt(report):
+    """The FADT that a line is about, or None; it is said as `show` writes it."""
     table = report.table("FACP")
+    if table and table.length >= 116:
+        profile, sci, flags = (table.number(at, size) or 0 for at, size in ((45, 1), (46, 2), (112, 4)))
+        told = f"length {table.length} profile {profile} sci {sci} flags {flags:#x} reduced {'yes' if flags >> 20 & 1 else 'no'}"
+        report.say(f"  fadt {table.address:#x} {told}")
+    return table
+
+
+def fadt(report, code, at):
+    table = found_fadt(report)
     if not table:
         return
     number = table.number
@@ -140,7 +150,7 @@ def slit(report, code, at, other):
         return
     count = table.number(36, 8)
     if code == 46:
-        report.field(table, "its beginning", 0, 44)
+        report.field(table, "its beginning", 0, min(44, table.length))
         report.say(f"Length is {table.length}, and must be at least 44")
     elif code == 47:
         report.field(table, "the number of localities", 36, 8)
@@ -162,7 +172,7 @@ def distance(report, table, what, count, at):
 
 
 def fadt_advice(report, code, at, point):
-    table = report.table("FACP")
+    table = found_fadt(report)
     if not table:
         return
     if code == 104:

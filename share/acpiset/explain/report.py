@@ -71,7 +71,7 @@ class Report:
         size = found.size if found else max(0, min(16, table.length - at))
         self.say(f"{what} at offset {both(at)}, at {table.address + at:#x}:")
         if found:
-            self.say(f"  {found.shown}")
+            self.say(f"  {found.shown()}")
         self.bytes(table.address + at, size)
         return found
 

@@ -51,47 +51,69 @@ UNREAD = {
 }
 
 
+def parsed(layout):
+    """A layout's word, whether `show` writes it, and of each field the name, the offsets and sizes, and whether it is hex."""
+    word, *fields = layout.lstrip("-").split()
+    places = []
+    for name, _, where in (field.partition(":") for field in fields):
+        parts = [tuple(map(int, part.split("/"))) for part in where.rstrip("x").split("+")]
+        places.append((name, parts, where.endswith("x")))
+    return word, not layout.startswith("-"), places
+
+
+PARSED = {key: parsed(layout) for key, layout in LAYOUTS.items()}
+PARSED_GICC = parsed(GICC)
+PARSED_NODE = parsed("node flags:4/4x parent:8/4x id:12/4")
+OPAQUE = ("", False, [])
+
+
+def layout_of(signature, data, at):
+    """The layout of the structure at an offset of a table."""
+    kind, size = data[at], data[at + 1]
+    if kind == 11 and size >= 40 and signature == "APIC":
+        return PARSED_GICC
+    if kind == 0 and size >= 20 and signature == "PPTT" and size == 20 + 4 * little(data, at + 16, 4):
+        return PARSED_NODE
+    return PARSED.get((signature, kind, size), OPAQUE)
+
+
+def little(data, at, size):
+    return int.from_bytes(data[at : at + size], "little")
+
+
+def value_at(data, at, parts):
+    """The number of a field, whose parts begin with the lowest bits."""
+    value, bits = 0, 0
+    for offset, size in parts:
+        value |= little(data, at + offset, size) << bits
+        bits += 8 * size
+    return value
+
+
 class Structure:
-    """A structure of a MADT, an SRAT or a PPTT: its bytes, its word, its fields by name, and the line that `show` writes of it."""
+    """A structure of a MADT, an SRAT or a PPTT: its bytes, its word and its fields by name."""
 
     def __init__(self, signature, offset, data):
         self.offset, self.data = offset, data
         self.type, self.size = data[0], len(data)
-        self.word, self.fields = "", {}
-        layout = LAYOUTS.get((signature, self.type, self.size), "")
-        if signature == "APIC" and self.type == 11 and self.size >= 40:
-            layout = GICC
-        told = self.node() if signature == "PPTT" and self.is_node() else self.laid_out(layout)
-        if layout.startswith("-") or not told:
-            told = f"entry type {self.type} length {self.size}" + f": {told}" * bool(told)
-        self.shown = f"{offset:#x} {told}"
+        self.word, self.is_shown, self.places = layout_of(signature, data, 0)
+        self.fields = {name: value_at(data, 0, parts) for name, parts, _ in self.places}
 
     def number(self, at, size):
-        return int.from_bytes(self.data[at : at + size], "little")
+        return little(self.data, at, size)
 
-    def laid_out(self, layout):
-        """Reads the fields, and returns what is shown of them; nothing where there is no layout."""
-        self.word, *fields = layout.lstrip("-").split() or [""]
+    def shown(self):
+        """The line that `show` writes of it; of a GICC or a GICC affinity its fields are said too."""
         told = [self.word]
-        for name, _, places in (field.partition(":") for field in fields):
-            value, bits = 0, 0
-            for place in places.rstrip("x").split("+"):
-                at, size = map(int, place.split("/"))
-                value |= self.number(at, size) << bits
-                bits += 8 * size
-            self.fields[name] = value
-            told.append(f"{name} {value:#x}" if places.endswith("x") else f"{name} {value}")
-        return " ".join(word.strip() for word in told)
-
-    def is_node(self):
-        return self.type == 0 and self.size >= 20 and self.size == 20 + 4 * self.number(16, 4)
-
-    def node(self):
-        """The same of a node, which has as many private resources as it says."""
-        self.word = "node"
-        self.fields = {"flags": self.number(4, 4), "parent": self.number(8, 4), "id": self.number(12, 4)}
-        resources = "".join(f" {self.number(at, 4):#x}" for at in range(20, self.size, 4))
-        return "node flags {flags:#x} parent {parent:#x} id {id} resources".format(**self.fields) + resources
+        for name, _, is_hex in self.places:
+            value = f"{self.fields[name]:#x}" if is_hex else str(self.fields[name])
+            told.append(f"{name} {value}" if name else value)
+        if self.word == "node":
+            told += ["resources", *(f"{self.number(at, 4):#x}" for at in range(20, self.size, 4))]
+        told = " ".join(told)
+        if not self.is_shown:
+            told = f"entry type {self.type} length {self.size}" + f": {told}" * bool(told)
+        return f"{self.offset:#x} {told}"
 
 
 class Table:
@@ -113,10 +135,12 @@ class Table:
         """A byte for each offset, 1 where a structure begins: the structures are walked once, since a table may have millions."""
         if self.begun is None:
             data, at, end = self.data, FIRST.get(self.signature, 36), len(self.data)
-            self.begun = bytearray(end)
-            while at + 2 <= end and data[at + 1] >= 2 and at + data[at + 1] <= end:
-                self.begun[at] = 1
-                at += data[at + 1]
+            self.begun = marks = bytearray(end)
+            size = data[at + 1] if at + 2 <= end else 0
+            while size >= 2 and at + size <= end:
+                marks[at] = 1
+                at += size
+                size = data[at + 1] if at + 2 <= end else 0
         return self.begun
 
     def begins(self, offset):
@@ -144,6 +168,14 @@ class Table:
 
     def structures(self, *types):
         return (self.structure(at) for at in self.places(*types))
+
+    def values(self, name, *types):
+        """The values of a field of all structures of these types that have it."""
+        for at in self.places(*types):
+            _, _, places = layout_of(self.signature, self.data, at)
+            for field, parts, _ in places:
+                if field == name:
+                    yield value_at(self.data, at, parts)
 
 
 class Tables:
