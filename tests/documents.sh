@@ -177,7 +177,7 @@ indexed=$(grep -o '[0-9][0-9]* \[[A-Za-z]*\](#[a-z0-9-]*)' <<<"$index" | sed 's/
 same 'rules of advice (<) and their index by number in FAULTS.md (>)' "$rules" "$indexed"
 by_name=$(grep -o '\[[A-Za-z]*\](#[0-9]*-[a-z]*) [0-9][0-9]*' <<<"$index" | sed 's/\[\(.*\)\](#.*) \(.*\)/\2 \1/')
 same 'rules of advice (<) and their index by name in FAULTS.md (>)' "$rules" "$by_name"
-headline=$(sed -n '/^## The headline$/,/^## /{/^```rust$/,/^```$/p}' README.md | grep -v '^```')
+headline=$(sed -n '/^## The headline$/,/^## /{/^```rust$/,/^```$/p}' docs/PROOF.md | grep -v '^```')
 # contract FUNCTION FILE: what stands before the function's body.
 contract() { sed -n "/^pub fn $1[(<]/,/^{\$/p" "$2" | grep -v '^{$'; }
 contracts=$(
@@ -186,7 +186,7 @@ contracts=$(
   contract check_and_confirm_agree crates/acpi_cli/src/laws.rt
   contract run_check crates/acpi_cli/src/check.rt
 )
-same 'the contracts of the headline, as README has them (<) and in the code (>)' "$headline" "$contracts"
+same 'the contracts of the headline, as PROOF.md has them (<) and in the code (>)' "$headline" "$contracts"
 
 count 'definitions that public contracts rest on' "$(tests/definitions.py 2>&1)"
 for crate in $crates; do

@@ -190,9 +190,9 @@ same 'make uninstall' "$? $(cat "$scratch/log")" '0 '
 same 'files that are left' "$(files_in "$scratch/root")" ''
 same 'make clean leaves no library' "$($make clean 2>&1; ls "$scratch/tree/library" 2>&1 | grep -c 'No such file')" 1
 
-# What the program takes from the C library is what README names, no more and no less.
+# What the program takes from the C library is what docs/PROOF.md names, no more and no less.
 if command -v nm >"$scratch/log"; then
-  named=$(sed -n '/^- The functions that the built program takes/,/^- What the last line/p' README.md | grep -o '`[A-Za-z0-9_]*`' | tr -d '`' | sort -u)
+  named=$(sed -n '/^- The functions that the built program takes/,/^- What the last line/p' docs/PROOF.md | grep -o '`[A-Za-z0-9_]*`' | tr -d '`' | sort -u)
   same 'functions that the program takes from the C library' \
     "$(nm -D --undefined-only "$program" | awk '{ sub(/@.*/, "", $2); print $2 }' | sort -u)" "$named"
 fi
