@@ -48,13 +48,14 @@ run: build
 build:
 	$(needs_toolchain)@$(alone) scripts/prove program
 
+# The tests take the place of the shell, so that a signal to make reaches them.
 # Goes on from what `build` or `gate` left: proves and builds what is not, and runs all tests.
 test:
-	$(needs_toolchain)@$(alone) sh -c 'scripts/prove tests && $(link_library) && tests/all.sh $(program) crates/*/out/*_tests'
+	$(needs_toolchain)@$(alone) sh -c 'scripts/prove tests && $(link_library) && exec tests/all.sh $(program) crates/*/out/*_tests'
 
 # Proves everything from nothing, tries each wrong body that must be refused, and runs all tests.
 gate:
-	$(needs_toolchain)@$(alone) sh -c 'scripts/prove gate && $(link_library) && tests/all.sh $(program) crates/*/out/*_tests'
+	$(needs_toolchain)@$(alone) sh -c 'scripts/prove gate && $(link_library) && exec tests/all.sh $(program) crates/*/out/*_tests'
 
 # Proves the library for C and C++, and leaves it as library/libacpiset.a and library/libacpiset.so.1.
 library:

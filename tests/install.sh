@@ -35,8 +35,10 @@ has() { command -v "$1" >/dev/null; }
 
 # copy_tree FOLDER: a copy of this tree without what was built, so that no archive is left here.
 copy_tree() {
+  local all
   mkdir "$1"
-  tar -cf - --exclude=out --exclude=target Makefile ./*.md bindings crates crates.txt docs man release scripts tests/images tools | tar -xf - -C "$1"
+  mapfile -t all < <(ls -d Makefile ./*.md LICENSE bindings crates crates.txt docs man release scripts share tests/images tools 2>/dev/null)
+  tar -cf - --exclude=out --exclude=target "${all[@]}" | tar -xf - -C "$1"
 }
 
 tree="$scratch/a tree"
@@ -66,6 +68,7 @@ wanted=$({
   for page in man/*.7; do echo "share/man/man7/${page#man/}"; done
   for document in README.md CHANGELOG.md CONTRIBUTING.md NOTICES.md SECURITY.md docs/*.md; do echo "share/doc/acpiset/$document"; done
   [ -z "$licence" ] || echo "$licence"
+  find share -name '*.py' 2>/dev/null
 } | sorted)
 
 # ---- install and uninstall
@@ -83,6 +86,7 @@ same 'acpiset-acpidump2image' "$("$usr/bin/acpiset-acpidump2image" tests/images/
 ln -s "$usr/bin/acpiset-explain" "$scratch/link"
 same 'acpiset-explain by a link' "$(echo 'no rsdp' | "$scratch/link" | head -n 1)" 'no rsdp'
 same 'acpiset-tables2image without files' "$("$usr/bin/acpiset-tables2image" 2>&1 | grep -c '^acpiset-tables2image: usage: acpiset-tables2image ')" 1
+same 'files after the tools ran' "$(files_in "$usr")" "$wanted"
 names=$(paste -s -d '|' <<<"$tools")
 same 'names of a checkout in what is installed' "$(grep -rnE "(^|[^A-Za-z0-9_./-])(\./acpiset|(\./)?tools/($names)([^A-Za-z0-9_]|$))" "$usr/share")" ''
 same 'a second install over the first' "$(with_program install DESTDIR="$scratch/root" PREFIX=/usr; echo "$? $(cat "$scratch/log")")" '0 '
