@@ -48,8 +48,8 @@ run: build
 build:
 	$(needs_toolchain)@$(alone) scripts/prove program
 
-# The tests take the place of the shell, so that a signal to make reaches them.
-# Goes on from what `build` or `gate` left: proves and builds what is not, and runs all tests.
+# Goes on from what `build` or `gate` left: proves and builds what is not, and runs all tests, which take the place of the shell, so that
+# a signal to make reaches them.
 test:
 	$(needs_toolchain)@$(alone) sh -c 'scripts/prove tests && $(link_library) && exec tests/all.sh $(program) crates/*/out/*_tests'
 

@@ -222,24 +222,26 @@ name=acpiset-$version-x86_64-linux
 archive=$tree/dist/$name.tar.gz
 same 'the sum of the archive' "$(cd "$tree/dist" && sha256sum -c "$name.tar.gz.sha256")" "$name.tar.gz: OK"
 same 'files beside the archive' "$(cd "$tree/dist" && echo *)" "$name $name.tar.gz $name.tar.gz.sha256"
-mv "$tree/dist" "$scratch/first"
-archived
-same 'the archive, made again' "$(sha256sum <"$archive")" "$(sha256sum <"$scratch/first/$name.tar.gz")"
 copy_tree "$scratch/another"
 rm -f "$scratch/another/LICENSE"
-mkdir "$scratch/tmp"
+mkdir "$scratch/tmp" "$scratch/lint"
+: >"$scratch/awk"
+if has gawk; then
+  # What is written in awk is looked at here, too.
+  printf '#!/bin/sh\nexec gawk --lint "$@" 2>>"%s"\n' "$scratch/awk" >"$scratch/lint/awk"
+  chmod +x "$scratch/lint/awk"
+fi
 (
   umask 077
-  cd "$scratch/another" && TMPDIR="$scratch/tmp" TZ=Asia/Tokyo LC_ALL=C.UTF-8 TAR_OPTIONS=--mode=700 GZIP=-1 make -s BINARY="$program" dist >"$scratch/log" 2>&1
+  cd "$scratch/another" && PATH="$scratch/lint:$PATH" TMPDIR="$scratch/tmp" TZ=Asia/Tokyo LC_ALL=C.UTF-8 TAR_OPTIONS=--mode=700 GZIP=-1 make -s BINARY="$program" dist >"$scratch/log" 2>&1
 )
 same 'the archive, made in another folder with another umask' "$(sha256sum <"$scratch/another/dist/$name.tar.gz")" "$(sha256sum <"$archive")"
+# POSIX says what substr gives of a place past the end.
+same 'awk --lint on what makes an archive' "$(sed 's/ (FILENAME=.*FNR=[0-9]*)//' "$scratch/awk" | grep -v ' warning: substr: ' | sort | uniq -c)" ''
 same 'modes beside that archive' "$(cd "$scratch/another/dist" && stat -c %a ./*.tar.gz*)" $'644\n644'
 same 'modes in the archive' "$(tar -tvzf "$archive" | cut -c 1-10 | sort -u)" $'-rw-r--r--\n-rwxr-xr-x\ndrwxr-xr-x'
 same 'owners and times in the archive' "$(tar --numeric-owner --full-time -tvzf "$archive" | awk '{ print $2, $4, $5 }' | sort -u | wc -l)" 1
 same 'the order of the archive' "$(tar -tzf "$archive" | sed 's|/$||' | LC_ALL=C sort -c 2>&1)" ''
-archived SOURCE_DATE_EPOCH=1700000000
-same 'times in an archive of a given time' "$(TZ=UTC tar --full-time -tvzf "$archive" | awk '{ print $4, $5 }' | sort -u)" '2023-11-14 22:13:20'
-mv "$scratch/first/$name.tar.gz" "$archive"
 mkdir "$scratch/unpacked"
 tar -xzf "$archive" -C "$scratch/unpacked"
 unpacked=$scratch/unpacked/$name
@@ -266,7 +268,8 @@ same 'the sum of the program in PROVED.md' "$(grep -c "$(sha256sum "$unpacked/bi
 same 'the version of the program' "$("$unpacked/bin/acpiset" --version 2>&1)" "acpiset: version $version, 18 stages"
 same 'its list of parts' "$(tests/parts.py "$unpacked" 2>&1)" ''
 echo 'a licence' >"$tree/LICENSE"
-archived
+archived SOURCE_DATE_EPOCH=1700000000
+same 'times in an archive of a given time' "$(TZ=UTC tar --full-time -tvzf "$archive" | awk '{ print $4, $5 }' | sort -u)" '2023-11-14 22:13:20'
 same 'make dist with a licence' "$? $(grep -c 'no licence' "$scratch/notes") $(tar -tzf "$archive" | grep -c '/share/doc/acpiset/LICENSE$')" '0 0 1'
 same 'a licence in the README of the archive' "$(tar -xzOf "$archive" "$name/README.md" | grep -c 'Its licence is in `share/doc/acpiset/LICENSE`')" 1
 rm -rf "$tree/LICENSE" "$tree/dist"
@@ -290,12 +293,32 @@ sed -n '/^```console$/,/^```$/p' "$page" | sed -n 's/^\$ //p' >"$scratch/command
 (cd "$unpacked" && env -i PATH=/usr/bin:/bin sh "$scratch/commands") >"$scratch/printed" 2>&1
 same 'the commands of its README' "$(cat "$scratch/printed")" "$(sed -n '/^```console$/,/^```$/p' "$page" | grep -v '^\$ \|^```')"
 same 'commands in its README' "$([ "$(wc -l <"$scratch/commands")" -ge 5 ] && echo yes)" yes
+# So does the first use in the whole README.
+whole=$unpacked/share/doc/acpiset/README.md
+blocks=$(awk '/^<!-- recipe session/ { on = 1 } on && /^```/ { inside = !inside; if (!inside) on = 0; next } on && inside' "$whole")
+if [ -n "$blocks" ]; then
+  sed -n 's/^\$ //p' <<<"$blocks" >"$scratch/commands"
+  cp -r "$unpacked" "$scratch/used"
+  (cd "$scratch/used" && env -i PATH="$PWD/bin:/usr/bin:/bin" IMAGES=images sh "$scratch/commands") >"$scratch/printed" 2>&1
+  same 'the first use in README' "$(cat "$scratch/printed")" "$(grep -v '^\$ ' <<<"$blocks")"
+  same 'commands of the first use' "$([ "$(wc -l <"$scratch/commands")" -ge 5 ] && echo yes)" yes
+fi
+# A program of the toolchain looks at the processor as it starts.
+if ! has qemu-x86_64 || ! has nm || ! nm -D "$program" | grep -q cpuid; then
+  left_out 'the program on an old processor' 'no qemu-x86_64, or a program that does not look'
+else
+  for processor in qemu64 kvm64 core2duo; do
+    qemu-x86_64 -cpu "$processor" "$unpacked/bin/acpiset" check <tests/images/example.img.txt >"$scratch/printed" 2>"$scratch/log"
+    same "the program on the processor $processor" "$? $(cat "$scratch/printed") $(grep -c 'lacks a feature of x86-64-v2' "$scratch/log")" '127  1'
+  done
+  same 'the program on the processor Nehalem' "$(qemu-x86_64 -cpu Nehalem "$unpacked/bin/acpiset" check <tests/images/example.img.txt 2>"$scratch/log")" yes
+fi
 if has nm; then
   same 'symbols of its program' "$(nm "$unpacked/bin/acpiset" 2>&1 | grep -vc ': no symbols$')" 0
 fi
 if [ -e "$unpacked/lib/acpiset.o" ]; then
   same 'how its program is hardened' "$(hardened "$unpacked/bin/acpiset")" 'DYN RW relro now 0'
-  same 'notices of the C library' "$(grep -c 'GNU LESSER GENERAL PUBLIC LICENSE' "$unpacked/licences/LGPL-2.1.txt") $(grep -ci 'GNU C Library' "$unpacked/licences/glibc.txt" | sed 's/^[1-9].*/some/')" '1 some'
+  same 'notices of the C library' "$(grep -cw 'Version 2.1, February 1999' "$unpacked/licences/LGPL-2.1.txt") $(grep -cim 1 'GNU C Library' "$unpacked/licences/glibc.txt")" '1 1'
   same 'libraries that its program asks for' "$(readelf -d "$unpacked/bin/acpiset" | grep -c NEEDED)" 0
   same 'its program on the sets of tests/rows' "$(tests/rows/run.py "$unpacked/bin/acpiset" | grep -c ' 0 failed$')" 1
 else
@@ -354,10 +377,6 @@ same 'files that are left under it' "$? $(cat "$scratch/log") $(files_in "$prefi
 
 archived
 same 'make dist with the library' "$? $(sed 's/-[0-9.]*-/-VERSION-/' "$scratch/log")" '0 dist/acpiset-VERSION-x86_64-linux.tar.gz'
-rm -rf "$scratch/first"
-mv "$tree/dist" "$scratch/first"
-archived
-same 'the archive with the library, made again' "$(sha256sum <"$archive")" "$(sha256sum <"$scratch/first/$name.tar.gz")"
 rm -rf "$unpacked"
 tar -xzf "$archive" -C "$scratch/unpacked"
 mapfile -t installed <<<"$with_library"
