@@ -7,9 +7,9 @@
 #
 # A recipe is a block of sh after a line '<!-- recipe NAME needs: WORDS -->', and the block of text after it is what it prints;
 # or it is a block of console, whose lines with a '$ ' are the commands, and the others what they print. A word is a command, root,
-# library, kernel, file:PATH, command:NAME for a command of the program, tool:NAME for one of the tools, iasl:VERSION, or
-# cargo:VERSION for this or a later one. With 'own' it prints what the machine has: then only its end is looked at. A block after
-# '<!-- file NAME -->' is a file that recipes use. All run in one folder and in one shell, so each finds what those before it left.
+# library, kernel, file:PATH, command:NAME for a command of the program, iasl:VERSION, or cargo:VERSION for this or a later one.
+# With 'own' it prints what the machine has: then only its end is looked at. A block after '<!-- file NAME -->' is a file that
+# recipes use. All run in one folder and in one shell, so each finds what those before it left.
 # The folder has ./acpiset, tools and tests, as the top of the repository; acpiset and acpiset-NAME are on the PATH, and IMAGES
 # names the folder of images, as in the archive. The kernel is the one that the variable KERNEL names, or that of /boot.
 set -u
@@ -69,7 +69,6 @@ lacks() {
       file:*) [ -r "${word#file:}" ] || printf ' %s' "$word" ;;
       command:*) "$program" --help 2>&1 | grep -q "acpiset ${word#command:}" || printf ' %s' "$word" ;;
       kernel) [ -r "$KERNEL" ] || printf ' %s' "$word" ;;
-      tool:*) [ -x "$SOURCE/tools/${word#tool:}" ] || printf ' %s' "$word" ;;
       library) pkg-config --exists acpiset 2>"$scratch/found" || printf ' %s' "$word" ;;
       cargo:*) printf '%s\n' "${word#cargo:}" "$(cargo --version 2>"$scratch/found" | cut -d ' ' -f 2)" | sort -V -C || printf ' %s' "$word" ;;
       iasl:*) iasl -v 2>"$scratch/found" | grep -q "version ${word#iasl:}" || printf ' %s' "$word" ;;
