@@ -323,7 +323,7 @@ def srat_entry_length(made, is_wrong):
 def range_past_end(made, is_wrong):
     length = made.dice.choice((1, 0x1000, TOP - 1, 0))
     base = min(TOP - length + is_wrong, TOP - 1)
-    put(made, made.srat, memory_range(base, length, made.dice.choice((1, 3, 5, 1, 0, 2))))
+    put(made, made.srat, memory_range(base, length, made.dice.choice((1, 3, 5, 1, 1, 0))))
 
 
 def overlap(made, is_wrong):
@@ -357,7 +357,7 @@ def slit_size(made, is_wrong):
 def slit_cell(is_diagonal, wrong, right):
     def change(made, is_wrong):
         dice, (count, cells) = made.dice, made.slit
-        if count < 2:
+        if count < 2 or count * count != len(cells):
             count, cells = made.slit[:] = 2, bytearray(b"\x0a\x14\x14\x0a")
         for _ in range(dice.choice((1, 1, 2))):
             row = dice.randrange(count)

@@ -49,8 +49,9 @@ def address_in(line):
 def data_in(line):
     """The bytes of a line of pairs, or None where it is no such line."""
     words = line.replace(b"\t", b" ").split(b" ")
-    if all(len(word) % 2 == 0 and is_hex(word) for word in words):
-        return bytes.fromhex("".join(word.decode() for word in words))
+    digits = b"".join(words)
+    if is_hex(digits) and all(len(word) % 2 == 0 for word in words):
+        return bytes.fromhex(digits.decode())
     return None
 
 
@@ -84,11 +85,12 @@ def memory_of(text):
 
 def runs_of(memory):
     """What is held as (address, bytes), in rising order, as long as they are."""
-    runs = []
-    for at in sorted(memory.bytes):
-        if not runs or at != runs[-1][0] + len(runs[-1][1]):
-            runs.append((at, bytearray()))
-        runs[-1][1].append(memory.bytes[at])
+    runs, held = [], memory.bytes
+    for start in sorted(at for at in held if at - 1 not in held):
+        end = start
+        while end in held:
+            end += 1
+        runs.append((start, memory.held(start, end - start)))
     return runs
 
 

@@ -60,6 +60,9 @@ class Layout:
         """The first address of all structures, a multiple of 64, as the FACS is laid for it."""
         choices = [*BASES[:-1], LOW - size] if not self.made.is_xsdt else [*BASES, LOW - size, TOP - size]
         base = self.dice.choice(choices)
+        # A FADT without X_FIRMWARE_CTRL does not reach a FACS above 4 GiB.
+        if base >= LOW and self.made.fadt_length < 140 and self.dice.random() < 0.9:
+            base = 0x2000
         if base + size > (TOP if self.made.is_xsdt else LOW):
             base = 0x2000
         return base - base % 64
@@ -84,10 +87,19 @@ class Layout:
         pieces.append((made.root.at, self.root_bytes(), made.root.held))
         pieces.append((made.rsdp_at, self.rsdp_bytes(), made.rsdp["held"]))
         memory = Memory()
-        for at, data, held in pieces:
+        for at, data, held in self.decoys(pieces[-1][1]) + pieces:
             data = data if held is None else data[:held]
             memory.bytes.update(zip(range(at, min(at + len(data), TOP)), data))
         return memory, made.rsdp_at
+
+    def decoys(self, rsdp):
+        """What a search may take for an RSDP: at a multiple of 16 or beside one, with the right sum or another."""
+        dice, decoys = self.dice, []
+        for _ in range(dice.choice((0, 0, 0, 0, 1, 2))):
+            at = dice.choice((0xE0000, 0xDFFF0, 0xFFFF0, 0x100000, 0xE0000 + 16 * dice.randrange(0x2000))) + dice.choice((0, 0, 0, 8))
+            changed = bytes([dice.choice((rsdp[0], 0x72))]) + rsdp[1:8] + bytes([dice.choice((rsdp[8], rsdp[8] ^ 1))]) + rsdp[9:]
+            decoys.append((at, changed, dice.choice((None, 20, 19))))
+        return decoys
 
     def bytes_of(self, table):
         """The table's bytes; of a host with those of the inner table as they are now."""

@@ -4,11 +4,11 @@ import random
 from dataclasses import dataclass, field
 
 from edges import EDGES, change_at_edge
-from image_text import TOP, Memory, Refused, memory_of
+from image_text import TOP
 from layout import laid_out
 from made_sets import MadeSet, made_settings
-from made_texts import damaged, lines_of_every_form, rendered
-from verdicts import CODE_OF, STAGE_OF, Fault, Judgement, found_rsdp, number
+from made_texts import damaged, lines_of_every_form, longest_text, rendered
+from verdicts import STAGE_OF, Fault, number
 
 # Of so many cases one is about the form of texts, and the others are about sets.
 TEXT_EVERY = 5
@@ -23,6 +23,7 @@ class Case:
     settings: object = None
     last: int = 18
     base: int = 0
+    is_strict: bool = False
     # The words that say the RSDP and the settings.
     rsdp_words: list = field(default_factory=list)
     setting_words: list = field(default_factory=list)
@@ -76,14 +77,20 @@ def close(memory, start):
         memory.bytes[start + 9] = (memory.bytes[start + 9] - sum(table)) % 256
 
 
+def other_code(dice, target):
+    """Another code: most times one near this, so that it matters which of the two is reported, and seldom one of the first
+    stages, which hide all others."""
+    code = dice.choice((target, target + 1, target - 1, target + dice.randrange(-8, 9), dice.randrange(19, 60), dice.randrange(32, 60)))
+    return code if 1 <= code <= len(EDGES) else dice.randrange(1, len(EDGES) + 1)
+
+
 def set_case(dice, place):
     """A set at the edge of one code, and now and then of others. Each code comes in its turn."""
     target = place % len(EDGES) + 1
     made = MadeSet(dice, target)
-    others = [dice.randrange(1, len(EDGES) + 1) for _ in range(dice.choice((0, 0, 0, 1, 1, 2, 4)))]
     change_at_edge(made, target, dice.random() < 0.7)
-    for code in others:
-        change_at_edge(made, code, dice.random() < 0.5)
+    for _ in range(dice.choice((0, 0, 0, 1, 1, 2, 4))):
+        change_at_edge(made, other_code(dice, target), dice.random() < 0.6)
     memory, rsdp = laid_out(made)
     if dice.random() < 0.15 and memory.bytes:
         change_bytes(dice, memory, rsdp)
@@ -98,7 +105,8 @@ def set_case(dice, place):
 def text_case(dice):
     """A text of lines at random, or one of a set with a thing or two changed."""
     if dice.random() < 0.5:
-        return Case(lines_of_every_form(dice), dice.choice((0, 0xE0000, TOP - 20)), made_settings(dice))
+        text = lines_of_every_form(dice) if dice.random() < 0.98 else longest_text(dice)
+        return Case(text, dice.choice((0, 0xE0000, TOP - 20)), made_settings(dice))
     made = MadeSet(dice, dice.randrange(1, 60))
     memory, rsdp = laid_out(made)
     text = rendered(dice, memory)
@@ -113,7 +121,7 @@ def case_of(seed, place):
     group, of_group = divmod(place, TEXT_EVERY)
     is_text = of_group == TEXT_EVERY - 1
     case = text_case(dice) if is_text else set_case(dice, group * (TEXT_EVERY - 1) + of_group)
-    case.base = dice.choice(BASES)
+    case.base, case.is_strict = dice.choice(BASES), dice.random() < 0.2
     case.setting_words = words_of(dice, case.settings)
     if dice.random() < 0.85:
         case.rsdp_words = ["--rsdp", hex_word(dice, case.rsdp, 16)]

@@ -93,6 +93,15 @@ MADT_TYPES = {0: 8, 1: 12, 2: 10, 3: 8, 4: 6, 5: 12, 9: 16, 10: 12}
 SRAT_TYPES = {0: 16, 1: 40, 2: 24}
 
 
+def gicc(uid, flags, size):
+    """A GIC CPU interface (5.2.12.14), at which no stage looks."""
+    return (bytes([11, size]) + bytes(6) + little(uid, 4) + little(flags, 4) + bytes(size))[:size]
+
+
+def gicd():
+    return bytes([12, 24]) + bytes(22)
+
+
 def other_entry(dice, kinds):
     size = dice.choice((2, 3, 8, 18, 20, 24, 39, 40, 80))
     return bytes([dice.choice(kinds), size]) + bytes(dice.choice((0, 1, 2, 255)) for _ in range(size - 2))
@@ -174,7 +183,7 @@ class MadeSet:
         self.rsdp.update(error=0, long_error=0, rsdt=None, xsdt=None, held=None)
         self.rsdp_at = dice.choice((0xE0000, 0xE0000 + 16 * dice.randrange(1, 0x2000), 0xFFFF0, None))
         self.root = Table(b"XSDT" if self.is_xsdt else b"RSDT", b"", dice.randrange(3))
-        self.ragged, self.extra_slots = b"", []
+        self.ragged, self.extra_slots = b"", [listed_table] * (dice.random() < 0.1)
         self.facs = Facs()
         self.facs_at = None
         self.fadt_length = dice.choice(FADT_LENGTHS)
@@ -235,8 +244,11 @@ class MadeSet:
         )
         entries += [dice.choice(more)() for _ in range(dice.choice((0, 1, 2)))]
         entries += [lapic_address(0xFEE00000)] * dice.choice((0, 0, 1))
-        if dice.random() < 0.2:
-            entries.append(other_entry(dice, (6, 7, 8, 11, 11, 12, 13, 15, 17, 24, 255)))
+        if dice.random() < 0.1:
+            entries.append(other_entry(dice, (6, 7, 8, 11, 12, 13, 15, 17, 24, 255)))
+        if dice.random() < 0.15:
+            entries += [gicd()] * dice.choice((0, 1, 2))
+            entries += [gicc(dice.choice((0, 1, 77)), dice.choice((0, 1, 1)), dice.choice((39, 40, 80, 80))) for _ in range(dice.choice((1, 2)))]
         dice.shuffle(entries)
         return entries
 
@@ -308,6 +320,11 @@ class MadeSet:
                     change(table)
                     break
         return tables
+
+
+def listed_table(layout):
+    """The address of a table that has a slot already."""
+    return layout.dice.choice(layout.tables).at
 
 
 def cut(data, size):

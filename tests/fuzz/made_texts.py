@@ -1,6 +1,6 @@
 """Writes memory as image text in each form that a text may have, damages such texts, and makes texts of lines of every form."""
 
-from image_text import LONGEST_LINE, TOP, runs_of
+from image_text import LONGEST_LINE, LONGEST_TEXT, TOP, runs_of
 
 # Lines of every form, right and wrong.
 ADDRESSES = (
@@ -27,23 +27,23 @@ class Style:
 
     def __init__(self, dice):
         self.dice = dice
-        self.width = dice.choice((1, 3, 16, 16, 16, 64, 5000))
-        self.between = dice.choice(("", " ", " ", "\t", "  ", " \t "))
+        self.width = dice.choice((1, 3, 16, 16, 16, 16, 64, 64, 256, 5000))
+        self.between = dice.choice((b"", b" ", b" ", b"\t", b"  ", b" \t "))
         self.is_plain = dice.random() < 0.4
         self.is_rising = dice.random() < 0.6
         self.is_each_addressed = dice.random() < 0.3
 
     def case(self, text):
-        return self.dice.choice((text, text.upper())) if not self.is_plain else text
+        return self.dice.choice((text, text, text.upper())) if not self.is_plain else text
 
     def address(self, at):
-        digits = f"{at:x}"
+        digits = b"%x" % at
         if not self.is_plain and self.dice.random() < 0.2:
-            digits = digits.rjust(self.dice.randrange(len(digits), 17), "0")
-        return ("@" + self.case(digits)).encode()
+            digits = digits.rjust(self.dice.randrange(len(digits), 17), b"0")
+        return b"@" + self.case(digits)
 
     def data(self, data):
-        return self.between.join(self.case(f"{byte:02x}") for byte in data).encode()
+        return self.case(data.hex(" ").encode()).replace(b" ", self.between)
 
     def dressed(self, line):
         """A line with blanks, a comment and its end."""
@@ -118,6 +118,14 @@ def damaged(dice, text):
     else:
         lines = lines[dice.choice((1, 2)) :]
     return b"\n".join(lines)
+
+
+def longest_text(dice):
+    """A text of as many bytes as one may have, or of one more or fewer, whose last line ends or does not."""
+    line = b"#" * (LONGEST_LINE - 1) + b"\n"
+    text = line * (LONGEST_TEXT // len(line) + 1)
+    end = dice.choice((b"", b"\n", b"0", b"0\n"))
+    return text[: LONGEST_TEXT + dice.choice((-1, 0, 0, 1)) - len(end)] + end
 
 
 def lines_of_every_form(dice):

@@ -19,6 +19,7 @@ HERE = Path(__file__).parent
 sys.path += [str(HERE.parent / place) for place in ("rows", "show", "rebuild", "lint")]
 
 import judge as lint_judge
+from advice import RULES
 from image import Policy
 from made_cases import asked, case_of
 from image_text import Refused, memory_of, plain_text
@@ -82,7 +83,7 @@ class Judged:
         self.case, self.dice = case, dice
         self.words = [*case.rsdp_words, *case.setting_words]
         self.base = ["--base", f"{case.base:x}"]
-        self.fault, self.asked = None, []
+        self.fault, self.asked, self.advised = None, [], []
 
     def answers(self):
         """(words, answer) of each run."""
@@ -113,7 +114,7 @@ class Judged:
         plain = plain_text(memory)
         through = ["--through", str(case.last)] if case.last != 18 else []
         yield ["check", *self.words, *through], line_of(judgement.verdict(case.last))
-        yield ["lint", *self.words], self.linted(judgement, plain, rsdp)
+        yield ["lint", *self.words, *["--strict"] * case.is_strict], self.linted(judgement, plain, rsdp)
         early = judgement.verdict(3)
         yield ["show", *case.rsdp_words], line_of(early) if early else (0, shown(plain, rsdp), "")
         yield ["rebuild", *self.base, *self.words], self.rebuilt(plain, rsdp)
@@ -131,7 +132,9 @@ class Judged:
         advice = [line for line in lines if line.startswith("advice ")]
         if lines != faults + advice:
             raise AssertionError(f"tests/lint/judge.py says {lines}, and verdicts.py {faults}")
-        return answer(0 if faults == ["yes"] else 1, *faults, *advice)
+        self.advised = [line.split()[1] for line in advice]
+        is_good = faults == ["yes"] and not (advice and self.case.is_strict)
+        return answer(0 if is_good else 1, *faults, *advice)
 
     def rebuilt(self, plain, rsdp):
         if self.case.base % 64 == 0 and self.fault:
@@ -149,7 +152,7 @@ class Fuzz:
     def __init__(self, said):
         self.said, self.program = said, Program(said.program)
         self.passed = self.failed = 0
-        self.reported, self.confirmed = Counter(), Counter()
+        self.reported, self.confirmed, self.advised = Counter(), Counter(), Counter()
 
     def wrong_with(self, case, dice):
         """What differs of a case, run by run."""
@@ -164,6 +167,7 @@ class Fuzz:
             wrong.append(f"  {reason}")
         self.reported.update([judged.fault.name] if judged.fault else [])
         self.confirmed.update(judged.asked)
+        self.advised.update(judged.advised)
         return wrong
 
     def run_case(self, place):
@@ -181,6 +185,8 @@ class Fuzz:
     def print_coverage(self):
         for code, name in enumerate(STAGE_OF, 1):
             print(f"{code} {name}: reported {self.reported[name]} times, confirmed {self.confirmed[name]}")
+        for name in RULES:
+            print(f"advice {name}: {self.advised[name]} times")
 
     def count_codes(self):
         """In the run that `make test` has, each fault is reported at least once."""

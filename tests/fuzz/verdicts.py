@@ -59,12 +59,9 @@ def sums_to_0(data):
 
 def found_rsdp(memory):
     """The address that a search finds, or None."""
-    for at in range(0xE0000, 0xFFFF0 + 1, 16):
-        if at in memory.bytes:
-            head = memory.held(at, 20)
-            if head and head.startswith(b"RSD PTR ") and sums_to_0(head):
-                return at
-    return None
+    places = [at for at in memory.bytes if 0xE0000 <= at <= 0xFFFF0 and at % 16 == 0]
+    heads = ((at, memory.held(at, 20)) for at in sorted(places))
+    return next((at for at, head in heads if head and head.startswith(b"RSD PTR ") and sums_to_0(head)), None)
 
 
 # ---- RSDP, Header, Root
