@@ -469,13 +469,15 @@ def cycle(kind):
 def two_domains(made, is_wrong):
     """Entries of one processor: of either type, enabled or not, in domains that are equal or differ in one byte."""
     dice = made.dice
-    apic_id, flags = dice.choice((5, 255, 256, LOW - 1)), dice.choice((1, 1, 2, 3, 0) if not is_wrong else (1, 1, 1, 2))
-    is_wide = apic_id > 255 or dice.random() < 0.5
-    put(made, made.madt, x2apic(5, apic_id, flags) if is_wide else lapic(5, apic_id, flags))
+    apic_id = dice.choice((5, 255, 256, LOW - 1))
+    processor_flags, domain_flags = ((1, 1, 3, 2), (1, 1, 1, 1, 3, 2)) if is_wrong else ((1, 2, 3, 0), (1, 1, 3, 0))
+    maker = x2apic if apic_id > 255 or dice.random() < 0.5 else lapic
+    put(made, made.madt, maker(5, apic_id, dice.choice(processor_flags)))
     domain = dice.choice((0, 1, 0x01020304))
-    for other in (domain, domain ^ (is_wrong * dice.choice((1, 1 << 8, 1 << 16, 1 << 24))), dice.choice((domain, 7)))[: dice.choice((2, 2, 3))]:
-        wide = apic_id > 255 or dice.random() < 0.5
-        put(made, made.srat, (x2apic_domain if wide else apic_domain)(apic_id, other, dice.choice((1, 1, 1, 3, 0) if not is_wrong else (1, 1, 1, 2))))
+    other = domain ^ (is_wrong * dice.choice((1, 1 << 8, 1 << 16, 1 << 24)))
+    for it in (domain, other, dice.choice((domain, 7)))[: dice.choice((2, 2, 3))]:
+        maker = x2apic_domain if apic_id > 255 or dice.random() < 0.5 else apic_domain
+        put(made, made.srat, maker(apic_id, it, dice.choice(domain_flags)))
 
 
 def gsi_nowhere(made, is_wrong):

@@ -10,8 +10,8 @@ from made_sets import MadeSet, made_settings
 from made_texts import damaged, lines_of_every_form, longest_text, rendered
 from verdicts import STAGE_OF, Fault, number
 
-# Of so many cases one is about the form of texts, and the others are about sets.
-TEXT_EVERY = 5
+# Of so many cases one is about the form of texts, and the others are about sets. Of so many about texts one is as long as can be.
+TEXT_EVERY, LONGEST_EVERY = 5, 40
 NAMES = list(STAGE_OF)
 BASES = (0, 0x40, 0xE0000, 0x7FFE0000, 0xFFFFFF00, 1 << 32, 0x123456789AC0, TOP - 0x1000, TOP - 64, 1, 0x20, 0xFFFF)
 
@@ -102,11 +102,13 @@ def set_case(dice, place):
     return case
 
 
-def text_case(dice):
-    """A text of lines at random, or one of a set with a thing or two changed."""
+def text_case(dice, place):
+    """A text of lines at random, or one of a set with a thing or two changed, or one of the greatest size."""
+    if place % LONGEST_EVERY == LONGEST_EVERY - 1:
+        turn = place // LONGEST_EVERY
+        return Case(longest_text(turn & 1, turn >> 1 & 1), 0, made_settings(dice))
     if dice.random() < 0.5:
-        text = lines_of_every_form(dice) if dice.random() < 0.98 else longest_text(dice)
-        return Case(text, dice.choice((0, 0xE0000, TOP - 20)), made_settings(dice))
+        return Case(lines_of_every_form(dice), dice.choice((0, 0xE0000, TOP - 20)), made_settings(dice))
     made = MadeSet(dice, dice.randrange(1, 60))
     memory, rsdp = laid_out(made)
     text = rendered(dice, memory)
@@ -120,7 +122,7 @@ def case_of(seed, place):
     dice = random.Random(f"{seed} {place}")
     group, of_group = divmod(place, TEXT_EVERY)
     is_text = of_group == TEXT_EVERY - 1
-    case = text_case(dice) if is_text else set_case(dice, group * (TEXT_EVERY - 1) + of_group)
+    case = text_case(dice, group) if is_text else set_case(dice, group * (TEXT_EVERY - 1) + of_group)
     case.base, case.is_strict = dice.choice(BASES), dice.random() < 0.2
     case.setting_words = words_of(dice, case.settings)
     if dice.random() < 0.85:

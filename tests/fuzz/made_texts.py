@@ -120,12 +120,12 @@ def damaged(dice, text):
     return b"\n".join(lines)
 
 
-def longest_text(dice):
-    """A text of as many bytes as one may have, or of one more or fewer, whose last line ends or does not."""
+def longest_text(is_ended, is_too_long):
+    """A text of as many bytes as one may have, or of one more, whose last line ends or does not."""
     line = b"#" * (LONGEST_LINE - 1) + b"\n"
     text = line * (LONGEST_TEXT // len(line) + 1)
-    end = dice.choice((b"", b"\n", b"0", b"0\n"))
-    return text[: LONGEST_TEXT + dice.choice((-1, 0, 0, 1)) - len(end)] + end
+    end = b"\n" if is_ended else b"#"
+    return text[: LONGEST_TEXT + is_too_long - 1] + end
 
 
 def lines_of_every_form(dice):

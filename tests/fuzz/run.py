@@ -13,6 +13,7 @@ import os
 import signal
 import sys
 from collections import Counter
+from itertools import islice
 from pathlib import Path
 
 HERE = Path(__file__).parent
@@ -28,8 +29,14 @@ from rebuilder import Refused as NotRebuilt
 from rebuilder import rebuilt
 from verdicts import STAGE_OF, Judgement, found_rsdp
 
-SEED, CASES = 1, 1000
+SEED, CASES = 1, 800
 SECONDS = 60
+# Of a text of so many bytes only the first runs are compared, as each takes as long as some hundred others.
+LONG_TEXT, RUNS_OF_LONG_TEXT = 1 << 20, 2
+
+
+class Disagree(Exception):
+    """Two of the second programs differ."""
 
 
 class Program:
@@ -93,7 +100,7 @@ class Judged:
         except Refused as refusal:
             return self.refusals((3, "", f"acpiset: {refusal}\n"))
         if case.memory and memory.bytes != case.memory.bytes:
-            raise AssertionError("the text says something else than the memory that it was written from")
+            raise Disagree("the text says something else than the memory that it was written from")
         found = found_rsdp(memory)
         rsdp = found if case.rsdp is None else case.rsdp
         find = (["find"], answer(1, "rsdp none") if found is None else answer(0, f"rsdp {found:#x}"))
@@ -104,8 +111,9 @@ class Judged:
     def refusals(self, told):
         """All commands, with one answer."""
         witness = ["--witness", "4 NoFadt 0x0 0x0 0x0"]
-        commands = (["check", *self.words], ["lint", *self.words], ["show", *self.case.rsdp_words], ["confirm", *witness, *self.words])
-        return [(words, told) for words in (["find"], *commands, ["rebuild", *self.base, *self.words])]
+        commands = (["find"], ["check", *self.words], ["lint", *self.words], ["show", *self.case.rsdp_words])
+        commands = (*commands, ["confirm", *witness, *self.words], ["rebuild", *self.base, *self.words])
+        return [(words, told) for words in commands]
 
     def judged(self, memory, rsdp):
         case = self.case
@@ -131,7 +139,7 @@ class Judged:
         faults = [f"no {fault}" for fault in judgement.firsts()] or ["yes"]
         advice = [line for line in lines if line.startswith("advice ")]
         if lines != faults + advice:
-            raise AssertionError(f"tests/lint/judge.py says {lines}, and verdicts.py {faults}")
+            raise Disagree(f"tests/lint/judge.py says {lines}, and verdicts.py {faults}")
         self.advised = [line.split()[1] for line in advice]
         is_good = faults == ["yes"] and not (advice and self.case.is_strict)
         return answer(0 if is_good else 1, *faults, *advice)
@@ -158,13 +166,17 @@ class Fuzz:
         """What differs of a case, run by run."""
         self.program.read(case.text)
         judged, wrong = Judged(case, dice), []
+        most = RUNS_OF_LONG_TEXT if len(case.text) > LONG_TEXT else None
         try:
-            for words, expected in judged.answers():
+            for words, expected in islice(judged.answers(), most):
                 told = self.program.run(*words)
                 if told != expected:
                     wrong.append(f"  {words}\n    program {told}\n    judged  {expected}")
-        except AssertionError as reason:
-            wrong.append(f"  {reason}")
+        except OSError:
+            # There is no such program, or no room for another process.
+            raise
+        except Exception as reason:
+            wrong.append(f"  a second program: {reason!r}")
         self.reported.update([judged.fault.name] if judged.fault else [])
         self.confirmed.update(judged.asked)
         self.advised.update(judged.advised)
@@ -216,7 +228,7 @@ def main():
         fuzz.print_coverage()
     if said.cases >= CASES:
         fuzz.count_codes()
-    print(f"fuzz: {fuzz.passed} passed, {fuzz.failed} failed, seed {said.seed}" if fuzz.failed else f"fuzz: {fuzz.passed} passed, 0 failed")
+    print(f"fuzz: {fuzz.passed} passed, {fuzz.failed} failed")
     sys.exit(1 if fuzz.failed else 0)
 
 
