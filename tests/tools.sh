@@ -6,7 +6,6 @@ program=$(realpath "${1:?usage: tests/tools.sh PROGRAM}")
 [ -x "$program" ] || { printf '%s: no program\n' "$program" >&2; exit 1; }
 cd "$(dirname "$0")" || exit
 tools=$(realpath ../tools)
-images=$(realpath images)
 scratch=$(mktemp -d)
 trap 'rm -rf "$scratch"' EXIT
 tools/files.py "$scratch" || exit 1

@@ -84,10 +84,10 @@ class Tests:
 
 def lines_without_image(tests):
     for line in ("yes\n", "yes", "yes\r\n"):
-        tests.says(line.encode(), ["yes", "..every rule"], without=["In the image"])
+        tests.says(line.encode(), ["yes", "..the image passes every stage"], without=["In the image"])
     for line in ("no rsdp", "rsdp none", "rsdp 0xf59e0"):
         tests.says(line, [line, "..--rsdp"])
-    tests.says("yes\nadvice ListedTwice 0x3 0x2 0x47fc198e", ["..every rule", "101 ListedTwice"])
+    tests.says("yes\nadvice ListedTwice 0x3 0x2 0x47fc198e", ["..the image passes every stage", "101 ListedTwice"])
     tests.says("10 Overlap 0x90 0xb8 0x100000000", [OVERLAP, "45 Overlap", "..Example"])
     with open(os.path.join(TOP, "docs", "FAULTS.md"), encoding="utf-8") as file:
         document = file.read()
@@ -381,7 +381,7 @@ def places(tests):
     tests.says("no 18 LeafUnknown 0x0 0x0 0x0", "59 LeafUnknown", tool=installed, without=["another project"])
     tests.says("no 10 Overlap 0x50 0x78 0x0", f"..{DOUBT}", "example.img.txt", tool=installed)
     os.symlink(installed, os.path.join(tests.scratch, "link"))
-    tests.says("yes", "..every rule", tool=os.path.join(tests.scratch, "link"))
+    tests.says("yes", "..the image passes every stage", tool=os.path.join(tests.scratch, "link"))
     os.remove(os.path.join(tests.scratch, "prefix", "share", "doc", "acpiset", "docs", "FAULTS.md"))
     os.remove(os.path.join(tests.scratch, "prefix", "docs", "FAULTS.md"))
     tests.refuses(1, "acpiset's FAULTS.md is at neither", tool=installed, text=b"yes\n")
