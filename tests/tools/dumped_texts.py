@@ -4,9 +4,10 @@ import os
 import random
 import shutil
 import subprocess
+import sys
 
 from files import FADT, HPET, MADT, dump_of, image_of_files
-from judge import TOP, seconds_of
+from judge import TOP, module_of, seconds_of
 from tables import *
 
 TABLES = [(0x7FE2000, FADT), (0x7FE3001, MADT), (0x7FE4000, HPET)]
@@ -93,19 +94,25 @@ def hostile(judge):
     text = dump_of(WHOLE).replace(b"HPET @", b" " * 3_000_000 + b"\nA @ 0x" * 3 + b" @ 0x" * 600_000 + b"!\nHPET @")
     judge.makes("HPET at 0x7fe4000, 56 bytes", "yes", "acpidump2image", data=text)
     # Whatever a text has in the place of some bytes, the tool refuses it or makes an image that acpiset reads.
+    tool = module_of("acpidump2image")
     dice = random.Random(20)
     whole = dump_of(WHOLE)
     wrong = []
-    for _ in range(60):
+    made = 0
+    for _ in range(300):
         text = bytearray(whole)
         for _ in range(dice.choice((1, 1, 2, 4))):
             at = dice.randrange(len(text))
             text[at : at + dice.choice((0, 1, 1, 17))] = dice.choice((b"", b"0", b"F", b" ", b"\n", b"@ 0xFFFFFFFFFFFFFFFF\n", b":", b"\0", b"00 " * 9))
-        run = judge.run("acpidump2image", data=bytes(text))
-        status, _ = judge.answer(["check"], run.stdout)
-        if run.returncode not in (0, 1) or b"Traceback" in run.stderr or run.returncode == 0 and status > 1:
-            wrong.append(f"{bytes(text)!r}: {run.returncode} {run.stderr.decode()[-300:]} {status}")
-    judge.count("texts with changed bytes", "\n".join(wrong))
+        try:
+            image = tool.image_of(tool.read_tables(bytes(text)), None)
+        except tool.Refusal:
+            continue
+        made += 1
+        status, line = judge.answer(["check"], image)
+        if status > 1:
+            wrong.append(f"{bytes(text)!r}: {line}")
+    judge.count("texts with changed bytes", "\n".join(wrong), not 50 < made < 250 and f"{made} of 300 images")
 
 
 def many_tables(judge):
@@ -115,8 +122,8 @@ def many_tables(judge):
     pieces = [(0xE0000, extended_rsdp(0x8000000, 0)), (0x8000000, root), (0x7FE0000, fadt()), *places]
     for name, text in (("at their addresses", dump_of(pieces)), ("with addresses of 0", dump_of([(0, data) for _, data in pieces]))):
         judge.write("many.txt", text)
-        start, _ = seconds_of([os.path.join(TOP, "tools", "acpidump2image"), "--help"])
-        cost, run = seconds_of([os.path.join(TOP, "tools", "acpidump2image"), judge.path("many.txt")])
+        start, _ = seconds_of([sys.executable, os.path.join(TOP, "tools", "acpidump2image"), "--help"])
+        cost, run = seconds_of([sys.executable, os.path.join(TOP, "tools", "acpidump2image"), judge.path("many.txt")])
         check, answer = seconds_of([judge.program, "check"], input=run.stdout)
         judge.count(
             f"{TABLES_OF_MANY} tables {name}",

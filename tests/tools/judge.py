@@ -1,6 +1,8 @@
 """Runs a tool in the scratch folder and compares what it does with what a case says. Numbers and texts that cases expect are worked
 out by hand, or come from tests/rows/tables.py, which shares no code with the tools."""
 
+import importlib.machinery
+import importlib.util
 import os
 import re
 import resource
@@ -42,7 +44,7 @@ class Judge:
 
     def run(self, tool, *arguments, data=b"", **options):
         """A tool's run, with so many bytes on standard input."""
-        words = [os.path.join(TOP, "tools", tool), *arguments]
+        words = [sys.executable, os.path.join(TOP, "tools", tool), *arguments]
         return subprocess.run(words, input=data, capture_output=True, cwd=self.folder, timeout=300, **options)
 
     def answer(self, words, text):
@@ -91,3 +93,12 @@ def seconds_of(words, **options):
     run = subprocess.run(words, capture_output=True, timeout=600, **options)
     after = resource.getrusage(resource.RUSAGE_CHILDREN)
     return after.ru_utime + after.ru_stime - before.ru_utime - before.ru_stime, run
+
+
+def module_of(tool):
+    """A tool as a module, for cases that ask it many times."""
+    sys.dont_write_bytecode = True
+    loader = importlib.machinery.SourceFileLoader(tool, os.path.join(TOP, "tools", tool))
+    module = importlib.util.module_from_spec(importlib.util.spec_from_loader(tool, loader))
+    loader.exec_module(module)
+    return module

@@ -10,9 +10,10 @@ import tempfile
 from judge import Judge
 import files
 import dumped_texts
+import memory_dumps
 import raw_tables
 
-PARTS = (raw_tables, dumped_texts)
+PARTS = (raw_tables, dumped_texts, memory_dumps)
 
 
 def main():
