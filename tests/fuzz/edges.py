@@ -273,9 +273,10 @@ def override_bus(made, is_wrong):
 
 
 def reserved_inti(made, is_wrong):
-    flags = made.dice.choice((0b0010, 0b1000, 0b1010, 0b1110, 0b1001, 0xFFF2, 0xFFFB)) if is_wrong else made.dice.choice((0, 5, 7, 13, 15, 0xFFF0))
-    makers = (lambda: override(201, 0, flags), lambda: nmi_source(0, flags), lambda: lapic_nmi(255, flags), lambda: x2apic_nmi(LOW - 1, flags))
-    put(made, made.madt, made.dice.choice(makers)())
+    wrong, right = (0b0010, 0b1000, 0b1010, 0b1110, 0b1001, 0xFFF2, 0xFFFB), (0, 5, 7, 13, 15, 0xFFF0)
+    flags = made.dice.choice(wrong if is_wrong else right)
+    entries = (override(201, 0, flags), nmi_source(0, flags), lapic_nmi(255, flags), x2apic_nmi(LOW - 1, flags))
+    put(made, made.madt, made.dice.choice(entries))
 
 
 def second_address(made, is_wrong):
@@ -435,8 +436,8 @@ def dangling_parent(made, is_wrong):
 def dangling_resource(made, is_wrong):
     dice, node = made.dice, of_kind(made, 0)
     for _ in range(dice.choice((1, 1, 2))):
-        right = dice.choice((of_kind(made, 1), of_kind(made, 2)))
-        node.resources.insert(dice.randrange(len(node.resources) + 1), dice.choice((0, stray(made, 1), of_kind(made, 0))) if is_wrong else right)
+        right, wrong = (of_kind(made, 1), of_kind(made, 2)), (0, stray(made, 1), of_kind(made, 0))
+        node.resources.insert(dice.randrange(len(node.resources) + 1), dice.choice(wrong if is_wrong else right))
 
 
 def dangling_cache(made, is_wrong):

@@ -114,11 +114,10 @@ class Layout:
         at = made.facs.at + made.facs.shift if made.facs_at is None else made.facs_at
         body = bytearray(made.fadt_table.body)
         is_wide = at >= LOW or dice.random() < 0.5
-        if is_wide and len(body) >= 140 - HEADER_SIZE:
-            body[132 - HEADER_SIZE : 140 - HEADER_SIZE] = little(at, 8)
-            low = dice.choice((0, at, 0x20))
-        else:
-            low = at
+        has_wide = len(body) >= 140 - HEADER_SIZE
+        if has_wide:
+            body[132 - HEADER_SIZE : 140 - HEADER_SIZE] = little(at if is_wide else 0, 8)
+        low = dice.choice((0, at, 0x20)) if has_wide and is_wide else at
         if len(body) >= 4:
             body[0:4] = little(low, 4)
         made.fadt_table.body = bytes(body)

@@ -107,8 +107,8 @@ def text_case(dice, place):
     if place % LONGEST_EVERY == LONGEST_EVERY - 1:
         turn = place // LONGEST_EVERY
         return Case(longest_text(turn & 1, turn >> 1 & 1), 0, made_settings(dice))
-    if dice.random() < 0.5:
-        return Case(lines_of_every_form(dice), dice.choice((0, 0xE0000, TOP - 20)), made_settings(dice))
+    if place % 2:
+        return Case(lines_of_every_form(dice, place // 2), dice.choice((0, 0xE0000, TOP - 20)), made_settings(dice))
     made = MadeSet(dice, dice.randrange(1, 60))
     memory, rsdp = laid_out(made)
     text = rendered(dice, memory)
@@ -147,7 +147,8 @@ def near(dice, fault):
         same = [name for name in NAMES if STAGE_OF[name] == STAGE_OF[fault.name]]
         return Fault(dice.choice(same if len(same) > 1 else NAMES), *numbers)
     else:
-        numbers[place] = {"more": numbers[place] + 1, "less": numbers[place] - 1, "zero": 0, "far": dice.choice((TOP - 1, 1 << 32, numbers[0]))}[what] % TOP
+        far = dice.choice((TOP - 1, 1 << 32, numbers[0]))
+        numbers[place] = {"more": numbers[place] + 1, "less": numbers[place] - 1, "zero": 0, "far": far}[what] % TOP
     return Fault(fault.name, *numbers)
 
 
@@ -155,5 +156,5 @@ def asked(dice, judgement):
     """Faults that stand, and some that may not."""
     stands = judgement.faults
     asked_about = stands if len(stands) <= 3 else dice.sample(stands, 3)
-    misses = [near(dice, fault) for fault in asked_about] + [Fault(dice.choice(NAMES), *(dice.choice((0, 0, 36, 44, 48, 88, 116)) for _ in range(3)))]
-    return [*asked_about, *misses]
+    any_numbers = [dice.choice((0, 0, 36, 44, 48, 88, 116)) for _ in range(3)]
+    return [*asked_about, *(near(dice, fault) for fault in asked_about), Fault(dice.choice(NAMES), *any_numbers)]

@@ -212,6 +212,8 @@ class MadeSet:
         body[116:119] = bytes([dice.randrange(3), 8, 0])
         body[46:48] = little(dice.choice((9, 9, 0, 24, 255)), 2)
         body[40:44] = little(dice.choice((0, 0x9000, 0x7FFE0000)), 4)
+        # A part of X_FIRMWARE_CTRL, which is none where Length ends in it.
+        body[132:139] = b"\x55" * 7
         for at in (*range(56, 88, 4), *range(152, 244, 12), 140):
             body[at : at + 4] = little(dice.choice((0, 0, 0, 0x600, 0x608)), 4)
         for at in range(148, 244, 12):
@@ -294,7 +296,8 @@ class MadeSet:
 
     def made_other(self):
         dice = self.dice
-        signature = dice.choice((b"HPET", b"SSDT", b"SSDT", b"DSDT", b"FACS", b"\0\x1f~\x7f", b"APIC", b"FACP", b"SRAT", b"SLIT", b"PPTT"))
+        read = (b"APIC", b"FACP", b"SRAT", b"SLIT", b"PPTT")
+        signature = dice.choice((b"HPET", b"SSDT", b"SSDT", b"DSDT", b"FACS", b"\0\x1f~\x7f", *read))
         return Table(signature, bytes(dice.randrange(256) for _ in range(dice.choice((0, 0, 4, 8, 12, 64, 80)))), dice.randrange(4))
 
     # ---- the tables, as their parts say
@@ -344,8 +347,10 @@ def made_processors(dice):
     """(UID, APIC ID, flags, whether it is an x2APIC) of processors, of which no two have one ID, most times."""
     processors = []
     for place in range(dice.choice((0, 1, 2, 2, 4))):
-        is_wide = dice.random() < 0.4
-        apic_id = dice.choice((place, place, place + 250, place + 256 if is_wide else place, 0xFFFFFFFF - place if is_wide else place))
+        is_wide, flags = dice.random() < 0.4, dice.choice((1, 1, 1, 2, 3, 0))
+        apic_id = dice.choice((place, place, place + 250))
+        if is_wide:
+            apic_id = dice.choice((apic_id, place + 256, 0xFFFFFFFF - place))
         uid = dice.choice((place, place, 255 - place, apic_id))
-        processors.append((uid if is_wide else uid % 256, apic_id if is_wide else apic_id % 256, dice.choice((1, 1, 1, 2, 3, 0)), is_wide))
+        processors.append((uid, apic_id, flags, True) if is_wide else (uid % 256, apic_id % 256, flags, False))
     return processors

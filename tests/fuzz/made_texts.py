@@ -13,10 +13,12 @@ DATA = (
 )
 EMPTY = (b"", b" ", b"\t \t", b"\r", b" \r", b"#", b"# 00", b" # @", b"##\r")
 BAD = (
-    b"0", b"000", b"00 0", b"0 0", b"00 1 1", b"0\t0", b"00\r\r", b"00\r ", b"00\r#", b"\r\r", b"\r#", b" \r ", b"@", b"@ 0", b"@\t0", b"@ ", b"@#0", b"@g", b"@0x0",
-    b"@00000000000000000", b"@10000000000000000", b"@0 00", b"@0 1", b"@@0", b"@-1", b"00@0", b"0x00", b"00,00", b"00:00", b"0g", b"g0", b"/0",
-    b":0", b"@/", b"`0", b"G0", b"00\x0b", b"00\x0c00", b"\xa000", b"\xef\xbb\xbf00", b"\0", b"00\x00", b"--", b"yes", b"@1\r\r", b"\x8500",
+    b"0", b"000", b"00 0", b"0 0", b"00 1 1", b"0\t0", b"00\r\r", b"00\r ", b"00\r#", b"\r\r", b"\r#", b" \r ", b"@", b"@ 0", b"@\t0",
+    b"@ ", b"@#0", b"@g", b"@0x0", b"@00000000000000000", b"@10000000000000000", b"@0 00", b"@0 1", b"@@0", b"@-1", b"00@0", b"0x00",
+    b"00,00", b"00:00", b"0g", b"g0", b"/0", b":0", b"@/", b"`0", b"G0", b"00\x0b", b"00\x0c00", b"\xa000", b"\xef\xbb\xbf00", b"\0",
+    b"00\x00", b"--", b"yes", b"@1\r\r", b"\x8500",
 )
+EACH_FORM = (*BAD, *DATA, *ADDRESSES, *EMPTY)
 FORMS = (*ADDRESSES * 3, *DATA * 3, *EMPTY * 2, *BAD)
 LINE_ENDS = (b"\n", b"\n", b"\n", b"\r\n")
 ODD_BYTES = b"\0\t\n\r #@0 9:AFGaf/`g\x7f\x80\xff"
@@ -89,7 +91,8 @@ def rendered(dice, memory):
 def long_line(dice):
     """A line of as many bytes as one may have, or of one more or fewer; of blanks, of a comment, of data, with a CR."""
     size = LONGEST_LINE + dice.choice((-1, 0, 0, 1, 1))
-    return dice.choice((b" " * size, b"#" * size, b" " * (size - 1) + b"\r", b"00" * (size // 2) + b" " * (size % 2), b"@0" + b" " * (size - 2)))
+    data = b"00" * (size // 2) + b" " * (size % 2)
+    return dice.choice((b" " * size, b"#" * size, b" " * (size - 1) + b"\r", data, b"@0" + b" " * (size - 2)))
 
 
 def damaged(dice, text):
@@ -128,9 +131,11 @@ def longest_text(is_ended, is_too_long):
     return text[: LONGEST_TEXT + is_too_long - 1] + end
 
 
-def lines_of_every_form(dice):
-    """A short text of lines at random."""
-    lines = [dice.choice(FORMS) for _ in range(dice.choice((1, 2, 3, 5, 8)))]
-    if dice.random() < 0.6:
+def lines_of_every_form(dice, place):
+    """A short text of lines, one of which has the form whose turn it is; no bad line stands before it."""
+    lines = [dice.choice((*DATA, *EMPTY)) for _ in range(dice.choice((0, 0, 1)))]
+    if dice.random() < 0.85:
         lines.insert(0, dice.choice(ADDRESSES))
+    lines.append(EACH_FORM[place % len(EACH_FORM)])
+    lines += [dice.choice(FORMS) for _ in range(dice.choice((0, 1, 2, 4)))]
     return b"".join(line + dice.choice(LINE_ENDS) for line in lines[:-1]) + lines[-1] + dice.choice((b"", b"\n", b"\r\n", b"\r"))

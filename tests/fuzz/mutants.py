@@ -8,6 +8,7 @@ usage: mutants.py [--seed N] [--cases N]; the last line is 'mutants: N seen, M n
 import argparse
 import ast
 import copy
+import signal
 import types
 from pathlib import Path
 
@@ -17,6 +18,7 @@ from made_cases import asked, case_of
 
 HERE = Path(__file__).parent
 SEED, CASES = 1, 800
+SECONDS = 120
 OTHER_COMPARISON = {
     ast.Lt: ast.LtE, ast.LtE: ast.Lt, ast.Gt: ast.GtE, ast.GtE: ast.Gt, ast.Eq: ast.NotEq, ast.NotEq: ast.Eq, ast.In: ast.NotIn,
     ast.NotIn: ast.In, ast.Is: ast.IsNot, ast.IsNot: ast.Is,
@@ -139,13 +141,20 @@ class Sets:
         return found, str(judgement.verdict(case.last)), [str(fault) for fault in judgement.firsts()], stands
 
 
+def too_long(*_):
+    raise TimeoutError
+
+
 def is_seen(judged, code):
-    """Whether an answer differs. A mistake at which the judge stops is seen too."""
+    """Whether an answer differs. A mistake at which the judge stops, or does not end, is seen too."""
+    signal.alarm(SECONDS)
     try:
         module = module_of(judged.name, code)
         return any(judged.judged(module, it) != told for it, told in judged)
     except Exception:
         return True
+    finally:
+        signal.alarm(0)
 
 
 def main():
@@ -153,6 +162,7 @@ def main():
     parser.add_argument("--seed", type=int, default=SEED)
     parser.add_argument("--cases", type=int, default=CASES)
     said = parser.parse_args()
+    signal.signal(signal.SIGALRM, too_long)
     cases = [case_of(said.seed, place) for place in range(said.cases)]
     seen = unseen = 0
     for judged in (Texts(cases), Sets(cases)):

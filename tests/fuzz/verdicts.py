@@ -27,8 +27,6 @@ STAGES = (
 )
 STAGE_OF = {name: stage for stage, names in STAGES for name in names.split()}
 CODE_OF = {name: code for code, name in enumerate(STAGE_OF, 1)}
-# These have an order of their own, and so many faults that not all of them are listed.
-WITH_OWN_ORDER = ("GsiClash", "Overlap")
 CYCLES = ("ParentCycle", "CacheCycle")
 
 Settings = namedtuple("Settings", "default_inputs inputs hotplug processors", defaults=(24, {}, "counted", "enabled"))
