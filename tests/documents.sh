@@ -213,7 +213,9 @@ for crate in $crates; do
   within "$crate: files of definitions that ARCHITECTURE.md does not name" "$files" "$(grep -o '`[A-Z][A-Za-z]*`' <<<"$part" | tr -d '`')"
 done
 
-paths=$(cat README.md docs/*.md | grep -o '`\(bindings\|crates\|docs\|examples\|tests\|bench\|tools\|man\|scripts\|release\)/[A-Za-z0-9_./-]*[A-Za-z0-9_]`' | tr -d '`' | sort -u)
+count 'links that lead nowhere' "$(tests/links.py 2>&1)"
+count 'lines of README beyond 150' "$(tail -n +151 README.md)"
+paths=$(cat README.md docs/*.md | grep -o '`\(bindings\|crates\|docs\|examples\|tests\|bench\|tools\|man\|scripts\|release\|share/acpiset\)/[A-Za-z0-9_./-]*[A-Za-z0-9_]`' | tr -d '`' | sort -u)
 there=$(while read -r path; do [ -e "$path" ] && printf '%s\n' "$path"; done <<<"$paths")
 same 'files that the documents name (<) and that are there (>)' "$paths" "$there"
 parts=$(cat README.md docs/*.md | grep -o '`\(src\|specs\)/[A-Za-z0-9_/]*\.\(rt\|antt\)`' | tr -d '`' | sort -u)

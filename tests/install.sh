@@ -88,7 +88,7 @@ same 'acpiset-explain by a link' "$(echo 'no rsdp' | "$scratch/link" | head -n 1
 same 'acpiset-tables2image without files' "$("$usr/bin/acpiset-tables2image" 2>&1 | grep -c '^acpiset-tables2image: usage: acpiset-tables2image ')" 1
 same 'files after the tools ran' "$(files_in "$usr")" "$wanted"
 names=$(paste -s -d '|' <<<"$tools")
-same 'names of a checkout in what is installed' "$(grep -rnE "(^|[^A-Za-z0-9_./-])(\./acpiset|(\./)?tools/($names)([^A-Za-z0-9_]|$))" "$usr/share")" ''
+same 'names of a checkout in what is installed' "$(grep -rnE "(^|[^A-Za-z0-9_./-])(\./acpiset|(\./)?tools/($names)([^A-Za-z0-9_]|$))" "$usr/share/doc" "$usr/share/man")" ''
 same 'a second install over the first' "$(with_program install DESTDIR="$scratch/root" PREFIX=/usr; echo "$? $(cat "$scratch/log")")" '0 '
 echo mine >"$usr/share/doc/acpiset/docs/mine"
 with_program uninstall DESTDIR="$scratch/root" PREFIX=/usr
