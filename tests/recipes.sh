@@ -15,8 +15,9 @@
 set -u
 program=$(realpath "${1:?usage: tests/recipes.sh PROGRAM}")
 [ -x "$program" ] || { printf '%s: no program\n' "$program" >&2; exit 1; }
-cd "$(dirname "$0")/.."
+cd "$(dirname "$0")/.." || exit
 SOURCE=$PWD
+# shellcheck disable=SC2034 # a recipe may use it
 IMAGES=$SOURCE/tests/images
 KERNEL=${KERNEL:-$(find /boot -name 'vmlinuz-*' -readable 2>/dev/null | sort -V | tail -n 1)}
 scratch=$(mktemp -d)
@@ -31,6 +32,7 @@ library=$(realpath "${LIBRARY:-library}")
 if [ -r "$library/libacpiset.a" ]; then
   mkdir "$scratch/library"
   ln -s "$library/libacpiset.a" "$scratch/library"
+  # shellcheck disable=SC2016 # pkg-config fills in ${libdir}
   printf 'libdir=%s\nName: acpiset\nDescription: acpiset\nVersion: 0\nCflags: -I%s\nLibs: -L${libdir} -lacpiset\n' \
     "$scratch/library" "$SOURCE/bindings/c" >"$scratch/library/acpiset.pc"
   export PKG_CONFIG_PATH="$scratch/library"
@@ -80,15 +82,16 @@ settled() { sed 's/finished in [0-9.]*s/finished in 0.00s/'; }
 
 # differs BLOCK NEEDS: runs a recipe in this shell, and prints how what it printed differs from the page.
 differs() {
+  # shellcheck disable=SC1090 # a block of a page
   . "$1" >"$scratch/printed" 2>&1
-  cd "$scratch/work"
+  cd "$scratch/work" || exit
   case " $2 " in
     *' own '*) grep -qE '^(yes|no [0-9]+ .*|.*ACPI: RSDP 0x.*)$' <(tail -n 1 "$scratch/printed") || cat "$scratch/printed" ;;
     *) diff <(settled <"$scratch/printed") <(settled <"${1%.sh}.text") ;;
   esac
 }
 
-cd "$scratch/work"
+cd "$scratch/work" || exit
 for block in "$scratch"/blocks/*.sh; do
   name=$(basename "$block" .sh)
   needs=$(cat "${block%.sh}.needs")
@@ -100,6 +103,7 @@ for block in "$scratch"/blocks/*.sh; do
   fi
   differs "$block" "$needs" >"$scratch/difference"
   if [ -s "$scratch/difference" ] && [[ $needs == *qemu* ]]; then
+    # shellcheck disable=SC2034 # the recipe uses it
     SECONDS_TO_BOOT=120
     differs "$block" "$needs" >"$scratch/difference"
     unset SECONDS_TO_BOOT

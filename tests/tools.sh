@@ -4,9 +4,8 @@
 set -u
 program=$(realpath "${1:?usage: tests/tools.sh PROGRAM}")
 [ -x "$program" ] || { printf '%s: no program\n' "$program" >&2; exit 1; }
-cd "$(dirname "$0")"
+cd "$(dirname "$0")" || exit
 tools=$(realpath ../tools)
-images=$(realpath images)
 scratch=$(mktemp -d)
 trap 'rm -rf "$scratch"' EXIT
 tools/files.py "$scratch" || exit 1
@@ -51,6 +50,7 @@ makes() {
   fi
   local words
   words=$(sed -n 's/.*check it with \(--rsdp [0-9a-f]*\)$/\1/p' "$scratch/err")
+  # shellcheck disable=SC2086 # an option and its value
   answer=$("$program" check $words <"$scratch/out" 2>&1)
   [ "$answer" = "$verdict" ] || wrong="$wrong; $words: $answer, not $verdict"
   count "$*" "$wrong"
