@@ -22,26 +22,45 @@ function roff(text,   before, inside, out) {
     text = substr(text, RSTART + RLENGTH)
   }
   text = out text
-  if (text ~ /^[.\047]/) text = "\\&" text
   return text
 }
+
+# Prints a macro, and no paragraph directly after a heading, which begins one.
+function macro(text) {
+  if (text != ".PP" || !is_after_heading) print text
+  is_after_heading = text ~ /^\.S[HS] /
+}
+
+# Prints a text in lines of fewer than 80 columns. None of them may begin as a macro does.
+function print_text(text,   at) {
+  is_after_heading = 0
+  while (length(text) > 78) {
+    at = 78
+    while (at > 0 && substr(text, at, 1) != " ") at--
+    if (at == 0) break
+    print guarded(substr(text, 1, at - 1))
+    text = substr(text, at + 1)
+  }
+  print guarded(text)
+}
+
+function guarded(line) { return (line ~ /^[.\047]/ ? "\\&" : "") line }
 
 # Prints the paragraph that has been gathered; of a list item of a part its first word is the tag.
 function flush_text(   tag) {
   if (gathered == "") return
-  if (is_item && gathered ~ /^[A-Z][a-z]*: /) {
+  if (item == "-" && gathered ~ /^[A-Z][a-z]*: /) {
     tag = gathered
     sub(/:.*/, "", tag)
     sub(/^[A-Za-z]*: /, "", gathered)
-    print ".TP"
-    print ".B " tag
-    print roff(gathered)
-  } else {
-    print is_item ? ".IP \\(bu 2" : ".PP"
-    print roff(gathered)
-  }
+    macro(".TP")
+    macro(".B " tag)
+  } else if (item == "-") macro(".IP \\(bu 2")
+  else if (item != "") macro(".IP " item " 4")
+  else macro(".PP")
+  print_text(roff(gathered))
   gathered = ""
-  is_item = 0
+  item = ""
 }
 
 # A row of a table: its first cell as the tag, the others behind it.
@@ -49,16 +68,18 @@ function print_row(row,   cells, count, cell) {
   sub(/^\| */, "", row)
   sub(/ *\|$/, "", row)
   count = split(row, cells, / *\| */)
-  print ".TP"
-  print ".B " roff(cells[1])
+  macro(".TP")
+  macro(".B " roff(cells[1]))
   row = cells[2]
   for (cell = 3; cell <= count; cell++) row = row "; " cells[cell]
-  print roff(row)
+  print_text(roff(row))
 }
 
 BEGIN {
+  gathered = item = ""
+  skipped = in_block = was_table = 0
   print ".\\\" Made of docs/FAULTS.md by man/faults.awk: change that document, and make this page again."
-  print ".TH ACPISET\\-FAULTS 7"
+  print ".TH ACPISET\\-FAULTS 7 2026-11-25"
   print ".SH NAME"
   print "acpiset\\-faults \\- the lines of acpiset(1), what each means, and what to do"
 }
@@ -71,13 +92,14 @@ skipped { next }
 /^```/ {
   flush_text()
   in_block = !in_block
-  print in_block ? ".PP\n.nf" : ".fi"
+  if (in_block) macro(".PP")
+  macro(in_block ? ".nf" : ".fi")
   next
 }
 in_block { print roff($0); next }
 
-/^## / { flush_text(); print ".SH " roff(toupper(substr($0, 4))); next }
-/^### / { flush_text(); print ".SS " roff(substr($0, 5)); next }
+/^## / { flush_text(); macro(".SH " roff(toupper(substr($0, 4)))); next }
+/^### / { flush_text(); macro(".SS " roff(substr($0, 5))); next }
 /^\|[- |]*$/ { next }
 /^\|/ {
   flush_text()
@@ -87,7 +109,8 @@ in_block { print roff($0); next }
 }
 { was_table = 0 }
 /^$/ { flush_text(); next }
-/^- / { flush_text(); is_item = 1; gathered = substr($0, 3); next }
+/^- / { flush_text(); item = "-"; gathered = substr($0, 3); next }
+/^[0-9]+\. / { flush_text(); item = $1; gathered = substr($0, length($1) + 2); next }
 {
   sub(/^ +/, "")
   gathered = gathered == "" ? $0 : gathered " " $0
@@ -97,5 +120,6 @@ END {
   flush_text()
   print ".SH SEE ALSO"
   print ".BR acpiset (1),"
+  print ".BR acpiset\\-explain (1),"
   print ".BR acpiset (3)"
 }

@@ -1,29 +1,60 @@
 #!/usr/bin/env bash
 # Runs all scripts that test the documents, the tools, the built program and the crates' tests, as many beside each other as
-# there are processors, the longest first. Prints what each says, and at the end which of them failed.
+# there are processors, the longest first. Prints what each says, and at the end which of them failed. A signal that ends it ends all
+# that it started.
 # usage: tests/all.sh PROGRAM TESTS..; TESTS are the crates' tests as they were built (see refused_calls.py).
+#
+# In place of the scripts of the folder tests, it runs those of the folder TESTS_FOLDER where that is set, and those alone that
+# TESTS_ONLY names: so it is tested itself.
 set -u
-cd "$(dirname "$0")/.."
-program=$1
+cd "$(dirname "$0")/.." || exit
+program=${1:?usage: tests/all.sh PROGRAM TESTS..}
 shift
 tests=("$@")
+folder=${TESTS_FOLDER:-tests}
 scratch=$(mktemp -d)
 trap 'rm -rf "$scratch"' EXIT
+# Each script runs in a group of processes of its own, with all that it starts.
+set -m
 
-# ran SCRIPT ARGUMENTS..: runs a script of this folder, and keeps what it says and its status.
+# ended SIGNAL: ends the scripts and what they started, and then itself by the same signal.
+ended() {
+  local group groups
+  trap '' HUP INT TERM
+  mapfile -t groups < <(jobs -rp)
+  for group in "${groups[@]}"; do kill -TERM -- "-$group" 2>/dev/null; done
+  # They have time to remove what they made; what does not listen is killed.
+  for group in "${groups[@]}"; do
+    for _ in {1..50}; do
+      kill -0 -- "-$group" 2>/dev/null || break
+      sleep 0.1
+    done
+  done
+  for group in "${groups[@]}"; do kill -KILL -- "-$group" 2>/dev/null; done
+  rm -rf "$scratch"
+  trap - EXIT "$1"
+  kill -s "$1" $$
+}
+for signal in HUP INT TERM; do
+  # shellcheck disable=SC2064 # the signal of now
+  trap "ended $signal" "$signal"
+done
+
+# ran SCRIPT ARGUMENTS..: runs a script of the folder, and keeps what it says and its status.
 ran() {
   local log="$scratch/${1//\//-}"
-  "tests/$1" "${@:2}" >"$log" 2>&1
+  "$folder/$1" "${@:2}" >"$log" 2>&1 </dev/null
   echo $? >"$log.status"
 }
 
-scripts=(refusals.py recipes.sh show/run.py lint/run.py rows/texts.py program.sh tools.sh refused_calls.py rebuild/run.py rows/confirm.py install.sh rows/run.py rows/words.py rows/examples.py documents.sh)
+scripts=(refusals.py recipes.sh fuzz/run.py show/run.py lint/run.py rows/texts.py program.sh valgrind.sh explain.sh tools.sh install.sh refused_calls.py rebuild/run.py rows/confirm.py documents.sh rows/run.py rows/words.py rows/examples.py scripts.sh)
 # The library is tested where `make library` has left it.
 [ ! -e library/libacpiset.a ] || scripts=(library/run.py library/rust.sh "${scripts[@]}")
+[ -z "${TESTS_ONLY-}" ] || read -ra scripts <<<"$TESTS_ONLY"
 for script in "${scripts[@]}"; do
   while [ "$(jobs -rp | wc -l)" -ge "$(nproc)" ]; do wait -n; done
   case $script in
-    documents.sh) ran "$script" & ;;
+    documents.sh | scripts.sh) ran "$script" & ;;
     library/run.py) ran "$script" "$program" library & ;;
     library/rust.sh) ran "$script" library & ;;
     refused_calls.py) ran "$script" "${tests[@]}" & ;;

@@ -3,13 +3,14 @@
 BEGIN {
   split(names, list)
   for (i in list) is_exported[list[i]] = 1
+  type = head = is_trait = yields = ""
 }
 FNR == 1 { type = "" }
 /^pub trait / { type = $3; sub(/[^A-Za-z0-9].*/, "", type); is_own = is_trait = 1 }
 /^impl/ {
   sub(/^impl(<[^>]*>)? /, "")
-  is_own = !/ for / || /^Iterator for /
-  is_trait = / for /
+  is_own = $0 !~ / for / || $0 ~ /^Iterator for /
+  is_trait = $0 ~ / for /
   type = $0
   sub(/.* for /, "", type)
   sub(/[^A-Za-z0-9].*/, "", type)
@@ -24,5 +25,5 @@ FNR == 1 { type = "" }
   head = is_public && (type == "" || is_own) && (type == "" ? $0 : type) in is_exported
   clauses = name ~ /::next$/ ? yields : ""
 }
-head && $1 ~ /^ensures/ { clauses = clauses ($2 == "{" ? "its one" : $2) " " }
+head && NF && $1 ~ /^ensures/ { clauses = clauses ($2 == "{" ? "its one" : $2) " " }
 head && /^ *[{]}?$|;$/ { print name "\t" clauses; head = 0 }

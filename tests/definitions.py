@@ -1,11 +1,11 @@
 #!/usr/bin/env python3
-"""Compares the tables of definitions in README with what public contracts rest on: each file of definitions that the
+"""Compares the tables of definitions in docs/PROOF.md with what public contracts rest on: each file of definitions that the
 contract of a public call names, and each that such a file imports, stands in one of these tables with its number of
 lines, and no other file does. The first table has exactly those of the headline, a file stands behind those that it
 imports, and none names a private type of a library.
 
 usage: tests/definitions.py [--write]; prints what differs and what to write in its place, and nothing where all agrees.
-With --write it puts the right numbers of lines and sums into README."""
+With --write it puts the right numbers of lines and sums into that page."""
 
 import re
 import sys
@@ -14,11 +14,11 @@ from functools import cache
 from pathlib import Path
 
 TOP = Path(__file__).resolve().parent.parent
-README = TOP / "README.md"
+PAGE = TOP / "docs" / "PROOF.md"
 CRATES = re.findall(r"^([a-z_]+)(?: staticlib)?:", (TOP / "crates.txt").read_text(), re.M)
 # Those that are libraries for C: what they export is functions alone.
 FOR_C = re.findall(r"^([a-z_]+) staticlib:", (TOP / "crates.txt").read_text(), re.M)
-# A name without a crate in README's tables is of this one.
+# A name without a crate in the page's tables is of this one.
 BASE = "acpi_base"
 # The public calls of the program, which exports nothing, as tests/documents.sh has them; and its laws.
 PROGRAM = re.compile(r"do_job|obey|read_words|run_[a-z]+|status_of")
@@ -65,7 +65,7 @@ def private_types(path):
 
 
 def name_of(path):
-    """The file's name in README."""
+    """The file's name in the page."""
     crate, _, *parts = path.relative_to(TOP / "crates").with_suffix("").parts
     return "/".join(parts if crate == BASE else [crate, *parts])
 
@@ -156,7 +156,7 @@ def closure(contracts):
     return found
 
 
-# ---- the tables of README
+# ---- the tables of the page
 
 
 def file_named(name):
@@ -189,7 +189,7 @@ def tables(lines):
 
 
 def right_lines(lines):
-    """The lines of README whose numbers are wrong, by place, as they have to be."""
+    """The lines of the page whose numbers are wrong, by place, as they have to be."""
     right = {}
     for rows, place in tables(lines):
         counts = {row.place: row.lines() for row in rows}
@@ -233,14 +233,14 @@ def differences(lines):
 
 
 def main():
-    lines = README.read_text().split("\n")
+    lines = PAGE.read_text().split("\n")
     if sys.argv[1:] == ["--write"]:
         for place, line in right_lines(lines).items():
             lines[place] = line
-        README.write_text("\n".join(lines))
+        PAGE.write_text("\n".join(lines))
     told = list(differences(lines))
     for line in told:
-        print(f"README: {line}")
+        print(f"docs/PROOF.md: {line}")
     sys.exit(1 if told else 0)
 
 

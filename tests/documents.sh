@@ -1,10 +1,23 @@
 #!/usr/bin/env bash
-# Compares the documents with the tree: what they name is there, and what is there they name.
+# Compares the documents with the tree: what they name is there, and what is there they name. Where they are installed, it has
+# `shellcheck` read the scripts, `gawk --lint` what is written in awk, and `mandoc -T lint` the manual pages.
 # usage: tests/documents.sh; the last line is 'documents: N passed, M failed'.
+# shellcheck disable=SC2016 # backquotes in patterns are those of Markdown
+# shellcheck disable=SC2013,SC2046 # no name of a file here has blanks in it
 set -u
-cd "$(dirname "$0")/.."
+cd "$(dirname "$0")/.." || exit
+scratch=$(mktemp -d)
+trap 'rm -rf "$scratch"' EXIT
 passed=0
 failed=0
+
+# Each awk that this script and what it starts runs is one that says what is doubtful in its program.
+if command -v gawk >/dev/null; then
+  mkdir "$scratch/bin"
+  printf '#!/bin/sh\nexec gawk --lint "$@" 2>>"%s"\n' "$scratch/awk" >"$scratch/bin/awk"
+  chmod +x "$scratch/bin/awk"
+  PATH="$scratch/bin:$PATH"
+fi
 
 # count WHAT LINES: counts a case; no lines means passed.
 count() {
@@ -54,7 +67,11 @@ functions() {
   local names=""
   [ ! -e "crates/$1/src/lib.rt" ] || names=$(exports "$1")
   awk -v names="$names" -v program="$program" '
-    BEGIN { split(names, list); for (i in list) is_exported[list[i]] = 1 }
+    BEGIN {
+      split(names, list)
+      for (i in list) is_exported[list[i]] = 1
+      type = trait = part = ""
+    }
     /^impl/ {
       sub(/^impl(<[^>]*>)? /, "")
       trait = / for / ? $1 : ""
@@ -158,7 +175,7 @@ indexed=$(sed -n '/^## Index$/,/^## How/p' docs/FAULTS.md | grep -o '[0-9][0-9]*
 same 'parts of FAULTS.md (<) and its index by code (>)' "$described" "$indexed"
 by_name=$(sed -n '/^## Index$/,/^## How/p' docs/FAULTS.md | grep -o '\[[A-Za-z]*\](#[0-9]*-[a-z]*) [0-9][0-9]*' | sed 's/\[\(.*\)\](#.*) \(.*\)/\2 \1/')
 same 'parts of FAULTS.md (<) and its index by name (>)' "$described" "$by_name"
-complete=$(awk '/^### [0-9]/ { part = $2 " " $3 } /^## / { part = "" } part != "" && /^- [A-Z][a-z]*:/ { print part, $2 }' docs/FAULTS.md)
+complete=$(awk 'BEGIN { part = "" } /^### [0-9]/ { part = $2 " " $3 } /^## / { part = "" } part != "" && /^- [A-Z][a-z]*:/ { print part, $2 }' docs/FAULTS.md)
 asked=$(
   while read -r part; do printf '%s %s\n' "$part" Wrong: "$part" Fields: "$part" Numbers: "$part" System: "$part" Fix: "$part" Example:; done <<<"$described"
   while read -r part; do printf '%s %s\n' "$part" Found: "$part" Fields: "$part" Numbers: "$part" Severity: "$part" System: "$part" Fix: "$part" Example:; done <<<"$advised"
@@ -177,7 +194,7 @@ indexed=$(grep -o '[0-9][0-9]* \[[A-Za-z]*\](#[a-z0-9-]*)' <<<"$index" | sed 's/
 same 'rules of advice (<) and their index by number in FAULTS.md (>)' "$rules" "$indexed"
 by_name=$(grep -o '\[[A-Za-z]*\](#[0-9]*-[a-z]*) [0-9][0-9]*' <<<"$index" | sed 's/\[\(.*\)\](#.*) \(.*\)/\2 \1/')
 same 'rules of advice (<) and their index by name in FAULTS.md (>)' "$rules" "$by_name"
-headline=$(sed -n '/^## The headline$/,/^## /{/^```rust$/,/^```$/p}' README.md | grep -v '^```')
+headline=$(sed -n '/^## The headline$/,/^## /{/^```rust$/,/^```$/p}' docs/PROOF.md | grep -v '^```')
 # contract FUNCTION FILE: what stands before the function's body.
 contract() { sed -n "/^pub fn $1[(<]/,/^{\$/p" "$2" | grep -v '^{$'; }
 contracts=$(
@@ -186,7 +203,7 @@ contracts=$(
   contract check_and_confirm_agree crates/acpi_cli/src/laws.rt
   contract run_check crates/acpi_cli/src/check.rt
 )
-same 'the contracts of the headline, as README has them (<) and in the code (>)' "$headline" "$contracts"
+same 'the contracts of the headline, as PROOF.md has them (<) and in the code (>)' "$headline" "$contracts"
 
 count 'definitions that public contracts rest on' "$(tests/definitions.py 2>&1)"
 for crate in $crates; do
@@ -196,7 +213,9 @@ for crate in $crates; do
   within "$crate: files of definitions that ARCHITECTURE.md does not name" "$files" "$(grep -o '`[A-Z][A-Za-z]*`' <<<"$part" | tr -d '`')"
 done
 
-paths=$(cat README.md docs/*.md | grep -o '`\(bindings\|crates\|docs\|examples\|tests\|bench\|tools\|man\|scripts\|release\)/[A-Za-z0-9_./-]*[A-Za-z0-9_]`' | tr -d '`' | sort -u)
+count 'links that lead nowhere' "$(tests/links.py 2>&1)"
+count 'lines of README beyond 150' "$(tail -n +151 README.md)"
+paths=$(cat README.md docs/*.md | grep -o '`\(bindings\|crates\|docs\|examples\|tests\|bench\|tools\|man\|scripts\|release\|share/acpiset\)/[A-Za-z0-9_./-]*[A-Za-z0-9_]`' | tr -d '`' | sort -u)
 there=$(while read -r path; do [ -e "$path" ] && printf '%s\n' "$path"; done <<<"$paths")
 same 'files that the documents name (<) and that are there (>)' "$paths" "$there"
 parts=$(cat README.md docs/*.md | grep -o '`\(src\|specs\)/[A-Za-z0-9_/]*\.\(rt\|antt\)`' | tr -d '`' | sort -u)
@@ -213,6 +232,7 @@ touched() {
     for (i = 1; i <= count; i++) print $1 "/" files[i]
   }' | tr -d '` |')
   within "$1: files that name $2, and that ARCHITECTURE.md does not list" "$(grep -rlE "$2" crates/*/src crates/*/specs crates/*/proofs)" "$told"
+  # shellcheck disable=SC2086 # a list of names
   count "$1: listed files that do not name $2" "$(grep -LE "$2" ${told:-none-is-listed} 2>&1)"
 }
 touched 'A fault code' '\bGsiPastEnd\b'
@@ -263,6 +283,37 @@ within 'fields that the synopsis of man/acpiset.3 does not name' "$(for own in p
 within 'settings that LIBRARY.md does not explain' "$(members acpiset_settings | grep -vx size)" "$(sed -n '/^## Settings$/,/^## /s/^| `\([a-z_]*\)`.*/\1/p' docs/LIBRARY.md)"
 
 count 'the Rust crate, and what its lists are written from' "$(bindings/rust/lists.py --check 2>&1)"
+
+# ---- a release: what is installed, and what the program and the library have inside
+
+tools=$(sed -n "s/^tools='\(.*\)'$/\1/p" scripts/install | tr ' ' '\n')
+same 'tools that scripts/install lists (<) and those that are here (>)' "$tools" "$(cd tools && printf '%s\n' * | grep -x '[a-z0-9]*')"
+within 'tools that the README of an archive does not name' "$tools" "$(grep -o '`bin/acpiset-[a-z0-9]*`' release/README.md | sed 's/^.*-//; s/`//')"
+count 'an install' "$(BINARY=/bin/sh LIBRARY=none DESTDIR=$scratch/root PREFIX=/usr scripts/install install 2>&1)"
+linked=$(sed -n 's/^[a-z_]*\( staticlib\)\{0,1\}: *//p' crates.txt | tr ' ' '\n' | grep -vxF "$crates")
+within 'libraries of the toolchain in crates.txt that release/parts.txt does not have' "$linked" "$(sed -n 's/^\([a-z_]*\) | .*/\1/p' release/parts.txt)"
+same 'libraries in release/parts.txt (<) and those with a notice in release/NOTICES.md (>)' "$(sed -n 's/^\([a-z_]*\) | .*/\1/p' release/parts.txt)" \
+  "$(sed -n 's/^## //p' release/NOTICES.md)"
+if command -v rt >/dev/null; then
+  count 'libraries of the toolchain, and what release/parts.txt and release/NOTICES.md say of them' "$(scripts/parts check "$(dirname "$(rt doc)")" 2>&1)"
+fi
+
+# ---- what other programs say of the scripts and of the manual pages
+
+# asked PROGRAM: whether it is there; says so where it is not.
+asked() { command -v "$1" >/dev/null || { printf 'left out: %s is not installed\n' "$1" && false; }; }
+
+mapfile -t scripts < <(grep -lIE '^#! ?/(usr/)?bin/(env )?(ba|da)?sh$' .ci/* bench/* bindings/*/* examples/* man/* release/* scripts/* tests/* tests/*/* tools/* 2>/dev/null)
+if asked shellcheck; then
+  count 'shellcheck' "$(shellcheck --severity=info --format=gcc "${scripts[@]}" 2>&1)"
+fi
+if asked mandoc; then
+  count 'mandoc -T lint' "$(mandoc -T lint -W warning man/*.[0-9] 2>&1)"
+fi
+if asked gawk; then
+  # POSIX says what substr gives of a place past the end.
+  count 'awk --lint' "$(sort -u "$scratch/awk" | sed 's/ (FILENAME=.*FNR=[0-9]*)//' | grep -v ' warning: substr: ' | sort | uniq -c)"
+fi
 
 printf 'documents: %d passed, %d failed\n' "$passed" "$failed"
 [ "$failed" = 0 ]

@@ -1,13 +1,19 @@
 #!/usr/bin/env bash
 # Installs the built program into a scratch folder, runs what was installed, makes the archive, and removes all again: without the
-# library, and then with it. Where `make library` has left none, files stand in its place, and nothing is linked with them.
+# library, and then with it. Where `make library` has left none, files stand in its place, and nothing is linked with them. The folders
+# have names with blanks, and some with all that means something to a shell or to make.
 # usage: tests/install.sh PROGRAM; the last line is 'install: N passed, M failed'.
+# shellcheck disable=SC2016 # dollar signs and backquotes in names of folders and in pages are no commands
 set -u
-program=$(realpath "${1:?usage: tests/install.sh PROGRAM}")
+program=$(realpath -- "${1:?usage: tests/install.sh PROGRAM}")
 [ -x "$program" ] || { printf '%s: no program\n' "$program" >&2; exit 1; }
-cd "$(dirname "$0")/.."
+cd "$(dirname "$0")/.." || exit
+# `make` passes its own settings on to what it starts.
+unset DESTDIR PREFIX LIBDIR PC_PREFIX BINARY LIBRARY SOURCE_DATE_EPOCH
 scratch=$(mktemp -d)
 trap 'rm -rf "$scratch"' EXIT
+mkdir "$scratch/a tmp"
+export TMPDIR="$scratch/a tmp"
 passed=0
 failed=0
 
@@ -21,48 +27,221 @@ same() {
   fi
 }
 
-# A copy, so that no archive is left in the tree.
-mkdir "$scratch/tree"
-cp -r Makefile README.md CHANGELOG.md CONTRIBUTING.md bindings crates.txt docs man release scripts tools "$scratch/tree"
-mkdir "$scratch/tree/crates" "$scratch/tree/tests"
-cp -r tests/images "$scratch/tree/tests"
-make="make -s -C $scratch/tree BINARY=$program"
+# left_out WHAT WHY: says that cases were not tried.
+left_out() { printf 'left out: %s: %s\n' "$1" "$2"; }
+
+# has COMMAND: whether it is there.
+has() { command -v "$1" >/dev/null; }
+
+# copy_tree FOLDER: a copy of this tree without what was built, so that no archive is left here.
+copy_tree() {
+  local all
+  mkdir "$1"
+  mapfile -t all < <(ls -d Makefile ./*.md LICENSE bindings crates crates.txt docs man release scripts share tests/images tools 2>/dev/null)
+  tar -cf - --exclude=out --exclude=target "${all[@]}" | tar -xf - -C "$1"
+}
+
+tree="$scratch/a tree"
+copy_tree "$tree"
+
+# run TARGET SETTING..: runs make in the copy, and keeps what it says.
+run() { make -s -C "$tree" "$@" >"$scratch/log" 2>&1; }
+
+# with_program TARGET SETTING..: the same, for the program that is tested.
+with_program() { run BINARY="$program" "$@"; }
 
 # sorted: lines in one order on every machine.
 sorted() { LC_ALL=C sort; }
 
 # files_in FOLDER: its files and links.
-files_in() { (cd "$1" && find . ! -type d | sed 's|^\./||' | sorted); }
+files_in() { (cd "$1" 2>/dev/null && find . ! -type d | sed 's|^\./||' | sorted); }
 
-$make install DESTDIR="$scratch/root" PREFIX=/usr >"$scratch/log" 2>&1
-same 'make install' "$? $(cat "$scratch/log")" '0 '
-usr="$scratch/root/usr"
+# The tools that are installed, by the one list of them, and those that are here.
+tools=$(sed -n "s/^tools='\(.*\)'$/\1/p" scripts/install | tr ' ' '\n')
+there=$(cd tools && find . -type f -printf '%P\n' | grep -x '[a-z0-9]*' | sorted)
+same 'tools that scripts/install lists, and those that are here' "$tools" "$there"
+[ -e LICENSE ] && licence=share/doc/acpiset/LICENSE || licence=
 wanted=$({
   echo bin/acpiset
-  for tool in tools/*; do echo "bin/acpiset-${tool#tools/}"; done
-  echo share/man/man1/acpiset.1
-  echo share/man/man7/acpiset-faults.7
-  for document in README.md CHANGELOG.md CONTRIBUTING.md docs/*.md; do echo "share/doc/acpiset/$document"; done
+  for tool in $there; do echo "bin/acpiset-$tool"; done
+  for page in man/*.1; do echo "share/man/man1/${page#man/}"; done
+  for page in man/*.7; do echo "share/man/man7/${page#man/}"; done
+  for document in README.md CHANGELOG.md CONTRIBUTING.md NOTICES.md SECURITY.md docs/*.md; do echo "share/doc/acpiset/$document"; done
+  [ -z "$licence" ] || echo "$licence"
+  find share -name '*.py' 2>/dev/null
 } | sorted)
+
+# ---- install and uninstall
+
+# What an editor leaves beside the tools and pages is not installed.
+for name in tools/explain~ tools/explain.orig tools/.explain.swp man/acpiset.1~ docs/.hidden.md docs/FAULTS.md~; do echo x >"$tree/$name"; done
+with_program install DESTDIR="$scratch/root" PREFIX=/usr
+same 'make install' "$? $(cat "$scratch/log")" '0 '
+usr="$scratch/root/usr"
 same 'files that are installed' "$(files_in "$usr")" "$wanted"
+rm "$tree"/tools/*[~.]* "$tree"/tools/.[a-z]* "$tree"/man/*~ "$tree"/docs/.[a-z]* "$tree"/docs/*~
 same 'the program' "$("$usr/bin/acpiset" check <tests/images/example.img.txt)" yes
 same 'acpiset-explain' "$(echo yes | "$usr/bin/acpiset-explain" | head -n 1)" yes
 same 'acpiset-acpidump2image' "$("$usr/bin/acpiset-acpidump2image" tests/images/example.acpidump.txt 2>"$scratch/log" | "$usr/bin/acpiset" check)" yes
 ln -s "$usr/bin/acpiset-explain" "$scratch/link"
 same 'acpiset-explain by a link' "$(echo 'no rsdp' | "$scratch/link" | head -n 1)" 'no rsdp'
-same 'acpiset-tables2image without files' "$("$usr/bin/acpiset-tables2image" 2>&1 | sed 's/ FILE.*//')" 'acpiset-tables2image: usage: acpiset-tables2image'
+same 'acpiset-tables2image without files' "$("$usr/bin/acpiset-tables2image" 2>&1 | grep -c '^acpiset-tables2image: usage: acpiset-tables2image ')" 1
+same 'files after the tools ran' "$(files_in "$usr")" "$wanted"
+names=$(paste -s -d '|' <<<"$tools")
+same 'names of a checkout in what is installed' "$(grep -rnE "(^|[^A-Za-z0-9_./-])(\./acpiset|(\./)?tools/($names)([^A-Za-z0-9_]|$))" "$usr/share/doc" "$usr/share/man")" ''
+same 'a second install over the first' "$(with_program install DESTDIR="$scratch/root" PREFIX=/usr; echo "$? $(cat "$scratch/log")")" '0 '
+echo mine >"$usr/share/doc/acpiset/docs/mine"
+with_program uninstall DESTDIR="$scratch/root" PREFIX=/usr
+same 'make uninstall' "$? $(cat "$scratch/log")" '0 '
+same 'files that are left' "$(files_in "$scratch/root")" usr/share/doc/acpiset/docs/mine
+rm -rf "$scratch/root"
+(umask 077 && with_program install DESTDIR="$scratch/root" PREFIX=/usr)
+same 'modes of what is installed with a umask of 077' "$(find "$scratch/root/usr" -printf '%y %m\n' | sort -u)" $'d 755\nf 644\nf 755'
+rm -rf "$scratch/root"
+
+# Names of folders that a shell, make, sed or pkg-config could read as something else.
+odd=(' a  blank ' "'\"" '$(touch made)`touch made`' ';touch made;&touch made&' '|\*?#%' '$HOME $$ ${HOME}~!' '-x>made é')
+for name in "${odd[@]}"; do
+  root="$scratch/odd/r$name"
+  with_program install DESTDIR="$root" PREFIX="/u$name"
+  same "make install into '$name'" "$? $(cat "$scratch/log") $(files_in "$root/u$name")" "0  $wanted"
+  with_program uninstall DESTDIR="$root" PREFIX="/u$name"
+  same "make uninstall from '$name'" "$? $(cat "$scratch/log") $(files_in "$root")" '0  '
+done
+root="$scratch/odd/"'in $(touch made) the `touch made` environment'
+DESTDIR="$root" PREFIX=/usr with_program install
+same 'make install by the environment' "$? $(cat "$scratch/log") $(files_in "$root/usr")" "0  $wanted"
+same 'commands in names that were run' "$(find "$scratch" . -maxdepth 3 -name made)" ''
+mkdir "$scratch/foreign"
+for name in x p; do echo mine >"$scratch/foreign/$name"; done
+with_program uninstall DESTDIR="$scratch/foreign/x y" PREFIX=/usr
+with_program uninstall DESTDIR="$scratch/foreign" PREFIX='/p q'
+same 'files of others that make uninstall leaves' "$(files_in "$scratch/foreign")" $'p\nx'
+
+# refused WHAT TEXT TARGET SETTING..: make says why in one line, and installs nothing.
+refused() {
+  local what=$1 text=$2
+  shift 2
+  run "$@"
+  same "$what" "$? $(grep -c '^scripts/install: ' "$scratch/log") $(grep -cF -- "$text" "$scratch/log")" '2 1 1'
+  same "$what: files that are installed" "$(files_in "$scratch/none")" ''
+}
+
+none="DESTDIR=$scratch/none"
+given="BINARY=$program"
+refused 'a line break in DESTDIR' 'DESTDIR has a line break' install "$given" "$none"$'\n'
+refused 'a line break in PREFIX' 'PREFIX has a line break' install "$given" "$none" PREFIX=$'/usr\n'
+refused 'no PREFIX' 'PREFIX is empty' install "$given" "$none" PREFIX=
+refused 'a PREFIX that is relative' 'PREFIX is no absolute path: usr' install "$given" "$none" PREFIX=usr
+refused 'a PREFIX like an option' 'PREFIX is no absolute path: -r' install "$given" "$none" PREFIX=-r
+refused 'a DESTDIR like an option' 'DESTDIR is no absolute path: -r' install "$given" DESTDIR=-r
+refused 'a LIBDIR that is relative' 'LIBDIR is no absolute path: lib' install "$given" "$none" LIBDIR=lib
+refused 'uninstall with a PREFIX that is relative' 'PREFIX is no absolute path: usr' uninstall "$none" PREFIX=usr
+refused 'a program that is not there' 'BINARY=FILE' install BINARY=missing "$none"
+refused 'a folder as the program' 'BINARY=FILE' install BINARY=docs "$none"
+mkdir -p "$scratch/none/usr/bin/acpiset"
+refused 'a folder in the place of the program' '/none/usr/bin/acpiset is a folder' install "$given" "$none" PREFIX=/usr
+mkdir -p "$scratch/none/usr/share/man/man7/acpiset-faults.7"
+rmdir "$scratch/none/usr/bin/acpiset"
+refused 'a folder in the place of a page' '/man7/acpiset-faults.7 is a folder' install "$given" "$none" PREFIX=/usr
+rm -r "$scratch/none"
+mkdir -p "$scratch/filed/usr"
+echo mine >"$scratch/filed/usr/bin"
+run install "$given" DESTDIR="$scratch/filed" PREFIX=/usr
+same 'a file in the place of a folder' "$? $(grep -c '/filed/usr/bin is no folder$' "$scratch/log") $(files_in "$scratch/filed")" '2 1 usr/bin'
+mkdir -p "$scratch/kept/usr/bin/acpiset"
+run uninstall DESTDIR="$scratch/kept" PREFIX=/usr
+same 'uninstall where a folder stands' "$? $(grep -c '/kept/usr/bin/acpiset is a folder: it stays$' "$scratch/log") $(find "$scratch/kept" -name acpiset)" "2 1 $scratch/kept/usr/bin/acpiset"
+
+# ---- what is built, and of which sources: with a stand-in for the toolchain that writes down its calls
+stand_in=$scratch/stand-in
+mkdir -p "$stand_in/bin" "$stand_in/kit/c"
+cat >"$stand_in/bin/rt" <<END
+#!/bin/sh
+echo "\$*" >>'$stand_in/calls'
+case \$1 in
+  version) echo rattle-kit-stand-in ;;
+  doc) echo '$stand_in/kit/START-HERE.md' ;;
+  run) mkdir -p out && cp '$program' out/acpi_cli ;;
+  lib) mkdir -p out && [ "\${PWD##*/}" != acpi_c ] || cp '$stand_in/libacpi_c.a' out/libacpi_c.a ;;
+esac
+END
+chmod +x "$stand_in/bin/rt"
+# built TARGET SETTING..: runs make with that toolchain.
+built() { PATH="$stand_in/bin:$PATH" run "$@"; }
+PATH="$stand_in/bin:$PATH" refused 'no program' '`make build` first' install "$none"
+PATH="$stand_in/bin:$PATH" refused 'no library' '`make library` first' install-library "$none"
+PATH="$stand_in/bin:$PATH" run dist
+same 'make dist without a program' "$? $(grep -c '`make build` first' "$scratch/log")" '2 1'
+same 'calls of the toolchain by install and dist' "$(cat "$stand_in/calls" 2>/dev/null)" ''
+built build
+same 'make build' "$? $(cmp "$program" "$tree/acpiset")" '0 '
+built install DESTDIR="$scratch/root" PREFIX=/usr
+same 'make install of what was built' "$? $(cat "$scratch/log")" '0 '
+rm -rf "$scratch/root"
+source=$tree/crates/acpi_graph/src/lib.rt
+cp "$source" "$scratch/source"
+echo '// changed' >>"$source"
+PATH="$stand_in/bin:$PATH" refused 'a program of other sources' '`make build` first' install "$none"
+cp "$scratch/source" "$source"
+if has cc && has ar; then
+  echo 'int acpiset_abi(void) { return 1; }' >"$scratch/abi.c"
+  echo 'int rattle_alloc(void) { return 0; }' >"$scratch/heap.c"
+  (cd "$scratch" && cc -fPIC -c abi.c heap.c && ar rcD "$stand_in/libacpi_c.a" abi.o && ar rcD "$stand_in/kit/c/liblibc_c.a" heap.o)
+  built library
+  same 'make library' "$? $(tail -n 1 "$scratch/log")" '0 library/libacpiset.so.1'
+  built install DESTDIR="$scratch/root" PREFIX=/usr
+  same 'make install of the library that was built' "$? $(cat "$scratch/log") $(files_in "$scratch/root/usr/lib")" \
+    $'0  libacpiset.a\nlibacpiset.so\nlibacpiset.so.1\npkgconfig/acpiset.pc'
+  rm -rf "$scratch/root"
+  echo '// changed' >>"$source"
+  refused 'a library of other sources' '`make library` first' install "$given" "$none"
+  refused 'a library of other sources, alone' '`make library` first' install-library "$none"
+  run install "$given" DESTDIR="$scratch/root" PREFIX=/usr LIBRARY=none
+  same 'make install without the library' "$? $(cat "$scratch/log") $(files_in "$scratch/root/usr")" "0  $wanted"
+  rm -rf "$scratch/root"
+  cp "$scratch/source" "$source"
+  rm "$tree/library/sources.sha256"
+  refused 'a library of unknown sources' '`make library` first' install-library "$none"
+else
+  left_out 'a library that is older than the sources' 'no cc or no ar'
+fi
+rm -rf "$tree/library" "$tree/acpiset" "$tree"/crates/*/out
 
 # ---- the archive: unpacked elsewhere, with the base system's commands alone
-$make dist >"$scratch/log" 2>&1
+
+# archived SETTING..: makes the archive; what it says on standard error is in the file `notes`.
+archived() { make -s -C "$tree" BINARY="$program" dist "$@" >"$scratch/log" 2>"$scratch/notes"; }
+
+rm -f "$tree/LICENSE"
+archived
 same 'make dist' "$? $(sed 's/-[0-9.]*-/-VERSION-/' "$scratch/log")" '0 dist/acpiset-VERSION-x86_64-linux.tar.gz'
+same 'make dist on a licence that is missing' "$(grep -c '^scripts/archive: acpiset has no licence yet: ' "$scratch/notes")" 1
 version=$(sed -n 's/^## \([0-9.]*\).*/\1/p' CHANGELOG.md | head -n 1)
 name=acpiset-$version-x86_64-linux
-archive=$scratch/tree/dist/$name.tar.gz
-same 'the sum of the archive' "$(cd "$scratch/tree/dist" && sha256sum -c "$name.tar.gz.sha256")" "$name.tar.gz: OK"
-mv "$scratch/tree/dist" "$scratch/first"
-$make dist >"$scratch/log" 2>&1
-same 'the archive, made again' "$(sha256sum <"$archive")" "$(sha256sum <"$scratch/first/$name.tar.gz")"
+archive=$tree/dist/$name.tar.gz
+same 'the sum of the archive' "$(cd "$tree/dist" && sha256sum -c "$name.tar.gz.sha256")" "$name.tar.gz: OK"
+same 'files beside the archive' "$(cd "$tree/dist" && echo *)" "$name $name.tar.gz $name.tar.gz.sha256"
+copy_tree "$scratch/another"
+rm -f "$scratch/another/LICENSE"
+mkdir "$scratch/tmp" "$scratch/lint"
+: >"$scratch/awk"
+if has gawk; then
+  # What is written in awk is looked at here, too.
+  printf '#!/bin/sh\nexec gawk --lint "$@" 2>>"%s"\n' "$scratch/awk" >"$scratch/lint/awk"
+  chmod +x "$scratch/lint/awk"
+fi
+(
+  umask 077
+  cd "$scratch/another" && PATH="$scratch/lint:$PATH" TMPDIR="$scratch/tmp" TZ=Asia/Tokyo LC_ALL=C.UTF-8 TAR_OPTIONS=--mode=700 GZIP=-1 make -s BINARY="$program" dist >"$scratch/log" 2>&1
+)
+same 'the archive, made in another folder with another umask' "$(sha256sum <"$scratch/another/dist/$name.tar.gz")" "$(sha256sum <"$archive")"
+# POSIX says what substr gives of a place past the end.
+same 'awk --lint on what makes an archive' "$(sed 's/ (FILENAME=.*FNR=[0-9]*)//' "$scratch/awk" | grep -v ' warning: substr: ' | sort | uniq -c)" ''
+same 'modes beside that archive' "$(cd "$scratch/another/dist" && stat -c %a ./*.tar.gz*)" $'644\n644'
+same 'modes in the archive' "$(tar -tvzf "$archive" | cut -c 1-10 | sort -u)" $'-rw-r--r--\n-rwxr-xr-x\ndrwxr-xr-x'
 same 'owners and times in the archive' "$(tar --numeric-owner --full-time -tvzf "$archive" | awk '{ print $2, $4, $5 }' | sort -u | wc -l)" 1
+same 'the order of the archive' "$(tar -tzf "$archive" | sed 's|/$||' | LC_ALL=C sort -c 2>&1)" ''
 mkdir "$scratch/unpacked"
 tar -xzf "$archive" -C "$scratch/unpacked"
 unpacked=$scratch/unpacked/$name
@@ -70,19 +249,43 @@ unpacked=$scratch/unpacked/$name
 # packed FILES..: what is in an archive, beside its list of sums, if these files are installed.
 packed() {
   {
-    printf '%s\n' README.md PROVED.md "$@"
+    printf '%s\n' README.md PROVED.md acpiset.spdx.json "$@" | grep -vx share/doc/acpiset/LICENSE
     for image in tests/images/*; do echo "images/${image##*/}"; done
-    [ ! -e "$unpacked/lib/acpiset.o" ] || echo lib/acpiset.o
+    [ ! -e "$unpacked/lib/acpiset.o" ] || printf '%s\n' lib/acpiset.o licences/LGPL-2.1.txt licences/glibc.txt
   } | sorted
 }
 
-same 'files in the archive' "$(files_in "$unpacked" | grep -v SHA256SUMS)" "$(packed $wanted)"
-same 'files that the list of sums has' "$(sed 's/^[0-9a-f]*  //' "$unpacked/SHA256SUMS")" "$(packed $wanted)"
-same 'paths of the tree in the archive' "$(grep -rlaF -e "$scratch/tree" -e "$PWD" "$unpacked")" ''
+mapfile -t installed <<<"$wanted"
+same 'files in the archive' "$(files_in "$unpacked" | grep -v SHA256SUMS)" "$(packed "${installed[@]}")"
+same 'files that the list of sums has' "$(sed 's/^[0-9a-f]*  //' "$unpacked/SHA256SUMS")" "$(packed "${installed[@]}")"
+same 'paths of the tree in the archive' "$(grep -rlaF -e "$tree" -e "$PWD" -e "$scratch" "$unpacked")" ''
 same 'places to fill in the pages' "$(grep -n '@[A-Z]*@' "$unpacked/README.md" "$unpacked/PROVED.md")" ''
 same 'the library in its pages' "$(grep -c libacpiset "$unpacked/README.md" "$unpacked/PROVED.md" | grep -v ':0$')" ''
+same 'tools that its README does not name' "$(for tool in $there; do grep -q "\`bin/acpiset-$tool\`" "$unpacked/README.md" || echo "$tool"; done)" ''
+same 'the processor in its README' "$(grep -c 'x86-64-v2' "$unpacked/README.md")" 1
+same 'the licence in its README' "$(grep -c 'has chosen no licence yet' "$unpacked/README.md")" 1
 same 'the sum of the program in PROVED.md' "$(grep -c "$(sha256sum "$unpacked/bin/acpiset" | cut -d ' ' -f 1)" "$unpacked/PROVED.md")" 1
 same 'the version of the program' "$("$unpacked/bin/acpiset" --version 2>&1)" "acpiset: version $version, 18 stages"
+same 'its list of parts' "$(tests/parts.py "$unpacked" 2>&1)" ''
+echo 'a licence' >"$tree/LICENSE"
+archived SOURCE_DATE_EPOCH=1700000000
+same 'times in an archive of a given time' "$(TZ=UTC tar --full-time -tvzf "$archive" | awk '{ print $4, $5 }' | sort -u)" '2023-11-14 22:13:20'
+same 'make dist with a licence' "$? $(grep -c 'no licence' "$scratch/notes") $(tar -tzf "$archive" | grep -c '/share/doc/acpiset/LICENSE$')" '0 0 1'
+same 'a licence in the README of the archive' "$(tar -xzOf "$archive" "$name/README.md" | grep -c 'Its licence is in `share/doc/acpiset/LICENSE`')" 1
+rm -rf "$tree/LICENSE" "$tree/dist"
+
+# hardened FILE: how a program or a library was linked: its type, whether its stack can be run, whether relocations are made
+# read-only and at once, and how many segments can be both written and run.
+hardened() {
+  readelf -hlWd "$1" | awk '
+    $1 == "Type:" { type = $2 }
+    $1 == "GNU_STACK" { stack = $7 }
+    $1 == "GNU_RELRO" { relro = "relro" }
+    /\((FLAGS|FLAGS_1|BIND_NOW)\)/ && /NOW/ { now = "now" }
+    $1 == "LOAD" && / RWE / { both++ }
+    END { print type, stack, relro, now, both + 0 }
+  '
+}
 
 # Each command of its README prints what the page says.
 page=$unpacked/README.md
@@ -90,15 +293,41 @@ sed -n '/^```console$/,/^```$/p' "$page" | sed -n 's/^\$ //p' >"$scratch/command
 (cd "$unpacked" && env -i PATH=/usr/bin:/bin sh "$scratch/commands") >"$scratch/printed" 2>&1
 same 'the commands of its README' "$(cat "$scratch/printed")" "$(sed -n '/^```console$/,/^```$/p' "$page" | grep -v '^\$ \|^```')"
 same 'commands in its README' "$([ "$(wc -l <"$scratch/commands")" -ge 5 ] && echo yes)" yes
+# So does the first use in the whole README.
+whole=$unpacked/share/doc/acpiset/README.md
+blocks=$(awk '/^<!-- recipe session/ { on = 1 } on && /^```/ { inside = !inside; if (!inside) on = 0; next } on && inside' "$whole")
+if [ -n "$blocks" ]; then
+  sed -n 's/^\$ //p' <<<"$blocks" >"$scratch/commands"
+  cp -r "$unpacked" "$scratch/used"
+  (cd "$scratch/used" && env -i PATH="$PWD/bin:/usr/bin:/bin" IMAGES=images sh "$scratch/commands") >"$scratch/printed" 2>&1
+  same 'the first use in README' "$(cat "$scratch/printed")" "$(grep -v '^\$ ' <<<"$blocks")"
+  same 'commands of the first use' "$([ "$(wc -l <"$scratch/commands")" -ge 5 ] && echo yes)" yes
+fi
+# A program of the toolchain looks at the processor as it starts.
+if ! has qemu-x86_64 || ! has nm || ! nm -D "$program" | grep -q cpuid; then
+  left_out 'the program on an old processor' 'no qemu-x86_64, or a program that does not look'
+else
+  for processor in qemu64 kvm64 core2duo; do
+    qemu-x86_64 -cpu "$processor" "$unpacked/bin/acpiset" check <tests/images/example.img.txt >"$scratch/printed" 2>"$scratch/log"
+    same "the program on the processor $processor" "$? $(cat "$scratch/printed") $(grep -c 'lacks a feature of x86-64-v2' "$scratch/log")" '127  1'
+  done
+  same 'the program on the processor Nehalem' "$(qemu-x86_64 -cpu Nehalem "$unpacked/bin/acpiset" check <tests/images/example.img.txt 2>"$scratch/log")" yes
+fi
+if has nm; then
+  same 'symbols of its program' "$(nm "$unpacked/bin/acpiset" 2>&1 | grep -vc ': no symbols$')" 0
+fi
 if [ -e "$unpacked/lib/acpiset.o" ]; then
+  same 'how its program is hardened' "$(hardened "$unpacked/bin/acpiset")" 'DYN RW relro now 0'
+  same 'notices of the C library' "$(grep -cw 'Version 2.1, February 1999' "$unpacked/licences/LGPL-2.1.txt") $(grep -cim 1 'GNU C Library' "$unpacked/licences/glibc.txt")" '1 1'
   same 'libraries that its program asks for' "$(readelf -d "$unpacked/bin/acpiset" | grep -c NEEDED)" 0
   same 'its program on the sets of tests/rows' "$(tests/rows/run.py "$unpacked/bin/acpiset" | grep -c ' 0 failed$')" 1
 else
-  printf 'left out: the program of the archive with the C library inside, which could not be linked here\n'
+  left_out 'the program of the archive with the C library inside' 'it could not be linked here'
+  same 'the C library in the list of parts' "$(grep -A 1 '"relationshipType": "DYNAMIC_LINK"' "$unpacked/acpiset.spdx.json" | grep -c acpiset)" 1
 fi
 
 # ---- with the library
-library=$scratch/tree/library
+library=$tree/library
 mkdir "$library"
 if [ -e library/libacpiset.a ]; then
   cp -P library/* "$library"
@@ -106,58 +335,79 @@ else
   for file in libacpiset.a libacpiset.so.1; do echo "in place of $file" >"$library/$file"; done
   ln -s libacpiset.so.1 "$library/libacpiset.so"
 fi
-names='include/acpiset.h lib/libacpiset.a lib/libacpiset.so lib/libacpiset.so.1 lib/pkgconfig/acpiset.pc'
-for page in man/*.3; do [ ! -e "$page" ] || names="$names share/man/man3/${page#man/}"; done
-with_library=$(printf '%s\n' $wanted $names | sorted)
+# It counts as built of the sources that are here.
+(cd "$tree" && sha256sum crates.txt >library/sources.sha256)
+pages=$(for page in man/*.3; do [ ! -e "$page" ] || echo "share/man/man3/${page#man/}"; done)
+with_library=$(printf '%s\n' "$wanted" include/acpiset.h lib/libacpiset.a lib/libacpiset.so lib/libacpiset.so.1 lib/pkgconfig/acpiset.pc "$pages" | sorted)
 
 # field NAME FILE: what a file for pkg-config says.
 field() { sed -n "s/^$1[=:] *//p" "$2"; }
 
+# fields NAME FILE: all that it says.
+fields() { for name in prefix libdir includedir Version Libs; do field $name "$1"; done; }
+
 prefix=$scratch/prefix
-$make install PREFIX="$prefix" >"$scratch/log" 2>&1
+with_program install PREFIX="$prefix"
 same 'make install with the library' "$? $(cat "$scratch/log")" '0 '
 same 'files that are installed with the library' "$(files_in "$prefix")" "$with_library"
 same 'the name without a version' "$(readlink "$prefix/lib/libacpiset.so")" libacpiset.so.1
-same 'acpiset.pc' "$(for name in prefix libdir includedir Version Libs; do field $name "$prefix/lib/pkgconfig/acpiset.pc"; done)" \
+same 'acpiset.pc' "$(fields "$prefix/lib/pkgconfig/acpiset.pc")" \
   "$(printf '%s\n' "$prefix" '${prefix}/lib' '${prefix}/include' "$version" '-L${libdir} -lacpiset')"
-$make uninstall PREFIX="$prefix" >"$scratch/log" 2>&1
+with_program uninstall PREFIX="$prefix"
 same 'make uninstall with the library' "$? $(cat "$scratch/log")" '0 '
 same 'files that are left of it' "$(files_in "$prefix")" ''
-other="DESTDIR=$scratch/other PREFIX=/usr LIBDIR=/usr/lib/x86_64-linux-gnu"
-$make install $other >"$scratch/log" 2>&1
+other=("DESTDIR=$scratch/other" PREFIX=/usr LIBDIR=/usr/lib/x86_64-linux-gnu)
+with_program install "${other[@]}"
 same 'a folder of its own for libraries' "$(field libdir "$scratch/other/usr/lib/x86_64-linux-gnu/pkgconfig/acpiset.pc")" '${prefix}/lib/x86_64-linux-gnu'
-$make uninstall $other >"$scratch/log" 2>&1
+with_program uninstall "${other[@]}"
 same 'files that are left there' "$? $(cat "$scratch/log") $(files_in "$scratch/other")" '0  '
+# pkg-config itself prints a dollar sign as a shell would fill it in, so there is none in this name.
+prefix="$scratch/"'pre fix `touch made` ;&|"\ '"'"'#%'"'"
+with_program install PREFIX="$prefix" LIBDIR="$prefix/li b"
+same 'files that are installed under a prefix of many marks' "$? $(cat "$scratch/log") $(files_in "$prefix" | sed 's|^li b/|lib/|' | sorted)" "0  $with_library"
+if has pkg-config; then
+  eval "flags=($(PKG_CONFIG_PATH="$prefix/li b/pkgconfig" pkg-config --cflags --libs acpiset))"
+  # shellcheck disable=SC2154 # `eval` fills flags
+  same 'what pkg-config says of it' "$(printf '%s\n' "${flags[@]}")" "$(printf '%s\n' "-I$prefix/include" "-L$prefix/li b" -lacpiset)"
+else
+  left_out 'a prefix with blanks in acpiset.pc' 'no pkg-config'
+fi
+with_program uninstall PREFIX="$prefix" LIBDIR="$prefix/li b"
+same 'files that are left under it' "$? $(cat "$scratch/log") $(files_in "$prefix")" '0  '
 
-rm -rf "$scratch/tree/dist" "$scratch/first"
-$make dist >"$scratch/log" 2>&1
+archived
 same 'make dist with the library' "$? $(sed 's/-[0-9.]*-/-VERSION-/' "$scratch/log")" '0 dist/acpiset-VERSION-x86_64-linux.tar.gz'
-mv "$scratch/tree/dist" "$scratch/first"
-$make dist >"$scratch/log" 2>&1
-same 'the archive with the library, made again' "$(sha256sum <"$archive")" "$(sha256sum <"$scratch/first/$name.tar.gz")"
 rm -rf "$unpacked"
 tar -xzf "$archive" -C "$scratch/unpacked"
-same 'files in the archive with the library' "$(files_in "$unpacked" | grep -v SHA256SUMS)" "$(packed $with_library)"
-same 'files that the list of sums has, and no links' "$(sed 's/^[0-9a-f]*  //' "$unpacked/SHA256SUMS")" "$(packed $with_library | grep -vx lib/libacpiset.so)"
+mapfile -t installed <<<"$with_library"
+same 'files in the archive with the library' "$(files_in "$unpacked" | grep -v SHA256SUMS)" "$(packed "${installed[@]}")"
+same 'files that the list of sums has, and no links' "$(sed 's/^[0-9a-f]*  //' "$unpacked/SHA256SUMS")" "$(packed "${installed[@]}" | grep -vx lib/libacpiset.so)"
 same 'its sums' "$(cd "$unpacked" && sha256sum --check --quiet SHA256SUMS 2>&1)" ''
-same 'paths of the tree in it' "$(grep -rlaF -e "$scratch/tree" -e "$PWD" "$unpacked")" ''
+same 'paths of the tree in it' "$(grep -rlaF -e "$tree" -e "$PWD" -e "$scratch" "$unpacked")" ''
 same 'places to fill in its pages' "$(grep -n '@[A-Z]*@' "$unpacked/README.md" "$unpacked/PROVED.md")" ''
 for file in lib/libacpiset.a lib/libacpiset.so.1; do
   same "the sum of $file in PROVED.md" "$(grep -c "$(sha256sum "$unpacked/$file" | cut -d ' ' -f 1)" "$unpacked/PROVED.md")" 1
 done
 same 'the library in its README' "$(grep -c '^| `lib/libacpiset.a`' "$unpacked/README.md")" 1
+same 'its list of parts' "$(tests/parts.py "$unpacked" 2>&1)" ''
+same 'what acpiset.pc of the archive has as its prefix' "$(field prefix "$unpacked/lib/pkgconfig/acpiset.pc")" '${pcfiledir}/../..'
+if [ -e library/libacpiset.a ]; then
+  same 'how libacpiset.so.1 is hardened' "$(hardened "$unpacked/lib/libacpiset.so.1")" 'DYN RW relro now 0'
+fi
 
 # A program that is linked as the README of the archive says, where it was unpacked.
 if [ ! -e library/libacpiset.a ]; then
-  printf 'left out: programs that are linked with the library: `make library` has left none\n'
-elif ! command -v cc >"$scratch/log"; then
-  printf 'left out: programs that are linked with the library: no cc\n'
+  left_out 'programs that are linked with the library' '`make library` has left none'
+elif ! has cc; then
+  left_out 'programs that are linked with the library' 'no cc'
 else
   cp examples/unit_test.c "$unpacked"
   cd "$unpacked" || exit
   cc -I include unit_test.c lib/libacpiset.a -o unit_test && ./unit_test >"$scratch/log" 2>&1
   same 'a program with libacpiset.a' "$? $(tail -n 1 "$scratch/log" | grep -c ' 0 failed$')" '0 1'
-  if command -v pkg-config >"$scratch/log"; then
+  if has pkg-config; then
+    # The archive lies in a folder without blanks, so its flags are words for the shell.
+    # shellcheck disable=SC2046
     cc unit_test.c $(PKG_CONFIG_PATH=lib/pkgconfig pkg-config --cflags --libs acpiset) -o unit_test &&
       LD_LIBRARY_PATH=lib ./unit_test >"$scratch/log" 2>&1
     same 'a program with libacpiset.so' "$? $(tail -n 1 "$scratch/log" | grep -c ' 0 failed$')" '0 1'
@@ -170,35 +420,32 @@ fi
 mkdir "$scratch/path"
 for tool in make sh dirname; do ln -s "$(command -v "$tool")" "$scratch/path"; done
 for target in run test build gate library try; do
-  PATH="$scratch/path" make -s -C "$scratch/tree" "$target" >"$scratch/log" 2>&1
+  PATH="$scratch/path" make -s -C "$tree" "$target" >"$scratch/log" 2>&1
   same "make $target without the toolchain" "$? $(wc -l <"$scratch/log") $(grep -c 'the Rattle toolchain is missing' "$scratch/log")" '2 1 1'
 done
 
 # ---- two at one time: the second one says that it waits
-if command -v flock >"$scratch/log"; then
+if has flock; then
   (
     flock 9
     sleep 1
-  ) 9<"$scratch/tree/crates" &
+  ) 9<"$tree/crates" &
   sleep 0.3
-  same 'a second make' "$($make clean 2>&1 | grep -c 'waiting for it')" 1
+  same 'a second make' "$(make -s -C "$tree" clean 2>&1 | grep -c 'waiting for it')" 1
   wait
 fi
+run clean
+same 'make clean leaves no library' "$? $(find "$tree/library" 2>&1 | grep -c 'No such file')" '0 1'
 
-$make uninstall DESTDIR="$scratch/root" PREFIX=/usr >"$scratch/log" 2>&1
-same 'make uninstall' "$? $(cat "$scratch/log")" '0 '
-same 'files that are left' "$(files_in "$scratch/root")" ''
-same 'make clean leaves no library' "$($make clean 2>&1; ls "$scratch/tree/library" 2>&1 | grep -c 'No such file')" 1
-
-# What the program takes from the C library is what README names, no more and no less.
-if command -v nm >"$scratch/log"; then
-  named=$(sed -n '/^- The functions that the built program takes/,/^- What the last line/p' README.md | grep -o '`[A-Za-z0-9_]*`' | tr -d '`' | sort -u)
+# What the program takes from the C library is what docs/PROOF.md names, no more and no less.
+if has nm; then
+  named=$(sed -n '/^- The functions that the built program takes/,/^- What the last line/p' docs/PROOF.md | grep -o '`[A-Za-z0-9_]*`' | tr -d '`' | sort -u)
   same 'functions that the program takes from the C library' \
     "$(nm -D --undefined-only "$program" | awk '{ sub(/@.*/, "", $2); print $2 }' | sort -u)" "$named"
 fi
 
 # The program needs the C library alone, of no later version than README says.
-if command -v objdump >"$scratch/log"; then
+if has objdump; then
   same 'libraries of the program' "$(objdump -p "$program" | awk '$1 == "NEEDED" { print $2 }')" libc.so.6
   newest=$(objdump -T "$program" | grep -o 'GLIBC_[0-9.]*' | sed 's/GLIBC_//' | sort -uV | tail -n 1)
   same 'version of the C library' "$newest" "$(sed -n 's/.*`.\/acpiset` itself needs glibc \([0-9.]*\) or later.*/\1/p' README.md)"

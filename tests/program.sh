@@ -4,7 +4,7 @@
 set -u
 program=$(realpath "${1:?usage: tests/program.sh PROGRAM}")
 [ -x "$program" ] || { printf '%s: no program\n' "$program" >&2; exit 1; }
-cd "$(dirname "$0")"
+cd "$(dirname "$0")" || exit
 scratch=$(mktemp -d)
 trap 'rm -rf "$scratch"' EXIT
 passed=0

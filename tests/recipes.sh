@@ -5,16 +5,21 @@
 # A recipe that runs QEMU and fails is run once more with more time to boot. Recipes with the library find it as if it were
 # installed: that of the folder `library`, as `make library` leaves it, or of the folder that the variable LIBRARY names.
 #
-# A recipe is a block of sh behind a line '<!-- recipe NAME needs: WORDS -->', and the block of text behind it is what it prints;
+# A recipe is a block of sh after a line '<!-- recipe NAME needs: WORDS -->', and the block of text after it is what it prints;
 # or it is a block of console, whose lines with a '$ ' are the commands, and the others what they print. A word is a command, root,
-# library, file:PATH, command:NAME for a command of the program, iasl:VERSION, or cargo:VERSION for this or a later one. With 'own' it prints what the machine has: then only its end
-# is looked at. A block behind '<!-- file NAME -->' is a file that recipes use. All run in one folder and in one shell, so each finds
-# what those before it left. The folder has ./acpiset, tools and tests, as the top of the repository.
+# library, kernel, file:PATH, command:NAME for a command of the program, iasl:VERSION, or cargo:VERSION for this or a later one.
+# With 'own' it prints what the machine has: then only its end is looked at. A block after '<!-- file NAME -->' is a file that
+# recipes use. All run in one folder and in one shell, so each finds what those before it left.
+# The folder has ./acpiset, tools and tests, as the top of the repository; acpiset and acpiset-NAME are on the PATH, and IMAGES
+# names the folder of images, as in the archive. The kernel is the one that the variable KERNEL names, or that of /boot.
 set -u
 program=$(realpath "${1:?usage: tests/recipes.sh PROGRAM}")
 [ -x "$program" ] || { printf '%s: no program\n' "$program" >&2; exit 1; }
-cd "$(dirname "$0")/.."
+cd "$(dirname "$0")/.." || exit
 SOURCE=$PWD
+# shellcheck disable=SC2034 # a recipe may use it
+IMAGES=$SOURCE/tests/images
+KERNEL=${KERNEL:-$(find /boot -name 'vmlinuz-*' -readable 2>/dev/null | sort -V | tail -n 1)}
 scratch=$(mktemp -d)
 trap 'rm -rf "$scratch"' EXIT
 mkdir "$scratch/bin" "$scratch/blocks" "$scratch/work"
@@ -27,6 +32,7 @@ library=$(realpath "${LIBRARY:-library}")
 if [ -r "$library/libacpiset.a" ]; then
   mkdir "$scratch/library"
   ln -s "$library/libacpiset.a" "$scratch/library"
+  # shellcheck disable=SC2016 # pkg-config fills in ${libdir}
   printf 'libdir=%s\nName: acpiset\nDescription: acpiset\nVersion: 0\nCflags: -I%s\nLibs: -L${libdir} -lacpiset\n' \
     "$scratch/library" "$SOURCE/bindings/c" >"$scratch/library/acpiset.pc"
   export PKG_CONFIG_PATH="$scratch/library"
@@ -62,6 +68,7 @@ lacks() {
       root) [ "$(id -u)" = 0 ] || printf ' %s' "$word" ;;
       file:*) [ -r "${word#file:}" ] || printf ' %s' "$word" ;;
       command:*) "$program" --help 2>&1 | grep -q "acpiset ${word#command:}" || printf ' %s' "$word" ;;
+      kernel) [ -r "$KERNEL" ] || printf ' %s' "$word" ;;
       library) pkg-config --exists acpiset 2>"$scratch/found" || printf ' %s' "$word" ;;
       cargo:*) printf '%s\n' "${word#cargo:}" "$(cargo --version 2>"$scratch/found" | cut -d ' ' -f 2)" | sort -V -C || printf ' %s' "$word" ;;
       iasl:*) iasl -v 2>"$scratch/found" | grep -q "version ${word#iasl:}" || printf ' %s' "$word" ;;
@@ -75,15 +82,16 @@ settled() { sed 's/finished in [0-9.]*s/finished in 0.00s/'; }
 
 # differs BLOCK NEEDS: runs a recipe in this shell, and prints how what it printed differs from the page.
 differs() {
+  # shellcheck disable=SC1090 # a block of a page
   . "$1" >"$scratch/printed" 2>&1
-  cd "$scratch/work"
+  cd "$scratch/work" || exit
   case " $2 " in
     *' own '*) grep -qE '^(yes|no [0-9]+ .*|.*ACPI: RSDP 0x.*)$' <(tail -n 1 "$scratch/printed") || cat "$scratch/printed" ;;
     *) diff <(settled <"$scratch/printed") <(settled <"${1%.sh}.text") ;;
   esac
 }
 
-cd "$scratch/work"
+cd "$scratch/work" || exit
 for block in "$scratch"/blocks/*.sh; do
   name=$(basename "$block" .sh)
   needs=$(cat "${block%.sh}.needs")
@@ -95,6 +103,7 @@ for block in "$scratch"/blocks/*.sh; do
   fi
   differs "$block" "$needs" >"$scratch/difference"
   if [ -s "$scratch/difference" ] && [[ $needs == *qemu* ]]; then
+    # shellcheck disable=SC2034 # the recipe uses it
     SECONDS_TO_BOOT=120
     differs "$block" "$needs" >"$scratch/difference"
     unset SECONDS_TO_BOOT

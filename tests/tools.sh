@@ -4,9 +4,8 @@
 set -u
 program=$(realpath "${1:?usage: tests/tools.sh PROGRAM}")
 [ -x "$program" ] || { printf '%s: no program\n' "$program" >&2; exit 1; }
-cd "$(dirname "$0")"
+cd "$(dirname "$0")" || exit
 tools=$(realpath ../tools)
-images=$(realpath images)
 scratch=$(mktemp -d)
 trap 'rm -rf "$scratch"' EXIT
 tools/files.py "$scratch" || exit 1
@@ -51,6 +50,7 @@ makes() {
   fi
   local words
   words=$(sed -n 's/.*check it with \(--rsdp [0-9a-f]*\)$/\1/p' "$scratch/err")
+  # shellcheck disable=SC2086 # an option and its value
   answer=$("$program" check $words <"$scratch/out" 2>&1)
   [ "$answer" = "$verdict" ] || wrong="$wrong; $words: $answer, not $verdict"
   count "$*" "$wrong"
@@ -127,100 +127,6 @@ dumped_texts() {
   status=2 refuses 'usage: acpidump2image [FILE]' acpidump2image --help
 }
 
-# explains LINE TEXT ARGUMENTS..: the part that is printed of this line of acpiset has the text.
-explains() {
-  local line=$1 text=$2
-  shift 2
-  printf '%b' "$line" >"$scratch/line"
-  input="$scratch/line" tool 0 '' explain "$@"
-  grep -qF -- "$text" "$scratch/out" || wrong="$wrong; standard output $(cat "$scratch/out")"
-  count "explain of $line $*" "$wrong"
-}
-
-explained_lines() {
-  local verdict set
-  explains 'yes\n' 'every rule'
-  explains 'yes' 'every rule'
-  explains 'yes\r\n' 'every rule'
-  explains 'no rsdp\n' '--rsdp'
-  explains 'rsdp none\n' '--rsdp'
-  explains 'rsdp 0xf59e0\n' '--rsdp'
-  for set in rsdp extended root table; do
-    verdict=$("$program" check --rsdp e0000 <"$scratch/$set.sum")
-    explains "$verdict\n" "$(cat "$scratch/$set.byte")" "$set.sum"
-  done
-  explains 'no 3 TableSum 0x1 0x3000 0x0\n' 'signature HPET, Length 56' table.sum
-  explains 'no 3 TableSum 0x0 0x2000 0x0\n' 'sum to 0: is this the image that the line is of?' table.sum
-  explains 'no 10 Overlap 0x90 0xb8 0x100000000\n' '0xffe1014  01 28 00 00 00 00 00 00 00 00 00 00 01 00 00 00' "$images/sb-pc-nvdimm-numa.img.txt"
-  explains 'no 10 Overlap 0x90 0xb8 0x100000000\n' 'the other entry at offset 0xb8 (184), at 0xffe103c:' --rsdp 0xf59d0 "$images/sb-pc-nvdimm-numa.img.txt"
-  explains 'no 4 PmEventLength 0x58 0x0 0x0\n' 'the field at offset 0x58 (88), at 0x2058:' table.sum
-  explains 'no 4 NoFadt 0x0 0x0 0x0\n' 'the slots list: FACP, APIC, HPET, MCFG, WAET' "$images/ovmf-q35.img.txt"
-  explains 'no 3 TableOut 0x1 0x3000 0x0\n' 'all 56 bytes are held: is this the image that the line is of?' table.sum
-  sed '/^00 00 00 00 00 00 00 00 00 00 00 00 00 00 00 00$/d' "$scratch/table.sum" >"$scratch/table.cut"
-  explains 'no 3 TableOut 0x0 0x2000 0x0\n' 'of the 116 bytes that have to be held the first 68 are; the next one, at 0x2044, is not' table.cut
-  explains 'no 3 TableOut 0x1 0x3000 0x0\n' '(-- is a byte that the image does not hold)' "$images/ovmf-q35.img.txt"
-  printf 'no 3 RsdpSum 0x0 0x0 0x0\n' >"$scratch/line"
-  input="$scratch/line" refuses 'no line that acpiset check or find writes' explain
-  printf 'no 1 RsdpSun 0x0 0x0 0x0\n' >"$scratch/line"
-  input="$scratch/line" refuses 'no line that acpiset check or find writes' explain
-  refuses 'no line on standard input' explain
-  printf 'no 1 RsdpSum 0x0 0x0 0x0\n' >"$scratch/line"
-  input="$scratch/line" refuses 'absent: cannot be read' explain absent
-  input="$scratch/line" status=2 refuses 'usage: ' explain --rsdp g
-  input="$scratch/line" status=2 refuses 'usage: ' explain one two
-  input="$scratch/line" status=2 refuses 'usage: ' explain --help
-}
-
-# explains_not LINE TEXT ARGUMENTS..: what is printed of this line does not have the text.
-explains_not() {
-  local line=$1 text=$2
-  shift 2
-  printf '%b' "$line" >"$scratch/line"
-  input="$scratch/line" tool 0 '' explain "$@"
-  ! grep -qF -- "$text" "$scratch/out" || wrong="$wrong; standard output $(cat "$scratch/out")"
-  count "explain of $line $*" "$wrong"
-}
-
-# Lines of advice, and the structures of which `yes` does not speak.
-explained_advice() {
-  local arm="$images/q10-efi-virt-smp4.img.txt" caches="$images/q11-efi-virt-caches.img.txt"
-  explains 'advice SlitDiffers 0x2d 0x2e 0x0\n' '121 SlitDiffers'
-  explains 'advice SlitDiffers 0x2d 0x2e 0x0\n' 'the other distance at offset 0x2e (46), at 0x502e:' "$images/example.img.txt"
-  explains 'advice ListedTwice 0x3 0x2 0x47fc198e\n' 'slot 2 lists it too' --rsdp 47fe0000 "$caches"
-  explains 'advice ListedTwice 0x3 0x2 0x47fc198f\n' 'slot 3 does not list this address: is this the image' --rsdp 47fe0000 "$caches"
-  explains 'advice SciNowhere 0x2e 0x0 0x0\n' 'an override of SCI_INT at offset 0x54 (84), at 0x3054:' "$images/example.img.txt"
-  explains 'yes\n' '  type 13 (GIC MSI frame): 1 at offset 0x184 (388): not looked at' --rsdp 4f0b0018 "$arm"
-  explains 'yes\n' '  type 11 (GICC): 4, the first at offset 0x44 (68): looked at by the advice of lint only' "$arm"
-  explains 'yes\n' '  type 15 (GIC ITS): 1 at offset 0x2d4 (724): not looked at' --rsdp 47fe0000 "$caches"
-  explains_not 'yes\n' 'In the image:' "$images/sb-q35-default.img.txt"
-  explains_not 'yes\n' 'In the image:'
-  explains 'yes\n' 'no RSDP is found in it' "$scratch/table.image"
-  explains 'yes\n' '  type 3 (GICC affinity): 1 at offset 0x30 (48): not looked at' --rsdp e0000 "$scratch/unread.image"
-  explains 'yes\n' '  type 3 (GICC affinity): 2, the first at offset 0x3e (62): looked at by the advice of lint only' --rsdp e0000 "$scratch/unread.image"
-  explains 'yes\n' '  type 11 (GICC): 1 at offset 0x2c (44): not looked at' --rsdp e0000 "$scratch/unread.image"
-  explains 'yes\n' '  type 16 (multiprocessor wakeup): 1 at offset 0x53 (83): not looked at' --rsdp e0000 "$scratch/unread.image"
-  explains 'yes\nadvice ListedTwice 0x3 0x2 0x47fc198e\n' '101 ListedTwice'
-  explains 'yes\nadvice ListedTwice 0x3 0x2 0x47fc198e\n' 'every rule'
-  printf 'advice TableSum 0x0 0x0 0x0\n' >"$scratch/line"
-  input="$scratch/line" refuses 'no line that acpiset check or find writes' explain
-  printf 'no 18 ListedTwice 0x0 0x0 0x0\n' >"$scratch/line"
-  input="$scratch/line" refuses 'no line that acpiset check or find writes' explain
-  printf 'no 18 Severities 0x0 0x0 0x0\n' >"$scratch/line"
-  input="$scratch/line" refuses 'no line that acpiset check or find writes' explain
-}
-
-# Each fault and each rule of advice that the document has a part on.
-all_faults() {
-  local number part stage
-  while read -r number part stage; do
-    if [ "$number" -gt 100 ]; then
-      explains "advice $part 0x0 0x0 0x0\n" "$number $part"
-    else
-      explains "no $stage $part 0x0 0x0 0x0\n" "$number $part"
-    fi
-  done < <(awk '/^## Stage / { stage = $3; sub(/:$/, "", stage) } /^### [0-9]/ { print $2, $3, stage }' ../docs/FAULTS.md)
-}
-
 mkdir "$scratch/bin"
 while IFS=, read -r shell awk; do
   if ! command -v "${shell%% *}" >"$scratch/out" || ! command -v "${awk%% *}" >"$scratch/out"; then
@@ -232,9 +138,6 @@ while IFS=, read -r shell awk; do
   chmod +x "$scratch/bin/awk"
   raw_tables
   dumped_texts
-  explained_lines
-  explained_advice
-  [ "$shell" != sh ] || all_faults
 done <<'LIST'
 sh,awk
 dash,mawk

@@ -5,8 +5,11 @@
 set -u
 library=$(realpath "${1:?usage: tests/library/rust.sh LIBRARY_FOLDER}")
 [ -r "$library/libacpiset.a" ] || { printf '%s: no libacpiset.a\n' "$library" >&2; exit 1; }
-cd "$(dirname "$0")/../../bindings/rust"
-command -v cargo >/dev/null && command -v rustc >/dev/null || { echo 'left out: no cargo'; exit 0; }
+cd "$(dirname "$0")/../../bindings/rust" || exit
+if ! command -v cargo >/dev/null || ! command -v rustc >/dev/null; then
+  echo 'left out: no cargo'
+  exit 0
+fi
 needed=$(sed -n 's/^rust-version = "\(.*\)"/\1/p' Cargo.toml)
 version=$(rustc --version | cut -d ' ' -f 2)
 [ "$(printf '%s\n' "$needed" "$version" | sort -V | head -n 1)" = "$needed" ] || { printf 'left out: rustc %s is older than %s\n' "$version" "$needed"; exit 0; }
@@ -68,6 +71,7 @@ ran 'its documentation' env RUSTDOCFLAGS='-D warnings' cargo doc --offline --loc
 # ---- its build script
 build() { env "$@" cargo build --offline --locked --quiet; }
 mkdir "$scratch/empty" "$scratch/installed"
+# shellcheck disable=SC2016 # pkg-config fills in ${libdir}
 printf 'libdir=%s\nName: acpiset\nDescription: acpiset\nVersion: 0\nLibs: -L${libdir} -lacpiset\n' "$library" >"$scratch/installed/acpiset.pc"
 says 'a folder without the library' 'which has no libacpiset.a' build ACPISET_LIB_DIR="$scratch/empty"
 says 'a relative path' 'which is no absolute path' build ACPISET_LIB_DIR=lib

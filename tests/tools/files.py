@@ -23,14 +23,10 @@ def wide_fadt(address):
 
 
 def image_of_files(*tables, facs_at=FACS_AT):
-    """What tables2image makes of these tables, in this order, and of the FACS."""
+    """What tables2image makes of these tables, in this order, and of the FACS, if it has an address."""
     places = [ROOT_AT + 0x1000 * (slot + 1) for slot in range(len(tables))]
-    return {
-        RSDP_AT: extended_rsdp(ROOT_AT, 0),
-        ROOT_AT: xsdt(*places),
-        **dict(zip(places, tables)),
-        facs_at: facs(),
-    }
+    lock = {} if facs_at is None else {facs_at: facs()}
+    return {RSDP_AT: extended_rsdp(ROOT_AT, 0), ROOT_AT: xsdt(*places), **dict(zip(places, tables)), **lock}
 
 
 def dump_of(pieces, width=16, margin=4, padded=True):
@@ -67,6 +63,7 @@ def files():
     yield "longer.dat", MADT + b"\1\2\3"
     yield "cut.dat", MADT[:-1]
     yield "short.dat", HPET[:35]
+    yield "huge.dat", HPET[:4] + b"\xff" * 4 + HPET[8:36]
     yield "empty.dat", b""
     yield "zeros.dat", bytes(64)
     yield "packed.dat", b"\x1f\x8b\x08\x00" + bytes(60)
@@ -118,12 +115,12 @@ def files():
         yield f"{name}.byte", f"now 0x5a, has to be 0x{clean[at][place]:x}.\n".encode()
 
 
-def main():
-    _, folder = sys.argv
+def write_into(folder):
     os.mkdir(f"{folder}/folder")
     for name, data in files():
         with open(f"{folder}/{name}", "wb") as file:
             file.write(data)
 
 
-main()
+if __name__ == "__main__":
+    write_into(sys.argv[1])

@@ -56,71 +56,73 @@ numbered! {
         ///
         /// Numbers: `at` is the RSDP's address.
         RsdpOut = 1,
-        /// The 20 bytes are held, and the first 8 are not `RSD PTR ` (the last one is a blank).
+        /// The first 8 bytes are not `RSD PTR ` (the last character is a space).
         ///
         /// Numbers: `at` is the RSDP's address.
         RsdpSignature = 2,
-        /// The first 20 bytes are held, and do not sum to 0 modulo 256.
+        /// The first 20 bytes do not sum to 0 modulo 256.
         ///
         /// Numbers: `at` is the RSDP's address.
         RsdpSum = 3,
-        /// The Revision is 2 or more, but the 36 bytes are not all in the image.
+        /// Revision is 2 or more, but the 36 bytes are not all in the image.
         ///
         /// Numbers: `at` is the RSDP's address.
         RsdpTailOut = 4,
-        /// The Revision is 2 or more, and Length at 20 is below 36.
+        /// Revision is 2 or more, and Length at 20 is below 36.
         ///
         /// Numbers: `at` is the RSDP's address.
         RsdpLength = 5,
-        /// The Revision is 2 or more, and Length is at least 36, but the Length bytes are not all in the image.
+        /// Revision is 2 or more and Length is at least 36, but not all Length bytes are in the image.
         ///
         /// Numbers: `at` is the RSDP's address.
         RsdpLongOut = 6,
-        /// The Revision is 2 or more, and the Length bytes do not sum to 0.
+        /// Revision is 2 or more, and the Length bytes do not sum to 0 modulo 256.
         ///
         /// Numbers: `at` is the RSDP's address.
         RsdpExtendedSum = 7,
-        /// The RSDP names neither an RSDT nor an XSDT. In the short form only RsdtAddress counts.
+        /// The RSDP names neither an RSDT nor an XSDT. With a Revision below 2 only RsdtAddress counts.
         ///
         /// Numbers: `at` is the RSDP's address.
         NoRoot = 8,
-        /// The 36 bytes of the root's header are not all in the image.
+        /// The 36-byte header of the XSDT or RSDT is not all in the image.
         ///
-        /// Numbers: `at` is the root's address.
+        /// Numbers: `at` is the address of the XSDT or RSDT.
         RootHeaderOut = 9,
-        /// The root does not begin with `XSDT` where XsdtAddress names it, or with `RSDT` where RsdtAddress does.
+        /// The table at XsdtAddress does not begin with `XSDT`, or the one at RsdtAddress, if that is used, not with
+        /// `RSDT`.
         ///
-        /// Numbers: `at` is the root's address.
+        /// Numbers: `at` is the address of the XSDT or RSDT.
         RootSignature = 10,
-        /// The root's Length is below 36, less than its header.
+        /// Length of the XSDT or RSDT is below 36, the size of its header.
         ///
-        /// Numbers: `at` is the root's address.
+        /// Numbers: `at` is the address of the XSDT or RSDT.
         RootLength = 11,
-        /// Length is at least 36, but the root's Length bytes are not all in the image.
+        /// Length of the XSDT or RSDT is at least 36, but not all Length bytes are in the image.
         ///
-        /// Numbers: `at` is the root's address.
+        /// Numbers: `at` is the address of the XSDT or RSDT.
         RootOut = 12,
-        /// Length is at least 36, and Length - 36 is no multiple of the slot's width (4 in an RSDT, 8 in an XSDT).
+        /// Length is at least 36, but Length - 36 is not a multiple of the width of a slot (4 in an RSDT, 8 in an
+        /// XSDT).
         ///
-        /// Numbers: `at` is the root's address.
+        /// Numbers: `at` is the address of the XSDT or RSDT.
         RootRagged = 13,
-        /// The root's Length bytes do not sum to 0.
+        /// The Length bytes of the XSDT or RSDT do not sum to 0 modulo 256.
         ///
-        /// Numbers: `at` is the root's address.
+        /// Numbers: `at` is the address of the XSDT or RSDT.
         RootSum = 14,
-        /// The 36 bytes of the header are not all in the image.
+        /// The table's 36-byte header is not all in the image.
         ///
         /// Numbers: `at` is the slot's number, `other` the table's address.
         TableHeaderOut = 15,
-        /// The table's Length is below 36, less than its header.
+        /// The table's Length is below 36, the size of its header.
         ///
         /// Numbers: `at` is the slot's number, `other` the table's address.
         TableLength = 16,
-        /// Length is at least 36, but the Length bytes are not all in the image.
+        /// Length is at least 36, but not all Length bytes are in the image.
         ///
         /// Numbers: `at` is the slot's number, `other` the table's address.
         TableOut = 17,
-        /// The table's Length bytes do not sum to 0.
+        /// The table's Length bytes do not sum to 0 modulo 256.
         ///
         /// Numbers: `at` is the slot's number, `other` the table's address.
         TableSum = 18,
@@ -128,7 +130,7 @@ numbered! {
         ///
         /// Numbers: all 0.
         NoFadt = 19,
-        /// The FADT's Length is below 116, so that Flags at 112 does not exist.
+        /// The FADT's Length is below 116, so the table ends before the end of Flags at 112.
         ///
         /// Numbers: all 0.
         FadtShort = 20,
@@ -146,7 +148,7 @@ numbered! {
         PmTimerLength = 23,
         /// The hardware is not reduced, and the length of a GPE block is odd.
         ///
-        /// Numbers: `at` is the field's offset: 0x5c (92) for GPE0_BLK_LEN, 0x5d (93) for GPE1_BLK_LEN. Where both are
+        /// Numbers: `at` is the field's offset: 0x5c (92) for GPE0_BLK_LEN, 0x5d (93) for GPE1_BLK_LEN. If both are
         /// odd, 0x5c is reported.
         GpeLength = 24,
         /// RESET_REG_SUP is set and Length is at least 129, but RESET_REG has an address space above 2, a bit width
@@ -154,12 +156,12 @@ numbered! {
         ///
         /// Numbers: `at` is 0x74 (116), the field's offset.
         ResetRegister = 25,
-        /// The hardware is not reduced, and the FADT names no FACS: neither X_FIRMWARE_CTRL, where it exists, nor
-        /// FIRMWARE_CTRL has an address.
+        /// The hardware is not reduced, and the FADT names no FACS: both FIRMWARE_CTRL and, if the table has it,
+        /// X_FIRMWARE_CTRL are 0.
         ///
         /// Numbers: all 0.
         NoFacs = 26,
-        /// The FACS's address is no multiple of 64.
+        /// The FACS's address is not a multiple of 64.
         ///
         /// Numbers: `at` is the FACS's address.
         FacsAlign = 27,
@@ -167,7 +169,7 @@ numbered! {
         ///
         /// Numbers: `at` is the FACS's address.
         FacsHeaderOut = 28,
-        /// The 8 bytes are there, but do not begin with `FACS`.
+        /// The first 4 bytes at the FACS's address are not `FACS`.
         ///
         /// Numbers: `at` is the FACS's address.
         FacsSignature = 29,
@@ -175,7 +177,7 @@ numbered! {
         ///
         /// Numbers: `at` is the FACS's address.
         FacsLength = 30,
-        /// Length is at least 64, but the Length bytes are not all in the image.
+        /// Length is at least 64, but not all Length bytes are in the image.
         ///
         /// Numbers: `at` is the FACS's address.
         FacsOut = 31,
@@ -183,66 +185,66 @@ numbered! {
         ///
         /// Numbers: all 0.
         MadtShort = 32,
-        /// Bytes are left behind the last entry at which no entry stands: a single byte, a length of 0 or 1, or a
-        /// length that goes past the table's end.
+        /// After the last structure there are bytes that are not a structure: a single byte, a length of 0 or 1, or a
+        /// length that goes past the end of the table.
         ///
-        /// Numbers: `at` is the offset of those bytes.
+        /// Numbers: `at` is the offset of these bytes.
         MadtEntryCut = 33,
-        /// An entry of type 0 to 5, 9 or 10 has another length than its type has (8, 12, 10, 8, 6, 12, 16, 12).
+        /// A structure of type 0 to 5, 9 or 10 does not have the length of its type (8, 12, 10, 8, 6, 12, 16, 12).
         ///
-        /// Numbers: `at` is the entry's offset.
+        /// Numbers: `at` is the structure's offset.
         MadtEntryLength = 34,
-        /// The Bus of an interrupt source override is not 0, the ISA bus, which is the only one (5.2.12.5).
+        /// Bus of an interrupt source override is not 0. 0 is the ISA bus, the only one that is defined (5.2.12.5).
         ///
-        /// Numbers: `at` is the entry's offset.
+        /// Numbers: `at` is the structure's offset.
         OverrideBus = 35,
-        /// The flags of an interrupt have the polarity, bits 1:0, or the trigger mode, bits 3:2, 10b, which is
-        /// reserved. The entry is an override, an NMI source, or an NMI of a local APIC or x2APIC.
+        /// The flags of an interrupt have the reserved value 10b as polarity, bits 1:0, or as trigger mode, bits 3:2.
+        /// The structure is an interrupt source override, an NMI source, or an NMI of a local APIC or x2APIC.
         ///
-        /// Numbers: `at` is the entry's offset.
+        /// Numbers: `at` is the structure's offset.
         ReservedInti = 36,
-        /// A second entry overrides the local APICs' address.
+        /// There is a second structure that overrides the address of the local APICs.
         ///
-        /// Numbers: `at` is its offset, `other` that of the first such entry.
+        /// Numbers: `at` is its offset, `other` that of the first such structure.
         SecondAddressOverride = 37,
-        /// The interrupt numbers of an I/O APIC, Global System Interrupt Base and as many as it has inputs, go past
-        /// 2^32.
+        /// Global System Interrupt Base of an I/O APIC plus its number of inputs is more than 0x100000000, 2^32.
         ///
-        /// Numbers: `at` is the entry's offset.
+        /// Numbers: `at` is the structure's offset.
         GsiPastEnd = 38,
-        /// Two I/O APICs serve one interrupt number.
+        /// Two I/O APICs serve the same interrupt number.
         ///
-        /// Numbers: `at` and `other` are the offsets of their entries, `point` is the number. It is the least that two
-        /// serve; the entries are the first two that serve it, by their base and then by their place.
+        /// Numbers: `at` and `other` are the offsets of their structures, `point` is the interrupt number. It is the
+        /// lowest one that two serve. The structures are the first two that serve it, by base, then by offset.
         GsiClash = 39,
-        /// Two overrides give one Source two interrupt numbers.
+        /// Two interrupt source overrides give different interrupt numbers for the same Source.
         ///
-        /// Numbers: `at` is the offset of the later one, `other` that of the earlier one, `point` is the Source, an ISA
-        /// interrupt.
+        /// Numbers: `at` is the offset of the later override, `other` that of the earlier one, `point` is the Source,
+        /// an ISA interrupt.
         OverrideClash = 40,
         /// The SRAT's Length is below 48, so it ends within its reserved bytes.
         ///
         /// Numbers: all 0.
         SratShort = 41,
-        /// Bytes are left behind the last entry at which no entry stands: a single byte, a length of 0 or 1, or a
-        /// length that goes past the table's end.
+        /// After the last structure there are bytes that are not a structure: a single byte, a length of 0 or 1, or a
+        /// length that goes past the end of the table.
         ///
-        /// Numbers: `at` is the offset of those bytes.
+        /// Numbers: `at` is the offset of these bytes.
         SratEntryCut = 42,
-        /// An entry of type 0, 1 or 2 has another length than its type has (16, 40, 24).
+        /// A structure of type 0, 1 or 2 does not have the length of its type (16, 40, 24).
         ///
-        /// Numbers: `at` is the entry's offset.
+        /// Numbers: `at` is the structure's offset.
         SratEntryLength = 43,
-        /// An enabled memory range goes past 2^64: Base Address plus Length is above it.
+        /// An enabled memory range goes past the end of the address space: Base Address plus Length is more than 2^64.
         ///
-        /// Numbers: `at` is the entry's offset.
+        /// Numbers: `at` is the structure's offset.
         RangePastEnd = 44,
-        /// Two enabled memory ranges cover one address.
+        /// Two enabled memory ranges overlap.
         ///
-        /// Numbers: `at` and `other` are the offsets of their entries, `point` is the address. It is the least that two
-        /// cover; the entries are the first two that cover it, by their base and then by their place.
+        /// Numbers: `at` and `other` are the offsets of their structures, `point` is an address in both ranges: the
+        /// lowest address that two ranges cover. The structures are the first two that cover it, by base, then by
+        /// offset.
         Overlap = 45,
-        /// The SLIT's Length is below 44, so that N is not in it.
+        /// The SLIT's Length is below 44, so it ends before the end of N.
         ///
         /// Numbers: all 0.
         SlitShort = 46,
@@ -256,56 +258,56 @@ numbered! {
         SlitDiagonal = 48,
         /// A distance is below 10. The values 0 to 9 are reserved.
         ///
-        /// Numbers: `at` is the offset of the distance. On the diagonal such a distance is a SlitDiagonal too, which is
-        /// reported.
+        /// Numbers: `at` is the offset of the distance. A distance below 10 on the diagonal is a SlitDiagonal too, and
+        /// that is reported.
         SlitLow = 49,
-        /// Bytes are left behind the last entry at which no entry stands: a single byte, a length of 0 or 1, or a
-        /// length that goes past the table's end.
+        /// After the last structure there are bytes that are not a structure: a single byte, a length of 0 or 1, or a
+        /// length that goes past the end of the table.
         ///
-        /// Numbers: `at` is the offset of those bytes.
+        /// Numbers: `at` is the offset of these bytes.
         PpttEntryCut = 50,
-        /// A node, type 0, has another length than 20 and 4 for each of its private resources, as their number at 16
-        /// says; or a cache, type 1, has another length than 24 or 28.
+        /// The length of a node, type 0, is not 20 plus 4 for each private resource, whose number is at 16; or that of
+        /// a cache, type 1, is neither 24 nor 28.
         ///
-        /// Numbers: `at` is the entry's offset.
+        /// Numbers: `at` is the structure's offset.
         PpttEntryLength = 51,
-        /// A node's Parent is not 0, and no node begins there.
+        /// Parent of a node is not 0, and no node begins at it.
         ///
         /// Numbers: `at` is the node's offset, `other` is the Parent.
         DanglingParent = 52,
-        /// No entry begins at a private resource of a node, or a node does. 0 is no offset of an entry either: a node
-        /// without private resources says that their number is 0.
+        /// No structure begins at a private resource of a node, or a node does. 0 is not a valid offset either: a node
+        /// without private resources has 0 as their number.
         ///
-        /// Numbers: `at` is the node's offset, `other` the number of the private resource, from 0 on, `point` is the
-        /// offset that it holds.
+        /// Numbers: `at` is the node's offset, `other` the index of the private resource, from 0, `point` its value, an
+        /// offset.
         DanglingResource = 53,
-        /// A cache's Next Level of Cache is not 0, and no cache begins there.
+        /// Next Level of Cache of a cache is not 0, and no cache begins at it.
         ///
         /// Numbers: `at` is the cache's offset, `other` is the Next Level of Cache.
         DanglingCache = 54,
-        /// From a node on, the Parents come back to a node that they have led to.
+        /// The Parents of a node, followed from one node to the next, form a cycle instead of ending at a top node.
         ///
-        /// Numbers: `at` is the node's offset. After `other` steps a node of the cycle is reached, and `point` steps
-        /// lead around the cycle. The node with the least offset is reported whose chain does not end, with the least
-        /// numbers of steps.
+        /// Numbers: `at` is the node's offset. The cycle is reached after `other` steps, and has `point` nodes. Of all
+        /// nodes whose chain does not end, the one with the lowest offset is reported, with the smallest numbers of
+        /// steps.
         ParentCycle = 55,
-        /// From a cache on, the Next Levels come back to a cache that they have led to.
+        /// The Next Levels of a cache, followed from one cache to the next, form a cycle instead of ending.
         ///
         /// Numbers: as for ParentCycle, of caches.
         CacheCycle = 56,
-        /// Two enabled entries of the SRAT put one processor in two proximity domains, and the MADT has this processor
-        /// enabled.
+        /// Two enabled structures of the SRAT assign one processor to different proximity domains, and this processor
+        /// is enabled in the MADT.
         ///
-        /// Numbers: `at` and `other` are the offsets of the entries in the SRAT, `other` the lesser one; `point` is the
-        /// processor's APIC ID or X2APIC ID.
+        /// Numbers: `at` and `other` are the offsets of the structures in the SRAT, `other` the lower one; `point` is
+        /// the processor's APIC ID or X2APIC ID.
         TwoDomains = 57,
-        /// An interrupt source override or an NMI source of the MADT names an interrupt number that no I/O APIC serves,
-        /// though the MADT has an I/O APIC.
+        /// An interrupt source override or an NMI source of the MADT uses an interrupt number that no I/O APIC serves,
+        /// although the MADT has an I/O APIC.
         ///
-        /// Numbers: `at` is the entry's offset in the MADT, `point` is the number.
+        /// Numbers: `at` is the structure's offset in the MADT, `point` is the interrupt number.
         GsiNowhere = 58,
-        /// A node of the PPTT is a leaf with a valid ACPI Processor ID, flags bit 3 and bit 1, and no processor of the
-        /// MADT, enabled or not, has this UID.
+        /// A node of the PPTT is a leaf with a valid ACPI Processor ID (bits 3 and 1 of its flags), and no processor of
+        /// the MADT, enabled or not, has this UID.
         ///
         /// Numbers: `at` is the node's offset in the PPTT, `point` is the ACPI Processor ID.
         LeafUnknown = 59,

@@ -1,0 +1,324 @@
+"""What lines on the structures of the MADT, the SRAT and the PPTT are about."""
+
+from .fixed import found_fadt
+from .image import ADDRESSES
+from .program import MISMATCH
+from .report import both
+from .tables import FIRST, LENGTHS, UNREAD, layout_of, little
+
+MOST_LISTED = 32
+MOST_OF_CHAIN = 1000
+# Codes whose second number is the offset of another structure.
+PAIRS = {37, 39, 40, 45, 57, 109, 110, 112, 113, 115, 117, 122, 124}
+
+# Where a rule looks for a number and does not find it: the table, what is there, of which types, and which field.
+LOOKED_IN = {
+    59: ("APIC", "the MADT's processors have the UIDs", (0, 9), "uid"),
+    114: ("APIC", "the MADT's processors have the UIDs", (0, 9, 11), "uid"),
+    118: ("APIC", "the MADT's processors have the APIC IDs", (0, 9), "id"),
+    125: ("PPTT", "the PPTT's leaves have the IDs", (0,), "id"),
+    126: ("APIC", "the MADT's processors have the UIDs", (0, 9, 11), "uid"),
+}
+
+
+def beginning(report, table):
+    least = FIRST[table.signature]
+    report.field(table, "its beginning", 0, min(least, table.length))
+    report.say(f"Length is {table.length}, and must be at least {least}")
+
+
+def cut(report, table, at):
+    """Bytes at which no structure begins, and the structure before them, whose length may be the wrong one."""
+    left = table.length - at
+    report.say(f"what is left, at offset {both(at)}, at {table.address + at:#x}:")
+    report.bytes(table.address + at, max(0, min(16, left)))
+    if left <= 0 or table.begins(at):
+        report.say(f"the table ends before it, or a structure begins there: {MISMATCH}")
+    elif left == 1:
+        report.say("a single byte is left, and a structure has at least 2")
+    else:
+        report.say(f"byte 1 says a length of {table.number(at + 1, 1)}, and {left} bytes are left in the table")
+    preceding(report, table, at)
+
+
+def preceding(report, table, at):
+    before = table.before(at)
+    if before:
+        report.structure(table, "the structure before", before.offset)
+    else:
+        report.say("no structure is before it")
+
+
+def length(report, table, at):
+    found = report.named(table, "the structure", at)
+    if found:
+        due = LENGTHS[table.signature].get(found.type, "at least 2")
+        if table.signature == "PPTT" and found.type == 0:
+            count = found.number(16, 4) if found.size >= 20 else None
+            due = "at least 20" if count is None else f"20 + 4 * {count} = {20 + 4 * count}"
+        report.say(f"type {found.type} has a length of {due}, and byte 1 says {found.size}")
+    preceding(report, table, at)
+
+
+def served(report, io_apic):
+    """The first interrupt number that an I/O APIC serves, and the first one behind those that it serves."""
+    base = io_apic.fields["base"]
+    return base, base + report.settings.inputs(io_apic.fields["address"])
+
+
+def say_served(report, io_apic):
+    first, end = served(report, io_apic)
+    report.say(f"  {io_apic.offset:#x} serves {first} to {end - 1} (0x{first:x} to 0x{end - 1:x}), with {end - first} inputs")
+
+
+def listing(report, what, structures, say_more=None):
+    """The first structures of some, as `show` writes them, and how many more there are."""
+    count = 0
+    report.say(what)
+    for one in structures:
+        count += 1
+        if count <= MOST_LISTED:
+            report.say(f"  {one.shown()}")
+            if say_more:
+                say_more(report, one)
+    if count == 0 or count > MOST_LISTED:
+        report.say(f"  and {count - MOST_LISTED} more" if count else "  none")
+
+
+def io_apics(report, table):
+    listing(report, "the MADT's I/O APICs:", (one for one in table.structures(1) if one.word == "ioapic"), say_served)
+
+
+def whole_table(report, signature, code, at):
+    """The table, where the line is about a structure that begins in it; else what the line is about is said here."""
+    table = report.table(signature)
+    if table and code in (32, 41):
+        beginning(report, table)
+    elif table and code in (33, 42, 50):
+        cut(report, table, at)
+    elif table and code in (34, 43, 51):
+        length(report, table, at)
+    else:
+        return table
+    return None
+
+
+def madt(report, code, at, other, point):
+    table = whole_table(report, "APIC", code, at)
+    if not table:
+        return
+    if code == 116:
+        report.field(table, "its beginning", 0, 44)
+        listing(report, "the MADT's processors:", table.structures(0, 9, 11))
+        return
+    found = report.named(table, "the structure", at)
+    second = report.named(table, "the other structure", other) if code in PAIRS else None
+    if found and code == 35:
+        report.say(f"Bus is {found.number(2, 1)}, and must be 0")
+    elif found and code == 36 and "flags" in found.fields:
+        flags = found.fields["flags"]
+        report.say(f"the polarity is {flags & 3:02b}b, the trigger mode {flags >> 2 & 3:02b}b; 10b is reserved")
+    elif code == 38 and is_one(found, "ioapic"):
+        first, end = served(report, found)
+        report.say(f"{first:#x} and {end - first} inputs are {end:#x}, and at most 0x100000000 is allowed")
+    elif code == 39 and is_one(found, "ioapic") and is_one(second, "ioapic"):
+        say_served(report, found)
+        say_served(report, second)
+    elif code == 58:
+        io_apics(report, table)
+    elif code == 119:
+        affinities(report, found)
+    elif code in (114, 125):
+        looked_for(report, code)
+
+
+def is_one(structure, word):
+    return structure is not None and structure.word == word
+
+
+def srat(report, code, at, other, point):
+    table = whole_table(report, "SRAT", code, at)
+    if not table:
+        return
+    found = report.named(table, "the structure", at)
+    second = report.named(table, "the other structure", other) if code in PAIRS else None
+    if code == 44 and is_one(found, "memory"):
+        end = found.fields["base"] + found.fields["length"]
+        report.say(f"Base Address and Length are {end:#x} together, and at most {ADDRESSES:#x} is allowed")
+    elif code == 45 and is_one(found, "memory") and is_one(second, "memory"):
+        ranges(report, found, second)
+    elif code == 57:
+        processors(report, point)
+    elif code == 118:
+        looked_for(report, 114 if is_one(found, "gicc") else 118)
+    elif code == 120 and (slit := report.table("SLIT")):
+        report.field(slit, "the number of localities", 36, 8)
+        report.say(f"the SLIT has {slit.number(36, 8)} localities, numbered from 0")
+
+
+def ranges(report, *two):
+    """What two ranges of memory cover, and what both cover."""
+    for one in two:
+        base, size, flags = (one.fields[name] for name in ("base", "length", "flags"))
+        covered = f"covers {base:#x} to {base + size - 1:#x}" if size else "covers nothing"
+        words = [word for bit, word in enumerate(("enabled", "hot-pluggable", "non-volatile")) if flags >> bit & 1]
+        report.say(f"  {one.offset:#x} {covered}, domain {one.fields['domain']}: {', '.join(words) or 'not enabled'}")
+    first = max(one.fields["base"] for one in two)
+    end = min(one.fields["base"] + one.fields["length"] for one in two)
+    report.say(f"both cover {first:#x} to {end - 1:#x}" if first < end else f"no address is in both: {MISMATCH}")
+
+
+def processors(report, number):
+    """The processors of the MADT that have an APIC ID or X2APIC ID."""
+    table = report.table("APIC")
+    found = [one for one in table.structures(0, 9) if one.fields.get("id") == number] if table else []
+    for one in found[:MOST_LISTED]:
+        report.structure(table, "the processor", one.offset)
+    if table and not found:
+        report.say(f"no processor has the ID {number}: {MISMATCH}")
+
+
+def pptt(report, code, at, other, point):
+    table = whole_table(report, "PPTT", code, at)
+    if not table:
+        return
+    if code in (55, 56):
+        cycle(report, table, code, at, (other, point))
+        return
+    found = report.named(table, "the structure", at)
+    if code in PAIRS:
+        report.named(table, "the other structure", other)
+    elif code == 52:
+        reference(report, table, other, "a node, type 0")
+    elif code == 53 and is_one(found, "node"):
+        report.field(table, f"private resource {other}", at + 20 + 4 * other, 4)
+        reference(report, table, point, "of another type")
+    elif code == 54:
+        reference(report, table, other, "a cache, type 1")
+    elif code in LOOKED_IN:
+        looked_for(report, code)
+
+
+def reference(report, table, at, due):
+    """What is where a reference leads to."""
+    before = table.before(at)
+    if table.begins(at):
+        found = report.structure(table, "what is named", at)
+        report.say(f"it is of type {found.type}, and has to be {due}")
+    elif before and at < before.offset + before.size:
+        report.say(f"no structure begins at offset {both(at)}: it is inside this one")
+        report.structure(table, "the structure", before.offset)
+    else:
+        report.say(f"no structure begins at offset {both(at)}: the table's structures are at 36 to {len(table.data) - 1}")
+
+
+def cycle(report, table, code, at, counts):
+    """All nodes or caches of a chain from one on, until one comes again."""
+    word = "node" if code == 55 else "cache"
+    steps, named = chain(table, word, at)
+    for offset in [*steps][:MOST_OF_CHAIN]:
+        report.structure(table, f"{word} {steps[offset] + 1} of the chain" if steps[offset] else f"the {word}", offset)
+    if len(steps) > MOST_OF_CHAIN:
+        report.say(f"and {len(steps) - MOST_OF_CHAIN} more, up to the one at {[*steps][-1]:#x}")
+    if named not in steps:
+        report.say(f"the chain comes to no {word} again: {MISMATCH}")
+        return
+    lead, around = steps[named], len(steps) - steps[named]
+    report.say(f"it names the one at {named:#x} again: {around} of these {len(steps)} are the cycle")
+    if counts != (lead, around):
+        report.say(f"the line says {counts[0]} steps to it and {counts[1]} around it: {MISMATCH}")
+
+
+def chain(table, word, at):
+    """The offsets from a node or cache on, each with its number, and the one that the last of them names. Both kinds have it at 8."""
+    marks, data, steps = table.marks(), table.data, {}
+    while at not in steps and at < len(marks) and marks[at] and layout_of(table.signature, data, at)[0] == word:
+        steps[at] = len(steps)
+        at = little(data, at + 8, 4)
+    return steps, at
+
+
+def looked_for(report, code):
+    """The numbers among which one was looked for."""
+    signature, what, types, name = LOOKED_IN[code]
+    table = report.tables.first(signature)
+    numbers = () if not table else leaves(table) if code == 125 else table.values(name, *types)
+    report.say(f"{what} {in_ranges(set(numbers))}")
+
+
+def leaves(table):
+    """The IDs of leaves: of nodes with a valid ID that their flags call leaves, or that no Parent names if the Revision is below 2."""
+    nodes = (one for one in table.structures(0) if one.fields.get("flags", 0) & 2)
+    if table.number(8, 1) >= 2:
+        return (one.fields["id"] for one in nodes if one.fields["flags"] & 8)
+    parents = set(table.values("parent", 0))
+    return (one.fields["id"] for one in nodes if one.offset not in parents)
+
+
+def affinities(report, processor):
+    """The numbers of the SRAT's affinities, of the kind that a processor would have."""
+    types, name, what = ((3,), "uid", "GICC affinities have the UIDs") if is_one(processor, "gicc") else ((0, 2), "id", "affinities have the IDs")
+    table = report.tables.first("SRAT")
+    enabled = (one for one in table.structures(*types) if one.fields.get("flags", 0) & 1) if table else ()
+    report.say(f"the SRAT's enabled {what} {in_ranges({one.fields[name] for one in enabled})}")
+
+
+def in_ranges(numbers):
+    """Numbers in order, those that follow one another as a range."""
+    ranges_of = []
+    for number in sorted(numbers):
+        if ranges_of and number == ranges_of[-1][1] + 1:
+            ranges_of[-1][1] = number
+        else:
+            ranges_of.append([number, number])
+    shown = [str(first) if first == last else f"{first} to {last}" for first, last in ranges_of[:MOST_LISTED]]
+    more = f", and {len(ranges_of) - MOST_LISTED} more ranges" * (len(ranges_of) > MOST_LISTED)
+    return (", ".join(shown) or "none") + more
+
+
+def sci(report):
+    """SCI_INT, its overrides, and the I/O APICs that would have to serve it."""
+    table = found_fadt(report)
+    if not table:
+        return
+    report.field(table, "SCI_INT", 46, 2)
+    source = table.number(46, 2)
+    report.say(f"SCI_INT is {source}")
+    apic = report.table("APIC")
+    if not apic:
+        return
+    for one in apic.structures(2):
+        if is_one(one, "override") and one.number(2, 1) == 0 and one.fields["source"] == source:
+            report.structure(apic, "an override of SCI_INT", one.offset)
+    io_apics(report, apic)
+
+
+def is_advised(signature, kind, size):
+    """Whether rules of advice look at a type that no stage looks at."""
+    if signature == "SRAT":
+        return kind == 3 and size == 18
+    return kind == 12 or kind == 11 and size >= 40
+
+
+def unread(report, signature):
+    """Which structures of a table the stages do not look at, by type."""
+    table = report.tables.first(signature)
+    staged = (0, 1, 2) if signature == "SRAT" else (0, 1, 2, 3, 4, 5, 9, 10)
+    alike, kinds = {}, {}
+    for at in table.places() if table else ():
+        key = table.data[at : at + 2]
+        if key not in alike:
+            alike[key] = [0, at]
+        alike[key][0] += 1
+    for (kind, size), (count, at) in alike.items():
+        if kind not in staged:
+            found = kinds.setdefault((kind, is_advised(signature, kind, size)), [0, at])
+            found[0] += count
+    if kinds:
+        if not report.lines:
+            report.say("`yes` does not cover these structures:")
+        report.say(table.told)
+    for (kind, is_read), (count, at) in kinds.items():
+        name = f" ({UNREAD[signature, kind]})" if (signature, kind) in UNREAD else ""
+        first = f"{count}{', the first' if count > 1 else ''} at offset {both(at)}"
+        report.say(f"  type {kind}{name}: {first}: {'looked at by the advice of lint only' if is_read else 'not looked at'}")

@@ -1,0 +1,59 @@
+"""The program, which says whether an image has a fault."""
+
+import os
+import shutil
+import subprocess
+
+from .document import FIRST_RULE
+
+MISMATCH = "is this the image that the line is of?"
+
+
+class Program:
+    """acpiset, where it is at one of some paths or on PATH. It is asked with the counts and settings that check was given."""
+
+    def __init__(self, paths, image, settings):
+        found = (path for path in paths if os.path.isfile(path) and os.access(path, os.X_OK))
+        self.path = next(found, None) or shutil.which("acpiset")
+        self.image, self.settings = image, settings
+        self.answers = {}
+
+    def asked(self, *words):
+        """What a command writes, or None where it gives no verdict. Each is run once."""
+        if words not in self.answers:
+            self.answers[words] = self.ran([self.path, *words, *self.settings.words()])
+        return self.answers[words]
+
+    def ran(self, words):
+        try:
+            run = subprocess.run(words, input=self.image.text, stdout=subprocess.PIPE, stderr=subprocess.DEVNULL, check=False)
+        except OSError:
+            return None
+        return run.stdout.decode("ascii", "replace").splitlines() if run.returncode in (0, 1) else None
+
+    def doubt(self, line, rsdp):
+        """What to say where the image does not have what the line says, or where that is not known; else nothing."""
+        if not self.path:
+            return "(acpiset is neither beside this tool nor on PATH, so it was not asked whether the image has this)" * (line.part.code > 0)
+        at = () if rsdp is None else ("--rsdp", f"{rsdp:#x}")
+        lines = self.asked("lint", *at)
+        if lines is None or lines == ["no rsdp"]:
+            return "(acpiset has no verdict on this image, so it is not known whether it has this)" * (line.part.code > 0)
+        if line.text in lines:
+            return ""
+        if line.part.code == 0:
+            return f"acpiset lint finds faults in this image: {MISMATCH}"
+        if line.part.code >= FIRST_RULE:
+            return self.doubt_advice(line, lines)
+        if self.asked("confirm", "--witness", line.text.removeprefix("no "), *at) == ["true"]:
+            return ""
+        return f"acpiset confirm answers false: the image does not have this fault. {question()}"
+
+    @staticmethod
+    def doubt_advice(line, lines):
+        found = next((text for text in lines if text.startswith(f"advice {line.part.name} ")), "no line of this name")
+        return f"acpiset lint does not write this line of the image; it writes: {found}. {question()}"
+
+
+def question():
+    return f"{MISMATCH.capitalize()} If check was given counts or settings, give them here too."

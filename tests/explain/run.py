@@ -1,0 +1,428 @@
+#!/usr/bin/env python3
+"""Runs tools/explain on lines of acpiset and on images. What it has to say was worked out by hand from the bytes of each set; what
+it shows of structures is compared with `acpiset show` too, a program that shares no code with it.
+
+usage: run.py PROGRAM; the last line is 'explain: N passed, M failed'."""
+
+import os
+import re
+import resource
+import shutil
+import subprocess
+import sys
+import tempfile
+
+import sets
+from cases import IMAGES as FIRMWARE_AT
+
+TOP = os.path.realpath(os.path.join(os.path.dirname(os.path.abspath(__file__)), "..", ".."))
+IMAGES = os.path.join(TOP, "tests", "images")
+OVERLAP = "no 10 Overlap 0x90 0xb8 0x100000000"
+DOUBT = "acpiset confirm answers false: the image does not have this fault. Is this the image that the line is of?"
+MISMATCH = "s this the image that the line is of?"
+
+
+class Tests:
+    def __init__(self, program, scratch):
+        self.program, self.scratch = program, scratch
+        self.passed = self.failed = 0
+        self.tool = self.copy("whole", "tools", "explain", os.path.join("docs", "FAULTS.md"))
+        os.symlink(program, os.path.join(scratch, "whole", "acpiset"))
+        self.path = os.path.dirname(sys.executable) + ":/usr/bin:/bin"
+
+    def copy(self, name, folder, tool, document):
+        """A copy of the tool and what it needs, so that nothing else of the tree is found. Returns the tool's path."""
+        top = os.path.join(self.scratch, name)
+        for part in (folder, os.path.dirname(document)):
+            os.makedirs(os.path.join(top, part), exist_ok=True)
+        shutil.copy(os.path.join(TOP, "tools", "explain"), os.path.join(top, folder, tool))
+        shutil.copy(os.path.join(TOP, "docs", "FAULTS.md"), os.path.join(top, document))
+        if os.path.isdir(os.path.join(TOP, "share")):
+            shutil.copytree(os.path.join(TOP, "share"), os.path.join(top, "share"), dirs_exist_ok=True)
+        return os.path.join(top, folder, tool)
+
+    def file(self, data):
+        """A file with an image."""
+        path = os.path.join(self.scratch, "image")
+        with open(path, "wb") as file:
+            file.write(data)
+        return path
+
+    def count(self, name, wrong):
+        if wrong:
+            self.failed += 1
+            print(f"{name}: {wrong}")
+        else:
+            self.passed += 1
+
+    def run(self, *words, text=b"", tool=None, **kept):
+        kept.setdefault("stdout", subprocess.PIPE)
+        environment = {**os.environ, "PATH": self.path}
+        text = text if isinstance(text, bytes) else (text + "\n").encode()
+        return subprocess.run([tool or self.tool, *words], input=text, stderr=subprocess.PIPE, env=environment, timeout=300, **kept)
+
+    def says(self, line, texts, image=None, *words, without=(), tool=None):
+        """Of this line explain says these texts, each a whole line or a part of one that begins with .., and none of others."""
+        image = [] if image is None else [self.file(image) if isinstance(image, bytes) else os.path.join(IMAGES, image)]
+        run = self.run(*words, *image, text=line, tool=tool)
+        said = run.stdout.decode("latin-1")
+        lines = said.split("\n")
+        wrong = f"status {run.returncode}, {run.stderr.decode('latin-1')}" if run.returncode or run.stderr else ""
+        for text in [texts] if isinstance(texts, str) else texts:
+            if not (text[2:] in said if text.startswith("..") else text in lines):
+                wrong += f"\nnot said: {text}"
+        wrong += "".join(f"\nsaid: {text}" for text in without if text in said)
+        self.count(f"{line} {' '.join(words)}", wrong and f"{wrong}\nbut: {said}")
+
+    def refuses(self, status, told, *words, text=b"", **kept):
+        """Explain ends with this status, writes nothing, and says this in one line or before its usage."""
+        run = self.run(*words, text=text, **kept)
+        said = run.stderr.decode("latin-1")
+        is_right = run.returncode == status and not run.stdout and told in said and said.endswith("\n") and "Traceback" not in said
+        self.count(f"{words} {text[:60]!r}", "" if is_right else f"status {run.returncode}, {said!r}, {run.stdout!r}, not {told}")
+
+
+def lines_without_image(tests):
+    for line in ("yes\n", "yes", "yes\r\n"):
+        tests.says(line.encode(), ["yes", "..the image passes every stage"], without=["In the image"])
+    for line in ("no rsdp", "rsdp none", "rsdp 0xf59e0"):
+        tests.says(line, [line, "..--rsdp"])
+    tests.says("yes\nadvice ListedTwice 0x3 0x2 0x47fc198e", ["..the image passes every stage", "101 ListedTwice"])
+    tests.says("10 Overlap 0x90 0xb8 0x100000000", [OVERLAP, "45 Overlap", "..Example"])
+    with open(os.path.join(TOP, "docs", "FAULTS.md"), encoding="utf-8") as file:
+        document = file.read()
+    stage, lines, titles = "", [], []
+    sys.path.insert(0, os.path.join(TOP, "share", "acpiset"))
+    from explain.document import Document
+
+    parts = Document([os.path.join(TOP, "docs", "FAULTS.md")])
+    for stage_number, code, name in re.findall(r"^## Stage (\d+)|^### (\d+) (\w+)$", document, re.M):
+        stage = stage_number or stage
+        if code:
+            titles.append(f"{code} {name}")
+            lines.append(f"no {stage} {name} 0x0 0x0 0x0" if int(code) < 100 else f"advice {name} 0x0 0x0 0x0")
+            found = [part and part.title for part in map(parts.named, (code, name))]
+            tests.count(titles[-1], "" if found == 2 * [titles[-1]] else f"the parts {found}")
+    tests.count("parts of faults and of rules", "" if len(titles) == 59 + 28 else f"{len(titles)}")
+    tests.says("\n".join(lines), lines + titles)
+    for word, title in (("43", "43 SratEntryLength"), ("Overlap", "45 Overlap"), ("128", "128 SratUnread"), ("NoLeaf", "125 NoLeaf")):
+        tests.says(b"", [title, "..- Example: "], None, word)
+
+
+# Lines that acpiset does not write.
+NO_LINES = """no 3 RsdpSum 0x0 0x0 0x0
+no 1 RsdpSun 0x0 0x0 0x0
+no 01 RsdpSum 0x0 0x0 0x0
+no 1 RsdpSum 0x0 0x0
+no 1 RsdpSum 0x0 0x0 0x0 0x0
+no 1 RsdpSum 0x0 0x0 0x10000000000000000
+no 1 RsdpSum 0x0 0x0 0x00
+no 1 RsdpSum 0X0 0x0 0x0
+no 1 RsdpSum 0xA 0x0 0x0
+no 1 RsdpSum 0 0 0
+no 1 RsdpSum 0x0 0x0 0x0 \x20
+\x20no 1 RsdpSum 0x0 0x0 0x0
+no  1 RsdpSum 0x0 0x0 0x0
+no 1\tRsdpSum 0x0 0x0 0x0
+no 1 \\122sdpSum 0x0 0x0 0x0
+no 1 RsdpSum 0x0 0x0 0x0\r\r
+advice TableSum 0x0 0x0 0x0
+no 18 ListedTwice 0x0 0x0 0x0
+no 18 Severities 0x0 0x0 0x0
+advice Severities 0x0 0x0 0x0
+advice SlitDiffers 0x0 0x0
+rsdp 0x
+rsdp 0x10000000000000000
+rsdp none here
+rsdp
+yes yes
+Overlap
+YES
+no"""
+
+
+def refused_lines(tests):
+    for line in NO_LINES.split("\n"):
+        tests.refuses(1, "no line that acpiset check, lint or find writes", text=line.encode())
+    tests.refuses(1, "no line that acpiset check, lint or find writes", text=b"yes\nfoo\n")
+    tests.refuses(1, "'\\x1b[2J\\xff'", text=b"\x1b[2J\xff\n")
+    tests.refuses(1, "no line on standard input")
+    tests.refuses(1, "standard input has more than 65,536 bytes", text=b"41 " * 1_000_000)
+    tests.refuses(1, "more than 100 lines", tests.file(sets.LEAF), text=b"yes\n" * 101)
+    tests.refuses(1, "absent: cannot be read", "absent", text=b"yes\n")
+    tests.refuses(1, "\\x1b[2J: cannot be read", "\x1b[2J", text=b"yes\n")
+    tests.refuses(1, "cannot be read: it is a folder", "/", text=b"yes\n")
+    tests.refuses(1, "Overlp: cannot be read", "Overlp")
+    for words in (["--rsdp", "g"], ["--rsdp", "0X0"], ["--rsdp", "1" * 17], ["one", "two"], ["--help"], ["--nothing"], ["--rsdp"]):
+        tests.refuses(2, "usage: ", *words, text=b"yes\n")
+    for words in (["43", "44"], ["43", tests.file(b"")], ["yes", "43"], ["1=0"], ["1=257"], ["--default-inputs", "0"], ["--hotplug", "x"]):
+        tests.refuses(2, "usage: ", *words, text=b"yes\n")
+    tests.refuses(2, "\\x1b[2J", "--\x1b[2J")
+
+
+def structures(tests):
+    """What show says of the structures that a line names, what is compared, and the structure before a wrong length."""
+    with open(os.path.join(IMAGES, "sb-q35-numa4-dist.img.txt"), "rb") as file:
+        grown = file.read().replace(b"\n01 00 00 00 00 00 00 40", b"\n01 00 00 00 00 00 00 48", 1)
+    texts = ["  0x128 memory domain 2 base 0x100000000 length 0x48000000 flags 0x1", "the structure at offset 0x128 (296), at 0x7ffe25c4:"]
+    texts += ["  0x150 memory domain 3 base 0x140000000 length 0x40000000 flags 0x1", "both cover 0x140000000 to 0x147ffffff"]
+    texts += ["  0x7ffe25c4  01 28 02 00 00 00 00 00 00 00 00 00 01 00 00 00"]
+    tests.says("no 10 Overlap 0x128 0x150 0x140000000", texts, grown, without=["ot-plug windows", "Example", MISMATCH])
+    window = ["..**Hot-plug windows.**", "both cover 0x100000000 to 0x107ffffff", "..0xb8 covers 0x100000000 to 0x22fffffff, domain 0: enabled, hot"]
+    tests.says(OVERLAP, window, "sb-pc-nvdimm-numa.img.txt", without=["Example", "QEMU", MISMATCH])
+    tests.says("no 10 Overlap 0x30 0x58 0x40000000", "both cover 0x40000000 to 0xffffffff", sets.WINDOWS, without=[MISMATCH])
+    for line, image, text, before in (
+        ("no 6 MadtEntryLength 0x34", sets.MADT_LENGTH, "type 0 has a length of 8, and byte 1 says 12", "  0x2c lapic uid 3 id 7 flags 0x1"),
+        ("no 6 MadtEntryLength 0x2c", sets.FIRST_LENGTH, "type 1 has a length of 12, and byte 1 says 8", "no structure is before it"),
+        ("no 6 MadtEntryCut 0x38", sets.MADT_CUT, "byte 1 says a length of 200, and 4 bytes are left in the table", "  0x2c ioapic id 0 address 0xfec00000 base 5"),
+        ("no 9 SratEntryLength 0x40", sets.SRAT_LENGTH, "type 1 has a length of 40, and byte 1 says 24", "  0x30 cpu id 9 domain 300 flags 0x1"),
+        ("no 9 SratEntryCut 0x58", sets.SRAT_CUT, "a single byte is left, and a structure has at least 2", "  0x30 memory domain 0 base 0x140000000 length 0x40000000 flags 0x1"),
+        ("no 12 PpttEntryLength 0x3c", sets.PPTT_LENGTH, "type 0 has a length of 20 + 4 * 2 = 28, and byte 1 says 24", "  0x24 cache flags 0x0 next 0x0 size 0 sets 0 ways 0 attributes 0x0 line 0"),
+        ("no 12 PpttEntryCut 0x38", sets.PPTT_CUT, "byte 1 says a length of 0, and 2 bytes are left in the table", "  0x24 node flags 0x0 parent 0x0 id 4 resources"),
+    ):
+        tests.says(f"{line} 0x0 0x0", [text, before], image, without=[MISMATCH])
+    tests.says("no 18 LeafUnknown 0x24 0x0 0x7", "the MADT's processors have the UIDs 0 to 2, 300", sets.LEAF, without=[MISMATCH])
+    tests.says("advice AffinityNowhere 0x30 0x0 0x16", "the MADT's processors have the UIDs 21", sets.ARM, without=[MISMATCH])
+    texts = ["  0x2c entry type 11 length 80: gicc uid 21 flags 0x1", "the SRAT's enabled GICC affinities have the UIDs 22"]
+    tests.says("advice NoDomain 0x2c 0x0 0x15", texts, sets.ARM, without=[MISMATCH])
+    tests.says("no 7 GsiClash 0x3c 0x48 0x18", "  0x3c serves 0 to 31 (0x0 to 0x1f), with 32 inputs", "example.img.txt", "--default-inputs", "32", without=[MISMATCH])
+
+
+def chains(tests):
+    nodes = [f"  {at:#x} node flags 0x0 parent {parent:#x} id 0 resources" for at, parent in ((0x24, 0x38), (0x38, 0x4C), (0x4C, 0x60), (0x60, 0x38))]
+    told = "it names the one at 0x38 again: 3 of these 4 are the cycle"
+    tests.says("no 14 ParentCycle 0x24 0x1 0x3", [*nodes, told], sets.PARENTS, without=[MISMATCH])
+    tests.says("no 14 ParentCycle 0x38 0x0 0x3", nodes[1:], sets.PARENTS, without=[MISMATCH, nodes[0]])
+    tests.says("no 14 ParentCycle 0x24 0x0 0x4", ["..the line says 0 steps to it and 4 around it: is this", f"..{DOUBT}"], sets.PARENTS)
+    told = "it names the one at 0x3c again: 2 of these 3 are the cycle"
+    tests.says("no 15 CacheCycle 0x24 0x1 0x2", [told, "..  0x54 cache flags 0x0 next 0x3c "], sets.CACHES, without=[MISMATCH])
+    inside = "no structure begins at offset 0x40 (64): it is inside this one"
+    tests.says("no 13 DanglingParent 0x24 0x40 0x0", [inside, "  0x38 node flags 0x0 parent 0x4c id 0 resources"], sets.DANGLING, without=[MISMATCH])
+    tests.says("no 13 DanglingParent 0x38 0x4c 0x0", "it is of type 1, and has to be a node, type 0", sets.DANGLING, without=[MISMATCH])
+    past = "no structure begins at offset 0x1000 (4096): the table's structures are at 36 to 123"
+    tests.says("no 13 DanglingCache 0x4c 0x1000 0x0", past, sets.DANGLING, without=[MISMATCH])
+    tests.says("no 13 DanglingResource 0x64 0x0 0x24", "it is of type 0, and has to be of another type", sets.DANGLING, without=[MISMATCH])
+
+
+def numbers(tests):
+    """Exact numbers: at a border of 4 GiB, and from 2^31 on."""
+    rows = ["  0x200000000  01 00 00 00", "..  0x1fffffff0  41 41 41 41 41 41 41 41 01 00 00 00 41 41 41 41"]
+    tests.says("no 3 TableSum 0x1 0x1ffffffe0 0x0", rows, sets.AT_BORDER)
+    texts = ["the structure at offset 0x34 (52), at 0x200000014:", "  0x34 override source 0 gsi 2 flags 0x2", "..  0x200000014  02 0a 00 00 02"]
+    tests.says("no 6 ReservedInti 0x34 0x0 0x0", texts, sets.AT_BORDER, without=[MISMATCH])
+    texts = ["  0x2c ioapic id 0 address 0xfec00000 base 4294967280", "0xfffffff0 and 24 inputs are 0x100000008, and at most 0x100000000 is allowed"]
+    tests.says("no 6 GsiPastEnd 0x2c 0x0 0x0", texts, sets.HIGH_BASE, without=[MISMATCH])
+    texts = ["signature HPET, Length 4294967295", "..of the 4294967295 bytes that have to be in the image the first 56 are; the next one, at 0x11038, is not"]
+    tests.says("no 3 TableOut 0x1 0x11000 0x0", texts, sets.LONGEST, without=[MISMATCH])
+
+
+def fields(tests):
+    for line, (image, text) in sets.SUMS.items():
+        tests.says(line, f"..{text}", image, without=[MISMATCH])
+    tests.says("no 3 TableSum 0x1 0x3000 0x0", "signature HPET, Length 56", sets.SUMS["no 3 TableSum 0x1 0x3000 0x0"][0])
+    tests.says("no 3 TableSum 0x0 0x10000 0x0", "..sum to 0: is this the image that the line is of?", sets.LEAF)
+    tests.says("no 3 TableOut 0x0 0x10000 0x0", "..all 116 bytes are in the image: is this the image", sets.LEAF)
+    told = "of the 116 bytes that have to be in the image the first 68 are; the next one, at 0x2044, is not"
+    tests.says("no 3 TableOut 0x0 0x2000 0x0", told, sets.CUT, without=[MISMATCH])
+    tests.says("no 3 TableOut 0x1 0x3000 0x0", "  (--: a byte that is not in the image)", "ovmf-q35.img.txt")
+    tests.says("no 4 PmEventLength 0x58 0x0 0x0", ["the field at offset 0x58 (88), at 0x10058:", f"..{DOUBT}"], sets.LEAF)
+    tests.says("no 4 NoFadt 0x0 0x0 0x0", "the slots list: FACP, APIC, HPET, MCFG, WAET", "ovmf-q35.img.txt")
+    tests.says("no 4 NoFadt 0x0 0x0 0x0", "the slots list: FACP, .[2J", sets.ESCAPE, without=["\x1b"])
+    tests.says("no 3 TableLength 0x1 0x11000 0x0", "signature .[2J, Length 36", sets.ESCAPE, without=["\x1b"])
+    tests.says("advice SlitDiffers 0x2d 0x2e 0x0", ["from locality 0 to locality 1 it is 20", "the other distance at offset 0x2e (46), at 0x502e:"], "example.img.txt")
+    caches = "q11-efi-virt-caches.img.txt"
+    tests.says("advice ListedTwice 0x3 0x2 0x47fc198e", "slot 2 lists it too", caches, "--rsdp", "47fe0000")
+    tests.says("advice ListedTwice 0x3 0x2 0x47fc198f", "..slot 3 does not list this address: is this the image", caches, "--rsdp", "47fe0000")
+    tests.says("advice SciNowhere 0x2e 0x0 0x0", ["an override of SCI_INT at offset 0x54 (84), at 0x3054:", "  0x3c serves 0 to 23 (0x0 to 0x17), with 24 inputs"], "example.img.txt")
+
+
+def unread(tests):
+    arm, caches = "q10-efi-virt-smp4.img.txt", "q11-efi-virt-caches.img.txt"
+    tests.says("yes", "  type 13 (GIC MSI frame): 1 at offset 0x184 (388): not looked at", arm, "--rsdp", "4f0b0018")
+    tests.says("yes", "  type 11 (GICC): 4, the first at offset 0x44 (68): looked at by the advice of lint only", arm)
+    tests.says("yes", "  type 15 (GIC ITS): 1 at offset 0x2d4 (724): not looked at", caches, "--rsdp", "47fe0000")
+    tests.says("yes", "yes", "sb-q35-default.img.txt", without=["In the image:"])
+    tests.says("yes", "no RSDP is found in it: give its address with --rsdp HEX", b"@2000\n41\n")
+    texts = ["  type 3 (GICC affinity): 1 at offset 0x30 (48): not looked at", "  type 11 (GICC): 1 at offset 0x2c (44): not looked at"]
+    texts += ["  type 3 (GICC affinity): 2, the first at offset 0x3e (62): looked at by the advice of lint only"]
+    texts += ["  type 16 (multiprocessor wakeup): 1 at offset 0x53 (83): not looked at"]
+    tests.says("yes", texts, sets.UNREAD)
+
+
+def judged(tests):
+    """Whether the image has what the line says: acpiset is asked, with the counts and settings that are given."""
+    for line, words, image, is_doubted in (
+        ("no 10 Overlap 0x50 0x78 0x0", (), "example.img.txt", True),
+        ("no 7 GsiClash 0x3c 0x48 0x18", (), "example.img.txt", True),
+        ("no 7 GsiClash 0x3c 0x48 0x18", ("0xfec00000=25",), "example.img.txt", False),
+        ("no 7 GsiClash 0x3c 0x48 0x18", ("fec00000=24", "fec00000=25"), "example.img.txt", True),
+        (OVERLAP, ("--hotplug", "counted"), "sb-pc-nvdimm-numa.img.txt", False),
+        (OVERLAP, ("--hotplug", "apart"), "sb-pc-nvdimm-numa.img.txt", True),
+        ("no 18 LeafUnknown 0x38 0x0 0x1", ("--rsdp", "e0000"), sets.LEAF, True),
+        ("no 1 RsdpOut 0x123 0x0 0x0", (), sets.LEAF, False),
+    ):
+        tests.says(line, f"..{DOUBT}" if is_doubted else line, image, *words, without=() if is_doubted else (DOUBT,))
+    advice = "advice SlitDiffers 0x2d 0x2e 0x0"
+    tests.says(advice, "..acpiset lint does not write this line of the image; it writes: no line of this name.", "example.img.txt")
+    other = "advice FadtOfRevision 0x4 0xf4 0x114"
+    tests.says(other, other, "example.img.txt", without=[MISMATCH])
+    tests.says("advice FadtOfRevision 0x4 0xf5 0x114", f"..it writes: {other}.", "example.img.txt")
+    tests.says("yes", "..acpiset lint finds faults in this image: is this the image", "sb-pc-nvdimm-numa.img.txt")
+    alone = tests.copy("alone", "tools", "explain", os.path.join("docs", "FAULTS.md"))
+    asked = "(acpiset is neither beside this tool nor on PATH, so it was not asked whether the image has this)"
+    tests.says("no 10 Overlap 0x50 0x78 0x0", [asked, f"..no address is in both: i{MISMATCH}"], "example.img.txt", tool=alone)
+    tests.says(OVERLAP, [asked, "both cover 0x100000000 to 0x107ffffff"], "sb-pc-nvdimm-numa.img.txt", tool=alone, without=[MISMATCH])
+    tests.says("yes", "yes", "sb-q35-default.img.txt", tool=alone, without=["In the image:"])
+    tests.path = os.path.join(tests.scratch, "whole") + ":" + tests.path
+    tests.says("no 10 Overlap 0x50 0x78 0x0", f"..{DOUBT}", "example.img.txt", tool=alone)
+
+
+def shown(tests):
+    """Each structure of each image has the line that `show` writes of it."""
+    codes = {"madt": "no 6 OverrideBus", "srat": "no 9 RangePastEnd", "pptt": "advice CacheShape"}
+    for name, address in {**FIRMWARE_AT, "example": "e0000"}.items():
+        name, words = f"{name}.img.txt", ["--rsdp", address]
+        with open(os.path.join(IMAGES, name), "rb") as file:
+            text = file.read()
+        run = subprocess.run([tests.program, "show", *words], input=text, stdout=subprocess.PIPE)
+        lines, due, table = [], [], ""
+        for line in run.stdout.decode().splitlines():
+            word, _, rest = line.partition(" ")
+            table = word if not word.startswith("0x") else table
+            if word.startswith("0x") and table in codes:
+                lines.append(f"{codes[table]} {word} 0x0 0x0")
+                due.append(f"  {line}" if " entry type" not in line else f"..  {line}")
+        tests.count(f"structures of {name}", "" if len(lines) >= 3 else f"{len(lines)}")
+        for place in range(0, len(lines), 100):
+            tests.says("\n".join(lines[place : place + 100]), due[place : place + 100], name, *words)
+
+
+# Image texts and whether acpiset reads them.
+TEXTS = [
+    (b"", True),
+    (b"@10\n41 42", True),
+    (b"  @10 \t# an address\r\n\t41 42\t43 \r\n4445#\n\n", True),
+    (b"@10\n41\r", True),
+    (b"@fffffffffffffffe\n41 42\n@0\n41\n", True),
+    (b"@10\n41\n@8\n42 43 44 45 46 47 48 49\n", True),
+    (b"@10\n" + b"41" * 32_768 + b"\n", True),
+    (b"@10\n41#" + b"x" * 65_533 + b"\n", True),
+    (b"41\n", False),
+    (b"@10 41\n", False),
+    (b"@10\n41 @20\n42\n", False),
+    (b"@ 10\n41\n", False),
+    (b"@\n41\n", False),
+    (b"@00000000000000010\n41\n", False),
+    (b"@1_0\n41\n", False),
+    (b"@10\n41 4\n", False),
+    (b"@10\n4 1\n", False),
+    (b"@10\n4\n1\n", False),
+    (b"@10\n41\x0b42\n", False),
+    (b"@10\n41\0\n", False),
+    (b"@10\n41\r\r\n", False),
+    (b"@10\n41\r#\n", False),
+    (b"@10\r41\n", False),
+    (b"@10\n0x41\n", False),
+    (b"@fffffffffffffffe\n41 42 43\n", False),
+    (b"@10\n41 42\n@11\n43\n", False),
+    (b"@11\n41 42\n@10\n43 44\n", False),
+    (b"@10\n" + b"41" * 32_768 + b" \n", False),
+    (b"@10\n41#" + b"x" * 65_534 + b"\n", False),
+    (b"@10\n" + b"#" * 65_535 + b"\n" + (b"#" * 65_535 + b"\n") * 1023 + b"\n", False),
+]
+
+
+def image_texts(tests):
+    for text, is_read in TEXTS:
+        run = subprocess.run([tests.program, "find"], input=text, stdout=subprocess.PIPE, stderr=subprocess.PIPE)
+        tests.count(f"acpiset reads {text[:40]!r}", "" if (run.returncode != 3) == is_read else f"status {run.returncode}")
+        if is_read:
+            tests.says("no 4 NoFadt 0x0 0x0 0x0", "no RSDP is found in it: give its address with --rsdp HEX", text)
+        else:
+            tests.refuses(1, "acpiset does not read it either", tests.file(text), text=b"yes\n")
+    tests.refuses(1, "line 3 is no line of image text", tests.file(b"@10\n41\n4x\n42\n"), text=b"yes\n")
+    tests.refuses(1, "it has more than 67,108,864 bytes", "/dev/zero", text=b"yes\n")
+
+
+def streams(tests):
+    """A full disk, a closed stream or one that cannot be read is never status 0."""
+    image = os.path.join(IMAGES, "sb-pc-nvdimm-numa.img.txt")
+    line = (OVERLAP + "\n").encode()
+    if os.path.exists("/dev/full"):
+        for words in ([], [image], ["43"]):
+            with open("/dev/full", "wb") as full:
+                run = tests.run(*words, text=line, stdout=full)
+            is_right = run.returncode == 4 and b"standard output cannot be written: No space left" in run.stderr
+            tests.count(f"a full disk {words}", "" if is_right else f"{run.returncode} {run.stderr}")
+    for name, closing, status, told in (
+        ("a closed output", ">&-", 4, "explain: standard output cannot be written: it is closed\n"),
+        ("a closed input", "<&-", 4, "explain: standard input cannot be read: it is closed\n"),
+        ("closed output and error", ">&- 2>&-", 4, ""),
+        ("a line as argument, and a closed input", f"'{OVERLAP}' <&- >/dev/null", 0, ""),
+        ("a reader that has gone", "43 | sleep 0; exit 0", 0, ""),
+    ):
+        words = ["sh", "-c", f'"$0" "$1" {closing}' if "43" not in closing else 'exec 3>&1; (sleep 1; "$0" 43; echo $? >&3) | true', tests.tool, image]
+        run = subprocess.run(words, input=line, stdout=subprocess.PIPE, stderr=subprocess.PIPE, env={**os.environ, "PATH": tests.path})
+        if "43" in closing:
+            is_right = run.stdout == b"4\n" and b"standard output cannot be written" in run.stderr
+        else:
+            is_right = (run.returncode, run.stderr.decode()) == (status, told)
+        tests.count(name, "" if is_right else f"{run.returncode} {run.stdout} {run.stderr}")
+
+
+def places(tests):
+    """The document of the tool's own copy is found first, and nothing is written into it."""
+    other = "# Faults\n\n### 59 LeafUnknown\n\n- Wrong: another project's.\n"
+    installed = tests.copy("prefix", "bin", "acpiset-explain", os.path.join("share", "doc", "acpiset", "docs", "FAULTS.md"))
+    os.makedirs(os.path.join(tests.scratch, "prefix", "docs"))
+    with open(os.path.join(tests.scratch, "prefix", "docs", "FAULTS.md"), "w", encoding="utf-8") as file:
+        file.write(other)
+    os.symlink(tests.program, os.path.join(tests.scratch, "prefix", "bin", "acpiset"))
+    tests.says("no 18 LeafUnknown 0x0 0x0 0x0", "59 LeafUnknown", tool=installed, without=["another project"])
+    tests.says("no 10 Overlap 0x50 0x78 0x0", f"..{DOUBT}", "example.img.txt", tool=installed)
+    os.symlink(installed, os.path.join(tests.scratch, "link"))
+    tests.says("yes", "..the image passes every stage", tool=os.path.join(tests.scratch, "link"))
+    os.remove(os.path.join(tests.scratch, "prefix", "share", "doc", "acpiset", "docs", "FAULTS.md"))
+    os.remove(os.path.join(tests.scratch, "prefix", "docs", "FAULTS.md"))
+    tests.refuses(1, "acpiset's FAULTS.md is at neither", tool=installed, text=b"yes\n")
+    left = [name for _, folders, names in os.walk(tests.scratch) for name in folders + names if "pyc" in name]
+    tests.count("files that Python leaves", " ".join(left))
+
+
+def spent(words, text, **kept):
+    """The processor time that a program and those that it runs take, in seconds, and what it wrote."""
+    before = resource.getrusage(resource.RUSAGE_CHILDREN)
+    run = subprocess.run(words, input=text, stdout=subprocess.PIPE, stderr=subprocess.PIPE, **kept)
+    after = resource.getrusage(resource.RUSAGE_CHILDREN)
+    return after.ru_utime + after.ru_stime - before.ru_utime - before.ru_stime, run.stdout + run.stderr
+
+
+def times(tests):
+    """On images with many pieces or structures explain takes less than 20 times what check takes."""
+    with open(os.path.join(IMAGES, "example.img.txt"), "rb") as file:
+        example = file.read()
+    apart = b"".join(b"@%x\n52 53 44 20 50 54 52 20\n" % (0x100000000 + 16 * (place * 77_773 % 200_000)) for place in range(200_000))
+    many = {"200,000 pieces": example + apart, "100,000 nodes": sets.image_of(sets.long_pptt(100_000)), "UIDs": sets.image_of(sets.x2apics(100_000), sets.pptt(sets.node(flags=10)))}
+    for name, image in many.items():
+        check, line = spent([tests.program, "check"], image)
+        explain, said = spent([tests.tool, tests.file(image)], line, env={**os.environ, "PATH": tests.path})
+        is_right = said.startswith(line.strip()) and explain < 20 * max(check, 0.05)
+        tests.count(f"the time of {name}", "" if is_right else f"check {check:.2f} s, explain {explain:.2f} s: {said[-200:]}")
+    long_line = example + b"41 " * 1_000_000 + b"\n"
+    tests.refuses(1, "a line has more than 65,536 bytes", tests.file(long_line), text=b"yes\n")
+    chain = ["..and 99000 more, up to the one at 0x1e8490", "it names the one at 0x24 again: 100000 of these 100000 are the cycle"]
+    tests.says("no 14 ParentCycle 0x24 0x0 0x186a0", chain, many["100,000 nodes"])
+
+
+def main():
+    _, program = sys.argv
+    with tempfile.TemporaryDirectory() as scratch:
+        tests = Tests(os.path.realpath(program), scratch)
+        for part in (lines_without_image, refused_lines, structures, chains, numbers, fields, unread, judged, shown, image_texts, streams, places, times):
+            part(tests)
+    print(f"explain: {tests.passed} passed, {tests.failed} failed")
+    sys.exit(1 if tests.failed else 0)
+
+
+if __name__ == "__main__":
+    main()

@@ -1,0 +1,82 @@
+"""Sets of tables for tests/explain/run.py, made by tests/rows/tables.py. The lines of acpiset on them, and what explain has to
+say of them, are in run.py and were worked out by hand."""
+
+import os
+import sys
+
+sys.path.insert(0, os.path.join(os.path.dirname(os.path.abspath(__file__)), "..", "rows"))
+from tables import *  # noqa: E402
+
+FADT = full_fadt()
+GIB = 1 << 30
+
+
+def image_of(*tables, places=None):
+    """A set with an RSDP at 0xe0000, an XSDT, a FADT in slot 0 at 0x10000, and these tables in the slots behind it."""
+    step = 0x1000 if max(map(len, tables)) <= 0x1000 else 0x10000000
+    places = places or [0x10000 + step * (slot + 1) for slot in range(len(tables))]
+    pieces = {RSDP_AT: extended_rsdp(XSDT_AT, 0), XSDT_AT: xsdt(0x10000, *places), FACS_AT: facs(), 0x10000: FADT}
+    return text_of({**pieces, **dict(zip(places, tables))})
+
+
+def long_pptt(nodes):
+    """A PPTT with so many nodes of 20 bytes, each of which has the next one as its Parent, and the last one the first."""
+    parents = [36 + 20 * (place + 1) for place in range(nodes - 1)] + [36]
+    return pptt(*(node(parent=parent) for parent in parents))
+
+
+def x2apics(count):
+    return madt(*(x2apic(2 * place + 1000, place) for place in range(count)))
+
+
+# A MADT at a border of 4 GiB: its third row begins at 0x200000000, and the first structure is at 0x20000000c.
+AT_BORDER = image_of(madt(lapic(0, 0), override(0, 2, flags=2)), places=[0x1FFFFFFE0])
+
+# An override with reserved flags behind an I/O APIC with a base from 2^31 on.
+HIGH_BASE = image_of(madt(io_apic(0xFEC00000, 0xFFFFFFF0)))
+
+LONGEST = image_of(hpet()[:4] + b"\xff\xff\xff\xff" + hpet()[8:])
+
+# A structure of type 0 whose length is 12, behind a local APIC; one that goes past the end, behind an I/O APIC.
+MADT_LENGTH = image_of(madt(lapic(3, 7), bytes([0, 12]) + bytes(10)))
+MADT_CUT = image_of(madt(io_apic(0xFEC00000, 5), bytes([0, 200, 0, 0])))
+SRAT_LENGTH = image_of(srat(apic_domain(9, 300), bytes([1, 24]) + bytes(22)))
+SRAT_CUT = image_of(srat(memory(5 * GIB, GIB), b"\1"))
+PPTT_LENGTH = image_of(pptt(cache(), bytes([0, 24]) + bytes(14) + b"\2\0\0\0" + bytes(4)))
+PPTT_CUT = image_of(pptt(node(uid=4), bytes([1, 0])))
+FIRST_LENGTH = image_of(madt(bytes([1, 8]) + bytes(6)))
+
+# The chain from 0x24 comes after one step to a cycle of three: 0x24 to 0x38, 0x4c, 0x60 and 0x38 again.
+PARENTS = image_of(pptt(node(parent=0x38), node(parent=0x4C), node(parent=0x60), node(parent=0x38)))
+CACHES = image_of(pptt(cache(next_level=0x3C), cache(next_level=0x54), cache(next_level=0x3C)))
+# A Parent into the middle of a structure, one to a cache, one behind the table; a private resource that is a node.
+DANGLING = image_of(pptt(node(parent=0x40), node(parent=0x4C), cache(next_level=0x1000), node(resources=(0x24,))))
+
+LEAF = image_of(
+    madt(lapic(0, 0), lapic(1, 1), lapic(2, 2, flags=0), x2apic(300, 9)), pptt(node(flags=0xA, uid=7), node(flags=0xA, uid=1))
+)
+GICC = bytes([11, 80]) + bytes(6) + number(21, 4) + number(1, 4) + bytes(64)
+AFFINITY = bytes([3, 18]) + number(6, 4) + number(22, 4) + number(1, 4) + bytes(4)
+ARM = image_of(madt(GICC), srat(AFFINITY))
+# Structures at which the stages do not look: a GICC that is too short for advice too, and a wakeup structure.
+UNREAD = image_of(
+    madt(bytes([11, 39]) + bytes(37), bytes([16, 16]) + bytes(14)),
+    srat(bytes([3, 14]) + bytes(12), bytes([3, 18]) + bytes(16), bytes([3, 18]) + bytes(16)),
+)
+WINDOWS = image_of(srat(memory(0, 4 * GIB), memory(GIB, 4 * GIB)))
+
+# A signature with an escape character, which would clear a terminal.
+ESCAPE = image_of(table(b"\x1b[2J", b""))
+
+# Wrong checksums, and the byte that closes each.
+SUMS = {}
+CLEAN = {RSDP_AT: extended_rsdp(), XSDT_AT: xsdt(0x2000, 0x3000), 0x2000: FADT, 0x3000: hpet(), FACS_AT: facs()}
+for line, address, place in (
+    ("no 1 RsdpSum 0xe0000 0x0 0x0", RSDP_AT, 8),
+    ("no 1 RsdpExtendedSum 0xe0000 0x0 0x0", RSDP_AT, 32),
+    ("no 2 RootSum 0x1100 0x0 0x0", XSDT_AT, 9),
+    ("no 3 TableSum 0x1 0x3000 0x0", 0x3000, 9),
+):
+    wrong = changed(CLEAN[address], {place: 0x5A})
+    SUMS[line] = text_of({**CLEAN, address: wrong}), f"now 0x5a, has to be {CLEAN[address][place]:#x}."
+CUT = text_of({**CLEAN, 0x2000: FADT[:68]})

@@ -1,0 +1,532 @@
+"""The edge of each fault: for each code a function that changes a made set so that a value lies just on the wrong side of its
+rule, or just on the right one."""
+
+from layout import nowhere, somewhere
+from made_sets import (
+    FACS_SIZE, HEADER_SIZE, LOW, MADT_TYPES, REDUCED, RESET_REG_SUP, RSDP_SIZE, SRAT_TYPES, TOP, Item, Table, apic_domain, io_apic,
+    lapic, lapic_address, lapic_nmi, little, memory_range, nmi_source, override, x2apic, x2apic_domain, x2apic_nmi,
+)
+
+PM1_EVT_LEN, PM1_CNT_LEN, PM_TMR_LEN, GPE0_BLK_LEN, GPE1_BLK_LEN = 88, 89, 91, 92, 93
+FLAGS, RESET_REG = 112, 116
+KINDS = (b"FACP", b"APIC", b"SRAT", b"SLIT", b"PPTT")
+
+
+def changed(data, at, values):
+    return data[:at] + bytes(values) + data[at + len(values) :]
+
+
+def error(dice):
+    """What a sum that is wrong comes to."""
+    return dice.choice((1, 2, 128, 255))
+
+
+def one_byte_wrong(dice, signature):
+    at = dice.randrange(len(signature))
+    return changed(signature, at, [signature[at] ^ dice.choice((1, 0x20, 0x80))])
+
+
+# ---- RSDP
+
+
+def extended(made):
+    """Gives the RSDP the extended form."""
+    made.rsdp["revision"] = made.dice.choice((2, 2, 3, 255))
+
+
+def rsdp_out(made, is_wrong):
+    if not is_wrong:
+        made.rsdp["revision"] = made.dice.randrange(2)
+        made.is_xsdt, made.root.signature = False, b"RSDT"
+    made.rsdp["held"] = made.dice.choice((19, 19, 0, 8, 15)) if is_wrong else RSDP_SIZE
+
+
+def rsdp_signature(made, is_wrong):
+    made.rsdp["signature"] = one_byte_wrong(made.dice, b"RSD PTR ") if is_wrong else b"RSD PTR "
+
+
+def rsdp_sum(made, is_wrong):
+    made.rsdp["error"] = error(made.dice) if is_wrong else 0
+
+
+def rsdp_tail_out(made, is_wrong):
+    extended(made)
+    made.rsdp["held"] = made.dice.choice((35, 35, 20, 24, 32)) if is_wrong else 36
+
+
+def rsdp_length(made, is_wrong):
+    extended(made)
+    made.rsdp["length"] = made.dice.choice((35, 35, 20, 0, 33)) if is_wrong else 36
+
+
+def rsdp_long_out(made, is_wrong):
+    extended(made)
+    made.rsdp["tail"] = bytes(range(made.dice.choice((1, 2, 28))))
+    made.rsdp["length"] = 36 + len(made.rsdp["tail"])
+    made.rsdp["held"] = made.rsdp["length"] - is_wrong
+    if is_wrong and made.dice.random() < 0.2:
+        made.rsdp["length"] = LOW - 1
+
+
+def rsdp_extended_sum(made, is_wrong):
+    extended(made)
+    made.rsdp["tail"] = bytes(range(made.dice.choice((0, 0, 4))))
+    made.rsdp["length"] = 36 + len(made.rsdp["tail"])
+    made.rsdp["long_error"] = error(made.dice) if is_wrong else 0
+
+
+# ---- root
+
+
+def no_root(made, is_wrong):
+    made.rsdp["rsdt"] = 0
+    if is_wrong:
+        made.rsdp["xsdt"] = made.dice.choice((0, None)) if made.rsdp["revision"] < 2 else 0
+    else:
+        extended(made)
+        made.is_xsdt, made.root.signature = True, b"XSDT"
+
+
+def root_header_out(made, is_wrong):
+    made.root.held = made.dice.choice((35, 35, 0, 8)) if is_wrong else HEADER_SIZE
+
+
+def root_signature(made, is_wrong):
+    own, other = (b"XSDT", b"RSDT") if made.is_xsdt else (b"RSDT", b"XSDT")
+    made.root.signature = made.dice.choice((other, one_byte_wrong(made.dice, own))) if is_wrong else own
+
+
+def root_length(made, is_wrong):
+    made.root.length = made.dice.choice((35, 35, 0, 9)) if is_wrong else HEADER_SIZE
+
+
+def root_out(made, is_wrong):
+    made.others.append(made.made_other())
+    made.root.held = made.dice.choice((36, 37, 39)) if is_wrong else None
+
+
+def root_ragged(made, is_wrong):
+    made.ragged = bytes(made.dice.choice((1, 3, 4, 7) if made.is_xsdt else (1, 2, 3))) if is_wrong else b""
+    if not is_wrong:
+        made.extra_slots.append(nowhere)
+
+
+def root_sum(made, is_wrong):
+    made.root.error = error(made.dice) if is_wrong else 0
+
+
+# ---- listed tables
+
+
+def on_a_table(made, change):
+    """Changes one of the listed tables."""
+    made.changes.append((made.dice.choice((None, *KINDS, b"SSDT")), change))
+
+
+def table_header_out(made, is_wrong):
+    if is_wrong and made.dice.random() < 0.5:
+        made.extra_slots.append(somewhere)
+    else:
+        held = made.dice.choice((35, 35, 0, 4, 8)) if is_wrong else HEADER_SIZE
+        on_a_table(made, lambda table: setattr(table, "held", held))
+
+
+def table_length(made, is_wrong):
+    length = made.dice.choice((35, 35, 0, 9)) if is_wrong else HEADER_SIZE
+    on_a_table(made, lambda table: setattr(table, "length", length))
+
+
+def table_out(made, is_wrong):
+    def change(table):
+        table.held = len(table) - is_wrong
+        if is_wrong and made.dice.random() < 0.3:
+            table.length, table.held = made.dice.choice((LOW - 1, 0x80000000, len(table) + 4096)), None
+
+    on_a_table(made, change)
+
+
+def table_sum(made, is_wrong):
+    wrong = error(made.dice) if is_wrong else 0
+    on_a_table(made, lambda table: setattr(table, "error", wrong))
+    if made.dice.random() < 0.5:
+        made.extra_slots += [nowhere, somewhere]
+
+
+# ---- FADT
+
+
+def no_fadt(made, is_wrong):
+    signature = made.dice.choice((b"FADT", b"facp", b"FACq", b"FACS")) if is_wrong else b"FACP"
+    made.others = [it for it in made.others if it.signature != b"FACP"] if is_wrong else made.others
+    made.changes.insert(0, (b"FACP", lambda table: setattr(table, "signature", signature)))
+
+
+def fadt_short(made, is_wrong):
+    made.fadt_length = made.dice.choice((115, 115, 36, 37, 114)) if is_wrong else 116
+
+
+def set_flags(made, bits, is_set):
+    flags = int.from_bytes(made.fadt[FLAGS : FLAGS + 4], "little")
+    made.fadt[FLAGS : FLAGS + 4] = little(flags | bits if is_set else flags & ~bits, 4)
+
+
+def block_length(at, wrong, right):
+    """The edge of a register block's length, now and then with reduced hardware, where it does not matter."""
+
+    def change(made, is_wrong):
+        made.fadt[at] = made.dice.choice(wrong if is_wrong else right)
+        set_flags(made, REDUCED, made.dice.random() < 0.15)
+
+    return change
+
+
+def gpe_length(made, is_wrong):
+    block_length(made.dice.choice((GPE0_BLK_LEN, GPE1_BLK_LEN)), (1, 3, 255), (0, 2, 254))(made, is_wrong)
+
+
+def reset_register(made, is_wrong):
+    dice = made.dice
+    set_flags(made, RESET_REG_SUP, is_wrong or dice.random() < 0.7)
+    made.fadt_length = dice.choice((129, 129, 130, 276) if is_wrong or dice.random() < 0.5 else (128, 128, 117))
+    right = [(0, 8, 0), (1, 8, 0), (2, 8, 0)]
+    wrong = [(3, 8, 0), (255, 8, 0), (1, 7, 0), (1, 9, 0), (1, 0, 0), (1, 8, 1), (0, 8, 255), (2, 16, 1)]
+    made.fadt[RESET_REG : RESET_REG + 3] = bytes(dice.choice(wrong if is_wrong or made.fadt_length < 129 else right))
+
+
+# ---- FACS
+
+
+def no_facs(made, is_wrong):
+    made.facs_at = 0 if is_wrong else None
+    set_flags(made, REDUCED, made.dice.random() < 0.2)
+
+
+def facs_align(made, is_wrong):
+    made.facs.shift = made.dice.choice((1, 32, 63)) if is_wrong else 0
+
+
+def facs_header_out(made, is_wrong):
+    made.facs.held = made.dice.choice((7, 7, 0, 4)) if is_wrong else 8
+    if is_wrong and made.dice.random() < 0.3:
+        made.facs_at = made.dice.choice((LOW - 64, 0x40, TOP - 64))
+
+
+def facs_signature(made, is_wrong):
+    made.facs.signature = one_byte_wrong(made.dice, b"FACS") if is_wrong else b"FACS"
+
+
+def facs_length(made, is_wrong):
+    made.facs.length = made.dice.choice((63, 63, 0, 32)) if is_wrong else FACS_SIZE
+
+
+def facs_out(made, is_wrong):
+    made.facs.size = made.facs.length = made.dice.choice((64, 64, 65, 128))
+    made.facs.held = made.facs.size - is_wrong
+    if is_wrong and made.dice.random() < 0.2:
+        made.facs.length = LOW - 1
+
+
+# ---- entries
+
+
+def put(made, entries, *more):
+    """Puts entries at places of their own, in any order."""
+    for entry in more:
+        entries.insert(made.dice.randrange(len(entries) + 1), entry)
+
+
+def cut_last(made, entries, is_wrong):
+    """Makes the last entry one that does not stand, or one that just stands."""
+    kind, size = made.dice.choice((0, 1, 2, 7, 200)), made.dice.choice((3, 8, 12, 255))
+    wrong = (b"\7", bytes([kind, 0]), bytes([kind, 1, 0]), bytes([kind, size]) + bytes(size - 3), bytes([kind, 1]))
+    entries.append(made.dice.choice(wrong) if is_wrong else bytes([7, size]) + bytes(size - 2))
+
+
+def mistyped(made, types, is_wrong):
+    """An entry with a length that is one more or less than its type has, that of another type, or the right one."""
+    kind = made.dice.choice(list(types))
+    size = types[kind]
+    wrong = [it for it in (size - 1, size + 1, *types.values(), 2, 255) if it != size and it >= 2]
+    size = made.dice.choice(wrong) if is_wrong else size
+    return bytes([kind, size]) + bytes(size - 2)
+
+
+def table_cut(name, first):
+    """The edge of a table's fixed part."""
+
+    def change(made, is_wrong):
+        setattr(made, name, made.dice.choice((first - 1, first - 1, 36, first - 4)) if is_wrong else first)
+
+    return change
+
+
+def madt_entry_cut(made, is_wrong):
+    cut_last(made, made.madt, is_wrong)
+
+
+def madt_entry_length(made, is_wrong):
+    put(made, made.madt, mistyped(made, MADT_TYPES, is_wrong))
+
+
+def override_bus(made, is_wrong):
+    put(made, made.madt, override(200, 0, 0, made.dice.choice((1, 2, 255)) if is_wrong else 0))
+
+
+def reserved_inti(made, is_wrong):
+    wrong, right = (0b0010, 0b1000, 0b1010, 0b1110, 0b1001, 0xFFF2, 0xFFFB), (0, 5, 7, 13, 15, 0xFFF0)
+    flags = made.dice.choice(wrong if is_wrong else right)
+    entries = (override(201, 0, flags), nmi_source(0, flags), lapic_nmi(255, flags), x2apic_nmi(LOW - 1, flags))
+    put(made, made.madt, made.dice.choice(entries))
+
+
+def second_address(made, is_wrong):
+    made.madt[:] = [entry for entry in made.madt if entry[0] != 5]
+    count = made.dice.choice((2, 2, 3)) if is_wrong else 1
+    put(made, made.madt, *[lapic_address(0xFEE00000)] * count)
+    if made.dice.random() < 0.2:
+        put(made, made.madt, bytes([5, 8]) + bytes(6))
+
+
+def gsi_past_end(made, is_wrong):
+    address = made.dice.choice((0xFEC00000, 0xFEC10000, 0xFFFFFFFF, 3))
+    base = LOW - made.inputs_of(address) + is_wrong
+    made.madt[:] = [entry for entry in made.madt if entry[0] != 1 or made.dice.random() < 0.3]
+    put(made, made.madt, io_apic(address, base))
+
+
+def gsi_clash(made, is_wrong):
+    """Two I/O APICs that touch or share a number, beside those that are there; of which some begin at one number."""
+    dice = made.dice
+    first, second = dice.choice((0xFEC00000, 0xFEC10000, 3)), dice.choice((0xFEC00000, 0xFFFFFFFF, 4))
+    base = dice.choice((0, 1000, 0x7FFFFFF0, LOW - 600))
+    end = base + made.inputs_of(first)
+    made.madt[:] = [entry for entry in made.madt if entry[0] != 1 or dice.random() < 0.3]
+    start = end - is_wrong if dice.random() < 0.7 or not is_wrong else base
+    put(made, made.madt, io_apic(first, base), io_apic(second, start))
+    if is_wrong and dice.random() < 0.4:
+        put(made, made.madt, io_apic(first, dice.choice((base, base + 1, start, max(base - 1, 0)))))
+
+
+def override_clash(made, is_wrong):
+    dice, source = made.dice, made.dice.choice((0, 9, 202))
+    gsis = [dice.choice((0, 1, 2)) for _ in range(dice.choice((1, 1, 2)))]
+    put(made, made.madt, *[override(source, gsi) for gsi in (*gsis, gsis[0] + is_wrong * dice.choice((1, 256, 1 << 24)))])
+
+
+def srat_entry_cut(made, is_wrong):
+    cut_last(made, made.srat, is_wrong)
+
+
+def srat_entry_length(made, is_wrong):
+    put(made, made.srat, mistyped(made, SRAT_TYPES, is_wrong))
+
+
+def range_past_end(made, is_wrong):
+    length = made.dice.choice((1, 0x1000, TOP - 1, 0))
+    base = min(TOP - length + is_wrong, TOP - 1)
+    put(made, made.srat, memory_range(base, length, made.dice.choice((1, 3, 5, 1, 1, 0))))
+
+
+def overlap(made, is_wrong):
+    """Two ranges that touch or share an address, of one kind or of two, and now and then a third one."""
+    dice = made.dice
+    base, size, flags = dice.choice((0x10000, LOW - 8, TOP - 0x2000)), dice.choice((1, 8, 0x1000)), dice.choice((1, 3))
+    start = base + size - is_wrong * dice.choice((1, 1, size))
+    ranges = [memory_range(base, size, flags), memory_range(start, dice.choice((1, 8, 0x1000)), dice.choice((1, 3, flags, flags)))]
+    if dice.random() < 0.4:
+        start, is_plain = dice.choice((base, start, max(base - 1, 0))), dice.random() < 0.5
+        ranges.append(memory_range(start, dice.choice((0, 1, 2, 0x1001)), dice.choice((0, 2, 1, 3)) if is_plain else flags))
+    put(made, made.srat, *ranges)
+
+
+# ---- SLIT
+
+
+def slit_short(made, is_wrong):
+    made.changes.append((b"SLIT", lambda table: setattr(table, "body", table.body[: 7 if is_wrong else 8])))
+
+
+def slit_size(made, is_wrong):
+    dice, (count, cells) = made.dice, made.slit
+    if is_wrong:
+        made.slit[0] = dice.choice((count + 1, max(count - 1, 0) if count else 5, LOW, LOW + count, 1 << 63, TOP - count if count else 7))
+        cells.extend(bytes(dice.choice((0, 0, 1, 2))))
+    else:
+        made.slit[:] = [0, bytearray()] if dice.random() < 0.3 else [3, bytearray(b"\x0a\x14\x14\x14\x0a\x14\x14\x14\x0a")]
+
+
+def slit_cell(is_diagonal, wrong, right):
+    def change(made, is_wrong):
+        dice, (count, cells) = made.dice, made.slit
+        if count < 2 or count * count != len(cells):
+            count, cells = made.slit[:] = 2, bytearray(b"\x0a\x14\x14\x0a")
+        for _ in range(dice.choice((1, 1, 2))):
+            row = dice.randrange(count)
+            column = row if is_diagonal else (row + dice.randrange(1, count)) % count
+            cells[row * count + column] = dice.choice(wrong if is_wrong else right)
+
+    return change
+
+
+# ---- PPTT
+
+
+def pptt_entry_cut(made, is_wrong):
+    kind, size = made.dice.choice((0, 1, 2, 9)), made.dice.choice((2, 20, 24, 200))
+    item = Item(kind, size=size)
+    made.pptt.append(item)
+    if is_wrong:
+        # Less than the item has; or an item of one byte, or one whose length says so.
+        wrong = made.dice.choice(("less", "byte", "zero"))
+        item.size = {"less": size, "byte": 1, "zero": made.dice.choice((0, 1))}[wrong]
+        whole = HEADER_SIZE + sum(map(len, made.pptt))
+        made.pptt_cut = whole - 1 if wrong == "less" else None
+        made.pptt[-1] = Odd(item, wrong)
+
+
+class Odd(Item):
+    """An entry whose bytes are more or fewer than its length byte says."""
+
+    def __init__(self, item, wrong):
+        super().__init__(item.kind, size=item.size)
+        self.wrong = wrong
+
+    def __len__(self):
+        return 2 if self.wrong == "zero" else self.size
+
+    def bytes(self):
+        return bytes([self.kind, self.size]) if self.wrong == "zero" else super().bytes()
+
+
+def pptt_entry_length(made, is_wrong):
+    dice = made.dice
+    item = Item(0, 0, [], 0, 7) if dice.random() < 0.6 else Item(1)
+    if item.kind == 0 and is_wrong:
+        item.count = dice.choice((1, 1, 0x40000000, LOW - 1))
+        item.size = dice.choice((20, 20, 21, 23, 19, 16, 2))
+    elif item.kind == 1:
+        item.size = dice.choice((23, 25, 26, 27, 29, 20, 2, 255) if is_wrong else (24, 28))
+    put(made, made.pptt, item)
+
+
+def of_kind(made, kind):
+    """One of the entries of this type, put in if there is none."""
+    items = [item for item in made.pptt if item.kind == kind]
+    if not items:
+        items = [Item(kind)]
+        put(made, made.pptt, *items)
+    return made.dice.choice(items)
+
+
+def stray(made, kind):
+    """What is no entry of this type: something beside one, an entry of another type, or one without a length of its type."""
+    dice = made.dice
+    beside = (of_kind(made, kind), dice.choice((1, 2, 20, -1, -20)))
+    mistyped_item = Item(kind, size=21)
+    if dice.random() < 0.2:
+        put(made, made.pptt, mistyped_item)
+        return mistyped_item
+    return dice.choice((beside, beside, of_kind(made, 1 - kind), 36 if kind == 1 else 35, 35, 1, LOW - 1, 0x10000))
+
+
+def dangling_parent(made, is_wrong):
+    of_kind(made, 0).names = stray(made, 0) if is_wrong else made.dice.choice((0, of_kind(made, 0)))
+
+
+def dangling_resource(made, is_wrong):
+    dice, node = made.dice, of_kind(made, 0)
+    for _ in range(dice.choice((1, 1, 2))):
+        right, wrong = (of_kind(made, 1), of_kind(made, 2)), (0, stray(made, 1), of_kind(made, 0))
+        node.resources.insert(dice.randrange(len(node.resources) + 1), dice.choice(wrong if is_wrong else right))
+
+
+def dangling_cache(made, is_wrong):
+    of_kind(made, 1).names = stray(made, 1) if is_wrong else made.dice.choice((0, of_kind(made, 1)))
+
+
+def cycle(kind):
+    """Some entries that lead to each other, around or to an end, and some that lead to these."""
+
+    def change(made, is_wrong):
+        dice = made.dice
+        ring = [Item(kind) for _ in range(dice.choice((1, 1, 2, 3, 5)))]
+        for place, item in enumerate(ring):
+            item.names = ring[(place + 1) % len(ring)]
+        if not is_wrong:
+            ring[dice.randrange(len(ring))].names = 0
+        chain = [Item(kind, dice.choice(ring))]
+        for _ in range(dice.choice((0, 0, 1, 2))):
+            chain.append(Item(kind, dice.choice(chain)))
+        items = ring + chain[: dice.choice((0, 1, len(chain)))]
+        dice.shuffle(items)
+        put(made, made.pptt, *items)
+
+    return change
+
+
+# ---- across tables
+
+
+def two_domains(made, is_wrong):
+    """Entries of one processor: of either type, enabled or not, in domains that are equal or differ in one byte."""
+    dice = made.dice
+    apic_id = dice.choice((5, 255, 256, LOW - 1))
+    processor_flags, domain_flags = ((1, 1, 3, 2), (1, 1, 1, 1, 3, 2)) if is_wrong else ((1, 2, 3, 0), (1, 1, 3, 0))
+    maker = x2apic if apic_id > 255 or dice.random() < 0.5 else lapic
+    put(made, made.madt, maker(5, apic_id, dice.choice(processor_flags)))
+    domain = dice.choice((0, 1, 0x01020304))
+    other = domain ^ (is_wrong * dice.choice((1, 1 << 8, 1 << 16, 1 << 24)))
+    for it in (domain, other, dice.choice((domain, 7)))[: dice.choice((2, 2, 3))]:
+        maker = x2apic_domain if apic_id > 255 or dice.random() < 0.5 else apic_domain
+        put(made, made.srat, maker(apic_id, it, dice.choice(domain_flags)))
+
+
+def gsi_nowhere(made, is_wrong):
+    dice, spans = made.dice, []
+    if not any(entry[:2] == b"\1\x0c" for entry in made.madt):
+        put(made, made.madt, io_apic(0xFEC00000, dice.choice((0, 24))))
+    for entry in made.madt:
+        if entry[:2] == b"\1\x0c":
+            base, address = int.from_bytes(entry[8:12], "little"), int.from_bytes(entry[4:8], "little")
+            spans.append((base, base + made.inputs_of(address)))
+    base, end = dice.choice(spans)
+    gsi = dice.choice((end, end, base - 1, LOW - 1) if is_wrong else (base, end - 1))
+    put(made, made.madt, override(203, gsi) if dice.random() < 0.5 else nmi_source(gsi))
+
+
+def leaf_unknown(made, is_wrong):
+    dice = made.dice
+    uid = dice.choice((0, 7, 255, 256, LOW - 1))
+    if not is_wrong:
+        flags = dice.choice((1, 0))
+        put(made, made.madt, x2apic(uid, 900, flags) if uid > 255 or dice.random() < 0.5 else lapic(uid, 99, flags))
+    else:
+        made.madt[:] = [entry for entry in made.madt if len(entry) == MADT_TYPES.get(entry[0])]
+        uid = dice.choice((uid, 0xABCDEF))
+    flags = 0b1010 | dice.choice((0, 1, 4, LOW - 16)) if is_wrong or dice.random() < 0.7 else dice.choice((0, 2, 8))
+    put(made, made.pptt, Item(0, 0, [], flags, uid))
+    made.pptt_revision = dice.choice((2, 2, 2, 3, 255, 1))
+
+
+EDGES = (
+    rsdp_out, rsdp_signature, rsdp_sum, rsdp_tail_out, rsdp_length, rsdp_long_out, rsdp_extended_sum,
+    no_root, root_header_out, root_signature, root_length, root_out, root_ragged, root_sum,
+    table_header_out, table_length, table_out, table_sum,
+    no_fadt, fadt_short, block_length(PM1_EVT_LEN, (3, 3, 0), (4, 5, 255)), block_length(PM1_CNT_LEN, (1, 1, 0), (2, 3, 255)),
+    block_length(PM_TMR_LEN, (1, 3, 5, 255), (0, 4)), gpe_length, reset_register,
+    no_facs, facs_align, facs_header_out, facs_signature, facs_length, facs_out,
+    table_cut("madt_cut", 44), madt_entry_cut, madt_entry_length, override_bus, reserved_inti, second_address, gsi_past_end,
+    gsi_clash, override_clash,
+    table_cut("srat_cut", 48), srat_entry_cut, srat_entry_length, range_past_end, overlap,
+    slit_short, slit_size, slit_cell(True, (9, 11, 0, 255), (10,)), slit_cell(False, (9, 0, 9), (10, 255, 11)),
+    pptt_entry_cut, pptt_entry_length, dangling_parent, dangling_resource, dangling_cache, cycle(0), cycle(1),
+    two_domains, gsi_nowhere, leaf_unknown,
+)
+# The tables that an edge changes, by the place of the first code that does and the last.
+NEEDED = (("madt", 32, 40), ("srat", 41, 45), ("slit", 46, 49), ("pptt", 50, 56), ("madt", 57, 59), ("srat", 57, 57), ("pptt", 59, 59))
+
+
+def change_at_edge(made, code, is_wrong):
+    """Changes a set at the edge of this code, where it has the tables that the edge is of."""
+    if all(getattr(made, name) is not None for name, first, last in NEEDED if first <= code <= last):
+        EDGES[code - 1](made, is_wrong)

@@ -1,0 +1,160 @@
+"""Makes the cases: an image text, and what the program is asked about it. A case is made of the seed and its number alone."""
+
+import random
+from dataclasses import dataclass, field
+
+from edges import EDGES, change_at_edge
+from image_text import TOP
+from layout import laid_out
+from made_sets import MadeSet, made_settings
+from made_texts import damaged, lines_of_every_form, longest_text, rendered
+from verdicts import STAGE_OF, Fault, number
+
+# Of so many cases one is about the form of texts, and the others are about sets. Of so many about texts one is as long as can be.
+TEXT_EVERY, LONGEST_EVERY = 5, 40
+NAMES = list(STAGE_OF)
+BASES = (0, 0x40, 0xE0000, 0x7FFE0000, 0xFFFFFF00, 1 << 32, 0x123456789AC0, TOP - 0x1000, TOP - 64, 1, 0x20, 0xFFFF)
+
+
+@dataclass
+class Case:
+    text: bytes
+    rsdp: int = None
+    settings: object = None
+    last: int = 18
+    base: int = 0
+    is_strict: bool = False
+    # The words that say the RSDP and the settings.
+    rsdp_words: list = field(default_factory=list)
+    setting_words: list = field(default_factory=list)
+    # The memory that the text was written from, if it says nothing else.
+    memory: object = None
+
+
+def hex_word(dice, value, most):
+    digits = f"{value:x}"
+    digits = digits.rjust(dice.choice((len(digits), len(digits), most)), "0")
+    return dice.choice(("", "0x")) + dice.choice((digits, digits, digits.upper()))
+
+
+def words_of(dice, settings):
+    """Words that say the settings; those of the default may be left out, and of an address the first count is said first."""
+    groups = []
+    if settings.default_inputs != 24 or dice.random() < 0.1:
+        groups.append(["--default-inputs", str(settings.default_inputs)])
+    if settings.hotplug != "counted" or dice.random() < 0.1:
+        groups.append(["--hotplug", settings.hotplug])
+    if settings.processors != "enabled" or dice.random() < 0.1:
+        groups.append(["--processors", settings.processors])
+    for address, count in settings.inputs.items():
+        counts = [count] + [dice.randrange(1, 257) for _ in range(dice.choice((0, 0, 0, 1)))]
+        groups.append([f"{hex_word(dice, address, 8)}={it}" for it in counts])
+    dice.shuffle(groups)
+    return [word for group in groups for word in group]
+
+
+def change_bytes(dice, memory, rsdp):
+    """Changes a byte here and there, and then closes the sum of the table that it is in, most times."""
+    held = sorted(memory.bytes)
+    for _ in range(dice.choice((1, 1, 2))):
+        at = dice.choice(held)
+        memory.bytes[at] = dice.choice((0, 1, 2, 4, 8, 255, dice.randrange(256), memory.bytes[at] ^ 1))
+        starts = [start for start in held if memory.held(start, 4) in SIGNATURES and start <= at]
+        if starts and dice.random() < 0.8:
+            close(memory, starts[-1])
+    if dice.random() < 0.1:
+        del memory.bytes[dice.choice(held)]
+
+
+SIGNATURES = (b"FACP", b"APIC", b"SRAT", b"SLIT", b"PPTT", b"XSDT", b"RSDT", b"SSDT", b"HPET")
+
+
+def close(memory, start):
+    """Makes the bytes of a table sum to 0."""
+    header = memory.held(start, 36)
+    table = memory.held(start, number(header, 4, 4)) if header else None
+    if table:
+        memory.bytes[start + 9] = (memory.bytes[start + 9] - sum(table)) % 256
+
+
+def other_code(dice, target):
+    """Another code: most times one near this, so that it matters which of the two is reported, and seldom one of the first
+    stages, which hide all others."""
+    code = dice.choice((target, target + 1, target - 1, target + dice.randrange(-8, 9), dice.randrange(19, 60), dice.randrange(32, 60)))
+    return code if 1 <= code <= len(EDGES) else dice.randrange(1, len(EDGES) + 1)
+
+
+def set_case(dice, place):
+    """A set at the edge of one code, and now and then of others. Each code comes in its turn."""
+    target = place % len(EDGES) + 1
+    made = MadeSet(dice, target)
+    change_at_edge(made, target, dice.random() < 0.7)
+    for _ in range(dice.choice((0, 0, 0, 1, 1, 2, 4))):
+        change_at_edge(made, other_code(dice, target), dice.random() < 0.6)
+    memory, rsdp = laid_out(made)
+    if dice.random() < 0.15 and memory.bytes:
+        change_bytes(dice, memory, rsdp)
+    case = Case(rendered(dice, memory), rsdp, made.settings, memory=memory)
+    if dice.random() < 0.05:
+        case.rsdp = dice.choice((rsdp + 1, rsdp - 1, 0, TOP - 1, TOP - 20)) % TOP
+    if dice.random() < 0.3:
+        case.last = dice.randrange(1, 19)
+    return case
+
+
+def text_case(dice, place):
+    """A text of lines at random, or one of a set with a thing or two changed, or one of the greatest size."""
+    if place % LONGEST_EVERY == LONGEST_EVERY - 1:
+        turn = place // LONGEST_EVERY
+        return Case(longest_text(turn & 1, turn >> 1 & 1), 0, made_settings(dice))
+    if place % 2:
+        return Case(lines_of_every_form(dice, place // 2), dice.choice((0, 0xE0000, TOP - 20)), made_settings(dice))
+    made = MadeSet(dice, dice.randrange(1, 60))
+    memory, rsdp = laid_out(made)
+    text = rendered(dice, memory)
+    for _ in range(dice.choice((1, 1, 1, 2))):
+        text = damaged(dice, text)
+    return Case(text, rsdp, made.settings)
+
+
+def case_of(seed, place):
+    """The case of this number."""
+    dice = random.Random(f"{seed} {place}")
+    group, of_group = divmod(place, TEXT_EVERY)
+    is_text = of_group == TEXT_EVERY - 1
+    case = text_case(dice, group) if is_text else set_case(dice, group * (TEXT_EVERY - 1) + of_group)
+    case.base, case.is_strict = dice.choice(BASES), dice.random() < 0.2
+    case.setting_words = words_of(dice, case.settings)
+    if dice.random() < 0.85:
+        case.rsdp_words = ["--rsdp", hex_word(dice, case.rsdp, 16)]
+    else:
+        case.rsdp = None
+    return case, dice
+
+
+# ---- faults to ask `confirm` about
+
+
+def near(dice, fault):
+    """A fault that is near this one: a number that is one more or less, or another one's, or another name of its stage."""
+    numbers = [fault.at, fault.other, fault.point]
+    place = dice.randrange(3)
+    what = dice.choice(("more", "less", "swap", "name", "zero", "far"))
+    if what == "swap":
+        other = dice.randrange(3)
+        numbers[place], numbers[other] = numbers[other], numbers[place]
+    elif what == "name":
+        same = [name for name in NAMES if STAGE_OF[name] == STAGE_OF[fault.name]]
+        return Fault(dice.choice(same if len(same) > 1 else NAMES), *numbers)
+    else:
+        far = dice.choice((TOP - 1, 1 << 32, numbers[0]))
+        numbers[place] = {"more": numbers[place] + 1, "less": numbers[place] - 1, "zero": 0, "far": far}[what] % TOP
+    return Fault(fault.name, *numbers)
+
+
+def asked(dice, judgement):
+    """Faults that stand, and some that may not."""
+    stands = judgement.faults
+    asked_about = stands if len(stands) <= 3 else dice.sample(stands, 3)
+    any_numbers = [dice.choice((0, 0, 36, 44, 48, 88, 116)) for _ in range(3)]
+    return [*asked_about, *(near(dice, fault) for fault in asked_about), Fault(dice.choice(NAMES), *any_numbers)]

@@ -1,0 +1,356 @@
+"""Makes sets of tables at random: parts that are right on the whole, which edges.py then changes, and where they lie. Sections
+are those of ACPI 6.5. Numbers are little-endian."""
+
+from verdicts import Settings
+
+RSDP_SIZE, LONG_RSDP_SIZE, HEADER_SIZE, FACS_SIZE = 20, 36, 36, 64
+FADT_SIZE = 320
+FADT_LENGTHS = (116, 117, 128, 129, 131, 132, 139, 140, 147, 148, 159, 160, 232, 243, 244, 268, 276, 277, FADT_SIZE)
+REDUCED, RESET_REG_SUP = 1 << 20, 1 << 10
+TOP = 1 << 64
+LOW = 1 << 32
+
+
+def little(value, size):
+    return (value % (1 << 8 * size)).to_bytes(size, "little")
+
+
+def with_sum(data, at, size, error=0):
+    """The bytes with the one at this offset set so that so many sum to the error."""
+    data = bytearray(data)
+    if at < len(data):
+        data[at] = (error - sum(data[:size]) + (data[at] if at < size else 0)) % 256
+    return bytes(data)
+
+
+class Table:
+    """A table (5.2.6): `length` is its Length where it is not that of its bytes, `held` how many of its bytes are held."""
+
+    def __init__(self, signature, body, revision=1):
+        self.signature, self.body, self.revision = signature, bytes(body), revision
+        self.length, self.held, self.error = None, None, 0
+        self.at = None
+
+    def __len__(self):
+        return HEADER_SIZE + len(self.body)
+
+    def bytes(self, dice):
+        """The bytes, with the checksum over Length of them."""
+        length = len(self) if self.length is None else self.length
+        maker = bytes(dice.randrange(256) for _ in range(26))
+        data = self.signature + little(length, 4) + bytes([self.revision, 0]) + maker + self.body
+        return with_sum(data, 9, length, self.error)
+
+
+class Facs:
+    """A FACS (5.2.10)."""
+
+    def __init__(self):
+        self.signature, self.length, self.size, self.held = b"FACS", FACS_SIZE, FACS_SIZE, None
+        self.at, self.shift = None, 0
+
+    def bytes(self, dice):
+        head = self.signature + little(self.length, 4)
+        return (head + bytes(24) + bytes([dice.randrange(4)]) + bytes(self.size))[: self.size]
+
+
+# ---- MADT (5.2.12)
+
+
+def lapic(uid, apic_id, flags):
+    return bytes([0, 8, uid % 256, apic_id % 256]) + little(flags, 4)
+
+
+def io_apic(address, base, io_apic_id=0):
+    return bytes([1, 12, io_apic_id, 0]) + little(address, 4) + little(base, 4)
+
+
+def override(source, gsi, flags=0, bus=0):
+    return bytes([2, 10, bus, source]) + little(gsi, 4) + little(flags, 2)
+
+
+def nmi_source(gsi, flags=0):
+    return bytes([3, 8]) + little(flags, 2) + little(gsi, 4)
+
+
+def lapic_nmi(uid, flags=0):
+    return bytes([4, 6, uid % 256]) + little(flags, 2) + b"\1"
+
+
+def lapic_address(address):
+    return bytes([5, 12, 0, 0]) + little(address, 8)
+
+
+def x2apic(uid, apic_id, flags):
+    return bytes([9, 16, 0, 0]) + little(apic_id, 4) + little(flags, 4) + little(uid, 4)
+
+
+def x2apic_nmi(uid, flags=0):
+    return bytes([10, 12]) + little(flags, 2) + little(uid, 4) + bytes([1, 0, 0, 0])
+
+
+MADT_TYPES = {0: 8, 1: 12, 2: 10, 3: 8, 4: 6, 5: 12, 9: 16, 10: 12}
+SRAT_TYPES = {0: 16, 1: 40, 2: 24}
+
+
+def gicc(uid, flags, size):
+    """A GIC CPU interface (5.2.12.14), at which no stage looks."""
+    return (bytes([11, size]) + bytes(6) + little(uid, 4) + little(flags, 4) + bytes(size))[:size]
+
+
+def gicd():
+    return bytes([12, 24]) + bytes(22)
+
+
+def other_entry(dice, kinds):
+    size = dice.choice((2, 3, 8, 18, 20, 24, 39, 40, 80))
+    return bytes([dice.choice(kinds), size]) + bytes(dice.choice((0, 1, 2, 255)) for _ in range(size - 2))
+
+
+# ---- SRAT (5.2.16)
+
+
+def apic_domain(apic_id, domain, flags):
+    return bytes([0, 16, domain % 256, apic_id % 256]) + little(flags, 4) + b"\7" + little(domain >> 8, 3) + bytes(4)
+
+
+def x2apic_domain(apic_id, domain, flags):
+    return bytes([2, 24, 0, 0]) + little(domain, 4) + little(apic_id, 4) + little(flags, 4) + bytes(8)
+
+
+def memory_range(base, length, flags, domain=0):
+    return bytes([1, 40]) + little(domain, 4) + bytes(2) + little(base, 8) + little(length, 8) + bytes(4) + little(flags, 4) + bytes(8)
+
+
+def gicc_domain(uid, domain, flags):
+    return bytes([3, 18]) + little(domain, 4) + little(uid, 4) + little(flags, 4) + bytes(4)
+
+
+# ---- PPTT (5.2.30)
+
+
+class Item:
+    """An entry of the PPTT. What it names is another one, or an offset, or another one and how far behind its start."""
+
+    def __init__(self, kind, names=0, resources=(), flags=0, uid=0, size=None):
+        self.kind, self.names, self.resources, self.flags, self.uid = kind, names, list(resources), flags, uid
+        self.count = None
+        self.size = size
+        self.at = 0
+
+    def __len__(self):
+        if self.size is not None:
+            return self.size
+        return 20 + 4 * len(self.resources) if self.kind == 0 else 24
+
+    def bytes(self):
+        count = len(self.resources) if self.count is None else self.count
+        head = bytes([self.kind, len(self), 0, 0]) + little(self.flags, 4) + little(offset_of(self.names), 4) + little(self.uid, 4)
+        if self.kind == 0:
+            rest = little(count, 4) + b"".join(little(offset_of(it), 4) for it in self.resources)
+        else:
+            rest = little(self.uid, 4) + bytes([4, 1, 64, 0]) + little(self.uid, 4)
+        return (head + rest + bytes(len(self)))[: len(self)]
+
+
+def offset_of(name):
+    if isinstance(name, Item):
+        return name.at
+    if isinstance(name, tuple):
+        return name[0].at + name[1]
+    return name
+
+
+def placed_items(items):
+    """The bytes of entries one after another, each with its place."""
+    at = HEADER_SIZE
+    for item in items:
+        item.at, at = at, at + len(item)
+    return b"".join(item.bytes() for item in items)
+
+
+# ---- a set
+
+
+class MadeSet:
+    """A set that keeps all rules, if its parts were not changed: what its tables say, and how they lie."""
+
+    def __init__(self, dice, target):
+        self.dice = dice
+        self.settings = made_settings(dice)
+        self.is_xsdt = dice.random() < 0.5
+        self.rsdp = {"signature": b"RSD PTR ", "revision": self.made_revision(), "length": 36, "tail": b"", "size": 36}
+        self.rsdp.update(error=0, long_error=0, rsdt=None, xsdt=None, held=None)
+        self.rsdp_at = dice.choice((0xE0000, 0xE0000 + 16 * dice.randrange(1, 0x2000), 0xFFFF0, None))
+        self.root = Table(b"XSDT" if self.is_xsdt else b"RSDT", b"", dice.randrange(3))
+        self.ragged, self.extra_slots = b"", [listed_table] * (dice.random() < 0.1)
+        self.facs = Facs()
+        self.facs_at = None
+        self.fadt_length = dice.choice(FADT_LENGTHS)
+        self.fadt = self.made_fadt()
+        self.processors = made_processors(dice)
+        is_there = lambda *codes: target in codes or dice.random() < 0.6
+        self.madt = self.made_madt() if is_there(*range(32, 41), 57, 58, 59) else None
+        self.srat = self.made_srat() if is_there(*range(41, 46), 57) else None
+        self.slit = self.made_slit() if is_there(*range(46, 50)) else None
+        self.pptt = self.made_pptt() if is_there(*range(50, 57), 59) else None
+        self.madt_cut = self.srat_cut = self.pptt_cut = None
+        self.pptt_revision = dice.choice((2, 2, 2, 3, 3, 1, 255))
+        self.others = [self.made_other() for _ in range(dice.choice((0, 0, 1, 2)))]
+        # What is done to the tables when they are made: functions of the table with this signature.
+        self.changes = []
+
+    def made_revision(self):
+        return self.dice.choice((2, 2, 2, 3, 255)) if self.is_xsdt else self.dice.choice((0, 0, 0, 1))
+
+    def made_fadt(self):
+        dice = self.dice
+        body = bytearray(FADT_SIZE)
+        body[88], body[89], body[91] = dice.choice((4, 4, 5, 255)), dice.choice((2, 2, 3, 255)), dice.choice((0, 4))
+        body[92], body[93] = dice.choice((0, 2, 254)), dice.choice((0, 2, 254))
+        body[112:116] = little(dice.choice((0, 0, REDUCED, RESET_REG_SUP, REDUCED | RESET_REG_SUP, 0xFFEFFFFF)), 4)
+        body[116:119] = bytes([dice.randrange(3), 8, 0])
+        body[46:48] = little(dice.choice((9, 9, 0, 24, 255)), 2)
+        body[40:44] = little(dice.choice((0, 0x9000, 0x7FFE0000)), 4)
+        # A part of X_FIRMWARE_CTRL, which is none where Length ends in it.
+        body[132:139] = b"\x55" * 7
+        for at in (*range(56, 88, 4), *range(152, 244, 12), 140):
+            body[at : at + 4] = little(dice.choice((0, 0, 0, 0x600, 0x608)), 4)
+        for at in range(148, 244, 12):
+            body[at : at + 4] = bytes([dice.choice((0, 1, 1, 127)), dice.choice((8, 16, 32)), 0, dice.randrange(5)])
+        return body
+
+    def inputs_of(self, address):
+        return self.settings.inputs.get(address, self.settings.default_inputs)
+
+    def made_madt(self):
+        dice, base, spans = self.dice, self.dice.choice((0, 0, 0, 16, 0xFFFFF000)), []
+        entries = []
+        for place in range(dice.choice((0, 1, 1, 2, 3, 4))):
+            address = dice.choice((0xFEC00000 + 0x10000 * place, 0xFEC00000, 0))
+            entries.append(io_apic(address, base, dice.choice((place, 0))))
+            spans.append((base, self.inputs_of(address)))
+            base += self.inputs_of(address) + dice.choice((0, 0, 0, 1, 8))
+        for uid, apic_id, flags, is_wide in self.processors:
+            entries.append(x2apic(uid, apic_id, flags) if is_wide else lapic(uid, apic_id, flags))
+        served = lambda: spans[0][0] + dice.randrange(spans[0][1]) if spans else dice.randrange(64)
+        inti = lambda: dice.choice((0, 1, 3)) | dice.choice((0, 4, 12)) | dice.choice((0, 0, 0xFFF0))
+        numbers = {}
+        for _ in range(dice.choice((0, 1, 1, 3, 5))):
+            source = dice.choice((0, 1, 5, 9, 10, 15, 255))
+            entries.append(override(source, numbers.setdefault(source, served()), inti()))
+        more = (
+            lambda: nmi_source(served(), inti()),
+            lambda: lapic_nmi(dice.choice((0, 1, 255)), inti()),
+            lambda: x2apic_nmi(dice.choice((0, 256, 0xFFFFFFFF)), inti()),
+        )
+        entries += [dice.choice(more)() for _ in range(dice.choice((0, 1, 2)))]
+        entries += [lapic_address(0xFEE00000)] * dice.choice((0, 0, 1))
+        if dice.random() < 0.1:
+            entries.append(other_entry(dice, (6, 7, 8, 11, 12, 13, 15, 17, 24, 255)))
+        if dice.random() < 0.15:
+            entries += [gicd()] * dice.choice((0, 1, 2))
+            entries += [gicc(dice.choice((0, 1, 77)), dice.choice((0, 1, 1)), dice.choice((39, 40, 80, 80))) for _ in range(dice.choice((1, 2)))]
+        dice.shuffle(entries)
+        return entries
+
+    def made_srat(self):
+        dice, entries, base = self.dice, [], self.dice.choice((0, 0, 0x100000000, TOP - 0x10000))
+        for _, apic_id, _, is_wide in self.processors:
+            domain, flags = dice.choice((0, 1, 255, 256, 0xFFFFFFFF)), dice.choice((1, 1, 1, 0, 0xFFFFFFFF))
+            if dice.random() < 0.9:
+                entries.append(x2apic_domain(apic_id, domain, flags) if is_wide else apic_domain(apic_id, domain, flags))
+        for _ in range(dice.choice((0, 1, 2, 3, 5))):
+            size = dice.choice((0, 1, 0x1000, 0x1000))
+            entries.append(memory_range(base, size, dice.choice((1, 1, 3, 5, 0, 2)), dice.randrange(3)))
+            base += size + dice.choice((0, 0, 1, 0x1000))
+        if dice.random() < 0.2:
+            entries.append(other_entry(dice, (3, 3, 4, 5, 255)))
+        entries += [gicc_domain(dice.randrange(2), dice.randrange(3), 1) for _ in range(dice.choice((0, 0, 0, 2)))]
+        dice.shuffle(entries)
+        return entries
+
+    def made_slit(self):
+        """The number of localities, and the distances."""
+        dice = self.dice
+        count = dice.choice((0, 1, 2, 2, 3, 4))
+        far = dice.choice((10, 20, 255))
+        return [count, bytearray(10 if i == j else far for i in range(count) for j in range(count))]
+
+    def made_pptt(self):
+        dice, items = self.dice, []
+        caches = [Item(1, uid=dice.choice((0, 1, 64)), size=dice.choice((24, 28)), flags=dice.choice((0, 2, 0x80, 0xC2)))]
+        for _ in range(dice.choice((0, 1, 2))):
+            caches.append(Item(1, dice.choice((0, caches[-1])), size=dice.choice((24, 28)), flags=dice.choice((0, 0x80))))
+        others = [Item(dice.choice((2, 3, 255)), size=dice.choice((2, 20, 24, 30)))] * dice.choice((0, 0, 1))
+        uids = [uid for uid, _, _, _ in self.processors]
+        nodes = [Item(0)]
+        for place in range(dice.choice((0, 1, 2, 4))):
+            is_leaf = place < len(uids)
+            resources = [dice.choice(caches + others) for _ in range(dice.choice((0, 0, 1, 2)))]
+            flags, uid = (0b1010 if is_leaf else dice.choice((0, 1, 2, 8))), (uids[place] if is_leaf else 77)
+            nodes.append(Item(0, dice.choice(nodes), resources, flags, uid))
+        items = nodes + caches + others
+        dice.shuffle(items)
+        return items
+
+    def made_other(self):
+        dice = self.dice
+        read = (b"APIC", b"FACP", b"SRAT", b"SLIT", b"PPTT")
+        signature = dice.choice((b"HPET", b"SSDT", b"SSDT", b"DSDT", b"FACS", b"\0\x1f~\x7f", *read))
+        return Table(signature, bytes(dice.randrange(256) for _ in range(dice.choice((0, 0, 4, 8, 12, 64, 80)))), dice.randrange(4))
+
+    # ---- the tables, as their parts say
+
+    def tables(self):
+        """The listed tables in the order of the slots: a further one of a kind comes behind, most times."""
+        self.fadt_table = Table(b"FACP", self.fadt[36 : self.fadt_length], self.dice.choice((1, 3, 5, 6)))
+        tables = [self.fadt_table]
+        if self.madt is not None:
+            head = little(0xFEE00000, 4) + little(1, 4)
+            tables.append(Table(b"APIC", cut(head + b"".join(self.madt), self.madt_cut)))
+        if self.srat is not None:
+            tables.append(Table(b"SRAT", cut(little(1, 4) + bytes(8) + b"".join(self.srat), self.srat_cut)))
+        if self.slit is not None:
+            tables.append(Table(b"SLIT", little(self.slit[0], 8) + self.slit[1]))
+        if self.pptt is not None:
+            tables.append(Table(b"PPTT", cut(placed_items(self.pptt), self.pptt_cut), self.pptt_revision))
+        self.dice.shuffle(tables)
+        tables = tables + self.others if self.dice.random() < 0.8 else self.others + tables
+        for signature, change in self.changes:
+            for table in tables:
+                if signature in (table.signature, None):
+                    change(table)
+                    break
+        return tables
+
+
+def listed_table(layout):
+    """The address of a table that has a slot already."""
+    return layout.dice.choice(layout.tables).at
+
+
+def cut(data, size):
+    """The bytes, or so many of them."""
+    return data if size is None else data[: max(size - HEADER_SIZE, 0)]
+
+
+def made_settings(dice):
+    inputs = {}
+    for _ in range(dice.choice((0, 0, 1, 2, 3))):
+        inputs[dice.choice((0, 0xFEC00000, 0xFEC10000, 0xFFFFFFFF))] = dice.choice((1, 16, 23, 24, 25, 120, 256))
+    hotplug, processors = dice.choice(("counted", "apart")), dice.choice(("enabled", "usable"))
+    return Settings(dice.choice((24, 24, 24, 1, 16, 23, 25, 255, 256)), inputs, hotplug, processors)
+
+
+def made_processors(dice):
+    """(UID, APIC ID, flags, whether it is an x2APIC) of processors, of which no two have one ID, most times."""
+    processors = []
+    for place in range(dice.choice((0, 1, 2, 2, 4))):
+        is_wide, flags = dice.random() < 0.4, dice.choice((1, 1, 1, 2, 3, 0))
+        apic_id = dice.choice((place, place, place + 250))
+        if is_wide:
+            apic_id = dice.choice((apic_id, place + 256, 0xFFFFFFFF - place))
+        uid = dice.choice((place, place, 255 - place, apic_id))
+        processors.append((uid, apic_id, flags, True) if is_wide else (uid % 256, apic_id % 256, flags, False))
+    return processors

@@ -1,0 +1,179 @@
+#!/usr/bin/env python3
+"""Shows what the cases of the fuzzer are able to see: plants one mistake at a time in the second judge (verdicts.py and
+image_text.py), such as another number, `<` for `<=`, or `and` for `or`, and judges the same cases with it. A mistake at which no
+answer differs is printed: it changes no answer at all, or the cases have a hole. It needs no program, and some minutes.
+
+usage: mutants.py [--seed N] [--cases N]; the last line is 'mutants: N seen, M not seen'."""
+
+import argparse
+import ast
+import copy
+import signal
+import types
+from pathlib import Path
+
+import image_text
+import verdicts
+from made_cases import asked, case_of
+
+HERE = Path(__file__).parent
+SEED, CASES = 1, 800
+SECONDS = 120
+OTHER_COMPARISON = {
+    ast.Lt: ast.LtE, ast.LtE: ast.Lt, ast.Gt: ast.GtE, ast.GtE: ast.Gt, ast.Eq: ast.NotEq, ast.NotEq: ast.Eq, ast.In: ast.NotIn,
+    ast.NotIn: ast.In, ast.Is: ast.IsNot, ast.IsNot: ast.Is,
+}
+OTHER_OPERATION = {
+    ast.Add: ast.Sub, ast.Sub: ast.Add, ast.Mult: ast.Add, ast.LShift: ast.RShift, ast.RShift: ast.LShift, ast.BitAnd: ast.BitOr,
+    ast.BitOr: ast.BitAnd, ast.Mod: ast.Add, ast.FloorDiv: ast.Mult,
+}
+
+
+# ---- mistakes
+
+
+def wrong_nodes(node):
+    """What may stand in the place of a node of the code."""
+    if isinstance(node, ast.Constant) and type(node.value) is int:
+        return [ast.Constant(node.value + 1), ast.Constant(node.value - 1)]
+    if isinstance(node, ast.Constant) and type(node.value) is bytes and node.value:
+        return [ast.Constant(node.value[:-1] + bytes([node.value[-1] ^ 1])), ast.Constant(node.value[:-1])]
+    if isinstance(node, ast.Compare) and len(node.ops) == 1:
+        return [ast.Compare(node.left, [OTHER_COMPARISON[type(node.ops[0])]()], node.comparators)]
+    if isinstance(node, ast.Compare):
+        others = [[*node.ops[:place], OTHER_COMPARISON[type(op)](), *node.ops[place + 1 :]] for place, op in enumerate(node.ops)]
+        return [ast.Compare(node.left, ops, node.comparators) for ops in others]
+    if isinstance(node, ast.BoolOp):
+        return [ast.BoolOp(ast.Or() if isinstance(node.op, ast.And) else ast.And(), node.values), *node.values]
+    if isinstance(node, ast.BinOp) and type(node.op) in OTHER_OPERATION:
+        return [ast.BinOp(node.left, OTHER_OPERATION[type(node.op)](), node.right)]
+    if isinstance(node, ast.UnaryOp) and isinstance(node.op, ast.Not):
+        return [node.operand]
+    if isinstance(node, ast.IfExp):
+        return [node.body, node.orelse]
+    if isinstance(node, ast.Tuple) and len(node.elts) > 1 and isinstance(node.ctx, ast.Load):
+        return [ast.Tuple(node.elts[1:], node.ctx), ast.Tuple([node.elts[1], node.elts[0], *node.elts[2:]], node.ctx)]
+    if isinstance(node, ast.Call) and isinstance(node.func, ast.Name) and node.func.id in ("min", "max", "any", "all", "sorted", "set"):
+        other = {"min": "max", "max": "min", "any": "all", "all": "any", "sorted": "list", "set": "list"}[node.func.id]
+        return [ast.Call(ast.Name(other, ast.Load()), node.args, [] if node.func.id == "sorted" else node.keywords)]
+    return []
+
+
+def replaced(tree, place, wrong):
+    """A copy of the code with another node in the place of the one that comes so far on a walk."""
+    tree = copy.deepcopy(tree)
+    target = list(ast.walk(tree))[place]
+
+    class Replace(ast.NodeTransformer):
+        def visit(self, node):
+            return wrong if node is target else self.generic_visit(node)
+
+    return ast.fix_missing_locations(Replace().visit(tree))
+
+
+def mutants(path):
+    """(where, the code with a mistake there)."""
+    source = path.read_text()
+    tree = ast.parse(source)
+    for place, node in enumerate(ast.walk(tree)):
+        for wrong in wrong_nodes(node):
+            where = f"{path.name} {node.lineno}: {ast.get_source_segment(source, node)} -> {ast.unparse(wrong)}"
+            yield where, compile(replaced(tree, place, copy.deepcopy(wrong)), path.name, "exec")
+
+
+def module_of(name, code):
+    module = types.ModuleType(name)
+    exec(code, module.__dict__)
+    return module
+
+
+# ---- the cases, and what a judge says of them
+
+
+class Texts:
+    """Image texts, judged by image_text.py."""
+
+    name = "image_text"
+
+    def __init__(self, cases):
+        self.texts = [case.text for case, _ in cases]
+        self.told = [self.judged(image_text, text) for text in self.texts]
+
+    def __iter__(self):
+        return zip(self.texts, self.told)
+
+    def judged(self, module, text):
+        try:
+            memory = module.memory_of(text)
+        except module.Refused as refusal:
+            return str(refusal)
+        return memory.bytes, module.plain_text(memory)
+
+
+class Sets:
+    """Sets of tables, judged by verdicts.py."""
+
+    name = "verdicts"
+
+    def __init__(self, cases):
+        self.sets = []
+        for case, dice in cases:
+            try:
+                memory = image_text.memory_of(case.text)
+            except image_text.Refused:
+                continue
+            found = verdicts.found_rsdp(memory)
+            rsdp = found if case.rsdp is None else case.rsdp
+            faults = [] if rsdp is None else asked(dice, verdicts.Judgement(memory, rsdp, case.settings))
+            self.sets.append((memory, rsdp, case, faults))
+        self.told = [self.judged(verdicts, it) for it in self.sets]
+
+    def __iter__(self):
+        return zip(self.sets, self.told)
+
+    def judged(self, module, it):
+        memory, rsdp, case, faults = it
+        found = module.found_rsdp(memory)
+        if rsdp is None:
+            return found
+        judgement = module.Judgement(memory, rsdp, case.settings)
+        stands = [judgement.stands(fault) for fault in faults]
+        return found, str(judgement.verdict(case.last)), [str(fault) for fault in judgement.firsts()], stands
+
+
+def too_long(*_):
+    raise TimeoutError
+
+
+def is_seen(judged, code):
+    """Whether an answer differs. A mistake at which the judge stops, or does not end, is seen too."""
+    signal.alarm(SECONDS)
+    try:
+        module = module_of(judged.name, code)
+        return any(judged.judged(module, it) != told for it, told in judged)
+    except Exception:
+        return True
+    finally:
+        signal.alarm(0)
+
+
+def main():
+    parser = argparse.ArgumentParser()
+    parser.add_argument("--seed", type=int, default=SEED)
+    parser.add_argument("--cases", type=int, default=CASES)
+    said = parser.parse_args()
+    signal.signal(signal.SIGALRM, too_long)
+    cases = [case_of(said.seed, place) for place in range(said.cases)]
+    seen = unseen = 0
+    for judged in (Texts(cases), Sets(cases)):
+        for where, code in mutants(HERE / f"{judged.name}.py"):
+            if is_seen(judged, code):
+                seen += 1
+            else:
+                unseen += 1
+                print(where, flush=True)
+    print(f"mutants: {seen} seen, {unseen} not seen")
+
+
+if __name__ == "__main__":
+    main()

@@ -1,0 +1,137 @@
+"""Cases of tools/acpidump2image."""
+
+import os
+import random
+import shutil
+import subprocess
+import sys
+
+from files import FADT, HPET, MADT, dump_of, image_of_files
+from judge import TOP, module_of, seconds_of
+from tables import *
+
+TABLES = [(0x7FE2000, FADT), (0x7FE3001, MADT), (0x7FE4000, HPET)]
+ROOT = (0x7FE1000, xsdt(*(at for at, _ in TABLES)))
+WHOLE = [(0xF59E0, extended_rsdp(0x7FE1000, 0)), ROOT, *TABLES, (FACS_AT, facs())]
+WHOLE_IMAGE = text_of(dict(WHOLE))
+TABLES_OF_MANY = 20_000
+
+
+def of_texts(judge):
+    makes = judge.makes
+    makes("RSDP at 0xf59e0: check it with --rsdp f59e0", "yes", "acpidump2image", "whole.txt", image=WHOLE_IMAGE)
+    makes("APIC at 0x7fe3001, 80 bytes", "yes", "acpidump2image", "narrow.txt", image=WHOLE_IMAGE)
+    makes("APIC at 0x7fe3001 is printed twice: put once", "yes", "acpidump2image", "twice.txt", image=WHOLE_IMAGE)
+    makes("HPET: its address is 0, left out", "yes", "acpidump2image", "some.txt", image=WHOLE_IMAGE)
+    makes("RSDP at 0xf59e0", "yes", "acpidump2image", "returns.txt", image=WHOLE_IMAGE)
+    text = dump_of(WHOLE)
+    makes("RSDP at 0xf59e0", "yes", "acpidump2image", data=text, image=WHOLE_IMAGE)
+    makes("RSDP at 0xf59e0", "yes", "acpidump2image", "-", data=text, image=WHOLE_IMAGE)
+    makes("RSDP at 0xf59e0", "yes", "acpidump2image", data=text.rstrip(b"\n"), image=WHOLE_IMAGE)
+    makes("RSDP at 0xf59e0", "yes", "acpidump2image", data=text.lower().replace(b"@ 0x", b"@ 0X"), image=WHOLE_IMAGE)
+    made = text_of({0xE0000: extended_rsdp(0x7FE1000, 0), **dict(WHOLE[1:])})
+    makes("the text has no RSDP: one is made by this tool", "yes", "acpidump2image", "pointerless.txt", image=made)
+    made = text_of({0xE0000: rsdp(0x7FE1000), **dict([*TABLES, (0x7FE1000, rsdt(*(at for at, _ in TABLES))), (FACS_AT, facs())])})
+    makes("for the RSDT at 0x7fe1000", "yes", "acpidump2image", "rsdt.txt", image=made)
+    at_search = [(0xE0004, table(b"SSDT", bytes(12))), *WHOLE[1:]]
+    makes("RSDP at 0xe0040", "yes", "acpidump2image", data=dump_of(at_search))
+
+
+def without_addresses(judge):
+    """Where addresses are 0, or there is no root, the tables are laid out as tables2image does."""
+    zeros = "all addresses are 0, so the text does not say where the tables lie"
+    sound = [(0, FADT), (0, MADT), (0, facs()), (0, HPET)]
+    image = text_of(image_of_files(FADT, MADT, HPET))
+    judge.makes(zeros, "yes", "acpidump2image", data=dump_of(sound), image=image)
+    judge.makes("slot 1: APIC at 0x102000, from APIC of line 11", "yes", "acpidump2image", data=dump_of(sound), image=image)
+    judge.makes(zeros, "no 5 FacsHeaderOut 0x7000 0x0 0x0", "acpidump2image", "zeros.txt")
+    places = dict(TABLES)
+    image = text_of({0xE0000: extended_rsdp(0x100000, 0), 0x100000: xsdt(*places), **places, FACS_AT: facs()})
+    judge.makes("the text has neither an RSDP nor a root: both are made", "yes", "acpidump2image", "rootless.txt", image=image)
+    judge.write("log.txt", b"ACPI: HPET 0x0000000000005000 000038 (v01 AAAAAA AAAAAAAA 00000001 AAAA 00000001)\n")
+    image = text_of({0xE0000: extended_rsdp(0x100000, 0), 0x100000: xsdt(0x5000, 0x101000), 0x5000: HPET, 0x101000: fadt()})
+    judge.makes(zeros, "yes", "acpidump2image", "--dmesg", "log.txt", data=dump_of([(0, HPET)]), image=image)
+    shutil.copy(os.path.join(TOP, "tools", "acpidump2image"), judge.path("alone"))
+    run = subprocess.run([judge.path("alone"), "whole.txt"], capture_output=True, cwd=judge.folder, timeout=60)
+    told = b"alone: tables2image is not beside this tool: copy both\n"
+    judge.count("acpidump2image alone", (run.returncode, run.stdout, run.stderr) != (4, b"", told) and f"{run}")
+
+
+def refused(judge):
+    refuses = judge.refuses
+    refuses("APIC at 0x7fe3001 is printed twice, with different bytes", "acpidump2image", "changed.txt")
+    refuses("HPET at 0x7fe3010 overlaps APIC at 0x7fe3001", "acpidump2image", "overlap.txt")
+    refuses("line 3: a row at 20 where one at 10 is due: is a row lost or cut?", "acpidump2image", "lost.txt")
+    refuses("this is no text of acpidump, but of 16 bits a character", "acpidump2image", "utf16.txt")
+    refuses("this is no text of acpidump", "acpidump2image", "facp.dat")
+    refuses("this is no text of acpidump", "acpidump2image")
+    refuses("absent.txt: cannot be read", "acpidump2image", "absent.txt")
+    refuses("folder: cannot be read", "acpidump2image", "folder")
+    for words in (["whole.txt", "zeros.txt"], ["--help"], ["--rsdp", "e0000"]):
+        refuses("usage: acpidump2image [FILE]", "acpidump2image", *words, status=2)
+    for told, text in (
+        ("line 2: a row of more than 16 bytes", b"SSDT @ 0x1000\n    0000: " + b"41 " * 17 + b" A\n"),
+        ("line 3: SSDT at 0xfffffffffffffff0 goes past the last address", b"SSDT @ 0xFFFFFFFFFFFFFFF0\n" + dump_of([(0, HPET)]).partition(b"\n")[2]),
+        ("line 1: an address of more than 16 digits", b"SSDT @ 0x10000000000000000\n    0000: 41\n"),
+        ("line 2: an offset of more than 16 digits", b"SSDT @ 0x1000\n    " + b"0" * 17 + b": 41\n"),
+        ("line 2: a row without bytes", b"SSDT @ 0x1000\n    0000: xy\n"),
+        ("line 3: a row behind one of fewer than 16 bytes: is a row cut?", b"SSDT @ 0x1000\n    0000: 41\n    0001: 41\n"),
+        ("line 1: bytes before the first line with a table's signature and address", b"    0000: 41\nSSDT @ 0x1000\n"),
+        ("the RSDT lies at 0x100000000, and an RSDP names one below 2^32 only", dump_of([(2**32, rsdt())])),
+        ("SSDT of line 1: 1 bytes, and a table has 36 at least", b"SSDT @ 0x0\n    0000: 41\n"),
+        ("SSDT at 0x1000: no bytes", b"SSDT @ 0x1000\n"),
+        ("a text of more than 4000000 lines", b"\n" * 4_000_001),
+        ("a text of more than 134217728 bytes", b"#" * 134_217_729),
+    ):
+        refuses(told, "acpidump2image", data=text)
+
+
+def hostile(judge):
+    """Texts that try what acpiset refuses, and terminals."""
+    long_title = b"\x1b[31m" + b"x" * 70_000
+    text = dump_of(WHOLE).replace(b"HPET @", long_title + b" @")
+    judge.makes("?[31mxxx", "yes", "acpidump2image", data=text, image=WHOLE_IMAGE)
+    text = dump_of(WHOLE).replace(b"HPET @", b" " * 3_000_000 + b"\nA @ 0x" * 3 + b" @ 0x" * 600_000 + b"!\nHPET @")
+    judge.makes("HPET at 0x7fe4000, 56 bytes", "yes", "acpidump2image", data=text)
+    # Whatever a text has in the place of some bytes, the tool refuses it or makes an image that acpiset reads.
+    tool = module_of("acpidump2image")
+    dice = random.Random(20)
+    whole = dump_of(WHOLE)
+    wrong = []
+    made = 0
+    for _ in range(300):
+        text = bytearray(whole)
+        for _ in range(dice.choice((1, 1, 2, 4))):
+            at = dice.randrange(len(text))
+            text[at : at + dice.choice((0, 1, 1, 17))] = dice.choice((b"", b"0", b"F", b" ", b"\n", b"@ 0xFFFFFFFFFFFFFFFF\n", b":", b"\0", b"00 " * 9))
+        try:
+            image = tool.image_of(tool.read_tables(bytes(text)), None)
+        except tool.Refusal:
+            continue
+        made += 1
+        status, line = judge.answer(["check"], image)
+        if status > 1:
+            wrong.append(f"{bytes(text)!r}: {line}")
+    judge.count("texts with changed bytes", "\n".join(wrong), not 50 < made < 250 and f"{made} of 300 images")
+
+
+def many_tables(judge):
+    """Many tables cost at most 20 times what the check of them costs, and the start of the tool."""
+    places = [(0x1000000 + 0x40 * place, table(b"SSDT", number(place, 4))) for place in range(TABLES_OF_MANY)]
+    root = xsdt(0x7FE0000, *(at for at, _ in places))
+    pieces = [(0xE0000, extended_rsdp(0x8000000, 0)), (0x8000000, root), (0x7FE0000, fadt()), *places]
+    for name, text in (("at their addresses", dump_of(pieces)), ("with addresses of 0", dump_of([(0, data) for _, data in pieces]))):
+        judge.write("many.txt", text)
+        start, _ = seconds_of([sys.executable, os.path.join(TOP, "tools", "acpidump2image"), "--help"])
+        cost, run = seconds_of([sys.executable, os.path.join(TOP, "tools", "acpidump2image"), judge.path("many.txt")])
+        check, answer = seconds_of([judge.program, "check"], input=run.stdout)
+        judge.count(
+            f"{TABLES_OF_MANY} tables {name}",
+            answer.stdout != b"yes\n" and f"{answer.stdout}",
+            cost - start > 20 * check + 1 and f"{cost:.2f} s, and the check {check:.3f} s",
+        )
+
+
+def cases(judge):
+    for part in (of_texts, without_addresses, refused, hostile, many_tables):
+        part(judge)

@@ -1,0 +1,281 @@
+"""Cases of tools/memory2image: raw dumps and ELF cores, which are written here from images."""
+
+import os
+import re
+import struct
+
+from judge import TOP, module_of, seconds_of
+from many import MANY
+from rows import ROWS
+from tables import *
+
+UEFI = bytes.fromhex("71e86888f1e4d311bc220080c73c8881")
+RAM = 16 << 20
+
+
+def pieces_of(text):
+    """The pieces of an image text, by address; data that goes on is joined."""
+    pieces = {}
+    at = start = None
+    for line in text.decode().splitlines():
+        line = line.partition("#")[0].strip()
+        if line.startswith("@"):
+            at = int(line[1:], 16)
+            start = next((begin for begin, data in pieces.items() if begin + len(data) == at), at)
+        elif line:
+            data = bytes.fromhex(line)
+            pieces[start] = pieces.get(start, b"") + data
+            at += len(data)
+    return pieces
+
+
+def raw_dump(judge, name, pieces, size=RAM, base=0):
+    """A raw dump of so much memory, of which the rest is 0."""
+    with open(judge.path(name), "wb") as file:
+        file.truncate(size)
+        for at, data in pieces.items():
+            file.seek(at - base)
+            file.write(data)
+    return name
+
+
+def core_of(pieces, bits=64, order="<", kind=4, is_many=False, memory_sizes=()):
+    """An ELF core with a part for each piece, of 32 or 64 bits (System V ABI, chapters 4 and 5)."""
+    form = {64: ("HHIQQQIHHHHHH", "IIQQQQQQ", "IIQQQQIIQQ"), 32: ("HHIIIIIHHHHHH", "IIIIIIII", "IIIIIIIIII")}[bits]
+    header, program, section = (order + one for one in form)
+    start = 16 + struct.calcsize(header)
+    count = len(pieces) + 1
+    offset = start + count * struct.calcsize(program) + struct.calcsize(section)
+    ident = b"\x7fELF" + bytes([bits // 32, 1 if order == "<" else 2, 1]) + bytes(9)
+    sections_at = start + count * struct.calcsize(program)
+    told = 0xFFFF if is_many else count
+    head = struct.pack(header, kind, 62, 1, 0, start, sections_at if is_many else 0, 0, start, struct.calcsize(program), told,
+                       struct.calcsize(section), int(is_many), 0)
+    programs = [struct.pack(program, 4, *([0] * 7))]
+    for place, (at, data) in enumerate(pieces.items()):
+        size = dict(memory_sizes).get(place, len(data))
+        fields = (1, 4, offset, 0, at, len(data), size, 0) if bits == 64 else (1, offset, 0, at, len(data), size, 4, 0)
+        programs.append(struct.pack(program, *fields))
+        offset += len(data)
+    numbers = [0] * 10
+    numbers[7] = count if is_many else 0
+    return ident + head + b"".join(programs) + struct.pack(section, *numbers) + b"".join(pieces.values())
+
+
+# ---- what is written
+
+
+def small_set():
+    """A set, and the pieces of it that acpiset reads, by their addresses."""
+    fadt_of = full_fadt(FACS_AT, 244, _40=number(0x9000, 4))
+    read = {
+        0x2000: fadt_of,
+        0x2100: madt(lapic(0, 0)),
+        0x7000: facs(),
+        0xF0010: extended_rsdp(0x100000, 0x1000),
+        0x100000: xsdt(0x2100, 0, 0x2000, 0x2100),
+    }
+    return read, {**read, 0x1000: rsdt(0x2000), 0x9000: table(b"DSDT", bytes(100)), 0x3000: hpet()}
+
+
+def of_a_set(judge):
+    """What the set reaches, and nothing else; each table is written once."""
+    read, whole = small_set()
+    text = text_of(read)
+    raw_dump(judge, "ram.bin", whole)
+    for name, data in (
+        ("core64", core_of(whole)),
+        ("core32", core_of(whole, 32)),
+        ("core64be", core_of(whole, order=">")),
+        ("many64", core_of(whole, is_many=True)),
+        ("many32", core_of(whole, 32, is_many=True)),
+        ("twice64", core_of({**whole, 0xF0000: bytes(16) + whole[0xF0010]})),
+    ):
+        judge.write(name, data)
+        judge.makes("the RSDP is where acpiset find looks", "yes", "memory2image", name, image=text)
+    run = judge.makes("RSDP at 0xf0010: check it with --rsdp f0010", "yes", "memory2image", "ram.bin", image=text)
+    told = b"slot 0: APIC at 0x2100, 52 bytes", b"slot 1: empty", b"slot 2: FACP at 0x2000, 244 bytes", b"slot 3: APIC at 0x2100, as an earlier slot"
+    judge.count("slots that are told", *(f"{line} in {run.stderr.decode()}" for line in told if line not in run.stderr))
+    judge.makes("RSDP at 0xf0010", "yes", "memory2image", "--rsdp", "0xf0010", "ram.bin", image=text)
+    raw_dump(judge, "low.bin", {0: whole[0x2000], 0x100: whole[0x2100], 0x5000: facs()}, 0x6000)
+    raw_dump(judge, "high.bin", {0x10: whole[0xF0010], 0x10000: whole[0x100000]}, 0x20000)
+    judge.makes("RSDP at 0xf0010", "yes", "memory2image", "--base", "2000", "low.bin", "--base", "0xF0000", "high.bin", image=text)
+    # A table whose signature a terminal would obey.
+    odd = rsdp(0xE0100).ljust(0x100, b"\0") + rsdt(0xE0200).ljust(0x100, b"\0") + b"\x1b[2J" + number(36, 4) + bytes(28)
+    judge.makes("slot 0: ?[2J at 0xe0200", "no 3 TableSum 0x0 0xe0200 0x0", "memory2image", "--base", "e0000", judge.write("odd.bin", odd))
+
+
+def of_real_images(judge):
+    """The images of real firmware, in a dump of memory and in an ELF core."""
+    folder = os.path.join(TOP, "tests", "images")
+    for name in sorted(os.listdir(folder)):
+        if not name.endswith(".img.txt"):
+            continue
+        with open(os.path.join(folder, name), "rb") as file:
+            pieces = pieces_of(file.read())
+        raw_dump(judge, "ram.bin", pieces, max(at + len(data) for at, data in pieces.items()) + 100)
+        judge.write("core", core_of(pieces))
+        for dump in ("ram.bin", "core"):
+            run = judge.run("memory2image", dump)
+            judge.count(f"{name} as {dump}", run.returncode and run.stderr.decode(), kept(judge, pieces, run.stdout))
+
+
+def kept(judge, pieces, text):
+    """What acpiset says otherwise of the text than of all pieces."""
+    address = re.search(rb"^# the RSDP\n@([0-9a-f]+)$", text, re.M)[1].decode()
+    for command in ("check", "lint", "show"):
+        words = [command, "--rsdp", address]
+        told, wanted = judge.answer(words, text), judge.answer(words, text_of(pieces))
+        if told != wanted:
+            return f"{' '.join(words)}: {told}, not {wanted}"
+    return ""
+
+
+def of_all_rows(judge):
+    """Sets with each fault: acpiset says of what is written what it says of all of the memory."""
+    tool = module_of("memory2image")
+    wrong = []
+    count = 0
+    for row in [*ROWS, *MANY]:
+        words = row.words.split()
+        if isinstance(row.pieces, bytes) or words[:2] != ["check", "--rsdp"] or sum(map(len, row.pieces.values())) > 1 << 20:
+            continue
+        memory = tool.Memory(tool.parts_of(judge.path(judge.write("core", core_of(row.pieces))), None))
+        try:
+            text = tool.image_of(memory, int(words[2], 16))
+        except tool.Refusal as refusal:
+            wrong += [] if "holds no 20 bytes" in str(refusal) else [f"{row.name}: {refusal}"]
+            continue
+        count += 1
+        for asked in (words, ["lint", *words[1:3]]):
+            told, wanted = judge.answer(asked, text), judge.answer(asked, text_of(row.pieces))
+            if told != wanted:
+                wrong.append(f"{row.name}: {asked}: {told}, not {wanted}")
+    judge.count("sets of tests/rows", "\n".join(wrong), count < 100 and f"{count} sets alone")
+
+
+# ---- the RSDP
+
+
+def of_the_search(judge):
+    """Which RSDP is taken."""
+    # An RSDT at 0x1000 and an XSDT at 0x1100, each with a FADT alone.
+    tables = {0x1000: rsdt(0x2000), 0x1100: xsdt(0x2000), 0x2000: fadt()}
+    new, old, lost = extended_rsdp(0x1100, 0), rsdp(0x1000), rsdp(0x5000)
+    broken = bytes([*new[:35], new[35] ^ 1])
+    wrong = changed(new, {9: 0x42})
+    entry = {0x600008: UEFI + number(0x700014, 8)}
+    for name, told, pieces in (
+        ("where acpiset find looks, before all others", "0xe0010", {0xE0010: old, 0x20: new, 0x700014: new, **entry}),
+        ("where UEFI says", "0x700014", {0x700014: new, 0x700000: old, 0x30: new, **entry}),
+        ("an entry of UEFI that leads to none", "0x30", {0x30: new, **entry}),
+        ("an entry of UEFI at no multiple of 8", "0x30", {0x700014: new, 0x30: new, 0x600004: UEFI + number(0x700014, 8)}),
+        ("on a multiple of 16", "0x40", {0x24: new, 0x40: new}),
+        ("at no multiple of 16", "0x700014", {0x700014: new}),
+        ("the extended form", "0x700014", {0x700000: old, 0x700014: new}),
+        ("one that leads to a root", "0x60", {0x20: lost, 0x60: old}),
+        ("one with the right checksums", "0x100", {0x20: wrong, 0x60: broken, 0x100: new}),
+        ("one that leads to no root", "0x20", {0x20: lost}),
+        ("one at the end", "0xffffdc", {0xFFFFDC: new}),
+    ):
+        run = judge.run("memory2image", raw_dump(judge, "ram.bin", {**tables, **pieces}))
+        judge.count(f"the RSDP: {name}", f"RSDP at {told}: check".encode() not in run.stderr and run.stderr.decode(), run.returncode and "its status")
+    run = judge.run("memory2image", raw_dump(judge, "ram.bin", {**tables, 0x20: new, 0x60: old}))
+    judge.count("other RSDPs are told", b"another RSDP at 0x60: if it is that one, give --rsdp 60" not in run.stderr and run.stderr.decode())
+    halves = {**tables, 0x700000: bytes(16) + new[:5], 0x700015: new[5:]}
+    judge.write("halves", core_of(halves))
+    judge.makes("RSDP at 0x700010", "yes", "memory2image", "halves")
+    judge.refuses("no RSDP is found; 2 places have its signature", "memory2image", raw_dump(judge, "ram.bin", {0x20: wrong, 0x60: broken}))
+    judge.refuses("no RSDP is found; 0 places have its signature", "memory2image", raw_dump(judge, "ram.bin", tables))
+    many = judge.write("signatures", b"RSD PTR " * 1_000_100)
+    judge.refuses("more than 1000000 places have the signature of an RSDP: those from 0x7a1200 on are not looked at", "memory2image", "--base", "0", many)
+
+
+# ---- what is wrong with dumps
+
+
+def of_lengths(judge):
+    """Lengths beyond the dump, and beyond what an image holds."""
+    def dump(name, **more):
+        read, _ = small_set()
+        return raw_dump(judge, name, {**read, **{int(at[1:], 16): data for at, data in more.items()}}, 64 << 20)
+
+    long = hpet()[:4] + number(0x3000000, 4) + hpet()[8:]
+    told = "slot 0: HPET at 0x2100, 50331648 bytes, more than an image holds: only 36 are put, and check will say TableOut"
+    judge.makes(told, "no 3 TableOut 0x0 0x2100 0x0", "memory2image", dump("long.bin", _2100=long))
+    longer = hpet()[:4] + b"\xff" * 4 + hpet()[8:]
+    held = (64 << 20) - 0x2100
+    told = f"slot 0: HPET at 0x2100, 4294967295 bytes, of which the dump holds {held}: check will say TableOut"
+    judge.makes(told, "no 3 TableOut 0x0 0x2100 0x0", "memory2image", dump("longer.bin", _2100=longer))
+    short = hpet()[:4] + number(35, 4) + hpet()[8:]
+    judge.makes("slot 0: HPET at 0x2100", "no 3 TableLength 0x0 0x2100 0x0", "memory2image", dump("short.bin", _2100=short))
+    outside = xsdt(0x2000, 2**64 - 36, 2**63)
+    told = "slot 2:  at 0x8000000000000000: the dump holds 0 of the header's 36 bytes: check will say TableHeaderOut"
+    judge.makes(told, "no 3 TableHeaderOut 0x1 0xffffffffffffffdc 0x0", "memory2image", dump("outside.bin", _100000=outside))
+    judge.makes("has another signature: check will say RootSignature", "no 2 RootSignature 0x100000 0x0 0x0", "memory2image", dump("root.bin", _100000=hpet()))
+    judge.makes("the RSDP names no root: check will say NoRoot", "no 2 NoRoot 0xf0010 0x0 0x0", "memory2image", dump("none.bin", _F0010=extended_rsdp(0, 0)))
+
+
+def refused(judge):
+    read, whole = small_set()
+    refuses, write = judge.refuses, judge.write
+    for words in ([], ["--help"], ["--base", "0"], ["ram.bin", "--base", "0"], [""]):
+        refuses("usage: memory2image [--rsdp HEX] [--base HEX] FILE", "memory2image", *words, status=2)
+    for word in ("", "g", "0x", "1" * 17, "-1", "1_0", " 1"):
+        refuses("no address of 1 to 16 hex digits", "memory2image", "--rsdp", word, "ram.bin", status=2)
+    refuses("absent.bin: cannot be read: No such file or directory", "memory2image", "absent.bin")
+    refuses("folder: not a regular file", "memory2image", "folder")
+    refuses("/dev/zero: not a regular file: copy it first, as with dd", "memory2image", "/dev/zero")
+    refuses("empty.bin: empty", "memory2image", write("empty.bin", b""))
+    refuses("the dump holds no 20 bytes at 0xffffffffffffffff", "memory2image", "--rsdp", "f" * 16, "ram.bin")
+    refuses("the dump holds no 20 bytes at 0xfffff0", "memory2image", "--rsdp", "fffff0", "ram.bin")
+    for name, begin, told in (
+        ("packed", b"\x1f\x8b\x08", "gzip data: unpack it with gunzip"),
+        ("kdump", b"KDUMP   ", "a compressed dump of kdump: dump without -z, -l and -s"),
+        ("windows", b"PAGEDU64", "a dump for Windows: dump without -w"),
+    ):
+        refuses(told, "memory2image", write(name, begin + bytes(5000)))
+    core = core_of(whole)
+    refuses("an ELF file, but no core", "memory2image", write("program", core_of(whole, kind=2)))
+    for size in (16, 40, 63):
+        refuses("an ELF file without a whole header", "memory2image", write("cut", core[:size]))
+    refuses("an ELF core without whole program headers: is it cut?", "memory2image", write("cut", core[:200]))
+    refuses("an ELF core that holds no memory: is it cut?", "memory2image", write("cut", core[: len(core) - sum(map(len, whole.values()))]))
+    refuses("an ELF core whose parts all lie at 0: is it of a process?", "memory2image", write("process", process()))
+    refuses("an ELF core of more than 1000000 parts", "memory2image", write("parts", parts_of_none()))
+    judge.makes("fewer bytes than the program headers say, the first time from 0x30", "yes", "memory2image", write("cut", core[:-20]))
+    paged = core_of(whole, memory_sizes=[(0, 0x1000)])
+    judge.makes("is it cut, or dumped with -p?", "yes", "memory2image", write("paged", paged))
+
+
+def process():
+    """A core of a process: its parts have no physical addresses."""
+    core = bytearray(core_of({1: b"abcd", 2: b"efgh"}))
+    for place in (1, 2):
+        core[64 + 56 * place + 24 : 64 + 56 * place + 32] = bytes(8)
+    return bytes(core)
+
+
+def parts_of_none():
+    """A core that says that it has 1,000,001 parts, and has room for as many headers."""
+    core = bytearray(core_of({}, is_many=True))
+    at = int.from_bytes(core[40:48], "little")
+    core[at + 44 : at + 48] = number(1_000_001, 4)
+    return bytes(core) + bytes(56 * 1_000_001)
+
+
+def of_size(judge):
+    """A large dump, whose RSDP lies at its end, is read in some seconds."""
+    _, whole = small_set()
+    pieces = {at: data for at, data in whole.items() if at != 0xF0010}
+    name = raw_dump(judge, "large.bin", {**pieces, (512 << 20) - 36: whole[0xF0010]}, 512 << 20)
+    cost, run = seconds_of([os.path.join(TOP, "tools", "memory2image"), judge.path(name)])
+    judge.count("a dump of 512 MiB", b"RSDP at 0x1fffffdc" not in run.stderr and run.stderr.decode(), cost > 20 and f"{cost:.1f} s")
+
+
+def cases(judge):
+    for part in (of_a_set, of_real_images, of_all_rows, of_the_search, of_lengths, refused, of_size):
+        part(judge)
+    for name in os.listdir(judge.folder):
+        if os.path.isfile(judge.path(name)) and os.path.getsize(judge.path(name)) > 1 << 24:
+            os.remove(judge.path(name))

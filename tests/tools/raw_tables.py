@@ -1,0 +1,173 @@
+"""Cases of tools/tables2image."""
+
+import os
+
+from files import DSDT, FADT, HPET, MADT, ROOT_AT, image_of_files, wide_fadt
+from tables import *
+
+RESERVED_INTI = madt(lapic(0, 0), io_apic(0xFEC00000, 0), override(0, 2, flags=2))
+OVERLAPPING = srat(memory(0, 0x1000), memory(0x800, 0x1000))
+WRONG_SLIT = slit(1, [11])
+DANGLING = pptt(node(parent=20))
+SOUND = {
+    "APIC": MADT,
+    "SRAT": srat(memory(0, 0x1000)),
+    "SLIT": slit(2, [10, 20, 20, 10]),
+    "PPTT": pptt(node()),
+    "HPET": HPET,
+    "SSDT": table(b"SSDT", b"\x5b\x80"),
+}
+OWN = "the RSDP and the root, an XSDT, are made by this tool: they are not the machine's own"
+MADE_FADT = "no file has a FADT: one of reduced hardware is made by this tool, and is not the machine's own"
+USAGE = "usage: tables2image FILE.., as tables2image /sys/firmware/acpi/tables/*"
+
+
+def of_files(judge):
+    """Files with a FADT."""
+    makes = judge.makes
+    old, order = text_of(image_of_files(FADT, MADT, HPET)), text_of(image_of_files(HPET, MADT, FADT))
+    wide = text_of(image_of_files(wide_fadt(0x123456789ABC0), facs_at=0x123456789ABC0))
+    files = "facp.dat", "apic.dat", "hpet.dat", "facs.dat"
+    makes(OWN, "yes", "tables2image", *files, image=old)
+    makes("slot 0: HPET at 0x101000, from hpet.dat", "yes", "tables2image", "facs.dat", "hpet.dat", "apic.dat", "facp.dat", image=order)
+    makes("folder: a folder, passed over", "yes", "tables2image", "folder", *files, image=old)
+    makes("rsdp.dat: an RSDP, left out: the image has one of its own", "yes", "tables2image", "rsdp.dat", "xsdt.dat", *files, image=old)
+    makes("xsdt.dat: an XSDT, left out: the image has a root of its own", "yes", "tables2image", "xsdt.dat", *files, image=old)
+    makes("dsdt.dat: the DSDT, left out", "yes", "tables2image", "dsdt.dat", *files, image=old)
+    makes("FACS at 0x123456789abc0, where the FADT says", "yes", "tables2image", "wide.dat", "facs.dat", image=wide)
+    makes("FACS at 0xffffffffffffffc0", "yes", "tables2image", "last.dat", "facs.dat")
+    makes("FACS at 0xe0000", "yes", "tables2image", "first.dat", "facs.dat", "hpet.dat")
+    makes("FACS at 0x101000", "yes", "tables2image", "second.dat", "facs.dat", "hpet.dat")
+    makes("slot 0: FACP at 0x101000", "yes", "tables2image", "reduced.dat", image=text_of(image_of_files(fadt(), facs_at=None)))
+    makes("has 83 bytes, and its Length says 80: put as it is", "yes", "tables2image", "facp.dat", "longer.dat", "facs.dat")
+    makes("has 79 bytes, and its Length says 80", "no 3 TableOut 0x1 0x102000 0x0", "tables2image", "facp.dat", "cut.dat", "hpet.dat", "facs.dat")
+    makes("has 36 bytes, and its Length says 4294967295", "no 3 TableOut 0x1 0x102000 0x0", "tables2image", "reduced.dat", "huge.dat")
+    makes("no file has it: check will say FacsHeaderOut", "no 5 FacsHeaderOut 0x7000 0x0 0x0", "tables2image", "facp.dat")
+    makes("names no FACS: check will say NoFacs", "no 5 NoFacs 0x0 0x0 0x0", "tables2image", "named.dat")
+    told = "second.srat: a second SRAT: only first.srat is read, and of this one header, length and sum"
+    judge.write("first.srat", SOUND["SRAT"])
+    judge.write("second.srat", OVERLAPPING)
+    makes(told, "yes", "tables2image", "reduced.dat", "first.srat", "second.srat")
+    makes("first.srat: a second SRAT", "no 10 Overlap 0x30 0x58 0x800", "tables2image", "reduced.dat", "second.srat", "first.srat")
+    run = makes(OWN, "yes", "tables2image", "reduced.dat", "hpet.dat", "hpet.dat")
+    judge.count("two HPETs, of which none is read", b"a second" in run.stderr and "a note on the second")
+
+
+def of_one_table(judge):
+    """One table alone: what is made beside it keeps every rule, and breaks no rule of advice."""
+    for name, data in SOUND.items():
+        judge.write(f"{name}.one", data)
+        image = text_of(image_of_files(data, fadt(), facs_at=None))
+        judge.makes(MADE_FADT, "yes", "tables2image", f"{name}.one", image=image)
+    judge.makes(MADE_FADT, "yes", "tables2image", "HPET.one", command="lint")
+    judge.write("unsummed.one", changed(HPET, {9: 0x5A}))
+    for name, data, verdict in (
+        ("unsummed.one", changed(HPET, {9: 0x5A}), "no 3 TableSum 0x0 0x101000 0x0"),
+        ("inti.one", RESERVED_INTI, "no 6 ReservedInti 0x40 0x0 0x0"),
+        ("overlapping.one", OVERLAPPING, "no 10 Overlap 0x30 0x58 0x800"),
+        ("wrong.one", WRONG_SLIT, "no 11 SlitDiagonal 0x2c 0x0 0x0"),
+        ("dangling.one", DANGLING, "no 13 DanglingParent 0x24 0x14 0x0"),
+        ("facs.dat", facs(), "yes"),
+        ("misversed.one", b"FACS" + number(63, 4) + bytes(56), "no 5 FacsLength 0x102000 0x0 0x0"),
+    ):
+        judge.write(name, data)
+        judge.makes(MADE_FADT, verdict, "tables2image", name)
+    judge.makes("FACS at 0x103000, where the FADT says, from facs.dat", "yes", "tables2image", "facs.dat", "hpet.dat")
+
+
+# ---- a kernel's log
+
+
+def log_line(address, data, name=None):
+    """A line of Linux on a table."""
+    name = name or data[:4].decode()
+    if name == "FACS":
+        return f"[    0.004000] ACPI: FACS 0x{address:016X} {len(data):06X}\n"
+    if name == "RSDP":
+        return f"[    0.004000] ACPI: RSDP 0x{address:016X} {len(data):06X} (v02 AAAAAA)\n"
+    return f"[    0.004000] ACPI: {name} 0x{address:016X} {len(data):06X} (v{data[8]:02X} AAAAAA AAAAAAAA 00000001 AAAA 00000001)\n"
+
+
+def log_of(*places):
+    return "".join(["[    0.003000] ACPI: Early table checksum verification disabled\n", *(log_line(*place) for place in places)]).encode()
+
+
+RSDP_PLACE, ROOT_PLACE, FADT_PLACE, MADT_PLACE, HPET_PLACE = 0xF0010, 0xBFFE0000, 0xBFFE1234, 0xBFFE2001, 0x1BFFE4000
+ROOT = xsdt(FADT_PLACE, MADT_PLACE, HPET_PLACE)
+PLACES = [(FADT_PLACE, FADT), (0xBFFE9000, DSDT), (FACS_AT, facs()), (MADT_PLACE, MADT), (HPET_PLACE, HPET)]
+WHOLE_LOG = log_of((RSDP_PLACE, extended_rsdp(), "RSDP"), (ROOT_PLACE, ROOT), *PLACES)
+WHOLE_IMAGE = {
+    RSDP_PLACE: extended_rsdp(ROOT_PLACE, 0),
+    ROOT_PLACE: ROOT,
+    FADT_PLACE: FADT,
+    MADT_PLACE: MADT,
+    HPET_PLACE: HPET,
+    FACS_AT: facs(),
+}
+
+
+def of_a_log(judge):
+    """Real addresses, and the order of the log, whatever that of the files is."""
+    makes, refuses, write = judge.makes, judge.refuses, judge.write
+    write("log.txt", WHOLE_LOG)
+    files = "hpet.dat", "dsdt.dat", "apic.dat", "facs.dat", "facp.dat"
+    words = "tables2image", "--dmesg", "log.txt"
+    makes("slot 0: FACP at 0xbffe1234, from facp.dat", "yes", *words, *files, image=text_of(WHOLE_IMAGE))
+    own = extended_rsdp(ROOT_PLACE, 0x1234)
+    write("own_rsdp.dat", own)
+    write("own_xsdt.dat", ROOT)
+    makes("are those of the files", "yes", *words, "own_rsdp.dat", "own_xsdt.dat", *files, image=text_of({**WHOLE_IMAGE, RSDP_PLACE: own}))
+    makes("own_rsdp.dat: an RSDP, left out", "yes", *words, "own_rsdp.dat", *files, image=text_of(WHOLE_IMAGE))
+    # A table that the machine's own root lists has no file.
+    makes("own_xsdt.dat: an XSDT, left out", "yes", *words, "own_rsdp.dat", "own_xsdt.dat", "reduced.dat", "hpet.dat")
+    makes("HPET at 0x1bffe4000, 56 bytes: in the log, and no file has it", "yes", *words, *files[1:])
+    write("SSDT.one", SOUND["SSDT"])
+    makes("SSDT.one: not in the log", "yes", *words, *files, "SSDT.one")
+    old_root = rsdt(0x2000)
+    write("old.log", b"<6>ACPI: RSDP 00000000000f0490 00014 (v00 AAAAAA)\nACPI: RSDT 00001000 %06X (v01 AAAAAA AAAAAAAA 00000001 AAAA 00000001)\n"
+          b"ACPI: FACP 0000000000002000 00074 (v01 AAAAAA AAAAAAAA 00000001 AAAA 00000001)\n" % len(old_root))
+    makes("an RSDT, are made", "yes", "tables2image", "--dmesg", "old.log", "reduced.dat", image=text_of({0xF0490: rsdp(), 0x1000: old_root, 0x2000: fadt()}))
+    write("twins.log", log_of((0x2000, fadt()), (0x3000, SOUND["SSDT"]), (0x4000, SOUND["SSDT"]), (0xFFFF888000000000, SOUND["HPET"])))
+    makes("the log has 2 such tables: the order of the files decides", "yes", "tables2image", "--dmesg", "twins.log", "reduced.dat", "SSDT.one", "SSDT.one")
+    makes("hpet.dat: not in the log", "yes", "tables2image", "--dmesg", "twins.log", "reduced.dat", "hpet.dat")
+    write("other.log", log_of((0x2000, fadt()), (0x2040, HPET)))
+    refuses("HPET at 0x2040 overlaps reduced.dat at 0x2000", "tables2image", "--dmesg", "other.log", "reduced.dat", "hpet.dat")
+    write("past.log", log_of((0x2000, fadt()), (2**63 - 8, HPET)))
+    makes("slot 1: HPET at 0x7ffffffffffffff8", "yes", "tables2image", "--dmesg", "past.log", "reduced.dat", "hpet.dat")
+    refuses("no line such as 'ACPI: FACP", "tables2image", "--dmesg", "hpet.dat", "reduced.dat")
+    refuses("absent.log: no such file", "tables2image", "--dmesg", "absent.log", "reduced.dat")
+    refuses("usage: ", "tables2image", "--dmesg", status=2)
+
+
+def refused(judge):
+    refuses = judge.refuses
+    refuses(USAGE, "tables2image", status=2)
+    for words in (["--help"], ["-h"], [""], ["--dmesg", "log.txt"], ["--other", "facp.dat"]):
+        refuses(USAGE, "tables2image", *words, status=2)
+    refuses("absent.dat: no such file", "tables2image", "facp.dat", "absent.dat")
+    refuses("/dev/null: not a regular file", "tables2image", "/dev/null")
+    refuses("empty.dat: empty", "tables2image", "facp.dat", "empty.dat")
+    refuses("short.dat: 35 bytes, and a table has 36 at least", "tables2image", "facp.dat", "short.dat")
+    refuses("zeros.dat: begins with no signature of a table", "tables2image", "zeros.dat")
+    refuses("packed.dat: gzip data", "tables2image", "packed.dat")
+    refuses("whole.txt: text of acpidump", "tables2image", "whole.txt")
+    refuses("old.image: begins with no signature of a table", "tables2image", "old.image")
+    refuses("facs2.dat: a second FACS", "tables2image", "facp.dat", "facs.dat", "facs2.dat")
+    refuses("facs.dat: a FACS, and named.dat names no address for it", "tables2image", "facs.dat", "named.dat")
+    refuses("facs.dat: from 0xffffffffffffffe0 on the FACS goes past the last address", "tables2image", "facs.dat", "past.dat")
+    refuses("no table to list among the files", "tables2image", "folder", "dsdt.dat")
+    for name, size in (("large.dat", 20_000_000), ("larger.dat", 20_000_001)):
+        with open(judge.path(name), "wb") as file:
+            file.write(b"SSDT" + number(size, 4))
+            file.truncate(size)
+    refuses("larger.dat: larger than any table", "tables2image", "larger.dat")
+    refuses("the image would have 120000348 bytes of text, and acpiset reads 67108864 at most", "tables2image", "large.dat", "large.dat")
+    if os.getuid() != 0:
+        os.chmod(judge.path("hpet.dat"), 0)
+        refuses("hpet.dat: may not be read", "tables2image", "hpet.dat")
+        os.chmod(judge.path("hpet.dat"), 0o644)
+
+
+def cases(judge):
+    for part in (of_files, of_one_table, of_a_log, refused):
+        part(judge)

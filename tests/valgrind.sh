@@ -1,0 +1,67 @@
+#!/usr/bin/env bash
+# Runs the program on twenty inputs under valgrind, where that is installed: no read or write outside a buffer or of memory that nothing
+# was written to, and nothing that is not given back; and the same answer, complaint and status as without it.
+# usage: tests/valgrind.sh PROGRAM; the last line is 'valgrind: N passed, M failed', or 'left out: ..'.
+set -u
+program=$(realpath -- "${1:?usage: tests/valgrind.sh PROGRAM}")
+cd "$(dirname "$0")/.." || exit
+command -v valgrind >/dev/null || { echo 'left out: valgrind is not installed'; exit 0; }
+scratch=$(mktemp -d)
+trap 'rm -rf "$scratch"' EXIT
+passed=0
+failed=0
+
+# A status that the program itself never has.
+WRONG=99
+
+# same IMAGE STATUS ARGUMENT..: runs the program on an image, which has to end with this status.
+same() {
+  local image=$1 status=$2 plain under
+  shift 2
+  "$program" "$@" <"$image" >"$scratch/out" 2>"$scratch/err"
+  plain=$?
+  valgrind --quiet --leak-check=full --show-leak-kinds=all --errors-for-leak-kinds=all --error-exitcode=$WRONG --log-file="$scratch/log" \
+    "$program" "$@" <"$image" >"$scratch/out.under" 2>"$scratch/err.under"
+  under=$?
+  if [ "$plain $under" = "$status $status" ] && cmp -s "$scratch/out" "$scratch/out.under" && cmp -s "$scratch/err" "$scratch/err.under"; then
+    passed=$((passed + 1))
+  else
+    failed=$((failed + 1))
+    printf '%s on %s: status %s, under valgrind %s, and not %s\n' "$*" "$image" "$plain" "$under" "$status"
+    tail -n 40 "$scratch/log"
+  fi
+}
+
+numa=tests/images/sb-q35-numa4-dist.img.txt
+nvdimm=tests/images/sb-pc-nvdimm-numa.img.txt
+example=tests/images/example.img.txt
+caches=tests/images/q11-efi-virt-caches.img.txt
+# An address that goes up with one number changed, a line that is no image text, nothing at all, and each byte given twice.
+sed 's/^01 00 00 00 00 00 00 40/01 00 00 00 00 00 00 48/' "$numa" >"$scratch/grown"
+printf '@1000\nzz\n' >"$scratch/no-hex"
+: >"$scratch/empty"
+cat "$example" "$example" >"$scratch/twice"
+
+same "$example" 0 check
+same "$numa" 0 check
+same "$caches" 0 check --rsdp 47fe0000
+same "$nvdimm" 1 check
+same "$nvdimm" 0 check --hotplug apart
+same "$scratch/grown" 1 check
+same "$scratch/empty" 1 check
+same "$scratch/no-hex" 3 check
+same "$scratch/twice" 3 check
+same "$example" 2 check --no-such-option
+same "$numa" 0 lint
+same "$nvdimm" 1 lint
+same "$scratch/grown" 1 lint --strict
+same "$numa" 0 show
+same "$caches" 0 show --rsdp 47fe0000
+same "$numa" 0 rebuild --base 7ffe0000
+same "$nvdimm" 1 rebuild --base 7ffe0000
+same "$nvdimm" 0 confirm --witness '10 Overlap 0x90 0xb8 0x100000000'
+same "$example" 1 confirm --witness '10 Overlap 0x90 0xb8 0x100000000'
+same "$numa" 0 find
+
+printf 'valgrind: %d passed, %d failed\n' "$passed" "$failed"
+[ "$failed" = 0 ]
