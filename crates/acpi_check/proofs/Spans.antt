@@ -4,8 +4,7 @@ pub mod CoveredSpans
 pub mod EntrySpans
 pub mod GsiClashes
 pub mod GsiRanges
-pub mod RaisedEnds
 pub mod RangeClashes
 pub mod ServedFaults
-pub mod ServedNumbers
+pub mod ServedWalk
 pub mod ServedSpans

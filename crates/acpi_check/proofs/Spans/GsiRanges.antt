@@ -1,17 +1,16 @@
 -- From ranges of interrupt numbers to what the I/O APICs of a MADT serve.
 use Rattle.std.proofs.Common.{◌≡◌, ◌≢◌, ℕ, ◌<◌, ◌⊎◌, ◌&&◌, Bool, true, false, List, [], ◌∷◌, length, get_or, nat_lt, Option, Some, refl, sym, ◌∙◌, ap, subst, inl, inr, arith, true≢false}
-use Rattle.std.specs.Prelude.{◌↔◌, Contains}
+use Rattle.std.specs.Prelude.{Contains}
 use Rattle.std.specs.List.{IsDistinct}
 use Rattle.std.specs.List.Sorted.{IsPermutation}
 use Rattle.std.proofs.Math.Bool.{and_comm}
 use Rattle.std.proofs.lemmas.Bool.{lt-ltb}
 use Rattle.std.proofs.lemmas.Bool.Decides.{nat_tests}
-use Rattle.std.proofs.lemmas.List.{get_or_default}
 use Rattle.std.proofs.lemmas.List.Elements.{Contains-get_or, All-contains, All-from_recursion}
 use Rattle.std.proofs.lemmas.List.Sorted.{Contains-permutation, IsPermutation-sym}
 use Rattle.std.proofs.lemmas.Map.Keys.{IsDistinct-head, IsDistinct-tail, IsDistinct-from_apart}
 use Rattle.std.proofs.lemmas.Option.{same_Some, none-some}
-use Rattle.acpi_base.specs.Across.{IsServed, AreNamedServed}
+use Rattle.acpi_base.specs.Across.{IsIoApic, HasIoApic, IsServed}
 use Rattle.acpi_base.specs.Entries.{PlacedEntry}
 use Rattle.acpi_base.specs.Madt.{MadtEntry, IoApic, MadtContents, ServesFrom, AreInterruptsApart}
 use Rattle.acpi_base.specs.Policy.{PolicyValue, inputs_of}
@@ -20,11 +19,7 @@ use Rattle.acpi_base.proofs.Images.HeldBytes.{cases_Option}
 use Rattle.acpi_graph.specs.Spans.{end_of, EndsBefore, AreApart}
 use Rattle.acpi_graph.specs.declared.span.CompactSpan.{CompactSpan}
 use Rattle.acpi_check.specs.GsiRanges.{served_range, ranges_of, IsInRange, IsInRanges}
-use Rattle.acpi_check.specs.Processors.{numbers_in}
-use Rattle.acpi_check.specs.ServedGsis.{named_gsi}
-use Rattle.acpi_check.proofs.ProcessorNumbers.EntryNumbers.{in_entries}
 use Rattle.acpi_check.proofs.EntryPasses.Kept.{kept_has, kept_from}
-use Rattle.acpi_check.proofs.Spans.ServedFaults.{names}
 
 -- ---- one entry
 
@@ -45,6 +40,15 @@ range_of q start g (IoApic v) here = (
   (omega (arith, here.0, here.1), omega (arith, here.0, here.2)),
 )
 range_of q start g _ here = absurd here
+
+-- an I/O APIC has one, and nothing else has
+some_range : (q : PolicyValue) (e : MadtEntry) → IsIoApic e → (range : CompactSpan) × (served_range q e ≡ Some range)
+some_range q (IoApic v) io = (record { start = v.gsi_base; length = inputs_of q v.address }, refl)
+some_range q _ io = absurd io
+
+is_io_apic : (q : PolicyValue) (e : MadtEntry) (range : CompactSpan) → served_range q e ≡ Some range → IsIoApic e
+is_io_apic q (IoApic v) range is = tt
+is_io_apic q _ range is = absurd (none-some range is)
 
 -- ---- ranges that share a number
 
@@ -131,26 +135,28 @@ is_served q c sorted moved g (range, listed, here) =
     (IsPermutation-sym (ranges_of q c.entries) sorted moved) listed) in
     (s.offset, range.start, (s.entry, found, serves q g s.entry range is here))
 
--- ---- numbers in ranges
+-- and a number that is served is in one of them
+pub in_ranges : (q : PolicyValue) (c : MadtContents) (sorted : List CompactSpan)
+    → IsPermutation (ranges_of q c.entries) sorted → (g : ℕ) → IsServed q c g → IsInRanges sorted g
+in_ranges q c sorted moved g (o, start, (e, stands, here)) =
+    let (range, is, inside) = range_of q start g e here in (
+      range,
+      Contains-permutation (ranges_of q c.entries) sorted range moved
+          (kept_has (λ (s : PlacedEntry MadtEntry). served_range q s.entry) c.entries
+          (record { offset = o; entry = e }) range stands is),
+      inside,
+    )
 
--- a number in the range at a place is in one of the list
-pub in_this : (ranges : List CompactSpan) (j : ℕ) (d : CompactSpan) (g : ℕ) → j < length ranges
-    → IsInRange (get_or ranges j d) g → IsInRanges ranges g
-in_this ranges j d g within here = (get_or ranges j d, Contains-get_or ranges j d within, here)
+-- where there are no ranges there is no I/O APIC, and where there is one, there is one
+pub no_io_apic : (q : PolicyValue) (c : MadtContents) → length (ranges_of q c.entries) ≡ 0 → ¬ HasIoApic c
+no_io_apic q c none (o, (e, stands, io)) =
+    let (range, is) = some_range q e io in
+    let (k, within, _) = kept_has (λ (s : PlacedEntry MadtEntry). served_range q s.entry) c.entries
+    (record { offset = o; entry = e }) range stands is in
+    omega arith
 
--- where the numbers at all places are in ranges, all numbers are
-pub all_held : (ranges : List CompactSpan) (numbers : List ℕ)
-    → ((k : ℕ) → k < length numbers → IsInRanges ranges (get_or numbers k 0)) → (n : ℕ) → Contains numbers n
-    → IsInRanges ranges n
-all_held ranges numbers covers n (k, within, is) =
-    subst (IsInRanges ranges) (get_or_default numbers k 0 n within ∙ is) (covers k within)
-
--- where all numbers that entries name are in ranges, all are served
-pub named_served : (q : PolicyValue) (c : MadtContents) (sorted : List CompactSpan) (named numbers : List ℕ)
-    → IsPermutation (ranges_of q c.entries) sorted → named ≡ numbers_in named_gsi c.entries
-    → ((n : ℕ) → Contains numbers n ↔ Contains named n) → ((n : ℕ) → Contains numbers n → IsInRanges sorted n)
-    → AreNamedServed q c
-named_served q c sorted named numbers moved is same covers io o g (e, stands, names_g) =
-    is_served q c sorted moved g (covers g
-    ((same g).1 (subst (λ (ns : List ℕ). Contains ns g) (sym is)
-    ((in_entries named_gsi c.entries g).1 (o, (e, stands, (names g e).0 names_g))))))
+pub has_io_apic : (q : PolicyValue) (c : MadtContents) → 0 < length (ranges_of q c.entries) → HasIoApic c
+has_io_apic q c some =
+    let (s, stands, is) = kept_from (λ (s : PlacedEntry MadtEntry). served_range q s.entry) c.entries _
+    (Contains-get_or (ranges_of q c.entries) 0 (record { start = 0; length = 0 }) some) in
+    (s.offset, (s.entry, stands, is_io_apic q s.entry _ is))
