@@ -141,6 +141,22 @@ def nodes_of_58_caches(count):
     return pptt(*(cache(0) for _ in caches), *(node(0, resources=caches) for _ in range(count)))
 
 
+def scattered_references(count):
+    """Nodes of 58 private resources in no order, among as many nodes of none, so that no two entries are evenly far from the next."""
+    numbers = random.Random(1)
+    caches = []
+    entries = []
+    offset = 36
+    for number in range(count):
+        for entry in (cache(0), node(0)) if numbers.random() < 0.5 else (cache(0),):
+            if len(entry) == 24:
+                caches.append(offset)
+            entries.append(entry)
+            offset += len(entry)
+    nodes = (node(0, resources=numbers.choices(caches, k=58)) for _ in range(count))
+    return pptt(*entries, *nodes)
+
+
 def machine(count):
     """A machine with that many processors: 64 domains, and a PPTT with a package and two caches for every 64 processors."""
     packages = range(36, 36 + 68 * (count // 64), 68)
@@ -172,6 +188,30 @@ KINDS = {
         srat(*map(x2apic_affinity, reversed(shuffled(count)))),
     ],
     "nmi-sources": lambda count: [madt(*map(io_apic, shuffled(count)), *map(nmi_source, reversed(shuffled(count))))],
+    "io-apics-last-clash": lambda count: [madt(*map(io_apic, shuffled(count)), io_apic(count - 1))],
+    "overrides-last-clash": lambda count: [madt(*map(override, range(count)), bytes((2, 10, 0, 9, 8, 0, 0, 0, 0, 0)))],
+    "nmi-sources-last-unserved": lambda count: [
+        madt(*map(io_apic, shuffled(count)), *map(nmi_source, reversed(shuffled(count))), nmi_source(count))
+    ],
+    "nmi-sources-apart": lambda count: [
+        madt(
+            *(io_apic(2 * number) for number in shuffled(count)),
+            *(nmi_source(2 * number) for number in reversed(shuffled(count))),
+        )
+    ],
+    "nmi-sources-apart-last-unserved": lambda count: [
+        madt(
+            *(io_apic(2 * number) for number in shuffled(count)),
+            *(nmi_source(2 * number) for number in reversed(shuffled(count))),
+            nmi_source(1),
+        )
+    ],
+    "short-entries": lambda count: [
+        madt(
+            io_apic(8), override(0), nmi_source(8), *map(reserved, range(count)), io_apic(9), override(1), nmi_source(9)
+        )
+    ],
+    "scattered-references": lambda count: [scattered_references(count)],
     "processors-of-a-machine": machine,
     "leaves": lambda count: [
         madt(*map(x2apic, shuffled(count))),

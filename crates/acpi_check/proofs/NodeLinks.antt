@@ -5,4 +5,5 @@ pub mod IndexedNodes
 pub mod KindPlaces
 pub mod LinkedNodes
 pub mod NamedPlaces
+pub mod OffsetBits
 pub mod ReferencePass

@@ -3,9 +3,9 @@ pub mod Clashes
 pub mod CoveredSpans
 pub mod EntrySpans
 pub mod GsiClashes
+pub mod GsiMeetings
 pub mod GsiRanges
-pub mod RaisedEnds
 pub mod RangeClashes
 pub mod ServedFaults
-pub mod ServedNumbers
+pub mod ServedWalk
 pub mod ServedSpans

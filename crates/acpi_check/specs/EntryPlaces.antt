@@ -1,5 +1,5 @@
 -- Where the entries of a PPTT stand, by what may be named there, and what an entry names of these offsets.
-use Rattle.std.specs.Prelude.{◌≡◌, ◌≢◌, ◌<◌, ◌⊎◌, ◌↔◌, ℕ, Bool, true, false, List, AllPairs, Contains, Some, None, if◌then◌else◌}
+use Rattle.std.specs.Prelude.{◌≡◌, ◌≢◌, ◌⊎◌, ◌↔◌, ℕ, Bool, true, false, List, Some, None, if◌then◌else◌}
 use Rattle.std.specs.List.{filter_map}
 use Rattle.acpi_base.specs.Codes.{stage_of}
 use Rattle.acpi_base.specs.Entries.{PlacedEntry}
@@ -9,24 +9,18 @@ use Rattle.acpi_base.specs.declared.code.Code.{Code}
 use Rattle.acpi_base.specs.declared.code.Code.TheVariants as code
 use Rattle.acpi_base.specs.declared.stage.Stage.TheVariants as stage
 use Rattle.acpi_base.specs.declared.witness.Witness.{Witness}
+use Rattle.acpi_check.specs.OffsetSets.{IsIn}
 use Rattle.acpi_check.specs.declared.places.Kind.{Kind}
 use Rattle.acpi_check.specs.declared.places.Kind.TheVariants as kind
 use Rattle.acpi_check.specs.declared.places.Places.{Places}
 
 -- ---- offsets
 
--- the offsets of each kind rise
-pub record ArePlacesSorted (places : Places) : Type 0 where
-  pub nodes : AllPairs (λ o p. o < p) places.nodes.items
-  pub caches : AllPairs (λ o p. o < p) places.caches.items
-  pub resources : AllPairs (λ o p. o < p) places.resources.items
-
 -- these are the offsets at which a node, a cache or a private resource stands
 pub record ArePlaces (c : PpttContents) (places : Places) : Type 0 where
-  pub rise : ArePlacesSorted places
-  pub nodes : (o : ℕ) → Contains places.nodes.items o ↔ IsNodeAt c o
-  pub caches : (o : ℕ) → Contains places.caches.items o ↔ IsCacheAt c o
-  pub resources : (o : ℕ) → Contains places.resources.items o ↔ IsResourceAt c o
+  pub nodes : (o : ℕ) → IsIn places.nodes o ↔ IsNodeAt c o
+  pub caches : (o : ℕ) → IsIn places.caches o ↔ IsCacheAt c o
+  pub resources : (o : ℕ) → IsIn places.resources o ↔ IsResourceAt c o
 
 -- ---- how they are collected
 
@@ -56,15 +50,15 @@ kind_offsets kinds entries = filter_map (λ s. if kinds (kind_of s.entry) then S
 
 -- each offset that the entry names is one of those of the kind
 pub record NamesPlaces (places : Places) (e : PpttEntry) : Type 0 where
-  pub parent : (p : ℕ) → parent_of e ≡ Some p → (p ≡ 0) ⊎ Contains places.nodes.items p
-  pub resource : (j r : ℕ) → resource_of j e ≡ Some r → Contains places.resources.items r
-  pub next_level : (p : ℕ) → next_level_of e ≡ Some p → (p ≡ 0) ⊎ Contains places.caches.items p
+  pub parent : (p : ℕ) → parent_of e ≡ Some p → (p ≡ 0) ⊎ IsIn places.nodes p
+  pub resource : (j r : ℕ) → resource_of j e ≡ Some r → IsIn places.resources r
+  pub next_level : (p : ℕ) → next_level_of e ≡ Some p → (p ≡ 0) ⊎ IsIn places.caches p
 
 -- the entry names an offset that is none of these: a fault with these two numbers
 abbrev pub EntryReferenceFault : Places → PpttEntry → Code → ℕ → ℕ → Type 0
-EntryReferenceFault places e code.DanglingParent other point = (parent_of e ≡ Some other) × (other ≢ 0) × (¬ Contains places.nodes.items other) × (point ≡ 0)
-EntryReferenceFault places e code.DanglingResource other point = (resource_of other e ≡ Some point) × ¬ Contains places.resources.items point
-EntryReferenceFault places e code.DanglingCache other point = (next_level_of e ≡ Some other) × (other ≢ 0) × (¬ Contains places.caches.items other) × (point ≡ 0)
+EntryReferenceFault places e code.DanglingParent other point = (parent_of e ≡ Some other) × (other ≢ 0) × (¬ IsIn places.nodes other) × (point ≡ 0)
+EntryReferenceFault places e code.DanglingResource other point = (resource_of other e ≡ Some point) × ¬ IsIn places.resources point
+EntryReferenceFault places e code.DanglingCache other point = (next_level_of e ≡ Some other) × (other ≢ 0) × (¬ IsIn places.caches other) × (point ≡ 0)
 EntryReferenceFault places e _ other point = ⊥
 
 -- w is the first of them

@@ -1,5 +1,5 @@
 -- The interrupt numbers that a MADT's I/O APICs serve, as compact spans.
-use Rattle.std.specs.Prelude.{ℕ, ◌<◌, ◌≤◌, List, Contains, slice_index, Option, Some, None}
+use Rattle.std.specs.Prelude.{ℕ, ◌<◌, ◌≤◌, List, Contains, Option, Some, None}
 use Rattle.std.specs.List.{filter_map}
 use Rattle.acpi_base.specs.Entries.{PlacedEntry}
 use Rattle.acpi_base.specs.Madt.{MadtEntry, IoApic}
@@ -23,7 +23,3 @@ IsInRange range g = (range.start ≤ g) × (g < end_of range)
 -- the number is in a range of the list
 abbrev pub IsInRanges : List CompactSpan → ℕ → Type 0
 IsInRanges ranges g = (range : CompactSpan) × Contains ranges range × IsInRange range g
-
--- the numbers from the place `from` on and before `to` are in the range
-abbrev pub AreInRange : CompactSpan → List ℕ → ℕ → ℕ → Type 0
-AreInRange range numbers from to = (k : ℕ) → from ≤ k → k < to → IsInRange range (slice_index numbers k)

@@ -12,6 +12,7 @@ pub mod HandedOn
 pub mod Headline
 pub mod Leaves
 pub mod NamedNumbers
+pub mod OffsetSets
 pub mod PassResults
 pub mod Processors
 pub mod RangeKinds

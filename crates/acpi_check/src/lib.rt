@@ -31,6 +31,7 @@ mod leaves;
 mod listed;
 mod madt;
 mod nodes;
+mod offset_set;
 mod overrides;
 mod places;
 mod pptt;

@@ -1,5 +1,7 @@
 //! Where the entries of a PPTT stand.
 
+use crate::offset_set::OffsetSet;
+
 /// What an entry is.
 #[derive(Clone, Copy)]
 pub enum Kind {
@@ -11,13 +13,13 @@ pub enum Kind {
     Other,
 }
 
-/// The offsets at which the entries of a PPTT stand, by what may be named there. Each list is in rising order.
+/// The offsets at which the entries of a PPTT stand, by what may be named there.
 #[derive(Drop)]
 pub struct Places {
     /// Those of nodes: what a Parent may name.
-    pub nodes: Vec<u64>,
+    pub nodes: OffsetSet,
     /// Those of caches: what a Next Level may name.
-    pub caches: Vec<u64>,
+    pub caches: OffsetSet,
     /// Those of all entries but nodes: what a private resource may be.
-    pub resources: Vec<u64>,
+    pub resources: OffsetSet,
 }

@@ -1,16 +1,17 @@
 //! Stage 13: what the PPTT's entries name.
 
-ghost use Rattle.std.specs.Prelude.{◌≡◌, ◌≢◌, ◌+◌, ◌*◌, ◌<◌, ◌⊎◌, ℕ, AllPairs, Contains, IfOk, MatchOption, length};
+ghost use Rattle.std.specs.Prelude.{◌≡◌, ◌≢◌, ◌+◌, ◌*◌, ◌<◌, ◌⊎◌, ℕ, IfOk, OnOk, MatchOption, length};
 ghost use Rattle.acpi_base.specs.Number.{field};
 ghost use Rattle.acpi_base.specs.Pptt.{pptt_contents, IsCutPptt, AreReferencesSound, ReferenceFault};
 ghost use Rattle.acpi_base.specs.declared.stage.Stage.{Stage};
 ghost use Rattle.acpi_read.specs.Pptts.{pptt_value, HasReferences};
 ghost use Rattle.acpi_check.specs.TableResults.{FindsFirst};
-ghost use Rattle.acpi_check.specs.EntryPlaces.{kind_of, ArePlaces, ArePlacesSorted, NamesPlaces, IsFirstReference};
+ghost use Rattle.acpi_check.specs.OffsetSets.{IsIn, Adds};
+ghost use Rattle.acpi_check.specs.EntryPlaces.{kind_of, is_node, is_cache, is_resource, ArePlaces, NamesPlaces, IsFirstReference};
 
+use crate::offset_set::OffsetSet;
 use crate::places::{Kind, Places};
 use crate::refusal::Refusal;
-use crate::search::has;
 use acpi_base::field::u32_at;
 use acpi_base::{Code, Witness};
 use acpi_read::{EntryAt, Pptt, PpttEntry};
@@ -27,45 +28,52 @@ fn kind_of(entry: &PpttEntry<'_>) -> Kind
     }
 }
 
+/// Adds the offset at which an entry stands to those of its kind.
+fn add_place(places: &mut Places, kind: Kind, offset: u64) -> Result<(), AllocError>
+    ensures nodes { OnOk result (Adds (is_node kind) offset places.old.nodes places.new.nodes) }
+    ensures caches { OnOk result (Adds (is_cache kind) offset places.old.caches places.new.caches) }
+    ensures resources { OnOk result
+        (Adds (is_resource kind) offset places.old.resources places.new.resources) }
+{
+    match kind {
+        Kind::Node => places.nodes.add(offset)?,
+        Kind::Cache => {
+            places.caches.add(offset)?;
+            places.resources.add(offset)?;
+        }
+        Kind::Other => places.resources.add(offset)?,
+    }
+    Ok(())
+}
+
 /// Where the entries of a PPTT stand, by what they are.
-#[tactic(auto, using(crate::proofs::EntryPasses::Collecting::gathering))]
 fn places_of(alloc: Global, pptt: &Pptt<'_>) -> Result<Places, AllocError>
     requires { IsCutPptt (pptt_contents pptt.now) }
     ensures { IfOk result (ArePlaces (pptt_contents pptt.now)) }
 {
-    let mut nodes = Vec::new(alloc);
-    let mut caches = Vec::new(alloc);
-    let mut resources = Vec::new(alloc);
+    let mut places = Places {
+        nodes: OffsetSet::new(alloc),
+        caches: OffsetSet::new(alloc),
+        resources: OffsetSet::new(alloc),
+    };
     for at in pptt.entries() {
-        match kind_of(&at.entry) {
-            Kind::Node => nodes.push(at.offset)?,
-            Kind::Cache => {
-                caches.push(at.offset)?;
-                resources.push(at.offset)?;
-            }
-            Kind::Other => resources.push(at.offset)?,
-        }
+        add_place(&mut places, kind_of(&at.entry), at.offset)?;
     }
-    Ok(Places {
-        nodes,
-        caches,
-        resources,
-    })
+    Ok(places)
 }
 
 /// The first of a node's private resources that is not at one of these offsets: its number, and its own offset.
-fn first_dangling(offsets: &[u64], count: u32, references: &[u8]) -> Option<(u32, u32)>
-    requires rising { AllPairs (λ o p. o < p) offsets.now }
-    requires count { length references.now ≡ 4 * count }
+fn first_dangling(offsets: &OffsetSet, count: u32, references: &[u8]) -> Option<(u32, u32)>
+    requires { length references.now ≡ 4 * count }
     ensures { MatchOption result ((j : ℕ) → j < count
-        → Contains offsets.now (field references.now (4 * j) 4))
+        → IsIn offsets.now (field references.now (4 * j) 4))
         (λ found. (found.0 < count) × (found.1 ≡ field references.now (4 * found.0) 4)
-        × (¬ Contains offsets.now found.1)
-        × ((j : ℕ) → j < found.0 → Contains offsets.now (field references.now (4 * j) 4))) }
+        × (¬ IsIn offsets.now found.1)
+        × ((j : ℕ) → j < found.0 → IsIn offsets.now (field references.now (4 * j) 4))) }
 {
     for j in 0..count {
         let offset = u32_at(references, 4 * j as usize);
-        if !has(offsets, offset) {
+        if !offsets.has(offset) {
             return Some((j, offset));
         }
     }
@@ -73,13 +81,12 @@ fn first_dangling(offsets: &[u64], count: u32, references: &[u8]) -> Option<(u32
 }
 
 /// The fault of a Parent or a Next Level that names an offset that is not among these. 0 names nothing.
-fn link_fault(code: Code, at: u64, offsets: &[u64], offset: u32) -> Option<Witness>
-    requires { AllPairs (λ o p. o < p) offsets.now }
-    ensures { MatchOption result ((offset ≡ 0) ⊎ Contains offsets.now offset)
+fn link_fault(code: Code, at: u64, offsets: &OffsetSet, offset: u32) -> Option<Witness>
+    ensures { MatchOption result ((offset ≡ 0) ⊎ IsIn offsets.now offset)
         (λ w. (w ≡ record { code = code; at = at; other = offset; point = 0 }) × (offset ≢ 0)
-        × ¬ Contains offsets.now offset) }
+        × ¬ IsIn offsets.now offset) }
 {
-    if offset == 0 || has(offsets, offset) {
+    if offset == 0 || offsets.has(offset) {
         return None;
     }
     Some(Witness {
@@ -92,8 +99,7 @@ fn link_fault(code: Code, at: u64, offsets: &[u64], offset: u32) -> Option<Witne
 
 /// The first fault of what an entry names: of a node its Parent comes before its private resources.
 fn own_fault(places: &Places, at: &EntryAt<PpttEntry<'_>>) -> Option<Witness>
-    requires rise { ArePlacesSorted places.now }
-    requires references { HasReferences at.now.entry }
+    requires { HasReferences at.now.entry }
     ensures { MatchOption result (NamesPlaces places.now (pptt_value at.now.entry))
         (λ w. (w.at ≡ at.now.offset) × IsFirstReference places.now (pptt_value at.now.entry) w) }
 {
@@ -139,7 +145,7 @@ fn first_fault(places: &Places, pptt: &Pptt<'_>) -> Result<(), Refusal>
 }
 
 /// Whether an entry stands at each offset that a PPTT's entries name, of the kind that is named there. The first fault is at
-/// the offset of the entry that names it. Takes memory for each entry.
+/// the offset of the entry that names it. Takes memory for a bit for each byte of the table, three times.
 pub fn sound_references(alloc: Global, pptt: &Pptt<'_>) -> Result<(), Refusal>
     requires { IsCutPptt (pptt_contents pptt.now) }
     ensures { FindsFirst Stage.References (AreReferencesSound (pptt_contents pptt.now))

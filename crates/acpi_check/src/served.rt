@@ -1,25 +1,39 @@
 //! Stage 17: the interrupt numbers that overrides and NMI sources of the MADT name, among those that its I/O APICs serve.
 
-ghost use Rattle.std.specs.Prelude.{◌≡◌, ◌↔◌, ℕ, IfOk, IsTrue, MatchBool, MatchOption};
+ghost use Rattle.std.specs.Prelude.{◌≡◌, ◌<◌, ◌≤◌, ◌^◌, IfOk, IfSome, MatchOption};
 ghost use Rattle.acpi_base.specs.Across.{AreNamedServed, ServedFault};
 ghost use Rattle.acpi_base.specs.Madt.{madt_contents};
-ghost use Rattle.acpi_base.specs.declared.code.Code.{Code};
 ghost use Rattle.acpi_base.specs.declared.stage.Stage.{Stage};
 ghost use Rattle.acpi_read.specs.Madts.{madt_value};
-ghost use Rattle.acpi_check.specs.NamedNumbers.{IsKnown, IsUnknown, FindsUnknown};
+ghost use Rattle.acpi_read.specs.TypedEntries.{entry_at_value};
 ghost use Rattle.acpi_check.specs.TableResults.{FindsFirst};
-ghost use Rattle.acpi_check.specs.Processors.{numbers_in};
-ghost use Rattle.acpi_check.specs.ServedGsis.{named_gsi, AreServedSpans, DoStartsRise, DoBothRise, IsInSpans};
+ghost use Rattle.acpi_check.specs.ServedGsis.{named_gsi, named_at, all_named, IsEarlier, DoStartsRise, DoNumbersRise, IsReach, HaveBegun, DoFollow, FindsUnserved};
 
 use crate::collecting::collected;
-use crate::gsi_ranges::{are_in_ranges, served_ranges};
-use crate::interrupts::served_spans;
-use crate::refusal::{Refusal, refuse};
-use crate::search::sorted_unique;
+use crate::gsi_ranges::served_ranges;
+use crate::refusal::Refusal;
 use acpi_base::{Code, Policy, Witness};
-use acpi_graph::Span;
+use acpi_graph::CompactSpan;
 use acpi_read::{EntryAt, Madt, MadtEntry};
 use std::alloc::{AllocError, Global};
+
+/// An interrupt number that an entry names. They compare by the number, then by the offset.
+#[derive(Clone, Copy, PartialEq, Eq, PartialOrd, Ord)]
+pub struct NamedGsi {
+    /// The number.
+    pub gsi: u32,
+    /// Where the entry stands, from the table's start.
+    pub offset: u32,
+}
+
+/// How far ranges were gone through that begin in rising order.
+#[derive(Clone, Copy)]
+pub struct Reach {
+    /// How many were passed.
+    pub passed: usize,
+    /// The greatest end of those, or 0 where there are none.
+    pub end: u64,
+}
 
 /// The interrupt number that an override or an NMI source names. None for another entry.
 fn named_gsi(entry: &MadtEntry<'_>) -> Option<u32>
@@ -32,105 +46,74 @@ fn named_gsi(entry: &MadtEntry<'_>) -> Option<u32>
     }
 }
 
-/// The interrupt numbers that overrides and NMI sources of a MADT name, in the entries' order.
-fn named_gsis(alloc: Global, madt: &Madt<'_>) -> Result<Vec<u64>, AllocError>
-    ensures { IfOk result (λ numbers. numbers.items ≡ numbers_in named_gsi
-        (madt_contents madt.now).entries) }
-{
-    collected(
-        alloc,
-        madt.entries(),
-        |at| named_gsi(&at.entry).map(u64::from),
-    )
-}
-
-/// Whether I/O APICs of a MADT are seen to serve all interrupt numbers that entries name; a `false` says nothing. What they
-/// serve, as compact spans, and the numbers are sorted and gone over together, with no search. Takes memory for one such span
-/// for each I/O APIC, and for one number for each override and each NMI source.
-fn are_all_served(alloc: Global, policy: &Policy, madt: &Madt<'_>) -> Result<bool, AllocError>
-    ensures { IfOk result (λ all. IsTrue all → AreNamedServed policy.now (madt_contents madt.now)) }
-{
-    let mut ranges = served_ranges(alloc, policy, madt)?;
-    ranges.sort_unstable();
-    let numbers = sorted_unique(named_gsis(alloc, madt)?);
-    Ok(are_in_ranges(&ranges, &numbers))
-}
-
-/// Raises the end of each span to the greatest end of those before it, where that is greater. Spans that begin in rising order
-/// hold the same numbers as before: what is added to a span is held by an earlier one.
-fn raise_ends(spans: &mut [Span])
-    requires { DoStartsRise spans.old }
-    ensures rise { DoBothRise spans.new }
-    ensures same { (x : ℕ) → IsInSpans spans.new x ↔ IsInSpans spans.old x }
-{
-    for next in 1..spans.len() {
-        let span = spans[next];
-        spans[next] = Span {
-            start: span.start,
-            name: span.name,
-            end: span.end.max(spans[next - 1].end),
-        };
-    }
-}
-
-/// The interrupt numbers that I/O APICs of a MADT serve, as spans whose starts and ends rise. Takes memory for one span for
-/// each I/O APIC.
-fn sorted_spans(alloc: Global, policy: &Policy, madt: &Madt<'_>) -> Result<Vec<Span>, AllocError>
-    ensures { IfOk result (λ spans. AreServedSpans policy.now (madt_contents madt.now)
-        spans.items) }
-{
-    // Opens the invariant of `Policy` to the proof, and does nothing when it runs: a policy gives each I/O APIC an input
-    // at least, so each serves a number.
-    let _ = policy.rsdp();
-    let mut spans = served_spans(alloc, policy, madt)?;
-    spans.sort_unstable();
-    raise_ends(&mut spans);
-    Ok(spans)
-}
-
-/// Whether a number is in one of the spans: of those that begin at the number or below it the last one has the greatest end,
-/// so it holds the number where any does. It is found by binary search.
-fn is_in_spans(spans: &[Span], number: u128) -> bool
-    requires { DoBothRise spans.now }
-    ensures { MatchBool result (IsInSpans spans.now number) (¬ IsInSpans spans.now number) }
-{
-    let begun = spans.partition_point(|span| span.start <= number);
-    begun > 0 && number < spans[begun - 1].end
-}
-
-/// The fault of an entry that names an interrupt number that none of the spans holds. None for an entry that names none.
-fn own_fault(spans: &[Span], at: &EntryAt<MadtEntry<'_>>) -> Option<Witness>
-    requires { DoBothRise spans.now }
-    ensures { MatchOption result
-        (IsKnown (IsInSpans spans.now) (named_gsi (madt_value at.now.entry)))
-        (IsUnknown (IsInSpans spans.now) Code.GsiNowhere at.now.offset
-        (named_gsi (madt_value at.now.entry))) }
+/// The same with the entry's offset, which has 32 bits, as those of a table do.
+fn named_at(at: &EntryAt<MadtEntry<'_>>) -> Option<NamedGsi>
+    requires { at.now.offset < 2 ^ 32 }
+    ensures { result ≡ named_at (entry_at_value madt_value at.now) }
 {
     let gsi = named_gsi(&at.entry)?;
-    if is_in_spans(spans, u128::from(gsi)) {
-        return None;
-    }
-    Some(Witness {
-        code: Code::GsiNowhere,
-        at: at.offset,
-        other: 0,
-        point: u64::from(gsi),
+    Some(NamedGsi {
+        gsi,
+        offset: at.offset as u32,
     })
 }
 
-/// The fault of the first entry of a MADT that names an interrupt number that none of the spans holds.
-fn first_unserved(spans: &[Span], madt: &Madt<'_>) -> Option<Witness>
-    requires { DoBothRise spans.now }
-    ensures { FindsUnknown (IsInSpans spans.now) named_gsi Code.GsiNowhere
-        (madt_contents madt.now).entries result }
+/// The interrupt numbers that overrides and NMI sources of a MADT name, in the entries' order.
+fn all_named(alloc: Global, madt: &Madt<'_>) -> Result<Vec<NamedGsi>, AllocError>
+    ensures { IfOk result (λ named. named.items ≡ all_named (madt_contents madt.now).entries) }
 {
-    let mut entries = madt.entries();
-    while let Some(at) = entries.next() {
-        if let Some(fault) = own_fault(spans, &at) {
-            return Some(fault);
+    collected(alloc, madt.entries(), named_at)
+}
+
+/// Goes on over the ranges that begin at the number or below it.
+fn reach_on(ranges: &[CompactSpan], from: Reach, number: u32) -> Reach
+    requires rise { DoStartsRise ranges.now }
+    requires reach { IsReach ranges.now from }
+    requires begun { HaveBegun ranges.now from number }
+    ensures reach { IsReach ranges.now result }
+    ensures begun { HaveBegun ranges.now result number }
+    ensures follow { DoFollow ranges.now result number }
+{
+    let mut end = from.end;
+    for passed in from.passed..ranges.len() {
+        let range = ranges[passed];
+        if range.start > number {
+            return Reach { passed, end };
+        }
+        end = end.max(range.end());
+    }
+    Reach {
+        passed: ranges.len(),
+        end,
+    }
+}
+
+/// Of two entries the one that comes first.
+fn earlier(first: Option<NamedGsi>, other: NamedGsi) -> NamedGsi
+    ensures { MatchOption first (result ≡ other) (λ one. IsEarlier one other result) }
+{
+    match first {
+        Some(first) if first.offset <= other.offset => first,
+        _ => other,
+    }
+}
+
+/// The first entry that names a number that is in no range. Ranges and numbers are sorted, and gone over together, with no
+/// search: a number is in a range where the greatest end of those that begin at it or below is behind it.
+fn first_unserved(ranges: &[CompactSpan], named: &[NamedGsi]) -> Option<NamedGsi>
+    requires ranges { DoStartsRise ranges.now }
+    requires named { DoNumbersRise named.now }
+    ensures { FindsUnserved ranges.now named.now result }
+{
+    let mut reach = Reach { passed: 0, end: 0 };
+    let mut first = None;
+    for entry in named {
+        reach = reach_on(ranges, reach, entry.gsi);
+        if reach.end <= u64::from(entry.gsi) {
+            first = Some(earlier(first, *entry));
         }
     }
-    None
+    first
 }
 
 /// Whether an I/O APIC of a MADT serves each interrupt number that an override or an NMI source names (ACPI 6.5, 5.2.12.3,
@@ -140,20 +123,26 @@ fn first_unserved(spans: &[Span], madt: &Madt<'_>) -> Option<Witness>
 /// Refuses `Fault` with the code `GsiNowhere`: `at` is the offset, in bytes from the table's start, of the first entry that
 /// names a number that none serves; `other` is 0, and `point` is the number, of 32 bits.
 ///
-/// Refuses `OutOfMemory`. First it is asked whether all numbers are seen to be served, which takes memory for a compact span
-/// of 8 bytes for each I/O APIC and a number for each override and each NMI source. Only where they are not, the first that
-/// is not served is looked for, which takes memory for a span for each I/O APIC.
+/// Refuses `OutOfMemory`: it takes memory for a compact span of 8 bytes for each I/O APIC; and where there is one, for 8 bytes
+/// for each override and each NMI source. Both are sorted in place and gone over together once, whether there is a fault or not.
 pub fn named_served(alloc: Global, policy: &Policy, madt: &Madt<'_>) -> Result<(), Refusal>
     ensures { FindsFirst Stage.Served (AreNamedServed policy.now (madt_contents madt.now))
         (ServedFault policy.now (madt_contents madt.now)) result }
 {
-    let all_served = are_all_served(alloc, policy, madt)?;
-    if all_served {
+    let mut ranges = served_ranges(alloc, policy, madt)?;
+    if ranges.is_empty() {
         return Ok(());
     }
-    let spans = sorted_spans(alloc, policy, madt)?;
-    if spans.is_empty() {
-        return Ok(());
+    let mut named = all_named(alloc, madt)?;
+    ranges.sort_unstable();
+    named.sort_unstable();
+    match first_unserved(&ranges, &named) {
+        None => Ok(()),
+        Some(first) => Err(Refusal::Fault(Witness {
+            code: Code::GsiNowhere,
+            at: u64::from(first.offset),
+            other: 0,
+            point: u64::from(first.gsi),
+        })),
     }
-    refuse(first_unserved(&spans, madt))
 }

@@ -1,35 +1,36 @@
-//! Whether spans are apart.
+//! Whether spans are apart, and where they meet first.
 
-ghost use Rattle.std.specs.Prelude.{◌≡◌, ◌+◌, ◌-◌, ◌<◌, ◌≤◌, ◌↔◌, IsTrue, MatchBool, length, vec_len};
-ghost use Rattle.acpi_graph.specs.Spans.{end_of, AreApart, AreSortedDisjoint};
+ghost use Rattle.std.specs.Prelude.{◌≡◌, ◌+◌, ◌-◌, ◌<◌, ◌≤◌, ◌↔◌, IsNone, IsTrue, IfSome, MatchOption, length, vec_len};
+ghost use Rattle.acpi_graph.specs.Spans.{end_of, AreApart, AreSortedDisjoint, IsFirstMeeting, RunsInto};
 
 use crate::span::CompactSpan;
 
-/// Whether of each two of the spans the one ends before the other begins, and how many neighbours were compared to see it.
+/// The first number at which two of the spans meet: the one begins at it, and the other begins at it too or holds it. None
+/// where of each two the one ends before the other begins. And how many neighbours were compared to see it.
 ///
 /// The order of the spans does not matter. It costs one sort by start and length, in place, and at most one comparison less
 /// than there are spans. It takes no memory.
-pub fn are_apart(mut spans: Vec<CompactSpan>) -> (bool, usize)
-    ensures apart { IsTrue result.0 ↔ AreApart spans.items }
+pub fn first_meeting(mut spans: Vec<CompactSpan>) -> (Option<u32>, usize)
+    ensures apart { IsNone result.0 ↔ AreApart spans.items }
+    ensures first { IfSome result.0 (IsFirstMeeting spans.items) }
     ensures comparisons { result.1 ≤ vec_len spans - 1 }
 {
     spans.sort_unstable();
-    is_sorted_disjoint(&spans)
+    first_run_into(&spans)
 }
 
-/// Whether each span ends before all behind it begin, and how many neighbours were compared.
-fn is_sorted_disjoint(spans: &[CompactSpan]) -> (bool, usize)
-    ensures rise { MatchBool result.0 (AreSortedDisjoint spans.now)
-        (¬ AreSortedDisjoint spans.now) }
+/// Where the first span begins that the one before it runs into, and how many neighbours were compared.
+fn first_run_into(spans: &[CompactSpan]) -> (Option<u32>, usize)
+    ensures found { MatchOption result.0 (AreSortedDisjoint spans.now) (RunsInto spans.now) }
     ensures comparisons { result.1 ≤ length spans.now - 1 }
 {
     let mut comparisons = 0;
     for next in 1..spans.len() {
         if runs_into(&spans[next - 1], &spans[next], &mut comparisons) {
-            return (false, comparisons);
+            return (Some(spans[next].start), comparisons);
         }
     }
-    (true, comparisons)
+    (None, comparisons)
 }
 
 /// Whether a span ends behind the start of the next one. Each comparison of neighbours is made here, and counted.

@@ -1,7 +1,8 @@
 //! Two searches that a checker of tables needs, and a question that saves most calls of the first one. Each search returns the
 //! first case in a fixed order, so that the result does not depend on how the tables list their entries.
 //!
-//! - `are_apart`: of spans of numbers in 8 bytes each, whether no two overlap.
+//! - `first_meeting`: of spans of numbers in 8 bytes each, without names, whether two overlap, and the first number at which two
+//!   do.
 //! - `first_clash`: of spans of numbers, such as memory ranges, the first overlap: the least number that
 //!   lies in two, and the first two spans that hold it.
 //! - `first_stray`: of nodes that name their parents, the first whose chain of parents leads into a cycle
@@ -38,7 +39,7 @@ mod stray;
 #[cfg(test)]
 mod tests;
 
-pub use apart::are_apart;
+pub use apart::first_meeting;
 pub use clash::{Clash, first_clash};
 pub use span::{CompactSpan, Span};
 pub use stray::{Stray, first_stray};

@@ -1,13 +1,17 @@
 -- The offsets that are collected from the entries of a PPTT are those at which what may be named stands.
-use Rattle.std.proofs.Common.{◌≡◌, ℕ, ◌<◌, true, List, Option, Some, None, refl, sym, subst, arith}
-use Rattle.std.specs.Prelude.{◌↔◌, ◌≢◌, Bool, AllPairs, Contains, if◌then◌else◌}
+use Rattle.std.proofs.Common.{◌≡◌, ℕ, true, false, List, [], ◌∷◌, Option, Some, None, refl, sym, subst, inl, inr, arith}
+use Rattle.std.specs.Prelude.{◌↔◌, ◌≢◌, ◌⊎◌, Bool, Contains, if◌then◌else◌}
+use Rattle.std.proofs.lemmas.Bool.{cases_Bool}
 use Rattle.std.proofs.lemmas.Option.{cond_some, none-some}
 use Rattle.acpi_base.specs.Entries.{PlacedEntry, Stands, StandsWith}
 use Rattle.acpi_base.specs.Pptt.{PpttEntry, Node, Cache, Opaque, pptt_type, pptt_contents, parent_of, next_level_of, HasOtherPpttLength, IsCutPptt}
+use Rattle.acpi_base.proofs.Elements.{first_element, later_element, first_or_later, no_element}
 use Rattle.acpi_check.specs.EntryPlaces.{ArePlaces, kind_of, is_node, is_cache, is_resource, kind_offsets}
 use Rattle.acpi_check.specs.declared.places.Kind.{Kind}
 use Rattle.acpi_check.specs.declared.places.Places.{Places}
-use Rattle.acpi_check.proofs.EntryPasses.Kept.{AreRising, kept_has, kept_from, keys_rise, pptt_rising}
+use Rattle.acpi_check.specs.OffsetSets.{IsIn, Adds}
+use Rattle.acpi_check.specs.declared.offset_set.OffsetSet.{OffsetSet}
+use Rattle.acpi_check.proofs.EntryPasses.Kept.{kept_has, kept_from}
 
 -- ---- entries of some kinds
 
@@ -31,10 +35,71 @@ stand kinds entries o =
         let (kind, same) = kept_is kinds s o is in
         (s.entry, subst (λ (k : ℕ). Stands entries k s.entry) (sym same) found, kind)
 
--- and rise
-rise : (kinds : Kind → Bool) (low : ℕ) (entries : List (PlacedEntry PpttEntry)) → AreRising low entries
-    → AllPairs (λ o p. o < p) (kind_offsets kinds entries)
-rise kinds low entries rises = keys_rise (kept kinds) (λ o. o) (λ s o is. (kept_is kinds s o is).1) low entries rises
+-- ---- while the entries are gone over
+
+-- with those of the entries left the offsets so far are those of all entries of the kinds
+pub record IsGathering (kinds : Kind → Bool) (all left : List (PlacedEntry PpttEntry)) (offsets : OffsetSet) : Type 0
+  where
+    pub each : (o : ℕ) → (IsIn offsets o ⊎ Contains (kind_offsets kinds left) o) ↔ Contains (kind_offsets kinds all) o
+
+pub none_gathered : (kinds : Kind → Bool) (all : List (PlacedEntry PpttEntry)) (offsets : OffsetSet)
+    → ((o : ℕ) → ¬ IsIn offsets o) → IsGathering kinds all all offsets
+none_gathered kinds all offsets none =
+    record {
+      each = λ o. (λ either. elim either [ inl here ↦ absurd (none o here) | inr left ↦ left ], λ listed. inr listed);
+    }
+
+-- over one more, which is added where it is of the kinds
+pub one_gathered : (kinds : Kind → Bool) (all left : List (PlacedEntry PpttEntry)) (s : PlacedEntry PpttEntry)
+    (old new : OffsetSet) → IsGathering kinds all (s ∷ left) old → Adds (kinds (kind_of s.entry)) s.offset old new
+    → IsGathering kinds all left new
+one_gathered kinds all left s old new before adds =
+    record {
+      each = elim (cases_Bool (kinds (kind_of s.entry))) [
+        | inl is ↦ kept is (rw is at adds)
+        | inr is ↦ passed is (rw is at adds)
+      ];
+    }
+  where
+    kept : kinds (kind_of s.entry) ≡ true → ((o : ℕ) → IsIn new o ↔ ((o ≡ s.offset) ⊎ IsIn old o)) → (o : ℕ)
+        → (IsIn new o ⊎ Contains (kind_offsets kinds left) o) ↔ Contains (kind_offsets kinds all) o
+    kept is added o = (
+      λ either. (before.each o).0 (elim either [
+        | inr later ↦ inr (rw is (later_element s.offset o (kind_offsets kinds left) later))
+        | inl here ↦ elim ((added o).0 here) [
+          | inl same ↦ inr (rw (is, same) (first_element s.offset (kind_offsets kinds left)))
+          | inr earlier ↦ inl earlier
+        ]
+      ]),
+      λ listed. elim ((before.each o).1 listed) [
+        | inl earlier ↦ inl ((added o).1 (inr earlier))
+        | inr left_or_here ↦
+            elim (first_or_later s.offset o (kind_offsets kinds left) (rw is at left_or_here)) [
+              | inl same ↦ inl ((added o).1 (inl (sym same)))
+              | inr later ↦ inr later
+            ]
+      ],
+    )
+
+    passed : kinds (kind_of s.entry) ≡ false → ((o : ℕ) → IsIn new o ↔ IsIn old o) → (o : ℕ)
+        → (IsIn new o ⊎ Contains (kind_offsets kinds left) o) ↔ Contains (kind_offsets kinds all) o
+    passed is same o =
+        let was : (IsIn old o ⊎ Contains (kind_offsets kinds left) o) ↔ Contains (kind_offsets kinds all) o =
+        rw is at (before.each o) in (
+          λ either. was.0 (elim either [ inl here ↦ inl ((same o).0 here) | inr later ↦ inr later ]),
+          λ listed. elim (was.1 listed) [ inl earlier ↦ inl ((same o).1 earlier) | inr later ↦ inr later ],
+        )
+
+-- at the end
+all_gathered : (kinds : Kind → Bool) (all : List (PlacedEntry PpttEntry)) (offsets : OffsetSet)
+    → IsGathering kinds all [] offsets → (o : ℕ) → IsIn offsets o ↔ StandsWith all o (λ e. kinds (kind_of e) ≡ true)
+all_gathered kinds all offsets here o = (
+  λ is. (stand kinds all o).0 ((here.each o).0 (inl is)),
+  λ stands. elim ((here.each o).1 ((stand kinds all o).1 stands)) [
+    | inl is ↦ is
+    | inr left ↦ absurd (no_element o left)
+  ],
+)
 
 -- ---- what may be named
 
@@ -57,32 +122,28 @@ of_other_type (Opaque e) sound = (λ is same. sound (omega (arith, same)), λ ot
 
 -- where entries have a length of their type, the offsets of all are the places of what may be named
 pub are_places : (whole : List ℕ) (places : Places) → IsCutPptt (pptt_contents whole)
-    → places.nodes.items ≡ kind_offsets is_node (pptt_contents whole).entries
-    → places.caches.items ≡ kind_offsets is_cache (pptt_contents whole).entries
-    → places.resources.items ≡ kind_offsets is_resource (pptt_contents whole).entries
-    → ArePlaces (pptt_contents whole) places
+    → IsGathering is_node (pptt_contents whole).entries [] places.nodes
+    → IsGathering is_cache (pptt_contents whole).entries [] places.caches
+    → IsGathering is_resource (pptt_contents whole).entries [] places.resources → ArePlaces (pptt_contents whole) places
 are_places whole places cut nodes caches resources =
     let said = (pptt_contents whole).entries in
-    let rises = pptt_rising whole in
     record {
-      rise = record {
-        nodes = rw nodes (rise is_node 36 said rises);
-        caches = rw caches (rise is_cache 36 said rises);
-        resources = rw resources (rise is_resource 36 said rises);
-      };
-      nodes = λ o. rw nodes (
-        λ listed. (let (e, stands, is) = (stand is_node said o).0 listed in let (p, names) = (names_parent e).0 is in
-            (p, (e, stands, names))),
-        λ (p, (e, stands, names)). (stand is_node said o).1 (e, stands, (names_parent e).1 (p, names)),
+      nodes = λ o. (
+        λ here. (let (e, stands, is) = (all_gathered is_node said places.nodes nodes o).0 here in
+            let (p, names) = (names_parent e).0 is in (p, (e, stands, names))),
+        λ (p, (e, stands, names)). (all_gathered is_node said places.nodes nodes o).1
+            (e, stands, (names_parent e).1 (p, names)),
       );
-      caches = λ o. rw caches (
-        λ listed. (let (e, stands, is) = (stand is_cache said o).0 listed in
+      caches = λ o. (
+        λ here. (let (e, stands, is) = (all_gathered is_cache said places.caches caches o).0 here in
             let (p, names) = (names_next_level e).0 is in (p, (e, stands, names))),
-        λ (p, (e, stands, names)). (stand is_cache said o).1 (e, stands, (names_next_level e).1 (p, names)),
+        λ (p, (e, stands, names)). (all_gathered is_cache said places.caches caches o).1
+            (e, stands, (names_next_level e).1 (p, names)),
       );
-      resources = λ o. rw resources (
-        λ listed. (let (e, stands, is) = (stand is_resource said o).0 listed in
+      resources = λ o. (
+        λ here. (let (e, stands, is) = (all_gathered is_resource said places.resources resources o).0 here in
             (e, stands, (of_other_type e (cut.lengths o e stands)).0 is)),
-        λ (e, stands, is). (stand is_resource said o).1 (e, stands, (of_other_type e (cut.lengths o e stands)).1 is),
+        λ (e, stands, is). (all_gathered is_resource said places.resources resources o).1
+            (e, stands, (of_other_type e (cut.lengths o e stands)).1 is),
       );
     }

@@ -1,6 +1,6 @@
 -- The first fault of what an entry of a PPTT names.
 use Rattle.std.proofs.Common.{◌≡◌, ℕ, ◌*◌, ◌<◌, List, map, Option, Some, None, refl, sym, ◌∙◌, ap, subst, inl, inr, arith}
-use Rattle.std.specs.Prelude.{◌≢◌, ◌⊎◌, Contains, MatchOption, slice_get}
+use Rattle.std.specs.Prelude.{◌≢◌, ◌⊎◌, MatchOption, slice_get}
 use Rattle.std.specs.List.{range_with_len}
 use Rattle.std.proofs.lemmas.Bool.{cases_order}
 use Rattle.std.proofs.lemmas.List.FromFn.{length-map-range_with_len, get_or-map-range_with_len}
@@ -12,6 +12,7 @@ use Rattle.acpi_base.specs.declared.code.Code.{Code}
 use Rattle.acpi_base.specs.declared.code.Code.TheVariants as code
 use Rattle.acpi_base.specs.declared.witness.Witness.{Witness}
 use Rattle.acpi_base.proofs.Faults.Order.{not_after}
+use Rattle.acpi_check.specs.OffsetSets.{IsIn}
 use Rattle.acpi_check.specs.EntryPlaces.{NamesPlaces, EntryReferenceFault, IsFirstReference}
 use Rattle.acpi_check.specs.declared.places.Places.{Places}
 
@@ -45,18 +46,18 @@ is_number references count j below =
 
 -- a node is sound whose Parent and private resources are
 pub node_sound : (places : Places) (v : NodeValue) (references : List ℕ) (count : ℕ)
-    → v.resources ≡ numbers_in references count → (v.parent ≡ 0) ⊎ Contains places.nodes.items v.parent
-    → ((j : ℕ) → j < count → Contains places.resources.items (field references (4 * j) 4)) → NamesPlaces places (Node v)
+    → v.resources ≡ numbers_in references count → (v.parent ≡ 0) ⊎ IsIn places.nodes v.parent
+    → ((j : ℕ) → j < count → IsIn places.resources (field references (4 * j) 4)) → NamesPlaces places (Node v)
 node_sound places v references count are parent resources =
     record {
-      parent = λ p is. subst (λ (x : ℕ). (x ≡ 0) ⊎ Contains places.nodes.items x) (same_Some v.parent p is) parent;
+      parent = λ p is. subst (λ (x : ℕ). (x ≡ 0) ⊎ IsIn places.nodes x) (same_Some v.parent p is) parent;
       resource = λ j r is. let (below, number) = number_is references count j r (rw are at is) in
           rw number (resources j below);
       next_level = λ p is. absurd cc;
     }
 
 -- its Parent comes first where it dangles
-pub parent_first : (places : Places) (v : NodeValue) (at : ℕ) → v.parent ≢ 0 → ¬ Contains places.nodes.items v.parent
+pub parent_first : (places : Places) (v : NodeValue) (at : ℕ) → v.parent ≢ 0 → ¬ IsIn places.nodes v.parent
     → IsFirstReference places (Node v) (record { code = code.DanglingParent; at = at; other = v.parent; point = 0 })
 parent_first places v at some nowhere =
     record {
@@ -79,9 +80,9 @@ parent_first places v at some nowhere =
 
 -- else the first of its private resources that does
 pub resource_first : (places : Places) (v : NodeValue) (references : List ℕ) (count at j r : ℕ)
-    → v.resources ≡ numbers_in references count → (v.parent ≡ 0) ⊎ Contains places.nodes.items v.parent
-    → j < count → r ≡ field references (4 * j) 4 → ¬ Contains places.resources.items r
-    → ((i : ℕ) → i < j → Contains places.resources.items (field references (4 * i) 4))
+    → v.resources ≡ numbers_in references count → (v.parent ≡ 0) ⊎ IsIn places.nodes v.parent
+    → j < count → r ≡ field references (4 * j) 4 → ¬ IsIn places.resources r
+    → ((i : ℕ) → i < j → IsIn places.resources (field references (4 * i) 4))
     → IsFirstReference places (Node v) (record { code = code.DanglingResource; at = at; other = j; point = r })
 resource_first places v references count at j r are parent below number nowhere before =
     record {
@@ -111,18 +112,18 @@ resource_first places v references count at j r are parent below number nowhere 
 
 -- ---- caches
 
-pub cache_sound : (places : Places) (v : CacheValue) → (v.next_level ≡ 0) ⊎ Contains places.caches.items v.next_level
+pub cache_sound : (places : Places) (v : CacheValue) → (v.next_level ≡ 0) ⊎ IsIn places.caches v.next_level
     → NamesPlaces places (Cache v)
 cache_sound places v next =
     record {
       parent = λ p is. absurd cc;
       resource = λ j r is. absurd cc;
-      next_level = λ p is. subst (λ (x : ℕ). (x ≡ 0) ⊎ Contains places.caches.items x) (same_Some v.next_level p is)
+      next_level = λ p is. subst (λ (x : ℕ). (x ≡ 0) ⊎ IsIn places.caches x) (same_Some v.next_level p is)
           next;
     }
 
 pub cache_first : (places : Places) (v : CacheValue) (at : ℕ) → v.next_level ≢ 0
-    → ¬ Contains places.caches.items v.next_level
+    → ¬ IsIn places.caches v.next_level
     → IsFirstReference places (Cache v) (record { code = code.DanglingCache; at = at; other = v.next_level; point = 0 })
 cache_first places v at some nowhere =
     record {
@@ -145,9 +146,9 @@ cache_first places v at some nowhere =
 
 -- whichever of the two its Next Level is
 pub cache_link : (places : Places) (v : CacheValue) (at : ℕ) (o : Option Witness)
-    → MatchOption o ((v.next_level ≡ 0) ⊎ Contains places.caches.items v.next_level)
+    → MatchOption o ((v.next_level ≡ 0) ⊎ IsIn places.caches v.next_level)
     (λ w. (w ≡ record { code = code.DanglingCache; at = at; other = v.next_level; point = 0 }) × (v.next_level ≢ 0)
-    × ¬ Contains places.caches.items v.next_level)
+    × ¬ IsIn places.caches v.next_level)
     → MatchOption o (NamesPlaces places (Cache v)) (λ w. (w.at ≡ at) × IsFirstReference places (Cache v) w)
 cache_link places v at None sound = cache_sound places v sound
 cache_link places v at (Some w) (is, some, nowhere) = rw is (refl, cache_first places v at some nowhere)

@@ -9,8 +9,8 @@ returns-in-Some-first_dangling c =
     let references = c.in-Node.references.now in
     let number = c.in-Some-first_dangling.number in
     let resource = c.in-Some-first_dangling.resource in
-    let parent = rw c.deref.ensures.value at c.in_default.ensures in
-    let found = rw c.deref-in-Node.ensures.value at c.in-Some-first_dangling.ensures in
+    let parent = c.in_default.ensures in
+    let found = c.in-Some-first_dangling.ensures in
     rw (c.in-Node.is, c.from.ensures, c.from-in-Some-first_dangling.ensures) (
       refl,
       resource_first c.args.places.now (node_value head references) references head.count c.args.at.now.offset
@@ -21,26 +21,26 @@ pub returns-in-None : goal.returns-in-None
 returns-in-None c =
     let head = c.in-Node.head in
     let references = c.in-Node.references.now in
-    let parent = rw c.deref.ensures.value at c.in_default.ensures in
-    let all = rw c.deref-in-Node.ensures.value at c.in-None.ensures in
+    let parent = c.in_default.ensures in
+    let all = c.in-None.ensures in
     rw c.in-Node.is (node_sound c.args.places.now (node_value head references) references head.count refl parent all)
 
 pub returns-in-Cache24 : goal.returns-in-Cache24
 returns-in-Cache24 c =
     rw c.in-Cache24.is
     (cache_link c.args.places.now (cache24_value c.in-Cache24.cache) c.args.at.now.offset c.link_fault-in-Cache24.result
-    (rw c.deref-in-Cache24.ensures.value at c.link_fault-in-Cache24.ensures))
+    c.link_fault-in-Cache24.ensures)
 
 pub returns-in-Cache28 : goal.returns-in-Cache28
 returns-in-Cache28 c =
     rw c.in-Cache28.is
     (cache_link c.args.places.now (cache28_value c.in-Cache28.cache) c.args.at.now.offset c.link_fault-in-Cache28.result
-    (rw c.deref-in-Cache28.ensures.value at c.link_fault-in-Cache28.ensures))
+    c.link_fault-in-Cache28.ensures)
 
 pub returns-in-Some : goal.returns-in-Some
 returns-in-Some c =
     let head = c.in-Node.head in
-    let found = rw c.deref.ensures.value at c.in-Some.ensures in
+    let found = c.in-Some.ensures in
     rw (c.in-Node.is, found.0) (
       refl,
       parent_first c.args.places.now (node_value head c.in-Node.references.now) c.args.at.now.offset found.1

@@ -1,7 +1,7 @@
 use Rattle.std.proofs.Common.{◌≡◌, ◌+◌, ◌-◌, ◌≤◌, length}
 use Rattle.std.specs.List.{AllAdjacentBelow}
 use Rattle.acpi_graph.specs.Spans.{EndsBefore}
-use Rattle.acpi_graph.proofs.apart.is_sorted_disjoint.Given as goal
+use Rattle.acpi_graph.proofs.apart.first_run_into.Given as goal
 
 abbrev pub invariant-loop-next : goal.invariant-loop-next
 invariant-loop-next l =

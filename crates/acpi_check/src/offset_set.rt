@@ -1,0 +1,59 @@
+//! Sets of offsets of a table.
+
+ghost use Rattle.std.specs.Prelude.{◌≡◌, ◌<◌, ℕ, OnOk, MatchBool, vec_len, slice_index, true};
+ghost use Rattle.acpi_check.specs.OffsetSets.{IsIn, Adds};
+
+use std::alloc::{AllocError, Global};
+
+/// How many offsets a word stands for.
+const WORD: u64 = 64;
+
+/// Offsets of a table, as a bit for each byte of the table up to the last of them: one is looked up at once, wherever it lies.
+#[derive(Drop)]
+pub struct OffsetSet {
+    /// The offset `o` has the bit `o % 64` of the word `o / 64`.
+    words: Vec<u64>,
+}
+
+/// Makes the words go on up to a place, if they end before it.
+fn make_room(words: &mut Vec<u64>, place: usize) -> Result<(), AllocError>
+    requires { place < usize.MAX }
+    ensures room { OnOk result (place < vec_len words.new) }
+    ensures same { OnOk result
+        ((i : ℕ) → slice_index words.new.items i ≡ slice_index words.old.items i) }
+{
+    if words.len() <= place {
+        words.resize(place + 1, 0)?;
+    }
+    Ok(())
+}
+
+impl OffsetSet {
+    /// No offset. Takes no memory.
+    pub fn new(alloc: Global) -> OffsetSet
+        ensures { (o : ℕ) → ¬ IsIn result o }
+    {
+        OffsetSet {
+            words: Vec::new(alloc),
+        }
+    }
+
+    /// Adds an offset. Takes memory for the bits up to it, where none behind it was added before.
+    pub fn add(&mut self, offset: u64) -> Result<(), AllocError>
+        ensures { OnOk result (Adds true offset self.old self.new) }
+    {
+        let place = (offset / WORD) as usize;
+        make_room(&mut self.words, place)?;
+        self.words[place] |= 1 << (offset % WORD);
+        Ok(())
+    }
+
+    /// Whether an offset of 32 bits, as entries of a PPTT name them (ACPI 6.5, 5.2.30), is in the set.
+    pub fn has(&self, offset: u32) -> bool
+        ensures { MatchBool result (IsIn self.now offset) (¬ IsIn self.now offset) }
+    {
+        let offset = u64::from(offset);
+        let place = (offset / WORD) as usize;
+        place < self.words.len() && self.words[place] >> (offset % WORD) & 1 == 1
+    }
+}
