@@ -30,7 +30,7 @@ fn first_entry(left: &[u8]) -> Option<&[u8]>
 
 /// The entry that stands at a start.
 #[tactic(auto, using(crate::proofs::Walks::walking))]
-fn entry_from(whole: &[u8], start: usize) -> Option<&[u8]>
+pub(crate) fn entry_from(whole: &[u8], start: usize) -> Option<&[u8]>
     ensures { MatchOption result (IsEnd start whole.now)
         (λ entry. IsNext start whole.now entry.now) }
 {
