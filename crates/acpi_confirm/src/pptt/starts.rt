@@ -4,14 +4,14 @@
 //! entry of a kind begins, in one byte. A look-up of such an entry goes on from the note of its block, so it walks over
 //! one block at most. That a note is the start of an entry is proved; that it is the best one matters for time alone.
 
-ghost use Rattle.std.specs.Prelude.{◌≡◌, ◌≤◌, IfSome};
+ghost use Rattle.std.specs.Prelude.{◌≡◌, ◌≤◌, IfSome, MatchBool, None};
 ghost use Rattle.std.specs.Option.{option_map};
 ghost use Rattle.acpi_base.specs.Entries.{IsEntry, entries_of};
 ghost use Rattle.acpi_confirm.specs.Starts.{IsNoted, AreStarts, AreNotedWith};
-ghost use Rattle.acpi_confirm.specs.Walks.{IsThere};
+ghost use Rattle.acpi_confirm.specs.Walks.{IsOnWay, IsThere};
 
 use super::{FIRST_ENTRY, Link, named};
-use crate::entries::{entry_at, entry_from};
+use crate::entries::{comes_to, entry_from};
 
 /// The note of a block that says nothing. So only distances below it can be noted.
 const NOTHING: u8 = 255;
@@ -94,16 +94,33 @@ fn noted_before(starts: &Starts<'_>, at: u64) -> Option<usize>
     Some(at - distance + usize::from(note))
 }
 
-/// The entry that stands at an offset, where one does. Where no start is noted that the walk can begin at, none of the kind
-/// that was sought stands there, and the walk begins at the first entry.
+/// Whether the walk over the table's entries comes to an offset. Where no start is noted that it can go on from, no entry of
+/// the kind that was sought stands there, and it begins at the first entry.
+fn is_reached(pptt: &[u8], starts: &Starts<'_>, at: u64) -> bool
+    requires { AreStarts starts.now.size starts.now.notes.now pptt.now }
+    ensures { MatchBool result (IsOnWay 36 at pptt.now at) (IsThere (entries_of 36 pptt.now) at None) }
+{
+    match noted_before(starts, at) {
+        Some(start) => comes_to(pptt, start, at),
+        None => comes_to(pptt, FIRST_ENTRY, at),
+    }
+}
+
+/// The entry that stands at an offset, where one does. The bytes there are read before the walk up to them, so that the
+/// processor fetches both from memory at once.
+#[tactic(auto, using(crate::proofs::Starts::nothing_there))]
 pub(super) fn entry_noted<'a>(pptt: &'a [u8], starts: &Starts<'_>, at: u64) -> Option<&'a [u8]>
     requires { AreStarts starts.now.size starts.now.notes.now pptt.now }
     ensures there { IsThere (entries_of 36 pptt.now) at
         (option_map (λ entry. entry.now) result) }
     ensures entry { IfSome result (λ entry. IsEntry entry.now) }
 {
-    match noted_before(starts, at) {
-        Some(start) => entry_at(pptt, start, at),
-        None => entry_at(pptt, FIRST_ENTRY, at),
+    let Some(entry) = entry_from(pptt, at as usize) else {
+        return None;
+    };
+    if is_reached(pptt, starts, at) {
+        Some(entry)
+    } else {
+        None
     }
 }
