@@ -51,7 +51,9 @@ pub nothing_there : (pptt : List ℕ) (at : ℕ) → IsEnd at pptt → IsThere (
 nothing_there pptt at end =
     record {
       is = λ e. (
-        λ stands. absurd (no_element _ (rw end.none at (((on_way pptt at at (e, stands) (omega arith)).same e).0 stands))),
+        λ stands.
+            let way = on_way pptt at at (e, stands) (omega arith) in
+            absurd (no_element _ (rw end.none at ((way.same e).0 stands))),
         λ some. absurd (none_and_some refl some),
       );
     }

@@ -98,7 +98,8 @@ fn noted_before(starts: &Starts<'_>, at: u64) -> Option<usize>
 /// the kind that was sought stands there, and it begins at the first entry.
 fn is_reached(pptt: &[u8], starts: &Starts<'_>, at: u64) -> bool
     requires { AreStarts starts.now.size starts.now.notes.now pptt.now }
-    ensures { MatchBool result (IsOnWay 36 at pptt.now at) (IsThere (entries_of 36 pptt.now) at None) }
+    ensures { MatchBool result (IsOnWay 36 at pptt.now at)
+        (IsThere (entries_of 36 pptt.now) at None) }
 {
     match noted_before(starts, at) {
         Some(start) => comes_to(pptt, start, at),
