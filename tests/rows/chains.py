@@ -1,15 +1,9 @@
-#!/usr/bin/env python3
-"""Has the built program confirm cycles in PPTTs: small tables of entries in no order, each witness judged by a second program
-below, and long chains, which must not take much longer than reading their text.
-
-usage: chains.py PROGRAM; the last line is 'chains: N passed, M failed'."""
+"""Cycles in PPTTs, which `confirm.py` asks about: small tables of entries in no order, each witness judged by a second program
+below, and long chains, which must not take much longer than reading their text."""
 
 import os
 import random
-import subprocess
-import sys
 import tempfile
-from concurrent.futures import ThreadPoolExecutor
 
 from tables import *
 
@@ -17,6 +11,10 @@ PARENT = ("14 ParentCycle", 0, 20)
 NEXT_LEVEL = ("15 CacheCycle", 1, 24)
 FIRST = 36
 FILLER = bytes([6, 2])
+
+
+def written(fault, numbers):
+    return " ".join((fault[0], *map(hex, numbers)))
 
 
 # ---- the second program: the definitions of docs/FAULTS.md, taken word by word
@@ -111,12 +109,13 @@ def small_witnesses(draw, whole, places):
 
 
 def small_questions():
+    """Name, pieces, witness, and whether it stands."""
     draw = random.Random(34)
     for turn in range(30):
         whole, places = small_table(draw)
-        text = text_of(image_of(fadt(), whole))
+        pieces = image_of(fadt(), whole)
         for fault, *numbers in small_witnesses(draw, whole, places):
-            yield f"small table {turn}", text, fault, numbers, is_cycle(whole, fault, *numbers)
+            yield f"small table {turn}", pieces, written(fault, numbers), is_cycle(whole, fault, *numbers)
 
 
 # ---- long chains
@@ -180,14 +179,6 @@ def ran(program, words, path):
         return out.read().decode(), used.ru_utime + used.ru_stime
 
 
-def written(fault, numbers):
-    return " ".join((fault[0], *map(hex, numbers)))
-
-
-def confirm_words(fault, numbers):
-    return ["confirm", "--rsdp", "e0000", "--witness", written(fault, numbers)]
-
-
 # A long chain may take so many times the time of reading its text, and this much more.
 TIMES, MORE = 8, 0.1
 
@@ -200,36 +191,15 @@ def wrong_long(program, folder, name, body, fault, numbers):
     read = min(ran(program, ["check", "--rsdp", "e0000", "--through", "3"], path)[1] for _ in range(2))
     at, lead, around = numbers
     for asked, answer in ((numbers, "true"), ((at, lead, around - 1), "false"), ((at + 2, lead, around), "false")):
-        told, took = ran(program, confirm_words(fault, asked), path)
+        told, took = ran(program, ["confirm", "--rsdp", "e0000", "--witness", written(fault, asked)], path)
         if told != answer + "\n":
             yield f"{name}: {written(fault, asked)}: {told!r}, not {answer}"
         if took > TIMES * read + MORE:
             yield f"{name}: {written(fault, asked)} took {took:.2f} s, where reading took {read:.2f} s"
 
 
-def wrong_small(program, question):
-    name, text, fault, numbers, stands = question
-    run = subprocess.run([program, *confirm_words(fault, numbers)], input=text, capture_output=True, timeout=60)
-    told, answer = run.stdout.decode(), "true\n" if stands else "false\n"
-    return [] if told == answer else [f"{name}: {written(fault, numbers)}: {told!r}, not {answer!r}"]
-
-
-def main():
-    program = os.path.realpath(sys.argv[1])
-    questions = list(small_questions())
-    true = sum(stands for *_, stands in questions)
-    assert min(true, len(questions) - true) > 100, "too few of the witnesses are true, or false"
-    with ThreadPoolExecutor() as pool:
-        faults = [fault for found in pool.map(lambda it: wrong_small(program, it), questions) for fault in found]
-    asked = len(questions)
+def wrong_chains(program):
+    """How many questions were asked on long chains, and what is wrong with the answers. They are asked one after another."""
+    chains = list(long_chains())
     with tempfile.TemporaryDirectory() as folder:
-        for chain in long_chains():
-            asked += 6
-            faults += wrong_long(program, folder, *chain)
-    print(*faults, sep="\n", end="\n" if faults else "")
-    print(f"chains: {asked - len(faults)} passed, {len(faults)} failed")
-    sys.exit(1 if faults else 0)
-
-
-if __name__ == "__main__":
-    main()
+        return 6 * len(chains), [fault for chain in chains for fault in wrong_long(os.path.realpath(program), folder, *chain)]
