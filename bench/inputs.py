@@ -6,6 +6,7 @@ usage: inputs.py run FILE              one run, just below 64 MiB of text
        inputs.py one-table COUNT FILE  COUNT slots that list one table of 16 MiB
        inputs.py nested COUNT FILE     COUNT tables 64 bytes apart, all of which end where the last does
        inputs.py KIND COUNT FILE       a set with COUNT entries of a KIND, one of KINDS below
+       inputs.py CHAIN COUNT FILE      a set with COUNT nodes or caches in a CHAIN, one of CHAINS below; prints a witness
 """
 
 import random
@@ -220,6 +221,88 @@ KINDS = {
 }
 
 
+# ---- chains of a PPTT, each with a witness of a cycle to be confirmed
+
+FILLER = reserved(0)
+
+
+def witness(at, lead, around):
+    return f"14 ParentCycle {at:#x} {lead:#x} {around:#x}"
+
+
+def ring(order, whole=node, size=20, first=36):
+    """Each of the entries leads to the one behind it in this order, and the last one to the first. `order` is of their
+    numbers in the table."""
+    leads_to = [0] * len(order)
+    for number, behind in zip(order, [*order[1:], order[0]]):
+        leads_to[number] = first + size * behind
+    return b"".join(map(whole, leads_to))
+
+
+def ring_of_nodes(order):
+    return pptt(ring(order)), witness(36 + 20 * order[0], 0, len(order))
+
+
+def ring_of_caches(order):
+    return pptt(ring(order, cache, 24)), f"15 CacheCycle {36 + 24 * order[0]:#x} 0x0 {len(order):#x}"
+
+
+def most_steps(body):
+    """As many as a witness may have."""
+    return (36 + len(body)) // 20
+
+
+def short_entries_and_ring(count):
+    """COUNT entries of two bytes, and a falling ring of 10 nodes around which as many steps lead as may be."""
+    first = 36 + 2 * count
+    body = FILLER * count + ring(range(9, -1, -1), first=first)
+    return pptt(body), witness(first, (most_steps(body) - 10) // 10 * 10, 10)
+
+
+def falling_chain(count):
+    """It ends, though not before the last step of a witness whose cycle has one step."""
+    nodes = b"".join(node(36 + 20 * (number - 1) if number else 0) for number in range(count))
+    return pptt(nodes), witness(36 + 20 * (count - 1), count - 2, 2)
+
+
+def nodes_in_stretches(size, front, back):
+    """Stretches of `size` bytes that are full of entries of two bytes, with nodes in front and at the end. A ring leads through
+    the nodes in no order, and as many steps lead around it as may be. Each stretch begins at a multiple of its size in the
+    table."""
+
+    def made(count):
+        inside = [20 * number for number in range(front)] + [size - 20 * (back - number) for number in range(back)]
+        before = FILLER * ((-36 % size) // 2)
+        gap = FILLER * ((size - 20 * len(inside)) // 2)
+        begins = range(36 + len(before), 36 + len(before) + count // len(inside) * size, size)
+        places = [begin + at for begin in begins for at in inside]
+        order = [places[number] for number in shuffled(len(places))]
+        leads_to = dict(zip(order, order[1:] + order[:1]))
+        nodes = [node(leads_to[place]) for place in places]
+        pairs = zip(*(nodes[number :: len(inside)] for number in range(len(inside))))
+        body = before + b"".join(b"".join((*stretch[:front], gap, *stretch[front:])) for stretch in pairs)
+        around = len(order)
+        return pptt(body), witness(order[0], (most_steps(body) - around) // around * around, around)
+
+    return made
+
+
+CHAINS = {
+    "rising-ring": lambda count: ring_of_nodes(range(count)),
+    "falling-ring": lambda count: ring_of_nodes(range(count - 1, -1, -1)),
+    "shuffled-ring": lambda count: ring_of_nodes(shuffled(count)),
+    "falling-ring-of-caches": lambda count: ring_of_caches(range(count - 1, -1, -1)),
+    "falling-chain": falling_chain,
+    "short-entries-and-ring": short_entries_and_ring,
+    "one-node-in-128-bytes": nodes_in_stretches(128, 0, 1),
+    "two-nodes-in-128-bytes": nodes_in_stretches(128, 1, 1),
+    "three-nodes-in-128-bytes": nodes_in_stretches(128, 1, 2),
+    "two-nodes-in-256-bytes": nodes_in_stretches(256, 1, 1),
+    "one-node-in-512-bytes": nodes_in_stretches(512, 0, 1),
+    "six-nodes-in-512-bytes": nodes_in_stretches(512, 1, 5),
+}
+
+
 def pieces_text(pieces):
     """Bytes without blanks: an RSDP that names the first piece, and the pieces."""
     rsdp = with_checksum(struct.pack("<8sB6sBI", b"RSD PTR ", 0, b"BENCH ", 0, pieces[0][0]), 8)
@@ -257,10 +340,10 @@ def behind(pieces):
     return max(0x100000, (address + len(whole) + 63) // 64 * 64)
 
 
-def set_of(kind, count):
-    """An RSDP, an RSDT, a FADT of hardware-reduced ACPI, and the tables of the kind."""
+def set_of(tables):
+    """An RSDP, an RSDT, a FADT of hardware-reduced ACPI, and the tables."""
     pieces = [(0x2000, table(b"FACP", bytes(76) + struct.pack("<I", 1 << 20)))]
-    for whole in KINDS[kind](count):
+    for whole in tables:
         pieces.append((behind(pieces), whole))
     rsdt = table(b"RSDT", b"".join(struct.pack("<I", address) for address, _ in pieces))
     return pieces_text([(behind(pieces), rsdt), *pieces])
@@ -274,7 +357,11 @@ def text_of(what):
         return SETS[kind](*map(int, numbers))
     if kind in ORDERS:
         return many_rows(kind, *map(int, numbers))
-    return set_of(kind, *map(int, numbers))
+    if kind in CHAINS:
+        whole, fault = CHAINS[kind](*map(int, numbers))
+        print(fault)
+        return set_of([whole])
+    return set_of(KINDS[kind](*map(int, numbers)))
 
 
 def main():

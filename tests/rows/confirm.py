@@ -1,6 +1,6 @@
 #!/usr/bin/env python3
 """Has the built program confirm faults. Each fault that a row reports is confirmed, and none that differs from it by one in
-one number, save those that the definition takes too. Other faults, true and false, follow.
+one number, save those that the definition takes too. Other faults, true and false, follow, and then long chains, by time too.
 
 usage: confirm.py PROGRAM; the last line is 'confirm: N passed, M failed'."""
 
@@ -9,6 +9,7 @@ import sys
 from concurrent.futures import ThreadPoolExecutor
 from dataclasses import dataclass
 
+from chains import small_questions, wrong_chains
 from judged import JUDGED
 from rows import BOTH_KINDS, CHAIN, FULL, OVERLAP, RING, ROWS, SMALLEST, TWO_IO_APICS, TWO_SRATS, TWO_WINDOWS, WINDOW, two_domains
 from tables import *
@@ -166,6 +167,10 @@ for name, pieces, words, rows in JUDGED:
         asked(name, pieces, written(*kind.split(), numbers), "true" if stands else "false", f"--rsdp e0000 {words}")
 
 
+for name, pieces, witness, stands in small_questions():
+    asked(name, pieces, witness, "true" if stands else "false")
+
+
 def wrong(program, texts, question):
     """What is wrong with the program's answer; nothing where it is right."""
     command = [program, "confirm", "--witness", question.witness, *question.words]
@@ -182,11 +187,13 @@ def main():
     texts = {id(it.pieces): it.pieces if isinstance(it.pieces, bytes) else text_of(it.pieces) for it in questions}
     with ThreadPoolExecutor() as pool:
         faults = list(filter(None, pool.map(lambda it: wrong(program, texts, it), questions)))
+    on_chains, wrong_on_chains = wrong_chains(program)
+    faults += wrong_on_chains
     # each fault of the list above is one that was asked
     true = {(it.name, it.witness) for it in questions if it.answer == "true"}
     unused = [f"{name}: {witness} is not one away" for name, also in ALSO.items() for witness in also if (name, witness) not in true]
     print(*faults, *unused, sep="\n", end="\n" if faults or unused else "")
-    print(f"confirm: {len(questions) - len(faults)} passed, {len(faults) + len(unused)} failed")
+    print(f"confirm: {len(questions) + on_chains - len(faults)} passed, {len(faults) + len(unused)} failed")
     sys.exit(1 if faults or unused else 0)
 
 

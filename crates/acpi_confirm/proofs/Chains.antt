@@ -4,20 +4,17 @@ use Rattle.std.specs.Prelude.{◌↔◌, IsTrue, Bool}
 use Rattle.std.proofs.lemmas.Option.{same_Some}
 use Rattle.acpi_base.specs.Chains.{IsStep, LeadsTo, IsCycle}
 use Rattle.acpi_base.specs.Entries.{PlacedEntry, Stands, first_entry, entries_of}
-use Rattle.acpi_base.specs.Pptt.{pptt_entry, pptt_contents}
 use Rattle.acpi_base.proofs.Elements.{first_or_later, no_element}
 use Rattle.acpi_base.proofs.Images.HeldBytes.{cases_Option, none_and_some}
-use Rattle.acpi_base.proofs.EntryOffsets.{entry_within, said_from}
-use Rattle.acpi_confirm.specs.Links.{Names, IsStepTo}
-use Rattle.acpi_confirm.specs.Walks.{IsThere, IsOnly}
-use Rattle.acpi_confirm.specs.declared.pptt.Link.{Link}
-use Rattle.acpi_confirm.specs.declared.pptt.Link.TheVariants.{Parent, NextLevel}
-use Rattle.acpi_confirm.proofs.Walks.{is_end, is_next, IsOnWay, at_first, at_next}
+use Rattle.acpi_base.proofs.EntryOffsets.{entry_within}
+use Rattle.acpi_confirm.specs.Links.{IsStepTo}
+use Rattle.acpi_confirm.specs.Walks.{IsOnWay, IsOnly}
+use Rattle.acpi_confirm.proofs.Walks.{is_end, is_next, at_first, at_next}
 
 -- ---- a walk that goes on
 
 -- from an entry on the same stands ahead as in the whole table
-ahead : (n first start : ℕ) (whole : List ℕ) (at : ℕ) (e : List ℕ) → length whole ≤ first + n
+pub ahead : (n first start : ℕ) (whole : List ℕ) (at : ℕ) (e : List ℕ) → length whole ≤ first + n
     → Stands (entries_of first whole) start e → start ≤ at → IsOnWay first start whole at
 ahead zero first start whole at e few stands behind =
     (let here = entry_within first whole start e stands in absurd (omega arith))
@@ -42,23 +39,6 @@ ahead (suc n) first start whole at e few stands behind =
                 }
           ]
     ]
-
--- what a link names stands in the table
-names_stand : (link : Link) (pptt : List ℕ) (o p : ℕ) → Names link (pptt_contents pptt) o p
-    → (e : List ℕ) × Stands (entries_of 36 pptt) o e
-unfolding pptt_contents
-names_stand Parent pptt o p (v, stands, is) =
-    (let found = said_from pptt_entry (entries_of 36 pptt) o v stands in (found.0, found.1))
-names_stand NextLevel pptt o p (v, stands, is) =
-    (let found = said_from pptt_entry (entries_of 36 pptt) o v stands in (found.0, found.1))
-
-pub there_ahead : (link : Link) (pptt : List ℕ) (o p at : ℕ) (there : Option (List ℕ))
-    → IsOnly (Names link (pptt_contents pptt) o) (Some p) → o ≤ at → IsThere (entries_of o pptt) at there
-    → IsThere (entries_of 36 pptt) at there
-there_ahead link pptt o p at there only behind is =
-    let (e, stands) = names_stand link pptt o p ((only.is p).1 refl) in
-    let way = ahead (length pptt) 36 o pptt at e (omega arith) stands behind in
-    record { is = λ x. (λ h. (is.is x).0 ((way.same x).0 h), λ h. (way.same x).1 ((is.is x).1 h)) }
 
 -- ---- steps
 

@@ -1,6 +1,8 @@
 -- A walk over the entries of a table.
-use Rattle.std.proofs.Common.{◌≡◌, ℕ, ◌+◌, ◌<◌, ◌≤◌, List, [], ◌∷◌, length, drop, Option, Some, None, refl, ap, ◌∙◌, sym, subst, inl, inr, arith, length-drop}
-use Rattle.std.specs.Prelude.{◌⊎◌, ◌↔◌}
+use Rattle.std.proofs.Common.{◌≡◌, ℕ, ◌+◌, ◌<◌, ◌≤◌, List, [], ◌∷◌, length, drop, Option, Some, None, refl, ap, ◌∙◌, sym, subst, inl, inr, arith, length-drop, nat_eq}
+use Rattle.std.specs.Prelude.{◌⊎◌, Bool, true, false, MatchBool}
+use Rattle.std.proofs.lemmas.Bool.{eqb-true}
+use Rattle.std.proofs.lemmas.Bool.Decides.{nat_tests}
 use Rattle.std.proofs.lemmas.List.{nil_from_length}
 use Rattle.std.proofs.lemmas.Option.{same_Some}
 use denote.Ref.{Bor}
@@ -10,7 +12,7 @@ use Rattle.acpi_base.proofs.Elements.{first_element, later_element, first_or_lat
 use Rattle.acpi_base.proofs.Images.HeldBytes.{none_and_some}
 use Rattle.acpi_base.proofs.EntryOffsets.{entry_within}
 use Rattle.acpi_base.proofs.EntrySteps as step
-use Rattle.acpi_confirm.specs.Walks.{IsThere, IsEnd, IsNext}
+use Rattle.acpi_confirm.specs.Walks.{IsThere, IsEnd, IsNext, IsOnWay}
 
 -- ---- a step of the walk
 
@@ -46,10 +48,6 @@ pub end_or_next : (start : ℕ) (whole : List ℕ) (found : Option (Bor (List �
     → MatchOption found (IsEnd start whole) (λ entry. IsNext start whole entry.now)
 end_or_next start whole None is = is_end start whole (sym is)
 end_or_next start whole (Some e) is = is_next start whole e.now (sym is)
-
--- from the start on the same stands at an offset as in the whole table
-pub record IsOnWay (first start : ℕ) (whole : List ℕ) (at : ℕ) : Type 0 where
-  pub same : (e : List ℕ) → Stands (entries_of first whole) at e ↔ Stands (entries_of start whole) at e
 
 pub at_first : (first : ℕ) (whole : List ℕ) (at : ℕ) → IsOnWay first first whole at
 at_first first whole at = record { same = λ e. (λ h. h, λ h. h) }
@@ -112,6 +110,17 @@ is_there first whole at (Some e) way next =
             (subst (λ (x : List ℕ). Stands entries at x) (same_Some _ _ is) (first_element _ _))),
       );
     }
+
+-- behind the walk up to the offset: it has come to it, or none stands there
+pub come_to : (first start : ℕ) (whole : List ℕ) (at : ℕ) → IsOnWay first start whole at → at ≤ start
+    → MatchBool (nat_eq start at) (IsOnWay first at whole at) (IsThere (entries_of first whole) at None)
+come_to first start whole at way past = by_test (nat_eq start at) refl
+  where
+    by_test : (b : Bool) → nat_eq start at ≡ b
+        → MatchBool b (IsOnWay first at whole at) (IsThere (entries_of first whole) at None)
+    by_test true is = subst (λ (k : ℕ). IsOnWay first k whole at) (eqb-true start at is) way
+    by_test false is =
+        let behind : at < start = grind (arith, nat_tests) in passed_there first start whole at way behind
 
 pub ruleset walking = (at_first, at_next, is_past, end_or_next, none_there, passed_there, is_there)
 

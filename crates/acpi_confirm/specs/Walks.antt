@@ -23,6 +23,10 @@ pub record IsNext (start : ℕ) (whole e : List ℕ) : Type 0 where
   pub first : entries_of start whole ≡ record { offset = start; entry = e } ∷ entries_of (start + length e) whole
   pub end : end_of_entries start whole ≡ end_of_entries (start + length e) whole
 
+-- from the start on the same stands at an offset as in the whole table
+pub record IsOnWay (first start : ℕ) (whole : List ℕ) (at : ℕ) : Type 0 where
+  pub same : (e : List ℕ) → Stands (entries_of first whole) at e ↔ Stands (entries_of start whole) at e
+
 -- by what it answers at an entry's bytes a search has found one among these entries, or no entry is one
 abbrev pub FindsOne : (Bor (List ℕ) → Bool → Type 0) → List (PlacedEntry (List ℕ)) → Bool → Type 0
 FindsOne Answers entries true = (o : ℕ) × (entry : Bor (List ℕ)) × Stands entries o entry.now × Answers entry true

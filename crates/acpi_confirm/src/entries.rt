@@ -1,11 +1,11 @@
 //! The entries of a table, one after another.
 
-ghost use Rattle.std.specs.Prelude.{◌≡◌, ◌<◌, IfSome, List, ℕ};
+ghost use Rattle.std.specs.Prelude.{◌≡◌, ◌<◌, IfSome, MatchBool, List, ℕ, None};
 ghost use denote.Ref.{Bor};
 ghost use Rattle.std.specs.Option.{option_map, MatchOption};
 ghost use Rattle.acpi_base.specs.Entries.{IsEntry, first_entry, entries_of, cut_of};
 ghost use Rattle.acpi_base.specs.Number.{has_bit};
-ghost use Rattle.acpi_confirm.specs.Walks.{IsThere, IsEnd, IsNext, FindsAny};
+ghost use Rattle.acpi_confirm.specs.Walks.{IsThere, IsEnd, IsNext, IsOnWay, FindsAny};
 
 /// Whether a bit of an entry's flags is set; bit 0 is the lowest.
 #[tactic(auto, unfolding(acpi_base::specs::Number::has_bit))]
@@ -30,7 +30,7 @@ fn first_entry(left: &[u8]) -> Option<&[u8]>
 
 /// The entry that stands at a start.
 #[tactic(auto, using(crate::proofs::Walks::walking))]
-fn entry_from(whole: &[u8], start: usize) -> Option<&[u8]>
+pub(crate) fn entry_from(whole: &[u8], start: usize) -> Option<&[u8]>
     ensures { MatchOption result (IsEnd start whole.now)
         (λ entry. IsNext start whole.now entry.now) }
 {
@@ -38,6 +38,22 @@ fn entry_from(whole: &[u8], start: usize) -> Option<&[u8]>
         return None;
     }
     first_entry(&whole[start..])
+}
+
+/// Whether the walk over the entries of a table from a start on comes to an offset.
+#[tactic(auto, using(crate::proofs::Walks::walking))]
+pub(crate) fn comes_to(whole: &[u8], first: usize, at: u64) -> bool
+    ensures { MatchBool result (IsOnWay first at whole.now at)
+        (IsThere (entries_of first whole.now) at None) }
+{
+    let mut start = first;
+    while (start as u64) < at {
+        let Some(entry) = entry_from(whole, start) else {
+            return false;
+        };
+        start += entry.len();
+    }
+    start as u64 == at
 }
 
 /// The entry that stands at an offset of a table whose entries stand from `first` on, where one does: the walk
@@ -48,15 +64,10 @@ pub(crate) fn entry_at(whole: &[u8], first: usize, at: u64) -> Option<&[u8]>
         (option_map (λ entry. entry.now) result) }
     ensures entry { IfSome result (λ entry. IsEntry entry.now) }
 {
-    let mut start = first;
-    while (start as u64) < at {
-        start += entry_from(whole, start)?.len();
+    if !comes_to(whole, first, at) {
+        return None;
     }
-    if start as u64 == at {
-        entry_from(whole, start)
-    } else {
-        None
-    }
+    entry_from(whole, at as usize)
 }
 
 /// The offset of the bytes behind the entries of a table, at which none stands, if any are left.

@@ -1,6 +1,7 @@
 //! Codes 50 to 56: the PPTT.
 
 mod chains;
+mod starts;
 
 ghost use Rattle.std.specs.Prelude.{◌≡◌, ◌≤◌, ◌↔◌, length, IsTrue};
 ghost use Rattle.std.specs.Bool.{OnTrue};

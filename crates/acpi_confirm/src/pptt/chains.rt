@@ -1,16 +1,24 @@
 //! Codes 55 and 56: chains of parents and of next levels.
 
-ghost use Rattle.std.specs.Prelude.{◌≤◌, ◌+◌, ◌↔◌, ℕ, Some, IsTrue, IfSome, MatchOption};
-ghost use Rattle.std.specs.Option.{option_map};
+ghost use Rattle.std.specs.Prelude.{◌≤◌, ◌<◌, ◌+◌, ◌↔◌, ℕ, Some, IsTrue, MatchOption, length};
 ghost use Rattle.acpi_base.specs.Chains.{IsStep, LeadsTo, IsCycle};
-ghost use Rattle.acpi_base.specs.Entries.{IsEntry, entries_of};
 ghost use Rattle.acpi_base.specs.Pptt.{ParentFault, CacheFault, pptt_contents};
 ghost use Rattle.acpi_confirm.specs.Links.{Names, IsStepTo};
-ghost use Rattle.acpi_confirm.specs.Walks.{IsThere, IsOnly};
+ghost use Rattle.acpi_confirm.specs.Starts.{AreStarts};
+ghost use Rattle.acpi_confirm.specs.Walks.{IsOnly};
 
-use super::{FIRST_ENTRY, Link, named, named_at};
-use crate::entries::entry_at;
+use super::starts::{Starts, entry_noted, note_starts};
+use super::{Link, named};
 use acpi_base::{Code, Witness};
+
+/// How many bytes a block of the table has for which one start is noted, at least.
+const LEAST_BLOCK: usize = 128;
+
+/// How many starts are noted of a table of at most 512 KiB, and of a larger one: for so many a block has its least size up to
+/// 32 MiB, which is more than an image text can hold.
+const FEW_NOTES: usize = 4096;
+
+const MANY_NOTES: usize = 262_144;
 
 /// A node or a cache: where it stands, and the offset that it names by the link.
 #[derive(Clone, Copy)]
@@ -19,32 +27,19 @@ struct Linked {
     names: u64,
 }
 
-/// The entry at the offset that one names: the walk goes on from where that one stands if the offset lies ahead, and
-/// otherwise starts again from the first entry.
-fn entry_named<'a>(pptt: &'a [u8], link: Link, here: Linked) -> Option<&'a [u8]>
-    requires { IsOnly (Names link (pptt_contents pptt.now) here.at) (Some here.names) }
-    ensures there { IsThere (entries_of 36 pptt.now) here.names
-        (option_map (λ entry. entry.now) result) }
-    ensures entry { IfSome result (λ entry. IsEntry entry.now) }
+/// The offset that the node or cache at an offset names, looked up by the noted starts.
+fn named_by(pptt: &[u8], link: Link, starts: &Starts<'_>, at: u64) -> Option<u64>
+    requires { AreStarts starts.now.size starts.now.notes.now pptt.now }
+    ensures { IsOnly (Names link (pptt_contents pptt.now) at) result }
 {
-    if here.names < here.at {
-        return entry_at(pptt, FIRST_ENTRY, here.names);
-    }
-    entry_at(pptt, here.at as usize, here.names)
-}
-
-/// The offset that is named in turn by the node or cache that this one names, where one stands there.
-fn named_next(pptt: &[u8], link: Link, here: Linked) -> Option<u64>
-    requires { IsOnly (Names link (pptt_contents pptt.now) here.at) (Some here.names) }
-    ensures { IsOnly (Names link (pptt_contents pptt.now) here.names) result }
-{
-    entry_named(pptt, link, here).and_then(|entry| named(entry, link))
+    entry_noted(pptt, starts, at).and_then(|entry| named(entry, link))
 }
 
 /// One step: from a node to its Parent, or from a cache to its Next Level.
 #[tactic(auto, using(crate::proofs::Chains::steps))]
-fn step(pptt: &[u8], link: Link, here: Linked) -> Option<Linked>
-    requires { IsOnly (Names link (pptt_contents pptt.now) here.at) (Some here.names) }
+fn step(pptt: &[u8], link: Link, starts: &Starts<'_>, here: Linked) -> Option<Linked>
+    requires starts { AreStarts starts.now.size starts.now.notes.now pptt.now }
+    requires here { IsOnly (Names link (pptt_contents pptt.now) here.at) (Some here.names) }
     ensures { MatchOption result
         ((p : ℕ) → ¬ IsStep (Names link (pptt_contents pptt.now)) here.at p)
         (λ next. IsStepTo (Names link (pptt_contents pptt.now)) here.at next) }
@@ -52,7 +47,7 @@ fn step(pptt: &[u8], link: Link, here: Linked) -> Option<Linked>
     if here.names == 0 {
         return None;
     }
-    let names = named_next(pptt, link, here)?;
+    let names = named_by(pptt, link, starts, here.names)?;
     Some(Linked {
         at: here.names,
         names,
@@ -61,7 +56,8 @@ fn step(pptt: &[u8], link: Link, here: Linked) -> Option<Linked>
 
 /// Where so many steps lead from an offset.
 #[tactic(auto, using(crate::proofs::Chains::led))]
-fn follow(pptt: &[u8], link: Link, from: u64, steps: u64) -> Option<u64>
+fn follow(pptt: &[u8], link: Link, starts: &Starts<'_>, from: u64, steps: u64) -> Option<u64>
+    requires { AreStarts starts.now.size starts.now.notes.now pptt.now }
     ensures { IsOnly (LeadsTo (Names link (pptt_contents pptt.now)) steps from) result }
 {
     if steps == 0 {
@@ -69,11 +65,11 @@ fn follow(pptt: &[u8], link: Link, from: u64, steps: u64) -> Option<u64>
     }
     let mut here = Linked {
         at: from,
-        names: named_at(pptt, link, from)?,
+        names: named_by(pptt, link, starts, from)?,
     };
     let mut left = steps;
     while left > 0 {
-        here = step(pptt, link, here)?;
+        here = step(pptt, link, starts, here)?;
         left -= 1;
     }
     Some(here.at)
@@ -86,9 +82,10 @@ fn steps_fit(most: u64, lead: u64, round: u64) -> bool
     round >= 1 && u128::from(lead) + u128::from(round) <= u128::from(most)
 }
 
-/// Whether `other` steps lead from the offset `at` to one from which `point` steps lead back to it. The steps are
-/// compared with `most` before the first is taken.
-fn is_cycle(pptt: &[u8], link: Link, most: u64, witness: &Witness) -> bool
+/// Whether `other` steps lead from the offset `at` to one from which `point` steps lead back to it, with room for notes of
+/// starts. The steps are compared with `most` before the first is taken.
+fn goes_round(pptt: &[u8], link: Link, most: u64, witness: &Witness, room: &mut [u8]) -> bool
+    requires { 0 < length room.old }
     ensures { IsTrue result ↔ IsCycle (Names link (pptt_contents pptt.now)) most witness.now.at
         witness.now.other witness.now.point }
 {
@@ -96,10 +93,33 @@ fn is_cycle(pptt: &[u8], link: Link, most: u64, witness: &Witness) -> bool
     if !steps_fit(most, lead, round) {
         return false;
     }
-    let Some(there) = follow(pptt, link, from, lead) else {
+    let size = (pptt.len() / room.len() + 1).max(LEAST_BLOCK);
+    note_starts(pptt, link, size, room);
+    let starts = Starts { size, notes: room };
+    let Some(there) = follow(pptt, link, &starts, from, lead) else {
         return false;
     };
-    follow(pptt, link, there, round) == Some(there)
+    follow(pptt, link, &starts, there, round) == Some(there)
+}
+
+/// The same of a large table, whose notes take 256 KiB of the stack.
+#[inline(never)]
+fn is_long_cycle(pptt: &[u8], link: Link, most: u64, witness: &Witness) -> bool
+    ensures { IsTrue result ↔ IsCycle (Names link (pptt_contents pptt.now)) most witness.now.at
+        witness.now.other witness.now.point }
+{
+    goes_round(pptt, link, most, witness, &mut [0; MANY_NOTES])
+}
+
+/// Whether `other` steps lead from the offset `at` to one from which `point` steps lead back to it, at most `most` in all.
+fn is_cycle(pptt: &[u8], link: Link, most: u64, witness: &Witness) -> bool
+    ensures { IsTrue result ↔ IsCycle (Names link (pptt_contents pptt.now)) most witness.now.at
+        witness.now.other witness.now.point }
+{
+    if pptt.len() > FEW_NOTES * LEAST_BLOCK {
+        return is_long_cycle(pptt, link, most, witness);
+    }
+    goes_round(pptt, link, most, witness, &mut [0; FEW_NOTES])
 }
 
 /// Code 55: a cycle of parents. No more than one node fits into 20 bytes.
