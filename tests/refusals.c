@@ -7,6 +7,8 @@
    WRITE_MOST=N   a write to standard output takes at most N bytes
    WRITE_FAILS=N  the write to standard output with the number N fails
    WRITE_EMPTY=N  it takes nothing instead
+   READ_INTERRUPTED=N, WRITE_INTERRUPTED=N            a signal interrupts the call with the number N
+   READ_INTERRUPTED_FROM=N, WRITE_INTERRUPTED_FROM=N  this call and each one behind it
 
    The file REFUSED is made where any of this was refused or failed. It holds a byte where standard input had been read by
    then. All this stands without the C library's headers, so that a compiler alone can build it. */
@@ -23,7 +25,7 @@ void *__libc_realloc(void *block, size_t size);
 void *__libc_memalign(size_t alignment, size_t size);
 
 /* The system's numbers, on x86-64 Linux. */
-enum { SYSTEM_READ = 0, SYSTEM_WRITE = 1, INPUT_OUTPUT_ERROR = 5, NO_MEMORY = 12 };
+enum { SYSTEM_READ = 0, SYSTEM_WRITE = 1, INTERRUPTED = 4, INPUT_OUTPUT_ERROR = 5, NO_MEMORY = 12 };
 
 static long reads, writes;
 
@@ -65,11 +67,20 @@ int posix_memalign(void **block, size_t alignment, size_t size) {
   return 0;
 }
 
+/* Whether the call with this number is interrupted, by the two settings with these names. */
+static int is_interrupted(long number, const char *once, const char *from) {
+  long first = setting(from);
+  if (number != setting(once) && (!first || number < first)) return 0;
+  *__errno_location() = INTERRUPTED;
+  return 1;
+}
+
 static size_t at_most(size_t count, long most) { return most > 0 && (size_t)most < count ? (size_t)most : count; }
 
 long read(int file, void *bytes, size_t count) {
   if (file == 0) {
     reads++;
+    if (is_interrupted(reads, "READ_INTERRUPTED", "READ_INTERRUPTED_FROM")) return -1;
     if (reads == setting("READ_FAILS") && refuse(INPUT_OUTPUT_ERROR)) return -1;
     count = at_most(count, setting("READ_MOST"));
   }
@@ -79,6 +90,7 @@ long read(int file, void *bytes, size_t count) {
 long write(int file, const void *bytes, size_t count) {
   if (file == 1) {
     writes++;
+    if (is_interrupted(writes, "WRITE_INTERRUPTED", "WRITE_INTERRUPTED_FROM")) return -1;
     if (writes == setting("WRITE_FAILS") && refuse(INPUT_OUTPUT_ERROR)) return -1;
     if (writes == setting("WRITE_EMPTY") && refuse(0)) return 0;
     count = at_most(count, setting("WRITE_MOST"));

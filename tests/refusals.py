@@ -416,6 +416,16 @@ def in_pieces(program, run, setting, most):
     yield f"{run.name}, {setting} {most}", wrong_answer(told.answer, run.answer())
 
 
+def interrupted(program, run, call, limit, most):
+    """A signal interrupts one of the calls, which is then made again, or each of them, which is a failure."""
+    text = program.file(run.text)
+    for number in range(1, 5):
+        told = program.told(run.words, text, **{f"{call}_INTERRUPTED": number, limit: most})
+        yield f"{run.name}, {call} {number} is interrupted", wrong_answer(told.answer, run.answer())
+    told = program.told(run.words, text, **{f"{call}_INTERRUPTED_FROM": 1})
+    yield f"{run.name}, each {call} is interrupted", wrong_answer(told.answer, device())
+
+
 # A text, the number of its bytes after which its fault stands, if it ever does before the end, and what is said of it.
 GOOD_TEXT = text_of(SMALLEST)
 GOOD_LINES = GOOD_TEXT.count(b"\n")
@@ -552,6 +562,8 @@ def tasks():
         yield failing_reads, run
         yield failing_writes, run, "WRITE_FAILS"
         yield failing_writes, run, "WRITE_EMPTY"
+        yield interrupted, run, "READ", "READ_MOST", READ_SIZE
+        yield interrupted, run, "WRITE", "WRITE_MOST", WRITE_SIZE
     yield from bad_text_tasks()
 
 

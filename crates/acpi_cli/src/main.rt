@@ -18,6 +18,7 @@ mod reply;
 mod show;
 #[cfg(test)]
 mod tests;
+mod uninterrupted;
 mod usage;
 mod words;
 
@@ -26,6 +27,7 @@ use program::{obey, refuse, refuse_memory};
 use reply::Reply;
 use std::io::ErrorKind;
 use std::process::ExitCode;
+use uninterrupted::Uninterrupted;
 use words::WordFault;
 
 /// The arguments of the command line, the program's own name first. Refuses `Words` where one is not UTF-8.
@@ -39,8 +41,8 @@ fn arguments(rt: &HostRuntime) -> Result<Vec<String>, WordFault> {
 
 /// Hands the arguments and the standard streams to `obey`.
 fn main(rt: HostRuntime) -> std::io::Result<ExitCode> {
-    let mut reader = Tally::new(rt.stdin());
-    let mut writer = Tally::new(rt.stdout());
+    let mut reader = Tally::new(Uninterrupted::new(rt.stdin()));
+    let mut writer = Tally::new(Uninterrupted::new(rt.stdout()));
     let mut errors = rt.stderr();
     let status = match arguments(&rt) {
         Ok(words) => obey(
