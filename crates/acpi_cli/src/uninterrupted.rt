@@ -32,7 +32,8 @@ impl<R: Read> Read for Uninterrupted<R> {
 
     fn read(&mut self, buffer: &mut [u8]) -> Result<usize>
         ensures bound { ReadsAtMost result buffer.new }
-        ensures bytes { ReadConsumes (R.remaining self.old.inner) (R.remaining self.new.inner) result buffer.new }
+        ensures bytes { ReadConsumes (R.remaining self.old.inner) (R.remaining self.new.inner)
+            result buffer.new }
     {
         'tries: for _ in 0..TRIES {
             match self.inner.read(buffer) {
@@ -49,7 +50,8 @@ impl<W: Write> Write for Uninterrupted<W> {
 
     fn write(&mut self, bytes: &[u8]) -> Result<usize>
         ensures bound { WritesAtMost result bytes.now }
-        ensures bytes { WriteAppends (W.contents self.old.inner) (W.contents self.new.inner) result bytes.now }
+        ensures bytes { WriteAppends (W.contents self.old.inner) (W.contents self.new.inner)
+            result bytes.now }
     {
         'tries: for _ in 0..TRIES {
             match self.inner.write(bytes) {

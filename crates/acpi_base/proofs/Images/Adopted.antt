@@ -43,7 +43,10 @@ part_below : (store : List ℕ) (start count : ℕ) → ((k : ℕ) → get_or st
 part_below store start count bytes k = elim (cases_lt k count) [
   | inl within ↦ subst (λ b. b < 256)
       (sym (get_or-take count (drop start store) k 0 within ∙ get_or-drop start store k 0)) (bytes (start + k))
-  | inr past ↦ subst (λ b. b < 256) (sym (get_or_past (take count (drop start store)) k 0 (omega (arith, length-take count (drop start store))))) (omega arith)
+  | inr past ↦
+      let part = take count (drop start store) in
+      let long = length-take count (drop start store) in
+      subst (λ b. b < 256) (sym (get_or_past part k 0 (omega arith))) (omega arith)
 ]
 
 runs_image : (store : List ℕ) (n : ℕ) (ps : List Piece) → n ≤ length store → ((k : ℕ) → get_or store k 0 < 256)

@@ -6,5 +6,5 @@ pub loop-i-preserved : goal.loop-i-preserved
 loop-i-preserved c =
     let behind = c.if-next-first.false in
     let gap = c.if-next-first-2.false in
-    one_more c.args.pieces.now c.loop-i.i _ c.loop-i.next c.args.base (omega arith) (omega arith) c.requires (omega arith)
-    c.loop-i.invariant
+    one_more c.args.pieces.now c.loop-i.i _ c.loop-i.next c.args.base (omega arith) (omega arith) c.requires
+    (omega arith) c.loop-i.invariant
