@@ -56,6 +56,19 @@ sorted() { LC_ALL=C sort; }
 # files_in FOLDER: its files and links.
 files_in() { (cd "$1" 2>/dev/null && find . ! -type d | sed 's|^\./||' | sorted); }
 
+# hardened FILE: how a program or a library was linked: its type, whether its stack can be run, whether relocations are made
+# read-only and at once, and how many segments can be both written and run.
+hardened() {
+  readelf -hlWd "$1" | awk '
+    $1 == "Type:" { type = $2 }
+    $1 == "GNU_STACK" { stack = $7 }
+    $1 == "GNU_RELRO" { relro = "relro" }
+    /\((FLAGS|FLAGS_1|BIND_NOW)\)/ && /NOW/ { now = "now" }
+    $1 == "LOAD" && / RWE / { both++ }
+    END { print type, stack, relro, now, both + 0 }
+  '
+}
+
 # The tools that are installed, by the one list of them, and those that are here.
 tools=$(sed -n "s/^tools='\(.*\)'$/\1/p" scripts/install | tr ' ' '\n')
 there=$(cd tools && find . -type f -printf '%P\n' | grep -x '[a-z0-9]*' | sorted)
@@ -163,6 +176,10 @@ case \$1 in
   version) echo rattle-kit-stand-in ;;
   doc) echo '$stand_in/kit/START-HERE.md' ;;
   run) mkdir -p out && cp '$program' out/acpi_cli ;;
+  try)
+    printf '== 1\nyes\n== 2\n' && cat "\$3/2.args"
+    printf 'case=1 run=ended\ncase=2 run=ended\n' >&2
+    ;;
   lib) mkdir -p out && [ "\${PWD##*/}" != acpi_c ] || cp '$stand_in/libacpi_c.a' out/libacpi_c.a ;;
 esac
 END
@@ -190,6 +207,7 @@ if has cc && has ar; then
   (cd "$scratch" && cc -fPIC -c abi.c heap.c && ar rcD "$stand_in/libacpi_c.a" abi.o && ar rcD "$stand_in/kit/c/liblibc_c.a" heap.o)
   built library
   same 'make library' "$? $(tail -n 1 "$scratch/log")" '0 library/libacpiset.so.1'
+  same 'how a library is hardened' "$(hardened "$tree/library/libacpiset.so.1")" 'DYN RW relro now 0'
   built install DESTDIR="$scratch/root" PREFIX=/usr
   same 'make install of the library that was built' "$? $(cat "$scratch/log") $(files_in "$scratch/root/usr/lib")" \
     $'0  libacpiset.a\nlibacpiset.so\nlibacpiset.so.1\npkgconfig/acpiset.pc'
@@ -207,6 +225,31 @@ else
   left_out 'a library that is older than the sources' 'no cc or no ar'
 fi
 rm -rf "$tree/library" "$tree/acpiset" "$tree"/crates/*/out
+image="$scratch/"'an image'"'"'s $(touch made) name'
+cp tests/images/example.img.txt "$image"
+built try IMAGE="$image" ARGUMENTS='check --through 3'
+same 'make try of an image of many marks' "$? $(tail -n 4 "$scratch/log")" "0 $image: acpiset check --through 3
+  check
+  --through
+  3"
+run fuzz N=1
+same 'make fuzz without a program' "$? $(grep -c '`make build` first' "$scratch/log")" '2 1'
+
+# ---- a disk that is full: a limit on the size of files stands in for it
+
+(
+  trap '' XFSZ
+  ulimit -f 64
+  with_program install DESTDIR="$scratch/short" PREFIX=/usr
+  same 'make install where no long file can be written' "$? $(grep -c 'File too large' "$scratch/log")" '2 1'
+  with_program dist
+  same 'make dist where no long file can be written' "$? $(find "$tree/dist" -name '*.tar.gz')" '2 '
+  printf '%d %d\n' "$passed" "$failed" >"$scratch/counts"
+)
+read -r passed failed <"$scratch/counts"
+make -s -C "$tree" BINARY="$program" dist >/dev/full 2>"$scratch/log"
+same 'make dist where its answer cannot be written' "$?" 2
+rm -rf "$tree/dist" "$scratch/short"
 
 # ---- the archive: unpacked elsewhere, with the base system's commands alone
 
@@ -273,19 +316,6 @@ same 'times in an archive of a given time' "$(TZ=UTC tar --full-time -tvzf "$arc
 same 'make dist with a licence' "$? $(grep -c 'no licence' "$scratch/notes") $(tar -tzf "$archive" | grep -c '/share/doc/acpiset/LICENSE$')" '0 0 1'
 same 'a licence in the README of the archive' "$(tar -xzOf "$archive" "$name/README.md" | grep -c 'Its licence is in `share/doc/acpiset/LICENSE`')" 1
 rm -rf "$tree/LICENSE" "$tree/dist"
-
-# hardened FILE: how a program or a library was linked: its type, whether its stack can be run, whether relocations are made
-# read-only and at once, and how many segments can be both written and run.
-hardened() {
-  readelf -hlWd "$1" | awk '
-    $1 == "Type:" { type = $2 }
-    $1 == "GNU_STACK" { stack = $7 }
-    $1 == "GNU_RELRO" { relro = "relro" }
-    /\((FLAGS|FLAGS_1|BIND_NOW)\)/ && /NOW/ { now = "now" }
-    $1 == "LOAD" && / RWE / { both++ }
-    END { print type, stack, relro, now, both + 0 }
-  '
-}
 
 # Each command of its README prints what the page says.
 page=$unpacked/README.md
