@@ -474,6 +474,9 @@ if has nm; then
     "$(nm -D --undefined-only "$program" | awk '{ sub(/@.*/, "", $2); print $2 }' | sort -u)" "$named"
 fi
 
+# It is linked as SECURITY.md says.
+same 'how the program is hardened' "$(hardened "$program")" 'DYN RW relro now 0'
+
 # The program needs the C library alone, of no later version than README says.
 if has objdump; then
   same 'libraries of the program' "$(objdump -p "$program" | awk '$1 == "NEEDED" { print $2 }')" libc.so.6
