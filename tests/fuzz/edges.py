@@ -22,7 +22,7 @@ def error(dice):
 
 
 def one_byte_wrong(dice, signature):
-    at = dice.randrange(len(signature))
+    at = dice.choice((len(signature) - 1, dice.randrange(len(signature))))
     return changed(signature, at, [signature[at] ^ dice.choice((1, 0x20, 0x80))])
 
 
@@ -89,6 +89,8 @@ def no_root(made, is_wrong):
 
 def root_header_out(made, is_wrong):
     made.root.held = made.dice.choice((35, 35, 0, 8)) if is_wrong else HEADER_SIZE
+    if is_wrong and made.is_xsdt and made.dice.random() < 0.2:
+        made.root.held, made.rsdp["xsdt"] = None, made.dice.choice((1 << 56, 1, TOP - 1))
 
 
 def root_signature(made, is_wrong):
@@ -106,7 +108,7 @@ def root_out(made, is_wrong):
 
 
 def root_ragged(made, is_wrong):
-    made.ragged = bytes(made.dice.choice((1, 3, 4, 7) if made.is_xsdt else (1, 2, 3))) if is_wrong else b""
+    made.ragged = b"\1\2\3\4\5\6\7"[: made.dice.choice((1, 3, 4, 7) if made.is_xsdt else (1, 2, 3))] if is_wrong else b""
     if not is_wrong:
         made.extra_slots.append(nowhere)
 
@@ -140,7 +142,8 @@ def table_out(made, is_wrong):
     def change(table):
         table.held = len(table) - is_wrong
         if is_wrong and made.dice.random() < 0.3:
-            table.length, table.held = made.dice.choice((LOW - 1, 0x80000000, len(table) + 4096)), None
+            longer = (LOW - 1, 0x80000000, len(table) + (1 << 24), len(table) + 4096)
+            table.length, table.held = made.dice.choice(longer), None
 
     on_a_table(made, change)
 
@@ -163,6 +166,8 @@ def no_fadt(made, is_wrong):
 
 def fadt_short(made, is_wrong):
     made.fadt_length = made.dice.choice((115, 115, 36, 37, 114)) if is_wrong else 116
+    if made.dice.random() < 0.3:
+        made.facs_at = made.dice.choice((0, 0x8010))
 
 
 def set_flags(made, bits, is_set):
@@ -189,7 +194,7 @@ def reset_register(made, is_wrong):
     set_flags(made, RESET_REG_SUP, is_wrong or dice.random() < 0.7)
     made.fadt_length = dice.choice((129, 129, 130, 276) if is_wrong or dice.random() < 0.5 else (128, 128, 117))
     right = [(0, 8, 0), (1, 8, 0), (2, 8, 0)]
-    wrong = [(3, 8, 0), (255, 8, 0), (1, 7, 0), (1, 9, 0), (1, 0, 0), (1, 8, 1), (0, 8, 255), (2, 16, 1)]
+    wrong = [(3, 8, 0), (3, 8, 0), (255, 8, 0), (1, 7, 0), (1, 9, 0), (1, 0, 0), (1, 8, 1), (0, 8, 255), (2, 16, 1)]
     made.fadt[RESET_REG : RESET_REG + 3] = bytes(dice.choice(wrong if is_wrong or made.fadt_length < 129 else right))
 
 
@@ -217,13 +222,15 @@ def facs_signature(made, is_wrong):
 
 def facs_length(made, is_wrong):
     made.facs.length = made.dice.choice((63, 63, 0, 32)) if is_wrong else FACS_SIZE
+    # Too short, and not all held: the first alone is said.
+    made.facs.held = made.dice.choice((8, 62)) if is_wrong and made.dice.random() < 0.4 else None
 
 
 def facs_out(made, is_wrong):
     made.facs.size = made.facs.length = made.dice.choice((64, 64, 65, 128))
     made.facs.held = made.facs.size - is_wrong
-    if is_wrong and made.dice.random() < 0.2:
-        made.facs.length = LOW - 1
+    if is_wrong and made.dice.random() < 0.3:
+        made.facs.length = made.dice.choice((LOW - 1, 1 << 24))
 
 
 # ---- entries
@@ -349,7 +356,8 @@ def slit_short(made, is_wrong):
 def slit_size(made, is_wrong):
     dice, (count, cells) = made.dice, made.slit
     if is_wrong:
-        made.slit[0] = dice.choice((count + 1, max(count - 1, 0) if count else 5, LOW, LOW + count, 1 << 63, TOP - count if count else 7))
+        wrong = (count + 1, max(count - 1, 0) if count else 5, LOW, LOW + count, (1 << 63) + count, TOP - count if count else 7)
+        made.slit[0] = dice.choice(wrong)
         cells.extend(bytes(dice.choice((0, 0, 1, 2))))
     else:
         made.slit[:] = [0, bytearray()] if dice.random() < 0.3 else [3, bytearray(b"\x0a\x14\x14\x14\x0a\x14\x14\x14\x0a")]
@@ -421,7 +429,7 @@ def of_kind(made, kind):
 def stray(made, kind):
     """What is no entry of this type: something beside one, an entry of another type, or one without a length of its type."""
     dice = made.dice
-    beside = (of_kind(made, kind), dice.choice((1, 2, 20, -1, -20)))
+    beside = (of_kind(made, kind), dice.choice((1, 2, 20, -1, -20, 1 << 24)))
     mistyped_item = Item(kind, size=21)
     if dice.random() < 0.2:
         put(made, made.pptt, mistyped_item)
@@ -468,17 +476,22 @@ def cycle(kind):
 
 
 def two_domains(made, is_wrong):
-    """Entries of one processor: of either type, enabled or not, in domains that are equal or differ in one byte."""
+    """Entries of one processor, of either type, in domains that differ in one byte; right by one thing, if it is right."""
     dice = made.dice
-    apic_id = dice.choice((5, 255, 256, LOW - 1))
-    processor_flags, domain_flags = ((1, 1, 3, 2), (1, 1, 1, 1, 3, 2)) if is_wrong else ((1, 2, 3, 0), (1, 1, 3, 0))
+    kept_by = None if is_wrong else dice.choice(("processor", "flags", "entry", "domain"))
+    apic_id = dice.choice((5, 5, 255, 256, LOW - 1))
+    flags = 0 if kept_by == "flags" else dice.choice((1, 2, 2, 3))
     maker = x2apic if apic_id > 255 or dice.random() < 0.5 else lapic
-    put(made, made.madt, maker(5, apic_id, dice.choice(processor_flags)))
+    if kept_by != "processor":
+        put(made, made.madt, maker(5, apic_id, flags))
     domain = dice.choice((0, 1, 0x01020304))
-    other = domain ^ (is_wrong * dice.choice((1, 1 << 8, 1 << 16, 1 << 24)))
-    for it in (domain, other, dice.choice((domain, 7)))[: dice.choice((2, 2, 3))]:
+    other = domain if kept_by == "domain" else domain ^ dice.choice((1, 1 << 8, 1 << 16, 1 << 24))
+    domains = [(domain, dice.choice((1, 1, 3))), (other, dice.choice((0, 2)) if kept_by == "entry" else 1)]
+    if is_wrong and dice.random() < 0.4:
+        domains.append((dice.choice((domain, 7)), dice.choice((1, 0))))
+    for it, its_flags in domains:
         maker = x2apic_domain if apic_id > 255 or dice.random() < 0.5 else apic_domain
-        put(made, made.srat, maker(apic_id, it, dice.choice(domain_flags)))
+        put(made, made.srat, maker(apic_id, it, its_flags))
 
 
 def gsi_nowhere(made, is_wrong):
@@ -495,17 +508,21 @@ def gsi_nowhere(made, is_wrong):
 
 
 def leaf_unknown(made, is_wrong):
+    """A leaf that no processor has; right by one thing, if it is right."""
     dice = made.dice
-    uid = dice.choice((0, 7, 255, 256, LOW - 1))
-    if not is_wrong:
+    kept_by = None if is_wrong else dice.choice(("processor", "processor", "flags", "revision", "entry", "cut"))
+    uid = dice.choice((7, 255, 256, 0xABCDEF, LOW - 1))
+    made.madt[:] = [entry for entry in made.madt if len(entry) == MADT_TYPES.get(entry[0])]
+    made.pptt_revision = dice.choice((1, 1, 0)) if kept_by == "revision" else dice.choice((2, 2, 3, 255))
+    if kept_by == "processor":
         flags = dice.choice((1, 0))
         put(made, made.madt, x2apic(uid, 900, flags) if uid > 255 or dice.random() < 0.5 else lapic(uid, 99, flags))
-    else:
-        made.madt[:] = [entry for entry in made.madt if len(entry) == MADT_TYPES.get(entry[0])]
-        uid = dice.choice((uid, 0xABCDEF))
-    flags = 0b1010 | dice.choice((0, 1, 4, LOW - 16)) if is_wrong or dice.random() < 0.7 else dice.choice((0, 2, 8))
+    elif kept_by == "entry":
+        put(made, made.madt, dice.choice((b"\x0b\x02", bytes([255, 8]) + bytes(6), bytes([0, 9]) + bytes(7))))
+    elif kept_by == "cut":
+        made.madt.append(b"\0")
+    flags = dice.choice((0, 2, 8)) if kept_by == "flags" else 0b1010 | dice.choice((0, 1, 4, LOW - 16))
     put(made, made.pptt, Item(0, 0, [], flags, uid))
-    made.pptt_revision = dice.choice((2, 2, 2, 3, 255, 1))
 
 
 EDGES = (

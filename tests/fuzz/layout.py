@@ -59,7 +59,8 @@ class Layout:
     def base(self, size):
         """The first address of all structures, a multiple of 64, as the FACS is laid for it."""
         choices = [*BASES[:-1], LOW - size] if not self.made.is_xsdt else [*BASES, LOW - size, TOP - size]
-        base = self.dice.choice(choices)
+        # Now and then a structure lies at 0, which names none.
+        base = self.dice.choice(choices) if self.dice.random() < 0.96 else 0
         # A FADT without X_FIRMWARE_CTRL does not reach a FACS above 4 GiB.
         if base >= LOW and self.made.fadt_length < 140 and self.dice.random() < 0.9:
             base = 0x2000

@@ -80,7 +80,8 @@ def close(memory, start):
 def other_code(dice, target):
     """Another code: most times one near this, so that it matters which of the two is reported, and seldom one of the first
     stages, which hide all others."""
-    code = dice.choice((target, target + 1, target - 1, target + dice.randrange(-8, 9), dice.randrange(19, 60), dice.randrange(32, 60)))
+    near = (target, target + 1, target - 1, target + dice.randrange(-8, 9))
+    code = dice.choice((*near, dice.randrange(15, 60), dice.randrange(32, 60), dice.randrange(32, 60)))
     return code if 1 <= code <= len(EDGES) else dice.randrange(1, len(EDGES) + 1)
 
 
@@ -89,7 +90,7 @@ def set_case(dice, place):
     target = place % len(EDGES) + 1
     made = MadeSet(dice, target)
     change_at_edge(made, target, dice.random() < 0.7)
-    for _ in range(dice.choice((0, 0, 0, 1, 1, 2, 4))):
+    for _ in range(dice.choice((0, 0, 1, 1, 1, 2, 4))):
         change_at_edge(made, other_code(dice, target), dice.random() < 0.6)
     memory, rsdp = laid_out(made)
     if dice.random() < 0.15 and memory.bytes:

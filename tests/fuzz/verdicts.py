@@ -237,7 +237,7 @@ Entry = namedtuple("Entry", "at type data is_typed")
 
 
 def is_typed_node(data):
-    return len(data) >= 20 and len(data) == 20 + 4 * number(data, 16, 4)
+    return len(data) == 20 + 4 * number(data, 16, 4)
 
 
 MADT_LENGTHS = {0: 8, 1: 12, 2: 10, 3: 8, 4: 6, 5: 12, 9: 16, 10: 12}
@@ -246,8 +246,6 @@ SRAT_LENGTHS = {0: 16, 1: 40, 2: 24}
 
 class Entries:
     """The entries of a table as far as they stand, and the place at which none stands, if bytes are left there."""
-
-    FIRST = 0
 
     def __init__(self, table):
         self.table, self.all, self.cut = table, [], None
@@ -326,7 +324,7 @@ def some_shared(name, spans):
 def have_both(spans, fault):
     """Whether the spans at the fault's two offsets are two, and both have its number."""
     having = [span for span in spans if span.at in (fault.at, fault.other) and span.first <= fault.point < span.end]
-    return fault.at != fault.other and len(having) == 2
+    return len(having) == 2
 
 
 # ---- MADT
@@ -470,7 +468,7 @@ def after(named, at, steps):
     """Where a chain is after so many steps, or None where it has ended before."""
     for _ in range(steps):
         at = named.get(at)
-    return at if at in named else None
+    return at
 
 
 def cycle_faults(name, named, bound):
@@ -493,7 +491,7 @@ def is_cycle(named, bound, fault):
     """Whether a cycle stands there: so many steps lead to an entry, and so many from it to itself."""
     if fault.point == 0 or fault.other + fault.point > bound:
         return False
-    reached = after(named, fault.at, fault.other) if fault.at in named else None
+    reached = after(named, fault.at, fault.other)
     return reached is not None and after(named, reached, fault.point) == reached
 
 
