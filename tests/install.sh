@@ -169,18 +169,19 @@ same 'uninstall where a folder stands' "$? $(grep -c '/kept/usr/bin/acpiset is a
 # ---- what is built, and of which sources: with a stand-in for the toolchain that writes down its calls
 stand_in=$scratch/stand-in
 mkdir -p "$stand_in/bin" "$stand_in/kit/c"
-cat >"$stand_in/bin/rt" <<END
+export FOLDER=$stand_in PROGRAM=$program
+cat >"$stand_in/bin/rt" <<'END'
 #!/bin/sh
-echo "\$*" >>'$stand_in/calls'
-case \$1 in
+echo "$*" >>"$FOLDER/calls"
+case $1 in
   version) echo rattle-kit-stand-in ;;
-  doc) echo '$stand_in/kit/START-HERE.md' ;;
-  run) mkdir -p out && cp '$program' out/acpi_cli ;;
+  doc) echo "$FOLDER/kit/START-HERE.md" ;;
+  run) mkdir -p out && cp "$PROGRAM" out/acpi_cli ;;
   try)
-    printf '== 1\nyes\n== 2\n' && cat "\$3/2.args"
+    printf '== 1\nyes\n== 2\n' && cat "$3/2.args"
     printf 'case=1 run=ended\ncase=2 run=ended\n' >&2
     ;;
-  lib) mkdir -p out && [ "\${PWD##*/}" != acpi_c ] || cp '$stand_in/libacpi_c.a' out/libacpi_c.a ;;
+  lib) mkdir -p out && [ "${PWD##*/}" != acpi_c ] || cp "$FOLDER/libacpi_c.a" out/libacpi_c.a ;;
 esac
 END
 chmod +x "$stand_in/bin/rt"
@@ -271,12 +272,12 @@ mkdir "$scratch/tmp" "$scratch/lint"
 : >"$scratch/awk"
 if has gawk; then
   # What is written in awk is looked at here, too.
-  printf '#!/bin/sh\nexec gawk --lint "$@" 2>>"%s"\n' "$scratch/awk" >"$scratch/lint/awk"
+  printf '#!/bin/sh\nexec gawk --lint "$@" 2>>"$LINT"\n' >"$scratch/lint/awk"
   chmod +x "$scratch/lint/awk"
 fi
 (
   umask 077
-  cd "$scratch/another" && PATH="$scratch/lint:$PATH" TMPDIR="$scratch/tmp" TZ=Asia/Tokyo LC_ALL=C.UTF-8 TAR_OPTIONS=--mode=700 GZIP=-1 make -s BINARY="$program" dist >"$scratch/log" 2>&1
+  cd "$scratch/another" && LINT="$scratch/awk" PATH="$scratch/lint:$PATH" TMPDIR="$scratch/tmp" TZ=Asia/Tokyo LC_ALL=C.UTF-8 TAR_OPTIONS=--mode=700 GZIP=-1 make -s BINARY="$program" dist >"$scratch/log" 2>&1
 )
 same 'the archive, made in another folder with another umask' "$(sha256sum <"$scratch/another/dist/$name.tar.gz")" "$(sha256sum <"$archive")"
 # POSIX says what substr gives of a place past the end.
@@ -376,14 +377,15 @@ field() { sed -n "s/^$1[=:] *//p" "$2"; }
 # fields NAME FILE: all that it says.
 fields() { for name in prefix libdir includedir Version Libs; do field $name "$1"; done; }
 
-prefix=$scratch/prefix
-with_program install PREFIX="$prefix"
+plain=("DESTDIR=$scratch/plain" PREFIX=/opt/acpiset)
+prefix=$scratch/plain/opt/acpiset
+with_program install "${plain[@]}"
 same 'make install with the library' "$? $(cat "$scratch/log")" '0 '
 same 'files that are installed with the library' "$(files_in "$prefix")" "$with_library"
 same 'the name without a version' "$(readlink "$prefix/lib/libacpiset.so")" libacpiset.so.1
 same 'acpiset.pc' "$(fields "$prefix/lib/pkgconfig/acpiset.pc")" \
-  "$(printf '%s\n' "$prefix" '${prefix}/lib' '${prefix}/include' "$version" '-L${libdir} -lacpiset')"
-with_program uninstall PREFIX="$prefix"
+  "$(printf '%s\n' /opt/acpiset '${prefix}/lib' '${prefix}/include' "$version" '-L${libdir} -lacpiset')"
+with_program uninstall "${plain[@]}"
 same 'make uninstall with the library' "$? $(cat "$scratch/log")" '0 '
 same 'files that are left of it' "$(files_in "$prefix")" ''
 other=("DESTDIR=$scratch/other" PREFIX=/usr LIBDIR=/usr/lib/x86_64-linux-gnu)
@@ -436,9 +438,8 @@ else
   cc -I include unit_test.c lib/libacpiset.a -o unit_test && ./unit_test >"$scratch/log" 2>&1
   same 'a program with libacpiset.a' "$? $(tail -n 1 "$scratch/log" | grep -c ' 0 failed$')" '0 1'
   if has pkg-config; then
-    # The archive lies in a folder without blanks, so its flags are words for the shell.
-    # shellcheck disable=SC2046
-    cc unit_test.c $(PKG_CONFIG_PATH=lib/pkgconfig pkg-config --cflags --libs acpiset) -o unit_test &&
+    eval "flags=($(PKG_CONFIG_PATH=lib/pkgconfig pkg-config --cflags --libs acpiset))"
+    cc unit_test.c "${flags[@]}" -o unit_test &&
       LD_LIBRARY_PATH=lib ./unit_test >"$scratch/log" 2>&1
     same 'a program with libacpiset.so' "$? $(tail -n 1 "$scratch/log" | grep -c ' 0 failed$')" '0 1'
     same 'the library that it asks for' "$(readelf -d unit_test | grep -c 'NEEDED.*\[libacpiset.so.1\]')" 1
