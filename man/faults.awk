@@ -76,6 +76,8 @@ function print_row(row,   cells, count, cell) {
 }
 
 BEGIN {
+  gathered = item = ""
+  skipped = in_block = was_table = 0
   print ".\\\" Made of docs/FAULTS.md by man/faults.awk: change that document, and make this page again."
   print ".TH ACPISET\\-FAULTS 7 2026-11-25"
   print ".SH NAME"
