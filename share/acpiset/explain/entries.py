@@ -257,7 +257,9 @@ def leaves(table):
 
 def affinities(report, processor):
     """The numbers of the SRAT's affinities, of the kind that a processor would have."""
-    types, name, what = ((3,), "uid", "GICC affinities have the UIDs") if is_one(processor, "gicc") else ((0, 2), "id", "affinities have the IDs")
+    types, name, what = (0, 2), "id", "affinities have the IDs"
+    if is_one(processor, "gicc"):
+        types, name, what = (3,), "uid", "GICC affinities have the UIDs"
     table = report.tables.first("SRAT")
     enabled = (one for one in table.structures(*types) if one.fields.get("flags", 0) & 1) if table else ()
     report.say(f"the SRAT's enabled {what} {in_ranges({one.fields[name] for one in enabled})}")

@@ -7,6 +7,8 @@ import subprocess
 from .document import FIRST_RULE
 
 MISMATCH = "is this the image that the line is of?"
+NOT_ASKED = "(acpiset is neither beside this tool nor on PATH, so it was not asked whether the image has this)"
+NO_VERDICT = "(acpiset has no verdict on this image, so it is not known whether it has this)"
 
 
 class Program:
@@ -34,11 +36,11 @@ class Program:
     def doubt(self, line, rsdp):
         """What to say where the image does not have what the line says, or where that is not known; else nothing."""
         if not self.path:
-            return "(acpiset is neither beside this tool nor on PATH, so it was not asked whether the image has this)" * (line.part.code > 0)
+            return NOT_ASKED * (line.part.code > 0)
         at = () if rsdp is None else ("--rsdp", f"{rsdp:#x}")
         lines = self.asked("lint", *at)
         if lines is None or lines == ["no rsdp"]:
-            return "(acpiset has no verdict on this image, so it is not known whether it has this)" * (line.part.code > 0)
+            return NO_VERDICT * (line.part.code > 0)
         if line.text in lines:
             return ""
         if line.part.code == 0:
