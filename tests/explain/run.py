@@ -167,25 +167,25 @@ LENGTHS = [
     (
         "no 6 MadtEntryLength 0x34",
         sets.MADT_LENGTH,
-        "type 0 has a length of 8, and byte 1 says 12",
+        "type 0 has a length of 8, but byte 1 is 12",
         "  0x2c lapic uid 3 id 7 flags 0x1",
     ),
     (
         "no 6 MadtEntryLength 0x2c",
         sets.FIRST_LENGTH,
-        "type 1 has a length of 12, and byte 1 says 8",
+        "type 1 has a length of 12, but byte 1 is 8",
         "no structure is before it",
     ),
     (
         "no 6 MadtEntryCut 0x38",
         sets.MADT_CUT,
-        "byte 1 says a length of 200, and 4 bytes are left in the table",
+        "its length, byte 1, is 200, but only 4 bytes are left in the table",
         "  0x2c ioapic id 0 address 0xfec00000 base 5",
     ),
     (
         "no 9 SratEntryLength 0x40",
         sets.SRAT_LENGTH,
-        "type 1 has a length of 40, and byte 1 says 24",
+        "type 1 has a length of 40, but byte 1 is 24",
         "  0x30 cpu id 9 domain 300 flags 0x1",
     ),
     (
@@ -197,13 +197,13 @@ LENGTHS = [
     (
         "no 12 PpttEntryLength 0x3c",
         sets.PPTT_LENGTH,
-        "type 0 has a length of 20 + 4 * 2 = 28, and byte 1 says 24",
+        "type 0 has a length of 20 + 4 * 2 = 28, but byte 1 is 24",
         "  0x24 cache flags 0x0 next 0x0 size 0 sets 0 ways 0 attributes 0x0 line 0",
     ),
     (
         "no 12 PpttEntryCut 0x38",
         sets.PPTT_CUT,
-        "byte 1 says a length of 0, and 2 bytes are left in the table",
+        "its length, byte 1, is 0, but a structure has at least 2 bytes",
         "  0x24 node flags 0x0 parent 0x0 id 4 resources",
     ),
 ]
@@ -317,7 +317,7 @@ def judged(tests):
     other = "advice FadtOfRevision 0x4 0xf4 0x114"
     tests.says(other, other, "example.img.txt", without=[MISMATCH])
     tests.says("advice FadtOfRevision 0x4 0xf5 0x114", f"..it writes: {other}.", "example.img.txt")
-    tests.says("yes", "..acpiset lint finds faults in this image: is this the image", "sb-pc-nvdimm-numa.img.txt")
+    tests.says("yes", "..acpiset lint finds faults in this image. Was check given --through? If not, is this the image", "sb-pc-nvdimm-numa.img.txt")
     alone = tests.copy("alone", "tools", "explain", os.path.join("docs", "FAULTS.md"))
     asked = "(acpiset is neither beside this tool nor on PATH, so it was not asked whether the image has this)"
     tests.says("no 10 Overlap 0x50 0x78 0x0", [asked, f"..no address is in both: i{MISMATCH}"], "example.img.txt", tool=alone)
@@ -325,6 +325,21 @@ def judged(tests):
     tests.says("yes", "yes", "sb-q35-default.img.txt", tool=alone, without=["In the image:"])
     tests.path = os.path.join(tests.scratch, "whole") + ":" + tests.path
     tests.says("no 10 Overlap 0x50 0x78 0x0", f"..{DOUBT}", "example.img.txt", tool=alone)
+
+
+def other_programs(tests):
+    """A program that is called acpiset and fails, or writes something else."""
+    tool = tests.copy("other", "tools", "explain", os.path.join("docs", "FAULTS.md"))
+    unknown = "(acpiset has no verdict on this image, so it is not known whether it has this)"
+    for script, line, text in (
+        ("exit 4", OVERLAP, unknown),
+        ("echo maybe", OVERLAP, unknown),
+        ("printf 'advice SlitDiffers \\033[2J\\n'", "advice SlitDiffers 0x2d 0x2e 0x0", "..SlitDiffers \\x1b[2J"),
+    ):
+        with open(os.path.join(tests.scratch, "other", "acpiset"), "w", encoding="ascii") as file:
+            file.write(f"#!/bin/sh\n{script}\n")
+        os.chmod(file.name, 0o755)
+        tests.says(line, text, "sb-pc-nvdimm-numa.img.txt", tool=tool, without=[DOUBT, "\x1b"])
 
 
 def shown(tests):
@@ -471,7 +486,7 @@ def times(tests):
     tests.says("no 14 ParentCycle 0x24 0x0 0x186a0", chain, many["100,000 nodes"])
 
 
-PARTS = [lines_without_image, refused_lines, structures, chains, numbers, fields, unread, judged]
+PARTS = [lines_without_image, refused_lines, structures, chains, numbers, fields, unread, judged, other_programs]
 PARTS += [shown, image_texts, streams, places, times]
 
 
