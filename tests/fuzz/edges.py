@@ -3,7 +3,7 @@ rule, or just on the right one."""
 
 from layout import nowhere, somewhere
 from made_sets import (
-    FACS_SIZE, HEADER_SIZE, LOW, MADT_TYPES, REDUCED, RESET_REG_SUP, RSDP_SIZE, SRAT_TYPES, TOP, Item, Table, apic_domain, io_apic,
+    FACS_SIZE, HEADER_SIZE, LOW, MADT_TYPES, REDUCED, RESET_REG_SUP, RSDP_SIZE, SRAT_TYPES, TOP, Item, apic_domain, io_apic,
     lapic, lapic_address, lapic_nmi, little, memory_range, nmi_source, override, x2apic, x2apic_domain, x2apic_nmi,
 )
 
@@ -329,9 +329,12 @@ def srat_entry_length(made, is_wrong):
 
 
 def range_past_end(made, is_wrong):
-    length = made.dice.choice((1, 0x1000, TOP - 1, 0))
+    dice = made.dice
+    length = dice.choice((2, 0x1000, TOP - 1) if is_wrong else (0, 1, 0x1000, TOP - 1))
     base = min(TOP - length + is_wrong, TOP - 1)
-    put(made, made.srat, memory_range(base, length, made.dice.choice((1, 3, 5, 1, 1, 0))))
+    put(made, made.srat, memory_range(base, length, dice.choice((1, 3, 5))))
+    if dice.random() < 0.3:
+        put(made, made.srat, memory_range(TOP - 1, 0x1000, dice.choice((0, 2))))
 
 
 def overlap(made, is_wrong):

@@ -13,6 +13,8 @@ from verdicts import STAGE_OF, Fault, number
 # Of so many cases one is about the form of texts, and the others are about sets. Of so many about texts one is as long as can be.
 TEXT_EVERY, LONGEST_EVERY = 5, 40
 NAMES = list(STAGE_OF)
+# How many faults of a set `confirm` is asked about, and how many that are near one of these.
+MOST_ASKED, MOST_MISSED = 12, 3
 BASES = (0, 0x40, 0xE0000, 0x7FFE0000, 0xFFFFFF00, 1 << 32, 0x123456789AC0, TOP - 0x1000, TOP - 64, 1, 0x20, 0xFFFF)
 
 
@@ -53,7 +55,7 @@ def words_of(dice, settings):
     return [word for group in groups for word in group]
 
 
-def change_bytes(dice, memory, rsdp):
+def change_bytes(dice, memory):
     """Changes a byte here and there, and then closes the sum of the table that it is in, most times."""
     held = sorted(memory.bytes)
     for _ in range(dice.choice((1, 1, 2))):
@@ -94,7 +96,7 @@ def set_case(dice, place):
         change_at_edge(made, other_code(dice, target), dice.random() < 0.6)
     memory, rsdp = laid_out(made)
     if dice.random() < 0.15 and memory.bytes:
-        change_bytes(dice, memory, rsdp)
+        change_bytes(dice, memory)
     case = Case(rendered(dice, memory), rsdp, made.settings, memory=memory)
     if dice.random() < 0.05:
         case.rsdp = dice.choice((rsdp + 1, rsdp - 1, 0, TOP - 1, TOP - 20)) % TOP
@@ -154,8 +156,9 @@ def near(dice, fault):
 
 
 def asked(dice, judgement):
-    """Faults that stand, and some that may not."""
+    """Faults that stand: all of them, if they are not too many; and faults that are near some of these, or that may be anywhere."""
     stands = judgement.faults
-    asked_about = stands if len(stands) <= 3 else dice.sample(stands, 3)
+    asked_about = stands if len(stands) <= MOST_ASKED else dice.sample(stands, MOST_ASKED)
     any_numbers = [dice.choice((0, 0, 36, 44, 48, 88, 116)) for _ in range(3)]
-    return [*asked_about, *(near(dice, fault) for fault in asked_about), Fault(dice.choice(NAMES), *any_numbers)]
+    misses = [near(dice, fault) for fault in dice.sample(asked_about, min(len(asked_about), MOST_MISSED))]
+    return [*asked_about, *misses, Fault(dice.choice(NAMES), *any_numbers)]

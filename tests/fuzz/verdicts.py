@@ -289,6 +289,11 @@ class Pptt(Entries):
         return is_typed_node(data) if data[0] == 0 else data[0] == 1 and len(data) in (24, 28)
 
 
+def entries_of(kind, table):
+    """The entries of a table, or None where it is not there to be judged."""
+    return None if table is None else kind(table)
+
+
 # ---- spans of numbers: interrupt numbers and memory ranges
 
 Span = namedtuple("Span", "first end at")
@@ -514,10 +519,9 @@ class Judgement:
     def __init__(self, memory, rsdp, settings):
         self.settings = settings
         tables = TableSet(memory, rsdp)
-        self.madt, self.srat, self.pptt = tables.first(b"APIC", 44), tables.first(b"SRAT", 48), tables.first(b"PPTT")
-        self.madt = self.madt and Madt(self.madt)
-        self.srat = self.srat and Srat(self.srat)
-        self.pptt = self.pptt and Pptt(self.pptt)
+        self.madt = entries_of(Madt, tables.first(b"APIC", 44))
+        self.srat = entries_of(Srat, tables.first(b"SRAT", 48))
+        self.pptt = entries_of(Pptt, tables.first(b"PPTT"))
         self.io_apics = served(self.madt, settings) if self.madt else []
         self.ranges = enabled_ranges(self.srat) if self.srat else []
         self.groups = compared_ranges(self.ranges, settings)
@@ -554,8 +558,12 @@ class Judgement:
         return faults
 
     def faults_across(self):
-        faults = domain_faults(self.madt, self.srat, self.settings) if self.madt and self.srat else []
-        return faults + leaf_faults(self.madt, self.pptt) if self.madt and self.pptt else faults
+        faults = []
+        if self.madt and self.srat:
+            faults += domain_faults(self.madt, self.srat, self.settings)
+        if self.madt and self.pptt:
+            faults += leaf_faults(self.madt, self.pptt)
+        return faults
 
     def chains(self, name):
         """What each entry of a kind names, and the most steps that a fault may have."""
