@@ -141,8 +141,8 @@ def table_length(made, is_wrong):
 def table_out(made, is_wrong):
     def change(table):
         table.held = len(table) - is_wrong
-        if is_wrong and made.dice.random() < 0.3:
-            longer = (LOW - 1, 0x80000000, len(table) + (1 << 24), len(table) + 4096)
+        if is_wrong and made.dice.random() < 0.5:
+            longer = (LOW - 1, 0x80000000, 0x80000000, len(table) + (1 << 24), len(table) + 4096)
             table.length, table.held = made.dice.choice(longer), None
 
     on_a_table(made, change)
@@ -166,7 +166,7 @@ def no_fadt(made, is_wrong):
 
 def fadt_short(made, is_wrong):
     made.fadt_length = made.dice.choice((115, 115, 36, 37, 114)) if is_wrong else 116
-    if made.dice.random() < 0.3:
+    if made.dice.random() < 0.6:
         made.facs_at = made.dice.choice((0, 0x8010))
 
 
@@ -359,7 +359,7 @@ def slit_short(made, is_wrong):
 def slit_size(made, is_wrong):
     dice, (count, cells) = made.dice, made.slit
     if is_wrong:
-        wrong = (count + 1, max(count - 1, 0) if count else 5, LOW, LOW + count, (1 << 63) + count, TOP - count if count else 7)
+        wrong = (count + 1, count - 1 if count else 5, LOW, LOW + count, *[(1 << 63) + count] * 3, TOP - count if count else 7)
         made.slit[0] = dice.choice(wrong)
         cells.extend(bytes(dice.choice((0, 0, 1, 2))))
     else:
@@ -483,7 +483,8 @@ def two_domains(made, is_wrong):
     dice = made.dice
     kept_by = None if is_wrong else dice.choice(("processor", "flags", "entry", "domain"))
     apic_id = dice.choice((5, 5, 255, 256, LOW - 1))
-    flags = 0 if kept_by == "flags" else dice.choice((1, 2, 2, 3))
+    is_usable = made.settings.processors == "usable"
+    flags = dice.choice((0, 0 if is_usable else 2)) if kept_by == "flags" else dice.choice((1, 2 if is_usable else 3))
     maker = x2apic if apic_id > 255 or dice.random() < 0.5 else lapic
     if kept_by != "processor":
         put(made, made.madt, maker(5, apic_id, flags))
