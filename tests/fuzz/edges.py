@@ -176,7 +176,7 @@ def set_flags(made, bits, is_set):
 
 
 def block_length(at, wrong, right):
-    """The edge of a register block's length, now and then with reduced hardware, where it does not matter."""
+    """The edge of a register block's length, sometimes with reduced hardware, where it does not matter."""
 
     def change(made, is_wrong):
         made.fadt[at] = made.dice.choice(wrong if is_wrong else right)
@@ -243,7 +243,7 @@ def put(made, entries, *more):
 
 
 def cut_last(made, entries, is_wrong):
-    """Makes the last entry one that does not stand, or one that just stands."""
+    """Appends bytes that are no entry, or an entry."""
     kind, size = made.dice.choice((0, 1, 2, 7, 200)), made.dice.choice((3, 8, 12, 255))
     wrong = (b"\7", bytes([kind, 0]), bytes([kind, 1, 0]), bytes([kind, size]) + bytes(size - 3), bytes([kind, 1]))
     entries.append(made.dice.choice(wrong) if is_wrong else bytes([7, size]) + bytes(size - 2))
@@ -338,7 +338,7 @@ def range_past_end(made, is_wrong):
 
 
 def overlap(made, is_wrong):
-    """Two ranges that touch or share an address, of one kind or of two, and now and then a third one."""
+    """Two ranges that touch or share an address, of one kind or of two, and sometimes a third one."""
     dice = made.dice
     base, size, flags = dice.choice((0x10000, LOW - 8, TOP - 0x2000)), dice.choice((1, 8, 0x1000)), dice.choice((1, 3))
     start = base + size - is_wrong * dice.choice((1, 1, size))

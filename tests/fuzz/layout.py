@@ -22,7 +22,7 @@ class Layout:
         self.put_one_inside()
 
     def put_one_inside(self):
-        """Puts one of the tables into the body of another one that no stage looks into, now and then."""
+        """Sometimes puts a table into the body of another one that no stage reads."""
         hosts = [table for table in self.tables if table.signature in (b"SSDT", b"HPET")]
         if not hosts or self.dice.random() < 0.5:
             return
@@ -60,7 +60,7 @@ class Layout:
     def base(self, size):
         """The first address of all structures, a multiple of 64, as the FACS is laid for it."""
         choices = [*BASES[:-1], LOW - size] if not self.made.is_xsdt else [*BASES, LOW - size, TOP - size]
-        # Now and then a structure lies at 0, which names none.
+        # Sometimes a structure lies at 0, an address that means none.
         base = self.dice.choice(choices) if self.dice.random() < 0.96 else 0
         # A FADT without X_FIRMWARE_CTRL does not reach a FACS above 4 GiB.
         if base >= LOW and self.made.fadt_length < 140 and self.dice.random() < 0.9:

@@ -245,7 +245,7 @@ SRAT_LENGTHS = {0: 16, 1: 40, 2: 24}
 
 
 class Entries:
-    """The entries of a table as far as they stand, and the place at which none stands, if bytes are left there."""
+    """The entries of a table, one after another, and the offset at which bytes are left that are no entry, if any."""
 
     def __init__(self, table):
         self.table, self.all, self.cut = table, [], None
@@ -493,7 +493,7 @@ def cycle_faults(name, named, bound):
 
 
 def is_cycle(named, bound, fault):
-    """Whether a cycle stands there: so many steps lead to an entry, and so many from it to itself."""
+    """Whether there is such a cycle: so many steps lead to an entry, and so many from it to itself."""
     if fault.point == 0 or fault.other + fault.point > bound:
         return False
     reached = after(named, fault.at, fault.other)
