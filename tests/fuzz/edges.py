@@ -3,7 +3,7 @@ rule, or just on the right one."""
 
 from layout import nowhere, somewhere
 from made_sets import (
-    FACS_SIZE, HEADER_SIZE, LOW, MADT_TYPES, REDUCED, RESET_REG_SUP, RSDP_SIZE, SRAT_TYPES, TOP, Item, Table, apic_domain, io_apic,
+    FACS_SIZE, HEADER_SIZE, LOW, MADT_TYPES, REDUCED, RESET_REG_SUP, RSDP_SIZE, SRAT_TYPES, TOP, Item, apic_domain, io_apic,
     lapic, lapic_address, lapic_nmi, little, memory_range, nmi_source, override, x2apic, x2apic_domain, x2apic_nmi,
 )
 
@@ -141,8 +141,8 @@ def table_length(made, is_wrong):
 def table_out(made, is_wrong):
     def change(table):
         table.held = len(table) - is_wrong
-        if is_wrong and made.dice.random() < 0.3:
-            longer = (LOW - 1, 0x80000000, len(table) + (1 << 24), len(table) + 4096)
+        if is_wrong and made.dice.random() < 0.5:
+            longer = (LOW - 1, 0x80000000, 0x80000000, len(table) + (1 << 24), len(table) + 4096)
             table.length, table.held = made.dice.choice(longer), None
 
     on_a_table(made, change)
@@ -165,9 +165,9 @@ def no_fadt(made, is_wrong):
 
 
 def fadt_short(made, is_wrong):
-    made.fadt_length = made.dice.choice((115, 115, 36, 37, 114)) if is_wrong else 116
-    if made.dice.random() < 0.3:
-        made.facs_at = made.dice.choice((0, 0x8010))
+    made.fadt_length = made.dice.choice((115, 115, 115, 36, 114)) if is_wrong else 116
+    if made.dice.random() < 0.6:
+        made.facs_at = made.dice.choice((0x8010, 0x8000))
 
 
 def set_flags(made, bits, is_set):
@@ -176,7 +176,7 @@ def set_flags(made, bits, is_set):
 
 
 def block_length(at, wrong, right):
-    """The edge of a register block's length, now and then with reduced hardware, where it does not matter."""
+    """The edge of a register block's length, sometimes with reduced hardware, where it does not matter."""
 
     def change(made, is_wrong):
         made.fadt[at] = made.dice.choice(wrong if is_wrong else right)
@@ -243,7 +243,7 @@ def put(made, entries, *more):
 
 
 def cut_last(made, entries, is_wrong):
-    """Makes the last entry one that does not stand, or one that just stands."""
+    """Appends bytes that are no entry, or an entry."""
     kind, size = made.dice.choice((0, 1, 2, 7, 200)), made.dice.choice((3, 8, 12, 255))
     wrong = (b"\7", bytes([kind, 0]), bytes([kind, 1, 0]), bytes([kind, size]) + bytes(size - 3), bytes([kind, 1]))
     entries.append(made.dice.choice(wrong) if is_wrong else bytes([7, size]) + bytes(size - 2))
@@ -329,13 +329,17 @@ def srat_entry_length(made, is_wrong):
 
 
 def range_past_end(made, is_wrong):
-    length = made.dice.choice((1, 0x1000, TOP - 1, 0))
+    dice = made.dice
+    length = dice.choice((2, 0x1000, TOP - 1) if is_wrong else (0, 1, 0x1000, TOP - 1))
     base = min(TOP - length + is_wrong, TOP - 1)
-    put(made, made.srat, memory_range(base, length, made.dice.choice((1, 3, 5, 1, 1, 0))))
+    put(made, made.srat, memory_range(base, length, dice.choice((1, 3, 5))))
+    if dice.random() < 0.3:
+        put(made, made.srat, memory_range(TOP - 1, 0x1000, dice.choice((0, 2))))
 
 
 def overlap(made, is_wrong):
-    """Two ranges that touch or share an address, of one kind or of two, and now and then a third one."""
+    """Two ranges that touch or share an address, of one kind or of two, and sometimes a third one; or two of each kind, at
+    addresses near each other."""
     dice = made.dice
     base, size, flags = dice.choice((0x10000, LOW - 8, TOP - 0x2000)), dice.choice((1, 8, 0x1000)), dice.choice((1, 3))
     start = base + size - is_wrong * dice.choice((1, 1, size))
@@ -343,6 +347,9 @@ def overlap(made, is_wrong):
     if dice.random() < 0.4:
         start, is_plain = dice.choice((base, start, max(base - 1, 0))), dice.random() < 0.5
         ranges.append(memory_range(start, dice.choice((0, 1, 2, 0x1001)), dice.choice((0, 2, 1, 3)) if is_plain else flags))
+    if is_wrong and dice.random() < 0.5:
+        starts = (base, base + dice.choice((-8, 0, 0, 0, 8)))
+        ranges = [memory_range(at, 16, its_flags) for at, its_flags in zip(starts, (1, 3)) for _ in range(2)]
     put(made, made.srat, *ranges)
 
 
@@ -356,7 +363,7 @@ def slit_short(made, is_wrong):
 def slit_size(made, is_wrong):
     dice, (count, cells) = made.dice, made.slit
     if is_wrong:
-        wrong = (count + 1, max(count - 1, 0) if count else 5, LOW, LOW + count, (1 << 63) + count, TOP - count if count else 7)
+        wrong = (count + 1, count - 1 if count else 5, LOW, LOW + count, *[(1 << 63) + count] * 3, TOP - count if count else 7)
         made.slit[0] = dice.choice(wrong)
         cells.extend(bytes(dice.choice((0, 0, 1, 2))))
     else:
@@ -438,11 +445,16 @@ def stray(made, kind):
 
 
 def dangling_parent(made, is_wrong):
-    of_kind(made, 0).names = stray(made, 0) if is_wrong else made.dice.choice((0, of_kind(made, 0)))
+    node = of_kind(made, 0)
+    node.names = stray(made, 0) if is_wrong else made.dice.choice((0, of_kind(made, 0)))
+    if is_wrong and made.dice.random() < 0.6:
+        node.resources = [0]
 
 
 def dangling_resource(made, is_wrong):
     dice, node = made.dice, of_kind(made, 0)
+    if is_wrong and dice.random() < 0.4:
+        node.names = stray(made, 0)
     for _ in range(dice.choice((1, 1, 2))):
         right, wrong = (of_kind(made, 1), of_kind(made, 2)), (0, stray(made, 1), of_kind(made, 0))
         node.resources.insert(dice.randrange(len(node.resources) + 1), dice.choice(wrong if is_wrong else right))
@@ -476,22 +488,26 @@ def cycle(kind):
 
 
 def two_domains(made, is_wrong):
-    """Entries of one processor, of either type, in domains that differ in one byte; right by one thing, if it is right."""
-    dice = made.dice
-    kept_by = None if is_wrong else dice.choice(("processor", "flags", "entry", "domain"))
-    apic_id = dice.choice((5, 5, 255, 256, LOW - 1))
-    flags = 0 if kept_by == "flags" else dice.choice((1, 2, 2, 3))
+    """Processors in domains that differ in one byte; right by one thing, if they are right."""
+    for apic_id in made.dice.sample((0, 5, 255, 256, LOW - 1), made.dice.choice((1, 2))):
+        processor_in_domains(made, is_wrong, apic_id)
+
+
+def processor_in_domains(made, is_wrong, apic_id):
+    dice, is_usable = made.dice, made.settings.processors == "usable"
+    kept_by = None if is_wrong else dice.choice(("processor", "flags", "flags", "flags", "entry", "domain"))
+    off, on = ((0,), (1, 2)) if is_usable else ((0, 2, 2, 2), (1, 3))
     maker = x2apic if apic_id > 255 or dice.random() < 0.5 else lapic
     if kept_by != "processor":
-        put(made, made.madt, maker(5, apic_id, flags))
+        put(made, made.madt, maker(5, apic_id, dice.choice(off if kept_by == "flags" else on)))
     domain = dice.choice((0, 1, 0x01020304))
     other = domain if kept_by == "domain" else domain ^ dice.choice((1, 1 << 8, 1 << 16, 1 << 24))
     domains = [(domain, dice.choice((1, 1, 3))), (other, dice.choice((0, 2)) if kept_by == "entry" else 1)]
     if is_wrong and dice.random() < 0.4:
         domains.append((dice.choice((domain, 7)), dice.choice((1, 0))))
-    for it, its_flags in domains:
-        maker = x2apic_domain if apic_id > 255 or dice.random() < 0.5 else apic_domain
-        put(made, made.srat, maker(apic_id, it, its_flags))
+    for it, flags in domains:
+        maker = x2apic_domain if apic_id > 255 or dice.random() < 0.25 else apic_domain
+        put(made, made.srat, maker(apic_id, it, flags))
 
 
 def gsi_nowhere(made, is_wrong):

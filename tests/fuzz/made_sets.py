@@ -1,5 +1,5 @@
-"""Makes sets of tables at random: parts that are right on the whole, which edges.py then changes, and where they lie. Sections
-are those of ACPI 6.5. Numbers are little-endian."""
+"""Makes sets of tables at random. Nearly all of them are clean; edges.py then changes them. Sections are those of ACPI 6.5. Numbers
+are little-endian."""
 
 from verdicts import Settings
 
@@ -304,7 +304,7 @@ class MadeSet:
     # ---- the tables, as their parts say
 
     def tables(self):
-        """The listed tables in the order of the slots: a further one of a kind comes behind, most times."""
+        """The listed tables in the order of the slots: usually a second table of a kind comes later."""
         self.fadt_table = Table(b"FACP", self.fadt[36 : self.fadt_length], self.dice.choice((1, 3, 5, 6)))
         tables = [self.fadt_table]
         if self.madt is not None:
@@ -345,7 +345,7 @@ def made_settings(dice):
 
 
 def made_processors(dice):
-    """(UID, APIC ID, flags, whether it is an x2APIC) of processors, of which no two have one ID, most times."""
+    """(UID, APIC ID, flags, whether it is an x2APIC) of processors, which usually have different IDs."""
     processors = []
     for place in range(dice.choice((0, 1, 2, 2, 4))):
         is_wide, flags = dice.random() < 0.4, dice.choice((1, 1, 1, 2, 3, 0))

@@ -245,7 +245,7 @@ SRAT_LENGTHS = {0: 16, 1: 40, 2: 24}
 
 
 class Entries:
-    """The entries of a table as far as they stand, and the place at which none stands, if bytes are left there."""
+    """The entries of a table, one after another, and the offset at which bytes are left that are no entry, if any."""
 
     def __init__(self, table):
         self.table, self.all, self.cut = table, [], None
@@ -287,6 +287,11 @@ class Pptt(Entries):
 
     def has_length_of_type(self, data):
         return is_typed_node(data) if data[0] == 0 else data[0] == 1 and len(data) in (24, 28)
+
+
+def entries_of(kind, table):
+    """The entries of a table, or None where it is not there to be judged."""
+    return None if table is None else kind(table)
 
 
 # ---- spans of numbers: interrupt numbers and memory ranges
@@ -488,7 +493,7 @@ def cycle_faults(name, named, bound):
 
 
 def is_cycle(named, bound, fault):
-    """Whether a cycle stands there: so many steps lead to an entry, and so many from it to itself."""
+    """Whether there is such a cycle: so many steps lead to an entry, and so many from it to itself."""
     if fault.point == 0 or fault.other + fault.point > bound:
         return False
     reached = after(named, fault.at, fault.other)
@@ -514,10 +519,9 @@ class Judgement:
     def __init__(self, memory, rsdp, settings):
         self.settings = settings
         tables = TableSet(memory, rsdp)
-        self.madt, self.srat, self.pptt = tables.first(b"APIC", 44), tables.first(b"SRAT", 48), tables.first(b"PPTT")
-        self.madt = self.madt and Madt(self.madt)
-        self.srat = self.srat and Srat(self.srat)
-        self.pptt = self.pptt and Pptt(self.pptt)
+        self.madt = entries_of(Madt, tables.first(b"APIC", 44))
+        self.srat = entries_of(Srat, tables.first(b"SRAT", 48))
+        self.pptt = entries_of(Pptt, tables.first(b"PPTT"))
         self.io_apics = served(self.madt, settings) if self.madt else []
         self.ranges = enabled_ranges(self.srat) if self.srat else []
         self.groups = compared_ranges(self.ranges, settings)
@@ -554,8 +558,12 @@ class Judgement:
         return faults
 
     def faults_across(self):
-        faults = domain_faults(self.madt, self.srat, self.settings) if self.madt and self.srat else []
-        return faults + leaf_faults(self.madt, self.pptt) if self.madt and self.pptt else faults
+        faults = []
+        if self.madt and self.srat:
+            faults += domain_faults(self.madt, self.srat, self.settings)
+        if self.madt and self.pptt:
+            faults += leaf_faults(self.madt, self.pptt)
+        return faults
 
     def chains(self, name):
         """What each entry of a kind names, and the most steps that a fault may have."""
