@@ -14,7 +14,11 @@ PC_PREFIX ?=
 BINARY ?=
 LIBRARY ?=
 
-# A script gets these names of files and folders by its environment, as they were given: make does not look for variables in them, and
+# What `fuzz` runs: so many cases, of this seed.
+N ?= 20000
+SEED ?=
+
+# A script gets these names and numbers by its environment, as they were given: make does not look for variables in them, and
 # no shell reads them as a part of a command.
 override IMAGE := $(value IMAGE)
 override PREFIX := $(value PREFIX)
@@ -23,7 +27,9 @@ override LIBDIR := $(value LIBDIR)
 override PC_PREFIX := $(value PC_PREFIX)
 override BINARY := $(value BINARY)
 override LIBRARY := $(value LIBRARY)
-export IMAGE PREFIX DESTDIR LIBDIR PC_PREFIX BINARY LIBRARY
+override N := $(value N)
+override SEED := $(value SEED)
+export IMAGE PREFIX DESTDIR LIBDIR PC_PREFIX BINARY LIBRARY N SEED
 
 # A second make in this checkout waits until the first one has ended.
 alone := scripts/alone
@@ -34,7 +40,7 @@ needs_toolchain = $(if $(shell command -v rt || :),,$(error the Rattle toolchain
 # Makes the library of what was proved, so that it is tested too; not on a machine without a C compiler.
 link_library = { ! command -v cc >/dev/null || scripts/library $(archive); }
 
-.PHONY: try run build test gate library bench install install-library uninstall dist clean
+.PHONY: try run build test gate library bench fuzz install install-library uninstall dist clean
 
 # Builds the program without a proof, and runs it on the example and on IMAGE.
 try:
@@ -64,6 +70,13 @@ library:
 # Prints speed and memory beside other programs; not part of the tests.
 bench: build
 	bench/run ./acpiset
+
+# Compares ./acpiset, or BINARY, with second programs on N cases that are made at random; `make test` does it on a few. It says the seed,
+# which makes the same cases again.
+fuzz:
+	@program=$${BINARY:-./acpiset} && seed=$${SEED:-$$(date +%s)} && \
+	{ [ -x "$$program" ] || { echo "$$program is missing: \`make build\` first, which makes ./acpiset" >&2 && false; }; } && \
+	echo "fuzz: $$N cases of seed $$seed" && exec tests/fuzz/run.py "$$program" --seed "$$seed" --cases "$$N"
 
 # The program, the tools as acpiset-NAME, the manual pages and the documents; and the library, if it is there. None of these three
 # builds anything.

@@ -14,9 +14,9 @@ failed=0
 # Each awk that this script and what it starts runs is one that says what is doubtful in its program.
 if command -v gawk >/dev/null; then
   mkdir "$scratch/bin"
-  printf '#!/bin/sh\nexec gawk --lint "$@" 2>>"%s"\n' "$scratch/awk" >"$scratch/bin/awk"
+  printf '#!/bin/sh\nexec gawk --lint "$@" 2>>"$LINT"\n' >"$scratch/bin/awk"
   chmod +x "$scratch/bin/awk"
-  PATH="$scratch/bin:$PATH"
+  export LINT="$scratch/awk" PATH="$scratch/bin:$PATH"
 fi
 
 # count WHAT LINES: counts a case; no lines means passed.

@@ -56,6 +56,19 @@ sorted() { LC_ALL=C sort; }
 # files_in FOLDER: its files and links.
 files_in() { (cd "$1" 2>/dev/null && find . ! -type d | sed 's|^\./||' | sorted); }
 
+# hardened FILE: how a program or a library was linked: its type, whether its stack can be run, whether relocations are made
+# read-only and at once, and how many segments can be both written and run.
+hardened() {
+  readelf -hlWd "$1" | awk '
+    $1 == "Type:" { type = $2 }
+    $1 == "GNU_STACK" { stack = $7 }
+    $1 == "GNU_RELRO" { relro = "relro" }
+    /\((FLAGS|FLAGS_1|BIND_NOW)\)/ && /NOW/ { now = "now" }
+    $1 == "LOAD" && / RWE / { both++ }
+    END { print type, stack, relro, now, both + 0 }
+  '
+}
+
 # The tools that are installed, by the one list of them, and those that are here.
 tools=$(sed -n "s/^tools='\(.*\)'$/\1/p" scripts/install | tr ' ' '\n')
 there=$(cd tools && find . -type f -printf '%P\n' | grep -x '[a-z0-9]*' | sorted)
@@ -156,14 +169,19 @@ same 'uninstall where a folder stands' "$? $(grep -c '/kept/usr/bin/acpiset is a
 # ---- what is built, and of which sources: with a stand-in for the toolchain that writes down its calls
 stand_in=$scratch/stand-in
 mkdir -p "$stand_in/bin" "$stand_in/kit/c"
-cat >"$stand_in/bin/rt" <<END
+export FOLDER=$stand_in PROGRAM=$program
+cat >"$stand_in/bin/rt" <<'END'
 #!/bin/sh
-echo "\$*" >>'$stand_in/calls'
-case \$1 in
+echo "$*" >>"$FOLDER/calls"
+case $1 in
   version) echo rattle-kit-stand-in ;;
-  doc) echo '$stand_in/kit/START-HERE.md' ;;
-  run) mkdir -p out && cp '$program' out/acpi_cli ;;
-  lib) mkdir -p out && [ "\${PWD##*/}" != acpi_c ] || cp '$stand_in/libacpi_c.a' out/libacpi_c.a ;;
+  doc) echo "$FOLDER/kit/START-HERE.md" ;;
+  run) mkdir -p out && cp "$PROGRAM" out/acpi_cli ;;
+  try)
+    printf '== 1\nyes\n== 2\n' && cat "$3/2.args"
+    printf 'case=1 run=ended\ncase=2 run=ended\n' >&2
+    ;;
+  lib) mkdir -p out && [ "${PWD##*/}" != acpi_c ] || cp "$FOLDER/libacpi_c.a" out/libacpi_c.a ;;
 esac
 END
 chmod +x "$stand_in/bin/rt"
@@ -190,6 +208,7 @@ if has cc && has ar; then
   (cd "$scratch" && cc -fPIC -c abi.c heap.c && ar rcD "$stand_in/libacpi_c.a" abi.o && ar rcD "$stand_in/kit/c/liblibc_c.a" heap.o)
   built library
   same 'make library' "$? $(tail -n 1 "$scratch/log")" '0 library/libacpiset.so.1'
+  same 'how a library is hardened' "$(hardened "$tree/library/libacpiset.so.1")" 'DYN RW relro now 0'
   built install DESTDIR="$scratch/root" PREFIX=/usr
   same 'make install of the library that was built' "$? $(cat "$scratch/log") $(files_in "$scratch/root/usr/lib")" \
     $'0  libacpiset.a\nlibacpiset.so\nlibacpiset.so.1\npkgconfig/acpiset.pc'
@@ -207,6 +226,31 @@ else
   left_out 'a library that is older than the sources' 'no cc or no ar'
 fi
 rm -rf "$tree/library" "$tree/acpiset" "$tree"/crates/*/out
+image="$scratch/"'an image'"'"'s $(touch made) name'
+cp tests/images/example.img.txt "$image"
+built try IMAGE="$image" ARGUMENTS='check --through 3'
+same 'make try of an image of many marks' "$? $(tail -n 4 "$scratch/log")" "0 $image: acpiset check --through 3
+  check
+  --through
+  3"
+run fuzz N=1
+same 'make fuzz without a program' "$? $(grep -c '`make build` first' "$scratch/log")" '2 1'
+
+# ---- a disk that is full: a limit on the size of files stands in for it
+
+(
+  trap '' XFSZ
+  ulimit -f 64
+  with_program install DESTDIR="$scratch/short" PREFIX=/usr
+  same 'make install where no long file can be written' "$? $(grep -c 'File too large' "$scratch/log")" '2 1'
+  with_program dist
+  same 'make dist where no long file can be written' "$? $(find "$tree/dist" -name '*.tar.gz')" '2 '
+  printf '%d %d\n' "$passed" "$failed" >"$scratch/counts"
+)
+read -r passed failed <"$scratch/counts"
+make -s -C "$tree" BINARY="$program" dist >/dev/full 2>"$scratch/log"
+same 'make dist where its answer cannot be written' "$?" 2
+rm -rf "$tree/dist" "$scratch/short"
 
 # ---- the archive: unpacked elsewhere, with the base system's commands alone
 
@@ -228,12 +272,12 @@ mkdir "$scratch/tmp" "$scratch/lint"
 : >"$scratch/awk"
 if has gawk; then
   # What is written in awk is looked at here, too.
-  printf '#!/bin/sh\nexec gawk --lint "$@" 2>>"%s"\n' "$scratch/awk" >"$scratch/lint/awk"
+  printf '#!/bin/sh\nexec gawk --lint "$@" 2>>"$LINT"\n' >"$scratch/lint/awk"
   chmod +x "$scratch/lint/awk"
 fi
 (
   umask 077
-  cd "$scratch/another" && PATH="$scratch/lint:$PATH" TMPDIR="$scratch/tmp" TZ=Asia/Tokyo LC_ALL=C.UTF-8 TAR_OPTIONS=--mode=700 GZIP=-1 make -s BINARY="$program" dist >"$scratch/log" 2>&1
+  cd "$scratch/another" && LINT="$scratch/awk" PATH="$scratch/lint:$PATH" TMPDIR="$scratch/tmp" TZ=Asia/Tokyo LC_ALL=C.UTF-8 TAR_OPTIONS=--mode=700 GZIP=-1 make -s BINARY="$program" dist >"$scratch/log" 2>&1
 )
 same 'the archive, made in another folder with another umask' "$(sha256sum <"$scratch/another/dist/$name.tar.gz")" "$(sha256sum <"$archive")"
 # POSIX says what substr gives of a place past the end.
@@ -273,19 +317,6 @@ same 'times in an archive of a given time' "$(TZ=UTC tar --full-time -tvzf "$arc
 same 'make dist with a licence' "$? $(grep -c 'no licence' "$scratch/notes") $(tar -tzf "$archive" | grep -c '/share/doc/acpiset/LICENSE$')" '0 0 1'
 same 'a licence in the README of the archive' "$(tar -xzOf "$archive" "$name/README.md" | grep -c 'Its licence is in `share/doc/acpiset/LICENSE`')" 1
 rm -rf "$tree/LICENSE" "$tree/dist"
-
-# hardened FILE: how a program or a library was linked: its type, whether its stack can be run, whether relocations are made
-# read-only and at once, and how many segments can be both written and run.
-hardened() {
-  readelf -hlWd "$1" | awk '
-    $1 == "Type:" { type = $2 }
-    $1 == "GNU_STACK" { stack = $7 }
-    $1 == "GNU_RELRO" { relro = "relro" }
-    /\((FLAGS|FLAGS_1|BIND_NOW)\)/ && /NOW/ { now = "now" }
-    $1 == "LOAD" && / RWE / { both++ }
-    END { print type, stack, relro, now, both + 0 }
-  '
-}
 
 # Each command of its README prints what the page says.
 page=$unpacked/README.md
@@ -346,14 +377,15 @@ field() { sed -n "s/^$1[=:] *//p" "$2"; }
 # fields NAME FILE: all that it says.
 fields() { for name in prefix libdir includedir Version Libs; do field $name "$1"; done; }
 
-prefix=$scratch/prefix
-with_program install PREFIX="$prefix"
+plain=("DESTDIR=$scratch/plain" PREFIX=/opt/acpiset)
+prefix=$scratch/plain/opt/acpiset
+with_program install "${plain[@]}"
 same 'make install with the library' "$? $(cat "$scratch/log")" '0 '
 same 'files that are installed with the library' "$(files_in "$prefix")" "$with_library"
 same 'the name without a version' "$(readlink "$prefix/lib/libacpiset.so")" libacpiset.so.1
 same 'acpiset.pc' "$(fields "$prefix/lib/pkgconfig/acpiset.pc")" \
-  "$(printf '%s\n' "$prefix" '${prefix}/lib' '${prefix}/include' "$version" '-L${libdir} -lacpiset')"
-with_program uninstall PREFIX="$prefix"
+  "$(printf '%s\n' /opt/acpiset '${prefix}/lib' '${prefix}/include' "$version" '-L${libdir} -lacpiset')"
+with_program uninstall "${plain[@]}"
 same 'make uninstall with the library' "$? $(cat "$scratch/log")" '0 '
 same 'files that are left of it' "$(files_in "$prefix")" ''
 other=("DESTDIR=$scratch/other" PREFIX=/usr LIBDIR=/usr/lib/x86_64-linux-gnu)
@@ -406,9 +438,8 @@ else
   cc -I include unit_test.c lib/libacpiset.a -o unit_test && ./unit_test >"$scratch/log" 2>&1
   same 'a program with libacpiset.a' "$? $(tail -n 1 "$scratch/log" | grep -c ' 0 failed$')" '0 1'
   if has pkg-config; then
-    # The archive lies in a folder without blanks, so its flags are words for the shell.
-    # shellcheck disable=SC2046
-    cc unit_test.c $(PKG_CONFIG_PATH=lib/pkgconfig pkg-config --cflags --libs acpiset) -o unit_test &&
+    eval "flags=($(PKG_CONFIG_PATH=lib/pkgconfig pkg-config --cflags --libs acpiset))"
+    cc unit_test.c "${flags[@]}" -o unit_test &&
       LD_LIBRARY_PATH=lib ./unit_test >"$scratch/log" 2>&1
     same 'a program with libacpiset.so' "$? $(tail -n 1 "$scratch/log" | grep -c ' 0 failed$')" '0 1'
     same 'the library that it asks for' "$(readelf -d unit_test | grep -c 'NEEDED.*\[libacpiset.so.1\]')" 1
@@ -443,6 +474,9 @@ if has nm; then
   same 'functions that the program takes from the C library' \
     "$(nm -D --undefined-only "$program" | awk '{ sub(/@.*/, "", $2); print $2 }' | sort -u)" "$named"
 fi
+
+# It is linked as SECURITY.md says.
+same 'how the program is hardened' "$(hardened "$program")" 'DYN RW relro now 0'
 
 # The program needs the C library alone, of no later version than README says.
 if has objdump; then

@@ -25,19 +25,20 @@ mkdir "$scratch/tests" "$scratch/tmp"
 printf '#!/bin/sh\necho "fine: $*"\n' >"$scratch/tests/fine.sh"
 printf '#!/bin/sh\necho broken\nexit 3\n' >"$scratch/tests/broken.sh"
 # One that has children of its own and tidies up, and one that does not listen.
-cat >"$scratch/tests/long.sh" <<END
+export FOLDER=$scratch
+cat >"$scratch/tests/long.sh" <<'END'
 #!/bin/sh
-trap 'echo tidied >"$scratch/tidied"' EXIT
+trap 'echo tidied >"$FOLDER/tidied"' EXIT
 trap 'exit 1' TERM
 sleep 987 &
-echo \$! >"$scratch/child"
-echo \$\$ >"$scratch/long"
+echo $! >"$FOLDER/child"
+echo $$ >"$FOLDER/long"
 wait
 END
-cat >"$scratch/tests/deaf.sh" <<END
+cat >"$scratch/tests/deaf.sh" <<'END'
 #!/bin/sh
 trap '' TERM
-echo \$\$ >"$scratch/deaf"
+echo $$ >"$FOLDER/deaf"
 while :; do sleep 0.2; done
 END
 chmod +x "$scratch"/tests/*.sh

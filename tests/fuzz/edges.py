@@ -3,7 +3,7 @@ rule, or just on the right one."""
 
 from layout import nowhere, somewhere
 from made_sets import (
-    FACS_SIZE, HEADER_SIZE, LOW, MADT_TYPES, REDUCED, RESET_REG_SUP, RSDP_SIZE, SRAT_TYPES, TOP, Item, Table, apic_domain, io_apic,
+    FACS_SIZE, HEADER_SIZE, LOW, MADT_TYPES, REDUCED, RESET_REG_SUP, RSDP_SIZE, SRAT_TYPES, TOP, Item, apic_domain, io_apic,
     lapic, lapic_address, lapic_nmi, little, memory_range, nmi_source, override, x2apic, x2apic_domain, x2apic_nmi,
 )
 
@@ -22,7 +22,7 @@ def error(dice):
 
 
 def one_byte_wrong(dice, signature):
-    at = dice.randrange(len(signature))
+    at = dice.choice((len(signature) - 1, dice.randrange(len(signature))))
     return changed(signature, at, [signature[at] ^ dice.choice((1, 0x20, 0x80))])
 
 
@@ -89,6 +89,8 @@ def no_root(made, is_wrong):
 
 def root_header_out(made, is_wrong):
     made.root.held = made.dice.choice((35, 35, 0, 8)) if is_wrong else HEADER_SIZE
+    if is_wrong and made.is_xsdt and made.dice.random() < 0.2:
+        made.root.held, made.rsdp["xsdt"] = None, made.dice.choice((1 << 56, 1, TOP - 1))
 
 
 def root_signature(made, is_wrong):
@@ -106,7 +108,7 @@ def root_out(made, is_wrong):
 
 
 def root_ragged(made, is_wrong):
-    made.ragged = bytes(made.dice.choice((1, 3, 4, 7) if made.is_xsdt else (1, 2, 3))) if is_wrong else b""
+    made.ragged = b"\1\2\3\4\5\6\7"[: made.dice.choice((1, 3, 4, 7) if made.is_xsdt else (1, 2, 3))] if is_wrong else b""
     if not is_wrong:
         made.extra_slots.append(nowhere)
 
@@ -139,8 +141,9 @@ def table_length(made, is_wrong):
 def table_out(made, is_wrong):
     def change(table):
         table.held = len(table) - is_wrong
-        if is_wrong and made.dice.random() < 0.3:
-            table.length, table.held = made.dice.choice((LOW - 1, 0x80000000, len(table) + 4096)), None
+        if is_wrong and made.dice.random() < 0.5:
+            longer = (LOW - 1, 0x80000000, 0x80000000, len(table) + (1 << 24), len(table) + 4096)
+            table.length, table.held = made.dice.choice(longer), None
 
     on_a_table(made, change)
 
@@ -162,7 +165,9 @@ def no_fadt(made, is_wrong):
 
 
 def fadt_short(made, is_wrong):
-    made.fadt_length = made.dice.choice((115, 115, 36, 37, 114)) if is_wrong else 116
+    made.fadt_length = made.dice.choice((115, 115, 115, 36, 114)) if is_wrong else 116
+    if made.dice.random() < 0.6:
+        made.facs_at = made.dice.choice((0x8010, 0x8000))
 
 
 def set_flags(made, bits, is_set):
@@ -171,7 +176,7 @@ def set_flags(made, bits, is_set):
 
 
 def block_length(at, wrong, right):
-    """The edge of a register block's length, now and then with reduced hardware, where it does not matter."""
+    """The edge of a register block's length, sometimes with reduced hardware, where it does not matter."""
 
     def change(made, is_wrong):
         made.fadt[at] = made.dice.choice(wrong if is_wrong else right)
@@ -189,7 +194,7 @@ def reset_register(made, is_wrong):
     set_flags(made, RESET_REG_SUP, is_wrong or dice.random() < 0.7)
     made.fadt_length = dice.choice((129, 129, 130, 276) if is_wrong or dice.random() < 0.5 else (128, 128, 117))
     right = [(0, 8, 0), (1, 8, 0), (2, 8, 0)]
-    wrong = [(3, 8, 0), (255, 8, 0), (1, 7, 0), (1, 9, 0), (1, 0, 0), (1, 8, 1), (0, 8, 255), (2, 16, 1)]
+    wrong = [(3, 8, 0), (3, 8, 0), (255, 8, 0), (1, 7, 0), (1, 9, 0), (1, 0, 0), (1, 8, 1), (0, 8, 255), (2, 16, 1)]
     made.fadt[RESET_REG : RESET_REG + 3] = bytes(dice.choice(wrong if is_wrong or made.fadt_length < 129 else right))
 
 
@@ -217,13 +222,15 @@ def facs_signature(made, is_wrong):
 
 def facs_length(made, is_wrong):
     made.facs.length = made.dice.choice((63, 63, 0, 32)) if is_wrong else FACS_SIZE
+    # Too short, and not all held: the first alone is said.
+    made.facs.held = made.dice.choice((8, 62)) if is_wrong and made.dice.random() < 0.4 else None
 
 
 def facs_out(made, is_wrong):
     made.facs.size = made.facs.length = made.dice.choice((64, 64, 65, 128))
     made.facs.held = made.facs.size - is_wrong
-    if is_wrong and made.dice.random() < 0.2:
-        made.facs.length = LOW - 1
+    if is_wrong and made.dice.random() < 0.3:
+        made.facs.length = made.dice.choice((LOW - 1, 1 << 24))
 
 
 # ---- entries
@@ -236,7 +243,7 @@ def put(made, entries, *more):
 
 
 def cut_last(made, entries, is_wrong):
-    """Makes the last entry one that does not stand, or one that just stands."""
+    """Appends bytes that are no entry, or an entry."""
     kind, size = made.dice.choice((0, 1, 2, 7, 200)), made.dice.choice((3, 8, 12, 255))
     wrong = (b"\7", bytes([kind, 0]), bytes([kind, 1, 0]), bytes([kind, size]) + bytes(size - 3), bytes([kind, 1]))
     entries.append(made.dice.choice(wrong) if is_wrong else bytes([7, size]) + bytes(size - 2))
@@ -322,13 +329,17 @@ def srat_entry_length(made, is_wrong):
 
 
 def range_past_end(made, is_wrong):
-    length = made.dice.choice((1, 0x1000, TOP - 1, 0))
+    dice = made.dice
+    length = dice.choice((2, 0x1000, TOP - 1) if is_wrong else (0, 1, 0x1000, TOP - 1))
     base = min(TOP - length + is_wrong, TOP - 1)
-    put(made, made.srat, memory_range(base, length, made.dice.choice((1, 3, 5, 1, 1, 0))))
+    put(made, made.srat, memory_range(base, length, dice.choice((1, 3, 5))))
+    if dice.random() < 0.3:
+        put(made, made.srat, memory_range(TOP - 1, 0x1000, dice.choice((0, 2))))
 
 
 def overlap(made, is_wrong):
-    """Two ranges that touch or share an address, of one kind or of two, and now and then a third one."""
+    """Two ranges that touch or share an address, of one kind or of two, and sometimes a third one; or two of each kind, at
+    addresses near each other."""
     dice = made.dice
     base, size, flags = dice.choice((0x10000, LOW - 8, TOP - 0x2000)), dice.choice((1, 8, 0x1000)), dice.choice((1, 3))
     start = base + size - is_wrong * dice.choice((1, 1, size))
@@ -336,6 +347,9 @@ def overlap(made, is_wrong):
     if dice.random() < 0.4:
         start, is_plain = dice.choice((base, start, max(base - 1, 0))), dice.random() < 0.5
         ranges.append(memory_range(start, dice.choice((0, 1, 2, 0x1001)), dice.choice((0, 2, 1, 3)) if is_plain else flags))
+    if is_wrong and dice.random() < 0.5:
+        starts = (base, base + dice.choice((-8, 0, 0, 0, 8)))
+        ranges = [memory_range(at, 16, its_flags) for at, its_flags in zip(starts, (1, 3)) for _ in range(2)]
     put(made, made.srat, *ranges)
 
 
@@ -349,7 +363,8 @@ def slit_short(made, is_wrong):
 def slit_size(made, is_wrong):
     dice, (count, cells) = made.dice, made.slit
     if is_wrong:
-        made.slit[0] = dice.choice((count + 1, max(count - 1, 0) if count else 5, LOW, LOW + count, 1 << 63, TOP - count if count else 7))
+        wrong = (count + 1, count - 1 if count else 5, LOW, LOW + count, *[(1 << 63) + count] * 3, TOP - count if count else 7)
+        made.slit[0] = dice.choice(wrong)
         cells.extend(bytes(dice.choice((0, 0, 1, 2))))
     else:
         made.slit[:] = [0, bytearray()] if dice.random() < 0.3 else [3, bytearray(b"\x0a\x14\x14\x14\x0a\x14\x14\x14\x0a")]
@@ -421,7 +436,7 @@ def of_kind(made, kind):
 def stray(made, kind):
     """What is no entry of this type: something beside one, an entry of another type, or one without a length of its type."""
     dice = made.dice
-    beside = (of_kind(made, kind), dice.choice((1, 2, 20, -1, -20)))
+    beside = (of_kind(made, kind), dice.choice((1, 2, 20, -1, -20, 1 << 24)))
     mistyped_item = Item(kind, size=21)
     if dice.random() < 0.2:
         put(made, made.pptt, mistyped_item)
@@ -430,11 +445,16 @@ def stray(made, kind):
 
 
 def dangling_parent(made, is_wrong):
-    of_kind(made, 0).names = stray(made, 0) if is_wrong else made.dice.choice((0, of_kind(made, 0)))
+    node = of_kind(made, 0)
+    node.names = stray(made, 0) if is_wrong else made.dice.choice((0, of_kind(made, 0)))
+    if is_wrong and made.dice.random() < 0.6:
+        node.resources = [0]
 
 
 def dangling_resource(made, is_wrong):
     dice, node = made.dice, of_kind(made, 0)
+    if is_wrong and dice.random() < 0.4:
+        node.names = stray(made, 0)
     for _ in range(dice.choice((1, 1, 2))):
         right, wrong = (of_kind(made, 1), of_kind(made, 2)), (0, stray(made, 1), of_kind(made, 0))
         node.resources.insert(dice.randrange(len(node.resources) + 1), dice.choice(wrong if is_wrong else right))
@@ -468,17 +488,26 @@ def cycle(kind):
 
 
 def two_domains(made, is_wrong):
-    """Entries of one processor: of either type, enabled or not, in domains that are equal or differ in one byte."""
-    dice = made.dice
-    apic_id = dice.choice((5, 255, 256, LOW - 1))
-    processor_flags, domain_flags = ((1, 1, 3, 2), (1, 1, 1, 1, 3, 2)) if is_wrong else ((1, 2, 3, 0), (1, 1, 3, 0))
+    """Processors in domains that differ in one byte; right by one thing, if they are right."""
+    for apic_id in made.dice.sample((0, 5, 255, 256, LOW - 1), made.dice.choice((1, 2))):
+        processor_in_domains(made, is_wrong, apic_id)
+
+
+def processor_in_domains(made, is_wrong, apic_id):
+    dice, is_usable = made.dice, made.settings.processors == "usable"
+    kept_by = None if is_wrong else dice.choice(("processor", "flags", "flags", "flags", "entry", "domain"))
+    off, on = ((0,), (1, 2)) if is_usable else ((0, 2, 2, 2), (1, 3))
     maker = x2apic if apic_id > 255 or dice.random() < 0.5 else lapic
-    put(made, made.madt, maker(5, apic_id, dice.choice(processor_flags)))
+    if kept_by != "processor":
+        put(made, made.madt, maker(5, apic_id, dice.choice(off if kept_by == "flags" else on)))
     domain = dice.choice((0, 1, 0x01020304))
-    other = domain ^ (is_wrong * dice.choice((1, 1 << 8, 1 << 16, 1 << 24)))
-    for it in (domain, other, dice.choice((domain, 7)))[: dice.choice((2, 2, 3))]:
-        maker = x2apic_domain if apic_id > 255 or dice.random() < 0.5 else apic_domain
-        put(made, made.srat, maker(apic_id, it, dice.choice(domain_flags)))
+    other = domain if kept_by == "domain" else domain ^ dice.choice((1, 1 << 8, 1 << 16, 1 << 24))
+    domains = [(domain, dice.choice((1, 1, 3))), (other, dice.choice((0, 2)) if kept_by == "entry" else 1)]
+    if is_wrong and dice.random() < 0.4:
+        domains.append((dice.choice((domain, 7)), dice.choice((1, 0))))
+    for it, flags in domains:
+        maker = x2apic_domain if apic_id > 255 or dice.random() < 0.25 else apic_domain
+        put(made, made.srat, maker(apic_id, it, flags))
 
 
 def gsi_nowhere(made, is_wrong):
@@ -495,17 +524,21 @@ def gsi_nowhere(made, is_wrong):
 
 
 def leaf_unknown(made, is_wrong):
+    """A leaf that no processor has; right by one thing, if it is right."""
     dice = made.dice
-    uid = dice.choice((0, 7, 255, 256, LOW - 1))
-    if not is_wrong:
+    kept_by = None if is_wrong else dice.choice(("processor", "processor", "flags", "revision", "entry", "cut"))
+    uid = dice.choice((7, 255, 256, 0xABCDEF, LOW - 1))
+    made.madt[:] = [entry for entry in made.madt if len(entry) == MADT_TYPES.get(entry[0])]
+    made.pptt_revision = dice.choice((1, 1, 0)) if kept_by == "revision" else dice.choice((2, 2, 3, 255))
+    if kept_by == "processor":
         flags = dice.choice((1, 0))
         put(made, made.madt, x2apic(uid, 900, flags) if uid > 255 or dice.random() < 0.5 else lapic(uid, 99, flags))
-    else:
-        made.madt[:] = [entry for entry in made.madt if len(entry) == MADT_TYPES.get(entry[0])]
-        uid = dice.choice((uid, 0xABCDEF))
-    flags = 0b1010 | dice.choice((0, 1, 4, LOW - 16)) if is_wrong or dice.random() < 0.7 else dice.choice((0, 2, 8))
+    elif kept_by == "entry":
+        put(made, made.madt, dice.choice((b"\x0b\x02", bytes([255, 8]) + bytes(6), bytes([0, 9]) + bytes(7))))
+    elif kept_by == "cut":
+        made.madt.append(b"\0")
+    flags = dice.choice((0, 2, 8)) if kept_by == "flags" else 0b1010 | dice.choice((0, 1, 4, LOW - 16))
     put(made, made.pptt, Item(0, 0, [], flags, uid))
-    made.pptt_revision = dice.choice((2, 2, 2, 3, 255, 1))
 
 
 EDGES = (

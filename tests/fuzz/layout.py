@@ -1,10 +1,9 @@
 """Lays a made set out in memory: where its structures lie, and how much of each is held. Some lie inside others, or touch."""
 
 from image_text import TOP, Memory
-from made_sets import HEADER_SIZE, LONG_RSDP_SIZE, LOW, RSDP_SIZE, Table, little, with_sum
+from made_sets import HEADER_SIZE, LONG_RSDP_SIZE, LOW, RSDP_SIZE, little, with_sum
 
 BASES = (0x2000, 0x7FFE0000, LOW - 0x400, LOW - 0x1000, LOW + 0x123456)
-RSDP_ALIGNMENT = 16
 
 
 def laid_out(made):
@@ -13,15 +12,17 @@ def laid_out(made):
 
 
 class Layout:
+    """Where the structures of a set lie. Of `inner` there are the table that lies in another one, that other one, and how far
+    behind its start."""
+
     def __init__(self, made):
         self.made, self.dice = made, made.dice
         self.tables = made.tables()
         self.inner = None
         self.put_one_inside()
-        self.sizes = {id(table): len(table) for table in self.tables}
 
     def put_one_inside(self):
-        """Puts one of the tables into the body of another one that no stage looks into, now and then."""
+        """Sometimes puts a table into the body of another one that no stage reads."""
         hosts = [table for table in self.tables if table.signature in (b"SSDT", b"HPET")]
         if not hosts or self.dice.random() < 0.5:
             return
@@ -59,7 +60,8 @@ class Layout:
     def base(self, size):
         """The first address of all structures, a multiple of 64, as the FACS is laid for it."""
         choices = [*BASES[:-1], LOW - size] if not self.made.is_xsdt else [*BASES, LOW - size, TOP - size]
-        base = self.dice.choice(choices)
+        # Sometimes a structure lies at 0, an address that means none.
+        base = self.dice.choice(choices) if self.dice.random() < 0.96 else 0
         # A FADT without X_FIRMWARE_CTRL does not reach a FACS above 4 GiB.
         if base >= LOW and self.made.fadt_length < 140 and self.dice.random() < 0.9:
             base = 0x2000

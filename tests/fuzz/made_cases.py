@@ -13,6 +13,9 @@ from verdicts import STAGE_OF, Fault, number
 # Of so many cases one is about the form of texts, and the others are about sets. Of so many about texts one is as long as can be.
 TEXT_EVERY, LONGEST_EVERY = 5, 40
 NAMES = list(STAGE_OF)
+SIGNATURES = (b"FACP", b"APIC", b"SRAT", b"SLIT", b"PPTT", b"XSDT", b"RSDT", b"SSDT", b"HPET")
+# How many faults of a set `confirm` is asked about, and how many that are near one of these.
+MOST_ASKED, MOST_MISSED = 12, 3
 BASES = (0, 0x40, 0xE0000, 0x7FFE0000, 0xFFFFFF00, 1 << 32, 0x123456789AC0, TOP - 0x1000, TOP - 64, 1, 0x20, 0xFFFF)
 
 
@@ -53,23 +56,20 @@ def words_of(dice, settings):
     return [word for group in groups for word in group]
 
 
-def change_bytes(dice, memory, rsdp):
-    """Changes a byte here and there, and then closes the sum of the table that it is in, most times."""
+def change_bytes(dice, memory):
+    """Changes a byte or two, and usually fixes the checksum of the table around each."""
     held = sorted(memory.bytes)
     for _ in range(dice.choice((1, 1, 2))):
         at = dice.choice(held)
         memory.bytes[at] = dice.choice((0, 1, 2, 4, 8, 255, dice.randrange(256), memory.bytes[at] ^ 1))
         starts = [start for start in held if memory.held(start, 4) in SIGNATURES and start <= at]
         if starts and dice.random() < 0.8:
-            close(memory, starts[-1])
+            fix_checksum(memory, starts[-1])
     if dice.random() < 0.1:
         del memory.bytes[dice.choice(held)]
 
 
-SIGNATURES = (b"FACP", b"APIC", b"SRAT", b"SLIT", b"PPTT", b"XSDT", b"RSDT", b"SSDT", b"HPET")
-
-
-def close(memory, start):
+def fix_checksum(memory, start):
     """Makes the bytes of a table sum to 0."""
     header = memory.held(start, 36)
     table = memory.held(start, number(header, 4, 4)) if header else None
@@ -78,22 +78,23 @@ def close(memory, start):
 
 
 def other_code(dice, target):
-    """Another code: most times one near this, so that it matters which of the two is reported, and seldom one of the first
-    stages, which hide all others."""
-    code = dice.choice((target, target + 1, target - 1, target + dice.randrange(-8, 9), dice.randrange(19, 60), dice.randrange(32, 60)))
+    """Another code: often one near this, so that it matters which of the two is reported, and seldom one of the first stages,
+    which hide all others."""
+    near = (target, target + 1, target - 1, target + dice.randrange(-8, 9))
+    code = dice.choice((*near, dice.randrange(15, 60), dice.randrange(32, 60), dice.randrange(32, 60)))
     return code if 1 <= code <= len(EDGES) else dice.randrange(1, len(EDGES) + 1)
 
 
 def set_case(dice, place):
-    """A set at the edge of one code, and now and then of others. Each code comes in its turn."""
+    """A set at the edge of one code, and sometimes of others. The codes take turns."""
     target = place % len(EDGES) + 1
     made = MadeSet(dice, target)
     change_at_edge(made, target, dice.random() < 0.7)
-    for _ in range(dice.choice((0, 0, 0, 1, 1, 2, 4))):
+    for _ in range(dice.choice((0, 0, 1, 1, 1, 2, 4))):
         change_at_edge(made, other_code(dice, target), dice.random() < 0.6)
     memory, rsdp = laid_out(made)
     if dice.random() < 0.15 and memory.bytes:
-        change_bytes(dice, memory, rsdp)
+        change_bytes(dice, memory)
     case = Case(rendered(dice, memory), rsdp, made.settings, memory=memory)
     if dice.random() < 0.05:
         case.rsdp = dice.choice((rsdp + 1, rsdp - 1, 0, TOP - 1, TOP - 20)) % TOP
@@ -153,8 +154,9 @@ def near(dice, fault):
 
 
 def asked(dice, judgement):
-    """Faults that stand, and some that may not."""
+    """Faults that stand: all of them, if they are not too many; and faults that are near some of these, or that may be anywhere."""
     stands = judgement.faults
-    asked_about = stands if len(stands) <= 3 else dice.sample(stands, 3)
+    asked_about = stands if len(stands) <= MOST_ASKED else dice.sample(stands, MOST_ASKED)
     any_numbers = [dice.choice((0, 0, 36, 44, 48, 88, 116)) for _ in range(3)]
-    return [*asked_about, *(near(dice, fault) for fault in asked_about), Fault(dice.choice(NAMES), *any_numbers)]
+    misses = [near(dice, fault) for fault in dice.sample(asked_about, min(len(asked_about), MOST_MISSED))]
+    return [*asked_about, *misses, Fault(dice.choice(NAMES), *any_numbers)]

@@ -1,5 +1,5 @@
-"""Makes sets of tables at random: parts that are right on the whole, which edges.py then changes, and where they lie. Sections
-are those of ACPI 6.5. Numbers are little-endian."""
+"""Makes sets of tables at random. Nearly all of them are clean; edges.py then changes them. Sections are those of ACPI 6.5. Numbers
+are little-endian."""
 
 from verdicts import Settings
 
@@ -211,7 +211,7 @@ class MadeSet:
         body[112:116] = little(dice.choice((0, 0, REDUCED, RESET_REG_SUP, REDUCED | RESET_REG_SUP, 0xFFEFFFFF)), 4)
         body[116:119] = bytes([dice.randrange(3), 8, 0])
         body[46:48] = little(dice.choice((9, 9, 0, 24, 255)), 2)
-        body[40:44] = little(dice.choice((0, 0x9000, 0x7FFE0000)), 4)
+        body[40:44] = little(dice.choice((0, 0x9011, 0x7FFE0001)), 4)
         # A part of X_FIRMWARE_CTRL, which is none where Length ends in it.
         body[132:139] = b"\x55" * 7
         for at in (*range(56, 88, 4), *range(152, 244, 12), 140):
@@ -250,7 +250,8 @@ class MadeSet:
             entries.append(other_entry(dice, (6, 7, 8, 11, 12, 13, 15, 17, 24, 255)))
         if dice.random() < 0.15:
             entries += [gicd()] * dice.choice((0, 1, 2))
-            entries += [gicc(dice.choice((0, 1, 77)), dice.choice((0, 1, 1)), dice.choice((39, 40, 80, 80))) for _ in range(dice.choice((1, 2)))]
+            sizes = [dice.choice((39, 40, 80, 80)) for _ in range(dice.choice((1, 2)))]
+            entries += [gicc(dice.choice((0, 1, 77)), dice.choice((0, 1, 1)), size) for size in sizes]
         dice.shuffle(entries)
         return entries
 
@@ -303,7 +304,7 @@ class MadeSet:
     # ---- the tables, as their parts say
 
     def tables(self):
-        """The listed tables in the order of the slots: a further one of a kind comes behind, most times."""
+        """The listed tables in the order of the slots: usually a second table of a kind comes later."""
         self.fadt_table = Table(b"FACP", self.fadt[36 : self.fadt_length], self.dice.choice((1, 3, 5, 6)))
         tables = [self.fadt_table]
         if self.madt is not None:
@@ -344,7 +345,7 @@ def made_settings(dice):
 
 
 def made_processors(dice):
-    """(UID, APIC ID, flags, whether it is an x2APIC) of processors, of which no two have one ID, most times."""
+    """(UID, APIC ID, flags, whether it is an x2APIC) of processors, which usually have different IDs."""
     processors = []
     for place in range(dice.choice((0, 1, 2, 2, 4))):
         is_wide, flags = dice.random() < 0.4, dice.choice((1, 1, 1, 2, 3, 0))

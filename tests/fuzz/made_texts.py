@@ -132,7 +132,7 @@ def longest_text(is_ended, is_too_long):
 
 
 def lines_of_every_form(dice, place):
-    """A short text of lines, one of which has the form whose turn it is; no bad line stands before it."""
+    """A short text of lines, one of which has the form whose turn it is; no bad line comes before it."""
     lines = [dice.choice((*DATA, *EMPTY)) for _ in range(dice.choice((0, 0, 1)))]
     if dice.random() < 0.85:
         lines.insert(0, dice.choice(ADDRESSES))

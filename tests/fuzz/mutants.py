@@ -9,6 +9,7 @@ import argparse
 import ast
 import copy
 import signal
+import sys
 import types
 from pathlib import Path
 
@@ -33,7 +34,7 @@ OTHER_OPERATION = {
 
 
 def wrong_nodes(node):
-    """What may stand in the place of a node of the code."""
+    """What a node of the code may be replaced with."""
     if isinstance(node, ast.Constant) and type(node.value) is int:
         return [ast.Constant(node.value + 1), ast.Constant(node.value - 1)]
     if isinstance(node, ast.Constant) and type(node.value) is bytes and node.value:
@@ -71,14 +72,21 @@ def replaced(tree, place, wrong):
     return ast.fix_missing_locations(Replace().visit(tree))
 
 
+def first_lines(tree):
+    """Of each node in a function the function's first line, by the node's identity."""
+    functions = [node for node in ast.walk(tree) if isinstance(node, ast.FunctionDef)]
+    return {id(node): function.lineno for function in functions for node in ast.walk(function)}
+
+
 def mutants(path):
-    """(where, the code with a mistake there)."""
+    """(where, the first line of the function, the code with a mistake there)."""
     source = path.read_text()
     tree = ast.parse(source)
+    lines = first_lines(tree)
     for place, node in enumerate(ast.walk(tree)):
         for wrong in wrong_nodes(node):
             where = f"{path.name} {node.lineno}: {ast.get_source_segment(source, node)} -> {ast.unparse(wrong)}"
-            yield where, compile(replaced(tree, place, copy.deepcopy(wrong)), path.name, "exec")
+            yield where, lines.get(id(node)), compile(replaced(tree, place, copy.deepcopy(wrong)), path.name, "exec")
 
 
 def module_of(name, code):
@@ -99,7 +107,7 @@ class Texts:
         self.texts = [case.text for case, _ in cases]
         self.told = [self.judged(image_text, text) for text in self.texts]
 
-    def __iter__(self):
+    def in_which_runs(self, _):
         return zip(self.texts, self.told)
 
     def judged(self, module, text):
@@ -126,10 +134,21 @@ class Sets:
             rsdp = found if case.rsdp is None else case.rsdp
             faults = [] if rsdp is None else asked(dice, verdicts.Judgement(memory, rsdp, case.settings))
             self.sets.append((memory, rsdp, case, faults))
-        self.told = [self.judged(verdicts, it) for it in self.sets]
+        self.told, self.ran = [], []
+        for it in self.sets:
+            self.ran.append(set())
+            sys.setprofile(self.note)
+            self.told.append(self.judged(verdicts, it))
+            sys.setprofile(None)
 
-    def __iter__(self):
-        return zip(self.sets, self.told)
+    def note(self, frame, *_):
+        """Notes which functions of the judge run for a set: a mistake in any other one cannot be seen with it."""
+        if frame.f_code.co_filename == verdicts.__file__:
+            self.ran[-1].add(frame.f_code.co_firstlineno)
+
+    def in_which_runs(self, line):
+        """The sets for which the function with this first line runs, and what is said of each."""
+        return ((it, told) for it, told, ran in zip(self.sets, self.told, self.ran) if line is None or line in ran)
 
     def judged(self, module, it):
         memory, rsdp, case, faults = it
@@ -145,12 +164,12 @@ def too_long(*_):
     raise TimeoutError
 
 
-def is_seen(judged, code):
+def is_seen(judged, line, code):
     """Whether an answer differs. A mistake at which the judge stops, or does not end, is seen too."""
     signal.alarm(SECONDS)
     try:
         module = module_of(judged.name, code)
-        return any(judged.judged(module, it) != told for it, told in judged)
+        return any(judged.judged(module, it) != told for it, told in judged.in_which_runs(line))
     except Exception:
         return True
     finally:
@@ -166,8 +185,8 @@ def main():
     cases = [case_of(said.seed, place) for place in range(said.cases)]
     seen = unseen = 0
     for judged in (Texts(cases), Sets(cases)):
-        for where, code in mutants(HERE / f"{judged.name}.py"):
-            if is_seen(judged, code):
+        for where, line, code in mutants(HERE / f"{judged.name}.py"):
+            if is_seen(judged, line, code):
                 seen += 1
             else:
                 unseen += 1

@@ -1,11 +1,11 @@
 #!/usr/bin/env python3
-"""Makes sets of tables and texts at random, and compares all that the built program says of them with what second programs in
-Python say: the verdicts, faults and refusals with verdicts.py and image_text.py, which are written from docs/TABLES.md and
-docs/FAULTS.md alone, and the other lines with those of tests/lint, tests/show and tests/rebuild.
+"""Generates sets of tables and image texts, and compares every answer of the built program with that of a second program in Python:
+verdicts, faults and refusals with verdicts.py and image_text.py, which are written from docs/TABLES.md and docs/FAULTS.md alone,
+and all other lines with those of tests/lint, tests/show and tests/rebuild.
 
 usage: run.py PROGRAM [--seed N] [--cases N] [--first N] [--keep FOLDER] [--coverage]
-Each case is made of the seed and its number alone, from the number `--first` on; without --seed and --cases the same cases come
-each time. --keep leaves the text of each case that differs in this folder, --coverage prints how often each fault was reported and
+A case depends on the seed and on its number alone; --first is the first number. Without options the cases are the same each time.
+--keep leaves the text of each case that differs in this folder, and --coverage prints how often each fault was reported and
 confirmed. The last line is 'fuzz: N passed, M failed'."""
 
 import argparse

@@ -237,7 +237,7 @@ Entry = namedtuple("Entry", "at type data is_typed")
 
 
 def is_typed_node(data):
-    return len(data) >= 20 and len(data) == 20 + 4 * number(data, 16, 4)
+    return len(data) == 20 + 4 * number(data, 16, 4)
 
 
 MADT_LENGTHS = {0: 8, 1: 12, 2: 10, 3: 8, 4: 6, 5: 12, 9: 16, 10: 12}
@@ -245,9 +245,7 @@ SRAT_LENGTHS = {0: 16, 1: 40, 2: 24}
 
 
 class Entries:
-    """The entries of a table as far as they stand, and the place at which none stands, if bytes are left there."""
-
-    FIRST = 0
+    """The entries of a table, one after another, and the offset at which bytes are left that are no entry, if any."""
 
     def __init__(self, table):
         self.table, self.all, self.cut = table, [], None
@@ -291,6 +289,11 @@ class Pptt(Entries):
         return is_typed_node(data) if data[0] == 0 else data[0] == 1 and len(data) in (24, 28)
 
 
+def entries_of(kind, table):
+    """The entries of a table, or None where it is not there to be judged."""
+    return None if table is None else kind(table)
+
+
 # ---- spans of numbers: interrupt numbers and memory ranges
 
 Span = namedtuple("Span", "first end at")
@@ -326,7 +329,7 @@ def some_shared(name, spans):
 def have_both(spans, fault):
     """Whether the spans at the fault's two offsets are two, and both have its number."""
     having = [span for span in spans if span.at in (fault.at, fault.other) and span.first <= fault.point < span.end]
-    return fault.at != fault.other and len(having) == 2
+    return len(having) == 2
 
 
 # ---- MADT
@@ -470,7 +473,7 @@ def after(named, at, steps):
     """Where a chain is after so many steps, or None where it has ended before."""
     for _ in range(steps):
         at = named.get(at)
-    return at if at in named else None
+    return at
 
 
 def cycle_faults(name, named, bound):
@@ -490,10 +493,10 @@ def cycle_faults(name, named, bound):
 
 
 def is_cycle(named, bound, fault):
-    """Whether a cycle stands there: so many steps lead to an entry, and so many from it to itself."""
+    """Whether there is such a cycle: so many steps lead to an entry, and so many from it to itself."""
     if fault.point == 0 or fault.other + fault.point > bound:
         return False
-    reached = after(named, fault.at, fault.other) if fault.at in named else None
+    reached = after(named, fault.at, fault.other)
     return reached is not None and after(named, reached, fault.point) == reached
 
 
@@ -516,10 +519,9 @@ class Judgement:
     def __init__(self, memory, rsdp, settings):
         self.settings = settings
         tables = TableSet(memory, rsdp)
-        self.madt, self.srat, self.pptt = tables.first(b"APIC", 44), tables.first(b"SRAT", 48), tables.first(b"PPTT")
-        self.madt = self.madt and Madt(self.madt)
-        self.srat = self.srat and Srat(self.srat)
-        self.pptt = self.pptt and Pptt(self.pptt)
+        self.madt = entries_of(Madt, tables.first(b"APIC", 44))
+        self.srat = entries_of(Srat, tables.first(b"SRAT", 48))
+        self.pptt = entries_of(Pptt, tables.first(b"PPTT"))
         self.io_apics = served(self.madt, settings) if self.madt else []
         self.ranges = enabled_ranges(self.srat) if self.srat else []
         self.groups = compared_ranges(self.ranges, settings)
@@ -556,8 +558,12 @@ class Judgement:
         return faults
 
     def faults_across(self):
-        faults = domain_faults(self.madt, self.srat, self.settings) if self.madt and self.srat else []
-        return faults + leaf_faults(self.madt, self.pptt) if self.madt and self.pptt else faults
+        faults = []
+        if self.madt and self.srat:
+            faults += domain_faults(self.madt, self.srat, self.settings)
+        if self.madt and self.pptt:
+            faults += leaf_faults(self.madt, self.pptt)
+        return faults
 
     def chains(self, name):
         """What each entry of a kind names, and the most steps that a fault may have."""

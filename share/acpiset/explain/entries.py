@@ -30,14 +30,16 @@ def beginning(report, table):
 def cut(report, table, at):
     """Bytes at which no structure begins, and the structure before them, whose length may be the wrong one."""
     left = table.length - at
-    report.say(f"what is left, at offset {both(at)}, at {table.address + at:#x}:")
+    report.say(f"the rest of the table at offset {both(at)}, at {table.address + at:#x}:")
     report.bytes(table.address + at, max(0, min(16, left)))
     if left <= 0 or table.begins(at):
         report.say(f"the table ends before it, or a structure begins there: {MISMATCH}")
     elif left == 1:
         report.say("a single byte is left, and a structure has at least 2")
     else:
-        report.say(f"byte 1 says a length of {table.number(at + 1, 1)}, and {left} bytes are left in the table")
+        size = table.number(at + 1, 1)
+        least = "a structure has at least 2 bytes" if size < 2 else f"only {left} bytes are left in the table"
+        report.say(f"its length, byte 1, is {size}, but {least}")
     preceding(report, table, at)
 
 
@@ -56,7 +58,7 @@ def length(report, table, at):
         if table.signature == "PPTT" and found.type == 0:
             count = found.number(16, 4) if found.size >= 20 else None
             due = "at least 20" if count is None else f"20 + 4 * {count} = {20 + 4 * count}"
-        report.say(f"type {found.type} has a length of {due}, and byte 1 says {found.size}")
+        report.say(f"type {found.type} has a length of {due}, but byte 1 is {found.size}")
     preceding(report, table, at)
 
 
@@ -257,7 +259,9 @@ def leaves(table):
 
 def affinities(report, processor):
     """The numbers of the SRAT's affinities, of the kind that a processor would have."""
-    types, name, what = ((3,), "uid", "GICC affinities have the UIDs") if is_one(processor, "gicc") else ((0, 2), "id", "affinities have the IDs")
+    types, name, what = (0, 2), "id", "affinities have the IDs"
+    if is_one(processor, "gicc"):
+        types, name, what = (3,), "uid", "GICC affinities have the UIDs"
     table = report.tables.first("SRAT")
     enabled = (one for one in table.structures(*types) if one.fields.get("flags", 0) & 1) if table else ()
     report.say(f"the SRAT's enabled {what} {in_ranges({one.fields[name] for one in enabled})}")

@@ -133,7 +133,7 @@ def facs(report, code, at):
     report.say(f"the FACS at {at:#x}:")
     report.bytes(at, 64)
     if code == 27:
-        report.say(f"it is {at % 64} bytes behind a multiple of 64" if at % 64 else f"its address is a multiple of 64: {MISMATCH}")
+        report.say(f"its address is {at % 64} past a multiple of 64" if at % 64 else f"its address is a multiple of 64: {MISMATCH}")
     elif code == 28:
         report.gap(at, 8)
     elif code == 29:

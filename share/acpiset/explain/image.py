@@ -12,6 +12,8 @@ LONGEST_LINE = 65_536
 ADDRESSES = 2**64
 ALLOWED = b"@0123456789ABCDEFabcdef \t\r\n"
 COMMENT = re.compile(rb"#[^\n]*")
+PIECE = re.compile("@([0-9A-Fa-f]{1,16})[ \\t]*\\r?(?:\\n|\\Z)([^@]*)")
+RSDP = re.compile(rb"RSD PTR ")
 LINE = re.compile(rb"[ \t]*(?:@[0-9A-Fa-f]{1,16}[ \t]*|(?:[0-9A-Fa-f]{2}[ \t]*)*)(?:#[^\n]*|\r)?\n?")
 
 
@@ -30,7 +32,7 @@ class Image:
         if run < 0:
             return b""
         at = self.offsets[run] + address - self.starts[run]
-        return bytes(self.store[at : min(at + size, self.offsets[run + 1])])
+        return self.store[at : min(at + size, self.offsets[run + 1])]
 
     def has(self, address, size):
         return len(self.part(address, size)) == size
@@ -42,105 +44,87 @@ class Image:
 
     def rsdps(self):
         """The addresses of 20 bytes that begin as an RSDP does and have a right checksum, in order."""
-        found = self.store.find(b"RSD PTR ")
-        while found >= 0:
-            run = bisect_right(self.offsets, found) - 1
-            address = self.starts[run] + found - self.offsets[run]
-            head = self.part(address, 20)
-            if len(head) == 20 and sum(head) % 256 == 0:
-                yield address
-            found = self.store.find(b"RSD PTR ", found + 1)
+        for found in RSDP.finditer(self.store):
+            at = found.start()
+            run = bisect_right(self.offsets, at) - 1
+            is_right = self.offsets[run + 1] - at >= 20 and sum(self.store[at : at + 20]) % 256 == 0
+            if is_right:
+                yield self.starts[run] + at - self.offsets[run]
 
 
-class Reader:
-    """Reads an image text. What is between two addresses is read at once, so that a text of 64 MiB takes a few seconds."""
+def read(text):
+    """The image that a text is of. What is between two addresses is read at once: a text of 64 MiB takes a few seconds."""
+    if len(text) > LARGEST_TEXT:
+        raise refusal(f"it has more than {LARGEST_TEXT:,} bytes")
+    if has_long_line(text):
+        raise refusal(f"a line has more than {LONGEST_LINE:,} bytes")
+    pieces = pieces_of(text)
+    if pieces is None:
+        raise bad_line(text)
+    return laid_out(text, *pieces)
 
-    def __init__(self, text):
-        self.text = text
-        self.here = None  # the next byte's address
-        self.end = -1  # the address behind the last piece
-        self.is_rising = True
-        self.starts, self.offsets, self.store = array("Q"), array("Q"), bytearray()
 
-    def read(self):
-        if len(self.text) > LARGEST_TEXT:
-            raise refusal(f"it has more than {LARGEST_TEXT:,} bytes")
-        if has_long_line(self.text):
-            raise refusal(f"a line has more than {LONGEST_LINE:,} bytes")
-        rows = self.bare()
-        begin = 0
-        while begin >= 0:
-            end = rows.find(b"@", begin + 1)
-            piece = rows[begin:end] if end >= 0 else rows[begin:]
-            before = piece.rstrip(b" \t")
-            if end >= 0 and before and not before.endswith(b"\n"):
-                raise self.bad_line()  # an address behind something on one line
-            self.read_piece(piece)
-            begin = end
-        self.offsets.append(len(self.store))
-        if not self.is_rising:
-            self.sort()
-        return Image(self.text, self.starts, self.offsets, self.store)
+def pieces_of(text):
+    """The addresses of the pieces that a text has, and their bytes; None where a line is bad or bytes have no address."""
+    rows = bare(text)
+    if rows is None:
+        return None
+    done = rows.find("@") if "@" in rows else len(rows)
+    if rows[:done].strip():
+        return None
+    starts, parts = [], []
+    try:
+        for piece in PIECE.finditer(rows, done):
+            if piece.start() != done or not (done == 0 or rows[done - 1] == "\n" or is_first_of_line(rows, done)):
+                return None
+            part = bytes.fromhex(piece[2])
+            if part:
+                starts.append(int(piece[1], 16))
+                parts.append(part)
+            done = piece.end()
+    except ValueError:
+        return None
+    return (starts, parts) if done == len(rows) else None
 
-    def bare(self):
-        """The text without comments. A CR may be left before an LF alone."""
-        rows = COMMENT.sub(b"#", self.text) if b"#" in self.text else self.text
-        has_stray_return = rows.count(b"\r") - rows.endswith(b"\r") != rows.count(b"\r\n")
-        rows = rows.replace(b"#", b"")
-        if has_stray_return or rows.translate(None, ALLOWED):
-            raise self.bad_line()
-        return rows
 
-    def read_piece(self, rows):
-        """An address, and the rows behind it up to the next address; or rows before the first address."""
-        if rows.startswith(b"@"):
-            address, _, rows = rows[1:].partition(b"\n")
-            address = address.rstrip(b" \t\r")
-            if not 1 <= len(address) <= 16 or not address.isalnum():
-                raise self.bad_line()
-            self.here = int(address, 16)
-        try:
-            data = bytes.fromhex(rows.decode())
-        except ValueError:
-            raise self.bad_line() from None
-        if data:
-            self.put(data)
+def bare(text):
+    """A text without its comments, or None where it has other characters than rows and addresses, or a CR not before an LF."""
+    rows = COMMENT.sub(b"#", text) if b"#" in text else text
+    has_stray_return = rows.count(b"\r") - rows.endswith(b"\r") != rows.count(b"\r\n")
+    rows = rows.replace(b"#", b"")
+    return None if has_stray_return or rows.translate(None, ALLOWED) else rows.decode()
 
-    def put(self, data):
-        if self.here is None:
-            raise refusal("there are bytes before the first address")
-        if self.here + len(data) > ADDRESSES:
-            raise refusal(f"bytes from {self.here:#x} on go past the last address")
-        if self.here != self.end:
-            self.is_rising = self.is_rising and self.here > self.end
-            self.starts.append(self.here)
-            self.offsets.append(len(self.store))
-        self.store += data
-        self.here += len(data)
-        self.end = self.here
 
-    def sort(self):
-        """Puts the pieces in the order of their addresses, and joins those that touch."""
-        pieces = sorted(range(len(self.starts)), key=self.starts.__getitem__)
-        starts, offsets, store, end = array("Q"), array("Q"), bytearray(), -1
-        for piece in pieces:
-            start, data = self.starts[piece], self.store[self.offsets[piece] : self.offsets[piece + 1]]
-            if start < end:
-                raise refusal(f"address {start:#x} is given twice")
-            if start != end:
-                starts.append(start)
-                offsets.append(len(store))
-            store += data
-            end = start + len(data)
-        offsets.append(len(store))
-        self.starts, self.offsets, self.store = starts, offsets, store
+def is_first_of_line(rows, at):
+    """Whether there are only blanks before this on its line."""
+    return not rows[rows.rfind("\n", 0, at) + 1 : at].strip(" \t")
 
-    def bad_line(self):
-        """The refusal of the first line that is none of an image text."""
-        for number, line in enumerate(io.BytesIO(self.text), 1):
-            if not LINE.fullmatch(line):
-                return refusal(f"line {number} is no line of image text")
-        return refusal("it is no image text")
+
+def laid_out(text, starts, parts):
+    """The image of some pieces: in the order of their addresses, and those that touch joined."""
+    order = sorted(range(len(starts)), key=starts.__getitem__)
+    runs, offsets, end, at = array("Q"), array("Q"), -1, 0
+    for piece in order:
+        start, size = starts[piece], len(parts[piece])
+        if start < end:
+            raise refusal(f"address {start:#x} is given twice")
+        if start != end:
+            runs.append(start)
+            offsets.append(at)
+        at += size
+        end = start + size
+    if end > ADDRESSES:
+        raise refusal(f"bytes go past the last address, {ADDRESSES - 1:#x}")
+    offsets.append(at)
+    return Image(text, runs, offsets, b"".join([parts[piece] for piece in order]))
+
+
+def bad_line(text):
+    """The refusal of the first line that is none of an image text."""
+    for number, line in enumerate(io.BytesIO(text), 1):
+        if not LINE.fullmatch(line):
+            return refusal(f"line {number} is no line of image text")
+    return refusal("there are bytes before the first address")
 
 
 def refusal(why):

@@ -5,8 +5,11 @@ import shutil
 import subprocess
 
 from .document import FIRST_RULE
+from .refusal import printable
 
 MISMATCH = "is this the image that the line is of?"
+NOT_ASKED = "(acpiset is neither beside this tool nor on PATH, so it was not asked whether the image has this)"
+NO_VERDICT = "(acpiset has no verdict on this image, so it is not known whether it has this)"
 
 
 class Program:
@@ -34,25 +37,25 @@ class Program:
     def doubt(self, line, rsdp):
         """What to say where the image does not have what the line says, or where that is not known; else nothing."""
         if not self.path:
-            return "(acpiset is neither beside this tool nor on PATH, so it was not asked whether the image has this)" * (line.part.code > 0)
+            return NOT_ASKED * (line.part.code > 0)
         at = () if rsdp is None else ("--rsdp", f"{rsdp:#x}")
         lines = self.asked("lint", *at)
         if lines is None or lines == ["no rsdp"]:
-            return "(acpiset has no verdict on this image, so it is not known whether it has this)" * (line.part.code > 0)
+            return NO_VERDICT * (line.part.code > 0)
         if line.text in lines:
             return ""
         if line.part.code == 0:
-            return f"acpiset lint finds faults in this image: {MISMATCH}"
+            return f"acpiset lint finds faults in this image. Was check given --through? If not, {MISMATCH}"
         if line.part.code >= FIRST_RULE:
             return self.doubt_advice(line, lines)
-        if self.asked("confirm", "--witness", line.text.removeprefix("no "), *at) == ["true"]:
-            return ""
-        return f"acpiset confirm answers false: the image does not have this fault. {question()}"
+        verdict = self.asked("confirm", "--witness", line.text.removeprefix("no "), *at)
+        refuted = f"acpiset confirm answers false: the image does not have this fault. {question()}"
+        return "" if verdict == ["true"] else refuted if verdict == ["false"] else NO_VERDICT
 
     @staticmethod
     def doubt_advice(line, lines):
         found = next((text for text in lines if text.startswith(f"advice {line.part.name} ")), "no line of this name")
-        return f"acpiset lint does not write this line of the image; it writes: {found}. {question()}"
+        return f"acpiset lint does not write this line of the image; it writes: {printable(found)}. {question()}"
 
 
 def question():
