@@ -9,6 +9,8 @@ FADT_LENGTHS = (116, 117, 128, 129, 131, 132, 139, 140, 147, 148, 159, 160, 232,
 REDUCED, RESET_REG_SUP = 1 << 20, 1 << 10
 TOP = 1 << 64
 LOW = 1 << 32
+# What reserved bytes hold: nothing may depend on it, and a rebuilt set has 0 there.
+RESERVED = b"\xa5" * 12
 
 
 def little(value, size):
@@ -62,7 +64,7 @@ def lapic(uid, apic_id, flags):
 
 
 def io_apic(address, base, io_apic_id=0):
-    return bytes([1, 12, io_apic_id, 0]) + little(address, 4) + little(base, 4)
+    return bytes([1, 12, io_apic_id]) + RESERVED[:1] + little(address, 4) + little(base, 4)
 
 
 def override(source, gsi, flags=0, bus=0):
@@ -78,15 +80,15 @@ def lapic_nmi(uid, flags=0):
 
 
 def lapic_address(address):
-    return bytes([5, 12, 0, 0]) + little(address, 8)
+    return bytes([5, 12]) + RESERVED[:2] + little(address, 8)
 
 
 def x2apic(uid, apic_id, flags):
-    return bytes([9, 16, 0, 0]) + little(apic_id, 4) + little(flags, 4) + little(uid, 4)
+    return bytes([9, 16]) + RESERVED[:2] + little(apic_id, 4) + little(flags, 4) + little(uid, 4)
 
 
 def x2apic_nmi(uid, flags=0):
-    return bytes([10, 12]) + little(flags, 2) + little(uid, 4) + bytes([1, 0, 0, 0])
+    return bytes([10, 12]) + little(flags, 2) + little(uid, 4) + b"\1" + RESERVED[:3]
 
 
 MADT_TYPES = {0: 8, 1: 12, 2: 10, 3: 8, 4: 6, 5: 12, 9: 16, 10: 12}
@@ -111,15 +113,18 @@ def other_entry(dice, kinds):
 
 
 def apic_domain(apic_id, domain, flags):
-    return bytes([0, 16, domain % 256, apic_id % 256]) + little(flags, 4) + b"\7" + little(domain >> 8, 3) + bytes(4)
+    # The EID and the clock domain, which are not compared, differ where the flags do.
+    own = little(flags, 4)
+    return bytes([0, 16, domain % 256, apic_id % 256]) + own + own[:1] + little(domain >> 8, 3) + own
 
 
 def x2apic_domain(apic_id, domain, flags):
-    return bytes([2, 24, 0, 0]) + little(domain, 4) + little(apic_id, 4) + little(flags, 4) + bytes(8)
+    return bytes([2, 24]) + RESERVED[:2] + little(domain, 4) + little(apic_id, 4) + little(flags, 4) + bytes(4) + RESERVED[:4]
 
 
 def memory_range(base, length, flags, domain=0):
-    return bytes([1, 40]) + little(domain, 4) + bytes(2) + little(base, 8) + little(length, 8) + bytes(4) + little(flags, 4) + bytes(8)
+    head = bytes([1, 40]) + little(domain, 4) + RESERVED[:2] + little(base, 8) + little(length, 8)
+    return head + RESERVED[:4] + little(flags, 4) + RESERVED[:8]
 
 
 def gicc_domain(uid, domain, flags):
@@ -145,7 +150,7 @@ class Item:
 
     def bytes(self):
         count = len(self.resources) if self.count is None else self.count
-        head = bytes([self.kind, len(self), 0, 0]) + little(self.flags, 4) + little(offset_of(self.names), 4) + little(self.uid, 4)
+        head = bytes([self.kind, len(self)]) + RESERVED[:2] + little(self.flags, 4) + little(offset_of(self.names), 4) + little(self.uid, 4)
         if self.kind == 0:
             rest = little(count, 4) + b"".join(little(offset_of(it), 4) for it in self.resources)
         else:
@@ -311,7 +316,7 @@ class MadeSet:
             head = little(0xFEE00000, 4) + little(1, 4)
             tables.append(Table(b"APIC", cut(head + b"".join(self.madt), self.madt_cut)))
         if self.srat is not None:
-            tables.append(Table(b"SRAT", cut(little(1, 4) + bytes(8) + b"".join(self.srat), self.srat_cut)))
+            tables.append(Table(b"SRAT", cut(RESERVED + b"".join(self.srat), self.srat_cut)))
         if self.slit is not None:
             tables.append(Table(b"SLIT", little(self.slit[0], 8) + self.slit[1]))
         if self.pptt is not None:

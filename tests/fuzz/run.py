@@ -201,7 +201,7 @@ class Fuzz:
             print(f"advice {name}: {self.advised[name]} times")
 
     def count_codes(self):
-        """In the run that `make test` has, each fault is reported at least once."""
+        """Each fault is reported at least once in the run without options. Few cases of another seed may miss one."""
         missing = [name for name in STAGE_OF if not self.reported[name]]
         if missing:
             self.failed += 1
@@ -226,7 +226,7 @@ def main():
         fuzz.run_case(place)
     if said.coverage:
         fuzz.print_coverage()
-    if said.cases >= CASES:
+    if (said.seed, said.first) == (SEED, 0) and said.cases >= CASES:
         fuzz.count_codes()
     print(f"fuzz: {fuzz.passed} passed, {fuzz.failed} failed")
     sys.exit(1 if fuzz.failed else 0)
