@@ -36,6 +36,8 @@ def cut(report, table, at):
         report.say(f"the table ends before it, or a structure begins there: {MISMATCH}")
     elif left == 1:
         report.say("a single byte is left, and a structure has at least 2")
+    elif at + 2 > len(table.data):
+        report.say("its length, byte 1, is not in the image")
     else:
         size = table.number(at + 1, 1)
         least = "a structure has at least 2 bytes" if size < 2 else f"only {left} bytes are left in the table"
