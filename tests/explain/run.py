@@ -224,6 +224,9 @@ def structures(tests):
     tests.says("no 10 Overlap 0x30 0x58 0x40000000", "both cover 0x40000000 to 0xffffffff", sets.WINDOWS, without=[MISMATCH])
     for line, image, text, before in LENGTHS:
         tests.says(f"{line} 0x0 0x0", [text, before], image, without=[MISMATCH])
+    tests.says("no 6 MadtEntryCut 0x38 0x0 0x0", ["its length, byte 1, is not in the image", f"..{DOUBT}"], sets.MISSING)
+    tests.says("no 6 MadtEntryCut 0x38 0x0 0x0", "only the first 57 of its bytes are in the image", sets.MISSING)
+    tests.says("advice NoLeaf 0x2c 0x0 0x0", "the PPTT's leaves have the IDs none", sets.NO_REVISION)
     tests.says("no 18 LeafUnknown 0x24 0x0 0x7", "the MADT's processors have the UIDs 0 to 2, 300", sets.LEAF, without=[MISMATCH])
     tests.says("advice AffinityNowhere 0x30 0x0 0x16", "the MADT's processors have the UIDs 21", sets.ARM, without=[MISMATCH])
     texts = ["  0x2c entry type 11 length 80: gicc uid 21 flags 0x1", "the SRAT's enabled GICC affinities have the UIDs 22"]

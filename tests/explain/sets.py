@@ -44,6 +44,10 @@ SRAT_LENGTH = image_of(srat(apic_domain(9, 300), bytes([1, 24]) + bytes(22)))
 SRAT_CUT = image_of(srat(memory(5 * GIB, GIB), b"\1"))
 PPTT_LENGTH = image_of(pptt(cache(), bytes([0, 24]) + bytes(14) + b"\2\0\0\0" + bytes(4)))
 PPTT_CUT = image_of(pptt(node(uid=4), bytes([1, 0])))
+# The MADT without its last three bytes: what is left at 0x38 has no length.
+MISSING = image_of(madt(io_apic(0xFEC00000, 5), bytes([0, 200, 0, 0]))[:-3])
+# A PPTT whose Length, 8, ends before its Revision.
+NO_REVISION = image_of(madt(lapic(0, 0)), changed(pptt(node(flags=10)), {4: 8}))
 FIRST_LENGTH = image_of(madt(bytes([1, 8]) + bytes(6)))
 
 # The chain from 0x24 comes after one step to a cycle of three: 0x24 to 0x38, 0x4c, 0x60 and 0x38 again.

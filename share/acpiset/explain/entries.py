@@ -3,7 +3,7 @@
 from .fixed import found_fadt
 from .image import ADDRESSES
 from .program import MISMATCH
-from .report import both
+from .report import both, known
 from .tables import FIRST, LENGTHS, UNREAD, layout_of, little
 
 MOST_LISTED = 32
@@ -36,6 +36,8 @@ def cut(report, table, at):
         report.say(f"the table ends before it, or a structure begins there: {MISMATCH}")
     elif left == 1:
         report.say("a single byte is left, and a structure has at least 2")
+    elif at + 2 > len(table.data):
+        report.say("its length, byte 1, is not in the image")
     else:
         size = table.number(at + 1, 1)
         least = "a structure has at least 2 bytes" if size < 2 else f"only {left} bytes are left in the table"
@@ -155,7 +157,7 @@ def srat(report, code, at, other, point):
         looked_for(report, 114 if is_one(found, "gicc") else 118)
     elif code == 120 and (slit := report.table("SLIT")):
         report.field(slit, "the number of localities", 36, 8)
-        report.say(f"the SLIT has {slit.number(36, 8)} localities, numbered from 0")
+        report.say(f"the SLIT has {known(slit.number(36, 8))} localities, numbered from 0")
 
 
 def ranges(report, *two):
@@ -251,7 +253,7 @@ def looked_for(report, code):
 def leaves(table):
     """The IDs of leaves: of nodes with a valid ID that their flags call leaves, or that no Parent names if the Revision is below 2."""
     nodes = (one for one in table.structures(0) if one.fields.get("flags", 0) & 2)
-    if table.number(8, 1) >= 2:
+    if (table.number(8, 1) or 0) >= 2:
         return (one.fields["id"] for one in nodes if one.fields["flags"] & 8)
     parents = set(table.values("parent", 0))
     return (one.fields["id"] for one in nodes if one.offset not in parents)
@@ -287,7 +289,7 @@ def sci(report):
         return
     report.field(table, "SCI_INT", 46, 2)
     source = table.number(46, 2)
-    report.say(f"SCI_INT is {source}")
+    report.say(f"SCI_INT is {known(source)}")
     apic = report.table("APIC")
     if not apic:
         return

@@ -2,6 +2,7 @@
 
 from .program import MISMATCH
 from .refusal import signature_of
+from .report import known
 
 MOST_SLOTS = 32
 BLOCKS = "PM1a_EVT_BLK PM1b_EVT_BLK PM1a_CNT_BLK PM1b_CNT_BLK PM2_CNT_BLK PM_TMR_BLK GPE0_BLK GPE1_BLK".split()
@@ -109,22 +110,22 @@ def fadt(report, code, at):
         report.say(f"Length is {table.length}, and must be at least 116")
     elif code == 25:
         report.field(table, "RESET_REG", 116, 12)
-        space, width, offset = number(116, 1), number(117, 1), number(118, 1)
+        space, width, offset = (known(number(place, 1)) for place in (116, 117, 118))
         report.say(f"its address space is {space}, its bit width {width}, its bit offset {offset}; they must be 0 to 2, 8, and 0")
     elif code == 26:
         addresses(report, table, "FIRMWARE_CTRL", 36, 132)
     else:
         report.field(table, "the field", at, 1)
-        report.say(BLOCK_LENGTHS.get(at, f"this field has no such rule: {MISMATCH}").format(number(at, 1)))
+        report.say(BLOCK_LENGTHS.get(at, f"this field has no such rule: {MISMATCH}").format(known(number(at, 1))))
 
 
 def addresses(report, table, name, narrow, wide):
     """Two fields with an address of the same thing."""
     report.field(table, name, narrow, 4)
-    told = f"{name} is {table.number(narrow, 4) or 0:#x}"
+    told = f"{name} is {known(table.number(narrow, 4), '#x')}"
     if table.length >= wide + 8:
         report.field(table, f"X_{name}", wide, 8)
-        told += f", and X_{name} is {table.number(wide, 8) or 0:#x}"
+        told += f", and X_{name} is {known(table.number(wide, 8), '#x')}"
     report.say(told)
 
 
@@ -166,9 +167,9 @@ def distance(report, table, what, count, at):
     report.field(table, what, at, 1)
     if count and 44 <= at < 44 + count * count:
         row, column = divmod(at - 44, count)
-        report.say(f"from locality {row} to locality {column} it is {table.number(at, 1)}")
+        report.say(f"from locality {row} to locality {column} it is {known(table.number(at, 1))}")
     else:
-        report.say(f"of {count} localities no distance is there: {MISMATCH}")
+        report.say(f"of {known(count)} localities no distance is there: {MISMATCH}")
 
 
 def fadt_advice(report, code, at, point):
@@ -177,7 +178,7 @@ def fadt_advice(report, code, at, point):
         return
     if code == 104:
         report.field(table, "its header", 0, 36)
-        report.say(f"Length is {table.length}, and Revision {table.number(8, 1)} has fields up to {point}")
+        report.say(f"Length is {table.length}, and Revision {known(table.number(8, 1))} has fields up to {point}")
     elif code == 105:
         addresses(report, table, "FIRMWARE_CTRL", 36, 132)
     elif code == 106:
@@ -187,4 +188,5 @@ def fadt_advice(report, code, at, point):
         name = BLOCKS[(at - 56) // 4] if is_field else f"no block: {MISMATCH}"
         report.field(table, "the 4-byte address", at, 4)
         report.field(table, "the X_ structure", max(wide, 0), 12)
-        report.say(f"of {name}: {table.number(at, 4) or 0:#x}, and in the X_ structure {table.number(max(wide, 0) + 4, 8) or 0:#x}")
+        narrow_address, wide_address = table.number(at, 4), table.number(max(wide, 0) + 4, 8)
+        report.say(f"of {name}: {known(narrow_address, '#x')}, and in the X_ structure {known(wide_address, '#x')}")

@@ -8,6 +8,11 @@ def both(offset):
     return f"{offset:#x} ({offset})"
 
 
+def known(number, form="d"):
+    """A number of a table, some of whose bytes may not be in the image."""
+    return "unknown" if number is None else format(number, form)
+
+
 class Report:
     """What one line is about in an image."""
 
@@ -59,6 +64,8 @@ class Report:
             return None
         table = self.tables.first(signature)
         self.say(table.told if table else f"no slot lists a table with the signature {signature}: {MISMATCH}")
+        if table and len(table.data) < table.length:
+            self.say(f"only the first {len(table.data)} of its bytes are in the image")
         return table
 
     def field(self, table, what, at, size):
