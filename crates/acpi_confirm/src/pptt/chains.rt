@@ -102,7 +102,7 @@ fn goes_round(pptt: &[u8], link: Link, most: u64, witness: &Witness, room: &mut 
     follow(pptt, link, &starts, there, round) == Some(there)
 }
 
-/// The same of a large table, whose notes take 256 KiB of the stack.
+/// The same of a large table, whose notes take 256 KiB of the stack. It is not inlined, so that no other call takes as much.
 #[inline(never)]
 fn is_long_cycle(pptt: &[u8], link: Link, most: u64, witness: &Witness) -> bool
     ensures { IsTrue result ↔ IsCycle (Names link (pptt_contents pptt.now)) most witness.now.at
@@ -111,7 +111,9 @@ fn is_long_cycle(pptt: &[u8], link: Link, most: u64, witness: &Witness) -> bool
     goes_round(pptt, link, most, witness, &mut [0; MANY_NOTES])
 }
 
-/// Whether `other` steps lead from the offset `at` to one from which `point` steps lead back to it, at most `most` in all.
+/// Whether `other` steps lead from the offset `at` to one from which `point` steps lead back to it, at most `most` in all. Nor is
+/// it inlined, as the notes of a small table take 4 KiB.
+#[inline(never)]
 fn is_cycle(pptt: &[u8], link: Link, most: u64, witness: &Witness) -> bool
     ensures { IsTrue result ↔ IsCycle (Names link (pptt_contents pptt.now)) most witness.now.at
         witness.now.other witness.now.point }
