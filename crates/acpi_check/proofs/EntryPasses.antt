@@ -2,6 +2,7 @@
 pub mod Collecting
 pub mod Filled
 pub mod Kept
+pub mod KindsSeen
 pub mod MadtPass
 pub mod OverridesPass
 pub mod Passes

@@ -11,6 +11,7 @@ pub mod GsiRanges
 pub mod HandedOn
 pub mod Headline
 pub mod Leaves
+pub mod MadtKinds
 pub mod NamedNumbers
 pub mod OffsetSets
 pub mod PassResults

@@ -30,6 +30,7 @@ mod interrupts;
 mod leaves;
 mod listed;
 mod madt;
+mod madt_kinds;
 mod nodes;
 mod offset_set;
 mod overrides;

@@ -2,45 +2,57 @@
 //! two; else what is found of the tables is its verdict on the set.
 
 ghost use Rattle.std.specs.Prelude.{Ok, MatchOption};
+ghost use Rattle.acpi_check.specs.MadtKinds.{AreMadtKinds};
 ghost use Rattle.acpi_check.specs.Set.{IsReady, IsSetResult};
 
 use crate::chains::{caches_end, parents_end};
 use crate::domains::one_domain;
-use crate::interrupts::apart_interrupts;
 use crate::leaves::known_leaves;
 use crate::madt::sound_madt;
-use crate::overrides::agreeing_overrides;
+use crate::madt_kinds::MadtKinds;
 use crate::pptt::sound_pptt;
 use crate::ranges::apart_ranges;
 use crate::references::sound_references;
 use crate::refusal::Refusal;
-use crate::served::named_served;
 use crate::set::Set;
 use crate::slit::sound_slit;
 use crate::srat::sound_srat;
 use acpi_base::{Stage, TableKind};
 use std::alloc::Global;
 
-/// Asks one stage from the MADT's on. A stage holds where the set does not list what it looks at.
-pub fn run_stage(alloc: Global, set: &Set<'_, '_>, stage: Stage) -> Result<(), Refusal>
-    requires { IsReady stage set.now }
+/// Asks one stage from the MADT's on, where the kinds are those of the set's MADT. A stage holds where the set does not list what
+/// it looks at.
+pub fn run_stage(
+    alloc: Global,
+    set: &Set<'_, '_>,
+    kinds: &MadtKinds,
+    stage: Stage,
+) -> Result<(), Refusal>
+    requires ready { IsReady stage set.now }
+    requires kinds { AreMadtKinds set.now kinds.now }
     ensures { IsSetResult stage set.now result }
 {
-    found(alloc, set, stage).unwrap_or(Ok(()))
+    found(alloc, set, kinds, stage).unwrap_or(Ok(()))
 }
 
 /// What a stage finds of the tables that it looks at, or none where the set does not list them. Those that take memory are
 /// handed `alloc`; the others take none.
-fn found(alloc: Global, set: &Set<'_, '_>, stage: Stage) -> Option<Result<(), Refusal>>
-    requires { IsReady stage set.now }
+fn found(
+    alloc: Global,
+    set: &Set<'_, '_>,
+    kinds: &MadtKinds,
+    stage: Stage,
+) -> Option<Result<(), Refusal>>
+    requires ready { IsReady stage set.now }
+    requires kinds { AreMadtKinds set.now kinds.now }
     ensures { MatchOption result (IsSetResult stage set.now (Ok tt)) (IsSetResult stage set.now) }
 {
     let tables = &set.listed.tables;
     let policy = set.policy;
     Some(match stage {
         Stage::Madt => sound_madt(policy, tables.first(TableKind::Madt)?),
-        Stage::Interrupts => apart_interrupts(alloc, policy, &set.madt()?),
-        Stage::Overrides => agreeing_overrides(&set.madt()?),
+        Stage::Interrupts => kinds.apart_interrupts(alloc, policy, &set.madt()?),
+        Stage::Overrides => kinds.agreeing_overrides(&set.madt()?),
         Stage::Srat => sound_srat(tables.first(TableKind::Srat)?),
         Stage::Ranges => apart_ranges(alloc, policy.hotplug(), &set.srat()?),
         Stage::Slit => sound_slit(tables.first(TableKind::Slit)?),
@@ -49,7 +61,7 @@ fn found(alloc: Global, set: &Set<'_, '_>, stage: Stage) -> Option<Result<(), Re
         Stage::Parents => parents_end(alloc, &set.pptt()?),
         Stage::Caches => caches_end(alloc, &set.pptt()?),
         Stage::Domains => one_domain(alloc, policy.processors(), &set.madt()?, &set.srat()?),
-        Stage::Served => named_served(alloc, policy, &set.madt()?),
+        Stage::Served => kinds.named_served(alloc, policy, &set.madt()?),
         Stage::Leaves => known_leaves(alloc, &set.madt()?, &set.pptt()?),
         // These hold of every set.
         Stage::Rsdp | Stage::Root | Stage::Tables | Stage::Fadt | Stage::Facs => Ok(()),

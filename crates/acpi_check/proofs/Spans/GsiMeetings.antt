@@ -151,7 +151,8 @@ none_below q c g apart o p x clash =
             in_b,
             of_entries (λ v w. v.start < g → w.start < g → EndsBefore v w ⊎ EndsBefore w v)
                 (λ v w either low high. turned v w (either high low)) q c.entries apart
-                (record { offset = o; entry = e }) (record { offset = p; entry = f }) stands also clash.two a b is_a is_b (omega (arith, in_a, below))
+                (record { offset = o; entry = e }) (record { offset = p; entry = f }) stands also clash.two a b is_a
+                is_b (omega (arith, in_a, below))
                 (omega (arith, in_b, below)),
           ))
     ]

@@ -1,5 +1,5 @@
--- The spans that are collected from the entries of a MADT are the interrupt numbers that its I/O APICs serve of which a point
--- is one.
+-- The spans that are collected from the entries of a MADT are the interrupt numbers that its I/O APICs serve of which a
+-- point is one.
 use Rattle.std.proofs.Common.{◌≡◌, ℕ, ◌+◌, ◌<◌, ◌≤◌, Bool, false, List, map, Some, inl, inr, arith}
 use Rattle.std.specs.Prelude.{◌↔◌, ◌||◌, nat_lt, nat_le}
 use Rattle.std.proofs.lemmas.Bool.{cases_Bool}
@@ -35,7 +35,13 @@ covers q g o s x (IoApic v) = (to, from)
         → (w : SpanValue) × (served_span q g o (IoApic v) ≡ Some w) × (w.start ≡ s) × (s ≤ x) × (x < w.end)
     to (one, here) =
         let inside : is_outside g v.gsi_base (v.gsi_base + inputs_of q v.address) ≡ false =
-        grind (arith, nat_tests, one, here, cases_Bool (is_outside g v.gsi_base (v.gsi_base + inputs_of q v.address))) in
+        grind (
+          arith,
+          nat_tests,
+          one,
+          here,
+          cases_Bool (is_outside g v.gsi_base (v.gsi_base + inputs_of q v.address)),
+        ) in
         rw inside (from_some v.gsi_base (v.gsi_base + inputs_of q v.address) o s x one.0 one.1
         (omega (arith, one.0, one.2)))
 
