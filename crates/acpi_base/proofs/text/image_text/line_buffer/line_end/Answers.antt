@@ -14,8 +14,8 @@ returns-clause-before c =
 
 pub returns-then-before-lt64-clause-before : goal.returns-then-before-lt64-clause-before
 returns-then-before-lt64-clause-before c =
-    none_in_block c.args.text.now (64 * c.loop-block.block) c.before_line_feed-before.result c.loop-block.invariant (omega arith)
-    c.before_line_feed-before.ensures
+    none_in_block c.args.text.now (64 * c.loop-block.block) c.before_line_feed-before.result c.loop-block.invariant
+    (omega arith) c.before_line_feed-before.ensures
 
 pub returns-then-before-lt64-clause-found : goal.returns-then-before-lt64-clause-found
 returns-then-before-lt64-clause-found c within =
@@ -24,5 +24,5 @@ returns-then-before-lt64-clause-found c within =
 
 pub loop-block-preserved : goal.loop-block-preserved
 loop-block-preserved c k l =
-    none_in_whole_block c.args.text.now (64 * c.loop-block.block) c.before_line_feed-before.result c.loop-block.invariant
-    (omega arith) c.before_line_feed-before.ensures c.if-before-lt64.false k (omega arith)
+    none_in_whole_block c.args.text.now (64 * c.loop-block.block) c.before_line_feed-before.result
+    c.loop-block.invariant (omega arith) c.before_line_feed-before.ensures c.if-before-lt64.false k (omega arith)
