@@ -76,7 +76,8 @@ numbered! {
         ///
         /// Numbers: `at` is the RSDP's address.
         RsdpLongOut = 6,
-        /// Revision is 2 or more, and the Length bytes do not sum to 0 modulo 256.
+        /// Revision is 2 or more, Length is at least 36, the image holds the Length bytes, and they do not sum to 0
+        /// modulo 256.
         ///
         /// Numbers: `at` is the RSDP's address.
         RsdpExtendedSum = 7,
@@ -106,7 +107,8 @@ numbered! {
         ///
         /// Numbers: `at` is the address of the XSDT or RSDT.
         RootRagged = 13,
-        /// The Length bytes of the XSDT or RSDT do not sum to 0 modulo 256.
+        /// Length is at least 36, the image holds the Length bytes of the XSDT or RSDT, and they do not sum to 0 modulo
+        /// 256.
         ///
         /// Numbers: `at` is the address of the XSDT or RSDT.
         RootSum = 14,
@@ -122,7 +124,7 @@ numbered! {
         ///
         /// Numbers: `at` is the slot's number, `other` the table's address.
         TableOut = 17,
-        /// The table's Length bytes do not sum to 0 modulo 256.
+        /// The table's Length is at least 36, the image holds its Length bytes, and they do not sum to 0 modulo 256.
         ///
         /// Numbers: `at` is the slot's number, `other` the table's address.
         TableSum = 18,
@@ -203,7 +205,8 @@ numbered! {
         ///
         /// Numbers: `at` is the structure's offset.
         ReservedInti = 36,
-        /// There is a second structure that overrides the address of the local APICs.
+        /// There is a second structure that overrides the address of the local APICs. One whose Length is not 12 is
+        /// another fault, and does not count here.
         ///
         /// Numbers: `at` is its offset, `other` that of the first such structure.
         SecondAddressOverride = 37,
@@ -271,7 +274,8 @@ numbered! {
         ///
         /// Numbers: `at` is the structure's offset.
         PpttEntryLength = 51,
-        /// Parent of a node is not 0, and no node begins at it.
+        /// Parent of a node is not 0, and no node begins at it. A structure of type 0 whose Length is not that of a
+        /// node is no node.
         ///
         /// Numbers: `at` is the node's offset, `other` is the Parent.
         DanglingParent = 52,
@@ -281,7 +285,8 @@ numbered! {
         /// Numbers: `at` is the node's offset, `other` the index of the private resource, from 0, `point` its value, an
         /// offset.
         DanglingResource = 53,
-        /// Next Level of Cache of a cache is not 0, and no cache begins at it.
+        /// Next Level of Cache of a cache is not 0, and no cache begins at it. A structure of type 1 whose Length is
+        /// not that of a cache is no cache.
         ///
         /// Numbers: `at` is the cache's offset, `other` is the Next Level of Cache.
         DanglingCache = 54,
