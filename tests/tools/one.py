@@ -12,8 +12,9 @@ import files
 import dumped_texts
 import memory_dumps
 import raw_tables
+import reports
 
-PARTS = (memory_dumps,)
+PARTS = (reports,)
 
 
 def main():

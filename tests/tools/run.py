@@ -12,8 +12,9 @@ import files
 import dumped_texts
 import memory_dumps
 import raw_tables
+import reports
 
-PARTS = (raw_tables, dumped_texts, memory_dumps)
+PARTS = (raw_tables, dumped_texts, memory_dumps, reports)
 
 
 def main():
