@@ -1,5 +1,5 @@
 #!/usr/bin/env python3
-"""Writes files for tests/tools.sh into a folder: raw tables, texts as acpidump prints them, and the image texts that the
+"""Writes files for tests/tools/run.py into a folder: raw tables, texts as acpidump prints them, and the image texts that the
 tools have to make of them. The bytes come from tests/rows/tables.py, and none from the tools.
 
 usage: files.py FOLDER"""

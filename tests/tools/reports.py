@@ -110,8 +110,12 @@ def reported(judge, lines, *words, status, **forms):
 
 
 def verdicts(judge):
-    overlap = "Two enabled memory ranges cover one address."
-    message = f"{overlap} Line of acpiset: {OVERLAP}. Numbers: at and other are the offsets of their entries, point is the address."
+    overlap = "Two enabled memory ranges overlap."
+    numbers = (
+        "at and other are the offsets of their structures, point is an address in both ranges: the lowest address that two ranges cover. "
+        "The structures are the first two that cover it, by base, then by offset."
+    )
+    message = f"{overlap} Line of acpiset: {OVERLAP}. Numbers: {numbers}"
     finding = {"kind": "fault", "name": "Overlap", "code": 45, "stage": 10, "at": "0x90", "other": "0xb8", "point": "0x100000000", "level": "error", "text": overlap}
     reported(
         judge, [OVERLAP], "--image", "tables/a b.txt", status=1,
@@ -164,7 +168,7 @@ def each_name(judge):
                 continue
             (finding,) = told["findings"]
             words = " ".join(re.search(r"^- (?:Wrong|Found): (.*?)(?=^- )", part, re.M | re.S)[1].replace("`", "").split())
-            if (finding["code"], finding["name"]) != (int(number), name) or words[1:].find(finding["text"][1:]) != 0:
+            if (finding["code"], finding["name"]) != (int(number), name) or words[1:].find(" ".join(finding["text"].split())[1:]) != 0:
                 wrong.append(f"{line}: {finding}")
     judge.count("the examples of FAULTS.md", "\n".join(wrong), len(parts) < 87 and f"{len(parts)} parts")
 
