@@ -51,6 +51,9 @@ def without_addresses(judge):
     judge.write("log.txt", b"ACPI: HPET 0x0000000000005000 000038 (v01 AAAAAA AAAAAAAA 00000001 AAAA 00000001)\n")
     image = text_of({0xE0000: extended_rsdp(0x100000, 0), 0x100000: xsdt(0x5000, 0x101000), 0x5000: HPET, 0x101000: fadt()})
     judge.makes(zeros, "yes", "acpidump2image", "--dmesg", "log.txt", data=dump_of([(0, HPET)]), image=image)
+    # A log of another machine, with a text that has addresses, an RSDP and a root.
+    judge.write("foreign.log", b"ACPI: FACP 0x00000000BFFE1234 0000F4 (v03 ..)\n")
+    judge.makes("left out: the image has a root of its own", "yes", "acpidump2image", "--dmesg", "foreign.log", data=dump_of(WHOLE))
     shutil.copy(os.path.join(TOP, "tools", "acpidump2image"), judge.path("alone"))
     run = subprocess.run([judge.path("alone"), "whole.txt"], capture_output=True, cwd=judge.folder, timeout=60)
     told = b"alone: tables2image is not beside this tool: copy both\n"
