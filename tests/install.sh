@@ -310,7 +310,7 @@ same 'the processor in its README' "$(grep -c 'x86-64-v2' "$unpacked/README.md")
 same 'the licence in its README' "$(grep -c 'has chosen no licence yet' "$unpacked/README.md")" 1
 same 'the sum of the program in PROVED.md' "$(grep -c "$(sha256sum "$unpacked/bin/acpiset" | cut -d ' ' -f 1)" "$unpacked/PROVED.md")" 1
 same 'the version of the program' "$("$unpacked/bin/acpiset" --version 2>&1)" "acpiset: version $version, 18 stages"
-same 'its list of parts' "$(tests/parts.py "$unpacked" 2>&1)" ''
+same 'its list of parts' "$(tests/parts_list.py "$unpacked" 2>&1)" ''
 echo 'a licence' >"$tree/LICENSE"
 archived SOURCE_DATE_EPOCH=1700000000
 same 'times in an archive of a given time' "$(TZ=UTC tar --full-time -tvzf "$archive" | awk '{ print $4, $5 }' | sort -u)" '2023-11-14 22:13:20'
@@ -421,7 +421,7 @@ for file in lib/libacpiset.a lib/libacpiset.so.1; do
   same "the sum of $file in PROVED.md" "$(grep -c "$(sha256sum "$unpacked/$file" | cut -d ' ' -f 1)" "$unpacked/PROVED.md")" 1
 done
 same 'the library in its README' "$(grep -c '^| `lib/libacpiset.a`' "$unpacked/README.md")" 1
-same 'its list of parts' "$(tests/parts.py "$unpacked" 2>&1)" ''
+same 'its list of parts' "$(tests/parts_list.py "$unpacked" 2>&1)" ''
 same 'what acpiset.pc of the archive has as its prefix' "$(field prefix "$unpacked/lib/pkgconfig/acpiset.pc")" '${pcfiledir}/../..'
 if [ -e library/libacpiset.a ]; then
   same 'how libacpiset.so.1 is hardened' "$(hardened "$unpacked/lib/libacpiset.so.1")" 'DYN RW relro now 0'

@@ -3,7 +3,7 @@
 are not those of the files, parts that crates.txt names and the list does not, and licences whose texts the archive lacks. Where
 `pyspdxtools` is installed, it is asked too.
 
-usage: tests/parts.py FOLDER"""
+usage: tests/parts_list.py FOLDER"""
 
 import hashlib
 import json
