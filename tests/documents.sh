@@ -288,6 +288,7 @@ count 'the Rust crate, and what its lists are written from' "$(bindings/rust/lis
 
 tools=$(sed -n "s/^tools='\(.*\)'$/\1/p" scripts/install | tr ' ' '\n')
 same 'tools that scripts/install lists (<) and those that are here (>)' "$tools" "$(cd tools && printf '%s\n' * | grep -x '[a-z0-9]*')"
+same 'tools (<) and those with a manual page (>)' "$tools" "$(printf '%s\n' man/acpiset-*.1 | sed 's/.*acpiset-//; s/\.1$//')"
 within 'tools that the README of an archive does not name' "$tools" "$(grep -o '`bin/acpiset-[a-z0-9]*`' release/README.md | sed 's/^.*-//; s/`//')"
 count 'an install' "$(BINARY=/bin/sh LIBRARY=none DESTDIR=$scratch/root PREFIX=/usr scripts/install install 2>&1)"
 linked=$(sed -n 's/^[a-z_]*\( staticlib\)\{0,1\}: *//p' crates.txt | tr ' ' '\n' | grep -vxF "$crates")
