@@ -2,7 +2,7 @@
 program := crates/acpi_cli/out/acpi_cli
 archive := crates/acpi_c/out/libacpi_c.a
 
-# What `try` runs the program on, beside the example, and the program's arguments for it, as a shell reads them.
+# What `try` runs the program on, besides the example, and the program's arguments for it, as a shell reads them.
 IMAGE ?=
 ARGUMENTS ?= check
 
@@ -14,12 +14,12 @@ PC_PREFIX ?=
 BINARY ?=
 LIBRARY ?=
 
-# What `fuzz` runs: so many cases, of this seed.
+# What `fuzz` runs: this many cases, with this seed.
 N ?= 20000
 SEED ?=
 
-# A script gets these names and numbers by its environment, as they were given: make does not look for variables in them, and
-# no shell reads them as a part of a command.
+# A script gets these names and numbers in its environment, exactly as given: make does not expand variables in them, and no shell
+# reads them as part of a command.
 override IMAGE := $(value IMAGE)
 override PREFIX := $(value PREFIX)
 override DESTDIR := $(value DESTDIR)
@@ -34,10 +34,10 @@ export IMAGE PREFIX DESTDIR LIBDIR PC_PREFIX BINARY LIBRARY N SEED
 # A second make in this checkout waits until the first one has ended.
 alone := scripts/alone
 
-# Ends make in one line where the toolchain is missing. It is expanded where a recipe begins.
+# Ends make with one line if the toolchain is missing. It is expanded at the beginning of a recipe.
 needs_toolchain = $(if $(shell command -v rt || :),,$(error the Rattle toolchain is missing: put the folder of its command `rt` on the PATH, or take the archive of a release, which needs no toolchain (README.md)))
 
-# Makes the library of what was proved, so that it is tested too; not on a machine without a C compiler.
+# Makes the library from what was proved, so that it is tested too; not on a machine without a C compiler.
 link_library = { ! command -v cc >/dev/null || scripts/library $(archive); }
 
 .PHONY: try run build test gate library bench fuzz install install-library uninstall dist clean
@@ -54,8 +54,8 @@ run: build
 build:
 	$(needs_toolchain)@$(alone) scripts/prove program
 
-# Goes on from what `build` or `gate` left: proves and builds what is not, and runs all tests, which take the place of the shell, so that
-# a signal to make reaches them.
+# Continues from what `build` or `gate` left: proves and builds the rest, and runs all tests. They replace the shell, so that a
+# signal to make reaches them.
 test:
 	$(needs_toolchain)@$(alone) sh -c 'scripts/prove tests && $(link_library) && exec tests/all.sh $(program) crates/*/out/*_tests'
 
@@ -67,12 +67,12 @@ gate:
 library:
 	$(needs_toolchain)@$(alone) sh -c 'scripts/prove library && scripts/library $(archive)'
 
-# Prints speed and memory beside other programs; not part of the tests.
+# Prints speed and memory, compared with other programs; not part of the tests.
 bench: build
 	bench/run ./acpiset
 
-# Compares ./acpiset, or BINARY, with second programs on N cases that are made at random; `make test` does it on a few. It says the seed,
-# which makes the same cases again.
+# Compares ./acpiset, or BINARY, with second programs on N random cases; `make test` does it on a few. It prints the seed, which
+# gives the same cases again.
 fuzz:
 	@program=$${BINARY:-./acpiset} && seed=$${SEED:-$$(date +%s)} && \
 	{ [ -x "$$program" ] || { echo "$$program is missing: \`make build\` first, which makes ./acpiset" >&2 && false; }; } && \
@@ -83,7 +83,7 @@ fuzz:
 install:
 	@scripts/install install
 
-# The library, its header, what pkg-config says of it, and its manual page.
+# The library, its header, its pkg-config file, and its manual page.
 install-library:
 	@scripts/install install-library
 

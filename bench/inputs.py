@@ -7,6 +7,8 @@ usage: inputs.py run FILE              one run, just below 64 MiB of text
        inputs.py nested COUNT FILE     COUNT tables 64 bytes apart, all of which end where the last does
        inputs.py KIND COUNT FILE       a set with COUNT entries of a KIND, one of KINDS below
        inputs.py CHAIN COUNT FILE      a set with COUNT nodes or caches in a CHAIN, one of CHAINS below; prints a witness
+       inputs.py SHAPE COUNT FILE      a set with COUNT entries or slots of a SHAPE, one of SHAPES below
+       inputs.py counts FILE           no text: the counts of inputs, ADDRESS=COUNT, that go with the shape io-apics-with-counts
 """
 
 import random
@@ -31,7 +33,7 @@ def rows(memory):
 
 
 def long_run():
-    """Random bytes behind an RSDP and an RSDT that lists no table."""
+    """Random bytes after an RSDP and an RSDT that lists no table."""
     address = f"@{BASE:x}\n"
     size = (MOST_TEXT - 1 - len(address)) // (3 * ROW) * ROW
     rsdp = struct.pack("<8sB6sBI", b"RSD PTR ", 0, b"BENCH ", 0, BASE + RSDT)
@@ -48,20 +50,23 @@ def shuffled(count):
     return numbers
 
 
-# the distance from row to row, in rows, and the order in which they come
+# how far apart rows of a size begin, in addresses, and the order in which they come
 ORDERS = {
-    "rising-apart": (2, range),
-    "falling-apart": (2, lambda count: range(count - 1, -1, -1)),
-    "shuffled-apart": (2, shuffled),
-    "falling-touching": (1, lambda count: range(count - 1, -1, -1)),
-    "holes-last": (1, lambda count: [*range(0, count, 2), *range(1, count, 2)]),
+    "rising-apart": (lambda size: 2 * size, range),
+    "falling-apart": (lambda size: 2 * size, lambda count: range(count - 1, -1, -1)),
+    "shuffled-apart": (lambda size: 2 * size, shuffled),
+    "falling-touching": (lambda size: size, lambda count: range(count - 1, -1, -1)),
+    "holes-last": (lambda size: size, lambda count: [*range(0, count, 2), *range(1, count, 2)]),
+    "rising-far": (lambda size: 256, range),
+    "shuffled-far": (lambda size: 256, shuffled),
 }
 
 
 def many_rows(order, size, count):
     distance, numbers = ORDERS[order]
+    step = distance(size)
     row = bytes(size).hex(" ") + "\n"
-    return "".join(f"@{(BASE << 4) + number * distance * size:x}\n{row}" for number in numbers(count))
+    return "".join(f"@{(BASE << 4) + number * step:x}\n{row}" for number in numbers(count))
 
 
 def table(signature, body, revision=1):
@@ -78,8 +83,8 @@ def nmi_source(number):
     return struct.pack("<BBHI", 3, 8, 0, number)
 
 
-def io_apic(number):
-    return struct.pack("<BBBBII", 1, 12, 0, 0, 0xFEC00000, number)
+def io_apic(number, address=0xFEC00000):
+    return struct.pack("<BBBBII", 1, 12, 0, 0, address, number)
 
 
 def x2apic(number):
@@ -120,7 +125,7 @@ def srat(*entries):
 
 
 def slit(count):
-    """All distances are 20, but for those from a locality to itself."""
+    """All distances are 20, except those from a locality to itself."""
     cells = bytearray(b"\x14") * (count * count)
     cells[:: count + 1] = b"\x0a" * count
     return table(b"SLIT", struct.pack("<Q", count) + bytes(cells))
@@ -143,7 +148,7 @@ def nodes_of_58_caches(count):
 
 
 def scattered_references(count):
-    """Nodes of 58 private resources in no order, among as many nodes of none, so that no two entries are evenly far from the next."""
+    """Nodes of 58 private resources in random order, among as many nodes without any, so that entries are not evenly spaced."""
     numbers = random.Random(1)
     caches = []
     entries = []
@@ -159,7 +164,7 @@ def scattered_references(count):
 
 
 def machine(count):
-    """A machine with that many processors: 64 domains, and a PPTT with a package and two caches for every 64 processors."""
+    """A machine with this many processors: 64 domains, and a PPTT with a package and two caches for every 64 processors."""
     packages = range(36, 36 + 68 * (count // 64), 68)
     entries = [node(0) + cache(at + 44) + cache(0) for at in packages]
     leaves = [node(36 + 68 * (number // 64 % len(packages)), flags=0b1010, uid=number) for number in range(count)]
@@ -172,7 +177,7 @@ def machine(count):
     ]
 
 
-# the tables of a kind, by the number of entries, which stand in no order where they differ
+# the tables of a kind, by the number of entries, which are in random order if they differ
 KINDS = {
     "reserved-entries": lambda count: [madt(*map(reserved, range(count)))],
     "empty-tables": lambda count: [table(b"DATA", b"")] * count,
@@ -231,8 +236,8 @@ def witness(at, lead, around):
 
 
 def ring(order, whole=node, size=20, first=36):
-    """Each of the entries leads to the one behind it in this order, and the last one to the first. `order` is of their
-    numbers in the table."""
+    """Each of the entries refers to the next one in this order, and the last one to the first. `order` has their numbers in the
+    table."""
     leads_to = [0] * len(order)
     for number, behind in zip(order, [*order[1:], order[0]]):
         leads_to[number] = first + size * behind
@@ -248,26 +253,26 @@ def ring_of_caches(order):
 
 
 def most_steps(body):
-    """As many as a witness may have."""
+    """As many steps as a witness may have."""
     return (36 + len(body)) // 20
 
 
 def short_entries_and_ring(count):
-    """COUNT entries of two bytes, and a falling ring of 10 nodes around which as many steps lead as may be."""
+    """COUNT entries of two bytes, and a falling ring of 10 nodes with the largest possible number of steps around it."""
     first = 36 + 2 * count
     body = FILLER * count + ring(range(9, -1, -1), first=first)
     return pptt(body), witness(first, (most_steps(body) - 10) // 10 * 10, 10)
 
 
 def falling_chain(count):
-    """It ends, though not before the last step of a witness whose cycle has one step."""
+    """The chain ends, but not before the last step of a witness whose cycle has one step."""
     nodes = b"".join(node(36 + 20 * (number - 1) if number else 0) for number in range(count))
     return pptt(nodes), witness(36 + 20 * (count - 1), count - 2, 2)
 
 
 def nodes_in_stretches(size, front, back):
-    """Stretches of `size` bytes that are full of entries of two bytes, with nodes in front and at the end. A ring leads through
-    the nodes in no order, and as many steps lead around it as may be. Each stretch begins at a multiple of its size in the
+    """Blocks of `size` bytes that are full of entries of two bytes, with nodes at the beginning and at the end. A ring visits the
+    nodes in random order, with the largest possible number of steps around it. Each block begins at a multiple of its size in the
     table."""
 
     def made(count):
@@ -303,56 +308,254 @@ CHAINS = {
 }
 
 
+def with_rsdp(pieces):
+    """An RSDP that names the first piece, and the pieces."""
+    rsdp = with_checksum(struct.pack("<8sB6sBI", b"RSD PTR ", 0, b"BENCH ", 0, pieces[0][0]), 8)
+    return ((0xE0000, rsdp), *pieces)
+
+
 def pieces_text(pieces):
     """Bytes without blanks: an RSDP that names the first piece, and the pieces."""
-    rsdp = with_checksum(struct.pack("<8sB6sBI", b"RSD PTR ", 0, b"BENCH ", 0, pieces[0][0]), 8)
     line = 1 << 14
     return "".join(
         f"@{address:x}\n" + "".join(data[at : at + line].hex() + "\n" for at in range(0, len(data), line))
-        for address, data in ((0xE0000, rsdp), *pieces)
+        for address, data in with_rsdp(pieces)
     )
+
+
+def rows_text(pieces):
+    """The same in rows of 16 pairs, which are read sooner than as many bytes without blanks."""
+    return "".join(f"@{address:x}\n{rows(data)}" for address, data in with_rsdp(pieces))
 
 
 LISTED_AT = 0x20000000
 
 
 def listed(addresses, memory):
-    """An RSDT with slots that hold these addresses, and the bytes at LISTED_AT."""
-    return pieces_text([(0x10000000, table(b"RSDT", struct.pack(f"<{len(addresses)}I", *addresses))), (LISTED_AT, memory)])
+    """An RSDT with these addresses in its slots, and the bytes at LISTED_AT."""
+    return pieces_text([(0x10000000, rsdt(addresses)), (LISTED_AT, memory)])
 
 
 def one_table(count):
     return listed([LISTED_AT] * count, table(b"DATA", random.Random(1).randbytes((1 << 24) - 36)))
 
 
+def nested_tables(count):
+    """64 bytes of each table sum to 0, and so do those of all after it."""
+    return b"".join(with_checksum(struct.pack("<4sI56x", b"DATA", 64 * left), 9) for left in range(count, 0, -1))
+
+
 def nested(count):
-    """64 bytes of each table sum to 0, and so do those of all behind it."""
-    heads = (with_checksum(struct.pack("<4sI56x", b"DATA", 64 * left), 9) for left in range(count, 0, -1))
-    return listed([LISTED_AT + 64 * number for number in range(count)], b"".join(heads))
+    return listed([LISTED_AT + 64 * number for number in range(count)], nested_tables(count))
 
 
 SETS = {"one-table": one_table, "nested": nested}
 
 
 def behind(pieces):
-    """The first multiple of 64 behind the last piece, and behind the first MiB."""
+    """The first multiple of 64 after the last piece, and after the first MiB."""
     address, whole = pieces[-1]
     return max(0x100000, (address + len(whole) + 63) // 64 * 64)
 
 
-def set_of(tables):
-    """An RSDP, an RSDT, a FADT of hardware-reduced ACPI, and the tables."""
-    pieces = [(0x2000, table(b"FACP", bytes(76) + struct.pack("<I", 1 << 20)))]
+# of hardware-reduced ACPI
+FADT = table(b"FACP", bytes(76) + struct.pack("<I", 1 << 20))
+
+
+def rsdt(addresses):
+    return table(b"RSDT", struct.pack(f"<{len(addresses)}I", *addresses))
+
+
+def set_of(tables, inside=(), text=pieces_text):
+    """An RSDP, an RSDT, a FADT, and the tables. `inside` has the offsets in the last one at which further tables begin."""
+    pieces = [(0x2000, FADT)]
     for whole in tables:
         pieces.append((behind(pieces), whole))
-    rsdt = table(b"RSDT", b"".join(struct.pack("<I", address) for address, _ in pieces))
-    return pieces_text([(behind(pieces), rsdt), *pieces])
+    addresses = [address for address, _ in pieces]
+    root = rsdt(addresses + [addresses[-1] + offset for offset in inside])
+    return text([(behind(pieces), root), *pieces])
+
+
+# ---- shapes that take long beside the reading of their text
+
+
+def slots_before_kinds(addresses, pieces):
+    """An RSDT that lists the addresses, in no order, and behind them a table of each kind, of a machine with one processor."""
+    tables = [FADT, madt(io_apic(0), x2apic(0)), srat(x2apic_affinity(0)), slit(1), pptt(node(0, flags=0b1010))]
+    kinds = [(0x2000 + 0x1000 * number, whole) for number, whole in enumerate(tables)]
+    root = rsdt(addresses + [address for address, _ in kinds])
+    return pieces_text([(0x10000000, root), *kinds, *pieces])
+
+
+def slots_of_scattered_tables(count):
+    """Slots that list tables of 36 bytes, with a hole behind each. There is a table for each 25 slots."""
+    addresses = range(LISTED_AT, LISTED_AT + 64 * (count // 25), 64)
+    pieces = [(address, table(b"DATA", b"")) for address in addresses]
+    return slots_before_kinds(random.Random(1).choices(addresses, k=count), pieces)
+
+
+def slots_of_nested_tables(count):
+    """Slots that list tables of which each begins 64 bytes behind the one before it. There is a table for each 48 slots."""
+    addresses = range(LISTED_AT, LISTED_AT + 64 * (count // 48), 64)
+    pieces = [(LISTED_AT, nested_tables(len(addresses)))]
+    return slots_before_kinds(random.Random(1).choices(addresses, k=count), pieces)
+
+
+def spanning(whole, shared):
+    """A table behind an entry that ends where the table's bytes are shared."""
+    return bytes((12, 2 + len(whole) - len(shared))) + whole
+
+
+def entry_of_each_type():
+    """Those of a MADT, with the numbers of one machine."""
+    local_apic = struct.pack("<BBBBI", 0, 8, 1, 1, 1)
+    local_nmi = struct.pack("<BBBHB", 4, 6, 1, 0, 0)
+    address_override = struct.pack("<BBHQ", 5, 12, 0, 0xFEE00000)
+    x2apic_nmi = struct.pack("<BBHI4x", 10, 12, 0, 0)
+    return local_apic + io_apic(0) + override(0) + nmi_source(0) + local_nmi + address_override + x2apic(0) + x2apic_nmi
+
+
+def shared_entries(count):
+    """A MADT, an SRAT and a PPTT with the same COUNT entries of two bytes, of the type of a GIC distributor in a MADT. The SRAT
+    is inside the MADT and the PPTT inside the SRAT. The MADT ends with an entry of each type."""
+    shared = bytes((12, 2)) * count
+    inner = table(b"PPTT", shared, revision=3)
+    middle = srat(memory_range(0), x2apic_affinity(0), spanning(inner, shared))
+    outer = madt(spanning(middle, shared), entry_of_each_type())
+    first = len(madt()) + 2
+    return set_of([outer], [first, first + len(middle) - len(inner)], rows_text)
+
+
+def resources_among_short_entries(count):
+    """Nodes of 58 private resources in no order, which are among 64 entries of two bytes for each node. One more such entry is
+    at the end, so that these are not evenly far from each other."""
+    offsets = range(36, 36 + 2 * 64 * count, 2)
+    numbers = random.Random(1)
+    nodes = (node(0, resources=numbers.choices(offsets, k=58)) for _ in range(count))
+    return set_of([pptt(FILLER * len(offsets), *nodes, FILLER)], text=rows_text)
+
+
+def chain_in_no_order(count):
+    """A chain through nodes in no order. An entry of two bytes is before some of them, so that they are not evenly far from
+    each other."""
+    numbers = random.Random(1)
+    gaps = [FILLER if numbers.random() < 0.3 else b"" for _ in range(count)]
+    offsets = []
+    offset = 36
+    for gap in gaps:
+        offsets.append(offset + len(gap))
+        offset += len(gap) + 20
+    parents = [0] * count
+    order = shuffled(count)
+    for number, parent in zip(order, order[1:]):
+        parents[number] = offsets[parent]
+    return set_of([pptt(*(gap + node(parent) for gap, parent in zip(gaps, parents)))])
+
+
+def counted_addresses():
+    """As many as a command line can surely have counts for."""
+    return random.Random(1).sample(range(1 << 31, 1 << 32), 90000)
+
+
+def counts():
+    return "".join(f"{address:x}=1\n" for address in counted_addresses())
+
+
+def io_apics_with_counts(count):
+    """I/O APICs in no order, for whose addresses there are counts of inputs, and an override."""
+    addresses = random.Random(2).choices(counted_addresses(), k=count)
+    return set_of([madt(*map(io_apic, shuffled(count), addresses), override(0))], text=rows_text)
+
+
+def lowest_sample(a, b, c, n):
+    """The places of which the sort takes the median of medians for its pivot, without a third of them at each level: where the
+    least elements are at those that are left, the greatest of these is the pivot."""
+    if n < 8:
+        return [a, b]
+    m = n // 8
+    return lowest_sample(a, a + 4 * m, a + 7 * m, m) + lowest_sample(b, b + 4 * m, b + 7 * m, m)
+
+
+def partition(row, low, places):
+    """Partitions what is from `low` on by the element there, where those at these places alone are less, as the sort does: it
+    holds one element out, and swaps each lesser one with the first that is not less. Returns the place of the pivot."""
+    lesser = {row[place] for place in places}
+    left = low + 1
+    while row[left] in lesser:
+        left += 1
+    hole = left + 1
+    held = row[hole]
+    moved = row[left]
+    for place in sorted(place for place in places if place > hole):
+        row[hole] = moved
+        row[left] = row[place]
+        left += 1
+        moved = row[left]
+        hole = place
+    row[hole] = moved
+    row[left] = held
+    left += held in lesser
+    row[low], row[left - 1] = row[left - 1], row[low]
+    return left - 1
+
+
+def bad_order(count):
+    """The numbers below COUNT, in an order in which the quicksort of the toolchain's library finds pivots among the least alone. As
+    soon as it has partitioned twice the logarithm of COUNT times, it leaves what is left, nearly all, to a sort by a heap."""
+    row = list(range(count))
+    numbers = [0] * count
+    low = 0
+    for _ in range(2 * (count.bit_length() - 1)):
+        m = (count - low) // 8
+        places = lowest_sample(low, low + 4 * m, low + 7 * m, m)
+        for number, place in enumerate(places, low):
+            numbers[row[place]] = number
+        pivot = places[-1]
+        row[low], row[pivot] = row[pivot], row[low]
+        low = partition(row, low, places[1:]) + 1
+    for element, number in zip(row[low:], shuffled(count - low)):
+        numbers[element] = low + number
+    return numbers
+
+
+def io_apics_in_a_bad_order(count):
+    """I/O APICs, none of which has the number or the address of another one, and an override."""
+    entries = (io_apic(number, 0xA0000000 + number) for number in bad_order(count))
+    return set_of([madt(*entries, override(0))], text=rows_text)
+
+
+def x2apics_in_a_bad_order(count):
+    """Processors, an NMI of the first of them, an affinity and a leaf of it, and two affinities of a processor that is not there."""
+    local_nmi = struct.pack("<BBHI4x", 10, 12, 0, 0)
+    absent = struct.pack("<BBHIIIII", 2, 24, 0, 65, count, 1, 0, 0)
+    tables = [
+        madt(*map(x2apic, bad_order(count)), local_nmi),
+        srat(x2apic_affinity(0), x2apic_affinity(count), absent),
+        pptt(node(0, flags=0b1010)),
+    ]
+    return set_of(tables, text=rows_text)
+
+
+SHAPES = {
+    "slots-of-scattered-tables": slots_of_scattered_tables,
+    "slots-of-nested-tables": slots_of_nested_tables,
+    "shared-entries": shared_entries,
+    "resources-among-short-entries": resources_among_short_entries,
+    "chain-in-no-order": chain_in_no_order,
+    "io-apics-in-a-bad-order": io_apics_in_a_bad_order,
+    "x2apics-in-a-bad-order": x2apics_in_a_bad_order,
+    "io-apics-with-counts": io_apics_with_counts,
+}
 
 
 def text_of(what):
     if what == ["run"]:
         return long_run()
+    if what == ["counts"]:
+        return counts()
     kind, *numbers = what
+    if kind in SHAPES:
+        return SHAPES[kind](*map(int, numbers))
     if kind in SETS:
         return SETS[kind](*map(int, numbers))
     if kind in ORDERS:

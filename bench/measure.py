@@ -1,31 +1,44 @@
-"""Measures programs that read one text, turn about, so that a busy machine slows all of them alike.
+"""Measures programs that read one text. They run in turn, so that a busy machine slows all of them alike.
 
 usage: measure.py ROUNDS NAME TEXT COMMAND [NAME TEXT COMMAND]..
-TEXT is the file that stands on the program's standard input; COMMAND is one word, split at blanks.
-Prints a line a program: its best times, MB of text a second, the most memory and that over the text's
-size, and its three times over those of the first program.
+       measure.py --over ROUNDS TEXT READING NAME COMMAND [NAME COMMAND]..
+TEXT is the file on the program's standard input; COMMAND is one argument, split at blanks, in which @FILE stands for the words of
+a file.
+Prints a line for each program: its best times, MB of text per second, its peak memory and that divided by the text's size, and
+its three times divided by those of the first program.
+With --over it prints a line for each program: its best processor time, that of the command READING on the same text, the first
+divided by the second, and how many MB it writes.
 """
 
 import os
 import shlex
 import sys
+import tempfile
 import time
 
 TITLES = ("", "wall s", "user s", "cpu s", "MB/s", "MiB", "/ text", "wall", "user", "cpu")
 WIDTHS = (8, 8, 8, 8, 12, 8, 8, 7, 7)
 
 
+def words_of(word):
+    """The word itself, or where it is @FILE the words of the file."""
+    if not word.startswith("@"):
+        return [word]
+    with open(word[1:], encoding="ascii") as file:
+        return file.read().split()
+
+
 class Program:
     def __init__(self, name, text, command):
         self.name = name
         self.text = text
-        self.words = shlex.split(command)
+        self.words = [word for part in shlex.split(command) for word in words_of(part)]
         self.size = os.path.getsize(text)
         self.wall = self.user = self.processor = float("inf")
         self.memory = 0
 
-    def run(self):
-        """Runs once and keeps the best times and the most memory."""
+    def run(self, output=os.devnull):
+        """Runs once and keeps the best times and the peak memory."""
         start = time.perf_counter()
         pid = os.posix_spawnp(
             self.words[0],
@@ -33,7 +46,7 @@ class Program:
             os.environ,
             file_actions=[
                 (os.POSIX_SPAWN_OPEN, 0, self.text, os.O_RDONLY, 0),
-                (os.POSIX_SPAWN_OPEN, 1, os.devnull, os.O_WRONLY, 0),
+                (os.POSIX_SPAWN_OPEN, 1, output, os.O_WRONLY, 0),
             ],
         )
         _, status, used = os.wait4(pid, 0)
@@ -47,7 +60,7 @@ class Program:
 
 
 def least_memory():
-    """What a program that needs nothing is seen to use: this one's own memory, before it is replaced."""
+    """The measured memory of a program that needs none: this program's own memory, before it is replaced."""
     nothing = Program("true", os.devnull, "true")
     nothing.run()
     return nothing.memory
@@ -83,7 +96,31 @@ def print_row(row):
     print(f"{name:<14}" + "".join(f"{cell:>{width}}" for cell, width in zip(numbers, WIDTHS)))
 
 
+def written_by(program):
+    """Runs it, and returns how many bytes it writes."""
+    with tempfile.NamedTemporaryFile() as output:
+        program.run(output.name)
+        return os.path.getsize(output.name)
+
+
+def print_over(rounds, text, reading, *words):
+    """One run more than ROUNDS, of each program, says how much it writes."""
+    reader = Program("reading", text, reading)
+    programs = [Program(words[at], text, words[at + 1]) for at in range(0, len(words), 2)]
+    written = [written_by(program) for program in programs]
+    for _ in range(int(rounds)):
+        for program in programs:
+            reader.run()
+            program.run()
+    for program, count in zip(programs, written):
+        over = program.processor / reader.processor
+        print(f"{program.name:<40}{program.processor:>8.2f}{reader.processor:>9.3f}{over:>8.1f}{count / 1e6:>10.1f}")
+
+
 def main():
+    if sys.argv[1] == "--over":
+        print_over(*sys.argv[2:])
+        return
     rounds, *words = sys.argv[1:]
     programs = [Program(*words[at : at + 3]) for at in range(0, len(words), 3)]
     least = least_memory()

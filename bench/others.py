@@ -1,15 +1,15 @@
 #!/usr/bin/env python3
-"""What the tools of ACPICA say of each fault that acpiset reports. Each example of docs/FAULTS.md is made of one sound set of
-tables by a change of some bytes; here its tables are written to files, one each, and handed to
+"""What the tools of ACPICA say of each fault that acpiset reports. Each example of docs/FAULTS.md is made from one valid set of
+tables by changing some bytes; here its tables are written to files, one each, and passed to
 
-- iasl: each file is disassembled, and the text that comes of it compiled;
+- iasl: each file is disassembled, and the resulting text is compiled;
 - acpiexec: the files are loaded together.
 
-A tool tells of a fault where it writes an error, a warning or a remark, of any kind, that it does not write of the sound set,
-or fails otherwise. So that it has nothing else to tell of, the sum of each changed table is right again, unless the fault is a
-wrong sum.
+A tool reports a fault if it writes an error, a warning or a remark, of any kind, that it does not write for the valid set, or
+fails otherwise. So that it has nothing else to report, the checksum of each changed table is corrected, unless the fault is a
+wrong checksum.
 
-usage: others.py [--messages] PROGRAM; it prints a table, or with --messages what each tool wrote of each fault."""
+usage: others.py [--messages] PROGRAM; it prints a table, or with --messages what each tool wrote for each fault."""
 
 import os
 import re
@@ -30,7 +30,7 @@ COMPLAINT = re.compile(
     r"|too (small|short|large|long)|could not|not contain|beyond|ignor|\*\*\*\*",
     re.I,
 )
-# What differs from run to run, or from file to file, and is no complaint of its own.
+# What differs from run to run, or from file to file, and is not a complaint.
 CHANGING = re.compile(r"0x0000[0-9A-Fa-f]{12}|[0-9a-f]+\.(dat|dsl|aml)")
 FADT_AT = 0x2000
 GROUPS = [
@@ -47,7 +47,7 @@ DSDT = 'DefinitionBlock ("dsdt.aml", "DSDT", 2, "AAAAAA", "AAAAAAAA", 1) {}\n'
 
 
 def pieces_of(image):
-    """The runs of bytes that are held, by their addresses."""
+    """The runs of bytes that are present, by their addresses."""
     pieces = {}
     for at in sorted(image):
         if at - 1 in image:
@@ -59,7 +59,7 @@ def pieces_of(image):
 
 
 def close_sum(piece):
-    """Sets the sum byte of a table that its Length bytes are there of."""
+    """Sets the checksum of a table, if its Length bytes are present."""
     length = int.from_bytes(piece[4:8], "little")
     if piece.startswith(b"RSD PTR ") or piece.startswith(b"FACS") or not 36 <= length <= len(piece):
         return
@@ -68,7 +68,7 @@ def close_sum(piece):
 
 
 def closed(image, old):
-    """The image with the sums closed of those of its tables that are not among the old pieces."""
+    """The image with corrected checksums in those of its tables that are not among the old pieces."""
     image = dict(image)
     for at, piece in pieces_of(image).items():
         if piece != old.get(at):
@@ -78,8 +78,8 @@ def closed(image, old):
 
 
 def sound_image():
-    """The set of tables that the examples begin with. Its FADT names no ports and no DSDT, and has another Revision than its
-    length, of which these tools say much: here it has all of these."""
+    """The set of tables that the examples begin with. Its FADT names no ports and no DSDT, and its Revision does not match its
+    length, about which these tools complain: here it has all of these."""
     with open(f"{TOP}/tests/images/example.img.txt") as file:
         image = image_of(file.read())
     for offset, address in ((40, 0x8000), (56, 0x600), (64, 0x604), (76, 0x608), (80, 0x620)):
@@ -90,7 +90,7 @@ def sound_image():
 
 
 def run(words, folder):
-    """What a tool writes, without what changes from run to run, and how it ends where it is killed."""
+    """What a tool writes, without what changes from run to run, and how it ends if it is killed."""
     try:
         ended = subprocess.run(words, cwd=folder, stdin=subprocess.DEVNULL, capture_output=True, timeout=5)
     except subprocess.TimeoutExpired:
@@ -114,12 +114,12 @@ def iasl_on(folder, name):
 
 
 def iasl(folder, names):
-    """Each table, and the root; of no version that was tried is an RSDP in a file a table."""
+    """Each table, and the root table; no version that was tried takes an RSDP in a file for a table."""
     return {f"{name}: {line}" for name in names if int(name, 16) < 0x8000 for line in complaints(iasl_on(folder, name))}
 
 
 def acpiexec(folder, names):
-    """The tables but the RSDP and the root, in the place of which acpiexec makes its own, and a DSDT, which it needs."""
+    """The tables except the RSDP and the root table, which acpiexec replaces by its own, and a DSDT, which it needs."""
     with open(os.path.join(folder, "empty.asl"), "w") as file:
         file.write(DSDT)
     run(["iasl", "empty.asl"], folder)
@@ -143,7 +143,7 @@ def version(words):
 
 
 def faults_of(document):
-    """Each fault's stage, name and example. Rules of advice are no faults."""
+    """Each fault's stage, name and example. Rules of advice are not faults."""
     stages = [(match.start(), int(match.group(1))) for match in STAGE.finditer(document)]
     for part in PART.finditer(document):
         if int(part.group(1)) >= FIRST_RULE:
@@ -153,14 +153,14 @@ def faults_of(document):
 
 
 def acpiset(program, image, name):
-    """The line of acpiset on an image, where it is that of the fault."""
+    """The line of acpiset for an image, if it is that of the fault."""
     run = subprocess.run([program, "check", "--rsdp", "e0000"], input=text_of(image), capture_output=True, timeout=60)
     line = run.stdout.decode().strip()
     return [line] if line.split()[2:3] == [name] else []
 
 
 def table(rows):
-    """A row for each group of stages: how many faults they have, and how many of them each tool tells of."""
+    """A row for each group of stages: how many faults they have, and how many of them each tool reports."""
     heads = ["faults", "acpiset"] + [f"{tool} {version([tool, '-v'])}" for tool in ("iasl", "acpiexec")]
     width = max(len(group) for group, _ in GROUPS)
     print(f"{'of':{width}}  {'  '.join(heads)}")

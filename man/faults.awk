@@ -1,7 +1,7 @@
-# Makes the manual page acpiset-faults.7 of docs/FAULTS.md.
+# Makes the manual page acpiset-faults.7 from docs/FAULTS.md.
 # usage: awk -f man/faults.awk docs/FAULTS.md > man/acpiset-faults.7
 
-# A text of the document as the page has it: code in bold, links as their words, what roff reads otherwise escaped.
+# A text of the document in the form of the page: code in bold, only the words of links, special characters of roff escaped.
 function roff(text,   before, inside, out) {
   gsub(/\\/, "\\e", text)
   gsub(/-/, "\\-", text)
@@ -25,13 +25,13 @@ function roff(text,   before, inside, out) {
   return text
 }
 
-# Prints a macro, and no paragraph directly after a heading, which begins one.
+# Prints a macro, but no paragraph macro directly after a heading, which begins a paragraph.
 function macro(text) {
   if (text != ".PP" || !is_after_heading) print text
   is_after_heading = text ~ /^\.S[HS] /
 }
 
-# Prints a text in lines of fewer than 80 columns. None of them may begin as a macro does.
+# Prints a text in lines of fewer than 80 columns. None of them may begin like a macro.
 function print_text(text,   at) {
   is_after_heading = 0
   while (length(text) > 78) {
@@ -63,7 +63,7 @@ function flush_text(   tag) {
   item = ""
 }
 
-# A row of a table: its first cell as the tag, the others behind it.
+# A row of a table: its first cell as the tag, followed by the others.
 function print_row(row,   cells, count, cell) {
   sub(/^\| */, "", row)
   sub(/ *\|$/, "", row)

@@ -1,11 +1,11 @@
 #!/usr/bin/env bash
-# Runs all scripts that test the documents, the tools, the built program and the crates' tests, as many beside each other as
-# there are processors, the longest first. Prints what each says, and at the end which of them failed. A signal that ends it ends all
-# that it started.
+# Runs all scripts that test the documents, the tools, the built program and the crates' tests, as many in parallel as there are
+# processors, the longest first. Prints the output of each, and at the end which of them failed. A signal that ends it also ends
+# everything that it started.
 # usage: tests/all.sh PROGRAM TESTS..; TESTS are the crates' tests as they were built (see refused_calls.py).
 #
-# In place of the scripts of the folder tests, it runs those of the folder TESTS_FOLDER where that is set, and those alone that
-# TESTS_ONLY names: so it is tested itself.
+# Instead of the scripts of the folder tests, it runs those of the folder TESTS_FOLDER if that is set, and only those that
+# TESTS_ONLY names, if that is set: this is how it is tested itself.
 set -u
 cd "$(dirname "$0")/.." || exit
 program=${1:?usage: tests/all.sh PROGRAM TESTS..}
@@ -14,7 +14,7 @@ tests=("$@")
 folder=${TESTS_FOLDER:-tests}
 scratch=$(mktemp -d)
 trap 'rm -rf "$scratch"' EXIT
-# Each script runs in a group of processes of its own, with all that it starts.
+# Each script runs in its own process group, with everything that it starts.
 set -m
 
 # ended SIGNAL: ends the scripts and what they started, and then itself by the same signal.
@@ -23,7 +23,7 @@ ended() {
   trap '' HUP INT TERM
   mapfile -t groups < <(jobs -rp)
   for group in "${groups[@]}"; do kill -TERM -- "-$group" 2>/dev/null; done
-  # They have time to remove what they made; what does not listen is killed.
+  # They have time to remove what they made; what ignores the signal is killed.
   for group in "${groups[@]}"; do
     for _ in {1..50}; do
       kill -0 -- "-$group" 2>/dev/null || break
@@ -40,7 +40,7 @@ for signal in HUP INT TERM; do
   trap "ended $signal" "$signal"
 done
 
-# ran SCRIPT ARGUMENTS..: runs a script of the folder, and keeps what it says and its status.
+# ran SCRIPT ARGUMENTS..: runs a script of the folder, and keeps its output and its status.
 ran() {
   local log="$scratch/${1//\//-}"
   "$folder/$1" "${@:2}" >"$log" 2>&1 </dev/null
@@ -48,7 +48,7 @@ ran() {
 }
 
 scripts=(refusals.py recipes.sh fuzz/run.py show/run.py lint/run.py rows/texts.py program.sh valgrind.sh explain.sh tools/run.py install.sh refused_calls.py rebuild/run.py rows/confirm.py documents.sh rows/run.py rows/words.py rows/examples.py scripts.sh)
-# The library is tested where `make library` has left it.
+# The library is tested if `make library` has left it.
 [ ! -e library/libacpiset.a ] || scripts=(library/run.py library/rust.sh "${scripts[@]}")
 [ -z "${TESTS_ONLY-}" ] || read -ra scripts <<<"$TESTS_ONLY"
 for script in "${scripts[@]}"; do

@@ -1,7 +1,7 @@
 #!/usr/bin/env python3
 """Compares the tables of definitions in docs/PROOF.md with what public contracts rest on: each file of definitions that the
 contract of a public call names, and each that such a file imports, stands in one of these tables with its number of
-lines, and no other file does. The first table has exactly those of the headline, a file stands behind those that it
+lines, and no other file does. The first table has exactly those of the headline, a file stands after those that it
 imports, and none names a private type of a library.
 
 usage: tests/definitions.py [--write]; prints what differs and what to write in its place, and nothing where all agrees.

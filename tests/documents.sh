@@ -1,6 +1,6 @@
 #!/usr/bin/env bash
-# Compares the documents with the tree: what they name is there, and what is there they name. Where they are installed, it has
-# `shellcheck` read the scripts, `gawk --lint` what is written in awk, and `mandoc -T lint` the manual pages.
+# Compares the documents with the tree: what they name exists, and they name what exists. If these are installed, it also runs
+# `shellcheck` on the scripts, `gawk --lint` on the awk programs, and `mandoc -T lint` on the manual pages.
 # usage: tests/documents.sh; the last line is 'documents: N passed, M failed'.
 # shellcheck disable=SC2016 # backquotes in patterns are those of Markdown
 # shellcheck disable=SC2013,SC2046 # no name of a file here has blanks in it
@@ -11,7 +11,7 @@ trap 'rm -rf "$scratch"' EXIT
 passed=0
 failed=0
 
-# Each awk that this script and what it starts runs is one that says what is doubtful in its program.
+# Each awk that runs from here on prints warnings about its program.
 if command -v gawk >/dev/null; then
   mkdir "$scratch/bin"
   printf '#!/bin/sh\nexec gawk --lint "$@" 2>>"$LINT"\n' >"$scratch/bin/awk"
@@ -41,8 +41,8 @@ for_c=$(sed -n 's/^\([a-z_]*\) staticlib:.*/\1/p' crates.txt)
 
 # ---- edits: exported functions have wrong bodies that the prover must refuse
 
-# exports CRATE: the names that a library exports: those in `pub use` of src/lib.rt, and the functions of its public
-# modules; of a library for C the functions that C can call. Laws stand apart.
+# exports CRATE: the names that a library exports: those in `pub use` of src/lib.rt, and the functions of its public modules; of a
+# library for C the functions that C can call. Laws are left out.
 exports() {
   local names module
   if grep -qx "$1" <<<"$for_c"; then
@@ -56,12 +56,12 @@ exports() {
   done
 }
 
-# functions CRATE: its functions outside tests, a method as Type_method. One that must have an edit comes once more
-# with a + before it: an exported one whose contract has an `ensures`. A program exports nothing: there it is those in
-# `program`. Not so a law, which returns nothing and changes nothing, nor a function whose whole body hands out a
-# field, sets one or passes the same call on to one: `rt plant` tries other fields and values there.
-# A method of an exported type's impl of an exported trait comes with a ~ before it, without its type: its contract
-# stands once, with the trait, so one edit for any type is enough.
+# functions CRATE: its functions outside tests, a method as Type_method. One that must have an edit comes once more with a +
+# before it: an exported one whose contract has an `ensures`. A program exports nothing: there it is those in `program`.
+# Exceptions are a law, which returns nothing and changes nothing, and a function whose whole body returns a field, sets one or
+# passes the same call on to one: `rt plant` tries other fields and values there. A method of an exported type's impl of an
+# exported trait comes with a ~ before it, without its type: its contract is written once, with the trait, so one edit for any
+# type is enough.
 program='^(do_job|obey|read_words|run_[a-z]+|status_of)$'
 functions() {
   local names=""
@@ -109,7 +109,7 @@ functions() {
   ' $(find "crates/$1/src" -name '*.rt' ! -name laws.rt ! -path '*/tests*')
 }
 
-# Functions whose names differ in digits alone, as those of each width of a number, are a family: one edit is enough.
+# Functions whose names differ only in digits, as for each width of a number, are a family: one edit is enough.
 family() { tr -d '0-9'; }
 
 for crate in $crates; do
@@ -122,7 +122,7 @@ done
 
 # ---- public calls
 
-# calls CRATE: its public calls outside laws, each with its clauses; of a program those in `program`.
+# calls CRATE: its public functions except laws, each with its clauses; of a program those in `program`.
 calls() {
   local names
   if [ -e "crates/$1/src/lib.rt" ]; then
@@ -150,9 +150,9 @@ samples=$(sed -n '/^SAMPLED = {$/,/^}$/s/^    "\(.*\)",$/\1/p' tests/refusals.py
 named=$(sed -n '/^## By test alone$/,/^## /p' docs/PROMISES.md | grep -o '`[^`]*`' | tr -d '`')
 within 'runs of which a sample of requests is refused, and that PROMISES.md does not name' "$samples" "$named"
 
-# ---- examples at the heads of the libraries: their lines stand in code that is compiled
+# ---- examples at the heads of the libraries: their lines also occur in code that is compiled
 
-# bare: code without indents, and without comments behind it.
+# bare: code without indents, and without trailing comments.
 bare() { sed 's/^ *//; s/ *\/\/ .*$//'; }
 
 for head in crates/*/src/lib.rt; do
@@ -195,7 +195,7 @@ same 'rules of advice (<) and their index by number in FAULTS.md (>)' "$rules" "
 by_name=$(grep -o '\[[A-Za-z]*\](#[0-9]*-[a-z]*) [0-9][0-9]*' <<<"$index" | sed 's/\[\(.*\)\](#.*) \(.*\)/\2 \1/')
 same 'rules of advice (<) and their index by name in FAULTS.md (>)' "$rules" "$by_name"
 headline=$(sed -n '/^## The headline$/,/^## /{/^```rust$/,/^```$/p}' docs/PROOF.md | grep -v '^```')
-# contract FUNCTION FILE: what stands before the function's body.
+# contract FUNCTION FILE: what comes before the function's body.
 contract() { sed -n "/^pub fn $1[(<]/,/^{\$/p" "$2" | grep -v '^{$'; }
 contracts=$(
   contract check crates/acpi_check/src/stages.rt
@@ -222,7 +222,7 @@ parts=$(cat README.md docs/*.md | grep -o '`\(src\|specs\)/[A-Za-z0-9_/]*\.\(rt\
 there=$(while read -r part; do for crate in crates/*; do [ -e "$crate/$part" ] && printf '%s\n' "$part"; done; done <<<"$parts")
 same 'files of a crate that the documents name (<) and that are there (>)' "$parts" "$there"
 
-# touched CHANGE EXAMPLE: what ARCHITECTURE.md says that a change touches are the files that name the example, a pattern: all of
+# touched CHANGE EXAMPLE: the files that a change touches by ARCHITECTURE.md are those that name the example, a pattern: all of
 # those in the crates, and some of the others.
 touched() {
   local told
@@ -244,7 +244,7 @@ touched 'A line of show' '\bx2apic-nmi\b'
 touched 'A kind of answer of the library' '[Pp]iece_?[Pp]ast_?[Ee]nd|PIECE_PAST_END'
 touched 'A table' '[Ss]lit|SLIT'
 
-# wide COLUMNS: of the lines that `grep` gives, with their numbers, those with more columns.
+# wide COLUMNS: those lines of the output of `grep -n` that have more columns.
 wide() { LC_ALL=C.UTF-8 grep -E "^[^:]*:[0-9]+:.{$(($1 + 1)),}$"; }
 count 'lines of proofs with more than 120 columns that are no imports' "$(grep -rn '' crates/*/proofs --include='*.antt' | wide 120 | grep -vE '^[^:]*:[0-9]+:(pub )?use ')"
 count 'clauses with more than 100 columns' "$(grep -rnE '^ *(requires|ensures) ' crates/*/src --include='*.rt' | wide 100)"
@@ -254,7 +254,7 @@ version=$(sed -n 's/^const VERSION: &str = "\(.*\)";$/\1/p' crates/acpi_cli/src/
 same 'the version of the program (<) and the last one in CHANGELOG.md (>)' "$version" "$(sed -n 's/^## \([0-9.]*\).*/\1/p' CHANGELOG.md | head -n 1)"
 # page SECTION: the lines of a section of the manual page, with plain hyphens.
 page() { sed -n "/^\.SH $1\$/,/^\.SH /p" man/acpiset.1 | sed 's/\\-/-/g'; }
-# terms SECTION: the terms that a section of the manual page explains, each line behind a `.TP`.
+# terms SECTION: the terms that a section of the manual page explains, which are the lines after a `.TP`.
 terms() { page "$1" | sed -n '/^\.TP$/{n;p;}'; }
 options=$(sed -n 's/.*option(alloc, "\([a-z-]*\)".*/--\1/p' crates/acpi_cli/src/command_line.rt)
 option_names() { grep -o -- '--[a-z-]*[a-z]'; }
@@ -276,7 +276,7 @@ within 'refusals that the order in LIBRARY.md leaves out' "$(sed 's/^ACPISET_//;
 declared=$(sed -n 's/^struct acpiset_answer \(acpiset_[a-z_]*\)(.*/\1/p; s/^uint32_t \(acpiset_[a-z_]*\)(.*/\1/p' "$header")
 same 'functions of acpiset.h (<) and those that LIBRARY.md lists (>)' "$declared" "$(sed -n '/^## The calls$/,/^## /p' docs/LIBRARY.md | sed -n '/^| `acpiset_/p' | cut -d '|' -f 2 | grep -o 'acpiset_[a-z_]*')"
 same 'functions of acpiset.h (<) and those that man/acpiset.3 explains (>)' "$declared" "$(sed -n '/^\.SH DESCRIPTION$/,/^\.SH SETTINGS$/s/^\.B \(acpiset_[a-z_]*\)$/\1/p' man/acpiset.3)"
-# members STRUCT: what its fields are called.
+# members STRUCT: the names of its fields.
 members() { sed -n "/^struct $1 {\$/,/^};\$/{s/;.*//;s/^ .* \**\([a-z_]*\)\$/\1/p;}" "$header"; }
 told=$(sed -n '/^\.SH SYNOPSIS$/,/^\.SH DESCRIPTION$/p' man/acpiset.3 | grep -o '[a-z_]*[,;]' | tr -d ',;')
 within 'fields that the synopsis of man/acpiset.3 does not name' "$(for own in piece inputs settings finding answer; do members "acpiset_$own"; done)" "$told"
@@ -299,9 +299,9 @@ if command -v rt >/dev/null; then
   count 'libraries of the toolchain, and what release/parts.txt and release/NOTICES.md say of them' "$(scripts/parts check "$(dirname "$(rt doc)")" 2>&1)"
 fi
 
-# ---- what other programs say of the scripts and of the manual pages
+# ---- what other programs say about the scripts and the manual pages
 
-# asked PROGRAM: whether it is there; says so where it is not.
+# asked PROGRAM: whether it is installed; says so if it is not.
 asked() { command -v "$1" >/dev/null || { printf 'left out: %s is not installed\n' "$1" && false; }; }
 
 mapfile -t scripts < <(grep -lIE '^#! ?/(usr/)?bin/(env )?(ba|da)?sh$' .ci/* bench/* bindings/*/* examples/* man/* release/* scripts/* tests/* tests/*/* tools/* 2>/dev/null)
@@ -312,7 +312,7 @@ if asked mandoc; then
   count 'mandoc -T lint' "$(mandoc -T lint -W warning man/*.[0-9] 2>&1)"
 fi
 if asked gawk; then
-  # POSIX says what substr gives of a place past the end.
+  # POSIX defines what substr returns for an index past the end.
   count 'awk --lint' "$(sort -u "$scratch/awk" | sed 's/ (FILENAME=.*FNR=[0-9]*)//' | grep -v ' warning: substr: ' | sort | uniq -c)"
 fi
 

@@ -1,14 +1,14 @@
 #!/usr/bin/env bash
-# Installs the built program into a scratch folder, runs what was installed, makes the archive, and removes all again: without the
-# library, and then with it. Where `make library` has left none, files stand in its place, and nothing is linked with them. The folders
-# have names with blanks, and some with all that means something to a shell or to make.
+# Installs the built program into a scratch folder, runs what was installed, makes the archive, and removes everything again:
+# without the library, and then with it. If `make library` has left none, other files replace it, and nothing is linked with them.
+# The folders have names with blanks, and some with all characters that have a meaning in a shell or in make.
 # usage: tests/install.sh PROGRAM; the last line is 'install: N passed, M failed'.
 # shellcheck disable=SC2016 # dollar signs and backquotes in names of folders and in pages are no commands
 set -u
 program=$(realpath -- "${1:?usage: tests/install.sh PROGRAM}")
 [ -x "$program" ] || { printf '%s: no program\n' "$program" >&2; exit 1; }
 cd "$(dirname "$0")/.." || exit
-# `make` passes its own settings on to what it starts.
+# `make` passes its own settings on to the programs that it starts.
 unset DESTDIR PREFIX LIBDIR PC_PREFIX BINARY LIBRARY SOURCE_DATE_EPOCH
 scratch=$(mktemp -d)
 trap 'rm -rf "$scratch"' EXIT
@@ -27,13 +27,13 @@ same() {
   fi
 }
 
-# left_out WHAT WHY: says that cases were not tried.
+# left_out WHAT WHY: says that cases were left out.
 left_out() { printf 'left out: %s: %s\n' "$1" "$2"; }
 
-# has COMMAND: whether it is there.
+# has COMMAND: whether it is installed.
 has() { command -v "$1" >/dev/null; }
 
-# copy_tree FOLDER: a copy of this tree without what was built, so that no archive is left here.
+# copy_tree FOLDER: copies this tree without what was built, so that no archive is left here.
 copy_tree() {
   local all
   mkdir "$1"
@@ -44,7 +44,7 @@ copy_tree() {
 tree="$scratch/a tree"
 copy_tree "$tree"
 
-# run TARGET SETTING..: runs make in the copy, and keeps what it says.
+# run TARGET SETTING..: runs make in the copy, and keeps its output.
 run() { make -s -C "$tree" "$@" >"$scratch/log" 2>&1; }
 
 # with_program TARGET SETTING..: the same, for the program that is tested.
@@ -56,8 +56,8 @@ sorted() { LC_ALL=C sort; }
 # files_in FOLDER: its files and links.
 files_in() { (cd "$1" 2>/dev/null && find . ! -type d | sed 's|^\./||' | sorted); }
 
-# hardened FILE: how a program or a library was linked: its type, whether its stack can be run, whether relocations are made
-# read-only and at once, and how many segments can be both written and run.
+# hardened FILE: how a program or a library was linked: its type, whether its stack is executable, whether relocations are
+# read-only and bound at start, and how many segments are both writable and executable.
 hardened() {
   readelf -hlWd "$1" | awk '
     $1 == "Type:" { type = $2 }
@@ -69,7 +69,7 @@ hardened() {
   '
 }
 
-# The tools that are installed, by the one list of them, and those that are here.
+# The tools that are installed, by the list of them, and those in the folder.
 tools=$(sed -n "s/^tools='\(.*\)'$/\1/p" scripts/install | tr ' ' '\n')
 there=$(cd tools && find . -type f -printf '%P\n' | grep -x '[a-z0-9]*' | sorted)
 same 'tools that scripts/install lists, and those that are here' "$tools" "$there"
@@ -86,7 +86,7 @@ wanted=$({
 
 # ---- install and uninstall
 
-# What an editor leaves beside the tools and pages is not installed.
+# Files that an editor leaves beside the tools and pages are not installed.
 for name in tools/explain~ tools/explain.orig tools/.explain.swp man/acpiset.1~ docs/.hidden.md docs/FAULTS.md~; do echo x >"$tree/$name"; done
 with_program install DESTDIR="$scratch/root" PREFIX=/usr
 same 'make install' "$? $(cat "$scratch/log")" '0 '
@@ -112,7 +112,7 @@ rm -rf "$scratch/root"
 same 'modes of what is installed with a umask of 077' "$(find "$scratch/root/usr" -printf '%y %m\n' | sort -u)" $'d 755\nf 644\nf 755'
 rm -rf "$scratch/root"
 
-# Names of folders that a shell, make, sed or pkg-config could read as something else.
+# Folder names that a shell, make, sed or pkg-config could interpret.
 odd=(' a  blank ' "'\"" '$(touch made)`touch made`' ';touch made;&touch made&' '|\*?#%' '$HOME $$ ${HOME}~!' '-x>made é')
 for name in "${odd[@]}"; do
   root="$scratch/odd/r$name"
@@ -166,7 +166,7 @@ mkdir -p "$scratch/kept/usr/bin/acpiset"
 run uninstall DESTDIR="$scratch/kept" PREFIX=/usr
 same 'uninstall where a folder stands' "$? $(grep -c '/kept/usr/bin/acpiset is a folder: it stays$' "$scratch/log") $(find "$scratch/kept" -name acpiset)" "2 1 $scratch/kept/usr/bin/acpiset"
 
-# ---- what is built, and of which sources: with a stand-in for the toolchain that writes down its calls
+# ---- what is built, and from which sources: with a fake toolchain that records its calls
 stand_in=$scratch/stand-in
 mkdir -p "$stand_in/bin" "$stand_in/kit/c"
 export FOLDER=$stand_in PROGRAM=$program
@@ -236,7 +236,7 @@ same 'make try of an image of many marks' "$? $(tail -n 4 "$scratch/log")" "0 $i
 run fuzz N=1
 same 'make fuzz without a program' "$? $(grep -c '`make build` first' "$scratch/log")" '2 1'
 
-# ---- a disk that is full: a limit on the size of files stands in for it
+# ---- a full disk, simulated by a limit on the size of files
 
 (
   trap '' XFSZ
@@ -252,9 +252,9 @@ make -s -C "$tree" BINARY="$program" dist >/dev/full 2>"$scratch/log"
 same 'make dist where its answer cannot be written' "$?" 2
 rm -rf "$tree/dist" "$scratch/short"
 
-# ---- the archive: unpacked elsewhere, with the base system's commands alone
+# ---- the archive: unpacked elsewhere, with only the base system's commands
 
-# archived SETTING..: makes the archive; what it says on standard error is in the file `notes`.
+# archived SETTING..: makes the archive; its standard error is in the file `notes`.
 archived() { make -s -C "$tree" BINARY="$program" dist "$@" >"$scratch/log" 2>"$scratch/notes"; }
 
 rm -f "$tree/LICENSE"
@@ -271,7 +271,7 @@ rm -f "$scratch/another/LICENSE"
 mkdir "$scratch/tmp" "$scratch/lint"
 : >"$scratch/awk"
 if has gawk; then
-  # What is written in awk is looked at here, too.
+  # The awk programs are checked here, too.
   printf '#!/bin/sh\nexec gawk --lint "$@" 2>>"$LINT"\n' >"$scratch/lint/awk"
   chmod +x "$scratch/lint/awk"
 fi
@@ -280,7 +280,7 @@ fi
   cd "$scratch/another" && LINT="$scratch/awk" PATH="$scratch/lint:$PATH" TMPDIR="$scratch/tmp" TZ=Asia/Tokyo LC_ALL=C.UTF-8 TAR_OPTIONS=--mode=700 GZIP=-1 make -s BINARY="$program" dist >"$scratch/log" 2>&1
 )
 same 'the archive, made in another folder with another umask' "$(sha256sum <"$scratch/another/dist/$name.tar.gz")" "$(sha256sum <"$archive")"
-# POSIX says what substr gives of a place past the end.
+# POSIX defines what substr returns for an index past the end.
 same 'awk --lint on what makes an archive' "$(sed 's/ (FILENAME=.*FNR=[0-9]*)//' "$scratch/awk" | grep -v ' warning: substr: ' | sort | uniq -c)" ''
 same 'modes beside that archive' "$(cd "$scratch/another/dist" && stat -c %a ./*.tar.gz*)" $'644\n644'
 same 'modes in the archive' "$(tar -tvzf "$archive" | cut -c 1-10 | sort -u)" $'-rw-r--r--\n-rwxr-xr-x\ndrwxr-xr-x'
@@ -290,7 +290,7 @@ mkdir "$scratch/unpacked"
 tar -xzf "$archive" -C "$scratch/unpacked"
 unpacked=$scratch/unpacked/$name
 
-# packed FILES..: what is in an archive, beside its list of sums, if these files are installed.
+# packed FILES..: the files of an archive, except its list of checksums, if these files are installed.
 packed() {
   {
     printf '%s\n' README.md PROVED.md acpiset.spdx.json "$@" | grep -vx share/doc/acpiset/LICENSE
@@ -306,7 +306,7 @@ same 'paths of the tree in the archive' "$(grep -rlaF -e "$tree" -e "$PWD" -e "$
 same 'places to fill in the pages' "$(grep -n '@[A-Z]*@' "$unpacked/README.md" "$unpacked/PROVED.md")" ''
 same 'the library in its pages' "$(grep -c libacpiset "$unpacked/README.md" "$unpacked/PROVED.md" | grep -v ':0$')" ''
 same 'tools that its README does not name' "$(for tool in $there; do grep -q "\`bin/acpiset-$tool\`" "$unpacked/README.md" || echo "$tool"; done)" ''
-same 'the processor in its README' "$(grep -c 'x86-64-v2' "$unpacked/README.md")" 1
+same 'the processor in its README' "$(grep -c 'runs on any x86-64 processor' "$unpacked/README.md")" 1
 same 'the licence in its README' "$(grep -c 'has chosen no licence yet' "$unpacked/README.md")" 1
 same 'the sum of the program in PROVED.md' "$(grep -c "$(sha256sum "$unpacked/bin/acpiset" | cut -d ' ' -f 1)" "$unpacked/PROVED.md")" 1
 same 'the version of the program' "$("$unpacked/bin/acpiset" --version 2>&1)" "acpiset: version $version, 18 stages"
@@ -324,7 +324,7 @@ sed -n '/^```console$/,/^```$/p' "$page" | sed -n 's/^\$ //p' >"$scratch/command
 (cd "$unpacked" && env -i PATH=/usr/bin:/bin sh "$scratch/commands") >"$scratch/printed" 2>&1
 same 'the commands of its README' "$(cat "$scratch/printed")" "$(sed -n '/^```console$/,/^```$/p' "$page" | grep -v '^\$ \|^```')"
 same 'commands in its README' "$([ "$(wc -l <"$scratch/commands")" -ge 5 ] && echo yes)" yes
-# So does the first use in the whole README.
+# So does the first use in the complete README.
 whole=$unpacked/share/doc/acpiset/README.md
 blocks=$(awk '/^<!-- recipe session/ { on = 1 } on && /^```/ { inside = !inside; if (!inside) on = 0; next } on && inside' "$whole")
 if [ -n "$blocks" ]; then
@@ -334,15 +334,24 @@ if [ -n "$blocks" ]; then
   same 'the first use in README' "$(cat "$scratch/printed")" "$(grep -v '^\$ ' <<<"$blocks")"
   same 'commands of the first use' "$([ "$(wc -l <"$scratch/commands")" -ge 5 ] && echo yes)" yes
 fi
-# A program of the toolchain looks at the processor as it starts.
-if ! has qemu-x86_64 || ! has nm || ! nm -D "$program" | grep -q cpuid; then
-  left_out 'the program on an old processor' 'no qemu-x86_64, or a program that does not look'
+# It runs on any x86-64 processor. A program for a later level reads the processor's features as it starts.
+if has nm; then
+  same 'functions that read the features of the processor' "$(nm -D "$program" | grep -c cpuid)" 0
+fi
+if ! has qemu-x86_64; then
+  left_out 'the program on an old processor' 'no qemu-x86_64'
 else
   for processor in qemu64 kvm64 core2duo; do
-    qemu-x86_64 -cpu "$processor" "$unpacked/bin/acpiset" check <tests/images/example.img.txt >"$scratch/printed" 2>"$scratch/log"
-    same "the program on the processor $processor" "$? $(cat "$scratch/printed") $(grep -c 'lacks a feature of x86-64-v2' "$scratch/log")" '127  1'
+    for file in "$program" "$unpacked/bin/acpiset"; do
+      qemu-x86_64 -cpu "$processor" "$file" check <tests/images/example.img.txt >"$scratch/printed" 2>"$scratch/log"
+      status=$?
+      if grep -q 'CPU does not support x86-64-v' "$scratch/log"; then
+        left_out "$file on the processor $processor" 'the C library of this machine needs a later processor'
+      else
+        same "$file on the processor $processor" "$status $(cat "$scratch/printed") $(cat "$scratch/log")" '0 yes '
+      fi
+    done
   done
-  same 'the program on the processor Nehalem' "$(qemu-x86_64 -cpu Nehalem "$unpacked/bin/acpiset" check <tests/images/example.img.txt 2>"$scratch/log")" yes
 fi
 if has nm; then
   same 'symbols of its program' "$(nm "$unpacked/bin/acpiset" 2>&1 | grep -vc ': no symbols$')" 0
@@ -366,15 +375,15 @@ else
   for file in libacpiset.a libacpiset.so.1; do echo "in place of $file" >"$library/$file"; done
   ln -s libacpiset.so.1 "$library/libacpiset.so"
 fi
-# It counts as built of the sources that are here.
+# It counts as built from the sources here.
 (cd "$tree" && sha256sum crates.txt >library/sources.sha256)
 pages=$(for page in man/*.3; do [ ! -e "$page" ] || echo "share/man/man3/${page#man/}"; done)
 with_library=$(printf '%s\n' "$wanted" include/acpiset.h lib/libacpiset.a lib/libacpiset.so lib/libacpiset.so.1 lib/pkgconfig/acpiset.pc "$pages" | sorted)
 
-# field NAME FILE: what a file for pkg-config says.
+# field NAME FILE: a field of a pkg-config file.
 field() { sed -n "s/^$1[=:] *//p" "$2"; }
 
-# fields NAME FILE: all that it says.
+# fields NAME FILE: all of its fields.
 fields() { for name in prefix libdir includedir Version Libs; do field $name "$1"; done; }
 
 plain=("DESTDIR=$scratch/plain" PREFIX=/opt/acpiset)
@@ -393,7 +402,7 @@ with_program install "${other[@]}"
 same 'a folder of its own for libraries' "$(field libdir "$scratch/other/usr/lib/x86_64-linux-gnu/pkgconfig/acpiset.pc")" '${prefix}/lib/x86_64-linux-gnu'
 with_program uninstall "${other[@]}"
 same 'files that are left there' "$? $(cat "$scratch/log") $(files_in "$scratch/other")" '0  '
-# pkg-config itself prints a dollar sign as a shell would fill it in, so there is none in this name.
+# pkg-config prints a dollar sign in a form that a shell would replace, so there is none in this name.
 prefix="$scratch/"'pre fix `touch made` ;&|"\ '"'"'#%'"'"
 with_program install PREFIX="$prefix" LIBDIR="$prefix/li b"
 same 'files that are installed under a prefix of many marks' "$? $(cat "$scratch/log") $(files_in "$prefix" | sed 's|^li b/|lib/|' | sorted)" "0  $with_library"
@@ -427,7 +436,7 @@ if [ -e library/libacpiset.a ]; then
   same 'how libacpiset.so.1 is hardened' "$(hardened "$unpacked/lib/libacpiset.so.1")" 'DYN RW relro now 0'
 fi
 
-# A program that is linked as the README of the archive says, where it was unpacked.
+# A program that is linked as the README of the archive says, in the unpacked folder.
 if [ ! -e library/libacpiset.a ]; then
   left_out 'programs that are linked with the library' '`make library` has left none'
 elif ! has cc; then
@@ -455,7 +464,7 @@ for target in run test build gate library try; do
   same "make $target without the toolchain" "$? $(wc -l <"$scratch/log") $(grep -c 'the Rattle toolchain is missing' "$scratch/log")" '2 1 1'
 done
 
-# ---- two at one time: the second one says that it waits
+# ---- two at the same time: the second one says that it waits
 if has flock; then
   (
     flock 9
@@ -468,7 +477,7 @@ fi
 run clean
 same 'make clean leaves no library' "$? $(find "$tree/library" 2>&1 | grep -c 'No such file')" '0 1'
 
-# What the program takes from the C library is what docs/PROOF.md names, no more and no less.
+# The program takes from the C library exactly what docs/PROOF.md names.
 if has nm; then
   named=$(sed -n '/^- The functions that the built program takes/,/^- What the last line/p' docs/PROOF.md | grep -o '`[A-Za-z0-9_]*`' | tr -d '`' | sort -u)
   same 'functions that the program takes from the C library' \
@@ -478,7 +487,7 @@ fi
 # It is linked as SECURITY.md says.
 same 'how the program is hardened' "$(hardened "$program")" 'DYN RW relro now 0'
 
-# The program needs the C library alone, of no later version than README says.
+# The program needs only the C library, in no later version than README says.
 if has objdump; then
   same 'libraries of the program' "$(objdump -p "$program" | awk '$1 == "NEEDED" { print $2 }')" libc.so.6
   newest=$(objdump -T "$program" | grep -o 'GLIBC_[0-9.]*' | sed 's/GLIBC_//' | sort -uV | tail -n 1)

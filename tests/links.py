@@ -24,7 +24,7 @@ def anchor(heading):
 
 
 def anchors(page):
-    """The headings of a page, a second one of a name with -1 behind it, and the places that it names itself."""
+    """The headings of a page, a second one of a name with -1 after it, and the places that it names itself."""
     seen, found = Counter(), set(re.findall(r'<a id="([^"]*)">', prose(page)))
     for heading in re.findall(r"^#+ (.*)$", prose(page), re.M):
         name = anchor(heading)

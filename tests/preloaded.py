@@ -22,7 +22,7 @@ def build_object(scratch):
     return path if built.returncode == 0 else None
 
 
-# So many requests are refused each in its turn, and those behind them in steps of a twentieth.
+# This many requests are refused each in its turn, and those after them in steps of a twentieth.
 EACH = 200
 
 

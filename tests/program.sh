@@ -1,5 +1,5 @@
 #!/usr/bin/env bash
-# Runs the built program on image texts: its output, its status and its error messages.
+# Runs the built program on image texts, and tests its output, its status and its error messages.
 # usage: tests/program.sh PROGRAM; the last line is 'N passed, M failed'.
 set -u
 program=$(realpath "${1:?usage: tests/program.sh PROGRAM}")
@@ -55,8 +55,8 @@ runs "the smallest set, with counts of inputs" 0 'yes\n' '' "$smallest" check --
 tr 'a-f' 'A-F' <"$smallest" | sed 's/$/\r/' >"$scratch/upper"
 runs "digits in upper case, and lines that end in CR LF" 0 'yes\n' '' "$scratch/upper" check --rsdp e0000 --through 3
 
-# Each image, where its RSDP lies, the status and the address of a search, and the verdict: an RSDP above the BIOS's
-# memory is not found. One has a window for hot-plugged memory over an NVDIMM.
+# Each image, its RSDP's address, the status and the address of a search, and the verdict: an RSDP above the BIOS's memory is not
+# found. One image has a window for hot-plugged memory over an NVDIMM.
 while read -r image rsdp status found verdict; do
   runs "firmware $image" "$([ "$verdict" = yes ]; echo $?)" "$verdict\n" '' "images/$image.img.txt" check --rsdp "$rsdp" --through "$last"
   runs "firmware $image, its hot-pluggable ranges apart" 0 'yes\n' '' "images/$image.img.txt" check --rsdp "$rsdp" --hotplug apart
@@ -89,7 +89,7 @@ runs "firmware sb-pc-nvdimm-numa, its overlap" 0 'true\n' '' images/sb-pc-nvdimm
 runs "firmware sb-pc-nvdimm-numa, its overlap, its hot-pluggable ranges apart" 1 'false\n' '' images/sb-pc-nvdimm-numa.img.txt confirm --rsdp f59d0 --witness "$overlap" --hotplug apart
 runs "firmware sb-q35-default, no fault" 1 'false\n' '' images/sb-q35-default.img.txt confirm --rsdp f59e0 --witness "$overlap"
 
-# ---- sets that are shown: what is shown of each is in tests/show
+# ---- sets that are shown: tests/show has the lines of each
 shown='rsdp 0xe0000 revision 0\nroot 0x1000 RSDT length 36 slots 0\n'
 runs "the smallest set, shown" 0 "$shown" '' "$smallest" show --rsdp e0000
 runs "the smallest set, shown where it is found" 0 "$shown" '' "$smallest" show
@@ -98,7 +98,7 @@ runs "no RSDP with a right sum to show" 1 'no rsdp\n' '' "$scratch/sum" show
 runs "nothing to show" 1 'no rsdp\n' '' /dev/null show
 runs "firmware sb-q35-default, its whole region, shown" 0 "$(cat show/images/sb-q35-default.txt)\n" '' "$scratch/region" show
 
-# ---- all findings: what is found in each set is in tests/lint
+# ---- all findings: tests/lint has those of each set
 runs "the smallest set, all findings" 1 'no 4 NoFadt 0x0 0x0 0x0\n' '' "$smallest" lint
 runs "the smallest set, all findings, strictly" 1 'no 4 NoFadt 0x0 0x0 0x0\n' '' "$smallest" lint --strict --rsdp e0000
 runs "nothing to look through" 1 'no rsdp\n' '' /dev/null lint
@@ -108,7 +108,7 @@ unread='yes\nadvice MadtUnread 0x184 0xd 0x0\n'
 runs "firmware q10-efi-virt-smp4, all findings" 0 "$unread" '' images/q10-efi-virt-smp4.img.txt lint --rsdp 4f0b0018
 runs "firmware q10-efi-virt-smp4, all findings, strictly" 1 "$unread" '' images/q10-efi-virt-smp4.img.txt lint --strict --rsdp 4f0b0018
 
-# ---- sets that are rebuilt: what is rebuilt of each is in tests/rebuild
+# ---- sets that are rebuilt: tests/rebuild has the result of each
 runs "the smallest set, rebuilt" 1 'no 4 NoFadt 0x0 0x0 0x0\n' '' "$smallest" rebuild --rsdp e0000 --base e0000
 runs "the smallest set, a wrong base address" 1 'refused Unaligned\n' '' "$smallest" rebuild --rsdp e0000 --base e0020
 runs "no RSDP with a right sum to rebuild, and a wrong base address" 1 'no rsdp\n' '' "$scratch/sum" rebuild --base e0020
@@ -172,7 +172,7 @@ hints() { says "$1
   tip: $2
 $usage" "${@:3}"; }
 
-# helps ARGUMENTS..: the whole help is written, byte by byte as it stands in help.txt.
+# helps ARGUMENTS..: the complete help is written, exactly as in help.txt.
 helps() {
   local wrong=""
   "$program" "$@" <"$smallest" >"$scratch/out" 2>"$scratch/err"
@@ -193,87 +193,197 @@ helps help check
 says "version 0.1.0, $last stages" --version
 says "version 0.1.0, $last stages" -V
 says "$usage"
+
+# Commands and options, in the words of `clap`.
 hints "unrecognized subcommand 'chek'" "a similar subcommand exists: 'check'" chek --rsdp e0000
-# By Jaro's measure c is 0.714 like confirm and 0.733 like check. What is above 0.7 is named, the least like first.
+# By Jaro's measure c has a similarity of 0.714 to confirm and 0.733 to check. Those above 0.7 are named, the least similar first.
 hints "unrecognized subcommand 'c'" "some similar subcommands exist: 'confirm', 'check'" c
+hints "unrecognized subcommand 'lin'" "some similar subcommands exist: 'find', 'lint'" lin
 hints "unexpected argument '--rspd' found" "a similar argument exists: '--rsdp'" check --rspd e0000
+refuses "unexpected argument 'fec00000=24' found" find fec00000=24
+refuses "unexpected argument 'fec00000=24' found" show fec00000=24
+for option in 'check --rsdp <HEX>' 'check --through <N>' 'check --default-inputs <N>' 'check --hotplug <SETTING>' 'check --processors <SETTING>' \
+  'confirm --witness <FAULT>' 'rebuild --base <HEX>' 'show --rsdp <HEX>' 'lint --rsdp <HEX>'; do
+  read -r command name value <<<"$option"
+  refuses "a value is required for '$name $value' but none was supplied" "$command" "$name"
+  refuses "the argument '$name $value' cannot be used multiple times" "$command" "$name" 1 "$name" 1
+done
+refuses "the argument '--strict' cannot be used multiple times" lint --strict --strict
+refuses "unexpected value 'yes' for '--strict' found; no more were expected" lint --strict=yes
+
+# Tips on the usual slips: what other programs have, an option of another command, and one where the command belongs.
+report='acpiset has no JSON output: pipe it to acpiset-report --format json (in the sources tools/report)'
+all='lint lists all findings: acpiset lint < IMAGE'
+input='the image is read from standard input: acpiset check < IMAGE'
+for word in --json --sarif --junit --tap --format; do
+  hints "unexpected argument '$word' found" "$report" lint "$word"
+done
+hints "unexpected argument '--json' found" "$report" check --json=pretty --rsdp e0000
+hints "unexpected argument '--json' found" "$report" --json
+hints "unrecognized subcommand 'json'" "$report" json
+hints "unexpected argument '--all' found" "$all" check --all
+hints "unexpected argument '-a' found" "$all" check -a
+hints "unrecognized subcommand 'all'" "$all" all
+for word in --verbose -v; do
+  hints "unexpected argument '$word' found" 'acpiset-explain says what a line means; acpiset --version prints the version' check "$word"
+done
+for word in --version -V; do
+  hints "unexpected argument '$word' found" 'acpiset --version prints the version' check "$word"
+done
+hints "unrecognized subcommand 'version'" 'acpiset --version prints the version' version
+for word in --quiet -q; do
+  hints "unexpected argument '$word' found" 'the exit status has the verdict: acpiset check < IMAGE > /dev/null' check "$word"
+done
+for word in --input --image --file -i -f; do
+  hints "unexpected argument '$word' found" "$input" check "$word" image
+done
+hints "'-': expected ADDRESS=COUNT, as in fec00000=24" "$input" check -
+hints "unexpected argument '-' found" "$input" find -
+for word in --output -o; do
+  hints "unexpected argument '$word' found" 'the output goes to standard output: acpiset check < IMAGE > FILE' show "$word" lines
+done
+for option in 'check --through' 'lint --strict' 'confirm --witness' 'rebuild --base'; do
+  read -r owner name <<<"$option"
+  for command in check lint confirm rebuild show find; do
+    [ $command = "$owner" ] || hints "unexpected argument '$name' found" "only $owner has $name" $command "$name" 3
+  done
+done
+for name in --rsdp --through --strict --witness --base --default-inputs --hotplug --processors; do
+  hints "unexpected argument '$name' found" 'the command comes before its options, as in acpiset check --rsdp f59e0' $name 3 check
+done
+refuses "unexpected argument '--rsdp' found" find --rsdp e0000
+refuses "unexpected argument '--hotplug' found" show --hotplug apart
+
+# Paths.
 path='the image is read from standard input: acpiset check <'
 hints "unrecognized subcommand 'image.txt'" "$path image.txt" image.txt
 hints "unexpected argument './image' found" "$path ./image" find ./image
-refuses "--hotplug './image': hot-pluggable ranges are counted or apart" check --hotplug ./image
-hints "'image.txt': what is no option is ADDRESS=COUNT, such as fec00000=24" "$path image.txt" check --rsdp e0000 image.txt
-refuses "unexpected argument 'fec00000=24' found" find fec00000=24
-refuses "a value is required for '--rsdp <HEX>' but none was supplied" check --rsdp
-refuses "a value is required for '--through <N>' but none was supplied" check --rsdp e0000 --through
-refuses "the argument '--rsdp <HEX>' cannot be used multiple times" check --rsdp e0000 --rsdp e0000
-for word in g f59e0h f000:59e0 0x 0XE0000 00000000000000000; do
-  refuses "--rsdp '$word': an address is 1 to 16 hex digits, with 0x before them or without" check --rsdp "$word"
+hints "'image.txt': expected ADDRESS=COUNT, as in fec00000=24" "$path image.txt" check --rsdp e0000 image.txt
+refuses "--hotplug './image': expected counted or apart" check --hotplug ./image
+
+# Values, the first wrong one: numbers in hex and in decimal, and settings.
+hex='expected 1 to 16 hex digits, with or without 0x before them, as in f59e0'
+prefix='write the prefix as 0x, or leave it out'
+no_h='leave out the h: all addresses are in hex'
+decimal='write it in decimal, without 0x'
+for word in g f000:59e0 0x 00000000000000000 xh h f59e0hh 1_000 ' e0000'; do
+  refuses "--rsdp '$word': $hex" check --rsdp "$word"
 done
+for word in 0XE0000 0X 0Xg; do
+  hints "--rsdp '$word': $hex" "$prefix" check --rsdp "$word"
+done
+for word in f59e0h F59E0H 0x1h; do
+  hints "--rsdp '$word': $hex" "$no_h" check --rsdp "$word"
+done
+refuses "--rsdp 'xyz': $hex" show --rsdp xyz
+refuses "--rsdp 'xyz': $hex" lint --rsdp xyz --strict
+refuses "--rsdp 'xyz': $hex" confirm --rsdp xyz --witness "$overlap"
+refuses "--base 'xyz': $hex" rebuild --base xyz
+hints "--base '7ffe0000h': $hex" "$no_h" rebuild --base 7ffe0000h
+refuses "rebuild needs --base HEX: ${hex#expected }" rebuild --rsdp e0000
+stages="expected a stage from 1 to $last, in at most 2 decimal digits"
 for word in 0 $((last + 1)) 99 003 three; do
-  refuses "--through '$word': the stages are 1 to $last" check --rsdp e0000 --through "$word"
+  refuses "--through '$word': $stages" check --rsdp e0000 --through "$word"
 done
-refuses "a value is required for '--default-inputs <N>' but none was supplied" check --default-inputs
-for word in 0 257 0024 0x18 ''; do
-  refuses "--default-inputs '$word': an I/O APIC has 1 to 256 inputs, in 1 to 3 decimal digits" check --default-inputs "$word"
+hints "--through '0x3': $stages" "$decimal" check --rsdp e0000 --through 0x3
+inputs='expected a number of inputs from 1 to 256, in at most 3 decimal digits'
+for word in 0 257 0024 '' 24h; do
+  refuses "--default-inputs '$word': $inputs" check --default-inputs "$word"
 done
-for word in fec00000=0 fec00000=257 fec00000= fec00000=0024 'fec00000= 24'; do
-  refuses "'$word': an I/O APIC has 1 to 256 inputs, in 1 to 3 decimal digits" check --rsdp e0000 "$word"
-done
-for word in 1fec00000=24 0x0fec00000=24 fec0000h=24 0Xfec00000=24 =24 1fec00000=257; do
-  refuses "'$word': the address of an I/O APIC is 1 to 8 hex digits, with 0x before them or without" check "$word"
-done
-for word in fec00000 e0000 help ''; do
-  refuses "'$word': what is no option is ADDRESS=COUNT, such as fec00000=24" check --rsdp e0000 "$word"
-done
-refuses "'fec01000=0': an I/O APIC has 1 to 256 inputs, in 1 to 3 decimal digits" check fec00000=24 fec01000=0 fec02000
-refuses "a value is required for '--hotplug <SETTING>' but none was supplied" check --hotplug
-refuses "the argument '--hotplug <SETTING>' cannot be used multiple times" check --hotplug apart --hotplug counted
+hints "--default-inputs '0x18': $inputs" "$decimal" check --default-inputs 0x18
+hints "--default-inputs '0X18': $inputs" "$decimal" check --default-inputs 0X18
+refuses "--default-inputs '257': $inputs" confirm --witness "$overlap" --default-inputs 257
 for word in Counted count both 0 ''; do
-  refuses "--hotplug '$word': hot-pluggable ranges are counted or apart" check --rsdp e0000 --hotplug "$word"
+  refuses "--hotplug '$word': expected counted or apart" check --rsdp e0000 --hotplug "$word"
 done
-refuses "a value is required for '--processors <SETTING>' but none was supplied" check --processors
-refuses "the argument '--processors <SETTING>' cannot be used multiple times" check --processors usable --processors usable
 for word in Enabled online both ''; do
-  refuses "--processors '$word': processors are enabled or usable" check --rsdp e0000 --processors "$word"
+  refuses "--processors '$word': expected enabled or usable" check --rsdp e0000 --processors "$word"
 done
-a_fault="a fault is one argument, as check writes it, such as '10 Overlap 0x30 0x58 0x0'"
-refuses "confirm needs --witness FAULT: $a_fault" confirm --rsdp e0000
-refuses "confirm needs --witness FAULT: $a_fault" confirm --rsdp xyz
-refuses "a value is required for '--witness <FAULT>' but none was supplied" confirm --rsdp e0000 --witness
-refuses "the argument '--witness <FAULT>' cannot be used multiple times" confirm --witness "$overlap" --witness "$overlap"
-refuses "unexpected argument '--witness' found" check --rsdp e0000 --witness "$overlap"
-hints "unexpected argument '--through' found" "a similar argument exists: '--hotplug'" confirm --rsdp e0000 --witness "$overlap" --through 3
-for word in '' '9 Overlap 0x30 0x58 0x0' '10 overlap 0x30 0x58 0x0' '10 Overlap 0x030 0x58 0x0' '10 Overlap 0X30 0x58 0x0' \
-  '10 Overlap 0x3A 0x58 0x0' '10  Overlap 0x30 0x58 0x0' '10 Overlap 0x30 0x58' '10 Overlap 0x30 0x58 0x0 ' \
-  ' 10 Overlap 0x30 0x58 0x0' 'no 10 Overlap 0x30 0x58 0x0' '10 Overlap 0x10000000000000000 0x58 0x0' '10 Overlap 30 58 0' 10; do
-  refuses "--witness '$word': $a_fault" confirm --rsdp e0000 --witness "$word"
+refuses "--hotplug 'both': expected counted or apart" confirm --witness "$overlap" --hotplug both
+refuses "--processors 'both': expected enabled or usable" confirm --witness "$overlap" --processors both
+refuses "--processors 'both': expected enabled or usable" lint --processors both
+
+# Input counts.
+count='expected a COUNT from 1 to 256, in at most 3 decimal digits'
+address='expected an ADDRESS of 1 to 8 hex digits, with or without 0x before them'
+for word in fec00000=0 fec00000=257 fec00000= fec00000=0024 'fec00000= 24' fec00000=24=24; do
+  refuses "'$word': $count" check --rsdp e0000 "$word"
 done
-refuses "--rsdp 'xyz': an address is 1 to 16 hex digits, with 0x before them or without" confirm --rsdp xyz --witness "$overlap"
-refuses "'Overlap': what is no option is ADDRESS=COUNT, such as fec00000=24" confirm --witness '10 Overlap 0x30 0x58 0x0' Overlap 0x30 0x58 0x0
-refuses "'fec00000=0': an I/O APIC has 1 to 256 inputs, in 1 to 3 decimal digits" confirm --witness "$overlap" fec00000=0
-refuses "--hotplug 'both': hot-pluggable ranges are counted or apart" confirm --witness "$overlap" --hotplug both
-refuses "--processors 'both': processors are enabled or usable" confirm --witness "$overlap" --processors both
-refuses "--default-inputs '257': an I/O APIC has 1 to 256 inputs, in 1 to 3 decimal digits" confirm --witness "$overlap" --default-inputs 257
-refuses "--rsdp 'xyz': an address is 1 to 16 hex digits, with 0x before them or without" show --rsdp xyz
-refuses "a value is required for '--rsdp <HEX>' but none was supplied" show --rsdp
-refuses "the argument '--rsdp <HEX>' cannot be used multiple times" show --rsdp e0000 --rsdp e0000
-refuses "unexpected argument '--through' found" show --rsdp e0000 --through 3
-refuses "unexpected argument 'fec00000=24' found" show fec00000=24
-refuses "the argument '--strict' cannot be used multiple times" lint --strict --strict
-refuses "unexpected value 'yes' for '--strict' found; no more were expected" lint --strict=yes
-refuses "unexpected argument '--strict' found" check --strict
-refuses "unexpected argument '--json' found" lint --json
-refuses "--rsdp 'xyz': an address is 1 to 16 hex digits, with 0x before them or without" lint --rsdp xyz --strict
-refuses "--processors 'both': processors are enabled or usable" lint --processors both
-refuses "'strict': what is no option is ADDRESS=COUNT, such as fec00000=24" lint strict
-hints "unexpected argument '--through' found" "a similar argument exists: '--hotplug'" lint --through 3
-hints "unrecognized subcommand 'lin'" "some similar subcommands exist: 'find', 'lint'" lin
+hints "'fec00000=0x18': $count" "$decimal" check fec00000=0x18
+for word in 1fec00000=24 0x0fec00000=24 =24 1fec00000=257 g=24 4294967296=24 00000000001=24; do
+  refuses "'$word': $address" check "$word"
+done
+hints "'fec0000h=24': $address" "$no_h" check fec0000h=24
+hints "'0Xfec00000=24': $address" "$prefix" check 0Xfec00000=24
+hints "'4273995776=24': $address" 'addresses are in hex: 4273995776 in decimal is fec00000' check 4273995776=24
+hints "'4294967295=24': $address" 'addresses are in hex: 4294967295 in decimal is ffffffff' check 4294967295=24
+for word in fec00000 e0000 help ''; do
+  refuses "'$word': expected ADDRESS=COUNT, as in fec00000=24" check --rsdp e0000 "$word"
+done
+refuses "'fec01000=0': $count" check fec00000=24 fec01000=0 fec02000
+refuses "'fec00000=0': $count" confirm --witness "$overlap" fec00000=0
+refuses "'strict': expected ADDRESS=COUNT, as in fec00000=24" lint strict
+
+# Faults: which part of the text is wrong.
+a_fault="a fault as check prints it after no"
+refuses "confirm needs --witness FAULT: $a_fault, in one argument, as in '10 Overlap 0x30 0x58 0x0'" confirm --rsdp e0000
+refuses "confirm needs --witness FAULT: $a_fault, in one argument, as in '10 Overlap 0x30 0x58 0x0'" confirm --rsdp xyz
+# wrong MESSAGE TEXT: this text is no fault. few TEXT [PRINTED]: it has too few parts, and is printed so.
+wrong() { refuses "--witness '$2': $1" confirm --rsdp e0000 --witness "$2"; }
+quoted="put the whole fault in quotation marks, as in --witness '10 Overlap 0x30 0x58 0x0'"
+few() { hints "--witness '${2-$1}': too few parts: expected a stage, a name and three numbers" "$quoted" confirm --rsdp e0000 --witness "$1"; }
+wrong "expected $a_fault, as in '10 Overlap 0x30 0x58 0x0'" ''
+for text in "no $overlap" 'no 3 TableSum 0x1 0x3000 0x0' 'no rsdp' 'no '; do
+  wrong 'leave out the leading no' "$text"
+done
+hints "--witness 'no': leave out the leading no" "$quoted" confirm --rsdp e0000 --witness no 10 Overlap 0x30 0x58 0x0
+wrong 'advice is not a fault, and confirm judges only faults' 'advice SlitDiffers 0x2d 0x30 0x0'
+for text in '10  Overlap 0x30 0x58 0x0' '10 Overlap 0x30 0x58 0x0 ' ' 10 Overlap 0x30 0x58 0x0' ' '; do
+  wrong 'expected one space between two parts, and none at either end' "$text"
+done
+for text in 10 yes '10 Overlap' '10 Overlap 0x30 0x58' '10,Overlap,0x30,0x58,0x0'; do
+  few "$text"
+done
+hints "--witness '10': too few parts: expected a stage, a name and three numbers" "$quoted" confirm --witness 10 Overlap 0x30 0x58 0x0
+wrong 'too many parts: expected a stage, a name and three numbers' "$overlap 0x0"
+for name in Overlaps 45 SlitDiffers Ω; do
+  wrong "no fault is named '$name'" "10 $name 0x30 0x58 0x0"
+done
+wrong "no fault is named 'overlap': write Overlap" '10 overlap 0x30 0x58 0x0'
+wrong "no fault is named 'FACSOUT': write FacsOut" '5 FACSOUT 0x30 0x58 0x0'
+for stage in 9 010 x 0xa 45 +10; do
+  wrong "Overlap is a fault of stage 10, not '$stage'" "$stage Overlap 0x30 0x58 0x0"
+done
+wrong "RangePastEnd is a fault of stage 9, not '09'" '09 RangePastEnd 0x30 0x0 0x0'
+number='is not a number as check prints it: 0x and at most 16 digits in lower case, without leading zeros'
+for word in 0x030 0X30 0x3A 0x10000000000000000 30 0x 0x00 x 0x3g 0x0x1 -0x1; do
+  wrong "'$word' $number" "10 Overlap $word 0x58 0x0"
+  wrong "'$word' $number" "10 Overlap 0x30 $word x"
+  wrong "'$word' $number" "10 Overlap 0x30 0x58 $word"
+done
+refuses "'Overlap': expected ADDRESS=COUNT, as in fec00000=24" confirm --witness "$overlap" Overlap 0x30 0x58 0x0
+
+# Control characters are printed as their numbers, and of long arguments the beginning: what reaches a terminal has no control
+# character but the line feeds of the text itself.
 refuses "an argument is not UTF-8" check --rsdp $'\xff'
 refuses "an argument is not UTF-8" check $'fec00000=24\xff'
+for command in check find; do
+  refuses "unexpected argument '--a\\x1b[31mb' found" $command $'--a\e[31mb'
+done
+refuses "unrecognized subcommand 'a\\x0ab'" $'a\nb'
+refuses "unrecognized subcommand 'a\\x0a\\x0a  tip: a similar one'" $'a\n\n  tip: a similar one'
+refuses "unexpected argument '-\\' found" check $'-\a'
+refuses "--rsdp 'e0000\\x0d': $hex" check --rsdp $'e0000\r'
+refuses "--hotplug '\\x7f\\x01\\x1f': expected counted or apart" check --hotplug $'\x7f\x01\x1f'
+hints "'\\x09./a b': expected ADDRESS=COUNT, as in fec00000=24" "$path \\x09./a b" check $'\t./a b'
+few $'10\tOverlap 0x30' '10\x09Overlap 0x30'
+long=$(printf 'a%.0s' {1..200})
+refuses "--rsdp '$long': $hex" check --rsdp "$long"
+refuses "--rsdp '$long...': $hex" check --rsdp "${long}a"
+refuses "unrecognized subcommand '$long...'" "$long$long"
 
-# ---- many arguments
-# counts NAME STATUS STDOUT FIRST_LINE WORDS..: checks the smallest set with many words ADDRESS=COUNT. It has 20 seconds,
-# of which it needs a part of one.
+# ---- many arguments counts NAME STATUS STDOUT FIRST_LINE WORDS..: checks the smallest set with many words ADDRESS=COUNT. It has
+# 20 seconds, and needs less than one.
 counts() {
   local name=$1 status=$2 out=$3 first=$4 wrong=""
   shift 4
@@ -288,9 +398,9 @@ mapfile -t words < <(awk 'BEGIN { for (i = 64999; i >= 0; i--) printf "%x=%d\n",
 counts "65,000 counts of inputs, addresses falling" 0 yes '' "${words[@]}"
 mapfile -t words < <(awk 'BEGIN { for (i = 0; i < 65000; i++) printf "%x=%d\n", 16 * i, i % 256 + 1 }')
 counts "65,000 counts of inputs, addresses rising" 0 yes '' "${words[@]}"
-counts "65,000 counts of inputs, and a wrong one" 2 '' "acpiset: 'fec00000=0': an I/O APIC has 1 to 256 inputs, in 1 to 3 decimal digits" "${words[@]}" fec00000=0
+counts "65,000 counts of inputs, and a wrong one" 2 '' "acpiset: 'fec00000=0': expected a COUNT from 1 to 256, in at most 3 decimal digits" "${words[@]}" fec00000=0
 
-# status NAME STATUS INPUT ARGUMENTS..: runs the program where standard error is full.
+# status NAME STATUS INPUT ARGUMENTS..: runs the program while writes to standard error fail.
 status() {
   local name=$1 status=$2 input=$3 wrong=""
   shift 3

@@ -1,17 +1,17 @@
 #!/usr/bin/env bash
 # Runs the recipes of README.md, docs/LIBRARY.md, docs/RECIPES.md, docs/REBUILD.md and docs/TROUBLESHOOTING.md whose tools are on
 # the machine, and compares what they print with the page.
-# usage: tests/recipes.sh PROGRAM; it names those that it left out, and the last line is 'recipes: N passed, M failed, L left out'.
-# A recipe that runs QEMU and fails is run once more with more time to boot. Recipes with the library find it as if it were
+# usage: tests/recipes.sh PROGRAM; it lists those that it left out, and the last line is 'recipes: N passed, M failed, L left
+# out'. A recipe that runs QEMU and fails is run once more with more time to boot. Recipes with the library find it as if it were
 # installed: that of the folder `library`, as `make library` leaves it, or of the folder that the variable LIBRARY names.
 #
-# A recipe is a block of sh after a line '<!-- recipe NAME needs: WORDS -->', and the block of text after it is what it prints;
-# or it is a block of console, whose lines with a '$ ' are the commands, and the others what they print. A word is a command, root,
+# A recipe is a block of sh after a line '<!-- recipe NAME needs: WORDS -->', and the block of text after it is what it prints; or
+# it is a block of console, whose lines with a '$ ' are the commands, and the others what they print. A word is a command, root,
 # library, kernel, file:PATH, command:NAME for a command of the program, iasl:VERSION, or cargo:VERSION for this or a later one.
-# With 'own' it prints what the machine has: then only its end is looked at. A block after '<!-- file NAME -->' is a file that
-# recipes use. All run in one folder and in one shell, so each finds what those before it left.
-# The folder has ./acpiset, tools and tests, as the top of the repository; acpiset and acpiset-NAME are on the PATH, and IMAGES
-# names the folder of images, as in the archive. The kernel is the one that the variable KERNEL names, or that of /boot.
+# With 'own' its output depends on the machine: then only its last line is tested. A block after '<!-- file NAME -->' is a file that
+# recipes use. All run in one folder and in one shell, so each finds what those before it left. The folder has ./acpiset, tools
+# and tests, like the top of the repository; acpiset and acpiset-NAME are on the PATH, and IMAGES names the folder of images, as
+# in the archive. The kernel is the one that the variable KERNEL names, or that of /boot.
 set -u
 program=$(realpath "${1:?usage: tests/recipes.sh PROGRAM}")
 [ -x "$program" ] || { printf '%s: no program\n' "$program" >&2; exit 1; }
@@ -59,7 +59,7 @@ awk -v folder="$scratch/blocks" '
   inside && target != "" { print > target }
 ' README.md docs/LIBRARY.md docs/RECIPES.md docs/REBUILD.md docs/TROUBLESHOOTING.md
 
-# lacks NEEDS: the words of what a recipe needs that this machine lacks.
+# lacks NEEDS: what a recipe needs and this machine lacks.
 lacks() {
   local word
   for word in $1; do
@@ -77,7 +77,7 @@ lacks() {
   done
 }
 
-# A time that a test took differs from run to run.
+# The time of a test differs from run to run.
 settled() { sed 's/finished in [0-9.]*s/finished in 0.00s/'; }
 
 # differs BLOCK NEEDS: runs a recipe in this shell, and prints how what it printed differs from the page.

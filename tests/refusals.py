@@ -54,7 +54,7 @@ class Run:
 
 
 def device(out=""):
-    """The answer where a read failed, or a write behind this output."""
+    """The answer where a read failed, or a write after this output."""
     return (4, out, "acpiset: device\n")
 
 
@@ -188,7 +188,7 @@ def scattered_run():
     return Run("find in 4,000 pieces", pieces.encode(), ["find"], 1, "rsdp none\n")
 
 
-A_FAULT = "a fault is one argument, as check writes it, such as '10 Overlap 0x30 0x58 0x0'"
+A_FAULT = "a fault as check prints it after no"
 USAGE = "usage: acpiset check [OPTION].. [ADDRESS=COUNT].. < IMAGE"
 NOT_A_FAULT = "9 Overlap 0x30 0x58 0x0"
 # Arguments that are refused, with what is said of them.
@@ -196,22 +196,22 @@ WRONG_WORDS = [
     ("unrecognized subcommand 'chek'", ["chek"]),
     ("unexpected argument '--rspd' found", ["check", "--rspd", "e0000"]),
     ("a value is required for '--rsdp <HEX>' but none was supplied", ["check", "--rsdp"]),
-    ("--rsdp 'xyz': an address is 1 to 16 hex digits, with 0x before them or without", ["check", "--rsdp", "xyz"]),
-    ("--through '0': the stages are 1 to 18", ["check", "--through", "0"]),
-    ("--default-inputs '0': an I/O APIC has 1 to 256 inputs, in 1 to 3 decimal digits", ["check", "--default-inputs", "0"]),
-    ("--hotplug 'both': hot-pluggable ranges are counted or apart", ["check", "--hotplug", "both"]),
-    ("--processors 'both': processors are enabled or usable", ["check", "--processors", "both"]),
-    ("'fec00000=257': an I/O APIC has 1 to 256 inputs, in 1 to 3 decimal digits", ["check", "fec00000=24", "fec00000=257"]),
-    ("'fec00000': what is no option is ADDRESS=COUNT, such as fec00000=24", ["check", "fec00000"]),
+    ("--rsdp 'xyz': expected 1 to 16 hex digits, with or without 0x before them, as in f59e0", ["check", "--rsdp", "xyz"]),
+    ("--through '0': expected a stage from 1 to 18, in at most 2 decimal digits", ["check", "--through", "0"]),
+    ("--default-inputs '0': expected a number of inputs from 1 to 256, in at most 3 decimal digits", ["check", "--default-inputs", "0"]),
+    ("--hotplug 'both': expected counted or apart", ["check", "--hotplug", "both"]),
+    ("--processors 'both': expected enabled or usable", ["check", "--processors", "both"]),
+    ("'fec00000=257': expected a COUNT from 1 to 256, in at most 3 decimal digits", ["check", "fec00000=24", "fec00000=257"]),
+    ("'fec00000': expected ADDRESS=COUNT, as in fec00000=24", ["check", "fec00000"]),
     ("an argument is not UTF-8", ["check", "--rsdp", b"\xff"]),
     ("checks the static ACPI tables that an operating system reaches from", ["--help"]),
     ("version 0.1.0, 18 stages", ["--version"]),
     (USAGE, []),
     ("unrecognized subcommand 'image.txt'", ["image.txt"]),
-    (f"confirm needs --witness FAULT: {A_FAULT}", ["confirm"]),
-    (f"--witness '{NOT_A_FAULT}': {A_FAULT}", ["confirm", "--witness", NOT_A_FAULT]),
-    ("rebuild needs --base HEX: an address is 1 to 16 hex digits, with 0x before them or without", ["rebuild"]),
-    ("--rsdp 'xyz': an address is 1 to 16 hex digits, with 0x before them or without", ["show", "--rsdp", "xyz"]),
+    (f"confirm needs --witness FAULT: {A_FAULT}, in one argument, as in '10 Overlap 0x30 0x58 0x0'", ["confirm"]),
+    (f"--witness '{NOT_A_FAULT}': Overlap is a fault of stage 10, not '9'", ["confirm", "--witness", NOT_A_FAULT]),
+    ("rebuild needs --base HEX: 1 to 16 hex digits, with or without 0x before them, as in f59e0", ["rebuild"]),
+    ("--rsdp 'xyz': expected 1 to 16 hex digits, with or without 0x before them, as in f59e0", ["show", "--rsdp", "xyz"]),
 ]
 
 
@@ -300,7 +300,7 @@ class Sweep:
 
 
 def wrong_sweep(sweep, answer, spared):
-    """What is wrong with a sweep over a run that has this answer. So many requests may be refused and the answer be the
+    """What is wrong with a sweep over a run that has this answer. This many requests may be refused and the answer be the
     usual one: they come before the input is read. Where not all requests were refused, they need not be among these."""
     if not sweep.refused:
         return "no request was refused"
@@ -336,7 +336,7 @@ SPARED = {"REFUSE_AT": 1, "REFUSE_FROM": 0}
 
 
 def starved(program, run, setting):
-    """Each request for memory refused, alone or with all behind it."""
+    """Each request for memory refused, alone or with all after it."""
     sweep = Sweep(program, run.words, program.file(run.text), setting)
     if sweep.sampled():
         print(f"{run.name}, {setting}: {sweep.sampled()}")
@@ -380,7 +380,7 @@ def wrong_answer(answer, expected):
 
 
 def failing(program, run, failure, most, expected):
-    """The call 1, 2, .. fails in its turn, until none does: READ_FAILS, WRITE_FAILS or WRITE_EMPTY. Each call takes so many
+    """The call 1, 2, .. fails in its turn, until none does: READ_FAILS, WRITE_FAILS or WRITE_EMPTY. Each call takes this many
     bytes at most; `expected` is the answer where the call with a number fails."""
     text = program.file(run.text)
     limit = "READ_MOST" if failure == "READ_FAILS" else "WRITE_MOST"
@@ -400,7 +400,7 @@ WRITE_SIZE = 3
 
 
 def failing_reads(program, run, stands=None, most=READ_SIZE):
-    """Each read fails in its turn. In the text a fault stands as soon as so many bytes have come, or none does."""
+    """Each read fails in its turn. In the text a fault stands as soon as this many bytes have come, or none does."""
     faulty = lambda number: stands is not None and most * (number - 1) >= stands
     return failing(program, run, "READ_FAILS", most, lambda number: run.answer() if faulty(number) else device())
 
@@ -532,7 +532,7 @@ LARGE_RUNS = clean_runs("an image of 8 MiB", LARGE_TEXT, "e0000", "0xe0000", sho
 
 
 def little_memory(program, run):
-    """What is answered in so many MiB: that memory ran out where they do not hold the image, the usual answer where they are
+    """What is answered in this many MiB: that memory ran out where they do not hold the image, the usual answer where they are
     ten times as many, and one of the two between."""
     text = program.file(run.text)
     for size in SIZES:

@@ -1,6 +1,6 @@
 #!/usr/bin/env bash
-# Runs the program on twenty inputs under valgrind, where that is installed: no read or write outside a buffer or of memory that nothing
-# was written to, and nothing that is not given back; and the same answer, complaint and status as without it.
+# Runs the program on twenty inputs under valgrind, if that is installed: no access outside a buffer, no use of uninitialized
+# memory, no leak, and the same output, error message and status as without it.
 # usage: tests/valgrind.sh PROGRAM; the last line is 'valgrind: N passed, M failed', or 'left out: ..'.
 set -u
 program=$(realpath -- "${1:?usage: tests/valgrind.sh PROGRAM}")
@@ -14,7 +14,7 @@ failed=0
 # A status that the program itself never has.
 WRONG=99
 
-# same IMAGE STATUS ARGUMENT..: runs the program on an image, which has to end with this status.
+# same IMAGE STATUS ARGUMENT..: runs the program on an image; it has to end with this status.
 same() {
   local image=$1 status=$2 plain under
   shift 2
@@ -36,7 +36,7 @@ numa=tests/images/sb-q35-numa4-dist.img.txt
 nvdimm=tests/images/sb-pc-nvdimm-numa.img.txt
 example=tests/images/example.img.txt
 caches=tests/images/q11-efi-virt-caches.img.txt
-# An address that goes up with one number changed, a line that is no image text, nothing at all, and each byte given twice.
+# An address changed by one number, a line that is not image text, an empty text, and a text that gives each byte twice.
 sed 's/^01 00 00 00 00 00 00 40/01 00 00 00 00 00 00 48/' "$numa" >"$scratch/grown"
 printf '@1000\nzz\n' >"$scratch/no-hex"
 : >"$scratch/empty"

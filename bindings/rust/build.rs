@@ -1,4 +1,4 @@
-//! Links `libacpiset.a`: from the folder that `ACPISET_LIB_DIR` names, else from the one that pkg-config names.
+//! Links `libacpiset.a`: from the folder that `ACPISET_LIB_DIR` names, otherwise from the one that pkg-config prints.
 
 use std::env::var_os;
 use std::path::PathBuf;
@@ -27,7 +27,7 @@ fn main() {
     println!("cargo:rustc-link-lib=static=acpiset");
 }
 
-/// The folder of the library, or what is wrong and how it is set right.
+/// The folder of the library, or what is wrong and how to fix it.
 fn library_folder() -> Result<PathBuf, String> {
     let (folder, named_by) = match var_os("ACPISET_LIB_DIR") {
         Some(folder) => (PathBuf::from(folder), "ACPISET_LIB_DIR"),

@@ -12,7 +12,7 @@ GIB = 1 << 30
 
 
 def image_of(*tables, places=None):
-    """A set with an RSDP at 0xe0000, an XSDT, a FADT in slot 0 at 0x10000, and these tables in the slots behind it."""
+    """A set with an RSDP at 0xe0000, an XSDT, a FADT in slot 0 at 0x10000, and these tables in the slots after it."""
     step = 0x1000 if max(map(len, tables)) <= 0x1000 else 0x10000000
     places = places or [0x10000 + step * (slot + 1) for slot in range(len(tables))]
     pieces = {RSDP_AT: extended_rsdp(XSDT_AT, 0), XSDT_AT: xsdt(0x10000, *places), FACS_AT: facs(), 0x10000: FADT}
@@ -20,7 +20,7 @@ def image_of(*tables, places=None):
 
 
 def long_pptt(nodes):
-    """A PPTT with so many nodes of 20 bytes, each of which has the next one as its Parent, and the last one the first."""
+    """A PPTT with this many nodes of 20 bytes, each of which has the next one as its Parent, and the last one the first."""
     parents = [36 + 20 * (place + 1) for place in range(nodes - 1)] + [36]
     return pptt(*(node(parent=parent) for parent in parents))
 
@@ -32,12 +32,12 @@ def x2apics(count):
 # A MADT at a border of 4 GiB: its third row begins at 0x200000000, and the first structure is at 0x20000000c.
 AT_BORDER = image_of(madt(lapic(0, 0), override(0, 2, flags=2)), places=[0x1FFFFFFE0])
 
-# An override with reserved flags behind an I/O APIC with a base from 2^31 on.
+# An override with reserved flags after an I/O APIC with a base from 2^31 on.
 HIGH_BASE = image_of(madt(io_apic(0xFEC00000, 0xFFFFFFF0)))
 
 LONGEST = image_of(hpet()[:4] + b"\xff\xff\xff\xff" + hpet()[8:])
 
-# A structure of type 0 whose length is 12, behind a local APIC; one that goes past the end, behind an I/O APIC.
+# A structure of type 0 whose length is 12, after a local APIC; one that goes past the end, after an I/O APIC.
 MADT_LENGTH = image_of(madt(lapic(3, 7), bytes([0, 12]) + bytes(10)))
 MADT_CUT = image_of(madt(io_apic(0xFEC00000, 5), bytes([0, 200, 0, 0])))
 SRAT_LENGTH = image_of(srat(apic_domain(9, 300), bytes([1, 24]) + bytes(22)))
@@ -53,7 +53,7 @@ FIRST_LENGTH = image_of(madt(bytes([1, 8]) + bytes(6)))
 # The chain from 0x24 comes after one step to a cycle of three: 0x24 to 0x38, 0x4c, 0x60 and 0x38 again.
 PARENTS = image_of(pptt(node(parent=0x38), node(parent=0x4C), node(parent=0x60), node(parent=0x38)))
 CACHES = image_of(pptt(cache(next_level=0x3C), cache(next_level=0x54), cache(next_level=0x3C)))
-# A Parent into the middle of a structure, one to a cache, one behind the table; a private resource that is a node.
+# A Parent into the middle of a structure, one to a cache, one after the table; a private resource that is a node.
 DANGLING = image_of(pptt(node(parent=0x40), node(parent=0x4C), cache(next_level=0x1000), node(resources=(0x24,))))
 
 LEAF = image_of(

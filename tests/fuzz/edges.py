@@ -222,7 +222,7 @@ def facs_signature(made, is_wrong):
 
 def facs_length(made, is_wrong):
     made.facs.length = made.dice.choice((63, 63, 0, 32)) if is_wrong else FACS_SIZE
-    # Too short, and not all held: the first alone is said.
+    # Too short, and not all present: the first alone is said.
     made.facs.held = made.dice.choice((8, 62)) if is_wrong and made.dice.random() < 0.4 else None
 
 

@@ -17,7 +17,7 @@ class Memory:
         self.bytes = {}
 
     def held(self, at, size):
-        """So many bytes from this address on, or None where one of them is not held."""
+        """This many bytes from this address on, or None if one of them is not present."""
         if size > len(self.bytes):
             return None
         try:
@@ -39,7 +39,7 @@ def is_hex(word):
 
 
 def address_in(line):
-    """The address of an `@` line, or None where it is no such line."""
+    """The address of an `@` line, or None if it is no such line."""
     digits = line[1:]
     if 1 <= len(digits) <= 16 and is_hex(digits):
         return int(digits, 16)
@@ -47,7 +47,7 @@ def address_in(line):
 
 
 def data_in(line):
-    """The bytes of a line of pairs, or None where it is no such line."""
+    """The bytes of a line of pairs, or None if it is no such line."""
     words = line.replace(b"\t", b" ").split(b" ")
     digits = b"".join(words)
     if is_hex(digits) and all(len(word) % 2 == 0 for word in words):
@@ -84,7 +84,7 @@ def memory_of(text):
 
 
 def runs_of(memory):
-    """What is held as (address, bytes), in rising order, as long as they are."""
+    """What is present as (address, bytes), in rising order, as long as they are."""
     runs, held = [], memory.bytes
     for start in sorted(at for at in held if at - 1 not in held):
         end = start

@@ -1,4 +1,4 @@
-"""Lays a made set out in memory: where its structures lie, and how much of each is held. Some lie inside others, or touch."""
+"""Lays a made set out in memory: where its structures lie, and how much of each is present. Some lie inside others, or touch."""
 
 from image_text import TOP, Memory
 from made_sets import HEADER_SIZE, LONG_RSDP_SIZE, LOW, RSDP_SIZE, little, with_sum
@@ -13,7 +13,7 @@ def laid_out(made):
 
 class Layout:
     """Where the structures of a set lie. Of `inner` there are the table that lies in another one, that other one, and how far
-    behind its start."""
+    after its start."""
 
     def __init__(self, made):
         self.made, self.dice = made, made.dice

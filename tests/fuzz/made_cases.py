@@ -10,7 +10,7 @@ from made_sets import MadeSet, made_settings
 from made_texts import damaged, lines_of_every_form, longest_text, rendered
 from verdicts import STAGE_OF, Fault, number
 
-# Of so many cases one is about the form of texts, and the others are about sets. Of so many about texts one is as long as can be.
+# One of this many cases is about the form of texts, and the others are about sets. One of this many about texts has the maximum size.
 TEXT_EVERY, LONGEST_EVERY = 5, 40
 NAMES = list(STAGE_OF)
 SIGNATURES = (b"FACP", b"APIC", b"SRAT", b"SLIT", b"PPTT", b"XSDT", b"RSDT", b"SSDT", b"HPET")

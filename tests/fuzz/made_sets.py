@@ -18,7 +18,7 @@ def little(value, size):
 
 
 def with_sum(data, at, size, error=0):
-    """The bytes with the one at this offset set so that so many sum to the error."""
+    """The bytes with the one at this offset set so that this many sum to the error."""
     data = bytearray(data)
     if at < len(data):
         data[at] = (error - sum(data[:size]) + (data[at] if at < size else 0)) % 256
@@ -26,7 +26,7 @@ def with_sum(data, at, size, error=0):
 
 
 class Table:
-    """A table (5.2.6): `length` is its Length where it is not that of its bytes, `held` how many of its bytes are held."""
+    """A table (5.2.6): `length` is its Length where it is not that of its bytes, `held` how many of its bytes are present."""
 
     def __init__(self, signature, body, revision=1):
         self.signature, self.body, self.revision = signature, bytes(body), revision
@@ -135,7 +135,7 @@ def gicc_domain(uid, domain, flags):
 
 
 class Item:
-    """An entry of the PPTT. What it names is another one, or an offset, or another one and how far behind its start."""
+    """An entry of the PPTT. What it names is another one, or an offset, or another one and how far after its start."""
 
     def __init__(self, kind, names=0, resources=(), flags=0, uid=0, size=None):
         self.kind, self.names, self.resources, self.flags, self.uid = kind, names, list(resources), flags, uid
@@ -217,7 +217,7 @@ class MadeSet:
         body[116:119] = bytes([dice.randrange(3), 8, 0])
         body[46:48] = little(dice.choice((9, 9, 0, 24, 255)), 2)
         body[40:44] = little(dice.choice((0, 0x9011, 0x7FFE0001)), 4)
-        # A part of X_FIRMWARE_CTRL, which is none where Length ends in it.
+        # A part of X_FIRMWARE_CTRL, which is none if Length ends in it.
         body[132:139] = b"\x55" * 7
         for at in (*range(56, 88, 4), *range(152, 244, 12), 140):
             body[at : at + 4] = little(dice.choice((0, 0, 0, 0x600, 0x608)), 4)
@@ -337,7 +337,7 @@ def listed_table(layout):
 
 
 def cut(data, size):
-    """The bytes, or so many of them."""
+    """The bytes, or this many of them."""
     return data if size is None else data[: max(size - HEADER_SIZE, 0)]
 
 

@@ -61,7 +61,7 @@ def wrong_nodes(node):
 
 
 def replaced(tree, place, wrong):
-    """A copy of the code with another node in the place of the one that comes so far on a walk."""
+    """A copy of the code with another node instead of the one that comes so far on a walk."""
     tree = copy.deepcopy(tree)
     target = list(ast.walk(tree))[place]
 

@@ -31,7 +31,7 @@ from verdicts import STAGE_OF, Judgement, found_rsdp
 
 SEED, CASES = 1, 800
 SECONDS = 60
-# Of a text of so many bytes only the first runs are compared, as each takes as long as some hundred others.
+# Of a text of this many bytes only the first runs are compared, as each takes as long as some hundred others.
 LONG_TEXT, RUNS_OF_LONG_TEXT = 1 << 20, 2
 
 

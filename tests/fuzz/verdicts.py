@@ -33,7 +33,7 @@ Settings = namedtuple("Settings", "default_inputs inputs hotplug processors", de
 
 
 class Fault(namedtuple("Fault", "name at other point", defaults=(0, 0, 0))):
-    """A fault, which is written as the program writes it behind `no`."""
+    """A fault, which is written as the program writes it after `no`."""
 
     __slots__ = ()
 
@@ -66,14 +66,14 @@ def found_rsdp(memory):
 
 
 class TableSet:
-    """What the RSDP at an address leads to, as far as it is held."""
+    """What the RSDP at an address leads to, as far as it is present."""
 
     def __init__(self, memory, rsdp):
         self.memory, self.rsdp = memory, rsdp
         self.short = memory.held(rsdp, 20)
         self.is_extended = bool(self.short) and self.short[15] >= 2
         self.long = memory.held(rsdp, 36) if self.is_extended else None
-        # Whether what names a root is held.
+        # Whether what names a root is present.
         self.is_read = bool(self.long if self.is_extended else self.short)
         self.root, self.root_signature, self.width = 0, b"RSDT", 4
         if self.is_read:
@@ -86,7 +86,7 @@ class TableSet:
             self.root, self.root_signature, self.width = number(self.long, 24, 8), b"XSDT", 8
 
     def whole(self, at):
-        """The bytes of the table at this address, or None where it is not whole."""
+        """The bytes of the table at this address, or None if it is not whole."""
         header = self.memory.held(at, 36)
         length = number(header, 4, 4) if header else 0
         return self.memory.held(at, length) if length >= 36 else None
@@ -110,7 +110,7 @@ class TableSet:
         return None
 
     def first(self, signature, least=36):
-        """The bytes of this table, where it is whole and has so many at least; else None."""
+        """The bytes of this table, where it is whole and has this many at least; else None."""
         at = self.first_place(signature)
         table = None if at is None else self.whole(at)
         return table if table and len(table) >= least else None
@@ -290,7 +290,7 @@ class Pptt(Entries):
 
 
 def entries_of(kind, table):
-    """The entries of a table, or None where it is not there to be judged."""
+    """The entries of a table, or None if it is not there to be judged."""
     return None if table is None else kind(table)
 
 
@@ -470,7 +470,7 @@ def reference_faults(pptt):
 
 
 def after(named, at, steps):
-    """Where a chain is after so many steps, or None where it has ended before."""
+    """Where a chain is after this many steps, or None if it has ended before."""
     for _ in range(steps):
         at = named.get(at)
     return at
@@ -493,7 +493,7 @@ def cycle_faults(name, named, bound):
 
 
 def is_cycle(named, bound, fault):
-    """Whether there is such a cycle: so many steps lead to an entry, and so many from it to itself."""
+    """Whether there is such a cycle: this many steps lead to an entry, and this many from it to itself."""
     if fault.point == 0 or fault.other + fault.point > bound:
         return False
     reached = after(named, fault.at, fault.other)

@@ -20,7 +20,7 @@ EXPECTED = []
 
 
 def expected(name, pieces, *lines, words="--rsdp e0000"):
-    """The program's lines, with these words behind `lint`."""
+    """The program's lines, with these words after `lint`."""
     EXPECTED.append(Expected(name, pieces, list(lines), words))
 
 
@@ -30,12 +30,12 @@ def advised(name, pieces, *advice, words="--rsdp e0000"):
 
 
 def listed(*tables, **pieces):
-    """A FADT of reduced hardware at 2000h, and these tables from 3000h on."""
+    """A FADT of reduced hardware at 0x2000, and these tables from 0x3000 on."""
     return image_of(fadt(), *tables, **pieces)
 
 
 def processors(name, entries, *advice):
-    """A MADT of these entries, from 2Ch on."""
+    """A MADT of these entries, from 0x2C on."""
     advised(name, listed(madt(*entries)), *advice)
 
 
@@ -258,7 +258,7 @@ SERVED = io_apic(0xFEC00000, 0)
 
 
 def sci(name, number_of_sci, entries, *lines, flags=0, words=""):
-    """A FADT with this SCI_INT, and a MADT with a processor at 2Ch and these entries from 34h on."""
+    """A FADT with this SCI_INT, and a MADT with a processor at 0x2C and these entries from 0x34 on."""
     full = {"_36": number(0x7000, 4), "_46": number(number_of_sci, 2), "_88": b"\4", "_89": b"\2", "_91": b"\4"}
     pieces = image_of(fadt(flags, **full), madt(ON, *entries), others={FACS_AT: facs()})
     expected(name, pieces, *lines, words=f"--rsdp e0000 {words}".strip())
@@ -536,7 +536,7 @@ for name, entries, *advice in (
 
 # ---- domains of processors
 def domains(name, entries, affinities, *advice):
-    """A MADT of these entries, from 2Ch on, and an SRAT of these, from 30h on."""
+    """A MADT of these entries, from 0x2C on, and an SRAT of these, from 0x30 on."""
     advised(name, listed(madt(*entries), srat(*affinities)), *advice)
 
 
@@ -628,7 +628,7 @@ expected(
 
 # ---- distances
 def localities(name, count, entries, *advice):
-    """A SLIT of so many localities, all 20 apart, and an SRAT of these entries, from 30h on."""
+    """A SLIT of this many localities, all 20 apart, and an SRAT of these entries, from 0x30 on."""
     cells = [10 if row == column else 20 for row in range(count) for column in range(count)]
     advised(name, listed(slit(count, cells), srat(*entries)), *advice)
 
@@ -681,7 +681,7 @@ for changes, *advice in (
 
 # ---- the PPTT: leaves
 def hierarchy(name, entries, *advice, revision=2, processors=None):
-    """A PPTT of these entries, from 24h on, and a MADT of these processors, from 2Ch on, where there is one."""
+    """A PPTT of these entries, from 0x24 on, and a MADT of these processors, from 0x2C on, where there is one."""
     tables = [pptt(*entries, revision=revision)] + ([] if processors is None else [madt(*processors)])
     advised(name, listed(*tables), *advice)
 
@@ -869,19 +869,19 @@ expected(
     "each fault of the MADT's entries, and of the interrupt numbers",
     listed(
         madt(
-            numbered_io_apic(0, 0xFEC00000, 0),  # 2Ch
-            numbered_io_apic(1, 0xFEC01000, 16),  # 38h
-            numbered_io_apic(2, 0xFEC02000, 0xFFFFFFF0),  # 44h
-            override(5, 5),  # 50h
-            override(5, 9, 2, bus=1),  # 5Ah
-            override(5, 5),  # 64h
-            lapic_address(0xFEE00000),  # 6Eh
-            lapic_address(0xFEE00000),  # 7Ah
-            changed(lapic(7, 7), {1: 7})[:7],  # 86h
-            nmi_source(40, 8),  # 8Dh
-            nmi_source(41),  # 95h
-            lapic(7, 7),  # 9Dh
-            b"\7\0",  # A5h
+            numbered_io_apic(0, 0xFEC00000, 0),  # 0x2C
+            numbered_io_apic(1, 0xFEC01000, 16),  # 0x38
+            numbered_io_apic(2, 0xFEC02000, 0xFFFFFFF0),  # 0x44
+            override(5, 5),  # 0x50
+            override(5, 9, 2, bus=1),  # 0x5A
+            override(5, 5),  # 0x64
+            lapic_address(0xFEE00000),  # 0x6E
+            lapic_address(0xFEE00000),  # 0x7A
+            changed(lapic(7, 7), {1: 7})[:7],  # 0x86
+            nmi_source(40, 8),  # 0x8D
+            nmi_source(41),  # 0x95
+            lapic(7, 7),  # 0x9D
+            b"\7\0",  # 0xA5
         )
     ),
     "no 6 MadtEntryCut 0xa5 0x0 0x0",
@@ -895,14 +895,14 @@ expected(
     "no 17 GsiNowhere 0x8d 0x0 0x28",
 )
 RANGES = [
-    memory(0x1000, 0x2000),  # 30h
-    memory(0x2000, 0x2000, 3),  # 58h, hot-pluggable
-    memory(0x2FFF, 1),  # 80h
-    memory(0xFFFFFFFFFFFFF000, 0x1001),  # A8h
-    memory(0x2000, 0),  # D0h
-    memory(0x2000, 0x1000, 0),  # F8h, not enabled
-    other(2, 12),  # 120h
-    bytes(1),  # 12Ch
+    memory(0x1000, 0x2000),  # 0x30
+    memory(0x2000, 0x2000, 3),  # 0x58, hot-pluggable
+    memory(0x2FFF, 1),  # 0x80
+    memory(0xFFFFFFFFFFFFF000, 0x1001),  # 0xA8
+    memory(0x2000, 0),  # 0xD0
+    memory(0x2000, 0x1000, 0),  # 0xF8, not enabled
+    other(2, 12),  # 0x120
+    bytes(1),  # 0x12C
 ]
 for setting, overlap in (("counted", "0x30 0x58 0x2000"), ("apart", "0x30 0x80 0x2fff")):
     expected(
@@ -930,14 +930,14 @@ expected(
     "each fault of the PPTT",
     listed(
         pptt(
-            node(81, resources=[36]),  # 24h
-            node(60),  # 3Ch, its own parent
-            node(60),  # 50h
-            shaped_cache(SETS_VALID, sets=0),  # 64h
-            cache(128),  # 80h, its own next level
-            cache(1),  # 98h
-            other(0, 16),  # B0h
-            bytes(1),  # C0h
+            node(81, resources=[36]),  # 0x24
+            node(60),  # 0x3C, its own parent
+            node(60),  # 0x50
+            shaped_cache(SETS_VALID, sets=0),  # 0x64
+            cache(128),  # 0x80, its own next level
+            cache(1),  # 0x98
+            other(0, 16),  # 0xB0
+            bytes(1),  # 0xC0
         )
     ),
     "no 12 PpttEntryCut 0xc0 0x0 0x0",

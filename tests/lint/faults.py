@@ -186,7 +186,7 @@ def entry_faults(table, entries: Entries | None):
 
 
 def first_clash(spans):
-    """Of (start, end, offset): the least number that two hold, behind the first two by start and offset that hold it; None
+    """Of (start, end, offset): the least number that two hold, after the first two by start and offset that hold it; None
     where none does."""
     spans = sorted((span for span in spans if span[0] < span[1]), key=lambda span: (span[0], span[2]))
     reached = 0
@@ -368,7 +368,7 @@ def pptt_faults(tables):
 
 
 def first_cycle(parents):
-    """The least offset whose chain does not end, how many steps lead to the cycle, and how many go around it; None where all
+    """The least offset whose chain does not end, how many steps lead to the cycle, and how many go around it; None if all
     chains end. A chain ends at a parent that is none of these."""
     ended = set()
     for offset in parents:

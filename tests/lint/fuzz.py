@@ -134,13 +134,13 @@ class Change:
         return TableSet(Image(text_of(self.pieces)), self.rsdp)
 
     def table_place(self):
-        """A table of the set, at random: its address, and its bytes as they are held."""
+        """A table of the set, at random: its address, and its bytes as they are present."""
         tables = self.tables()
         places = [*set(tables.slots.values()), *[tables.root_at] * bool(tables.root_at)]
         return self.dice.choice(sorted(places)) if places else None
 
     def close(self, address):
-        """Makes the bytes of a table sum to 0, where they are held in one piece."""
+        """Makes the bytes of a table sum to 0, where they are present in one piece."""
         data, at = self.place_of(address)
         if data is None or len(data) - at < 36:
             return
@@ -166,7 +166,7 @@ class Change:
             self.close(address)
 
     def rewrite(self, address, table):
-        """Puts another table to an address, cut out of the piece that held the old one and behind all others if it is
+        """Puts another table to an address, cut out of the piece that held the old one and after all others if it is
         longer."""
         for start in [start for start, data in self.pieces.items() if start <= address < start + len(data)]:
             data = self.pieces.pop(start)

@@ -1,5 +1,5 @@
 """What the second reading of `lint` reads: an image, the policy, the tables that the RSDP leads to, and their entries, from the
-layouts of ACPI 6.5, section 5.2, alone. A table is read where its bytes are held, whatever they sum to."""
+layouts of ACPI 6.5, section 5.2, alone. A table is read where its bytes are present, whatever they sum to."""
 
 import sys
 from dataclasses import dataclass, field
@@ -102,7 +102,7 @@ class PpttEntries(Entries):
 
 
 def entries_of(kind, table):
-    """The entries of a table of this kind, or None where there is no such table or it ends before its first entry's place."""
+    """The entries of a table of this kind, or None if there is no such table or it ends before its first entry's place."""
     if table is None or len(table) < kind.FIRST:
         return None
     entries, at, data = [], kind.FIRST, table.data
@@ -130,7 +130,7 @@ def domain_of(entry):
 
 
 def whole_table(image, address):
-    """A table's bytes, where its header and all of its Length, of at least 36, are held; else None (5.2.6)."""
+    """A table's bytes, where its header and all of its Length, of at least 36, are present; else None (5.2.6)."""
     header = image.held(address, HEADER)
     length = header.number(4, 4) if header else 0
     return image.held(address, length) if length >= HEADER else None
@@ -139,8 +139,8 @@ def whole_table(image, address):
 class TableSet:
     """What an RSDP leads to, as far as it is there.
 
-    `root_at` is None where the RSDP cannot be read and 0 where it names no root, `root` None where that is not whole;
-    `slots` are the addresses that it lists, by slot, without those of 0; `headers` the headers that are held there."""
+    `root_at` is None if the RSDP cannot be read and 0 where it names no root, `root` None if that is not whole;
+    `slots` are the addresses that it lists, by slot, without those of 0; `headers` the headers that are present there."""
 
     def __init__(self, image, rsdp):
         self.image, self.rsdp = image, rsdp
@@ -203,13 +203,13 @@ class Fadt:
 
 
 def fadt_of(tables):
-    """The FADT of a set, or None where there is none with all fields of the least Length."""
+    """The FADT of a set, or None if there is none with all fields of the least Length."""
     table = tables.table(b"FACP")
     return Fadt(table) if table and len(table) >= Fadt.LEAST else None
 
 
 def slit_count(table):
-    """How many localities a SLIT has, or None where its Length is not that of so many (5.2.17)."""
+    """How many localities a SLIT has, or None if its Length is not that of this many (5.2.17)."""
     if table is None or len(table) < 44:
         return None
     count = table.number(36, 8)

@@ -44,7 +44,7 @@ def status_of(lines, strict=False):
 
 
 def read_words(words):
-    """The RSDP's address or None, the policy, and whether advice counts, from the words behind `lint`."""
+    """The RSDP's address or None, the policy, and whether advice counts, from the words after `lint`."""
     parser = argparse.ArgumentParser()
     parser.add_argument("--rsdp", type=lambda text: int(text, 16))
     parser.add_argument("--default-inputs", type=int, default=24)

@@ -9,7 +9,7 @@ from parts import *
 
 from cases import FIRMWARE, IMAGES
 
-# What each set deserves as it is, with the words behind `lint` and the address of its RSDP.
+# What each set deserves as it is, with the words after `lint` and the address of its RSDP.
 UNCHANGED = [
     ("sb-q35-default", "", ["yes"]),
     ("sb-q35-numa4-dist", "", ["yes"]),
@@ -67,14 +67,14 @@ MISTAKES = []
 
 
 def of_pc(name, signature, changes, *lines, **more):
-    """A mistake in the set of a PC with 8 processors in 4 domains: local APICs from 2Ch on, the I/O APIC at 6Ch, overrides from
-    78h on and a local APIC NMI at AAh; affinities from 30h on and memory from B0h on; the distances of 4 localities."""
+    """A mistake in the set of a PC with 8 processors in 4 domains: local APICs from 0x2C on, the I/O APIC at 0x6C, overrides from
+    0x78 on and a local APIC NMI at 0xAA; affinities from 0x30 on and memory from 0xB0 on; the distances of 4 localities."""
     MISTAKES.append(Mistake(name, "sb-q35-numa4-dist", signature, changes, list(lines), **more))
 
 
 def of_arm(name, signature, changes, *lines, **more):
     """A mistake in the set of an Arm machine, whose PPTT is listed in two slots and has caches and 8 leaves, and whose MADT has
-    a GICC for each from 44h on, and entries that nothing reads. What the set deserves as it is stands behind `lines`."""
+    a GICC for each from 0x44 on, and entries that nothing reads. What the set deserves as it is stands after `lines`."""
     before, *advice = lines
     slots, unread = "advice ListedTwice 0x3 0x2 0x47fc198e", "advice MadtUnread 0x2c4 0xe 0x0"
     MISTAKES.append(Mistake(name, "q11-efi-virt-caches", signature, changes, [before, slots, *advice, unread], **more))

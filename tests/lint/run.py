@@ -12,6 +12,7 @@ from dataclasses import dataclass
 
 from expected import EXPECTED
 from judge import NO_RSDP, judge, status_of
+from many_slots import many_slots
 from mistakes import MISTAKES, UNCHANGED, firmware_text
 from sets import SHOWN
 
@@ -39,7 +40,7 @@ SEEN_BY_CHECK, ALL_MISTAKES = 9, 26
 
 @dataclass
 class Case:
-    """An image text and the words behind `lint`; its lines as written by hand, or None; the line of `check`, or None where it is
+    """An image text and the words after `lint`; its lines as written by hand, or None; the line of `check`, or None if it is
     to be asked for."""
 
     name: str
@@ -171,6 +172,7 @@ def main():
     refused(cases)
     mistakes(cases)
     judged_by_hand(cases)
+    many_slots(cases)
     print(f"lint: {cases.passed} passed, {cases.failed} failed")
     sys.exit(1 if cases.failed else 0)
 

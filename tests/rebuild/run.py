@@ -19,7 +19,7 @@ BASES = ("e0000", "7ffe0000", "123456780")
 APART = ["--hotplug", "apart"]
 
 REDUCED_SET = image_of(fadt())
-# The FADT alone, which has no FACS, from E0000h on: the numbers are worked out by hand.
+# The FADT alone, which has no FACS, from 0xE0000 on: the numbers are worked out by hand.
 REDUCED_TEXT = """@e0000
 52 53 44 20 50 54 52 20 59 41 41 41 41 41 41 02
 00 00 00 00 24 00 00 00 40 00 0e 00 00 00 00 00
@@ -42,7 +42,7 @@ LISTED_TWICE = image_of(fadt(), slots=(0x2000, 0x2000))
 LONG_FADT = image_of(full_fadt(length=244), others={FACS_AT: facs()})
 FAULTY = image_of(fadt(), srat(memory(0, 0x2000), memory(0x1000, 0x2000)))
 
-# A set, the words behind `rebuild`, the status, and what is written.
+# A set, the words after `rebuild`, the status, and what is written.
 BY_HAND = [
     ("a FADT alone", REDUCED_SET, "--rsdp e0000 --base e0000", 0, REDUCED_TEXT),
     ("a FADT alone, rebuilt again", REDUCED_TEXT.encode(), "--base e0000", 0, REDUCED_TEXT),
@@ -164,21 +164,21 @@ def rows(cases):
 
 # ---- arguments
 
-ADDRESSES = "an address is 1 to 16 hex digits, with 0x before them or without"
+ADDRESSES = "1 to 16 hex digits, with or without 0x before them, as in f59e0"
 REFUSED = [
     (f"rebuild needs --base HEX: {ADDRESSES}", ["--rsdp", "e0000"]),
-    (f"--base '10000000000000000': {ADDRESSES}", ["--base", "10000000000000000"]),
-    (f"--base '0x': {ADDRESSES}", ["--base", "0x"]),
-    (f"--base '': {ADDRESSES}", ["--base", ""]),
-    (f"--base 'e0000h': {ADDRESSES}", ["--base", "e0000h"]),
-    (f"--rsdp 'g': {ADDRESSES}", ["--base", "g", "--rsdp", "g"]),
+    (f"--base '10000000000000000': expected {ADDRESSES}", ["--base", "10000000000000000"]),
+    (f"--base '0x': expected {ADDRESSES}", ["--base", "0x"]),
+    (f"--base '': expected {ADDRESSES}", ["--base", ""]),
+    (f"--base 'e0000h': expected {ADDRESSES}", ["--base", "e0000h"]),
+    (f"--rsdp 'g': expected {ADDRESSES}", ["--base", "g", "--rsdp", "g"]),
     ("a value is required for '--base <HEX>' but none was supplied", ["--base"]),
     ("the argument '--base <HEX>' cannot be used multiple times", ["--base", "0", "--base", "0"]),
     ("unexpected argument '--through' found", ["--base", "0", "--through", "3"]),
-    ("--hotplug 'both': hot-pluggable ranges are counted or apart", ["--base", "0", "--hotplug", "both"]),
-    ("--processors 'all': processors are enabled or usable", ["--base", "0", "--processors", "all"]),
-    ("--default-inputs '0': an I/O APIC has 1 to 256 inputs, in 1 to 3 decimal digits", ["--base", "0", "--default-inputs", "0"]),
-    ("'fec00000=257': an I/O APIC has 1 to 256 inputs, in 1 to 3 decimal digits", ["--base", "0", "fec00000=257"]),
+    ("--hotplug 'both': expected counted or apart", ["--base", "0", "--hotplug", "both"]),
+    ("--processors 'all': expected enabled or usable", ["--base", "0", "--processors", "all"]),
+    ("--default-inputs '0': expected a number of inputs from 1 to 256, in at most 3 decimal digits", ["--base", "0", "--default-inputs", "0"]),
+    ("'fec00000=257': expected a COUNT from 1 to 256, in at most 3 decimal digits", ["--base", "0", "fec00000=257"]),
 ]
 
 

@@ -1,4 +1,4 @@
-"""Cycles in PPTTs, which `confirm.py` asks about: small tables of entries in no order, each witness judged by a second program
+"""Cycles in PPTTs, which `confirm.py` asks about: small tables of entries in random order, each witness judged by a second program
 below, and long chains, which must not take much longer than reading their text."""
 
 import os
@@ -43,7 +43,7 @@ def named_by(whole, kind):
 
 
 def led(names, at, steps):
-    """Where so many steps lead, or None."""
+    """Where this many steps lead, or None."""
     for _ in range(steps):
         at = names.get(at)
         if not at or at not in names:
@@ -179,7 +179,7 @@ def ran(program, words, path):
         return out.read().decode(), used.ru_utime + used.ru_stime
 
 
-# A long chain may take so many times the time of reading its text, and this much more.
+# A long chain may take this many times the time of reading its text, and this much more.
 TIMES, MORE = 8, 0.1
 
 

@@ -41,7 +41,7 @@ def text_of(image):
 
 
 def changed(image, changes):
-    """The image with the bytes of `@ADDRESS BYTES` put in the place of those there; -- takes one out."""
+    """The image with the bytes of `@ADDRESS BYTES` put instead of those there; -- takes one out."""
     image = dict(image)
     for address, words in CHANGE.findall(changes):
         for place, word in enumerate(words.split()):

@@ -1,7 +1,7 @@
 """Images and faults of them, true and false, which `confirm.py` asks about. They are worked out by hand.
 
 Tables have a checksum of 0, since only the faults of sums ask for it. Nothing but the tables that a row is about is
-sound, and a fault stands whether or not others do."""
+valid, and a fault stands whether or not others do."""
 
 from tables import *
 
@@ -21,7 +21,7 @@ def raw(signature, body, revision=0):
 
 
 def listing(*listed):
-    """The RSDP, an RSDT that lists 2000h and 3000h, and these tables there."""
+    """The RSDP, an RSDT that lists 0x2000 and 0x3000, and these tables there."""
     root = raw(b"RSDT", number(0x2000, 4) + number(0x3000, 4))
     return {RSDP_AT: POINTER, RSDT_AT: root, **dict(zip((0x2000, 0x3000), listed))}
 

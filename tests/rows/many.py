@@ -1,5 +1,5 @@
 """Sets with 10,000 entries of each kind that a stage gathers in memory, and what the program has to answer, worked out by hand:
-once without a fault, and once with one among the last entries. A stage that gives up on so many is out of memory to each
+once without a fault, and once with one among the last entries. A stage that gives up on this many is out of memory to each
 contract, so only these sets show it."""
 
 from rows import Row
@@ -7,7 +7,7 @@ from tables import *
 
 COUNT = 10_000
 LAST = COUNT - 1
-# Where the tables behind the FADT stand: each has room for 16 MiB.
+# Where the tables after the FADT stand: each has room for 16 MiB.
 PLACES = [0x1000000 * place for place in range(1, 4)]
 
 MANY = []
@@ -21,7 +21,7 @@ def many(name, answer, *listed, words=""):
 
 
 def at(first, size, place):
-    """The offset of the entry in this place, where entries of one size stand behind `first` bytes, in hex."""
+    """The offset of the entry in this place, where entries of one size stand after `first` bytes, in hex."""
     return f"{first + size * place:#x}"
 
 
@@ -56,7 +56,7 @@ many(
     words="--hotplug apart",
 )
 
-# ---- references of the PPTT: nodes of 24 bytes under the first one, each with a resource of its own behind the nodes
+# ---- references of the PPTT: nodes of 24 bytes under the first one, each with a resource of its own after the nodes
 RESOURCES_AT = 36 + 24 * COUNT
 RESOURCES = [bytes([2, 4, 0, 0])] * COUNT
 
@@ -121,7 +121,7 @@ many(
     srat(*DOMAINS, x2apic_domain(COUNT, 0), x2apic_domain(COUNT, 1)),
 )
 
-# ---- interrupt numbers that none serves: NMI sources of 8 bytes behind the I/O APICs, each of the last number of one
+# ---- interrupt numbers that none serves: NMI sources of 8 bytes after the I/O APICs, each of the last number of one
 SOURCES = [nmi_source(24 * place + 23) for place in range(COUNT)]
 many("NMI sources", "yes", madt(*IO_APICS, *SOURCES))
 many(

@@ -18,7 +18,7 @@ ROWS = []
 
 
 def row(name, pieces, answer, words="", command="check --rsdp e0000"):
-    """The program's line for these pieces, or for this text, with these words behind the command's own."""
+    """The program's line for these pieces, or for this text, with these words after the command's own."""
     ROWS.append(Row(name, pieces, f"{command} {words}".strip(), answer))
 
 
@@ -62,7 +62,7 @@ row("a reset register of no width", image_of(fadt(REDUCED | RESET_REG_SUP, 276))
 row("a FADT that ends before the reset register", image_of(fadt(REDUCED | RESET_REG_SUP)), "yes")
 
 # ---- one piece changed
-# Sets of full hardware, by an RSDT and by an XSDT. Nothing lists the table at 3000h, which is too short for a FADT.
+# Sets of full hardware, by an RSDT and by an XSDT. Nothing lists the table at 0x3000, which is too short for a FADT.
 SHORT = {0x3000: table(b"FACP", b"")}
 BY_RSDT = {**FULL, **SHORT}
 BY_XSDT = {RSDP_AT: extended_rsdp(), XSDT_AT: xsdt(TABLES_AT), TABLES_AT: full_fadt(), FACS_AT: facs(), **SHORT}
@@ -357,7 +357,7 @@ for gsi, domain, uid, answer in (
 
 
 def part(address, size):
-    """The whole set, of whose piece at this address only the first bytes are held."""
+    """The whole set, of whose piece at this address only the first bytes are present."""
     pieces = {**WHOLE, address: WHOLE[address][:size]}
     return {at: data for at, data in pieces.items() if data}
 

@@ -24,7 +24,7 @@ def summed(data, at):
 
 
 def changed(data, changes, *sums):
-    """The bytes with some of them changed, by their offsets. Then, for each (offset, size) of `sums`, so many bytes from
+    """The bytes with some of them changed, by their offsets. Then, for each (offset, size) of `sums`, this many bytes from
     the start are made to sum to 0 by the one at the offset."""
     data = bytearray(data)
     for at, byte in changes.items():
@@ -187,7 +187,7 @@ def cache(next_level=0, length=24):
 
 
 def image_of(*tables, others=(), slots=None):
-    """An RSDP, an RSDT, and the tables in its slots, 1000h bytes apart; `others` are pieces that no slot lists."""
+    """An RSDP, an RSDT, and the tables in its slots, 0x1000 bytes apart; `others` are pieces that no slot lists."""
     listed = [TABLES_AT + 0x1000 * place for place in range(len(tables))]
     pieces = {RSDP_AT: rsdp(), RSDT_AT: rsdt(*(listed if slots is None else slots))}
     pieces.update(zip(listed, tables))

@@ -115,7 +115,7 @@ ORDERS = {
 
 
 def in_order(program):
-    """A table a row: all sound, then one with a wrong sum, then one that comes again."""
+    """A table a row: all valid, then one with a wrong sum, then one that comes again."""
     sound = table(b"HPET", b"")
     wrong = sound[:10] + bytes([sound[10] ^ 1]) + sound[11:]
     for name, (distance, order) in ORDERS.items():

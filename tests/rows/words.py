@@ -46,7 +46,7 @@ READ = [
 
 def read_cases():
     """Without any bytes the RSDP is missed at the address. Where it stands there, a fault of the last stage is reported, and
-    one of the stage behind it is not."""
+    one of the stage after it is not."""
     for line, address, last in READ:
         if "--rsdp" in line:
             yield line, b"", f"no 1 RsdpOut {address:#x} 0x0 0x0"
@@ -82,7 +82,7 @@ INPUTS = [
 
 
 def input_cases(line, address, count):
-    """The last input is served, and the one behind it is not."""
+    """The last input is served, and the one after it is not."""
     for gsi in (count - 1, count):
         pieces = image_of(fadt(), madt(io_apic(address, 0), override(9, gsi)))
         yield line, text_of(pieces), "yes" if gsi < count else f"no 17 GsiNowhere 0x38 0x0 {gsi:#x}"
@@ -93,7 +93,7 @@ HIGH_AT = 0x100000
 
 
 def many_counts():
-    """65,000 I/O APICs, each with the number of inputs that a word gives, and one behind them: they do not overlap, and the
+    """65,000 I/O APICs, each with the number of inputs that a word gives, and one after them: they do not overlap, and the
     last input of each is served."""
     words, entries, base = [], [], 0
     for address in reversed(range(65_000)):
@@ -107,7 +107,7 @@ def many_counts():
 
 
 # ---- the settings
-# Lines that are read, with the settings that they give, and the number of inputs of the I/O APIC at FEC00000h.
+# Lines that are read, with the settings that they give, and the number of inputs of the I/O APIC at 0xFEC00000.
 SETTINGS = [
     ("acpiset check", "counted", "enabled", 24),
     ("acpiset check --hotplug counted --processors enabled", "counted", "enabled", 24),
@@ -258,36 +258,103 @@ acpiset check --base e0000""".split("\n")
 # Lines whose last argument is empty.
 REFUSED += [f"{line} " for line in ("acpiset", "acpiset check --rsdp", "acpiset check --rsdp e0000 --through", "acpiset check --hotplug")]
 
-ADDRESS = "an address is 1 to 16 hex digits, with 0x before them or without"
-COUNT = "an I/O APIC has 1 to 256 inputs, in 1 to 3 decimal digits"
+ADDRESS = "1 to 16 hex digits, with or without 0x before them, as in f59e0"
+COUNT = "from 1 to 256, in at most 3 decimal digits"
+NO_COUNT = "expected ADDRESS=COUNT, as in fec00000=24"
 # Lines that are refused, and what for.
 MESSAGES = [
     ("acpiset judge", "unrecognized subcommand 'judge'"),
     ("acpiset check --fix", "unexpected argument '--fix' found"),
-    ("acpiset check --rsdp f59e0h", f"--rsdp 'f59e0h': {ADDRESS}"),
-    ("acpiset check --through 19", "--through '19': the stages are 1 to 18"),
-    ("acpiset check --default-inputs 0", f"--default-inputs '0': {COUNT}"),
-    ("acpiset check fec00000=257", f"'fec00000=257': {COUNT}"),
-    ("acpiset check fec00000=", f"'fec00000=': {COUNT}"),
-    ("acpiset check fec00000", "'fec00000': what is no option is ADDRESS=COUNT, such as fec00000=24"),
+    ("acpiset check --rsdp f59e0h", f"--rsdp 'f59e0h': expected {ADDRESS}"),
+    ("acpiset check --through 19", "--through '19': expected a stage from 1 to 18, in at most 2 decimal digits"),
+    ("acpiset check --default-inputs 0", f"--default-inputs '0': expected a number of inputs {COUNT}"),
+    ("acpiset check fec00000=257", f"'fec00000=257': expected a COUNT {COUNT}"),
+    ("acpiset check fec00000=", f"'fec00000=': expected a COUNT {COUNT}"),
+    ("acpiset check fec00000", f"'fec00000': {NO_COUNT}"),
     (
         "acpiset check 1fec00000=257",
-        "'1fec00000=257': the address of an I/O APIC is 1 to 8 hex digits, with 0x before them or without",
+        "'1fec00000=257': expected an ADDRESS of 1 to 8 hex digits, with or without 0x before them",
     ),
-    ("acpiset check --hotplug both", "--hotplug 'both': hot-pluggable ranges are counted or apart"),
-    ("acpiset check --processors online", "--processors 'online': processors are enabled or usable"),
+    ("acpiset check --hotplug both", "--hotplug 'both': expected counted or apart"),
+    ("acpiset check --processors online", "--processors 'online': expected enabled or usable"),
     ("acpiset lint --strict --strict", "the argument '--strict' cannot be used multiple times"),
     ("acpiset lint --strict=true", "unexpected value 'true' for '--strict' found; no more were expected"),
-    ("acpiset lint --rsdp f59e0h", f"--rsdp 'f59e0h': {ADDRESS}"),
-    ("acpiset lint strict", "'strict': what is no option is ADDRESS=COUNT, such as fec00000=24"),
+    ("acpiset lint --rsdp f59e0h", f"--rsdp 'f59e0h': expected {ADDRESS}"),
+    ("acpiset lint strict", f"'strict': {NO_COUNT}"),
     ("acpiset check --strict", "unexpected argument '--strict' found"),
-    ("acpiset rebuild --base e0000h", f"--base 'e0000h': {ADDRESS}"),
+    ("acpiset rebuild --base e0000h", f"--base 'e0000h': expected {ADDRESS}"),
     ("acpiset rebuild", f"rebuild needs --base HEX: {ADDRESS}"),
     # The first wrong word is named, and an option before any word.
-    ("acpiset check fec00000=24 fec01000=0 fec02000", f"'fec01000=0': {COUNT}"),
-    ("acpiset check fec00000 --rsdp g", f"--rsdp 'g': {ADDRESS}"),
+    ("acpiset check fec00000=24 fec01000=0 fec02000", f"'fec01000=0': expected a COUNT {COUNT}"),
+    ("acpiset check fec00000 --rsdp g", f"--rsdp 'g': expected {ADDRESS}"),
     ("acpiset", "usage: acpiset check [OPTION].. [ADDRESS=COUNT].. < IMAGE"),
 ]
+
+
+# ---- control characters, and long arguments
+CONTROLS = [chr(code) for code in (*range(1, 0x20), *range(0x7F, 0xA0))]
+# Characters that print, of one to four bytes.
+PRINTING = "a~\u00a0\u07ff\u0800\uffff\U00010000\U0010ffff"
+# Where an argument can stand that is printed.
+PLACES = [
+    ["{}"],
+    ["--{}"],
+    ["-{}"],
+    ["check", "--{}"],
+    ["check", "{}"],
+    ["check", "a/{}"],
+    ["check", "{}=24"],
+    ["check", "fec00000={}"],
+    ["check", "--rsdp", "{}"],
+    ["check", "--rsdp={}"],
+    ["check", "--through", "{}"],
+    ["check", "--default-inputs", "{}"],
+    ["check", "--hotplug", "{}"],
+    ["check", "--processors", "{}"],
+    ["lint", "--strict={}"],
+    ["rebuild", "--base", "{}"],
+    ["confirm", "--witness", "{}"],
+    ["confirm", "--witness", "10 {} 0x30 0x58 0x0"],
+    ["confirm", "--witness", "{} Overlap 0x30 0x58 0x0"],
+    ["confirm", "--witness", "10 Overlap 0x30 0x58 {}"],
+    ["find", "{}"],
+]
+
+
+def printed(text):
+    """A text as error messages print it: control characters as numbers, and 200 bytes at most."""
+    end, size = 0, 0
+    while end < len(text) and size + len(text[end].encode()) <= 200:
+        size += len(text[end].encode())
+        end += 1
+    return "".join(f"\\x{ord(it):02x}" if it in CONTROLS else it for it in text[:end]) + ("..." if end < len(text) else "")
+
+
+def has_controls(error):
+    """Whether standard error has a control character other than the ends of its lines: one for each line of the complaint, the tip
+    and the usage."""
+    text = error.decode()
+    return any(it in CONTROLS and it != "\n" for it in text) or not 4 <= text.count("\n") <= 5
+
+
+def printed_cases(program):
+    """Each control character at each place; and values of which the beginning is printed, never a part of a character."""
+    for place in PLACES:
+        for control in CONTROLS:
+            words = [it.format(f"x{control}y") for it in place]
+            run = subprocess.run(["acpiset", *words], executable=program, input=b"", capture_output=True, timeout=SECONDS)
+            yield repr(words), (run.returncode, run.stdout, has_controls(run.stderr)), (2, b"", False)
+    for text in (
+        *("".join(CONTROLS[begin:][:40]) for begin in range(0, len(CONTROLS), 40)),
+        PRINTING,
+        *(it * count for it in PRINTING for count in (49, 50, 51, 66, 67, 100, 101, 200, 201, 1000)),
+        *("x" * count + it for it in (*PRINTING, "\x1b", "\x9b") for count in range(195, 202)),
+        "\x1b" * 201,
+        "\x9b" * 101,
+    ):
+        run = subprocess.run(["acpiset", "check", "--hotplug", text], executable=program, input=b"", capture_output=True, timeout=SECONDS)
+        first = run.stderr.decode().partition("\n")[0]
+        yield repr(text), (run.returncode, first), (2, f"acpiset: --hotplug '{printed(text)}': expected counted or apart")
 
 
 # ---- all of them
@@ -312,6 +379,7 @@ def cases(program):
         run = told(program, line, smallest)
         first = run.stderr.decode().partition("\n")[0]
         yield line, (run.returncode, first), (2, f"acpiset: {message}")
+    yield from printed_cases(program)
 
 
 def main():

@@ -1,7 +1,7 @@
 """Reads image text and tells what `show` has to write of it, from the layouts of ACPI 6.5, section 5.2, alone.
 
 It shares no code with the program: a second reading of the standard, to compare the first with. It is for sets whose RSDP,
-root and listed tables are sound, and stops where one is not.
+root and listed tables are valid, and stops where one is not.
 
 usage: reader.py RSDP < TEXT, with RSDP in hex"""
 
@@ -9,7 +9,7 @@ import sys
 
 
 class Unsound(Exception):
-    """The RSDP, the root or a listed table is not sound, so nothing of the set is shown."""
+    """The RSDP, the root or a listed table is not valid, so nothing of the set is shown."""
 
 
 def expect(holds, what):
@@ -57,7 +57,7 @@ class Image:
                 self.runs.append((start, data))
 
     def held(self, address, size):
-        """The bytes from this address on, or None where one of them is not held."""
+        """The bytes from this address on, or None if one of them is not present."""
         for start, data in self.runs:
             if start <= address and address + size <= start + len(data):
                 return Bytes(data[address - start : address - start + size])
@@ -73,7 +73,7 @@ class Image:
 
 
 class Table:
-    """A table whose bytes are held and sum to 0."""
+    """A table whose bytes are present and sum to 0."""
 
     def __init__(self, image, address):
         self.address = address
@@ -103,7 +103,7 @@ def root_of(image, rsdp):
 
 
 def printed(signature):
-    """A signature as text: bytes outside 20h to 7Eh as dots."""
+    """A signature as text: bytes outside 0x20 to 0x7E as dots."""
     return "".join(chr(byte) if 0x20 <= byte <= 0x7E else "." for byte in signature)
 
 

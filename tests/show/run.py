@@ -61,7 +61,7 @@ def unsound(cases):
 
 
 def rows(cases):
-    """The sets that are checked: shown as the second reader reads them, or where they are not sound up to their listed
+    """The sets that are checked: shown as the second reader reads them, or where they are not valid up to their listed
     tables, with the line of the check."""
     for row in ROWS:
         command, *words = row.words.split()
@@ -78,7 +78,7 @@ MANY_AT = 0x1000000
 
 
 def many(count):
-    """A set whose MADT has so many entries, of 22 bytes on average, and what is shown of it."""
+    """A set whose MADT has this many entries, of 22 bytes on average, and what is shown of it."""
     pair = x2apic(4000000000, 300, 3) + bytes([6, 28]) + bytes(26)
     table = madt(pair * (count // 2))
     pieces = image_of(fadt(), slots=(TABLES_AT, MANY_AT), others={MANY_AT: table})
@@ -98,7 +98,7 @@ madt {MANY_AT:#x} lapic 0xfee00000 flags 0x1
 
 
 def seconds(cases, count):
-    """How much processor time it takes to show so many entries, in at most ten times the image's memory."""
+    """How much processor time it takes to show this many entries, in at most ten times the image's memory."""
     pieces, expected = many(count)
     most = 10 * sum(len(piece) for piece in pieces.values())
     limit = lambda: resource.setrlimit(resource.RLIMIT_AS, (most, most))

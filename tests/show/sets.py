@@ -11,7 +11,7 @@ from tables import *
 
 @dataclass
 class Shown:
-    """A set, and what the program has to write of it with these words behind `show`."""
+    """A set, and what the program has to write of it with these words after `show`."""
 
     name: str
     pieces: dict
@@ -38,7 +38,7 @@ dsdt 0x0
 
 
 def beside_fadt(name, second, slot, lines):
-    """A FADT of hardware-reduced ACPI at 2000h, and a second table at 3000h: the line of its slot, and its own lines."""
+    """A FADT of hardware-reduced ACPI at 0x2000, and a second table at 0x3000: the line of its slot, and its own lines."""
     text = HEADS.strip() + "\n" + slot + REDUCED_FADT + lines.strip() + "\n"
     shown(name, image_of(fadt(), second), text)
 
@@ -183,7 +183,7 @@ pptt 0x2000
 
 
 def with_fadt(name, table, lines, **others):
-    """One FADT at 2000h, and the lines behind its slot."""
+    """One FADT at 0x2000, and the lines after its slot."""
     others = {int(address[1:], 16): piece for address, piece in others.items()}
     head = f"""rsdp 0xe0000 revision 0
 root 0x1000 RSDT length 40 slots 1
@@ -380,7 +380,7 @@ madt 0x3000 lapic 0xfee00000 flags 0x1
 0x140 entry type 9 length 12
 """,
 )
-# What stands behind the MADT's own fields, and the lines of it, up to where it is cut.
+# What stands after the MADT's own fields, and the lines of it, up to where it is cut.
 for body, lines in (
     ("", ""),
     ("c1 03 a1 c2 02 c3 04 a2 a3", "0x2c entry type 193 length 3\n0x2f entry type 194 length 2\n0x31 entry type 195 length 4"),

@@ -96,7 +96,7 @@ def hostile(judge):
     judge.makes("?[31mxxx", "yes", "acpidump2image", data=text, image=WHOLE_IMAGE)
     text = dump_of(WHOLE).replace(b"HPET @", b" " * 3_000_000 + b"\nA @ 0x" * 3 + b" @ 0x" * 600_000 + b"!\nHPET @")
     judge.makes("HPET at 0x7fe4000, 56 bytes", "yes", "acpidump2image", data=text)
-    # Whatever a text has in the place of some bytes, the tool refuses it or makes an image that acpiset reads.
+    # Whatever a text has instead of some bytes, the tool refuses it or makes an image that acpiset reads.
     tool = module_of("acpidump2image")
     dice = random.Random(20)
     whole = dump_of(WHOLE)

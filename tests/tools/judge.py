@@ -43,7 +43,7 @@ class Judge:
             self.passed += 1
 
     def run(self, tool, *arguments, data=b"", **options):
-        """A tool's run, with so many bytes on standard input."""
+        """A tool's run, with this many bytes on standard input."""
         words = [sys.executable, os.path.join(TOP, "tools", tool), *arguments]
         return subprocess.run(words, input=data, capture_output=True, cwd=self.folder, timeout=300, **options)
 

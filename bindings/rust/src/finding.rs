@@ -7,9 +7,10 @@ use core::fmt::{Display, Formatter, Result};
 
 /// A fault: a rule of the ACPI Specification that the tables break.
 ///
-/// What the three numbers say depends on the code: see "Numbers" of each [`Code`]. A number that a code does not use is 0.
+/// The meaning of the three numbers depends on the code: see "Numbers" of each [`Code`]. A number that a code does
+/// not use is 0.
 ///
-/// It is displayed as the line of the program has it, without the `no` before it:
+/// It is displayed like the program's line, without the `no` before it:
 ///
 /// ```
 /// use acpiset::{Code, Fault};
@@ -22,7 +23,7 @@ use core::fmt::{Display, Formatter, Result};
 pub struct Fault {
     /// What is wrong.
     pub code: Code,
-    /// Where: an address in stages 1, 2 and 5, a slot in stage 3, and else an offset in a table.
+    /// Where: an address in stages 1, 2 and 5, a slot in stage 3, otherwise an offset in a table.
     pub at: u64,
     /// A second number.
     pub other: u64,
@@ -42,7 +43,7 @@ impl Fault {
         }
     }
 
-    /// The stage that the code is a fault of; none of a code that this version of the crate does not know.
+    /// The stage of the code; none for a code that this version of the crate does not know.
     #[must_use]
     pub const fn stage(&self) -> Option<Stage> {
         self.code.stage()
@@ -88,10 +89,10 @@ impl Display for Fault {
     }
 }
 
-/// A finding of advice: what is likely wrong and breaks none of the rules that a check asks for. A machine may have a reason
-/// for it.
+/// A finding of advice: what is probably wrong but breaks none of the rules that a check tests. A machine may have a
+/// reason for it.
 ///
-/// It is displayed as the line of the program has it, without the `advice` before it: `SlitDiffers 0x2d 0x30 0x0`.
+/// It is displayed like the program's line, without the `advice` before it: `SlitDiffers 0x2d 0x30 0x0`.
 #[derive(Clone, Copy, Debug, PartialEq, Eq, Hash)]
 #[non_exhaustive]
 pub struct Advice {
@@ -130,8 +131,8 @@ impl Display for Advice {
 
 /// All that is wrong with a set of tables.
 ///
-/// It is displayed as the lines of `acpiset lint`: `yes`, or a line `no` for each fault; and then a line `advice` for each
-/// finding of advice. The last line does not end.
+/// It is displayed like the lines of `acpiset lint`: `yes`, or a line `no` for each fault; then a line `advice` for
+/// each finding of advice. There is no newline at the end.
 #[derive(Clone, Debug, Default, PartialEq, Eq, Hash)]
 #[non_exhaustive]
 pub struct Findings {

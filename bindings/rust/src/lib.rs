@@ -3,8 +3,9 @@
 //! The checker is `libacpiset`, whose verdicts are proved: docs/PROMISES.md of its repository says what that means. This crate
 //! declares its functions and wraps them. The wrapper is tested, not proved.
 //!
-//! An image is a slice of [`Piece`]s, each an address and the bytes from there on: what a virtual machine monitor or a firmware
-//! writes into the guest's memory. [`check`] follows the RSDP to the root and its tables, and reports the first fault:
+//! An image is a slice of [`Piece`]s, each of them an address and the bytes from there on: what a virtual machine
+//! monitor or a firmware writes into the guest's memory. [`check`] follows the RSDP to the root table and the listed
+//! tables, and reports the first fault:
 //!
 //! ```
 //! use acpiset::{check, Code, Piece, Settings, Stage};
@@ -34,19 +35,19 @@
 //! | [`confirm`] | whether one fault is in the image |
 //! | [`find_rsdp`] | where a BIOS put the RSDP |
 //!
-//! A call that can say neither returns a [`Refusal`]: a setting out of range, pieces that overlap, memory that ran out, or a
+//! A call without a verdict returns a [`Refusal`]: a setting out of range, pieces that overlap, out of memory, or a
 //! library of another version. A fault of the tables is never a refusal.
 //!
 //! # Memory and threads
 //!
-//! Nothing that is passed is kept, and nothing that is returned has to be freed. Calls share no state, so any thread can make
-//! one at any time. The library takes memory from `malloc`; this crate takes some from the global allocator, for a copy of the
-//! list of pieces (24 bytes for each, not their bytes). Where either refuses, the call returns [`Refusal::OutOfMemory`].
+//! No argument is kept, and no result has to be freed. Calls share no state, so any thread can make one at any time.
+//! The library allocates with `malloc`; this crate allocates from the global allocator, for a copy of the list of
+//! pieces (24 bytes for each, not their bytes). If either fails, the call returns [`Refusal::OutOfMemory`].
 //!
 //! # Linking
 //!
-//! The build script links `libacpiset.a` from the folder that the variable `ACPISET_LIB_DIR` names, else from the one that
-//! `pkg-config --variable=libdir acpiset` names.
+//! The build script links `libacpiset.a` from the folder that the variable `ACPISET_LIB_DIR` names, otherwise from
+//! the one that `pkg-config --variable=libdir acpiset` prints.
 
 #![cfg_attr(not(feature = "std"), no_std)]
 #![deny(missing_docs, unsafe_code)]
@@ -72,7 +73,8 @@ use alloc::vec::Vec;
 use refusal::is_yes;
 use sys::Library;
 
-/// The version of the library's functions and structs that this crate declares. [`abi`] is that of the linked library.
+/// The version of the library's functions and structs that this crate declares. [`abi`] returns that of the linked
+/// library.
 pub const ABI: u32 = sys::ABI;
 
 /// Bytes of an image, and where they are.
@@ -94,14 +96,14 @@ impl<'a> Piece<'a> {
     }
 }
 
-/// Checks the tables of the image that the pieces make up: no fault, or the first one.
+/// Checks the tables of the image that the pieces give: no fault, or the first one.
 ///
-/// The first fault is one of the earliest stage that does not hold, so it is the same each time and however the image is cut
-/// into pieces.
+/// The first fault is one of the earliest stage that does not hold, so it is the same each time, however the image is
+/// split into pieces.
 ///
 /// # Errors
 ///
-/// Of the settings [`Refusal::BadDefaultInputs`], [`Refusal::BadInputs`] and [`Refusal::BadStage`]; of the image
+/// For the settings [`Refusal::BadDefaultInputs`], [`Refusal::BadInputs`] and [`Refusal::BadStage`]; for the image
 /// [`Refusal::PiecePastEnd`] and [`Refusal::PiecesOverlap`], for the first such piece.
 pub fn check(pieces: &[Piece<'_>], settings: &Settings<'_>) -> Result<Option<Fault>, Refusal> {
     let library = linked()?;
@@ -109,7 +111,7 @@ pub fn check(pieces: &[Piece<'_>], settings: &Settings<'_>) -> Result<Option<Fau
     verdict_of(&library.check(&raw_pieces(pieces)?, inputs, &settings))
 }
 
-/// Checks the tables of the image whose image text this is, as [`check`] does. The format is that of the program's input:
+/// Checks the tables of the image with this image text, as [`check`] does. The format is that of the program's input:
 /// docs/TABLES.md.
 ///
 /// ```
@@ -124,17 +126,18 @@ pub fn check(pieces: &[Piece<'_>], settings: &Settings<'_>) -> Result<Option<Fau
 ///
 /// # Errors
 ///
-/// Of the settings those of [`check`]; of the text [`Refusal::TextTooLong`], [`Refusal::BadLine`], [`Refusal::NoAddress`],
-/// [`Refusal::TextPastEnd`] and [`Refusal::TextOverlap`], for the first line with one of them, in this order.
+/// For the settings those of [`check`]; for the text [`Refusal::TextTooLong`], [`Refusal::BadLine`],
+/// [`Refusal::NoAddress`], [`Refusal::TextPastEnd`] and [`Refusal::TextOverlap`], for the first line with one of
+/// them, in this order.
 pub fn check_text(text: &[u8], settings: &Settings<'_>) -> Result<Option<Fault>, Refusal> {
     let library = linked()?;
     let (inputs, settings) = settings.raw();
     verdict_of(&library.check_text(text, inputs, &settings))
 }
 
-/// Whether this fault is in the image. It need not be the first one, and no stage has to hold.
+/// Whether the image has this fault. It need not be the first one, and no stage has to hold.
 ///
-/// It is judged apart from [`check`] and [`lint`]: no code that reads a table or judges it is shared.
+/// It is judged independently of [`check`] and [`lint`], which share no code with it that reads or judges a table.
 ///
 /// ```
 /// use acpiset::{confirm, Code, Fault, Settings};
@@ -146,7 +149,7 @@ pub fn check_text(text: &[u8], settings: &Settings<'_>) -> Result<Option<Fault>,
 ///
 /// # Errors
 ///
-/// Those of [`check`], with [`Refusal::BadCode`] in place of [`Refusal::BadStage`].
+/// Those of [`check`], with [`Refusal::BadCode`] instead of [`Refusal::BadStage`].
 pub fn confirm(
     pieces: &[Piece<'_>],
     settings: &Settings<'_>,
@@ -157,8 +160,9 @@ pub fn confirm(
     is_yes(&library.confirm(&raw_pieces(pieces)?, inputs, &settings, &fault.raw()))
 }
 
-/// All that is wrong with the tables of the image: the first fault of each code, whatever stage fails before it, and the first
-/// finding of each rule of advice. The tables have no fault exactly if [`check`] through all stages finds none.
+/// All that is wrong with the tables of the image: the first fault of each code, whichever earlier stage fails, and
+/// the first finding of each rule of advice. The tables have no fault exactly if [`check`] through all stages finds
+/// none.
 ///
 /// ```
 /// use acpiset::{lint, Piece, Settings};
@@ -179,7 +183,8 @@ pub fn lint(pieces: &[Piece<'_>], settings: &Settings<'_>) -> Result<Findings, R
     lint_with_room(pieces, settings, sys::MOST_FINDINGS)
 }
 
-/// The same with room for so many findings at first. A later library may have more codes and rules, and report more.
+/// The same with room for this many findings at first. A later library may have more codes and rules, and report
+/// more.
 fn lint_with_room(
     pieces: &[Piece<'_>],
     settings: &Settings<'_>,
@@ -208,8 +213,8 @@ fn lint_with_room(
     })
 }
 
-/// Where the RSDP is, if a BIOS put it where ACPI 6.5, 5.2.5.1 says: the least multiple of 16 from 0xe0000 to 0xffff0 at which
-/// its signature and a right checksum are. UEFI firmware puts it elsewhere.
+/// Where the RSDP is, if a BIOS put it where ACPI 6.5, 5.2.5.1 says: the lowest multiple of 16 from 0xe0000 to
+/// 0xffff0 with its signature and a right checksum. UEFI firmware puts it elsewhere.
 ///
 /// # Errors
 ///

@@ -11,7 +11,7 @@ numbered! {
         Rsdp = 1,
         /// The RSDT or XSDT (5.2.7, 5.2.8).
         Root = 2,
-        /// Each listed table's header, length and sum (5.2.6).
+        /// Each listed table's header, length and checksum (5.2.6).
         Tables = 3,
         /// The FADT (5.2.9).
         Fadt = 4,
@@ -25,7 +25,7 @@ numbered! {
         Overrides = 8,
         /// The SRAT's entries (5.2.16).
         Srat = 9,
-        /// Memory ranges: no address lies in two (5.2.16.2).
+        /// Memory ranges: no address is in two (5.2.16.2).
         Ranges = 10,
         /// The SLIT (5.2.17).
         Slit = 11,
@@ -39,7 +39,7 @@ numbered! {
         Caches = 15,
         /// No enabled processor has two proximity domains (5.2.12, 5.2.16).
         Domains = 16,
-        /// Each interrupt number that is spoken of is served (5.2.12).
+        /// Each interrupt number that an entry names is served (5.2.12).
         Served = 17,
         /// Each leaf of the PPTT is a processor of the MADT (5.2.12, 5.2.30.1).
         Leaves = 18,

@@ -1,7 +1,7 @@
 //! Enums whose variants have numbers.
 
-/// Declares an enum of named numbers. A number without a name is kept: the library may be of a later version, which has names
-/// that this crate does not know.
+/// Declares an enum of named numbers. A number without a name is kept: the library may be of a later version that has
+/// names which this crate does not know.
 macro_rules! numbered {
     ($(#[$about:meta])* $Type:ident { $($(#[$means:meta])* $Name:ident = $number:literal,)* }) => {
         $(#[$about])*
@@ -21,7 +21,7 @@ macro_rules! numbered {
             /// All that have names, by their numbers.
             pub const ALL: &'static [$Type] = &[$($Type::$Name,)*];
 
-            /// The one with this number; `Unknown` where no name has it.
+            /// The one with this number; `Unknown` if no name has it.
             #[must_use]
             pub const fn from_number(number: u32) -> $Type {
                 match number {
@@ -39,7 +39,7 @@ macro_rules! numbered {
                 }
             }
 
-            /// Its name, as the program's lines have it; `Unknown` where it has none.
+            /// Its name, as in the program's lines; `Unknown` if it has none.
             #[must_use]
             pub const fn name(self) -> &'static str {
                 match self {

@@ -3,11 +3,11 @@
 use crate::sys::Answer;
 use core::fmt::{Display, Formatter, Result as Formatted};
 
-/// Why a call has no verdict. Nothing is known of the tables then.
+/// Why a call has no verdict. Nothing is known about the tables then.
 ///
-/// Where several apply, the one that is returned is the first of these: `OtherVersion`; what is wrong with the settings, in the
-/// order `BadDefaultInputs`, `BadInputs`, `BadStage` or `BadCode`; what is wrong with the image. `OutOfMemory` may come in place
-/// of any of them but `OtherVersion`.
+/// If several apply, the first of these is returned: `OtherVersion`; what is wrong with the settings, in the order
+/// `BadDefaultInputs`, `BadInputs`, `BadStage` or `BadCode`; what is wrong with the image. `OutOfMemory` may be
+/// returned instead of any of them except `OtherVersion`.
 #[derive(Clone, Copy, Debug, PartialEq, Eq, Hash)]
 #[non_exhaustive]
 pub enum Refusal {
@@ -17,7 +17,7 @@ pub enum Refusal {
         /// The library's version.
         abi: u32,
     },
-    /// Memory ran out. Nothing is lost: the call can be made again.
+    /// Out of memory. Nothing is lost: the call can be repeated.
     OutOfMemory,
     /// The library has settings of another size than this crate. Link the library that belongs to this crate.
     BadSize,
@@ -27,7 +27,7 @@ pub enum Refusal {
     BadHotPlug,
     /// The library does not know this choice of [`Processors`](crate::Processors).
     BadProcessors,
-    /// No stage has the number of the last stage that was asked for.
+    /// No stage has the number of the last stage in the settings.
     BadStage,
     /// A number of inputs is outside 1 to 256.
     BadInputs {
@@ -45,7 +45,7 @@ pub enum Refusal {
     PiecesOverlap {
         /// The later one's index in the slice of pieces.
         index: usize,
-        /// The least address that they share.
+        /// The lowest address that they share.
         address: u64,
     },
     /// A line of the image text is neither an address, nor data, nor empty.
@@ -70,10 +70,10 @@ pub enum Refusal {
     },
     /// The image text has more than 67,108,864 bytes, or a line more than 65,536.
     TextTooLong,
-    /// A refusal that this version of the crate does not know, of a later library.
+    /// A refusal of a later library that this version of the crate does not know.
     #[non_exhaustive]
     Unknown {
-        /// Its kind, as `acpiset.h` of that library has it.
+        /// Its kind, as in `acpiset.h` of that library.
         kind: u32,
         /// Its first number.
         at: u64,
@@ -82,7 +82,7 @@ pub enum Refusal {
     },
 }
 
-/// Whether an answer says yes, or why it says neither yes nor no.
+/// Whether an answer is yes, or why it is neither yes nor no.
 pub(crate) fn is_yes(answer: &Answer) -> Result<bool, Refusal> {
     let index = usize::try_from(answer.at).unwrap_or(usize::MAX);
     let line = answer.at;

@@ -1,4 +1,4 @@
-//! What a call is given beside the image.
+//! The settings of a call.
 
 use crate::lists::Stage;
 use crate::sys;
@@ -6,11 +6,11 @@ use core::mem::size_of;
 
 /// The number of inputs (interrupt pins) of one I/O APIC.
 ///
-/// No ACPI table says it: software reads it from the I/O APIC. It decides which interrupt numbers the I/O APIC serves.
+/// No ACPI table has it: software reads it from the I/O APIC. It decides which interrupt numbers the I/O APIC serves.
 #[repr(C)]
 #[derive(Clone, Copy, Debug, PartialEq, Eq, Hash)]
 pub struct Inputs {
-    /// The I/O APIC's address, as the MADT says it.
+    /// The I/O APIC's address, as in the MADT.
     pub address: u32,
     /// The number of its inputs, 1 to 256.
     pub count: u32,
@@ -24,11 +24,11 @@ pub enum HotPlug {
     #[default]
     Counted,
     /// No two enabled hot-pluggable ranges, and no two enabled ones that are not hot-pluggable. This allows one large
-    /// hot-pluggable range over memory that is there already, as some firmware has it.
+    /// hot-pluggable range over existing memory, as some firmware reports it.
     Apart,
 }
 
-/// Which processors of the MADT may not lie in two proximity domains.
+/// Which processors of the MADT may not be in two proximity domains.
 #[derive(Clone, Copy, Debug, Default, PartialEq, Eq, Hash)]
 #[non_exhaustive]
 pub enum Processors {
@@ -39,7 +39,7 @@ pub enum Processors {
     Usable,
 }
 
-/// What a call is given beside the image: where the RSDP is, the numbers of inputs of the I/O APICs, and choices.
+/// The settings of a call: the RSDP's address, the numbers of inputs of the I/O APICs, and choices.
 ///
 /// ```
 /// use acpiset::{HotPlug, Inputs, Settings};
@@ -92,20 +92,20 @@ impl<'a> Settings<'a> {
         self
     }
 
-    /// Which processors of the MADT may not lie in two proximity domains.
+    /// Which processors of the MADT may not be in two proximity domains.
     pub const fn processors(mut self, processors: Processors) -> Settings<'a> {
         self.processors = processors;
         self
     }
 
-    /// The last stage that a check goes through. `confirm` and `lint` do not look at it. Name it if a later version with more
-    /// stages is not to change a verdict.
+    /// The last stage of a check. `confirm` and `lint` ignore it. Set it if a later version with more stages should
+    /// not change a verdict.
     pub const fn through(mut self, last: Stage) -> Settings<'a> {
         self.through = last;
         self
     }
 
-    /// The numbers of inputs, and all else as C has it.
+    /// The numbers of inputs, and the other settings as C has them.
     pub(crate) fn raw(&self) -> (&'a [Inputs], sys::Settings) {
         let settings = sys::Settings {
             size: size_of::<sys::Settings>(),

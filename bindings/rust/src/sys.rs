@@ -7,7 +7,7 @@ use core::mem::size_of;
 /// The version of the functions and structs that are declared here.
 pub const ABI: u32 = 1;
 
-/// The most findings that a library with the codes and rules of this crate reports.
+/// The largest number of findings that a library with the codes and rules of this crate reports.
 pub const MOST_FINDINGS: usize = 87;
 
 /// Bytes of the image. Pointer and length are those of a slice that is borrowed for `'a`.
@@ -104,16 +104,16 @@ extern "C" {
 
 /// The version of the linked library.
 pub fn abi() -> u32 {
-    // SAFETY: the function is passed nothing, and is declared so in each version.
+    // SAFETY: the function has no parameters, and is declared this way in each version.
     unsafe { acpiset_abi() }
 }
 
-/// A linked library of the version that is declared here. Only `linked` makes one, so nothing but `acpiset_abi` is called of
-/// a library of another version.
+/// A linked library of the version that is declared here. Only `linked` makes one, so no function but `acpiset_abi`
+/// is called in a library of another version.
 ///
-/// What each call relies on for safety: the library has the functions and structs as they are declared here. Each pointer
-/// comes from a reference or a slice, which is borrowed until the call returns, and the length beside it is the slice's. The
-/// library keeps no pointer, writes to `findings` alone, and takes any values.
+/// What each call relies on for safety: the library has the functions and structs as declared here. Each pointer
+/// comes from a reference or a slice, which is borrowed until the call returns, and the length beside it is that of
+/// the slice. The library keeps no pointer, writes only to `findings`, and accepts any values.
 #[derive(Clone, Copy)]
 pub struct Library(());
 
@@ -179,7 +179,7 @@ impl Library {
         settings: &Settings,
         findings: &mut [Finding],
     ) -> Answer {
-        // SAFETY: as `Library` says. `findings` is borrowed for this call alone, so nothing else sees what is written.
+        // SAFETY: as `Library` says. `findings` is borrowed for only this call, so nothing else sees what is written.
         unsafe {
             acpiset_lint(
                 pieces.as_ptr(),

@@ -1,4 +1,4 @@
-//! What no caller of the crate can see or ask for.
+//! Tests of what no caller of the crate can see or request.
 
 use crate::refusal::is_yes;
 use crate::sys::{self, Library};
@@ -6,7 +6,7 @@ use crate::{
     lint, lint_with_room, Code, HotPlug, Piece, Processors, Refusal, Rule, Settings, Stage,
 };
 
-/// An RSDP with a wrong sum that names an RSDT, and an RSDT that lists an address at which nothing is.
+/// An RSDP with a wrong checksum that names an RSDT, and an RSDT that lists an address at which nothing is.
 const RSDP: &[u8; 20] = b"RSD PTR \x4cAAAAAA\0\0\x10\0\0";
 const RSDT: &[u8; 40] = b"RSDT\x28\0\0\0\x01\xe6AAAAAAAAAAAAAA\x01\0\0\0AAAA\x01\0\0\0\0\x20\0\0";
 const IMAGE: [Piece<'static>; 2] = [Piece::new(0xe0000, RSDP), Piece::new(0x1000, RSDT)];

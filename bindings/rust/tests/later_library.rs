@@ -1,5 +1,5 @@
-//! What the crate makes of a library of a later version. `tests/library/rust.sh` of the repository builds two such libraries
-//! (later_library.c), and runs each of these tests with the one that it names.
+//! How the crate handles a library of a later version. `tests/library/rust.sh` of the repository builds two such
+//! libraries (later_library.c), and runs each of these tests with the one that it names.
 
 use acpiset::{
     abi, check, check_text, confirm, find_rsdp, lint, Code, Fault, Refusal, Rule, Settings, ABI,

@@ -1,4 +1,4 @@
-//! Memory that the global allocator refuses to the crate itself. The library takes its memory from `malloc`, not from here.
+//! Failed allocations of the crate itself. The library allocates with `malloc`, not from here.
 
 use acpiset::{check, check_text, confirm, find_rsdp, lint, Code, Fault, Piece, Refusal, Settings};
 use std::alloc::{GlobalAlloc, Layout, System};
@@ -6,7 +6,7 @@ use std::cell::Cell;
 use std::fmt::Debug;
 use std::ptr::null_mut;
 
-/// Grants a thread as many requests as `LEFT` says.
+/// Lets as many allocations of a thread succeed as `LEFT` says.
 struct Refusing;
 
 thread_local! {
@@ -22,7 +22,7 @@ fn is_granted() -> bool {
     LEFT.try_with(grant).unwrap_or(true)
 }
 
-// SAFETY: blocks are those of `System`, and no block is handed out in place of one that is refused.
+// SAFETY: blocks are those of `System`, and a failed allocation returns no block.
 unsafe impl GlobalAlloc for Refusing {
     unsafe fn alloc(&self, layout: Layout) -> *mut u8 {
         if is_granted() {
@@ -40,7 +40,7 @@ unsafe impl GlobalAlloc for Refusing {
 #[global_allocator]
 static ALLOCATOR: Refusing = Refusing;
 
-/// Asserts that a call makes this number of requests, and returns `OutOfMemory` if one of them is refused.
+/// Asserts that a call makes this number of allocations, and returns `OutOfMemory` if one of them fails.
 #[track_caller]
 fn assert_refused<T: Debug>(requests: usize, call: impl Fn() -> Result<T, Refusal>) {
     for granted in 0..=requests {

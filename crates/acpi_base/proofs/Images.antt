@@ -1,10 +1,14 @@
 pub mod Adopted
+pub mod AdoptedDrafts
 pub mod Bitmaps
 pub mod Builders
 pub mod ByteRuns
+pub mod Drafts
+pub mod FirstTwice
 pub mod HeldBytes
 pub mod Holders
 pub mod Inserts
+pub mod Joining
 pub mod LeastAddresses
 pub mod RunBytes
 pub mod RunMemory
@@ -12,3 +16,4 @@ pub mod Searches
 pub mod SegmentOrder
 pub mod Stores
 pub mod Sums
+pub mod Twice

@@ -1,11 +1,11 @@
 -- The first fault of each code: it is one, it is there where there is a fault, and the first fault of an image is one.
-use Rattle.std.proofs.Common.{◌≡◌, ℕ, ◌≤◌, List, [], ◌∷◌, refl, sym, subst, inl, inr, arith}
+use Rattle.std.proofs.Common.{◌≡◌, ◌≤◌, List, [], ◌∷◌, refl, sym, subst, inl, inr, arith}
 use Rattle.acpi_base.specs.Memory.{Memory}
 use Rattle.acpi_base.specs.Policy.{PolicyValue}
 use Rattle.acpi_base.specs.Codes.{stage_number, stage_of}
 use Rattle.acpi_base.specs.Statements.{IsClean}
 use Rattle.acpi_base.specs.Faults.{Fault, FaultOfStage, IsLeastOfStage, IsFirstFault}
-use Rattle.acpi_base.specs.Lint.FirstOfCode.{IsLeastOfCode, IsFirstOfCode}
+use Rattle.acpi_base.specs.Lint.FirstOfCode.{IsLeastOfCode}
 use Rattle.acpi_base.specs.Lint.Laws.{CleanWithoutFaults, CleanWithoutFirsts, FirstIsFirstOfCode, OneFirstOfCode, OneFirstAdvice, NoneReportedOfClean, FirstIsReported, ReportedAreFaults}
 use Rattle.acpi_base.specs.Lint.Advice.{NotAfter}
 use Rattle.acpi_base.specs.Lint.Findings.{AreFirstFaults}

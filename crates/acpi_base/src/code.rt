@@ -9,39 +9,39 @@ use crate::stage::Stage;
 /// system and what a firmware author fixes.
 #[derive(Clone, Copy, Debug, PartialEq, Eq)]
 pub enum Code {
-    /// The 20 bytes of the RSDP are not all held.
+    /// The 20 bytes of the RSDP are not all present.
     RsdpOut,
     /// The 20 bytes do not begin with `RSD PTR `.
     RsdpSignature,
     /// The 20 bytes do not sum to 0.
     RsdpSum,
-    /// The revision is 2 or more, and the 36 bytes are not all held.
+    /// The revision is 2 or more, and the 36 bytes are not all present.
     RsdpTailOut,
     /// The extended RSDP's Length is below 36.
     RsdpLength,
-    /// The extended RSDP's Length bytes are not all held.
+    /// The extended RSDP's Length bytes are not all present.
     RsdpLongOut,
     /// The extended RSDP's Length bytes do not sum to 0.
     RsdpExtendedSum,
     /// The RSDP names neither an RSDT nor an XSDT.
     NoRoot,
-    /// The 36 bytes of the root's header are not all held.
+    /// The 36 bytes of the root table's header are not all present.
     RootHeaderOut,
-    /// The root's signature is another than its kind's.
+    /// The root table's signature is not that of its kind.
     RootSignature,
-    /// The root's Length is below 36.
+    /// The root table's Length is below 36.
     RootLength,
-    /// The root's Length bytes are not all held.
+    /// The root table's Length bytes are not all present.
     RootOut,
-    /// The root's Length leaves a part of a slot over.
+    /// The root table's Length ends within a slot.
     RootRagged,
-    /// The root's Length bytes do not sum to 0.
+    /// The root table's Length bytes do not sum to 0.
     RootSum,
-    /// The 36 bytes of a listed table's header are not all held.
+    /// The 36 bytes of a listed table's header are not all present.
     TableHeaderOut,
     /// A listed table's Length is below 36.
     TableLength,
-    /// A listed table's Length bytes are not all held.
+    /// A listed table's Length bytes are not all present.
     TableOut,
     /// A listed table's Length bytes do not sum to 0.
     TableSum,
@@ -61,21 +61,21 @@ pub enum Code {
     ResetRegister,
     /// There is no FACS, and the hardware is not reduced.
     NoFacs,
-    /// The FACS starts at no multiple of 64.
+    /// The FACS starts at an address that is not a multiple of 64.
     FacsAlign,
-    /// The first 8 bytes of the FACS are not all held.
+    /// The first 8 bytes of the FACS are not all present.
     FacsHeaderOut,
     /// The FACS does not begin with `FACS`.
     FacsSignature,
     /// The FACS's Length is below 64.
     FacsLength,
-    /// The FACS's Length bytes are not all held.
+    /// The FACS's Length bytes are not all present.
     FacsOut,
     /// The MADT's Length is below 44.
     MadtShort,
-    /// No entry stands at a start in the MADT.
+    /// No entry can begin at an offset in the MADT at which one should.
     MadtEntryCut,
-    /// A MADT entry's length is not its type's.
+    /// A MADT entry's length is not that of its type.
     MadtEntryLength,
     /// An interrupt source override's Bus is not 0.
     OverrideBus,
@@ -91,9 +91,9 @@ pub enum Code {
     OverrideClash,
     /// The SRAT's Length is below 48.
     SratShort,
-    /// No entry stands at a start in the SRAT.
+    /// No entry can begin at an offset in the SRAT at which one should.
     SratEntryCut,
-    /// An SRAT entry's length is not its type's.
+    /// An SRAT entry's length is not that of its type.
     SratEntryLength,
     /// An enabled memory range passes 2^64.
     RangePastEnd,
@@ -101,19 +101,19 @@ pub enum Code {
     Overlap,
     /// The SLIT's Length is below 44.
     SlitShort,
-    /// The SLIT's Length does not fit its number of localities.
+    /// The SLIT's Length does not match its number of localities.
     SlitSize,
     /// A locality's distance to itself is not 10.
     SlitDiagonal,
     /// A distance is below 10.
     SlitLow,
-    /// No entry stands at a start in the PPTT.
+    /// No entry can begin at an offset in the PPTT at which one should.
     PpttEntryCut,
-    /// A PPTT entry's length is not its type's.
+    /// A PPTT entry's length is not that of its type.
     PpttEntryLength,
     /// A node's Parent is neither 0 nor a node.
     DanglingParent,
-    /// A node's private resource is no entry, or is a node.
+    /// A node's private resource is not an entry, or is a node.
     DanglingResource,
     /// A cache's Next Level is neither 0 nor a cache.
     DanglingCache,
@@ -123,7 +123,7 @@ pub enum Code {
     CacheCycle,
     /// An enabled processor has two proximity domains.
     TwoDomains,
-    /// No I/O APIC serves an interrupt number that is spoken of.
+    /// No I/O APIC serves an interrupt number that an entry names.
     GsiNowhere,
     /// A leaf node's ID is no processor UID of the MADT.
     LeafUnknown,
@@ -324,7 +324,7 @@ impl Code {
         }
     }
 
-    /// The code's name, as a fault's text has it.
+    /// The code's name, as in the text of a fault.
     pub fn name(self) -> &'static str
         ensures { result.now ≡ code_name self }
     {

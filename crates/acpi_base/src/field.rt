@@ -1,7 +1,7 @@
 //! Fields of tables: numbers and bytes, read and written at an offset.
 //!
-//! Offsets are in bytes from the start of the slice that is passed. Numbers are unsigned and little-endian
-//! (ACPI 6.5, 5.2). A field lies wholly within the slice, which callers ensure.
+//! Offsets are in bytes from the start of the slice that is passed. Numbers are unsigned and little-endian (ACPI 6.5,
+//! 5.2). A field lies completely within the slice, which callers ensure.
 
 ghost use Rattle.std.specs.Prelude.{◌≡◌, ◌≤◌, ◌<◌, ◌+◌, ◌^◌, ◌++◌, length, take, drop};
 ghost use Rattle.acpi_base.specs.Layouts.{FitValues, FitsValue, value_bytes, value_size, values_bytes, values_size};
@@ -66,8 +66,8 @@ pub fn bytes_at<const N: usize>(bytes: &[u8], offset: usize) -> [u8; N]
     part
 }
 
-/// Writes bytes at an offset. The bytes before it stay as they are, so that a structure is written field by
-/// field at rising offsets.
+/// Writes bytes at an offset. The bytes before it stay the same, so that a structure is written field by field at
+/// rising offsets.
 pub fn put_bytes<const N: usize>(out: &mut [u8], offset: usize, bytes: &[u8; N])
     requires { offset + N ≤ length out.old }
     ensures count { length out.new ≡ length out.old }
@@ -76,7 +76,7 @@ pub fn put_bytes<const N: usize>(out: &mut [u8], offset: usize, bytes: &[u8; N])
     out[offset..offset + N].copy_from_slice(bytes);
 }
 
-/// Writes a byte at an offset. The bytes before it stay as they are.
+/// Writes a byte at an offset. The bytes before it stay the same.
 #[tactic(auto, unfolding(crate::specs::Number::number_bytes))]
 pub fn put_u8(out: &mut [u8], offset: usize, number: u8)
     requires { offset + 1 ≤ length out.old }
@@ -87,7 +87,7 @@ pub fn put_u8(out: &mut [u8], offset: usize, number: u8)
     put_bytes(out, offset, &[number]);
 }
 
-/// Writes a number into the 2 bytes at an offset. The bytes before them stay as they are.
+/// Writes a number into the 2 bytes at an offset. The bytes before them stay the same.
 #[tactic(auto, unfolding(crate::specs::Number::number_bytes))]
 pub fn put_u16(out: &mut [u8], offset: usize, number: u16)
     requires { offset + 2 ≤ length out.old }
@@ -98,7 +98,7 @@ pub fn put_u16(out: &mut [u8], offset: usize, number: u16)
     LittleEndian::write_u16(&mut out[offset..], number);
 }
 
-/// Writes a number into the 4 bytes at an offset. The bytes before them stay as they are.
+/// Writes a number into the 4 bytes at an offset. The bytes before them stay the same.
 #[tactic(auto, unfolding(crate::specs::Number::number_bytes))]
 pub fn put_u32(out: &mut [u8], offset: usize, number: u32)
     requires { offset + 4 ≤ length out.old }
@@ -109,7 +109,7 @@ pub fn put_u32(out: &mut [u8], offset: usize, number: u32)
     LittleEndian::write_u32(&mut out[offset..], number);
 }
 
-/// Writes a number into the 8 bytes at an offset. The bytes before them stay as they are.
+/// Writes a number into the 8 bytes at an offset. The bytes before them stay the same.
 #[tactic(auto, unfolding(crate::specs::Number::number_bytes))]
 pub fn put_u64(out: &mut [u8], offset: usize, number: u64)
     requires { offset + 8 ≤ length out.old }
@@ -120,7 +120,7 @@ pub fn put_u64(out: &mut [u8], offset: usize, number: u64)
     put_bytes(out, offset, &number.to_le_bytes());
 }
 
-/// What is written into a part of a structure.
+/// A value that is written into a part of a structure.
 #[derive(Clone, Copy, Debug)]
 pub enum Value<'a> {
     /// A byte.
@@ -131,13 +131,13 @@ pub enum Value<'a> {
     U32(u32),
     /// A number in 8 bytes.
     U64(u64),
-    /// The bytes as they are.
+    /// These bytes.
     Bytes(&'a [u8]),
-    /// So many bytes that are 0.
+    /// This many bytes that are 0.
     Zeros(usize),
 }
 
-/// Writes a value at an offset. The bytes before it stay as they are. Returns the offset behind it.
+/// Writes a value at an offset. The bytes before it stay the same. Returns the offset after the value.
 fn put_value(out: &mut [u8], offset: usize, value: &Value<'_>) -> usize
     requires { offset + value_size value.now ≤ length out.old }
     ensures end { result ≡ offset + value_size value.now }

@@ -9,15 +9,15 @@ use crate::image::Image;
 /// The first address that is searched.
 const FIRST: u64 = 0xe0000;
 
-/// How many addresses are searched, from the first on up to FFFF0h.
+/// How many addresses are searched, from the first one up to 0xFFFF0.
 const COUNT: u64 = 0x2000;
 
-/// How far apart they lie.
+/// The distance between two of them, in bytes.
 const STEP: u64 = 16;
 
-/// The least address, a multiple of 16 from E0000h to FFFF0h, at which 20 bytes are held, begin with
-/// `RSD PTR ` and sum to 0 (ACPI 6.5, 5.2.5.1). Neither the revision nor what stands after the 20 bytes
-/// is looked at. Takes no memory.
+/// The lowest address, of the multiples of 16 from 0xE0000 to 0xFFFF0, at which 20 bytes are present, begin with
+/// `RSD PTR ` and sum to 0 (ACPI 6.5, 5.2.5.1). Neither the revision nor anything after the 20 bytes is checked.
+/// Allocates nothing.
 pub fn find_rsdp(image: &Image) -> Option<u64>
     ensures found { IfSome result (IsFound image.now) }
     ensures none { IsNone result → IsNowhere image.now }

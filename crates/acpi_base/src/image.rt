@@ -11,6 +11,8 @@ ghost use Rattle.acpi_base.specs.Image.Segments.{IsSound, runs_of};
 
 mod address_bitmap;
 pub(crate) mod builder;
+pub(crate) mod data;
+mod draft;
 pub(crate) mod pieces;
 mod prefix_sums;
 mod runs;
@@ -30,7 +32,7 @@ pub enum ImageFault {
     /// The bytes pass the address 2^64 - 1.
     #[error("past the end")]
     PastEnd,
-    /// An address is held already; this is the least such address.
+    /// An address has a byte already; this is the lowest such address.
     #[error("address {address:#x} twice")]
     Twice { address: u64 },
     /// Out of memory.
@@ -68,7 +70,7 @@ fn refusal(segments: &Segments, base: u64, count: u64) -> Option<ImageFault>
         .map(|address| ImageFault::Twice { address })
 }
 
-/// A memory image: bytes at 64-bit addresses, in pieces that may lie anywhere.
+/// A memory image: bytes at 64-bit addresses, in pieces at any addresses.
 ///
 /// Pieces that touch are joined into one. A search takes time that grows with the logarithm of their number.
 #[derive(Debug, Drop)]
@@ -94,7 +96,7 @@ impl Model for Image {
 }
 
 impl Image {
-    /// An image that holds no byte. Takes no memory.
+    /// An image without bytes. Takes no memory.
     pub fn new(alloc: Global) -> Image
         ensures nothing { result ≡ empty }
         ensures image { IsImage result }
@@ -108,12 +110,11 @@ impl Image {
     /// Adds the bytes, which take the addresses from `base` on.
     ///
     /// Refuses, in this order, and then leaves the image as it was:
-    /// `PastEnd`, where the last byte would lie past the address 2^64 - 1;
-    /// `Twice`, where an address is held already, with the least such address;
-    /// `Memory`, where the allocator is out of memory. Adding no bytes always returns `Ok`, and takes no memory.
+    /// `PastEnd`, if the last byte would be past the address 2^64 - 1;
+    /// `Twice`, if an address has a byte already, with the lowest such address;
+    /// `Memory`, if the allocator is out of memory. Adding no bytes always returns `Ok`, and takes no memory.
     ///
-    /// Bytes behind all that are held are appended, without a look at the others. Elsewhere all bytes of the image
-    /// are copied once.
+    /// Bytes after all those of the image are appended. Otherwise all bytes of the image are copied once.
     #[tactic(auto, using(crate::proofs::Images::RunMemory::adding))]
     pub fn add(&mut self, base: u64, bytes: &[u8]) -> Result<(), ImageFault>
         ensures refused { MatchOption (add_refusal self.old base bytes.now)
@@ -134,9 +135,9 @@ impl Image {
         Ok(())
     }
 
-    /// States that each address of the image is below 2^64 and each of its bytes below 256. A caller that is lent an
-    /// image calls this where its proof needs these bounds: they are ensured where an image is made, and a reference
-    /// to it does not carry them. Does nothing when it runs, and takes no memory.
+    /// States that each address of the image is below 2^64 and each of its bytes below 256. A caller with a reference to an
+    /// image calls this if its proof needs these bounds: they are ensured when an image is made, and a reference does not
+    /// carry them. Does nothing at run time, and takes no memory.
     pub fn numbers_fit(&self)
         ensures fit { IsImage self.now }
     {
@@ -144,7 +145,7 @@ impl Image {
         let _segments = &self.segments;
     }
 
-    /// Returns the byte at an address, or `None` where the address is not held. Takes no memory.
+    /// Returns the byte at an address, or `None` if there is none. Takes no memory.
     #[tactic(auto, using(crate::proofs::Images::RunMemory::byte_of_held_by))]
     pub fn byte_at(&self, address: u64) -> Option<u8>
         ensures { result ≡ byte_of self.now address }
@@ -152,8 +153,8 @@ impl Image {
         self.segments.byte_at(address)
     }
 
-    /// Returns the `count` bytes from an address on, or `None` where one of these addresses is not held. The bytes
-    /// may have been added in several calls. For a count of 0 it returns no bytes, at every address. Takes no memory.
+    /// Returns the `count` bytes from an address on, or `None` if one of these addresses has no byte. The bytes may have
+    /// been added in several calls. For a count of 0 it returns no bytes, at any address. Takes no memory.
     #[tactic(auto, using(crate::proofs::Images::RunMemory::bytes_at_held_by), unfolding(crate::specs::Memory::run_of))]
     pub fn window(&self, address: u64, count: u64) -> Option<&[u8]>
         ensures bytes { option_map (λ bytes. bytes.now) result ≡ bytes_at self.now address count }
@@ -165,9 +166,9 @@ impl Image {
         self.segments.window(address, count)
     }
 
-    /// Returns the sum modulo 256 of the `count` bytes from an address on, or `None` where one of these addresses is
-    /// not held. It is 0 where a checksum is right, and for a count of 0, at every address. However many the bytes
-    /// are, fewer than 256 of them are looked at. Takes no memory.
+    /// Returns the sum modulo 256 of the `count` bytes from an address on, or `None` if one of these addresses has no byte.
+    /// It is 0 if a checksum is right, and for a count of 0, at any address. However many bytes there are, fewer than 256
+    /// of them are read. Takes no memory.
     #[tactic(auto, using(crate::proofs::Images::RunMemory::bytes_at_held_by), unfolding(crate::specs::Memory::run_of, crate::specs::Number::byte_sum))]
     pub fn window_sum(&self, address: u64, count: u64) -> Option<u8>
         ensures { result ≡ option_map byte_sum (bytes_at self.now address count) }

@@ -1,4 +1,4 @@
-//! Laws over the definitions alone: each function's contract is the law, and its body is empty.
+//! Laws about the definitions: the contract of each function is a law, and its body is empty.
 
 ghost use Rattle.std.specs.Prelude.{◌≡◌, ℕ, ◌↔◌, List, Some, IsSome};
 ghost use Rattle.acpi_base.specs.Memory.{Memory, IsImage, bytes_at, Has, AreBytes};
@@ -23,19 +23,19 @@ ghost use Rattle.acpi_base.specs.Statements.{IsClean};
 ghost use Rattle.acpi_base.specs.Text.WrittenText.{WrittenIsText, OneWritten};
 ghost use Rattle.acpi_base.specs.Text.TextLaws.{RunReadsText, RunReadsPrefix, RunStopsAtFaults, RunGoesOn, PrefixDecides, TextMeans, TextOrFault, NeverBoth, OneImage, OneTextFault, RefusalsAreOwn, LinesMean};
 
-/// An image with a fault of a stage is not clean to that stage or a later one: a fault that is reported is
-/// always a reason to refuse the image.
+/// If an image has a fault of a stage, it is not clean to that stage or a later one: a reported fault is always a
+/// reason to refuse the image.
 pub fn fault_excludes_clean()
     ensures excluded { FaultsExcludeClean }
 {}
 
-/// The three numbers of a fault of an image are numbers of 64 bits: each fault fits into a `Witness`.
+/// The three numbers of a fault of an image have 64 bits: each fault fits into a `Witness`.
 #[tactic(auto, using(crate::proofs::Faults::Laws::faults_fit))]
 pub fn faults_fit()
     ensures fit { FaultsFit }
 {}
 
-/// An image is clean to a stage, or has a fault of a stage up to it whose numbers fit a `Witness`: a refused
+/// An image is clean to a stage, or has a fault of a stage up to it whose numbers fit into a `Witness`: a refused
 /// image always has a fault to report.
 pub fn clean_or_fault()
     ensures either { CleanOrFaulty }
@@ -46,21 +46,21 @@ pub fn first_fault_exists()
     ensures either { CleanOrFirstFault }
 {}
 
-/// Two first faults of an image are one, under each setting of the policy: which fault is reported does not
-/// depend on how it was looked for.
+/// An image has at most one first fault under each setting of the policy: which fault is reported does not depend on
+/// how it was searched for.
 #[tactic(auto, using(crate::proofs::Faults::Laws::one_first_fault))]
 pub fn one_first_fault()
     ensures one { OneFirstFault }
 {}
 
-/// An image has no fault of any code exactly where all its stages hold, and then no code has a first fault.
+/// An image has no fault of any code exactly when all its stages hold, and then no code has a first fault.
 pub fn clean_without_faults()
     ensures faults { CleanWithoutFaults }
     ensures firsts { CleanWithoutFirsts }
 {}
 
-/// Of the first faults of all codes: there is none exactly where all stages hold; the first fault of the image, which is
-/// reported as its verdict, is among them; and each is a fault.
+/// About the first faults of all codes: there is none exactly when all stages hold; the first fault of the image,
+/// which is reported as its verdict, is among them; and each is a fault.
 pub fn reported_faults()
     ensures none { NoneReportedOfClean }
     ensures first { FirstIsReported }
@@ -73,43 +73,43 @@ pub fn first_is_first_of_code()
     ensures first { FirstIsFirstOfCode }
 {}
 
-/// A code has one first fault at most, also the two codes of overlaps.
+/// A code has at most one first fault; this includes the two codes of overlaps.
 #[tactic(auto, using(crate::proofs::Lint::one_first_of_code))]
 pub fn one_first_of_code()
     ensures one { OneFirstOfCode }
 {}
 
-/// A rule of advice has one first finding at most.
+/// A rule of advice has at most one first finding.
 #[tactic(auto, using(crate::proofs::Lint::one_first_advice))]
 pub fn one_first_advice()
     ensures one { OneFirstAdvice }
 {}
 
-/// Two verdicts that are right for the same stages of an image are one.
+/// There is at most one right verdict on the same stages of an image.
 #[tactic(auto, using(crate::proofs::Faults::Laws::one_verdict))]
 pub fn one_verdict()
     ensures one { OneVerdict }
 {}
 
-/// The addresses that a root lists, as a function of its bytes, are those that stand in its slots.
+/// The addresses that a root table lists, as a function of its bytes, are those in its slots.
 pub fn roots_list_slots()
     ensures slots { RootsListSlots }
 {}
 
-/// Where the references of a PPTT are sound, each chain of parents ends or comes to a cycle within as many steps
-/// as nodes fit into the table, and each chain of next levels within as many as caches fit; none does both.
+/// If the references of a PPTT are valid, each chain of parents ends or reaches a cycle within as many steps as nodes
+/// fit into the table, and each chain of next levels within as many as caches fit; none does both.
 #[tactic(auto, using(crate::proofs::Pptt::Chains::chain_laws))]
 pub fn chains_end_or_go_round()
     ensures parents { ParentsEndOrGoRound }
     ensures caches { CachesEndOrGoRound }
 {}
 
-/// Two faults have two texts: a text says which fault it is of.
+/// Different faults have different texts: a text identifies its fault.
 pub fn fault_texts_differ()
     ensures { TextsDiffer }
 {}
 
-/// Reading an image text byte by byte is reading it by lines, in any pieces.
+/// Reading an image text byte by byte, in any pieces, gives the same result as reading it by lines.
 #[tactic(auto, using(crate::proofs::Texts::ByteMachine::machine_laws))]
 pub fn machine_reads_lines()
     ensures text { RunReadsText }
@@ -124,14 +124,13 @@ pub fn prefix_decides()
     ensures { PrefixDecides }
 {}
 
-/// A text is read without a fault, and to this image, exactly where it is a good text whose data is this
-/// image.
+/// A text is read without a fault, and as this image, exactly when it is a good text whose data is this image.
 pub fn text_means()
     ensures means { TextMeans }
 {}
 
-/// A text is good or is refused with a fault, and never both: it has one image, or one fault, which is one
-/// of a text's own.
+/// A text is either good or refused with a fault, never both: it has one image, or one fault, which is a fault of a
+/// text.
 pub fn text_or_fault()
     ensures either { TextOrFault }
     ensures apart { NeverBoth }
@@ -140,20 +139,21 @@ pub fn text_or_fault()
     ensures own { RefusalsAreOwn }
 {}
 
-/// The lines of a text are what stands between its LFs.
+/// The lines of a text are the parts between its LFs.
 pub fn lines_mean()
     ensures means { LinesMean }
 {}
 
-/// `bytes_at` gives a list exactly where all addresses are held, and then the list of their bytes.
+/// `bytes_at` returns a list exactly when all addresses are present, and then it is the list of their bytes.
 pub fn held_bytes()
     ensures held { (m : Memory) (a n : ℕ) → IsSome (bytes_at m a n) ↔ Has m a n }
     ensures bytes { (m : Memory) (a n : ℕ) (l : List ℕ)
         → (bytes_at m a n ≡ Some l) ↔ AreBytes m a n l }
 {}
 
-/// A table's bytes are cut into entries in one way at most, and in one exactly where an entry stands at each
-/// start. `entries_of` are the entries that stand at starts, and `cut_of` is the one start at which none stands.
+/// A table's bytes can be split into entries in at most one way, and in one exactly when there is an entry at each
+/// offset where one should begin. `entries_of` is the list of the entries, and `cut_of` the one offset at which none
+/// can begin.
 pub fn entries_stand()
     ensures one { OneCut }
     ensures stand { EntriesStand }
@@ -163,8 +163,8 @@ pub fn entries_stand()
     ensures short { NoneInShort }
 {}
 
-/// Examples of the MADT and the SRAT: what the bytes of small tables say, a fault of each code, which overlap is
-/// reported, and that sound tables have no fault.
+/// Examples of the MADT and the SRAT: the contents of small tables, a fault of each code, which overlap is reported,
+/// and that valid tables have no fault.
 pub fn madt_and_srat_examples()
     ensures madt { AreMadtContents }
     ensures srat { AreSratContents }
@@ -176,8 +176,8 @@ pub fn madt_and_srat_examples()
     ensures sound_srat { HasNoSratFault }
 {}
 
-/// Examples of the SLIT and the PPTT: what the bytes of small tables say, a fault of each code, and that sound tables
-/// have no fault.
+/// Examples of the SLIT and the PPTT: the contents of small tables, a fault of each code, and that valid tables have
+/// no fault.
 pub fn slit_and_pptt_examples()
     ensures slit { AreSlitContents }
     ensures slit_faults { AreSlitFaults }
@@ -188,13 +188,14 @@ pub fn slit_and_pptt_examples()
     ensures sound_pptt { HasNoPpttFault }
 {}
 
-/// Examples of whole sets, as images: which tables their roots list, and a fault of each stage across tables.
+/// Examples of complete sets, as images: which tables their root tables list, and a fault of each stage that compares
+/// tables.
 pub fn set_examples()
     ensures listed { AreListedTables }
     ensures faults { AreSetFaults }
 {}
 
-/// An example of a clean set: an image with each table that is looked into, of which every stage holds.
+/// An example of a clean set: an image with one table of each kind that is read, for which every stage holds.
 pub fn clean_set_example()
     ensures image { IsImage whole_set }
     ensures policy { IsPolicy example_policy }
@@ -210,7 +211,8 @@ pub fn altered_set_examples()
     ensures facs_faults { AreFacsFaults }
 {}
 
-/// Examples of advice: each rule is broken by some small tables, at three numbers, and kept by others, close by, at none.
+/// Examples of advice: for each rule, some small tables that break it, with the three numbers, and similar ones that
+/// do not.
 pub fn advice_examples()
     ensures slots { AreSlotsAdvised }
     ensures fadt { (q : PolicyValue) → IsFadtAdvised q }
@@ -219,7 +221,8 @@ pub fn advice_examples()
     ensures pptt { IsPpttAdvised }
 {}
 
-/// The written form of an image is read as the image, where a text may be so long, and an image has one written form.
+/// The written form of an image is read as that image, unless it is too long for a text, and an image has one written
+/// form.
 pub fn written_texts()
     ensures read { WrittenIsText }
     ensures one { OneWritten }

@@ -1,17 +1,17 @@
-//! What every part of the ACPI table checker stands on: images of a machine's memory, the text that they are
-//! read from, the codes of faults, and the definitions of what a sound set of tables is.
+//! The base of all parts of the ACPI table checker: images of a machine's memory, the text that they are read from,
+//! the codes of faults, and the definitions of a valid set of tables.
 //!
-//! - `Image`: bytes at 64-bit addresses. `ImagePieces` builds one of pieces in any order. `read_image` reads one
+//! - `Image`: bytes at 64-bit addresses. `ImagePieces` builds one from pieces in any order. `read_image` reads one
 //!   from image text, `ImageText` from such a text in pieces, and `written_text::image_text` writes it.
 //! - `sum`, `find_rsdp`: a checksum, and the search for the RSDP.
 //! - `field`: numbers and bytes at an offset in a table, read and written.
 //! - `Code`, `Stage`, `Witness`, `Verdict`: what can be wrong, in which part of the check, where, and the
 //!   result of a check. `witness_text` and `verdict_text` write them.
-//! - `Rule`, `Advice`: what is likely wrong and no fault, and where. `advice_text` writes it.
+//! - `Rule`, `Advice`: what is probably wrong but is not a fault, and where. `advice_text` writes it.
 //! - `TableKind`: the five kinds of tables whose contents are read, with their signatures.
 //! - `Policy`: the settings of a check.
 //! - `Tally`: a reader or writer that counts its failures.
-//! - `laws`: what holds of the definitions, such as that an image has one first fault or none.
+//! - `laws`: what holds for the definitions, such as that an image has one first fault or none.
 //!
 //! ```rust
 //! let mut reader = Tally::new(b"@1000\n01 02\n03 # the last byte\n".as_slice());
@@ -20,7 +20,7 @@
 //! assert!(rt; image.window(0x1000, 4).is_none());
 //! ```
 //!
-//! `specs/` has the definitions, a file a subject. None depends on a function of the code.
+//! `specs/` has the definitions, one file for each subject. None depends on a function of the code.
 #![tactic(auto)]
 
 mod checksum;

@@ -1,4 +1,4 @@
-//! What a check is given beside the image.
+//! The settings of a check.
 
 #[cfg(test)]
 mod tests;
@@ -11,10 +11,10 @@ use std::collections::BTreeMap;
 use std::marker::Model;
 use thiserror::Error;
 
-/// Why a policy cannot be as asked.
+/// Why a policy cannot have the requested values.
 #[derive(Clone, Copy, Debug, PartialEq, Eq, Error)]
 pub enum PolicyFault {
-    /// A count of inputs lies outside 1 to 256.
+    /// A count of inputs is outside 1 to 256.
     #[error("an I/O APIC has 1 to 256 inputs")]
     BadCount,
     /// Out of memory for the count.
@@ -25,9 +25,9 @@ pub enum PolicyFault {
 /// Which enabled ranges of memory in the SRAT must not overlap.
 #[derive(Clone, Copy, Debug, PartialEq, Eq)]
 pub enum HotPlug {
-    /// Any two of them: hot-pluggable ranges count as the others.
+    /// Any two of them: hot-pluggable ranges count like the others.
     Counted,
-    /// Two that are both hot-pluggable, or both not: hot-pluggable ranges are apart from the others.
+    /// Two that are both hot-pluggable, or both not: hot-pluggable ranges are not compared with the others.
     Apart,
 }
 
@@ -40,11 +40,11 @@ pub enum Processors {
     Usable,
 }
 
-/// What a check is given beside the image: the RSDP's address, how many inputs an I/O APIC has, which no
-/// table says, and two settings. Contracts see the counts of inputs as a map by address.
+/// The settings of a check: the RSDP's address, how many inputs an I/O APIC has, which no table says, and two
+/// settings. Contracts see the counts of inputs as a map by address.
 ///
-/// The counts are kept in a `BTreeMap`: to add one, or to look one up, takes a number of steps that grows
-/// with the logarithm of how many there are. Only `add_input` takes memory.
+/// The counts are kept in a `BTreeMap`: to add one, or to look one up, takes a number of steps that grows with the
+/// logarithm of how many there are. Only `add_input` allocates.
 #[derive(Debug, Drop)]
 pub struct Policy {
     rsdp: u64,
@@ -74,13 +74,13 @@ impl Policy {
     ghost use Rattle.acpi_base.specs.Policy.{IsPolicy, inputs_of, new_policy, with_input};
     ghost use Rattle.acpi_base.specs.declared.policy.PolicyFault.TheVariants.{BadCount, Memory};
 
-    /// The most inputs that an I/O APIC can have.
+    /// The largest number of inputs that an I/O APIC can have.
     pub const MOST_INPUTS: u16 = 256;
 
-    /// A policy with no count of its own for any I/O APIC, and the settings `HotPlug::Counted` and
-    /// `Processors::Enabled`. `rsdp` is an address in bytes. Takes no memory.
+    /// A policy without a count for any single I/O APIC, and with the settings `HotPlug::Counted` and
+    /// `Processors::Enabled`. `rsdp` is an address in bytes. Allocates nothing.
     ///
-    /// Refuses `BadCount` where `default_inputs` lies outside 1 to 256.
+    /// Refuses with `BadCount` if `default_inputs` is outside 1 to 256.
     #[tactic(auto, using(crate::proofs::Policies::map_reads))]
     pub fn new(alloc: Global, rsdp: u64, default_inputs: u16) -> Result<Policy, PolicyFault>
         ensures value { OkIff result ((1 ≤ default_inputs) × (default_inputs ≤ 256))
@@ -100,7 +100,7 @@ impl Policy {
         })
     }
 
-    /// Sets the RSDP's address, in bytes, and nothing else. Takes no memory.
+    /// Sets the RSDP's address, in bytes, and nothing else. Allocates nothing.
     pub fn set_rsdp(&mut self, rsdp: u64)
         ensures value { self.new ≡ record self.old { rsdp = rsdp } }
     {
@@ -115,15 +115,14 @@ impl Policy {
         self.rsdp
     }
 
-    /// Gives the I/O APIC at `address` a count of inputs, in place of the default. The table does not say how
-    /// many inputs an I/O APIC has: software reads it from a register (ACPI 6.5, 5.2.12.3). `address` is the
-    /// one that the table gives, in bytes. The first count of an address stands: a later one for the same
-    /// address returns `Ok` and changes nothing.
+    /// Gives the I/O APIC at `address` a count of inputs, instead of the default. The table does not say how many
+    /// inputs an I/O APIC has: software reads it from a register (ACPI 6.5, 5.2.12.3). `address` is the one that the
+    /// table gives, in bytes. If an address is repeated, the first count wins: a later call for it returns `Ok` and
+    /// changes nothing.
     ///
-    /// Refuses, in this order, and then leaves the policy as it was:
-    /// `BadCount`, where `count` lies outside 1 to 256;
-    /// `Memory`, where the allocator is out of memory. Where the count is bad, or where the address has a count
-    /// already, no memory is taken.
+    /// Refuses, in this order, and then leaves the policy unchanged: `BadCount` if `count` is outside 1 to 256;
+    /// `Memory` if the allocator is out of memory. If the count is bad, or if the address already has a count,
+    /// nothing is allocated.
     #[tactic(auto, using(crate::proofs::Policies::adding))]
     pub fn add_input(&mut self, address: u32, count: u16) -> Result<(), PolicyFault>
         ensures value { OnOk result (self.new ≡ with_input self.old address count) }
@@ -143,8 +142,8 @@ impl Policy {
         }
     }
 
-    /// How many inputs the I/O APIC at `address` has, 1 to 256: the first count that was given for it, or else
-    /// the default. `address` is the one that the table gives, in bytes (ACPI 6.5, 5.2.12.3). Takes no memory.
+    /// How many inputs the I/O APIC at `address` has, 1 to 256: the first count that was given for it, or else the
+    /// default. `address` is the one that the table gives, in bytes (ACPI 6.5, 5.2.12.3). Allocates nothing.
     #[tactic(auto, using(crate::proofs::Policies::looking), unfolding(crate::specs::Policy::inputs_of))]
     pub fn inputs_of(&self, address: u32) -> u16
         ensures value { result ≡ inputs_of self.now address }
@@ -156,7 +155,7 @@ impl Policy {
             .unwrap_or(self.default_inputs)
     }
 
-    /// Sets which enabled ranges of memory must not overlap, and nothing else. Takes no memory.
+    /// Sets which enabled ranges of memory must not overlap, and nothing else. Allocates nothing.
     pub fn set_hotplug(&mut self, hotplug: HotPlug)
         ensures value { self.new ≡ record self.old { hotplug = hotplug } }
     {
@@ -170,7 +169,7 @@ impl Policy {
         self.hotplug
     }
 
-    /// Sets which processors count as enabled, and nothing else. Takes no memory.
+    /// Sets which processors count as enabled, and nothing else. Allocates nothing.
     pub fn set_processors(&mut self, processors: Processors)
         ensures value { self.new ≡ record self.old { processors = processors } }
     {

@@ -1,16 +1,17 @@
-//! Advice: what breaks none of the statements, and is likely wrong all the same.
+//! Advice: what breaks none of the statements, but is probably wrong.
 
 ghost use Rattle.std.specs.Prelude.{◌≡◌, ◌≤◌, ◌↔◌, IsSome, IfSome};
 ghost use Rattle.acpi_base.specs.Lint.Rules.{rule_name, rule_number};
 
-/// A rule of advice. A set of tables may have a reason to break one, so no rule is a fault. Sections are those of ACPI 6.5.
+/// A rule of advice. A set of tables may have a reason to break a rule, so none is a fault. Sections are those of
+/// ACPI 6.5.
 #[derive(Clone, Copy, Debug, PartialEq, Eq)]
 pub enum Rule {
-    /// A slot lists an address that an earlier slot lists (5.2.7).
+    /// A slot lists an address that an earlier slot also lists (5.2.7).
     ListedTwice,
-    /// A slot lists a second table of a kind, at another address, of which the first one alone is read (5.2).
+    /// A slot lists a second table of a kind, at another address, of which only the first one is read (5.2).
     SecondTable,
-    /// A slot lists a DSDT or a FACS, which the FADT alone names (5.2.9).
+    /// A slot lists a DSDT or a FACS, which only the FADT should name (5.2.9).
     ListedApart,
     /// The FADT is too short for the fields of its Revision (5.2.9).
     FadtOfRevision,
@@ -18,7 +19,7 @@ pub enum Rule {
     FacsDiffers,
     /// DSDT and X_DSDT name different addresses (5.2.9).
     DsdtDiffers,
-    /// A register block's field of 4 bytes and its X_ structure name different system I/O ports (5.2.9).
+    /// A register block's 4-byte field and its X_ structure name different system I/O ports (5.2.9).
     BlockDiffers,
     /// No I/O APIC serves the interrupt number of SCI_INT (5.2.9, 5.2.12.5).
     SciNowhere,
@@ -44,19 +45,19 @@ pub enum Rule {
     AffinityNowhere,
     /// A processor that is on has no affinity, though the SRAT has some (5.2.16).
     NoDomain,
-    /// A proximity domain of the SRAT is none of the SLIT's localities (5.2.17).
+    /// A proximity domain of the SRAT is not one of the SLIT's localities (5.2.17).
     DomainPastSlit,
     /// The distance between two localities differs by direction (5.2.17).
     SlitDiffers,
     /// Two leaves of the PPTT have the same ACPI processor ID (5.2.30.1).
     SameLeaf,
-    /// A cache has no sets, or a line size that is no power of two (5.2.30.2).
+    /// A cache has no sets, or a line size that is not a power of two (5.2.30.2).
     CacheShape,
     /// Two caches have the same Cache ID (5.2.30.2).
     SameCacheId,
     /// A processor that is on has no leaf of the PPTT, though there are leaves (5.2.30.1).
     NoLeaf,
-    /// A leaf's ID is no processor's UID; asked where the MADT has a GIC CPU interface (5.2.30.1).
+    /// A leaf's ID is no processor's UID; checked only if the MADT has a GIC CPU interface (5.2.30.1).
     LeafNowhere,
     /// An entry of the MADT that neither the stages nor these rules look at (5.2.12).
     MadtUnread,
@@ -139,7 +140,7 @@ impl Rule {
         }
     }
 
-    /// The rule's name, as a line of advice has it.
+    /// The rule's name, as in a line of advice.
     pub fn name(self) -> &'static str
         ensures { result.now ≡ rule_name self }
     {
@@ -176,15 +177,15 @@ impl Rule {
     }
 }
 
-/// Where a rule is broken: up to three numbers, offsets from a table's start, slots, addresses or numbers of the tables, as
-/// the rule says. Those that it does not use are 0.
+/// Where a rule is broken: up to three numbers, which are offsets from a table's start, slots, addresses or values in
+/// the tables, depending on the rule. Those that it does not use are 0.
 #[derive(Clone, Copy, Debug, PartialEq, Eq)]
 pub struct Advice {
     /// The rule.
     pub rule: Rule,
     /// Where: an offset from the start of the rule's table in bytes, or the number of a slot.
     pub at: u64,
-    /// What it is held against: another place, or another number.
+    /// What it is compared with: another place, or another number.
     pub other: u64,
     /// A third number: an address, an ID, a domain, a length.
     pub point: u64,

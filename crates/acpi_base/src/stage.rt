@@ -3,15 +3,14 @@
 ghost use Rattle.std.specs.Prelude.{◌≡◌, ◌≤◌, ◌↔◌, IsSome, IfSome};
 ghost use Rattle.acpi_base.specs.Codes.{stage_number};
 
-/// A part of the check. Each stage is looked at only where all earlier ones hold. Sections are those
-/// of ACPI 6.5.
+/// A part of the check. A stage is checked only if all earlier ones hold. Sections are those of ACPI 6.5.
 #[derive(Clone, Copy, Debug, PartialEq, Eq)]
 pub enum Stage {
     /// The RSDP (5.2.5.3).
     Rsdp,
     /// The RSDT or XSDT (5.2.7, 5.2.8).
     Root,
-    /// Each listed table's header, length and sum (5.2.6).
+    /// Each listed table's header, length and checksum (5.2.6).
     Tables,
     /// The FADT (5.2.9).
     Fadt,
@@ -25,7 +24,7 @@ pub enum Stage {
     Overrides,
     /// The SRAT's entries (5.2.16).
     Srat,
-    /// Memory ranges: no address lies in two (5.2.16.2).
+    /// Memory ranges: no address is in two (5.2.16.2).
     Ranges,
     /// The SLIT (5.2.17).
     Slit,
@@ -39,14 +38,14 @@ pub enum Stage {
     Caches,
     /// No enabled processor has two proximity domains (5.2.12, 5.2.16).
     Domains,
-    /// Each interrupt number that is spoken of is served (5.2.12).
+    /// Each interrupt number that an entry names is served (5.2.12).
     Served,
     /// Each leaf of the PPTT is a processor of the MADT (5.2.12, 5.2.30.1).
     Leaves,
 }
 
 impl Stage {
-    /// The last stage: a check that names none goes up to it.
+    /// The last stage: a check goes up to it if no other is given.
     pub const LAST: Stage = Stage::Leaves;
 
     /// The stage with this number, from 1 to 18.

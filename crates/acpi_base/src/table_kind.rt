@@ -22,8 +22,8 @@ pub enum TableKind {
 impl TableKind {
     ghost use Rattle.acpi_base.specs.TableKinds.{signature_of, IsKindOf};
 
-    /// The kind of a table with these bytes, by the signature that they begin with; none where it is no
-    /// kind's, or where there are fewer than its 4 bytes.
+    /// The kind of a table with these bytes, by its signature; none if it is the signature of no kind, or if there
+    /// are fewer than 4 bytes.
     pub fn of(bytes: &[u8]) -> Option<TableKind>
         ensures { IsKindOf bytes.now result }
     {
@@ -42,7 +42,7 @@ impl TableKind {
         }
     }
 
-    /// The signature that its tables begin with.
+    /// The signature of its tables.
     pub fn signature(self) -> &'static [u8; 4]
         ensures { result.now ≡ signature_of self }
     {

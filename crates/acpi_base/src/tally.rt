@@ -17,8 +17,8 @@ use thiserror::Error;
 #[error("device")]
 pub struct DeviceFailed;
 
-/// A reader or a writer with a count of its failures. Its bytes are those of the reader or writer
-/// inside. No call takes memory.
+/// A reader or a writer with a count of its failures. The bytes are those of the inner reader or writer. No call
+/// allocates.
 #[derive(Drop)]
 pub struct Tally<T> {
     inner: T,
@@ -51,16 +51,47 @@ impl<T> Tally<T> {
         self.failures
     }
 
-    /// The reader or writer inside.
+    /// The inner reader or writer.
     pub fn into_inner(self) -> T
         ensures { result ≡ self.inner }
     {
         self.inner
     }
 
-    /// Reads once, into a prefix of the buffer, and returns how many bytes were read. Returns `DeviceFailed` where the
+    /// Reads once, into a prefix of the buffer, and returns how many bytes were read. Returns `DeviceFailed` if the
+    /// read failed in any way, and leaves it to the caller to count that. At a count of 2^64 - 1 nothing is read.
+    pub(crate) fn attempt(&mut self, buffer: &mut [u8]) -> Result<usize, DeviceFailed>
+    where
+        T: Read,
+        ensures bound { ReadsAtMost result buffer.new }
+        ensures bytes { ReadConsumes (T.remaining self.old.inner) (T.remaining self.new.inner)
+            result buffer.new }
+        ensures count { self.new.failures ≡ self.old.failures }
+        ensures last { self.old.failures ≡ last_count → IsErr result × (self.new ≡ self.old) }
+    {
+        if self.failures == u64::MAX {
+            return Err(DeviceFailed);
+        }
+        match self.inner.read(buffer) {
+            Ok(count) => Ok(count),
+            Err(_) => Err(DeviceFailed),
+        }
+    }
+
+    /// Adds one to the count of failures, which stays at 2^64 - 1.
+    pub(crate) fn count_failure(&mut self)
+        ensures inner { self.new.inner ≡ self.old.inner }
+        ensures count { CountsFailure self.old.failures self.new.failures }
+        ensures last { self.old.failures ≡ last_count → self.new ≡ self.old }
+    {
+        if self.failures < u64::MAX {
+            self.failures += 1;
+        }
+    }
+
+    /// Reads once, into a prefix of the buffer, and returns how many bytes were read. Returns `DeviceFailed` if the
     /// read failed in any way, which adds one to the count. At a count of 2^64 - 1 nothing is read: it returns
-    /// `DeviceFailed`, and the count stays.
+    /// `DeviceFailed`, and the count stays the same.
     pub fn read(&mut self, buffer: &mut [u8]) -> Result<usize, DeviceFailed>
     where
         T: Read,
@@ -71,21 +102,18 @@ impl<T> Tally<T> {
         ensures err { OnErr result (CountsFailure self.old.failures self.new.failures) }
         ensures last { self.old.failures ≡ last_count → IsErr result × (self.new ≡ self.old) }
     {
-        if self.failures == u64::MAX {
-            return Err(DeviceFailed);
-        }
-        match self.inner.read(buffer) {
+        match self.attempt(buffer) {
             Ok(count) => Ok(count),
-            Err(_) => {
-                self.failures += 1;
-                Err(DeviceFailed)
+            Err(failed) => {
+                self.count_failure();
+                Err(failed)
             }
         }
     }
 
     /// Writes once, a prefix of the bytes, and returns how many were written: at least one, unless there are none.
-    /// Returns `DeviceFailed` where the write failed in any way, or wrote nothing of at least one byte, which adds
-    /// one to the count. At a count of 2^64 - 1 nothing is written: it returns `DeviceFailed`, and the count stays.
+    /// Returns `DeviceFailed` if the write failed in any way, or wrote none of at least one byte; this adds one to
+    /// the count. At a count of 2^64 - 1 nothing is written: it returns `DeviceFailed`, and the count stays the same.
     pub fn write(&mut self, bytes: &[u8]) -> Result<usize, DeviceFailed>
     where
         T: Write,

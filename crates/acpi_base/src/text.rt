@@ -1,4 +1,4 @@
-//! Texts: images and faults as text, read and written; and why an image text could not be read.
+//! Images and faults as text, read and written; and why an image text could not be read.
 
 pub(crate) mod fault_parsing;
 pub(crate) mod fault_text;
@@ -18,16 +18,16 @@ pub enum TextFault {
     /// The line is neither an address, nor data, nor empty.
     #[error("line {line}: bad line")]
     BadLine { line: u64 },
-    /// Data stands before the first address.
+    /// Data comes before the first address.
     #[error("line {line}: no address")]
     NoAddress { line: u64 },
-    /// An address is given a second byte; this is the least such address of the line.
+    /// An address is given a second byte; this is the lowest such address of the line.
     #[error("address {address:#x} twice")]
     Twice { address: u64 },
     /// The line's data passes the address 2^64 - 1.
     #[error("line {line}: past the end")]
     PastEnd { line: u64 },
-    /// The text has more than 67,108,864 bytes, or a line more than 65,536.
+    /// The text has more than 67,108,864 bytes, or one of its lines more than 65,536.
     #[error("too long")]
     TooLong,
     /// The reader failed.

@@ -5,7 +5,7 @@ use crate::witness::Witness;
 /// The result of a check.
 #[derive(Clone, Copy, Debug, PartialEq, Eq)]
 pub enum Verdict {
-    /// Every stage that was asked for holds.
+    /// Every requested stage holds.
     Yes,
     /// The first fault.
     No(Witness),

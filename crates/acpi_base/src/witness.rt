@@ -4,17 +4,17 @@ ghost use Rattle.std.specs.Prelude.{◌≡◌};
 
 use crate::code::Code;
 
-/// A fault, and where it is: what the three numbers mean, its code says. A number that a code does not
-/// use is 0. Offsets are in bytes from a table's start.
+/// A fault, and where it is. Its code determines what the three numbers mean. A number that a code does not use is 0.
+/// Offsets are in bytes from a table's start.
 #[derive(Clone, Copy, Debug, PartialEq, Eq)]
 pub struct Witness {
     /// What is wrong.
     pub code: Code,
-    /// An address, a slot's number or an offset.
+    /// An address, the number of a slot, or an offset.
     pub at: u64,
     /// A second address or offset, or how many steps lead to a cycle.
     pub other: u64,
-    /// A number that two hold, or how many steps a cycle has.
+    /// A number that two ranges contain, or how many steps a cycle has.
     pub point: u64,
 }
 

@@ -1,4 +1,4 @@
--- The numbers that say a result.
+-- The numbers that represent a result.
 use Rattle.std.specs.Prelude.{ℕ, ◌++◌, Bool, true, false, List, [], ◌∷◌, length, take, drop, map, Option, Some, None, Result, Ok, Err}
 use Rattle.acpi_base.specs.Codes.{code_number, stage_number, stage_of}
 use Rattle.acpi_base.specs.Lint.Rules.{rule_number}
@@ -14,7 +14,7 @@ use Rattle.acpi_c.specs.declared.kind.Kind.TheVariants as kind
 use Rattle.acpi_c.specs.declared.refusal.Refusal.{Refusal}
 use Rattle.acpi_c.specs.declared.refusal.Refusal.TheVariants as refusal
 
--- a kind, and no more: the other numbers are 0
+-- a kind without numbers: the other numbers are 0
 abbrev pub plain_answer : Kind → Answer
 plain_answer kind = record { kind = kind_number kind; stage = 0; code = 0; at = 0; other = 0; point = 0 }
 
@@ -61,7 +61,7 @@ find_answer (Ok (Some p)) = record (plain_answer kind.Yes) { at = p }
 find_answer (Ok None) = plain_answer kind.No
 find_answer (Err r) = refusal_answer r
 
--- yes where there is no fault
+-- yes if there is no fault
 abbrev pub kind_of_faults : List Witness → Kind
 kind_of_faults [] = kind.Yes
 kind_of_faults (w ∷ rest) = kind.No
@@ -80,15 +80,16 @@ fault_finding w = record { number = code_number w.code; at = w.at; other = w.oth
 abbrev pub advice_finding : Advice → Finding
 advice_finding a = record { number = rule_number a.rule; at = a.at; other = a.other; point = a.point }
 
--- the faults, and behind them the advice
+-- the faults, followed by the advice
 abbrev pub all_findings : List Witness → List Advice → List Finding
 all_findings faults advice = map fault_finding faults ++ map advice_finding advice
 
--- the caller's array: the first of these findings are written to it, as many as fit, and what is behind them stays
+-- the caller's array: the first of these findings are written to it, as many as fit, and the rest of it does not
+-- change
 abbrev pub written_over : List Finding → List Finding → List Finding
 written_over found room = take (length room) found ++ drop (length found) room
 
--- nothing is written where the call is refused
+-- nothing is written if the call is refused
 abbrev pub written : Result (List Witness × List Advice) Refusal → List Finding → List Finding
 written (Ok found) room = written_over (all_findings found.0 found.1) room
 written (Err r) room = room

@@ -3,7 +3,7 @@ use Rattle.std.specs.Prelude.{ℕ}
 use Rattle.acpi_c.specs.declared.kind.Kind.{Kind}
 use Rattle.acpi_c.specs.declared.kind.Kind.TheVariants as kind
 
--- a kind's number: none is ever given another one
+-- a kind's number, which never changes
 abbrev pub kind_number : Kind → ℕ
 kind_number kind.Yes = 0
 kind_number kind.No = 1

@@ -1,4 +1,4 @@
--- The image that pieces make up.
+-- The image that pieces give.
 use Rattle.std.specs.Prelude.{ℕ, suc, List, [], ◌∷◌, Option, Some, None, Result, Ok, Err}
 use Rattle.acpi_base.specs.Memory.{Memory, with_bytes}
 use Rattle.acpi_base.specs.Image.Adding.{add_refusal}
@@ -14,13 +14,13 @@ piece_refusal index image.PastEnd = refusal.PiecePastEnd index
 piece_refusal index (image.Twice address) = refusal.PiecesOverlap index address
 piece_refusal index image.Memory = refusal.OutOfMemory
 
--- what `rest` says, unless the piece at this index cannot be added
+-- `rest`, unless the piece at this index cannot be added
 abbrev pub unless_refused : Option ImageFault → ℕ → Result Memory Refusal → Result Memory Refusal
 unless_refused None index rest = rest
 unless_refused (Some fault) index rest = Err (piece_refusal index fault)
 
--- The image with these pieces added in their order, of which the first one has this index; or the first that cannot be added,
--- and why: it passes the address 2^64 - 1, or shares addresses with what is there.
+-- The image with these pieces added in their order, the first of which has this index; or the first piece that cannot
+-- be added, and why: it passes the address 2^64 - 1, or shares addresses with what is present.
 abbrev pub with_pieces : ℕ → Memory → List Piece → Result Memory Refusal
 with_pieces index m [] = Ok m
 with_pieces index m (p ∷ rest) =

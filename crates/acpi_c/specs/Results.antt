@@ -1,4 +1,4 @@
--- What each call finds, or why it is refused.
+-- The result of each call, or why it is refused.
 use Rattle.std.specs.Prelude.{◌≡◌, ◌↔◌, ℕ, ◌⊎◌, Bool, IsTrue, List, Option, Some, None, Result, Ok, Err}
 use Rattle.std.specs.Option.{option_or}
 use Rattle.acpi_base.specs.Codes.{code_number, stage_number}
@@ -20,8 +20,8 @@ use Rattle.acpi_c.specs.declared.refusal.Refusal.TheVariants as refusal
 use Rattle.acpi_c.specs.declared.settings.Inputs.{Inputs}
 use Rattle.acpi_c.specs.declared.settings.Settings.{Settings}
 
--- The refusal of a call: what is wrong with its numbers, where something is; else what is wrong with what was passed as an
--- image. Instead of either it may be that memory ran out.
+-- The refusal of a call: what is wrong with its numbers, if anything is; otherwise what is wrong with what was passed
+-- as an image. Instead of either it may be out of memory.
 abbrev pub IsRefusal : Option Refusal → Source → Refusal → Type 0
 IsRefusal numbers source r = (r ≡ refusal.OutOfMemory) ⊎ (numbers ≡ Some r) ⊎ ((numbers ≡ None) × source.Refuses r)
 
@@ -64,7 +64,7 @@ Confirms source settings inputs f (Err r) =
 
 -- ---- all findings
 
--- these are the faults and the advice that are reported of the image
+-- these are the faults and the advice that are reported for the image
 pub record Reports (source : Source) (settings : Settings) (inputs : List Inputs) (found : List Witness × List Advice) : Type 0 where
   pub image : Memory
   pub policy : PolicyValue

@@ -1,4 +1,4 @@
--- The policy that settings and numbers of inputs make up.
+-- The policy of settings and numbers of inputs.
 use Rattle.std.specs.Prelude.{ℕ, suc, ◌==◌, ◌&&◌, nat_le, List, [], ◌∷◌, Option, Some, None, Result, Ok, Err, if◌then◌else◌}
 use Rattle.acpi_base.specs.Policy.{PolicyValue, new_policy, with_input}
 use Rattle.acpi_base.specs.Text.ImageText.{on_ok}
@@ -11,7 +11,7 @@ use Rattle.acpi_c.specs.declared.refusal.Refusal.TheVariants as refusal
 use Rattle.acpi_c.specs.declared.settings.Inputs.{Inputs}
 use Rattle.acpi_c.specs.declared.settings.Settings.{Settings}
 
--- a number of inputs lies from 1 to 256
+-- a number of inputs is from 1 to 256
 abbrev pub count_of : ℕ → Option ℕ
 count_of n = if nat_le 1 n && nat_le n 256 then Some n else None
 
@@ -23,7 +23,7 @@ hotplug_of n = if n == 0 then Some Counted else (if n == 1 then Some Apart else 
 abbrev pub processors_of : ℕ → Option Processors
 processors_of n = if n == 0 then Some Enabled else (if n == 1 then Some Usable else None)
 
--- what f makes of a number, or this refusal where there is none
+-- the result of f for a number, or this refusal if there is none
 abbrev pub given : {A B : Type 0} → Option A → Refusal → (A → Result B Refusal) → Result B Refusal
 given (Some x) r f = f x
 given None r f = Err r
@@ -38,13 +38,15 @@ settings_policy s =
     Ok (record (new_policy s.rsdp count) { hotplug = hotplug; processors = processors }))))
     else Err refusal.Size
 
--- the policy with these numbers of inputs, of which the first one has this index: the first number of an address counts
+-- the policy with these numbers of inputs, the first of which has this index: if an address is repeated, the first
+-- number wins
 abbrev pub with_inputs : ℕ → PolicyValue → List Inputs → Result PolicyValue Refusal
 with_inputs index q [] = Ok q
 with_inputs index q (own ∷ rest) =
     given (count_of own.count) (refusal.Inputs index) (λ count. with_inputs (suc index) (with_input q own.address count) rest)
 
--- the policy of settings and numbers of inputs, or the first of them that is none, in the order in which they are looked at
+-- the policy of settings and numbers of inputs, or the first of them that is out of range, in the order in which they
+-- are checked
 abbrev pub policy_of : Settings → List Inputs → Result PolicyValue Refusal
 policy_of s inputs = on_ok (settings_policy s) (λ q. with_inputs 0 q inputs)
 

@@ -10,7 +10,7 @@ use Rattle.acpi_c.specs.declared.pieces.Piece.{Piece}
 use Rattle.acpi_c.specs.declared.refusal.Refusal.{Refusal}
 use Rattle.acpi_c.specs.declared.refusal.Refusal.TheVariants as refusal
 
--- which image it makes up, or why none
+-- which image it gives, or why none
 pub record Source : Type 1 where
   pub Is : Memory → Type 0
   pub Refuses : Refusal → Type 0
@@ -22,7 +22,7 @@ pieces_source pieces =
       Refuses = λ r. with_pieces 0 empty pieces ≡ Err r;
     }
 
--- why a text is refused. No device is read, so nothing but memory can fail.
+-- why a text is refused. No device is read, so only memory can fail.
 abbrev pub text_refusal : TextFault → Refusal
 text_refusal (fault.BadLine line) = refusal.BadLine line
 text_refusal (fault.NoAddress line) = refusal.NoAddress line
@@ -39,7 +39,7 @@ text_source text =
       Refuses = λ r. (f : TextFault) × IsRefused text f × (r ≡ text_refusal f);
     }
 
--- what is read of it: its image, or why there is none, or that memory ran out
+-- the result of reading it: its image, or why there is none, or out of memory
 abbrev pub Reads : Source → Result Memory Refusal → Type 0
 Reads source (Ok m) = source.Is m
 Reads source (Err r) = (r ≡ refusal.OutOfMemory) ⊎ source.Refuses r

@@ -13,7 +13,7 @@ use acpi_base::{Advice, Verdict, Witness};
 pub struct Finding {
     /// The number of the fault's code, 1 to 59, or of the rule of advice, 101 to 128.
     pub number: u32,
-    /// The first number: what the three say depends on the code or the rule. One that is not used is 0.
+    /// The first number: the meaning of the three depends on the code or the rule. One that is not used is 0.
     pub at: u64,
     /// The second number.
     pub other: u64,
@@ -21,28 +21,29 @@ pub struct Finding {
     pub point: u64,
 }
 
-/// What a call answers. A number that a kind does not use is 0.
+/// The answer of a call. A number that a kind does not use is 0.
 #[repr(C)]
 #[derive(Clone, Copy)]
 pub struct Answer {
     /// The number of the kind.
     pub kind: u32,
-    /// Of a fault that a check reports: the stage, 1 to 18.
+    /// For a fault that a check reports: the stage, 1 to 18.
     pub stage: u32,
-    /// Of a fault that a check reports: the number of its code, 1 to 59.
+    /// For a fault that a check reports: the number of its code, 1 to 59.
     pub code: u32,
-    /// Of a fault: its first number. Of a search: the RSDP's address. Of all findings: how many faults there are. Of a refusal:
-    /// the index of the piece or of the number of inputs, from 0 on, or the line of the text, from 1 on.
+    /// For a fault: its first number. For a search: the RSDP's address. For all findings: how many faults there are.
+    /// For a refusal: the index of the piece or of the number of inputs, from 0 on, or the line of the text, from 1
+    /// on.
     pub at: u64,
-    /// Of a fault: its second number. Of all findings: how many findings of advice there are. Of an overlap: the least address
-    /// that is covered twice.
+    /// For a fault: its second number. For all findings: how many findings of advice there are. For an overlap: the
+    /// lowest address that is covered twice.
     pub other: u64,
-    /// Of a fault: its third number.
+    /// For a fault: its third number.
     pub point: u64,
 }
 
 impl Answer {
-    /// A kind, and no more.
+    /// A kind without numbers.
     pub fn plain(kind: Kind) -> Answer
         ensures { result ≡ plain_answer kind }
     {

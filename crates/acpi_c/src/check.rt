@@ -58,16 +58,14 @@ fn answer_of(judged: Result<Verdict, Refusal>) -> Answer
     }
 }
 
-/// Checks the tables of the image that the pieces make up, from the RSDP at the address that the settings say, through their
-/// last stage. Returns `Yes` where all statements of these stages hold, else `No` with the first fault.
+/// Checks the tables of the image that the pieces give, from the RSDP at the address in the settings, through their
+/// last stage. Returns `Yes` if all statements of these stages hold, otherwise `No` with the first fault.
 ///
-/// Refuses, in this order:
-/// `BadSize`, `BadDefaultInputs`, `BadHotPlug`, `BadProcessors`, for the settings;
-/// `BadInputs`, for the first number of inputs outside 1 to 256, with its index;
-/// `BadStage`, where the last stage is outside 1 to 18;
-/// `PiecePastEnd` and `PiecesOverlap`, for the first piece that passes the last address or shares addresses with those before
-/// it, with its index, and for an overlap the least address;
-/// `OutOfMemory`, which may also come in the place of any answer behind `BadProcessors`.
+/// Refuses, in this order: `BadSize`, `BadDefaultInputs`, `BadHotPlug`, `BadProcessors`, for the settings;
+/// `BadInputs`, for the first number of inputs outside 1 to 256, with its index; `BadStage` if the last stage is
+/// outside 1 to 18; `PiecePastEnd` and `PiecesOverlap`, for the first piece that passes the last address or shares
+/// addresses with those before it, with its index, and for an overlap the lowest address; `OutOfMemory`, which may
+/// also be returned instead of any answer after `BadProcessors`.
 #[unsafe(no_mangle)]
 pub extern "C" fn acpiset_check(
     alloc: Global,
@@ -82,11 +80,10 @@ pub extern "C" fn acpiset_check(
     answer_of(judged_pieces(alloc, pieces, inputs, settings))
 }
 
-/// Checks the tables of the image whose text this is. The text need not end with a zero.
+/// Checks the tables of the image with this text. The text need not end with a zero.
 ///
-/// Refuses as `acpiset_check` does, but in the place of `PiecePastEnd` and `PiecesOverlap`:
-/// `TextTooLong`, `BadLine`, `NoAddress`, `TextPastEnd` or `TextOverlap`, for the first line with a fault, in this order in one
-/// line.
+/// Refuses as `acpiset_check` does, but instead of `PiecePastEnd` and `PiecesOverlap`: `TextTooLong`, `BadLine`,
+/// `NoAddress`, `TextPastEnd` or `TextOverlap`, for the first line with a fault, and within one line in this order.
 #[unsafe(no_mangle)]
 pub extern "C" fn acpiset_check_text(
     alloc: Global,

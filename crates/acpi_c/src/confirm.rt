@@ -49,12 +49,11 @@ fn confirmed(
     Ok(confirm(&image, &policy, &witness))
 }
 
-/// Whether the finding is a fault of the image that the pieces make up. It need not be the first one.
+/// Whether the finding is a fault of the image that the pieces give. It need not be the first one.
 ///
-/// Refuses, in this order:
-/// `BadSize`, `BadDefaultInputs`, `BadHotPlug`, `BadProcessors`, `BadInputs`, `PiecePastEnd`, `PiecesOverlap`, `OutOfMemory` as
-/// `acpiset_check` does, and behind `BadInputs`
-/// `BadCode`, where the finding's number is outside 1 to 59. A finding of advice has such a number.
+/// Refuses, in this order: `BadSize`, `BadDefaultInputs`, `BadHotPlug`, `BadProcessors`, `BadInputs`, `PiecePastEnd`,
+/// `PiecesOverlap`, `OutOfMemory` as `acpiset_check` does, and after `BadInputs` `BadCode` if the finding's number is
+/// outside 1 to 59. A finding of advice has such a number.
 #[unsafe(no_mangle)]
 pub extern "C" fn acpiset_confirm(
     alloc: Global,

@@ -20,10 +20,11 @@ fn searched(alloc: Global, pieces: &[Piece<'_>]) -> Result<Option<u64>, Refusal>
     Ok(find_rsdp(&image))
 }
 
-/// Looks for the RSDP in the image that the pieces make up, where a BIOS puts it: at the multiples of 16 from E0000h to FFFF0h
-/// (ACPI 6.5, 5.2.5.1). Returns `Yes` with the least such address at which its signature and a right checksum are, else `No`.
+/// Looks for the RSDP in the image that the pieces give, where a BIOS puts it: at the multiples of 16 from 0xE0000 to
+/// 0xFFFF0 (ACPI 6.5, 5.2.5.1). Returns `Yes` with the lowest such address with the signature and a right checksum,
+/// otherwise `No`.
 ///
-/// Refuses `PiecePastEnd`, `PiecesOverlap` and `OutOfMemory` as `acpiset_check` does.
+/// Refuses with `PiecePastEnd`, `PiecesOverlap` and `OutOfMemory` as `acpiset_check` does.
 #[unsafe(no_mangle)]
 pub extern "C" fn acpiset_find(alloc: Global, pieces: &[Piece<'_>]) -> Answer
     ensures { (address : Result (Option ℕ) Refusal)

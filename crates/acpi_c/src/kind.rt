@@ -1,18 +1,18 @@
-//! What an answer says, as a number.
+//! The kind of an answer, as a number.
 
 ghost use Rattle.std.specs.Prelude.{◌≡◌};
 ghost use Rattle.acpi_c.specs.Kinds.{kind_number};
 
-/// What an answer says. A kind's number never changes.
+/// The kind of an answer. A kind's number never changes.
 #[derive(Clone, Copy, Debug, PartialEq, Eq)]
 pub enum Kind {
-    /// All statements hold; or the fault is in the image; or the RSDP was found; or there is no fault.
+    /// All statements hold; or the image has the fault; or the RSDP was found; or there is no fault.
     Yes,
-    /// A statement does not hold; or the fault is not in the image; or no RSDP was found; or there are faults.
+    /// A statement does not hold; or the image does not have the fault; or no RSDP was found; or there are faults.
     No,
     /// Out of memory.
     OutOfMemory,
-    /// The settings say another size than this version's.
+    /// The settings have another size than this version's.
     BadSize,
     /// The default number of inputs is outside 1 to 256.
     BadDefaultInputs,

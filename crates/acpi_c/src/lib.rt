@@ -1,14 +1,15 @@
-//! The checker as a static library for C, and for whatever calls C.
+//! The checker as a static library for C, and for all languages that can call C.
 //!
-//! An image is passed as pieces, each an address and the bytes from there on, or as image text. `acpiset_check` and
-//! `acpiset_check_text` return the verdict on its tables, `acpiset_confirm` whether one fault is there, `acpiset_lint` all
-//! findings, `acpiset_find` where the RSDP is, and `acpiset_abi` the version of these functions and structs. Nothing that is
-//! passed is kept, and nothing that is returned has to be freed.
+//! An image is passed as pieces, each of them an address and the bytes from there on, or as image text.
+//! `acpiset_check` and `acpiset_check_text` return the verdict on its tables, `acpiset_confirm` whether it has one
+//! fault, `acpiset_lint` all findings, `acpiset_find` where the RSDP is, and `acpiset_abi` the version of these
+//! functions and structs. No argument is kept, and no result has to be freed.
 //!
-//! No function has a `requires`: whatever the addresses, bytes, counts and settings are, it returns an answer. C owes what the
-//! types say: pointers and lengths that hold. `bindings/c/acpiset.h` declares the functions for C.
+//! No function has a `requires`: whatever the addresses, bytes, counts and settings are, it returns an answer. A C
+//! caller must ensure what the types say: valid pointers and lengths. `bindings/c/acpiset.h` declares the functions
+//! for C.
 //!
-//! An example, of `crates/acpi_c/src/tests.rt`: the second piece has an address of the first one.
+//! An example, from `crates/acpi_c/src/tests.rt`: the second piece has an address of the first one.
 //!
 //! ```rust
 //! let pieces = [
@@ -27,8 +28,8 @@
 //! assert!(rt; answer.other == 0x1000);
 //! ```
 //!
-//! `pieces` makes an image of pieces, `text` of a text; `settings` makes a policy; `refusal` says why a call is refused, and
-//! `answer` writes a result as numbers.
+//! `pieces` makes an image from pieces, `text` from a text; `settings` makes a policy; `refusal` says why a call is
+//! refused, and `answer` writes a result as numbers.
 #![tactic(auto)]
 
 mod answer;
@@ -52,7 +53,7 @@ pub use kind::Kind;
 pub use pieces::Piece;
 pub use settings::{Inputs, Settings};
 
-/// The version of the functions and the structs. It changes where one of them does.
+/// The version of the functions and the structs. It changes if one of them does.
 #[unsafe(no_mangle)]
 pub extern "C" fn acpiset_abi() -> u32
     ensures { result ≡ 1 }

@@ -63,7 +63,7 @@ fn advice_finding(advice: &Advice) -> Finding
     }
 }
 
-/// The faults as numbers, and behind them the advice.
+/// The faults as numbers, and after them the advice.
 fn numbers_of(alloc: Global, found: &Findings) -> Result<Vec<Finding>, AllocError>
     ensures { IfOk result (λ all.
         all.items ≡ all_findings found.now.faults.items found.now.advice.items) }
@@ -106,13 +106,13 @@ fn answer_of(found: &Findings) -> Answer
     Answer::with_two(kind, found.faults.len() as u64, found.advice.len() as u64)
 }
 
-/// All that is wrong with the tables of the image that the pieces make up: the first fault of each code that has one, in the
-/// order of the codes' numbers, and behind these the first finding of each rule of advice that is broken, in the order of the
-/// rules' numbers. They are written to `findings`, as many as fit; what is behind them stays as it is. The last stage is not
-/// looked at.
+/// All that is wrong with the tables of the image that the pieces give: the first fault of each code that has one, in
+/// the order of the codes' numbers, and after these the first finding of each rule of advice that is broken, in the
+/// order of the rules' numbers. They are written to `findings`, as many as fit; the rest of the array does not
+/// change. The last stage of the settings is ignored.
 ///
-/// Returns `Yes` where there is no fault, else `No`, with the number of faults and the number of findings of advice. An array
-/// of 87 takes all.
+/// Returns `Yes` if there is no fault, otherwise `No`, with the number of faults and the number of findings of
+/// advice. An array of 87 is always long enough.
 ///
 /// Refuses, in this order, and then writes nothing: `BadSize`, `BadDefaultInputs`, `BadHotPlug`, `BadProcessors`, `BadInputs`,
 /// `PiecePastEnd`, `PiecesOverlap`, `OutOfMemory`, as `acpiset_check` does.

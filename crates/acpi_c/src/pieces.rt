@@ -12,14 +12,15 @@ use std::alloc::Global;
 pub struct Piece<'a> {
     /// The address of the first byte.
     pub address: u64,
-    /// The bytes: to C a pointer, and then their number.
+    /// The bytes: for C a pointer, and then their number.
     pub bytes: &'a [u8],
 }
 
-/// So many pieces at most are added one by one whatever their order is: to copy what is there costs less than to mark each address.
+/// At most this many pieces are added one by one whatever their order: copying what is present costs less than
+/// marking each address.
 const FEW: usize = 16;
 
-/// Whether each piece begins where the one before it ends, or behind that.
+/// Whether each piece begins where the one before it ends, or after that.
 fn are_rising(pieces: &[Piece<'_>]) -> bool {
     let mut end = 0;
     for piece in pieces {
@@ -58,15 +59,14 @@ fn image_by_sorting(alloc: Global, pieces: &[Piece<'_>]) -> Result<Image, Refusa
     Ok(image)
 }
 
-/// The image that the pieces make up.
+/// The image that the pieces give.
 ///
-/// Refuses, for the first piece that cannot be added to those before it, in this order:
-/// `PiecePastEnd`, where it passes the address 2^64 - 1;
-/// `PiecesOverlap`, where it shares addresses with those before it, with the least of them;
+/// Refuses, for the first piece that cannot be added to those before it, in this order: `PiecePastEnd` if it passes
+/// the address 2^64 - 1; `PiecesOverlap` if it shares addresses with those before it, with the lowest of them;
 /// `OutOfMemory`. A piece without bytes is always added.
 ///
-/// Pieces by rising addresses are appended with no search. Of others up to 16 cost a copy each of those before them; more are
-/// marked and sorted.
+/// Pieces at rising addresses are appended without a search. For others, up to 16 are added with a copy of those
+/// before each; more are marked and sorted.
 pub fn image_of_pieces(alloc: Global, pieces: &[Piece<'_>]) -> Result<Image, Refusal>
     ensures { Reads (pieces_source pieces.now) result }
 {

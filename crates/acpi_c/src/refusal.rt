@@ -27,7 +27,7 @@ pub enum Refusal {
     Code,
     /// The piece at this index passes the address 2^64 - 1.
     PiecePastEnd { index: u64 },
-    /// The piece at this index shares addresses with earlier ones; this is the least of them.
+    /// The piece at this index shares addresses with earlier ones; this is the lowest of them.
     PiecesOverlap { index: u64, address: u64 },
     /// This line of the text is neither an address, nor data, nor empty.
     BadLine { line: u64 },
@@ -76,7 +76,7 @@ impl From<TextFault> for Refusal {
             TextFault::Twice { address } => Refusal::TextOverlap { address },
             TextFault::PastEnd { line } => Refusal::TextPastEnd { line },
             TextFault::TooLong => Refusal::TextTooLong,
-            // No device is read, so nothing but memory can fail.
+            // No device is read, so only memory can fail.
             TextFault::Read | TextFault::Memory => Refusal::OutOfMemory,
         }
     }

@@ -1,4 +1,4 @@
-//! What a call is given beside the image.
+//! The settings of a call.
 
 ghost use Rattle.std.specs.Prelude.{◌≡◌, ◌⊎◌, ℕ, Err, IfErr, IfOk, None, OnOk, Some};
 ghost use Rattle.acpi_base.specs.Codes.{stage_number};
@@ -14,13 +14,13 @@ use std::alloc::Global;
 #[repr(C)]
 #[derive(Clone, Copy)]
 pub struct Inputs {
-    /// The I/O APIC's address, as the MADT says it.
+    /// The I/O APIC's address, as in the MADT.
     pub address: u32,
     /// The number of its inputs, 1 to 256.
     pub count: u32,
 }
 
-/// What a call is given beside the image and the numbers of inputs.
+/// The settings of a call, except for the numbers of inputs.
 #[repr(C)]
 #[derive(Clone, Copy)]
 pub struct Settings {
@@ -28,20 +28,20 @@ pub struct Settings {
     pub size: usize,
     /// The RSDP's address.
     pub rsdp: u64,
-    /// The number of inputs, 1 to 256, of each I/O APIC that is given none of its own.
+    /// The number of inputs, 1 to 256, of each I/O APIC without a number of its own.
     pub default_inputs: u32,
-    /// 0: hot-pluggable ranges of memory are compared with all others; 1: with one another alone.
+    /// 0: hot-pluggable ranges of memory are compared with all others; 1: only with one another.
     pub hotplug: u32,
     /// 0: processors with the flag Enabled count as enabled; 1: also those with Online Capable.
     pub processors: u32,
-    /// The last stage that a check goes through, 1 to 18. No other call looks at it.
+    /// The last stage of a check, 1 to 18. All other calls ignore it.
     pub through: u32,
 }
 
 /// The size of `Settings` in bytes.
 const SIZE: usize = 32;
 
-/// A number of inputs, where it is 1 to 256.
+/// A number of inputs, if it is 1 to 256.
 fn count_of(number: u32) -> Option<u16>
     ensures { result ≡ count_of number }
 {
@@ -73,7 +73,7 @@ fn processors_of(number: u32) -> Option<Processors>
     }
 }
 
-/// The policy of the settings, without a number of inputs for any one I/O APIC. Takes no memory.
+/// The policy of the settings, without a number of inputs for any one I/O APIC. Allocates nothing.
 ///
 /// Refuses, in this order: `Size`, `DefaultInputs`, `HotPlug`, `Processors`.
 fn settings_policy(alloc: Global, settings: &Settings) -> Result<Policy, Refusal>
@@ -111,10 +111,10 @@ fn add_inputs(policy: &mut Policy, index: usize, inputs: &Inputs) -> Result<(), 
     }
 }
 
-/// The policy of the settings and the numbers of inputs. Where an address is given two, the first one counts.
+/// The policy of the settings and the numbers of inputs. If an address is repeated, the first number wins.
 ///
-/// Refuses, in this order: as `settings_policy` does; `Inputs`, for the first number outside 1 to 256; `OutOfMemory`, which
-/// may also come in the place of a later `Inputs`.
+/// Refuses, in this order: as `settings_policy` does; `Inputs`, for the first number outside 1 to 256; `OutOfMemory`,
+/// which may also be returned instead of a later `Inputs`.
 pub fn policy_of(alloc: Global, settings: &Settings, inputs: &[Inputs]) -> Result<Policy, Refusal>
     ensures { (result ≡ Err Refusal.OutOfMemory) ⊎ (result ≡ policy_of settings.now inputs.now) }
 {
@@ -125,7 +125,7 @@ pub fn policy_of(alloc: Global, settings: &Settings, inputs: &[Inputs]) -> Resul
     Ok(policy)
 }
 
-/// The last stage that a check goes through.
+/// The last stage of a check.
 pub fn last_stage(settings: &Settings) -> Result<Stage, Refusal>
     ensures ok { IfOk result (λ stage. stage_number stage ≡ settings.now.through) }
     ensures err { IfErr result (λ refusal. stage_refusal settings.now.through ≡ Some refusal) }

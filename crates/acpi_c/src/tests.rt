@@ -9,7 +9,7 @@ use std::alloc::{AllocError, Global};
 use std::process::Abort;
 use std::test::*;
 
-/// The usual settings, with the RSDP at E0000h.
+/// The usual settings, with the RSDP at 0xE0000.
 const SETTINGS: Settings = Settings {
     size: 32,
     rsdp: 0xe0000,
@@ -19,10 +19,10 @@ const SETTINGS: Settings = Settings {
     through: 18,
 };
 
-/// Settings, numbers of inputs, and the kind of the answer on no pieces.
+/// Settings, numbers of inputs, and the kind of the answer for no pieces.
 type Refused = (Settings, &'static [Inputs], Kind);
 
-/// Settings that are refused, each for the first number that is wrong.
+/// Settings that are refused, each for the first wrong number.
 const REFUSED: [Refused; 5] = [
     (
         Settings {

@@ -11,12 +11,12 @@ use Rattle.acpi_check.specs.declared.nodes.Chain.TheVariants as chain
 
 -- ---- kinds of chains
 
--- the offset that an entry names, where it is a node of such chains
+-- the offset that an entry refers to, if the entry is a node of such chains
 abbrev pub named_offset : Chain → PpttEntry → Option ℕ
 named_offset chain.Parents = parent_of
 named_offset chain.NextLevels = next_level_of
 
--- a node stands at o and names p
+-- there is a node at o, and it refers to p
 abbrev pub Names : Chain → PpttContents → ℕ → ℕ → Type 0
 Names links c = Says (named_offset links) c
 
@@ -32,12 +32,12 @@ code_of chain.NextLevels = code.CacheCycle
 
 -- ---- what is found
 
--- the cycle that is reported, under this code: as a fault it stands before all others
+-- the cycle that is reported, under this code: it comes before all others in the order of faults
 pub record IsFirstCycle (Names : ℕ → ℕ → Type 0) (most : ℕ) (fault : Code) (o lead round : ℕ) : Type 0 where
   pub cycle : IsCycle Names most o lead round
   pub least : (p l r : ℕ) → IsCycle Names most p l r → NotAfter (record { code = fault; at = o; other = lead; point = round }) (record { code = fault; at = p; other = l; point = r })
 
--- no chain goes round, or this is the fault of the cycle that is reported
+-- no chain has a cycle, or this is the fault of the cycle that is reported
 abbrev pub FindsCycle : Chain → PpttContents → Option Witness → Type 0
 FindsCycle links c None = (o lead round : ℕ) → ¬ IsCycle (Names links c) (most_of links c) o lead round
 FindsCycle links c (Some w) = (w.code ≡ code_of links) × IsFirstCycle (Names links c) (most_of links c) (code_of links) w.at w.other w.point

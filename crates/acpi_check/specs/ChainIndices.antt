@@ -1,4 +1,4 @@
--- Chains of offsets as chains of indices, and the first cycle that is found of them.
+-- Chains of offsets as chains of indices, and their first cycle.
 use Rattle.std.specs.Prelude.{◌≡◌, ◌≢◌, ◌↔◌, ◌⊎◌, ℕ, ◌<◌, List, AllPairs, Contains, length, map, slice_index, slice_index_or, option_map, Option, Some, None}
 use Rattle.std.specs.List.{filter_map}
 use Rattle.acpi_base.specs.Chains.{IsAt, IsCycle}
@@ -9,20 +9,20 @@ use Rattle.acpi_graph.specs.declared.stray.Stray.{Stray}
 use Rattle.acpi_graph.specs.declared.stray.Stray.TheVariants as stray
 use Rattle.acpi_check.specs.ChainCycles.{IsFirstCycle}
 
--- the index of p among the offsets, or none where p is 0 or is not among them
+-- the index of p among the offsets, or none if p is 0 or is not among them
 abbrev pub IsIndexOf : List ℕ → ℕ → Option ℕ → Type 0
 IsIndexOf offsets p None = (p ≡ 0) ⊎ (¬ Contains offsets p)
 IsIndexOf offsets p (Some j) = (p ≢ 0) × (j < length offsets) × (slice_index offsets j ≡ p)
 
--- the offsets are those at which one of the kind stands, in rising order, and each has for its parent the index of the
--- offset that is named from it
+-- the offsets are those of the nodes of the kind, in rising order, and the parent of each is the index of the offset
+-- that it refers to
 pub record AreIndexed (Names : ℕ → ℕ → Type 0) (offsets : List ℕ) (parents : List (Option ℕ)) : Type 0 where
   pub count : length parents ≡ length offsets
   pub rising : AllPairs (λ o p. o < p) offsets
   pub all : (o : ℕ) → Contains offsets o ↔ IsAt Names o
   pub named : (i p : ℕ) → i < length offsets → Names (slice_index offsets i) p → IsIndexOf offsets p (parent_of parents i)
 
--- what is found of the chains over these offsets: that none goes round, or the cycle that is reported
+-- what is found about the chains over these offsets: that none has a cycle, or the cycle that is reported
 abbrev pub IsCycleResult : (ℕ → ℕ → Type 0) → ℕ → Code → List ℕ → Stray → Type 0
 IsCycleResult Names most fault offsets stray.None = (o lead round : ℕ) → ¬ IsCycle Names most o lead round
 IsCycleResult Names most fault offsets (stray.Round node lead round) =
@@ -30,7 +30,7 @@ IsCycleResult Names most fault offsets (stray.Round node lead round) =
 
 -- ---- how they are collected
 
--- one of the kind: the offset at which it stands, and that which it names
+-- a node of the kind: its offset, and the offset that it refers to
 pub record ChainNode : Type 0 where
   pub offset : ℕ
   pub named : ℕ
@@ -40,11 +40,11 @@ abbrev pub nodes_of : {E : Type 0} → (E → Option ℕ) → List (PlacedEntry 
 nodes_of read entries =
     filter_map (λ s. option_map (λ p. record { offset = s.offset; named = p }) (read s.entry)) entries
 
--- the offsets at which they stand
+-- their offsets
 abbrev pub node_offsets : List ChainNode → List ℕ
 node_offsets nodes = map (λ n. n.offset) nodes
 
--- each parent is the index of what the node at its place names
+-- each parent is the index of what the node with the same index refers to
 pub record AreParents (nodes : List ChainNode) (parents : List (Option ℕ)) : Type 0 where
   pub count : length parents ≡ length nodes
   pub each : (i : ℕ) (n : ChainNode) → i < length nodes → IsIndexOf (node_offsets nodes) (slice_index_or nodes i n).named (slice_index_or parents i None)

@@ -1,4 +1,5 @@
--- Where the entries of a PPTT stand, by what may be named there, and what an entry names of these offsets.
+-- The offsets of the entries of a PPTT, by what may refer to them, and the references of an entry among these
+-- offsets.
 use Rattle.std.specs.Prelude.{◌≡◌, ◌≢◌, ◌⊎◌, ◌↔◌, ℕ, Bool, true, false, List, Some, None, if◌then◌else◌}
 use Rattle.std.specs.List.{filter_map}
 use Rattle.acpi_base.specs.Codes.{stage_of}
@@ -16,7 +17,7 @@ use Rattle.acpi_check.specs.declared.places.Places.{Places}
 
 -- ---- offsets
 
--- these are the offsets at which a node, a cache or a private resource stands
+-- these are the offsets of the nodes, the caches or the private resources
 pub record ArePlaces (c : PpttContents) (places : Places) : Type 0 where
   pub nodes : (o : ℕ) → IsIn places.nodes o ↔ IsNodeAt c o
   pub caches : (o : ℕ) → IsIn places.caches o ↔ IsCacheAt c o
@@ -42,19 +43,19 @@ abbrev pub is_resource : Kind → Bool
 is_resource kind.Node = false
 is_resource _ = true
 
--- the offsets at which entries of the kinds stand, in their order
+-- the offsets of entries of the kinds, in their order
 abbrev pub kind_offsets : (Kind → Bool) → List (PlacedEntry PpttEntry) → List ℕ
 kind_offsets kinds entries = filter_map (λ s. if kinds (kind_of s.entry) then Some s.offset else None) entries
 
 -- ---- what an entry names
 
--- each offset that the entry names is one of those of the kind
+-- each offset that the entry refers to is one of those of the kind
 pub record NamesPlaces (places : Places) (e : PpttEntry) : Type 0 where
   pub parent : (p : ℕ) → parent_of e ≡ Some p → (p ≡ 0) ⊎ IsIn places.nodes p
   pub resource : (j r : ℕ) → resource_of j e ≡ Some r → IsIn places.resources r
   pub next_level : (p : ℕ) → next_level_of e ≡ Some p → (p ≡ 0) ⊎ IsIn places.caches p
 
--- the entry names an offset that is none of these: a fault with these two numbers
+-- the entry refers to an offset that is not among these: a fault with these two numbers
 abbrev pub EntryReferenceFault : Places → PpttEntry → Code → ℕ → ℕ → Type 0
 EntryReferenceFault places e code.DanglingParent other point = (parent_of e ≡ Some other) × (other ≢ 0) × (¬ IsIn places.nodes other) × (point ≡ 0)
 EntryReferenceFault places e code.DanglingResource other point = (resource_of other e ≡ Some point) × ¬ IsIn places.resources point

@@ -1,4 +1,4 @@
--- What the slots of a root list first, while they are gone through.
+-- The first tables that the slots of a root table list, while the slots are scanned.
 use Rattle.std.specs.Prelude.{◌<◌, ℕ, List, Option, Some, None}
 use Rattle.acpi_base.specs.Memory.{Memory}
 use Rattle.acpi_base.specs.Root.{HasSlot}
@@ -10,12 +10,12 @@ use Rattle.acpi_read.specs.FirstTables.{first_table}
 use Rattle.acpi_read.specs.Roots.{RootValue}
 use Rattle.acpi_read.specs.declared.first_tables.FirstTables.{FirstTables}
 
--- what the slots below k, of d bytes each, of a root's bytes list first with a signature
+-- the first table with a signature that the slots below k, of d bytes each, of a root table's bytes list
 abbrev pub IsFirstBelow : Memory → List ℕ → ℕ → ℕ → List ℕ → Option (List ℕ) → Type 0
 IsFirstBelow m bytes d k signature None = (j a : ℕ) → j < k → HasSlot bytes d j a → ¬ IsSigned m a signature
 IsFirstBelow m bytes d k signature (Some whole) = (a : ℕ) × (header : List ℕ) × IsFirstListed m bytes d signature a × IsTable m a header whole
 
--- the same of each kind; and the tables of these slots are sound
+-- the same for each kind; and the tables of these slots are valid
 pub record AreFirstBelow (m : Memory) (root : RootValue) (k : ℕ) (firsts : FirstTables) : Type 0 where
   pub sound : (j a : ℕ) → j < k → HasSlot root.bytes root.width j a → IsSoundTable m a
   pub first : (kind : TableKind) → IsFirstBelow m root.bytes root.width k (signature_of kind) (first_table firsts kind)

@@ -1,4 +1,4 @@
--- Sets of tables that are handed on, as far as they were found sound.
+-- Sets of tables that are passed on, as far as they were found valid.
 use Rattle.std.specs.Prelude.{◌≡◌, ◌≢◌, ℕ, List, Option, Some, None}
 use Rattle.acpi_base.specs.Memory.{Memory}
 use Rattle.acpi_base.specs.Policy.{PolicyValue}
@@ -16,7 +16,8 @@ use Rattle.acpi_check.specs.declared.set.CleanSet.{CleanSet}
 
 -- ---- listed tables
 
--- the set that the RSDP at p leads to: its RSDP, its root and the tables that it lists are sound, and these are they
+-- the set that the RSDP at p leads to: its RSDP, its root table and the tables that it lists are valid, and these are
+-- they
 pub record IsListedSetOf (m : Memory) (p : ℕ) (set : ListedSet) : Type 0 where
   pub image : set.image.now ≡ m
   pub rsdp : IsRsdp m p set.rsdp
@@ -24,11 +25,11 @@ pub record IsListedSetOf (m : Memory) (p : ℕ) (set : ListedSet) : Type 0 where
   pub sound : AreSoundTables m p
   pub tables : AreFirstTables m p set.tables
 
--- the same of its own image and its RSDP's own address
+-- the same for its own image and its RSDP's own address
 abbrev pub IsListedSet : ListedSet → Type 0
 IsListedSet set = IsListedSetOf set.image.now set.rsdp.address set
 
--- slot k of the set's root lists this table
+-- slot k of the set's root table lists this table
 pub record IsListedIn (set : ListedSet) (k : ℕ) (listed : Listed) : Type 0 where
   pub slot : HasSlot set.root.bytes set.root.width k listed.address
   pub header : List ℕ
@@ -43,7 +44,7 @@ IsFacsNamed m fadt (Some facs) = (facs.address ≡ facs_address fadt) × (facs.a
 
 -- ---- all stages
 
--- all stages hold of the image and the policy, and this is the set
+-- all stages hold for the image and the policy, and this is the set
 pub record IsCleanSetOf (m : Memory) (q : PolicyValue) (set : CleanSet) : Type 0 where
   pub clean : IsClean m q
   pub listed : IsListedSetOf m q.rsdp set.listed

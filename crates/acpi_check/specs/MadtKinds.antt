@@ -8,7 +8,7 @@ use Rattle.acpi_read.specs.FirstTables.{first_table}
 use Rattle.acpi_check.specs.declared.madt_kinds.MadtKinds.{MadtKinds}
 use Rattle.acpi_check.specs.declared.set.Set.{Set}
 
--- with an entry's kind
+-- an entry's kind is added
 abbrev pub kinds_with : MadtKinds → MadtEntry → MadtKinds
 kinds_with kinds (IoApic v) = record { io_apics = true; overrides = kinds.overrides }
 kinds_with kinds (Override v) = record { io_apics = kinds.io_apics; overrides = true }
@@ -19,15 +19,15 @@ abbrev pub IsOverride : MadtEntry → Type 0
 IsOverride (Override v) = Unit {0}
 IsOverride _ = ⊥
 
--- an entry's kind is among these, where it is one of the two
+-- an entry's kind is among these, if it is one of the two
 pub record IsOfKinds (kinds : MadtKinds) (e : MadtEntry) : Type 0 where
   pub io_apic : IsIoApic e → kinds.io_apics ≡ true
   pub override : IsOverride e → kinds.overrides ≡ true
 
--- so is that of each entry
+-- the same for each entry
 abbrev pub HasKinds : MadtKinds → List (PlacedEntry MadtEntry) → Type 0
 HasKinds kinds entries = (o : ℕ) (e : MadtEntry) → Stands entries o e → IsOfKinds kinds e
 
--- so is that of each entry of the MADT that a set lists
+-- the same for each entry of the MADT that a set lists
 abbrev pub AreMadtKinds : Set → MadtKinds → Type 0
 AreMadtKinds set kinds = IfSome (first_table set.listed.tables kind.Madt) (λ whole. HasKinds kinds (madt_contents whole).entries)

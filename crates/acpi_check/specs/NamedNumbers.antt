@@ -7,7 +7,7 @@ use Rattle.acpi_base.specs.declared.witness.Witness.{Witness}
 
 -- ---- one entry
 
--- the number that an entry names, where it names one, is known
+-- the number that an entry names, if any, is known
 abbrev pub IsKnown : (ℕ → Type 0) → Option ℕ → Type 0
 IsKnown Known number = (n : ℕ) → number ≡ Some n → Known n
 
@@ -25,7 +25,7 @@ pub record IsUnknown (Known : ℕ → Type 0) (fault : Code) (o : ℕ) (number :
 abbrev pub NamesAt : {E : Type 0} → (E → Option ℕ) → List (PlacedEntry E) → ℕ → ℕ → Type 0
 NamesAt read entries o n = StandsWith entries o (λ e. read e ≡ Some n)
 
--- w is the fault, under this code, of the first entry of which this is so
+-- w is the fault, under this code, of the first entry with such a number
 pub record IsFirstUnknown {E : Type 0} (Known : ℕ → Type 0) (read : E → Option ℕ) (fault : Code) (entries : List (PlacedEntry E)) (w : Witness) : Type 0 where
   pub code : w.code ≡ fault
   pub other : w.other ≡ 0

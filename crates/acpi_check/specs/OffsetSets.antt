@@ -11,7 +11,7 @@ HasBit words o = bit_at (slice_index words (o / 64)) (o % 64) ≡ 1
 unfoldable pub IsIn : OffsetSet → ℕ → Type 0
 IsIn set o = HasBit set.words.items o
 
--- where it is to be added, the offset is added to those that are in the set; else they stay the same
+-- if it is to be added, the offset is added to those that are in the set; otherwise they stay the same
 abbrev pub Adds : Bool → ℕ → OffsetSet → OffsetSet → Type 0
 Adds true offset old new = (o : ℕ) → IsIn new o ↔ ((o ≡ offset) ⊎ IsIn old o)
 Adds false offset old new = (o : ℕ) → IsIn new o ↔ IsIn old o

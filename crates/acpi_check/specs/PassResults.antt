@@ -11,12 +11,12 @@ use Rattle.acpi_base.specs.declared.stage.Stage.{Stage}
 use Rattle.acpi_base.specs.declared.witness.Witness.{Witness}
 use Rattle.acpi_check.specs.TableResults.{IsFirstOfTable}
 
--- the tables are sound, or this is their first fault
+-- the tables are valid, or this is their first fault
 abbrev pub FindsFault : Stage → Type 0 → (Code → ℕ → ℕ → ℕ → Type 0) → Option Witness → Type 0
 FindsFault s Sound IsFault None = Sound
 FindsFault s Sound IsFault (Some w) = IsFirstOfTable s IsFault w
 
--- w is the least fault that an entry has by itself
+-- w is the lowest fault that an entry has by itself
 pub record IsOwnFault (IsFault : Code → Type 0) (w : Witness) : Type 0 where
   pub fault : IsFault w.code
   pub unused : AreUnused w.other w.point
@@ -24,26 +24,26 @@ pub record IsOwnFault (IsFault : Code → Type 0) (w : Witness) : Type 0 where
 
 -- ---- an entry of a MADT
 
--- w is the fault of a second address override, of which `earlier` is the first one's offset
+-- w is the fault of a second address override; `earlier` is the offset of the first one
 pub record IsSecondOverride (e : MadtEntry) (earlier : Option ℕ) (w : Witness) : Type 0 where
   pub code : w.code ≡ code.SecondAddressOverride
   pub override : IsAddressOverride e
   pub first : earlier ≡ Some w.other
   pub unused : w.point ≡ 0
 
--- the first address override's offset, once the entry at o came
+-- the first address override's offset, after the entry at o
 abbrev pub IsOverrideAfter : ℕ → MadtEntry → Option ℕ → Option ℕ → Type 0
 IsOverrideAfter o e earlier now =
     (IsAddressOverride e × (earlier ≡ None) × (now ≡ Some o)) ⊎ ((¬ IsAddressOverride e) × (now ≡ earlier))
 
--- the entry at o is sound, and this is the first address override's offset with it; or this is its least fault
+-- the entry at o is valid, and this is the first address override's offset including it; or this is its lowest fault
 abbrev pub PassesMadtEntry : PolicyValue → ℕ → MadtEntry → Option ℕ → Result (Option ℕ) Witness → Type 0
 PassesMadtEntry q o e earlier (Ok now) = IsSoundMadtEntry q e × IsOverrideAfter o e earlier now
 PassesMadtEntry q o e earlier (Err w) = (w.at ≡ o) × (IsOwnFault (λ c. MadtEntryFault q c e) w ⊎ IsSecondOverride e earlier w)
 
 -- ---- an entry of an SRAT
 
--- the entry at o is sound, or this is its least fault
+-- the entry at o is valid, or this is its lowest fault
 abbrev pub PassesSratEntry : ℕ → SratEntry → Result ⊤ Witness → Type 0
 PassesSratEntry o e (Ok _) = IsSoundSratEntry e
 PassesSratEntry o e (Err w) = (w.at ≡ o) × IsOwnFault (λ c. SratEntryFault c e) w

@@ -8,7 +8,7 @@ use Rattle.acpi_check.specs.NamedNumbers.{NamesAt}
 use Rattle.acpi_check.specs.declared.processors.Key.{Key}
 use Rattle.acpi_check.specs.declared.processors.Key.TheVariants as key
 
--- the number of the processor of which an entry is, where it is looked up by it
+-- the number of the processor that an entry describes, if processors are looked up by it
 abbrev pub number_of : Key → MadtEntry → Option ℕ
 number_of key.Uid (LocalApic v) = Some v.uid
 number_of key.Uid (X2apic v) = Some v.uid

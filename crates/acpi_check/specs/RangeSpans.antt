@@ -1,4 +1,4 @@
--- What entries of a table say, collected for a search: ranges as spans, and the first overlap that is found of them.
+-- The contents of a table's entries, collected for a search: ranges as spans, and their first overlap.
 use Rattle.std.specs.Prelude.{◌≡◌, ℕ, ◌+◌, ◌^◌, ◌<◌, ◌&&◌, ◌||◌, ◌↔◌, Bool, List, All, Contains, Option, Some, None, nat_lt, nat_le, if◌then◌else◌}
 use Rattle.std.specs.List.{filter_map}
 use Rattle.acpi_base.specs.Overlaps.{AreApart, IsFirstIntervalOverlap}
@@ -12,9 +12,9 @@ use Rattle.acpi_graph.specs.declared.clash.Clash.{Clash}
 use Rattle.acpi_graph.specs.declared.clash.Clash.TheVariants as clash
 use Rattle.acpi_graph.specs.declared.span.Span.{Span}
 
--- ---- spans that stand for ranges
+-- ---- spans that represent ranges
 
--- a span of the list has the name o, begins at s and holds x
+-- a span of the list has the id o, begins at s and contains x
 pub record HasSpan (spans : List Span) (o s x : ℕ) : Type 0 where
   pub span : Span
   pub listed : Contains spans span
@@ -22,7 +22,7 @@ pub record HasSpan (spans : List Span) (o s x : ℕ) : Type 0 where
   pub start : span.start ≡ s
   pub holds : HasNumber span x
 
--- the spans are the ranges that the relation speaks of, each named by the offset at which it stands
+-- the spans are the ranges of the relation, each with its entry's offset as its id
 pub record AreSpansOf (HoldsAt : ℕ → ℕ → ℕ → Type 0) (spans : List Span) : Type 0 where
   pub names : NamesDiffer spans
   pub covers : (o s x : ℕ) → HoldsAt o s x ↔ HasSpan spans o s x
@@ -31,23 +31,24 @@ pub record AreSpansOf (HoldsAt : ℕ → ℕ → ℕ → Type 0) (spans : List S
 abbrev pub BeginLow : List Span → Type 0
 BeginLow spans = All (λ span. span.start < 2 ^ 64) spans
 
--- the point of an overlap, where there is one, has 64 bits
+-- the point of an overlap, if there is one, has 64 bits
 abbrev pub HasLowPoint : Clash → Type 0
 HasLowPoint found = IfAt found (λ first second point. point < 2 ^ 64)
 
--- what is found of these ranges: that no number lies in two, or their first overlap
+-- what is found about these ranges: that no number is in two, or their first overlap
 abbrev pub IsOverlapResult : (ℕ → ℕ → ℕ → Type 0) → Clash → Type 0
 IsOverlapResult HoldsAt clash.None = AreApart HoldsAt
 IsOverlapResult HoldsAt (clash.At first second point) = IsFirstIntervalOverlap HoldsAt first second point
 
--- of two overlaps the one with the lesser point, and where both have one point the first
+-- of two overlaps the one with the lower point, and if both have one point the first
 abbrev pub earlier_clash : Clash → Clash → Clash
 earlier_clash clash.None hot = hot
 earlier_clash other clash.None = other
 earlier_clash (clash.At first second point) (clash.At hot_first hot_second hot_point) =
     if nat_lt hot_point point then clash.At hot_first hot_second hot_point else clash.At first second point
 
--- what is found of the ranges of an SRAT: that they are apart as they must be, or the overlap that is reported
+-- what is found about the ranges of an SRAT: that they do not overlap where they must not, or the overlap that is
+-- reported
 abbrev pub IsRangesResult : HotPlug → SratContents → Clash → Type 0
 IsRangesResult h c clash.None = AreRangesApart h c
 IsRangesResult h c (clash.At first second point) = IsFirstOverlap h c first second point
@@ -58,7 +59,7 @@ ServesAt q g c o s x = StandsWith c.entries o (λ e. ServesFrom q s x e × Serve
 
 -- ---- how they are collected
 
--- what a span says
+-- the contents of a span
 pub record SpanValue : Type 0 where
   pub start : ℕ
   pub end : ℕ
@@ -67,16 +68,16 @@ pub record SpanValue : Type 0 where
 abbrev pub span_value : Span → SpanValue
 span_value span = record { start = span.start; end = span.end; name = span.name }
 
--- the numbers from `start` on and below `end`, where there are any
+-- the numbers from `start` on and below `end`, if there are any
 abbrev pub span_from : ℕ → ℕ → ℕ → Option SpanValue
 span_from start end name = if nat_lt start end then Some (record { start = start; end = end; name = name }) else None
 
--- the interrupt numbers that an entry at the offset o serves, where g is one of them
+-- the interrupt numbers that an entry at the offset o serves, if g is one of them
 abbrev pub served_span : PolicyValue → ℕ → ℕ → MadtEntry → Option SpanValue
 served_span q g o (IoApic v) = if nat_lt g v.gsi_base || nat_le (v.gsi_base + inputs_of q v.address) g then None else span_from v.gsi_base (v.gsi_base + inputs_of q v.address) o
 served_span q g o _ = None
 
--- the addresses that an entry at the offset o covers, where it is an enabled range and counts
+-- the addresses that an entry at the offset o covers, if it is an enabled range and counts
 abbrev pub covered_span : (MemoryValue → Bool) → ℕ → SratEntry → Option SpanValue
 covered_span counts o (MemoryRange v) = if is_enabled v.flags && counts v then span_from v.base (v.base + v.size) o else None
 covered_span counts o _ = None

@@ -35,7 +35,7 @@ DoStartsRise ranges = AllPairs (λ a b. a.start ≤ b.start) ranges
 abbrev pub DoNumbersRise : List NamedGsi → Type 0
 DoNumbersRise named = AllPairs (λ a b. a.gsi ≤ b.gsi) named
 
--- the walk has passed so many ranges, and this is the greatest end of those, or 0
+-- the walk has passed this many ranges, and this is the greatest end of those, or 0
 pub record IsReach (ranges : List CompactSpan) (reach : Reach) : Type 0 where
   pub within : reach.passed ≤ length ranges
   pub most : (i : ℕ) (d : CompactSpan) → i < reach.passed → end_of (slice_index_or ranges i d) ≤ reach.end
@@ -45,7 +45,7 @@ pub record IsReach (ranges : List CompactSpan) (reach : Reach) : Type 0 where
 abbrev pub HaveBegun : List CompactSpan → Reach → ℕ → Type 0
 HaveBegun ranges reach number = (i : ℕ) (d : CompactSpan) → i < reach.passed → (slice_index_or ranges i d).start ≤ number
 
--- and the others behind it
+-- and the others after it
 abbrev pub DoFollow : List CompactSpan → Reach → ℕ → Type 0
 DoFollow ranges reach number = (i : ℕ) (d : CompactSpan) → reach.passed ≤ i → i < length ranges → number < (slice_index_or ranges i d).start
 
@@ -57,7 +57,7 @@ pub record IsEarlier (one other earlier : NamedGsi) : Type 0 where
   pub upto_one : earlier.offset ≤ one.offset
   pub upto_other : earlier.offset ≤ other.offset
 
--- of the numbers that are in no range this is named by the first entry
+-- the number in no range that the first entry names
 pub record IsFirstUnserved (ranges : List CompactSpan) (named : List NamedGsi) (first : NamedGsi) : Type 0 where
   pub listed : Contains named first
   pub unserved : ¬ IsInRanges ranges first.gsi

@@ -11,7 +11,7 @@ use Rattle.acpi_check.specs.StageResults.{IsStageResult}
 use Rattle.acpi_check.specs.declared.refusal.Refusal.{Refusal}
 use Rattle.acpi_check.specs.declared.set.Set.{Set}
 
--- the stages up to the FACS hold of the image and the policy, and this is the set
+-- the stages up to the FACS hold for the image and the policy, and this is the set
 pub record IsSetOf (m : Memory) (q : PolicyValue) (set : Set) : Type 0 where
   pub listed : IsListedSetOf m q.rsdp set.listed
   pub policy : set.policy.now ≡ q
@@ -19,15 +19,15 @@ pub record IsSetOf (m : Memory) (q : PolicyValue) (set : Set) : Type 0 where
   pub fadt : IsFadt m q.rsdp set.fadt
   pub facs : IsFacsNamed m set.fadt set.facs
 
--- the same of its own image and policy
+-- the same for its own image and policy
 abbrev pub IsSet : Set → Type 0
 IsSet set = IsSetOf set.listed.image.now set.policy.now set
 
--- the stages before this one hold of a set
+-- the stages before this one hold for a set
 pub record IsReady (s : Stage) (set : Set) : Type 0 where
   pub clean : CleanBefore s set.listed.image.now set.policy.now
   pub tables : IsSet set
 
--- what the result of a stage means of a set
+-- what the result of a stage means for a set
 abbrev pub IsSetResult : Stage → Set → Result ⊤ Refusal → Type 0
 IsSetResult s set result = IsStageResult s set.listed.image.now set.policy.now (λ _. ⊤) result

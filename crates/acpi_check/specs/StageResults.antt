@@ -11,21 +11,22 @@ use Rattle.acpi_base.specs.declared.witness.Witness.{Witness}
 use Rattle.acpi_check.specs.declared.refusal.Refusal.{Refusal}
 use Rattle.acpi_check.specs.declared.refusal.Refusal.TheVariants.{Fault, OutOfMemory}
 
--- Where the result is Ok the stage holds, with P of the value; a fault is the first of the set, and one of the
+-- If the result is Ok the stage holds, and P holds for the value; a fault is the first of the set, and one of the
 -- stage's. Stages 1 to 6 never run out of memory.
 abbrev pub IsStageResult : {T : Type 0} → Stage → Memory → PolicyValue → (T → Type 0) → Result T Refusal → Type 0
 IsStageResult s m q P (Ok value) = Holds s m q × P value
 IsStageResult s m q P (Err (Fault w)) = IsFirstFault m q w × (stage_of w.code ≡ s)
 IsStageResult s m q P (Err OutOfMemory) = 6 < stage_number s
 
--- The same of all stages up to `last`, where P says what Ok means: a fault is one of these stages, and memory runs
--- out only where the stages up to the MADT's entries hold.
+-- The same for all stages up to `last`; P says what Ok means. A fault is one of these stages, and memory runs out
+-- only if the stages up to the MADT's entries hold.
 abbrev pub IsResultTo : {T : Type 0} → Stage → Memory → PolicyValue → (T → Type 0) → Result T Refusal → Type 0
 IsResultTo last m q P (Ok value) = P value
 IsResultTo last m q P (Err (Fault w)) = IsFirstFault m q w × (stage_number (stage_of w.code) ≤ stage_number last)
 IsResultTo last m q P (Err OutOfMemory) = (6 < stage_number last) × CleanTo stage.Madt m q
 
--- The same of stages that take no memory: of one, and of all up to `last`, of which those before the fault's hold.
+-- The same for stages that allocate nothing: for one, and for all up to `last`, of which those before the fault's
+-- stage hold.
 abbrev pub Reads : {T : Type 0} → Stage → Memory → PolicyValue → (T → Type 0) → Result T Witness → Type 0
 Reads s m q P (Ok value) = Holds s m q × P value
 Reads s m q P (Err w) = IsFirstFault m q w × (stage_of w.code ≡ s)

@@ -8,20 +8,20 @@ use Rattle.acpi_base.specs.declared.witness.Witness.{Witness}
 use Rattle.acpi_check.specs.declared.refusal.Refusal.{Refusal}
 use Rattle.acpi_check.specs.declared.refusal.Refusal.TheVariants.{Fault, OutOfMemory}
 
--- w is a fault of the stage by `IsFault`, and stands after none
+-- w is a fault of the stage by `IsFault`, and comes after no other
 pub record IsFirstOfTable (s : Stage) (IsFault : Code → ℕ → ℕ → ℕ → Type 0) (w : Witness) : Type 0 where
   pub own : stage_of w.code ≡ s
   pub fault : IsFault w.code w.at w.other w.point
   pub least : (v : Witness) → IsFault v.code v.at v.other v.point → NotAfter w v
 
--- What the result of a stage on its tables means: they are sound to it, or this is the first of its faults there. Stages 1
--- to 6 never run out of memory.
+-- What the result of a stage on its tables means: they are valid for it, or this is their first fault of the stage.
+-- Stages 1 to 6 never run out of memory.
 abbrev pub Finds : Stage → Type 0 → (Witness → Type 0) → Result ⊤ Refusal → Type 0
 Finds s Sound IsFirst (Ok _) = Sound
 Finds s Sound IsFirst (Err (Fault w)) = IsFirst w
 Finds s Sound IsFirst (Err OutOfMemory) = 6 < stage_number s
 
--- the same, where the first fault is the one that stands after none
+-- the same if the first fault is the one that comes after no other
 abbrev pub FindsFirst : Stage → Type 0 → (Code → ℕ → ℕ → ℕ → Type 0) → Result ⊤ Refusal → Type 0
 FindsFirst s Sound IsFault = Finds s Sound (IsFirstOfTable s IsFault)
 

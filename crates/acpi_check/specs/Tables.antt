@@ -1,4 +1,4 @@
--- The tables that a stage is handed.
+-- The tables that are passed to a stage.
 use Rattle.std.specs.Prelude.{ℕ}
 use Rattle.acpi_base.specs.Memory.{Memory}
 use Rattle.acpi_base.specs.Root.{IsRoot, IsSoundRootTable}
@@ -9,7 +9,7 @@ use Rattle.acpi_read.specs.FirstTables.{first_table}
 use Rattle.acpi_read.specs.Roots.{RootValue}
 use Rattle.acpi_read.specs.declared.first_tables.FirstTables.{FirstTables}
 
--- the set's root
+-- the set's root table
 pub record IsRootOf (m : Memory) (p : ℕ) (root : RootValue) : Type 0 where
   pub named : IsRoot m p root.address root.width
   pub sound : IsSoundRootTable m root.address root.width root.bytes

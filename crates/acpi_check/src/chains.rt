@@ -17,7 +17,7 @@ use acpi_graph::{Stray, first_stray};
 use acpi_read::{Pptt, PpttEntry};
 use std::alloc::{AllocError, Global};
 
-/// The offset that an entry names, where it is a node of such chains.
+/// The offset that an entry refers to, if the entry is a node of such chains.
 fn named_offset(chain: Chain, entry: &PpttEntry<'_>) -> Option<u32>
     ensures { result ≡ named_offset chain (pptt_value entry.now) }
 {
@@ -45,7 +45,7 @@ fn nodes_of(alloc: Global, chain: Chain, pptt: &Pptt<'_>) -> Result<Nodes, Alloc
     Ok(Nodes { offsets, named })
 }
 
-/// The index of what a node names among offsets that rise; none where it names none of them, as 0 does.
+/// The index, among offsets that rise, of the one that a node refers to; none if it is not among them, as 0 is not.
 fn index_of(offsets: &[u64], named: u32) -> Option<usize>
     requires { AllPairs (λ o p. o < p) offsets.now }
     ensures { IsIndexOf offsets.now named result }
@@ -56,7 +56,7 @@ fn index_of(offsets: &[u64], named: u32) -> Option<usize>
     binary_search(offsets, u64::from(named))
 }
 
-/// For each node the index of what it names, where that is a node.
+/// For each node the index of the node that it refers to, if it is one.
 fn parents_of(alloc: Global, nodes: &Nodes) -> Result<Vec<Option<usize>>, AllocError>
     requires { AllPairs (λ o p. o < p) nodes.now.offsets.items }
     ensures { IfOk result (λ parents. AreIndices nodes.now parents.items) }
@@ -78,13 +78,13 @@ fn code_of(chain: Chain) -> Code
     }
 }
 
-/// The fault of the first node of a PPTT whose chain goes round, or none where no chain does: nodes and their Parents (ACPI
-/// 6.5, 5.2.30.1), or caches and their Next Levels (5.2.30.2). Any PPTT may be asked, whatever its entries. A chain ends
-/// where a node names 0, and where it names an offset at which none of its kind stands.
+/// The fault of the first node of a PPTT whose chain has a cycle, or none if no chain has one: nodes and their
+/// Parents (ACPI 6.5, 5.2.30.1), or caches and their Next Levels (5.2.30.2). The PPTT may have any entries. A chain
+/// ends if a node refers to 0, or to an offset at which no node of its kind begins.
 ///
-/// The fault has the code `ParentCycle`, or `CacheCycle` of caches: `at` is the node's offset, in bytes from the table's start;
-/// `other` is the least number of steps from it into its cycle, and `point` the least number of steps once round, at least 1.
-/// Refuses `AllocError` out of memory: it takes some for each node of the kind.
+/// The fault has the code `ParentCycle`, or `CacheCycle` for caches: `at` is the node's offset, in bytes from the
+/// table's start; `other` is the lowest number of steps from it into its cycle, and `point` the lowest number of
+/// steps around it, at least 1. Refuses with `AllocError` if out of memory: it allocates for each node of the kind.
 pub fn first_cycle(
     alloc: Global,
     chain: Chain,
@@ -106,8 +106,8 @@ pub fn first_cycle(
     }
 }
 
-/// Whether the chain of Parents from every node of a PPTT ends. The first fault is at the offset of the first node whose chain
-/// does not. Takes memory for each node.
+/// Whether the chain of Parents from every node of a PPTT ends. The first fault is at the offset of the first node
+/// whose chain does not. Allocates for each node.
 pub fn parents_end(alloc: Global, pptt: &Pptt<'_>) -> Result<(), Refusal>
     requires { AreReferencesSound (pptt_contents pptt.now) }
     ensures { FindsFirst Stage.Parents (DoParentsEnd (pptt_contents pptt.now))
@@ -116,8 +116,8 @@ pub fn parents_end(alloc: Global, pptt: &Pptt<'_>) -> Result<(), Refusal>
     refuse(first_cycle(alloc, Chain::Parents, pptt)?)
 }
 
-/// Whether the chain of Next Levels from every cache of a PPTT ends. The first fault is at the offset of the first cache whose
-/// chain does not. Takes memory for each cache.
+/// Whether the chain of Next Levels from every cache of a PPTT ends. The first fault is at the offset of the first
+/// cache whose chain does not. Allocates for each cache.
 pub fn caches_end(alloc: Global, pptt: &Pptt<'_>) -> Result<(), Refusal>
     requires { AreReferencesSound (pptt_contents pptt.now) }
     ensures { FindsFirst Stage.Caches (DoCachesEnd (pptt_contents pptt.now))

@@ -9,11 +9,11 @@ ghost use Rattle.acpi_check.specs.CollectedValues.{Collects, Picks};
 use acpi_read::{EntryAt, TableEntry, TypedEntries};
 use std::alloc::{AllocError, Global};
 
-/// What `pick` gives of each of a table's entries that are still to come, in their order, without those of which it gives
-/// nothing. It is called once for each entry, which says where it stands, in bytes from the table's start. The entries are
-/// those of a MADT (ACPI 6.5, 5.2.12), an SRAT (5.2.16) or a PPTT (5.2.30).
+/// The values that `pick` returns for a table's remaining entries, in their order; an entry for which it returns none
+/// is skipped. It is called once for each entry, with the entry's offset in bytes from the table's start. The entries
+/// are those of a MADT (ACPI 6.5, 5.2.12), an SRAT (5.2.16) or a PPTT (5.2.30).
 ///
-/// Refuses `AllocError` out of memory: it takes some for each value that is given.
+/// Refuses with `AllocError` if out of memory: it allocates for each value.
 pub fn collected<'a, E: TableEntry<'a> + Copy, T: Drop, F: Fn(&EntryAt<E>) -> Option<T>>(
     alloc: Global,
     entries: TypedEntries<'a, E>,

@@ -1,4 +1,4 @@
-//! Stage 16: the proximity domains in which the SRAT puts the processors of the MADT.
+//! Stage 16: the proximity domains into which the SRAT puts the processors of the MADT.
 
 ghost use Rattle.std.specs.Prelude.{◌≡◌, ◌<◌, ◌≤◌, AllPairs, IfOk, IfSome, MatchBool, length};
 ghost use Rattle.acpi_base.specs.Across.{HaveOneDomain, DomainFault};
@@ -29,7 +29,7 @@ pub struct Placement {
     pub domain: u32,
 }
 
-/// The processor that an enabled entry of an SRAT puts in a domain. None for another entry.
+/// The processor that an enabled entry of an SRAT puts into a domain. None for another entry.
 fn placement_of(entry: &SratEntry<'_>) -> Option<Placement>
     ensures { result ≡ placement_of (srat_value entry.now) }
 {
@@ -46,8 +46,8 @@ fn placement_of(entry: &SratEntry<'_>) -> Option<Placement>
     }
 }
 
-/// The domain in which an entry puts a processor, given the place of its number among these, which rise. None where it puts
-/// none of them in one.
+/// The domain into which an entry puts a processor, with the index of the processor's number among these, which rise.
+/// None if it puts none of them into one.
 fn domain_given(numbers: &[u64], entry: &SratEntry<'_>) -> Option<Given>
     requires { AllPairs (λ i j. i < j) numbers.now }
     ensures given { IsGiven (PutsPlaced numbers.now) (srat_value entry.now) result }
@@ -60,8 +60,8 @@ fn domain_given(numbers: &[u64], entry: &SratEntry<'_>) -> Option<Given>
     })
 }
 
-/// The first entry of an SRAT that puts a processor with one of the numbers, which rise, in another domain than an earlier
-/// entry.
+/// The first entry of an SRAT that puts a processor with one of the numbers, which rise, into another domain than an
+/// earlier entry does.
 fn first_other_domain(
     alloc: Global,
     numbers: &[u64],
@@ -83,15 +83,15 @@ fn first_other_domain(
     Ok(None)
 }
 
-/// What the enabled entries of an SRAT place, in the entries' order.
+/// The placements by the enabled entries of an SRAT, in the entries' order.
 fn placements_of(alloc: Global, srat: &Srat<'_>) -> Result<Vec<Placement>, AllocError>
     ensures { IfOk result (λ placements. ArePlacements (srat_contents srat.now) placements.items) }
 {
     collected(alloc, srat.entries(), |at| placement_of(&at.entry))
 }
 
-/// Whether placements put no processor in two domains. Those of one processor stand side by side, so neighbours are
-/// compared.
+/// Whether placements put no processor into two domains. Those of one processor are next to each other, so neighbours
+/// are compared.
 fn do_agree(placements: &[Placement]) -> bool
     requires { AllPairs (λ a b. a.processor ≤ b.processor) placements.now }
     ensures { MatchBool result (DoAgree placements.now) (¬ DoAgree placements.now) }
@@ -106,16 +106,16 @@ fn do_agree(placements: &[Placement]) -> bool
     true
 }
 
-/// Whether an SRAT puts no processor of a MADT that counts as enabled in two proximity domains (ACPI 6.5, 5.2.16.1 and
-/// 5.2.16.3; 5.2.12.2 and 5.2.12.12). APIC IDs and x2APIC IDs are one number space. Any two tables may be asked, whatever their
+/// Whether an SRAT puts no processor of a MADT that counts as enabled into two proximity domains (ACPI 6.5, 5.2.16.1
+/// and 5.2.16.3; 5.2.12.2 and 5.2.12.12). APIC IDs and x2APIC IDs are one number space. Both tables may have any
 /// entries.
 ///
-/// Refuses `Fault` with the code `TwoDomains`: `at` is the offset, in bytes from the SRAT's start, of its first entry that puts
-/// such a processor in another domain than its first entry that is of it, whose offset is `other`; `point` is the processor's
-/// APIC ID or x2APIC ID, of 32 bits.
+/// Refuses with `Fault` and the code `TwoDomains`: `at` is the offset, in bytes from the SRAT's start, of its first
+/// entry that puts such a processor into another domain than the first entry for this processor, whose offset is
+/// `other`; `point` is the processor's APIC ID or x2APIC ID, of 32 bits.
 ///
-/// Refuses `OutOfMemory`: it takes memory for each enabled entry of the SRAT that puts a processor in a domain; and where some
-/// processor is put in two, also for each processor that counts as enabled.
+/// Refuses with `OutOfMemory`: it allocates for each enabled entry of the SRAT that puts a processor into a domain;
+/// and if some processor is put into two, also for each processor that counts as enabled.
 pub fn one_domain(
     alloc: Global,
     processors: Processors,

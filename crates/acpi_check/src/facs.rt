@@ -10,8 +10,8 @@ ghost use Rattle.acpi_check.specs.StageResults.{Reads};
 use acpi_base::{Image, Witness};
 use acpi_read::{Facs, Fadt};
 
-/// The FACS that the FADT names, which is sound, or none where none is needed; its faults are at its address, and at 0
-/// where none is named.
+/// The FACS that the FADT names, which is valid, or none if none is needed; its faults are at its address, and at 0
+/// if none is named.
 pub fn sound_facs<'a>(image: &'a Image, fadt: &Fadt<'_>) -> Result<Option<Facs<'a>>, Witness>
     ensures { (q : PolicyValue) → CleanBefore Stage.Facs image.now q
         → IsFadt image.now q.rsdp fadt.now

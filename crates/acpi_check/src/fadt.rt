@@ -11,7 +11,7 @@ ghost use Rattle.acpi_check.specs.Tables.{AreFirstTables};
 use acpi_base::{Code, TableKind, Witness};
 use acpi_read::{Fadt, FirstTables};
 
-/// The FADT, which is sound; its faults are at an offset from the FADT's start, and at 0 where there is none or it is
+/// The FADT, which is valid; its faults are at an offset from the FADT's start, and at 0 if there is none or it is
 /// too short.
 pub fn sound_fadt<'a>(tables: &FirstTables<'a>) -> Result<Fadt<'a>, Witness>
     ensures { (m : Memory) (q : PolicyValue) → CleanBefore Stage.Fadt m q

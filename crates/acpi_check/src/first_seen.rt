@@ -15,7 +15,7 @@ pub struct Given {
 /// The first value of a key.
 #[derive(Clone, Copy)]
 pub struct FirstSeen {
-    /// Where the entry that gives it stands, from the table's start.
+    /// The offset of the entry that gives it, from the table's start.
     pub offset: u64,
     /// The value.
     pub value: u32,
@@ -24,16 +24,16 @@ pub struct FirstSeen {
 /// An entry that gives a key another value than the first one.
 #[derive(Clone, Copy)]
 pub struct OtherValue {
-    /// Where the entry stands, from the table's start.
+    /// The entry's offset, from the table's start.
     pub at: u64,
-    /// Where the entry that gives the first value stands.
+    /// The offset of the entry that gives the first value.
     pub other: u64,
     /// The key.
     pub key: usize,
 }
 
-/// Looks at what an entry at an offset gives, where `firsts` has of each key the first value before it: counts it in, or
-/// returns the entry where the value is another.
+/// Records the value of the entry at an offset in `firsts`, which has for each key the first value before it; returns
+/// the conflict if the first value differs.
 pub fn pass_given(
     firsts: &mut [Option<FirstSeen>],
     offset: u64,

@@ -16,8 +16,8 @@ use acpi_graph::{Clash, Span, first_clash, first_meeting};
 use acpi_read::{EntryAt, Madt, MadtEntry};
 use std::alloc::{AllocError, Global};
 
-/// The interrupt numbers that an I/O APIC serves, named by the entry's offset, where the point is one of them. None for another
-/// entry.
+/// The interrupt numbers that an I/O APIC serves, as a span with the entry's offset as its id, if the point is one of
+/// them. None for another entry.
 fn served_span(policy: &Policy, point: u32, at: &EntryAt<MadtEntry<'_>>) -> Option<Span>
     requires { at.now.offset < 2 ^ 32 }
     ensures span { option_map span_value result ≡ served_span policy.now point at.now.offset
@@ -36,7 +36,7 @@ fn served_span(policy: &Policy, point: u32, at: &EntryAt<MadtEntry<'_>>) -> Opti
     Span::new(start, end, at.offset as u32)
 }
 
-/// The interrupt numbers that each I/O APIC of a MADT serves of which the point is one, in the entries' order.
+/// The interrupt numbers of each I/O APIC of a MADT that serves the point, in the entries' order.
 fn served_spans(
     alloc: Global,
     policy: &Policy,
@@ -50,14 +50,14 @@ fn served_spans(
     collected(alloc, madt.entries(), |at| served_span(policy, point, at))
 }
 
-/// The least interrupt number that two I/O APICs of a MADT serve, and the first two that do. Compact spans, which have no names,
-/// say which number it is; then the I/O APICs that serve it are looked for.
+/// The lowest interrupt number that two I/O APICs of a MADT serve, and the first two that do. Compact spans, which
+/// have no ids, say which number it is; then the I/O APICs that serve it are searched for.
 fn first_gsi_clash(alloc: Global, policy: &Policy, madt: &Madt<'_>) -> Result<Clash, AllocError>
     ensures found { IfOk result (IsOverlapResult (Serves policy.now (madt_contents madt.now))) }
     ensures low { IfOk result HasLowPoint }
 {
-    // Opens the invariant of `Policy` to the proof, and does nothing when it runs: a policy gives each I/O APIC an input
-    // at least, so each serves the number at which it begins.
+    // Makes the invariant of `Policy` available to the proof, and does nothing at run time: a policy gives each I/O
+    // APIC at least one input, so each serves the number at which it begins.
     let _ = policy.rsdp();
     let ranges = served_ranges(alloc, policy, madt)?;
     let (meeting, _) = first_meeting(ranges);
@@ -69,13 +69,14 @@ fn first_gsi_clash(alloc: Global, policy: &Policy, madt: &Madt<'_>) -> Result<Cl
     Ok(clash)
 }
 
-/// Whether no interrupt number is served by two I/O APICs of a MADT (ACPI 6.5, 5.2.12.3). One serves the numbers from its
-/// Global System Interrupt Base on, as many as the policy gives it inputs. Any MADT may be asked, whatever its entries.
+/// Whether no interrupt number is served by two I/O APICs of a MADT (ACPI 6.5, 5.2.12.3). An I/O APIC serves the
+/// numbers from its Global System Interrupt Base on, as many as it has inputs by the policy. The MADT may have any
+/// entries.
 ///
-/// Refuses `Fault` with the code `GsiClash` where two serve one number: `point` is the least such number, which is below 2^32;
-/// `at` and `other` are the offsets, in bytes from the table's start, of the first two that serve it, by their first number and
-/// then by their offset. Refuses `OutOfMemory`: it takes memory for a compact span of 8 bytes for each I/O APIC; and where two
-/// serve one number, for a span for each that serves the least such number.
+/// Refuses with `Fault` and the code `GsiClash` if two serve one number: `point` is the lowest such number, which is
+/// below 2^32; `at` and `other` are the offsets, in bytes from the table's start, of the first two that serve it, by
+/// their first number and then by offset. Refuses with `OutOfMemory`: it allocates a compact span of 8 bytes for each
+/// I/O APIC; and if two serve one number, a span for each that serves the lowest such number.
 pub fn apart_interrupts(alloc: Global, policy: &Policy, madt: &Madt<'_>) -> Result<(), Refusal>
     ensures { Finds Stage.Interrupts (AreInterruptsApart policy.now (madt_contents madt.now))
         (IsOverlap Code.GsiClash (IsFirstGsiClash policy.now (madt_contents madt.now))) result }

@@ -22,7 +22,8 @@ use acpi_base::{Code, Witness};
 use acpi_read::{EntryAt, Madt, MadtEntry, Pptt, PpttEntry};
 use std::alloc::{AllocError, Global};
 
-/// Whether an entry of a MADT is of one of the eight types that are read here: another one may be of a processor.
+/// Whether an entry of a MADT is of one of the eight types that are read here: one of another type may describe a
+/// processor.
 fn is_typed(entry: &MadtEntry<'_>) -> bool
     ensures { result ≡ is_typed (madt_value entry.now) }
 {
@@ -32,7 +33,7 @@ fn is_typed(entry: &MadtEntry<'_>) -> bool
     }
 }
 
-/// Whether each entry of a MADT that its entries fill is of such a type, so that all its processors are known.
+/// Whether each entry of a MADT, which its entries fill, is of such a type, so that all its processors are known.
 fn is_wholly_typed(madt: &Madt<'_>) -> bool
     requires { (madt_contents madt.now).cut ≡ None }
     ensures { MatchBool result (IsWhollyTyped (madt_contents madt.now))
@@ -47,8 +48,8 @@ fn is_wholly_typed(madt: &Madt<'_>) -> bool
     true
 }
 
-/// The ID of a leaf: of a node whose flags say that the ID is valid, in bit 1, and that it is a leaf, in bit 3. None for
-/// another entry, and for a leaf whose ID is not valid.
+/// The ID of a leaf, which is a node whose flags say that its ID is valid, in bit 1, and that it is a leaf, in bit 3.
+/// None for another entry, and for a leaf whose ID is not valid.
 #[tactic(auto, unfolding(acpi_base::specs::Number::has_bit))]
 fn leaf_id(entry: &PpttEntry<'_>) -> Option<u32>
     ensures { result ≡ leaf_id (pptt_value entry.now) }
@@ -72,7 +73,7 @@ fn leaf_ids(alloc: Global, pptt: &Pptt<'_>) -> Result<Vec<u64>, AllocError>
     )
 }
 
-/// The fault of a leaf whose ID is not among the UIDs, which rise. None for an entry that is no leaf.
+/// The fault of a leaf whose ID is not among the UIDs, which rise. None for an entry that is not a leaf.
 fn own_fault(uids: &[u64], at: &EntryAt<PpttEntry<'_>>) -> Option<Witness>
     requires { AllPairs (λ i j. i < j) uids.now }
     ensures { MatchOption result (IsKnown (Contains uids.now) (leaf_id (pptt_value at.now.entry)))
@@ -106,20 +107,21 @@ fn first_unknown(uids: &[u64], pptt: &Pptt<'_>) -> Option<Witness>
     None
 }
 
-/// The Revision of the PPTT that first has the flag of a leaf.
+/// The lowest Revision of the PPTT that has the flag of a leaf.
 const HAS_LEAVES: u8 = 2;
 
-/// Whether the ID of each leaf of a PPTT is the UID of a processor of a MADT, enabled or not (ACPI 6.5, 5.2.30.1; 5.2.12.2
-/// and 5.2.12.12), or the PPTT's Revision is below 2, or the MADT has an entry of a type that is not read here. A leaf is a
-/// node whose flags say that it is one and that its ID is valid. Any PPTT may be asked; of the MADT it is asked that its
-/// entries fill it, which `Entries::cut` says by none: bytes left behind them may be of further processors.
+/// Whether the ID of each leaf of a PPTT is the UID of a processor of a MADT, enabled or not (ACPI 6.5, 5.2.30.1;
+/// 5.2.12.2 and 5.2.12.12), or the PPTT's Revision is below 2, or the MADT has an entry of a type that is not read
+/// here. A leaf is a node whose flags say that it is one and that its ID is valid. The PPTT may have any entries. The
+/// MADT must be filled by its entries, that is, `Entries::cut` returns none: bytes left after them may describe
+/// further processors.
 ///
-/// Refuses `Fault` with the code `LeafUnknown`: `at` is the offset, in bytes from the PPTT's start, of the first leaf whose ID
-/// is no UID; `other` is 0, and `point` is the ID, of 32 bits.
+/// Refuses with `Fault` and the code `LeafUnknown`: `at` is the offset, in bytes from the PPTT's start, of the first
+/// leaf whose ID is no UID; `other` is 0, and `point` is the ID, of 32 bits.
 ///
-/// Refuses `OutOfMemory`. What exempts tables is asked first, in this order, and takes no memory. Behind it memory is taken for
-/// the UID of each processor and the ID of each leaf, which are sorted and gone over together; only where not all IDs are seen
-/// among the UIDs are the leaves looked up one by one.
+/// Refuses with `OutOfMemory`. What exempts tables is tested first, in this order, and allocates nothing. After that
+/// it allocates for the UID of each processor and the ID of each leaf, which are sorted and compared in one pass;
+/// only if not all IDs are found among the UIDs are the leaves looked up one by one.
 pub fn known_leaves(alloc: Global, madt: &Madt<'_>, pptt: &Pptt<'_>) -> Result<(), Refusal>
     requires { (madt_contents madt.now).cut ≡ None }
     ensures { FindsFirst Stage.Leaves

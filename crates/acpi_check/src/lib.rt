@@ -1,16 +1,18 @@
-//! The check: whether the tables of an image are sound, and else the first fault.
+//! The check: whether the tables of an image are valid, and if not, the first fault.
 //!
-//! Each stage is one function, which is called only where the earlier stages hold, and reports the first fault of its
-//! own. The first five hand on what they have read: the RSDP, the root, the listed tables, the FADT, the FACS. The
-//! others look at that, and hand on nothing. `check` asks all eighteen in their order, `check_to` those up to one.
-//! `read_set` and `check_set` hand on the set of which stages 1 to 3, or all eighteen, hold. Stages 7, 10 and 13 to 18
-//! take memory; the others take none.
+//! Each stage is one function, which is called only if the earlier stages hold, and reports its own first fault. The
+//! first five pass on what they have read: the RSDP, the root table, the listed tables, the FADT, the FACS. The
+//! others look at that, and pass on nothing. `check` runs all eighteen in their order, `check_to` those up to one.
+//! `read_set` and `check_set` return the set for which stages 1 to 3, or all eighteen, hold. Stages 7, 10 and 13 to
+//! 18 allocate; the others do not.
 //!
 //! The finders of stages that have one code are public: `apart_interrupts`, `agreeing_overrides`, `apart_ranges`,
-//! `first_cycle`, `one_domain`, `named_served` and `known_leaves` ask nothing of earlier stages, and may be called on any
-//! table. So are `collected`, which they gather values with, and the searches that they look them up by.
+//! `first_cycle`, `one_domain`, `named_served` and `known_leaves` require nothing of earlier stages, and may be
+//! called on any table. So are `collected`, with which they gather values, and the searches with which they look them
+//! up.
 //!
-//! An example, of `crates/acpi_cli/src/check.rt`, where the set at an address is checked under a policy up to a stage:
+//! An example, from `crates/acpi_cli/src/check.rt`, where the set at an address is checked under a policy up to a
+//! stage:
 //!
 //! ```rust
 //! policy.set_rsdp(address);

@@ -1,5 +1,5 @@
-//! The stages on the tables that a set lists. Each has nothing to say of a set that does not list its table, or one of its
-//! two; else what is found of the tables is its verdict on the set.
+//! The stages on the tables that a set lists. Each says nothing about a set that does not list its table, or one of
+//! its two; otherwise what is found in the tables is its verdict on the set.
 
 ghost use Rattle.std.specs.Prelude.{Ok, MatchOption};
 ghost use Rattle.acpi_check.specs.MadtKinds.{AreMadtKinds};
@@ -20,8 +20,8 @@ use crate::srat::sound_srat;
 use acpi_base::{Stage, TableKind};
 use std::alloc::Global;
 
-/// Asks one stage from the MADT's on, where the kinds are those of the set's MADT. A stage holds where the set does not list what
-/// it looks at.
+/// Runs one stage from the MADT's on; the kinds are those of the set's MADT. A stage holds if the set does not list
+/// what it looks at.
 pub fn run_stage(
     alloc: Global,
     set: &Set<'_, '_>,
@@ -35,8 +35,8 @@ pub fn run_stage(
     found(alloc, set, kinds, stage).unwrap_or(Ok(()))
 }
 
-/// What a stage finds of the tables that it looks at, or none where the set does not list them. Those that take memory are
-/// handed `alloc`; the others take none.
+/// What a stage finds in the tables that it looks at, or none if the set does not list them. Those that allocate are
+/// passed `alloc`; the others allocate nothing.
 fn found(
     alloc: Global,
     set: &Set<'_, '_>,
@@ -63,7 +63,7 @@ fn found(
         Stage::Domains => one_domain(alloc, policy.processors(), &set.madt()?, &set.srat()?),
         Stage::Served => kinds.named_served(alloc, policy, &set.madt()?),
         Stage::Leaves => known_leaves(alloc, &set.madt()?, &set.pptt()?),
-        // These hold of every set.
+        // These hold for every set.
         Stage::Rsdp | Stage::Root | Stage::Tables | Stage::Fadt | Stage::Facs => Ok(()),
     })
 }

@@ -21,7 +21,7 @@ fn is_reserved_inti(flags: u16) -> bool
     flags & 0b11 == 0b10 || flags >> 2 & 0b11 == 0b10
 }
 
-/// What is wrong with flags of an interrupt.
+/// What is wrong with the flags of an interrupt.
 fn inti_fault(flags: u16) -> Option<Code>
     ensures { MatchOption result (¬ IsReservedInti flags)
         (λ code. (code ≡ Code.ReservedInti) × IsReservedInti flags) }
@@ -51,8 +51,8 @@ fn own_fault(policy: &Policy, entry: &MadtEntry<'_>) -> Option<Code>
     }
 }
 
-/// Looks at an entry, where `earlier` is the offset of the first address override before it: returns that offset
-/// with this entry counted, or the entry's least fault.
+/// Looks at an entry. `earlier` is the offset of the first address override before it; returns that offset with this
+/// entry counted, or the entry's lowest fault.
 fn pass_entry(
     policy: &Policy,
     entry: &Entry<'_>,
@@ -78,8 +78,8 @@ fn pass_entry(
     }
 }
 
-/// Whether a MADT's entries are sound. The first fault is at an entry's offset, at that of the bytes behind the entries, or
-/// at 0 for a MADT that is too short.
+/// Whether a MADT's entries are valid. The first fault is at an entry's offset, at that of the bytes after the
+/// entries, or at 0 for a MADT that is too short.
 #[tactic(auto, using(crate::proofs::EntryPasses::MadtPass::passing))]
 pub fn sound_madt(policy: &Policy, table: Table<'_>) -> Result<(), Refusal>
     ensures { FindsFirst Stage.Madt (IsSoundMadt policy.now (madt_contents table.entry))

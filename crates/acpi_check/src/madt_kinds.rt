@@ -1,4 +1,4 @@
-//! Which kinds of entries a MADT has at all: a stage that looks for others need not go over it.
+//! Which kinds of entries a MADT has: a stage that looks for other kinds can skip it.
 
 ghost use Rattle.std.specs.Prelude.{◌≡◌, IfSome};
 ghost use Rattle.acpi_base.specs.Across.{AreNamedServed, ServedFault};
@@ -26,13 +26,13 @@ pub struct MadtKinds {
     pub overrides: bool,
 }
 
-/// All kinds: what is known of a MADT that was not looked at.
+/// All kinds: what must be assumed of a MADT that was not looked at.
 pub const ANY: MadtKinds = MadtKinds {
     io_apics: true,
     overrides: true,
 };
 
-/// With an entry's kind.
+/// Adds an entry's kind.
 fn kinds_with(kinds: MadtKinds, entry: &MadtEntry<'_>) -> MadtKinds
     ensures { result ≡ kinds_with kinds (madt_value entry.now) }
 {
@@ -49,7 +49,7 @@ fn kinds_with(kinds: MadtKinds, entry: &MadtEntry<'_>) -> MadtKinds
     }
 }
 
-/// The kinds of a MADT's entries. The entries are gone over until both were seen.
+/// The kinds of a MADT's entries. The pass ends once both were seen.
 fn kinds_of(madt: &Madt<'_>) -> MadtKinds
     ensures { HasKinds result (madt_contents madt.now).entries }
 {
@@ -67,7 +67,7 @@ fn kinds_of(madt: &Madt<'_>) -> MadtKinds
     kinds
 }
 
-/// The same of a table that may be a MADT of fewer than 44 bytes: that one may have any.
+/// The same for a table that may be a MADT of fewer than 44 bytes: that one may have any.
 pub fn madt_kinds(table: Option<Table<'_>>) -> MadtKinds
     ensures { IfSome table.entry (λ whole. HasKinds result (madt_contents whole).entries) }
 {
@@ -80,7 +80,7 @@ pub fn madt_kinds(table: Option<Table<'_>>) -> MadtKinds
 }
 
 impl MadtKinds {
-    /// What `apart_interrupts` finds of a MADT of these kinds. Without I/O APICs it is not asked.
+    /// What `apart_interrupts` finds in a MADT of these kinds. Without I/O APICs it is not called.
     pub fn apart_interrupts(
         &self,
         alloc: Global,
@@ -97,7 +97,7 @@ impl MadtKinds {
         apart_interrupts(alloc, policy, madt)
     }
 
-    /// What `agreeing_overrides` finds of it. Without overrides it is not asked.
+    /// What `agreeing_overrides` finds in it. Without overrides it is not called.
     pub fn agreeing_overrides(&self, madt: &Madt<'_>) -> Result<(), Refusal>
         requires { HasKinds self.now (madt_contents madt.now).entries }
         ensures { FindsFirst Stage.Overrides (DoOverridesAgree (madt_contents madt.now))
@@ -109,7 +109,7 @@ impl MadtKinds {
         agreeing_overrides(madt)
     }
 
-    /// What `named_served` finds of it. Without I/O APICs it is not asked.
+    /// What `named_served` finds in it. Without I/O APICs it is not called.
     pub fn named_served(
         &self,
         alloc: Global,

@@ -5,17 +5,18 @@ ghost use Rattle.acpi_check.specs.OffsetSets.{IsIn, Adds};
 
 use std::alloc::{AllocError, Global};
 
-/// How many offsets a word stands for.
+/// How many offsets a word represents.
 const WORD: u64 = 64;
 
-/// Offsets of a table, as a bit for each byte of the table up to the last of them: one is looked up at once, wherever it lies.
+/// Offsets of a table, as a bit for each byte of the table up to the last of them. Looking one up takes constant
+/// time.
 #[derive(Drop)]
 pub struct OffsetSet {
-    /// The offset `o` has the bit `o % 64` of the word `o / 64`.
+    /// The offset `o` is the bit `o % 64` of the word `o / 64`.
     words: Vec<u64>,
 }
 
-/// Makes the words go on up to a place, if they end before it.
+/// Extends the words up to an index, if they end before it.
 fn make_room(words: &mut Vec<u64>, place: usize) -> Result<(), AllocError>
     requires { place < usize.MAX }
     ensures room { OnOk result (place < vec_len words.new) }
@@ -29,7 +30,7 @@ fn make_room(words: &mut Vec<u64>, place: usize) -> Result<(), AllocError>
 }
 
 impl OffsetSet {
-    /// No offset. Takes no memory.
+    /// The empty set. Allocates nothing.
     pub fn new(alloc: Global) -> OffsetSet
         ensures { (o : ℕ) → ¬ IsIn result o }
     {
@@ -38,7 +39,7 @@ impl OffsetSet {
         }
     }
 
-    /// Adds an offset. Takes memory for the bits up to it, where none behind it was added before.
+    /// Adds an offset. Allocates for the bits up to it, if none after it was added before.
     pub fn add(&mut self, offset: u64) -> Result<(), AllocError>
         ensures { OnOk result (Adds true offset self.old self.new) }
     {
@@ -48,7 +49,7 @@ impl OffsetSet {
         Ok(())
     }
 
-    /// Whether an offset of 32 bits, as entries of a PPTT name them (ACPI 6.5, 5.2.30), is in the set.
+    /// Whether an offset of 32 bits, the size of references in a PPTT (ACPI 6.5, 5.2.30), is in the set.
     pub fn has(&self, offset: u32) -> bool
         ensures { MatchBool result (IsIn self.now offset) (¬ IsIn self.now offset) }
     {

@@ -13,7 +13,7 @@ use crate::refusal::Refusal;
 use acpi_base::{Code, Witness};
 use acpi_read::{Madt, MadtEntry};
 
-/// How many Sources there are: an override names one by a byte.
+/// How many Sources there are: a Source is one byte.
 const SOURCES: usize = 256;
 
 /// The interrupt number that an override gives its Source. None for another entry.
@@ -30,12 +30,12 @@ fn number_given(entry: &MadtEntry<'_>) -> Option<Given>
     }
 }
 
-/// Whether a MADT's overrides give each Source one interrupt number (ACPI 6.5, 5.2.12.5), whatever their bus. Any MADT may be
-/// asked, whatever its entries. It takes no memory.
+/// Whether a MADT's overrides give each Source one interrupt number (ACPI 6.5, 5.2.12.5), whatever their bus. The
+/// MADT may have any entries. Allocates nothing.
 ///
-/// Refuses `Fault` with the code `OverrideClash` where one gives its Source another number than an earlier one: `at` is the
-/// offset, in bytes from the table's start, of the first that gives its Source another number than the first override of this
-/// Source, whose offset is `other`; `point` is the Source, from 0 to 255.
+/// Refuses with `Fault` and the code `OverrideClash` if one gives its Source another number than an earlier one: `at`
+/// is the offset, in bytes from the table's start, of the first that gives its Source another number than the first
+/// override of this Source, whose offset is `other`; `point` is the Source, from 0 to 255.
 pub fn agreeing_overrides(madt: &Madt<'_>) -> Result<(), Refusal>
     ensures settled { FindsFirst Stage.Overrides (DoOverridesAgree (madt_contents madt.now))
         (OverrideFault (madt_contents madt.now)) result }

@@ -1,4 +1,4 @@
-//! Where the entries of a PPTT stand.
+//! Where the entries of a PPTT are.
 
 use crate::offset_set::OffsetSet;
 
@@ -13,12 +13,12 @@ pub enum Kind {
     Other,
 }
 
-/// The offsets at which the entries of a PPTT stand, by what may be named there.
+/// The offsets of the entries of a PPTT, by what may refer to them.
 #[derive(Drop)]
 pub struct Places {
-    /// Those of nodes: what a Parent may name.
+    /// Those of nodes: what a Parent may refer to.
     pub nodes: OffsetSet,
-    /// Those of caches: what a Next Level may name.
+    /// Those of caches: what a Next Level may refer to.
     pub caches: OffsetSet,
     /// Those of all entries but nodes: what a private resource may be.
     pub resources: OffsetSet,

@@ -8,8 +8,8 @@ use crate::refusal::Refusal;
 use acpi_base::{Code, Witness};
 use acpi_read::{Entries, PpttEntry, Table};
 
-/// Whether the entries of a PPTT fill it, and those of types 0 and 1 have a length of their type. The first fault is at an
-/// entry's offset, or at that of the bytes behind the entries.
+/// Whether the entries of a PPTT fill it, and those of types 0 and 1 have a length of their type. The first fault is
+/// at an entry's offset, or at that of the bytes after the entries.
 #[tactic(auto, using(crate::proofs::EntryPasses::PpttPass::passing))]
 pub fn sound_pptt(table: Table<'_>) -> Result<(), Refusal>
     ensures { FindsFirst Stage.Pptt (IsCutPptt (pptt_contents table.entry))

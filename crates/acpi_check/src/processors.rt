@@ -34,7 +34,7 @@ fn counts_as_enabled(processors: Processors, flags: u32) -> bool
     }
 }
 
-/// The number of the processor of which an entry is. None for another entry.
+/// The number of the processor that an entry describes. None for another entry.
 fn number_of(key: Key, entry: &MadtEntry<'_>) -> Option<u32>
     ensures { result ≡ number_of key (madt_value entry.now) }
 {

@@ -27,8 +27,8 @@ fn is_hot_pluggable(flags: u32) -> bool
     flags >> 1 & 1 == 1
 }
 
-/// The addresses that an enabled range of the kind covers, named by the entry's offset. None for another entry, and
-/// for a range of no bytes.
+/// The addresses that an enabled range of the kind covers, as a span with the entry's offset as its id. None for
+/// another entry, and for a range of no bytes.
 fn covered_span(kind: RangeKind, at: &EntryAt<SratEntry<'_>>) -> Option<Span>
     requires { at.now.offset < 2 ^ 32 }
     ensures span { option_map span_value result ≡ covered_span (counts kind) at.now.offset
@@ -60,7 +60,7 @@ fn covered_spans(alloc: Global, kind: RangeKind, srat: &Srat<'_>) -> Result<Vec<
     collected(alloc, srat.entries(), |at| covered_span(kind, at))
 }
 
-/// The least address that two enabled ranges of the kind cover, and the first two that do.
+/// The lowest address that two enabled ranges of the kind cover, and the first two that do.
 #[tactic(auto, using(crate::proofs::Spans::Clashes::is_found, crate::proofs::Spans::Clashes::low_point))]
 fn first_of_kind(alloc: Global, kind: RangeKind, srat: &Srat<'_>) -> Result<Clash, AllocError>
     ensures found { IfOk result
@@ -72,7 +72,7 @@ fn first_of_kind(alloc: Global, kind: RangeKind, srat: &Srat<'_>) -> Result<Clas
     Ok(clash)
 }
 
-/// The overlap with the lesser point; at one point the one of ranges that are not hot-pluggable.
+/// The overlap with the lower point; if both have one point, the one of ranges that are not hot-pluggable.
 fn earlier(other: Clash, hot: Clash) -> Clash
     ensures { result ≡ earlier_clash other hot }
 {
@@ -89,8 +89,8 @@ fn earlier(other: Clash, hot: Clash) -> Clash
     }
 }
 
-/// The overlap of an SRAT's enabled ranges that is reported, if there is one. Either any two are compared, or only two
-/// that both are hot-pluggable or both are not.
+/// The overlap of an SRAT's enabled ranges that is reported, if there is one. Either any two are compared, or only
+/// two that are both hot-pluggable or both not.
 #[tactic(auto, using(crate::proofs::Spans::CoveredSpans::counted, crate::proofs::Spans::CoveredSpans::apart))]
 fn first_overlap(alloc: Global, hotplug: HotPlug, srat: &Srat<'_>) -> Result<Clash, AllocError>
     ensures found { IfOk result (IsRangesResult hotplug (srat_contents srat.now)) }
@@ -106,14 +106,15 @@ fn first_overlap(alloc: Global, hotplug: HotPlug, srat: &Srat<'_>) -> Result<Cla
     }
 }
 
-/// Whether no address is covered by two enabled ranges of an SRAT that are compared (ACPI 6.5, 5.2.16.2): any two where
-/// hot-pluggable ranges are counted, else two that both are hot-pluggable or both are not. A range of no bytes covers none.
-/// Any SRAT may be asked, whatever its entries, also one whose ranges go on past 2^64.
+/// Whether no address is covered by two enabled ranges of an SRAT that are compared (ACPI 6.5, 5.2.16.2): any two if
+/// hot-pluggable ranges are counted, otherwise two that are both hot-pluggable or both not. A range of no bytes
+/// covers none. The SRAT may have any entries, even ranges that pass 2^64.
 ///
-/// Refuses `Fault` with the code `Overlap` where two cover one address: `point` is the least such address, of 64 bits; `at`
-/// and `other` are the offsets, in bytes from the table's start, of the first two that cover it, by their base and then by
-/// their offset. Where they are compared by kind, both are of one kind; at one least address those are named that are not
-/// hot-pluggable. Refuses `OutOfMemory`: it takes memory for a span for each range that is compared.
+/// Refuses with `Fault` and the code `Overlap` if two cover one address: `point` is the lowest such address, of 64
+/// bits; `at` and `other` are the offsets, in bytes from the table's start, of the first two that cover it, by base
+/// and then by offset. If they are compared by kind, both are of one kind; if both kinds have the same lowest
+/// address, those that are not hot-pluggable are named. Refuses with `OutOfMemory`: it allocates a span for each
+/// range that is compared.
 pub fn apart_ranges(alloc: Global, hotplug: HotPlug, srat: &Srat<'_>) -> Result<(), Refusal>
     ensures { Finds Stage.Ranges (AreRangesApart hotplug (srat_contents srat.now))
         (IsOverlap Code.Overlap (IsFirstOverlap hotplug (srat_contents srat.now))) result }

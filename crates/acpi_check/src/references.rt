@@ -1,4 +1,4 @@
-//! Stage 13: what the PPTT's entries name.
+//! Stage 13: the references of the PPTT's entries.
 
 ghost use Rattle.std.specs.Prelude.{◌≡◌, ◌≢◌, ◌+◌, ◌*◌, ◌<◌, ◌⊎◌, ℕ, IfOk, OnOk, MatchOption, length};
 ghost use Rattle.acpi_base.specs.Number.{field};
@@ -28,7 +28,7 @@ fn kind_of(entry: &PpttEntry<'_>) -> Kind
     }
 }
 
-/// Adds the offset at which an entry stands to those of its kind.
+/// Adds the offset of an entry to those of its kind.
 fn add_place(places: &mut Places, kind: Kind, offset: u64) -> Result<(), AllocError>
     ensures nodes { OnOk result (Adds (is_node kind) offset places.old.nodes places.new.nodes) }
     ensures caches { OnOk result (Adds (is_cache kind) offset places.old.caches places.new.caches) }
@@ -46,7 +46,7 @@ fn add_place(places: &mut Places, kind: Kind, offset: u64) -> Result<(), AllocEr
     Ok(())
 }
 
-/// Where the entries of a PPTT stand, by what they are.
+/// The offsets of the entries of a PPTT, by what they are.
 fn places_of(alloc: Global, pptt: &Pptt<'_>) -> Result<Places, AllocError>
     requires { IsCutPptt (pptt_contents pptt.now) }
     ensures { IfOk result (ArePlaces (pptt_contents pptt.now)) }
@@ -80,7 +80,7 @@ fn first_dangling(offsets: &OffsetSet, count: u32, references: &[u8]) -> Option<
     None
 }
 
-/// The fault of a Parent or a Next Level that names an offset that is not among these. 0 names nothing.
+/// The fault of a Parent or a Next Level that refers to an offset that is not among these. 0 refers to nothing.
 fn link_fault(code: Code, at: u64, offsets: &OffsetSet, offset: u32) -> Option<Witness>
     ensures { MatchOption result ((offset ≡ 0) ⊎ IsIn offsets.now offset)
         (λ w. (w ≡ record { code = code; at = at; other = offset; point = 0 }) × (offset ≢ 0)
@@ -97,7 +97,7 @@ fn link_fault(code: Code, at: u64, offsets: &OffsetSet, offset: u32) -> Option<W
     })
 }
 
-/// The first fault of what an entry names: of a node its Parent comes before its private resources.
+/// The first fault of an entry's references: in a node its Parent comes before its private resources.
 fn own_fault(places: &Places, at: &EntryAt<PpttEntry<'_>>) -> Option<Witness>
     requires { HasReferences at.now.entry }
     ensures { MatchOption result (NamesPlaces places.now (pptt_value at.now.entry))
@@ -129,7 +129,7 @@ fn own_fault(places: &Places, at: &EntryAt<PpttEntry<'_>>) -> Option<Witness>
     }
 }
 
-/// The first fault of what the entries of a PPTT name, in the entries' order.
+/// The first fault of the entries' references, in the entries' order.
 fn first_fault(places: &Places, pptt: &Pptt<'_>) -> Result<(), Refusal>
     requires { ArePlaces (pptt_contents pptt.now) places.now }
     ensures { FindsFirst Stage.References (AreReferencesSound (pptt_contents pptt.now))
@@ -144,8 +144,8 @@ fn first_fault(places: &Places, pptt: &Pptt<'_>) -> Result<(), Refusal>
     Ok(())
 }
 
-/// Whether an entry stands at each offset that a PPTT's entries name, of the kind that is named there. The first fault is at
-/// the offset of the entry that names it. Takes memory for a bit for each byte of the table, three times.
+/// Whether there is an entry at each offset that a PPTT's entries refer to, of the required kind. The first fault is
+/// at the offset of the entry with the reference. Allocates a bit for each byte of the table, three times.
 pub fn sound_references(alloc: Global, pptt: &Pptt<'_>) -> Result<(), Refusal>
     requires { IsCutPptt (pptt_contents pptt.now) }
     ensures { FindsFirst Stage.References (AreReferencesSound (pptt_contents pptt.now))

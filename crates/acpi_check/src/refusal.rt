@@ -1,4 +1,4 @@
-//! Why a stage does not hand on what it checks.
+//! Why a stage does not pass on what it checks.
 
 ghost use Rattle.std.specs.Prelude.{◌≡◌, Err, MatchOption, Ok};
 ghost use Rattle.acpi_check.specs.declared.refusal.Refusal.{Refusal};
@@ -6,12 +6,12 @@ ghost use Rattle.acpi_check.specs.declared.refusal.Refusal.{Refusal};
 use acpi_base::{Code, Witness};
 use std::alloc::AllocError;
 
-/// Why a stage does not hand on what it checks.
+/// Why a stage does not pass on what it checks.
 #[derive(Clone, Copy)]
 pub enum Refusal {
-    /// The first fault of the set, or of the tables that were handed over: it is one of the stage's.
+    /// The first fault of the set, or of the tables that were passed: it is one of the stage's.
     Fault(Witness),
-    /// Out of memory. The stages up to 6 take none.
+    /// Out of memory. The stages up to 6 allocate nothing.
     OutOfMemory,
 }
 
@@ -31,7 +31,7 @@ impl From<AllocError> for Refusal {
     }
 }
 
-/// Refuses for a fault, where there is one.
+/// Refuses with a fault, if there is one.
 pub fn refuse(fault: Option<Witness>) -> Result<(), Refusal>
     ensures { MatchOption fault (result ≡ Ok tt) (λ found. result ≡ Err (Refusal.Fault found)) }
 {

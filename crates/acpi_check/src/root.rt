@@ -1,4 +1,4 @@
-//! Stage 2: the root.
+//! Stage 2: the root table.
 
 ghost use Rattle.std.specs.Prelude.{◌≡◌, ◌≢◌, ℕ, Some};
 ghost use Rattle.acpi_base.specs.Policy.{PolicyValue};
@@ -13,8 +13,8 @@ ghost use Rattle.acpi_check.specs.Tables.{IsRootOf};
 use acpi_base::{Code, Image, Witness};
 use acpi_read::{Root, Rsdp};
 
-/// The root that the RSDP names; its faults are at the RSDP's address where it names none, else at the
-/// root's.
+/// The root table that the RSDP names; its faults are at the RSDP's address if it names none, otherwise at the root
+/// table's.
 pub fn sound_root<'a>(image: &'a Image, rsdp: &Rsdp) -> Result<Root<'a>, Witness>
     ensures { (q : PolicyValue) → CleanBefore Stage.Root image.now q
         → IsRsdp image.now q.rsdp rsdp.now
@@ -26,7 +26,7 @@ pub fn sound_root<'a>(image: &'a Image, rsdp: &Rsdp) -> Result<Root<'a>, Witness
     }
 }
 
-/// The address of a fault of the root.
+/// The address of a fault of the root table.
 #[tactic(auto, unfolding(acpi_base::specs::Root::chosen_root))]
 fn place_of_fault(rsdp: &Rsdp, code: Code) -> u64
     ensures none { code ≡ Code.NoRoot → result ≡ rsdp.now.address }

@@ -2,8 +2,7 @@
 
 ghost use Rattle.std.specs.Prelude.{◌≡◌, ◌<◌, ◌↔◌, ℕ, AllPairs, Contains, MatchBool, MatchOption, length, slice_index};
 
-/// The place at which an offset would stand if the offsets rose evenly from the first to the last. It is a guess, which may
-/// be past their end.
+/// Interpolated index, assuming even spacing; it may be out of range.
 fn interpolated_place(offsets: &[u64], offset: u64) -> usize {
     let [first, .., last] = offsets else {
         return 0;
@@ -13,9 +12,9 @@ fn interpolated_place(offsets: &[u64], offset: u64) -> usize {
     (offset.saturating_sub(*first).saturating_mul(steps) / span) as usize
 }
 
-/// The place, from 0 on, of an offset among offsets that rise, or none where it is not among them. Any numbers of 64 bits may
-/// be searched. Where they rise evenly, as offsets of entries of one length do (ACPI 6.5, 5.2.30), it looks at one of them;
-/// else at as many as a binary search does. It takes no memory.
+/// The index of an offset among offsets that rise, or none if it is not among them. The numbers may be any of 64
+/// bits. If they are evenly spaced, as the offsets of entries of one length are (ACPI 6.5, 5.2.30), it looks at one
+/// of them; otherwise at as many as a binary search does. Allocates nothing.
 pub fn binary_search(offsets: &[u64], offset: u64) -> Option<usize>
     requires { AllPairs (λ o p. o < p) offsets.now }
     ensures { MatchOption result (¬ Contains offsets.now offset)
@@ -28,8 +27,8 @@ pub fn binary_search(offsets: &[u64], offset: u64) -> Option<usize>
     offsets.binary_search(&offset).ok()
 }
 
-/// Whether an offset of 32 bits, as entries of a PPTT name them (ACPI 6.5, 5.2.30), is among offsets that rise. It takes no
-/// memory.
+/// Whether an offset of 32 bits, the size of references in a PPTT (ACPI 6.5, 5.2.30), is among offsets that rise.
+/// Allocates nothing.
 pub fn has(offsets: &[u64], offset: u32) -> bool
     requires { AllPairs (λ o p. o < p) offsets.now }
     ensures { MatchBool result (Contains offsets.now offset) (¬ Contains offsets.now offset) }
@@ -40,8 +39,8 @@ pub fn has(offsets: &[u64], offset: u32) -> bool
     }
 }
 
-/// The numbers in rising order, each once, as `binary_search` and `has` ask for them. It sorts them in place, and takes no
-/// memory.
+/// The numbers in rising order, each once, as `binary_search` and `has` require. Sorts them in place, and allocates
+/// nothing.
 pub fn sorted_unique(mut numbers: Vec<u64>) -> Vec<u64>
     ensures rise { AllPairs (λ i j. i < j) result.items }
     ensures same { (n : ℕ) → Contains result.items n ↔ Contains numbers.items n }

@@ -17,21 +17,21 @@ use acpi_graph::CompactSpan;
 use acpi_read::{EntryAt, Madt, MadtEntry};
 use std::alloc::{AllocError, Global};
 
-/// An interrupt number that an entry names. They compare by the number, then by the offset.
+/// An interrupt number that an entry names. These compare by number, then by offset.
 #[derive(Clone, Copy, PartialEq, Eq, PartialOrd, Ord)]
 pub struct NamedGsi {
     /// The number.
     pub gsi: u32,
-    /// Where the entry stands, from the table's start.
+    /// The entry's offset, from the table's start.
     pub offset: u32,
 }
 
-/// How far ranges were gone through that begin in rising order.
+/// How far a scan over ranges that begin in rising order has come.
 #[derive(Clone, Copy)]
 pub struct Reach {
-    /// How many were passed.
+    /// How many ranges it has passed.
     pub passed: usize,
-    /// The greatest end of those, or 0 where there are none.
+    /// The greatest end of those, or 0 if there are none.
     pub end: u64,
 }
 
@@ -46,7 +46,7 @@ fn named_gsi(entry: &MadtEntry<'_>) -> Option<u32>
     }
 }
 
-/// The same with the entry's offset, which has 32 bits, as those of a table do.
+/// The same with the entry's offset, which fits into 32 bits, as those of a table do.
 fn named_at(at: &EntryAt<MadtEntry<'_>>) -> Option<NamedGsi>
     requires { at.now.offset < 2 ^ 32 }
     ensures { result ≡ named_at (entry_at_value madt_value at.now) }
@@ -65,7 +65,7 @@ fn all_named(alloc: Global, madt: &Madt<'_>) -> Result<Vec<NamedGsi>, AllocError
     collected(alloc, madt.entries(), named_at)
 }
 
-/// Goes on over the ranges that begin at the number or below it.
+/// Continues over the ranges that begin at the number or below it.
 fn reach_on(ranges: &[CompactSpan], from: Reach, number: u32) -> Reach
     requires rise { DoStartsRise ranges.now }
     requires reach { IsReach ranges.now from }
@@ -98,8 +98,8 @@ fn earlier(first: Option<NamedGsi>, other: NamedGsi) -> NamedGsi
     }
 }
 
-/// The first entry that names a number that is in no range. Ranges and numbers are sorted, and gone over together, with no
-/// search: a number is in a range where the greatest end of those that begin at it or below is behind it.
+/// The first entry that names a number that is in no range. Ranges and numbers are sorted, and compared in one pass,
+/// without a search: a number is in a range if the greatest end of those that begin at it or below is after it.
 fn first_unserved(ranges: &[CompactSpan], named: &[NamedGsi]) -> Option<NamedGsi>
     requires ranges { DoStartsRise ranges.now }
     requires named { DoNumbersRise named.now }
@@ -116,15 +116,16 @@ fn first_unserved(ranges: &[CompactSpan], named: &[NamedGsi]) -> Option<NamedGsi
     first
 }
 
-/// Whether an I/O APIC of a MADT serves each interrupt number that an override or an NMI source names (ACPI 6.5, 5.2.12.3,
-/// 5.2.12.5 and 5.2.12.6), or the MADT has no I/O APIC. Any MADT may be asked, whatever its entries, also one of which two I/O
-/// APICs serve one number.
+/// Whether an I/O APIC of a MADT serves each interrupt number that an override or an NMI source names (ACPI 6.5,
+/// 5.2.12.3, 5.2.12.5 and 5.2.12.6), or the MADT has no I/O APIC. The MADT may have any entries, even two I/O APICs
+/// that serve one number.
 ///
-/// Refuses `Fault` with the code `GsiNowhere`: `at` is the offset, in bytes from the table's start, of the first entry that
-/// names a number that none serves; `other` is 0, and `point` is the number, of 32 bits.
+/// Refuses with `Fault` and the code `GsiNowhere`: `at` is the offset, in bytes from the table's start, of the first
+/// entry that names a number that is not served; `other` is 0, and `point` is the number, of 32 bits.
 ///
-/// Refuses `OutOfMemory`: it takes memory for a compact span of 8 bytes for each I/O APIC; and where there is one, for 8 bytes
-/// for each override and each NMI source. Both are sorted in place and gone over together once, whether there is a fault or not.
+/// Refuses with `OutOfMemory`: it allocates a compact span of 8 bytes for each I/O APIC; and if there is one, 8 bytes
+/// for each override and each NMI source. Both are sorted in place and compared in one pass, whether there is a fault
+/// or not.
 pub fn named_served(alloc: Global, policy: &Policy, madt: &Madt<'_>) -> Result<(), Refusal>
     ensures { FindsFirst Stage.Served (AreNamedServed policy.now (madt_contents madt.now))
         (ServedFault policy.now (madt_contents madt.now)) result }

@@ -1,4 +1,4 @@
-//! Sets of tables, as far as they were found sound: what stages hand on.
+//! Sets of tables, as far as they were found valid: what stages pass on.
 
 ghost use Rattle.std.specs.Prelude.{◌≡◌, ◌<◌, ◌+◌, ◌*◌, IfSome, IsNone};
 ghost use Rattle.acpi_base.specs.Number.{field};
@@ -8,21 +8,22 @@ ghost use Rattle.acpi_check.specs.HandedOn.{IsListedSet, IsListedIn};
 use acpi_base::{Image, Policy};
 use acpi_read::{Facs, Fadt, FirstTables, Listed, Root, Rsdp, Table};
 
-/// A set whose RSDP, root and listed tables are sound: what stages 1 to 3 hand on. Each table was read and summed once.
+/// A set whose RSDP, root table and listed tables are valid: what stages 1 to 3 pass on. Each table was read and
+/// summed once.
 #[derive(Drop)]
 pub struct ListedSet<'a> {
-    /// The image that holds the set.
+    /// The image that has the set.
     pub image: &'a Image,
     /// The RSDP.
     pub rsdp: Rsdp,
-    /// The root that it names.
+    /// The root table that it names.
     pub root: Root<'a>,
     /// The first listed table of each kind.
     pub tables: FirstTables<'a>,
 }
 
 impl<'a> ListedSet<'a> {
-    /// The table that a slot of the root lists, slots being counted from 0. None where the slot holds 0. Its bytes are
+    /// The table that a slot of the root table lists; slots are counted from 0. None if the slot is 0. Its bytes are
     /// not summed again.
     pub fn table(&self, slot: u32) -> Option<Listed<'a>>
         requires set { IsListedSet self.now }
@@ -40,26 +41,26 @@ impl<'a> ListedSet<'a> {
     }
 }
 
-/// A set whose RSDP, root, listed tables, FADT and FACS are sound: what the stages from the MADT's on look at.
+/// A set whose RSDP, root table, listed tables, FADT and FACS are valid: what the stages from the MADT's on look at.
 #[derive(Drop)]
 pub struct Set<'a, 'p> {
-    /// Its RSDP, root and listed tables.
+    /// Its RSDP, root table and listed tables.
     pub listed: ListedSet<'a>,
-    /// What the check is given beside the image.
+    /// The settings of the check.
     pub policy: &'p Policy,
     /// The FADT.
     pub fadt: Fadt<'a>,
-    /// The FACS that the FADT names, where it names one.
+    /// The FACS that the FADT names, if it names one.
     pub facs: Option<Facs<'a>>,
 }
 
 /// A set of which all eighteen statements hold.
 #[derive(Drop)]
 pub struct CleanSet<'a> {
-    /// Its RSDP, root and listed tables.
+    /// Its RSDP, root table and listed tables.
     pub listed: ListedSet<'a>,
     /// The FADT.
     pub fadt: Fadt<'a>,
-    /// The FACS that the FADT names, where it names one.
+    /// The FACS that the FADT names, if it names one.
     pub facs: Option<Facs<'a>>,
 }

@@ -1,4 +1,4 @@
-//! The tables of a set that are looked at again once their entries are known to be sound.
+//! The tables of a set that are looked at again once their entries are known to be valid.
 
 use crate::set::Set;
 use acpi_base::TableKind;
@@ -12,7 +12,7 @@ impl<'a> Set<'a, '_> {
     ghost use Rattle.acpi_read.specs.FirstTables.{first_table};
     ghost use Rattle.acpi_check.specs.Set.{IsSet};
 
-    /// The MADT, where one is listed: it has 44 bytes at least, as stage 6 found.
+    /// The MADT, if one is listed: it has at least 44 bytes, as stage 6 found.
     pub fn madt(&self) -> Option<Madt<'a>>
         requires holds { Holds Stage.Madt self.now.listed.image.now self.now.policy.now }
         requires set { IsSet self.now }
@@ -21,7 +21,7 @@ impl<'a> Set<'a, '_> {
         Some(Madt::of(self.listed.tables.first(TableKind::Madt)?))
     }
 
-    /// The SRAT, where one is listed: it has 48 bytes at least, as stage 9 found.
+    /// The SRAT, if one is listed: it has at least 48 bytes, as stage 9 found.
     pub fn srat(&self) -> Option<Srat<'a>>
         requires holds { Holds Stage.Srat self.now.listed.image.now self.now.policy.now }
         requires set { IsSet self.now }
@@ -30,7 +30,7 @@ impl<'a> Set<'a, '_> {
         Some(Srat::of(self.listed.tables.first(TableKind::Srat)?))
     }
 
-    /// The PPTT, where one is listed.
+    /// The PPTT, if one is listed.
     pub fn pptt(&self) -> Option<Pptt<'a>>
         ensures { result ≡ first_table self.now.listed.tables TableKind.Pptt }
     {

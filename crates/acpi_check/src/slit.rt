@@ -7,8 +7,8 @@ ghost use Rattle.acpi_check.specs.TableResults.{FindsFirst};
 use crate::refusal::Refusal;
 use acpi_read::{Slit, Table};
 
-/// Whether a SLIT is sound. The first fault is at 0 for one that is too short, at 36 for a number of localities that does not
-/// fit its length, else at a cell's offset.
+/// Whether a SLIT is valid. The first fault is at 0 for one that is too short, at 36 for a number of localities that
+/// does not match its length, otherwise at a cell's offset.
 pub fn sound_slit(table: Table<'_>) -> Result<(), Refusal>
     ensures { FindsFirst Stage.Slit (IsSoundSlit (slit_contents table.entry))
         (SlitFault (slit_contents table.entry)) result }

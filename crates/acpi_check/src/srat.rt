@@ -40,7 +40,7 @@ fn own_fault(entry: &SratEntry<'_>) -> Option<Code>
     }
 }
 
-/// Looks at an entry: returns its fault, where it has one.
+/// Looks at an entry: returns its fault, if it has one.
 fn pass_entry(entry: &Entry<'_>) -> Result<(), Witness>
     ensures { PassesSratEntry entry.now.offset (srat_entry entry.now.bytes.now) result }
 {
@@ -52,8 +52,8 @@ fn pass_entry(entry: &Entry<'_>) -> Result<(), Witness>
     }
 }
 
-/// Whether an SRAT's entries are sound. The first fault is at an entry's offset, at that of the bytes behind the entries, or
-/// at 0 for an SRAT that is too short.
+/// Whether an SRAT's entries are valid. The first fault is at an entry's offset, at that of the bytes after the
+/// entries, or at 0 for an SRAT that is too short.
 #[tactic(auto, using(crate::proofs::EntryPasses::SratPass::passing))]
 pub fn sound_srat(table: Table<'_>) -> Result<(), Refusal>
     ensures { FindsFirst Stage.Srat (IsSoundSrat (srat_contents table.entry))

@@ -25,10 +25,10 @@ use crate::tables::sound_tables;
 use acpi_base::{Image, Policy, Stage, TableKind, Verdict, Witness};
 use std::alloc::{AllocError, Global};
 
-/// The verdict on the image's tables: `Yes` exactly where all eighteen statements hold of the image and the
-/// policy, else `No` with the first fault: one of the earliest stage that does not hold.
+/// The verdict on the image's tables: `Yes` exactly when all eighteen statements hold for the image and the policy,
+/// otherwise `No` with the first fault: one of the earliest stage that does not hold.
 ///
-/// Out of memory only where stages 1 to 6 hold.
+/// Out of memory only if stages 1 to 6 hold.
 pub fn check(alloc: Global, image: &Image, policy: &Policy) -> Result<Verdict, AllocError>
     ensures yes { IfOk result (λ verdict. (verdict ≡ Verdict.Yes) ↔ IsClean image.now policy.now) }
     ensures no { IfOk result (IfNo (IsFirstFault image.now policy.now)) }
@@ -37,10 +37,10 @@ pub fn check(alloc: Global, image: &Image, policy: &Policy) -> Result<Verdict, A
     check_to(alloc, image, policy, Stage::LAST)
 }
 
-/// The verdict on the image's tables over the stages up to `last`: `Yes` where all of them hold, else
-/// `No` with the first fault, which is one of the earliest stage that does not hold.
+/// The verdict on the image's tables over the stages up to `last`: `Yes` if all of them hold, otherwise `No` with the
+/// first fault, which is one of the earliest stage that does not hold.
 ///
-/// Out of memory only where stages 1 to 6 hold. For `last` up to 6 always `Ok`: those stages take none.
+/// Out of memory only if stages 1 to 6 hold. For `last` up to 6 always `Ok`: those stages allocate nothing.
 pub fn check_to(
     alloc: Global,
     image: &Image,
@@ -58,8 +58,8 @@ pub fn check_to(
     }
 }
 
-/// Asks the stages up to `last` in their order. Those up to the FACS take no memory and are asked in any case: where the
-/// first fault is of one behind `last`, the stages up to `last` hold.
+/// Runs the stages up to `last` in their order. Those up to the FACS allocate nothing and are always run: if the
+/// first fault is one of a stage after `last`, the stages up to `last` hold.
 fn stages_to(alloc: Global, image: &Image, policy: &Policy, last: Stage) -> Result<(), Refusal>
     ensures { IsResultTo last image.now policy.now (λ _. CleanTo last image.now policy.now) result }
 {
@@ -70,8 +70,9 @@ fn stages_to(alloc: Global, image: &Image, policy: &Policy, last: Stage) -> Resu
     }
 }
 
-/// The set that the RSDP at an address leads to, where its RSDP, its root and the tables that it lists are sound; else
-/// its first fault, which is one of stages 1 to 3. They ask for nothing of a policy but the RSDP's address.
+/// The set that the RSDP at an address leads to, if its RSDP, its root table and the tables that it lists are valid;
+/// otherwise its first fault, which is one of stages 1 to 3. These stages use nothing of a policy but the RSDP's
+/// address.
 pub fn read_set<'a>(image: &'a Image, rsdp: u64) -> Result<ListedSet<'a>, Witness>
     ensures { (q : PolicyValue) → q.rsdp ≡ rsdp
         → ReadsTo Stage.Tables image.now q (IsListedSetOf image.now q.rsdp) result }
@@ -87,7 +88,7 @@ pub fn read_set<'a>(image: &'a Image, rsdp: u64) -> Result<ListedSet<'a>, Witnes
     })
 }
 
-/// The set of which the stages up to the FACS hold, or its first fault, which is one of theirs.
+/// The set for which the stages up to the FACS hold, or its first fault, which is one of theirs.
 fn sound_set<'a, 'p>(image: &'a Image, policy: &'p Policy) -> Result<Set<'a, 'p>, Witness>
     ensures { ReadsTo Stage.Facs image.now policy.now (IsSetOf image.now policy.now) result }
 {
@@ -102,7 +103,7 @@ fn sound_set<'a, 'p>(image: &'a Image, policy: &'p Policy) -> Result<Set<'a, 'p>
     })
 }
 
-/// The kinds of entries that a set's MADT has. It is looked at only where stages behind its own are asked.
+/// The kinds of entries that a set's MADT has. The MADT is looked at only if later stages are run.
 fn known_kinds(set: &Set<'_, '_>, last: Stage) -> MadtKinds
     ensures { AreMadtKinds set.now result }
 {
@@ -112,7 +113,7 @@ fn known_kinds(set: &Set<'_, '_>, last: Stage) -> MadtKinds
     madt_kinds(set.listed.tables.first(TableKind::Madt))
 }
 
-/// Asks the stages behind the FACS, up to `last`, in their order.
+/// Runs the stages after the FACS, up to `last`, in their order.
 fn later_stages(alloc: Global, set: &Set<'_, '_>, last: Stage) -> Result<(), Refusal>
     requires { IsSet set.now }
     ensures { IsResultTo last set.now.listed.image.now set.now.policy.now
@@ -127,8 +128,8 @@ fn later_stages(alloc: Global, set: &Set<'_, '_>, last: Stage) -> Result<(), Ref
     Ok(())
 }
 
-/// The set that the policy's RSDP leads to, where all eighteen statements hold; else its first fault, or
-/// `OutOfMemory`, which is said only where stages 1 to 6 hold.
+/// The set that the policy's RSDP leads to, if all eighteen statements hold; otherwise its first fault, or
+/// `OutOfMemory`, which is returned only if stages 1 to 6 hold.
 pub fn check_set<'a>(
     alloc: Global,
     image: &'a Image,

@@ -2,7 +2,7 @@
 
 ghost use Rattle.std.specs.Prelude.{ℕ, Contains, IsTrue};
 
-/// Whether the numbers that are asked for are seen among the known ones. Where both rise, one walk over them sees it.
+/// Whether the wanted numbers are all found among the known ones. If both rise, one pass over them finds that.
 pub fn is_sorted_subset(asked: &[u64], known: &[u64]) -> bool
     ensures { IsTrue result → ((n : ℕ) → Contains asked.now n → Contains known.now n) }
 {

@@ -1,4 +1,4 @@
--- The rows in which `clap` hands on the arguments of `check`, and where each is found.
+-- The rows in which `clap` returns the arguments of `check`, and where each is found.
 use Rattle.std.proofs.Common.{◌≡◌, ◌∙◌, ◌++◌, ◌&&◌, Bool, List, [], ◌∷◌, Option, Some, None, true, false, cond, codes, append_assoc, append-nil, refl, ap, sym, unwrap_or}
 use Rattle.std.specs.Prelude.{find, not}
 use Rattle.std.specs.List.{list_any}

@@ -1,4 +1,4 @@
--- Which count of an I/O APIC stands where several are given.
+-- Which count of an I/O APIC wins if several are given.
 use Rattle.std.proofs.Common.{◌≡◌, ℕ, ◌==◌, ◌∙◌, Bool, true, false, cond, List, [], ◌∷◌, Option, Some, None, option_map, unwrap_or, refl, ap, sym, arith}
 use Rattle.std.specs.Prelude.{find}
 use Rattle.std.specs.Option.{option_or}
@@ -24,7 +24,7 @@ one_count_more q a n address = go (get q.inputs a) (get q.inputs address) refl r
     go (Some here) None e f = rw (e, f) (grind (arith, nat_tests))
     go (Some here) (Some there) e f = rw (e, f) refl
 
--- the first of some counts stands, unless the address had one before
+-- the first of some counts wins, unless the address had one before
 pub first_stands : (q : PolicyValue) (counts : List Inputs) (address : ℕ)
     → get (with_inputs q counts).inputs address ≡ option_or (get q.inputs address) (first_count counts address)
 first_stands q [] address = sym (or_none (get q.inputs address))

@@ -1,4 +1,4 @@
--- What `clap` reads of the arguments of a command with options, a flag and words `ADDRESS=COUNT`, one after another.
+-- What `clap` reads from the arguments of a command with options, a flag and values `ADDRESS=COUNT`, one after another.
 use Rattle.std.proofs.Common.{◌≡◌, ◌==◌, ◌∙◌, ◌&&◌, ◌||◌, Bool, List, [], ◌∷◌, ◌++◌, Option, Some, None, true, false, cond, codes, append_assoc, append-nil, refl, ap, subst, sym, true≢false}
 use Rattle.std.specs.Prelude.{find, fold, is_some, not, IfSome}
 use Rattle.std.specs.List.{list_all, list_any}

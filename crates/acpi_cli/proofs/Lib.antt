@@ -1,4 +1,5 @@
 pub mod PlainLines
+pub mod PrintableTexts
 pub mod Hyphens
 pub mod JudgingArguments
 pub mod CheckRows

@@ -1,4 +1,4 @@
--- Command lines whose arguments stand a space apart, and what they ask for.
+-- Command lines with valid arguments, and what they ask for.
 use Rattle.std.proofs.Common.{◌≡◌, ◌∙◌, ◌++◌, ℕ, Bool, List, [], ◌∷◌, Option, Some, None, true, false, true≢false, cond, codes, append_assoc, append-nil, refl, ap, sym, ◌==◌}
 use Rattle.std.specs.Prelude.{IfSome, find as find_first, fold, is_some, option_and_then, option_map}
 use Rattle.std.specs.List.{list_all}
@@ -23,7 +23,7 @@ use Rattle.acpi_cli.proofs.Hyphens.{ArePlain, IsPlain, all_are_plain, no_number,
 use Rattle.acpi_cli.proofs.Spellings.{made_of}
 use Rattle.acpi_cli.proofs.JudgingArguments.{AllPlain, Line, Reads, all_given, are_new, flag_words, flagged, given, is_option, reads_options, rules, shape, standing, taken}
 
--- ---- what stands before the arguments of a command
+-- ---- what comes before the arguments of a command
 
 -- the walk that has come to a command keeps the words behind it
 words_behind : (c : List Rule) (names : Names) (w : Walk) (name : Text) (before words : List Text)

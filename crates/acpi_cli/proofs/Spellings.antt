@@ -1,4 +1,4 @@
--- How a word `ADDRESS=COUNT` is spelled.
+-- How an argument `ADDRESS=COUNT` is spelled.
 use Rattle.std.proofs.Common.{◌≡◌, ◌<◌, ◌∙◌, ◌++◌, ℕ, Bool, true, false, List, [], ◌∷◌, Option, Some, None, cond, zero, suc, drop, get_or, length, option_map, codes, append_assoc, refl, ap, sym, subst, true≢false, inl, inr, arith}
 use Rattle.std.specs.Prelude.{nat_eq}
 use Rattle.std.specs.Char.{is_digit}

@@ -31,7 +31,7 @@ flag_rule name = record (new_rule name) { long = Some name; action = Some SetTru
 abbrev pub inputs_rule : Rule
 inputs_rule = record (new_rule (codes "inputs")) { action = Some Append; value_names = 1 }
 
--- `.. --default-inputs N --hotplug SETTING --processors SETTING`, behind a command's own options
+-- `.. --default-inputs N --hotplug SETTING --processors SETTING`, after a command's own options
 abbrev pub with_setting_options : App → App
 with_setting_options line =
     with_rule (with_rule (with_rule
@@ -88,7 +88,7 @@ abbrev pub are_none : Kinds → Bool
 are_none [] = true
 are_none (kind ∷ kinds) = false
 
--- `clap` finds no fault with the arguments, of which the first is the program's name
+-- `clap` accepts the arguments, of which the first is the program's name
 unfoldable pub is_taken : List Text → Bool
 is_taken words = are_none (fault_of command_line words)
 
@@ -111,7 +111,7 @@ pub data Asked : Type 0 where
   show : Option ℕ → Asked
   find : Asked
 
--- `--rsdp HEX`: without it the RSDP is to be found
+-- `--rsdp HEX`: without it the RSDP is searched for
 abbrev pub rsdp_word : Option Text → Option (Option ℕ)
 rsdp_word None = Some None
 rsdp_word (Some text) = option_map (λ address. Some address) (hex_word 16 text)
@@ -120,7 +120,7 @@ rsdp_word (Some text) = option_map (λ address. Some address) (hex_word 16 text)
 abbrev pub stage_of_number : ℕ → Option ℕ
 stage_of_number n = if nat_le 1 n && nat_le n 18 then Some n else None
 
--- `--through N`: without it the last of all stages
+-- `--through N`: without it the last stage
 abbrev pub last_word : Option Text → Option ℕ
 last_word None = Some 18
 last_word (Some text) = option_and_then stage_of_number (decimal_word 2 text)
@@ -149,23 +149,23 @@ abbrev pub default_word : Option Text → Option ℕ
 default_word None = Some 24
 default_word (Some text) = count_word text
 
--- the policy with these counts of inputs, given one after another: the first count of an address stands
+-- the policy with these counts of inputs, given one after another: if an address is repeated, the first count wins
 abbrev pub with_inputs : PolicyValue → List Inputs → PolicyValue
 with_inputs q counts = fold (λ q inputs. with_input q inputs.address inputs.count) q counts
 
--- the first of the counts that is one of the I/O APIC at this address
+-- the first of the counts that is given for the I/O APIC at this address
 abbrev pub first_count : List Inputs → ℕ → Option ℕ
 first_count counts address = option_map (λ inputs. inputs.count) (find_first (λ inputs. inputs.address == address) counts)
 
--- The policy of `--default-inputs N` and the words `ADDRESS=COUNT`. No RSDP is set yet, and the settings are those of
--- a new policy.
+-- The policy of `--default-inputs N` and the arguments `ADDRESS=COUNT`. No RSDP is set yet, and the other settings are
+-- those of a new policy.
 abbrev pub inputs_policy : Option Text → List Text → Option PolicyValue
 inputs_policy default_inputs words =
     option_and_then
     (λ inputs. option_map (with_inputs (new_policy 0 inputs)) (all_inputs words))
     (default_word default_inputs)
 
--- `--hotplug counted` or `--hotplug apart`: without it hot-pluggable ranges of memory count as the others
+-- `--hotplug counted` or `--hotplug apart`: without it hot-pluggable memory ranges count as the others do
 abbrev pub hotplug_word : Option Text → Option HotPlug
 hotplug_word None = Some Counted
 hotplug_word (Some text) =
@@ -173,7 +173,7 @@ hotplug_word (Some text) =
     then Some Counted
     else (if bytes_eq text (codes "apart") then Some Apart else None)
 
--- `--processors enabled` or `--processors usable`: without it only processors with the flag Enabled count as enabled
+-- `--processors enabled` or `--processors usable`: without it only processors with the Enabled flag count as enabled
 abbrev pub processors_word : Option Text → Option Processors
 processors_word None = Some Enabled
 processors_word (Some text) =
@@ -185,14 +185,14 @@ processors_word (Some text) =
 abbrev pub with_settings : HotPlug → Processors → PolicyValue → PolicyValue
 with_settings hotplug processors q = record q { hotplug = hotplug; processors = processors }
 
--- what a command line says of the policy: the value of each option, where it is given, and the words `ADDRESS=COUNT`
+-- the arguments that set the policy: the value of each option, if it is given, and the arguments `ADDRESS=COUNT`
 pub record PolicyTexts : Type 0 where
   pub default_inputs : Option Text
   pub hotplug : Option Text
   pub processors : Option Text
   pub inputs : List Text
 
--- The policy of all words that say how to judge, where each of them is right: the inputs of I/O APICs, and the settings.
+-- The policy that these arguments set, if all of them are valid: the inputs of I/O APICs, and the settings.
 abbrev pub policy_words : PolicyTexts → Option PolicyValue
 policy_words texts =
     option_and_then
@@ -201,7 +201,7 @@ policy_words texts =
     (processors_word texts.processors))
     (hotplug_word texts.hotplug)
 
--- what is said of the policy, where this is the value of each option, and these are the words `ADDRESS=COUNT`
+-- the arguments that set the policy, by the value of each option and the arguments `ADDRESS=COUNT`
 abbrev pub texts_of : (Text → Option Text) → List Text → PolicyTexts
 texts_of value words = record {
   default_inputs = value (codes "default-inputs");
@@ -210,7 +210,7 @@ texts_of value words = record {
   inputs = words;
 }
 
--- the values of the options of a command, and its words `ADDRESS=COUNT`
+-- the values of the options of a command, and its arguments `ADDRESS=COUNT`
 abbrev pub values_of : List Row → Text → Option Text
 values_of options id = first_of id options
 
@@ -266,7 +266,7 @@ asked_command (Some command) =
     then asked_show command.1
     else (if bytes_eq command.0 (codes "find") then Some find else None)))))
 
--- what a whole command line asks for, where it is one
+-- what a whole command line asks for, if it is valid
 abbrev pub asked_job : List Text → Option Asked
 asked_job words = if is_taken words then asked_command (command_of words) else None
 
@@ -276,17 +276,17 @@ asked_job words = if is_taken words then asked_command (command_of words) else N
 abbrev pub find_words : Text → List Text
 find_words program = program ∷ codes "find" ∷ []
 
--- `--NAME VALUE`, where there is a value
+-- `--NAME VALUE`, if there is a value
 abbrev pub option_words : Text → Option Text → List Text
 option_words name None = []
 option_words name (Some value) = (codes "--" ++ name) ∷ value ∷ []
 
--- the words of several options, and those behind them
+-- the words of several options, and those after them
 abbrev pub options_words : List (Text × Option Text) → List Text → List Text
 options_words [] words = words
 options_words (choice ∷ options) words = option_words choice.0 choice.1 ++ options_words options words
 
--- the options of the policy, each with its value, where it is given
+-- the options of the policy, each with its value, if it is given
 abbrev pub policy_options : PolicyTexts → List (Text × Option Text)
 policy_options texts =
     (codes "default-inputs", texts.default_inputs)
@@ -294,36 +294,36 @@ policy_options texts =
     ∷ (codes "processors", texts.processors)
     ∷ []
 
--- `PROGRAM check`, the options that are given, and what is said of the policy
+-- `PROGRAM check`, the options that are given, and the arguments that set the policy
 abbrev pub check_words : Text → Option Text → Option Text → PolicyTexts → List Text
 check_words program rsdp through texts =
     program ∷ codes "check"
     ∷ options_words ((codes "rsdp", rsdp) ∷ (codes "through", through) ∷ policy_options texts) texts.inputs
 
--- `--strict`, where it is given
+-- `--strict`, if it is given
 abbrev pub strict_words : Bool → List Text
 strict_words false = []
 strict_words true = codes "--strict" ∷ []
 
--- `PROGRAM lint`, the options that are given, `--strict`, where it is given, and what is said of the policy
+-- `PROGRAM lint`, the options that are given, `--strict` if it is given, and the arguments that set the policy
 abbrev pub lint_words : Text → Option Text → PolicyTexts → Bool → List Text
 lint_words program rsdp texts strict =
     program ∷ codes "lint"
     ∷ options_words ((codes "rsdp", rsdp) ∷ policy_options texts) (strict_words strict ++ texts.inputs)
 
--- `PROGRAM confirm`, the fault's text, the options that are given, and what is said of the policy
+-- `PROGRAM confirm`, the fault's text, the options that are given, and the arguments that set the policy
 abbrev pub confirm_words : Text → Text → Option Text → PolicyTexts → List Text
 confirm_words program fault rsdp texts =
     program ∷ codes "confirm"
     ∷ options_words ((codes "witness", Some fault) ∷ (codes "rsdp", rsdp) ∷ policy_options texts) texts.inputs
 
--- `PROGRAM rebuild`, the base address's text, the options that are given, and what is said of the policy
+-- `PROGRAM rebuild`, the base address's text, the options that are given, and the arguments that set the policy
 abbrev pub rebuild_words : Text → Text → Option Text → PolicyTexts → List Text
 rebuild_words program base rsdp texts =
     program ∷ codes "rebuild"
     ∷ options_words ((codes "base", Some base) ∷ (codes "rsdp", rsdp) ∷ policy_options texts) texts.inputs
 
--- `PROGRAM show`, and the option that it has, where it is given
+-- `PROGRAM show`, and its option, if it is given
 abbrev pub show_words : Text → Option Text → List Text
 show_words program rsdp = program ∷ codes "show" ∷ option_words (codes "rsdp") rsdp
 

@@ -48,7 +48,7 @@ device bytes before after =
       failures_after = after.failures;
     }
 
--- a call of the device failed: its count rose, or stood at the highest
+-- a call of the device failed: its count rose, or was at its maximum
 abbrev pub HasFailed : Device → Type 0
 HasFailed device = CountsFailure device.failures_before device.failures_after
 
@@ -80,13 +80,13 @@ pub record ReadsRefused (input : Device) (fault : TextFault) : Type 0 where
   pub own : is_of_text fault ≡ true
   pub sound : HasNotFailed input
 
--- no read failed, and memory ran out, whatever had come
+-- no read failed, and memory ran out, whatever had been read
 pub record ReadsOutOfMemory (input : Device) : Type 0 where
   pub text : List ℕ
   pub read : Reads input text
   pub sound : HasNotFailed input
 
--- a read failed, and no fault stood in what had come
+-- a read failed, and what had been read has no fault
 pub record ReadsFailed (input : Device) : Type 0 where
   pub text : List ℕ
   pub read : Reads input text
@@ -130,7 +130,7 @@ Runs Reports input output result =
     ((m : Memory) × (bytes : List ℕ) × (returned : Outcome) × ReadsImage input m × Reports m bytes returned × WritesOutput output bytes returned result)
     ⊎ ((fault : RunFault) × (result ≡ Err fault) × ReadsInput input (Err fault) × WritesNothing output)
 
--- the RSDP's address: the one that is given, else the one that is found
+-- the RSDP's address: the one that is given, otherwise the one that is found
 abbrev pub IsRsdpAddress : Option ℕ → Memory → ℕ → Type 0
 IsRsdpAddress (Some given) m p = p ≡ given
 IsRsdpAddress None m p = IsFound m p

@@ -2,5 +2,6 @@
 pub mod CommandLine
 pub mod Engine
 pub mod Outcome
+pub mod Printable
 pub mod Program
 pub mod Words

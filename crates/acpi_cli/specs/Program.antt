@@ -24,9 +24,8 @@ ReportsAsked find m bytes returned = ReportsFound m bytes returned
 abbrev pub IsUntouched : Device → Type 0
 IsUntouched device = Keeps device.bytes_before device.bytes_after × HasNotFailed device
 
--- What the program does. Where its arguments ask for something, an engine does it, and the exit status is that of the
--- engine's result. Where they ask for nothing, it reads and writes nothing, and the exit status is 2, or 4 where memory
--- ran out.
+-- What the program does. If its arguments ask for something, an engine does it, and the exit status is that of the
+-- engine's result. If they ask for nothing, it reads and writes nothing, and the exit status is 2, or 4 if memory ran out.
 abbrev pub Obeys : Option Asked → Device → Device → ℕ → Type 0
 Obeys (Some what) input output status =
     (result : Result Outcome RunFault) × Runs (ReportsAsked what) input output result × (status ≡ exit_status result)

@@ -27,7 +27,7 @@ number_word base most text =
 abbrev pub without_0x : List ℕ → List ℕ
 without_0x text = if starts_with nat_eq text (codes "0x") then drop 2 text else text
 
--- 1 to `most` hex digits, with `0x` before them or without
+-- 1 to `most` hex digits, with or without `0x` before them
 abbrev pub hex_word : ℕ → List ℕ → Option ℕ
 hex_word most text = number_word 16 most (without_0x text)
 
@@ -45,14 +45,14 @@ count_word text =
 abbrev pub is_equals_sign : ℕ → Bool
 is_equals_sign byte = byte == 61
 
--- `ADDRESS=COUNT`: 1 to 8 hex digits, with `0x` before them or without, and a count. Without a `=` there is no count.
+-- `ADDRESS=COUNT`: 1 to 8 hex digits, with or without `0x` before them, and a count. Without a `=` there is no count.
 abbrev pub inputs_word : List ℕ → Option Inputs
 inputs_word text =
     option_and_then
     (λ address. option_map (λ count. record { address = address; count = count }) (count_word (after_first is_equals_sign text)))
     (hex_word 8 (before_first is_equals_sign text))
 
--- what each of the words says, where all of them are `ADDRESS=COUNT`
+-- what each of the arguments says, if all of them are `ADDRESS=COUNT`
 abbrev pub all_inputs : List (List ℕ) → Option (List Inputs)
 all_inputs [] = Some []
 all_inputs (word ∷ words) =
@@ -64,7 +64,7 @@ all_inputs (word ∷ words) =
 unfoldable pub code_by_name : List ℕ → Option Code
 code_by_name name = find_first (λ c. bytes_eq (code_name c) name) all_codes
 
--- what stands before the first blank, and what stands behind it
+-- what comes before the first space, and what comes after it
 abbrev pub is_space : ℕ → Bool
 is_space byte = byte == 32
 
@@ -74,13 +74,13 @@ word_of = before_first is_space
 abbrev pub behind_word : List ℕ → List ℕ
 behind_word = after_first is_space
 
--- the number with these hex digits behind its `0x`
+-- the number with these hex digits after its `0x`
 abbrev pub number_behind_0x : List ℕ → ℕ
 number_behind_0x word = hex_number 0 (drop 2 word)
 
--- The fault that a text names whose second word is a fault's name, as `10 Overlap 0x90 0xb8 0x100000000` does: its
--- numbers are read in hex, without two characters before each, from the third word, the fourth, and all that stands
--- behind this one. Nothing else of the text is looked at.
+-- The fault that a text names whose second word is a fault's name, as in `10 Overlap 0x90 0xb8 0x100000000`: its
+-- numbers are read in hex, without the first two characters of each, from the third word, the fourth, and everything
+-- after that one. The rest of the text is ignored.
 unfoldable pub named_fault : List ℕ → Option Witness
 named_fault text =
     option_map
@@ -92,11 +92,11 @@ named_fault text =
     })
     (code_by_name (word_of (behind_word text)))
 
--- its three numbers have 64 bits
+-- its three numbers fit 64 bits
 abbrev pub numbers_fit : Witness → Bool
 numbers_fit w = nat_lt w.at (2 ^ 64) && (nat_lt w.other (2 ^ 64) && nat_lt w.point (2 ^ 64))
 
--- the fault whose text this is: it is written so, and in no other way
+-- the fault with exactly this text
 unfoldable pub written_fault : List ℕ → Option Witness
 written_fault text =
     option_and_then

@@ -20,7 +20,7 @@ fn outcome_of(verdict: &Verdict) -> Outcome
     }
 }
 
-/// The address that is given, else the one that is found.
+/// The address that is given, otherwise the one that is found.
 pub fn rsdp_address(image: &Image, given: Option<u64>) -> Option<u64>
     ensures some { IfSome result (IsRsdpAddress given image.now) }
     ensures none { IsNone result → HasNoRsdp given image.now }
@@ -31,7 +31,7 @@ pub fn rsdp_address(image: &Image, given: Option<u64>) -> Option<u64>
     }
 }
 
-/// What is reported where there is no RSDP to start from.
+/// What is reported if there is no RSDP to start from.
 pub fn no_rsdp(alloc: Global) -> Result<Output, AllocError>
     ensures { IfOk result (λ output. (output.bytes.items ≡ codes "no rsdp\n")
         × (output.outcome ≡ Outcome.No)) }
@@ -62,14 +62,13 @@ fn check_output(
     Ok(Output { bytes, outcome })
 }
 
-/// Checks the tables of the image whose text is on `reader`, from the RSDP at the address `rsdp`, or
-/// where it is `None` from the one that is found, up to the stage `last`. The policy's own address is
-/// not looked at.
+/// Checks the tables of the image whose text is on `reader`, from the RSDP at the address `rsdp`, or if
+/// that is `None` from the one that is found, up to the stage `last`. The policy's own address is ignored.
 ///
-/// Writes the verdict's line: `yes`, and returns `Yes`, or `no` with the first fault, and returns `No`.
-/// Where no address is given and none is found it writes `no rsdp` and returns `No`. Nothing is written
-/// before the image is read and judged. Refuses `Image` where the input is no image text, `Memory`, and
-/// `Device` where a read or a write failed; what was written then is a prefix of the line.
+/// Writes the verdict's line: `yes`, and returns `Yes`, or `no` with the first fault, and returns `No`. If
+/// no address is given and none is found, it writes `no rsdp` and returns `No`. Nothing is written before
+/// the image is read and judged. Returns `Image` if the input is not image text, `Memory`, or `Device` if a
+/// read or a write failed; what was written then is a prefix of the line.
 pub fn run_check<R: Read, W: Write>(
     alloc: Global,
     reader: &mut Tally<R>,

@@ -11,7 +11,7 @@ use clap::error::ErrorKind;
 use clap::{Arg, ArgAction, ArgMatches, Command, Error};
 use std::alloc::{AllocError, Global};
 
-/// Reads the arguments by the program's command line.
+/// Parses the arguments, of which the first is the program's name.
 pub fn parse<'a>(alloc: Global, words: &'a [String]) -> Result<ArgMatches<'a>, WordFault>
     ensures taken { IfOk result (λ matches. is_taken (map string_bytes words.now) ≡ true) }
     ensures command { IfOk result (λ matches.
@@ -28,25 +28,8 @@ pub fn parse<'a>(alloc: Global, words: &'a [String]) -> Result<ArgMatches<'a>, W
     }
 }
 
-/// `clap`'s error message on arguments that it refuses, in a line: the first argument that is not known,
-/// that is repeated or that has no value. `None` where the command is missing, where help is asked for,
-/// or where the program is out of memory.
-pub fn clap_message(alloc: Global, words: &[String]) -> Option<String> {
-    let text = clap_text(alloc, words)?;
-    let line = text.lines().next()?;
-    String::from_str(alloc, line.strip_prefix("error: ")?).ok()
-}
-
-/// `clap`'s tip on arguments that it refuses, in a line: which argument that is known one of them is like. `None` where it
-/// has none, or where the program is out of memory.
-pub fn clap_tip(alloc: Global, words: &[String]) -> Option<String> {
-    let text = clap_text(alloc, words)?;
-    let line = text.lines().find(|line| line.starts_with("  tip: ") && line.contains("similar"))?;
-    String::from_str(alloc, line.trim_start()).ok()
-}
-
-/// All that `clap` says of arguments that it refuses. `None` where it takes them, or where the program is out of memory.
-fn clap_text(alloc: Global, words: &[String]) -> Option<String> {
+/// The whole error text of `clap` on arguments that it refuses. `None` if it accepts them, or the program is out of memory.
+pub fn clap_text(alloc: Global, words: &[String]) -> Option<String> {
     let error = acpiset(alloc).ok()?.try_get_matches_from(words).err()?;
     if fault_of(&error) == WordFault::Memory {
         return None;
@@ -144,7 +127,7 @@ fn rebuild<'a>(alloc: Global) -> Result<Command<'a>, AllocError>
     judging(alloc, command, base, rsdp)
 }
 
-/// The command with two options of its own, and those that `read_policy` reads behind them.
+/// The command with two options of its own, then those that `read_policy` reads.
 fn judging<'a>(
     alloc: Global,
     command: Command<'a>,
@@ -162,7 +145,7 @@ fn judging<'a>(
     with_settings(alloc, command.arg(first)?.arg(second)?)?.arg(inputs(alloc))
 }
 
-/// The command with the options that say how to judge: those that `read_policy` reads, but for `ADDRESS=COUNT`.
+/// The command with the options that `read_policy` reads, except `ADDRESS=COUNT`.
 fn with_settings<'a>(alloc: Global, command: Command<'a>) -> Result<Command<'a>, AllocError>
     requires command { (out-Command command).has_globals ≡ false }
     ensures line { IfOk result
@@ -182,7 +165,7 @@ fn show<'a>(alloc: Global) -> Result<Command<'a>, AllocError>
     Command::new(alloc, "show").arg(option(alloc, "rsdp", "HEX"))
 }
 
-/// `--NAME VALUE`, at most once. What the value is called shows only in error messages.
+/// `--NAME VALUE`, at most once. The value's name appears only in error messages.
 fn option<'a>(alloc: Global, name: &'a str, value: &'a str) -> Arg<'a>
     ensures rule { rule_of result ≡ option_rule name.entry.now }
     ensures own { result.global ≡ false }

@@ -37,13 +37,12 @@ fn confirm_output(
 }
 
 /// Judges whether the witness is a fault of the image whose text is on `reader`, with the RSDP at the address `rsdp`, or
-/// where it is `None` at the one that is found. The policy's own address is not looked at. No stage needs to hold, and the
-/// witness need not be the first fault.
+/// if that is `None` at the one that is found. The policy's own address is ignored. No stage needs to hold, and the witness
+/// need not be the first fault.
 ///
-/// Writes `true` and returns `Yes`, or writes `false` and returns `No`. Where no address is given and none is found it
-/// writes `no rsdp` and returns `No`. Nothing is written before the image is read and the fault is judged. Refuses
-/// `Image` where the input is no image text, `Memory`, and `Device` where a read or a write failed; what was written
-/// then is a prefix of the line.
+/// Writes `true` and returns `Yes`, or writes `false` and returns `No`. If no address is given and none is found, it writes
+/// `no rsdp` and returns `No`. Nothing is written before the image is read and the fault is judged. Returns `Image` if the
+/// input is not image text, `Memory`, or `Device` if a read or a write failed; what was written then is a prefix of the line.
 pub fn run_confirm<R: Read, W: Write>(
     alloc: Global,
     reader: &mut Tally<R>,

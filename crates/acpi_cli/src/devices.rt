@@ -17,8 +17,8 @@ pub struct Output {
     pub outcome: Outcome,
 }
 
-/// The image whose text is on `reader`. Refuses `Image` where the input is no image text, `Memory`, and
-/// `Device` where a read failed.
+/// The image whose text is on `reader`. Returns `Image` if the input is not image text, `Memory`, or
+/// `Device` if a read failed.
 pub fn read_input<R: Read>(alloc: Global, reader: &mut Tally<R>) -> Result<Image, RunFault>
     ensures { ReadsInput (device R.remaining reader.old reader.new) result }
 {
@@ -30,7 +30,7 @@ pub fn read_input<R: Read>(alloc: Global, reader: &mut Tally<R>) -> Result<Image
     }
 }
 
-/// Writes the output's bytes, and returns its outcome. Refuses `Device` where a write failed.
+/// Writes the output's bytes, and returns its outcome, or `Device` if a write failed.
 pub fn write_output<W: Write>(writer: &mut Tally<W>, output: &Output) -> Result<Outcome, RunFault>
     ensures { WritesOutput (device W.contents writer.old writer.new) output.now.bytes.items
         output.now.outcome result }
@@ -41,7 +41,7 @@ pub fn write_output<W: Write>(writer: &mut Tally<W>, output: &Output) -> Result<
     }
 }
 
-/// Writes all the bytes, by as many writes as it takes.
+/// Writes all the bytes, with as many writes as it takes.
 fn write_whole<W: Write>(writer: &mut Tally<W>, bytes: &[u8]) -> Result<(), DeviceFailed>
     ensures ok { OnOk result
         (Appends (W.contents writer.old.inner) (W.contents writer.new.inner) bytes.now) }

@@ -24,13 +24,13 @@ fn find_output(alloc: Global, image: &Image) -> Result<Output, AllocError>
     Ok(Output { bytes, outcome })
 }
 
-/// Looks for the RSDP in the image whose text is on `reader`, at the multiples of 16 from E0000h to
-/// FFFF0h (ACPI 6.5, 5.2.5.1).
+/// Searches the image whose text is on `reader` for the RSDP, at the multiples of 16 from 0xe0000 to
+/// 0xffff0 (ACPI 6.5, 5.2.5.1).
 ///
-/// Writes `rsdp` and the least address at which it is found, in hex, and returns `Yes`; or `rsdp none`,
-/// and returns `No`. Nothing is written before the image is read. Refuses `Image` where the input is no
-/// image text, `Memory`, and `Device` where a read or a write failed; what was written then is a prefix
-/// of the line.
+/// Writes `rsdp` and the lowest address at which it is found, in hex, and returns `Yes`; or `rsdp none`,
+/// and returns `No`. Nothing is written before the image is read. Returns `Image` if the input is not
+/// image text, `Memory`, or `Device` if a read or a write failed; what was written then is a prefix of
+/// the line.
 pub fn run_find<R: Read, W: Write>(
     alloc: Global,
     reader: &mut Tally<R>,

@@ -1,4 +1,4 @@
-//! The whole headline on the two calls, `check` and `confirm`, that judge an image apart from each other.
+//! The whole headline on the two calls `check` and `confirm`, which judge an image independently of each other.
 
 ghost use Rattle.std.specs.Prelude.{◌≡◌, ◌↔◌, IfOk, IsTrue, OnErr, false, true};
 ghost use Rattle.acpi_base.specs.Faults.{Fault, IsFirstFault};
@@ -21,11 +21,11 @@ pub struct Judgement {
     pub is_confirmed: bool,
 }
 
-/// Asks both, the checker for its verdict and `confirm` of any witness.
+/// Calls both: the checker for its verdict, and `confirm` on any witness.
 ///
-/// The checker says yes exactly where all statements hold, and else no with the first fault. `confirm` accepts exactly
-/// the faults. So it accepts the fault that the checker reports, and none of a set that the checker finds clean. Out of
-/// memory, the first six statements hold.
+/// The checker says yes exactly if all statements hold, otherwise no with the first fault. `confirm` accepts exactly the
+/// faults. So it accepts the fault that the checker reports, and no fault of a set that the checker finds clean. If the
+/// checker runs out of memory, the first six statements hold.
 pub fn check_and_confirm_agree(
     alloc: Global,
     image: &Image,

@@ -23,7 +23,7 @@ fn no_text(alloc: Global, faults: &[Witness]) -> Result<Vec<u8>, AllocError>
     Ok(text)
 }
 
-/// The lines of the faults: `yes` where there is none.
+/// The lines of the faults: `yes` if there is none.
 #[tactic(auto, using(crate::proofs::FindingLines::lines_of_faults))]
 fn fault_text(alloc: Global, faults: &[Witness]) -> Result<Vec<u8>, AllocError>
     ensures { IfOk result (λ text. text.items ≡ fault_lines faults.now) }
@@ -35,7 +35,7 @@ fn fault_text(alloc: Global, faults: &[Witness]) -> Result<Vec<u8>, AllocError>
     }
 }
 
-/// The lines of the faults, and behind them those of the advice.
+/// The lines of the faults, then those of the advice.
 fn finding_text(alloc: Global, findings: &Findings) -> Result<Vec<u8>, AllocError>
     ensures { IfOk result (λ text.
         text.items ≡ finding_lines findings.now.faults.items findings.now.advice.items) }
@@ -47,7 +47,7 @@ fn finding_text(alloc: Global, findings: &Findings) -> Result<Vec<u8>, AllocErro
     Ok(text)
 }
 
-/// The outcome that goes with these findings. With `is_strict` advice alone is a bad one too.
+/// The outcome that goes with these findings. If `is_strict`, advice alone makes it `No`.
 fn outcome_of(findings: &Findings, is_strict: bool) -> Outcome
     ensures { result ≡ outcome_of_findings is_strict findings.now.faults.items
         findings.now.advice.items }
@@ -77,14 +77,14 @@ fn lint_output(
     Ok(Output { bytes, outcome })
 }
 
-/// Looks for all that is wrong with the tables of the image whose text is on `reader`, from the RSDP at the address `rsdp`, or
-/// where it is `None` from the one that is found. The policy's own address is not looked at.
+/// Searches for everything that is wrong with the tables of the image whose text is on `reader`, from the RSDP at the address
+/// `rsdp`, or if that is `None` from the one that is found. The policy's own address is ignored.
 ///
-/// Writes a line `no` with the first fault of each code that has one, or `yes` where none has, and behind these a line `advice`
-/// with the first finding of each rule that is broken. Returns `No` where there is a fault, and with `is_strict` also where there is
-/// advice, else `Yes`. Where no address is given and none is found it writes `no rsdp` and returns `No`. Nothing is written before
-/// the image is read and judged and all lines are made. Refuses `Image` where the input is no image text, `Memory`, and `Device`
-/// where a read or a write failed; what was written then is a prefix of the lines.
+/// Writes a line `no` with the first fault of each code that has one, or `yes` if none has, then a line `advice` with the first
+/// finding of each rule that is broken. Returns `No` if there is a fault, and if `is_strict` also if there is advice, otherwise
+/// `Yes`. If no address is given and none is found, it writes `no rsdp` and returns `No`. Nothing is written before the image is
+/// read and judged and all lines are made. Returns `Image` if the input is not image text, `Memory`, or `Device` if a read or a
+/// write failed; what was written then is a prefix of the lines.
 pub fn run_lint<R: Read, W: Write>(
     alloc: Global,
     reader: &mut Tally<R>,

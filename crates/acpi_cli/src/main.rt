@@ -1,9 +1,10 @@
-//! The program: reads its arguments, and checks the image on standard input, lists all that is wrong with it, confirms a fault of
-//! it, rebuilds its set of tables at another address, shows what its tables say, or looks for the RSDP in it.
+//! The program: reads its arguments, and checks the image on standard input, lists everything that is wrong with it, confirms
+//! one of its faults, rebuilds its set of tables at another address, shows what its tables say, or searches it for the RSDP.
 #![tactic(auto)]
 
 mod check;
 mod command_line;
+mod complaint;
 mod confirm;
 mod devices;
 mod find;
@@ -12,14 +13,17 @@ mod lint;
 mod number_words;
 mod outcome;
 mod policy_words;
+mod printable;
 mod program;
 mod rebuild;
 mod reply;
 mod show;
 #[cfg(test)]
 mod tests;
+mod tips;
 mod uninterrupted;
 mod usage;
+mod witness_fault;
 mod words;
 
 use acpi_base::Tally;
@@ -30,7 +34,7 @@ use std::process::ExitCode;
 use uninterrupted::Uninterrupted;
 use words::WordFault;
 
-/// The arguments of the command line, the program's own name first. Refuses `Words` where one is not UTF-8.
+/// The arguments of the command line, starting with the program's own name. Returns `Words` if one is not UTF-8.
 fn arguments(rt: &HostRuntime) -> Result<Vec<String>, WordFault> {
     match std::env::args(rt) {
         Ok(words) => words.collect(rt.alloc()).map_err(|_| WordFault::Memory),

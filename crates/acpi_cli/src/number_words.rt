@@ -6,8 +6,8 @@ ghost use Rattle.std.specs.Char.{is_digit};
 ghost use Rattle.std.specs.Str.Parse.{digits_value};
 ghost use Rattle.acpi_cli.specs.Words.{without_0x, number_word, hex_word, decimal_word};
 
-/// The number that `text` spells in 1 to `most` hex digits of either case, with `0x` before them or
-/// without. `None` where it is anything else.
+/// The number that `text` spells in 1 to `most` hex digits of either case, with or without `0x` before
+/// them. `None` if it is anything else.
 pub fn hex_number(text: &str, most: usize) -> Option<u64>
     requires { most ≤ 16 }
     ensures value { result ≡ hex_word most text.now }
@@ -16,7 +16,7 @@ pub fn hex_number(text: &str, most: usize) -> Option<u64>
     number(without_prefix(text.as_bytes()), 16, most)
 }
 
-/// The number that `text` spells in 1 to `most` decimal digits. `None` where it is anything else.
+/// The number that `text` spells in 1 to `most` decimal digits. `None` if it is anything else.
 pub fn decimal_number(text: &str, most: usize) -> Option<u64>
     requires { most ≤ 16 }
     ensures { result ≡ decimal_word most text.now }
@@ -47,7 +47,7 @@ fn number(digits: &[u8], base: u32, most: usize) -> Option<u64>
     value(digits, base)
 }
 
-/// The value of the digits, the highest first, where all are digits.
+/// The value of the digits, the most significant first. `None` if one is not a digit.
 fn value(digits: &[u8], base: u32) -> Option<u64>
     requires low { 2 ≤ base }
     requires high { base ≤ 16 }

@@ -6,19 +6,19 @@ ghost use Rattle.acpi_cli.specs.Outcome.{exit_status};
 use acpi_base::TextFault;
 use thiserror::Error;
 
-/// What an engine returns where all went well.
+/// What an engine returns if nothing failed.
 #[derive(Clone, Copy, Debug, PartialEq, Eq)]
 pub enum Outcome {
     /// What was asked holds.
     Yes,
-    /// It does not, and what was written says why.
+    /// It does not; what was written says why.
     No,
 }
 
-/// Why an engine gave up.
+/// Why an engine failed.
 #[derive(Clone, Copy, Debug, PartialEq, Eq, Error)]
 pub enum RunFault {
-    /// The text that was read is no image text: one of its own faults, never `Read` or `Memory`.
+    /// The input is not image text: a fault of the text, never `Read` or `Memory`.
     #[error("{0}")]
     Image(TextFault),
     /// Out of memory.
@@ -29,8 +29,8 @@ pub enum RunFault {
     Device,
 }
 
-/// The program's exit status: 0 for `Yes`, 1 for `No`, 3 where the text is refused, and 4 where memory
-/// or a device failed. Arguments that are refused have status 2, before any engine runs.
+/// The program's exit status: 0 for `Yes`, 1 for `No`, 3 if the text is refused, and 4 if memory ran out or
+/// a device failed. Refused arguments have status 2, before any engine runs.
 pub fn status_of(run: &Result<Outcome, RunFault>) -> u8
     ensures { result ≡ exit_status run.now }
 {

@@ -1,4 +1,4 @@
-//! What the arguments of the command line say of the policy: how many inputs each I/O APIC has, which ranges of memory
+//! The settings of a check among the arguments of the command line: how many inputs each I/O APIC has, which memory ranges
 //! must not overlap, and which processors count as enabled.
 
 ghost use Rattle.std.specs.Prelude.{◌≡◌, ◌++◌, ℕ, List, IfErr, IfOk, IsSome, Some, codes, map, option_map, unwrap_or};
@@ -14,32 +14,20 @@ use acpi_base::{HotPlug, Policy, Processors};
 use clap::ArgMatches;
 use std::alloc::Global;
 
-/// The number of inputs of each I/O APIC without a count of its own, where no option gives another.
+/// The number of inputs of each I/O APIC without a count of its own, if `--default-inputs` is absent.
 const DEFAULT_INPUTS: u16 = 24;
-
-/// What a count of inputs may be, in an error message.
-const COUNTS: &str = "an I/O APIC has 1 to 256 inputs, in 1 to 3 decimal digits";
-
-/// What the setting of `--hotplug` may be, in an error message.
-const HOTPLUG_SETTINGS: &str = "hot-pluggable ranges are counted or apart";
-
-/// What the setting of `--processors` may be, in an error message.
-const PROCESSORS_SETTINGS: &str = "processors are enabled or usable";
-
-/// What the address of an I/O APIC may be, in an error message.
-const ADDRESSES: &str = "1 to 8 hex digits, with 0x before them or without";
 
 /// The address of an I/O APIC, and how many inputs it has.
 #[derive(Clone, Copy)]
-struct Inputs {
+pub struct Inputs {
     address: u32,
     count: u16,
 }
 
-/// The policy of `--default-inputs`, `--hotplug`, `--processors` and the words `ADDRESS=COUNT` among the options. Its RSDP
-/// address is 0. Takes a number of steps that grows with n log n of n words.
+/// The policy that `--default-inputs`, `--hotplug`, `--processors` and the arguments `ADDRESS=COUNT` give. Its RSDP address
+/// is 0. Takes O(n log n) steps for n arguments.
 ///
-/// Refuses `Words` where a word is wrong; `Memory` may be returned in place of a policy or of `Words`.
+/// Returns `Words` if one of them is wrong; `Memory` may be returned instead of a policy or of `Words`.
 pub fn read_policy(alloc: Global, options: &ArgMatches) -> Result<Policy, WordFault>
     ensures policy { IfOk result
         (λ policy. asked_policy (rows_of (found_of options.now)) ≡ Some policy) }
@@ -58,8 +46,8 @@ pub fn read_policy(alloc: Global, options: &ArgMatches) -> Result<Policy, WordFa
     Ok(policy)
 }
 
-/// The policy of `--default-inputs` and of the words `ADDRESS=COUNT`, with the settings of a new one. The first count of
-/// an address stands.
+/// The policy that `--default-inputs` and the arguments `ADDRESS=COUNT` give, with the other settings of a new one. If an
+/// address is repeated, the first count wins.
 #[tactic(auto, using(crate::proofs::InputsWords::one_more, crate::proofs::InputsWords::one_wrong))]
 fn read_inputs(
     alloc: Global,
@@ -86,7 +74,7 @@ fn read_inputs(
     Ok(policy)
 }
 
-/// In the policy of the words each I/O APIC has the first count that they give for its address, else the default. They
+/// In this policy each I/O APIC has the first count that the arguments give for its address, otherwise the default. They
 /// change nothing else in a policy.
 pub fn first_counts_stand()
     ensures inputs { (default_inputs address : ℕ) (counts : List Inputs) →
@@ -96,7 +84,7 @@ pub fn first_counts_stand()
         with_inputs q counts ≡ record q { inputs = (with_inputs q counts).inputs } }
 {}
 
-/// A word is `ADDRESS=COUNT` exactly where it is an address of 1 to 8 hex digits, with `0x` before them or without, a
+/// An argument is `ADDRESS=COUNT` exactly if it is an address of 1 to 8 hex digits, with or without `0x` before them, a
 /// `=`, and a count of 1 to 256 in 1 to 3 decimal digits.
 pub fn inputs_are_address_and_count()
     ensures read { (address count : List ℕ) (a n : ℕ) → hex_word 8 address ≡ Some a
@@ -107,45 +95,8 @@ pub fn inputs_are_address_and_count()
         × (hex_word 8 address ≡ Some inputs.address) × (count_word count ≡ Some inputs.count) }
 {}
 
-/// An error message on the options that `read_policy` reads, in a line that names the first wrong one.
-pub fn policy_message(alloc: Global, options: &ArgMatches) -> Option<String> {
-    let default_inputs = default_count(value(options, "default-inputs"));
-    let hotplug = hotplug_setting(value(options, "hotplug"));
-    let processors = processors_setting(value(options, "processors"));
-    for (name, is_right, allowed) in [
-        ("default-inputs", default_inputs.is_some(), COUNTS),
-        ("hotplug", hotplug.is_some(), HOTPLUG_SETTINGS),
-        ("processors", processors.is_some(), PROCESSORS_SETTINGS),
-    ] {
-        if !is_right {
-            return refused_value(alloc, name, value(options, name)?, allowed);
-        }
-    }
-    let words = values(options, "inputs");
-    let word = words.iter().find(|word| inputs_of_word(word).is_none())?;
-    inputs_message(alloc, word)
-}
-
-/// An error message on the value of the option `--NAME`: `allowed` says what it may be.
-pub fn refused_value(alloc: Global, name: &str, value: &str, allowed: &str) -> Option<String> {
-    format!(in alloc; "--{name} '{value}': {allowed}").ok()
-}
-
-/// An error message on a word that is no `ADDRESS=COUNT`.
-fn inputs_message(alloc: Global, word: &str) -> Option<String> {
-    let Some((address, _)) = word.split_once('=') else {
-        return format!(in alloc;
-            "'{word}': what is no option is ADDRESS=COUNT, such as fec00000=24"
-        ).ok();
-    };
-    if hex_number(address, 8).is_none() {
-        return format!(in alloc; "'{word}': the address of an I/O APIC is {ADDRESSES}").ok();
-    }
-    format!(in alloc; "'{word}': {COUNTS}").ok()
-}
-
-/// The count that `--default-inputs` gives, else 24. `None` where its value is no count.
-fn default_count(word: Option<&str>) -> Option<u16>
+/// The count that `--default-inputs` gives, or 24 if it is absent. `None` if its value is not a count.
+pub fn default_count(word: Option<&str>) -> Option<u16>
     ensures { result ≡ default_word (option_map (λ text. text.now) word.entry) }
 {
     match word {
@@ -154,8 +105,8 @@ fn default_count(word: Option<&str>) -> Option<u16>
     }
 }
 
-/// The setting that `--hotplug` gives, else `Counted`. `None` where its value is no setting.
-fn hotplug_setting(word: Option<&str>) -> Option<HotPlug>
+/// The setting that `--hotplug` gives, or `Counted` if it is absent. `None` if its value is not a setting.
+pub fn hotplug_setting(word: Option<&str>) -> Option<HotPlug>
     ensures { result ≡ hotplug_word (option_map (λ text. text.now) word.entry) }
 {
     match word.unwrap_or("counted") {
@@ -165,8 +116,8 @@ fn hotplug_setting(word: Option<&str>) -> Option<HotPlug>
     }
 }
 
-/// The setting that `--processors` gives, else `Enabled`. `None` where its value is no setting.
-fn processors_setting(word: Option<&str>) -> Option<Processors>
+/// The setting that `--processors` gives, or `Enabled` if it is absent. `None` if its value is not a setting.
+pub fn processors_setting(word: Option<&str>) -> Option<Processors>
     ensures { result ≡ processors_word (option_map (λ text. text.now) word.entry) }
 {
     match word.unwrap_or("enabled") {
@@ -176,8 +127,8 @@ fn processors_setting(word: Option<&str>) -> Option<Processors>
     }
 }
 
-/// The inputs that `ADDRESS=COUNT` says. `None` where the word is anything else.
-fn inputs_of_word(word: &str) -> Option<Inputs>
+/// The inputs that `ADDRESS=COUNT` gives. `None` if the argument is anything else.
+pub fn inputs_of_word(word: &str) -> Option<Inputs>
     ensures { result ≡ inputs_word word.now }
 {
     let (address, number) = word.split_once('=')?;
@@ -186,7 +137,7 @@ fn inputs_of_word(word: &str) -> Option<Inputs>
     Some(Inputs { address, count })
 }
 
-/// The number of inputs, 1 to 256, that `text` spells in 1 to 3 decimal digits. `None` where it is anything else.
+/// The number of inputs, 1 to 256, that `text` spells in 1 to 3 decimal digits. `None` if it is anything else.
 fn count(text: &str) -> Option<u16>
     ensures { result ≡ count_word text.now }
 {

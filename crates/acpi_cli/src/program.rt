@@ -19,18 +19,18 @@ use acpi_base::Tally;
 use std::alloc::Global;
 use std::io::{Read, Write};
 
-/// The exit status where the arguments are refused.
+/// The exit status if the arguments are refused.
 const REFUSED: u8 = 2;
 
-/// The exit status where the program is out of memory.
+/// The exit status if the program is out of memory.
 const OUT_OF_MEMORY: u8 = 4;
 
 /// Does what the arguments `words` ask for, of which the first is the program's name, and returns the exit status.
 ///
-/// Where they ask for a job, its engine runs on `reader` and `writer`, and the status is that of its result: 0, 1, 3 or
-/// 4. Where they ask for none, or ask for help, nothing is read or written, and the status is 2; where memory runs out
-/// while they are read, nothing is read or written either, and the status is 4. Why the program gave up is reported on
-/// `errors`; a failed write there changes nothing else.
+/// If they ask for a job, its engine runs on `reader` and `writer`, and the status is that of its result: 0, 1, 3 or 4. If
+/// they ask for none, or for help, nothing is read or written, and the status is 2; if memory runs out while they are parsed,
+/// nothing is read or written either, and the status is 4. Errors are reported on `errors`; a failed write there changes
+/// nothing else.
 #[tactic(auto, using(crate::proofs::Statuses::refused))]
 pub fn obey<R: Read, W: Write, E: Write>(
     alloc: Global,
@@ -85,7 +85,7 @@ pub fn do_job<R: Read, W: Write>(
     }
 }
 
-/// Reports why an engine gave up, if it did.
+/// Reports an engine's error, if it returned one.
 fn report<E: Write>(errors: &mut E, ended: &Result<Outcome, RunFault>) {
     if let Err(fault) = ended {
         let _ = writeln!(errors, "acpiset: {fault}");

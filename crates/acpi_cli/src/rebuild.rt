@@ -30,7 +30,7 @@ fn refused(alloc: Global, fault: RebuildFault) -> Result<Output, AllocError>
 }
 
 /// What is reported of the image's set under the policy, rebuilt from the address `base` on. The image is dropped before the
-/// new one's text is made, so that it takes no memory beside this text, which takes three times the new image's.
+/// text of the new one is made: that text takes three times the memory of the new image.
 fn rebuilt_output(
     alloc: Global,
     image: Image,
@@ -70,17 +70,17 @@ fn rebuild_output(
     rebuilt_output(alloc, image, &policy, base)
 }
 
-/// Rebuilds the set of tables of the image whose text is on `reader`, from the address `base` on. The set is the one that
-/// the RSDP at the address `rsdp` leads to, or where it is `None` the one that is found. The policy's own address is not
-/// looked at.
+/// Rebuilds the set of tables of the image whose text is on `reader`, from the address `base` on. The set is the one that is
+/// reached from the RSDP at the address `rsdp`, or if that is `None` from the one that is found. The policy's own address is
+/// ignored.
 ///
-/// Writes the text of the new image, which holds the rebuilt set and nothing else (`image_text`), and returns `Yes`. Else
-/// it returns `No`, and writes, in this order: `no rsdp`, where no address is given and none is found; `refused
-/// Unaligned`, where `base` is not a multiple of 64; the verdict's line, where the set is not clean; `refused
-/// TableTooLong`, `refused PastEnd` or `refused NeedsLow`, where it cannot stand at that address (`RebuildFault`).
+/// Writes the text of the new image, which has the rebuilt set and nothing else (`image_text`), and returns `Yes`. Otherwise
+/// it returns `No`, and writes the first of these that applies: `no rsdp`, if no address is given and none is found; `refused
+/// Unaligned`, if `base` is not a multiple of 64; the verdict's line, if the set is not clean; `refused TableTooLong`, `refused
+/// PastEnd` or `refused NeedsLow`, if it cannot be placed at that address (`RebuildFault`).
 ///
-/// Nothing is written before the image is read, judged and rebuilt. Refuses `Image` where the input is no image text, `Memory`, and
-/// `Device` where a read or a write failed; what was written then is a prefix of the whole.
+/// Nothing is written before the image is read, judged and rebuilt. Returns `Image` if the input is not image text, `Memory`, or
+/// `Device` if a read or a write failed; what was written then is a prefix of the whole output.
 pub fn run_rebuild<R: Read, W: Write>(
     alloc: Global,
     reader: &mut Tally<R>,

@@ -43,13 +43,13 @@ fn show_output(alloc: Global, image: &Image, given: Option<u64>) -> Result<Outpu
     Ok(Output { bytes, outcome })
 }
 
-/// Shows the set of tables of the image whose text is on `reader`, from the RSDP at the address `rsdp`, or where it is
-/// `None` from the one that is found: a line for the RSDP, the root, each of its slots, and each thing that the FADT,
-/// the FACS, the MADT, the SRAT, the SLIT and the PPTT say.
+/// Shows the set of tables of the image whose text is on `reader`, from the RSDP at the address `rsdp`, or if that is
+/// `None` from the one that is found: a line for the RSDP, for the root, for each of its slots, and for each structure of
+/// the FADT, the FACS, the MADT, the SRAT, the SLIT and the PPTT.
 ///
-/// Returns `Yes` where the stages up to the listed tables hold. Where they do not it writes the verdict's line, and where
-/// no address is given and none is found `no rsdp`, and returns `No`. Nothing is written before the image is read and
-/// judged and all lines are made. Refuses `Image` where the input is no image text, `Memory`, and `Device` where a read
+/// Returns `Yes` if the stages up to the listed tables hold. If they do not, it writes the verdict's line and returns `No`;
+/// if no address is given and none is found, it writes `no rsdp` and returns `No`. Nothing is written before the image is
+/// read and judged and all lines are made. Returns `Image` if the input is not image text, `Memory`, or `Device` if a read
 /// or a write failed; what was written then is a prefix of the lines.
 pub fn run_show<R: Read, W: Write>(
     alloc: Global,

@@ -8,7 +8,7 @@ use std::io::{ErrorKind, Read};
 use std::process::Abort;
 use std::test::Fail;
 
-/// An RSDP and an RSDT that lists nothing. The sum of each is 0.
+/// An RSDP and an RSDT that lists nothing. Both checksums are right.
 const LISTS_NOTHING: &[u8] = b"@e0000
 52 53 44 20 50 54 52 20 4b 41 41 41 41 41 41 00
 00 10 00 00
@@ -18,7 +18,7 @@ const LISTS_NOTHING: &[u8] = b"@e0000
 01 00 00 00
 ";
 
-/// A clean set: the RSDT lists a FADT of 116 bytes at 2000h, whose flag HW_REDUCED_ACPI is set.
+/// A clean set: the RSDT lists a FADT of 116 bytes at 0x2000, whose flag HW_REDUCED_ACPI is set.
 const CLEAN: &[u8] = b"@e0000
 52 53 44 20 50 54 52 20 4b 41 41 41 41 41 41 00
 00 10 00 00
@@ -37,7 +37,7 @@ const CLEAN: &[u8] = b"@e0000
 00 00 10 00
 ";
 
-/// The clean set at 7FFE0000h: an RSDP of revision 2, an XSDT, and the FADT as it was, each at a multiple of 64.
+/// The clean set rebuilt at 0x7ffe0000: an RSDP of revision 2, an XSDT, and the same FADT, each at a multiple of 64.
 const REBUILT: &[u8] = b"@7ffe0000
 52 53 44 20 50 54 52 20 59 41 41 41 41 41 41 02
 00 00 00 00 24 00 00 00 40 00 fe 7f 00 00 00 00
@@ -73,10 +73,10 @@ const NO_FADT: Witness = Witness {
     point: 0,
 };
 
-/// What an engine writes has room in so many bytes.
+/// The most bytes that an engine writes in these tests.
 const ROOM: usize = 1024;
 
-/// What the engine of a job returns on what a reader gives, and what it writes.
+/// What the engine of a job returns on the bytes of a reader, and what it writes.
 fn told<R: Read + Drop>(
     alloc: Global,
     reader: R,
@@ -130,7 +130,8 @@ fn a_check_writes_the_verdict_of_the_stages_that_are_asked_for(
     Ok(())
 }
 
-/// The clean set, whose slot 1 lists the FADT once more. The RSDT's sum stays 0: its Length grows by 4, and the slot's digits by 20h.
+/// The clean set, whose slot 1 lists the FADT once more. The RSDT's checksum is lower by 0x24: its Length grows by 4, and the
+/// slot adds 0x20.
 const LISTS_TWICE: &[u8] = b"@e0000
 52 53 44 20 50 54 52 20 4b 41 41 41 41 41 41 00
 00 10 00 00
@@ -149,7 +150,7 @@ const LISTS_TWICE: &[u8] = b"@e0000
 00 00 10 00
 ";
 
-/// What is wrong where the RSDP of an empty image is looked for at 0.
+/// The fault of an empty image whose RSDP is expected at 0.
 const NOTHING: &[u8] = b"no 1 RsdpOut 0x0 0x0 0x0\n";
 
 /// What is found in the set that lists its FADT twice.
@@ -202,7 +203,7 @@ fn a_fault_is_confirmed_by_all_its_numbers(rt: HostRuntime) -> Result<(), Fail> 
     Ok(())
 }
 
-/// Texts, the base address, and the outcome and what is written. At the last multiple of 64 there is room for an RSDP alone.
+/// Texts, the base address, and the outcome and what is written. At the last multiple of 64 only an RSDP fits.
 const REBUILDS: [(&[u8], u64, Outcome, &[u8]); 5] = [
     (CLEAN, 0x7ffe_0000, Outcome::Yes, REBUILT),
     (CLEAN, 0x7ffe_0020, Outcome::No, b"refused Unaligned\n"),
@@ -347,7 +348,7 @@ impl Read for Cut {
     }
 }
 
-// A whole text has come when the read fails.
+// The whole text was read when the read fails.
 #[test]
 fn each_engine_tells_of_a_failed_read_and_writes_nothing(rt: HostRuntime) -> Result<(), Fail> {
     let alloc = rt.alloc();
@@ -361,7 +362,7 @@ fn each_engine_tells_of_a_failed_read_and_writes_nothing(rt: HostRuntime) -> Res
     Ok(())
 }
 
-/// What the engine of a job returns whose writer takes three bytes and then no more, and these bytes.
+/// What the engine of a job returns if its writer accepts only three bytes, and these bytes.
 fn told_to_three_bytes(alloc: Global, job: Job) -> (Result<Outcome, RunFault>, [u8; 3]) {
     let mut bytes = [0; 3];
     let mut reader = Tally::new(LISTS_NOTHING);

@@ -1,4 +1,4 @@
-//! Readers and writers that make a call again where a signal interrupted it.
+//! Readers and writers that repeat a call which a signal interrupted.
 
 #[cfg(test)]
 mod tests;
@@ -9,11 +9,10 @@ ghost use Rattle.std.specs.Io.KnownBytes.{ReadConsumes, WriteAppends};
 
 use std::io::{ErrorKind, Read, Result, Write};
 
-/// How often one call is made, at most: a device that interrupts every call has failed, and must not hold the program for good.
+/// How often one call is made at most: a device that interrupts every call has failed, and must not stop the program from ending.
 const TRIES: u32 = 1_000;
 
-/// A reader or a writer that makes a call again where a signal interrupted it. Its bytes are those of what is inside. No call
-/// takes memory.
+/// A reader or a writer that repeats a call which a signal interrupted. Its bytes are those of the inner one. No call allocates.
 #[derive(Drop)]
 pub struct Uninterrupted<T> {
     inner: T,

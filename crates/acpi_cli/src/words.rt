@@ -12,64 +12,57 @@ ghost use Rattle.acpi_cli.specs.CommandLine.{Asked, DoesAsked, PolicyTexts, aske
 ghost use Rattle.acpi_cli.specs.CommandLine.{find_words, last_word, lint_words, policy_words, asked_rebuild, rebuild_words, rsdp_word, asked_show, show_words, witness_word};
 ghost use Rattle.acpi_cli.specs.Words.{written_fault};
 
-use crate::command_line::{clap_message, is_set, parse, value};
+use crate::command_line::{is_set, parse, value};
 use crate::number_words::{decimal_number, hex_number};
-use crate::policy_words::{policy_message, read_policy, refused_value};
+use crate::policy_words::read_policy;
 use acpi_base::{Policy, Stage, Witness, parse_witness};
 use clap::ArgMatches;
 use std::alloc::Global;
 use thiserror::Error;
 
-/// What a fault looks like, in an error message.
-const FAULTS: &str =
-    "a fault is one argument, as check writes it, such as '10 Overlap 0x30 0x58 0x0'";
-
-/// What an address looks like, in an error message.
-const ADDRESSES: &str = "an address is 1 to 16 hex digits, with 0x before them or without";
-
-/// A command, with what its engine is called with.
+/// A command, and the arguments of its engine.
 #[derive(Drop)]
 pub enum Job {
-    /// Check the tables that the RSDP leads to, up to the stage `last`: the RSDP at `rsdp`, or the one
-    /// that is found. The policy's own RSDP address is 0.
+    /// Check the tables that are reached from the RSDP, up to the stage `last`: the RSDP at `rsdp`, or the
+    /// one that is found if that is `None`. The policy's own RSDP address is 0.
     Check {
         rsdp: Option<u64>,
         policy: Policy,
         last: Stage,
     },
-    /// Report the first fault of each code and the first finding of each rule of advice, of the tables that the RSDP leads to: the
-    /// RSDP at `rsdp`, or the one that is found. The policy's own RSDP address is 0. With `is_strict` advice is a bad outcome too.
+    /// Report the first fault of each code and the first finding of each rule of advice, in the tables that are reached from the
+    /// RSDP (see `Check`). The policy's own RSDP address is 0. If `is_strict`, advice is a bad outcome too.
     Lint {
         rsdp: Option<u64>,
         policy: Policy,
         is_strict: bool,
     },
-    /// Judge whether the witness is a fault of the tables that the RSDP leads to: the RSDP at `rsdp`, or the
-    /// one that is found. The policy's own RSDP address is 0.
+    /// Judge whether the witness is a fault of the tables that are reached from the RSDP (see `Check`). The
+    /// policy's own RSDP address is 0.
     Confirm {
         rsdp: Option<u64>,
         policy: Policy,
         witness: Witness,
     },
-    /// Rebuild the set of tables that the RSDP leads to from the address `base` on: the RSDP at `rsdp`, or the one that is
-    /// found. The policy's own RSDP address is 0.
+    /// Rebuild the set of tables that are reached from the RSDP (see `Check`), from the address `base` on. The policy's own
+    /// RSDP address is 0.
     Rebuild {
         rsdp: Option<u64>,
         policy: Policy,
         base: u64,
     },
-    /// Show what the tables say that the RSDP leads to: the RSDP at `rsdp`, or the one that is found.
+    /// Show what the tables say that are reached from the RSDP (see `Check`).
     Show {
         rsdp: Option<u64>,
     },
-    /// Look for the RSDP.
+    /// Search for the RSDP.
     Find,
 }
 
 /// Why no job was read.
 #[derive(Clone, Copy, Debug, PartialEq, Eq, Error)]
 pub enum WordFault {
-    /// The arguments are none of the program's, or ask for help.
+    /// The arguments are wrong, or ask for help.
     #[error("the arguments are refused")]
     Words,
     /// Out of memory.
@@ -80,21 +73,18 @@ pub enum WordFault {
 /// The job that the arguments `words` ask for, of which the first is the program's name.
 ///
 /// The commands are `find`, `show [--rsdp HEX]`, `check [--rsdp HEX] [--through N] [--default-inputs N] [--hotplug SETTING]
-/// [--processors SETTING] [ADDRESS=COUNT]..`, and `lint`, `confirm` and `rebuild` with the same options as `check`, save that in
-/// the place of `--through N` `lint` has the flag `--strict`, `confirm` `--witness FAULT` and `rebuild` `--base HEX`, which these
-/// two need. FAULT is a fault as
-/// `check` writes it (`parse_witness`), in one argument. HEX is an address of 1 to 16 hex digits, with `0x` before them
-/// or without. The N of `--through` is a stage of one or two decimal digits, from 1 to 18, which it also is
-/// if absent. The setting of `--hotplug` is `counted`, which it also is if absent, or `apart`
-/// (`HotPlug`); that of `--processors` is `enabled`, which it also is if absent, or `usable` (`Processors`).
+/// [--processors SETTING] [ADDRESS=COUNT]..`, and `lint`, `confirm` and `rebuild` with the same options as `check`, except that
+/// instead of `--through N` `lint` has the flag `--strict`, `confirm` has `--witness FAULT` and `rebuild` has `--base HEX`; these
+/// two are required. FAULT is a fault as `check` writes it (`parse_witness`), in one argument. HEX is an address of 1 to 16 hex
+/// digits, with or without `0x` before them. The N of `--through` is a stage from 1 to 18 in one or two decimal digits; if absent,
+/// 18. The setting of `--hotplug` is `counted` or `apart` (`HotPlug`); if absent, `counted`. That of `--processors` is `enabled` or
+/// `usable` (`Processors`); if absent, `enabled`.
 ///
-/// How many inputs an I/O APIC has stands in no table. The N of `--default-inputs` and COUNT are numbers
-/// of inputs of 1 to 3 decimal digits, from 1 to 256: COUNT of the I/O APIC at ADDRESS, which is 1 to 8 hex
-/// digits, with `0x` before them or without, and N, 24 if absent, of all that no word names. The first
-/// count of an address stands.
+/// No ACPI table says how many inputs an I/O APIC has. COUNT is the number of inputs of the I/O APIC at ADDRESS, and the N of
+/// `--default-inputs`, 24 if absent, that of each I/O APIC without a COUNT. Both are from 1 to 256, in 1 to 3 decimal digits.
+/// ADDRESS is 1 to 8 hex digits, with or without `0x` before them. If an address is repeated, the first count wins.
 ///
-/// Refuses `Words` where the arguments are anything else, `--help` among them; `Memory` may be
-/// returned in place of a job or of `Words`.
+/// Returns `Words` if the arguments are anything else, `--help` included; `Memory` may be returned instead of a job or of `Words`.
 pub fn read_words(alloc: Global, words: &[String]) -> Result<Job, WordFault>
     ensures job { IfOk result (DoesAsked (asked_job (map string_bytes words.now))) }
     ensures refused { IfErr result (λ fault.
@@ -184,53 +174,7 @@ fn show_job(options: &ArgMatches) -> Result<Job, WordFault>
     Ok(Job::Show { rsdp })
 }
 
-/// An error message on arguments that are refused, in a line that names the wrong one. `None` where the
-/// command is missing, where help is asked for, or where the program is out of memory.
-pub fn error_message(alloc: Global, words: &[String]) -> Option<String> {
-    let Ok(matches) = parse(alloc, words) else {
-        return clap_message(alloc, words);
-    };
-    let (name, options) = matches.subcommand()?;
-    match name {
-        "confirm" if value(options, "witness").is_none() => {
-            format!(in alloc; "confirm needs --witness FAULT: {FAULTS}").ok()
-        }
-        "rebuild" if value(options, "base").is_none() => {
-            format!(in alloc; "rebuild needs --base HEX: {ADDRESSES}").ok()
-        }
-        _ => value_message(alloc, options),
-    }
-}
-
-/// An error message on the values of the options of a command, in a line that names the first wrong one.
-fn value_message(alloc: Global, options: &ArgMatches) -> Option<String> {
-    for name in ["rsdp", "base"] {
-        if let Some(hex) = value(options, name)
-            && hex_number(hex, 16).is_none()
-        {
-            return refused_value(alloc, name, hex, ADDRESSES);
-        }
-    }
-    if let Some(text) = value(options, "witness")
-        && given_witness(Some(text)).is_none()
-    {
-        return refused_value(alloc, "witness", text, FAULTS);
-    }
-    if let Some(number) = value(options, "through")
-        && last_stage(Some(number)).is_none()
-    {
-        return stage_message(alloc, number);
-    }
-    policy_message(alloc, options)
-}
-
-/// An error message on a value of `--through` that is no stage.
-fn stage_message(alloc: Global, number: &str) -> Option<String> {
-    let last = Stage::LAST.number();
-    format!(in alloc; "--through '{number}': the stages are 1 to {last}").ok()
-}
-
-/// The address that `--rsdp` gives, if it is there. `None` where its value is no address.
+/// The address that `--rsdp` gives, if it is present. `None` if its value is not an address.
 fn given_address(word: Option<&str>) -> Option<Option<u64>>
     ensures { result ≡ rsdp_word (option_map (λ text. text.now) word.entry) }
 {
@@ -240,18 +184,18 @@ fn given_address(word: Option<&str>) -> Option<Option<u64>>
     }
 }
 
-/// The address that `--base` gives. `None` where it is absent, or its value is no address.
+/// The address that `--base` gives. `None` if it is absent, or its value is not an address.
 fn base_address(word: Option<&str>) -> Option<u64>
     ensures { result ≡ base_word (option_map (λ text. text.now) word.entry) }
 {
     hex_number(word?, 16)
 }
 
-/// The fault that `--witness` gives. `None` where it is absent, or its value is no fault.
-fn given_witness(word: Option<&str>) -> Option<Witness>
+/// The fault that `--witness` gives. `None` if it is absent, or its value is not a fault.
+pub fn given_witness(word: Option<&str>) -> Option<Witness>
     ensures { result ≡ witness_word (option_map (λ text. text.now) word.entry) }
 {
-    // Each number is read, so that the proof knows it to have 64 bits.
+    // Each number is read, so that the proof knows that it has 64 bits.
     let Witness {
         code,
         at,
@@ -266,8 +210,8 @@ fn given_witness(word: Option<&str>) -> Option<Witness>
     })
 }
 
-/// The stage that `--through` names, else the last of all. `None` where its value is no stage.
-fn last_stage(word: Option<&str>) -> Option<Stage>
+/// The stage that `--through` names, or the last one if it is absent. `None` if its value is not a stage.
+pub fn last_stage(word: Option<&str>) -> Option<Stage>
     ensures { option_map stage_number result ≡ last_word
         (option_map (λ text. text.now) word.entry) }
 {
@@ -278,15 +222,15 @@ fn last_stage(word: Option<&str>) -> Option<Stage>
     Stage::new(number)
 }
 
-/// A value of `--witness` is read as a fault exactly where it is this fault's text, with numbers of 64 bits.
+/// A value of `--witness` is read as a fault exactly if it is this fault's text, with 64-bit numbers.
 pub fn fault_words_are_texts()
     ensures { (text : List ℕ) (w : Witness) → (written_fault text ≡ Some w)
         ↔ (NumbersFit w × (text ≡ witness_line w)) }
 {}
 
-/// Each plain command line with good values is read, and as one expects: `find`; `check` with each choice of its
-/// options, in this order, and then any number of words `ADDRESS=COUNT`; so `lint`, with its flag and without, `confirm` of each
-/// fault, as it is written, and `rebuild` to each address; and `show`, with its option and without.
+/// Each plain command line with valid values is accepted, and asks for what one expects: `find`; `check` with each choice of its
+/// options, in this order, and then any number of arguments `ADDRESS=COUNT`; likewise `lint`, with and without its flag, `confirm`
+/// of each fault, as it is written, and `rebuild` to each address; and `show`, with and without its option.
 pub fn plain_lines_are_read()
     ensures find { (program : List ℕ) → asked_job (find_words program) ≡ Some Asked.find }
     ensures check { (program : List ℕ) (hex number : Option (List ℕ)) (texts : PolicyTexts)

@@ -1,4 +1,4 @@
--- The conditions of the faults of one table, by stage, on what the table says.
+-- The conditions of the faults of one table, by stage, on the table's contents.
 use Rattle.acpi_base.specs.Across.{ServedFault}
 use Rattle.acpi_base.specs.Policy.{PolicyValue}
 use Rattle.acpi_base.specs.Madt.{MadtContents, MadtFault, InterruptFault, OverrideFault}

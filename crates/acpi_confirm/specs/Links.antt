@@ -1,4 +1,4 @@
--- What links two entries of a PPTT.
+-- References between entries of a PPTT.
 use Rattle.std.specs.Prelude.{ℕ, Option, Some}
 use Rattle.acpi_base.specs.Chains.{IsStep}
 use Rattle.acpi_base.specs.Pptt.{PpttEntry, PpttContents, parent_of, next_level_of, NamesParent, NamesNextLevel}
@@ -7,17 +7,17 @@ use Rattle.acpi_confirm.specs.declared.pptt.Link.{Link}
 use Rattle.acpi_confirm.specs.declared.pptt.Link.TheVariants.{Parent, NextLevel}
 use Rattle.acpi_confirm.specs.declared.pptt.chains.Linked.{Linked}
 
--- the offset that an entry names
+-- the offset that an entry refers to
 abbrev pub named_offset : Link → PpttEntry → Option ℕ
 named_offset Parent e = parent_of e
 named_offset NextLevel e = next_level_of e
 
--- the entry at o names p
+-- the entry at o refers to p
 abbrev pub Names : Link → PpttContents → ℕ → ℕ → Type 0
 Names Parent c = NamesParent c
 Names NextLevel c = NamesNextLevel c
 
--- a step leads from o to this one, which names what it says
+-- a step leads from o to this node, with these contents
 pub record IsStepTo (Named : ℕ → ℕ → Type 0) (o : ℕ) (next : Linked) : Type 0 where
   pub step : IsStep Named o next.at
   pub names : IsOnly (Named next.at) (Some next.names)

@@ -1,4 +1,4 @@
--- What an entry of a MADT says.
+-- The contents of an entry of a MADT.
 use Rattle.std.specs.Prelude.{◌≤◌, ◌<◌, ◌+◌, ℕ, length}
 use Rattle.acpi_base.specs.Madt as said
 use Rattle.acpi_base.specs.Policy.{PolicyValue, inputs_of}
@@ -16,7 +16,7 @@ madt_value (entry.X2apic x2apic_id flags uid) = said.X2apic (record { x2apic_id 
 madt_value (entry.X2apicNmi flags uid lint) = said.X2apicNmi (record { flags = flags; uid = uid; lint = lint })
 madt_value (entry.Opaque bytes) = said.Opaque bytes.now
 
--- where it is not typed, it has a type all the same
+-- if it is not of a known type, it still has a type
 abbrev pub HasType : said.MadtEntry → Type 0
 HasType (said.Opaque e) = 1 ≤ length e
 HasType _ = Unit {0}
@@ -26,7 +26,7 @@ abbrev pub ServesGsi : PolicyValue → ℕ → said.MadtEntry → Type 0
 ServesGsi q g (said.IoApic v) = (v.gsi_base ≤ g) × (g < v.gsi_base + inputs_of q v.address)
 ServesGsi q g _ = ⊥
 
--- the entry is not typed
+-- the entry is not of a known type
 abbrev pub IsOpaque : said.MadtEntry → Type 0
 IsOpaque (said.Opaque e) = Unit {0}
 IsOpaque _ = ⊥

@@ -1,4 +1,4 @@
--- What an entry of an SRAT says.
+-- The contents of an entry of an SRAT.
 use Rattle.std.specs.Prelude.{◌≡◌, ◌≤◌, ◌<◌, ◌+◌, ℕ, length, true}
 use Rattle.acpi_base.specs.Srat.{is_enabled, is_hot_pluggable}
 use Rattle.acpi_base.specs.Srat as said
@@ -13,7 +13,7 @@ srat_value (entry.MemoryRange domain base size flags) = said.MemoryRange (record
 srat_value (entry.X2apicDomain domain x2apic_id flags clock_domain) = said.X2apicDomain (record { domain = domain; x2apic_id = x2apic_id; flags = flags; clock_domain = clock_domain })
 srat_value (entry.Opaque bytes) = said.Opaque bytes.now
 
--- where it is not typed, it has a type all the same
+-- if it is not of a known type, it still has a type
 abbrev pub HasType : said.SratEntry → Type 0
 HasType (said.Opaque e) = 1 ≤ length e
 HasType _ = Unit {0}

@@ -1,33 +1,33 @@
--- A walk over the entries of a table: each stands where the one before it ends.
+-- A walk over the entries of a table: each begins where the one before it ends.
 use Rattle.std.specs.Prelude.{◌≡◌, ℕ, ◌+◌, ◌≤◌, ◌↔◌, List, [], ◌∷◌, length, Option, Some, Bool, true, false}
 use denote.Ref.{Bor}
 use Rattle.acpi_base.specs.Entries.{IsEntry, PlacedEntry, Stands, entries_of, end_of_entries}
 
--- what stands at the offset o: this entry, or none
+-- what is at the offset o: this entry, or none
 pub record IsThere {E : Type 0} (entries : List (PlacedEntry E)) (o : ℕ) (there : Option E) : Type 0 where
   pub is : (e : E) → Stands entries o e ↔ (there ≡ Some e)
 
--- P holds of this alone, or of none
+-- P holds for exactly this, or for none
 pub record IsOnly {X : Type 0} (P : X → Type 0) (only : Option X) : Type 0 where
   pub is : (x : X) → P x ↔ (only ≡ Some x)
 
--- no entry stands from the offset on
+-- there is no entry from the offset on
 pub record IsEnd (start : ℕ) (whole : List ℕ) : Type 0 where
   pub none : entries_of start whole ≡ []
   pub end : end_of_entries start whole ≡ start
 
--- the entry is the first from the offset on: behind it come the others
+-- the entry is the first from the offset on, followed by the others
 pub record IsNext (start : ℕ) (whole e : List ℕ) : Type 0 where
   pub entry : IsEntry e
   pub fits : start + length e ≤ length whole
   pub first : entries_of start whole ≡ record { offset = start; entry = e } ∷ entries_of (start + length e) whole
   pub end : end_of_entries start whole ≡ end_of_entries (start + length e) whole
 
--- from the start on the same stands at an offset as in the whole table
+-- from the start on there is the same entry at an offset as in the complete table
 pub record IsOnWay (first start : ℕ) (whole : List ℕ) (at : ℕ) : Type 0 where
   pub same : (e : List ℕ) → Stands (entries_of first whole) at e ↔ Stands (entries_of start whole) at e
 
--- by what it answers at an entry's bytes a search has found one among these entries, or no entry is one
+-- by its answer for an entry's bytes, a search has found one among these entries, or no entry is one
 abbrev pub FindsOne : (Bor (List ℕ) → Bool → Type 0) → List (PlacedEntry (List ℕ)) → Bool → Type 0
 FindsOne Answers entries true = (o : ℕ) × (entry : Bor (List ℕ)) × Stands entries o entry.now × Answers entry true
 FindsOne Answers entries false = (o : ℕ) (e : List ℕ) → Stands entries o e → (entry : Bor (List ℕ)) × (entry.now ≡ e) × Answers entry false

@@ -47,7 +47,7 @@ fn has_enabled(processors: Processors, madt: &[u8], number: u64) -> bool
     })
 }
 
-/// The domain in which the entry at an offset puts the processor with this number.
+/// The domain into which the entry at an offset puts the processor with this number.
 fn domain_at(srat: &[u8], at: u64, number: u64) -> Option<u64>
     ensures { IsOnly (λ domain. StandsWith (srat_contents srat.now).entries at
         (PutsIn number domain)) result }
@@ -69,7 +69,8 @@ fn domain_at(srat: &[u8], at: u64, number: u64) -> Option<u64>
     })
 }
 
-/// Whether two entries of the SRAT, the second of them earlier, put the processor with this number in two domains.
+/// Whether two entries of the SRAT, the second of which comes earlier, put the processor with this number into two
+/// domains.
 fn do_domains_differ(srat: &[u8], at: u64, earlier: u64, number: u64) -> bool
     ensures { IsTrue result ↔ ((d f : ℕ) × PutsAt (srat_contents srat.now) at number d
         × PutsAt (srat_contents srat.now) earlier number f × (earlier < at) × (d ≢ f)) }
@@ -145,7 +146,7 @@ pub(crate) fn is_served_fault(madt: &[u8], policy: &Policy, witness: &Witness) -
 
 // ---- Code 59: leaves
 
-/// Whether the MADT has an entry that is not typed.
+/// Whether the MADT has an entry that is not of a known type.
 fn has_opaque(madt: &[u8]) -> bool
     ensures { IsTrue result ↔ ((o : ℕ) × StandsWith (madt_contents madt.now).entries o IsOpaque) }
 {
@@ -156,7 +157,7 @@ fn has_opaque(madt: &[u8]) -> bool
     )
 }
 
-/// Whether the MADT has at least 44 bytes, and typed entries fill the rest of it.
+/// Whether the MADT has at least 44 bytes, and the rest of it is filled by entries of known types.
 #[tactic(auto, using(crate::proofs::MadtFaults::madt_codes))]
 fn is_wholly_typed(madt: &[u8]) -> bool
     ensures { IsTrue result ↔ IsWhollyTyped (madt_contents madt.now) }
@@ -181,7 +182,7 @@ fn is_uid(madt: &[u8], uid: u64) -> bool
     })
 }
 
-/// Whether an entry of the PPTT is a node that is a leaf and has this ID, which its flags say is valid.
+/// Whether an entry of the PPTT is a leaf node with this ID, which is valid by its flags.
 #[tactic(auto, unfolding(acpi_base::specs::Pptt::pptt_entry))]
 fn is_leaf(entry: &[u8], id: u64) -> bool
     requires { IsEntry entry.now }

@@ -16,7 +16,7 @@ pub(crate) fn has_bit(flags: u32, bit: u32) -> bool
     flags >> bit & 1 == 1
 }
 
-/// The entry that bytes begin with, where one stands there: its second byte is its length.
+/// The entry that the bytes begin with, if there is one: its second byte is its length.
 #[tactic(auto, unfolding(acpi_base::specs::Entries::first_entry))]
 fn first_entry(left: &[u8]) -> Option<&[u8]>
     ensures { option_map (λ entry. entry.now) result ≡ first_entry left.now }
@@ -28,7 +28,7 @@ fn first_entry(left: &[u8]) -> Option<&[u8]>
     left.get(..length)
 }
 
-/// The entry that stands at a start.
+/// The entry at an offset at which one should begin.
 #[tactic(auto, using(crate::proofs::Walks::walking))]
 pub(crate) fn entry_from(whole: &[u8], start: usize) -> Option<&[u8]>
     ensures { MatchOption result (IsEnd start whole.now)
@@ -40,7 +40,7 @@ pub(crate) fn entry_from(whole: &[u8], start: usize) -> Option<&[u8]>
     first_entry(&whole[start..])
 }
 
-/// Whether the walk over the entries of a table from a start on comes to an offset.
+/// Whether the walk over the entries of a table from a start on reaches an offset.
 #[tactic(auto, using(crate::proofs::Walks::walking))]
 pub(crate) fn comes_to(whole: &[u8], first: usize, at: u64) -> bool
     ensures { MatchBool result (IsOnWay first at whole.now at)
@@ -56,8 +56,8 @@ pub(crate) fn comes_to(whole: &[u8], first: usize, at: u64) -> bool
     start as u64 == at
 }
 
-/// The entry that stands at an offset of a table whose entries stand from `first` on, where one does: the walk
-/// goes over the starts up to the offset.
+/// The entry at an offset of a table whose entries begin at `first`, if there is one: the walk passes the entries up
+/// to the offset.
 #[tactic(auto, using(crate::proofs::Walks::walking))]
 pub(crate) fn entry_at(whole: &[u8], first: usize, at: u64) -> Option<&[u8]>
     ensures there { IsThere (entries_of first whole.now) at
@@ -70,7 +70,7 @@ pub(crate) fn entry_at(whole: &[u8], first: usize, at: u64) -> Option<&[u8]>
     entry_from(whole, at as usize)
 }
 
-/// The offset of the bytes behind the entries of a table, at which none stands, if any are left.
+/// The cut: the offset of the bytes after the entries of a table, if any are left. No entry can begin there.
 #[tactic(auto, unfolding(acpi_base::specs::Entries::cut_of))]
 pub(crate) fn cut(whole: &[u8], first: usize) -> Option<u64>
     ensures { result ≡ cut_of first whole.now }
@@ -82,7 +82,7 @@ pub(crate) fn cut(whole: &[u8], first: usize) -> Option<u64>
     (start < whole.len()).then_some(start as u64)
 }
 
-/// Whether a table has an entry that is sought.
+/// Whether a table has an entry of the wanted form.
 pub(crate) fn has_entry<F: Fn(&[u8]) -> bool>(whole: &[u8], first: usize, is_sought: F) -> bool
     requires { (entry : Bor (List ℕ)) → IsEntry entry.now → F.pre is_sought entry }
     ensures { FindsAny (λ entry found. F.post is_sought entry found) (entries_of first whole.now)

@@ -12,8 +12,8 @@ use crate::listed::listed;
 use acpi_base::field::{is_signed, u32_at, u64_at};
 use acpi_base::{Code, Image, Policy, Witness};
 
-/// Whether the witness is a fault of the FACS that the FADT names: `at` is its address, or 0 where none is named. A
-/// FADT of fewer than 116 bytes gives none of these faults.
+/// Whether the witness is a fault of the FACS that the FADT names: `at` is its address, or 0 if none is named. A FADT
+/// of fewer than 116 bytes has none of these faults.
 pub(crate) fn is_facs_fault(image: &Image, policy: &Policy, witness: &Witness) -> bool
     ensures { IsTrue result ↔ FaultCondition Stage.Facs image.now policy.now witness.now }
 {
@@ -48,14 +48,14 @@ fn has_fault(image: &Image, fadt: &[u8], code: Code, at: u64) -> bool
     }
 }
 
-/// Whether a Length of at least 64 bytes from an address on are not all held.
+/// Whether the Length is at least 64, and that many bytes from an address on are not all present.
 fn is_out(image: &Image, address: u64, length: u32) -> bool
     ensures { IsTrue result ↔ ((64 ≤ length) × (bytes_at image.now address length ≡ None)) }
 {
     length >= 64 && image.window(address, u64::from(length)).is_none()
 }
 
-/// The address that a FADT names: X_FIRMWARE_CTRL, at 132, where the table has it and it is not 0; else
+/// The address that a FADT names: X_FIRMWARE_CTRL, at 132, if the table has it and it is not 0; otherwise
 /// FIRMWARE_CTRL, at 36.
 #[tactic(auto, unfolding(acpi_base::specs::Fadt::wide_address))]
 fn facs_address(fadt: &[u8]) -> u64

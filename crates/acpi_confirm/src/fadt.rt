@@ -12,7 +12,7 @@ use acpi_base::{Code, Image, Policy, Witness};
 /// RESET_REG_SUP, a bit of Flags: the reset register may be used.
 const RESET_REG_SUP: u32 = 10;
 
-/// HW_REDUCED_ACPI, a bit of Flags: the hardware lacks what the ACPI registers drive.
+/// HW_REDUCED_ACPI, a bit of Flags: the ACPI registers are not implemented.
 const HW_REDUCED_ACPI: u32 = 20;
 
 /// Whether the witness is a fault of the FADT: `at` is an offset in it, or 0.
@@ -72,7 +72,7 @@ fn has_flag(fadt: &[u8], bit: u32) -> bool
     (u32_at(fadt, 112) >> bit) % 2 == 1
 }
 
-/// Whether RESET_REG, at 116, has a space above 2, another width than 8 bits or another bit offset than 0.
+/// Whether RESET_REG, at 116, has a space above 2, a width other than 8 bits or a bit offset other than 0.
 fn is_no_reset_register(fadt: &[u8]) -> bool
     requires { 129 ≤ length fadt.now }
     ensures { IsTrue result ↔ IsNoResetRegister (gas_at fadt.now 116) }

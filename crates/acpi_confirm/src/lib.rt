@@ -1,10 +1,10 @@
-//! Confirming a fault: whether a fault that a checker reports stands in the image, judged apart from the checker.
+//! Confirming a fault: whether an image has a fault that a checker reports, judged independently of the checker.
 //!
-//! `confirm` returns true exactly on the faults of the definitions, whoever made the witness and whatever its
-//! three numbers are. It needs no earlier stage to hold. It shares no code with the crates that check: it looks the
-//! bytes up in the image itself, and walks over the slots and the entries itself. It allocates no memory.
+//! `confirm` returns true exactly for the faults of the definitions, wherever the witness comes from and whatever its
+//! three numbers are. It does not require that earlier stages hold. It shares no code with the crates that check: it
+//! looks the bytes up in the image itself, and has its own walks over slots and entries. It allocates nothing.
 //!
-//! An example, of `crates/acpi_cli/src/confirm.rt`, where `parse_witness` has read the fault from an argument:
+//! An example, from `crates/acpi_cli/src/confirm.rt`, where `parse_witness` has read the fault from an argument:
 //!
 //! ```rust
 //! policy.set_rsdp(address);
@@ -15,7 +15,7 @@
 //! }
 //! ```
 //!
-//! A file for each group of codes, in the order of `docs/FAULTS.md`:
+//! There is a file for each group of codes, in the order of `docs/FAULTS.md`:
 //!
 //! ```text
 //! rsdp      1 to 7     the RSDP
@@ -30,8 +30,8 @@
 //! cross    57 to 59    two tables, or two kinds of entries
 //! ```
 //!
-//! `listed` finds the first listed table with a signature, `in_tables` has its bytes judged, and `entries` walks over
-//! the entries of a table.
+//! `listed` finds the first listed table with a signature, `in_tables` passes its bytes on to be judged, and
+//! `entries` walks over the entries of a table.
 #![tactic(auto)]
 
 ghost use Rattle.std.specs.Prelude.{◌↔◌, IsTrue};
@@ -59,11 +59,11 @@ use root::is_root_fault;
 use rsdp::is_rsdp_fault;
 use tables::is_table_fault;
 
-/// Whether the witness is a fault of the image under the policy: its code's condition holds with these three numbers,
-/// of which those that the code does not use are 0. Any numbers are allowed, and no stage needs to hold. Takes no
-/// memory, and always returns.
+/// Whether the witness is a fault of the image under the policy: its code's condition holds for these three numbers,
+/// of which those that the code does not use are 0. Any numbers are allowed, and no stage needs to hold. Allocates
+/// nothing, and always returns.
 ///
-/// A fault need not be the first one: of a set with several, `confirm` takes each.
+/// A fault need not be the first one: if a set has several, `confirm` accepts each.
 pub fn confirm(image: &Image, policy: &Policy, witness: &Witness) -> bool
     ensures fault { IsTrue result ↔ Fault image.now policy.now witness.now }
 {

@@ -11,8 +11,8 @@ use crate::tables::table_at;
 use acpi_base::field::is_signed;
 use acpi_base::{Image, Policy};
 
-/// The bytes of the first listed table with the signature, where it is whole: the first slot whose address has a
-/// held header with the signature decides, and no later one is looked at.
+/// The bytes of the first listed table with the signature, if it is complete: the first slot whose address has a
+/// header with the signature decides, and no later one is looked at.
 pub(crate) fn listed<'a>(image: &'a Image, policy: &Policy, signature: &[u8; 4]) -> Option<&'a [u8]>
     ensures found { MatchOption result ((whole : List ℕ)
         → ¬ IsListedTable image.now policy.now.rsdp signature.now whole)
@@ -24,7 +24,7 @@ pub(crate) fn listed<'a>(image: &'a Image, policy: &Policy, signature: &[u8; 4])
     table_at(image, address)
 }
 
-/// Whether the root is a whole table and lists no header with the signature.
+/// Whether the root table is complete and lists no header with the signature.
 pub(crate) fn lists_none(image: &Image, policy: &Policy, signature: &[u8; 4]) -> bool
     ensures { IsTrue result ↔ ListsNone image.now policy.now.rsdp signature.now }
 {
@@ -34,7 +34,7 @@ pub(crate) fn lists_none(image: &Image, policy: &Policy, signature: &[u8; 4]) ->
     }
 }
 
-/// The address in the first slot that has a held header with the signature.
+/// The address in the first slot at whose address a header with the signature is present.
 fn first_with(image: &Image, root: &Root<'_>, signature: &[u8; 4]) -> Option<u64>
     requires { HasSlots root.now.width root.now.bytes.now }
     ensures { MatchOption result
@@ -49,7 +49,7 @@ fn first_with(image: &Image, root: &Root<'_>, signature: &[u8; 4]) -> Option<u64
     None
 }
 
-/// The address in slot k, where a header with the signature is held there.
+/// The address in slot k, if a header with the signature is present there.
 #[tactic(auto, using(acpi_base::proofs::Root::Slots::one_slot))]
 fn signed_at(image: &Image, root: &Root<'_>, k: u64, signature: &[u8; 4]) -> Option<u64>
     requires { HasSlots root.now.width root.now.bytes.now }
@@ -63,7 +63,7 @@ fn signed_at(image: &Image, root: &Root<'_>, k: u64, signature: &[u8; 4]) -> Opt
     }
 }
 
-/// Whether a header with the signature is held at an address.
+/// Whether a header with the signature is present at an address.
 fn has_header(image: &Image, address: u64, signature: &[u8; 4]) -> bool
     ensures { IsTrue result ↔ IsSigned image.now address signature.now }
 {

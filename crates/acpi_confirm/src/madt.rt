@@ -14,10 +14,10 @@ use crate::entries::{cut, entry_at};
 use acpi_base::field::{u8_at, u16_at, u32_at, u64_at};
 use acpi_base::{Code, Policy, Stage, Witness};
 
-/// Where the first entry stands.
+/// The offset of the first entry.
 pub(crate) const FIRST_ENTRY: usize = 44;
 
-/// What an entry says: of a typed entry its fields, of any other its bytes.
+/// The contents of an entry: if it is of a known type its fields, otherwise its bytes.
 #[derive(Clone, Copy)]
 pub(crate) enum MadtEntry<'a> {
     /// Type 0, 8 bytes.
@@ -60,7 +60,7 @@ pub(crate) enum MadtEntry<'a> {
         flags: u32,
         uid: u32,
     },
-    /// Type 0Ah, 12 bytes.
+    /// Type 0x0A, 12 bytes.
     X2apicNmi {
         flags: u16,
         uid: u32,
@@ -70,7 +70,7 @@ pub(crate) enum MadtEntry<'a> {
     Opaque(&'a [u8]),
 }
 
-/// What an entry's bytes say.
+/// The contents of an entry with these bytes.
 #[tactic(auto, unfolding(acpi_base::specs::Madt::madt_entry, acpi_base::specs::Entries::has_form))]
 pub(crate) fn read(entry: &[u8]) -> MadtEntry<'_>
     requires { 2 ≤ length entry.now }
@@ -171,7 +171,7 @@ fn is_address_override_at(madt: &[u8], at: u64) -> bool
     ))
 }
 
-/// Whether the two numbers are 0 that most faults do not use.
+/// Whether the two numbers that most faults do not use are 0.
 fn is_unused(witness: &Witness) -> bool
     ensures { IsTrue result ↔ AreUnused witness.now.other witness.now.point }
 {
@@ -235,7 +235,7 @@ fn has_interrupt_fault(madt: &[u8], policy: &Policy, witness: &Witness) -> bool
         && serves_at(policy, madt, witness.other, witness.point)
 }
 
-/// The interrupt number that the entry at an offset gives the source, where it is an override of it.
+/// The interrupt number that the entry at an offset gives the source, if it is an override of it.
 fn overriding_at(madt: &[u8], at: u64, source: u64) -> Option<u32>
     ensures { IsOnly (λ gsi. StandsWith (madt_contents madt.now).entries at (Overrides source gsi))
         result }
@@ -250,7 +250,7 @@ fn overriding_at(madt: &[u8], at: u64, source: u64) -> Option<u32>
     })
 }
 
-/// Whether two overrides, the second of them earlier, give one source two interrupt numbers.
+/// Whether two overrides, the second of which comes earlier, give one source two interrupt numbers.
 fn do_overrides_differ(madt: &[u8], at: u64, earlier: u64, source: u64) -> bool
     ensures { IsTrue result ↔ OverrideFault (madt_contents madt.now) Code.OverrideClash at earlier
         source }
@@ -270,7 +270,7 @@ fn has_override_fault(madt: &[u8], witness: &Witness) -> bool
         && do_overrides_differ(madt, witness.at, witness.other, witness.point)
 }
 
-/// Whether a fault of stages 6 to 8 or 17 stands in the MADT.
+/// Whether the MADT has this fault of stages 6 to 8 or 17.
 pub(crate) fn is_madt_fault(madt: &[u8], policy: &Policy, witness: &Witness) -> bool
     ensures { IsTrue result ↔ MadtCondition (stage_of witness.now.code) policy.now
         (madt_contents madt.now) witness.now }

@@ -18,15 +18,15 @@ use acpi_base::field::u32_at;
 use acpi_base::{Code, Stage, Witness};
 use chains::{has_cache_fault, has_parent_fault};
 
-/// Where the first entry stands.
+/// The offset of the first entry.
 pub(crate) const FIRST_ENTRY: usize = 36;
 
-/// What links two nodes, or two caches.
+/// A reference from a node to a node, or from a cache to a cache.
 #[derive(Clone, Copy)]
 enum Link {
-    /// A node's Parent is a node.
+    /// From a node to its Parent.
     Parent,
-    /// A cache's Next Level of Cache is a cache.
+    /// From a cache to its Next Level of Cache.
     NextLevel,
 }
 
@@ -53,8 +53,8 @@ fn is_cache(entry: &[u8]) -> bool
     matches!((entry[0], entry.len()), (1, 24 | 28))
 }
 
-/// The offset that an entry names by the link, which is 0 where it names none. None for an entry that is not of the
-/// link's kind.
+/// The offset that an entry refers to by the link, which is 0 if it refers to none. None for an entry that is not of
+/// the link's kind.
 #[tactic(auto, unfolding(acpi_base::specs::Pptt::pptt_entry), using(crate::proofs::PpttEntries::kinds))]
 fn named(entry: &[u8], link: Link) -> Option<u64>
     requires { IsEntry entry.now }
@@ -67,14 +67,14 @@ fn named(entry: &[u8], link: Link) -> Option<u64>
     }
 }
 
-/// The offset that the entry at an offset names by the link.
+/// The offset that the entry at an offset refers to by the link.
 fn named_at(pptt: &[u8], link: Link, at: u64) -> Option<u64>
     ensures { IsOnly (Names link (pptt_contents pptt.now) at) result }
 {
     entry_at(pptt, FIRST_ENTRY, at).and_then(|entry| named(entry, link))
 }
 
-/// Whether an entry is not typed though it has type 0 or 1.
+/// Whether an entry has type 0 or 1, but no length of that type.
 #[tactic(auto, unfolding(acpi_base::specs::Pptt::pptt_entry), using(crate::proofs::PpttEntries::kinds))]
 fn has_other_length(entry: &[u8]) -> bool
     requires { IsEntry entry.now }
@@ -105,7 +105,7 @@ fn has_entry_fault(pptt: &[u8], witness: &Witness) -> bool
     has_entry_fault_at(pptt, witness.code, witness.at) && witness.other == 0 && witness.point == 0
 }
 
-/// The private resource `index` of an entry, from 0 on, where it is a node that has so many.
+/// The private resource `index` of an entry, from 0 on, if it is a node that has this many.
 #[tactic(auto, unfolding(acpi_base::specs::Pptt::pptt_entry), using(crate::proofs::PpttEntries::resources))]
 fn private_resource(entry: &[u8], index: u64) -> Option<u64>
     requires { IsEntry entry.now }
@@ -117,21 +117,21 @@ fn private_resource(entry: &[u8], index: u64) -> Option<u64>
     Some(u64::from(u32_at(entry, 20 + 4 * index as usize)))
 }
 
-/// Whether an entry of another type than 0 stands at an offset.
+/// Whether there is an entry of another type than 0 at an offset.
 fn is_resource_at(pptt: &[u8], at: u64) -> bool
     ensures { IsTrue result ↔ IsResourceAt (pptt_contents pptt.now) at }
 {
     entry_at(pptt, FIRST_ENTRY, at).is_some_and(|entry| entry[0] != 0)
 }
 
-/// Whether an entry of the link's kind stands at an offset.
+/// Whether there is an entry of the link's kind at an offset.
 fn is_linked_at(pptt: &[u8], link: Link, at: u64) -> bool
     ensures { IsTrue result ↔ IsAt (Names link (pptt_contents pptt.now)) at }
 {
     named_at(pptt, link, at).is_some()
 }
 
-/// Whether the entry at an offset names this other one by the link, and none of the link's kind stands there.
+/// Whether the entry at an offset refers to this other offset by the link, and there is no entry of the link's kind.
 fn dangles(pptt: &[u8], link: Link, at: u64, other: u64) -> bool
     ensures { IsTrue result ↔ Dangles (Names link (pptt_contents pptt.now)) at other }
 {
@@ -146,7 +146,7 @@ fn names_resource(pptt: &[u8], at: u64, index: u64, resource: u64) -> bool
         == Some(resource))
 }
 
-/// Codes 52 to 54: what entries name.
+/// Codes 52 to 54: references of entries.
 fn has_reference_fault(pptt: &[u8], witness: &Witness) -> bool
     ensures { IsTrue result ↔ ReferenceFault (pptt_contents pptt.now) witness.now.code
         witness.now.at witness.now.other witness.now.point }
@@ -162,7 +162,7 @@ fn has_reference_fault(pptt: &[u8], witness: &Witness) -> bool
     }
 }
 
-/// Whether a fault of stages 12 to 15 stands in the PPTT.
+/// Whether the PPTT has this fault of stages 12 to 15.
 pub(crate) fn is_pptt_fault(pptt: &[u8], witness: &Witness) -> bool
     ensures { IsTrue result ↔ PpttCondition (stage_of witness.now.code) (pptt_contents pptt.now)
         witness.now }

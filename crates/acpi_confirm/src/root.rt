@@ -1,4 +1,4 @@
-//! Codes 8 to 14: the root, which is the XSDT or the RSDT (ACPI 6.5, 5.2.7, 5.2.8).
+//! Codes 8 to 14: the root table, which is the XSDT or the RSDT (ACPI 6.5, 5.2.7, 5.2.8).
 
 ghost use Rattle.std.specs.Prelude.{◌≡◌, ◌+◌, ◌*◌, ◌≤◌, ◌<◌, ◌↔◌, ℕ, List, IsTrue, IfSome, MatchOption, Some, length};
 ghost use Rattle.std.specs.Option.{option_map};
@@ -12,7 +12,7 @@ use crate::tables::table_at;
 use acpi_base::field::{is_signed, number_at, u8_at, u32_at, u64_at};
 use acpi_base::{Code, Image, Policy, Witness, sum};
 
-/// The addresses that an RSDP names; 0 names none.
+/// The addresses that an RSDP names; 0 for none.
 #[derive(Clone, Copy, Debug)]
 struct Addresses {
     rsdt: u32,
@@ -20,7 +20,7 @@ struct Addresses {
     xsdt: u64,
 }
 
-/// Where the root is, and how wide its slots are.
+/// Where the root table is, and how wide its slots are.
 #[derive(Clone, Copy, Debug)]
 struct Place {
     address: u64,
@@ -28,7 +28,7 @@ struct Place {
     width: u32,
 }
 
-/// Whether the witness is a fault of the root that the RSDP names.
+/// Whether the witness is a fault of the root table that the RSDP names.
 pub(crate) fn is_root_fault(image: &Image, policy: &Policy, witness: &Witness) -> bool
     ensures { IsTrue result ↔ FaultCondition Stage.Root image.now policy.now witness.now }
 {
@@ -41,7 +41,7 @@ pub(crate) fn is_root_fault(image: &Image, policy: &Policy, witness: &Witness) -
     }
 }
 
-/// Whether the RSDP at an address names a root at `at` that has the fault with this code.
+/// Whether the RSDP at an address names a root table at `at` that has the fault with this code.
 fn has_named_fault(image: &Image, rsdp: u64, at: u64, code: Code) -> bool
     ensures { IsTrue result ↔ ((d : ℕ) × IsRoot image.now rsdp at d
         × RootTableFault image.now at d code) }
@@ -52,7 +52,7 @@ fn has_named_fault(image: &Image, rsdp: u64, at: u64, code: Code) -> bool
     }
 }
 
-/// Whether the root at a place has the fault with this code.
+/// Whether the root table at a place has the fault with this code.
 fn has_fault(image: &Image, root: Place, code: Code) -> bool
     requires { IsSlotWidth root.width }
     ensures { IsTrue result ↔ RootTableFault image.now root.address root.width code }
@@ -72,14 +72,14 @@ fn has_fault(image: &Image, root: Place, code: Code) -> bool
     }
 }
 
-/// The signature of a root with slots of this width.
+/// The signature of a root table with slots of this width.
 fn signature(width: u32) -> &'static [u8; 4]
     ensures { result.now ≡ root_signature width }
 {
     if width == 8 { b"XSDT" } else { b"RSDT" }
 }
 
-/// The addresses that the RSDP at an address names, where its 20 bytes are held, and of the extended form its 36.
+/// The addresses that the RSDP at an address names, if its 20 bytes are present, or for the extended form its 36.
 #[tactic(auto, unfolding(acpi_base::specs::Rsdp::addresses_at))]
 fn addresses_at(image: &Image, address: u64) -> Option<Addresses>
     ensures { option_map (λ named. record { rsdt = named.rsdt; xsdt = named.xsdt })
@@ -99,7 +99,7 @@ fn addresses_at(image: &Image, address: u64) -> Option<Addresses>
     })
 }
 
-/// The XSDT where one is named, else the RSDT where one is named.
+/// The XSDT if one is named, otherwise the RSDT if one is named.
 #[tactic(auto, unfolding(acpi_base::specs::Root::chosen_root))]
 fn chosen_root(named: Addresses) -> Option<Place>
     ensures root { option_map (λ root. record { address = root.address; width = root.width })
@@ -121,14 +121,14 @@ fn chosen_root(named: Addresses) -> Option<Place>
     None
 }
 
-/// Whether the RSDP at an address can be read and names no root.
+/// Whether the RSDP at an address can be read and names no root table.
 fn names_no_root(image: &Image, address: u64) -> bool
     ensures { IsTrue result ↔ HasNoRoot image.now address }
 {
     addresses_at(image, address).is_some_and(|named| chosen_root(named).is_none())
 }
 
-/// The place of the root that the RSDP at an address names.
+/// The place of the root table that the RSDP at an address names.
 fn named_root(image: &Image, address: u64) -> Option<Place>
     ensures found { MatchOption result ((r d : ℕ) → ¬ IsRoot image.now address r d)
         (λ root. IsRoot image.now address root.address root.width) }
@@ -139,16 +139,16 @@ fn named_root(image: &Image, address: u64) -> Option<Place>
     chosen_root(addresses_at(image, address)?)
 }
 
-/// A root that is a whole table: the XSDT or the RSDT.
+/// A complete root table: the XSDT or the RSDT.
 #[derive(Clone, Copy, Debug)]
 pub(crate) struct Root<'a> {
-    /// As many as its Length says.
+    /// Its bytes, as many as its Length says.
     bytes: &'a [u8],
-    /// Of a slot, in bytes: 8 in an XSDT, 4 in an RSDT.
+    /// The width of a slot in bytes: 8 in an XSDT, 4 in an RSDT.
     width: u32,
 }
 
-/// The root that the RSDP at an address names, where it is a whole table with its kind's signature.
+/// The root table that the RSDP at an address names, if it is complete and has its kind's signature.
 #[tactic(auto, using(acpi_base::proofs::Tables::Whole::signed_table))]
 pub(crate) fn whole_root(image: &Image, address: u64) -> Option<Root<'_>>
     ensures found { MatchOption result ((d : ℕ) (bytes : List ℕ)
@@ -168,7 +168,7 @@ pub(crate) fn whole_root(image: &Image, address: u64) -> Option<Root<'_>>
 }
 
 impl Root<'_> {
-    /// How many slots lie wholly within its bytes, those that hold 0 too.
+    /// How many complete slots it has, including those that are 0.
     pub(crate) fn slots(&self) -> u64
         requires { HasSlots self.now.width self.now.bytes.now }
         ensures { (k : ℕ) → (k < result)
@@ -177,7 +177,7 @@ impl Root<'_> {
         (self.bytes.len() as u64 - 36) / u64::from(self.width)
     }
 
-    /// The address in slot k, from 0 on, where there is such a slot and it does not hold 0.
+    /// The address in slot k, from 0 on, if there is such a slot and it is not 0.
     #[tactic(auto, using(crate::proofs::Roots::slot_end))]
     pub(crate) fn slot(&self, k: u64) -> Option<u64>
         requires { HasSlots self.now.width self.now.bytes.now }

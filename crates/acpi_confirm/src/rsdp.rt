@@ -43,7 +43,7 @@ fn has_fault(image: &Image, address: u64, code: Code) -> bool
     }
 }
 
-/// Whether the 20 bytes of an RSDP of the extended form, of revision 2 or more, are held.
+/// Whether the 20 bytes of an RSDP of the extended form, of revision 2 or more, are present.
 fn is_extended(image: &Image, address: u64) -> bool
     ensures { IsTrue result ↔ ((head : List ℕ) × (bytes_at image.now address 20 ≡ Some head)
         × (2 ≤ revision_of head)) }
@@ -53,7 +53,7 @@ fn is_extended(image: &Image, address: u64) -> bool
         .is_some_and(|head| u8_at(head, 15) >= 2)
 }
 
-/// The Length of an RSDP of the extended form whose 36 bytes are held.
+/// The Length of an RSDP of the extended form whose 36 bytes are present.
 fn extended_length(image: &Image, address: u64) -> Option<u32>
     ensures found { IfSome result
         (λ length. (head : List ℕ) × (prefix : List ℕ) × IsExtended image.now address head prefix

@@ -15,7 +15,7 @@ struct Cell {
     distance: u8,
 }
 
-/// Whether the table has 44 bytes and behind them a cell for each pair of a row and a column, and nothing else.
+/// Whether the table has 44 bytes and after them a cell for each pair of a row and a column, and nothing else.
 #[tactic(auto, unfolding(acpi_base::specs::Slit::slit_contents))]
 fn has_slit_size(slit: &[u8]) -> bool
     ensures { IsTrue result ↔ HasSlitSize (slit_contents slit.now) }
@@ -27,7 +27,7 @@ fn has_slit_size(slit: &[u8]) -> bool
     slit.len() as u128 == 44 + count * count
 }
 
-/// The cell at an offset of a table that has its cells, where one stands there.
+/// The cell at an offset of a table that has its cells, if there is one.
 #[tactic(auto, using(crate::proofs::Cells::cells))]
 fn cell_at(slit: &[u8], at: u64) -> Option<Cell>
     ensures { MatchOption result (HasNoCell (slit_contents slit.now) at)
@@ -48,7 +48,7 @@ fn cell_at(slit: &[u8], at: u64) -> Option<Cell>
     })
 }
 
-/// Whether the cell at an offset is one of the diagonal, and its distance is not 10.
+/// Whether the cell at an offset is on the diagonal, and its distance is not 10.
 fn is_wrong_diagonal(slit: &[u8], at: u64) -> bool
     ensures { IsTrue result ↔ (HasSlitSize (slit_contents slit.now)
         × SomeCell (slit_contents slit.now) at
@@ -80,7 +80,7 @@ fn has_fault_at(slit: &[u8], code: Code, at: u64) -> bool
     }
 }
 
-/// Whether a fault of stage 11 stands in the SLIT.
+/// Whether the SLIT has this fault of stage 11.
 pub(crate) fn is_slit_fault(slit: &[u8], witness: &Witness) -> bool
     ensures { IsTrue result ↔ SlitFault (slit_contents slit.now) witness.now.code witness.now.at
         witness.now.other witness.now.point }

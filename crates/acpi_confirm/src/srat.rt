@@ -14,10 +14,10 @@ use crate::entries::{cut, entry_at, has_bit};
 use acpi_base::field::{u8_at, u16_at, u32_at, u64_at};
 use acpi_base::{Code, HotPlug, Policy, Stage, Witness};
 
-/// Where the first entry stands.
+/// The offset of the first entry.
 pub(crate) const FIRST_ENTRY: usize = 48;
 
-/// What an entry says: of a typed entry its fields, of any other its bytes.
+/// The contents of an entry: if it is of a known type its fields, otherwise its bytes.
 #[derive(Clone, Copy)]
 pub(crate) enum SratEntry<'a> {
     /// Type 0, 16 bytes.
@@ -46,7 +46,7 @@ pub(crate) enum SratEntry<'a> {
     Opaque(&'a [u8]),
 }
 
-/// The domain of an entry of type 0, whose bits 31:8 stand apart from bits 7:0.
+/// The domain of an entry of type 0, whose bits 31:8 are separate from bits 7:0.
 #[tactic(auto, using(crate::proofs::SratFaults::three_bytes))]
 fn apic_domain(entry: &[u8]) -> u64
     requires { 16 ≤ length entry.now }
@@ -58,7 +58,7 @@ fn apic_domain(entry: &[u8]) -> u64
     low + 256 * (middle + 65536 * high)
 }
 
-/// What an entry's bytes say.
+/// The contents of an entry with these bytes.
 #[tactic(auto, unfolding(acpi_base::specs::Srat::srat_entry, acpi_base::specs::Entries::has_form))]
 pub(crate) fn read(entry: &[u8]) -> SratEntry<'_>
     requires { 2 ≤ length entry.now }
@@ -185,7 +185,7 @@ fn has_range_fault(srat: &[u8], hotplug: HotPlug, witness: &Witness) -> bool
         && is_overlap(srat, hotplug, witness.at, witness.other, witness.point)
 }
 
-/// Whether a fault of stages 9 and 10 stands in the SRAT.
+/// Whether the SRAT has this fault of stages 9 and 10.
 pub(crate) fn is_srat_fault(srat: &[u8], policy: &Policy, witness: &Witness) -> bool
     ensures { IsTrue result ↔ SratCondition (stage_of witness.now.code) policy.now
         (srat_contents srat.now) witness.now }

@@ -20,7 +20,7 @@ pub(crate) fn is_table_fault(image: &Image, policy: &Policy, witness: &Witness) 
         && has_fault(image, witness.other, witness.code)
 }
 
-/// Whether slot k of the root that the RSDP at an address names lists a table.
+/// Whether slot k of the root table that the RSDP at an address names lists a table.
 #[tactic(auto, using(crate::proofs::Roots::slot_of_set, crate::proofs::Roots::slot_of_bytes, crate::proofs::Roots::root_of_slot))]
 fn is_listed(image: &Image, rsdp: u64, k: u64, table: u64) -> bool
     ensures { IsTrue result ↔ IsSlot image.now rsdp k table }
@@ -48,7 +48,7 @@ fn has_fault(image: &Image, address: u64, code: Code) -> bool
     }
 }
 
-/// The bytes of the table at an address, as many as its Length says, where that is at least 36 and they are held.
+/// The bytes of the table at an address, as many as its Length says, if that is at least 36 and they are present.
 pub(crate) fn table_at(image: &Image, address: u64) -> Option<&[u8]>
     ensures found { MatchOption result ((header whole : List ℕ)
         → ¬ IsTable image.now address header whole)

@@ -5,16 +5,16 @@ use Rattle.acpi_graph.specs.declared.span.CompactSpan.{CompactSpan}
 use Rattle.acpi_graph.specs.declared.clash.Clash.{Clash}
 use Rattle.acpi_graph.specs.declared.clash.Clash.TheVariants as clash
 
--- no two spans of the list have one name
+-- no two spans of the list have the same id
 abbrev pub NamesDiffer : List Span → Type 0
 NamesDiffer spans = AllPairs (λ a b. a.name ≢ b.name) spans
 
--- the number lies in the span: at its start or above, and below its end
+-- the number is in the span: at its start or above, and below its end
 pub record HasNumber (span : Span) (number : ℕ) : Type 0 where
   pub from_start : span.start ≤ number
   pub below_end : number < span.end
 
--- the number lies in two spans of the list
+-- the number is in two spans of the list
 pub record LiesInTwo (spans : List Span) (number : ℕ) : Type 0 where
   pub one : Span
   pub other : Span
@@ -24,15 +24,15 @@ pub record LiesInTwo (spans : List Span) (number : ℕ) : Type 0 where
   pub one_holds : HasNumber one number
   pub other_holds : HasNumber other number
 
--- no number lies in two spans of the list
+-- no number is in two spans of the list
 abbrev pub IsClear : List Span → Type 0
 IsClear spans = (number : ℕ) → ¬ LiesInTwo spans number
 
--- the one span comes before the other by its start, or by its name where both start at one number
+-- one span comes before the other by its start, or by its id if both start at one number
 abbrev pub ComesBefore : Span → Span → Type 0
 ComesBefore a b = (a.start < b.start) ⊎ ((a.start ≡ b.start) × (a.name < b.name))
 
--- first and second are the names of the first two spans of the list that hold the number
+-- first and second are the ids of the first two spans of the list that contain the number
 pub record AreFirstTwo (spans : List Span) (number first second : ℕ) : Type 0 where
   pub earlier : Span
   pub later : Span
@@ -47,40 +47,40 @@ pub record AreFirstTwo (spans : List Span) (number first second : ℕ) : Type 0 
   pub others_after : (span : Span) → Contains spans span → HasNumber span number
       → span.name ≢ first → span.name ≢ second → ComesBefore later span
 
--- point is the least number that lies in two spans of the list, and first and second are the names
--- of the first two spans that hold it
+-- point is the lowest number that is in two spans of the list, and first and second are the ids of the first two
+-- spans that contain it
 pub record IsFirstClash (spans : List Span) (first second point : ℕ) : Type 0 where
   pub two : AreFirstTwo spans point first second
   pub least : (number : ℕ) → LiesInTwo spans number → point ≤ number
 
--- what holds of an overlap, where there is one
+-- what holds for an overlap, if there is one
 abbrev pub IfAt : Clash → (ℕ → ℕ → ℕ → Type 0) → Type 0
 IfAt clash.None P = Unit {0}
 IfAt (clash.At first second point) P = P first second point
 
--- ---- compact spans, which have no names
+-- ---- compact spans, which have no ids
 
--- the number behind the last one of the span
+-- the number after the last one of the span
 abbrev pub end_of : CompactSpan → ℕ
 end_of span = span.start + span.length
 
--- the one span ends before the other begins
+-- one span ends before the other begins
 abbrev pub EndsBefore : CompactSpan → CompactSpan → Type 0
 EndsBefore a b = end_of a ≤ b.start
 
--- of each two spans of the list the one ends before the other begins, in one order or the other: so no number lies in both
+-- of any two spans of the list one ends before the other begins, in one order or the other: so no number is in both
 abbrev pub AreApart : List CompactSpan → Type 0
 AreApart spans = AllPairs (λ a b. EndsBefore a b ⊎ EndsBefore b a) spans
 
--- each span of the list ends before all behind it begin
+-- each span of the list ends before all after it begin
 abbrev pub AreSortedDisjoint : List CompactSpan → Type 0
 AreSortedDisjoint spans = AllPairs EndsBefore spans
 
--- the span begins at the number, or holds it
+-- the span begins at the number, or contains it
 abbrev pub Reaches : CompactSpan → ℕ → Type 0
 Reaches span g = (span.start ≤ g) × ((g < end_of span) ⊎ (span.start ≡ g))
 
--- of each two spans that begin below the number the one ends before the other begins
+-- of any two spans that begin below the number one ends before the other begins
 abbrev pub AreApartBelow : List CompactSpan → ℕ → Type 0
 AreApartBelow spans g = AllPairs (λ a b. a.start < g → b.start < g → EndsBefore a b ⊎ EndsBefore b a) spans
 
@@ -88,12 +88,12 @@ AreApartBelow spans g = AllPairs (λ a b. a.start < g → b.start < g → EndsBe
 abbrev pub AreApartAt : List CompactSpan → ℕ → Type 0
 AreApartAt spans g = AllPairs (λ a b. Reaches a g → Reaches b g → ⊥) spans
 
--- it is the first number at which spans meet: two reach it, and those that begin below it are apart
+-- it is the first number at which spans overlap: two reach it, and those that begin below it do not overlap
 pub record IsFirstMeeting (spans : List CompactSpan) (g : ℕ) : Type 0 where
   pub below : AreApartBelow spans g
   pub here : ¬ AreApartAt spans g
 
--- in a list of spans one runs into the next one, which begins at g, and all before it end before their next one begins
+-- in a list of spans one overlaps the next one, which begins at g, and all before it end before their next one begins
 pub record RunsInto (spans : List CompactSpan) (g : ℕ) : Type 0 where
   pub place : ℕ
   pub within : place + 1 < length spans

@@ -3,8 +3,8 @@ use Rattle.acpi_graph.specs.Parents.{Ends}
 
 -- What is kept from one walk to the next. No public contract cites this file.
 
--- The mark of a node that no walk has left is 0; any other has the number of the step that left it.
--- The chain of each node with such a number ends.
+-- The mark of a node that no walk has left is 0; any other mark is the number of the step that left it. The chain of
+-- each node with such a mark ends.
 pub record AreMarksOfEnded (parents : List (Option ℕ)) (marks : List ℕ) (steps : ℕ) : Type 0 where
   pub same_length : length marks ≡ length parents
   pub one_a_step : count_by (λ mark. nat_lt 0 mark) marks ≡ steps

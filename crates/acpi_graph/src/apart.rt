@@ -1,15 +1,15 @@
-//! Whether spans are apart, and where they meet first.
+//! Whether spans overlap, and the first number at which two do.
 
 ghost use Rattle.std.specs.Prelude.{◌≡◌, ◌+◌, ◌-◌, ◌<◌, ◌≤◌, ◌↔◌, IsNone, IsTrue, IfSome, MatchOption, length, vec_len};
 ghost use Rattle.acpi_graph.specs.Spans.{end_of, AreApart, AreSortedDisjoint, IsFirstMeeting, RunsInto};
 
 use crate::span::CompactSpan;
 
-/// The first number at which two of the spans meet: the one begins at it, and the other begins at it too or holds it. None
-/// where of each two the one ends before the other begins. And how many neighbours were compared to see it.
+/// The first number at which two of the spans overlap: one begins at it, and the other begins at it too or contains
+/// it. None if of any two spans one ends before the other begins. Also returns how many neighbours were compared.
 ///
-/// The order of the spans does not matter. It costs one sort by start and length, in place, and at most one comparison less
-/// than there are spans. It takes no memory.
+/// The order of the spans does not matter. It sorts them once by start and length, in place, and makes at most n - 1
+/// comparisons for n spans. Allocates nothing.
 pub fn first_meeting(mut spans: Vec<CompactSpan>) -> (Option<u32>, usize)
     ensures apart { IsNone result.0 ↔ AreApart spans.items }
     ensures first { IfSome result.0 (IsFirstMeeting spans.items) }
@@ -19,7 +19,7 @@ pub fn first_meeting(mut spans: Vec<CompactSpan>) -> (Option<u32>, usize)
     first_run_into(&spans)
 }
 
-/// Where the first span begins that the one before it runs into, and how many neighbours were compared.
+/// Where the first span begins that the one before it overlaps, and how many neighbours were compared.
 fn first_run_into(spans: &[CompactSpan]) -> (Option<u32>, usize)
     ensures found { MatchOption result.0 (AreSortedDisjoint spans.now) (RunsInto spans.now) }
     ensures comparisons { result.1 ≤ length spans.now - 1 }
@@ -33,7 +33,7 @@ fn first_run_into(spans: &[CompactSpan]) -> (Option<u32>, usize)
     (None, comparisons)
 }
 
-/// Whether a span ends behind the start of the next one. Each comparison of neighbours is made here, and counted.
+/// Whether a span ends after the start of the next one. Each comparison of neighbours is made here, and counted.
 fn runs_into(span: &CompactSpan, next: &CompactSpan, comparisons: &mut usize) -> bool
     requires { comparisons.old < usize.MAX }
     ensures into { IsTrue result ↔ (next.now.start < end_of span.now) }

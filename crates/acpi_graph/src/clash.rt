@@ -9,10 +9,10 @@ use std::alloc::{AllocError, Global};
 /// Whether two spans of a list overlap.
 #[derive(Clone, Copy, Debug, PartialEq, Eq, Hash)]
 pub enum Clash {
-    /// No number lies in two spans.
+    /// No number is in two spans.
     None,
-    /// `point` is the least number that lies in two spans. `first` and `second` are the names of
-    /// the first two spans that hold it, by start and then by name.
+    /// `point` is the lowest number that is in two spans. `first` and `second` are the ids of the first two spans
+    /// that contain it, by start and then by id.
     At {
         first: u32,
         second: u32,
@@ -20,15 +20,15 @@ pub enum Clash {
     },
 }
 
-/// The first overlap of the spans, which is at the least number that lies in two of them, and how many
-/// neighbours were compared to find it.
+/// The first overlap of the spans, which is at the lowest number that is in two of them, and how many neighbours were
+/// compared to find it.
 ///
-/// The names of the spans differ; their order does not matter. It costs one sort by start and name,
-/// in place, and at most one comparison less than there are spans.
+/// The spans have different ids (`name`); their order does not matter. It sorts them once by start and id, in place,
+/// and makes at most n - 1 comparisons for n spans.
 pub fn first_clash(alloc: Global, mut spans: Vec<Span>) -> Result<(Clash, usize), AllocError>
     requires { NamesDiffer spans.items }
 
-    // It takes no memory from `alloc`, so it is never refused any.
+    // It does not use `alloc`, so it never runs out of memory.
     ensures always { IsOk result }
     ensures none { IfOk result (λ found. (found.0 ≡ Clash.None) ↔ IsClear spans.items) }
     ensures first { IfOk result (λ found. IfAt found.0 (IsFirstClash spans.items)) }
@@ -40,8 +40,8 @@ pub fn first_clash(alloc: Global, mut spans: Vec<Span>) -> Result<(Clash, usize)
 
 /// The first span that overlaps the next, and how many neighbours were compared.
 ///
-/// All spans before it end by the start of the next, and so by the start of each that follows: no
-/// lower number lies in two spans.
+/// All spans before it end at or before the start of the next one, and so at or before the start of each that
+/// follows: no lower number is in two spans.
 fn first_overlap(spans: &[Span]) -> (Clash, usize)
     requires names { NamesDiffer spans.now }
     requires order { AllPairs ComesBefore spans.now }
@@ -65,8 +65,8 @@ fn first_overlap(spans: &[Span]) -> (Clash, usize)
     (Clash::None, comparisons)
 }
 
-/// Whether a span overlaps the next one: it holds the start of that one. Each comparison of neighbours
-/// is made here, and counted.
+/// Whether a span overlaps the next one: it contains the start of that one. Each comparison of neighbours is made
+/// here, and counted.
 fn overlaps(span: &Span, next: &Span, comparisons: &mut usize) -> bool
     requires { comparisons.old < usize.MAX }
     ensures overlap { IsTrue result ↔ (next.now.start < span.now.end) }

@@ -1,11 +1,11 @@
-//! Two searches that a checker of tables needs, and a question that saves most calls of the first one. Each search returns the
-//! first case in a fixed order, so that the result does not depend on how the tables list their entries.
+//! Two searches that a checker of tables needs, and a test that saves most calls of the first one. Each search
+//! returns the first case in a fixed order, so that the result does not depend on how the tables list their entries.
 //!
-//! - `first_meeting`: of spans of numbers in 8 bytes each, without names, whether two overlap, and the first number at which two
-//!   do.
-//! - `first_clash`: of spans of numbers, such as memory ranges, the first overlap: the least number that
-//!   lies in two, and the first two spans that hold it.
-//! - `first_stray`: of nodes that name their parents, the first whose chain of parents leads into a cycle
+//! - `first_meeting`: for spans of numbers in 8 bytes each, without ids, whether two overlap, and the first number at
+//!   which two do.
+//! - `first_clash`: for spans of numbers, such as memory ranges, the first overlap: the lowest number that is in two,
+//!   and the first two spans that contain it.
+//! - `first_stray`: for nodes that refer to their parents, the first one whose chain of parents leads into a cycle
 //!   and never ends, and where its cycle begins.
 //!
 //! ```rust

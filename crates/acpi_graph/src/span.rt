@@ -2,7 +2,7 @@
 
 ghost use Rattle.std.specs.Prelude.{◌≡◌, ◌+◌, ◌<◌, ◌↔◌, IsSome, IfSome};
 
-/// The numbers from `start` on and below `end`: at least one. Results name the span by `name`.
+/// The numbers from `start` on and below `end`: at least one. `name` is the id by which results name the span.
 ///
 /// Spans compare by `start`, then by `name`.
 #[derive(Clone, Copy, Debug, PartialEq, Eq, Hash, PartialOrd, Ord)]
@@ -14,7 +14,7 @@ pub struct Span {
 }
 
 impl Span {
-    /// The span from `start` on and below `end`, or None where no number lies in it.
+    /// The span from `start` on and below `end`, or None if it contains no number.
     pub fn new(start: u128, end: u128, name: u32) -> Option<Span>
         ensures not_empty { IsSome result ↔ (start < end) }
         ensures start { IfSome result (λ span. span.start ≡ start) }
@@ -29,7 +29,8 @@ impl Span {
     }
 }
 
-/// The numbers from `start` on, `length` of them, in 8 bytes and without a name: many are sorted much sooner than as `Span`s.
+/// The numbers from `start` on, `length` of them, in 8 bytes and without an id: many of these are sorted much faster
+/// than `Span`s.
 ///
 /// Compact spans compare by `start`, then by `length`.
 #[derive(Clone, Copy, Debug, PartialEq, Eq, Hash, PartialOrd, Ord)]
@@ -39,7 +40,7 @@ pub struct CompactSpan {
 }
 
 impl CompactSpan {
-    /// The number behind the last one.
+    /// The number after the last one.
     pub fn end(&self) -> u64
         ensures { result ≡ self.now.start + self.now.length }
     {

@@ -11,8 +11,8 @@ use std::alloc::{AllocError, Global};
 pub enum Stray {
     /// Every chain ends, at a node with no parent.
     None,
-    /// `node` is the least whose chain does not end. `lead` is the least number of steps into its cycle,
-    /// and `round` is the length of the cycle in steps, at least 1.
+    /// `node` is the lowest one whose chain does not end. `lead` is the lowest number of steps into its cycle, and
+    /// `round` is the length of the cycle in steps, at least 1.
     Round {
         node: usize,
         lead: usize,
@@ -20,20 +20,20 @@ pub enum Stray {
     },
 }
 
-/// The least node whose chain of parents does not end, with its cycle, and how many steps from a
-/// node to its parent were taken to find it.
+/// The lowest node whose chain of parents does not end, with its cycle, and how many steps from a node to its parent
+/// were taken to find it.
 ///
-/// `parents` has at each node's index the index of its parent, or `None` where it has none. It costs
-/// at most one step a node, and memory for one number a node: refuses `AllocError` out of memory.
+/// `parents` has at each node's index the index of its parent, or `None` if it has none. It takes at most one step
+/// for each node, and allocates one number for each node: refuses with `AllocError` if out of memory.
 pub fn first_stray(alloc: Global, parents: &[Option<usize>]) -> Result<(Stray, usize), AllocError>
     requires { AreNodes parents.now }
 
-    // Of no nodes it takes no memory, so it is never refused any.
+    // Without nodes it allocates nothing, so it cannot run out of memory.
     ensures nothing { parents.now ≡ [] → IsOk result }
     ensures none { IfOk result (λ found. (found.0 ≡ Stray.None) ↔ AllEnd parents.now) }
     ensures first { IfOk result (λ found. IfRound found.0 (IsFirstStray parents.now)) }
 
-    // The cycle is closed within as many steps as there are nodes, and so is the whole search done.
+    // The cycle is closed within as many steps as there are nodes, and the search takes no more.
     ensures within { IfOk result (λ found.
         IfRound found.0 (λ node lead round. lead + round ≤ length parents.now)) }
     ensures steps { IfOk result (λ found. found.1 ≤ length parents.now) }
@@ -64,11 +64,11 @@ fn walk_all(parents: &[Option<usize>], marks: &mut [usize]) -> (Stray, usize)
     (Stray::None, steps)
 }
 
-/// Walks up from a node, until it comes to a node with no parent or to one that a walk has left.
+/// Walks up from a node, until it reaches a node with no parent or one that a walk has left.
 ///
-/// The mark of a node that no walk has left is 0; any other has the number of the step that left it.
-/// So a mark up to the steps before this walk is of a node whose chain ends, and one above them
-/// says how many steps this walk had taken there.
+/// The mark of a node that no walk has left is 0; any other mark is the number of the step that left it. So a mark up
+/// to the number of steps before this walk is that of a node whose chain ends, and a higher one says how many steps
+/// this walk had taken there.
 fn walk(parents: &[Option<usize>], marks: &mut [usize], steps: &mut usize, start: usize) -> Stray
     requires nodes { AreNodes parents.now }
     requires start { start < length parents.now }

@@ -1,40 +1,46 @@
 -- Faults of the FADT of a set.
 use Rattle.std.proofs.Common.{◌≢◌, ℕ, List, Option, Some, None, refl, inl, inr}
-use Rattle.std.specs.Prelude.{◌↔◌, IsTrue, IsNone, IfSome, Bool}
-use Rattle.acpi_base.specs.Listed.{fadt_signature, IsNoneListed, IsFirstListed, IsFirstTable, ListsNone, IsListedTable, HasListed}
+use Rattle.std.specs.Prelude.{◌↔◌, IsTrue, IsNone, Bool, true}
+use Rattle.acpi_base.specs.Listed.{fadt_signature, ListsNone, IsListedTable, HasListed}
 use Rattle.acpi_base.specs.Memory.{Memory}
 use Rattle.acpi_base.specs.Policy.{PolicyValue}
+use Rattle.acpi_base.specs.Root.{IsSlot}
+use Rattle.acpi_base.specs.Tables.{IsSigned}
 use Rattle.acpi_base.specs.declared.code.Code.{Code}
 use Rattle.acpi_base.specs.declared.code.Code.TheVariants as code
 use Rattle.acpi_base.specs.declared.stage.Stage.TheVariants as stage
-use Rattle.acpi_base.proofs.Tables.Listed.{none_and_first_listed, listed_of_root, none_in_root}
+use Rattle.acpi_base.proofs.Root.Slots.{slot_of_root, root_slot}
+use Rattle.acpi_base.proofs.Tables.Listed.{none_in_root}
 use Rattle.acpi_read.specs.Roots.{RootValue, IsWholeRoot}
 use Rattle.acpi_lint.specs.FadtPlaces.{IsFadtFault}
 use Rattle.acpi_lint.specs.Places.{FindsLeast}
+use Rattle.acpi_lint.specs.Slots.{FindsSlot}
 use Rattle.acpi_lint.specs.StageFaults.{IsFaultOfStage}
+use Rattle.acpi_lint.specs.declared.listed.Slot.{Slot}
 use Rattle.acpi_lint.specs.declared.place.Place.{Place}
+use Rattle.acpi_lint.proofs.FirstSlots.{not_wanted}
 use Rattle.acpi_lint.proofs.LeastPlaces.{least_as}
 use Rattle.acpi_lint.proofs.OfSets.{of_table, of_no_table}
 
 -- ---- a set that lists none
 
--- the first header in the slots of a set's root is the first of the set
-first_in_root : {m : Memory} {p a : ℕ} {root : RootValue} {signature : List ℕ} → IsWholeRoot m p root
-    → IsFirstListed m root.bytes root.width signature a → IsFirstTable m p signature a
-first_in_root {root = root} is first =
-    record { r = root.address; d = root.width; whole = root.bytes; root = is.named; table = is.table; first = first }
-
--- a set lists none with a signature exactly where none is first in its root
-pub lists_none : {m : Memory} {p : ℕ} {root : RootValue} {signature : List ℕ} (found : Option ℕ) (b : Bool)
-    → (IsTrue b ↔ IsNone found) → IsWholeRoot m p root → IfSome found (IsFirstListed m root.bytes root.width signature)
-    → (IsNone found → IsNoneListed m root.bytes root.width signature) → IsTrue b ↔ ListsNone m p signature
-lists_none None b test is first none = (
-  λ true. none_in_root is.named is.table (none refl),
+-- a set lists none with a signature exactly where no slot of its root is found
+pub lists_none : {m : Memory} {p : ℕ} {root : RootValue} {signature : List ℕ} {Answers : ℕ → Bool → Type 0}
+    (found : Option Slot) (b : Bool) → (IsTrue b ↔ IsNone found) → IsWholeRoot m p root
+    → FindsSlot (IsSlot m p) Answers found → ((a : ℕ) (b : Bool) → Answers a b → IsTrue b ↔ IsSigned m a signature)
+    → IsTrue b ↔ ListsNone m p signature
+lists_none {m} {signature = signature} {Answers = Answers} None b test is first decides = (
+  λ yes. none_in_root is.named is.table
+      (λ k a slot signed.
+      not_wanted (λ x. IsSigned m x signature) Answers a decides
+      (first.before k a tt (root_slot is.named is.table slot)) signed),
   λ lists. test.1 refl,
 )
-lists_none (Some a) b test is first none = (
-  λ true. (let no_one : IsNone (Some a) = test.0 true in absurd cc),
-  λ lists. absurd (none_and_first_listed lists.none (listed_of_root lists.root lists.table (first_in_root is first))),
+lists_none {m} {p} (Some s) b test is first decides = (
+  λ yes. (let no_one : IsNone (Some s) = test.0 yes in absurd cc),
+  λ lists. absurd (lists.none s.number s.address
+      (slot_of_root m p lists.r lists.d s.number s.address lists.root_bytes lists.root lists.table first.here.0)
+      ((decides s.address true first.here.1).0 refl)),
 )
 
 -- a set with no whole root does not list none

@@ -6,23 +6,13 @@ use Rattle.std.proofs.lemmas.Bool.{cases_lt}
 use Rattle.acpi_base.specs.Memory.{Memory}
 use Rattle.acpi_base.specs.Root.{IsSlot}
 use Rattle.acpi_base.proofs.Root.Slots.{one_slot, slot_of_root}
-use Rattle.acpi_read.specs.Roots.{RootValue, IsWholeRoot}
 use Rattle.acpi_lint.specs.Places.{FindsLeast}
 use Rattle.acpi_lint.specs.Slots.{FindsSlot}
 use Rattle.acpi_lint.specs.declared.place.Place.{Place}
-use Rattle.acpi_lint.specs.declared.slots.Slot.{Slot}
+use Rattle.acpi_lint.specs.declared.listed.Slot.{Slot}
 use Rattle.acpi_lint.proofs.OnePlace.{not_after_itself}
 
 -- ---- the slots of a set are those of its root
-
-pub none_without_root : {m : Memory} {p : ℕ} {Answers : ℕ → Bool → Type 0}
-    → ((root : RootValue) → ¬ IsWholeRoot m p root) → FindsSlot (IsSlot m p) Answers None
-none_without_root none =
-    record {
-      here = tt;
-      before = λ k a before slot. absurd (none (record { address = slot.r; width = slot.d; bytes = slot.whole })
-          (record { named = slot.root; table = slot.table }));
-    }
 
 -- one address stands in a slot of a set
 pub one_listed : {m : Memory} {p k a b : ℕ} → IsSlot m p k a → IsSlot m p k b → a ≡ b

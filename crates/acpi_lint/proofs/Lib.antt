@@ -7,6 +7,7 @@ mod EntryKinds
 mod FacsSets
 mod FadtSets
 mod FewNumbers
+mod FirstBytes
 mod FirstEntries
 mod FirstOfCodes
 mod FirstSlots
@@ -34,6 +35,7 @@ mod Shorts
 mod SlitFaults
 mod SomeEntries
 mod SortedNumbers
+mod SortedSlots
 mod SratFaults
 mod StageVerdicts
 mod TypesSeen

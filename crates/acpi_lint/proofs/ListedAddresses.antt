@@ -1,5 +1,5 @@
 -- The addresses that the slots of a root list.
-use Rattle.std.proofs.Common.{◌≡◌, ℕ, ◌<◌, ◌≤◌, ◌+◌, ◌*◌, List, [], ◌∷◌, ◌++◌, Option, None, refl, sym, ap, ◌∙◌, subst, inl, inr, arith, length}
+use Rattle.std.proofs.Common.{◌≡◌, ℕ, ◌<◌, ◌≤◌, ◌+◌, ◌*◌, List, [], ◌∷◌, ◌++◌, Option, refl, sym, ap, ◌∙◌, subst, inl, inr, arith, length}
 use Rattle.std.specs.Prelude.{◌⊎◌, Contains}
 use Rattle.std.proofs.lemmas.Bool.{cases_lt}
 use Rattle.std.proofs.lemmas.List.Elements.{Contains-append_left, Contains-append_right, Contains-append_cases}
@@ -9,8 +9,7 @@ use Rattle.acpi_base.specs.Memory.{Memory}
 use Rattle.acpi_base.specs.Number.{field}
 use Rattle.acpi_base.specs.Root.{HasSlot, IsSlot}
 use Rattle.acpi_base.proofs.Elements.{first_element, first_or_later, no_element}
-use Rattle.acpi_base.proofs.Root.Slots.{one_slot, slot_of_root, root_slot}
-use Rattle.acpi_read.specs.Roots.{RootValue, IsWholeRoot}
+use Rattle.acpi_base.proofs.Root.Slots.{one_slot}
 use Rattle.acpi_lint.specs.Numbered.{at_place, HasAt}
 use Rattle.acpi_lint.specs.Places.{FindsLeast}
 use Rattle.acpi_lint.specs.Slots.{AreListed}
@@ -106,23 +105,14 @@ all_listed given before inside =
 
 -- ---- addresses of a set that are listed twice
 
-pub found_again : {m : Memory} {p : ℕ} {root : RootValue} (given : List Numbered) (found : Option Place)
-    → IsWholeRoot m p root → AreListed (HasSlot root.bytes root.width) given → FindsLeast (IsLater (HasAt given)) found
-    → FindsLeast (IsListedTwice m p) found
-found_again {m} {p} {root} given found is are first =
+pub found_again : {m : Memory} {p : ℕ} (given : List Numbered) (found : Option Place)
+    → AreListed (IsSlot m p) given → FindsLeast (IsLater (HasAt given)) found → FindsLeast (IsListedTwice m p) found
+found_again {m} {p} given found are first =
     least_as found (λ at other point later. same_later at other point to from later)
     (λ at other point later. same_later at other point from to later) first
   where
     to : (k a : ℕ) → HasAt given k a → IsSlot m p k a
-    to k a here = root_slot is.named is.table ((are.all k a).0 here)
+    to k a here = (are.all k a).0 here
 
     from : (k a : ℕ) → IsSlot m p k a → HasAt given k a
-    from k a slot =
-        (are.all k a).1 (slot_of_root m p root.address root.width k a root.bytes is.named is.table slot)
-
-pub none_again : {m : Memory} {p : ℕ} → ((root : RootValue) → ¬ IsWholeRoot m p root)
-    → FindsLeast (IsListedTwice m p) None
-none_again none = λ at other point later.
-    let slot = later.here in
-    none (record { address = slot.r; width = slot.d; bytes = slot.whole })
-    (record { named = slot.root; table = slot.table })
+    from k a slot = (are.all k a).1 slot

@@ -1,17 +1,18 @@
 -- From a table to the set that lists it.
 use Rattle.std.proofs.Common.{◌≡◌, ℕ, ◌<◌, List, length, Option, Some, None, Result, Ok, Err, refl}
-use Rattle.std.specs.Prelude.{IfOk, MatchOption}
+use Rattle.std.specs.Prelude.{IfOk}
 use Rattle.acpi_base.specs.Memory.{Memory}
 use Rattle.acpi_base.specs.Listed.{fadt_signature, madt_signature, srat_signature, slit_signature, pptt_signature, IsListedTable, HasListed}
 use Rattle.acpi_base.specs.Madt.{madt_contents}
+use Rattle.acpi_base.specs.Root.{IsSlot}
 use Rattle.acpi_base.specs.Srat.{srat_contents}
 use Rattle.acpi_base.specs.TableKinds.{signature_of}
 use Rattle.acpi_base.specs.declared.table_kind.TableKind.{TableKind}
 use Rattle.acpi_base.specs.declared.table_kind.TableKind.TheVariants as kind
 use Rattle.acpi_base.proofs.Faults.ListedTables.{of_listed}
-use Rattle.acpi_read.specs.Roots.{RootValue, IsWholeRoot}
 use Rattle.acpi_lint.specs.EntryTypes.{madt_type, srat_type, AreTypesOf}
 use Rattle.acpi_lint.specs.Places.{FindsLeast}
+use Rattle.acpi_lint.specs.Slots.{IsRootOf, AreAddresses}
 use Rattle.acpi_lint.specs.WholeTables.{IsFound, IsLong, table_of, AreTyped, AreWholeTables}
 use Rattle.acpi_lint.specs.declared.place.Place.{Place}
 use Rattle.acpi_lint.specs.declared.whole_tables.WholeTables.{WholeTables}
@@ -62,11 +63,12 @@ none_long m p signature least P (Some bytes) looked long short =
 
 -- the root and the table of each kind are those of the set
 pub are_whole : {m : Memory} {p : ℕ} (tables : WholeTables)
-    → MatchOption tables.root ((root : RootValue) → ¬ IsWholeRoot m p root) (IsWholeRoot m p)
+    → IsRootOf m p tables.root → AreAddresses (IsSlot m p) tables.slots.items
     → IsFound m p fadt_signature tables.fadt → IsFound m p madt_signature tables.madt
     → IsFound m p srat_signature tables.srat → IsFound m p slit_signature tables.slit
     → IsFound m p pptt_signature tables.pptt → AreTyped tables → AreWholeTables m p tables
-are_whole {m} {p} tables root fadt madt srat slit pptt typed = record { root = root; listed = listed; typed = typed }
+are_whole {m} {p} tables root slots fadt madt srat slit pptt typed =
+    record { root = root; slots = slots; listed = listed; typed = typed }
   where
     listed : (k : TableKind) → IsFound m p (signature_of k) (table_of tables k)
     listed kind.Fadt = fadt

@@ -12,7 +12,7 @@ use Rattle.acpi_base.specs.declared.table_kind.TableKind.TheVariants as kind
 use Rattle.acpi_lint.specs.Places.{FindsLeast}
 use Rattle.acpi_lint.specs.Slots.{FindsSlot, IsSecondOf, IsLesser}
 use Rattle.acpi_lint.specs.declared.place.Place.{Place}
-use Rattle.acpi_lint.specs.declared.slots.Slot.{Slot}
+use Rattle.acpi_lint.specs.declared.listed.Slot.{Slot}
 use Rattle.acpi_lint.proofs.FirstSlots.{IsSlotWith, not_wanted, one_listed}
 use Rattle.acpi_lint.proofs.LeastPlaces.{least_as, not_after_trans}
 

@@ -9,7 +9,7 @@ use Rattle.acpi_lint.specs.declared.entry_types.EntryTypes.{EntryTypes}
 abbrev pub type_in : List ℕ → ℕ
 type_in e = slice_index e 0
 
--- the type of what an entry of a MADT says
+-- the type of an entry of a MADT, by its contents
 abbrev pub madt_type : madt.MadtEntry → ℕ
 madt_type (madt.LocalApic v) = madt.local_apic.type
 madt_type (madt.IoApic v) = madt.io_apic.type
@@ -21,7 +21,7 @@ madt_type (madt.X2apic v) = madt.x2apic.type
 madt_type (madt.X2apicNmi v) = madt.x2apic_nmi.type
 madt_type (madt.Opaque e) = type_in e
 
--- the same of an entry of an SRAT
+-- the same for an entry of an SRAT
 abbrev pub srat_type : srat.SratEntry → ℕ
 srat_type (srat.ApicDomain v) = srat.apic_domain.type
 srat_type (srat.MemoryRange v) = srat.memory_range.type
@@ -32,6 +32,6 @@ srat_type (srat.Opaque e) = type_in e
 abbrev pub IsSeen : EntryTypes → ℕ → Type 0
 IsSeen types n = slice_index_or types.seen n false ≡ true
 
--- each entry that stands has one of these types
+-- each entry has one of these types
 abbrev pub AreTypesOf : {E : Type 0} → (E → ℕ) → EntryTypes → List (PlacedEntry E) → Type 0
 AreTypesOf {E} type_of types entries = (o : ℕ) (e : E) → Stands entries o e → IsSeen types (type_of e)

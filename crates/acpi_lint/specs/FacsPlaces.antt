@@ -9,6 +9,6 @@ use Rattle.acpi_base.specs.declared.code.Code.{Code}
 abbrev pub IsFacsFault : Memory → List ℕ → Code → ℕ → ℕ → ℕ → Type 0
 IsFacsFault m fadt fault at other point = NamedFacsFault m fadt fault at × AreUnused other point
 
--- the same, where the FADT has at least 116 bytes
+-- the same, if the FADT has at least 116 bytes
 abbrev pub IsFacsFaultOf : Memory → List ℕ → Code → ℕ → ℕ → ℕ → Type 0
 IsFacsFaultOf m fadt fault at other point = (116 ≤ length fadt) × IsFacsFault m fadt fault at other point

@@ -3,15 +3,15 @@ use Rattle.std.specs.Prelude.{ℕ, ◌<◌, ◌↔◌, List, AllPairs, Contains,
 use Rattle.acpi_base.specs.Entries.{PlacedEntry}
 use Rattle.acpi_base.specs.Lint.Numbered.{IsNamed}
 
--- the numbers rise, and are those of which `IsKnown` holds
+-- the numbers rise, and are those for which `IsKnown` holds
 pub record AreKnown (IsKnown : ℕ → Type 0) (numbers : List ℕ) : Type 0 where
   pub rise : AllPairs (λ i j. i < j) numbers
   pub all : (n : ℕ) → Contains numbers n ↔ IsKnown n
 
--- of the numbers of which `IsAsked` holds, these are those of which `IsKnown` holds
+-- of the numbers for which `IsAsked` holds, these are those for which `IsKnown` holds
 abbrev pub IsKnownAmong : (ℕ → Type 0) → (ℕ → Type 0) → List ℕ → Type 0
 IsKnownAmong IsAsked IsKnown numbers = (n : ℕ) → IsAsked n → Contains numbers n ↔ IsKnown n
 
--- `read` gives some number of an entry
+-- `read` gives a number for an entry
 abbrev pub IsAnyNamed : {E : Type 0} → (E → Option ℕ) → List (PlacedEntry E) → Type 0
 IsAnyNamed read entries = (n : ℕ) × IsNamed read entries n

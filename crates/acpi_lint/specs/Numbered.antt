@@ -5,11 +5,11 @@ use Rattle.acpi_lint.specs.declared.numbered.Order.{Order}
 use Rattle.acpi_lint.specs.declared.numbered.Order.TheVariants.{Later, First}
 use Rattle.acpi_lint.specs.declared.place.Place.{Place}
 
--- a is given at an earlier place than b, or at the same one with no greater value
+-- a is at an earlier place than b, or at the same one with no greater value
 abbrev pub IsNoLater : Numbered → Numbered → Type 0
 IsNoLater a b = (a.at < b.at) ⊎ ((a.at ≡ b.at) × (a.value ≤ b.value))
 
--- a's number is less than b's, or a is of the same number and given no later
+-- a's number is lower than b's, or it is the same and a's place is not later
 abbrev pub IsNotAbove : Numbered → Numbered → Type 0
 IsNotAbove a b = (a.number < b.number) ⊎ ((a.number ≡ b.number) × IsNoLater a b)
 
@@ -30,13 +30,13 @@ abbrev pub unlike_place : Order → Numbered → Numbered → Place
 unlike_place Later g f = record { at = g.at; other = f.at; point = g.number }
 unlike_place First g f = record { at = f.at; other = g.at; point = g.number }
 
--- at these numbers it is reported that a number is given another value than at its first place
+-- these are the numbers of the report that a number has another value than at its first place
 abbrev pub IsUnlikeAt : Order → List Numbered → ℕ → ℕ → ℕ → Type 0
 IsUnlikeAt order given at other point =
     (g : Numbered) × (f : Numbered) × IsUnlike given g f
     × (unlike_place order g f ≡ record { at = at; other = other; point = point })
 
--- the number n at a place, which is also the value that it is given there
+-- the number n at a place, which is also its value there
 abbrev pub at_place : ℕ → ℕ → Numbered
 at_place at n = record { number = n; at = at; value = at }
 
@@ -44,7 +44,7 @@ at_place at n = record { number = n; at = at; value = at }
 abbrev pub HasAt : List Numbered → ℕ → ℕ → Type 0
 HasAt given at n = Contains given (at_place at n)
 
--- these are the numbers of which `StandsAt at n` says where they stand, each with its place for its value; the places rise
+-- these are the numbers with their places by `StandsAt at n`, each with its place as its value; the places rise
 pub record AreNumbersAt (StandsAt : ℕ → ℕ → Type 0) (given : List Numbered) : Type 0 where
   pub rise : AllPairs (λ a b. a.at < b.at) given
   pub placed : (g : Numbered) → Contains given g → g.value ≡ g.at

@@ -1,4 +1,4 @@
--- What a MADT says of an interrupt number (ACPI 6.5, 5.2.12.3, 5.2.12.5).
+-- What a MADT says about an interrupt number (ACPI 6.5, 5.2.12.3, 5.2.12.5).
 use Rattle.std.specs.Prelude.{◌≡◌, ℕ, ◌+◌, ◌<◌, ◌≤◌, List, false}
 use Rattle.acpi_base.specs.Across.{HasIoApic, IsServed}
 use Rattle.acpi_base.specs.Entries.{StandsWith}
@@ -6,13 +6,13 @@ use Rattle.acpi_base.specs.Fadt.{is_reduced}
 use Rattle.acpi_base.specs.Madt.{MadtEntry, IoApic, Override, MadtContents}
 use Rattle.acpi_base.specs.Policy.{PolicyValue, inputs_of}
 
--- the entry, which stands at `at`, is an override of this ISA interrupt that gives it the interrupt number `other`
+-- the entry, which is at `at`, is an override of this ISA interrupt that gives it the interrupt number `other`
 abbrev pub IsOwnOverride : ℕ → ℕ → MadtEntry → ℕ → ℕ → Type 0
 IsOwnOverride source at (Override v) other point =
     (v.bus ≡ 0) × (v.source ≡ source) × (v.gsi ≡ other) × (point ≡ 0)
 IsOwnOverride source at _ other point = ⊥
 
--- such an entry stands at `at`
+-- there is such an entry at `at`
 abbrev pub IsOverrideAt : ℕ → MadtContents → ℕ → ℕ → ℕ → Type 0
 IsOverrideAt source c at other point = StandsWith c.entries at (λ e. IsOwnOverride source at e other point)
 
@@ -21,6 +21,6 @@ abbrev pub ServesNumber : PolicyValue → ℕ → MadtEntry → Type 0
 ServesNumber q g (IoApic v) = (v.gsi_base ≤ g) × (g < v.gsi_base + inputs_of q v.address)
 ServesNumber q g _ = ⊥
 
--- the hardware that this FADT speaks of is not reduced, and no I/O APIC serves g, though there are some
+-- by this FADT the hardware is not reduced, and no I/O APIC serves g, although there are some
 abbrev pub IsNowhere : PolicyValue → List ℕ → MadtContents → ℕ → Type 0
 IsNowhere q whole c g = (is_reduced whole ≡ false) × HasIoApic c × (¬ IsServed q c g)

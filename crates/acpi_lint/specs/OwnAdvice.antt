@@ -1,4 +1,4 @@
--- What rules of advice ask of an entry by itself, which stands at `at`.
+-- Rules of advice on a single entry, which is at `at`.
 use Rattle.std.specs.Prelude.{◌≡◌, ℕ, List, slice_index, Some}
 use Rattle.acpi_base.specs.Entries.{AreUnused}
 use Rattle.acpi_base.specs.Lint.MadtAdvice as madt_advice
@@ -16,7 +16,7 @@ IsMadtUnreadHere at e other point =
     ((bytes : List ℕ) × (e ≡ madt.Opaque bytes) × madt_advice.IsUnreadEntry bytes × (other ≡ slice_index bytes 0))
     × (point ≡ 0)
 
--- the same of an entry of an SRAT
+-- the same for an entry of an SRAT
 abbrev pub IsSratUnreadHere : ℕ → srat.SratEntry → ℕ → ℕ → Type 0
 IsSratUnreadHere at e other point =
     ((bytes : List ℕ) × (e ≡ srat.Opaque bytes) × srat_advice.IsUnreadEntry bytes × (other ≡ slice_index bytes 0))

@@ -1,19 +1,19 @@
--- Places of findings, and the least of them.
+-- Places of findings, and the lowest of them.
 use Rattle.std.specs.Prelude.{◌≡◌, ℕ, ◌<◌, ◌≤◌, ◌⊎◌, Option, Some, None}
 use Rattle.acpi_base.specs.Entries.{AreUnused}
 use Rattle.acpi_lint.specs.declared.place.Place.{Place}
 
--- the place stands before these numbers in the order by at, other and point, or is theirs
+-- the place comes before these numbers in the order by at, other and point, or is equal to them
 abbrev pub IsNotAfter : Place → ℕ → ℕ → ℕ → Type 0
 IsNotAfter p at other point =
     (p.at < at) ⊎ ((p.at ≡ at) × ((p.other < other) ⊎ ((p.other ≡ other) × (p.point ≤ point))))
 
--- P holds of the place's numbers, and of none before it
+-- P holds for the place's numbers, and for none before it
 pub record IsLeast (P : ℕ → ℕ → ℕ → Type 0) (p : Place) : Type 0 where
   pub here : P p.at p.other p.point
   pub least : (at other point : ℕ) → P at other point → IsNotAfter p at other point
 
--- P holds of no numbers, or this is the least place where it does
+-- P holds for no numbers, or this is the lowest place where it does
 abbrev pub FindsLeast : (ℕ → ℕ → ℕ → Type 0) → Option Place → Type 0
 FindsLeast P None = (at other point : ℕ) → ¬ P at other point
 FindsLeast P (Some p) = IsLeast P p

@@ -4,7 +4,7 @@ use Rattle.acpi_base.specs.Entries.{AreUnused}
 use Rattle.acpi_base.specs.Pptt.{PpttEntry, Cache, CacheValue, HasOtherPpttLength}
 use Rattle.acpi_base.specs.Lint.PpttAdvice.{HasOddShape}
 
--- the entry has the type of a node or a cache, and no length of that type
+-- the entry has the type of a node or a cache, but no length of that type
 abbrev pub IsOtherLength : ℕ → PpttEntry → ℕ → ℕ → Type 0
 IsOtherLength at e other point = HasOtherPpttLength e × AreUnused other point
 

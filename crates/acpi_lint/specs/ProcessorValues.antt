@@ -1,4 +1,4 @@
--- What a struct says of a processor.
+-- What a struct says about a processor.
 use Rattle.acpi_base.specs.Lint.Processors as said
 use Rattle.acpi_lint.specs.declared.processors.Processor.{Processor}
 

@@ -1,4 +1,4 @@
--- What the entries of a PPTT name that is not there (ACPI 6.5, 5.2.30).
+-- Dangling references of the entries of a PPTT (ACPI 6.5, 5.2.30).
 use Rattle.std.specs.Prelude.{◌≡◌, ◌≢◌, ◌<◌, ◌↔◌, ℕ, Bool, List, AllPairs, Contains, Option, Some, None, is_some, not, ◌==◌, if◌then◌else◌}
 use Rattle.acpi_base.specs.Chains.{Dangles}
 use Rattle.acpi_base.specs.Entries.{PlacedEntry}
@@ -6,7 +6,7 @@ use Rattle.acpi_base.specs.Pptt.{PpttEntry, PpttContents, parent_of, next_level_
 use Rattle.acpi_lint.specs.declared.references.Link.{Link}
 use Rattle.acpi_lint.specs.declared.references.Link.TheVariants as link
 
--- what an entry says that it is linked to: a node its Parent, a cache its Next Level
+-- what an entry refers to: a node to its Parent, a cache to its Next Level
 abbrev pub linked : Link → PpttEntry → Option ℕ
 linked link.Parent = parent_of
 linked link.NextLevel = next_level_of
@@ -21,7 +21,7 @@ is_linked kind e = is_some (linked kind e)
 abbrev pub is_resource : PpttEntry → Bool
 is_resource e = not (pptt_type e == 0)
 
--- these are the offsets of which `IsThere` holds, in rising order
+-- these are the offsets for which `IsThere` holds, in rising order
 pub record AreOffsets (IsThere : ℕ → Type 0) (offsets : List ℕ) : Type 0 where
   pub rise : AllPairs (λ o p. o < p) offsets
   pub each : (o : ℕ) → Contains offsets o ↔ IsThere o
@@ -30,11 +30,11 @@ pub record AreOffsets (IsThere : ℕ → Type 0) (offsets : List ℕ) : Type 0 w
 abbrev pub IsDanglingLink : Link → PpttContents → ℕ → ℕ → ℕ → Type 0
 IsDanglingLink kind c at other point = Dangles (Says (linked kind) c) at other × (point ≡ 0)
 
--- the entry is linked to an offset that is none of these, and not 0, which names nothing
+-- the entry refers to an offset that is not among these, and is not 0, which refers to nothing
 abbrev pub NamesNoLink : Link → List ℕ → ℕ → PpttEntry → ℕ → ℕ → Type 0
 NamesNoLink kind offsets at e other point =
     (linked kind e ≡ Some other) × (other ≢ 0) × (¬ Contains offsets other) × (point ≡ 0)
 
--- a private resource of the entry is none of these
+-- a private resource of the entry is not among these
 abbrev pub NamesNoResource : List ℕ → ℕ → PpttEntry → ℕ → ℕ → Type 0
 NamesNoResource offsets at e other point = (resource_of other e ≡ Some point) × ¬ Contains offsets point

@@ -1,32 +1,47 @@
--- What is looked for in the slots of a root (ACPI 6.5, 5.2.7, 5.2.8).
-use Rattle.std.specs.Prelude.{◌≡◌, ◌≢◌, ℕ, ◌<◌, ◌≤◌, ◌⊎◌, ◌↔◌, Bool, true, false, List, Option, Some, None, IfSome, Contains}
+-- What is looked for in the slots of a root table (ACPI 6.5, 5.2.7, 5.2.8).
+use Rattle.std.specs.Prelude.{◌≡◌, ◌≢◌, ℕ, ◌<◌, ◌≤◌, ◌⊎◌, ◌↔◌, Bool, true, false, List, Option, Some, None, IfSome, MatchOption, AllPairs, Contains}
 use Rattle.acpi_base.specs.Lint.Slots.{ListsSigned}
 use Rattle.acpi_base.specs.Memory.{Memory}
 use Rattle.acpi_base.specs.TableKinds.{signature_of}
 use Rattle.acpi_base.specs.declared.table_kind.TableKind.{TableKind}
-use Rattle.acpi_lint.specs.Numbered.{HasAt}
+use Rattle.acpi_read.specs.Roots.{RootValue, IsWholeRoot}
+use Rattle.acpi_lint.specs.Numbered.{IsNotAbove, HasAt}
 use Rattle.acpi_lint.specs.Places.{IsNotAfter}
 use Rattle.acpi_lint.specs.declared.numbered.Numbered.{Numbered}
 use Rattle.acpi_lint.specs.declared.place.Place.{Place}
-use Rattle.acpi_lint.specs.declared.slots.Slot.{Slot}
+use Rattle.acpi_lint.specs.declared.listed.Slot.{Slot}
 
--- the slot k stands before this one, or there is none
+-- the slot k comes before this one, or there is none
 abbrev pub StandsBefore : ℕ → Option Slot → Type 0
 StandsBefore k None = Unit {0}
 StandsBefore k (Some s) = k < s.number
 
--- `Lists k a` says that slot k lists the address a, and `Answers a b` that the answer of this address may be b: the slot that
--- is found lists its address, of which it may be yes, and it may be no of those before it, or of all where none is found
+-- `Lists k a` says that slot k lists the address a, and `Answers a b` that the answer for this address may be b: the
+-- slot that is found lists its address, for which the answer may be yes, and it may be no for those before it, or for
+-- all if none is found
 pub record FindsSlot (Lists : ℕ → ℕ → Type 0) (Answers : ℕ → Bool → Type 0) (found : Option Slot) : Type 0 where
   pub here : IfSome found (λ s. Lists s.number s.address × Answers s.address true)
   pub before : (k a : ℕ) → StandsBefore k found → Lists k a → Answers a false
 
--- these are the listed addresses, each with the number of its slot for its place and for its value
+-- this is the root table that the RSDP at p names, or there is no complete one
+abbrev pub IsRootOf : Memory → ℕ → Option RootValue → Type 0
+IsRootOf m p found = MatchOption found ((root : RootValue) → ¬ IsWholeRoot m p root) (IsWholeRoot m p)
+
+-- these are the listed addresses, each with the number of its slot as its place and its value
 pub record AreListed (Lists : ℕ → ℕ → Type 0) (given : List Numbered) : Type 0 where
   pub placed : (g : Numbered) → Contains given g → g.value ≡ g.at
   pub all : (k a : ℕ) → HasAt given k a ↔ Lists k a
 
--- as `IsSecondTable`, of tables of this kind
+-- these are the listed addresses, each with its slot, by address and then by slot
+pub record AreAddresses (Lists : ℕ → ℕ → Type 0) (sorted : List Numbered) : Type 0 where
+  pub listed : AreListed Lists sorted
+  pub rise : AllPairs IsNotAbove sorted
+
+-- slot k, with the address a, is among these
+abbrev pub StandsAmong : List Numbered → ℕ → ℕ → Type 0
+StandsAmong given k a = (g : Numbered) × Contains given g × (g.at ≡ k) × (g.number ≡ a)
+
+-- as `IsSecondTable`, for tables of this kind
 pub record IsSecondOf (m : Memory) (p : ℕ) (kind : TableKind) (at other point : ℕ) : Type 0 where
   pub here : ListsSigned m p (signature_of kind) at point
   pub a : ℕ
@@ -34,7 +49,7 @@ pub record IsSecondOf (m : Memory) (p : ℕ) (kind : TableKind) (at other point 
   pub first : (k b : ℕ) → ListsSigned m p (signature_of kind) k b → other ≤ k
   pub differs : a ≢ point
 
--- the lesser of two places, or the one that there is
+-- the lower of two places, or the only one
 abbrev pub IsLesser : Option Place → Option Place → Option Place → Type 0
 IsLesser None two found = found ≡ two
 IsLesser (Some p) None found = found ≡ Some p

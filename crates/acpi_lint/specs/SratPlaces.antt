@@ -4,10 +4,10 @@ use Rattle.acpi_base.specs.Entries.{StandsWith, AreUnused}
 use Rattle.acpi_base.specs.Srat.{SratEntry, SratContents, SratEntryFault}
 use Rattle.acpi_base.specs.declared.code.Code.{Code}
 
--- the entry, which stands at `at`, has the fault with this code
+-- the entry, which is at `at`, has the fault with this code
 abbrev pub IsOwnFault : Code → ℕ → SratEntry → ℕ → ℕ → Type 0
 IsOwnFault fault at e other point = SratEntryFault fault e × AreUnused other point
 
--- an entry that stands at `at` has it
+-- an entry at `at` has it
 abbrev pub IsOwnFaultAt : Code → SratContents → ℕ → ℕ → ℕ → Type 0
 IsOwnFaultAt fault c at other point = StandsWith c.entries at (SratEntryFault fault) × AreUnused other point

@@ -1,4 +1,4 @@
--- Where an image is at fault with a code, and what is found of a code and of a rule.
+-- Where an image is at fault with a code, and what is found for a code and for a rule.
 use Rattle.std.specs.Prelude.{◌≡◌, ℕ, Option, Some, None, option_map}
 use Rattle.acpi_base.specs.Codes.{code_number}
 use Rattle.acpi_base.specs.Memory.{Memory}
@@ -13,7 +13,7 @@ use Rattle.acpi_base.specs.declared.stage.Stage.{Stage}
 use Rattle.acpi_base.specs.declared.witness.Witness.{Witness}
 use Rattle.acpi_lint.specs.declared.place.Place.{Place}
 
--- the condition of the stage's faults with this code holds of these numbers
+-- the condition of the stage's faults with this code holds for these numbers
 abbrev pub IsFaultOfStage : Stage → Code → Memory → PolicyValue → ℕ → ℕ → ℕ → Type 0
 IsFaultOfStage stage fault m q at other point =
     FaultCondition stage m q (record { code = fault; at = at; other = other; point = point })

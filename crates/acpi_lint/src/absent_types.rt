@@ -1,5 +1,5 @@
-//! Codes and rules of advice that nothing breaks in a table without entries of some types. They are looked for only where an
-//! entry of such a type stands: a pass over all entries tells the types once.
+//! Codes and rules of advice that no entry can break in a table without entries of some types. Their finders are
+//! called only if there is an entry of such a type: one pass over all entries finds the types.
 
 ghost use Rattle.std.specs.Prelude.{◌≡◌, false};
 ghost use Rattle.acpi_base.specs.Madt.{MadtContents, MadtFault};
@@ -40,7 +40,7 @@ const X2APIC: u8 = 9;
 /// The type of a local x2APIC NMI.
 const X2APIC_NMI: u8 = 10;
 
-/// Whether a rule on the MADT alone may be broken where its entries have these types. A `true` says nothing.
+/// Whether a rule on the MADT alone may be broken if its entries have these types. A `true` says nothing.
 pub fn may_break_in_madt(rule: Rule, types: &EntryTypes) -> bool
     ensures { (madt : MadtContents) → AreTypesOf madt_type types.now madt.entries
         → result ≡ false → FindsLeast (MadtRule rule madt) None }
@@ -92,7 +92,7 @@ pub const MEMORY_RANGE: u8 = 1;
 /// The type of an affinity of a local x2APIC.
 const X2APIC_AFFINITY: u8 = 2;
 
-/// Whether a rule on the SRAT alone may be broken where its entries have these types. A `true` says nothing.
+/// Whether a rule on the SRAT alone may be broken if its entries have these types. A `true` says nothing.
 pub fn may_break_in_srat(rule: Rule, types: &EntryTypes) -> bool
     ensures { (srat : SratContents) → AreTypesOf srat_type types.now srat.entries
         → result ≡ false → FindsLeast (SratRule rule srat) None }

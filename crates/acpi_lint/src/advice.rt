@@ -75,7 +75,7 @@ fn of_pptt(alloc: Global, tables: &WholeTables<'_>, rule: Rule) -> Result<Option
     }
 }
 
-/// The first finding of a rule on a set's MADT and its SRAT.
+/// The first finding of a rule on a set's MADT and SRAT.
 fn of_domains(
     alloc: Global,
     tables: &WholeTables<'_>,
@@ -94,7 +94,7 @@ fn of_domains(
     domain_rule(alloc, rule, &madt, &srat)
 }
 
-/// The first finding of a rule on a set's MADT and its PPTT.
+/// The first finding of a rule on a set's MADT and PPTT.
 fn of_leaves(
     alloc: Global,
     tables: &WholeTables<'_>,
@@ -113,7 +113,7 @@ fn of_leaves(
     leaf_rule(alloc, rule, &madt, &pptt)
 }
 
-/// The first finding of the rule on SCI_INT: on a set's FADT and its MADT.
+/// The first finding of the rule on SCI_INT, which is about a set's FADT and MADT.
 fn of_sci(tables: &WholeTables<'_>, policy: &Policy) -> Option<Place>
     ensures { (m : Memory) → AreWholeTables m policy.now.rsdp tables.now
         → FindsLeast (IsBroken Rule.SciNowhere m policy.now) result }
@@ -134,7 +134,7 @@ fn of_distances(tables: &WholeTables<'_>) -> Option<Place>
     slit_differs(tables.table(TableKind::Slit)?)
 }
 
-/// The first finding of the rule on the domains of a set's SRAT among the localities of its SLIT.
+/// The first finding of the rule that the domains of a set's SRAT are localities of its SLIT.
 fn of_localities(tables: &WholeTables<'_>) -> Option<Place>
     ensures { (m : Memory) (q : PolicyValue) → AreWholeTables m q.rsdp tables.now
         → FindsLeast (IsBroken Rule.DomainPastSlit m q) result }
@@ -157,7 +157,7 @@ fn first_place(
     ensures { IfOk result (FindsLeast (IsBroken rule image.now policy.now)) }
 {
     match rule {
-        Rule::ListedTwice => listed_twice(alloc, tables),
+        Rule::ListedTwice => Ok(listed_twice(tables)),
         Rule::SecondTable => Ok(second_table(image, tables)),
         Rule::ListedApart => Ok(listed_apart(image, tables)),
         Rule::FadtOfRevision | Rule::FacsDiffers | Rule::DsdtDiffers | Rule::BlockDiffers => {
@@ -210,7 +210,7 @@ fn first_finding(
 /// The number of the first rule.
 const RULES_BEGIN: u8 = 101;
 
-/// The number behind that of the last rule.
+/// The number after that of the last rule.
 const RULES_END: u8 = 129;
 
 /// The first findings of all rules that are broken, in the order of the rules' numbers.

@@ -30,7 +30,7 @@ fn is_set(flags: u32, bit: u32) -> bool
     flags >> bit & 1 == 1
 }
 
-/// Whether a valid Number of Sets is 0, or a valid Line Size is no power of two.
+/// Whether a valid Number of Sets is 0, or a valid Line Size is not a power of two.
 fn is_odd_shape(flags: u32, sets: u32, line_size: u16) -> bool
     ensures { IsTrue result ↔ (((has_bit flags 1 ≡ true) × (sets ≡ 0))
         ⊎ ((has_bit flags 6 ≡ true) × ¬ IsPowerOfTwo line_size)) }
@@ -38,7 +38,7 @@ fn is_odd_shape(flags: u32, sets: u32, line_size: u16) -> bool
     is_set(flags, 1) && sets == 0 || is_set(flags, 6) && !is_power_of_two(line_size)
 }
 
-/// Whether an entry is a cache of such a shape.
+/// Whether an entry is such a cache.
 fn is_odd_cache(entry: &PpttEntry<'_>) -> bool
     ensures { IsTrue result ↔ IsOddCache (pptt_value entry.now) }
 {
@@ -56,8 +56,8 @@ fn odd_place(at: &EntryAt<PpttEntry<'_>>) -> Option<Place>
     is_odd_cache(&at.entry).then_some(Place::at(at.offset))
 }
 
-/// The place of the first cache of a PPTT whose Number of Sets is valid and 0, or whose Line Size is valid and no power
-/// of two.
+/// The place of the first cache of a PPTT whose Number of Sets is valid and 0, or whose Line Size is valid and not a
+/// power of two.
 pub fn cache_shape(pptt: &Pptt<'_>) -> Option<Place>
     ensures { FindsLeast (IsCacheShape (pptt_contents pptt.now)) result }
 {

@@ -1,5 +1,4 @@
-//! The types of a table's entries: which there are at all. What is looked for in entries of a type is not looked for where no
-//! entry has it.
+//! The types of a table's entries. A finder for entries of some types is not called if there are none of these types.
 
 ghost use Rattle.std.specs.Prelude.{◌≡◌, ℕ, slice_index_or, Contains, IfSome, IsTrue, false};
 ghost use Rattle.acpi_base.specs.Madt.{madt_contents};
@@ -23,7 +22,7 @@ fn type_in(entry: &Entry<'_>) -> u8
 }
 
 impl EntryTypes {
-    /// Those of a table's entries that are still to come.
+    /// The types of a table's remaining entries.
     fn of(entries: Entries<'_>) -> EntryTypes
         ensures { AreTypesOf type_in result entries.entry.entries }
     {
@@ -34,12 +33,12 @@ impl EntryTypes {
         EntryTypes { seen }
     }
 
-    /// Those of a table without entries.
+    /// The types of a table without entries.
     fn none() -> EntryTypes {
         EntryTypes { seen: [false; 256] }
     }
 
-    /// Those of a MADT's entries.
+    /// The types of a MADT's entries.
     #[tactic(auto, unfolding(acpi_base::specs::Madt::madt_contents))]
     pub fn madt(table: &Option<Table<'_>>) -> EntryTypes
         ensures { IfSome table.now
@@ -54,7 +53,7 @@ impl EntryTypes {
         }
     }
 
-    /// Those of an SRAT's entries.
+    /// The types of an SRAT's entries.
     #[tactic(auto, unfolding(acpi_base::specs::Srat::srat_contents))]
     pub fn srat(table: &Option<Table<'_>>) -> EntryTypes
         ensures { IfSome table.now

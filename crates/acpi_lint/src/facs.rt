@@ -16,8 +16,8 @@ use acpi_base::field::{is_signed, u32_at};
 use acpi_base::{Code, Image, TableKind};
 use acpi_read::{Fadt, Table};
 
-/// Whether the FACS at the address that a FADT names, which is not 0, has the fault with this code. All are looked for, also
-/// where earlier bytes are wrong.
+/// Whether the FACS at the address that a FADT names, which is not 0, has the fault with this code. Each code is
+/// looked for, even if earlier bytes are wrong.
 fn has_fault(image: &Image, fadt: &Fadt<'_>, address: u64, code: Code) -> bool
     requires named { address ≡ facs_address fadt.now }
     requires some { address ≢ 0 }
@@ -36,7 +36,7 @@ fn has_fault(image: &Image, fadt: &Fadt<'_>, address: u64, code: Code) -> bool
     }
 }
 
-/// The fault with this code of the FACS that a FADT names, at its address, or at 0 where none is named.
+/// The fault with this code of the FACS that a FADT names, at its address, or at 0 if none is named.
 fn named_fault(image: &Image, fadt: &Fadt<'_>, code: Code) -> Option<Place>
     ensures { FindsLeast (IsFacsFault image.now fadt.now code) result }
 {
@@ -49,15 +49,15 @@ fn named_fault(image: &Image, fadt: &Fadt<'_>, code: Code) -> Option<Place>
     is_wrong.then_some(Place::at(address))
 }
 
-/// The same of the table of a FADT: one of fewer than 116 bytes gives none.
+/// The same for the table of a FADT: one of fewer than 116 bytes has none.
 fn table_fault(image: &Image, table: Table<'_>, code: Code) -> Option<Place>
     ensures { FindsLeast (IsFacsFaultOf image.now table.entry code) result }
 {
     named_fault(image, &Fadt::new(table).ok()?, code)
 }
 
-/// The fault with this code of the FACS that the set's FADT names: its address, or 0 where none is named. The tables are those
-/// of the image's set.
+/// The fault with this code of the FACS that the set's FADT names: its address, or 0 if none is named. The tables are
+/// those of the image's set.
 pub fn facs_fault(image: &Image, tables: &WholeTables<'_>, code: Code) -> Option<Place>
     ensures { (q : PolicyValue) → AreWholeTables image.now q.rsdp tables.now
         → FindsLeast (IsFaultOfStage Stage.Facs code image.now q) result }

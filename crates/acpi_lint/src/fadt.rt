@@ -10,11 +10,13 @@ ghost use Rattle.acpi_lint.specs.Places.{FindsLeast};
 ghost use Rattle.acpi_lint.specs.StageFaults.{IsFaultOfStage};
 ghost use Rattle.acpi_lint.specs.WholeTables.{AreWholeTables};
 
+use crate::listed::has_header;
 use crate::place::Place;
+use crate::slots::first_listed;
 use crate::whole_tables::WholeTables;
 use acpi_base::field::{u8_at, u32_at};
 use acpi_base::{Code, Image, TableKind};
-use acpi_read::{Fadt, Table, first};
+use acpi_read::{Fadt, Table};
 
 /// RESET_REG_SUP, a bit of Flags: the reset register may be used.
 const RESET_REG_SUP: u32 = 10;
@@ -29,7 +31,7 @@ fn has_flag(bytes: &[u8], bit: u32) -> bool
     u32_at(bytes, 112) >> bit & 1 == 1
 }
 
-/// Whether RESET_REG, at 116, has a space above 2, another width than 8 bits or another bit offset than 0.
+/// Whether RESET_REG, at 116, has a space above 2, a width other than 8 bits or a bit offset other than 0.
 fn is_no_reset_register(bytes: &[u8]) -> bool
     requires { 129 ≤ length bytes.now }
     ensures { IsTrue result ↔ IsNoResetRegister (gas_at bytes.now 116) }
@@ -37,7 +39,7 @@ fn is_no_reset_register(bytes: &[u8]) -> bool
     u8_at(bytes, 116) > 2 || u8_at(bytes, 117) != 8 || u8_at(bytes, 118) != 0
 }
 
-/// The fault with this code that a FADT has by its bytes: it has at most one, but for two of GPE blocks.
+/// The fault with this code that a FADT has: there is at most one, except for the two of GPE blocks.
 fn own_fault(fadt: &Fadt<'_>, code: Code) -> Option<Place>
     ensures { FindsLeast (IsFadtFault fadt.now code) result }
 {
@@ -72,19 +74,19 @@ fn table_fault(table: Table<'_>, code: Code) -> Option<Place>
     }
 }
 
-/// Whether the root is whole and lists no header of a FADT.
+/// Whether the root table is complete and lists no header of a FADT.
 fn lists_no_fadt(image: &Image, tables: &WholeTables<'_>) -> bool
     ensures { (p : ℕ) → AreWholeTables image.now p tables.now
         → IsTrue result ↔ HasNoFadt image.now p }
 {
     match &tables.root {
-        Some(root) => first(image, root, *b"FACP").is_none(),
+        Some(_) => first_listed(tables, |address| has_header(image, address, b"FACP")).is_none(),
         None => false,
     }
 }
 
-/// The first fault of the FADT with this code: its offset in the table, or 0 where none is listed. The tables are those of the
-/// image's set.
+/// The first fault of the FADT with this code: its offset in the table, or 0 if none is listed. The tables are those
+/// of the image's set.
 pub fn fadt_fault(image: &Image, tables: &WholeTables<'_>, code: Code) -> Option<Place>
     ensures { (q : PolicyValue) → AreWholeTables image.now q.rsdp tables.now
         → FindsLeast (IsFaultOfStage Stage.Fadt code image.now q) result }

@@ -1,4 +1,4 @@
-//! Advice on a FADT of at least 116 bytes (ACPI 6.5, 5.2.9): fields that say two things, and fields that are missing.
+//! Advice on a FADT of at least 116 bytes (ACPI 6.5, 5.2.9): fields that disagree, and fields that are missing.
 
 ghost use Rattle.std.specs.Prelude.{◌≡◌, ◌≤◌, ◌<◌, ◌+◌, ◌*◌, ◌↔◌, IsTrue, length};
 ghost use Rattle.acpi_base.specs.Lint.FadtAdvice.{fields_length, IsFadtOfRevision, IsFacsDiffers, IsDsdtDiffers, IsBlockDiffers};
@@ -9,7 +9,7 @@ use crate::place::Place;
 use acpi_base::field::{u8_at, u32_at, u64_at};
 use acpi_read::Fadt;
 
-/// How many bytes a FADT of this Revision has at least, those of all its fields; 0 below Revision 3.
+/// The minimum length in bytes of a FADT of this Revision with all its fields; 0 below Revision 3.
 fn fields_length(revision: u8) -> u64
     ensures { result ≡ fields_length revision }
 {
@@ -21,7 +21,7 @@ fn fields_length(revision: u8) -> u64
     }
 }
 
-/// The FADT's Length, at 4, where it is shorter than its Revision has fields; and that length.
+/// The place of the FADT's Length, at 4, if it is too short for the fields of its Revision; and that minimum length.
 pub fn fadt_of_revision(fadt: &Fadt<'_>) -> Option<Place>
     ensures { FindsLeast (IsFadtOfRevision fadt.now) result }
 {
@@ -38,8 +38,8 @@ pub fn fadt_of_revision(fadt: &Fadt<'_>) -> Option<Place>
     })
 }
 
-/// The field of 4 bytes at `narrow` and that of 8 bytes at `wide`, where both are there and not 0, and differ. Offsets lie in the
-/// 276 bytes of all fields.
+/// The place of the 4-byte field at `narrow` and the 8-byte field at `wide`, if both exist, are not 0, and differ.
+/// Offsets are within the 276 bytes of all fields.
 fn two_fields(bytes: &[u8], narrow: usize, wide: usize) -> Option<Place>
     requires narrow { narrow + 4 ≤ length bytes.now }
     requires wide { wide < 276 }
@@ -60,21 +60,22 @@ fn two_fields(bytes: &[u8], narrow: usize, wide: usize) -> Option<Place>
     })
 }
 
-/// FIRMWARE_CTRL, at 36, and X_FIRMWARE_CTRL, where they name two addresses.
+/// FIRMWARE_CTRL, at 36, and X_FIRMWARE_CTRL, if they name two addresses.
 pub fn facs_differs(fadt: &Fadt<'_>) -> Option<Place>
     ensures { FindsLeast (IsFacsDiffers fadt.now) result }
 {
     two_fields(fadt.bytes(), 36, 132)
 }
 
-/// DSDT, at 40, and X_DSDT, where they name two addresses.
+/// DSDT, at 40, and X_DSDT, if they name two addresses.
 pub fn dsdt_differs(fadt: &Fadt<'_>) -> Option<Place>
     ensures { FindsLeast (IsDsdtDiffers fadt.now) result }
 {
     two_fields(fadt.bytes(), 40, 140)
 }
 
-/// The addresses of register block k, where the X_ structure is of system I/O and names another than the field of 4 bytes.
+/// The addresses of register block k, if the X_ structure is in system I/O and names another address than the 4-byte
+/// field.
 fn block_at(bytes: &[u8], k: usize) -> Option<Place>
     requires long { 116 ≤ length bytes.now }
     requires block { k < 8 }
@@ -87,7 +88,7 @@ fn block_at(bytes: &[u8], k: usize) -> Option<Place>
     two_fields(bytes, 56 + 4 * k, structure + 4)
 }
 
-/// The first register block with two addresses, where the hardware is not reduced.
+/// The first register block with two addresses, if the hardware is not reduced.
 pub fn block_differs(fadt: &Fadt<'_>) -> Option<Place>
     ensures { FindsLeast (IsBlockDiffers fadt.now) result }
 {

@@ -24,7 +24,7 @@ use crate::whole_tables::WholeTables;
 use acpi_base::{Code, Image, Policy, Stage, Witness};
 use std::alloc::{AllocError, Global};
 
-/// The place of the first fault with a code, whatever the stages before its own find.
+/// The place of the first fault with a code, whether or not earlier stages hold.
 fn first_place(
     alloc: Global,
     image: &Image,
@@ -82,7 +82,7 @@ fn first_fault(
     }))
 }
 
-/// The number behind that of the last code.
+/// The number after that of the last code.
 const CODES_END: u8 = 60;
 
 /// The first faults of all codes that have one, in the order of the codes' numbers.

@@ -12,23 +12,23 @@ use std::alloc::{AllocError, Global};
 /// All that is wrong with an image: at most 59 faults and 28 findings of advice.
 #[derive(Drop)]
 pub struct Findings {
-    /// The first fault of each code of which the image has one, by the codes' numbers.
+    /// The first fault of each code that has one, by the codes' numbers.
     pub faults: Vec<Witness>,
     /// The first finding of each rule that is broken, by the rules' numbers.
     pub advice: Vec<Advice>,
 }
 
-/// All that is wrong with the set of tables that the policy's RSDP leads to. Nothing is asked of earlier stages: each fault is
-/// one that `confirm` accepts, and there is none exactly where `check` says yes. An image without an RSDP at the policy's
-/// address has the fault `RsdpOut` alone.
+/// All that is wrong with the set of tables that the policy's RSDP leads to. Earlier stages need not hold: each fault
+/// is one that `confirm` accepts, and there is none exactly when `check` says yes. An image without an RSDP at the
+/// policy's address has only the fault `RsdpOut`.
 ///
-/// Refuses `AllocError` out of memory: it takes some for each finding, and for what is compared or looked up, at most for each
-/// slot of the root and each entry of the MADT, the SRAT and the PPTT.
+/// Refuses with `AllocError` if out of memory: it allocates for each finding, and for what is compared or looked up,
+/// at most for each slot of the root table and each entry of the MADT, the SRAT and the PPTT.
 pub fn lint(alloc: Global, image: &Image, policy: &Policy) -> Result<Findings, AllocError>
     ensures { IfOk result (λ found.
         AreFindings image.now policy.now found.faults.items found.advice.items) }
 {
-    let tables = WholeTables::of(image, policy.rsdp());
+    let tables = WholeTables::of(alloc, image, policy.rsdp())?;
     let faults = first_faults(alloc, image, &tables, policy)?;
     let advice = first_advice(alloc, image, &tables, policy)?;
     Ok(Findings { faults, advice })

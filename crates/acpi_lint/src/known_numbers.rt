@@ -1,5 +1,5 @@
-//! Numbers that are looked up, in rising order: those of the processors of a MADT, of the affinities of an SRAT, and of the
-//! leaves of a PPTT. And whether tables have entries of a kind at all, without which a rule is not asked.
+//! Numbers that are looked up, in rising order: those of the processors of a MADT, of the affinities of an SRAT, and
+//! of the leaves of a PPTT. Also whether tables have entries of a kind without which a rule does not apply.
 
 ghost use Rattle.std.specs.Prelude.{◌≡◌, ◌<◌, ◌≤◌, ◌↔◌, ℕ, length, map, AllPairs, IfOk, IsTrue};
 ghost use Rattle.acpi_base.specs.Entries.{StandsWith};
@@ -24,7 +24,7 @@ use std::alloc::{AllocError, Global};
 
 // ---- numbers
 
-/// The UIDs of a MADT's processors, whether they are on or not. Takes memory for each.
+/// The UIDs of a MADT's processors, whether they are on or not. Allocates for each.
 pub fn uids(alloc: Global, madt: &Madt<'_>) -> Result<Vec<u64>, AllocError>
     ensures { IfOk result (λ uids.
         AreKnown (IsNamed uid_of (madt_contents madt.now).entries) uids.items) }
@@ -33,8 +33,8 @@ pub fn uids(alloc: Global, madt: &Madt<'_>) -> Result<Vec<u64>, AllocError>
     Ok(sorted_unique(numbers))
 }
 
-/// The same, of which those alone are asked that an SRAT places: where it places none, there may be fewer. Takes memory for each
-/// where it places some.
+/// The same, for looking up only those that an SRAT places: if it places none, there may be fewer. Allocates for each
+/// if it places some.
 pub fn uids_for(alloc: Global, madt: &Madt<'_>, srat: &Srat<'_>) -> Result<Vec<u64>, AllocError>
     ensures rise { IfOk result (λ uids. AllPairs (λ i j. i < j) uids.items) }
     ensures all { IfOk result (λ uids. IsKnownAmong
@@ -47,7 +47,7 @@ pub fn uids_for(alloc: Global, madt: &Madt<'_>, srat: &Srat<'_>) -> Result<Vec<u
     uids(alloc, madt)
 }
 
-/// Their APIC IDs and x2APIC IDs. Takes memory for each.
+/// Their APIC IDs and x2APIC IDs. Allocates for each.
 pub fn apic_ids(alloc: Global, madt: &Madt<'_>) -> Result<Vec<u64>, AllocError>
     ensures { IfOk result (λ ids.
         AreKnown (IsNamed apic_id_of (madt_contents madt.now).entries) ids.items) }
@@ -58,7 +58,7 @@ pub fn apic_ids(alloc: Global, madt: &Madt<'_>) -> Result<Vec<u64>, AllocError>
     Ok(sorted_unique(numbers))
 }
 
-/// The APIC IDs and x2APIC IDs that an SRAT's enabled affinities place. Takes memory for each.
+/// The APIC IDs and x2APIC IDs that an SRAT's enabled affinities place. Allocates for each.
 pub fn placed_apic_ids(alloc: Global, srat: &Srat<'_>) -> Result<Vec<u64>, AllocError>
     ensures { IfOk result (λ ids.
         AreKnown (IsNamed placed_apic_id (srat_contents srat.now).entries) ids.items) }
@@ -69,7 +69,7 @@ pub fn placed_apic_ids(alloc: Global, srat: &Srat<'_>) -> Result<Vec<u64>, Alloc
     Ok(sorted_unique(numbers))
 }
 
-/// The UIDs that an SRAT's enabled GICC affinities place. Takes memory for each.
+/// The UIDs that an SRAT's enabled GICC affinities place. Allocates for each.
 pub fn placed_uids(alloc: Global, srat: &Srat<'_>) -> Result<Vec<u64>, AllocError>
     ensures { IfOk result (λ uids.
         AreKnown (IsNamed placed_uid (srat_contents srat.now).entries) uids.items) }
@@ -80,7 +80,7 @@ pub fn placed_uids(alloc: Global, srat: &Srat<'_>) -> Result<Vec<u64>, AllocErro
     Ok(sorted_unique(numbers))
 }
 
-/// The numbers alone.
+/// Only the numbers.
 fn without_places(alloc: Global, given: &[Numbered]) -> Result<Vec<u64>, AllocError>
     ensures { IfOk result (λ numbers. numbers.items ≡ map (λ g. g.number) given.now) }
 {
@@ -91,7 +91,7 @@ fn without_places(alloc: Global, given: &[Numbered]) -> Result<Vec<u64>, AllocEr
     Ok(numbers)
 }
 
-/// The ACPI processor IDs of a PPTT's leaves. Takes memory for each leaf, and below Revision 2 also for each node.
+/// The ACPI processor IDs of a PPTT's leaves. Allocates for each leaf, and below Revision 2 also for each node.
 pub fn leaf_ids(alloc: Global, pptt: &Pptt<'_>) -> Result<Vec<u64>, AllocError>
     ensures { IfOk result (λ ids. AreKnown (IsLeafId (pptt_contents pptt.now)) ids.items) }
 {
@@ -115,7 +115,7 @@ fn is_other_form(bytes: &[u8]) -> bool
     }
 }
 
-/// The same of an entry.
+/// The same for an entry.
 fn is_other_processor(entry: &MadtEntry<'_>) -> bool
     requires { IsWholeEntry entry.now }
     ensures { IsTrue result ↔ IsOtherProcessor (madt_value entry.now) }
@@ -173,7 +173,7 @@ fn is_any_uid_placed(srat: &Srat<'_>) -> bool
     uid.is_some()
 }
 
-/// Whether an SRAT has an enabled affinity of a processor.
+/// Whether an SRAT has an enabled affinity for a processor.
 pub fn is_any_placed(srat: &Srat<'_>) -> bool
     ensures { IsTrue result ↔ IsAnyNamed processor_domain (srat_contents srat.now).entries }
 {

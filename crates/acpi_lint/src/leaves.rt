@@ -21,7 +21,7 @@ pub fn revision(pptt: &Pptt<'_>) -> u8
     pptt.header().revision
 }
 
-/// The ID of a node that has a valid one, as bit 1 of its flags says.
+/// The ID of a node that has a valid one, by bit 1 of its flags.
 #[tactic(auto, unfolding(acpi_base::specs::Number::has_bit))]
 fn valid_id(entry: &PpttEntry<'_>) -> Option<u32>
     ensures { result ≡ valid_id (pptt_value entry.now) }
@@ -32,7 +32,7 @@ fn valid_id(entry: &PpttEntry<'_>) -> Option<u32>
     }
 }
 
-/// The same of a node that says that it is a leaf, in bit 3.
+/// The same for a node that is marked as a leaf, by bit 3.
 #[tactic(auto, unfolding(acpi_base::specs::Number::has_bit))]
 fn said_leaf_id(entry: &PpttEntry<'_>) -> Option<u32>
     ensures { result ≡ said_leaf_id (pptt_value entry.now) }
@@ -43,7 +43,7 @@ fn said_leaf_id(entry: &PpttEntry<'_>) -> Option<u32>
     }
 }
 
-/// The nodes that say that they are leaves.
+/// The nodes that are marked as leaves.
 fn said_leaves(alloc: Global, pptt: &Pptt<'_>) -> Result<Vec<Numbered>, AllocError>
     ensures { IfOk result (λ leaves. AreNumbersAt
         (NamesAt said_leaf_id (pptt_contents pptt.now).entries) leaves.items) }
@@ -63,7 +63,7 @@ fn parent_of(entry: &PpttEntry<'_>) -> Option<u32>
     }
 }
 
-/// The offsets that nodes name as their Parents, in rising order.
+/// The offsets of the nodes' Parents, in rising order.
 fn parents_of(alloc: Global, pptt: &Pptt<'_>) -> Result<Vec<u64>, AllocError>
     ensures rise { IfOk result (λ parents. AllPairs (λ o p. o < p) parents.items) }
     ensures all { IfOk result (λ parents. (o : ℕ) →
@@ -75,7 +75,7 @@ fn parents_of(alloc: Global, pptt: &Pptt<'_>) -> Result<Vec<u64>, AllocError>
     Ok(sorted_unique(parents))
 }
 
-/// The ID of a node that has a valid one and does not stand at one of these offsets, which rise.
+/// The ID of a node that has a valid one and is not at one of these offsets, which rise.
 fn unnamed_id(parents: &[u64], at: &EntryAt<PpttEntry<'_>>) -> Option<u32>
     requires { AllPairs (λ o p. o < p) parents.now }
     ensures { result ≡ unnamed_id parents.now at.now.offset (pptt_value at.now.entry) }
@@ -86,7 +86,7 @@ fn unnamed_id(parents: &[u64], at: &EntryAt<PpttEntry<'_>>) -> Option<u32>
     }
 }
 
-/// The nodes that no node names as its Parent.
+/// The nodes that are not the Parent of any node.
 fn unnamed_leaves(alloc: Global, pptt: &Pptt<'_>) -> Result<Vec<Numbered>, AllocError>
     ensures { IfOk result (λ leaves. AreNumbersAt (IsUnnamedAt (pptt_contents pptt.now))
         leaves.items) }
@@ -97,11 +97,11 @@ fn unnamed_leaves(alloc: Global, pptt: &Pptt<'_>) -> Result<Vec<Numbered>, Alloc
     })
 }
 
-/// The Revision of the PPTT that first has the flag of a leaf.
+/// The lowest Revision of the PPTT that has the flag of a leaf.
 const HAS_LEAVES: u8 = 2;
 
-/// The ACPI processor IDs of a PPTT's leaves, each with its leaf's offset; the offsets rise. Takes memory for each leaf, and
-/// below Revision 2 also for each node.
+/// The ACPI processor IDs of a PPTT's leaves, each with its leaf's offset; the offsets rise. Allocates for each leaf,
+/// and below Revision 2 also for each node.
 pub fn leaves_of(alloc: Global, pptt: &Pptt<'_>) -> Result<Vec<Numbered>, AllocError>
     ensures { IfOk result (λ leaves. AreNumbersAt (IsLeafAt (pptt_contents pptt.now))
         leaves.items) }

@@ -1,10 +1,11 @@
-//! All that is wrong with a set of tables: of each code the first fault, and of each rule of advice the first finding.
+//! All that is wrong with a set of tables: the first fault of each code, and the first finding of each rule of
+//! advice.
 //!
-//! Nothing is asked of earlier stages: a table whose sum is wrong is looked at all the same, and a reference that leads
-//! nowhere ends its chain.
+//! Earlier stages need not hold: a table whose checksum is wrong is still looked at, and a dangling reference ends
+//! its chain.
 //!
-//! An example, of `crates/acpi_lint/src/tests.rt`. The RSDP at E0000h has a wrong byte in its signature, and so a wrong sum. It
-//! names an RSDT that lists the address 2000h in slots 0 and 1, where nothing stands.
+//! An example, from `crates/acpi_lint/src/tests.rt`. The RSDP at 0xE0000 has a wrong byte in its signature, and so a
+//! wrong checksum. It names an RSDT that lists the address 0x2000 in slots 0 and 1, where there is no table.
 //!
 //! ```rust
 //! let policy = Policy::new(alloc, 0xe0000, 24)?;
@@ -42,6 +43,7 @@ mod faults;
 mod findings;
 mod known_numbers;
 mod leaves;
+mod listed;
 mod madt;
 mod nowhere;
 mod numbered;

@@ -71,7 +71,7 @@ fn has_fault(policy: &Policy, code: Code, entry: &MadtEntry<'_>) -> bool
     }
 }
 
-/// The place of the fault with this code that an entry has by itself, where it has it.
+/// The place of the fault with this code that an entry has by itself, if it has it.
 fn own_place(policy: &Policy, code: Code, at: &EntryAt<MadtEntry<'_>>) -> Option<Place>
     requires { IsWholeEntry at.now.entry }
     ensures { FindsOwn (IsOwnFault policy.now code) (entry_at_value madt_value at.now) result }
@@ -100,7 +100,7 @@ fn override_place(at: &EntryAt<MadtEntry<'_>>) -> Option<Place>
     is_address_override(&at.entry).then_some(Place::at(at.offset))
 }
 
-/// The place of an address override behind the first one, which stands at an offset.
+/// The place of an address override after the first one, which stands at an offset.
 fn second_place(first: u64, at: &EntryAt<MadtEntry<'_>>) -> Option<Place>
     ensures { FindsOwn (IsOverrideBehind first) (entry_at_value madt_value at.now) result }
 {
@@ -123,7 +123,7 @@ fn second_address_override(policy: &Policy, madt: &Madt<'_>) -> Option<Place>
     first_picked(madt.entries(), |at| second_place(first.at, at))
 }
 
-/// The offset of the bytes behind a MADT's entries at which none stands, if there are any.
+/// The cut of a MADT: the offset of the bytes after its entries, if there are any.
 #[tactic(auto, unfolding(acpi_base::specs::Madt::madt_contents))]
 pub fn madt_cut(table: &Table<'_>) -> Option<u64>
     ensures { result ≡ (madt_contents table.now).cut }
@@ -134,7 +134,7 @@ pub fn madt_cut(table: &Table<'_>) -> Option<u64>
     }
 }
 
-/// The place of the first fault with this code of a MADT's bytes. None for a code of another stage.
+/// The place of a MADT's first fault with this code. None for a code of another stage.
 fn table_fault(policy: &Policy, code: Code, table: Table<'_>) -> Option<Place>
     ensures { FindsLeast (MadtFault policy.now (madt_contents table.entry) code) result }
 {
@@ -146,8 +146,8 @@ fn table_fault(policy: &Policy, code: Code, table: Table<'_>) -> Option<Place>
     }
 }
 
-/// The place of the first fault with this code of a set's MADT. None for a code of another stage, and where the set lists no
-/// MADT that is whole.
+/// The place of the first fault with this code of a set's MADT. None for a code of another stage, and if the set
+/// lists no complete MADT.
 pub fn madt_fault(tables: &WholeTables<'_>, policy: &Policy, code: Code) -> Option<Place>
     ensures { (m : Memory) → AreWholeTables m policy.now.rsdp tables.now
         → FindsLeast (IsFaultOfStage Stage.Madt code m policy.now) result }

@@ -1,6 +1,6 @@
-//! Rules on numbers that are looked up elsewhere and are not there: UIDs, APIC IDs and x2APIC IDs among those of the MADT's
-//! processors, of the SRAT's affinities or of the PPTT's leaves, and domains among the SLIT's localities. What a rule asks of the
-//! tables as a whole is asked first.
+//! Rules on numbers that are looked up elsewhere and are not there: UIDs, APIC IDs and x2APIC IDs among those of the
+//! MADT's processors, of the SRAT's affinities or of the PPTT's leaves, and domains among the SLIT's localities.
+//! Whether a rule applies to the tables is tested first.
 
 ghost use Rattle.std.specs.Prelude.{◌<◌, AllPairs, IfOk};
 ghost use Rattle.acpi_base.specs.Lint.MadtAdvice.{nmi_uid, IsNmiNowhere, IsNoProcessor};
@@ -32,7 +32,7 @@ use acpi_check::{binary_search, has};
 use acpi_read::{EntryAt, Madt, MadtEntry, Pptt, Srat, SratEntry};
 use std::alloc::{AllocError, Global};
 
-/// The place of a number, where there is one, that is none of these, which rise.
+/// The place of a number, if there is one, that is not among these, which rise.
 fn unknown_place(known: &[u64], at: u64, number: Option<u32>) -> Option<Place>
     requires { AllPairs (λ i j. i < j) known.now }
     ensures { FindsOwn (IsUnknown known.now) (record { offset = at; entry = number }) result }
@@ -50,7 +50,7 @@ fn unknown_place(known: &[u64], at: u64, number: Option<u32>) -> Option<Place>
 
 // ---- the MADT alone
 
-/// The place of a MADT that has no processor that is on, where the rules read all of them.
+/// The place of a MADT that has no processor that is on, if the rules read all of them.
 pub fn no_processor(madt: &Madt<'_>) -> Option<Place>
     ensures { FindsLeast (IsNoProcessor (madt_contents madt.now)) result }
 {
@@ -63,7 +63,7 @@ pub fn no_processor(madt: &Madt<'_>) -> Option<Place>
     Some(Place::at(0))
 }
 
-/// The place of a local APIC NMI or local x2APIC NMI of a UID that is none of these.
+/// The place of a local APIC NMI or local x2APIC NMI for a UID that is not among these.
 fn unknown_nmi(uids: &[u64], at: &EntryAt<MadtEntry<'_>>) -> Option<Place>
     requires { AllPairs (λ i j. i < j) uids.now }
     ensures { FindsOwn (IsUnknownOf nmi_uid uids.now) (entry_at_value madt_value at.now) result }
@@ -71,8 +71,8 @@ fn unknown_nmi(uids: &[u64], at: &EntryAt<MadtEntry<'_>>) -> Option<Place>
     unknown_place(uids, at.offset, nmi_uid(&at.entry))
 }
 
-/// The first local APIC NMI or local x2APIC NMI of a UID that no processor has, where the rules read all of them; `point` is
-/// the UID. Takes memory for the UID of each processor.
+/// The first local APIC NMI or local x2APIC NMI for a UID that no processor has, if the rules read all of them;
+/// `point` is the UID. Allocates for the UID of each processor.
 pub fn nmi_nowhere(alloc: Global, madt: &Madt<'_>) -> Result<Option<Place>, AllocError>
     ensures { IfOk result (FindsLeast (IsNmiNowhere (madt_contents madt.now))) }
 {
@@ -86,7 +86,7 @@ pub fn nmi_nowhere(alloc: Global, madt: &Madt<'_>) -> Result<Option<Place>, Allo
 
 // ---- the MADT and the SRAT
 
-/// The place of an affinity whose number is unknown: its APIC ID or x2APIC ID, or of a GICC affinity its UID.
+/// The place of an affinity whose number is unknown: its APIC ID or x2APIC ID, or for a GICC affinity its UID.
 fn unknown_affinity(ids: &[u64], uids: &[u64], at: &EntryAt<SratEntry<'_>>) -> Option<Place>
     requires ids { AllPairs (λ i j. i < j) ids.now }
     requires uids { AllPairs (λ i j. i < j) uids.now }
@@ -99,8 +99,8 @@ fn unknown_affinity(ids: &[u64], uids: &[u64], at: &EntryAt<SratEntry<'_>>) -> O
     }
 }
 
-/// The first affinity of an SRAT that is of no processor of a MADT, where the rules read all of them; `point` is the number that
-/// none has. Takes memory for the numbers of each processor.
+/// The first affinity of an SRAT that is for no processor of a MADT, if the rules read all of them; `point` is the
+/// number that none has. Allocates for the numbers of each processor.
 pub fn affinity_nowhere(
     alloc: Global,
     madt: &Madt<'_>,
@@ -119,7 +119,8 @@ pub fn affinity_nowhere(
     Ok(first_picked(srat.entries(), |at| unknown_affinity(ids, uids, at)))
 }
 
-/// The place of a processor that is on and whose number is unknown: its APIC ID or x2APIC ID, or of a GIC CPU interface its UID.
+/// The place of a processor that is on and whose number is unknown: its APIC ID or x2APIC ID, or for a GIC CPU
+/// interface its UID.
 fn unplaced(ids: &[u64], uids: &[u64], at: &EntryAt<MadtEntry<'_>>) -> Option<Place>
     requires ids { AllPairs (λ i j. i < j) ids.now }
     requires uids { AllPairs (λ i j. i < j) uids.now }
@@ -131,8 +132,8 @@ fn unplaced(ids: &[u64], uids: &[u64], at: &EntryAt<MadtEntry<'_>>) -> Option<Pl
     }
 }
 
-/// The first processor of a MADT that is on and of which an SRAT has no affinity, where it has some, and the rules read all
-/// processors; `point` is its number. Takes memory for each affinity.
+/// The first processor of a MADT that is on and for which an SRAT has no affinity, if the SRAT has some, and the
+/// rules read all processors; `point` is its number. Allocates for each affinity.
 pub fn no_domain(
     alloc: Global,
     madt: &Madt<'_>,
@@ -153,7 +154,7 @@ pub fn no_domain(
 
 // ---- the SRAT and the SLIT
 
-/// The place of an entry whose domain is none of the localities.
+/// The place of an entry whose domain is not one of the localities.
 fn past_place(localities: u64, at: &EntryAt<SratEntry<'_>>) -> Option<Place>
     ensures { FindsOwn (IsPastHere localities) (entry_at_value srat_value at.now) result }
 {
@@ -165,8 +166,8 @@ fn past_place(localities: u64, at: &EntryAt<SratEntry<'_>>) -> Option<Place>
     })
 }
 
-/// The first entry of an SRAT whose domain, `point`, is none of a SLIT's localities, of which there are so many, which is
-/// `other`.
+/// The first entry of an SRAT whose domain, `point`, is not one of a SLIT's localities; `other` is the number of
+/// localities.
 pub fn domain_past_slit(localities: u64, srat: &Srat<'_>) -> Option<Place>
     ensures { FindsLeast (IsDomainPastSlit (srat_contents srat.now) localities) result }
 {
@@ -175,7 +176,7 @@ pub fn domain_past_slit(localities: u64, srat: &Srat<'_>) -> Option<Place>
 
 // ---- the MADT and the PPTT
 
-/// The place of a processor that is on and whose UID is none of the leaves' IDs.
+/// The place of a processor that is on and whose UID is not among the leaves' IDs.
 fn leafless(ids: &[u64], at: &EntryAt<MadtEntry<'_>>) -> Option<Place>
     requires { AllPairs (λ i j. i < j) ids.now }
     ensures { FindsOwn (IsUnknownOf uid_on ids.now) (entry_at_value madt_value at.now) result }
@@ -183,8 +184,8 @@ fn leafless(ids: &[u64], at: &EntryAt<MadtEntry<'_>>) -> Option<Place>
     unknown_place(ids, at.offset, uid_on(&at.entry))
 }
 
-/// The first processor of a MADT that is on and of which a PPTT has no leaf, where it has some, and the rules read all
-/// processors; `point` is its UID. Takes memory for each leaf, and below Revision 2 for each node.
+/// The first processor of a MADT that is on and for which a PPTT has no leaf, if the PPTT has some, and the rules
+/// read all processors; `point` is its UID. Allocates for each leaf, and below Revision 2 for each node.
 pub fn no_leaf(alloc: Global, madt: &Madt<'_>, pptt: &Pptt<'_>) -> Result<Option<Place>, AllocError>
     ensures { IfOk result (FindsLeast
         (IsNoLeaf (madt_contents madt.now) (pptt_contents pptt.now))) }
@@ -200,7 +201,7 @@ pub fn no_leaf(alloc: Global, madt: &Madt<'_>, pptt: &Pptt<'_>) -> Result<Option
     Ok(first_picked(madt.entries(), |at| leafless(ids, at)))
 }
 
-/// The place of the first of these numbers that is none of the known ones, which rise. Their places rise.
+/// The place of the first of these numbers that is not among the known ones, which rise. Their places rise.
 fn first_unknown(known: &[u64], given: &[Numbered]) -> Option<Place>
     requires known { AllPairs (λ i j. i < j) known.now }
     requires given { AllPairs (λ a b. a.at < b.at) given.now }
@@ -218,8 +219,9 @@ fn first_unknown(known: &[u64], given: &[Numbered]) -> Option<Place>
     None
 }
 
-/// The first leaf of a PPTT whose ID, `point`, is no processor's UID, where the MADT has a GIC CPU interface, and the rules read
-/// all processors. Takes memory for the UID of each processor and for each leaf, and below Revision 2 for each node.
+/// The first leaf of a PPTT whose ID, `point`, is no processor's UID, if the MADT has a GIC CPU interface, and the
+/// rules read all processors. Allocates for the UID of each processor and for each leaf, and below Revision 2 for
+/// each node.
 pub fn leaf_nowhere(
     alloc: Global,
     madt: &Madt<'_>,

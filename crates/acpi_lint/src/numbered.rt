@@ -1,4 +1,4 @@
-//! Numbers that are given at places, and those that are given again with another value.
+//! Numbers with values at places, and those that occur again with another value.
 
 ghost use Rattle.std.specs.Prelude.{◌≡◌, ◌<◌, ◌⊎◌, AllPairs, Contains, IfOk, IfSome, Some};
 ghost use Rattle.std.specs.Option.{option_map};
@@ -9,18 +9,18 @@ ghost use Rattle.acpi_lint.specs.Places.{FindsLeast, IsNotAfter};
 use crate::place::Place;
 use std::alloc::{AllocError, Global};
 
-/// A value that is given to a number at a place. They compare by the number, then by the place, then by the value.
+/// A value that is given to a number at a place. These compare by number, then by place, then by value.
 #[derive(Clone, Copy, Debug, PartialEq, Eq, PartialOrd, Ord)]
 pub struct Numbered {
     /// The number.
     pub number: u64,
-    /// Where the value is given.
+    /// The place where the value is given.
     pub at: u64,
     /// The value.
     pub value: u64,
 }
 
-/// The number that stands at a place, with that place for its value.
+/// The number at a place, with that place as its value.
 pub fn at_place(at: u64, number: Option<u32>) -> Option<Numbered>
     ensures { result ≡ option_map (at_place at) number }
 {
@@ -32,7 +32,7 @@ pub fn at_place(at: u64, number: Option<u32>) -> Option<Numbered>
     })
 }
 
-/// At which of two places it is reported that a number's value is another one than at its first place.
+/// At which of two places it is reported if a number's value differs from its first one.
 #[derive(Clone, Copy, Debug)]
 pub enum Order {
     /// At the later one.
@@ -42,7 +42,7 @@ pub enum Order {
 }
 
 impl Order {
-    /// The place of such a number, whose value is another one here.
+    /// The place of such a number, whose value differs here.
     fn place(self, here: &Numbered, first: &Numbered) -> Place
         ensures { result ≡ unlike_place self here.now first.now }
     {
@@ -58,7 +58,7 @@ impl Order {
     }
 }
 
-/// The lesser of two places.
+/// The lower of two places.
 fn lesser(least: Option<Place>, place: Place) -> Place
     ensures one { (result ≡ place) ⊎ (least ≡ Some result) }
     ensures after { IsNotAfter result place.at place.other place.point }
@@ -70,9 +70,9 @@ fn lesser(least: Option<Place>, place: Place) -> Place
     }
 }
 
-/// The least place of a number whose value is another one than at its first place. Those of one number stand side by side,
-/// its first one before the others.
-fn least_unlike(sorted: &[Numbered], order: Order) -> Option<Place>
+/// The lowest place of a number whose value differs from that at its first place. Those of one number are next to
+/// each other, its first one before the others.
+pub fn least_unlike(sorted: &[Numbered], order: Order) -> Option<Place>
     requires { AllPairs IsNotAbove sorted.now }
     ensures { FindsLeast (IsUnlikeAt order sorted.now) result }
 {
@@ -89,7 +89,7 @@ fn least_unlike(sorted: &[Numbered], order: Order) -> Option<Place>
     least
 }
 
-/// The least place of a number whose value is another one than at its first place.
+/// The lowest place of a number whose value differs from that at its first place.
 pub fn first_unlike(mut given: Vec<Numbered>, order: Order) -> Option<Place>
     ensures { FindsLeast (IsUnlikeAt order given.items) result }
 {
@@ -97,20 +97,20 @@ pub fn first_unlike(mut given: Vec<Numbered>, order: Order) -> Option<Place>
     least_unlike(&given, order)
 }
 
-/// The first place at which a number stands that also stands at an earlier one; `other` is the first of these, and `point` the
-/// number. The value that is given with a number is its place.
-pub fn first_same(given: Vec<Numbered>) -> Option<Place>
+/// The first place of a number that also occurs at an earlier one; `other` is the first of these, and `point` the
+/// number. The value that is given to a number is its place.
+fn first_same(given: Vec<Numbered>) -> Option<Place>
     requires { (g : Numbered) → Contains given.items g → g.value ≡ g.at }
     ensures { FindsLeast (IsLater (HasAt given.items)) result }
 {
     first_unlike(given, Order::Later)
 }
 
-/// How many numbers are compared before all are. IDs of one byte repeat among so many.
+/// How many numbers are compared before all of them. One-byte IDs repeat among this many.
 const FEW: usize = 1024;
 
-/// The same of numbers whose places rise. The first few are compared first: where one of them repeats, no other is looked at.
-/// Takes memory for those.
+/// The same for numbers whose places rise. The first few are compared first: if one of them repeats, no other is
+/// looked at. Allocates for those.
 pub fn first_repeated(alloc: Global, given: Vec<Numbered>) -> Result<Option<Place>, AllocError>
     requires rise { AllPairs (λ a b. a.at < b.at) given.items }
     requires placed { (g : Numbered) → Contains given.items g → g.value ≡ g.at }

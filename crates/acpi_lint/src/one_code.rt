@@ -1,5 +1,5 @@
-//! Codes 39, 40, 45 and 55 to 59: those of stages that have one code. What a stage finds on single tables is asked of the
-//! set's, whatever the earlier stages find.
+//! Codes 39, 40, 45 and 55 to 59: those of stages that have one code. The stage's finder is called on the set's
+//! tables, whatever the earlier stages find.
 
 ghost use Rattle.std.specs.Prelude.{IfOk};
 ghost use Rattle.acpi_base.specs.Chains.{IsCycle};
@@ -43,8 +43,8 @@ pub fn override_clash(
     place_of(agreeing_overrides(&madt))
 }
 
-/// The place of the first entry of a set's MADT that names an interrupt number that none of its I/O APICs serves. Takes memory
-/// as the stage does.
+/// The place of the first entry of a set's MADT that names an interrupt number that none of its I/O APICs serves.
+/// Allocates as the stage does.
 pub fn gsi_nowhere(
     alloc: Global,
     tables: &WholeTables<'_>,
@@ -65,7 +65,7 @@ pub fn gsi_nowhere(
     place_of(named_served(alloc, policy, &madt))
 }
 
-/// The place of the least interrupt number that two I/O APICs of a set's MADT serve. Takes memory as the stage does.
+/// The place of the lowest interrupt number that two I/O APICs of a set's MADT serve. Allocates as the stage does.
 pub fn gsi_clash(
     alloc: Global,
     tables: &WholeTables<'_>,
@@ -83,7 +83,7 @@ pub fn gsi_clash(
     place_of(apart_interrupts(alloc, policy, &madt))
 }
 
-/// The place of the least address that two ranges of a set's SRAT cover that are compared. Takes memory as the stage does.
+/// The place of the lowest address that two compared ranges of a set's SRAT cover. Allocates as the stage does.
 pub fn overlap(
     alloc: Global,
     tables: &WholeTables<'_>,
@@ -101,7 +101,7 @@ pub fn overlap(
     place_of(apart_ranges(alloc, policy.hotplug(), &srat))
 }
 
-/// The place of the first node of a PPTT whose chain goes round.
+/// The place of the first node of a PPTT whose chain has a cycle.
 fn cycle_place(alloc: Global, chain: Chain, pptt: &Pptt<'_>) -> Result<Option<Place>, AllocError>
     ensures { IfOk result (FindsLeast
         (IsCycle (Names chain (pptt_contents pptt.now)) (most_of chain (pptt_contents pptt.now)))) }
@@ -116,8 +116,8 @@ fn cycle_place(alloc: Global, chain: Chain, pptt: &Pptt<'_>) -> Result<Option<Pl
     }
 }
 
-/// The place of the first node of a set's PPTT whose chain of Parents goes round; a Parent that leads nowhere ends a chain.
-/// Takes memory for each node.
+/// The place of the first node of a set's PPTT whose chain of Parents has a cycle; a dangling Parent ends a chain.
+/// Allocates for each node.
 pub fn parent_cycle(
     alloc: Global,
     tables: &WholeTables<'_>,
@@ -132,7 +132,7 @@ pub fn parent_cycle(
     }
 }
 
-/// The same of caches and their Next Levels. Takes memory for each cache.
+/// The same for caches and their Next Levels. Allocates for each cache.
 pub fn cache_cycle(
     alloc: Global,
     tables: &WholeTables<'_>,
@@ -147,8 +147,8 @@ pub fn cache_cycle(
     }
 }
 
-/// The place of the first entry of a set's SRAT that puts a processor of its MADT that counts as enabled in another domain than
-/// the first entry that is of it. Takes memory as the stage does.
+/// The place of the first entry of a set's SRAT that puts a processor of its MADT that counts as enabled into another
+/// domain than the first entry for this processor. Allocates as the stage does.
 pub fn two_domains(
     alloc: Global,
     tables: &WholeTables<'_>,
@@ -166,8 +166,8 @@ pub fn two_domains(
     place_of(one_domain(alloc, policy.processors(), &madt, &srat))
 }
 
-/// The place of the first leaf of a set's PPTT whose ID is the UID of no processor of its MADT, where the MADT's entries fill it
-/// and all are of types that are read. Takes memory as the stage does.
+/// The place of the first leaf of a set's PPTT whose ID is the UID of no processor of its MADT, if the MADT's entries
+/// fill it and all have types that are read. Allocates as the stage does.
 pub fn leaf_unknown(
     alloc: Global,
     tables: &WholeTables<'_>,

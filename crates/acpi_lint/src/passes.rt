@@ -11,7 +11,7 @@ ghost use Rattle.acpi_read.specs.TypedEntries.{entry_at_value};
 use crate::place::Place;
 use acpi_read::{Entries, EntryAt, Table, TableEntry, TypedEntries};
 
-/// What `pick` gives of the first entry of which it gives something.
+/// The result of `pick` for the first entry for which it returns one.
 pub fn first_picked<'a, E: TableEntry<'a> + Copy, T: Drop, F: Fn(&EntryAt<E>) -> Option<T>>(
     entries: TypedEntries<'a, E>,
     pick: F,
@@ -30,7 +30,7 @@ pub fn first_picked<'a, E: TableEntry<'a> + Copy, T: Drop, F: Fn(&EntryAt<E>) ->
     None
 }
 
-/// The offset of the bytes behind a table's entries at which none stands, if there are any.
+/// The cut of a table: the offset of the bytes after its entries, if there are any.
 pub fn cut(mut entries: Entries<'_>) -> Option<u64>
     ensures { result ≡ entries.entry.cut }
 {

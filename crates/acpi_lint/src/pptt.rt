@@ -19,7 +19,7 @@ use crate::whole_tables::WholeTables;
 use acpi_base::{Code, Policy, TableKind};
 use acpi_read::{Entries, EntryAt, Pptt, PpttEntry, Table};
 
-/// Whether an entry has the type of a node or a cache, and no length of that type.
+/// Whether an entry has the type of a node or a cache, but no length of that type.
 fn has_other_length(entry: &PpttEntry<'_>) -> bool
     requires { IsWholeEntry entry.now }
     ensures { IsTrue result ↔ HasOtherPpttLength (pptt_value entry.now) }
@@ -30,7 +30,7 @@ fn has_other_length(entry: &PpttEntry<'_>) -> bool
     }
 }
 
-/// The place of an entry of such a length.
+/// The place of such an entry.
 fn other_length_place(at: &EntryAt<PpttEntry<'_>>) -> Option<Place>
     requires { IsWholeEntry at.now.entry }
     ensures { FindsOwn IsOtherLength (entry_at_value pptt_value at.now) result }
@@ -45,7 +45,7 @@ fn first_other_length(pptt: &Pptt<'_>) -> Option<Place>
     first_picked(pptt.entries(), |at| other_length_place(at))
 }
 
-/// The offset of the bytes behind a PPTT's entries at which none stands, if there are any.
+/// The cut of a PPTT: the offset of the bytes after its entries, if there are any.
 #[tactic(auto, unfolding(acpi_base::specs::Pptt::pptt_contents))]
 fn pptt_cut(table: Table<'_>) -> Option<u64>
     ensures { result ≡ (pptt_contents table.entry).cut }
@@ -53,7 +53,7 @@ fn pptt_cut(table: Table<'_>) -> Option<u64>
     cut(Entries::pptt(table))
 }
 
-/// The place of the first fault with this code of a PPTT's bytes. None for a code of another stage.
+/// The place of a PPTT's first fault with this code. None for a code of another stage.
 fn table_fault(code: Code, table: Table<'_>) -> Option<Place>
     ensures { FindsLeast (PpttFault (pptt_contents table.entry) code) result }
 {
@@ -64,8 +64,8 @@ fn table_fault(code: Code, table: Table<'_>) -> Option<Place>
     }
 }
 
-/// The place of the first fault with this code of a set's PPTT. None for a code of another stage, and where the set
-/// lists no PPTT that is whole.
+/// The place of the first fault with this code of a set's PPTT. None for a code of another stage, and if the set
+/// lists no complete PPTT.
 pub fn pptt_fault(tables: &WholeTables<'_>, policy: &Policy, code: Code) -> Option<Place>
     ensures { (m : Memory) → AreWholeTables m policy.now.rsdp tables.now
         → FindsLeast (IsFaultOfStage Stage.Pptt code m policy.now) result }

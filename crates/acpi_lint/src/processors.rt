@@ -1,4 +1,4 @@
-//! Numbers that entries give: those of processors, and what else is compared with them or looked up.
+//! Numbers in entries: those of processors, and those that are compared with them or looked up.
 
 ghost use Rattle.std.specs.Prelude.{◌≡◌, ◌≤◌, ◌||◌, length, IsTrue};
 ghost use Rattle.std.specs.Option.{option_map};
@@ -21,11 +21,11 @@ pub struct Processor {
     pub uid: u32,
     /// Its APIC ID or x2APIC ID: they are one number space. A GIC CPU interface has none.
     pub apic_id: Option<u32>,
-    /// Whether it is Enabled or Online Capable, or of a GIC CPU interface Enabled.
+    /// Whether it is Enabled or Online Capable, or for a GIC CPU interface Enabled.
     pub on: bool,
 }
 
-/// Whether flags have bit 0, which is Enabled in the flags of each entry that is asked here.
+/// Whether flags have bit 0, which is Enabled in the flags of each entry for which this is used.
 #[tactic(auto, unfolding(acpi_base::specs::Number::has_bit))]
 fn is_enabled(flags: u32) -> bool
     ensures { result ≡ has_bit flags 0 }
@@ -105,7 +105,7 @@ pub fn apic_id_of(entry: &MadtEntry<'_>) -> Option<u32>
     processor_of(entry)?.apic_id
 }
 
-/// The same of a processor that is on.
+/// The same for a processor that is on.
 pub fn apic_id_on(entry: &MadtEntry<'_>) -> Option<u32>
     ensures { result ≡ apic_id_on (madt_value entry.now) }
 {
@@ -127,7 +127,7 @@ pub fn gicc_uid_on(entry: &MadtEntry<'_>) -> Option<u32>
     }
 }
 
-/// The UID to which a local APIC NMI or local x2APIC NMI applies. None where it applies to all processors.
+/// The UID to which a local APIC NMI or local x2APIC NMI applies. None if it applies to all processors.
 pub fn nmi_uid(entry: &MadtEntry<'_>) -> Option<u32>
     ensures { result ≡ nmi_uid (madt_value entry.now) }
 {
@@ -195,7 +195,7 @@ pub fn placed_uid(entry: &SratEntry<'_>) -> Option<u32>
     }
 }
 
-/// The domain in which an enabled affinity places its processor.
+/// The domain into which an enabled affinity puts its processor.
 pub fn processor_domain(entry: &SratEntry<'_>) -> Option<u32>
     ensures { result ≡ processor_domain (srat_value entry.now) }
 {
@@ -219,7 +219,7 @@ pub fn any_domain(entry: &SratEntry<'_>) -> Option<u32>
 
 // ---- the PPTT
 
-/// The Cache ID of a cache that has a valid one, as bit 7 of its flags says.
+/// The Cache ID of a cache that has a valid one, by bit 7 of its flags.
 #[tactic(auto, unfolding(acpi_base::specs::Number::has_bit))]
 pub fn cache_id(entry: &PpttEntry<'_>) -> Option<u32>
     ensures { result ≡ cache_id (pptt_value entry.now) }

@@ -1,4 +1,4 @@
-//! Codes 52 to 54: what the entries of the PPTT name (ACPI 6.5, 5.2.30), whatever their lengths are.
+//! Codes 52 to 54: the references of the PPTT's entries (ACPI 6.5, 5.2.30), whatever their lengths are.
 
 ghost use Rattle.std.specs.Prelude.{◌≡◌, ◌<◌, ◌*◌, ℕ, AllPairs, Contains, IfOk, MatchOption, length};
 ghost use Rattle.acpi_base.specs.Chains.{IsAt};
@@ -24,7 +24,7 @@ use acpi_check::{collected, has};
 use acpi_read::{EntryAt, Pptt, PpttEntry};
 use std::alloc::{AllocError, Global};
 
-/// What an entry is linked to by its offset: another of its own kind.
+/// A reference of an entry by offset to another of its own kind.
 #[derive(Clone, Copy)]
 enum Link {
     /// A node to its Parent.
@@ -33,7 +33,7 @@ enum Link {
     NextLevel,
 }
 
-/// The offset to which an entry is linked, where it has such a link. 0 is none.
+/// The offset that an entry refers to, if it has such a link. 0 is none.
 fn linked(link: Link, entry: &PpttEntry<'_>) -> Option<u32>
     ensures { result ≡ linked link (pptt_value entry.now) }
 {
@@ -45,7 +45,7 @@ fn linked(link: Link, entry: &PpttEntry<'_>) -> Option<u32>
     }
 }
 
-/// The offset of an entry that has such a link, so that another may be linked to it.
+/// The offset of an entry that has such a link, so that another entry may refer to it.
 fn linked_offset(link: Link, at: &EntryAt<PpttEntry<'_>>) -> Option<u64>
     ensures { result ≡ offset_where (is_linked link) (entry_at_value pptt_value at.now) }
 {
@@ -60,7 +60,7 @@ fn linked_offsets(alloc: Global, link: Link, pptt: &Pptt<'_>) -> Result<Vec<u64>
     collected(alloc, pptt.entries(), |at| linked_offset(link, at))
 }
 
-/// The place of an entry that is linked to none of these offsets.
+/// The place of an entry that refers to none of these offsets.
 fn unlinked_place(link: Link, offsets: &[u64], at: &EntryAt<PpttEntry<'_>>) -> Option<Place>
     requires { AllPairs (λ o p. o < p) offsets.now }
     ensures { FindsOwn (NamesNoLink link offsets.now) (entry_at_value pptt_value at.now) result }
@@ -76,7 +76,7 @@ fn unlinked_place(link: Link, offsets: &[u64], at: &EntryAt<PpttEntry<'_>>) -> O
     })
 }
 
-/// The place of the first entry of a PPTT that is linked to an offset at which none of its kind stands.
+/// The place of the first entry of a PPTT that refers to an offset at which there is no entry of its kind.
 fn dangling_link(alloc: Global, link: Link, pptt: &Pptt<'_>) -> Result<Option<Place>, AllocError>
     ensures { IfOk result (FindsLeast (IsDanglingLink link (pptt_contents pptt.now))) }
 {
@@ -84,7 +84,7 @@ fn dangling_link(alloc: Global, link: Link, pptt: &Pptt<'_>) -> Result<Option<Pl
     Ok(first_picked(pptt.entries(), |at| unlinked_place(link, &offsets, at)))
 }
 
-/// Whether an entry may be a private resource: it is of another type than a node, also one that is not read.
+/// Whether an entry may be a private resource: it has another type than a node, even one that is not read.
 fn is_resource(entry: &PpttEntry<'_>) -> bool
     ensures { result ≡ is_resource (pptt_value entry.now) }
 {
@@ -110,7 +110,7 @@ fn resource_offsets(alloc: Global, pptt: &Pptt<'_>) -> Result<Vec<u64>, AllocErr
     collected(alloc, pptt.entries(), resource_offset)
 }
 
-/// The number of the first of a node's private resources, of so many, that is at none of these offsets.
+/// The number of the first of this many private resources of a node that is at none of these offsets.
 fn first_missing(offsets: &[u64], count: u32, references: &[u8]) -> Option<u32>
     requires rising { AllPairs (λ o p. o < p) offsets.now }
     requires count { length references.now ≡ 4 * count }
@@ -153,7 +153,8 @@ fn dangling_resource(alloc: Global, pptt: &Pptt<'_>) -> Result<Option<Place>, Al
     Ok(first_picked(pptt.entries(), |at| missing_place(&offsets, at)))
 }
 
-/// The place of the first fault with this code of what a PPTT's entries name. None for a code of another stage.
+/// The place of the first fault with this code in the references of a PPTT's entries. None for a code of another
+/// stage.
 fn table_fault(alloc: Global, code: Code, pptt: &Pptt<'_>) -> Result<Option<Place>, AllocError>
     ensures { IfOk result (FindsLeast (ReferenceFault (pptt_contents pptt.now) code)) }
 {
@@ -165,9 +166,9 @@ fn table_fault(alloc: Global, code: Code, pptt: &Pptt<'_>) -> Result<Option<Plac
     }
 }
 
-/// The place of the first fault with this code of what the entries of a set's PPTT name. None for a code of another
-/// stage, and where the set lists no PPTT that is whole: then it takes no memory. Else it takes some for each entry
-/// that may be named.
+/// The place of the first fault with this code in the references of the entries of a set's PPTT. None for a code of
+/// another stage, and if the set lists no complete PPTT: then it allocates nothing. Otherwise it allocates for each
+/// entry that may be referred to.
 pub fn reference_fault(
     alloc: Global,
     tables: &WholeTables<'_>,

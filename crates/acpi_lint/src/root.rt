@@ -1,4 +1,4 @@
-//! Codes 8 to 14: the root, which is the XSDT or the RSDT (ACPI 6.5, 5.2.7, 5.2.8).
+//! Codes 8 to 14: the root table, which is the XSDT or the RSDT (ACPI 6.5, 5.2.7, 5.2.8).
 
 ghost use Rattle.std.specs.Prelude.{◌≡◌, ◌↔◌, IsTrue};
 ghost use Rattle.acpi_base.specs.Root.{root_signature, IsSlotWidth, RootTableFault};
@@ -11,7 +11,7 @@ use acpi_base::field::{is_signed, u32_at};
 use acpi_base::{Code, Image, Policy};
 use acpi_read::{Root, RootPlace, named_root};
 
-/// The signature of a root with slots of this width.
+/// The signature of a root table with slots of this width.
 fn signature(width: u32) -> &'static [u8; 4]
     ensures { result.now ≡ root_signature width }
 {
@@ -22,7 +22,8 @@ fn signature(width: u32) -> &'static [u8; 4]
     }
 }
 
-/// Whether the root at a place has the fault with this code. All are looked for, also where earlier bytes are wrong.
+/// Whether the root table at a place has the fault with this code. Each code is looked for, even if earlier bytes are
+/// wrong.
 fn has_fault(image: &Image, root: RootPlace, code: Code) -> bool
     requires { IsSlotWidth root.width }
     ensures { IsTrue result ↔ RootTableFault image.now root.address root.width code }
@@ -42,8 +43,8 @@ fn has_fault(image: &Image, root: RootPlace, code: Code) -> bool
     }
 }
 
-/// The fault of the root with this code: the RSDP names no root, or the one that it names has it. There is at most one, which
-/// is reported at the address of the RSDP or of the root.
+/// The fault of the root table with this code: the RSDP names no root table, or the one that it names has it. There
+/// is at most one, which is reported at the address of the RSDP or of the root table.
 pub fn root_fault(image: &Image, policy: &Policy, code: Code) -> Option<Place>
     ensures { FindsLeast (IsFaultOfStage Stage.Root code image.now policy.now) result }
 {

@@ -12,7 +12,7 @@ use acpi_base::field::{is_signed, u8_at, u32_at};
 use acpi_base::{Code, Image, Policy, sum};
 use acpi_read::Rsdp;
 
-/// Whether the 20 bytes at an address are held and say that the RSDP is of the extended form.
+/// Whether the 20 bytes at an address are present and are those of an RSDP of the extended form.
 fn is_extended(image: &Image, address: u64) -> bool
     ensures { IsTrue result ↔ ((head : List ℕ) × (bytes_at image.now address 20 ≡ Some head)
         × (2 ≤ revision_of head)) }
@@ -23,7 +23,7 @@ fn is_extended(image: &Image, address: u64) -> bool
     }
 }
 
-/// The Length of an RSDP of the extended form, where its 36 bytes are held.
+/// The Length of an RSDP of the extended form, if its 36 bytes are present.
 fn said_length(image: &Image, address: u64) -> Option<u64>
     ensures found { IfSome result
         (λ length. (head prefix : List ℕ) × IsExtended image.now address head prefix
@@ -38,7 +38,8 @@ fn said_length(image: &Image, address: u64) -> Option<u64>
     Some(u64::from(u32_at(prefix, 20)))
 }
 
-/// Whether the RSDP at an address has the fault with this code. All are looked for, also where earlier bytes are wrong.
+/// Whether the RSDP at an address has the fault with this code. Each code is looked for, even if earlier bytes are
+/// wrong.
 fn has_fault(image: &Image, address: u64, code: Code) -> bool
     ensures { IsTrue result ↔ RsdpFault image.now address code }
 {

@@ -1,4 +1,4 @@
-//! Numbers that stand twice where each is to stand once, and processors that are placed in two domains.
+//! Numbers that occur twice although each should be unique, and processors that are put into two domains.
 
 ghost use Rattle.std.specs.Prelude.{◌≡◌, IfOk};
 ghost use Rattle.acpi_base.specs.Lint.MadtAdvice.{IsSameUid, IsSameApicId, IsSameIoApicId, IsSameIoApicAddress};
@@ -24,7 +24,7 @@ use std::alloc::{AllocError, Global};
 
 // ---- the MADT
 
-/// The first processor that is on and has the UID of an earlier one. Takes memory for the UID of each.
+/// The first processor that is on and has the UID of an earlier one. Allocates for the UID of each.
 pub fn same_uid(alloc: Global, madt: &Madt<'_>) -> Result<Option<Place>, AllocError>
     ensures { IfOk result (FindsLeast (IsSameUid (madt_contents madt.now))) }
 {
@@ -34,7 +34,7 @@ pub fn same_uid(alloc: Global, madt: &Madt<'_>) -> Result<Option<Place>, AllocEr
     first_repeated(alloc, numbers)
 }
 
-/// The first processor that is on and has the APIC ID or x2APIC ID of an earlier one. Takes memory for that of each.
+/// The first processor that is on and has the APIC ID or x2APIC ID of an earlier one. Allocates for that of each.
 pub fn same_apic_id(alloc: Global, madt: &Madt<'_>) -> Result<Option<Place>, AllocError>
     ensures { IfOk result (FindsLeast (IsSameApicId (madt_contents madt.now))) }
 {
@@ -44,7 +44,7 @@ pub fn same_apic_id(alloc: Global, madt: &Madt<'_>) -> Result<Option<Place>, All
     first_repeated(alloc, numbers)
 }
 
-/// The first I/O APIC that has the ID of an earlier one. Takes memory for the ID of each.
+/// The first I/O APIC that has the ID of an earlier one. Allocates for the ID of each.
 pub fn same_io_apic_id(alloc: Global, madt: &Madt<'_>) -> Result<Option<Place>, AllocError>
     ensures { IfOk result (FindsLeast (IsSameIoApicId (madt_contents madt.now))) }
 {
@@ -54,7 +54,7 @@ pub fn same_io_apic_id(alloc: Global, madt: &Madt<'_>) -> Result<Option<Place>, 
     first_repeated(alloc, numbers)
 }
 
-/// The address of an I/O APIC, where it is not 0.
+/// The address of an I/O APIC, if it is not 0.
 fn nonzero_io_apic_address(entry: &MadtEntry<'_>) -> Option<u32>
     ensures { result ≡ nonzero_io_apic_address (madt_value entry.now) }
 {
@@ -62,7 +62,7 @@ fn nonzero_io_apic_address(entry: &MadtEntry<'_>) -> Option<u32>
     (address != 0).then_some(address)
 }
 
-/// The first I/O APIC that has the address of an earlier one, which is not 0. Takes memory for the address of each.
+/// The first I/O APIC that has the address of an earlier one, which is not 0. Allocates for the address of each.
 pub fn same_io_apic_address(alloc: Global, madt: &Madt<'_>) -> Result<Option<Place>, AllocError>
     ensures { IfOk result (FindsLeast (IsSameIoApicAddress (madt_contents madt.now))) }
 {
@@ -74,11 +74,11 @@ pub fn same_io_apic_address(alloc: Global, madt: &Madt<'_>) -> Result<Option<Pla
 
 // ---- the PPTT
 
-/// The Revision of the PPTT that first has Cache IDs.
+/// The lowest Revision of the PPTT that has Cache IDs.
 const HAS_CACHE_IDS: u8 = 3;
 
-/// The first cache that has the Cache ID of an earlier one, where the PPTT's Revision is 3 or later. Takes memory for the Cache
-/// ID of each.
+/// The first cache that has the Cache ID of an earlier one, if the PPTT's Revision is 3 or later. Allocates for the
+/// Cache ID of each.
 pub fn same_cache_id(alloc: Global, pptt: &Pptt<'_>) -> Result<Option<Place>, AllocError>
     ensures { IfOk result (FindsLeast (IsSameCacheId (pptt_contents pptt.now))) }
 {
@@ -91,8 +91,8 @@ pub fn same_cache_id(alloc: Global, pptt: &Pptt<'_>) -> Result<Option<Place>, Al
     first_repeated(alloc, numbers)
 }
 
-/// The first leaf that has the ACPI processor ID of an earlier one. Takes memory for each leaf, and below Revision 2 for each
-/// node.
+/// The first leaf that has the ACPI processor ID of an earlier one. Allocates for each leaf, and below Revision 2 for
+/// each node.
 pub fn same_leaf(alloc: Global, pptt: &Pptt<'_>) -> Result<Option<Place>, AllocError>
     ensures { IfOk result (FindsLeast (IsSameLeaf (pptt_contents pptt.now))) }
 {
@@ -102,7 +102,7 @@ pub fn same_leaf(alloc: Global, pptt: &Pptt<'_>) -> Result<Option<Place>, AllocE
 
 // ---- the SRAT
 
-/// The domain in which an enabled GICC affinity places the processor with its UID.
+/// The domain into which an enabled GICC affinity puts the processor with its UID.
 fn domain_of_uid(at: &EntryAt<SratEntry<'_>>) -> Option<Numbered>
     ensures { result ≡ domain_of_uid at.now.offset (srat_value at.now.entry) }
 {
@@ -115,8 +115,8 @@ fn domain_of_uid(at: &EntryAt<SratEntry<'_>>) -> Option<Numbered>
     })
 }
 
-/// The first GICC affinity of a UID that a later one places in another domain; `other` is the first such one, and `point` the
-/// UID. Takes memory for each enabled GICC affinity.
+/// The first GICC affinity with a UID that a later one puts into another domain; `other` is the first such one, and
+/// `point` the UID. Allocates for each enabled GICC affinity.
 pub fn two_uid_domains(alloc: Global, srat: &Srat<'_>) -> Result<Option<Place>, AllocError>
     ensures { IfOk result (FindsLeast (IsTwoUidDomains (srat_contents srat.now))) }
 {

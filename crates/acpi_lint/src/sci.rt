@@ -1,4 +1,4 @@
-//! Advice on the interrupt of a FADT, SCI_INT, among those that the I/O APICs of a MADT serve (ACPI 6.5, 5.2.9, 5.2.12).
+//! Advice on the interrupt of a FADT, SCI_INT: whether an I/O APIC of a MADT serves it (ACPI 6.5, 5.2.9, 5.2.12).
 
 ghost use Rattle.std.specs.Prelude.{◌≡◌, ◌↔◌, ℕ, IsTrue};
 ghost use Rattle.acpi_base.specs.Across.{HasIoApic, IsServed};
@@ -16,7 +16,7 @@ use acpi_base::Policy;
 use acpi_base::field::u16_at;
 use acpi_read::{EntryAt, Fadt, Madt, MadtEntry};
 
-/// The place of an override of an ISA interrupt, with the interrupt number that it gives it.
+/// The place of an override of an ISA interrupt, and the interrupt number that it gives.
 fn own_override(source: u16, at: &EntryAt<MadtEntry<'_>>) -> Option<Place>
     ensures { FindsOwn (IsOwnOverride source) (entry_at_value madt_value at.now) result }
 {
@@ -32,7 +32,7 @@ fn own_override(source: u16, at: &EntryAt<MadtEntry<'_>>) -> Option<Place>
     }
 }
 
-/// The place of the first override of an ISA interrupt, with the interrupt number that it gives it.
+/// The place of the first override of an ISA interrupt, and the interrupt number that it gives.
 fn first_override(madt: &Madt<'_>, source: u16) -> Option<Place>
     ensures { FindsLeast (IsOverrideAt source (madt_contents madt.now)) result }
 {
@@ -83,14 +83,15 @@ fn is_served(policy: &Policy, madt: &Madt<'_>, gsi: u64) -> bool
     .is_some()
 }
 
-/// Whether none of the I/O APICs of a MADT serves an interrupt number, though there are some, and the hardware is not reduced.
+/// Whether none of the I/O APICs of a MADT serves an interrupt number, although there are some, and the hardware is
+/// not reduced.
 fn is_nowhere(policy: &Policy, fadt: &Fadt<'_>, madt: &Madt<'_>, gsi: u64) -> bool
     ensures { IsTrue result ↔ IsNowhere policy.now fadt.now (madt_contents madt.now) gsi }
 {
     !fadt.reduced() && has_io_apic(madt) && !is_served(policy, madt, gsi)
 }
 
-/// SCI_INT, at 46, where the hardware is not reduced, and its interrupt number is one that none of the I/O APICs serves though
+/// SCI_INT, at 46, if the hardware is not reduced, and none of the I/O APICs serves its interrupt number although
 /// there are some.
 pub fn sci_nowhere(policy: &Policy, fadt: &Fadt<'_>, madt: &Madt<'_>) -> Option<Place>
     ensures { FindsLeast (IsSciNowhere policy.now fadt.now (madt_contents madt.now)) result }

@@ -1,4 +1,4 @@
-//! Codes 46 to 49, and advice on the SLIT (ACPI 6.5, 5.2.17). Its cells are asked where it has its size.
+//! Codes 46 to 49, and advice on the SLIT (ACPI 6.5, 5.2.17). Its cells are read only if it has the right size.
 
 ghost use Rattle.std.specs.Prelude.{◌<◌, MatchOption};
 ghost use Rattle.acpi_base.specs.Memory.{Memory};
@@ -19,7 +19,7 @@ use acpi_base::field::u64_at;
 use acpi_base::{Code, Policy, TableKind};
 use acpi_read::{Slit, Table};
 
-/// How many rows of as many cells a table has, where it has these behind its first 44 bytes, and nothing else.
+/// How many rows of as many cells a table has, if it has these after its first 44 bytes, and nothing else.
 pub fn rows(bytes: &[u8]) -> Option<usize>
     ensures { MatchOption result (¬ HasSlitSize (slit_contents bytes.now)) (HasRows bytes.now) }
 {
@@ -33,7 +33,7 @@ pub fn rows(bytes: &[u8]) -> Option<usize>
     Some(count as usize)
 }
 
-/// The place of the size, where it is not that of the rows.
+/// The place of the size, if it is not that of the rows.
 fn size_place(bytes: &[u8]) -> Option<Place>
     ensures { FindsLeast (SlitFault (slit_contents bytes.now) Code.SlitSize) result }
 {
@@ -73,7 +73,7 @@ fn low_place(bytes: &[u8], count: usize) -> Option<Place>
     None
 }
 
-/// The place of the first fault with this code of a SLIT's bytes. None for a code of another stage.
+/// The place of a SLIT's first fault with this code. None for a code of another stage.
 fn table_fault(code: Code, table: Table<'_>) -> Option<Place>
     ensures { FindsLeast (SlitFault (slit_contents table.entry) code) result }
 {
@@ -87,8 +87,8 @@ fn table_fault(code: Code, table: Table<'_>) -> Option<Place>
     }
 }
 
-/// The place of the first fault with this code of a set's SLIT. None for a code of another stage, and where the set
-/// lists no SLIT that is whole.
+/// The place of the first fault with this code of a set's SLIT. None for a code of another stage, and if the set
+/// lists no complete SLIT.
 pub fn slit_fault(tables: &WholeTables<'_>, policy: &Policy, code: Code) -> Option<Place>
     ensures { (m : Memory) → AreWholeTables m policy.now.rsdp tables.now
         → FindsLeast (IsFaultOfStage Stage.Slit code m policy.now) result }
@@ -96,7 +96,7 @@ pub fn slit_fault(tables: &WholeTables<'_>, policy: &Policy, code: Code) -> Opti
     table_fault(code, tables.table(TableKind::Slit)?)
 }
 
-/// The place of the first distance from locality i to a later one that differs from that of the way back.
+/// The place of the first distance from locality i to a later one that differs from the distance back.
 fn row_differs(bytes: &[u8], count: usize, i: usize) -> Option<Place>
     requires rows { HasRows bytes.now count }
     requires row { i < count }
@@ -129,8 +129,8 @@ fn rows_differ(bytes: &[u8], count: usize) -> Option<Place>
     None
 }
 
-/// The place of the first distance of a SLIT that differs from that of the way back: of its cell, and of the other's.
-/// None where the SLIT does not have its size.
+/// The place of the first distance of a SLIT that differs from the distance back: the offsets of both cells. None if
+/// the SLIT does not have the right size.
 pub fn slit_differs(table: Table<'_>) -> Option<Place>
     ensures { FindsLeast (IsSizedDiffers (slit_contents table.entry)) result }
 {

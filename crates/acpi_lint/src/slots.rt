@@ -1,10 +1,10 @@
-//! Codes 15 to 18: the tables that the slots of the root list (ACPI 6.5, 5.2.6 to 5.2.8).
+//! Codes 15 to 18: the tables that the slots of the root table list (ACPI 6.5, 5.2.6 to 5.2.8).
 
 ghost use Rattle.std.specs.Prelude.{◌≡◌, ◌≢◌, ◌<◌, ◌↔◌, ℕ, List, IsTrue};
 ghost use Rattle.acpi_base.specs.Memory.{Memory, bytes_at};
 ghost use Rattle.acpi_base.specs.Number.{byte_sum};
 ghost use Rattle.acpi_base.specs.Policy.{PolicyValue};
-ghost use Rattle.acpi_base.specs.Root.{HasSlot, IsSlot};
+ghost use Rattle.acpi_base.specs.Root.{IsSlot};
 ghost use Rattle.acpi_base.specs.Tables.{TableFault};
 ghost use Rattle.acpi_base.specs.declared.stage.Stage.{Stage};
 ghost use Rattle.acpi_lint.specs.Places.{FindsLeast};
@@ -12,48 +12,22 @@ ghost use Rattle.acpi_lint.specs.Slots.{FindsSlot};
 ghost use Rattle.acpi_lint.specs.StageFaults.{IsFaultOfStage};
 ghost use Rattle.acpi_lint.specs.WholeTables.{AreWholeTables};
 
+use crate::listed::{Slot, first_slot};
 use crate::place::Place;
 use crate::whole_tables::WholeTables;
 use acpi_base::field::u32_at;
 use acpi_base::{Code, Image};
-use acpi_read::Root;
 
-/// A slot of the root that lists an address.
-#[derive(Clone, Copy, Debug)]
-pub struct Slot {
-    /// Slots count from 0, those that list nothing too.
-    pub number: u64,
-    /// The address, which is not 0.
-    pub address: u64,
-}
-
-/// The first slot of a root whose address is wanted.
-fn first_slot<F: Fn(u64) -> bool>(root: &Root<'_>, wanted: F) -> Option<Slot>
-    requires { F.IsAlwaysCallable wanted }
-    ensures { FindsSlot (HasSlot root.now.bytes root.now.width) (F.post wanted) result }
-{
-    for number in 0..root.slots() {
-        let address = root.slot(number);
-        if address != 0 && wanted(address) {
-            return Some(Slot {
-                number: u64::from(number),
-                address,
-            });
-        }
-    }
-    None
-}
-
-/// The first slot of the root of these tables whose address is wanted.
+/// The first slot of these tables' root table with a wanted address.
 pub fn first_listed<F: Fn(u64) -> bool>(tables: &WholeTables<'_>, wanted: F) -> Option<Slot>
     requires { F.IsAlwaysCallable wanted }
     ensures { (m : Memory) (p : ℕ) → AreWholeTables m p tables.now
         → FindsSlot (IsSlot m p) (F.post wanted) result }
 {
-    first_slot(tables.root.as_ref()?, wanted)
+    first_slot(&tables.slots, wanted)
 }
 
-/// Whether so many bytes are held at an address and do not sum to 0.
+/// Whether this many bytes are present at an address and do not sum to 0.
 fn has_wrong_sum(image: &Image, address: u64, length: u32) -> bool
     ensures { IsTrue result ↔ ((whole : List ℕ) × (bytes_at image.now address length ≡ Some whole)
         × (byte_sum whole ≢ 0)) }
@@ -64,8 +38,8 @@ fn has_wrong_sum(image: &Image, address: u64, length: u32) -> bool
     }
 }
 
-/// Whether the table at an address has the fault with this code. A table has one of these faults at most, and no more of it is
-/// looked at than the code asks for.
+/// Whether the table at an address has the fault with this code. A table has at most one of these faults, and no more
+/// of it is read than the code requires.
 fn has_fault(image: &Image, address: u64, code: Code) -> bool
     ensures { IsTrue result ↔ TableFault image.now address code }
 {

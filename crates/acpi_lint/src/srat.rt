@@ -55,7 +55,7 @@ fn has_fault(code: Code, entry: &SratEntry<'_>) -> bool
     }
 }
 
-/// The place of the fault with this code that an entry has by itself, where it has it.
+/// The place of the fault with this code that an entry has by itself, if it has it.
 fn own_place(code: Code, at: &EntryAt<SratEntry<'_>>) -> Option<Place>
     requires { IsWholeEntry at.now.entry }
     ensures { FindsOwn (IsOwnFault code) (entry_at_value srat_value at.now) result }
@@ -70,7 +70,7 @@ fn first_own(code: Code, srat: &Srat<'_>) -> Option<Place>
     first_picked(srat.entries(), |at| own_place(code, at))
 }
 
-/// The offset of the bytes behind an SRAT's entries at which none stands, if there are any.
+/// The cut of an SRAT: the offset of the bytes after its entries, if there are any.
 #[tactic(auto, unfolding(acpi_base::specs::Srat::srat_contents))]
 fn srat_cut(table: &Table<'_>) -> Option<u64>
     ensures { result ≡ (srat_contents table.now).cut }
@@ -81,7 +81,7 @@ fn srat_cut(table: &Table<'_>) -> Option<u64>
     }
 }
 
-/// The place of the first fault with this code of an SRAT's bytes. None for a code of another stage.
+/// The place of an SRAT's first fault with this code. None for a code of another stage.
 fn table_fault(code: Code, table: Table<'_>) -> Option<Place>
     ensures { FindsLeast (SratFault (srat_contents table.entry) code) result }
 {
@@ -92,8 +92,8 @@ fn table_fault(code: Code, table: Table<'_>) -> Option<Place>
     }
 }
 
-/// The place of the first fault with this code of a set's SRAT. None for a code of another stage, and where the set lists no
-/// SRAT that is whole.
+/// The place of the first fault with this code of a set's SRAT. None for a code of another stage, and if the set
+/// lists no complete SRAT.
 pub fn srat_fault(tables: &WholeTables<'_>, policy: &Policy, code: Code) -> Option<Place>
     ensures { (m : Memory) → AreWholeTables m policy.now.rsdp tables.now
         → FindsLeast (IsFaultOfStage Stage.Srat code m policy.now) result }

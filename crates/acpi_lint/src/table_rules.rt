@@ -1,4 +1,4 @@
-//! The first finding of a rule of advice in the tables that it looks at. A rule that looks at others finds nothing there.
+//! The first finding of a rule of advice in the tables that it is about. For a rule on other tables nothing is found.
 
 ghost use Rattle.std.specs.Prelude.{IfOk};
 ghost use Rattle.acpi_base.specs.Madt.{madt_contents};
@@ -22,7 +22,7 @@ use acpi_base::Rule;
 use acpi_read::{Fadt, Madt, Pptt, Srat};
 use std::alloc::{AllocError, Global};
 
-/// That of a rule on the FADT alone.
+/// The first finding of a rule on the FADT alone.
 pub fn fadt_rule(rule: Rule, fadt: &Fadt<'_>) -> Option<Place>
     ensures { FindsLeast (FadtRule rule fadt.now) result }
 {
@@ -35,7 +35,7 @@ pub fn fadt_rule(rule: Rule, fadt: &Fadt<'_>) -> Option<Place>
     }
 }
 
-/// That of a rule on the MADT alone.
+/// The first finding of a rule on the MADT alone.
 pub fn madt_rule(alloc: Global, rule: Rule, madt: &Madt<'_>) -> Result<Option<Place>, AllocError>
     ensures { IfOk result (FindsLeast (MadtRule rule (madt_contents madt.now))) }
 {
@@ -53,7 +53,7 @@ pub fn madt_rule(alloc: Global, rule: Rule, madt: &Madt<'_>) -> Result<Option<Pl
     }
 }
 
-/// That of a rule on the SRAT alone.
+/// The first finding of a rule on the SRAT alone.
 pub fn srat_rule(alloc: Global, rule: Rule, srat: &Srat<'_>) -> Result<Option<Place>, AllocError>
     ensures { IfOk result (FindsLeast (SratRule rule (srat_contents srat.now))) }
 {
@@ -64,7 +64,7 @@ pub fn srat_rule(alloc: Global, rule: Rule, srat: &Srat<'_>) -> Result<Option<Pl
     }
 }
 
-/// That of a rule on the MADT and the SRAT.
+/// The first finding of a rule on the MADT and the SRAT.
 pub fn domain_rule(
     alloc: Global,
     rule: Rule,
@@ -81,7 +81,7 @@ pub fn domain_rule(
     }
 }
 
-/// That of a rule on the PPTT alone.
+/// The first finding of a rule on the PPTT alone.
 pub fn pptt_rule(alloc: Global, rule: Rule, pptt: &Pptt<'_>) -> Result<Option<Place>, AllocError>
     ensures { IfOk result (FindsLeast (PpttRule rule (pptt_contents pptt.now))) }
 {
@@ -93,7 +93,7 @@ pub fn pptt_rule(alloc: Global, rule: Rule, pptt: &Pptt<'_>) -> Result<Option<Pl
     }
 }
 
-/// That of a rule on the MADT and the PPTT.
+/// The first finding of a rule on the MADT and the PPTT.
 pub fn leaf_rule(
     alloc: Global,
     rule: Rule,

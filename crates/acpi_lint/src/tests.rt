@@ -14,15 +14,15 @@ fn an_image_that_holds_nothing_has_one_fault(rt: HostRuntime) -> Result<(), Fail
     Ok(())
 }
 
-/// An RSDP that names an RSDT at 1000h. Its signature should end in `R`, with which its bytes would sum to 0.
+/// An RSDP that names an RSDT at 0x1000. Its signature should end in `R`; then its bytes would sum to 0.
 const UNSIGNED: &[u8] = b"RSD PTr \x4bAAAAAA\0\0\x10\0\0";
 
-/// An RSDT that lists 2000h twice. Its bytes sum to 0.
+/// An RSDT that lists 0x2000 twice. Its bytes sum to 0.
 const LISTS_TWICE: &[u8] =
     b"RSDT\x2c\0\0\0\x01\xc2AAAAAAAAAAAAAA\x01\0\0\0AAAA\x01\0\0\0\0\x20\0\0\0\x20\0\0";
 
-// The example at the head of the crate. Nothing stands at 2000h, so both slots have the fault there, of which the first
-// alone is reported, and no slot lists a FADT.
+// The example at the head of the crate. There is no table at 0x2000, so both slots have that fault, of which only the
+// first is reported, and no slot lists a FADT.
 #[test]
 fn example_finds_faults_of_three_stages(rt: HostRuntime) -> Result<(), Fail> {
     let alloc = rt.alloc();

@@ -1,5 +1,5 @@
-//! Rules on the entries of a table, each by itself: an I/O APIC at the address 0, and entries that nothing reads. Beside
-//! them a second GIC distributor.
+//! Rules on single entries of a table: an I/O APIC at the address 0, and entries that nothing reads. Also a second
+//! GIC distributor.
 
 ghost use Rattle.std.specs.Prelude.{◌≡◌, ◌≤◌, ◌↔◌, length, IfOk, IsTrue};
 ghost use Rattle.acpi_base.specs.Lint.MadtAdvice as madt_advice;
@@ -45,7 +45,7 @@ pub fn io_apic_at_zero(madt: &Madt<'_>) -> Option<Place>
 /// The type of a GIC distributor (ACPI 6.5, 5.2.12.15).
 pub const GICD: u8 = 12;
 
-/// The number of a GIC distributor: all have the number 0.
+/// The number of a GIC distributor: all are given the number 0.
 fn gicd(entry: &MadtEntry<'_>) -> Option<u32>
     ensures { result ≡ gicd (madt_value entry.now) }
 {
@@ -55,7 +55,7 @@ fn gicd(entry: &MadtEntry<'_>) -> Option<u32>
     }
 }
 
-/// The second GIC distributor, beside the first. Takes memory for each.
+/// The second GIC distributor, with the first. Allocates for each.
 pub fn second_gicd(alloc: Global, madt: &Madt<'_>) -> Result<Option<Place>, AllocError>
     ensures { IfOk result (FindsLeast (IsSecondGicd (madt_contents madt.now))) }
 {
@@ -65,8 +65,8 @@ pub fn second_gicd(alloc: Global, madt: &Madt<'_>) -> Result<Option<Place>, Allo
     first_repeated(alloc, distributors)
 }
 
-/// Whether the bytes of an entry are such that neither the stages nor these rules read them. Those of a type that the stages
-/// read have another length than its, which is a fault of its own.
+/// Whether neither the stages nor these rules read an entry with these bytes. An entry of a type that the stages read
+/// that they do not read has another length than its type, which is a separate fault.
 fn is_madt_unread(bytes: &[u8]) -> bool
     requires { 2 ≤ length bytes.now }
     ensures { IsTrue result ↔ madt_advice.IsUnreadEntry bytes.now }
@@ -102,7 +102,7 @@ pub fn madt_unread(madt: &Madt<'_>) -> Option<Place>
 
 // ---- the SRAT
 
-/// The same of the bytes of an entry of an SRAT.
+/// The same for the bytes of an entry of an SRAT.
 fn is_srat_unread(bytes: &[u8]) -> bool
     requires { 2 ≤ length bytes.now }
     ensures { IsTrue result ↔ srat_advice.IsUnreadEntry bytes.now }

@@ -1,4 +1,4 @@
-//! What the stages on single tables find.
+//! What stages on single tables find.
 
 ghost use Rattle.std.specs.Prelude.{◌<◌, ◌^◌, IfOk, IfSome};
 ghost use Rattle.acpi_lint.specs.Verdicts.{IsPlaceOf};

@@ -1,19 +1,26 @@
 //! The tables of a set that are looked at.
 
-ghost use Rattle.std.specs.Prelude.{◌≡◌};
+ghost use Rattle.std.specs.Prelude.{◌≡◌, ℕ, IfOk};
+ghost use Rattle.acpi_base.specs.Root.{IsSlot};
 ghost use Rattle.acpi_base.specs.TableKinds.{signature_of};
+ghost use Rattle.acpi_lint.specs.Slots.{AreAddresses};
 ghost use Rattle.acpi_lint.specs.WholeTables.{IsFound, IsLong, table_of, AreWholeTables};
 
 use crate::entry_types::EntryTypes;
+use crate::listed::{first_slot, has_header, sorted_addresses};
+use crate::numbered::Numbered;
 use acpi_base::{Image, TableKind};
-use acpi_read::{Fadt, Madt, Pptt, Root, Srat, Table, listed_table};
+use acpi_read::{Fadt, Madt, Pptt, Root, Srat, Table};
+use std::alloc::{AllocError, Global};
 
-/// The root of a set and the first listed table of each kind, where they are whole, whatever they sum to. They are looked for
-/// once, and so are the types of the entries of the MADT and the SRAT.
+/// The root table of a set and the first listed table of each kind, if they are complete, whatever their checksums.
+/// They are looked up once, and so are the types of the entries of the MADT and the SRAT.
 #[derive(Drop)]
 pub struct WholeTables<'a> {
-    /// The root.
+    /// The root table.
     pub root: Option<Root<'a>>,
+    /// The addresses that it lists, each with its slot, by address and then by slot.
+    pub slots: Vec<Numbered>,
     /// The FADT.
     pub fadt: Option<Table<'a>>,
     /// The MADT.
@@ -30,35 +37,41 @@ pub struct WholeTables<'a> {
     pub pptt: Option<Table<'a>>,
 }
 
-/// The first listed table of a kind of the set that the RSDP at an address leads to.
-fn found<'a>(image: &'a Image, rsdp: u64, kind: TableKind) -> Option<Table<'a>>
-    ensures { IsFound image.now rsdp (signature_of kind) result }
+/// The first listed table of a kind in a set whose slots list these addresses.
+fn found<'a>(image: &'a Image, listed: &[Numbered], kind: TableKind) -> Option<Table<'a>>
+    ensures { (p : ℕ) → AreAddresses (IsSlot image.now p) listed.now
+        → IsFound image.now p (signature_of kind) result }
 {
-    listed_table(image, rsdp, *kind.signature())
+    let signature = kind.signature();
+    let slot = first_slot(listed, |address| has_header(image, address, signature))?;
+    Table::whole(image, slot.address)
 }
 
 impl<'a> WholeTables<'a> {
-    /// Those of the set that the RSDP at an address leads to.
-    pub fn of(image: &'a Image, rsdp: u64) -> WholeTables<'a>
-        ensures { AreWholeTables image.now rsdp result }
+    /// The tables of the set that the RSDP at an address leads to. Allocates for each address that is listed.
+    pub fn of(alloc: Global, image: &'a Image, rsdp: u64) -> Result<WholeTables<'a>, AllocError>
+        ensures { IfOk result (AreWholeTables image.now rsdp) }
     {
-        let madt = found(image, rsdp, TableKind::Madt);
+        let root = Root::whole(image, rsdp);
+        let slots = sorted_addresses(alloc, &root)?;
+        let madt = found(image, &slots, TableKind::Madt);
         let madt_types = EntryTypes::madt(&madt);
-        let srat = found(image, rsdp, TableKind::Srat);
+        let srat = found(image, &slots, TableKind::Srat);
         let srat_types = EntryTypes::srat(&srat);
-        WholeTables {
-            root: Root::whole(image, rsdp),
-            fadt: found(image, rsdp, TableKind::Fadt),
+        Ok(WholeTables {
+            fadt: found(image, &slots, TableKind::Fadt),
+            slit: found(image, &slots, TableKind::Slit),
+            pptt: found(image, &slots, TableKind::Pptt),
+            root,
+            slots,
             madt,
             madt_types,
             srat,
             srat_types,
-            slit: found(image, rsdp, TableKind::Slit),
-            pptt: found(image, rsdp, TableKind::Pptt),
-        }
+        })
     }
 
-    /// The table of a kind, where there is one.
+    /// The table of a kind, if there is one.
     pub fn table(&self, kind: TableKind) -> Option<Table<'a>>
         ensures { result ≡ table_of self.now kind }
     {
@@ -72,21 +85,21 @@ impl<'a> WholeTables<'a> {
         Some(place.as_ref()?.copied())
     }
 
-    /// The FADT, where it has the 116 bytes that are always looked at.
+    /// The FADT, if it has the 116 bytes that are always read.
     pub fn fadt(&self) -> Option<Fadt<'a>>
         ensures { IsLong 116 self.now.fadt result }
     {
         Fadt::new(self.table(TableKind::Fadt)?).ok()
     }
 
-    /// The MADT, where it has the 44 bytes of its fields.
+    /// The MADT, if it has the 44 bytes of its fields.
     pub fn madt(&self) -> Option<Madt<'a>>
         ensures { IsLong 44 self.now.madt result }
     {
         Madt::new(self.table(TableKind::Madt)?)
     }
 
-    /// The SRAT, where it has the 48 bytes of its fields.
+    /// The SRAT, if it has the 48 bytes of its fields.
     pub fn srat(&self) -> Option<Srat<'a>>
         ensures { IsLong 48 self.now.srat result }
     {

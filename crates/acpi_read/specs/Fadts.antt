@@ -1,11 +1,11 @@
--- What the views of a FADT and a FACS return, as the plain values that definitions speak of.
+-- What the views of a FADT and a FACS return, as the plain values of the definitions.
 use Rattle.std.specs.Prelude.{ℕ, List}
 use Rattle.acpi_base.specs.Fadt.{BlockValue, NoBlock, GasBlock, PortBlock}
 use Rattle.acpi_read.specs.Gases.{gas_value}
 use Rattle.acpi_read.specs.declared.fadt.Block.{Block}
 use Rattle.acpi_read.specs.declared.fadt.Block.TheVariants as block
 
--- what is said of a register block
+-- the contents of a register block's fields
 abbrev pub block_view_value : Block → BlockValue
 block_view_value block.None = NoBlock
 block_view_value (block.Gas g) = GasBlock (gas_value g)

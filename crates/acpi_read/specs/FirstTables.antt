@@ -7,7 +7,7 @@ use Rattle.acpi_base.specs.declared.table_kind.TableKind.{TableKind}
 use Rattle.acpi_base.specs.declared.table_kind.TableKind.TheVariants as kind
 use Rattle.acpi_read.specs.declared.first_tables.FirstTables.{FirstTables}
 
--- the bytes of the first table of a kind, where there is one
+-- the bytes of the first table of a kind, if there is one
 abbrev pub first_table : FirstTables → TableKind → Option (List ℕ)
 first_table tables kind.Fadt = option_map (λ first. first.table) tables.fadt
 first_table tables kind.Madt = option_map (λ first. first.table) tables.madt
@@ -15,11 +15,11 @@ first_table tables kind.Srat = option_map (λ first. first.table) tables.srat
 first_table tables kind.Slit = option_map (λ first. first.table) tables.slit
 first_table tables kind.Pptt = option_map (λ first. first.table) tables.pptt
 
--- the first with a signature, where a table comes behind those before it
+-- the first table with a signature, if one table comes after those before it
 abbrev pub first_signed_table : List ℕ → Option (List ℕ) → List ℕ → Option (List ℕ)
 first_signed_table signature found whole = if has_signature whole signature && is_none found then Some whole else found
 
--- the kind that a table is the first of, behind those before it
+-- the kind of which a table is the first, after those before it
 abbrev pub IsFirstOf : FirstTables → List ℕ → Option TableKind → Type 0
 IsFirstOf tables whole (Some kind) = (has_signature whole (signature_of kind) ≡ true) × (first_table tables kind ≡ None)
 IsFirstOf tables whole None = (kind : TableKind) → (has_signature whole (signature_of kind) && is_none (first_table tables kind)) ≡ false

@@ -1,8 +1,8 @@
--- Generic addresses as the plain values that definitions speak of.
+-- Generic addresses as the plain values of the definitions.
 use Rattle.acpi_base.specs.Fadt.{GasValue}
 use Rattle.acpi_read.specs.declared.gas.Gas.{Gas}
 
--- what a generic address says
+-- the contents of a generic address
 abbrev pub gas_value : Gas → GasValue
 gas_value g =
     record {

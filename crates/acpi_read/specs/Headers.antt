@@ -1,8 +1,8 @@
--- Headers as the plain values that definitions speak of.
+-- Headers as the plain values of the definitions.
 use Rattle.acpi_base.specs.Header.{HeaderValue}
 use Rattle.acpi_read.specs.declared.header.Header.{Header}
 
--- what a header says
+-- the contents of a header
 abbrev pub header_value : Header → HeaderValue
 header_value h =
     record {

@@ -1,5 +1,5 @@
--- The kinds of entries of a MADT (ACPI 6.5, 5.2.12): of each its layout, behind its type and its length, and what an entry
--- of the kind says; and what any entry says.
+-- The kinds of entries of a MADT (ACPI 6.5, 5.2.12): for each its layout, after its type and its length, and the
+-- contents of an entry of the kind; and the contents of any entry.
 use Rattle.std.proofs.Common.{rules, refl, arith}
 use Rattle.std.specs.Prelude.{ℕ, List, [], ◌∷◌, slice_index}
 use Rattle.acpi_base.specs.Entries.{IsEntry, IsTypeOf}
@@ -141,7 +141,7 @@ x2apic_nmi_value e = record { flags = e.flags; uid = e.uid; lint = e.lint }
 
 -- ---- entries
 
--- what an entry says
+-- the contents of an entry
 abbrev pub madt_value : MadtEntry → said.MadtEntry
 madt_value (entry.LocalApic e) = said.LocalApic (local_apic_value e)
 madt_value (entry.IoApic e) = said.IoApic (io_apic_value e)
@@ -165,17 +165,17 @@ madt_bytes (said.X2apic v) = bytes_of x2apic_layout v
 madt_bytes (said.X2apicNmi v) = bytes_of x2apic_nmi_layout v
 madt_bytes (said.Opaque e) = e
 
--- where it is not typed, its type is not one of the above
+-- if it is not of a known type, its type is not one of the above
 abbrev pub IsOfOwnLength : said.MadtEntry → Type 0
 IsOfOwnLength (said.Opaque e) = ¬ IsTypeOf said.madt_kinds (slice_index e 0)
 IsOfOwnLength _ = Unit {0}
 
--- where it is not typed, its bytes are those of an entry
+-- if it is not of a known type, its bytes are those of an entry
 abbrev pub IsWholeEntry : MadtEntry → Type 0
 IsWholeEntry (entry.Opaque bytes) = IsEntry bytes.now
 IsWholeEntry _ = Unit {0}
 
--- the bytes that are written for a typed entry say the same
+-- the bytes that are written for an entry of a known type have the same contents
 pub madt_kept : KeepKinds madt_bytes said.madt_kinds
 madt_kept = (
   keeps local_apic_layout local_apic_laid said.LocalApic madt_bytes (λ v. refl),

@@ -1,4 +1,4 @@
--- Where the code has the fields of a FADT, as the plain values that definitions speak of.
+-- Where the code reads the fields of a FADT, as the plain values of the definitions.
 use Rattle.acpi_base.specs.Fadt as fadt
 use Rattle.acpi_read.specs.declared.fadt.Place.{Place}
 

@@ -1,5 +1,5 @@
--- The kinds of entries of a PPTT (ACPI 6.5, 5.2.30): of each its layout and what an entry of the kind says; what any
--- entry says, and the bytes that are written for it.
+-- The kinds of entries of a PPTT (ACPI 6.5, 5.2.30): for each its layout and the contents of an entry of the kind;
+-- the contents of any entry, and the bytes that are written for it.
 use Rattle.std.proofs.Common.{refl, arith}
 use Rattle.std.specs.Prelude.{◌≡◌, ℕ, ◌+◌, ◌*◌, List, [], ◌∷◌, ◌++◌, length, map, flat_map, Option, Some, None}
 use Rattle.std.specs.List.{range_with_len}
@@ -32,7 +32,7 @@ node_head_parts =
 abbrev pub node_head_values : NodeHead → List PartValue
 node_head_values h = Number (20 + 4 * h.count) ∷ Number h.flags ∷ Number h.parent ∷ Number h.id ∷ Number h.count ∷ []
 
--- the length byte is that of a node with as many private resources as it says
+-- the length byte is that of a node with this many private resources
 abbrev pub HasNodeLength : List ℕ → Type 0
 HasNodeLength e = field e 1 1 ≡ 20 + 4 * field e 16 4
 
@@ -111,7 +111,7 @@ cache28_value e =
 
 -- ---- entries
 
--- what an entry says
+-- the contents of an entry
 abbrev pub pptt_value : PpttEntry → said.PpttEntry
 pptt_value (entry.Node head references) = said.Node (node_value head references.now)
 pptt_value (entry.Cache24 e) = said.Cache (cache24_value e)
@@ -123,7 +123,7 @@ abbrev pub HasReferences : PpttEntry → Type 0
 HasReferences (entry.Node head references) = length references.now ≡ 4 * head.count
 HasReferences _ = Unit {0}
 
--- where it is not typed, its bytes are those of an entry
+-- if it is not of a known type, its bytes are those of an entry
 abbrev pub IsWholeEntry : PpttEntry → Type 0
 IsWholeEntry (entry.Opaque bytes) = IsEntry bytes.now
 IsWholeEntry _ = Unit {0}
@@ -136,12 +136,12 @@ node_head_bytes v =
     let n = length v.resources in
     layout_bytes node_head_parts (Number (20 + 4 * n) ∷ Number v.flags ∷ Number v.parent ∷ Number v.id ∷ Number n ∷ [])
 
--- a cache's: 28 where it has a Cache ID, else 24
+-- those of a cache: 28 if it has a Cache ID, otherwise 24
 abbrev pub cache_bytes : CacheValue → Option ℕ → List ℕ
 cache_bytes v None = bytes_of cache24_layout v
 cache_bytes v (Some id) = bytes_of cache28_layout v
 
--- a node's references stand behind its first 20 bytes
+-- a node's references come after its first 20 bytes
 abbrev pub pptt_bytes : said.PpttEntry → List ℕ
 pptt_bytes (said.Node v) = node_head_bytes v ++ flat_map (λ r. number_bytes 4 r) v.resources
 pptt_bytes (said.Cache v) = cache_bytes v v.id

@@ -1,4 +1,4 @@
--- The cells of a SLIT, one by one, from the first row's first on.
+-- The cells of a SLIT, row by row.
 use Rattle.std.specs.Prelude.{◌≡◌, ℕ, ◌+◌, ◌*◌, ◌<◌, ◌≤◌, ◌⊎◌, List, length}
 use Rattle.acpi_base.specs.Codes.{code_number, stage_of}
 use Rattle.acpi_base.specs.Slit.{SlitContents, slit_contents, distance, SlitFault}
@@ -11,7 +11,7 @@ pub record HasRows (whole : List ℕ) (n : ℕ) : Type 0 where
   pub count : (slit_contents whole).count ≡ n
   pub size : length whole ≡ 44 + n * n
 
--- the distance d stands in a cell of row i and column j with no fault
+-- the distance d in the cell of row i and column j has no fault
 pub record IsSoundCell (i j d : ℕ) : Type 0 where
   pub least : 10 ≤ d
   pub diagonal : i ≡ j → d ≡ 10

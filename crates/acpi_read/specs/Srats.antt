@@ -1,5 +1,5 @@
--- The kinds of entries of an SRAT (ACPI 6.5, 5.2.16): of each its layout, behind its type and its length, and what an entry
--- of the kind says; and what any entry says.
+-- The kinds of entries of an SRAT (ACPI 6.5, 5.2.16): for each its layout, after its type and its length, and the
+-- contents of an entry of the kind; and the contents of any entry.
 use Rattle.std.proofs.Common.{rules, refl, arith}
 use Rattle.std.specs.Prelude.{◌/◌, ◌%◌, ℕ, List, [], ◌∷◌, slice_index}
 use Rattle.acpi_base.specs.Entries.{IsEntry, IsTypeOf}
@@ -70,7 +70,7 @@ x2apic_domain_value e =
 
 -- ---- entries
 
--- what an entry says
+-- the contents of an entry
 abbrev pub srat_value : SratEntry → said.SratEntry
 srat_value (entry.ApicDomain e) = said.ApicDomain (apic_domain_value e)
 srat_value (entry.MemoryRange e) = said.MemoryRange (memory_range_value e)
@@ -84,17 +84,17 @@ srat_bytes (said.MemoryRange v) = bytes_of memory_range_layout v
 srat_bytes (said.X2apicDomain v) = bytes_of x2apic_domain_layout v
 srat_bytes (said.Opaque e) = e
 
--- where it is not typed, its type is not one of the above
+-- if it is not of a known type, its type is not one of the above
 abbrev pub IsOfOwnLength : said.SratEntry → Type 0
 IsOfOwnLength (said.Opaque e) = ¬ IsTypeOf said.srat_kinds (slice_index e 0)
 IsOfOwnLength _ = Unit {0}
 
--- where it is not typed, its bytes are those of an entry
+-- if it is not of a known type, its bytes are those of an entry
 abbrev pub IsWholeEntry : SratEntry → Type 0
 IsWholeEntry (entry.Opaque bytes) = IsEntry bytes.now
 IsWholeEntry _ = Unit {0}
 
--- the bytes that are written for a typed entry say the same
+-- the bytes that are written for an entry of a known type have the same contents
 pub srat_kept : KeepKinds srat_bytes said.srat_kinds
 srat_kept = (
   keeps apic_domain_layout apic_domain_laid said.ApicDomain srat_bytes (λ v. refl),

@@ -1,4 +1,4 @@
-//! Entries of the tables that are cut into entries: the MADT, the SRAT and the PPTT.
+//! Entries of the tables that consist of entries: the MADT, the SRAT and the PPTT.
 
 ghost use Rattle.std.specs.Prelude.{◌≡◌, ◌≤◌, ◌<◌, ◌+◌, ◌↔◌, length, IsOk, IfOk, IfErr, MatchOption};
 ghost use Rattle.std.specs.Iterator.{YieldsFirstBy, item_count};
@@ -12,13 +12,13 @@ use crate::table::Table;
 use acpi_base::Code;
 use std::marker::Model;
 
-/// The entries of a table, from its first one on, as far as they stand one after another. Each has at least
-/// two bytes: its type, its length in bytes, and the rest.
+/// The entries of a table in order, from its first one up to the cut. Each has at least two bytes: its type, its
+/// length in bytes, and the rest.
 #[derive(Debug, Drop)]
 pub struct Entries<'a> {
     /// All the table's bytes.
     whole: &'a [u8],
-    /// Of the bytes that are left, behind the entries that came.
+    /// The bytes that are left, after the entries that were returned.
     offset: usize,
 }
 
@@ -33,7 +33,7 @@ impl<'a> Model for Entries<'a> {
     ghost invariant = { λ entries. entries.offset ≤ length entries.whole.now };
 }
 
-/// The entry that the bytes begin with, where one stands there.
+/// The entry that the bytes begin with, if there is one.
 #[tactic(auto, unfolding(acpi_base::specs::Entries::first_entry))]
 fn first_entry(left: &[u8]) -> Option<&[u8]>
     ensures { option_map (λ entry. entry.now) result ≡ first_entry left.now }
@@ -48,7 +48,7 @@ fn first_entry(left: &[u8]) -> Option<&[u8]>
     Some(&left[..length])
 }
 
-/// The entry that stands at an offset of a table, which is not past its end.
+/// The entry at an offset of a table, which is not past its end.
 fn entry_at(whole: &[u8], offset: usize) -> Option<&[u8]>
     requires { offset ≤ length whole.now }
     ensures { MatchOption result (IsLast offset whole.now)
@@ -69,16 +69,16 @@ pub(crate) fn entries_from<'a>(table: Table<'a>, first: usize) -> Entries<'a>
 }
 
 impl<'a> Entries<'a> {
-    /// Where a MADT's first entry stands: behind its header, the local APICs' address and Flags (ACPI 6.5, 5.2.12).
+    /// The offset of a MADT's first entry: after its header, the local APICs' address and Flags (ACPI 6.5, 5.2.12).
     pub const MADT_START: usize = 44;
 
-    /// Where an SRAT's first entry stands: behind its header and 12 reserved bytes (5.2.16).
+    /// The offset of an SRAT's first entry: after its header and 12 reserved bytes (5.2.16).
     pub const SRAT_START: usize = 48;
 
-    /// Where a PPTT's first entry stands: behind its header (5.2.30).
+    /// The offset of a PPTT's first entry: after its header (5.2.30).
     pub const PPTT_START: usize = 36;
 
-    /// Those of a MADT, from offset 44 on. Refuses one of fewer than 44 bytes with `MadtShort`.
+    /// The entries of a MADT, from offset 44 on. Refuses a MADT of fewer than 44 bytes with `MadtShort`.
     pub fn madt(table: Table<'a>) -> Result<Entries<'a>, Code>
         ensures ok { IsOk result ↔ (44 ≤ length table.entry) }
         ensures entries { IfOk result (λ entries. entries ≡ entries_from_place 44 table.entry) }
@@ -90,7 +90,7 @@ impl<'a> Entries<'a> {
         Ok(entries_from(table, Entries::MADT_START))
     }
 
-    /// Those of an SRAT, from offset 48 on. Refuses one of fewer than 48 bytes with `SratShort`.
+    /// The entries of an SRAT, from offset 48 on. Refuses an SRAT of fewer than 48 bytes with `SratShort`.
     pub fn srat(table: Table<'a>) -> Result<Entries<'a>, Code>
         ensures ok { IsOk result ↔ (48 ≤ length table.entry) }
         ensures entries { IfOk result (λ entries. entries ≡ entries_from_place 48 table.entry) }
@@ -102,15 +102,14 @@ impl<'a> Entries<'a> {
         Ok(entries_from(table, Entries::SRAT_START))
     }
 
-    /// Those of a PPTT, from offset 36 on.
+    /// The entries of a PPTT, from offset 36 on.
     pub fn pptt(table: Table<'a>) -> Entries<'a>
         ensures { result ≡ entries_from_place 36 table.entry }
     {
         entries_from(table, Entries::PPTT_START)
     }
 
-    /// Where no entry is still to come, the offset of the bytes that are left, if there are any: no entry
-    /// stands there.
+    /// The cut: once no entry is left, the offset of the remaining bytes, if there are any. No entry can begin there.
     pub fn cut(&self) -> Option<u64>
         ensures { result ≡ cut_behind self.now.entries self.now.cut }
     {

@@ -1,5 +1,5 @@
-//! Tables that are cut into entries: their fields, and their entries by what they say, as far as they stand. Nothing is asked
-//! of the entries: one whose length is none of its type is opaque, as one of another type.
+//! Tables that consist of entries: their fields, and their entries by contents, up to the cut. The entries need not
+//! be valid: one whose length is wrong for its type is opaque, like one of another type.
 
 ghost use Rattle.std.specs.Prelude.{◌≡◌, ◌≤◌, ◌<◌, ◌^◌, length, MatchOption};
 ghost use Rattle.acpi_base.specs.Entries.{entries_read_by};
@@ -19,7 +19,7 @@ use crate::typed_entries::TypedEntries;
 use acpi_base::field::u32_at;
 use std::marker::Model;
 
-/// A MADT of at least 44 bytes, those of its fields (ACPI 6.5, 5.2.12). Contracts see its bytes.
+/// A MADT of at least 44 bytes, enough for its fields (ACPI 6.5, 5.2.12). Contracts see its bytes.
 #[derive(Debug, Drop)]
 pub struct Madt<'a> {
     table: Table<'a>,
@@ -36,7 +36,7 @@ impl<'a> Model for Madt<'a> {
 }
 
 impl<'a> Madt<'a> {
-    /// The view of a table, or none where it has fewer than 44 bytes.
+    /// The view of a table, or none if it has fewer than 44 bytes.
     pub fn new(table: Table<'a>) -> Option<Madt<'a>>
         ensures { MatchOption result (length table.entry < 44)
             (λ madt. (madt ≡ table.entry) × (44 ≤ length table.entry)) }
@@ -47,7 +47,7 @@ impl<'a> Madt<'a> {
         Some(Madt { table })
     }
 
-    /// The view of a table that is known to have 44 bytes at least. No byte is looked at.
+    /// The view of a table that is known to have at least 44 bytes. No byte is read.
     pub fn of(table: Table<'a>) -> Madt<'a>
         requires { 44 ≤ length table }
         ensures { result ≡ table.entry }
@@ -78,7 +78,7 @@ impl<'a> Madt<'a> {
         u32_at(self.table.bytes(), MADT_FLAGS)
     }
 
-    /// Its entries, from offset 44 on, by what they say.
+    /// Its entries, from offset 44 on, by contents.
     #[tactic(auto, unfolding(acpi_base::specs::Madt::madt_contents))]
     pub fn entries(&self) -> TypedEntries<'a, MadtEntry<'a>>
         ensures entries { entries_read_by madt_entry
@@ -86,13 +86,14 @@ impl<'a> Madt<'a> {
         ensures long { 44 ≤ length self.now }
         ensures size { length self.now < 2 ^ 32 }
     {
-        // Opens the invariant of `Table` to the proof, and does nothing when it runs: a table has fewer than 2^32 bytes.
+        // Makes the invariant of `Table` available to the proof, and does nothing at run time: a table has fewer than
+        // 2^32 bytes.
         let _ = self.table.bytes();
         entries_from(self.table.copied(), Entries::MADT_START).into()
     }
 }
 
-/// An SRAT of at least 48 bytes, those of its fields (ACPI 6.5, 5.2.16). Contracts see its bytes.
+/// An SRAT of at least 48 bytes, enough for its fields (ACPI 6.5, 5.2.16). Contracts see its bytes.
 #[derive(Debug, Drop)]
 pub struct Srat<'a> {
     table: Table<'a>,
@@ -109,7 +110,7 @@ impl<'a> Model for Srat<'a> {
 }
 
 impl<'a> Srat<'a> {
-    /// The view of a table, or none where it has fewer than 48 bytes.
+    /// The view of a table, or none if it has fewer than 48 bytes.
     pub fn new(table: Table<'a>) -> Option<Srat<'a>>
         ensures { MatchOption result (length table.entry < 48)
             (λ srat. (srat ≡ table.entry) × (48 ≤ length table.entry)) }
@@ -120,7 +121,7 @@ impl<'a> Srat<'a> {
         Some(Srat { table })
     }
 
-    /// The view of a table that is known to have 48 bytes at least. No byte is looked at.
+    /// The view of a table that is known to have at least 48 bytes. No byte is read.
     pub fn of(table: Table<'a>) -> Srat<'a>
         requires { 48 ≤ length table }
         ensures { result ≡ table.entry }
@@ -135,14 +136,15 @@ impl<'a> Srat<'a> {
         self.table.header()
     }
 
-    /// Its entries, from offset 48 on, by what they say.
+    /// Its entries, from offset 48 on, by contents.
     #[tactic(auto, unfolding(acpi_base::specs::Srat::srat_contents))]
     pub fn entries(&self) -> TypedEntries<'a, SratEntry<'a>>
         ensures entries { entries_read_by srat_entry
             result.entries.entries ≡ (srat_contents self.now).entries }
         ensures size { length self.now < 2 ^ 32 }
     {
-        // Opens the invariant of `Table` to the proof, and does nothing when it runs: a table has fewer than 2^32 bytes.
+        // Makes the invariant of `Table` available to the proof, and does nothing at run time: a table has fewer than
+        // 2^32 bytes.
         let _ = self.table.bytes();
         entries_from(self.table.copied(), Entries::SRAT_START).into()
     }
@@ -163,7 +165,7 @@ impl<'a> Model for Pptt<'a> {
 }
 
 impl<'a> Pptt<'a> {
-    /// The view of a table. No byte is looked at.
+    /// The view of a table. No byte is read.
     pub fn of(table: Table<'a>) -> Pptt<'a>
         ensures { result ≡ table.entry }
     {
@@ -177,14 +179,15 @@ impl<'a> Pptt<'a> {
         self.table.header()
     }
 
-    /// Its entries, from offset 36 on, by what they say.
+    /// Its entries, from offset 36 on, by contents.
     #[tactic(auto, unfolding(acpi_base::specs::Pptt::pptt_contents))]
     pub fn entries(&self) -> TypedEntries<'a, PpttEntry<'a>>
         ensures entries { entries_read_by pptt_entry
             result.entries.entries ≡ (pptt_contents self.now).entries }
         ensures size { length self.now < 2 ^ 32 }
     {
-        // Opens the invariant of `Table` to the proof, and does nothing when it runs: a table has fewer than 2^32 bytes.
+        // Makes the invariant of `Table` available to the proof, and does nothing at run time: a table has fewer than
+        // 2^32 bytes.
         let _ = self.table.bytes();
         entries_from(self.table.copied(), Entries::PPTT_START).into()
     }

@@ -16,7 +16,7 @@ use std::marker::Model;
 /// 2^32 - 1, at an address that is a multiple of 64. It has no checksum. Contracts see its address and its
 /// bytes.
 ///
-/// The bytes behind its Length field are not checked.
+/// The bytes after its Length field are not checked.
 #[derive(Debug, Drop)]
 pub struct Facs<'a> {
     address: u64,
@@ -38,17 +38,13 @@ impl<'a> Model for Facs<'a> {
 }
 
 impl<'a> Facs<'a> {
-    /// The FACS that a FADT names, or none where the hardware is reduced and the FADT names none. One that
-    /// is named is read also where the hardware is reduced. The FADT may come from another image: only its
-    /// bytes are used.
+    /// The FACS that a FADT names, or none if the hardware is reduced and the FADT names none. If one is named, it is
+    /// read even if the hardware is reduced. The FADT may come from another image: only its bytes are used.
     ///
-    /// Refuses, in this order:
-    /// `NoFacs`, where the FADT names none and the hardware is not reduced;
-    /// `FacsAlign`, where the address that it names is no multiple of 64;
-    /// `FacsHeaderOut`, where the 8 bytes there are not all held;
-    /// `FacsSignature`, where they do not begin with `FACS`;
-    /// `FacsLength`, where its Length is below 64;
-    /// `FacsOut`, where its Length bytes are not all held.
+    /// Refuses, in this order: `NoFacs` if the FADT names none and the hardware is not reduced; `FacsAlign` if the
+    /// address that it names is not a multiple of 64; `FacsHeaderOut` if the 8 bytes there are not all present;
+    /// `FacsSignature` if they do not begin with `FACS`; `FacsLength` if its Length is below 64; `FacsOut` if its
+    /// Length bytes are not all present.
     #[tactic(auto, using(acpi_base::proofs::Images::HeldBytes::says_length))]
     pub fn read(image: &'a Image, fadt: &Fadt<'_>) -> Result<Option<Facs<'a>>, Code>
         ensures ok { IsOk result ↔ HasSoundFacs image.now fadt.now }

@@ -76,7 +76,7 @@ const PLACES: [Place; 41] = [
 /// RESET_REG_SUP, a bit of Flags: the reset register may be used.
 const RESET_REG_SUP: u32 = 10;
 
-/// HW_REDUCED_ACPI, a bit of Flags: the hardware lacks what the ACPI registers drive.
+/// HW_REDUCED_ACPI, a bit of Flags: the ACPI registers are not implemented.
 const HW_REDUCED_ACPI: u32 = 20;
 
 /// The offsets of the blocks' length bytes.
@@ -110,8 +110,8 @@ fn has_flag(bytes: &[u8], bit: u32) -> bool
     (u32_at(bytes, FLAGS) >> bit) % 2 == 1
 }
 
-/// The address of 8 bytes at an offset, of a field that ends at `end`, where the table has that field and
-/// the address is not 0.
+/// The 8-byte address at an offset, in a field that ends at `end`, if the table has that field and the address is not
+/// 0.
 #[tactic(auto, unfolding(acpi_base::specs::Fadt::wide_address))]
 fn wide_address(bytes: &[u8], end: usize, offset: usize) -> Option<u64>
     requires { offset + 8 ≤ end }
@@ -128,7 +128,7 @@ fn wide_address(bytes: &[u8], end: usize, offset: usize) -> Option<u64>
     Some(address)
 }
 
-/// The address of 8 bytes where it is there and is not 0, else the one of 4 bytes at `narrow`.
+/// The 8-byte address if it exists and is not 0, otherwise the 4-byte one at `narrow`.
 fn address_of(bytes: &[u8], end: usize, offset: usize, narrow: usize) -> u64
     requires wide { offset + 8 ≤ end }
     requires narrow { narrow + 4 ≤ length bytes.now }
@@ -140,7 +140,7 @@ fn address_of(bytes: &[u8], end: usize, offset: usize, narrow: usize) -> u64
     }
 }
 
-/// The first of the blocks' lengths that is wrong where the hardware is not reduced.
+/// The first wrong length of a block if the hardware is not reduced.
 fn length_fault(bytes: &[u8]) -> Option<Witness>
     requires { 116 ≤ length bytes.now }
     ensures none { IsNone result ↔ HasBlockLengths bytes.now }
@@ -177,16 +177,16 @@ fn is_reset_register(gas: Gas) -> bool
     gas.space <= 2 && gas.bit_width == 8 && gas.bit_offset == 0
 }
 
-/// What a FADT says of a register block.
+/// A register block of a FADT.
 #[derive(Clone, Copy, Debug, PartialEq, Eq)]
 pub enum Block {
-    /// Nothing: neither field names an address.
+    /// None: neither field has an address.
     None,
     /// The X_ structure, whose address is not 0.
     Gas(Gas),
     /// A system I/O port.
     Port {
-        /// The field of 4 bytes, which is not 0.
+        /// The 4-byte field, which is not 0.
         address: u32,
         /// The block's length byte: how many bytes it has.
         bytes: u8,
@@ -196,9 +196,9 @@ pub enum Block {
 /// The fixed ACPI description table (ACPI 6.5, 5.2.9): at least 116 bytes, and fewer than 2^32. Contracts
 /// see the bytes.
 ///
-/// A field is present where it lies wholly within the bytes, whatever the revision. The signature, the
-/// revision, reserved bytes and bytes past 276 are not checked, nor is what an address points to. An X_
-/// address that is present and is not 0 takes precedence over the field of 4 bytes.
+/// A field exists if it lies completely within the bytes, whatever the revision. The signature, the revision,
+/// reserved bytes and bytes past 276 are not checked, nor is what an address points to. An X_ address that exists and
+/// is not 0 takes precedence over the 4-byte field.
 #[derive(Debug, Drop)]
 pub struct Fadt<'a> {
     table: Table<'a>,
@@ -215,12 +215,12 @@ impl<'a> Model for Fadt<'a> {
 }
 
 impl<'a> Fadt<'a> {
-    /// How many bytes it has at least: those up to the end of Flags.
+    /// Its minimum length in bytes: up to the end of Flags.
     pub const LEAST_LENGTH: usize = 116;
 
-    /// A table's bytes as a FADT's. Its signature is not checked.
+    /// The view of a table as a FADT. Its signature is not checked.
     ///
-    /// Refuses `FadtShort`, where it has fewer than 116 bytes.
+    /// Refuses with `FadtShort` if it has fewer than 116 bytes.
     pub fn new(table: Table<'a>) -> Result<Fadt<'a>, Code>
         ensures ok { IsOk result ↔ (116 ≤ length table.entry) }
         ensures same { IfOk result (λ bytes. bytes ≡ table.entry) }
@@ -236,17 +236,14 @@ impl<'a> Fadt<'a> {
         Ok(Fadt { table })
     }
 
-    /// The first fault by its offset, or none where the table is sound. The offset is reported as `at`, in
-    /// bytes from the table's start, and the other two numbers are 0.
+    /// The first fault by its offset, or none if the table is valid. The offset is reported as `at`, in bytes from
+    /// the table's start, and the other two numbers are 0.
     ///
-    /// Where HW_REDUCED_ACPI, bit 20 of Flags, is clear (5.2.9, 4.8.3):
-    /// `PmEventLength` at 88, where PM1_EVT_LEN is below 4;
-    /// `PmControlLength` at 89, where PM1_CNT_LEN is below 2;
-    /// `PmTimerLength` at 91, where PM_TMR_LEN is neither 0 nor 4;
-    /// `GpeLength` at 92 or 93, where GPE0_BLK_LEN or GPE1_BLK_LEN is odd.
-    /// Where RESET_REG_SUP, bit 10 of Flags, is set and the table has at least 129 bytes (4.8.3.6):
-    /// `ResetRegister` at 116, where RESET_REG's space is above 2, its width is not 8 bits or its bit
-    /// offset is not 0.
+    /// If HW_REDUCED_ACPI, bit 20 of Flags, is clear (5.2.9, 4.8.3): `PmEventLength` at 88 if PM1_EVT_LEN is below 4;
+    /// `PmControlLength` at 89 if PM1_CNT_LEN is below 2; `PmTimerLength` at 91 if PM_TMR_LEN is neither 0 nor 4;
+    /// `GpeLength` at 92 or 93 if GPE0_BLK_LEN or GPE1_BLK_LEN is odd. If RESET_REG_SUP, bit 10 of Flags, is set and
+    /// the table has at least 129 bytes (4.8.3.6): `ResetRegister` at 116 if RESET_REG's space is above 2, its width
+    /// is not 8 bits or its bit offset is not 0.
     pub fn fault(&self) -> Option<Witness>
         ensures none { IsNone result ↔ IsSoundFadtTable self.now }
         ensures fault { IfSome result
@@ -271,14 +268,14 @@ impl<'a> Fadt<'a> {
         None
     }
 
-    /// Whether HW_REDUCED_ACPI, bit 20 of Flags, is set: the hardware lacks what the ACPI registers drive.
+    /// Whether HW_REDUCED_ACPI, bit 20 of Flags, is set: the ACPI registers are not implemented.
     pub fn reduced(&self) -> bool
         ensures { result ≡ is_reduced self.now }
     {
         has_flag(self.bytes(), HW_REDUCED_ACPI)
     }
 
-    /// The field with this number, which is below 41, or none where the table is too short to have it.
+    /// The field with this number, which is below 41, or none if the table is too short to have it.
     ///
     /// Fields are the whole numbers of 1, 2 and 4 bytes in the standard's order (table 5.9): 0 is
     /// FIRMWARE_CTRL, 1 DSDT, 2 a reserved byte, 3 Preferred_PM_Profile, 4 SCI_INT, 5 SMI_CMD,
@@ -321,9 +318,9 @@ impl<'a> Fadt<'a> {
     /// Register block k, which is below 8: PM1a_EVT, PM1b_EVT, PM1a_CNT, PM1b_CNT, PM2_CNT, PM_TMR, GPE0
     /// and GPE1.
     ///
-    /// The X_ structure at 148 + 12k, where the table has it and its address is not 0; else a system I/O
-    /// port at the address of 4 bytes at 56 + 4k, where that is not 0, whose length is the byte at 88, 88,
-    /// 89, 89, 90, 91, 92 or 93; else none. The two need not agree, which is this project's choice.
+    /// The X_ structure at 148 + 12k, if the table has it and its address is not 0; otherwise a system I/O port at
+    /// the 4-byte address at 56 + 4k, if that is not 0, whose length is the byte at 88, 88, 89, 89, 90, 91, 92 or 93;
+    /// otherwise none. The two need not agree, which is this project's choice.
     #[tactic(auto, unfolding(acpi_base::specs::Fadt::block_value))]
     pub fn block(&self, k: u8) -> Block
         requires { k < 8 }
@@ -344,7 +341,7 @@ impl<'a> Fadt<'a> {
         }
     }
 
-    /// All its bytes, header and all: as many as its Length says, at least 116, and fewer than 2^32.
+    /// All its bytes, with the header: as many as its Length says, at least 116, and fewer than 2^32.
     pub fn bytes(&self) -> &'a [u8]
         ensures bytes { result.now ≡ self.now }
         ensures count { (116 ≤ length self.now) × (length self.now < 2 ^ 32) }

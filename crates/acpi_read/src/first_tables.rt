@@ -7,12 +7,12 @@ ghost use Rattle.acpi_base.specs.declared.table_kind.TableKind.{TableKind};
 use crate::table::Table;
 use acpi_base::TableKind;
 
-/// A table that a root lists, with the address that its slot holds.
+/// A table that a root table lists, with the address in its slot.
 #[derive(Debug, Drop)]
 pub struct Listed<'a> {
-    /// Where it stands.
+    /// Its address.
     pub address: u64,
-    /// The table there.
+    /// The table at that address.
     pub table: Table<'a>,
 }
 
@@ -28,7 +28,7 @@ impl<'a> Listed<'a> {
     }
 }
 
-/// The first table of each kind among listed tables that are added in their order.
+/// The first table of each kind among the listed tables, which are added in their order.
 #[derive(Debug, Drop)]
 pub struct FirstTables<'a> {
     fadt: Option<Listed<'a>>,
@@ -55,7 +55,7 @@ impl<'a> FirstTables<'a> {
         }
     }
 
-    /// The first table of a kind, with its address, where there is one.
+    /// The first table of a kind, with its address, if there is one.
     pub fn listed(&self, kind: TableKind) -> Option<&Listed<'a>>
         ensures { option_map (λ first. first.now.table) result ≡ first_table self.now kind }
     {
@@ -69,7 +69,7 @@ impl<'a> FirstTables<'a> {
         place.as_ref()
     }
 
-    /// The first table of a kind, where there is one.
+    /// The first table of a kind, if there is one.
     pub fn first(&self, kind: TableKind) -> Option<Table<'a>>
         ensures { result ≡ first_table self.now kind }
     {
@@ -77,8 +77,7 @@ impl<'a> FirstTables<'a> {
         Some(listed.table.copied())
     }
 
-    /// Adds a table behind those before it: keeps it where it is the first of its kind, and returns the kind
-    /// then.
+    /// Adds the next table: keeps it if it is the first of its kind, and then returns the kind.
     pub fn add(&mut self, listed: Listed<'a>) -> Option<TableKind>
         ensures tables { (kind : TableKind)
             → first_table self.new kind ≡ first_signed_table (signature_of kind)

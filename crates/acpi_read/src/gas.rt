@@ -14,7 +14,7 @@ use acpi_base::field::{Value, put_values, u8_at, u64_at};
 /// space nor the sizes are checked.
 #[derive(Clone, Copy, Debug, PartialEq, Eq)]
 pub struct Gas {
-    /// At 0: which address space: 0 is system memory, 1 system I/O, 2 PCI configuration space.
+    /// At 0: the address space: 0 is system memory, 1 system I/O, 2 PCI configuration space.
     pub space: u8,
     /// At 1: the register's width in bits.
     pub bit_width: u8,

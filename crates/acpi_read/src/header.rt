@@ -15,7 +15,7 @@ use acpi_base::field::{Value, bytes_at, put_values, u8_at, u32_at};
 pub struct Header {
     /// At 0: what kind of table it is.
     pub signature: [u8; 4],
-    /// At 4: the whole table's length in bytes, header and all.
+    /// At 4: the length of the table in bytes, including the header.
     pub length: u32,
     /// At 8: the revision of the table's layout.
     pub revision: u8,

@@ -19,29 +19,29 @@ pub trait EntryKind: Layout {
     /// Its type.
     const TYPE: u8;
 
-    /// What the definition of the table says that an entry of the kind says.
+    /// The contents of an entry of the kind, by the definition of the table.
     ghost Said: { Type 0 };
 
-    /// The kind, as the definition of the table has it.
+    /// The kind in the definition of the table.
     ghost kind: { Kind Said };
 
-    /// What a value says.
+    /// The contents of a value.
     ghost say: { Self → Said };
 
     /// The layout is that of the kind, and its fields are those that the definition of the table reads.
     ghost laid: { LaysOut kind Self.parts Self.values Self.allows say };
 }
 
-/// A kind whose layout is fixed, by what is its own: `Layout` and `EntryKind` follow, since its type and its length
-/// stand before its fields.
+/// A kind with a fixed layout. `Layout` and `EntryKind` follow from this trait, since type and length come before the
+/// fields.
 pub(crate) trait FixedKind: Sized {
-    /// What the definition of the table says that an entry of the kind says.
+    /// The contents of an entry of the kind, by the definition of the table.
     ghost Said: { Type 0 };
 
-    /// Its type, its length, and the parts behind them.
+    /// Its type, its length, and the parts after them.
     ghost layout: { KindLayout Said };
 
-    /// What a value says.
+    /// The contents of a value.
     ghost say: { Self → Said };
 
     ghost TYPE: { ℕ };
@@ -59,14 +59,14 @@ pub(crate) trait FixedKind: Sized {
         requires { length bytes.now ≡ SIZE }
         ensures { values_at 2 layout.rest bytes.now ≡ layout.values (say result) };
 
-    /// Writes what stands behind the length, and 0 to bytes that the standard reserves.
+    /// Writes what comes after the length, and 0 to bytes that the standard reserves.
     fn put_fields(&self, out: &mut [u8])
         requires { 2 + length out.old ≡ SIZE }
         ensures bytes { out.new ≡ layout_bytes layout.rest (layout.values (say self.now)) }
         ensures fits { FitLayout layout.rest (layout.values (say self.now)) };
 
-    /// Type and length are the layout's, its parts are where the kind reads its fields, and values with the same fields are
-    /// the same.
+    /// Type and length are those of the layout, its parts are where the kind reads its fields, and values with the
+    /// same fields are the same.
     ghost laid: { (TYPE ≡ layout.kind.type) × (SIZE ≡ layout.kind.size) × IsLaidOut layout
         × ((one other : Self) → layout.values (say one) ≡ layout.values (say other)
         → one ≡ other) };
@@ -116,7 +116,7 @@ impl<K: FixedKind> EntryKind for K {
     ghost laid = { lays_out K.layout K.laid.2 K.say };
 }
 
-/// Whether the bytes have a kind's type, at 0, and its length, at 1, and are as many as it says.
+/// Whether the bytes have a kind's type, at 0, and its length, at 1, and that many bytes.
 pub(crate) fn is_kind(bytes: &[u8], number: u8, size: usize) -> bool
     requires { 2 ≤ size }
     ensures { IsTrue result ↔ ((length bytes.now ≡ size) × (field bytes.now 0 1 ≡ number)
@@ -125,7 +125,7 @@ pub(crate) fn is_kind(bytes: &[u8], number: u8, size: usize) -> bool
     bytes.len() == size && u8_at(bytes, 0) == number && usize::from(u8_at(bytes, 1)) == size
 }
 
-/// The structure that the bytes are, or the code where they are none of the layout.
+/// The structure with these bytes, or the code if they do not fit the layout.
 pub(crate) fn laid<L: Layout>(bytes: &[u8], code: Code) -> Result<L, Code>
     ensures ok { IfOk result (λ value. HasValues L.parts bytes.now (L.values value)) }
     ensures err { IfErr result
@@ -134,7 +134,8 @@ pub(crate) fn laid<L: Layout>(bytes: &[u8], code: Code) -> Result<L, Code>
     L::read(bytes).ok_or(code)
 }
 
-/// What an entry's bytes say as one of the kind of its type, or the code where they do not have the kind's length.
+/// The contents of an entry with these bytes as one of the kind of its type, or the code if they do not have the
+/// kind's length.
 pub(crate) fn typed<K: EntryKind>(bytes: &[u8], code: Code) -> Result<K, Code>
     requires entry { IsEntry bytes.now }
     requires number { slice_index bytes.now 0 ≡ K.kind.type }

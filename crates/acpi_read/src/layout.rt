@@ -3,9 +3,9 @@
 ghost use Rattle.std.specs.Prelude.{◌≡◌, ◌↔◌, ℕ, List, length, Some, IsSome, IfSome};
 ghost use Rattle.acpi_base.specs.Layouts.{Part, PartValue, layout_size, values_at, layout_bytes, IsOfLayout, FitLayout};
 
-/// A structure whose fields stand at fixed offsets in a fixed number of bytes.
+/// A structure whose fields are at fixed offsets in a fixed number of bytes.
 ///
-/// Reading and writing agree: what was written is read back, which `read_back` proves of every layout.
+/// Reading and writing agree: what was written is read back, which `read_back` proves for every layout.
 pub trait Layout: Sized {
     ghost LEN: { ℕ };
 
@@ -15,14 +15,14 @@ pub trait Layout: Sized {
     /// Its parts, from its first byte on.
     ghost parts: { List Part };
 
-    /// The values of those parts that have one.
+    /// The values of the parts that have one.
     ghost values: { Self → List PartValue };
 
-    /// What else the bytes must fulfil: nothing, save of a kind whose length byte depends on its other fields.
+    /// What else the bytes must satisfy: nothing, except for a kind whose length byte depends on its other fields.
     ghost allows: { List ℕ → Type 0 } = { λ _. Unit {0} };
 
-    /// The structure that the bytes are, all of them: none where they are not `LEN` bytes, or where a byte
-    /// that is fixed for the kind is another. Bytes that the standard reserves may be any.
+    /// The structure with exactly these bytes: none if they are not `LEN` bytes, or if a fixed byte of the kind
+    /// differs. Bytes that the standard reserves may be any.
     fn read(bytes: &[u8]) -> Option<Self>
         ensures some { IsSome result ↔ (IsOfLayout parts bytes.now × allows bytes.now) }
         ensures value { IfSome result (λ value. values_at 0 parts bytes.now ≡ values value) };

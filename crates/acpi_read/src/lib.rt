@@ -1,9 +1,9 @@
-//! Views of the ACPI tables in a memory image: the RSDP, the root, any listed table, the FADT, the FACS and the
-//! SLIT; the entries of the MADT, the SRAT and the PPTT; and the fixed layouts in them all.
+//! Views of the ACPI tables in a memory image: the RSDP, the root table, any listed table, the FADT, the FACS and the
+//! SLIT; the entries of the MADT, the SRAT and the PPTT; and their fixed layouts.
 //!
-//! A view is read at an address. It borrows its bytes from the image and allocates no memory. Reading
-//! returns the view exactly where all its requirements hold, else the code of the first that does not, in
-//! the order of the codes' numbers:
+//! A view is read at an address. It borrows its bytes from the image and allocates nothing. Reading returns the view
+//! exactly when all its requirements hold, otherwise the code of the first one that does not, in the order of the
+//! codes' numbers:
 //!
 //! ```text
 //! Rsdp::read(image, address)     RsdpOut .. RsdpExtendedSum     20 bytes, or the Length that it says
@@ -21,8 +21,8 @@
 //! Slit::new(table)               SlitShort .. SlitLow           all its cells
 //! ```
 //!
-//! `Fadt::fault` and `Slit::new` return a whole fault, with its offset, since these tables have several that
-//! differ by it.
+//! `Fadt::fault` and `Slit::new` return a complete fault, with its offset, since these tables have several faults
+//! that differ only by it.
 //!
 //! ```rust
 //! let rsdp = Rsdp::read(image, 0xe0000)?;
@@ -40,10 +40,9 @@
 //! }
 //! ```
 //!
-//! A view relies on nothing but the bytes that it was read from. A view that is passed to a function may
-//! come from another image: the contract speaks of the view's own value and of the image, and does not
-//! require that they belong together. Offsets are in bytes from a structure's start, numbers are
-//! little-endian, and an address of 0 means none.
+//! A view relies only on the bytes that it was read from. A view that is passed to a function may come from another
+//! image: the contract is about the view's own value and the image, and does not require that they belong together.
+//! Offsets are in bytes from a structure's start, numbers are little-endian, and an address of 0 means none.
 #![tactic(auto)]
 
 mod entries;

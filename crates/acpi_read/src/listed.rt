@@ -1,4 +1,4 @@
-//! The tables that a root lists.
+//! The tables that a root table lists.
 
 ghost use Rattle.std.specs.Prelude.{◌≡◌, ◌<◌, ◌↔◌, IsTrue, IsNone, IfSome, MatchOption, Some, ℕ, List};
 ghost use Rattle.acpi_base.specs.Root.{HasSlot};
@@ -13,7 +13,7 @@ use crate::table::Table;
 use acpi_base::Image;
 use acpi_base::field::is_signed;
 
-/// Whether a header with the signature is held at an address.
+/// Whether a header with the signature is present at an address.
 fn has_header(image: &Image, address: u64, signature: &[u8]) -> bool
     ensures { IsTrue result ↔ IsSigned image.now address signature.now }
 {
@@ -23,7 +23,7 @@ fn has_header(image: &Image, address: u64, signature: &[u8]) -> bool
     }
 }
 
-/// The address in slot k, where a table with the signature is listed there.
+/// The address in slot k, if a table with the signature is listed there.
 fn signed_at(image: &Image, root: &Root<'_>, k: u32, signature: &[u8]) -> Option<u64>
     requires { k < slots_of root.now }
     ensures found { IfSome result
@@ -38,12 +38,11 @@ fn signed_at(image: &Image, root: &Root<'_>, k: u32, signature: &[u8]) -> Option
     None
 }
 
-/// The address in the first slot of the root at which a table with the signature stands, or none where no
-/// slot has one.
+/// The address in the first slot of the root table that lists a table with the signature, or none if no slot does.
 ///
-/// A table stands where its header's 36 bytes are held and begin with the signature: neither its Length
-/// nor its sum is checked. Later tables with the same signature are ignored, which is this project's
-/// choice. Slots that hold 0 are skipped. The image may be another than the root's own.
+/// Only the header is required: its 36 bytes must be present and begin with the signature. Neither its Length nor its
+/// checksum is checked. Later tables with the same signature are ignored, which is this project's choice. Slots that
+/// are 0 are skipped. The image may be another than that of the root table.
 pub fn first(image: &Image, root: &Root<'_>, signature: [u8; 4]) -> Option<u64>
     ensures found { IfSome result
         (IsFirstListed image.now root.now.bytes root.now.width signature) }
@@ -60,9 +59,9 @@ pub fn first(image: &Image, root: &Root<'_>, signature: [u8; 4]) -> Option<u64>
     None
 }
 
-/// The first listed table with the signature of the set that the RSDP at an address leads to, where it is whole: the first slot
-/// at whose address a header with the signature is held decides, and no later one is looked at. No sum is asked for, neither of
-/// the table nor of the RSDP or the root.
+/// The first listed table with the signature in the set that the RSDP at an address leads to, if it is complete: the
+/// first slot at whose address a header with the signature is present decides, and no later one is looked at. No
+/// checksum is required, neither of the table nor of the RSDP or the root table.
 pub fn listed_table<'a>(image: &'a Image, rsdp: u64, signature: [u8; 4]) -> Option<Table<'a>>
     ensures { MatchOption result
         ((whole : List ℕ) → ¬ IsListedTable image.now rsdp signature whole)

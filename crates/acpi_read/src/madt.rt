@@ -15,7 +15,7 @@ pub const MADT_LOCAL_APIC_ADDRESS: usize = 36;
 /// The offset of Flags in a MADT.
 pub const MADT_FLAGS: usize = 40;
 
-/// What an entry of a MADT says (ACPI 6.5, 5.2.12).
+/// The contents of an entry of a MADT (ACPI 6.5, 5.2.12).
 #[derive(Clone, Copy, Debug, PartialEq, Eq)]
 pub enum MadtEntry<'a> {
     /// A local APIC.
@@ -45,9 +45,9 @@ impl<'a> MadtEntry<'a> {
     ghost use Rattle.acpi_base.specs.declared.code.Code.{Code};
     ghost use Rattle.acpi_read.specs.Madts.{madt_value, IsOfOwnLength, IsWholeEntry};
 
-    /// What an entry's bytes say: at least two, of which the second is their count, as those of an `Entry` are.
-    /// Refuses those of a type above that have another length with `MadtEntryLength`. Neither the bus of an
-    /// override nor any flags are checked.
+    /// The contents of an entry with these bytes: at least two, the second of which is their count, as those of an
+    /// `Entry` are. Refuses with `MadtEntryLength` those of a type above that have another length. Neither the bus of
+    /// an override nor any flags are checked.
     #[tactic(auto, unfolding(acpi_base::specs::Madt::madt_entry, acpi_base::specs::Entries::has_form))]
     #[inline(always)]
     pub fn read(bytes: &'a [u8]) -> Result<MadtEntry<'a>, Code>

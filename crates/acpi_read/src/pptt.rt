@@ -10,7 +10,7 @@ use acpi_base::Code;
 pub use kinds::{Cache24, Cache28};
 pub use node_head::NodeHead;
 
-/// What an entry of a PPTT says (ACPI 6.5, 5.2.30).
+/// The contents of an entry of a PPTT (ACPI 6.5, 5.2.30).
 #[derive(Clone, Copy, Debug, PartialEq, Eq)]
 pub enum PpttEntry<'a> {
     /// A node: its first 20 bytes, and 4 for each private resource.
@@ -30,9 +30,9 @@ impl<'a> PpttEntry<'a> {
     ghost use Rattle.acpi_base.specs.declared.code.Code.{Code};
     ghost use Rattle.acpi_read.specs.Pptts.{pptt_value, HasReferences, IsWholeEntry};
 
-    /// What an entry's bytes say: at least two, of which the second is their count, as those of an `Entry` are.
-    /// Refuses those of types 0 and 1 that do not have a length of their type with `PpttEntryLength`. What an
-    /// entry names by its offset is not looked at.
+    /// The contents of an entry with these bytes: at least two, the second of which is their count, as those of an
+    /// `Entry` are. Refuses with `PpttEntryLength` those of types 0 and 1 that do not have a length of their type.
+    /// Its references are not checked.
     #[tactic(auto, using(crate::proofs::PpttKinds::pptt_opaque))]
     #[inline(always)]
     pub fn read(bytes: &'a [u8]) -> Result<PpttEntry<'a>, Code>

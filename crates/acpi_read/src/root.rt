@@ -1,4 +1,4 @@
-//! The root of the tables.
+//! The root table.
 
 ghost use Rattle.std.specs.Prelude.{◌≡◌, ◌≤◌, ◌<◌, ◌+◌, ◌*◌, ◌^◌, ◌↔◌, List, ℕ, length, Some, IsTrue, IsOk, IfOk, IfErr, IfSome, MatchOption};
 ghost use Rattle.std.specs.Option.{option_map};
@@ -21,16 +21,16 @@ use acpi_base::field::{is_signed, u8_at, u32_at, u64_at};
 use acpi_base::{Code, Image, sum};
 use std::marker::Model;
 
-/// The root of the tables (ACPI 6.5, 5.2.7 and 5.2.8): the XSDT or the RSDT, whose slots behind its header
-/// hold the addresses of all other tables.
+/// The root table (ACPI 6.5, 5.2.7 and 5.2.8): the XSDT or the RSDT, whose slots after the header are the addresses
+/// of all other tables.
 ///
-/// What `read` returns sums to 0 and is a whole number of slots; of what `whole` returns neither is known. Whether tables
-/// stand at the addresses in its slots is not checked. Contracts see its address, the width of its slots in bytes and its
-/// bytes.
+/// A root table returned by `read` sums to 0 and has a whole number of slots; neither is known of one returned by
+/// `whole`. Whether there are tables at the addresses in its slots is not checked. Contracts see its address, the
+/// width of its slots in bytes and its bytes.
 #[derive(Debug, Drop)]
 pub struct Root<'a> {
     address: u64,
-    /// Of a slot, in bytes: 8 in an XSDT, 4 in an RSDT.
+    /// The width of a slot in bytes: 8 in an XSDT, 4 in an RSDT.
     width: u32,
     bytes: &'a [u8],
 }
@@ -53,7 +53,7 @@ impl<'a> Model for Root<'a> {
         × (length root.bytes.now < 2 ^ 32) × (length_of root.bytes.now ≡ length root.bytes.now) };
 }
 
-/// Where the root is, and how wide its slots are.
+/// Where the root table is, and how wide its slots are.
 #[derive(Clone, Copy, Debug, PartialEq, Eq)]
 pub struct RootPlace {
     /// Its address, which is not 0.
@@ -62,7 +62,7 @@ pub struct RootPlace {
     pub width: u32,
 }
 
-/// The addresses that an RSDP names; 0 names none.
+/// The addresses that an RSDP names; 0 for none.
 #[derive(Clone, Copy, Debug)]
 struct Addresses {
     rsdt: u32,
@@ -70,7 +70,7 @@ struct Addresses {
     xsdt: u64,
 }
 
-/// The XSDT where one is named, else the RSDT where one is named.
+/// The XSDT if one is named, otherwise the RSDT if one is named.
 #[tactic(auto, unfolding(acpi_base::specs::Root::chosen_root))]
 fn chosen_root(named: Addresses) -> Option<RootPlace>
     ensures root { option_map place_value
@@ -92,7 +92,7 @@ fn chosen_root(named: Addresses) -> Option<RootPlace>
     None
 }
 
-/// The addresses that the RSDP at an address names, where its 20 bytes are held, and of the extended form its 36.
+/// The addresses that the RSDP at an address names, if its 20 bytes are present, or for the extended form its 36.
 #[tactic(auto, unfolding(acpi_base::specs::Rsdp::addresses_at))]
 fn addresses_at(image: &Image, address: u64) -> Option<Addresses>
     ensures { option_map (λ named. record { rsdt = named.rsdt; xsdt = named.xsdt })
@@ -112,9 +112,9 @@ fn addresses_at(image: &Image, address: u64) -> Option<Addresses>
     })
 }
 
-/// The place of the root that the RSDP at an address names, whether the RSDP is sound or not: that of the XSDT where it names
-/// one, else of the RSDT, else none. No place is known, none at all, where the RSDP cannot be read: where its 20 bytes are not
-/// held, or of the extended form its 36. Nothing is asked of what stands at the place.
+/// The place of the root table that the RSDP at an address names, whether the RSDP is valid or not: that of the XSDT
+/// if it names one, otherwise that of the RSDT, otherwise none. There is no place either if the RSDP cannot be read:
+/// if its 20 bytes are not present, or for the extended form its 36. What is at the place is not checked.
 pub fn named_root(image: &Image, rsdp: u64) -> Option<Option<RootPlace>>
     ensures root { option_map (option_map place_value)
         result ≡ option_map chosen_root (addresses_at image.now rsdp) }
@@ -124,7 +124,7 @@ pub fn named_root(image: &Image, rsdp: u64) -> Option<Option<RootPlace>>
     Some(chosen_root(named))
 }
 
-/// The place of the root that an RSDP names.
+/// The place of the root table that an RSDP names.
 fn place_of(rsdp: &Rsdp) -> Option<RootPlace>
     ensures root { option_map place_value result ≡ chosen_root rsdp.now.named }
     ensures width { IfSome result (λ root. IsSlotWidth root.width) }
@@ -135,7 +135,7 @@ fn place_of(rsdp: &Rsdp) -> Option<RootPlace>
     })
 }
 
-/// The signature of a root with slots of this width.
+/// The signature of a root table with slots of this width.
 fn signature(width: u32) -> &'static [u8; 4]
     ensures { result.now ≡ root_signature width }
 {
@@ -146,7 +146,7 @@ fn signature(width: u32) -> &'static [u8; 4]
     }
 }
 
-/// The root at a place.
+/// The root table at a place.
 #[tactic(auto, using(acpi_base::proofs::Images::HeldBytes::says_length))]
 fn read_at(image: &Image, place: RootPlace) -> Result<Root<'_>, Code>
     requires { IsSlotWidth place.width }
@@ -195,17 +195,13 @@ impl<'a> Root<'a> {
     /// How many bytes a slot of an RSDT has (5.2.7).
     pub const RSDT_SLOT: u32 = 4;
 
-    /// The root that an RSDP names: the XSDT where it names one, else the RSDT. The RSDT is
-    /// not read where an XSDT is named. The RSDP may come from another image: only its addresses are used.
+    /// The root table that an RSDP names: the XSDT if it names one, otherwise the RSDT. The RSDT is not read if an
+    /// XSDT is named. The RSDP may come from another image: only its addresses are used.
     ///
-    /// Refuses, in this order:
-    /// `NoRoot`, where it names neither;
-    /// `RootHeaderOut`, where the header's 36 bytes are not all held;
-    /// `RootSignature`, where they do not begin with `XSDT`, or `RSDT` for an RSDT;
-    /// `RootLength`, where its Length is below 36;
-    /// `RootOut`, where its Length bytes are not all held;
-    /// `RootRagged`, where its Length leaves a part of a slot over;
-    /// `RootSum`, where its bytes do not sum to 0.
+    /// Refuses, in this order: `NoRoot` if it names neither; `RootHeaderOut` if the header's 36 bytes are not all
+    /// present; `RootSignature` if they do not begin with `XSDT`, or `RSDT` for an RSDT; `RootLength` if its Length
+    /// is below 36; `RootOut` if its Length bytes are not all present; `RootRagged` if its Length ends within a slot;
+    /// `RootSum` if its bytes do not sum to 0.
     pub fn read(image: &'a Image, rsdp: &Rsdp) -> Result<Root<'a>, Code>
         ensures ok { IfOk result (IsSoundNamedRoot image.now rsdp.now.named) }
         ensures sound { (root : RootValue) → IsSoundNamedRoot image.now rsdp.now.named root
@@ -222,9 +218,9 @@ impl<'a> Root<'a> {
         read_at(image, place)
     }
 
-    /// The root that the RSDP at an address names, where it is a table with its kind's signature: whatever its bytes and
-    /// those of the RSDP sum to, and whatever part of a slot its Length leaves over. None where the RSDP cannot be read or
-    /// names none, and where no such table stands there.
+    /// The root table that the RSDP at an address names, if it is a complete table with its kind's signature,
+    /// whatever its bytes and those of the RSDP sum to, and even if its Length ends within a slot. None if the RSDP
+    /// cannot be read or names none, and if no such table is there.
     #[tactic(auto, using(acpi_base::proofs::Tables::Whole::signed_table))]
     pub fn whole(image: &'a Image, rsdp: u64) -> Option<Root<'a>>
         ensures { MatchOption result ((root : RootValue) → ¬ IsWholeRoot image.now rsdp root)
@@ -243,7 +239,7 @@ impl<'a> Root<'a> {
         })
     }
 
-    /// How many slots lie wholly within its bytes, those that hold 0 too.
+    /// How many complete slots it has, including those that are 0.
     pub fn slots(&self) -> u32
         ensures slots { result ≡ slots_of self.now }
         ensures inside { (k : ℕ)
@@ -252,8 +248,8 @@ impl<'a> Root<'a> {
         (self.bytes.len() - Header::LEN) as u32 / self.width
     }
 
-    /// The number in slot k, which lies below `slots`. Slots count from 0, and begin at offset 36. A slot
-    /// that holds 0 lists no table, and is returned as it is.
+    /// The number in slot k, which is below `slots`. Slots are counted from 0, and begin at offset 36. A slot that is
+    /// 0 lists no table, and 0 is returned for it.
     pub fn slot(&self, k: u32) -> u64
         requires { k < slots_of self.now }
         ensures { result ≡ field self.now.bytes (36 + self.now.width * k) self.now.width }
@@ -266,7 +262,7 @@ impl<'a> Root<'a> {
         }
     }
 
-    /// All its bytes, header and all: as many as its Length says, at least 36, and fewer than 2^32.
+    /// All its bytes, with the header: as many as its Length says, at least 36, and fewer than 2^32.
     pub fn bytes(&self) -> &'a [u8]
         ensures bytes { result.now ≡ self.now.bytes }
         ensures count { (36 ≤ length self.now.bytes) × (length self.now.bytes < 2 ^ 32) }
@@ -275,7 +271,7 @@ impl<'a> Root<'a> {
         self.bytes
     }
 
-    /// The fields of its first 36 bytes. Its length is the number of the root's bytes.
+    /// The fields of its first 36 bytes. The length is the number of the root table's bytes.
     #[tactic(auto, unfolding(acpi_base::specs::Header::header_of))]
     pub fn header(&self) -> Header
         ensures fields { header_value result ≡ header_of self.now.bytes }
@@ -291,7 +287,7 @@ impl<'a> Root<'a> {
         self.address
     }
 
-    /// Whether it is an XSDT, with slots of 8 bytes; else it is an RSDT, with slots of 4.
+    /// Whether it is an XSDT, with slots of 8 bytes; otherwise it is an RSDT, with slots of 4.
     pub fn wide(&self) -> bool
         ensures width { IsSlotWidth self.now.width }
         ensures wide { IsTrue result ↔ (self.now.width ≡ 8) }

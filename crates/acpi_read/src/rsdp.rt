@@ -12,10 +12,9 @@ use std::marker::Model;
 
 /// The root system description pointer (ACPI 6.5, 5.2.5.3), which names the RSDT and the XSDT.
 ///
-/// A revision of 0 or 1 means the short form of 20 bytes, which names no XSDT; 2 or more means the
-/// extended form of at least 36. Its sums were right when it was read; whether tables stand at its
-/// addresses is not checked. The three reserved bytes at offset 33 and the bytes past 36 are ignored,
-/// save that they count in the sum.
+/// A revision of 0 or 1 means the short form of 20 bytes, which names no XSDT; 2 or more means the extended form of
+/// at least 36. Its checksums were right when it was read; whether there are tables at its addresses is not checked.
+/// The three reserved bytes at offset 33 and the bytes past 36 are ignored, except that they count in the checksum.
 #[derive(Clone, Copy, Debug, PartialEq, Eq)]
 pub struct Rsdp {
     address: u64,
@@ -48,7 +47,7 @@ impl Model for Rsdp {
     } };
 }
 
-/// What the first 20 bytes say, which is all that the short form has.
+/// The fields of the first 20 bytes, which are all that the short form has.
 fn short_form(address: u64, head: &[u8]) -> Rsdp
     requires { 20 ≤ length head.now }
     ensures { result ≡ record {
@@ -71,20 +70,15 @@ impl Rsdp {
     /// How many bytes the short form has, which are also the first ones of the extended form.
     pub const SHORT_LENGTH: u64 = 20;
 
-    /// How many bytes the extended form has at least.
+    /// The minimum length of the extended form in bytes.
     pub const EXTENDED_LENGTH: u64 = 36;
 
     /// The RSDP at an address. Any address is allowed.
     ///
-    /// Refuses, in this order:
-    /// `RsdpOut`, where its 20 bytes are not all held;
-    /// `RsdpSignature`, where they do not begin with `RSD PTR `;
-    /// `RsdpSum`, where they do not sum to 0;
-    /// and of a revision of 2 or more
-    /// `RsdpTailOut`, where its 36 bytes are not all held;
-    /// `RsdpLength`, where its Length is below 36;
-    /// `RsdpLongOut`, where its Length bytes are not all held;
-    /// `RsdpExtendedSum`, where they do not sum to 0.
+    /// Refuses, in this order: `RsdpOut` if its 20 bytes are not all present; `RsdpSignature` if they do not begin
+    /// with `RSD PTR `; `RsdpSum` if they do not sum to 0; and of a revision of 2 or more `RsdpTailOut` if its 36
+    /// bytes are not all present; `RsdpLength` if its Length is below 36; `RsdpLongOut` if its Length bytes are not
+    /// all present; `RsdpExtendedSum` if they do not sum to 0.
     #[tactic(auto, unfolding(acpi_base::specs::Rsdp::addresses_at))]
     pub fn read(image: &Image, address: u64) -> Result<Rsdp, Code>
         ensures ok { IsOk result ↔ IsSoundRsdp image.now address }

@@ -16,8 +16,7 @@ fn checksum(sum: u8) -> u8 {
     0u8.wrapping_sub(sum)
 }
 
-/// A table of this signature and revision with this body behind its header, whose names are those of the machine `q35`
-/// of QEMU 7.2.
+/// A table with this signature, revision and body, whose other names are those of the machine `q35` of QEMU 7.2.
 pub(crate) fn table(
     alloc: Global,
     signature: [u8; 4],
@@ -54,7 +53,7 @@ pub(crate) fn rsdp(rsdt: u32) -> [u8; 20] {
     bytes
 }
 
-/// An RSDP of revision 2 that names this RSDT and this XSDT. Its first 20 bytes have a checksum of their own.
+/// An RSDP of revision 2 that names this RSDT and this XSDT. Its first 20 bytes have their own checksum.
 pub(crate) fn extended_rsdp(rsdt: u32, xsdt: u64) -> [u8; 36] {
     let mut bytes = *b"RSD PTR \0AAAAAA\x02\0\0\0\0\x24\0\0\0\0\0\0\0\0\0\0\0\0\0\0\0";
     bytes[16..20].copy_from_slice(&rsdt.to_le_bytes());
@@ -79,7 +78,7 @@ pub(crate) fn image_of(alloc: Global, pieces: &[(u64, &[u8])]) -> Result<Image, 
     Ok(image)
 }
 
-/// An image that holds one table, at 1000h.
+/// An image that has one table, at 0x1000.
 pub(crate) fn image_of_table(
     alloc: Global,
     signature: [u8; 4],
@@ -89,7 +88,7 @@ pub(crate) fn image_of_table(
     image_of(alloc, &[(0x1000, &bytes)])
 }
 
-/// A FACS of 64 bytes, of which those behind its length are 0.
+/// A FACS of 64 bytes; those after its length are 0.
 pub(crate) fn facs() -> [u8; 64] {
     let mut bytes = [0; 64];
     bytes[..4].copy_from_slice(b"FACS");
@@ -113,7 +112,7 @@ fn slots(alloc: Global, tables: &[(u32, &[u8])]) -> Result<Vec<u8>, Fail> {
     Ok(slots)
 }
 
-/// Adds to the image an RSDP at E0000h, whose RSDT is at 1000h, and these tables, each at its address.
+/// Adds to the image an RSDP at 0xE0000, whose RSDT is at 0x1000, and these tables, each at its address.
 fn add_tables(image: &mut Image, tables: &[(u32, &[u8])]) -> Result<(), ImageFault> {
     image.add(0xe0000, &rsdp(0x1000))?;
     for (address, bytes) in tables {
@@ -122,7 +121,7 @@ fn add_tables(image: &mut Image, tables: &[(u32, &[u8])]) -> Result<(), ImageFau
     Ok(())
 }
 
-/// An image with an RSDP at E0000h and an RSDT at 1000h, which lists these tables, each at its address.
+/// An image with an RSDP at 0xE0000 and an RSDT at 0x1000, which lists these tables, each at its address.
 pub(crate) fn set(alloc: Global, tables: &[(u32, &[u8])]) -> Result<Image, Fail> {
     let slots = slots(alloc, tables)?;
     let mut image = image_of_table(alloc, *b"RSDT", &slots)?;
@@ -130,8 +129,8 @@ pub(crate) fn set(alloc: Global, tables: &[(u32, &[u8])]) -> Result<Image, Fail>
     Ok(image)
 }
 
-/// The bytes are read as the value, and the value is written as the same bytes, save that those that the standard
-/// reserves, which are FFh here, and no others, are 0.
+/// The bytes are read as the value, and the value is written as the same bytes, except that reserved bytes are
+/// written as 0. In these bytes exactly the reserved ones are 0xFF.
 pub(crate) fn expect_layout<R: Abort, L: Layout + Copy + Debug + PartialEq, const N: usize>(
     rt: &R,
     value: L,
@@ -151,7 +150,7 @@ pub(crate) fn expect_layout<R: Abort, L: Layout + Copy + Debug + PartialEq, cons
     assert!(rt; *out == written);
 }
 
-/// Whether the second of the bytes is their count, as that of an entry is.
+/// Whether the second byte is the number of bytes, as in an entry.
 pub(crate) fn is_entry(bytes: &[u8]) -> bool
     ensures { IsTrue result → IsEntry bytes.now }
 {

@@ -31,7 +31,7 @@ impl<'a> Model for Slit<'a> {
     ghost invariant = { λ slit. HasRows slit.bytes.now slit.rows };
 }
 
-/// The fault of the cell of row i and column j; with those before it sound it is the first.
+/// The fault of the cell in row i and column j; if those before it are valid, it is the first.
 #[tactic(auto, using(crate::proofs::SlitCells::cells))]
 fn cell_fault(bytes: &[u8], count: usize, i: usize, j: usize) -> Option<Witness>
     requires rows { HasRows bytes.now count }
@@ -73,15 +73,13 @@ impl<'a> Slit<'a> {
     /// The offset of N, Number of System Localities.
     pub const COUNT: usize = 36;
 
-    /// The offset of the first cell; the cells of a row stand one after another, and so do the rows.
+    /// The offset of the first cell. The cells are stored row by row.
     pub const CELLS: usize = 44;
 
-    /// A table's bytes as a SLIT's. Its signature is not checked. Refuses the first fault by its offset, which
-    /// is reported as `at`; the other two numbers are 0:
-    /// `SlitShort` at 0, where it has fewer than 44 bytes;
-    /// `SlitSize` at 36, where it does not have 44 bytes and N rows of N cells;
-    /// `SlitDiagonal` at a cell on the diagonal, where it is not 10;
-    /// `SlitLow` at a cell, where it is below 10.
+    /// The view of a table as a SLIT. Its signature is not checked. Refuses with the first fault by its offset, which
+    /// is reported as `at`; the other two numbers are 0: `SlitShort` at 0 if it has fewer than 44 bytes; `SlitSize`
+    /// at 36 if it does not have 44 bytes and N rows of N cells; `SlitDiagonal` at a cell on the diagonal if it is
+    /// not 10; `SlitLow` at a cell if it is below 10.
     #[tactic(auto, using(crate::proofs::SlitCells::slit_faults))]
     pub fn new(table: Table<'a>) -> Result<Slit<'a>, Witness>
         ensures ok { IsOk result ↔ IsSoundSlit (slit_contents table.entry) }
@@ -112,8 +110,8 @@ impl<'a> Slit<'a> {
         self.rows
     }
 
-    /// The relative distance from locality i to locality j, which are both below `count`: at 44 + N * i + j. It
-    /// is 10 from a locality to itself, at least 10 to others, and 255 where there is no way.
+    /// The relative distance from locality i to locality j, which are both below `count`: at 44 + N * i + j. It is 10
+    /// from a locality to itself, at least 10 to others, and 255 if there is no path.
     #[tactic(auto, using(crate::proofs::SlitCells::slit_says))]
     pub fn distance(&self, i: u32, j: u32) -> u8
         requires from { i < self.now.count }

@@ -7,7 +7,7 @@ use crate::typed_entries::TableEntry;
 use acpi_base::Code;
 pub use kinds::{ApicDomain, MemoryRange, X2apicDomain};
 
-/// What an entry of an SRAT says (ACPI 6.5, 5.2.16).
+/// The contents of an entry of an SRAT (ACPI 6.5, 5.2.16).
 #[derive(Clone, Copy, Debug, PartialEq, Eq)]
 pub enum SratEntry<'a> {
     /// The domain of a local APIC.
@@ -27,9 +27,9 @@ impl<'a> SratEntry<'a> {
     ghost use Rattle.acpi_base.specs.declared.code.Code.{Code};
     ghost use Rattle.acpi_read.specs.Srats.{srat_value, IsOfOwnLength, IsWholeEntry};
 
-    /// What an entry's bytes say: at least two, of which the second is their count, as those of an `Entry` are.
-    /// Refuses those of a type above that have another length with `SratEntryLength`. Neither flags nor ranges
-    /// are checked.
+    /// The contents of an entry with these bytes: at least two, the second of which is their count, as those of an
+    /// `Entry` are. Refuses with `SratEntryLength` those of a type above that have another length. Neither flags nor
+    /// ranges are checked.
     #[tactic(auto, unfolding(acpi_base::specs::Srat::srat_entry, acpi_base::specs::Entries::has_form))]
     #[inline(always)]
     pub fn read(bytes: &'a [u8]) -> Result<SratEntry<'a>, Code>

@@ -14,11 +14,11 @@ use acpi_base::field::u32_at;
 use acpi_base::{Code, Image};
 use std::marker::Model;
 
-/// A system description table of any kind (ACPI 6.5, 5.2.6): as many bytes as its Length says, from 36 to
-/// 2^32 - 1. What is read by `read` or known to be `sound` sums to 0; what is read by `whole` may sum to anything.
-/// Contracts see the bytes.
+/// A system description table of any kind (ACPI 6.5, 5.2.6): as many bytes as its Length says, from 36 to 2^32 - 1. A
+/// table that was read by `read`, or that is known to be valid (`sound`), sums to 0; one that was read by `whole` may
+/// not. Contracts see the bytes.
 ///
-/// The signature, the revision and the bytes behind the header are not checked.
+/// The signature, the revision and the bytes after the header are not checked.
 #[derive(Debug, Drop)]
 pub struct Table<'a> {
     bytes: &'a [u8],
@@ -37,13 +37,10 @@ impl<'a> Model for Table<'a> {
 }
 
 impl<'a> Table<'a> {
-    /// The table at an address. Any address is allowed, also one that no root lists.
+    /// The table at an address. Any address is allowed, even one that no root table lists.
     ///
-    /// Refuses, in this order:
-    /// `TableHeaderOut`, where its header's 36 bytes are not all held;
-    /// `TableLength`, where its Length is below 36;
-    /// `TableOut`, where its Length bytes are not all held;
-    /// `TableSum`, where they do not sum to 0.
+    /// Refuses, in this order: `TableHeaderOut` if its header's 36 bytes are not all present; `TableLength` if its
+    /// Length is below 36; `TableOut` if its Length bytes are not all present; `TableSum` if they do not sum to 0.
     #[tactic(auto, using(acpi_base::proofs::Images::HeldBytes::says_length))]
     pub fn read(image: &'a Image, address: u64) -> Result<Table<'a>, Code>
         ensures ok { IsOk result ↔ IsSoundTable image.now address }
@@ -70,7 +67,7 @@ impl<'a> Table<'a> {
         Ok(Table { bytes })
     }
 
-    /// The table at an address at which one is known to be sound. Its bytes are not summed again.
+    /// The table at an address at which there is known to be a valid one. Its bytes are not summed again.
     #[tactic(auto, using(acpi_base::proofs::Images::HeldBytes::says_length))]
     pub fn sound(image: &'a Image, address: u64) -> Table<'a>
         requires { IsSoundTable image.now address }
@@ -82,8 +79,8 @@ impl<'a> Table<'a> {
         Table { bytes }
     }
 
-    /// The table at an address, whatever its bytes sum to. None where none stands there: where its header's 36 bytes
-    /// are not all held, its Length is below 36, or its Length bytes are not all held.
+    /// The table at an address, whatever its bytes sum to. None if there is no complete one: if its header's 36 bytes
+    /// are not all present, its Length is below 36, or its Length bytes are not all present.
     #[tactic(auto, using(acpi_base::proofs::Images::HeldBytes::says_length))]
     pub fn whole(image: &'a Image, address: u64) -> Option<Table<'a>>
         ensures { MatchOption result
@@ -106,7 +103,7 @@ impl<'a> Table<'a> {
         Table { bytes: self.bytes }
     }
 
-    /// All its bytes, header and all: as many as its Length says, at least 36, and fewer than 2^32.
+    /// All its bytes, with the header: as many as its Length says, at least 36, and fewer than 2^32.
     pub fn bytes(&self) -> &'a [u8]
         ensures bytes { result.now ≡ self.now }
         ensures count { (36 ≤ length self.now) × (length self.now < 2 ^ 32) }

@@ -1,4 +1,4 @@
-//! Entries of a table by what they say.
+//! The entries of a table by contents.
 
 ghost use Rattle.std.specs.Prelude.{◌≡◌, ℕ, List};
 ghost use Rattle.std.specs.Iterator.{item_count};
@@ -9,37 +9,38 @@ use crate::entries::Entries;
 use crate::entry::Entry;
 use std::marker::PhantomData;
 
-/// What an entry of a kind of table says: one variant for each type of entry that is read, and one for all
+/// The contents of an entry of a kind of table: one variant for each type of entry that is read, and one for all
 /// others.
 pub trait TableEntry<'a>: Sized {
     ghost Said: { Type 0 };
 
-    /// What a value stands for.
+    /// What a value represents.
     ghost value: { Self → Said };
 
-    /// What an entry's bytes say.
+    /// The contents of an entry with these bytes.
     ghost said_by: { List ℕ → Said };
 
-    /// What is so of every value that was read.
+    /// What holds for every value that was read.
     ghost IsRead: { Self → Type 0 } = { λ _. Unit {0} };
 
-    /// What an entry's bytes say. One whose length is none of its type is opaque, as one of another type.
+    /// The contents of an entry with these bytes. One whose length is wrong for its type is opaque, like one of
+    /// another type.
     fn of(bytes: &'a [u8]) -> Self
         requires { IsEntry bytes.now }
         ensures value { value result ≡ said_by bytes.now }
         ensures read { IsRead result };
 }
 
-/// What an entry says, and where it stands.
+/// The contents of an entry, and its offset.
 #[derive(Clone, Copy, Debug, PartialEq, Eq)]
 pub struct EntryAt<E> {
-    /// Where it stands, from the table's start.
+    /// Its offset, from the table's start.
     pub offset: u64,
-    /// What it says.
+    /// Its contents.
     pub entry: E,
 }
 
-/// The entries of a table by what they say, from its first one on, as far as they stand one after another.
+/// The entries of a table by contents, from its first one up to the cut.
 #[derive(Debug, Drop)]
 pub struct TypedEntries<'a, E> {
     entries: Entries<'a>,
@@ -65,7 +66,7 @@ impl<'a, E: TableEntry<'a>> Iterator for TypedEntries<'a, E> {
 
     ghost remaining = { item_count (λ left. left.entries.entries) };
 
-    // Who goes over the entries mostly looks at those of one type: the fields of the others need not be read.
+    // A caller mostly looks at entries of one type: the fields of the others need not be read.
     #[inline(always)]
     fn next(&mut self) -> Option<EntryAt<E>> {
         let Entry { offset, bytes } = self.entries.next()?;

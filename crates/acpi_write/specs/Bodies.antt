@@ -1,5 +1,5 @@
--- What the tables of each kind say behind their headers, and which bytes say it: the definitions that go by the kind
--- (ACPI 6.5, 5.2.9, 5.2.12, 5.2.16, 5.2.17, 5.2.30).
+-- The contents of the tables of each kind after their headers, and which bytes encode them: the definitions that
+-- depend on the kind (ACPI 6.5, 5.2.9, 5.2.12, 5.2.16, 5.2.17, 5.2.30).
 use Rattle.std.specs.Prelude.{◌≡◌, ℕ, ◌+◌, ◌*◌, ◌≤◌, List, [], ◌∷◌, ◌++◌, length, drop, map, flat_map, replicate, Option, Some, None}
 use Rattle.std.specs.List.{All}
 use Rattle.acpi_base.specs.Number.{field, number_bytes, byte_sum}
@@ -21,9 +21,9 @@ use Rattle.acpi_write.specs.Values.{BodyValue, Madt, Srat, Slit, Pptt, Fadt}
 abbrev pub kinds : List TableKind
 kinds = kind.Fadt ∷ kind.Madt ∷ kind.Srat ∷ kind.Slit ∷ kind.Pptt ∷ []
 
--- ---- what bytes say
+-- ---- the contents of bytes
 
--- what a table of the kind says; a FADT by its bytes from 36 on
+-- the contents of a table of the kind; a FADT by its bytes from 36 on
 abbrev pub ContentsOf : TableKind → Type 0
 ContentsOf kind.Fadt = List ℕ
 ContentsOf kind.Madt = MadtContents
@@ -31,8 +31,8 @@ ContentsOf kind.Srat = SratContents
 ContentsOf kind.Slit = SlitContents
 ContentsOf kind.Pptt = PpttContents
 
--- what the bytes say as those of the kind; a FADT's with 0 for its FACS addresses, FIRMWARE_CTRL and X_FIRMWARE_CTRL,
--- as the FACS may stand elsewhere (5.2.9)
+-- the contents of the bytes as those of the kind; those of a FADT with 0 for its FACS addresses, FIRMWARE_CTRL and
+-- X_FIRMWARE_CTRL, since the FACS may move (5.2.9)
 abbrev pub contents_of : (kind : TableKind) → List ℕ → ContentsOf kind
 contents_of kind.Fadt whole = with_facs (drop 36 whole) 0
 contents_of kind.Madt whole = madt_contents whole
@@ -52,7 +52,7 @@ value_of kind.Srat c = Srat (entries_in c.entries)
 value_of kind.Slit c = Slit c.count c.cells
 value_of kind.Pptt c = Pptt (entries_in c.entries)
 
--- what the bytes say as those of the kind, without sizes and offsets
+-- the contents of the bytes as those of the kind, without sizes and offsets
 abbrev pub value_in : TableKind → List ℕ → BodyValue
 value_in kind whole = value_of kind (contents_of kind whole)
 
@@ -61,9 +61,9 @@ abbrev pub whole_value_in : TableKind → List ℕ → BodyValue
 whole_value_in kind.Fadt whole = Fadt (drop 36 whole)
 whole_value_in kind whole = value_in kind whole
 
--- ---- what is asked of bytes
+-- ---- what is required of bytes
 
--- a table is long enough, and entries fill it where it has such
+-- a table is long enough, and entries fill it if it has entries
 abbrev pub IsFilledAs : TableKind → List ℕ → Type 0
 IsFilledAs kind.Fadt whole = 40 ≤ length whole
 IsFilledAs kind.Madt whole = (44 ≤ length whole) × (cut_of 44 whole ≡ None)
@@ -71,7 +71,7 @@ IsFilledAs kind.Srat whole = (48 ≤ length whole) × (cut_of 48 whole ≡ None)
 IsFilledAs kind.Slit whole = 44 ≤ length whole
 IsFilledAs kind.Pptt whole = cut_of 36 whole ≡ None
 
--- a SLIT has its cells, and nothing behind them
+-- a SLIT has its cells, and nothing after them
 pub record IsReadableSlit (whole : List ℕ) : Type 0 where
   pub long : 44 ≤ length whole
   pub size : HasSlitSize (slit_contents whole)
@@ -87,11 +87,11 @@ IsReadableAs None whole = byte_sum whole ≡ 0
 
 -- ---- which bytes are written
 
--- an SRAT's bytes from 36 to 47, which are reserved: the first 4 say 1, the others 0 (5.2.16)
+-- an SRAT's bytes from 36 to 47, which are reserved: the first 4 are the number 1, the others 0 (5.2.16)
 abbrev pub srat_reserved : List ℕ
 srat_reserved = number_bytes 4 1 ++ replicate 8 0
 
--- the bytes behind the header
+-- the bytes after the header
 abbrev pub body_bytes : BodyValue → List ℕ
 body_bytes (Madt address flags entries) =
     number_bytes 4 address ++ (number_bytes 4 flags ++ flat_map madts.madt_bytes entries)
@@ -100,15 +100,15 @@ body_bytes (Slit count cells) = number_bytes 8 count ++ cells
 body_bytes (Pptt entries) = flat_map pptts.pptt_bytes entries
 body_bytes (Fadt body) = body
 
--- the same where the FACS stands at this address, which is 0 for none
+-- the same if the FACS is at this address, which is 0 for none
 abbrev pub body_with : ℕ → BodyValue → List ℕ
 body_with facs (Fadt body) = with_facs body facs
 body_with facs v = body_bytes v
 
--- ---- which bytes say a value
+-- ---- which bytes encode a value
 
--- a table's bytes reach its first entry's place, and from there on are cut into entries that say these values, in their
--- order, each of which has a length of its type where the table gives this type a meaning
+-- a table's bytes reach the offset of its first entry, and from there on consist of entries with these values, in
+-- their order, each of which has a length of its type if the type has a meaning in the table
 pub record SpellEntries {E : Type 0} (read : List ℕ → E) (IsOfOwnLength : E → Type 0) (first : ℕ) (bytes : List ℕ)
     (entries : List E) : Type 0 where
   pub long : first ≤ length bytes
@@ -117,9 +117,9 @@ pub record SpellEntries {E : Type 0} (read : List ℕ → E) (IsOfOwnLength : E 
   pub say : map read es ≡ entries
   pub lengths : All IsOfOwnLength entries
 
--- The bytes behind the header say the value: of a MADT, an SRAT and a PPTT by their entries (5.2.12, 5.2.16, 5.2.30), of
--- a SLIT by a cell for each pair of localities (5.2.17), and of a FADT by what stands behind its header, which is at
--- least 80 bytes (5.2.9). Reserved bytes may be any.
+-- The bytes after the header encode the value: for a MADT, an SRAT and a PPTT by their entries (5.2.12, 5.2.16,
+-- 5.2.30), for a SLIT by a cell for each pair of localities (5.2.17), and for a FADT by the bytes after its header,
+-- which are at least 80 (5.2.9). Reserved bytes may be any.
 abbrev pub SpellsBody : BodyValue → List ℕ → Type 0
 SpellsBody (Madt address flags entries) bytes =
     (field bytes 36 4 ≡ address)

@@ -1,4 +1,4 @@
--- The bytes that are written for a table, as a function of what it says.
+-- The bytes that are written for a table, as a function of its contents.
 use Rattle.std.specs.Prelude.{◌≡◌, ℕ, ◌+◌, ◌-◌, ◌%◌, ◌^◌, ◌<◌, List, ◌++◌, length, drop}
 use Rattle.acpi_base.specs.Number.{byte_sum}
 use Rattle.acpi_base.specs.Header.{HeadValue, header_with, header_bytes}
@@ -15,7 +15,7 @@ pub record FitsHead (head : HeadValue) : Type 0 where
   pub creator_id : head.creator_id < 2 ^ 32
   pub creator_revision : head.creator_revision < 2 ^ 32
 
--- the checksum of these bytes, which hold 0 in its place: with it there they sum to 0 modulo 256 (5.2.6)
+-- the checksum of these bytes, which have 0 in its place: with it they sum to 0 modulo 256 (5.2.6)
 unfoldable pub checksum_of : List ℕ → ℕ
 checksum_of bytes = (256 - byte_sum bytes) % 256
 
@@ -26,21 +26,22 @@ table_bytes signature head body =
     let open_bytes = header_bytes (header_with signature size 0 head) ++ body in
     header_bytes (header_with signature size (checksum_of open_bytes) head) ++ body
 
--- its bytes behind the header
+-- its bytes after the header
 abbrev pub body_of : TableValue → List ℕ
 body_of (Known _ v) = body_bytes v
 body_of (Other bytes) = drop 36 bytes
 
--- how many bytes `encoded_bytes` gives for it, the header's 36 counted; of another table this holds where it has at least 36
+-- how many bytes `encoded_bytes` gives for it, including the header's 36; for another table this holds if it has at
+-- least 36
 abbrev pub encoded_length : TableValue → ℕ
 encoded_length v = 36 + length (body_of v)
 
--- the bytes that are written for a value; those of another table are as they were
+-- the bytes that are written for a value; those of another table are unchanged
 abbrev pub encoded_bytes : TableValue → List ℕ
 encoded_bytes (Known head v) = table_bytes (signature_of (kind_of v)) head (body_bytes v)
 encoded_bytes (Other bytes) = bytes
 
--- the same where the FACS stands at this address, which is 0 for none
+-- the same if the FACS is at this address, which is 0 for none
 abbrev pub encoded_bytes_with : ℕ → TableValue → List ℕ
 encoded_bytes_with facs (Known head v) = table_bytes (signature_of (kind_of v)) head (body_with facs v)
 encoded_bytes_with facs (Other bytes) = bytes

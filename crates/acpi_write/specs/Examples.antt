@@ -1,5 +1,5 @@
--- An example of a rebuilt set, worked out by hand from the rules: what the clean set of `acpi_base` says, and its image
--- built anew from F0000h on.
+-- An example of a rebuilt set, worked out by hand from the rules: the contents of the clean set of `acpi_base`, and
+-- its image rebuilt from 0xF0000 on.
 use Rattle.std.specs.Prelude.{ℕ, List, [], ◌∷◌, ◌++◌, replicate, Some}
 use Rattle.std.specs.FinMap.{empty}
 use Rattle.acpi_base.specs.Memory.{Memory}
@@ -16,9 +16,9 @@ use Rattle.acpi_base.specs.Examples.WholeSets.{fadt_body, facs_bytes, madt_bytes
 use Rattle.acpi_write.specs.Values.{TableValue, Known, Madt, Srat, Slit, Pptt, Fadt, SetValue}
 use Rattle.acpi_write.specs.Rebuilt.{PlacedBlock, with_blocks}
 
--- ---- what the set says
+-- ---- the contents of the set
 
--- what the headers say, with this Revision
+-- the contents of the headers, with this Revision
 abbrev pub head_with : ℕ → HeadValue
 head_with revision =
     record {
@@ -59,24 +59,24 @@ whole_tables =
     ∷ Known (head_with 2) (Pptt pptt_entries)
     ∷ []
 
--- the whole set
+-- the complete set
 abbrev pub whole_value : SetValue
 whole_value = record { oemid = replicate 6 0x41; root = head_with 1; tables = whole_tables; facs = Some facs_bytes }
 
 -- ---- its new image
 
--- where it is built anew
+-- where it is rebuilt
 abbrev pub new_base : ℕ
 new_base = 0xf0000
 
--- an RSDP whose XSDT is at F0040h
+-- an RSDP whose XSDT is at 0xF0040
 abbrev pub new_rsdp : List ℕ
 new_rsdp =
     rsdp_signature ++ 89 ∷ replicate 6 0x41 ++ 2 ∷ 0 ∷ 0 ∷ 0 ∷ 0
     ∷ 36 ∷ 0 ∷ 0 ∷ 0 ∷ 0x40 ∷ 0 ∷ 0xf ∷ 0 ∷ 0 ∷ 0 ∷ 0 ∷ 0 ∷ 141 ∷ 0 ∷ 0 ∷ 0
     ∷ []
 
--- an XSDT that lists F0100h, F01C0h, F0240h, F02C0h and F0300h
+-- an XSDT that lists 0xF0100, 0xF01C0, 0xF0240, 0xF02C0 and 0xF0300
 abbrev pub new_xsdt : List ℕ
 new_xsdt =
     table xsdt_signature 76 1 200
@@ -87,7 +87,7 @@ new_xsdt =
     ∷ 0 ∷ 3 ∷ 0xf ∷ 0 ∷ 0 ∷ 0 ∷ 0 ∷ 0
     ∷ [])
 
--- a FADT with a FACS at F00C0h
+-- a FADT with a FACS at 0xF00C0
 abbrev pub new_fadt : List ℕ
 new_fadt = table fadt_signature 129 2 221 (fadt_body (0xc0 ∷ 0 ∷ 0xf ∷ 0 ∷ []))
 

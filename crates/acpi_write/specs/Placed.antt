@@ -12,13 +12,13 @@ use Rattle.acpi_write.specs.Values.{TableValue, Known, Fadt, SetValue}
 use Rattle.acpi_write.specs.declared.placing.RebuildFault.{RebuildFault}
 use Rattle.acpi_write.specs.declared.placing.RebuildFault.TheVariants as fault
 
--- where blocks of these lengths end, behind their last byte: the first begins at an address, each further one at the least
--- multiple of 64 not below the end of the one before
+-- where blocks of these lengths end, after their last byte: the first begins at an address, each further one at the
+-- lowest multiple of 64 not below the end of the one before
 unfoldable pub block_ends : ℕ → List ℕ → List ℕ
 block_ends a [] = []
 block_ends a (n ∷ rest) = (a + n) ∷ block_ends (aligned_address (a + n)) rest
 
--- the blocks that end there lie below 2^64: the end of a block is behind its last byte, so it may be 2^64 itself
+-- the blocks that end there are below 2^64: the end of a block is after its last byte, so it may be 2^64 itself
 abbrev pub DoEndInside : List ℕ → Type 0
 DoEndInside addresses = AllByRecursion (λ a. a ≤ 2 ^ 64) addresses
 
@@ -27,16 +27,16 @@ abbrev pub is_narrow : TableValue → Bool
 is_narrow (Known _ (Fadt body)) = nat_lt (length body) 104
 is_narrow _ = false
 
--- what the set says can stand from the base address on: this is a multiple of 64, the XSDT's Length has 32 bits, no part passes
--- the last address, and the FADT has room for the FACS's address
+-- the set's value can be placed at the base address: this is a multiple of 64, the XSDT's Length has 32 bits, no part
+-- passes the last address, and the FADT has room for the FACS's address
 pub record IsPlaced (v : SetValue) (base : ℕ) : Type 0 where
   pub aligned : base % 64 ≡ 0
   pub size : xsdt_length v < 2 ^ 32
   pub inside : DoEndInside (block_ends base (part_lengths v))
   pub low : list_any is_narrow v.tables ≡ true → facs_place v base < 2 ^ 32
 
--- why the set cannot stand from a base address on that is a multiple of 64. At most one of these holds: each asks that those
--- before it do not.
+-- why the set cannot be placed at a base address that is a multiple of 64. At most one of these holds: each requires
+-- that those before it do not.
 abbrev pub IsPlacingRefusal : SetValue → ℕ → RebuildFault → Type 0
 IsPlacingRefusal v base fault.TableTooLong = 2 ^ 32 ≤ xsdt_length v
 IsPlacingRefusal v base fault.PastEnd = (xsdt_length v < 2 ^ 32) × ¬ DoEndInside (block_ends base (part_lengths v))
@@ -45,12 +45,12 @@ IsPlacingRefusal v base _ = ⊥
 
 -- ---- laws
 
--- a set can stand from a base address on where this is a multiple of 64, and there is no reason why it cannot
+-- a set can be placed at a base address if this is a multiple of 64, and there is no reason why it cannot
 abbrev pub PlacedUnlessRefused : Type 0
 PlacedUnlessRefused = (v : SetValue) (base : ℕ) → IsPlaced v base ↔ ((base % 64 ≡ 0) × ((fault : RebuildFault) → ¬ IsPlacingRefusal v base fault))
 
--- the image's RSDP at the base address is sound and has the set's OEMID, and it names an XSDT that is sound, has the root's
--- head and lists the places of the set's tables
+-- the image's RSDP at the base address is valid and has the set's OEMID, and it names an XSDT that is valid, has the
+-- root table's header and lists the addresses of the set's tables
 pub record LeadsToTables (v : SetValue) (base : ℕ) (m : Memory) : Type 0 where
   pub rsdp : IsSoundRsdp m base
   pub head : List ℕ

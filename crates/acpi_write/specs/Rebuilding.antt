@@ -1,4 +1,4 @@
--- What rebuilding a set gives, and what it refuses.
+-- The result of rebuilding a set, and why it is refused.
 use Rattle.std.specs.Prelude.{◌≡◌, ◌≢◌, ℕ, ◌%◌}
 use Rattle.acpi_base.specs.Faults.{IsFirstFault}
 use Rattle.acpi_base.specs.Memory.{Memory, IsImage}
@@ -14,8 +14,8 @@ use Rattle.acpi_write.specs.declared.placing.RebuildFault.TheVariants as fault
 use Rattle.acpi_write.specs.declared.set_value.ValuesFault.{ValuesFault}
 use Rattle.acpi_write.specs.declared.set_value.ValuesFault.TheVariants as values_fault
 
--- The image holds a clean set, which says this value; the value can stand from the base address on, and the new image is its
--- rebuilt image there. A clean set says one value (`OneSetValue`), so there is one such image.
+-- The image has a clean set with this value; the value can be placed at the base address, and the new image is its
+-- rebuilt image there. A clean set has one value (`OneSetValue`), so there is one such image.
 pub record IsRebuilt (m : Memory) (q : PolicyValue) (base : ℕ) (new : Memory) : Type 0 where
   pub clean : IsClean m q
   pub value : SetValue
@@ -23,8 +23,8 @@ pub record IsRebuilt (m : Memory) (q : PolicyValue) (base : ℕ) (new : Memory) 
   pub placed : IsPlaced value base
   pub image : new ≡ rebuilt_image value base
 
--- Why a set is not rebuilt: the base address is not a multiple of 64; or it is, and the set is not clean, and this is its
--- first fault; or the set is clean, and what it says cannot stand from the base address on. Memory runs out only where
+-- Why a set is not rebuilt: the base address is not a multiple of 64; or it is, and the set is not clean, and this is
+-- its first fault; or the set is clean, and its value cannot be placed at the base address. Memory runs out only if
 -- the base address is a multiple of 64 and the stages up to the MADT's hold.
 abbrev pub IsRebuildRefusal : Memory → PolicyValue → ℕ → RebuildFault → Type 0
 IsRebuildRefusal m q base fault.Unaligned = ¬ (base % 64 ≡ 0)
@@ -32,26 +32,27 @@ IsRebuildRefusal m q base (fault.NotClean w) = (base % 64 ≡ 0) × (¬ IsClean 
 IsRebuildRefusal m q base fault.Memory = (base % 64 ≡ 0) × CleanTo stage.Madt m q
 IsRebuildRefusal m q base refused = (base % 64 ≡ 0) × IsClean m q × ((v : SetValue) × IsSetValue m q.rsdp v × IsPlacingRefusal v base refused)
 
--- the refusal of `rebuild` where `values` refuses the set
+-- the refusal of `rebuild` if `values` refuses the set
 abbrev pub rebuild_fault_of : ValuesFault → RebuildFault
 rebuild_fault_of (values_fault.NotClean w) = fault.NotClean w
 rebuild_fault_of values_fault.Memory = fault.Memory
 
 -- ---- laws
 
--- Memory aside, a set that is refused at a base address is not rebuilt there, and one that is rebuilt is not refused. So `rebuild`,
--- whose contract names these two alone, is refused exactly where a refusal stands.
+-- Unless memory runs out, a set that is refused at a base address is not rebuilt there, and one that is rebuilt is
+-- not refused. So `rebuild`, whose contract names only these two, refuses exactly when there is a reason.
 abbrev pub RefusedSetsAreNotRebuilt : Type 0
 RefusedSetsAreNotRebuilt = (m : Memory) (q : PolicyValue) (base : ℕ) (new : Memory) (refused : RebuildFault) → refused ≢ fault.Memory → IsRebuildRefusal m q base refused → ¬ IsRebuilt m q base new
 
--- The rebuilt image of the value v at a base address is kept as a set: under the policy with the RSDP at that address it is
--- clean, it says v, and whatever it says can stand at that address again, where its rebuilt image is this one.
+-- The rebuilt image of the value v at a base address is kept as a set: under the policy with the RSDP at that address
+-- it is clean, has the value v, and this value can be placed at that address again, with this image as its rebuilt
+-- image.
 pub record IsSetKept (q : PolicyValue) (v : SetValue) (base : ℕ) : Type 0 where
   pub clean : IsClean (rebuilt_image v base) (with_rsdp q base)
   pub value : IsSetValue (rebuilt_image v base) base v
   pub again : (w : SetValue) → IsSetValue (rebuilt_image v base) base w → IsPlaced w base × (rebuilt_image w base ≡ rebuilt_image v base)
 
--- it is, of the value that a clean set says, wherever this can stand. That the numbers of a lent image fit (`IsImage`) is what
--- `Image::numbers_fit` states.
+-- it is, for the value of a clean set, wherever this can be placed. That the numbers of a borrowed image fit
+-- (`IsImage`) is what `Image::numbers_fit` states.
 abbrev pub RebuiltSetsAreKept : Type 0
 RebuiltSetsAreKept = (m : Memory) (q : PolicyValue) (v : SetValue) (base : ℕ) → IsImage m → IsClean m q → IsSetValue m q.rsdp v → IsPlaced v base → IsSetKept q v base

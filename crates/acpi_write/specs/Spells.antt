@@ -1,4 +1,4 @@
--- Which bytes say which value.
+-- Which bytes encode which value.
 use Rattle.std.specs.Prelude.{◌≡◌, ℕ, ◌≤◌, List, length, true}
 use Rattle.std.specs.List.{All}
 use Rattle.acpi_base.specs.Number.{byte_sum}
@@ -16,7 +16,7 @@ pub record IsWholeTable (bytes : List ℕ) : Type 0 where
   pub size : length_of bytes ≡ length bytes
   pub zero_sum : byte_sum bytes ≡ 0
 
--- the same, and the header has this signature and says this besides
+-- the same, and the header has this signature and these other contents
 pub record IsTableOf (signature : List ℕ) (head : HeadValue) (bytes : List ℕ) : Type 0 where
   pub least : 36 ≤ length bytes
   pub signed : has_signature bytes signature ≡ true
@@ -24,15 +24,16 @@ pub record IsTableOf (signature : List ℕ) (head : HeadValue) (bytes : List ℕ
   pub size : length_of bytes ≡ length bytes
   pub zero_sum : byte_sum bytes ≡ 0
 
--- the bytes are an entry that says this value
+-- the bytes are an entry with this value
 abbrev pub SaysEntry : {E : Type 0} → (List ℕ → E) → List ℕ → E → Type 0
 SaysEntry read e v = IsEntry e × (read e ≡ v)
 
--- the bytes that are written for each of these are an entry that says its value
+-- the bytes that are written for each of these are an entry with its value
 abbrev pub DoEntriesSay : {X E : Type 0} → (List ℕ → E) → (E → List ℕ) → (X → E) → List X → Type 0
 DoEntriesSay read bytes_of value xs = All (λ x. SaysEntry read (bytes_of (value x)) (value x)) xs
 
--- the bytes say the value: of a table of a kind by its header and what stands behind it, of another table by all bytes
+-- the bytes encode the value: for a table of a kind by its header and the bytes after it, for another table by all
+-- bytes
 abbrev pub Spells : TableValue → List ℕ → Type 0
 Spells (Known head v) bytes = IsTableOf (signature_of (kind_of v)) head bytes × SpellsBody v bytes
 Spells (Other all) bytes = IsWholeTable bytes × (bytes ≡ all)
@@ -43,6 +44,6 @@ AreOneKind (Known _ v) (Known _ w) = kind_of v ≡ kind_of w
 AreOneKind (Other _) (Other _) = Unit {0}
 AreOneKind _ _ = ⊥
 
--- bytes say at most one value of a kind
+-- bytes encode at most one value of a kind
 abbrev pub OneValueSpelled : Type 0
 OneValueSpelled = (bytes : List ℕ) (v w : TableValue) → AreOneKind v w → Spells v bytes → Spells w bytes → v ≡ w

@@ -47,7 +47,7 @@ head_value h =
       creator_revision = h.creator_revision;
     }
 
--- what a value of the program says
+-- what a value of the program represents
 abbrev pub table_value : TableValue → value.TableValue
 table_value (table.Madt head address flags entries) =
     value.Known (head_value head) (value.Madt address flags (map madt_value entries.items))
@@ -78,7 +78,7 @@ values_fault_of OutOfMemory = values_fault.Memory
 
 -- ---- shape: whether there are bytes for it
 
--- an entry that is kept as bytes says its own length, and its type is none of its table's
+-- an entry that is kept as bytes has its own length in its length byte, and a type without a meaning in its table
 abbrev pub IsShapedMadt : MadtEntry → Type 0
 IsShapedMadt (madt.Opaque bytes) = IsEntry bytes.now × ¬ IsTypeOf madt_kinds (slice_index bytes.now 0)
 IsShapedMadt _ = Unit {0}
@@ -92,7 +92,7 @@ abbrev pub IsShapedPptt : PpttEntry → Type 0
 IsShapedPptt (pptt.Opaque bytes) = IsEntry bytes.now × (2 ≤ slice_index bytes.now 0)
 IsShapedPptt entry = HasReferences entry
 
--- the value can be written, save that it may be too long
+-- the value can be written, except that it may be too long
 abbrev pub IsShaped : TableValue → Type 0
 IsShaped (table.Madt head address flags entries) = All IsShapedMadt entries.items
 IsShaped (table.Srat head entries) = All IsShapedSrat entries.items
@@ -107,7 +107,7 @@ IsShort v = encoded_length (table_value v) < 2 ^ 32
 
 -- ---- what is written
 
--- its numbers have their width, and the bytes of each entry are an entry that says it
+-- its numbers have their width, and the bytes of each entry are an entry with its contents
 abbrev pub DoPartsSay : TableValue → Type 0
 DoPartsSay (table.Madt head address flags entries) = FitsHead (head_value head) × (address < 2 ^ 32) × (flags < 2 ^ 32) × DoEntriesSay madt_entry madt_bytes madt_value entries.items
 DoPartsSay (table.Srat head entries) = FitsHead (head_value head) × DoEntriesSay srat_entry srat_bytes srat_value entries.items

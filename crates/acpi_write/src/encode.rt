@@ -49,14 +49,14 @@ impl From<AllocError> for WriteFault {
     }
 }
 
-/// Whether the bytes are all of one table's, and sum to 0.
+/// Whether the bytes are exactly those of one table, and sum to 0.
 fn is_whole_table(bytes: &[u8]) -> bool
     ensures { IsTrue result ↔ IsWholeTable bytes.now }
 {
     bytes.len() >= Header::LEN && u32_at(bytes, 4) as usize == bytes.len() && sum(bytes) == 0
 }
 
-/// How many bytes the table has. None where there are none for the value.
+/// How many bytes the table has. None if there are none for the value.
 #[tactic(auto, using(crate::proofs::EntryBytes::EntryLists::encoded_sizes))]
 pub(crate) fn size_of(table: &TableValue<'_>) -> Option<u128>
     ensures { MatchOption result (¬ IsShaped table.now)
@@ -90,7 +90,7 @@ pub(crate) fn size_of(table: &TableValue<'_>) -> Option<u128>
 /// The bytes of an SRAT from 36 to 47, which are reserved (ACPI 6.5, 5.2.16).
 const SRAT_RESERVED: [u8; 12] = [1, 0, 0, 0, 0, 0, 0, 0, 0, 0, 0, 0];
 
-/// The bytes of a MADT behind its header.
+/// The bytes of a MADT after its header.
 #[tactic(auto, using(crate::proofs::EntryBytes::EntryLists::bodies), unfolding(acpi_base::specs::Number::number_bytes))]
 fn madt_body(
     alloc: Global,
@@ -112,7 +112,7 @@ fn madt_body(
     Ok(bytes)
 }
 
-/// The bytes of an SRAT behind its header.
+/// The bytes of an SRAT after its header.
 #[tactic(auto, using(crate::proofs::EntryBytes::EntryLists::bodies), unfolding(acpi_base::specs::Number::number_bytes))]
 fn srat_body(alloc: Global, entries: &[SratEntry<'_>]) -> Result<Vec<u8>, AllocError>
     requires { All IsShapedSrat entries.now }
@@ -125,7 +125,7 @@ fn srat_body(alloc: Global, entries: &[SratEntry<'_>]) -> Result<Vec<u8>, AllocE
     Ok(bytes)
 }
 
-/// The bytes of a PPTT behind its header.
+/// The bytes of a PPTT after its header.
 #[tactic(auto, using(crate::proofs::EntryBytes::EntryLists::bodies))]
 fn pptt_body(alloc: Global, entries: &[PpttEntry<'_>]) -> Result<Vec<u8>, AllocError>
     requires { All IsShapedPptt entries.now }
@@ -174,7 +174,7 @@ pub(crate) fn with_header(
     Ok(bytes)
 }
 
-/// The bytes of a table of which there are some, and not too many.
+/// The bytes of a table that can be encoded and is not too long.
 #[tactic(auto, unfolding(acpi_base::specs::Number::number_bytes))]
 pub(crate) fn bytes_of(alloc: Global, table: &TableValue<'_>) -> Result<Vec<u8>, AllocError>
     requires shaped { IsShaped table.now }
@@ -210,20 +210,19 @@ pub(crate) fn bytes_of(alloc: Global, table: &TableValue<'_>) -> Result<Vec<u8>,
     }
 }
 
-/// The bytes of a table that says the value, header and all: their number is its Length, and with its checksum they sum
-/// to 0 modulo 256. Reserved bytes are 0, save that the 4 at 36 of an SRAT are the number 1. The bytes of `Other` stay as
-/// they are. The bytes say no other value of the kind.
+/// The bytes of a table with this value, including the header: their number is its Length, and with its checksum they
+/// sum to 0 modulo 256. Reserved bytes are 0, except that the 4 at 36 of an SRAT are the number 1. The bytes of
+/// `Other` are unchanged. The bytes encode no other value of the kind.
 ///
 /// Refuses, in this order:
-/// 1. `Shape`, where there are no bytes for the value:
-///    - an entry that is kept as bytes has a type that its table gives a meaning (0 to 5, 9 and 10 in a MADT, 0 to 2 in
-///      an SRAT, 0 and 1 in a PPTT), or its second byte is not the number of its bytes, which is 2 to 255;
-///    - the bytes of a node's references are not 4 for each of the references that its head counts, at most 58;
-///    - the cells of a SLIT are not `count` times `count` bytes;
-///    - the body of a FADT has fewer than 80 bytes;
-///    - the bytes of `Other` are fewer than 36, are not as many as their Length says, or do not sum to 0 modulo 256;
-/// 2. `TooLong`, where the table would have more than 4,294,967,295 bytes, which no Length says;
-/// 3. `Memory`, where the allocator is out of memory. It takes none where it refuses with one of the first two.
+/// 1. `Shape` if there are no bytes for the value: - an entry that is kept as bytes has a type that its table gives a
+/// meaning (0 to 5, 9 and 10 in a MADT, 0 to 2 in an SRAT, 0 and 1 in a PPTT), or its second byte is not the number
+/// of its bytes, which is 2 to 255; - the bytes of a node's references are not 4 for each of the references that its
+/// head counts, at most 58; - the cells of a SLIT are not `count` times `count` bytes; - the body of a FADT has fewer
+/// than 80 bytes; - the bytes of `Other` are fewer than 36, are not as many as their Length says, or do not sum to 0
+/// modulo 256;
+/// 2. `TooLong` if the table would have more than 4,294,967,295 bytes, which does not fit into a Length;
+/// 3. `Memory` if the allocator is out of memory. Nothing is allocated if it refuses with one of the first two.
 #[tactic(auto, using(crate::proofs::Tables::Kinds::spelling))]
 pub fn encode_table(alloc: Global, table: &TableValue<'_>) -> Result<Vec<u8>, WriteFault>
     ensures spells { IfOk result (λ bytes. Spells (table_value table.now) bytes.items) }

@@ -20,7 +20,7 @@ use acpi_read::{
 };
 use std::alloc::AllocError;
 
-/// The most bytes that a structure of a fixed layout has.
+/// The largest size in bytes of a structure of a fixed layout.
 const MOST: usize = 40;
 
 /// Adds the bytes of a structure of a fixed layout.
@@ -47,7 +47,7 @@ fn append_kind<K: EntryKind>(bytes: &mut Vec<u8>, value: &K) -> Result<(), Alloc
     append_layout(bytes, value)
 }
 
-/// How many bytes an entry has that is kept as bytes. None where they do not say their own number.
+/// How many bytes an entry has that is kept as bytes. None if its length byte is not their number.
 fn kept_size(bytes: &[u8]) -> Option<usize>
     ensures { MatchOption result (¬ IsEntry bytes.now)
         (λ size. IsEntry bytes.now × (size ≡ length bytes.now) × (size ≤ 255)) }
@@ -58,7 +58,7 @@ fn kept_size(bytes: &[u8]) -> Option<usize>
     Some(bytes.len())
 }
 
-/// Whether an entry's type is none of a MADT's.
+/// Whether an entry's type has no meaning in a MADT.
 fn is_other_madt(entry: &[u8]) -> bool
     requires { IsEntry entry.now }
     ensures { IsTrue result ↔ (¬ IsTypeOf madt_kinds (slice_index entry.now 0)) }
@@ -74,7 +74,7 @@ fn is_other_madt(entry: &[u8]) -> bool
         && number != X2apicNmi::TYPE
 }
 
-/// Whether an entry's type is none of an SRAT's.
+/// Whether an entry's type has no meaning in an SRAT.
 fn is_other_srat(entry: &[u8]) -> bool
     requires { IsEntry entry.now }
     ensures { IsTrue result ↔ (¬ IsTypeOf srat_kinds (slice_index entry.now 0)) }
@@ -83,7 +83,7 @@ fn is_other_srat(entry: &[u8]) -> bool
     number != ApicDomain::TYPE && number != MemoryRange::TYPE && number != X2apicDomain::TYPE
 }
 
-/// Whether an entry's type is none of a PPTT's.
+/// Whether an entry's type has no meaning in a PPTT.
 fn is_other_pptt(entry: &[u8]) -> bool
     requires { IsEntry entry.now }
     ensures { IsTrue result ↔ (2 ≤ slice_index entry.now 0) }
@@ -91,7 +91,7 @@ fn is_other_pptt(entry: &[u8]) -> bool
     entry[0] > Cache24::TYPE
 }
 
-/// How many bytes a node has. None where it does not have 4 bytes for each of its references.
+/// How many bytes a node has. None if it does not have 4 bytes for each of its references.
 #[tactic(auto, using(crate::proofs::EntryBytes::NodeBytes::node_sizes))]
 fn node_size(head: &NodeHead, references: &[u8]) -> Option<usize>
     ensures { MatchOption result (length references.now ≢ 4 * head.now.count)
@@ -128,10 +128,10 @@ pub(crate) trait EntryBytes {
     /// Its bytes.
     ghost spelled: { Self → List ℕ };
 
-    /// The bytes are an entry that says it.
+    /// The bytes encode it.
     ghost said_by: { Self → List ℕ → Type 0 };
 
-    /// How many bytes it has. None where there are none for it.
+    /// How many bytes it has. None if there are none for it.
     fn size(&self) -> Option<usize>
         ensures { MatchOption result (¬ shaped self.now)
             (λ size. shaped self.now × (size ≡ length (spelled self.now)) × (size ≤ 255)) };
@@ -255,7 +255,7 @@ impl<'a> EntryBytes for PpttEntry<'a> {
     }
 }
 
-/// How many bytes the entries have together. None where there are none for one of them.
+/// How many bytes the entries have together. None if there are none for one of them.
 #[tactic(auto, using(crate::proofs::EntryBytes::EntryLists::entry_lists))]
 pub(crate) fn sizes<E: EntryBytes>(entries: &[E]) -> Option<u128>
     ensures { MatchOption result (¬ All E.shaped entries.now)

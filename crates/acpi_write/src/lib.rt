@@ -1,15 +1,16 @@
-//! What ACPI tables say, and their bytes: the value of a clean set, tables written from what they say, and whole sets built
-//! anew.
+//! The contents of ACPI tables, and their bytes: the value of a clean set, tables written from their contents, and
+//! complete sets rebuilt at another address.
 //!
-//! - `values`: what a clean set says, apart from where its parts stand, or the first fault of a set that is not clean.
-//! - `TableValue`: what a table says: one of a `TableKind` by its contents, the FADT by its bytes behind the header, and
-//!   any other table by all its bytes.
-//! - `encode_table`: the bytes of a table that says a value, with the checksum that makes them sum to 0.
-//! - `rebuild`: the set of an image built anew from a base address on, or why it cannot be.
-//! - `laws`: what holds of the definitions: bytes say at most one value of a kind, a table that is read and written again
-//!   has the same contents, and a clean set says one value.
+//! - `values`: the contents of a clean set, without the addresses of its parts, or the first fault of a set that is
+//!   not clean.
+//! - `TableValue`: the contents of a table: of a `TableKind` by its contents, the FADT by its bytes after the header,
+//!   and any other table by all its bytes.
+//! - `encode_table`: the bytes of a table with a value, with the checksum that makes them sum to 0.
+//! - `rebuild`: the set of an image rebuilt at a base address, or why it cannot be.
+//! - `laws`: what holds for the definitions: bytes encode at most one value of a kind, a table that is read and
+//!   written again has the same contents, and a clean set has one value.
 //!
-//! An example, of `crates/acpi_cli/src/rebuild.rt`:
+//! An example, from `crates/acpi_cli/src/rebuild.rt`:
 //!
 //! ```rust
 //! let rebuilt = rebuild(alloc, &image, policy, base);

@@ -1,4 +1,4 @@
-//! Where the parts of a rebuilt set stand.
+//! The addresses of the parts of a rebuilt set.
 
 ghost use Rattle.std.specs.Prelude.{◌≡◌, ◌+◌, ◌*◌, ◌++◌, ◌<◌, ◌^◌, ◌%◌, ◌⊎◌, length, map, IfOk, IfErr, OnOk};
 ghost use Rattle.std.specs.List.{All, list_any};
@@ -63,17 +63,17 @@ impl From<ValuesFault> for RebuildFault {
     }
 }
 
-/// How many bytes the table has that is written for the value.
+/// How many bytes the table for the value has.
 fn written_length(table: &TableValue<'_>) -> u64
     requires shaped { IsShaped table.now }
     requires short { IsShort table.now }
     ensures length { result ≡ encoded_length (table_value table.now) }
 {
-    // There is one for a value that is shaped.
+    // There is one for a value that has the right shape.
     size_of(table).unwrap_or(0) as u64
 }
 
-/// Appends how many bytes each table has.
+/// Appends the length of each table in bytes.
 fn append_lengths(lengths: &mut Vec<u64>, tables: &[TableValue<'_>]) -> Result<(), AllocError>
     requires shaped { All IsShaped tables.now }
     requires short { All IsShort tables.now }
@@ -86,8 +86,8 @@ fn append_lengths(lengths: &mut Vec<u64>, tables: &[TableValue<'_>]) -> Result<(
     Ok(())
 }
 
-/// Where blocks of these lengths begin that stand from a base address on, each at the next multiple of 64. Refuses
-/// `PastEnd`, where one would pass the last address, and `Memory`.
+/// Where blocks of these lengths begin that are placed from a base address on, each at the next multiple of 64.
+/// Refuses with `PastEnd` if one would pass the last address, and with `Memory`.
 fn places_of(alloc: Global, base: u64, lengths: &[u64]) -> Result<Vec<u64>, RebuildFault>
     requires { All (λ n. 0 < n) lengths.now }
     ensures places { IfOk result (λ found. found.items ≡ block_places base lengths.now) }
@@ -110,14 +110,15 @@ fn places_of(alloc: Global, base: u64, lengths: &[u64]) -> Result<Vec<u64>, Rebu
     Ok(found)
 }
 
-/// How many bytes an XSDT has that lists so many tables (ACPI 6.5, 5.2.8).
+/// The length in bytes of an XSDT that lists this many tables (ACPI 6.5, 5.2.8).
 fn xsdt_length(tables: usize) -> u128
     ensures { result ≡ 36 + 8 * tables }
 {
     Header::LEN as u128 + u128::from(Root::XSDT_SLOT) * tables as u128
 }
 
-/// How many bytes each part of a set has: the RSDP, the XSDT, the FACS if there is one, the tables in their order.
+/// The length in bytes of each part of a set: the RSDP, the XSDT, the FACS if there is one, the tables in their
+/// order.
 fn lengths_of(alloc: Global, value: &SetValue<'_>) -> Result<Vec<u64>, AllocError>
     requires shaped { All IsShaped value.now.tables.items }
     requires short { All IsShort value.now.tables.items }
@@ -144,7 +145,7 @@ fn is_narrow(table: &TableValue<'_>) -> bool
     }
 }
 
-/// Whether one of the tables is.
+/// Whether any table is a FADT too short for X_FIRMWARE_CTRL.
 #[tactic(auto, using(crate::proofs::SetParts::PartLengths::narrow_tables))]
 fn is_one_narrow(tables: &[TableValue<'_>]) -> bool
     ensures { result ≡ list_any is_narrow (map table_value tables.now) }
@@ -157,10 +158,10 @@ fn is_one_narrow(tables: &[TableValue<'_>]) -> bool
     false
 }
 
-/// Where the parts of a set stand that is rebuilt at a base address, a multiple of 64. Every place is found before
-/// anything is written.
+/// The addresses of the parts of a set that is rebuilt at a base address, a multiple of 64. All addresses are
+/// computed before anything is written.
 ///
-/// Refuses, in this order: `TableTooLong`, `PastEnd`, `NeedsLow`; save that `Memory` may come in the place of any.
+/// Refuses, in this order: `TableTooLong`, `PastEnd`, `NeedsLow`; `Memory` may be returned instead of any.
 pub(crate) fn placed(
     alloc: Global,
     value: &SetValue<'_>,
@@ -180,7 +181,7 @@ pub(crate) fn placed(
     }
     let lengths = lengths_of(alloc, value)?;
     let found = places_of(alloc, base, &lengths)?;
-    // Behind the RSDP and the XSDT the FACS is the third part.
+    // After the RSDP and the XSDT the FACS is the third part.
     if value.facs.is_some() && found[2] >= 1 << 32 && is_one_narrow(&value.tables) {
         return Err(RebuildFault::NeedsLow);
     }

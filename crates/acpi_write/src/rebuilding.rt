@@ -16,21 +16,19 @@ use crate::set_writing::written_set;
 use acpi_base::{Image, Policy};
 use std::alloc::Global;
 
-/// Builds the set of an image anew, from the address `base` on: the RSDP at `base`, behind it the XSDT, the FACS if there is
-/// one, and the listed tables in the order of their slots, each part at the least multiple of 64 not below the end of the one
-/// before. The new image holds nothing else. It is clean under the same policy with `base` as the RSDP's address. The law
-/// `rebuilt_sets_are_kept` states that it also says what the old set says, and is rebuilt at `base` to itself; its premise that
-/// an image's numbers fit is what `Image::numbers_fit` states.
+/// Rebuilds the set of an image at the address `base`: the RSDP at `base`, after it the XSDT, the FACS if there is
+/// one, and the listed tables in the order of their slots, each part at the lowest multiple of 64 not below the end
+/// of the one before. The new image has nothing else. It is clean under the same policy with `base` as the RSDP's
+/// address. The law `rebuilt_sets_are_kept` states that it also has the same contents as the old set, and that
+/// rebuilding it at `base` gives the same image; its premise that an image's numbers fit is what `Image::numbers_fit`
+/// states.
 ///
-/// Refuses, in this order:
-/// `Unaligned`, where the base address is not a multiple of 64;
-/// `NotClean`, where the set is not clean under the policy, with its first fault, which is that of `check`;
-/// `TableTooLong`, where the XSDT would have more than 4,294,967,295 bytes;
-/// `PastEnd`, where a part would pass the address 2^64 - 1;
-/// `NeedsLow`, where the FADT has fewer than 140 bytes and the FACS would stand at 2^32 or above;
-/// `Memory`, where the allocator is out of memory, which may come in the place of any but `Unaligned`, and only where the
-/// stages up to the MADT's hold, which take none.
-/// By the law `refused_sets_are_not_rebuilt` none of them but `Memory` stands beside a rebuilt image.
+/// Refuses, in this order: `Unaligned` if the base address is not a multiple of 64; `NotClean` if the set is not
+/// clean under the policy, with its first fault, which is that of `check`; `TableTooLong` if the XSDT would have more
+/// than 4,294,967,295 bytes; `PastEnd` if a part would pass the address 2^64 - 1; `NeedsLow` if the FADT has fewer
+/// than 140 bytes and the FACS would be at 2^32 or above; `Memory` if the allocator is out of memory, which may be
+/// returned instead of any but `Unaligned`, and only if the stages up to the MADT's hold, since these allocate
+/// nothing. By the law `refused_sets_are_not_rebuilt` none of them but `Memory` applies if there is a rebuilt image.
 pub fn rebuild(
     alloc: Global,
     image: &Image,
@@ -47,7 +45,7 @@ pub fn rebuild(
     }
     let value = values(alloc, image, policy)?;
     let places = placed(alloc, &value, base)?;
-    // What the proof needs: the three calls that return nothing do nothing when they run.
+    // For the proof: the three calls that return nothing do nothing at run time.
     image.numbers_fit();
     rebuilt_sets_are_kept();
     let new = written_set(alloc, &value, base, &places)?;

@@ -8,7 +8,7 @@ use acpi_base::sum;
 use acpi_read::Rsdp;
 use std::alloc::{AllocError, Global};
 
-/// The byte that makes the sum 0 of bytes that hold 0 in its place.
+/// The byte that makes the sum of the bytes 0, if they have 0 in its place.
 fn checksum_of(bytes: &[u8]) -> u8
     ensures { result ≡ checksum_of bytes.now }
 {
@@ -28,7 +28,7 @@ fn rsdp_head(alloc: Global, oemid: [u8; 6], checksum: u8) -> Result<Vec<u8>, All
     Ok(bytes)
 }
 
-/// The head, and behind it the 16 bytes that name the XSDT, with this extended checksum.
+/// The head, followed by the 16 bytes that name the XSDT, with this extended checksum.
 fn with_tail(alloc: Global, head: &[u8], xsdt: u64, checksum: u8) -> Result<Vec<u8>, AllocError>
     ensures { IfOk result (λ bytes. bytes.items ≡ head.now ++ rsdp_tail xsdt checksum) }
 {

@@ -15,12 +15,13 @@ use acpi_base::{Image, Policy};
 use acpi_check::check_set;
 use std::alloc::Global;
 
-/// What the set of an image says, where it is clean under the policy: the RSDP's OEMID, the root's header, each listed
-/// table and the FACS. `encode_table` writes each table of the value: it refuses none of them with `Shape` or `TooLong`.
+/// The contents of the set of an image, if it is clean under the policy: the RSDP's OEMID, the root table's header,
+/// each listed table and the FACS. `encode_table` can write each table of the value: it refuses none of them with
+/// `Shape` or `TooLong`.
 ///
-/// Refuses, in this order:
-/// `NotClean`, memory aside exactly where the set is not clean, with its first fault, which is that of `check`;
-/// `Memory`, where the allocator is out of memory: only where the stages up to the MADT's hold, which take none.
+/// Refuses, in this order: `NotClean` exactly when the set is not clean, unless memory runs out, with its first
+/// fault, which is that of `check`; `Memory` if the allocator is out of memory: only if the stages up to the MADT's
+/// hold, since these allocate nothing.
 pub fn values<'a>(
     alloc: Global,
     image: &'a Image,

@@ -1,4 +1,4 @@
-//! What sets of tables say.
+//! The contents of sets of tables.
 
 ghost use Rattle.std.specs.Prelude.{◌≡◌};
 
@@ -8,21 +8,21 @@ use acpi_check::Refusal;
 use std::alloc::AllocError;
 use thiserror::Error;
 
-/// What a set of tables says, apart from where its parts stand.
+/// The contents of a set of tables, without the addresses of its parts.
 #[derive(Debug, Drop)]
 pub struct SetValue<'a> {
-    /// The RSDP's: six characters that identify the OEM (ACPI 6.5, 5.2.5.3).
+    /// The OEMID of the RSDP: six characters that identify the OEM (ACPI 6.5, 5.2.5.3).
     pub oemid: [u8; 6],
-    /// What the header of the root says, an RSDT or an XSDT.
+    /// The header of the root table, an RSDT or an XSDT.
     pub root: Head,
-    /// The listed tables, in the order of their slots; a slot that holds 0 lists none. The first table of each
-    /// `TableKind` is read by its contents. Any other table, also a later one with such a signature, is `Other`.
+    /// The listed tables, in the order of their slots; a slot that is 0 lists none. The first table of each
+    /// `TableKind` is read by its contents. Any other table, even a later one with such a signature, is `Other`.
     pub tables: Vec<TableValue<'a>>,
-    /// The bytes of the FACS, where the FADT names one (5.2.10). The FADT's own addresses of it are 0 here.
+    /// The bytes of the FACS, if the FADT names one (5.2.10). The FADT's own addresses of it are 0 here.
     pub facs: Option<&'a [u8]>,
 }
 
-/// Why there is no value of a set.
+/// Why a set has no value.
 #[derive(Clone, Copy, Debug, PartialEq, Eq, Error)]
 pub enum ValuesFault {
     /// The set is not clean; this is its first fault.

@@ -18,7 +18,7 @@ use crate::xsdt_writing::xsdt_bytes;
 use acpi_base::{Image, ImageFault};
 use std::alloc::{AllocError, Global};
 
-/// The bytes of a table in a set whose FACS stands at this address, which is 0 where there is none.
+/// The bytes of a table in a set whose FACS is at this address, which is 0 if there is none.
 fn bytes_with(alloc: Global, table: &TableValue<'_>, facs: u64) -> Result<Vec<u8>, AllocError>
     requires shaped { IsShaped table.now }
     requires short { IsShort table.now }
@@ -37,22 +37,21 @@ fn bytes_with(alloc: Global, table: &TableValue<'_>, facs: u64) -> Result<Vec<u8
     }
 }
 
-/// Adds the bytes of a part from its place on, behind all that the image holds.
+/// Adds the bytes of a part at its address, after everything that the image has.
 fn put(image: &mut Image, place: u64, bytes: &[u8]) -> Result<(), AllocError>
     requires behind { EndsBelow image.old place }
     requires inside { place + length bytes.now ≤ 2 ^ 64 }
     ensures { OnOk result (image.new ≡ with_bytes image.old place bytes.now) }
 {
     if let Err(fault) = image.add(place, bytes) {
-        // The part ends inside, and meets none that is there.
+        // The part ends below 2^64, and overlaps nothing that is present.
         prove!(matches!(fault, ImageFault::Memory));
         return Err(AllocError);
     }
     Ok(())
 }
 
-/// The bytes of the k-th part of a set: of the RSDP, of the XSDT, of the FACS where there is one, or
-/// of a table.
+/// The bytes of the k-th part of a set: the RSDP, the XSDT, the FACS if there is one, or a table.
 fn part(
     alloc: Global,
     value: &SetValue<'_>,
@@ -84,8 +83,8 @@ fn part(
     bytes_with(alloc, &value.tables[k - 3], places[2])
 }
 
-/// The image that holds the parts of a set at their places, the first of which is the base address, and nothing else.
-/// The bytes of one part at a time are kept beside the image.
+/// The image that has the parts of a set at their addresses, the first of which is the base address, and nothing
+/// else. The bytes of only one part at a time are kept beside the image.
 pub(crate) fn written_set(
     alloc: Global,
     value: &SetValue<'_>,

@@ -1,4 +1,4 @@
-//! What listed tables say.
+//! The contents of listed tables.
 
 ghost use Rattle.std.specs.Prelude.{◌≡◌, ◌≤◌, ℕ, List, length, map, Some, IfOk};
 ghost use Rattle.std.specs.List.{All, AllZip};
@@ -25,7 +25,7 @@ use acpi_read::{
 };
 use std::alloc::{AllocError, Global};
 
-/// What a header says beside its signature, its length and its checksum.
+/// The contents of a header, except its signature, its length and its checksum.
 pub(crate) fn head_in(header: Header) -> Head
     ensures { (bytes : List ℕ) → header_value header ≡ header_of bytes
         → head_value result ≡ head_of bytes }
@@ -42,7 +42,7 @@ pub(crate) fn head_in(header: Header) -> Head
     }
 }
 
-/// The tables that a set lists, in the order of its slots. A slot that holds 0 lists nothing.
+/// The tables that a set lists, in the order of its slots. A slot that is 0 lists nothing.
 pub(crate) fn listed_tables<'a>(
     alloc: Global,
     set: &ListedSet<'a>,
@@ -60,7 +60,7 @@ pub(crate) fn listed_tables<'a>(
     Ok(found)
 }
 
-/// What entries say, in their order.
+/// The contents of entries, in their order.
 fn entry_list<'a, E: TableEntry<'a> + Drop>(
     alloc: Global,
     entries: TypedEntries<'a, E>,
@@ -77,7 +77,7 @@ fn entry_list<'a, E: TableEntry<'a> + Drop>(
     Ok(found)
 }
 
-/// What a FADT says.
+/// The contents of a FADT.
 fn read_fadt<'a>(alloc: Global, table: &Table<'a>) -> Result<TableValue<'a>, AllocError>
     requires { 116 ≤ length table.now }
     ensures value { IfOk result
@@ -90,7 +90,7 @@ fn read_fadt<'a>(alloc: Global, table: &Table<'a>) -> Result<TableValue<'a>, All
     Ok(TableValue::Fadt { head, body })
 }
 
-/// What a MADT says that entries fill, each of a length of its type.
+/// The contents of a MADT that entries fill, each of a length of its type.
 fn read_madt<'a>(alloc: Global, madt: &Madt<'a>) -> Result<TableValue<'a>, AllocError>
     requires { IsFilledMadt madt.now }
     ensures value { IfOk result
@@ -109,7 +109,7 @@ fn read_madt<'a>(alloc: Global, madt: &Madt<'a>) -> Result<TableValue<'a>, Alloc
     })
 }
 
-/// What an SRAT says that entries fill, each of a length of its type.
+/// The contents of an SRAT that entries fill, each of a length of its type.
 fn read_srat<'a>(alloc: Global, srat: &Srat<'a>) -> Result<TableValue<'a>, AllocError>
     requires { IsFilledSrat srat.now }
     ensures value { IfOk result
@@ -121,7 +121,7 @@ fn read_srat<'a>(alloc: Global, srat: &Srat<'a>) -> Result<TableValue<'a>, Alloc
     Ok(TableValue::Srat { head, entries })
 }
 
-/// What a PPTT says that entries fill, each of a length of its type.
+/// The contents of a PPTT that entries fill, each of a length of its type.
 fn read_pptt<'a>(alloc: Global, pptt: &Pptt<'a>) -> Result<TableValue<'a>, AllocError>
     requires { IsFilledPptt pptt.now }
     ensures value { IfOk result
@@ -133,7 +133,7 @@ fn read_pptt<'a>(alloc: Global, pptt: &Pptt<'a>) -> Result<TableValue<'a>, Alloc
     Ok(TableValue::Pptt { head, entries })
 }
 
-/// What a table says as one of a kind.
+/// The contents of a table as one of a kind.
 fn known_value<'a>(
     alloc: Global,
     table: &Table<'a>,
@@ -159,7 +159,7 @@ fn known_value<'a>(
     }
 }
 
-/// What a table says as one of a kind, or by its bytes alone.
+/// The contents of a table as one of a kind, or its bytes alone.
 fn value_as<'a>(
     alloc: Global,
     table: &Table<'a>,
@@ -178,7 +178,7 @@ fn value_as<'a>(
     }
 }
 
-/// What tables say, in their order: the first of each kind by its contents, all others by their bytes.
+/// The contents of tables, in their order: the first of each kind by its contents, all others by their bytes.
 pub(crate) fn table_values<'a>(
     alloc: Global,
     tables: &[Listed<'a>],

@@ -1,8 +1,8 @@
-//! What tables say.
+//! The contents of tables.
 
 use acpi_read::{MadtEntry, PpttEntry, SratEntry};
 
-/// What a table's header says beside its signature, its length and its checksum (ACPI 6.5, 5.2.6).
+/// The contents of a table's header, except its signature, its length and its checksum (ACPI 6.5, 5.2.6).
 #[derive(Clone, Copy, Debug, PartialEq, Eq)]
 pub struct Head {
     /// At 8: the revision of the table's layout.
@@ -19,7 +19,7 @@ pub struct Head {
     pub creator_revision: u32,
 }
 
-/// What a table says.
+/// The contents of a table.
 #[derive(Debug, Drop)]
 pub enum TableValue<'a> {
     /// The MADT (ACPI 6.5, 5.2.12).
@@ -27,7 +27,7 @@ pub enum TableValue<'a> {
         head: Head,
         /// At 36: the local APICs' physical address.
         address: u32,
-        /// At 40.
+        /// At 40: Flags.
         flags: u32,
         /// From 44 on, in order.
         entries: Vec<MadtEntry<'a>>,
@@ -60,7 +60,7 @@ pub enum TableValue<'a> {
     },
     /// Any other table.
     Other {
-        /// All its bytes, header and all, which sum to 0.
+        /// All its bytes, with the header, which sum to 0.
         bytes: &'a [u8],
     },
 }

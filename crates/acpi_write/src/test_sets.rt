@@ -11,10 +11,10 @@ fn checksum(sum: u8) -> u8 {
     0u8.wrapping_sub(sum)
 }
 
-/// A header whose names are all `A`, of revision 1, whose signature, length and checksum are 0.
+/// A header of revision 1 whose names are all `A`, and whose signature, length and checksum are 0.
 const HEADER: [u8; 36] = *b"\0\0\0\0\0\0\0\0\x01\0AAAAAAAAAAAAAA\x01\0\0\0AAAA\x01\0\0\0";
 
-/// The header of a table of this signature, with this body behind it.
+/// The header of a table with this signature and this body.
 pub(crate) fn header_before(body: &[u8], signature: [u8; 4]) -> [u8; 36]
     requires { 36 + length body.now < 2 ^ 32 }
 {
@@ -33,7 +33,7 @@ fn rsdp(rsdt: u32) -> [u8; 20] {
     bytes
 }
 
-/// An RSDP of revision 2 that names this XSDT and no RSDT. Its first 20 bytes have a checksum of their own.
+/// An RSDP of revision 2 that names this XSDT and no RSDT. Its first 20 bytes have their own checksum.
 pub(crate) fn extended_rsdp(xsdt: u64) -> [u8; 36] {
     let mut bytes = *b"RSD PTR \0AAAAAA\x02\0\0\0\0\x24\0\0\0\0\0\0\0\0\0\0\0\0\0\0\0";
     put_u64(&mut bytes, 24, xsdt);
@@ -52,7 +52,7 @@ pub(crate) fn fadt_body(facs: u32, lengths: [u8; 4], flags: u32) -> [u8; 80] {
     body
 }
 
-/// The body of a FADT that says reduced hardware, and so names no FACS.
+/// The body of a FADT with reduced hardware, which names no FACS.
 pub(crate) fn reduced_body() -> [u8; 80] {
     fadt_body(0, [0; 4], 1 << 20)
 }
@@ -66,7 +66,7 @@ pub(crate) fn facs() -> [u8; 64] {
     bytes
 }
 
-/// An image with an RSDP at E0000h and an RSDT at 1000h, which lists a FADT of this body at 2000h.
+/// An image with an RSDP at 0xE0000 and an RSDT at 0x1000, which lists a FADT of this body at 0x2000.
 pub(crate) fn set(alloc: Global, body: &[u8; 80]) -> Result<Image, ImageFault> {
     let slots = 0x2000u32.to_le_bytes();
     let parts: [(u64, &[u8]); 5] = [

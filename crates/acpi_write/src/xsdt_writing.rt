@@ -22,7 +22,7 @@ fn slots(alloc: Global, addresses: &[u64]) -> Result<Vec<u8>, AllocError>
     Ok(bytes)
 }
 
-/// The bytes of an XSDT with this head that lists the addresses (ACPI 6.5, 5.2.8).
+/// The bytes of an XSDT with this head, which lists the addresses (ACPI 6.5, 5.2.8).
 #[tactic(auto, using(crate::proofs::NewSets::NewRoot::root_slots))]
 pub(crate) fn xsdt_bytes(
     alloc: Global,

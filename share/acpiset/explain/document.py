@@ -58,7 +58,7 @@ class Document:
         return self.codes.get(text) or next((part for part in self.codes.values() if part.name == text), None)
 
     def line(self, text):
-        """The line that a text is, a fault also without its `no`; None where acpiset writes no such line."""
+        """The line that a text is, a fault also without its `no`; None if acpiset writes no such line."""
         fault, advice = FAULT.fullmatch(text), ADVICE.fullmatch(text)
         if fault:
             part = self.named(fault[2])

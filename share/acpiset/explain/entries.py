@@ -65,7 +65,7 @@ def length(report, table, at):
 
 
 def served(report, io_apic):
-    """The first interrupt number that an I/O APIC serves, and the first one behind those that it serves."""
+    """The first interrupt number that an I/O APIC serves, and the first one after those that it serves."""
     base = io_apic.fields["base"]
     return base, base + report.settings.inputs(io_apic.fields["address"])
 

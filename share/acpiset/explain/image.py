@@ -12,7 +12,7 @@ LONGEST_LINE = 65_536
 ADDRESSES = 2**64
 ALLOWED = b"@0123456789ABCDEFabcdef \t\r\n"
 COMMENT = re.compile(rb"#[^\n]*")
-PIECE = re.compile("@([0-9A-Fa-f]{1,16})[ \\t]*\\r?(?:\\n|\\Z)([^@]*)")
+ADDRESS = re.compile("[0-9A-Fa-f]{1,16}[ \\t]*\\r?")
 RSDP = re.compile(rb"RSD PTR ")
 LINE = re.compile(rb"[ \t]*(?:@[0-9A-Fa-f]{1,16}[ \t]*|(?:[0-9A-Fa-f]{2}[ \t]*)*)(?:#[^\n]*|\r)?\n?")
 
@@ -27,7 +27,7 @@ class Image:
         self.store = store
 
     def part(self, address, size):
-        """The bytes from an address on, up to the first one that is not in the image, and at most so many."""
+        """The bytes from an address on, up to the first one that is not in the image, and at most this many."""
         run = bisect_right(self.starts, address) - 1
         if run < 0:
             return b""
@@ -38,7 +38,7 @@ class Image:
         return len(self.part(address, size)) == size
 
     def number(self, address, size):
-        """A little-endian number, or None where one of its bytes is not in the image."""
+        """A little-endian number, or None if one of its bytes is not in the image."""
         part = self.part(address, size)
         return int.from_bytes(part, "little") if len(part) == size else None
 
@@ -46,9 +46,10 @@ class Image:
         """The addresses of 20 bytes that begin as an RSDP does and have a right checksum, in order."""
         for found in RSDP.finditer(self.store):
             at = found.start()
+            if sum(self.store[at : at + 20]) % 256:
+                continue
             run = bisect_right(self.offsets, at) - 1
-            is_right = self.offsets[run + 1] - at >= 20 and sum(self.store[at : at + 20]) % 256 == 0
-            if is_right:
+            if self.offsets[run + 1] - at >= 20:
                 yield self.starts[run] + at - self.offsets[run]
 
 
@@ -65,50 +66,50 @@ def read(text):
 
 
 def pieces_of(text):
-    """The addresses of the pieces that a text has, and their bytes; None where a line is bad or bytes have no address."""
+    """The addresses of the pieces that a text has, and their bytes; None if a line is bad or bytes have no address."""
     rows = bare(text)
     if rows is None:
         return None
-    done = rows.find("@") if "@" in rows else len(rows)
-    if rows[:done].strip():
+    before, *pieces = rows.split("@")
+    if before.strip() or not ends_a_line("\n" + before):
         return None
     starts, parts = [], []
     try:
-        for piece in PIECE.finditer(rows, done):
-            if piece.start() != done or not (done == 0 or rows[done - 1] == "\n" or is_first_of_line(rows, done)):
+        for number, piece in enumerate(pieces, 1):
+            address, _, row = piece.partition("\n")
+            if not ADDRESS.fullmatch(address) or number < len(pieces) and piece[-1] != "\n" and not ends_a_line(piece):
                 return None
-            part = bytes.fromhex(piece[2])
+            part = bytes.fromhex(row)
             if part:
-                starts.append(int(piece[1], 16))
+                starts.append(int(address, 16))
                 parts.append(part)
-            done = piece.end()
     except ValueError:
         return None
-    return (starts, parts) if done == len(rows) else None
+    return starts, parts
 
 
 def bare(text):
-    """A text without its comments, or None where it has other characters than rows and addresses, or a CR not before an LF."""
+    """A text without its comments, or None if it has other characters than rows and addresses, or a CR not before an LF."""
     rows = COMMENT.sub(b"#", text) if b"#" in text else text
     has_stray_return = rows.count(b"\r") - rows.endswith(b"\r") != rows.count(b"\r\n")
     rows = rows.replace(b"#", b"")
     return None if has_stray_return or rows.translate(None, ALLOWED) else rows.decode()
 
 
-def is_first_of_line(rows, at):
-    """Whether there are only blanks before this on its line."""
-    return not rows[rows.rfind("\n", 0, at) + 1 : at].strip(" \t")
+def ends_a_line(rows):
+    """Whether there are only blanks after the last line feed, and there is one."""
+    return "\n" in rows and not rows[rows.rfind("\n") + 1 :].strip(" \t")
 
 
 def laid_out(text, starts, parts):
     """The image of some pieces: in the order of their addresses, and those that touch joined."""
     order = sorted(range(len(starts)), key=starts.__getitem__)
+    parts = [parts[piece] for piece in order]
     runs, offsets, end, at = array("Q"), array("Q"), -1, 0
-    for piece in order:
-        start, size = starts[piece], len(parts[piece])
-        if start < end:
-            raise refusal(f"address {start:#x} is given twice")
+    for start, size in zip([starts[piece] for piece in order], map(len, parts)):
         if start != end:
+            if start < end:
+                raise refusal(f"address {start:#x} is given twice")
             runs.append(start)
             offsets.append(at)
         at += size
@@ -116,7 +117,7 @@ def laid_out(text, starts, parts):
     if end > ADDRESSES:
         raise refusal(f"bytes go past the last address, {ADDRESSES - 1:#x}")
     offsets.append(at)
-    return Image(text, runs, offsets, b"".join([parts[piece] for piece in order]))
+    return Image(text, runs, offsets, b"".join(parts))
 
 
 def bad_line(text):

@@ -22,7 +22,7 @@ class Program:
         self.answers = {}
 
     def asked(self, *words):
-        """What a command writes, or None where it gives no verdict. Each is run once."""
+        """What a command writes, or None if it gives no verdict. Each is run once."""
         if words not in self.answers:
             self.answers[words] = self.ran([self.path, *words, *self.settings.words()])
         return self.answers[words]

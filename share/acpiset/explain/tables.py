@@ -147,7 +147,7 @@ class Table:
         return offset < len(self.marks()) and self.marks()[offset] == 1
 
     def structure(self, offset):
-        """The structure at an offset, or None where none begins."""
+        """The structure at an offset, or None if none begins."""
         if not self.begins(offset):
             return None
         return Structure(self.signature, offset, self.data[offset : offset + self.data[offset + 1]])
@@ -212,7 +212,7 @@ class Tables:
         self.slots = [int.from_bytes(data[at : at + self.width], "little") for at in range(0, whole, self.width)]
 
     def signature(self, address):
-        """The signature of the table at an address, or None where its header is not in the image."""
+        """The signature of the table at an address, or None if its header is not in the image."""
         if address not in self.signatures:
             head = self.image.part(address, 36)
             self.signatures[address] = signature_of(head) if len(head) == 36 else None

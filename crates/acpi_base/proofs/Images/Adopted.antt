@@ -1,10 +1,9 @@
 -- Pieces whose bytes lie in a store as they do in an image.
-use Rattle.std.proofs.Common.{◌≡◌, inl, inr, ℕ, ◌+◌, ◌-◌, ◌^◌, ◌<◌, ◌≤◌, List, [], ◌∷◌, length, get_or, take, drop, subst, sym, ap, ◌∙◌, arith, length-drop}
+use Rattle.std.proofs.Common.{◌≡◌, inl, inr, ℕ, ◌+◌, ◌-◌, ◌<◌, ◌≤◌, List, [], ◌∷◌, length, get_or, take, drop, subst, sym, ap, ◌∙◌, arith, length-drop}
 use Rattle.std.specs.List.{AllByRecursion}
-use Rattle.std.specs.FinMap.{empty}
 use Rattle.std.proofs.lemmas.Bool.{cases_lt}
 use Rattle.std.proofs.lemmas.List.{drop_more, get_or-drop, get_or-take, get_or_past, length-take}
-use Rattle.acpi_base.specs.Memory.{Memory, IsImage}
+use Rattle.acpi_base.specs.Memory.{IsImage}
 use Rattle.acpi_base.specs.Image.Runs.{memory_of}
 use Rattle.acpi_base.specs.Image.Pieces.{Piece, LiesBefore, end_at, runs_in}
 use Rattle.acpi_base.specs.Image.Builder.{ArePiecesWithRoom}

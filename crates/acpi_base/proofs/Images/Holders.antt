@@ -85,7 +85,7 @@ pub holder_count-push : (ps : List Piece) (p : Piece) (x : ℕ)
 holder_count-push [] p x = omega arith
 holder_count-push (q ∷ ps) p x = omega (arith, holder_count-push ps p x)
 
-all_push : (P : Piece → Type 0) (ps : List Piece) (q : Piece) → AllByRecursion P ps → P q
+pub all_push : (P : Piece → Type 0) (ps : List Piece) (q : Piece) → AllByRecursion P ps → P q
     → AllByRecursion P (ps ++ q ∷ [])
 all_push P [] q all here = (here, tt)
 all_push P (p ∷ ps) q all here = (all.0, all_push P ps q all.1 here)
@@ -160,7 +160,7 @@ lookup-sum store n (p ∷ ps) x l lies once =
     second : (a b : Option ℕ) → a ≡ None → code a + code b ≡ code (option_or a b)
     second a b e = rw e (omega arith)
 
-all_permuted : (P : Piece → Type 0) (ps qs : List Piece) → IsPermutation ps qs → AllByRecursion P ps
+pub all_permuted : (P : Piece → Type 0) (ps qs : List Piece) → IsPermutation ps qs → AllByRecursion P ps
     → AllByRecursion P qs
 all_permuted P ps qs moved all = recursion_from_All P qs (All-permutation P ps qs moved (All-from_recursion P ps all))
 

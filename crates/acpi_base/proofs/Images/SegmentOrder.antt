@@ -78,7 +78,7 @@ all_pushed : (P : Piece → Type 0) (ps : List Piece) (q : Piece) → AllByRecur
 all_pushed P [] q all here = (here, tt)
 all_pushed P (p ∷ ps) q all here = (all.0, all_pushed P ps q all.1 here)
 
-apart_pushed : (ps : List Piece) (q : Piece) → AreSegmentsApart ps → AllByRecursion (λ p. end_at p < q.0) ps
+pub apart_pushed : (ps : List Piece) (q : Piece) → AreSegmentsApart ps → AllByRecursion (λ p. end_at p < q.0) ps
     → 0 < q.1.len → AreSegmentsApart (ps ++ q ∷ [])
 apart_pushed [] q apart below some = (some, tt, tt)
 apart_pushed (p ∷ ps) q apart below some =

@@ -1,18 +1,21 @@
 -- What `read_image` returns.
-use Rattle.std.proofs.Common.{◌≡◌, ◌⊎◌, inl, inr, List, ℕ, ◌+◌, ◌≤◌, [], ◌++◌, length, refl, sym, ap, ◌∙◌, arith, false, length-append}
+use Rattle.std.proofs.Common.{◌≡◌, ◌⊎◌, inl, inr, List, ℕ, ◌+◌, ◌≤◌, [], ◌++◌, length, take, refl, sym, subst, ap, ◌∙◌, arith, length-append}
 use Rattle.std.specs.Prelude.{Option, Result, Ok, Err, IfOk, IfErr, MatchResult}
 use Rattle.std.specs.Io.KnownBytes.{Consumes, IsAtEnd, Keeps}
 use Rattle.std.proofs.KnownBytes.{Consumes-trans, Consumes-kept}
-use Rattle.std.proofs.lemmas.Bool.Decides.{nat_tests}
+use Rattle.std.proofs.lemmas.List.{take-append-le}
 use Rattle.acpi_base.specs.Memory.{Memory}
-use Rattle.acpi_base.specs.Text.ImageText.{Reading, on_ok, read_lines, ended_lines_from, last_line_from, start, max_text, is_too_long, IsText, IsRefused, IsRefusedPrefix}
-use Rattle.acpi_base.specs.Text.TextMachine.{ReaderState, Going, Stopped, EndsAs, IsGoing, initial_state, run, text_result, prefix_result}
+use Rattle.acpi_base.specs.Text.ImageText.{max_text, IsText, IsRefused, IsRefusedPrefix}
+use Rattle.acpi_base.specs.Text.TextMachine.{ReaderState, Stopped, EndsAs, initial_state, run, text_result, prefix_result}
 use Rattle.acpi_base.specs.Text.TextReading.{IsRefusal, CountsRead}
-use Rattle.acpi_base.specs.Text.LineBuffers.{HasRead}
+use Rattle.acpi_base.specs.Text.LineBuffers.{HasRead, IsLineBuffer, byte_count, state_with}
+use Rattle.acpi_base.specs.declared.text.image_text.line_buffer.LineBuffer.{LineBuffer}
+use Rattle.acpi_base.proofs.Texts.LineBuffers.{short_bounds}
+use Rattle.acpi_base.specs.Text.Lines.{Refuses, reading_with, judged_by, told_by}
+use Rattle.acpi_base.specs.declared.text.image_text.line_parser.LineParser.{LineParser}
 use Rattle.acpi_base.specs.declared.text.TextFault.{TextFault}
 use Rattle.acpi_base.specs.declared.text.TextFault.TheVariants as text
-use Rattle.acpi_base.proofs.Texts.ByteMachine.{after, run_after, run_append, run_reads_text, run_reads_prefix, refused_where_stopped, prefix_is_decided}
-use Rattle.acpi_base.proofs.Texts.LineBuffers.{run_counts}
+use Rattle.acpi_base.proofs.Texts.ByteMachine.{run_append, run_reads_text, run_reads_prefix, refused_where_stopped, prefix_is_decided}
 use Rattle.acpi_base.proofs.Texts.OwnFaults.{refusals_are_own}
 
 -- ---- a text that is refused
@@ -75,22 +78,13 @@ more_brought before middle left old new count more all piece b consumed long is 
   stands = run_append initial_state b.text piece ∙ ap (λ s. run s piece) b.stands ∙ is;
 }
 
--- a machine that goes on has met no line that is too long
-after_going : (x : Result Reading TextFault) (first line : List ℕ) (r : Reading) → after x first ≡ Going r line
-    → is_too_long (length line) (r.through + length line) ≡ false
-after_going (Err fault) first line r e = absurd (cc)
-after_going (Ok s) first line r e = grind arith
-
--- while the machine goes on, no more than a text may have
-pub brought_fits : (before left : Option (List ℕ)) (standing : ReaderState) (count : ℕ)
-    → HasRead before left standing count → IsGoing standing → count ≤ max_text
-brought_fits before left (Going r line) count b go =
-    let counted = run_counts start r [] line b.text b.stands in
-    let short = after_going (on_ok (Ok start) (λ s. read_lines s (ended_lines_from [] b.text)))
-    (last_line_from [] b.text) line r (sym (run_after (Ok start) [] b.text) ∙ b.stands) in
-    let long = b.long in
-    grind (arith, nat_tests)
-brought_fits before left (Stopped fault) count b go = absurd go
+-- no more has come than a text may have
+pub brought_fits : (buffer : LineBuffer) (count : ℕ) → IsLineBuffer buffer → byte_count buffer ≡ count
+    → count ≤ max_text
+brought_fits buffer count sound counted =
+    let bounds = short_bounds (length buffer.line.items) (byte_count buffer) sound.short in
+    let fits = bounds.1 in
+    omega arith
 
 -- a fault that is no failed read leaves the count as it is
 same_count : (old new : ℕ) (fault : TextFault) → new ≡ old → (fault ≡ text.Read → ⊥) → CountsRead old new fault
@@ -111,39 +105,52 @@ HasReturned before left result =
     × MatchResult result (λ image. IsAtEnd left × IsText bytes image) (IsRefusal bytes left)
 
 -- what the reader has brought is the whole text
-judged : (left : Option (List ℕ)) (standing : ReaderState) (bytes : List ℕ) (result : Result Memory TextFault)
+is_judged : (left : Option (List ℕ)) (standing : ReaderState) (bytes : List ℕ) (result : Result Memory TextFault)
     → run initial_state bytes ≡ standing → IsAtEnd left
-    → IfOk result (EndsAs standing) → IfErr result (λ fault. (fault ≡ text.Memory) ⊎ (text_result standing ≡ Err fault))
+    → IfOk result (EndsAs standing) → IfErr result (Refuses (text_result standing))
     → MatchResult result (λ image. IsAtEnd left × IsText bytes image) (IsRefusal bytes left)
-judged left standing bytes (Ok image) is end ok err =
+is_judged left standing bytes (Ok image) is end ok err =
     (end, (ok.0, sym (run_reads_text bytes) ∙ ap text_result is ∙ ok.1, ok.2))
-judged left standing bytes (Err fault) is end ok (inl memory) = text_refused bytes left fault end (inl memory)
-judged left standing bytes (Err fault) is end ok (inr refused) =
-    text_refused bytes left fault end (inr (sym (run_reads_text bytes) ∙ ap text_result is ∙ refused))
+is_judged left standing bytes (Err fault) is end ok (inl memory) = text_refused bytes left fault end (inl memory)
+is_judged left standing bytes (Err fault) is end ok (inr refused) =
+    text_refused bytes left fault end (inr (sym (run_reads_text bytes) ∙ ap text_result is ∙ refused.0))
 
 pub returned_whole : (before middle left : Option (List ℕ)) (standing : ReaderState) (count : ℕ)
-    (result : Result Memory TextFault) → HasRead before middle standing count → IsGoing standing
+    (result : Result Memory TextFault) → HasRead before middle standing count → count ≤ max_text
     → Consumes middle left [] → IsAtEnd left → IfOk result (EndsAs standing)
-    → IfErr result (λ fault. (fault ≡ text.Memory) ⊎ (text_result standing ≡ Err fault))
+    → IfErr result (Refuses (text_result standing))
     → HasReturned before left result
 unfolding run
-returned_whole before middle left standing count result b go consumed end ok err =
+returned_whole before middle left standing count result b fits consumed end ok err =
     let all = more_brought before middle left standing standing count 0 count [] b consumed refl refl (omega arith) in
-    let fits = brought_fits before middle standing count b go in
     let long = all.long in
-    (all.text, all.consumed, omega arith, judged left standing all.text result all.stands end ok err)
+    (all.text, all.consumed, omega arith, is_judged left standing all.text result all.stands end ok err)
 
 -- no failed read is among what the end of a text is refused with
 pub count_whole : (before middle : Option (List ℕ)) (standing : ReaderState) (count old new : ℕ)
     (result : Result Memory TextFault) → HasRead before middle standing count → new ≡ old
-    → IfErr result (λ fault. (fault ≡ text.Memory) ⊎ (text_result standing ≡ Err fault))
+    → IfErr result (Refuses (text_result standing))
     → MatchResult result (λ _. new ≡ old) (CountsRead old new)
 count_whole before middle standing count old new (Ok image) b same err = same
 count_whole before middle standing count old new (Err fault) b same (inl memory) =
     same_count old new fault same (λ e. absurd (cc))
 count_whole before middle standing count old new (Err fault) b same (inr refused) =
     same_count old new fault same
-    (λ e. never_read b.text (sym (run_reads_text b.text) ∙ ap text_result b.stands ∙ refused ∙ ap Err e))
+    (λ e. never_read b.text (sym (run_reads_text b.text) ∙ ap text_result b.stands ∙ refused.0 ∙ ap Err e))
+
+-- the machine stops at what has come, of which the buffer has no more
+pub stopped_in_buffer : (standing : ReaderState) (count : ℕ) (buffer behind : List ℕ) (told fault : TextFault)
+    → count ≤ length buffer → fault ≡ told
+    → (told ≡ text.Memory) ⊎ (run standing (take count (buffer ++ behind)) ≡ Stopped told)
+    → (fault ≡ text.Memory) ⊎ (run standing (take count buffer) ≡ Stopped fault)
+stopped_in_buffer standing count buffer behind told fault bound same stopped =
+    subst
+    (λ (f : TextFault). (f ≡ text.Memory) ⊎ (run standing (take count buffer) ≡ Stopped f))
+    (sym same)
+    (subst
+    (λ (piece : List ℕ). (told ≡ text.Memory) ⊎ (run standing piece ≡ Stopped told))
+    (take-append-le count buffer behind bound)
+    stopped)
 
 -- the machine stops at what has come
 pub returned_fault : (before middle left : Option (List ℕ)) (standing : ReaderState) (count more : ℕ) (piece : List ℕ)
@@ -179,16 +186,22 @@ count_fault before middle left standing count old new piece fault b consumed sam
     same_count old new fault same
     (λ e. never_read (all.text ++ []) (prefix_is_decided all.text [] text.Read (refused ∙ ap Err e)))
 
--- a read has failed
-pub returned_read : (before middle left : Option (List ℕ)) (standing : ReaderState) (count : ℕ)
-    → HasRead before middle standing count → IsGoing standing → Keeps middle left
-    → HasReturned before left (Err text.Read)
-returned_read before middle left (Going r line) count b go keeps =
-    let fits = brought_fits before middle (Going r line) count b go in
+-- a read has failed: that is told, unless an address came twice before
+pub returned_read : (before middle left : Option (List ℕ)) (p : LineParser) (d : Result Memory ℕ) (line : List ℕ)
+    (count : ℕ) → HasRead before middle (state_with (judged_by p d) line) count → count ≤ max_text → Keeps middle left
+    → HasReturned before left (Err (told_by d text.Read))
+returned_read before middle left p (Ok m) line count b fits keeps =
     let long = b.long in (
       b.text,
       Consumes-kept before middle left b.text b.consumed keeps,
       omega arith,
-      (r, sym (run_reads_prefix b.text) ∙ ap prefix_result b.stands),
+      (reading_with p m, sym (run_reads_prefix b.text) ∙ ap prefix_result b.stands),
     )
-returned_read before middle left (Stopped fault) count b go keeps = absurd go
+returned_read before middle left p (Err address) line count b fits keeps =
+    let long = b.long in (
+      b.text,
+      Consumes-kept before middle left b.text b.consumed keeps,
+      omega arith,
+      prefix_refused b.text left (text.Twice address)
+          (inr (refused_where_stopped b.text (text.Twice address) b.stands)),
+    )

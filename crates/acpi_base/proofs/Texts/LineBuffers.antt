@@ -3,13 +3,18 @@ use Rattle.std.proofs.Common.{◌≡◌, ◌⊎◌, inl, inr, ℕ, zero, suc, �
 use Rattle.std.proofs.lemmas.Bool.{ne_eqb}
 use Rattle.std.proofs.lemmas.Bool.Decides.{nat_tests}
 use Rattle.std.proofs.lemmas.List.{append-nil}
-use Rattle.std.specs.Prelude.{Ok, Err}
-use Rattle.acpi_base.specs.Text.ImageText.{Reading, read_line, is_too_long, max_text, max_line}
-use Rattle.acpi_base.specs.Text.TextMachine.{ReaderState, Going, Stopped, step, run}
-use Rattle.acpi_base.specs.Text.Lines.{Refuses}
+use Rattle.std.specs.Prelude.{Result, Ok, Err, IfErr}
+use Rattle.std.specs.Result.{IsErrAnd}
+use Rattle.acpi_base.specs.Memory.{Memory}
+use Rattle.acpi_base.specs.Text.ImageText.{Reading, on_ok, read_line, is_too_long, max_text, max_line}
+use Rattle.acpi_base.specs.Text.TextMachine.{Going, Stopped, run, text_result}
+use Rattle.acpi_base.specs.Text.Lines.{Refuses, reading_with, judged_by, told_by}
+use Rattle.acpi_base.specs.Text.LineBuffers.{state_with}
+use Rattle.acpi_base.specs.declared.text.image_text.line_parser.LineParser.{LineParser}
 use Rattle.acpi_base.specs.declared.text.TextFault.{TextFault}
-use Rattle.acpi_base.specs.declared.text.TextFault.TheVariants.{TooLong, Memory}
-use Rattle.acpi_base.proofs.Texts.ByteMachine.{after, step_after, run_stopped, take_line_keeps}
+use Rattle.acpi_base.specs.declared.text.TextFault.TheVariants.{TooLong, Twice}
+use Rattle.acpi_base.specs.declared.text.TextFault.TheVariants as fault
+use Rattle.acpi_base.proofs.Texts.ByteMachine.{after, step_after, run_stopped}
 
 -- a machine that goes on has met no line that is too long
 pub going : (r : Reading) (line : List ℕ) → is_too_long (length line) (r.through + length line) ≡ false
@@ -42,30 +47,6 @@ run_on r line (b ∷ rest) free =
     ∙ run_on r (line ++ b ∷ []) rest (λ k h. free (suc k) (omega arith))
     ∙ ap (after (Ok r)) (append_assoc line (b ∷ []) rest)
 
--- a step counts its byte
-step_counts : (r s : Reading) (line next : List ℕ) (b : ℕ) → step (Going r line) b ≡ Going s next
-    → s.through + length next ≡ r.through + length line + 1
-unfolding read_line
-step_counts r s line next b e = grind (arith, nat_tests, length-append, take_line_keeps)
-
--- the bytes of a text that goes on so are counted
-counted : (r s : Reading) (line next : List ℕ) (b : ℕ) (rest : List ℕ)
-    → ((u : Reading) (more : List ℕ) → run (Going u more) rest ≡ Going s next
-    → s.through + length next ≡ u.through + length more + length rest)
-    → (t : ReaderState) → step (Going r line) b ≡ t → run t rest ≡ Going s next
-    → s.through + length next ≡ r.through + length line + suc (length rest)
-counted r s line next b rest further (Going u more) is on =
-    (let one = step_counts r u line more b is in let all = further u more on in omega arith)
-counted r s line next b rest further (Stopped fault) is on = absurd (let stays = run_stopped fault rest in cc)
-
--- a machine that goes on has counted the bytes of the text
-pub run_counts : (r s : Reading) (line next text : List ℕ) → run (Going r line) text ≡ Going s next
-    → s.through + length next ≡ r.through + length line + length text
-unfolding run
-run_counts r s line next [] e = grind (arith)
-run_counts r s line next (b ∷ rest) e =
-    counted r s line next b rest (λ u more on. run_counts u s more next rest on) (step (Going r line) b) refl e
-
 -- ---- a line that has not ended
 
 -- what is not too long is within both bounds
@@ -73,16 +54,16 @@ pub short_bounds : (n through : ℕ) → is_too_long n through ≡ false → (n 
 short_bounds n through short = grind (arith, nat_tests)
 
 -- more of it is kept where it fits
-pub kept : (r : Reading) (line part : List ℕ) → is_too_long (length line) (r.through + length line) ≡ false
+kept_going : (r : Reading) (line part : List ℕ) → is_too_long (length line) (r.through + length line) ≡ false
     → ((k : ℕ) → k < length part → get_or part k 0 ≢ 10)
     → length line + length part ≤ max_line → r.through + length line + length part ≤ max_text
     → run (Going r line) part ≡ Going r (line ++ part)
-kept r line part short free line_fits text_fits =
+kept_going r line part short free line_fits text_fits =
     ap (λ s. run s part) (going r line short) ∙ run_on r line part free
     ∙ sym (going r (line ++ part) (grind (arith, nat_tests, length-append line part)))
 
 -- and stops the machine where it does not
-pub kept_too_long : (r : Reading) (line part : List ℕ) → is_too_long (length line) (r.through + length line) ≡ false
+kept_too_long : (r : Reading) (line part : List ℕ) → is_too_long (length line) (r.through + length line) ≡ false
     → ((k : ℕ) → k < length part → get_or part k 0 ≢ 10)
     → (max_line < length line + length part) ⊎ (max_text < r.through + length line + length part)
     → run (Going r line) part ≡ Stopped TooLong
@@ -90,6 +71,43 @@ kept_too_long r line part short free far =
     let long : is_too_long (length (line ++ part)) (r.through + length (line ++ part)) ≡ true =
     grind (arith, nat_tests, length-append line part) in
     ap (λ s. run s part) (going r line short) ∙ run_on r line part free ∙ rw long refl
+
+-- the same, where an address may have come twice
+pub kept : (p : LineParser) (line part : List ℕ) → is_too_long (length line) (p.through + length line) ≡ false
+    → ((k : ℕ) → k < length part → get_or part k 0 ≢ 10)
+    → length line + length part ≤ max_line → p.through + length line + length part ≤ max_text
+    → (d : Result Memory ℕ)
+    → run (state_with (judged_by p d) line) part ≡ state_with (judged_by p d) (line ++ part)
+kept p line part short free line_fits text_fits (Ok m) =
+    kept_going (reading_with p m) line part short free line_fits text_fits
+kept p line part short free line_fits text_fits (Err address) = run_stopped (Twice address) part
+
+pub kept_refused : (p : LineParser) (line part : List ℕ) → is_too_long (length line) (p.through + length line) ≡ false
+    → ((k : ℕ) → k < length part → get_or part k 0 ≢ 10)
+    → (max_line < length line + length part) ⊎ (max_text < p.through + length line + length part)
+    → (d : Result Memory ℕ)
+    → run (state_with (judged_by p d) line) part ≡ Stopped (told_by d TooLong)
+kept_refused p line part short free far (Ok m) = kept_too_long (reading_with p m) line part short free far
+kept_refused p line part short free far (Err address) = run_stopped (Twice address) part
+
+-- memory has run out, and an address may have come twice before
+kept_memory : (p : LineParser) (line part : List ℕ) (d : Result Memory ℕ) (stop : TextFault) → stop ≡ fault.Memory
+    → (told_by d stop ≡ fault.Memory) ⊎ (run (state_with (judged_by p d) line) part ≡ Stopped (told_by d stop))
+kept_memory p line part (Ok m) stop memory = inl memory
+kept_memory p line part (Err address) stop memory = inr (run_stopped (Twice address) part)
+
+pub not_kept : {A : Type 0} (p : LineParser) (line part : List ℕ) (d : Result Memory ℕ) (result : Result A TextFault)
+    → IsErrAnd result (λ stop. stop ≡ fault.Memory)
+    → IfErr result (λ stop. (told_by d stop ≡ fault.Memory)
+    ⊎ (run (state_with (judged_by p d) line) part ≡ Stopped (told_by d stop)))
+not_kept p line part d (Ok x) memory = tt
+not_kept p line part d (Err stop) memory = kept_memory p line part d stop memory
+
+-- a fault of a line counts only where no address came twice before
+pub refuses_told : (p : LineParser) (d : Result Memory ℕ) (f : Reading → Result Reading TextFault) (stop : TextFault)
+    → ((m : Memory) → Refuses (f (reading_with p m)) stop) → Refuses (on_ok (judged_by p d) f) (told_by d stop)
+refuses_told p (Ok m) f stop refuses = refuses m
+refuses_told p (Err address) f stop refuses = inr (refl, refl)
 
 -- a line of too many bytes is refused
 pub line_too_long : (r : Reading) (line part : List ℕ) (ending : ℕ) → max_line < length line + length part
@@ -99,28 +117,48 @@ line_too_long r line part ending far = grind (arith, nat_tests, length-append li
 
 -- ---- lines that end
 
+-- a state within a line that is not too long
+standing : (p : LineParser) (line : List ℕ) → is_too_long (length line) (p.through + length line) ≡ false
+    → (d : Result Memory ℕ) → state_with (judged_by p d) line ≡ after (judged_by p d) line
+standing p line short (Ok m) = going (reading_with p m) line short
+standing p line short (Err address) = refl
+
+-- what comes up to an LF ends the line, unless the machine has stopped
+run_past_end : (x : Result Reading TextFault) (line text : List ℕ) (n : ℕ) → n < length text
+    → ((k : ℕ) → k < n → get_or text k 0 ≢ 10) → get_or text n 0 ≡ 10
+    → run (after x line) text ≡ run (after (on_ok x (λ r. read_line r (line ++ take n text) 1)) []) (drop (suc n) text)
+run_past_end (Ok r) line text n l before at = run_to_end r line text n l before at
+run_past_end (Err stop) line text n l before at = run_stopped stop text ∙ sym (run_stopped stop (drop (suc n) text))
+
 -- the machine goes on behind an LF from where the line was read
-pub line_passed : (r s : Reading) (line text : List ℕ) (n : ℕ) (rest : List ℕ)
-    → is_too_long (length line) (r.through + length line) ≡ false → n < length text
-    → ((k : ℕ) → k < n → get_or text k 0 ≢ 10) → get_or text n 0 ≡ 10 → read_line r (line ++ take n text) 1 ≡ Ok s
-    → s.through ≤ max_text → rest ≡ drop (suc n) text
-    → run (Going r line) text ≡ run (Going s []) rest
-line_passed r s line text n rest short l before at read fits same =
-    ap (λ t. run t text) (going r line short)
-    ∙ run_to_end r line text n l before at
+pub line_passed : (p q : LineParser) (d e : Result Memory ℕ) (line text : List ℕ) (n : ℕ) (rest : List ℕ)
+    → is_too_long (length line) (p.through + length line) ≡ false → n < length text
+    → ((k : ℕ) → k < n → get_or text k 0 ≢ 10) → get_or text n 0 ≡ 10
+    → on_ok (judged_by p d) (λ r. read_line r (line ++ take n text) 1) ≡ judged_by q e
+    → q.through ≤ max_text → rest ≡ drop (suc n) text
+    → run (state_with (judged_by p d) line) text ≡ run (state_with (judged_by q e) []) rest
+line_passed p q d e line text n rest short l before at read fits same =
+    ap (λ t. run t text) (standing p line short d)
+    ∙ run_past_end (judged_by p d) line text n l before at
     ∙ ap (λ x. run (after x []) (drop (suc n) text)) read
-    ∙ ap (λ t. run t (drop (suc n) text)) (sym (going s [] (grind (arith, nat_tests))))
-    ∙ ap (run (Going s [])) (sym same)
+    ∙ ap (λ t. run t (drop (suc n) text)) (sym (standing q [] (grind (arith, nat_tests)) e))
+    ∙ ap (run (state_with (judged_by q e) [])) (sym same)
 
 -- and stops where it was refused
-pub line_refused : (r : Reading) (line text : List ℕ) (n : ℕ) (fault : TextFault)
-    → is_too_long (length line) (r.through + length line) ≡ false → n < length text
+pub line_refused : (p : LineParser) (d : Result Memory ℕ) (line text : List ℕ) (n : ℕ) (stop : TextFault)
+    → is_too_long (length line) (p.through + length line) ≡ false → n < length text
     → ((k : ℕ) → k < n → get_or text k 0 ≢ 10) → get_or text n 0 ≡ 10
-    → Refuses (read_line r (line ++ take n text) 1) fault
-    → (fault ≡ Memory) ⊎ (run (Going r line) text ≡ Stopped fault)
-line_refused r line text n fault short l before at (inl memory) = inl memory
-line_refused r line text n fault short l before at (inr refused) = inr (
-    ap (λ t. run t text) (going r line short)
-    ∙ run_to_end r line text n l before at
+    → Refuses (on_ok (judged_by p d) (λ r. read_line r (line ++ take n text) 1)) stop
+    → (stop ≡ fault.Memory) ⊎ (run (state_with (judged_by p d) line) text ≡ Stopped stop)
+line_refused p d line text n stop short l before at (inl memory) = inl memory
+line_refused p d line text n stop short l before at (inr refused) = inr (
+    ap (λ t. run t text) (standing p line short d)
+    ∙ run_past_end (judged_by p d) line text n l before at
     ∙ ap (λ x. run (after x []) (drop (suc n) text)) refused.0
-    ∙ run_stopped fault (drop (suc n) text))
+    ∙ run_stopped stop (drop (suc n) text))
+
+-- what the end of the text gives
+pub ended : (x : Result Reading TextFault) (line : List ℕ)
+    → text_result (state_with x line) ≡ on_ok x (λ r. read_line r line 0)
+ended (Ok r) line = refl
+ended (Err stop) line = refl

@@ -1,4 +1,4 @@
--- Image text: lines of hex digits that say which bytes stand where. The text's bytes are ASCII.
+-- Image text: lines of hex digits that say which bytes are at which addresses. The text's bytes are ASCII.
 use Rattle.std.specs.Prelude.{◌≡◌, ℕ, ◌+◌, ◌-◌, ◌*◌, List, [], ◌∷◌, ◌++◌, length, take, drop, slice_index, Option, Some, None, Result, Ok, Err, Bool, nat_lt, nat_le, ◌==◌, ◌||◌, ◌&&◌, if◌then◌else◌, unwrap_or, take_while, is_some}
 use Rattle.std.specs.List.{before_first, list_all}
 use Rattle.std.specs.Option.{option_map_or}
@@ -10,7 +10,7 @@ use Rattle.acpi_base.specs.declared.image.ImageFault.TheVariants as add
 use Rattle.acpi_base.specs.declared.text.TextFault.{TextFault}
 use Rattle.acpi_base.specs.declared.text.TextFault.TheVariants as text
 
--- what comes after a step, where it went well
+-- the next step, if this one succeeded
 abbrev pub on_ok : {A B E : Type 0} → Result A E → (A → Result B E) → Result B E
 on_ok (Ok x) f = f x
 on_ok (Err e) f = Err e
@@ -48,7 +48,7 @@ pub data Line : Type 0 where
 abbrev pub without_cr : List ℕ → List ℕ
 without_cr line = if slice_index line (length line - 1) == 13 then take (length line - 1) line else line
 
--- what stands before the first `#`
+-- the line before the first `#`
 abbrev pub without_comment : List ℕ → List ℕ
 without_comment line = before_first (λ b. b == 35) line
 
@@ -84,11 +84,11 @@ unfoldable pub form_of : List ℕ → Line
 form_of [] = Blank
 form_of (b ∷ rest) = if b == 64 then address_line_of rest else data_from [] None (b ∷ rest)
 
--- what a line says, its LF left off
+-- what a line says, without its LF
 unfoldable pub line_of : List ℕ → Line
 line_of line = form_of (skip_blanks (without_comment (without_cr line)))
 
--- where reading stands between two lines: how many lines and bytes it has read, each with its LF, the
+-- the state of reading between two lines: how many lines and bytes it has read, each with its LF, the
 -- next address, and the image so far
 pub record Reading : Type 0 where
   pub lines : ℕ
@@ -105,7 +105,7 @@ data_fault n add.PastEnd = text.PastEnd n
 data_fault n (add.Twice address) = text.Twice address
 data_fault n add.Memory = text.Memory
 
--- the bytes of line n are put in at the next address
+-- the bytes of line n are added at the next address
 abbrev pub put_data : Reading → ℕ → List ℕ → Option ℕ → Result Reading TextFault
 put_data r n bytes None = Err (text.NoAddress n)
 put_data r n bytes (Some address) =
@@ -114,7 +114,7 @@ put_data r n bytes (Some address) =
     (add_refusal r.image address bytes)
     (Ok (record r { next = Some (address + length bytes); image = with_bytes r.image address bytes }))
 
--- line n is taken for what it says
+-- line n is read as what it says
 abbrev pub take_line : Reading → ℕ → Line → Result Reading TextFault
 take_line r n Blank = Ok r
 take_line r n (Address address) = Ok (record r { next = Some address })
@@ -145,7 +145,7 @@ unfoldable pub ended_lines_from : List ℕ → List ℕ → List (List ℕ)
 ended_lines_from line [] = []
 ended_lines_from line (b ∷ rest) = if b == 10 then line ∷ ended_lines_from [] rest else ended_lines_from (line ++ b ∷ []) rest
 
--- what stands after the last LF, where `line` stands before the text
+-- what comes after the last LF, if `line` comes before the text
 unfoldable pub last_line_from : List ℕ → List ℕ → List ℕ
 last_line_from line [] = line
 last_line_from line (b ∷ rest) = if b == 10 then last_line_from [] rest else last_line_from (line ++ b ∷ []) rest

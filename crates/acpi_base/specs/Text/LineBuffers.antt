@@ -1,22 +1,36 @@
 -- What a reader of a text in pieces keeps, and what it stands for.
-use Rattle.std.specs.Prelude.{◌≡◌, ◌+◌, ◌≤◌, ℕ, List, length, Option, Some, None, false}
+use Rattle.std.specs.Prelude.{◌≡◌, ◌+◌, ◌≤◌, ℕ, List, length, Option, Some, None, Result, Ok, Err, true, false}
 use Rattle.std.specs.Io.KnownBytes.{Consumes}
 use Rattle.acpi_base.specs.declared.text.image_text.line_buffer.LineBuffer.{LineBuffer}
 use Rattle.acpi_base.specs.declared.text.TextFault.{TextFault}
-use Rattle.acpi_base.specs.Image.Builder.{IsBuilder}
-use Rattle.acpi_base.specs.Text.ImageText.{is_too_long}
-use Rattle.acpi_base.specs.Text.Lines.{reading_of}
+use Rattle.acpi_base.specs.Image.Draft.{IsImageData, is_checked}
+use Rattle.acpi_base.specs.Text.ImageText.{Reading, is_too_long}
+use Rattle.acpi_base.specs.Text.Lines.{judged}
 use Rattle.acpi_base.specs.Text.TextMachine.{ReaderState, Going, Stopped, initial_state, run}
 
--- the state of a reader that has met no fault
-abbrev pub buffer_state : LineBuffer → ReaderState
-buffer_state f = Going (reading_of f.parser) f.line.items
+-- the state within a line, by where reading stands between two lines
+abbrev pub state_with : Result Reading TextFault → List ℕ → ReaderState
+state_with (Ok r) line = Going r line
+state_with (Err fault) line = Stopped fault
 
--- it has met no fault: what has come of the last line makes neither that nor the text too long
+-- the state of a reader that has met no fault, unless an address has come twice
+abbrev pub buffer_state : LineBuffer → ReaderState
+buffer_state f = state_with (judged f.parser) f.line.items
+
+-- how many bytes have come
+abbrev pub byte_count : LineBuffer → ℕ
+byte_count f = f.parser.through + length f.line.items
+
+-- it has met no fault, unless an address has come twice: what has come of the last line makes neither that nor the text too long
 pub record IsLineBuffer (f : LineBuffer) : Type 0 where
-  pub pieces : IsBuilder f.parser.image
+  pub image : IsImageData f.parser.image
   pub lines : f.parser.lines ≤ f.parser.through
-  pub short : is_too_long (length f.line.items) (f.parser.through + length f.line.items) ≡ false
+  pub short : is_too_long (length f.line.items) (byte_count f) ≡ false
+
+-- an address that comes twice stops it at once
+pub record IsCheckedBuffer (f : LineBuffer) : Type 0 where
+  pub sound : IsLineBuffer f
+  pub checked : is_checked f.parser.image ≡ true
 
 -- the state of a reader; once stopped, it stays so
 abbrev pub reader_state : Option TextFault → LineBuffer → ReaderState
@@ -24,7 +38,7 @@ reader_state None f = buffer_state f
 reader_state (Some fault) f = Stopped fault
 
 abbrev pub IsReader : Option TextFault → LineBuffer → Type 0
-IsReader None f = IsLineBuffer f
+IsReader None f = IsCheckedBuffer f
 IsReader (Some fault) f = Unit {0}
 
 -- The reader has read a text of so many bytes, and this is the machine's state behind it.

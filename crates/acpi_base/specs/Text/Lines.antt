@@ -1,6 +1,8 @@
 -- What the reader of lines keeps and returns, in the words of image text.
-use Rattle.std.specs.Prelude.{◌≡◌, ◌⊎◌, ℕ, List, Bool, true, false, Result, Err}
-use Rattle.acpi_base.specs.Image.Builder.{builder_memory}
+use Rattle.std.specs.Prelude.{◌≡◌, ◌⊎◌, ℕ, List, Bool, true, false, Result, Ok, Err}
+use Rattle.acpi_base.specs.Memory.{Memory}
+use Rattle.acpi_base.specs.Image.Draft.{data_result}
+use Rattle.acpi_base.specs.declared.image.data.ImageData.{ImageData}
 use Rattle.acpi_base.specs.Text.ImageText.{Line, Blank, Address, Data, Bad, Reading}
 use Rattle.acpi_base.specs.Text.TextReading.{is_of_text}
 use Rattle.acpi_base.specs.declared.text.TextFault.{TextFault}
@@ -21,9 +23,25 @@ abbrev pub data_line : Bool → List ℕ → Line
 data_line true bytes = Data bytes
 data_line false bytes = Bad
 
--- where the code stands between two lines
-abbrev pub reading_of : LineParser → Reading
-reading_of p = record { lines = p.lines; through = p.through; next = p.next; image = builder_memory p.image }
+-- where the code stands between two lines, where its data holds this
+abbrev pub reading_with : LineParser → Memory → Reading
+reading_with p m = record { lines = p.lines; through = p.through; next = p.next; image = m }
+
+-- where the definition stands that stops at the first address that comes twice, by what the data of the code comes to
+abbrev pub judged_by : LineParser → Result Memory ℕ → Result Reading TextFault
+judged_by p (Ok m) = Ok (reading_with p m)
+judged_by p (Err address) = Err (text.Twice address)
+
+abbrev pub judged : LineParser → Result Reading TextFault
+judged p = judged_by p (data_result p.image)
+
+-- the fault of a text in which the code has met this one: an address that came twice before it comes first
+abbrev pub told_by : Result Memory ℕ → TextFault → TextFault
+told_by (Ok m) fault = fault
+told_by (Err address) fault = text.Twice address
+
+abbrev pub told : ImageData → TextFault → TextFault
+told image fault = told_by (data_result image) fault
 
 -- what the definition gives is this fault of the text, unless memory ran out
 abbrev pub Refuses : {A : Type 0} → Result A TextFault → TextFault → Type 0

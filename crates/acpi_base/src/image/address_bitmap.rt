@@ -1,4 +1,4 @@
-//! Which addresses are held: a bit for each address, in words of 64 bits. Only words that have a bit set are kept.
+//! Which addresses have bytes: a bit for each address, in words of 64 bits. Only words with a bit set are kept.
 
 ghost use Rattle.std.specs.Prelude.{◌≡◌, ◌≢◌, ◌⊎◌, ℕ, ◌+◌, ◌-◌, ◌*◌, ◌/◌, ◌^◌, ◌<◌, ◌≤◌, OnOk, OnErr};
 ghost use Rattle.std.specs.Int.Bits.{bit_or};
@@ -7,10 +7,10 @@ ghost use Rattle.acpi_base.specs.Image.Bitmap.{IsLeastFrom, IsMask, IsMarked, wo
 use std::alloc::{AllocError, Global};
 use std::collections::BTreeMap;
 
-/// How many addresses a word stands for.
+/// How many addresses a word represents.
 const BLOCK: u64 = 64;
 
-/// The word whose lowest bits are set, so many of them.
+/// The word in which this many of the lowest bits are set.
 fn low_bits(count: u64) -> u64
     requires { count ≤ 64 }
     ensures { result ≡ 2 ^ count - 1 }
@@ -22,7 +22,7 @@ fn low_bits(count: u64) -> u64
     }
 }
 
-/// The bits of a block's addresses that lie between two addresses, both included.
+/// The bits of a block's addresses between two addresses, both included.
 fn bits_between(block: u64, first: u64, last: u64) -> u64
     requires low { first / 64 ≤ block }
     requires high { block ≤ last / 64 }
@@ -42,10 +42,10 @@ fn bits_between(block: u64, first: u64, last: u64) -> u64
     low_bits(high) & !low_bits(low)
 }
 
-/// The addresses that are held.
+/// The addresses that have bytes.
 #[derive(Drop)]
 pub struct AddressBitmap {
-    /// The words by the numbers of their blocks: the block of an address is the address over 64.
+    /// The words by the numbers of their blocks: the block of an address is the address divided by 64.
     words: BTreeMap<u64, u64>,
 }
 
@@ -65,7 +65,7 @@ impl AddressBitmap {
         self.words.get(&block).copied().unwrap_or(0)
     }
 
-    /// The least of so many addresses that is held.
+    /// The lowest marked one of this many addresses.
     pub fn first_marked(&self, base: u64, count: u64) -> Option<u64>
         requires some { 0 < count }
         requires fits { base + count ≤ 2 ^ 64 }
@@ -91,7 +91,7 @@ impl AddressBitmap {
         Ok(())
     }
 
-    /// Marks so many addresses. Where it is out of memory, some of them may be marked.
+    /// Marks this many addresses. If memory runs out, some of them may be marked.
     pub fn mark(&mut self, base: u64, count: u64) -> Result<(), AllocError>
         requires some { 0 < count }
         requires fits { base + count ≤ 2 ^ 64 }

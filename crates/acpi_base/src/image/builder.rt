@@ -1,7 +1,7 @@
-//! An image that is being read: pieces of memory as they come, in any order.
+//! An image that is built from pieces in any order. An address that comes twice is refused at once.
 //!
-//! All bytes lie in one store. The piece that was begun last is open: it has the store's bytes from `start` on,
-//! and what follows it is only appended. Where that is empty, none is open. The pieces that have ended are kept as
+//! All bytes are in one store. The piece that was begun last is open: it has the store's bytes from `start` on, and bytes
+//! that follow it are appended. If it is empty, none is open. The pieces that have ended are kept in the order in which
 //! they came, and their addresses are marked. `finish` sorts the pieces, and lays them out once.
 
 ghost use Rattle.std.specs.Prelude.{◌≡◌, ℕ, ◌+◌, ◌-◌, ◌^◌, ◌<◌, ◌≤◌, ◌⊎◌, true, None, IfSome, IfOk, IsOk, IsOkUnless, OnOk, OnErr, MatchOption, length};
@@ -21,8 +21,8 @@ use super::span::Span;
 use super::{Image, ImageFault};
 use std::alloc::{AllocError, Global};
 
-/// How many bytes may surely come from an address on before the next piece. Looks no further than it takes to answer
-/// for `count` bytes, or to the end of the block of 64 addresses.
+/// A number of free addresses from an address on, before the next piece. Looks only at `count` addresses, or to the end of
+/// the block of 64 addresses if that is further.
 fn room_behind(marks: &AddressBitmap, base: u64, count: u64) -> u64
     requires some { 0 < count }
     requires count { base + count ≤ 2 ^ 64 }
@@ -69,9 +69,8 @@ fn lesser_address(first: Option<u64>, second: Option<u64>) -> Option<u64>
     }
 }
 
-/// Whether the pieces stand in the order of their addresses, each before `base`, and between any two of them, and behind the last,
-/// there is an address that none has.
-fn are_apart(pieces: &[(u64, Span)], base: u64) -> bool
+/// Whether the pieces are sorted by address, each before `base`, with at least one free address after each of them.
+pub fn are_apart(pieces: &[(u64, Span)], base: u64) -> bool
     requires { AllByRecursion (λ p. 0 < p.1.len) pieces.now }
     ensures apart { result ≡ true → AreSegmentsApart pieces.now }
     ensures below { result ≡ true → AllByRecursion (λ p. end_at p < base) pieces.now }
@@ -87,7 +86,7 @@ fn are_apart(pieces: &[(u64, Span)], base: u64) -> bool
     true
 }
 
-/// Whether the bytes lie in the store as they do in an image: a piece is open, and each came behind those before it.
+/// Whether the bytes are in the store as in an image: a piece is open, and the pieces came in rising order of addresses.
 fn are_laid_out(store: &[u8], ended: &[(u64, Span)], base: u64, start: usize) -> bool
     requires { ArePiecesWithRoom store.now ended.now base start 0 }
     ensures { result ≡ true → AreSegments store.now ended.now base start }
@@ -112,7 +111,7 @@ fn lay_out(
     Ok(segments)
 }
 
-/// The pieces so far. At least `room` addresses behind the open one are free.
+/// The pieces so far. At least `room` addresses after the open one are free.
 #[derive(Drop)]
 pub struct ImageBuilder {
     store: Vec<u8>,
@@ -139,7 +138,7 @@ impl ImageBuilder {
         }
     }
 
-    /// Whether bytes from `base` on follow the open piece, and surely hit no other.
+    /// Whether bytes from `base` on follow the open piece, and are known to overlap no other.
     fn follows(&mut self, base: u64, count: u64) -> bool
         requires sound { IsBuilder self.old }
         requires some { 0 < count }
@@ -161,7 +160,7 @@ impl ImageBuilder {
         count <= self.room
     }
 
-    /// The open piece takes more bytes.
+    /// Appends bytes to the open piece.
     fn extend(&mut self, bytes: &[u8]) -> Result<(), AllocError>
         requires sound { IsBuilder self.old }
         requires room { length bytes.now ≤ self.old.room }
@@ -176,7 +175,7 @@ impl ImageBuilder {
         Ok(())
     }
 
-    /// Puts the open piece, where there is one, among those that have ended. Marks nothing.
+    /// Puts the open piece, if there is one, among those that have ended. Marks nothing.
     fn close(&mut self) -> Result<(), AllocError>
         requires { AreInOrder self.old }
         ensures sound { AreInOrder self.new }
@@ -198,7 +197,7 @@ impl ImageBuilder {
         Ok(())
     }
 
-    /// Marks the addresses of the open piece. Where it is out of memory, some of them may be marked.
+    /// Marks the addresses of the open piece. If memory runs out, some of them may be marked.
     fn mark_open(&mut self) -> Result<(), AllocError>
         requires { IsBuilder self.old }
         ensures sound { IsBuilder self.new }
@@ -229,7 +228,7 @@ impl ImageBuilder {
         Ok(())
     }
 
-    /// The least of so many addresses that is held.
+    /// The lowest of this many addresses that has a byte.
     fn first_taken(&self, base: u64, count: u64) -> Option<u64>
         requires sound { IsBuilder self.now }
         requires some { 0 < count }
@@ -243,8 +242,8 @@ impl ImageBuilder {
         )
     }
 
-    /// Adds the bytes from `base` on, and refuses as `Image::add` does. Bytes that follow the ones that came last
-    /// are appended with no search, any others by one of the marks.
+    /// Adds the bytes from `base` on, and refuses as `Image::add` does. Bytes that follow the last ones are appended without
+    /// a search; others take one search of the marks.
     pub fn add(&mut self, base: u64, bytes: &[u8]) -> Result<(), ImageFault>
         requires { IsBuilder self.old }
         ensures sound { IsBuilder self.new }
@@ -277,7 +276,7 @@ impl ImageBuilder {
         Ok(())
     }
 
-    /// The image of pieces whose bytes stay where they lie.
+    /// The segments of pieces whose bytes stay where they are.
     fn adopt(self, alloc: Global) -> Result<Segments, AllocError>
         requires { AreSegments self.store.items self.ended.items self.base self.start }
         ensures sound { IfOk result IsSound }
@@ -293,7 +292,7 @@ impl ImageBuilder {
         Segments::of(alloc, store, ended, base, start)
     }
 
-    /// The segments of all pieces, which are sorted.
+    /// Sorts all pieces, and lays out their segments.
     fn sort(self, alloc: Global) -> Result<Segments, AllocError>
         requires { IsBuilder self }
         ensures sound { IfOk result IsSound }

@@ -1,4 +1,4 @@
-//! Images that are built of pieces in any order.
+//! Images that are built from pieces in any order.
 
 ghost use Rattle.std.specs.Prelude.{◌≡◌, IfOk, IsOk, IsOkUnless, OnOk, OnErr, MatchOption, length};
 ghost use Rattle.std.specs.FinMap.{empty};
@@ -10,8 +10,8 @@ use super::{Image, ImageFault};
 use std::alloc::{AllocError, Global};
 use std::marker::Model;
 
-/// An image that is being built of pieces, which may come in any order: `n` pieces take time in the order of their bytes and of
-/// `n` times the logarithm of `n`. Where pieces come by rising addresses, `Image::add` does the same and copies less.
+/// An image that is built from pieces, which may come in any order: the time grows with the number of bytes and with n log n for n
+/// pieces. For pieces with rising addresses `Image::add` does the same and copies less.
 #[derive(Drop)]
 pub struct ImagePieces {
     builder: ImageBuilder,
@@ -48,9 +48,9 @@ impl ImagePieces {
     /// Adds the bytes, which take the addresses from `base` on.
     ///
     /// Refuses, in this order, and then leaves the pieces as they were:
-    /// `PastEnd`, where the last byte would lie past the address 2^64 - 1;
-    /// `Twice`, where an address is held already, with the least such address;
-    /// `Memory`, where the allocator is out of memory. Adding no bytes always returns `Ok`, and takes no memory.
+    /// `PastEnd`, if the last byte would be past the address 2^64 - 1;
+    /// `Twice`, if an address has a byte already, with the lowest such address;
+    /// `Memory`, if the allocator is out of memory. Adding no bytes always returns `Ok`, and takes no memory.
     pub fn add(&mut self, base: u64, bytes: &[u8]) -> Result<(), ImageFault>
         ensures refused { MatchOption (add_refusal self.old base bytes.now)
             (IsOkUnless result ImageFault.Memory) (λ fault. result ≡ Err fault) }
@@ -61,7 +61,7 @@ impl ImagePieces {
         self.builder.add(base, bytes)
     }
 
-    /// The image of all pieces. Refuses `AllocError` out of memory.
+    /// The image of all pieces. Returns `AllocError` if memory runs out.
     pub fn finish(self) -> Result<Image, AllocError>
         ensures same { IfOk result (λ image. image ≡ self) }
         ensures image { IfOk result IsImage }

@@ -1,4 +1,4 @@
-//! Bytes with running sums, by which the sum of any part of them is found at once.
+//! Bytes with running sums, which give the sum of any part of them in constant time.
 
 ghost use Rattle.std.specs.Prelude.{◌≡◌, ◌+◌, ◌*◌, ◌/◌, ◌≤◌, ◌++◌, ℕ, List, [], OnOk, OnErr, IfOk, length, take, drop};
 ghost use Rattle.acpi_base.specs.Number.{byte_sum};
@@ -9,10 +9,10 @@ use crate::checksum::sum_short;
 use std::alloc::{AllocError, Global};
 use std::marker::Model;
 
-/// How many bytes stand between two running sums.
+/// How many bytes there are between two running sums.
 const DISTANCE: usize = 128;
 
-/// The sum of the first so many blocks of `DISTANCE` bytes.
+/// The sum of this many first blocks of `DISTANCE` bytes.
 #[tactic(auto, using(crate::proofs::Images::Sums::no_sum))]
 fn sum_of_blocks(sums: &[u8], count: usize) -> u8
     requires { count ≤ length sums.now }
@@ -41,7 +41,7 @@ fn add_sums(sums: &mut Vec<u8>, bytes: &[u8]) -> Result<(), AllocError>
     Ok(())
 }
 
-/// The sum of the first so many bytes.
+/// The sum of this many first bytes.
 #[tactic(auto, using(crate::proofs::Images::Sums::sum_to))]
 fn sum_before(bytes: &[u8], sums: &[u8], end: usize) -> u8
     requires sums { HasAllSums sums.now bytes.now }
@@ -82,7 +82,7 @@ impl PrefixSums {
         }
     }
 
-    /// No bytes, and memory for so many.
+    /// No bytes, and memory for this many.
     pub fn with_capacity(alloc: Global, count: usize) -> Result<PrefixSums, AllocError>
         ensures { IfOk result (λ sums. sums ≡ []) }
     {
@@ -132,7 +132,7 @@ impl PrefixSums {
         Ok(())
     }
 
-    /// The sum of a span's bytes, modulo 256. However many they are, fewer than 256 are looked at.
+    /// The sum of a span's bytes, modulo 256. However many there are, fewer than 256 are read.
     #[tactic(auto, using(crate::proofs::Images::Sums::sum_between))]
     pub fn sum(&self, span: Span) -> u8
         requires { span.start + span.len ≤ length self.now }

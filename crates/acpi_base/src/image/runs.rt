@@ -9,7 +9,7 @@ ghost use Rattle.acpi_base.specs.Text.WrittenText.{IsEmptyFrom, IsFirstFrom, IsN
 use crate::image::Image;
 use crate::image::segments::Segments;
 
-/// The bytes from an address on, up to the next address that no segment holds. None where that is the address itself.
+/// The bytes from an address on, up to the next address without a byte. None if that is the address itself.
 #[tactic(auto, using(crate::proofs::Texts::Written::Rests::rests), unfolding(crate::specs::Memory::run_of))]
 fn rest_from(segments: &Segments, address: u64) -> &[u8]
     requires { IsSound segments.now }
@@ -27,7 +27,7 @@ fn rest_from(segments: &Segments, address: u64) -> &[u8]
     &bytes[skipped as usize..]
 }
 
-/// The least address that is held, of those from an address on.
+/// The lowest address with a byte, from an address on.
 #[tactic(auto, using(crate::proofs::Texts::Written::Rests::firsts))]
 fn first_from(segments: &Segments, address: u64) -> Option<u64>
     requires { IsSound segments.now }
@@ -55,8 +55,8 @@ fn next_run(segments: &Segments, address: u64) -> Option<(u64, &[u8])>
 }
 
 impl Image {
-    /// The first run of bytes that is held from an address on, up to the next address that is not held: where it
-    /// begins, and its bytes. Takes no memory.
+    /// The first run of bytes from an address on, up to the next address without a byte: its first address, and its bytes.
+    /// Takes no memory.
     pub(crate) fn run_from(&self, address: u64) -> Option<(u64, &[u8])>
         ensures { MatchOption result (IsEmptyFrom self.now address)
             (λ found. IsNextRun self.now address found.0 found.1.now) }

@@ -1,7 +1,7 @@
 //! The segments of an image: its bytes in the order of their addresses, found by binary search.
 //!
-//! An address that is not held lies between two segments. All bytes lie in one store. The last segment is
-//! open: it has the store's bytes from `start` on, so what follows it is only appended. Where that is empty, none is open.
+//! There is an address without a byte between two segments. All bytes are in one store. The last segment is open: it has
+//! the store's bytes from `start` on, so bytes that follow it are appended. If it is empty, none is open.
 
 ghost use Rattle.std.specs.Prelude.{◌≡◌, ◌+◌, ◌-◌, ◌^◌, ◌<◌, ◌≤◌, ℕ, None, IfSome, IsSome, OnOk, OnErr, IfOk, MatchOption, length, take, drop};
 ghost use Rattle.std.specs.Option.{option_map, option_or};
@@ -40,7 +40,7 @@ impl Segments {
         }
     }
 
-    /// No bytes, and memory for so many.
+    /// No bytes, and memory for this many.
     pub fn with_capacity(alloc: Global, count: usize) -> Result<Segments, AllocError>
         ensures sound { IfOk result IsSound }
         ensures nothing { IfOk result (λ segments. memory_in segments ≡ empty) }
@@ -54,7 +54,7 @@ impl Segments {
         })
     }
 
-    /// Segments whose bytes lie in a store already, the last of them open.
+    /// Segments whose bytes are in a store already, the last of them open.
     pub fn of(
         alloc: Global,
         store: Vec<u8>,
@@ -75,7 +75,7 @@ impl Segments {
         })
     }
 
-    /// How many of the segments that have ended begin at the address or before it.
+    /// How many of the ended segments begin at the address or before it.
     fn place(&self, address: u64) -> usize
         requires { IsSound self.now }
         ensures within { result ≤ length self.now.ended.items }
@@ -91,7 +91,7 @@ impl Segments {
         &self.store.bytes()[self.start..]
     }
 
-    /// The last segment that begins at an address or before it: its base, and where its bytes lie.
+    /// The last segment that begins at an address or before it: its base, and the span of its bytes.
     fn piece_reaching(&self, address: u64) -> Option<(u64, Span)>
         requires { IsSound self.now }
         ensures reached { MatchOption result (lookup (runs_of self.now) address ≡ None)
@@ -135,7 +135,7 @@ impl Segments {
         bytes.get((address - base) as usize).copied()
     }
 
-    /// Where the bytes at so many addresses lie, all of which one segment holds.
+    /// The span of the bytes at this many addresses, if one segment has them all.
     fn window_span(&self, address: u64, count: u64) -> Option<Span>
         requires sound { IsSound self.now }
         requires some { 0 < count }
@@ -156,7 +156,7 @@ impl Segments {
         })
     }
 
-    /// The bytes at so many addresses, all of which one segment holds.
+    /// The bytes at this many addresses, if one segment has them all.
     pub fn window(&self, address: u64, count: u64) -> Option<&[u8]>
         requires sound { IsSound self.now }
         requires some { 0 < count }
@@ -168,7 +168,7 @@ impl Segments {
         Some(span.bytes(self.store.bytes()))
     }
 
-    /// The sum of the bytes at so many addresses, all of which one segment holds.
+    /// The sum of the bytes at this many addresses, if one segment has them all.
     pub fn window_sum(&self, address: u64, count: u64) -> Option<u8>
         requires sound { IsSound self.now }
         requires some { 0 < count }
@@ -178,7 +178,7 @@ impl Segments {
         Some(self.store.sum(span))
     }
 
-    /// The least base of a segment behind an address that is not held.
+    /// The lowest base of a segment after an address without a byte.
     fn next_base(&self, address: u64) -> Option<u64>
         requires sound { IsSound self.now }
         requires free { lookup (runs_of self.now) address ≡ None }
@@ -197,7 +197,7 @@ impl Segments {
         None
     }
 
-    /// The least of so many addresses that is held.
+    /// The lowest of this many addresses that has a byte.
     #[tactic(auto, using(crate::proofs::Images::Searches::first_in_gap))]
     pub fn first_held(&self, base: u64, count: u64) -> Option<u64>
         requires sound { IsSound self.now }
@@ -241,7 +241,7 @@ impl Segments {
         Ok(())
     }
 
-    /// Appends bytes at addresses behind all that are held.
+    /// Appends bytes at addresses after all others.
     pub fn take(&mut self, base: u64, bytes: &[u8]) -> Result<(), AllocError>
         requires sound { IsSound self.old }
         requires behind { end_in self.old ≤ base }
@@ -257,7 +257,7 @@ impl Segments {
         Ok(())
     }
 
-    /// Appends the bytes of pieces in another store, which stand in the order of their addresses.
+    /// Appends the bytes of pieces in another store, which are sorted by address.
     pub fn take_all(&mut self, store: &[u8], pieces: &[(u64, Span)]) -> Result<(), AllocError>
         requires sound { IsSound self.old }
         requires rising { AreSortedDisjoint pieces.now }
@@ -276,7 +276,7 @@ impl Segments {
         Ok(())
     }
 
-    /// The same bytes and more, where all of those come before the open segment and none is held.
+    /// These bytes and more, which come before the open segment and overlap nothing.
     fn with(&self, alloc: Global, base: u64, bytes: &[u8]) -> Result<Segments, AllocError>
         requires sound { IsSound self.now }
         requires before { base < self.now.base }
@@ -299,8 +299,8 @@ impl Segments {
         Ok(all)
     }
 
-    /// Adds bytes at addresses of which none is held. Behind all that are held they are appended; elsewhere the
-    /// segments are laid out anew, which copies all bytes.
+    /// Adds bytes at free addresses. After all others they are appended; otherwise the segments are laid out anew, which
+    /// copies all bytes.
     pub fn put(&mut self, alloc: Global, base: u64, bytes: &[u8]) -> Result<(), AllocError>
         requires sound { IsSound self.old }
         requires some { 0 < length bytes.now }

@@ -1,8 +1,8 @@
-//! Where the bytes of a piece lie in a store of bytes.
+//! Where the bytes of a piece are in a store of bytes.
 
 ghost use Rattle.std.specs.Prelude.{◌≡◌, ◌+◌, ◌≤◌, length, take, drop};
 
-/// So many bytes of a store, from a place on.
+/// A number of bytes of a store, from an index on.
 #[derive(Clone, Copy, Debug)]
 pub struct Span {
     pub start: usize,

@@ -1,17 +1,18 @@
 use super::*;
 
-/// Addresses and counts that are added in turn, what `add_input` returns, and the count of the address from then on.
+/// Addresses and counts that are added one after another, what `add_input` returns, and the count of the address from
+/// then on.
 const COUNTS: [(u32, u16, Result<(), PolicyFault>, u16); 9] = [
     (0xfec0_0000, 0, Err(PolicyFault::BadCount), 24),
     (0xfec0_0000, 257, Err(PolicyFault::BadCount), 24),
     (0xfec0_0000, 120, Ok(()), 120),
     (u32::MAX, 1, Ok(()), 1),
     (0, 256, Ok(()), 256),
-    // The first count stands, be it the default or not.
+    // The first count wins, whether or not it equals the default.
     (0xfec0_0000, 24, Ok(()), 120),
     (0xfec1_0000, 24, Ok(()), 24),
     (0xfec1_0000, 120, Ok(()), 24),
-    // A bad count is refused also where the address has one.
+    // A bad count is refused even if the address has one.
     (0xfec0_0000, u16::MAX, Err(PolicyFault::BadCount), 120),
 ];
 
@@ -30,7 +31,7 @@ fn each_address_has_its_first_count(rt: HostRuntime) -> Result<(), PolicyFault> 
     Ok(())
 }
 
-/// The address and the count of a step. An odd factor takes each step to another address, in no order.
+/// The address and the count of a step. An odd factor gives each step another address, in a scattered order.
 fn count_of(step: u32) -> (u32, u16) {
     (step.wrapping_mul(0x9e37_79b1), (step % 256) as u16 + 1)
 }
@@ -50,7 +51,7 @@ fn many_counts(rt: HostRuntime) -> Result<(), PolicyFault> {
     Ok(())
 }
 
-/// What the policy says of hot plug and of processors.
+/// The policy's settings for hot plug and for processors.
 fn settings(policy: &Policy) -> (HotPlug, Processors) {
     (policy.hotplug(), policy.processors())
 }

@@ -4,7 +4,7 @@ use crate::{DeviceFailed, Tally};
 use std::io;
 use std::io::{ErrorKind, Read, Write};
 
-/// Answers its calls one after another with these counts of bytes and errors, and then with 0 bytes.
+/// Answers its calls one after another with these counts of bytes and these errors, and then with 0 bytes.
 #[derive(Drop)]
 struct Scripted {
     answers: &'static [Result<usize, ErrorKind>],
@@ -12,7 +12,7 @@ struct Scripted {
 }
 
 impl Scripted {
-    /// The next answer, with at most so many bytes.
+    /// The next answer, with at most this many bytes.
     fn next(&mut self, most: usize) -> io::Result<usize>
         ensures { IfOk result (λ count. count ≤ most) }
     {
@@ -46,7 +46,7 @@ impl Write for Scripted {
     }
 }
 
-/// What is inside gives three bytes, then all that there is room for, then fails in each way, and then ends.
+/// The inner reader returns three bytes, then as many as there is room for, then fails in each way, and then ends.
 const ANSWERS: [Result<usize, ErrorKind>; 8] = [
     Ok(3),
     Ok(usize::MAX),
@@ -71,14 +71,14 @@ const READS: [(usize, Result<usize, DeviceFailed>, u64); 9] = [
     (0, Ok(0), 4),
 ];
 
-/// What is returned where there is room for so many bytes, of 5 at most, and the failures from then on.
+/// What is returned if there is room for this many bytes, at most 5, and the failures from then on.
 fn read(tally: &mut Tally<Scripted>, room: usize) -> (Result<usize, DeviceFailed>, u64) {
     let mut buffer = [0; 5];
     let read = tally.read(&mut buffer[..room.min(5)]);
     (read, tally.failures())
 }
 
-// No failed call is tried again, and each call makes one of what is inside.
+// No failed call is retried, and each call makes one call of the inner reader or writer.
 #[test]
 fn reads_are_counted_where_they_fail(rt: HostRuntime) {
     let mut tally = Tally::new(Scripted {
@@ -104,12 +104,12 @@ const WRITES: [(&[u8], Result<usize, DeviceFailed>, u64); 9] = [
     (b"", Err(DeviceFailed), 3),
     (b"abcde", Ok(2), 3),
     (b"abcde", Err(DeviceFailed), 4),
-    // A write that takes none of some bytes has failed.
+    // A write that takes none of at least one byte has failed.
     (b"abcde", Err(DeviceFailed), 5),
     (b"", Ok(0), 5),
 ];
 
-/// What is returned of a write of these bytes, and the failures from then on.
+/// What a write of these bytes returns, and the failures from then on.
 fn write(tally: &mut Tally<Scripted>, bytes: &[u8]) -> (Result<usize, DeviceFailed>, u64) {
     let written = tally.write(bytes);
     (written, tally.failures())

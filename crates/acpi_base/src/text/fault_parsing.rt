@@ -16,9 +16,8 @@ use crate::text::image_text::line::number_value;
 use crate::witness::Witness;
 use itoa::Buffer;
 
-/// The fault with this text, as `witness_text` writes it: `10 Overlap 0x30 0x58 0x0`. Returns `None` for every other
-/// text, also for one with a stage that is not the code's, with a blank too many, with leading zeros or with upper case
-/// digits. Takes no memory.
+/// Parses a fault as `witness_text` writes it: `10 Overlap 0x30 0x58 0x0`. Returns `None` for any other text, including
+/// one with another code's stage, an extra blank, leading zeros or upper case digits. Takes no memory.
 pub fn parse_witness(text: &[u8]) -> Option<Witness>
     ensures text { IfSome result (λ w. text.now ≡ witness_line w) }
     ensures every { (w : Witness) → NumbersFit w → text.now ≡ witness_line w → result ≡ Some w }
@@ -42,7 +41,7 @@ struct Words<'a> {
     point: &'a [u8],
 }
 
-/// What stands before, between and behind the first four blanks.
+/// The parts before, between and after the first four blanks.
 fn split_words(text: &[u8]) -> Option<Words<'_>>
     ensures { MatchOption result ((w : Witness) → NumbersFit w → ¬ (text.now ≡ witness_line w))
         (λ words. AreWords text.now words.stage.now words.name.now words.at.now words.other.now
@@ -61,7 +60,7 @@ fn split_words(text: &[u8]) -> Option<Words<'_>>
     })
 }
 
-/// What stands before the first blank, and what stands behind it.
+/// The parts before and after the first blank.
 fn split_word(text: &[u8]) -> Option<(&[u8], &[u8])>
     ensures { MatchOption result (list_all is_no_blank text.now ≡ true)
         (λ parts. (list_all is_no_blank parts.0.now ≡ true)
@@ -75,7 +74,7 @@ fn split_word(text: &[u8]) -> Option<(&[u8], &[u8])>
     None
 }
 
-/// The code with this name, where its stage is spelled so.
+/// The code with this name, if this is its stage in decimal.
 fn code_with(stage: &[u8], name: &[u8]) -> Option<Code>
     ensures { MatchOption result ((code : Code) → ¬ IsHead stage.now name.now code)
         (IsHead stage.now name.now) }
@@ -89,7 +88,7 @@ fn code_with(stage: &[u8], name: &[u8]) -> Option<Code>
     None
 }
 
-/// Whether these are the first two words of a fault with this code.
+/// Whether these are the stage and the name of this code.
 fn is_head(stage: &[u8], name: &[u8], code: Code) -> bool
     ensures { IsTrue result ↔ IsHead stage.now name.now code }
 {
@@ -123,7 +122,7 @@ fn hex_value(text: &[u8]) -> Option<u64>
     Some(number)
 }
 
-/// Whether a text is a number's digits.
+/// Whether the text is this number in hex digits.
 #[tactic(auto, using(crate::proofs::Texts::HexTexts::hex_last, crate::proofs::Texts::HexTexts::hex_next))]
 fn spells(text: &[u8], number: u64) -> bool
     ensures { IsTrue result ↔ (text.now ≡ digits 16 false number) }

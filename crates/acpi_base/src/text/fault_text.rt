@@ -22,7 +22,7 @@ fn add_number(line: &mut Vec<u8>, alloc: Global, number: u64) -> Result<(), Allo
 }
 
 /// The fault's text: its stage in decimal, its code's name, and its three numbers in lower case hex,
-/// with one blank between, as in `10 Overlap 0x30 0x58 0x0`.
+/// separated by single blanks, as in `10 Overlap 0x30 0x58 0x0`.
 #[tactic(auto, unfolding(crate::specs::Text::WitnessText::witness_line))]
 pub fn witness_text(alloc: Global, witness: &Witness) -> Result<Vec<u8>, AllocError>
     ensures { IfOk result (λ text. text.items ≡ witness_line witness.now) }
@@ -53,8 +53,8 @@ pub fn verdict_text(alloc: Global, verdict: &Verdict) -> Result<Vec<u8>, AllocEr
     }
 }
 
-/// The line of advice: `advice`, the rule's name, and its three numbers in lower case hex, with one blank between, and an LF, as
-/// in `advice SameUid 0x64 0x5c 0x6`.
+/// The line of advice: `advice`, the rule's name and its three numbers in lower case hex, separated by single blanks, and an LF,
+/// as in `advice SameUid 0x64 0x5c 0x6`.
 #[tactic(auto, unfolding(crate::specs::Text::WitnessText::advice_line))]
 pub fn advice_text(alloc: Global, advice: &Advice) -> Result<Vec<u8>, AllocError>
     ensures { IfOk result (λ text. text.items ≡ advice_line advice.now) }

@@ -1,4 +1,4 @@
-//! Images read from image text: lines of hex digits that say which bytes stand where.
+//! Images read from image text: lines of hex digits that say which bytes are at which addresses.
 
 mod digit;
 pub(crate) mod line;
@@ -14,6 +14,8 @@ ghost use Rattle.acpi_base.specs.Memory.{IsImage};
 ghost use Rattle.acpi_base.specs.Text.ImageText.{IsText, max_text};
 ghost use Rattle.acpi_base.specs.Text.TextMachine.{ReaderState, Stopped, EndsAs, IsGoing, initial_state, text_result, run};
 ghost use Rattle.acpi_base.specs.Text.TextReading.{IsRefusal, CountsRead};
+ghost use Rattle.acpi_base.specs.Text.Lines.{told};
+ghost use Rattle.acpi_base.specs.Text.LineBuffers.{IsLineBuffer};
 
 use crate::image::Image;
 use crate::tally::Tally;
@@ -29,21 +31,19 @@ const MAX_TEXT: usize = 67_108_864;
 /// How many bytes one read asks for.
 const PIECE: usize = 65_536;
 
-/// An image text that comes in pieces, which may be cut anywhere. One unfinished line is kept, and no more of
-/// the text.
+/// An image text that comes in pieces, which may end anywhere. Of the text only the incomplete last line is kept.
 ///
-/// A line is judged where its LF comes or the text ends, and for `TooLong` already at the first byte too
-/// many. The first line with a fault refuses the text. Lines count from 1. In one line the faults come in
-/// this order:
+/// A line is judged when its LF comes or the text ends; `TooLong` is returned at the first byte too many. The first line with
+/// a fault decides with what the text is refused. Lines count from 1. In one line the faults have this order:
 /// 1. `TooLong`: the line has more than 65,536 bytes, its LF not counted, or the text through its LF more
 ///    than 67,108,864.
-/// 2. `BadLine`: the line says nothing that a line can say.
+/// 2. `BadLine`: the line is neither an address, nor data, nor blank.
 /// 3. `NoAddress`: it is data, and no line before it gave an address.
-/// 4. `PastEnd`: its data passes the address 2^64 - 1, also where the data before it has reached that.
-/// 5. `Twice`: an address of its data is held already; the least one.
+/// 4. `PastEnd`: its data passes the address 2^64 - 1, even if the data before it ends there.
+/// 5. `Twice`: an address of its data has a byte already; the lowest such address.
 ///
-/// `Memory`: out of memory for the line or the image. Until the text is refused, it can be returned in place of any other
-/// result. Once refused, the text is refused with the same fault for good.
+/// `Memory`: out of memory for the line or the image. Until the text is refused, it can be returned instead of any other
+/// result. A refused text stays refused with the same fault.
 #[derive(Drop)]
 pub struct ImageText {
     buffer: LineBuffer,
@@ -78,8 +78,8 @@ impl ImageText {
         }
     }
 
-    /// Reads the next piece of the text. Refuses as above, with the first fault that stands in what has come.
-    /// A line that has not ended has none but `TooLong`. After a refusal it takes no memory.
+    /// Reads the next piece of the text. Refuses as above, with the first fault in the text so far. A line that has not
+    /// ended has no fault but `TooLong`. After a refusal it takes no memory.
     pub fn feed(&mut self, piece: &[u8]) -> Result<(), TextFault>
         ensures ok { OnOk result (self.new ≡ run self.old piece.now) }
         ensures going { OnOk result (IsGoing self.new) }
@@ -101,7 +101,7 @@ impl ImageText {
         }
     }
 
-    /// The text has ended: judges what has come of its last line, and returns the image of its data. After a refusal it
+    /// Ends the text: judges its last line as far as it has come, and returns the image of its data. After a refusal it
     /// takes no memory.
     pub fn finish(self) -> Result<Image, TextFault>
         ensures ok { IfOk result (EndsAs self) }
@@ -122,13 +122,26 @@ impl ImageText {
     }
 }
 
-/// Reads a text to its end or to its first fault, and returns the image of its data. A read of no bytes is
-/// the end. Refuses as `ImageText` does, and with
-/// `Read`, where a read failed, and neither the lines that had ended nor the lengths so far have a fault. A read that
-/// failed is told by `Read` alone: with any other result the reader's count of failures is as it was.
+/// The fault of a text after which a read has failed. The failure is counted, unless an address had come twice.
+fn failed_read<R>(buffer: LineBuffer, reader: &mut Tally<R>) -> TextFault
+    requires { IsLineBuffer buffer }
+    ensures fault { result ≡ told buffer.parser.image TextFault.Read }
+    ensures inner { reader.new.inner ≡ reader.old.inner }
+    ensures count { CountsRead reader.old.failures reader.new.failures result }
+{
+    let fault = buffer.first_fault(TextFault::Read);
+    if fault == TextFault::Read {
+        reader.count_failure();
+    }
+    fault
+}
+
+/// Reads a text to its end or to its first fault, and returns the image of its data. A read of no bytes is the end.
+/// Refuses as `ImageText` does, and with `Read` if a read failed, and neither the complete lines nor the lengths so far
+/// have a fault. Only `Read` reports a failed read: with any other result the reader's count of failures is unchanged.
 ///
-/// At most 67,108,865 bytes are read, so a reader that never ends is refused. What was read is gone from
-/// the reader, whatever is returned.
+/// A text that gives an address twice may be read on past that line, at most to its end. At most 67,108,865 bytes are
+/// read, so a reader that never ends is refused. Whatever is returned, what was read is gone from the reader.
 pub fn read_image<R: Read>(alloc: Global, reader: &mut Tally<R>) -> Result<Image, TextFault>
     ensures text { (text : List ℕ)
         × Consumes (R.remaining reader.old.inner) (R.remaining reader.new.inner) text
@@ -140,20 +153,20 @@ pub fn read_image<R: Read>(alloc: Global, reader: &mut Tally<R>) -> Result<Image
     ensures count { MatchResult result (λ _. reader.new.failures ≡ reader.old.failures)
         (CountsRead reader.old.failures reader.new.failures) }
 {
-    let mut text = ImageText::new(alloc);
+    let mut buffer = LineBuffer::draft(alloc);
     let mut piece = [0; PIECE];
     let mut total = 0;
     'pieces: loop {
         // One byte more than a text may have shows that it is too long.
         let room = (MAX_TEXT + 1 - total).min(PIECE);
-        let Ok(count) = reader.read(&mut piece[..room]) else {
-            return Err(TextFault::Read);
+        let Ok(count) = reader.attempt(&mut piece[..room]) else {
+            return Err(failed_read(buffer, reader));
         };
         if count == 0 {
-            return text.finish();
+            return buffer.finish(alloc);
         }
-        if let Err(fault) = text.feed(&piece[..count]) {
-            return Err(fault);
+        if let Err(fault) = buffer.take(&piece[..count]) {
+            return Err(buffer.first_fault(fault));
         }
         total += count;
     }

@@ -1,4 +1,4 @@
-//! Images as text, which `read_image` reads.
+//! Images written as text, which `read_image` reads.
 
 #[cfg(test)]
 mod tests;
@@ -57,12 +57,12 @@ fn write_run(
     Ok(())
 }
 
-/// Writes an image as text: for each run of held addresses, in rising order, `@` and its first address, and then its
-/// bytes, 16 a line, as pairs of hex digits with one blank between them. Digits are in lower case, the address has no
-/// leading zeros, and each line ends with LF.
+/// Writes an image as text: for each run of addresses with bytes, in rising order, `@` and its first address, and then
+/// its bytes, 16 per line, as pairs of hex digits separated by single blanks. Digits are in lower case, the address has
+/// no leading zeros, and each line ends with LF.
 ///
-/// An image has one such text. `read_image` reads it as the image where it has at most 67,108,864 bytes, and refuses a
-/// longer one with `TooLong`.
+/// An image has one such text. `read_image` reads it as the image if it has at most 67,108,864 bytes, and refuses a longer
+/// one with `TooLong`.
 #[tactic(auto, using(crate::proofs::Texts::Written::WrittenRuns::written_runs))]
 pub fn image_text(alloc: Global, image: &Image) -> Result<Vec<u8>, AllocError>
     ensures { IfOk result (λ text. IsWritten text.items image.now) }

@@ -15,7 +15,7 @@ pub enum Owner {
     Pptt,
 }
 
-/// Adds a line for each of the entries of a table, and `OFFSET cut` for the bytes behind them that are no entry.
+/// Adds a line for each entry of a table, and `OFFSET cut` if bytes that are not an entry follow them.
 pub fn add_entries(
     text: &mut String,
     owner: Owner,
@@ -48,7 +48,7 @@ impl fmt::Display for EntryLine<'_> {
     }
 }
 
-/// `entry type N length N`: an entry whose type is not one that is shown, or whose length is not one of its type.
+/// `entry type N length N`: an entry of a type that is not shown, or with a length that its type does not have.
 pub fn write_other<W: fmt::Write>(f: &mut fmt::Formatter<W>, entry: &Entry<'_>) -> fmt::Result {
     write!(f, "entry type {} length {}", entry.bytes[0], entry.bytes[1])
 }

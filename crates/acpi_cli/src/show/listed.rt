@@ -1,18 +1,18 @@
-//! Tables of which no more is shown.
+//! Tables whose contents are not shown.
 
 use std::alloc::AllocError;
 use std::fmt::Write;
 
-/// Why no more is shown of a table.
+/// Why the contents of a table are not shown.
 #[derive(Clone, Copy)]
 pub enum Unread {
     /// It is too short for the fields that are shown.
     Short,
-    /// It is not as the standard asks.
+    /// It does not meet the standard.
     Bad,
 }
 
-/// Adds the line of a table of which no more is shown: `TABLE ADDRESS short`, or `TABLE ADDRESS bad`.
+/// Adds the line of a table whose contents are not shown: `TABLE ADDRESS short`, or `TABLE ADDRESS bad`.
 pub fn add_unread(
     text: &mut String,
     table: &'static str,

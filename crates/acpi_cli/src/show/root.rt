@@ -47,7 +47,7 @@ fn add_slot(text: &mut String, set: &ListedSet<'_>, slot: u32) -> Result<(), All
     writeln!(text, " revision {}", header.revision)
 }
 
-/// A signature as four characters: those of ASCII that can be printed as they are, 20h to 7Eh, any other byte as a dot.
+/// A signature as four characters: printable ASCII, 0x20 to 0x7e, as it is, any other byte as a dot.
 #[derive(Clone, Copy)]
 struct Signature([u8; 4]);
 

@@ -4,7 +4,7 @@ use super::Uninterrupted;
 use std::io;
 use std::io::{ErrorKind, Read, Write};
 
-/// Answers its calls one after another with these counts of bytes and errors. Behind them each call is interrupted.
+/// Returns these counts of bytes and errors, one for each call. After them each call is interrupted.
 #[derive(Drop)]
 struct Scripted {
     answers: &'static [Result<usize, ErrorKind>],

@@ -11,23 +11,23 @@ use super::starts::{Starts, entry_noted, note_starts};
 use super::{Link, named};
 use acpi_base::{Code, Witness};
 
-/// How many bytes a block of the table has for which one start is noted, at least.
+/// The minimum size of a block of the table with one noted start, in bytes.
 const LEAST_BLOCK: usize = 128;
 
-/// How many starts are noted of a table of at most 512 KiB, and of a larger one: for so many a block has its least size up to
-/// 32 MiB, which is more than an image text can hold.
+/// How many starts are noted for a table of at most 512 KiB, and for a larger one. With this many, blocks have their
+/// minimum size up to 32 MiB, which is more than an image text can hold.
 const FEW_NOTES: usize = 4096;
 
 const MANY_NOTES: usize = 262_144;
 
-/// A node or a cache: where it stands, and the offset that it names by the link.
+/// A node or a cache: its offset, and the offset that it refers to by the link.
 #[derive(Clone, Copy)]
 struct Linked {
     at: u64,
     names: u64,
 }
 
-/// The offset that the node or cache at an offset names, looked up by the noted starts.
+/// The offset that the node or cache at an offset refers to, looked up by the noted starts.
 fn named_by(pptt: &[u8], link: Link, starts: &Starts<'_>, at: u64) -> Option<u64>
     requires { AreStarts starts.now.size starts.now.notes.now pptt.now }
     ensures { IsOnly (Names link (pptt_contents pptt.now) at) result }
@@ -54,7 +54,7 @@ fn step(pptt: &[u8], link: Link, starts: &Starts<'_>, here: Linked) -> Option<Li
     })
 }
 
-/// Where so many steps lead from an offset.
+/// Where this many steps lead from an offset.
 #[tactic(auto, using(crate::proofs::Chains::led))]
 fn follow(pptt: &[u8], link: Link, starts: &Starts<'_>, from: u64, steps: u64) -> Option<u64>
     requires { AreStarts starts.now.size starts.now.notes.now pptt.now }
@@ -75,7 +75,7 @@ fn follow(pptt: &[u8], link: Link, starts: &Starts<'_>, from: u64, steps: u64) -
     Some(here.at)
 }
 
-/// Whether a cycle has a step, and the steps to it and round it are at most `most`.
+/// Whether a cycle has a step, and the steps to it and around it are at most `most`.
 fn steps_fit(most: u64, lead: u64, round: u64) -> bool
     ensures { IsTrue result ↔ ((1 ≤ round) × (lead + round ≤ most)) }
 {
@@ -102,7 +102,8 @@ fn goes_round(pptt: &[u8], link: Link, most: u64, witness: &Witness, room: &mut 
     follow(pptt, link, &starts, there, round) == Some(there)
 }
 
-/// The same of a large table, whose notes take 256 KiB of the stack. It is not inlined, so that no other call takes as much.
+/// The same for a large table, whose notes take 256 KiB of the stack. It is not inlined, so that no other call takes
+/// as much.
 #[inline(never)]
 fn is_long_cycle(pptt: &[u8], link: Link, most: u64, witness: &Witness) -> bool
     ensures { IsTrue result ↔ IsCycle (Names link (pptt_contents pptt.now)) most witness.now.at
@@ -111,8 +112,8 @@ fn is_long_cycle(pptt: &[u8], link: Link, most: u64, witness: &Witness) -> bool
     goes_round(pptt, link, most, witness, &mut [0; MANY_NOTES])
 }
 
-/// Whether `other` steps lead from the offset `at` to one from which `point` steps lead back to it, at most `most` in all. Nor is
-/// it inlined, as the notes of a small table take 4 KiB.
+/// Whether `other` steps lead from the offset `at` to one from which `point` steps lead back to it, at most `most` in
+/// all. It is not inlined either, since the notes of a small table take 4 KiB.
 #[inline(never)]
 fn is_cycle(pptt: &[u8], link: Link, most: u64, witness: &Witness) -> bool
     ensures { IsTrue result ↔ IsCycle (Names link (pptt_contents pptt.now)) most witness.now.at

@@ -1,8 +1,9 @@
-//! Where entries of a PPTT begin, noted so that a look-up does not walk from the first entry on.
+//! Notes of where entries of a PPTT begin, so that a look-up does not walk from the first entry on.
 //!
-//! The table's bytes are cut into blocks of one size. One walk over all entries notes of each block where its first
-//! entry of a kind begins, in one byte. A look-up of such an entry goes on from the note of its block, so it walks over
-//! one block at most. That a note is the start of an entry is proved; that it is the best one matters for time alone.
+//! The table's bytes are divided into blocks of one size. One walk over all entries notes for each block where its
+//! first entry of a kind begins, in one byte. A look-up of such an entry starts at the note of its block, so it walks
+//! over at most one block. It is proved that a note is the start of an entry; that it is the best one matters only
+//! for time.
 
 ghost use Rattle.std.specs.Prelude.{◌≡◌, ◌≤◌, IfSome, MatchBool, None};
 ghost use Rattle.std.specs.Option.{option_map};
@@ -13,7 +14,7 @@ ghost use Rattle.acpi_confirm.specs.Walks.{IsOnWay, IsThere};
 use super::{FIRST_ENTRY, Link, named};
 use crate::entries::{comes_to, entry_from};
 
-/// The note of a block that says nothing. So only distances below it can be noted.
+/// The note of a block without a noted start. So only distances below it can be noted.
 const NOTHING: u8 = 255;
 
 /// Notes of starts: how many bytes a block has, and the note of each block.
@@ -23,14 +24,14 @@ pub(super) struct Starts<'a> {
     pub(super) notes: &'a [u8],
 }
 
-/// A block that a walk has come to: where it begins, and whether an entry that is sought has been noted there.
+/// A block that a walk has reached: where it begins, and whether a wanted entry has been noted there.
 #[derive(Clone, Copy)]
 struct Block {
     begin: usize,
     is_found: bool,
 }
 
-/// Notes an entry's start in place of what is noted of its block, where the distance fits into a note.
+/// Notes an entry's start for its block, instead of the earlier note, if the distance fits into a note.
 fn note(notes: &mut [u8], size: usize, start: usize)
     requires { 1 ≤ size }
     ensures { AreNotedWith size start notes.old notes.new }
@@ -42,8 +43,8 @@ fn note(notes: &mut [u8], size: usize, start: usize)
     }
 }
 
-/// The block of an entry's start, when the walk comes to it from a start in `here`. The first entry of a block is noted, and
-/// then the first one that is sought.
+/// The block of an entry's start, when the walk reaches it from a start in `here`. The first entry of a block is
+/// noted, and then the first wanted one.
 fn pass(notes: &mut [u8], size: usize, here: Block, start: usize, is_sought: bool) -> Block
     requires size { 1 ≤ size }
     requires behind { here.begin ≤ start }
@@ -61,7 +62,8 @@ fn pass(notes: &mut [u8], size: usize, here: Block, start: usize, is_sought: boo
     }
 }
 
-/// Notes starts of the table's entries by blocks of a size, of each block that of its first entry of the link's kind.
+/// Notes starts of the table's entries by blocks of a size: for each block that of its first entry of the link's
+/// kind.
 pub(super) fn note_starts(pptt: &[u8], link: Link, size: usize, notes: &mut [u8])
     requires { 1 ≤ size }
     ensures { AreStarts size notes.new pptt.now }
@@ -79,7 +81,7 @@ pub(super) fn note_starts(pptt: &[u8], link: Link, size: usize, notes: &mut [u8]
     }
 }
 
-/// The start that is noted of an offset's block, where it is not behind the offset.
+/// The start that is noted for an offset's block, if it is not after the offset.
 fn noted_before(starts: &Starts<'_>, at: u64) -> Option<usize>
     requires { 1 ≤ starts.now.size }
     ensures { IfSome result (λ start. (start ≤ at)
@@ -94,8 +96,8 @@ fn noted_before(starts: &Starts<'_>, at: u64) -> Option<usize>
     Some(at - distance + usize::from(note))
 }
 
-/// Whether the walk over the table's entries comes to an offset. Where no start is noted that it can go on from, no entry of
-/// the kind that was sought stands there, and it begins at the first entry.
+/// Whether the walk over the table's entries reaches an offset. If there is no noted start from which it can
+/// continue, no entry of the wanted kind is there, and it begins at the first entry.
 fn is_reached(pptt: &[u8], starts: &Starts<'_>, at: u64) -> bool
     requires { AreStarts starts.now.size starts.now.notes.now pptt.now }
     ensures { MatchBool result (IsOnWay 36 at pptt.now at)
@@ -107,7 +109,7 @@ fn is_reached(pptt: &[u8], starts: &Starts<'_>, at: u64) -> bool
     }
 }
 
-/// The entry that stands at an offset, where one does. The bytes there are read before the walk up to them, so that the
+/// The entry at an offset, if there is one. The bytes there are read before the walk up to them, so that the
 /// processor fetches both from memory at once.
 #[tactic(auto, using(crate::proofs::Starts::nothing_there))]
 pub(super) fn entry_noted<'a>(pptt: &'a [u8], starts: &Starts<'_>, at: u64) -> Option<&'a [u8]>

@@ -6,7 +6,7 @@ use std::test::Fail;
 /// A start and a length.
 type Pair = (u32, u16);
 
-/// Where the spans of the pairs meet first, and the count of comparisons.
+/// The first number at which the spans of the pairs overlap, and the count of comparisons.
 fn meeting_of(alloc: Global, pairs: &[Pair]) -> Result<(Option<u32>, usize), AllocError> {
     let mut spans = Vec::new(alloc);
     for &(start, length) in pairs {
@@ -28,7 +28,7 @@ fn a_span_ends_behind_its_last_number(rt: HostRuntime) -> Result<(), Fail> {
 /// The highest number.
 const TOP: u32 = u32::MAX;
 
-/// Spans, where they meet first, and the count of comparisons.
+/// Spans, the first number at which they overlap, and the count of comparisons.
 const SPANS: [(&[Pair], (Option<u32>, usize)); 12] = [
     (&[], (None, 0)),
     (&[(3, 1)], (None, 0)),

@@ -7,7 +7,7 @@ use std::alloc::{AllocError, Global};
 use std::process::Abort;
 use std::test::Fail;
 
-/// Whether no two spans have one name: each is compared with all before it.
+/// Whether all ids differ: each is compared with all before it.
 fn names_differ(spans: &[Span]) -> bool
     ensures { IsTrue result → NamesDiffer spans.now }
 {
@@ -21,7 +21,7 @@ fn names_differ(spans: &[Span]) -> bool
     true
 }
 
-/// Whether each name is above the one before it, and so no two are one.
+/// Whether each id is greater than the one before it, so that all differ.
 fn names_rise(spans: &[Span]) -> bool
     ensures { IsTrue result → NamesDiffer spans.now }
 {
@@ -33,10 +33,10 @@ fn names_rise(spans: &[Span]) -> bool
     true
 }
 
-/// A start, an end and a name.
+/// A start, an end and an id.
 type Triple = (u128, u128, u32);
 
-/// The spans of the triples that are one.
+/// The spans of the triples that are a span.
 fn spans_of(alloc: Global, triples: &[Triple]) -> Result<Vec<Span>, AllocError> {
     let mut spans = Vec::new(alloc);
     for triple in triples {
@@ -93,10 +93,10 @@ fn first_clashes(rt: HostRuntime) -> Result<(), Fail> {
     Ok(())
 }
 
-/// How far the small spans reach.
+/// The limit of the small spans.
 const REACH: u8 = 5;
 
-/// The first span by start and name that holds the number, other than the one of a name.
+/// The first span by start and id that contains the number, other than the one with this id.
 fn first_holder(spans: &[Span], number: u128, other_than: Option<u32>) -> Option<Span> {
     let mut first: Option<Span> = None;
     for span in spans {
@@ -112,7 +112,7 @@ fn first_holder(spans: &[Span], number: u128, other_than: Option<u32>) -> Option
     first
 }
 
-/// The first overlap, looked for at each number in turn.
+/// The first overlap, searched for at each number in turn.
 fn plain_clash(spans: &[Span]) -> Clash {
     for number in 0..REACH {
         let point = u128::from(number);
@@ -135,7 +135,7 @@ fn judge(rt: &impl Abort, alloc: Global, triples: &[Triple]) -> Result<(), Alloc
     Ok(())
 }
 
-/// The start and the end of each span within the reach.
+/// The start and the end of each span within the limit.
 const RANGES: [(u128, u128); 15] = [
     (0, 1),
     (0, 2),
@@ -154,7 +154,7 @@ const RANGES: [(u128, u128); 15] = [
     (4, 5),
 ];
 
-/// The orders of three names.
+/// The orders of three ids.
 const ORDERS: [(u32, u32, u32); 6] = [
     (1, 2, 3),
     (1, 3, 2),
@@ -164,7 +164,7 @@ const ORDERS: [(u32, u32, u32); 6] = [
     (3, 2, 1),
 ];
 
-/// Judges the two ranges with each as a third, under each order of three names.
+/// Judges the two ranges with each range as a third one, under each order of three ids.
 fn judge_thirds(
     rt: &impl Abort,
     alloc: Global,
@@ -195,11 +195,11 @@ fn agrees_with_the_plain_search(rt: HostRuntime) -> Result<(), Fail> {
     Ok(())
 }
 
-// It has no factor in common with 77,777 = 7 * 41 * 271, so each place comes once.
+// It has no factor in common with 77,777 = 7 * 41 * 271, so each position comes once.
 const PLACES: u32 = 200_000;
 
-/// Touching spans of 16 numbers each. The names rise from 0, and the span of each name stands 77,777
-/// places after the one before it, cyclically, so the starts are shuffled.
+/// Touching spans of 16 numbers each. The ids rise from 0, and the span of each id is 77,777 positions after the one
+/// before it, cyclically, so the starts are shuffled.
 fn shuffled(alloc: Global) -> Result<Vec<Span>, AllocError> {
     let mut spans = Vec::new(alloc);
     for name in 0..PLACES {
@@ -212,7 +212,7 @@ fn shuffled(alloc: Global) -> Result<Vec<Span>, AllocError> {
     Ok(spans)
 }
 
-/// How many shuffled spans there are, with one more of a higher name if it is given, and their first overlap.
+/// This many shuffled spans, with one more of a higher id if it is given, and their first overlap.
 fn shuffled_clash(
     rt: &impl Abort,
     alloc: Global,
@@ -234,8 +234,8 @@ fn many_shuffled_spans(rt: HostRuntime) -> Result<(), Fail> {
     let touching = shuffled_clash(&rt, alloc, None)?;
     assert!(rt; touching == (200_000, Clash::None, 199_999));
 
-    // 150,000 * 77,777 leaves 150,000 when divided by 200,000, so the span of that name stands at
-    // that place, from 2,400,000 on. The pairs up to it and the span within it are compared.
+    // 150,000 * 77,777 modulo 200,000 is 150,000, so the span of that id is at that position, from 2,400,000 on. The
+    // pairs up to it and the span within it are compared.
     let within = Span::new(2_400_007, 2_400_009, PLACES);
     let overlapping = shuffled_clash(&rt, alloc, within)?;
     assert!(rt; overlapping == (200_001, at(150_000, 200_000, 2_400_007), 150_001));

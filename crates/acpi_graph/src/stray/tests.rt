@@ -56,7 +56,7 @@ fn first_strays(rt: HostRuntime) -> Result<(), Fail> {
     Ok(())
 }
 
-/// The node after so many steps.
+/// The node after this many steps.
 fn plain_after(parents: &[Option<usize>], node: usize, steps: usize) -> Option<usize> {
     let mut there = node;
     for _ in 0..steps {
@@ -65,7 +65,7 @@ fn plain_after(parents: &[Option<usize>], node: usize, steps: usize) -> Option<u
     Some(there)
 }
 
-/// The first lead and round of a node after which it stands where it stood, each tried in turn.
+/// The first lead and round of a node after which it is again at the same node, each tried in turn.
 fn plain_round(parents: &[Option<usize>], node: usize) -> Stray {
     for lead in 0..parents.len() {
         for again in lead + 1..=parents.len() {
@@ -78,7 +78,7 @@ fn plain_round(parents: &[Option<usize>], node: usize) -> Stray {
     Stray::None
 }
 
-/// The first stray: a chain that goes on for as many steps as there are nodes never ends.
+/// The first stray: a chain that continues for as many steps as there are nodes never ends.
 fn plain_stray(parents: &[Option<usize>]) -> Stray {
     for node in 0..parents.len() {
         if plain_after(parents, node, parents.len()).is_some() {

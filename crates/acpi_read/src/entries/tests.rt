@@ -3,10 +3,10 @@ use crate::samples::image_of_table;
 use acpi_base::{Image, TableKind};
 use std::test::*;
 
-/// A table's signature and body, and the entries that stand in it, each at its offset.
+/// A table's signature and body, and its entries, each with its offset.
 type Case<'a> = ([u8; 4], &'a [u8], &'a [(u64, &'a [u8])]);
 
-/// Tables behind whose entries nothing is cut off.
+/// Tables without a cut.
 const TABLES: [Case; 3] = [
     (
         *b"APIC",
@@ -19,7 +19,7 @@ const TABLES: [Case; 3] = [
             (49, &[0xc3, 4, 0xa2, 0xa3]),
         ],
     ),
-    // Its first 12 bytes behind the header would be entries of a PPTT.
+    // Its first 12 bytes after the header would be entries if it were a PPTT.
     (
         *b"SRAT",
         &[1, 3, 0, 0, 9, 0, 0, 0, 0, 0, 0, 0, 0xc1, 3, 0xa1],
@@ -32,7 +32,7 @@ const TABLES: [Case; 3] = [
     ),
 ];
 
-/// The entries of the table of the image, as its signature says.
+/// The entries of the table in the image, read by its signature.
 fn entries_of(image: &Image) -> Result<Entries<'_>, Code> {
     let table = Table::read(image, 0x1000)?;
     match TableKind::of(table.bytes()) {
@@ -42,7 +42,7 @@ fn entries_of(image: &Image) -> Result<Entries<'_>, Code> {
     }
 }
 
-/// Whether the entries of the table of the image are these, and nothing is cut off behind them.
+/// Whether the entries of the table in the image are these, and there is no cut.
 fn has_entries(image: &Image, expected: &[(u64, &[u8])]) -> Result<bool, Code> {
     let mut entries = entries_of(image)?;
     for (offset, bytes) in expected {
@@ -63,7 +63,7 @@ fn entries_stand_at_their_offsets(rt: HostRuntime) -> Result<(), Fail> {
     Ok(())
 }
 
-/// The offset of the last entry of a PPTT, and where the table is cut behind it.
+/// The offset of the last entry of a PPTT, and the cut after it.
 fn last_and_cut(image: &Image) -> Result<(Option<u64>, Option<u64>), Code> {
     let mut entries = Entries::pptt(Table::read(image, 0x1000)?);
     let mut last = None;
@@ -73,7 +73,7 @@ fn last_and_cut(image: &Image) -> Result<(Option<u64>, Option<u64>), Code> {
     Ok((last, entries.cut()))
 }
 
-/// Bodies of a PPTT, the offset of the last entry of each, and where it is cut behind that.
+/// Bodies of a PPTT, the offset of the last entry of each, and the cut after it.
 const CUT: [(&[u8], Option<u64>, Option<u64>); 7] = [
     (&[], None, None),
     // A single byte.
@@ -82,7 +82,7 @@ const CUT: [(&[u8], Option<u64>, Option<u64>); 7] = [
     // Lengths of 0 and 1.
     (&[0xc1, 3, 0xa1, 7, 0], Some(36), Some(39)),
     (&[0xc1, 3, 0xa1, 7, 1, 0xc2, 2], Some(36), Some(39)),
-    // A length past the end by one byte, and one up to the end.
+    // A length that passes the end by one byte, and one that reaches the end.
     (&[0xc1, 2, 7, 5, 0xa1, 0xa2], Some(36), Some(38)),
     (&[0xc1, 2, 7, 4, 0xa1, 0xa2], Some(38), None),
 ];
@@ -97,14 +97,14 @@ fn what_is_no_entry_is_cut_off(rt: HostRuntime) -> Result<(), Fail> {
     Ok(())
 }
 
-/// Why the table of the image has no entries of a MADT, and none of an SRAT.
+/// Why the table in the image is refused as a MADT, and as an SRAT.
 fn refusals(image: &Image) -> Result<[Option<Code>; 2], Code> {
     let madt = Entries::madt(Table::read(image, 0x1000)?).err();
     let srat = Entries::srat(Table::read(image, 0x1000)?).err();
     Ok([madt, srat])
 }
 
-/// Bodies, and why each has no entries of a MADT, and none of an SRAT.
+/// Bodies, and why each is refused as a MADT, and as an SRAT.
 const SHORT: [(&[u8], [Option<Code>; 2]); 4] = [
     (&[0; 7], [Some(Code::MadtShort), Some(Code::SratShort)]),
     (&[0; 8], [None, Some(Code::SratShort)]),

@@ -3,13 +3,13 @@ use crate::samples::{facs, fadt_body, image_of_table};
 use crate::table::Table;
 use std::test::*;
 
-/// The FACS that the FADT at 1000h names.
+/// The FACS that the FADT at 0x1000 names.
 fn named_facs(image: &Image) -> Result<Option<Facs<'_>>, Code> {
     let fadt = Fadt::new(Table::read(image, 0x1000)?)?;
     Facs::read(image, &fadt)
 }
 
-/// Whether the FACS that the FADT names stands at the address, and has these bytes.
+/// Whether the FACS that the FADT names is at the address, and has these bytes.
 fn is_facs(image: &Image, address: u64, bytes: &[u8]) -> Result<bool, Code> {
     match named_facs(image)? {
         Some(facs) => Ok(facs.address() == address && facs.bytes() == bytes),

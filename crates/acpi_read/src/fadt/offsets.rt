@@ -1,4 +1,4 @@
-//! The offsets of the fields of a FADT that are asked for by name (ACPI 6.5, table 5.9).
+//! The offsets of the fields of a FADT that are read by name (ACPI 6.5, table 5.9).
 
 pub const FIRMWARE_CTRL: usize = 36;
 

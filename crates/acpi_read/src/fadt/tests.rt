@@ -47,7 +47,7 @@ const FIELDS: [(u8, u8, u64); 38] = [
     (37, 4, 0x0100_80a5), // Flags
 ];
 
-/// The bytes of the fields, one behind the other.
+/// The bytes of the fields, one after the other.
 fn body_of(alloc: Global, fields: &[(u8, u8, u64)]) -> Result<Vec<u8>, Fail> {
     let mut body = Vec::new(alloc);
     for (_, length, value) in fields {
@@ -76,7 +76,7 @@ fn expect_fadt(rt: &impl Abort, image: &Image) -> Result<(), Code> {
     Ok(())
 }
 
-// What else it says is shown by tests/show.
+// The other fields are tested by tests/show.
 #[test]
 fn fields_have_their_numbers(rt: HostRuntime) -> Result<(), Fail> {
     let body = body_of(rt.alloc(), &FIELDS)?;

@@ -7,7 +7,7 @@ use crate::samples::expect_layout;
 use acpi_base::field::{Value, put_values, u8_at, u16_at, u32_at, u64_at};
 use std::test::*;
 
-/// A made-up entry of type 200, with parts of every kind but bytes that stand as they are.
+/// A made-up entry of type 200, with parts of every kind except plain bytes.
 #[derive(Clone, Copy, Debug, PartialEq, Eq)]
 struct Entry {
     class: u8,

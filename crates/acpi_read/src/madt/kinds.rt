@@ -106,15 +106,15 @@ impl FixedKind for IoApic {
     ghost laid = { (refl, refl, layouts.io_apic_laid, λ _ _ same. Prim.search rules) };
 }
 
-/// An interrupt source override (ACPI 6.5, 5.2.12.5): type 2, 10 bytes. It gives an ISA interrupt its
-/// interrupt number. Any bus is read, and any flags.
+/// An interrupt source override (ACPI 6.5, 5.2.12.5): type 2, 10 bytes. It gives an ISA interrupt its interrupt
+/// number. Any bus and any flags are read.
 #[derive(Clone, Copy, Debug, PartialEq, Eq)]
 pub struct Override {
     /// At 2: 0, for ISA.
     pub bus: u8,
     /// At 3: the ISA interrupt.
     pub source: u8,
-    /// At 4: the interrupt number that it has.
+    /// At 4: the interrupt number that it is given.
     pub gsi: u32,
     /// At 8: MPS INTI flags: bits 1:0 are the polarity, bits 3:2 the trigger mode.
     pub flags: u16,
@@ -201,7 +201,7 @@ impl FixedKind for NmiSource {
 /// Any flags are read.
 #[derive(Clone, Copy, Debug, PartialEq, Eq)]
 pub struct LocalNmi {
-    /// At 2: the processor's UID; FFh for all processors.
+    /// At 2: the processor's UID; 0xFF for all processors.
     pub uid: u8,
     /// At 3: MPS INTI flags: bits 1:0 are the polarity, bits 3:2 the trigger mode.
     pub flags: u16,
@@ -246,8 +246,8 @@ impl FixedKind for LocalNmi {
     ghost laid = { (refl, refl, layouts.local_nmi_laid, λ _ _ same. Prim.search rules) };
 }
 
-/// A local APIC address override (ACPI 6.5, 5.2.12.8): type 5, 12 bytes. Its address stands for the 32-bit
-/// one in the MADT's header. Bytes 2 and 3 are reserved.
+/// A local APIC address override (ACPI 6.5, 5.2.12.8): type 5, 12 bytes. Its address replaces the 32-bit one in the
+/// MADT. Bytes 2 and 3 are reserved.
 #[derive(Clone, Copy, Debug, PartialEq, Eq)]
 pub struct AddressOverride {
     /// At 4: the physical address of the local APICs.
@@ -331,13 +331,13 @@ impl FixedKind for X2apic {
     ghost laid = { (refl, refl, layouts.x2apic_laid, λ _ _ same. Prim.search rules) };
 }
 
-/// A local x2APIC NMI (ACPI 6.5, 5.2.12.13): type 0Ah, 12 bytes. It says which input of a local x2APIC is
-/// an NMI. Any flags are read. Bytes 9 to 11 are reserved.
+/// A local x2APIC NMI (ACPI 6.5, 5.2.12.13): type 0x0A, 12 bytes. It says which input of a local x2APIC is an NMI.
+/// Any flags are read. Bytes 9 to 11 are reserved.
 #[derive(Clone, Copy, Debug, PartialEq, Eq)]
 pub struct X2apicNmi {
     /// At 2: MPS INTI flags: bits 1:0 are the polarity, bits 3:2 the trigger mode.
     pub flags: u16,
-    /// At 4: the processor's UID; FFFFFFFFh for all processors.
+    /// At 4: the processor's UID; 0xFFFFFFFF for all processors.
     pub uid: u32,
     /// At 8: the input, LINT0 or LINT1.
     pub lint: u8,

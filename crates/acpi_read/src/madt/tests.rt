@@ -114,7 +114,7 @@ fn x2apic_nmi_is_read_and_written(rt: HostRuntime) {
     expect_layout(&rt, value, &bytes);
 }
 
-/// Bytes of other types and other lengths, and whether they are read, as opaque.
+/// Bytes of other types and other lengths, and whether they are read as opaque.
 const OTHERS: [(&[u8], bool); 5] = [
     (&[0x0b, 0x06, 0xa1, 0xa2, 0xa3, 0xa4], true),
     (&[0xff, 0x02], true),
@@ -135,6 +135,6 @@ fn other_types_are_opaque_and_other_lengths_refused(rt: HostRuntime) {
         );
         assert!(rt; LocalNmi::read(bytes).is_none(), "{bytes:?}");
     }
-    // As long as a Local APIC NMI is, with the length byte 8.
+    // The bytes of a Local APIC NMI, but with the length byte 8.
     assert!(rt; LocalNmi::read(&[0x04, 0x08, 0xa1, 0xb1, 0xb2, 0xc1]).is_none());
 }

@@ -12,7 +12,7 @@ use acpi_base::field::{Value, put_values, u8_at, u16_at, u32_at};
 /// fields are valid is not checked.
 #[derive(Clone, Copy, Debug, PartialEq, Eq)]
 pub struct Cache24 {
-    /// At 4: which of the fields behind it are valid.
+    /// At 4: which of the fields after it are valid.
     pub flags: u32,
     /// At 8: the offset of the cache of the next level, from the table's start; 0 for none.
     pub next_level: u32,
@@ -78,7 +78,7 @@ impl FixedKind for Cache24 {
 /// fields are valid is not checked.
 #[derive(Clone, Copy, Debug, PartialEq, Eq)]
 pub struct Cache28 {
-    /// At 4: which of the fields behind it are valid.
+    /// At 4: which of the fields after it are valid.
     pub flags: u32,
     /// At 8: the offset of the cache of the next level, from the table's start; 0 for none.
     pub next_level: u32,

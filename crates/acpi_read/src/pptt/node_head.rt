@@ -5,9 +5,9 @@ ghost use Rattle.std.specs.Prelude.{◌≡◌, ◌≤◌, refl};
 use crate::layout::Layout;
 use acpi_base::field::{Value, put_values, u8_at, u32_at};
 
-/// The first 20 bytes of a processor hierarchy node (ACPI 6.5, 5.2.30.1): type 0. Behind them stand references to
-/// its private resources, of 4 bytes each. Bytes 2 and 3 are reserved; the length, at 1, is that of the head
-/// and the references, 20 + 4 * count.
+/// The first 20 bytes of a processor hierarchy node (ACPI 6.5, 5.2.30.1): type 0. They are followed by references to
+/// its private resources, of 4 bytes each. Bytes 2 and 3 are reserved; the length, at 1, is that of the head and the
+/// references, 20 + 4 * count.
 #[derive(Clone, Copy, Debug, PartialEq, Eq)]
 pub struct NodeHead {
     /// At 4: bit 0 is Physical package, bit 1 ACPI Processor ID valid, bit 2 Processor is a Thread, bit 3 Node
@@ -17,7 +17,7 @@ pub struct NodeHead {
     pub parent: u32,
     /// At 12: the ACPI Processor ID.
     pub id: u32,
-    /// At 16: how many private resources it has. More do not fit the length.
+    /// At 16: how many private resources it has. The length byte limits them.
     pub count: u32,
     pub ghost fits: { count ≤ 58 },
 }

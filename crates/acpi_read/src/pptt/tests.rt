@@ -24,7 +24,7 @@ fn node_is_read_and_written(rt: HostRuntime) {
     assert!(rt; PpttEntry::read(&bytes) == Ok(PpttEntry::Node(HEAD, &bytes[20..])));
 }
 
-/// A node with no private resource, whose length byte and count of resources are these.
+/// A node without private resources, with this length byte and this count of resources.
 fn node(length: u8, count: u8) -> [u8; 20] {
     [
         0x00, length, 0x00, 0x00, 0xa1, 0xa2, 0xa3, 0xa4, 0xb1, 0xb2, 0xb3, 0xb4, 0xc1, 0xc2, 0xc3,
@@ -32,7 +32,7 @@ fn node(length: u8, count: u8) -> [u8; 20] {
     ]
 }
 
-/// Whether a node of this length and count of resources is read.
+/// Whether a node with this length and this count of resources is read.
 fn is_node_read(rt: &impl Abort, length: u8, count: u8) -> bool {
     let bytes = node(length, count);
     let is_read = NodeHead::read(&bytes).is_some();
@@ -44,7 +44,7 @@ fn is_node_read(rt: &impl Abort, length: u8, count: u8) -> bool {
 
 #[test]
 fn node_has_the_length_of_its_resources(rt: HostRuntime) {
-    // 20 and 4 for each of 64 are 276, whose lowest byte is 14h.
+    // 20 + 4 * 64 is 276, whose lowest byte is 0x14.
     for (length, count) in [(0x14, 1), (0x14, 64), (0x18, 0)] {
         assert!(rt; !is_node_read(&rt, length, count), "{length} {count}");
     }
@@ -93,7 +93,7 @@ fn cache28_is_read_and_written(rt: HostRuntime) {
     assert!(rt; Cache24::read(&bytes[..24]).is_none());
 }
 
-/// Bytes of another type and of other lengths, and whether they are read, as opaque.
+/// Bytes of another type and of other lengths, and whether they are read as opaque.
 const OTHERS: [(&[u8], bool); 4] = [
     (&[0x02, 0x06, 0xa1, 0xa2, 0xa3, 0xa4], true),
     (&[0x01, 0x06, 0xa1, 0xa2, 0xa3, 0xa4], false),

@@ -3,7 +3,7 @@ use crate::samples::{extended_rsdp, image_of, set, table};
 use std::process::Abort;
 use std::test::*;
 
-/// The root stands at this address, with these slots.
+/// The root table is at this address, with these slots.
 fn expect_root(
     rt: &impl Abort,
     image: &Image,
@@ -32,7 +32,7 @@ fn slots_of_an_rsdt(rt: HostRuntime) -> Result<(), Fail> {
     Ok(())
 }
 
-// The image holds no RSDT. One slot is 0, and one lies above 4 GiB.
+// The image has no RSDT. One slot is 0, and one is above 4 GiB.
 #[test]
 fn xsdt_goes_before_the_rsdt(rt: HostRuntime) -> Result<(), Fail> {
     let body = [0, 0, 0, 0, 0, 0, 0, 0, 0x14, 0x22, 0xfe, 7, 1, 0, 0, 0];

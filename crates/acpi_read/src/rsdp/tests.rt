@@ -3,7 +3,7 @@ use crate::samples::{extended_rsdp, image_of, rsdp};
 use std::process::Abort;
 use std::test::*;
 
-/// The fields of the RSDP at the address are its revision, its OEMID and the addresses of the RSDT and the XSDT.
+/// The RSDP at the address has this revision, this OEMID and these addresses of the RSDT and the XSDT.
 fn expect_rsdp(
     rt: &impl Abort,
     image: &Image,

@@ -3,7 +3,7 @@ use crate::samples::image_of_table;
 use acpi_base::Image;
 use std::test::*;
 
-/// Whether the SLIT of the image has three localities, and these distances from each to all.
+/// Whether the SLIT in the image has three localities, and these distances between them.
 fn has_distances(image: &Image, rows: [[u8; 3]; 3]) -> Result<bool, Code> {
     let Ok(slit) = Slit::new(Table::read(image, 0x1000)?) else {
         return Ok(false);
@@ -30,12 +30,12 @@ fn distances_stand_row_by_row(rt: HostRuntime) -> Result<(), Fail> {
     Ok(())
 }
 
-/// The fault of the SLIT of the image.
+/// The fault of the SLIT in the image.
 fn fault_of(image: &Image) -> Result<Option<Witness>, Code> {
     Ok(Slit::new(Table::read(image, 0x1000)?).err())
 }
 
-/// Bodies of a SLIT, and the first fault of each: its code, and the offset where it stands.
+/// Bodies of a SLIT, and the first fault of each: its code and its offset.
 const FAULTS: [(&[u8], Option<(Code, u64)>); 7] = [
     (&[0; 7], Some((Code::SlitShort, 0))),
     (&[0; 8], None),

@@ -8,8 +8,8 @@ ghost use Rattle.acpi_read.specs.Srats as layouts;
 use crate::kind::FixedKind;
 use acpi_base::field::{Value, put_values, u8_at, u32_at, u64_at};
 
-/// A processor local APIC affinity structure (ACPI 6.5, 5.2.16.1): type 0, 16 bytes. Bits 31:8 of its domain
-/// stand apart from bits 7:0; they are read whatever the table's revision.
+/// A processor local APIC affinity structure (ACPI 6.5, 5.2.16.1): type 0, 16 bytes. Bits 31:8 of its domain are
+/// separate from bits 7:0; they are read whatever the table's revision.
 #[derive(Clone, Copy, Debug, PartialEq, Eq)]
 pub struct ApicDomain {
     /// At 2 and at 9: the proximity domain.

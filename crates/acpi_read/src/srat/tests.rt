@@ -71,7 +71,7 @@ const OTHERS: [(&[u8], Result<SratEntry, Code>); 3] = [
     (&LONG, Err(Code::SratEntryLength)),
 ];
 
-/// A Local APIC affinity and a byte more, which the length byte counts.
+/// A Local APIC affinity and one more byte, which the length byte counts.
 const LONG: [u8; 17] = [
     0x00, 0x11, 0xa1, 0xb1, 0xc1, 0xc2, 0xc3, 0xc4, 0xd1, 0xa2, 0xa3, 0xa4, 0xe1, 0xe2, 0xe3, 0xe4,
     0xe5,

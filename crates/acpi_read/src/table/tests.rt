@@ -3,7 +3,7 @@ use crate::samples::{image_of, table};
 use std::process::Abort;
 use std::test::*;
 
-/// A table of these bytes stands at the address.
+/// There is a table with these bytes at the address.
 fn expect_table(rt: &impl Abort, image: &Image, address: u64, bytes: &[u8]) -> Result<(), Code> {
     let table = Table::read(image, address)?;
     assert!(rt; table.bytes() == bytes && table.copied().bytes() == bytes);

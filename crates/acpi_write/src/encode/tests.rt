@@ -52,7 +52,7 @@ fn expect_table(
     Ok(())
 }
 
-// Reserved bytes are 0; an entry of a type with no meaning is kept.
+// Reserved bytes are 0; an entry of a type without a meaning is kept.
 #[test]
 fn a_madt_of_two_entries(rt: HostRuntime) -> Result<(), Fail> {
     let io_apic = IoApic {
@@ -123,12 +123,12 @@ fn a_pptt_of_a_node_and_a_cache(rt: HostRuntime) -> Result<(), Fail> {
     Ok(expect_table(&rt, rt.alloc(), pptt, *b"PPTT", &body)?)
 }
 
-/// Why the value is not written, if it is not.
+/// Why the value is not written, if it is refused.
 fn fault_of(alloc: Global, value: TableValue<'_>) -> Option<WriteFault> {
     encode_table(alloc, &value).err()
 }
 
-/// The fault of a MADT with an entry that is kept as these bytes.
+/// The error for a MADT with an entry that is kept as these bytes.
 fn fault_of_kept(alloc: Global, bytes: &[u8]) -> Result<Option<WriteFault>, AllocError> {
     let madt = TableValue::Madt {
         head: head(),
@@ -139,7 +139,7 @@ fn fault_of_kept(alloc: Global, bytes: &[u8]) -> Result<Option<WriteFault>, Allo
     Ok(fault_of(alloc, madt))
 }
 
-/// The fault of a FADT with this body.
+/// The error for a FADT with this body.
 fn fault_of_body(alloc: Global, body: &[u8]) -> Result<Option<WriteFault>, AllocError> {
     let fadt = TableValue::Fadt {
         head: head(),
@@ -167,7 +167,7 @@ fn values_of_another_shape(rt: HostRuntime) -> Result<(), Fail> {
     Ok(())
 }
 
-/// Faults, and how each is told.
+/// Errors, and their messages.
 const TEXTS: [(WriteFault, &str); 3] = [
     (WriteFault::Shape, "no bytes for the value"),
     (WriteFault::TooLong, "table too long"),

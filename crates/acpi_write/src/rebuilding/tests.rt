@@ -5,12 +5,12 @@ use crate::test_sets::{extended_rsdp, facs, fadt_body, header_before, policy, re
 use acpi_base::ImageFault;
 use std::test::Fail;
 
-/// Whether the image holds these bytes at the address.
+/// Whether the image has these bytes at the address.
 fn holds(image: &Image, address: u64, bytes: &[u8]) -> bool {
     image.window(address, bytes.len() as u64) == Some(bytes)
 }
 
-/// Whether the image holds the table of this signature with this body at the address.
+/// Whether the image has the table with this signature and this body at the address.
 fn holds_table(image: &Image, address: u64, signature: [u8; 4], body: &[u8]) -> bool
     requires { 36 + length body.now < 2 ^ 32 }
 {
@@ -18,7 +18,7 @@ fn holds_table(image: &Image, address: u64, signature: [u8; 4], body: &[u8]) -> 
     holds(image, address, &header) && holds(image, address.wrapping_add(36), body)
 }
 
-/// Whether the image holds no byte at these addresses.
+/// Whether the image has no byte at these addresses.
 fn is_clear_at(image: &Image, addresses: &[u64]) -> bool {
     for address in addresses {
         if image.byte_at(*address).is_some() {
@@ -28,19 +28,19 @@ fn is_clear_at(image: &Image, addresses: &[u64]) -> bool {
     true
 }
 
-/// The image that the set is rebuilt to.
+/// The rebuilt image of the set.
 fn rebuilt(alloc: Global, image: Image, base: u64) -> Result<Image, Fail> {
     let policy = policy(alloc)?;
     Ok(rebuild(alloc, &image, &policy, base)?)
 }
 
-/// Why the set is not rebuilt, if it is not.
+/// Why the set is not rebuilt, if it is refused.
 fn refused(alloc: Global, image: Image, base: u64) -> Result<Option<RebuildFault>, Fail> {
     let policy = policy(alloc)?;
     Ok(rebuild(alloc, &image, &policy, base).err())
 }
 
-/// Addresses that hold nothing in the set at 0123456789ABCDC0h: where its parts were, and behind each part.
+/// Addresses that are not present in the set at 0x0123456789ABCDC0: where its parts were, and after each part.
 const AROUND: [u64; 6] = [
     0xe0000,
     0x1000,
@@ -50,7 +50,7 @@ const AROUND: [u64; 6] = [
     0x0123_4567_89ab_ceb4,
 ];
 
-/// Whether the image holds the parts of the set at 0123456789ABCDC0h.
+/// Whether the image has the parts of the set at 0x0123456789ABCDC0.
 fn holds_parts(image: &Image) -> bool {
     let slots = 0x0123_4567_89ab_ce40u64.to_le_bytes();
     let rsdp = extended_rsdp(0x0123_4567_89ab_ce00);
@@ -67,10 +67,10 @@ fn a_set_at_a_high_address(rt: HostRuntime) -> Result<(), Fail> {
     Ok(())
 }
 
-/// The lengths of register blocks that a FADT has to name where the hardware is not reduced.
+/// The lengths of register blocks that a FADT must have if the hardware is not reduced.
 const LENGTHS: [u8; 4] = [4, 2, 0, 4];
 
-/// A set with a FACS at 7000h.
+/// A set with a FACS at 0x7000.
 fn set_with_facs(alloc: Global) -> Result<Image, ImageFault> {
     let mut image = set(alloc, &fadt_body(0x7000, LENGTHS, 0))?;
     image.add(0x7000, &facs())?;
@@ -123,7 +123,7 @@ fn refusals_by_the_address(rt: HostRuntime) -> Result<(), Fail> {
     Ok(())
 }
 
-/// Refusals, and how each is told.
+/// Refusals, and their messages.
 const NAMES: [(RebuildFault, &str); 5] = [
     (RebuildFault::Unaligned, "base address not a multiple of 64"),
     (RebuildFault::TableTooLong, "table too long"),

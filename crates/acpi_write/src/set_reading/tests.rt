@@ -4,7 +4,7 @@ use crate::test_sets::{policy, reduced_body, set};
 use acpi_base::{Code, PolicyFault, Witness};
 use std::test::Fail;
 
-/// Why an image that holds nothing has no value, if it has none.
+/// Why an empty image has no value, if it is refused.
 fn fault_of_nothing(alloc: Global) -> Result<Option<ValuesFault>, PolicyFault> {
     let policy = policy(alloc)?;
     Ok(values(alloc, &Image::new(alloc), &policy).err())
@@ -17,7 +17,7 @@ fn an_image_of_nothing(rt: HostRuntime) -> Result<(), Fail> {
     Ok(())
 }
 
-/// Whether the value is of a set with a FADT alone.
+/// Whether the value is that of a set with only a FADT.
 fn is_of_a_fadt(value: &SetValue<'_>) -> bool {
     value.oemid == *b"AAAAAA"
         && value.facs.is_none()

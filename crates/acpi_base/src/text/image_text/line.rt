@@ -15,9 +15,9 @@ pub enum Form {
     Blank,
     /// The next address.
     Address(u64),
-    /// Bytes, which stand apart.
+    /// Bytes, which are kept separately.
     Data,
-    /// Nothing that a line can say.
+    /// Neither an address, nor data, nor blank.
     Bad,
 }
 
@@ -39,7 +39,7 @@ fn cut_cr(line: &[u8]) -> &[u8]
     }
 }
 
-/// What stands before the first `#`.
+/// The line before the first `#`.
 fn cut_comment(line: &[u8]) -> &[u8]
     ensures { result.now ≡ without_comment line.now }
 {
@@ -95,7 +95,7 @@ pub fn number_value(digits: &[u8]) -> u64
     value
 }
 
-/// What a line says that goes on so after its `@`.
+/// What a line says that has this text after its `@`.
 #[tactic(auto, unfolding(crate::specs::Text::ImageText::address_line_of))]
 fn parse_address(rest: &[u8]) -> Form
     ensures { (bytes : List ℕ) → line_with result bytes ≡ address_line_of rest.now }
@@ -136,7 +136,7 @@ fn parse_data(line: &[u8], bytes: &mut Vec<u8>) -> Result<bool, AllocError>
     Ok(true)
 }
 
-/// What a line says, its LF left off. The bytes of a data line go into the vector, in place of what it had.
+/// What a line says, without its LF. The bytes of a data line replace the contents of the vector.
 #[tactic(auto, unfolding(crate::specs::Text::ImageText::line_of, crate::specs::Text::ImageText::form_of))]
 pub fn parse_line(line: &[u8], bytes: &mut Vec<u8>) -> Result<Form, AllocError>
     ensures { IfOk result (λ form. line_with form bytes.new.items ≡ line_of line.now) }

@@ -1,14 +1,14 @@
-//! Reading a text that comes in pieces: one unfinished line is kept, and no more of the text.
+//! Reading a text that comes in pieces. Of the text only the incomplete last line is kept.
 
-ghost use Rattle.std.specs.Prelude.{◌≡◌, ◌+◌, ◌≤◌, ◌<◌, ◌≢◌, ◌⊎◌, ◌++◌, ◌==◌, ℕ, [], length, not, slice_index, OnOk, IfOk, IfErr};
+ghost use Rattle.std.specs.Prelude.{◌≡◌, ◌+◌, ◌≤◌, ◌<◌, ◌≢◌, ◌⊎◌, ◌++◌, ◌==◌, ℕ, [], true, length, not, slice_index, OnOk, IfOk, IfErr};
 ghost use Rattle.std.specs.List.{prefix_len};
 ghost use Rattle.std.specs.Simd.Lanes.{chunk};
 ghost use Rattle.acpi_base.specs.Memory.{IsImage};
-ghost use Rattle.acpi_base.specs.Image.Builder.{IsBuilder};
-ghost use Rattle.acpi_base.specs.Text.ImageText.{read_line, start};
-ghost use Rattle.acpi_base.specs.Text.TextMachine.{run, EndsAs, Stopped};
-ghost use Rattle.acpi_base.specs.Text.Lines.{Refuses, reading_of};
-ghost use Rattle.acpi_base.specs.Text.LineBuffers.{IsLineBuffer, buffer_state};
+ghost use Rattle.acpi_base.specs.Image.Draft.{IsImageData, is_checked};
+ghost use Rattle.acpi_base.specs.Text.ImageText.{on_ok, read_line};
+ghost use Rattle.acpi_base.specs.Text.TextMachine.{run, EndsAs, Stopped, initial_state, text_result};
+ghost use Rattle.acpi_base.specs.Text.Lines.{Refuses, judged, told};
+ghost use Rattle.acpi_base.specs.Text.LineBuffers.{IsLineBuffer, buffer_state, byte_count};
 
 use super::MAX_TEXT;
 use super::line_parser::{LineParser, MAX_LINE};
@@ -17,7 +17,7 @@ use crate::text::TextFault;
 use std::alloc::Global;
 use std::simd::prelude::*;
 
-/// How many bytes the block of 64 from `at` on has before its first LF; 64 where it has none.
+/// How many bytes the block of 64 from `at` on has before its first LF; 64 if it has none.
 #[inline(always)]
 fn before_line_feed(text: &[u8], at: usize) -> usize
     requires { at + 64 ≤ length text.now }
@@ -47,7 +47,7 @@ fn line_end_of_short(text: &[u8]) -> usize
     text.len()
 }
 
-/// Where the first LF stands; the length where there is none.
+/// The index of the first LF; the length if there is none.
 fn line_end(text: &[u8]) -> usize
     ensures within { result ≤ length text.now }
     ensures before { (k : ℕ) → k < result → slice_index text.now k ≢ 10 }
@@ -63,23 +63,39 @@ fn line_end(text: &[u8]) -> usize
     64 * blocks + line_end_of_short(&text[64 * blocks..])
 }
 
-/// What has been read, and what has come of the line that has not ended.
+/// What has been read, and the incomplete last line. A fault of `take` may come after an address that came twice: `first_fault`
+/// returns the first of them.
 #[derive(Drop)]
 pub struct LineBuffer {
     parser: LineParser,
     line: Vec<u8>,
-    /// A place for the bytes of a line.
+    /// Reused for the bytes of each line.
     bytes: Vec<u8>,
 }
 
 impl LineBuffer {
+    /// Nothing read. An address that comes twice is refused at once. Takes no memory.
     pub fn new(alloc: Global) -> LineBuffer
         ensures sound { IsLineBuffer result }
-        ensures parser { reading_of result.parser ≡ start }
-        ensures line { result.line.items ≡ [] }
+        ensures state { buffer_state result ≡ initial_state }
+        ensures kind { is_checked result.parser.image ≡ true }
     {
         LineBuffer {
             parser: LineParser::new(alloc),
+            line: Vec::new(alloc),
+            bytes: Vec::new(alloc),
+        }
+    }
+
+    /// Nothing read. An address that comes twice is looked for at the end, so reading goes on after such a line. Takes no
+    /// memory.
+    pub fn draft(alloc: Global) -> LineBuffer
+        ensures sound { IsLineBuffer result }
+        ensures state { buffer_state result ≡ initial_state }
+        ensures count { byte_count result ≡ 0 }
+    {
+        LineBuffer {
+            parser: LineParser::draft(alloc),
             line: Vec::new(alloc),
             bytes: Vec::new(alloc),
         }
@@ -89,12 +105,17 @@ impl LineBuffer {
     fn end_line(&mut self, part: &[u8]) -> Result<(), TextFault>
         requires { IsLineBuffer self.old }
         ensures sound { OnOk result (IsLineBuffer self.new) }
+        ensures image { IsImageData self.new.parser.image }
+        ensures kind { is_checked self.new.parser.image ≡ is_checked self.old.parser.image }
         ensures ok { OnOk result
-            (read_line (reading_of self.old.parser) (self.old.line.items ++ part.now) 1 ≡ Ok
-            (reading_of self.new.parser)) }
+            (on_ok (judged self.old.parser) (λ r. read_line r (self.old.line.items ++ part.now) 1)
+            ≡ judged self.new.parser) }
         ensures line { OnOk result (self.new.line.items ≡ []) }
-        ensures err { IfErr result
-            (Refuses (read_line (reading_of self.old.parser) (self.old.line.items ++ part.now) 1)) }
+        ensures count { OnOk result
+            (byte_count self.new ≡ byte_count self.old + length part.now + 1) }
+        ensures err { IfErr result (λ fault. Refuses
+            (on_ok (judged self.old.parser) (λ r. read_line r (self.old.line.items ++ part.now) 1))
+            (told self.new.parser.image fault)) }
     {
         if self.line.is_empty() {
             return self.parser.read_line(part, 1, &mut self.bytes);
@@ -108,14 +129,17 @@ impl LineBuffer {
         Ok(())
     }
 
-    /// Keeps what has come of a line that has not ended.
+    /// Keeps a part of a line that has not ended.
     fn keep(&mut self, part: &[u8]) -> Result<(), TextFault>
         requires sound { IsLineBuffer self.old }
         requires free { (k : ℕ) → k < length part.now → slice_index part.now k ≢ 10 }
         ensures sound { OnOk result (IsLineBuffer self.new) }
+        ensures parser { self.new.parser ≡ self.old.parser }
         ensures ok { OnOk result (run (buffer_state self.old) part.now ≡ buffer_state self.new) }
-        ensures err { IfErr result (λ fault. (fault ≡ TextFault.Memory)
-            ⊎ (run (buffer_state self.old) part.now ≡ Stopped fault)) }
+        ensures count { OnOk result (byte_count self.new ≡ byte_count self.old + length part.now) }
+        ensures err { IfErr result (λ fault. (told self.new.parser.image fault ≡ TextFault.Memory)
+            ⊎ (run (buffer_state self.old) part.now
+            ≡ Stopped (told self.new.parser.image fault))) }
     {
         let most = MAX_LINE.min(MAX_TEXT - self.parser.through() as usize);
         if part.len() > most - self.line.len() {
@@ -125,13 +149,17 @@ impl LineBuffer {
         Ok(())
     }
 
-    /// Reads on in the text.
+    /// Reads the next piece of the text.
     pub fn take(&mut self, piece: &[u8]) -> Result<(), TextFault>
         requires { IsLineBuffer self.old }
         ensures sound { OnOk result (IsLineBuffer self.new) }
+        ensures image { IsImageData self.new.parser.image }
+        ensures kind { is_checked self.new.parser.image ≡ is_checked self.old.parser.image }
         ensures ok { OnOk result (run (buffer_state self.old) piece.now ≡ buffer_state self.new) }
-        ensures err { IfErr result (λ fault. (fault ≡ TextFault.Memory)
-            ⊎ (run (buffer_state self.old) piece.now ≡ Stopped fault)) }
+        ensures count { OnOk result (byte_count self.new ≡ byte_count self.old + length piece.now) }
+        ensures err { IfErr result (λ fault. (told self.new.parser.image fault ≡ TextFault.Memory)
+            ⊎ (run (buffer_state self.old) piece.now
+            ≡ Stopped (told self.new.parser.image fault))) }
     {
         let mut rest = piece;
         'lines: loop {
@@ -146,16 +174,26 @@ impl LineBuffer {
         }
     }
 
-    /// Reads what has come of the last line as a line, since the text ends, and lays out the image.
+    /// The first fault of the text, given the one that reading has met: an address may have come twice before that. Takes no
+    /// memory.
+    pub fn first_fault(self, fault: TextFault) -> TextFault
+        requires { IsImageData self.parser.image }
+        ensures { result ≡ told self.parser.image fault }
+    {
+        self.parser.first_fault(fault)
+    }
+
+    /// Reads the last line, since the text ends, and lays out the image.
     pub fn finish(self, alloc: Global) -> Result<Image, TextFault>
         requires { IsLineBuffer self }
         ensures ok { IfOk result (EndsAs (buffer_state self)) }
-        ensures err { IfErr result
-            (Refuses (read_line (reading_of self.parser) self.line.items 0)) }
+        ensures err { IfErr result (Refuses (text_result (buffer_state self))) }
         ensures image { IfOk result IsImage }
     {
         let mut buffer = self;
-        buffer.parser.read_line(&buffer.line, 0, &mut buffer.bytes)?;
+        if let Err(fault) = buffer.parser.read_line(&buffer.line, 0, &mut buffer.bytes) {
+            return Err(buffer.first_fault(fault));
+        }
         buffer.parser.finish(alloc)
     }
 }

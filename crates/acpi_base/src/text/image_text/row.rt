@@ -1,4 +1,4 @@
-//! Rows of 16 bytes as most texts write them: pairs of hex digits, with one blank between neighbours.
+//! Rows of 16 bytes as most texts write them: pairs of hex digits, separated by single blanks.
 
 ghost use Rattle.std.specs.Prelude.{◌≡◌, ◌++◌, ◌∷◌, ℕ, List, [], None, IfSome};
 ghost use Rattle.acpi_base.specs.Text.ImageText.{Data, data_from, line_of};

@@ -155,7 +155,7 @@ fn takes_each_form_of_line(rt: HostRuntime) -> Result<(), TextFault> {
 }
 
 /// Texts, and the first fault of each.
-const REFUSED: [(&[u8], TextFault); 13] = [
+const REFUSED: [(&[u8], TextFault); 16] = [
     (b"@0\n1", TextFault::BadLine { line: 2 }),
     (b"01", TextFault::NoAddress { line: 1 }),
     (b"@0\n01\n@0\n02", TextFault::Twice { address: 0 }),
@@ -169,6 +169,12 @@ const REFUSED: [(&[u8], TextFault); 13] = [
     (b"@0 1\n", TextFault::BadLine { line: 1 }),
     (b"\n@0\n0 1\n", TextFault::BadLine { line: 3 }),
     (b"01\nx\n", TextFault::NoAddress { line: 1 }),
+    (b"@0\n01\n@0\n02\nx\n", TextFault::Twice { address: 0 }),
+    (b"@0\n01\nx\n@0\n02\n", TextFault::BadLine { line: 3 }),
+    (
+        b"@4\n01\n@0\n02 03\n@4\n04\n@1\n05\n",
+        TextFault::Twice { address: 4 },
+    ),
 ];
 
 #[test]
@@ -195,6 +201,23 @@ fn limits_lines_and_texts(rt: HostRuntime) -> Result<(), AllocError> {
     let faults = faults_of_long_texts(rt.alloc())?;
     let too_long = Some(TextFault::TooLong);
     assert!(rt; faults == [None, too_long, too_long], "{faults:?}");
+    Ok(())
+}
+
+/// What a text is refused with that holds an address twice at its head, and how many of its 100,000 bytes are unread then.
+fn refused_at_its_head(alloc: Global) -> Result<(Option<TextFault>, usize), AllocError> {
+    let mut text = vec![in alloc; b'\n'; 100_000]?;
+    text[..12].copy_from_slice(b"@0\n01\n@0\n02\n");
+    let mut reader = Tally::new(text.as_slice());
+    let fault = read_image(alloc, &mut reader).err();
+    Ok((fault, reader.into_inner().len()))
+}
+
+#[test]
+fn reads_on_behind_an_address_twice(rt: HostRuntime) -> Result<(), AllocError> {
+    let told = refused_at_its_head(rt.alloc())?;
+    let fault = Some(TextFault::Twice { address: 0 });
+    assert!(rt; told == (fault, 0), "{told:?}");
     Ok(())
 }
 

@@ -1,76 +1,92 @@
-use Rattle.std.proofs.Common.{inl, inr, ℕ, length-take, ◌+◌, ◌<◌, ◌≤◌, length, take, refl, sym, subst, ap, ◌∙◌, arith}
+use Rattle.std.proofs.Common.{ℕ, List, length-take, ◌+◌, ◌<◌, ◌≤◌, length, take, refl, sym, subst, ap, ◌∙◌, arith}
+use Rattle.std.specs.Prelude.{Option, Err}
 use Rattle.std.specs.Io.KnownBytes.{Consumes}
 use Rattle.std.proofs.KnownBytes.{Consumes-nil}
 use Rattle.std.proofs.lemmas.List.{take-append-le}
-use Rattle.acpi_base.specs.Text.TextMachine.{IsGoing, run}
-use Rattle.acpi_base.proofs.Texts.Judging.{nothing_brought, more_brought, brought_fits, returned_whole, count_whole, returned_fault, count_fault, returned_read}
+use Rattle.acpi_base.specs.declared.text.TextFault.{TextFault}
+use Rattle.acpi_base.specs.Image.Draft.{data_result}
+use Rattle.acpi_base.specs.Text.TextMachine.{run}
+use Rattle.acpi_base.specs.Text.LineBuffers.{buffer_state}
+use Rattle.acpi_base.proofs.Texts.Judging.{HasReturned, nothing_brought, more_brought, brought_fits, returned_whole, count_whole, stopped_in_buffer, returned_fault, count_fault, returned_read}
 use Rattle.acpi_base.proofs.text.image_text.read_image.Goals as goal
 
 pub pieces-init : goal.pieces-init
 pieces-init g c = record {
-  brought = nothing_brought _ _ c.new-text.ensures (Consumes-nil _);
-  going = subst IsGoing (sym c.new-text.ensures) tt;
+  brought = nothing_brought _ _ c.draft-buffer.ensures.state (Consumes-nil _);
+  sound = c.draft-buffer.ensures.sound;
+  counted = c.draft-buffer.ensures.count;
   count = refl;
 }
 
 pub overflow_sub-total : goal.overflow_sub-total
 overflow_sub-total g c =
-    (let fits = brought_fits _ _ _ _ c.pieces.invariant.brought c.pieces.invariant.going in omega arith)
+    let fits = brought_fits c.pieces.buffer c.pieces.total c.pieces.invariant.sound c.pieces.invariant.counted in
+    omega arith
 
 pub returns-in_default-clause-text : goal.returns-in_default-clause-text
 returns-in_default-clause-text g c =
-    returned_read _ _ _ _ _ c.pieces.invariant.brought c.pieces.invariant.going c.in_default.ensures.bytes
+    let b = c.pieces.buffer in
+    let fits = brought_fits b c.pieces.total c.pieces.invariant.sound c.pieces.invariant.counted in
+    let before = g.R.Read.remaining c.args.reader.now.inner in
+    let middle = g.R.Read.remaining c.pieces.reader.inner in
+    let left = g.R.Read.remaining c.attempt.new.self.inner in
+    let returned = returned_read before middle left b.parser (data_result b.parser.image) b.line.items c.pieces.total
+    c.pieces.invariant.brought fits c.in_default.ensures.bytes in
+    subst (λ (rest : Option (List ℕ)). HasReturned before rest (Err c.failed_read.result))
+    (ap g.R.Read.remaining (sym c.failed_read.ensures.inner))
+    (subst (λ (fault : TextFault). HasReturned before left (Err fault)) (sym c.failed_read.ensures.fault) returned)
 
 pub returns-then-count-eq0-clause-text : goal.returns-then-count-eq0-clause-text
 returns-then-count-eq0-clause-text g c =
-    let fits = brought_fits _ _ _ _ c.pieces.invariant.brought c.pieces.invariant.going in
+    let fits = brought_fits c.pieces.buffer c.pieces.total c.pieces.invariant.sound c.pieces.invariant.counted in
     let bytes = c.in-Ok.ensures.bytes in
-    let consumed = subst (Consumes _ _) (ap (λ n. take n c.read.new.buffer) c.if-count-eq0.true) bytes.0 in
-    let some : 0 < length c.read.new.buffer =
-    omega (arith, length-take {A = ℕ}, c.read.auto.buffer, c.min-room.ensures) in
-    returned_whole _ _ _ _ _ c.finish.result c.pieces.invariant.brought c.pieces.invariant.going consumed
+    let consumed = subst (Consumes _ _) (ap (λ n. take n c.attempt.new.buffer) c.if-count-eq0.true) bytes.0 in
+    let some : 0 < length c.attempt.new.buffer =
+    omega (arith, length-take {A = ℕ}, c.attempt.auto.buffer, c.min-room.ensures) in
+    returned_whole _ _ _ _ _ c.finish.result c.pieces.invariant.brought fits consumed
     (bytes.1 c.if-count-eq0.true some) c.finish.ensures.ok c.finish.ensures.err
 
 pub returns-then-count-eq0-clause-count : goal.returns-then-count-eq0-clause-count
 returns-then-count-eq0-clause-count g c =
-    count_whole _ _ _ _ _ _ c.finish.result c.pieces.invariant.brought (c.in-Ok.ensures.ok ∙ c.pieces.invariant.count)
-    c.finish.ensures.err
+    count_whole _ _ _ _ _ _ c.finish.result c.pieces.invariant.brought
+    (c.in-Ok.ensures.count ∙ c.pieces.invariant.count) c.finish.ensures.err
 
 pub returns-in-Err-clause-text : goal.returns-in-Err-clause-text
 returns-in-Err-clause-text g c =
-    let fits = brought_fits _ _ _ _ c.pieces.invariant.brought c.pieces.invariant.going in
-    let bound : c.in-Ok.count ≤ length c.read.new.buffer = c.in-Ok.ensures.bound.0 in
+    let state = buffer_state c.pieces.buffer in
+    let fits = brought_fits c.pieces.buffer c.pieces.total c.pieces.invariant.sound c.pieces.invariant.counted in
+    let bound : c.in-Ok.count ≤ length c.attempt.new.buffer = c.in-Ok.ensures.bound.0 in
     let long = sym c.in-Ok.ensures.bound.1 in
     let room : c.pieces.total + c.in-Ok.count ≤ 67108865 =
-    omega (arith, length-take {A = ℕ}, c.read.auto.buffer, c.min-room.ensures) in
-    returned_fault _ _ _ c.pieces.text c.pieces.total c.in-Ok.count (take c.in-Ok.count c.read.new.buffer)
-    c.in-Err.fault c.pieces.invariant.brought c.in-Ok.ensures.bytes.0 long room
-    (elim c.in-Err.ensures.err.1 [
-      | inl memory ↦ inl memory
-      | inr stopped ↦ inr (ap (run c.pieces.text) (sym (take-append-le c.in-Ok.count c.read.new.buffer _ bound))
-          ∙ stopped)
-    ])
+    omega (arith, length-take {A = ℕ}, c.attempt.auto.buffer, c.min-room.ensures) in
+    returned_fault _ _ _ state c.pieces.total c.in-Ok.count (take c.in-Ok.count c.attempt.new.buffer)
+    c.first_fault.result c.pieces.invariant.brought c.in-Ok.ensures.bytes.0 long room
+    (stopped_in_buffer state c.in-Ok.count c.attempt.new.buffer _ _ c.first_fault.result bound c.first_fault.ensures
+    c.in-Err.ensures.err)
 
 pub returns-in-Err-clause-count : goal.returns-in-Err-clause-count
 returns-in-Err-clause-count g c =
-    let bound : c.in-Ok.count ≤ length c.read.new.buffer = c.in-Ok.ensures.bound.0 in
-    count_fault _ _ _ c.pieces.text c.pieces.total _ _ (take c.in-Ok.count c.read.new.buffer) c.in-Err.fault
-    c.pieces.invariant.brought c.in-Ok.ensures.bytes.0 (c.in-Ok.ensures.ok ∙ c.pieces.invariant.count)
-    (elim c.in-Err.ensures.err.1 [
-      | inl memory ↦ inl memory
-      | inr stopped ↦ inr (ap (run c.pieces.text) (sym (take-append-le c.in-Ok.count c.read.new.buffer _ bound))
-          ∙ stopped)
-    ])
+    let state = buffer_state c.pieces.buffer in
+    let bound : c.in-Ok.count ≤ length c.attempt.new.buffer = c.in-Ok.ensures.bound.0 in
+    count_fault _ _ _ state c.pieces.total _ _ (take c.in-Ok.count c.attempt.new.buffer) c.first_fault.result
+    c.pieces.invariant.brought c.in-Ok.ensures.bytes.0 (c.in-Ok.ensures.count ∙ c.pieces.invariant.count)
+    (stopped_in_buffer state c.in-Ok.count c.attempt.new.buffer _ _ c.first_fault.result bound c.first_fault.ensures
+    c.in-Err.ensures.err)
 
 pub pieces-preserved : goal.pieces-preserved
 pieces-preserved g c =
-    let bound : c.in-Ok.count ≤ length c.read.new.buffer = c.in-Ok.ensures.bound.0 in
+    let bound : c.in-Ok.count ≤ length c.attempt.new.buffer = c.in-Ok.ensures.bound.0 in
     let long = sym c.in-Ok.ensures.bound.1 in
-    let fed = sym (c.in_default-feed.ensures.ok ∙ ap (run c.pieces.text)
-    (take-append-le c.in-Ok.count c.read.new.buffer _ bound)) in
+    let piece = take-append-le c.in-Ok.count c.attempt.new.buffer _ bound in
+    let taken = ap (run (buffer_state c.pieces.buffer)) (sym piece) ∙ c.in_default-take.ensures.ok in
+    let more = c.in_default-take.ensures.count in
+    let same = ap length piece in
+    let so_far = c.pieces.invariant.counted in
     record {
-      brought = more_brought _ _ _ c.pieces.text c.feed.new.self c.pieces.total c.in-Ok.count _
-          (take c.in-Ok.count c.read.new.buffer) c.pieces.invariant.brought c.in-Ok.ensures.bytes.0 long fed refl;
-      going = c.in_default-feed.ensures.going;
-      count = c.in-Ok.ensures.ok ∙ c.pieces.invariant.count;
+      brought = more_brought _ _ _ (buffer_state c.pieces.buffer) (buffer_state c.take.new.self) c.pieces.total
+          c.in-Ok.count (c.pieces.total + c.in-Ok.count) (take c.in-Ok.count c.attempt.new.buffer)
+          c.pieces.invariant.brought c.in-Ok.ensures.bytes.0 long taken refl;
+      sound = c.in_default-take.ensures.sound;
+      counted = omega arith;
+      count = c.in-Ok.ensures.count ∙ c.pieces.invariant.count;
     }

@@ -1,6 +1,6 @@
-use Rattle.std.proofs.Common.{◌≡◌, ◌+◌, ◌*◌, ◌/◌, ◌-◌, ◌<◌, ◌≤◌, drop, take, get_or, length, ap, ◌∙◌, arith}
+use Rattle.std.proofs.Common.{◌≡◌, ◌*◌, ◌/◌, ◌-◌, drop, take, get_or, length, ap, ◌∙◌, arith}
 use Rattle.std.proofs.lemmas.List.{take_all, length-drop}
-use Rattle.acpi_base.proofs.Texts.LineFeeds.{HasNoneBefore, none_in_block, none_in_whole_block, found_in_block, none_behind}
+use Rattle.acpi_base.proofs.Texts.LineFeeds.{none_in_block, none_in_whole_block, found_in_block, none_behind}
 use Rattle.acpi_base.proofs.text.image_text.line_buffer.line_end.Goals as goal
 
 pub returns-clause-before : goal.returns-clause-before

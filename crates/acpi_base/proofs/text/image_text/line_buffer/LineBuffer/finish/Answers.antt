@@ -1,12 +1,15 @@
-use Rattle.std.proofs.Common.{ap, sym, ◌∙◌}
+use Rattle.std.proofs.Common.{ap, sym, refl, ◌∙◌}
 use Rattle.std.proofs.lemmas.Result.{IfOk-weaker}
-use Rattle.acpi_base.specs.Text.ImageText.{read_line}
-use Rattle.acpi_base.specs.Text.Lines.{reading_of}
+use Rattle.acpi_base.specs.Text.ImageText.{on_ok, read_line}
+use Rattle.acpi_base.specs.Text.Lines.{judged, reading_with}
+use Rattle.acpi_base.proofs.Texts.LineBuffers.{ended}
 use Rattle.acpi_base.proofs.text.image_text.line_buffer.LineBuffer.finish.Goals as goal
 
 pub returns-clause-ok : goal.returns-clause-ok
 returns-clause-ok c =
     let f = c.args.self in
-    let read = ap (λ line. read_line (reading_of f.parser) line 0) (sym c.deref.ensures.value)
-    ∙ c.in_ok-read_line.ensures.ok in
-    IfOk-weaker c.finish.result _ _ (λ image same. (reading_of c.read_line.new.self, read, same)) c.finish.ensures.ok
+    let read = ended (judged f.parser) f.line.items
+    ∙ ap (λ line. on_ok (judged f.parser) (λ r. read_line r line 0)) (sym c.deref.ensures.value)
+    ∙ c.in_default.ensures.ok in
+    IfOk-weaker c.finish.result _ _ (λ image is. (reading_with c.read_line.new.self image, read ∙ is, refl))
+    c.finish.ensures.ok

@@ -1,10 +1,12 @@
-use Rattle.std.proofs.Common.{◌≡◌, inl, inr, ◌++◌, ◌+◌, ◌-◌, ◌<◌, ℕ, suc, List, length, take, drop, ap, sym, subst, ◌∙◌, add-one, arith}
+use Rattle.std.proofs.Common.{◌≡◌, inl, inr, ◌++◌, ◌-◌, ◌<◌, ℕ, suc, List, length, take, drop, ap, sym, subst, ◌∙◌, add-one, arith}
 use Rattle.std.proofs.lemmas.Bool.Decides.{nat_tests}
-use Rattle.std.proofs.lemmas.List.{drop-drop}
+use Rattle.std.proofs.lemmas.List.{drop-drop, length-drop, length-take-le}
 use Rattle.std.proofs.lemmas.Slice.{between_to_end}
-use Rattle.acpi_base.specs.Text.ImageText.{read_line}
-use Rattle.acpi_base.specs.Text.TextMachine.{Going, run}
-use Rattle.acpi_base.specs.Text.Lines.{Refuses, reading_of}
+use Rattle.acpi_base.specs.Image.Draft.{data_result}
+use Rattle.acpi_base.specs.Text.ImageText.{on_ok, read_line}
+use Rattle.acpi_base.specs.Text.TextMachine.{run}
+use Rattle.acpi_base.specs.Text.LineBuffers.{state_with, byte_count}
+use Rattle.acpi_base.specs.Text.Lines.{Refuses, judged, told}
 use Rattle.acpi_base.proofs.Texts.LineBuffers.{line_passed, line_refused, short_bounds}
 use Rattle.acpi_base.proofs.text.image_text.line_buffer.LineBuffer.take.Goals as goal
 
@@ -13,12 +15,13 @@ returns-in-Err-clause-err c =
     let f = c.lines.self in
     let text = c.lines.rest.now in
     let n = c.line_end.result in
+    let stop = told c.end_line.new.self.parser.image c.in-Err.fault in
     let left = c.split_at.ensures.back_len in
     let some : 0 < length c.split_at.result.1.now = grind (arith, nat_tests, c.is_empty.ensures, c.if-is_empty.false) in
     let low : n < length text = omega arith in
-    let refused = subst (λ part. Refuses (read_line (reading_of f.parser) (f.line.items ++ part) 1) c.in-Err.fault)
+    let refused = subst (λ part. Refuses (on_ok (judged f.parser) (λ r. read_line r (f.line.items ++ part) 1)) stop)
     c.split_at.ensures.front c.in-Err.ensures.err in
-    elim (line_refused (reading_of f.parser) f.line.items text n c.in-Err.fault c.lines.invariant.sound.short low
+    elim (line_refused f.parser (data_result f.parser.image) f.line.items text n stop c.lines.invariant.sound.short low
     c.line_end.ensures.before (c.line_end.ensures.found low) refused) [
       | inl memory ↦ inl memory
       | inr stopped ↦ inr (sym c.lines.invariant.run ∙ stopped)
@@ -35,17 +38,25 @@ lines-preserved c =
     let some : 0 < length after = grind (arith, nat_tests, c.is_empty.ensures, c.if-is_empty.false) in
     let low : n < length text = omega arith in
     let sound = c.in_default.ensures.sound in
-    let fits = (short_bounds (length next.line.items) (next.parser.through + length next.line.items) sound.short).1 in
+    let fits = (short_bounds (length next.line.items) (byte_count next) sound.short).1 in
     let rest : List ℕ = take (length after - 1) (drop 1 after) in
     let behind : rest ≡ drop (suc n) text = between_to_end after 1 (length after) (omega arith)
     ∙ ap (drop 1) c.split_at.ensures.back ∙ drop-drop 1 n text ∙ ap (λ k. drop k text) (add-one n) in
-    let read = ap (λ part. read_line (reading_of f.parser) (f.line.items ++ part) 1) (sym c.split_at.ensures.front)
+    let read = ap (λ part. on_ok (judged f.parser) (λ r. read_line r (f.line.items ++ part) 1))
+    (sym c.split_at.ensures.front)
     ∙ c.in_default.ensures.ok in
+    let rest_count : length rest ≡ length text - suc n = ap length behind ∙ length-drop (suc n) text in
+    let part_count : length c.split_at.result.0.now ≡ n = ap length c.split_at.ensures.front
+    ∙ length-take-le n text (omega arith) in
+    let line_count = c.in_default.ensures.count in
+    let so_far = c.lines.invariant.count in
     record {
       sound = sound;
-      run = ap (λ line. run (Going (reading_of next.parser) line) rest) c.in_default.ensures.line
-          ∙ sym (line_passed (reading_of f.parser) (reading_of next.parser) f.line.items text n rest
-          c.lines.invariant.sound.short low c.line_end.ensures.before (c.line_end.ensures.found low) read
-          (omega arith) behind)
+      kind = c.end_line.ensures.kind ∙ c.lines.invariant.kind;
+      run = ap (λ line. run (state_with (judged next.parser) line) rest) c.in_default.ensures.line
+          ∙ sym (line_passed f.parser next.parser (data_result f.parser.image) (data_result next.parser.image)
+          f.line.items text n rest c.lines.invariant.sound.short low c.line_end.ensures.before
+          (c.line_end.ensures.found low) read (omega arith) behind)
           ∙ c.lines.invariant.run;
+      count = omega arith;
     }

@@ -1,13 +1,16 @@
-use Rattle.std.proofs.Common.{◌≡◌, length}
+use Rattle.std.proofs.Common.{◌≡◌, ◌+◌, length}
+use Rattle.acpi_base.specs.Image.Draft.{is_checked}
 use Rattle.acpi_base.specs.Text.TextMachine.{run}
-use Rattle.acpi_base.specs.Text.LineBuffers.{IsLineBuffer, buffer_state}
+use Rattle.acpi_base.specs.Text.LineBuffers.{IsLineBuffer, buffer_state, byte_count}
 use Rattle.acpi_base.proofs.text.image_text.line_buffer.LineBuffer.take.Given as goal
 
 -- the rest is read on from here as the piece was from the start
 abbrev pub invariant-lines : goal.invariant-lines
 invariant-lines l = record {
   sound : IsLineBuffer l.self;
+  kind : is_checked l.self.parser.image ≡ is_checked l.initial.self.parser.image;
   run : run (buffer_state l.self) l.rest ≡ run (buffer_state l.initial.self) l.piece;
+  count : byte_count l.self + length l.rest ≡ byte_count l.initial.self + length l.piece;
 }
 
 abbrev pub decreases-lines : goal.decreases-lines

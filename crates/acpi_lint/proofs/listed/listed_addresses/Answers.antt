@@ -1,8 +1,8 @@
 use Rattle.std.proofs.Common.{rules, ◌<◌, sym, ◌∙◌, arith}
 use Rattle.acpi_base.specs.Root.{HasSlot}
 use Rattle.acpi_lint.proofs.ListedAddresses.{one_more, none_more, all_listed}
-use Rattle.acpi_lint.proofs.slot_advice.listed_addresses.Goals as goal
-use Rattle.acpi_lint.proofs.slot_advice.listed_addresses.Goals.{then-number-ne0+in_ok-push, else-number-ne0}
+use Rattle.acpi_lint.proofs.listed.listed_addresses.Goals as goal
+use Rattle.acpi_lint.proofs.listed.listed_addresses.Goals.{then-number-ne0+in_ok-push, else-number-ne0}
 
 pub loop-slot-preserved : goal.loop-slot-preserved
 loop-slot-preserved c =

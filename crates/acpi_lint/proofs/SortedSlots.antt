@@ -1,0 +1,145 @@
+-- The listed addresses in rising order, and the first slot that is found among them.
+use Rattle.std.proofs.Common.{◌≡◌, ℕ, List, [], Option, Some, None, refl, ap, ◌∙◌, subst, arith}
+use Rattle.std.specs.Prelude.{◌↔◌, IsTrue, Bool, true, Contains, MatchOption}
+use Rattle.std.specs.List.Sorted.{IsPermutation}
+use Rattle.std.proofs.lemmas.List.Sorted.{Contains-permutation, IsPermutation-sym}
+use Rattle.acpi_base.specs.Listed.{IsFirstListed}
+use Rattle.acpi_base.specs.Memory.{Memory}
+use Rattle.acpi_base.specs.Root.{HasSlot, IsSlot}
+use Rattle.acpi_base.specs.Tables.{IsTable, IsSigned}
+use Rattle.acpi_base.proofs.Elements.{no_element}
+use Rattle.acpi_base.proofs.Root.Slots.{slot_of_root, root_slot}
+use Rattle.acpi_base.proofs.Tables.Listed.{one_first_listed, listed_of_root, listed_in_root}
+use Rattle.acpi_read.specs.Roots.{RootValue, IsWholeRoot}
+use Rattle.acpi_lint.specs.Numbered.{at_place}
+use Rattle.acpi_lint.specs.Slots.{AreListed, AreAddresses, FindsSlot, StandsAmong}
+use Rattle.acpi_lint.specs.WholeTables.{IsFound}
+use Rattle.acpi_lint.specs.declared.listed.Slot.{Slot}
+use Rattle.acpi_lint.specs.declared.numbered.Numbered.{Numbered}
+use Rattle.acpi_lint.proofs.FirstSlots.{not_wanted}
+
+-- ---- which slots they are
+
+-- sorted, they are the same
+pub moved_listed : {Lists : ℕ → ℕ → Type 0} (given sorted : List Numbered) → IsPermutation given sorted
+    → AreListed Lists given → AreListed Lists sorted
+moved_listed given sorted moved are =
+    record {
+      placed = λ g here. are.placed g (back g here);
+      all = λ k a. (
+        λ here. (are.all k a).0 (back (at_place k a) here),
+        λ lists. Contains-permutation given sorted (at_place k a) moved ((are.all k a).1 lists),
+      );
+    }
+  where
+    back : (x : Numbered) → Contains sorted x → Contains given x
+    back x listed = Contains-permutation sorted given x (IsPermutation-sym given sorted moved) listed
+
+-- those of a root are those of its set
+pub set_listed : {m : Memory} {p : ℕ} {root : RootValue} (given : List Numbered) → IsWholeRoot m p root
+    → AreListed (HasSlot root.bytes root.width) given → AreListed (IsSlot m p) given
+set_listed {m} {p} {root} given is are =
+    record {
+      placed = are.placed;
+      all = λ k a. (
+        λ here. root_slot is.named is.table ((are.all k a).0 here),
+        λ slot. (are.all k a).1 (slot_of_root m p root.address root.width k a root.bytes is.named is.table slot),
+      );
+    }
+
+-- without a root there are none
+pub no_addresses : {m : Memory} {p : ℕ} → ((root : RootValue) → ¬ IsWholeRoot m p root) → AreAddresses (IsSlot m p) []
+no_addresses none =
+    record {
+      listed =
+          record {
+            placed = λ g here. absurd (no_element g here);
+            all = λ k a. (
+              λ here. absurd (no_element (at_place k a) here),
+              λ slot. absurd (none (record { address = slot.r; width = slot.d; bytes = slot.whole })
+                  (record { named = slot.root; table = slot.table })),
+            );
+          };
+      rise = λ i j d less within. absurd (omega (arith, within));
+    }
+
+given_at_place : (g : Numbered) (k a : ℕ) → g.value ≡ g.at → g.at ≡ k → g.number ≡ a → g ≡ at_place k a
+given_at_place g k a value at number =
+    ap (λ (n : ℕ). record g { number = n }) number
+    ∙ ap (λ (p : ℕ). record { number = a; at = p; value = g.value }) at
+    ∙ ap (λ (v : ℕ). record { number = a; at = k; value = v }) (value ∙ at)
+
+-- one that stands among them lists its address
+pub stands_listed : {Lists : ℕ → ℕ → Type 0} (given : List Numbered) (k a : ℕ) → AreListed Lists given
+    → StandsAmong given k a → Lists k a
+stands_listed given k a are (g, here, at, number) =
+    (are.all k a).0
+    (subst (λ (x : Numbered). Contains given x) (given_at_place g k a (are.placed g here) at number) here)
+
+-- so the first of them is the first that lists its address
+pub found_listed : {Lists : ℕ → ℕ → Type 0} {Answers : ℕ → Bool → Type 0} (given : List Numbered)
+    (found : Option Slot) → AreListed Lists given → FindsSlot (StandsAmong given) Answers found
+    → FindsSlot Lists Answers found
+found_listed {Lists} {Answers} given None are first =
+    record {
+      here = tt;
+      before = λ k a before lists. first.before k a tt (at_place k a, (are.all k a).1 lists, refl, refl);
+    }
+found_listed {Lists} {Answers} given (Some s) are first =
+    record {
+      here = (stands_listed given s.number s.address are first.here.0, first.here.1);
+      before = λ k a before lists. first.before k a before (at_place k a, (are.all k a).1 lists, refl, refl);
+    }
+
+-- ---- the table at its address
+
+-- where no slot is found there is no table with the signature
+pub no_table : {m : Memory} {p : ℕ} {Answers : ℕ → Bool → Type 0} (signature : List ℕ)
+    → FindsSlot (IsSlot m p) Answers None → ((a : ℕ) (b : Bool) → Answers a b → IsTrue b ↔ IsSigned m a signature)
+    → IsFound m p signature None
+no_table {m} {Answers = Answers} signature found decides = λ whole listed.
+    let first = listed.first in
+    not_wanted (λ a. IsSigned m a signature) Answers listed.a decides
+    (found.before first.first.k listed.a tt
+    (record {
+      r = first.r;
+      d = first.d;
+      whole = first.whole;
+      root = first.root;
+      table = first.table;
+      slot = first.first.slot;
+    }))
+    first.first.signed
+
+-- where one is found, its table is the set's
+pub table_there : {m : Memory} {p : ℕ} {Answers : ℕ → Bool → Type 0} (signature : List ℕ) (s : Slot)
+    (table : Option (List ℕ)) → FindsSlot (IsSlot m p) Answers (Some s)
+    → ((a : ℕ) (b : Bool) → Answers a b → IsTrue b ↔ IsSigned m a signature)
+    → MatchOption table ((header bytes : List ℕ) → ¬ IsTable m s.address header bytes)
+    (λ bytes. (header : List ℕ) × IsTable m s.address header bytes)
+    → IsFound m p signature table
+table_there {m} {p} {Answers} signature s table found decides stands = is table stands
+  where
+    slot : IsSlot m p s.number s.address
+    slot = found.here.0
+
+    first : IsFirstListed m slot.whole slot.d signature s.address
+    first =
+        record {
+          k = s.number;
+          slot = slot.slot;
+          signed = (decides s.address true found.here.1).0 refl;
+          none_before = λ j b less other signed.
+              not_wanted (λ a. IsSigned m a signature) Answers b decides
+              (found.before j b less (root_slot slot.root slot.table other)) signed;
+        }
+
+    is : (table : Option (List ℕ))
+        → MatchOption table ((header bytes : List ℕ) → ¬ IsTable m s.address header bytes)
+        (λ bytes. (header : List ℕ) × IsTable m s.address header bytes)
+        → IsFound m p signature table
+    is None none = λ whole listed.
+        let same = one_first_listed m slot.whole slot.d signature listed.a s.address
+        (listed_of_root slot.root slot.table listed.first) first in
+        none listed.header whole (subst (λ (x : ℕ). IsTable m x listed.header whole) same listed.table)
+    is (Some bytes) (header, stands) = listed_in_root slot.root slot.table first stands
