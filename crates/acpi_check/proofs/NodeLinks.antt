@@ -6,4 +6,5 @@ pub mod KindPlaces
 pub mod LinkedNodes
 pub mod NamedPlaces
 pub mod OffsetBits
+pub mod OffsetsAdded
 pub mod ReferencePass

@@ -61,6 +61,7 @@ pub use domains::one_domain;
 pub use interrupts::apart_interrupts;
 pub use leaves::known_leaves;
 pub use nodes::Chain;
+pub use offset_set::OffsetSet;
 pub use overrides::agreeing_overrides;
 pub use ranges::apart_ranges;
 pub use refusal::Refusal;

@@ -1,6 +1,6 @@
 //! Sets of offsets of a table.
 
-ghost use Rattle.std.specs.Prelude.{◌≡◌, ◌<◌, ℕ, OnOk, MatchBool, vec_len, slice_index, true};
+ghost use Rattle.std.specs.Prelude.{◌≡◌, ◌<◌, ◌↔◌, ℕ, Contains, IfOk, OnOk, MatchBool, vec_len, slice_index, true};
 ghost use Rattle.acpi_check.specs.OffsetSets.{IsIn, Adds};
 
 use std::alloc::{AllocError, Global};
@@ -37,6 +37,17 @@ impl OffsetSet {
         OffsetSet {
             words: Vec::new(alloc),
         }
+    }
+
+    /// The set of these offsets. Allocates for the bits up to the last of them.
+    pub fn of(alloc: Global, offsets: &[u64]) -> Result<OffsetSet, AllocError>
+        ensures { IfOk result (λ set. (o : ℕ) → IsIn set o ↔ Contains offsets.now o) }
+    {
+        let mut set = OffsetSet::new(alloc);
+        for offset in offsets {
+            set.add(*offset)?;
+        }
+        Ok(set)
     }
 
     /// Adds an offset. Allocates for the bits up to it, if none after it was added before.

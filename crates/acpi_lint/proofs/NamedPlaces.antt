@@ -1,6 +1,6 @@
 -- What the entries of a PPTT name that is at none of some offsets, and where it dangles.
 use Rattle.std.proofs.Common.{◌≡◌, ℕ, ◌*◌, ◌<◌, ◌≤◌, Bool, true, true≢false, List, map, Option, Some, None, Result, Ok, Err, refl, sym, ◌∙◌, ap, subst, inl, inr, arith}
-use Rattle.std.specs.Prelude.{◌↔◌, ◌⊎◌, AllPairs, Contains, IfOk, is_some, not, slice_get}
+use Rattle.std.specs.Prelude.{◌↔◌, ◌⊎◌, Contains, IfOk, is_some, not, slice_get}
 use Rattle.std.specs.List.{filter_map, range_with_len}
 use Rattle.std.proofs.lemmas.Bool.{cases_order, eqb-false, not-true, ne_eqb}
 use Rattle.std.proofs.lemmas.List.FromFn.{length-map-range_with_len, get_or-map-range_with_len}
@@ -10,8 +10,10 @@ use Rattle.acpi_base.specs.Entries.{PlacedEntry, Stands, StandsWith}
 use Rattle.acpi_base.specs.Number.{field}
 use Rattle.acpi_base.specs.Pptt.{PpttEntry, Node, NodeValue, PpttContents, pptt_contents, Says, IsResourceAt, ReferenceFault}
 use Rattle.acpi_base.specs.declared.code.Code.TheVariants as code
-use Rattle.acpi_check.proofs.EntryPasses.Kept.{AreRising, kept_has, kept_from, keys_rise, pptt_rising}
+use Rattle.acpi_check.proofs.EntryPasses.Kept.{kept_has, kept_from}
 use Rattle.acpi_base.proofs.Images.HeldBytes.{cases_Option}
+use Rattle.acpi_check.specs.OffsetSets.{IsIn}
+use Rattle.acpi_check.specs.declared.offset_set.OffsetSet.{OffsetSet}
 use Rattle.acpi_lint.specs.FirstPicked.{FindsOwn}
 use Rattle.acpi_lint.specs.Places.{FindsLeast}
 use Rattle.acpi_lint.specs.References.{linked, offset_where, is_linked, is_resource, AreOffsets, IsDanglingLink, NamesNoLink, NamesNoResource}
@@ -40,69 +42,64 @@ stand test entries o = (
         let (passes, same) = offset_is test s o gives in
         (s.entry, subst (λ (k : ℕ). Stands entries k s.entry) (sym same) found, passes)
 
--- and rise
-rise : (test : PpttEntry → Bool) (low : ℕ) (entries : List (PlacedEntry PpttEntry)) → AreRising low entries
-    → AllPairs (λ o p. o < p) (filter_map (offset_where test) entries)
-rise test low entries rises =
-    keys_rise (offset_where test) (λ o. o) (λ s o is. (offset_is test s o is).1) low entries rises
-
--- those of entries with a link are the places of their kind
+-- a set of the offsets of entries with a link has the places of their kind
 pub linked_there : (kind : Link) (whole offsets : List ℕ)
     → offsets ≡ filter_map (offset_where (is_linked kind)) (pptt_contents whole).entries
-    → AreOffsets (IsAt (Says (linked kind) (pptt_contents whole))) offsets
-linked_there kind whole offsets are =
+    → (o : ℕ) → Contains offsets o ↔ IsAt (Says (linked kind) (pptt_contents whole)) o
+linked_there kind whole offsets are o =
     let said = (pptt_contents whole).entries in
-    record {
-      rise = rw are (rise (is_linked kind) 36 said (pptt_rising whole));
-      each = λ o. rw are (
-        λ listed. (let (e, stands, is) = (stand (is_linked kind) said o).0 listed in
-            elim (cases_Option (linked kind e)) [
-              | inl (p, names) ↦ (p, (e, stands, names))
-              | inr none ↦ absurd (true≢false (sym is ∙ ap is_some none))
-            ]),
-        λ (p, (e, stands, names)). (stand (is_linked kind) said o).1 (e, stands, ap is_some names),
-      );
-    }
+    rw are (
+      λ listed. (let (e, stands, is) = (stand (is_linked kind) said o).0 listed in
+          elim (cases_Option (linked kind e)) [
+            | inl (p, names) ↦ (p, (e, stands, names))
+            | inr none ↦ absurd (true≢false (sym is ∙ ap is_some none))
+          ]),
+      λ (p, (e, stands, names)). (stand (is_linked kind) said o).1 (e, stands, ap is_some names),
+    )
 
--- those of entries of another type than a node are the places of private resources
+-- one of the offsets of entries of another type than a node has the places of private resources
 pub resources_there : (whole offsets : List ℕ)
     → offsets ≡ filter_map (offset_where is_resource) (pptt_contents whole).entries
-    → AreOffsets (IsResourceAt (pptt_contents whole)) offsets
-resources_there whole offsets are =
+    → (o : ℕ) → Contains offsets o ↔ IsResourceAt (pptt_contents whole) o
+resources_there whole offsets are o =
     let said = (pptt_contents whole).entries in
-    record {
-      rise = rw are (rise is_resource 36 said (pptt_rising whole));
-      each = λ o. rw are (
-        λ listed. (let (e, stands, is) = (stand is_resource said o).0 listed in
-            (e, stands, eqb-false _ _ (not-true _ is))),
-        λ (e, stands, other). (stand is_resource said o).1 (e, stands, ap not (ne_eqb _ _ other)),
-      );
-    }
+    rw are (
+      λ listed. (let (e, stands, is) = (stand is_resource said o).0 listed in
+          (e, stands, eqb-false _ _ (not-true _ is))),
+      λ (e, stands, other). (stand is_resource said o).1 (e, stands, ap not (ne_eqb _ _ other)),
+    )
+
+-- in a function that returns the set
+pub same_places : {X : Type 0} {IsThere : ℕ → Type 0} (offsets : List ℕ) (r : Result OffsetSet X)
+    → ((o : ℕ) → Contains offsets o ↔ IsThere o) → IfOk r (λ s. (o : ℕ) → IsIn s o ↔ Contains offsets o)
+    → IfOk r (AreOffsets IsThere)
+same_places offsets (Ok s) there same = λ o. (λ is. (there o).0 ((same o).0 is), λ is. (same o).1 ((there o).1 is))
+same_places offsets (Err e) there same = tt
 
 -- ---- what dangles
 
 -- an entry that is linked to none of the places of its kind dangles
-pub links_dangle : (kind : Link) (c : PpttContents) (offsets : List ℕ) (found : Option Place)
+pub links_dangle : (kind : Link) (c : PpttContents) (offsets : OffsetSet) (found : Option Place)
     → AreOffsets (IsAt (Says (linked kind) c)) offsets
     → FindsLeast (IsFaultAt (NamesNoLink kind offsets) c.entries) found
     → FindsLeast (IsDanglingLink kind c) found
 links_dangle kind c offsets found are least =
     least_as found
     (λ at other point (e, stands, (is, some, not, zero)).
-    (record { names = (e, stands, is); some = some; nowhere = λ there. not ((are.each other).1 there) }, zero))
+    (record { names = (e, stands, is); some = some; nowhere = λ there. not ((are other).1 there) }, zero))
     (λ at other point (dangles, zero).
     let (e, stands, is) = dangles.names in
-    (e, stands, (is, dangles.some, λ listed. dangles.nowhere ((are.each other).0 listed), zero)))
+    (e, stands, (is, dangles.some, λ listed. dangles.nowhere ((are other).0 listed), zero)))
     least
 
 -- and so does a private resource that is none of the places of theirs
-pub resources_dangle : (c : PpttContents) (offsets : List ℕ) (found : Option Place)
+pub resources_dangle : (c : PpttContents) (offsets : OffsetSet) (found : Option Place)
     → AreOffsets (IsResourceAt c) offsets → FindsLeast (IsFaultAt (NamesNoResource offsets) c.entries) found
     → FindsLeast (ReferenceFault c code.DanglingResource) found
 resources_dangle c offsets found are least =
     least_as found
-    (λ at other point (e, stands, (is, not)). ((e, stands, is), λ there. not ((are.each point).1 there)))
-    (λ at other point ((e, stands, is), nowhere). (e, stands, (is, λ listed. nowhere ((are.each point).0 listed))))
+    (λ at other point (e, stands, (is, not)). ((e, stands, is), λ there. not ((are point).1 there)))
+    (λ at other point ((e, stands, is), nowhere). (e, stands, (is, λ listed. nowhere ((are point).0 listed))))
     least
 
 -- ---- private resources
@@ -131,18 +128,18 @@ is_number references count j below =
     ∙ ap Some (get_or-map-range_with_len (λ i. field references (4 * i) 4) 0 count j j 0 (omega arith) (omega arith))
 
 -- a node all of whose private resources are there
-pub none_missing : (offsets references : List ℕ) (count : ℕ) (s : PlacedEntry PpttEntry) (v : NodeValue)
+pub none_missing : (offsets : OffsetSet) (references : List ℕ) (count : ℕ) (s : PlacedEntry PpttEntry) (v : NodeValue)
     → s.entry ≡ Node v → v.resources ≡ numbers_in references count
-    → ((j : ℕ) → j < count → Contains offsets (field references (4 * j) 4)) → FindsOwn (NamesNoResource offsets) s None
+    → ((j : ℕ) → j < count → IsIn offsets (field references (4 * j) 4)) → FindsOwn (NamesNoResource offsets) s None
 none_missing offsets references count s v node are all = λ other point (is, not).
     let (below, number) = number_is references count other point (rw are at (rw node at is)) in
     not (rw number (all other below))
 
 -- and one of which the first that is not is this one
-pub first_missing : (offsets references : List ℕ) (count j : ℕ) (s : PlacedEntry PpttEntry) (v : NodeValue)
-    → s.entry ≡ Node v → v.resources ≡ numbers_in references count → j < count
-    → ¬ Contains offsets (field references (4 * j) 4)
-    → ((i : ℕ) → i < j → Contains offsets (field references (4 * i) 4))
+pub first_missing : (offsets : OffsetSet) (references : List ℕ) (count j : ℕ) (s : PlacedEntry PpttEntry)
+    (v : NodeValue) → s.entry ≡ Node v → v.resources ≡ numbers_in references count → j < count
+    → ¬ IsIn offsets (field references (4 * j) 4)
+    → ((i : ℕ) → i < j → IsIn offsets (field references (4 * i) 4))
     → FindsOwn (NamesNoResource offsets) s
     (Some (record { at = s.offset; other = j; point = field references (4 * j) 4 }))
 first_missing offsets references count j s v node are below missing before = (

@@ -1,8 +1,10 @@
 -- Dangling references of the entries of a PPTT (ACPI 6.5, 5.2.30).
-use Rattle.std.specs.Prelude.{◌≡◌, ◌≢◌, ◌<◌, ◌↔◌, ℕ, Bool, List, AllPairs, Contains, Option, Some, None, is_some, not, ◌==◌, if◌then◌else◌}
+use Rattle.std.specs.Prelude.{◌≡◌, ◌≢◌, ◌↔◌, ℕ, Bool, Option, Some, None, is_some, not, ◌==◌, if◌then◌else◌}
 use Rattle.acpi_base.specs.Chains.{Dangles}
 use Rattle.acpi_base.specs.Entries.{PlacedEntry}
 use Rattle.acpi_base.specs.Pptt.{PpttEntry, PpttContents, parent_of, next_level_of, resource_of, pptt_type, Says}
+use Rattle.acpi_check.specs.OffsetSets.{IsIn}
+use Rattle.acpi_check.specs.declared.offset_set.OffsetSet.{OffsetSet}
 use Rattle.acpi_lint.specs.declared.references.Link.{Link}
 use Rattle.acpi_lint.specs.declared.references.Link.TheVariants as link
 
@@ -21,20 +23,19 @@ is_linked kind e = is_some (linked kind e)
 abbrev pub is_resource : PpttEntry → Bool
 is_resource e = not (pptt_type e == 0)
 
--- these are the offsets for which `IsThere` holds, in rising order
-pub record AreOffsets (IsThere : ℕ → Type 0) (offsets : List ℕ) : Type 0 where
-  pub rise : AllPairs (λ o p. o < p) offsets
-  pub each : (o : ℕ) → Contains offsets o ↔ IsThere o
+-- these are the offsets for which `IsThere` holds
+abbrev pub AreOffsets : (ℕ → Type 0) → OffsetSet → Type 0
+AreOffsets IsThere offsets = (o : ℕ) → IsIn offsets o ↔ IsThere o
 
 -- where a link dangles
 abbrev pub IsDanglingLink : Link → PpttContents → ℕ → ℕ → ℕ → Type 0
 IsDanglingLink kind c at other point = Dangles (Says (linked kind) c) at other × (point ≡ 0)
 
 -- the entry refers to an offset that is not among these, and is not 0, which refers to nothing
-abbrev pub NamesNoLink : Link → List ℕ → ℕ → PpttEntry → ℕ → ℕ → Type 0
+abbrev pub NamesNoLink : Link → OffsetSet → ℕ → PpttEntry → ℕ → ℕ → Type 0
 NamesNoLink kind offsets at e other point =
-    (linked kind e ≡ Some other) × (other ≢ 0) × (¬ Contains offsets other) × (point ≡ 0)
+    (linked kind e ≡ Some other) × (other ≢ 0) × (¬ IsIn offsets other) × (point ≡ 0)
 
 -- a private resource of the entry is not among these
-abbrev pub NamesNoResource : List ℕ → ℕ → PpttEntry → ℕ → ℕ → Type 0
-NamesNoResource offsets at e other point = (resource_of other e ≡ Some point) × ¬ Contains offsets point
+abbrev pub NamesNoResource : OffsetSet → ℕ → PpttEntry → ℕ → ℕ → Type 0
+NamesNoResource offsets at e other point = (resource_of other e ≡ Some point) × ¬ IsIn offsets point

@@ -70,11 +70,10 @@ fn lesser(least: Option<Place>, place: Place) -> Place
     }
 }
 
-/// The lowest place of a number whose value differs from that at its first place. Those of one number are next to
-/// each other, its first one before the others.
+/// The lowest place of a number whose value differs from that at its first place, if they are in order: those of one
+/// number are next to each other, its first one before the others.
 pub fn least_unlike(sorted: &[Numbered], order: Order) -> Option<Place>
-    requires { AllPairs IsNotAbove sorted.now }
-    ensures { FindsLeast (IsUnlikeAt order sorted.now) result }
+    ensures { AllPairs IsNotAbove sorted.now → FindsLeast (IsUnlikeAt order sorted.now) result }
 {
     let mut first = *sorted.first()?;
     let mut least = None;

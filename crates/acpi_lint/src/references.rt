@@ -1,12 +1,13 @@
 //! Codes 52 to 54: the references of the PPTT's entries (ACPI 6.5, 5.2.30), whatever their lengths are.
 
-ghost use Rattle.std.specs.Prelude.{◌≡◌, ◌<◌, ◌*◌, ℕ, AllPairs, Contains, IfOk, MatchOption, length};
+ghost use Rattle.std.specs.Prelude.{◌≡◌, ◌<◌, ◌*◌, ℕ, IfOk, MatchOption, length};
 ghost use Rattle.acpi_base.specs.Chains.{IsAt};
 ghost use Rattle.acpi_base.specs.Memory.{Memory};
 ghost use Rattle.acpi_base.specs.Number.{field};
 ghost use Rattle.acpi_base.specs.Pptt.{pptt_contents, Says, IsResourceAt, ReferenceFault};
 ghost use Rattle.acpi_base.specs.declared.code.Code.{Code};
 ghost use Rattle.acpi_base.specs.declared.stage.Stage.{Stage};
+ghost use Rattle.acpi_check.specs.OffsetSets.{IsIn};
 ghost use Rattle.acpi_read.specs.Pptts.{pptt_value, HasReferences};
 ghost use Rattle.acpi_read.specs.TypedEntries.{entry_at_value};
 ghost use Rattle.acpi_lint.specs.FirstPicked.{FindsOwn};
@@ -20,7 +21,7 @@ use crate::place::Place;
 use crate::whole_tables::WholeTables;
 use acpi_base::field::u32_at;
 use acpi_base::{Code, Policy, TableKind};
-use acpi_check::{collected, has};
+use acpi_check::{OffsetSet, collected};
 use acpi_read::{EntryAt, Pptt, PpttEntry};
 use std::alloc::{AllocError, Global};
 
@@ -53,20 +54,19 @@ fn linked_offset(link: Link, at: &EntryAt<PpttEntry<'_>>) -> Option<u64>
 }
 
 /// The offsets of a PPTT's entries that have such a link.
-fn linked_offsets(alloc: Global, link: Link, pptt: &Pptt<'_>) -> Result<Vec<u64>, AllocError>
-    ensures { IfOk result (λ offsets.
-        AreOffsets (IsAt (Says (linked link) (pptt_contents pptt.now))) offsets.items) }
+fn linked_offsets(alloc: Global, link: Link, pptt: &Pptt<'_>) -> Result<OffsetSet, AllocError>
+    ensures { IfOk result (AreOffsets (IsAt (Says (linked link) (pptt_contents pptt.now)))) }
 {
-    collected(alloc, pptt.entries(), |at| linked_offset(link, at))
+    let offsets = collected(alloc, pptt.entries(), |at| linked_offset(link, at))?;
+    OffsetSet::of(alloc, &offsets)
 }
 
 /// The place of an entry that refers to none of these offsets.
-fn unlinked_place(link: Link, offsets: &[u64], at: &EntryAt<PpttEntry<'_>>) -> Option<Place>
-    requires { AllPairs (λ o p. o < p) offsets.now }
+fn unlinked_place(link: Link, offsets: &OffsetSet, at: &EntryAt<PpttEntry<'_>>) -> Option<Place>
     ensures { FindsOwn (NamesNoLink link offsets.now) (entry_at_value pptt_value at.now) result }
 {
     let offset = linked(link, &at.entry)?;
-    if offset == 0 || has(offsets, offset) {
+    if offset == 0 || offsets.has(offset) {
         return None;
     }
     Some(Place {
@@ -103,24 +103,23 @@ fn resource_offset(at: &EntryAt<PpttEntry<'_>>) -> Option<u64>
 }
 
 /// The offsets of such entries of a PPTT.
-fn resource_offsets(alloc: Global, pptt: &Pptt<'_>) -> Result<Vec<u64>, AllocError>
-    ensures { IfOk result (λ offsets. AreOffsets (IsResourceAt (pptt_contents pptt.now))
-        offsets.items) }
+fn resource_offsets(alloc: Global, pptt: &Pptt<'_>) -> Result<OffsetSet, AllocError>
+    ensures { IfOk result (AreOffsets (IsResourceAt (pptt_contents pptt.now))) }
 {
-    collected(alloc, pptt.entries(), resource_offset)
+    let offsets = collected(alloc, pptt.entries(), resource_offset)?;
+    OffsetSet::of(alloc, &offsets)
 }
 
 /// The number of the first of this many private resources of a node that is at none of these offsets.
-fn first_missing(offsets: &[u64], count: u32, references: &[u8]) -> Option<u32>
-    requires rising { AllPairs (λ o p. o < p) offsets.now }
-    requires count { length references.now ≡ 4 * count }
-    ensures { MatchOption result ((j : ℕ) → j < count
-        → Contains offsets.now (field references.now (4 * j) 4))
-        (λ found. (found < count) × (¬ Contains offsets.now (field references.now (4 * found) 4))
-        × ((j : ℕ) → j < found → Contains offsets.now (field references.now (4 * j) 4))) }
+fn first_missing(offsets: &OffsetSet, count: u32, references: &[u8]) -> Option<u32>
+    requires { length references.now ≡ 4 * count }
+    ensures { MatchOption result
+        ((j : ℕ) → j < count → IsIn offsets.now (field references.now (4 * j) 4))
+        (λ found. (found < count) × (¬ IsIn offsets.now (field references.now (4 * found) 4))
+        × ((j : ℕ) → j < found → IsIn offsets.now (field references.now (4 * j) 4))) }
 {
     for j in 0..count {
-        if !has(offsets, u32_at(references, 4 * j as usize)) {
+        if !offsets.has(u32_at(references, 4 * j as usize)) {
             return Some(j);
         }
     }
@@ -128,9 +127,8 @@ fn first_missing(offsets: &[u64], count: u32, references: &[u8]) -> Option<u32>
 }
 
 /// The place of the first private resource of an entry that is at none of these offsets.
-fn missing_place(offsets: &[u64], at: &EntryAt<PpttEntry<'_>>) -> Option<Place>
-    requires rising { AllPairs (λ o p. o < p) offsets.now }
-    requires references { HasReferences at.now.entry }
+fn missing_place(offsets: &OffsetSet, at: &EntryAt<PpttEntry<'_>>) -> Option<Place>
+    requires { HasReferences at.now.entry }
     ensures { FindsOwn (NamesNoResource offsets.now) (entry_at_value pptt_value at.now) result }
 {
     let PpttEntry::Node(head, references) = at.entry else {

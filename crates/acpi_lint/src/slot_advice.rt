@@ -1,12 +1,11 @@
 //! Advice on the slots of the root table: what is listed again, and what should not be listed (ACPI 6.5, 5.2.7,
 //! 5.2.8).
 
-ghost use Rattle.std.specs.Prelude.{◌↔◌, ◌⊎◌, ℕ, AllPairs, IsTrue};
+ghost use Rattle.std.specs.Prelude.{◌↔◌, ◌⊎◌, ℕ, IsTrue};
 ghost use Rattle.acpi_base.specs.Facs.{facs_signature};
 ghost use Rattle.acpi_base.specs.Lint.Slots.{dsdt_signature, IsListedTwice, IsSecondTable, IsListedApart};
 ghost use Rattle.acpi_base.specs.Memory.{Memory};
 ghost use Rattle.acpi_base.specs.Tables.{IsSigned};
-ghost use Rattle.acpi_lint.specs.Numbered.{IsNotAbove};
 ghost use Rattle.acpi_lint.specs.Places.{FindsLeast};
 ghost use Rattle.acpi_lint.specs.Slots.{IsSecondOf, IsLesser};
 ghost use Rattle.acpi_lint.specs.WholeTables.{AreWholeTables};
@@ -20,7 +19,6 @@ use acpi_base::{Image, TableKind};
 
 /// The first slot that lists an address that an earlier slot also lists. The tables are those of the set.
 pub fn listed_twice(tables: &WholeTables<'_>) -> Option<Place>
-    requires { AllPairs IsNotAbove tables.now.slots.items }
     ensures { (m : Memory) (p : ℕ) → AreWholeTables m p tables.now
         → FindsLeast (IsListedTwice m p) result }
 {

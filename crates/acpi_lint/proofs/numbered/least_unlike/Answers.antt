@@ -8,8 +8,8 @@ use Rattle.acpi_lint.proofs.numbered.least_unlike.Goals.{then-here-first, else-h
 pub loop-here-init : goal.loop-here-init
 loop-here-init c =
     let item = c.in_ok-first.ensures.item in
-    record {
-      standing = standing_first c.args.sorted.now c.in_ok-first.field-0.now c.requires (item.3.0) (sym item.1);
+    λ rise. record {
+      standing = standing_first c.args.sorted.now c.in_ok-first.field-0.now rise (item.3.0) (sym item.1);
       found = none_so_far c.args.order c.args.sorted.now;
     }
 
@@ -20,18 +20,20 @@ loop-here-preserved c =
     let none : Numbered = record { number = 0; at = 0; value = 0 } in
     let h : Numbered = get_or sorted i none in
     let here : get_or sorted i h ≡ h = get_or_default sorted i h none c.loop-here-test.true in
-    let standing = c.loop-here.invariant.standing in
-    let found = c.loop-here.invariant.found in
+    λ rise.
+    let before = c.loop-here.invariant rise in
+    let standing = before.standing in
+    let found = before.found in
     let first = c.if-here-first.first in
     let now : IsCurrent sorted i h first =
     elim c.if-here-first.branch [
       | then-here-first w ↦ rw w.first-is
-          (next_number sorted i h c.loop-here.first c.requires c.loop-here-test.true here standing w.if-here-first.true)
+          (next_number sorted i h c.loop-here.first rise c.loop-here-test.true here standing w.if-here-first.true)
       | else-here-first w ↦ rw w.first-is
           (same_number sorted i h c.loop-here.first c.loop-here-test.true here standing w.if-here-first.false)
     ] in
     record {
-      standing = stands_next sorted i h first c.requires now;
+      standing = stands_next sorted i h first rise now;
       found =
           elim c.if-here-first-2.branch [
             | then-here-first-2 w ↦
@@ -45,5 +47,5 @@ loop-here-preserved c =
     }
 
 pub returns : goal.returns
-returns c = all_passed c.args.order c.args.sorted.now c.loop-here.here-index c.loop-here.least c.loop-here-test.false
-    c.loop-here.invariant.found
+returns c = λ rise. all_passed c.args.order c.args.sorted.now c.loop-here.here-index c.loop-here.least
+    c.loop-here-test.false (c.loop-here.invariant rise).found

@@ -10,7 +10,7 @@ use Rattle.acpi_lint.proofs.references.dangling_resource.Goals as goal
 
 pub returns : goal.returns
 returns c =
-    let offsets = c.in_ok-offsets.offsets.items in
+    let offsets = c.in_ok-offsets.offsets in
     let said = pptt_contents c.args.pptt.now in
     let found : FindsLeast (IsFaultAt (NamesNoResource offsets) said.entries) c.first_picked.result =
     least_of_entries pptt_value (NamesNoResource offsets) 36 c.first_picked.result c.first_picked.ensures

@@ -1,13 +1,15 @@
-use Rattle.std.proofs.Common.{rules}
-use Rattle.acpi_base.specs.Pptt.{pptt_contents, IsResourceAt}
+use Rattle.std.proofs.Common.{Ok, rules}
+use Rattle.std.specs.Prelude.{⊤}
 use Rattle.acpi_read.specs.Pptts.{pptt_value}
 use Rattle.acpi_check.proofs.EntryPasses.Collecting.{gathered_same}
-use Rattle.acpi_lint.specs.References.{offset_where, is_resource, AreOffsets}
-use Rattle.acpi_lint.proofs.NamedPlaces.{resources_there}
+use Rattle.acpi_lint.specs.References.{offset_where, is_resource}
+use Rattle.acpi_lint.proofs.NamedPlaces.{resources_there, same_places}
 use Rattle.acpi_lint.proofs.references.resource_offsets.Goals as goal
 
 pub returns : goal.returns
 returns c =
-    gathered_same pptt_value (offset_where is_resource) (AreOffsets (IsResourceAt (pptt_contents c.args.pptt.now)))
-    c.collected.result c.collected.ensures c.entries.ensures.entries (λ at picked answers. search rules)
-    (resources_there c.args.pptt.now)
+    same_places c.in_ok-offsets.offsets.items c.of.result
+    (resources_there c.args.pptt.now c.in_ok-offsets.offsets.items
+    (gathered_same {X = ⊤} pptt_value (offset_where is_resource) _ (Ok c.in_ok-offsets.offsets)
+    c.in_ok-offsets.ensures c.entries.ensures.entries (λ at picked answers. search rules) (λ found is. is)))
+    (rw c.deref.ensures.value at c.of.ensures)

@@ -7,4 +7,4 @@ returns c = λ m p whole.
     let given = c.args.tables.now.slots.items in
     found_again given c.least_unlike.result whole.slots.listed
     (found_later given c.least_unlike.result whole.slots.listed.placed
-    (rw c.deref.ensures.value at c.least_unlike.ensures))
+    ((rw c.deref.ensures.value at c.least_unlike.ensures) whole.slots.rise))

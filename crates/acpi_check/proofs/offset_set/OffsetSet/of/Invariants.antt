@@ -1,0 +1,6 @@
+use Rattle.acpi_check.proofs.NodeLinks.OffsetsAdded.{AreAdded}
+use Rattle.acpi_check.proofs.offset_set.OffsetSet.of.Given as goal
+
+-- the offsets so far are in the set
+abbrev pub invariant-loop-offset : goal.invariant-loop-offset
+invariant-loop-offset l = AreAdded l.fn.offsets l.offset-index l.set
