@@ -31,7 +31,7 @@ fn make_room(words: &mut Vec<u64>, place: usize) -> Result<(), AllocError>
 
 impl OffsetSet {
     /// The empty set. Allocates nothing.
-    pub fn new(alloc: Global) -> OffsetSet
+    pub(crate) fn new(alloc: Global) -> OffsetSet
         ensures { (o : ℕ) → ¬ IsIn result o }
     {
         OffsetSet {
@@ -51,7 +51,7 @@ impl OffsetSet {
     }
 
     /// Adds an offset. Allocates for the bits up to it, if none after it was added before.
-    pub fn add(&mut self, offset: u64) -> Result<(), AllocError>
+    pub(crate) fn add(&mut self, offset: u64) -> Result<(), AllocError>
         ensures { OnOk result (Adds true offset self.old self.new) }
     {
         let place = (offset / WORD) as usize;
