@@ -480,7 +480,7 @@ def times(tests):
     for name, image in many.items():
         check, line = max(spent([tests.program, "check"], image) for _ in range(3))
         words = [tests.tool, tests.file(image)]
-        explain, said = min(spent(words, line, env={**os.environ, "PATH": tests.path}) for _ in range(2))
+        explain, said = min(spent(words, line, env={**os.environ, "PATH": tests.path}) for _ in range(4))
         is_right = said.startswith(line.strip()) and explain < 20 * max(check, 0.05)
         tests.count(f"the time of {name}", "" if is_right else f"check {check:.2f} s, explain {explain:.2f} s: {said[-200:]}")
     long_line = example + b"41 " * 1_000_000 + b"\n"

@@ -4,6 +4,8 @@ import io
 import re
 from array import array
 from bisect import bisect_right
+from itertools import accumulate, compress, repeat
+from operator import add, gt, ne
 
 from .refusal import BAD_INPUT, Refusal
 
@@ -12,8 +14,10 @@ LONGEST_LINE = 65_536
 ADDRESSES = 2**64
 ALLOWED = b"@0123456789ABCDEFabcdef \t\r\n"
 COMMENT = re.compile(rb"#[^\n]*")
-ADDRESS = re.compile("[0-9A-Fa-f]{1,16}[ \\t]*\\r?")
-RSDP = re.compile(rb"RSD PTR ")
+ADDRESS_LINE = re.compile("@([0-9A-Fa-f]{1,16})[ \\t]*\\r?\\n")
+INSIDE_LINE = re.compile("[^ \\t\\n][ \\t]*@")
+RSDP_SIZE = 20
+RSDP = re.compile(rb"RSD PTR (?=.{12})", re.DOTALL)
 LINE = re.compile(rb"[ \t]*(?:@[0-9A-Fa-f]{1,16}[ \t]*|(?:[0-9A-Fa-f]{2}[ \t]*)*)(?:#[^\n]*|\r)?\n?")
 
 
@@ -44,13 +48,12 @@ class Image:
 
     def rsdps(self):
         """The addresses of 20 bytes that begin as an RSDP does and have a right checksum, in order."""
-        for found in RSDP.finditer(self.store):
-            at = found.start()
-            if sum(self.store[at : at + 20]) % 256:
-                continue
-            run = bisect_right(self.offsets, at) - 1
-            if self.offsets[run + 1] - at >= 20:
-                yield self.starts[run] + at - self.offsets[run]
+        runs = zip(self.starts, self.offsets, self.offsets[1:])
+        for start, begin, end in ((start, begin, end) for start, begin, end in runs if end - begin >= RSDP_SIZE):
+            for found in RSDP.finditer(self.store, begin, end):
+                at = found.start()
+                if sum(self.store[at : at + RSDP_SIZE]) % 256 == 0:
+                    yield start + at - begin
 
 
 def read(text):
@@ -68,24 +71,17 @@ def read(text):
 def pieces_of(text):
     """The addresses of the pieces that a text has, and their bytes; None if a line is bad or bytes have no address."""
     rows = bare(text)
-    if rows is None:
+    if rows is None or not do_begin_lines(rows):
         return None
-    before, *pieces = rows.split("@")
-    if before.strip() or not ends_a_line("\n" + before):
+    before, *pieces = ADDRESS_LINE.split(rows + "\n")
+    if before.strip():
         return None
-    starts, parts = [], []
     try:
-        for number, piece in enumerate(pieces, 1):
-            address, _, row = piece.partition("\n")
-            if not ADDRESS.fullmatch(address) or number < len(pieces) and piece[-1] != "\n" and not ends_a_line(piece):
-                return None
-            part = bytes.fromhex(row)
-            if part:
-                starts.append(int(address, 16))
-                parts.append(part)
+        starts = array("Q", map(int, pieces[::2], repeat(16)))
+        parts = list(map(bytes.fromhex, pieces[1::2]))
     except ValueError:
         return None
-    return starts, parts
+    return array("Q", compress(starts, parts)), list(filter(None, parts))
 
 
 def bare(text):
@@ -96,28 +92,27 @@ def bare(text):
     return None if has_stray_return or rows.translate(None, ALLOWED) else rows.decode()
 
 
-def ends_a_line(rows):
-    """Whether there are only blanks after the last line feed, and there is one."""
-    return "\n" in rows and not rows[rows.rfind("\n") + 1 :].strip(" \t")
+def do_begin_lines(rows):
+    """Whether before each @ there are only blanks on its line."""
+    at_begin = rows.count("\n@") + rows.startswith("@")
+    return rows.count("@") == at_begin or not INSIDE_LINE.search(rows)
 
 
 def laid_out(text, starts, parts):
     """The image of some pieces: in the order of their addresses, and those that touch joined."""
     order = sorted(range(len(starts)), key=starts.__getitem__)
-    parts = [parts[piece] for piece in order]
-    runs, offsets, end, at = array("Q"), array("Q"), -1, 0
-    for start, size in zip([starts[piece] for piece in order], map(len, parts)):
-        if start != end:
-            if start < end:
-                raise refusal(f"address {start:#x} is given twice")
-            runs.append(start)
-            offsets.append(at)
-        at += size
-        end = start + size
-    if end > ADDRESSES:
+    starts = array("Q", map(starts.__getitem__, order))
+    parts = list(map(parts.__getitem__, order))
+    sizes = array("Q", map(len, parts))
+    ends = list(map(add, starts, sizes))
+    following = starts[1:]
+    for start in compress(following, map(gt, ends, following)):
+        raise refusal(f"address {start:#x} is given twice")
+    if ends and ends[-1] > ADDRESSES:
         raise refusal(f"bytes go past the last address, {ADDRESSES - 1:#x}")
-    offsets.append(at)
-    return Image(text, runs, offsets, b"".join(parts))
+    begins_run = [True, *map(ne, ends, following)] if parts else []
+    offsets = array("Q", compress(accumulate(sizes, initial=0), [*begins_run, True]))
+    return Image(text, array("Q", compress(starts, begins_run)), offsets, b"".join(parts))
 
 
 def bad_line(text):
