@@ -4,6 +4,8 @@
 # everything that it started.
 # usage: tests/all.sh PROGRAM TESTS..; TESTS are the crates' tests as they were built (see refused_calls.py).
 #
+# What compares times runs at the end, alone: beside others it would take longer.
+#
 # Instead of the scripts of the folder tests, it runs those of the folder TESTS_FOLDER if that is set, and only those that
 # TESTS_ONLY names, if that is set: this is how it is tested itself.
 set -u
@@ -48,9 +50,10 @@ ran() {
 }
 
 scripts=(refusals.py recipes.sh fuzz/run.py show/run.py lint/run.py rows/texts.py program.sh valgrind.sh explain.sh tools/run.py install.sh refused_calls.py rebuild/run.py rows/confirm.py documents.sh rows/run.py rows/words.py rows/examples.py scripts.sh)
+timed=(explain/times.py)
 # The library is tested if `make library` has left it.
 [ ! -e library/libacpiset.a ] || scripts=(library/run.py library/rust.sh "${scripts[@]}")
-[ -z "${TESTS_ONLY-}" ] || read -ra scripts <<<"$TESTS_ONLY"
+[ -z "${TESTS_ONLY-}" ] || { read -ra scripts <<<"$TESTS_ONLY" && timed=(); }
 for script in "${scripts[@]}"; do
   while [ "$(jobs -rp | wc -l)" -ge "$(nproc)" ]; do wait -n; done
   case $script in
@@ -62,8 +65,13 @@ for script in "${scripts[@]}"; do
   esac
 done
 wait
+for script in "${timed[@]}"; do
+  ran "$script" "$program" &
+  wait
+done
 
 failed=()
+scripts+=("${timed[@]}")
 for script in "${scripts[@]}"; do
   log="$scratch/${script//\//-}"
   printf '== tests/%s\n' "$script"

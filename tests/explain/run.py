@@ -6,7 +6,6 @@ usage: run.py PROGRAM; the last line is 'explain: N passed, M failed'."""
 
 import os
 import re
-import resource
 import shutil
 import subprocess
 import sys
@@ -458,39 +457,18 @@ def places(tests):
     tests.count("files that Python leaves", " ".join(left))
 
 
-def spent(words, text, **kept):
-    """The processor time that a program and those that it runs take, in seconds, and what it wrote."""
-    before = resource.getrusage(resource.RUSAGE_CHILDREN)
-    run = subprocess.run(words, input=text, stdout=subprocess.PIPE, stderr=subprocess.PIPE, **kept)
-    after = resource.getrusage(resource.RUSAGE_CHILDREN)
-    return after.ru_utime + after.ru_stime - before.ru_utime - before.ru_stime, run.stdout + run.stderr
-
-
-def times(tests):
-    """On images with many pieces or structures explain takes less than 20 times what check takes."""
+def many(tests):
+    """A line of a million bytes, and a cycle of 100,000 nodes."""
     with open(os.path.join(IMAGES, "example.img.txt"), "rb") as file:
         example = file.read()
-    addresses = (0x100000000 + 16 * (place * 77_773 % 200_000) for place in range(200_000))
-    apart = b"".join(b"@%x\n52 53 44 20 50 54 52 20\n" % address for address in addresses)
-    many = {
-        "200,000 pieces": example + apart,
-        "100,000 nodes": sets.image_of(sets.long_pptt(100_000)),
-        "100,000 UIDs": sets.image_of(sets.x2apics(100_000), sets.pptt(sets.node(flags=10))),
-    }
-    for name, image in many.items():
-        check, line = max(spent([tests.program, "check"], image) for _ in range(3))
-        words = [tests.tool, tests.file(image)]
-        explain, said = min(spent(words, line, env={**os.environ, "PATH": tests.path}) for _ in range(4))
-        is_right = said.startswith(line.strip()) and explain < 20 * max(check, 0.05)
-        tests.count(f"the time of {name}", "" if is_right else f"check {check:.2f} s, explain {explain:.2f} s: {said[-200:]}")
     long_line = example + b"41 " * 1_000_000 + b"\n"
     tests.refuses(1, "a line has more than 65,536 bytes", tests.file(long_line), text=b"yes\n")
     chain = ["..and 99000 more, up to the one at 0x1e8490", "it names the one at 0x24 again: 100000 of these 100000 are the cycle"]
-    tests.says("no 14 ParentCycle 0x24 0x0 0x186a0", chain, many["100,000 nodes"])
+    tests.says("no 14 ParentCycle 0x24 0x0 0x186a0", chain, sets.image_of(sets.long_pptt(100_000)))
 
 
 PARTS = [lines_without_image, refused_lines, structures, chains, numbers, fields, unread, judged, other_programs]
-PARTS += [shown, image_texts, streams, places, times]
+PARTS += [shown, image_texts, streams, places, many]
 
 
 def main():
