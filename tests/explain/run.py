@@ -6,79 +6,17 @@ usage: run.py PROGRAM; the last line is 'explain: N passed, M failed'."""
 
 import os
 import re
-import shutil
 import subprocess
 import sys
 import tempfile
 
 import sets
 from cases import IMAGES as FIRMWARE_AT
+from explained import IMAGES, TOP, Tests
 
-TOP = os.path.realpath(os.path.join(os.path.dirname(os.path.abspath(__file__)), "..", ".."))
-IMAGES = os.path.join(TOP, "tests", "images")
 OVERLAP = "no 10 Overlap 0x90 0xb8 0x100000000"
 DOUBT = "acpiset confirm answers false: the image does not have this fault. Is this the image that the line is of?"
 MISMATCH = "s this the image that the line is of?"
-
-
-class Tests:
-    def __init__(self, program, scratch):
-        self.program, self.scratch = program, scratch
-        self.passed = self.failed = 0
-        self.tool = self.copy("whole", "tools", "explain", os.path.join("docs", "FAULTS.md"))
-        os.symlink(program, os.path.join(scratch, "whole", "acpiset"))
-        self.path = os.path.dirname(sys.executable) + ":/usr/bin:/bin"
-
-    def copy(self, name, folder, tool, document):
-        """A copy of the tool and what it needs, so that nothing else of the tree is found. Returns the tool's path."""
-        top = os.path.join(self.scratch, name)
-        for part in (folder, os.path.dirname(document)):
-            os.makedirs(os.path.join(top, part), exist_ok=True)
-        shutil.copy(os.path.join(TOP, "tools", "explain"), os.path.join(top, folder, tool))
-        shutil.copy(os.path.join(TOP, "docs", "FAULTS.md"), os.path.join(top, document))
-        if os.path.isdir(os.path.join(TOP, "share")):
-            shutil.copytree(os.path.join(TOP, "share"), os.path.join(top, "share"), dirs_exist_ok=True)
-        return os.path.join(top, folder, tool)
-
-    def file(self, data):
-        """A file with an image."""
-        path = os.path.join(self.scratch, "image")
-        with open(path, "wb") as file:
-            file.write(data)
-        return path
-
-    def count(self, name, wrong):
-        if wrong:
-            self.failed += 1
-            print(f"{name}: {wrong}")
-        else:
-            self.passed += 1
-
-    def run(self, *words, text=b"", tool=None, **kept):
-        kept.setdefault("stdout", subprocess.PIPE)
-        environment = {**os.environ, "PATH": self.path}
-        text = text if isinstance(text, bytes) else (text + "\n").encode()
-        return subprocess.run([tool or self.tool, *words], input=text, stderr=subprocess.PIPE, env=environment, timeout=300, **kept)
-
-    def says(self, line, texts, image=None, *words, without=(), tool=None):
-        """Of this line explain says these texts, each a whole line or a part of one that begins with .., and none of others."""
-        image = [] if image is None else [self.file(image) if isinstance(image, bytes) else os.path.join(IMAGES, image)]
-        run = self.run(*words, *image, text=line, tool=tool)
-        said = run.stdout.decode("latin-1")
-        lines = said.split("\n")
-        wrong = f"status {run.returncode}, {run.stderr.decode('latin-1')}" if run.returncode or run.stderr else ""
-        for text in [texts] if isinstance(texts, str) else texts:
-            if not (text[2:] in said if text.startswith("..") else text in lines):
-                wrong += f"\nnot said: {text}"
-        wrong += "".join(f"\nsaid: {text}" for text in without if text in said)
-        self.count(f"{line} {' '.join(words)}", wrong and f"{wrong}\nbut: {said}")
-
-    def refuses(self, status, told, *words, text=b"", **kept):
-        """Explain ends with this status, writes nothing, and says this in one line or before its usage."""
-        run = self.run(*words, text=text, **kept)
-        said = run.stderr.decode("latin-1")
-        is_right = run.returncode == status and not run.stdout and told in said and said.endswith("\n") and "Traceback" not in said
-        self.count(f"{words} {text[:60]!r}", "" if is_right else f"status {run.returncode}, {said!r}, {run.stdout!r}, not {told}")
 
 
 def lines_without_image(tests):
@@ -367,7 +305,9 @@ def shown(tests):
 # Image texts and whether acpiset reads them.
 TEXTS = [
     (b"", True),
+    (b" \r", True),
     (b"@10\n41 42", True),
+    (b" @20\n41\n@20\n@10\n42\n", True),
     (b"  @10 \t# an address\r\n\t41 42\t43 \r\n4445#\n\n", True),
     (b"@10\n41\r", True),
     (b"@fffffffffffffffe\n41 42\n@0\n41\n", True),
@@ -385,6 +325,8 @@ TEXTS = [
     (b"@10\n4 1\n", False),
     (b"@10\n4\n1\n", False),
     (b"@10\n41\x0b42\n", False),
+    (b"\x0c@10\n41\n", False),
+    (b"@10\n@20\x0c\n41\n", False),
     (b"@10\n41\0\n", False),
     (b"@10\n41\r\r\n", False),
     (b"@10\n41\r#\n", False),
@@ -393,6 +335,7 @@ TEXTS = [
     (b"@fffffffffffffffe\n41 42 43\n", False),
     (b"@10\n41 42\n@11\n43\n", False),
     (b"@11\n41 42\n@10\n43 44\n", False),
+    (b"@10\n41\n@10\n42\n", False),
     (b"@10\n" + b"41" * 32_768 + b" \n", False),
     (b"@10\n41#" + b"x" * 65_534 + b"\n", False),
     (b"@10\n" + b"#" * 65_535 + b"\n" + (b"#" * 65_535 + b"\n") * 1023 + b"\n", False),

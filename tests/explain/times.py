@@ -11,7 +11,7 @@ import sys
 import tempfile
 
 import sets
-from run import IMAGES, Tests
+from explained import IMAGES, Tests
 
 # explain takes at most this many times as long as check, or as a check of this many seconds.
 TIMES = 20

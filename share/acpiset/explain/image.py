@@ -4,8 +4,9 @@ import io
 import re
 from array import array
 from bisect import bisect_right
+from functools import partial
 from itertools import accumulate, compress, repeat
-from operator import add, gt, ne
+from operator import add, sub
 
 from .refusal import BAD_INPUT, Refusal
 
@@ -77,11 +78,10 @@ def pieces_of(text):
     if before.strip():
         return None
     try:
-        starts = array("Q", map(int, pieces[::2], repeat(16)))
-        parts = list(map(bytes.fromhex, pieces[1::2]))
+        parts = [*map(bytes.fromhex, pieces[1::2])]
     except ValueError:
         return None
-    return array("Q", compress(starts, parts)), list(filter(None, parts))
+    return [*compress(map(int, pieces[::2], repeat(16)), parts)], [*filter(None, parts)]
 
 
 def bare(text):
@@ -100,19 +100,20 @@ def do_begin_lines(rows):
 
 def laid_out(text, starts, parts):
     """The image of some pieces: in the order of their addresses, and those that touch joined."""
-    order = sorted(range(len(starts)), key=starts.__getitem__)
-    starts = array("Q", map(starts.__getitem__, order))
-    parts = list(map(parts.__getitem__, order))
-    sizes = array("Q", map(len, parts))
-    ends = list(map(add, starts, sizes))
-    following = starts[1:]
-    for start in compress(following, map(gt, ends, following)):
-        raise refusal(f"address {start:#x} is given twice")
+    # The key of each part is its start: sorted asks for the keys once, in the order of the parts.
+    parts = sorted(parts, key=partial(next, iter(starts)))
+    starts = sorted(starts)
+    sizes = [*map(len, parts)]
+    ends = [*map(add, starts, sizes)]
+    gaps = [*map(sub, starts[1:], ends)]
+    if gaps and min(gaps) < 0:
+        twice = next(compress(starts[1:], map((0).__gt__, gaps)))
+        raise refusal(f"address {twice:#x} is given twice")
     if ends and ends[-1] > ADDRESSES:
         raise refusal(f"bytes go past the last address, {ADDRESSES - 1:#x}")
-    begins_run = [True, *map(ne, ends, following)] if parts else []
-    offsets = array("Q", compress(accumulate(sizes, initial=0), [*begins_run, True]))
-    return Image(text, array("Q", compress(starts, begins_run)), offsets, b"".join(parts))
+    begins_run = [1, *gaps] if parts else []
+    offsets = compress(accumulate(sizes, initial=0), [*begins_run, 1])
+    return Image(text, array("Q", compress(starts, begins_run)), array("Q", offsets), b"".join(parts))
 
 
 def bad_line(text):
