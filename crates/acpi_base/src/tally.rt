@@ -59,37 +59,6 @@ impl<T> Tally<T> {
     }
 
     /// Reads once, into a prefix of the buffer, and returns how many bytes were read. Returns `DeviceFailed` if the
-    /// read failed in any way, and leaves it to the caller to count that. At a count of 2^64 - 1 nothing is read.
-    pub(crate) fn attempt(&mut self, buffer: &mut [u8]) -> Result<usize, DeviceFailed>
-    where
-        T: Read,
-        ensures bound { ReadsAtMost result buffer.new }
-        ensures bytes { ReadConsumes (T.remaining self.old.inner) (T.remaining self.new.inner)
-            result buffer.new }
-        ensures count { self.new.failures ≡ self.old.failures }
-        ensures last { self.old.failures ≡ last_count → IsErr result × (self.new ≡ self.old) }
-    {
-        if self.failures == u64::MAX {
-            return Err(DeviceFailed);
-        }
-        match self.inner.read(buffer) {
-            Ok(count) => Ok(count),
-            Err(_) => Err(DeviceFailed),
-        }
-    }
-
-    /// Adds one to the count of failures, which stays at 2^64 - 1.
-    pub(crate) fn count_failure(&mut self)
-        ensures inner { self.new.inner ≡ self.old.inner }
-        ensures count { CountsFailure self.old.failures self.new.failures }
-        ensures last { self.old.failures ≡ last_count → self.new ≡ self.old }
-    {
-        if self.failures < u64::MAX {
-            self.failures += 1;
-        }
-    }
-
-    /// Reads once, into a prefix of the buffer, and returns how many bytes were read. Returns `DeviceFailed` if the
     /// read failed in any way, which adds one to the count. At a count of 2^64 - 1 nothing is read: it returns
     /// `DeviceFailed`, and the count stays the same.
     pub fn read(&mut self, buffer: &mut [u8]) -> Result<usize, DeviceFailed>
@@ -102,11 +71,14 @@ impl<T> Tally<T> {
         ensures err { OnErr result (CountsFailure self.old.failures self.new.failures) }
         ensures last { self.old.failures ≡ last_count → IsErr result × (self.new ≡ self.old) }
     {
-        match self.attempt(buffer) {
+        if self.failures == u64::MAX {
+            return Err(DeviceFailed);
+        }
+        match self.inner.read(buffer) {
             Ok(count) => Ok(count),
-            Err(failed) => {
-                self.count_failure();
-                Err(failed)
+            Err(_) => {
+                self.failures += 1;
+                Err(DeviceFailed)
             }
         }
     }

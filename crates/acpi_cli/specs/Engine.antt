@@ -5,7 +5,7 @@ use Rattle.std.specs.Io.KnownBytes.{Appends, Consumes, IsAtEnd, Keeps}
 use Rattle.acpi_base.specs.Memory.{Memory}
 use Rattle.acpi_base.specs.Policy.{PolicyValue, new_policy, with_rsdp}
 use Rattle.acpi_base.specs.Text.ImageText.{IsText, max_text}
-use Rattle.acpi_base.specs.Text.TextReading.{IsFaultlessPrefix, IsRefusal, is_of_text}
+use Rattle.acpi_base.specs.Text.TextReading.{CountsRead, IsFaultlessPrefix, IsRefusal, is_of_text}
 use Rattle.acpi_base.specs.Tally.{CountedDevice, CountsFailure}
 use Rattle.acpi_base.specs.RsdpSearch.{IsFound, IsNowhere}
 use Rattle.acpi_base.specs.Faults.{Fault, IsVerdict}
@@ -71,14 +71,14 @@ pub record ReadsImage (input : Device) (m : Memory) : Type 0 where
   pub spells : IsText text m
   pub sound : HasNotFailed input
 
--- no read failed, and the text that was read is refused with this fault, which is one of a text's own: not out of
--- memory
+-- the text that was read is refused with this fault, which is one of a text's own: not out of memory; and no read failed,
+-- except perhaps after an address that came twice
 pub record ReadsRefused (input : Device) (fault : TextFault) : Type 0 where
   pub text : List ℕ
   pub read : Reads input text
   pub refused : IsRefusal text input.bytes_after fault
   pub own : is_of_text fault ≡ true
-  pub sound : HasNotFailed input
+  pub sound : CountsRead input.failures_before input.failures_after fault
 
 -- no read failed, and memory ran out, whatever had been read
 pub record ReadsOutOfMemory (input : Device) : Type 0 where
@@ -95,7 +95,7 @@ pub record ReadsFailed (input : Device) : Type 0 where
 
 -- What was read, by the result: a whole text, which is the image's; a text that has this fault; where a read failed,
 -- bytes in which no fault stood so far; and out of memory any bytes. It is never more than one byte beyond the longest
--- text. With any result but `Device` no read failed.
+-- text. With any result but `Device`, and a text that gives an address twice, no read failed.
 abbrev pub ReadsInput : Device → Result Memory RunFault → Type 0
 ReadsInput input (Ok image) = ReadsImage input image
 ReadsInput input (Err (run.Image fault)) = ReadsRefused input fault

@@ -7,6 +7,7 @@ use Rattle.std.proofs.lemmas.List.{take-append-le}
 use Rattle.acpi_base.specs.Memory.{Memory}
 use Rattle.acpi_base.specs.Text.ImageText.{max_text, IsText, IsRefused, IsRefusedPrefix}
 use Rattle.acpi_base.specs.Text.TextMachine.{ReaderState, Stopped, EndsAs, initial_state, run, text_result, prefix_result}
+use Rattle.acpi_base.specs.Tally.{CountsFailure}
 use Rattle.acpi_base.specs.Text.TextReading.{IsRefusal, CountsRead}
 use Rattle.acpi_base.specs.Text.LineBuffers.{HasRead, IsLineBuffer, byte_count, state_with}
 use Rattle.acpi_base.specs.declared.text.image_text.line_buffer.LineBuffer.{LineBuffer}
@@ -90,7 +91,7 @@ brought_fits buffer count sound counted =
 same_count : (old new : ℕ) (fault : TextFault) → new ≡ old → (fault ≡ text.Read → ⊥) → CountsRead old new fault
 same_count old new (text.BadLine line) same other = same
 same_count old new (text.NoAddress line) same other = same
-same_count old new (text.Twice address) same other = same
+same_count old new (text.Twice address) same other = inl same
 same_count old new (text.PastEnd line) same other = same
 same_count old new text.TooLong same other = same
 same_count old new text.Read same other = absurd (other refl)
@@ -185,6 +186,12 @@ count_fault before middle left standing count old new piece fault b consumed sam
     let refused = refused_where_stopped all.text fault (all.stands ∙ stopped) in
     same_count old new fault same
     (λ e. never_read (all.text ++ []) (prefix_is_decided all.text [] text.Read (refused ∙ ap Err e)))
+
+-- a failed read is counted
+pub count_read : (d : Result Memory ℕ) (old middle new : ℕ) → middle ≡ old → CountsFailure middle new
+    → CountsRead old new (told_by d text.Read)
+count_read (Ok m) old middle new same failed = subst (λ (n : ℕ). CountsFailure n new) same failed
+count_read (Err address) old middle new same failed = inr (subst (λ (n : ℕ). CountsFailure n new) same failed)
 
 -- a read has failed: that is told, unless an address came twice before
 pub returned_read : (before middle left : Option (List ℕ)) (p : LineParser) (d : Result Memory ℕ) (line : List ℕ)

@@ -18,9 +18,11 @@ IsRefusal bytes left text.Read = IsFaultlessPrefix bytes
 IsRefusal bytes left text.Memory = Unit {0}
 IsRefusal bytes left fault = IsRefusedPrefix bytes fault ⊎ (IsAtEnd left × IsRefused bytes fault)
 
--- the reader's count of failures, before and after: with `Read` a failure is counted, and with any other fault none
+-- The reader's count of failures, before and after: with `Read` a failure is counted, and with any other fault none. But
+-- an address that comes twice may be followed by a failed read, which is counted too.
 abbrev pub CountsRead : ℕ → ℕ → TextFault → Type 0
 CountsRead old new text.Read = CountsFailure old new
+CountsRead old new (text.Twice address) = (new ≡ old) ⊎ CountsFailure old new
 CountsRead old new fault = new ≡ old
 
 -- whether the fault is one of a text, and not of its reader or of memory

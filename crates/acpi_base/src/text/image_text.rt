@@ -122,26 +122,13 @@ impl ImageText {
     }
 }
 
-/// The fault of a text after which a read has failed. The failure is counted, unless an address had come twice.
-fn failed_read<R>(buffer: LineBuffer, reader: &mut Tally<R>) -> TextFault
-    requires { IsLineBuffer buffer }
-    ensures fault { result ≡ told buffer.parser.image TextFault.Read }
-    ensures inner { reader.new.inner ≡ reader.old.inner }
-    ensures count { CountsRead reader.old.failures reader.new.failures result }
-{
-    let fault = buffer.first_fault(TextFault::Read);
-    if fault == TextFault::Read {
-        reader.count_failure();
-    }
-    fault
-}
-
-/// Reads a text to its end or to its first fault, and returns the image of its data. A read of no bytes is the end.
-/// Refuses as `ImageText` does, and with `Read` if a read failed, and neither the complete lines nor the lengths so far
-/// have a fault. Only `Read` reports a failed read: with any other result the reader's count of failures is unchanged.
+/// Reads a text, and returns the image of its data. A read of no bytes is the end. Refuses as `ImageText` does, and with
+/// `Read` if a read failed, and neither the complete lines nor the lengths so far have a fault.
 ///
-/// A text that gives an address twice may be read on past that line, at most to its end. At most 67,108,865 bytes are
-/// read, so a reader that never ends is refused. Whatever is returned, what was read is gone from the reader.
+/// It stops at the first fault, except that a text that gives an address twice may be read on past that line, at most to
+/// its end. If a read fails there, that is counted, but the text is refused with `Twice`. With any other result than
+/// `Twice` and `Read` no read failed. At most 67,108,865 bytes are read, so a reader that never ends is refused.
+/// Whatever is returned, what was read is gone from the reader.
 pub fn read_image<R: Read>(alloc: Global, reader: &mut Tally<R>) -> Result<Image, TextFault>
     ensures text { (text : List ℕ)
         × Consumes (R.remaining reader.old.inner) (R.remaining reader.new.inner) text
@@ -159,8 +146,8 @@ pub fn read_image<R: Read>(alloc: Global, reader: &mut Tally<R>) -> Result<Image
     'pieces: loop {
         // One byte more than a text may have shows that it is too long.
         let room = (MAX_TEXT + 1 - total).min(PIECE);
-        let Ok(count) = reader.attempt(&mut piece[..room]) else {
-            return Err(failed_read(buffer, reader));
+        let Ok(count) = reader.read(&mut piece[..room]) else {
+            return Err(buffer.first_fault(TextFault::Read));
         };
         if count == 0 {
             return buffer.finish(alloc);
