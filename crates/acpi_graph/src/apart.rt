@@ -3,6 +3,7 @@
 ghost use Rattle.std.specs.Prelude.{◌≡◌, ◌+◌, ◌-◌, ◌<◌, ◌≤◌, ◌↔◌, IsNone, IsTrue, IfSome, MatchOption, length, vec_len};
 ghost use Rattle.acpi_graph.specs.Spans.{end_of, AreApart, AreSortedDisjoint, IsFirstMeeting, RunsInto};
 
+use crate::sorting::sort_any_order;
 use crate::span::CompactSpan;
 
 /// The first number at which two of the spans overlap: one begins at it, and the other begins at it too or contains
@@ -15,7 +16,7 @@ pub fn first_meeting(mut spans: Vec<CompactSpan>) -> (Option<u32>, usize)
     ensures first { IfSome result.0 (IsFirstMeeting spans.items) }
     ensures comparisons { result.1 ≤ vec_len spans - 1 }
 {
-    spans.sort_unstable();
+    sort_any_order(&mut spans);
     first_run_into(&spans)
 }
 

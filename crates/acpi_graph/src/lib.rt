@@ -34,6 +34,7 @@
 
 mod apart;
 mod clash;
+mod sorting;
 mod span;
 mod stray;
 #[cfg(test)]
@@ -41,5 +42,6 @@ mod tests;
 
 pub use apart::first_meeting;
 pub use clash::{Clash, first_clash};
+pub use sorting::sort_any_order;
 pub use span::{CompactSpan, Span};
 pub use stray::{Stray, first_stray};
