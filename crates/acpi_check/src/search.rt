@@ -2,6 +2,8 @@
 
 ghost use Rattle.std.specs.Prelude.{◌≡◌, ◌<◌, ◌↔◌, ℕ, AllPairs, Contains, MatchBool, MatchOption, length, slice_index};
 
+use acpi_graph::sort_any_order;
+
 /// Interpolated index, assuming even spacing; it may be out of range.
 fn interpolated_place(offsets: &[u64], offset: u64) -> usize {
     let [first, .., last] = offsets else {
@@ -39,13 +41,13 @@ pub fn has(offsets: &[u64], offset: u32) -> bool
     }
 }
 
-/// The numbers in rising order, each once, as `binary_search` and `has` require. Sorts them in place, and allocates
-/// nothing.
+/// The numbers in rising order, each once, as `binary_search` and `has` require. It never runs out of memory
+/// (`sort_any_order`).
 pub fn sorted_unique(mut numbers: Vec<u64>) -> Vec<u64>
     ensures rise { AllPairs (λ i j. i < j) result.items }
     ensures same { (n : ℕ) → Contains result.items n ↔ Contains numbers.items n }
 {
-    numbers.sort_unstable();
+    sort_any_order(&mut numbers);
     numbers.dedup();
     numbers
 }

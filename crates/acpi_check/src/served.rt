@@ -13,7 +13,7 @@ use crate::collecting::collected;
 use crate::gsi_ranges::served_ranges;
 use crate::refusal::Refusal;
 use acpi_base::{Code, Policy, Witness};
-use acpi_graph::CompactSpan;
+use acpi_graph::{CompactSpan, sort_any_order};
 use acpi_read::{EntryAt, Madt, MadtEntry};
 use std::alloc::{AllocError, Global};
 
@@ -135,8 +135,8 @@ pub fn named_served(alloc: Global, policy: &Policy, madt: &Madt<'_>) -> Result<(
         return Ok(());
     }
     let mut named = all_named(alloc, madt)?;
-    ranges.sort_unstable();
-    named.sort_unstable();
+    sort_any_order(&mut ranges);
+    sort_any_order(&mut named);
     match first_unserved(&ranges, &named) {
         None => Ok(()),
         Some(first) => Err(Refusal::Fault(Witness {
