@@ -40,5 +40,6 @@ mod SratFaults
 mod StageVerdicts
 mod TypesSeen
 mod UidDomains
+mod UniqueNumbers
 mod UnknownOnes
 mod UnlikeNumbers

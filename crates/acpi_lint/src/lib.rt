@@ -62,6 +62,7 @@ mod slot_advice;
 mod slots;
 mod srat;
 mod table_rules;
+mod unique;
 mod unread;
 mod verdicts;
 mod whole_tables;

@@ -1,4 +1,7 @@
 //! Numbers that occur twice although each should be unique, and processors that are put into two domains.
+//!
+//! The UIDs and APIC IDs of processors and the addresses of I/O APICs are compared alone first. With their places they
+//! take three times the memory and more time to sort, so they are gathered with these only if one repeats.
 
 ghost use Rattle.std.specs.Prelude.{◌≡◌, IfOk};
 ghost use Rattle.acpi_base.specs.Lint.MadtAdvice.{IsSameUid, IsSameApicId, IsSameIoApicId, IsSameIoApicAddress};
@@ -18,6 +21,7 @@ use crate::place::Place;
 use crate::processors::{
     apic_id_on, cache_id, io_apic_address, io_apic_id, placed_uid, processor_domain, uid_on,
 };
+use crate::unique::are_unique;
 use acpi_check::collected;
 use acpi_read::{EntryAt, Madt, MadtEntry, Pptt, Srat, SratEntry};
 use std::alloc::{AllocError, Global};
@@ -28,6 +32,10 @@ use std::alloc::{AllocError, Global};
 pub fn same_uid(alloc: Global, madt: &Madt<'_>) -> Result<Option<Place>, AllocError>
     ensures { IfOk result (FindsLeast (IsSameUid (madt_contents madt.now))) }
 {
+    let uids = collected(alloc, madt.entries(), |at| uid_on(&at.entry).map(u64::from))?;
+    if are_unique(alloc, uids)? {
+        return Ok(None);
+    }
     let numbers = collected(alloc, madt.entries(), |at| {
         at_place(at.offset, uid_on(&at.entry))
     })?;
@@ -38,6 +46,14 @@ pub fn same_uid(alloc: Global, madt: &Madt<'_>) -> Result<Option<Place>, AllocEr
 pub fn same_apic_id(alloc: Global, madt: &Madt<'_>) -> Result<Option<Place>, AllocError>
     ensures { IfOk result (FindsLeast (IsSameApicId (madt_contents madt.now))) }
 {
+    let ids = collected(
+        alloc,
+        madt.entries(),
+        |at| apic_id_on(&at.entry).map(u64::from),
+    )?;
+    if are_unique(alloc, ids)? {
+        return Ok(None);
+    }
     let numbers = collected(alloc, madt.entries(), |at| {
         at_place(at.offset, apic_id_on(&at.entry))
     })?;
@@ -66,6 +82,14 @@ fn nonzero_io_apic_address(entry: &MadtEntry<'_>) -> Option<u32>
 pub fn same_io_apic_address(alloc: Global, madt: &Madt<'_>) -> Result<Option<Place>, AllocError>
     ensures { IfOk result (FindsLeast (IsSameIoApicAddress (madt_contents madt.now))) }
 {
+    let addresses = collected(
+        alloc,
+        madt.entries(),
+        |at| nonzero_io_apic_address(&at.entry).map(u64::from),
+    )?;
+    if are_unique(alloc, addresses)? {
+        return Ok(None);
+    }
     let numbers = collected(alloc, madt.entries(), |at| {
         at_place(at.offset, nonzero_io_apic_address(&at.entry))
     })?;

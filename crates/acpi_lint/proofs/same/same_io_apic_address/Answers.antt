@@ -1,16 +1,27 @@
-use Rattle.std.proofs.Common.{rules, Ok}
+use Rattle.std.proofs.Common.{rules, Ok, None}
 use Rattle.std.specs.Prelude.{⊤}
 use Rattle.acpi_base.specs.Madt.{madt_contents}
 use Rattle.acpi_lint.specs.SameNumbers.{nonzero_io_apic_address}
 use Rattle.acpi_lint.proofs.CollectedNumbers.{madt_numbers, each_ok, found_twice}
 use Rattle.acpi_lint.proofs.SameRules.{found_address}
+use Rattle.acpi_read.specs.Madts.{madt_value}
+use Rattle.acpi_check.proofs.EntryPasses.Collecting.{gathered_same}
+use Rattle.acpi_lint.proofs.UniqueNumbers.{none_later}
 use Rattle.acpi_lint.proofs.same.same_io_apic_address.Goals as goal
+
+pub returns-then-branch : goal.returns-then-branch
+returns-then-branch c =
+    found_address (madt_contents c.args.madt.now) None
+    (none_later nonzero_io_apic_address (madt_contents c.args.madt.now).entries c.in_ok-addresses.addresses.items
+    (gathered_same {X = ⊤} madt_value (λ s. nonzero_io_apic_address s.entry) _ (Ok c.in_ok-addresses.addresses) c.in_ok-addresses.ensures
+    c.entries.ensures.entries (λ at picked answers. search rules) (λ found is. is))
+    (c.in_ok-are_unique.ensures.0 c.if-branch.true))
 
 pub first_repeated-requires : goal.first_repeated-requires
 first_repeated-requires c =
     let are =
     madt_numbers {X = ⊤} nonzero_io_apic_address c.args.madt.now (Ok c.in_ok-numbers.numbers) c.in_ok-numbers.ensures
-    c.entries.ensures.entries (λ at picked answers. search rules) in
+    c.entries-2.ensures.entries (λ at picked answers. search rules) in
     record { rise = are.rise; placed = are.placed }
 
 pub returns : goal.returns
@@ -18,5 +29,5 @@ returns c =
     each_ok c.first_repeated.result (λ found. found_address (madt_contents c.args.madt.now) found)
     (found_twice c.in_ok-numbers.numbers.items c.first_repeated.result
     (madt_numbers {X = ⊤} nonzero_io_apic_address c.args.madt.now (Ok c.in_ok-numbers.numbers) c.in_ok-numbers.ensures
-    c.entries.ensures.entries (λ at picked answers. search rules))
+    c.entries-2.ensures.entries (λ at picked answers. search rules))
     c.first_repeated.ensures)
