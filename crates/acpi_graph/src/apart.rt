@@ -9,8 +9,8 @@ use crate::span::CompactSpan;
 /// The first number at which two of the spans overlap: one begins at it, and the other begins at it too or contains
 /// it. None if of any two spans one ends before the other begins. Also returns how many neighbours were compared.
 ///
-/// The order of the spans does not matter. It sorts them once by start and length, in place, and makes at most n - 1
-/// comparisons for n spans. Allocates nothing.
+/// The order of the spans does not matter. It sorts them once by start and length (`sort_any_order`), and makes at most
+/// n - 1 comparisons for n spans. It never runs out of memory.
 pub fn first_meeting(mut spans: Vec<CompactSpan>) -> (Option<u32>, usize)
     ensures apart { IsNone result.0 ↔ AreApart spans.items }
     ensures first { IfSome result.0 (IsFirstMeeting spans.items) }

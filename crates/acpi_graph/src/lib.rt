@@ -1,4 +1,4 @@
-//! Two searches that a checker of tables needs, and a test that saves most calls of the first one. Each search
+//! Two searches that a checker of tables needs, a test that saves most calls of the first one, and a sort. Each search
 //! returns the first case in a fixed order, so that the result does not depend on how the tables list their entries.
 //!
 //! - `first_meeting`: for spans of numbers in 8 bytes each, without ids, whether two overlap, and the first number at
@@ -7,6 +7,7 @@
 //!   and the first two spans that contain it.
 //! - `first_stray`: for nodes that refer to their parents, the first one whose chain of parents leads into a cycle
 //!   and never ends, and where its cycle begins.
+//! - `sort_any_order`: sorts items in a time that no order of theirs makes much longer.
 //!
 //! ```rust
 //! let low = Span::new(0, 10, 1).unwrap(); // 0 to 9, under the name 1
@@ -29,7 +30,7 @@
 //! assert!(rt; stray == found && steps == 4);
 //! ```
 //!
-//! All three return how many of their steps they took. The steps inside a sort are not counted.
+//! The searches and the test return how many of their steps they took. The steps inside a sort are not counted.
 #![tactic(auto)]
 
 mod apart;
