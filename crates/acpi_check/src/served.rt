@@ -124,8 +124,8 @@ fn first_unserved(ranges: &[CompactSpan], named: &[NamedGsi]) -> Option<NamedGsi
 /// entry that names a number that is not served; `other` is 0, and `point` is the number, of 32 bits.
 ///
 /// Refuses with `OutOfMemory`: it allocates a compact span of 8 bytes for each I/O APIC; and if there is one, 8 bytes
-/// for each override and each NMI source. Both are sorted in place and compared in one pass, whether there is a fault
-/// or not.
+/// for each override and each NMI source. Both are sorted (`sort_any_order`) and compared in one pass, whether there is
+/// a fault or not.
 pub fn named_served(alloc: Global, policy: &Policy, madt: &Madt<'_>) -> Result<(), Refusal>
     ensures { FindsFirst Stage.Served (AreNamedServed policy.now (madt_contents madt.now))
         (ServedFault policy.now (madt_contents madt.now)) result }
