@@ -69,11 +69,13 @@ only_one h (u ∷ xs) x y n differ one other here there =
       | inl first ↦ elim (first_or_later u y xs other) [
         | inl same ↦ sym first ∙ same
         | inr later ↦
-            absurd (first_not_among n (filter_map h xs) (rw (ap h first ∙ here) at differ) (kept_has h xs y n later there))
+            absurd
+            (first_not_among n (filter_map h xs) (rw (ap h first ∙ here) at differ) (kept_has h xs y n later there))
       ]
       | inr later ↦ elim (first_or_later u y xs other) [
         | inl same ↦
-            absurd (first_not_among n (filter_map h xs) (rw (ap h same ∙ there) at differ) (kept_has h xs x n later here))
+            absurd
+            (first_not_among n (filter_map h xs) (rw (ap h same ∙ there) at differ) (kept_has h xs x n later here))
         | inr last ↦ only_one h xs x y n (others_differ (h u) (filter_map h xs) differ) later last here there
       ]
     ]

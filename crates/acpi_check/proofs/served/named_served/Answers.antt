@@ -18,7 +18,8 @@ first_unserved-requires c =
     record {
       ranges = rw c.deref.ensures.value (starts_rise c.sort_any_order.new.items.items c.sort_any_order.ensures.sorted);
       named =
-          rw c.deref-2.ensures.value (numbers_rise c.sort_any_order-2.new.items.items c.sort_any_order-2.ensures.sorted);
+          rw c.deref-2.ensures.value
+          (numbers_rise c.sort_any_order-2.new.items.items c.sort_any_order-2.ensures.sorted);
     }
 
 pub returns-in-None : goal.returns-in-None

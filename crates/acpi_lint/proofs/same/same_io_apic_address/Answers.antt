@@ -13,8 +13,8 @@ pub returns-then-branch : goal.returns-then-branch
 returns-then-branch c =
     found_address (madt_contents c.args.madt.now) None
     (none_later nonzero_io_apic_address (madt_contents c.args.madt.now).entries c.in_ok-addresses.addresses.items
-    (gathered_same {X = ⊤} madt_value (λ s. nonzero_io_apic_address s.entry) _ (Ok c.in_ok-addresses.addresses) c.in_ok-addresses.ensures
-    c.entries.ensures.entries (λ at picked answers. search rules) (λ found is. is))
+    (gathered_same {X = ⊤} madt_value (λ s. nonzero_io_apic_address s.entry) _ (Ok c.in_ok-addresses.addresses)
+    c.in_ok-addresses.ensures c.entries.ensures.entries (λ at picked answers. search rules) (λ found is. is))
     (c.in_ok-are_unique.ensures.0 c.if-branch.true))
 
 pub first_repeated-requires : goal.first_repeated-requires
