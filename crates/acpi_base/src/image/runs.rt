@@ -3,6 +3,7 @@
 ghost use Rattle.std.specs.Prelude.{◌≡◌, ◌+◌, length, Some, None, MatchOption};
 ghost use Rattle.acpi_base.specs.Image.Segments.{IsSound, memory_in, runs_of};
 ghost use Rattle.acpi_base.specs.Memory.{run_of};
+ghost use Rattle.acpi_base.specs.Image.Rests.{AreBytesFrom};
 ghost use Rattle.acpi_base.specs.Image.Runs.{lookup};
 ghost use Rattle.acpi_base.specs.Text.WrittenText.{IsEmptyFrom, IsFirstFrom, IsNextRun};
 
@@ -55,6 +56,15 @@ fn next_run(segments: &Segments, address: u64) -> Option<(u64, &[u8])>
 }
 
 impl Image {
+    /// Returns the bytes from an address on, up to the next address without a byte: none if that is the address itself. Each
+    /// window from the address on that the image has is a beginning of these bytes, so whoever needs several of them searches
+    /// the image once. Takes no memory.
+    pub fn bytes_from(&self, address: u64) -> &[u8]
+        ensures { AreBytesFrom self.now address result.now }
+    {
+        rest_from(&self.segments, address)
+    }
+
     /// The first run of bytes from an address on, up to the next address without a byte: its first address, and its bytes.
     /// Takes no memory.
     pub(crate) fn run_from(&self, address: u64) -> Option<(u64, &[u8])>

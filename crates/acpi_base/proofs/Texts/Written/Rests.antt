@@ -1,6 +1,8 @@
 -- The first run of an image from an address on.
-use Rattle.std.proofs.Common.{◌≡◌, ℕ, zero, suc, ◌+◌, ◌-◌, ◌^◌, ◌<◌, ◌≤◌, inl, inr, cond, List, length, get_or, drop, Option, Some, None, IsSome, is_some, refl, sym, ap, ◌∙◌, arith, length-drop}
+use Rattle.std.proofs.Common.{◌≡◌, ℕ, zero, suc, ◌+◌, ◌-◌, ◌^◌, ◌<◌, ◌≤◌, inl, inr, cond, List, length, get_or, take, drop, Option, Some, None, IsSome, is_some, refl, sym, ap, ◌∙◌, arith, length-drop}
+use Rattle.std.specs.Prelude.{nat_lt}
 use Rattle.std.proofs.lemmas.Bool.{cases_lt}
+use Rattle.std.proofs.lemmas.Bool.Decides.{nat_tests}
 use Rattle.std.proofs.lemmas.List.{get_or-drop}
 use Rattle.acpi_base.specs.Image.Segments.{IsRunAt}
 use Rattle.acpi_base.specs.Memory.{Memory, byte_of, run_of, least_defined, IsImage}
@@ -8,7 +10,7 @@ use Rattle.acpi_base.specs.Image.Runs.{Run, end_of, lookup, memory_of}
 use Rattle.acpi_base.specs.Text.WrittenText.{IsEmptyFrom, IsFirstFrom, IsNextRun}
 use Rattle.acpi_base.proofs.Images.RunBytes.{held_none, held_at, byte_of_memory_of}
 use Rattle.acpi_base.proofs.Images.Searches.{nothing_held}
-use Rattle.acpi_base.proofs.Images.ByteRuns.{run_of-from_each}
+use Rattle.acpi_base.proofs.Images.ByteRuns.{run_of-from_each, run_of-take, run_of_none}
 
 -- ---- the rest of a segment
 
@@ -41,6 +43,16 @@ rest_ends rs a r bytes reached is =
     ]
 
 pub ruleset rests = (rest_held, rest_ends)
+
+-- bytes that end before a number where there is nothing begin with all that can be had from their first one on
+pub windows_of_rest : (f : ℕ → Option ℕ) (a : ℕ) (rest : List ℕ) → run_of f a (length rest) ≡ Some rest
+    → f (a + length rest) ≡ None
+    → (n : ℕ) → run_of f a n ≡ cond (nat_lt (length rest) n) None (Some (take n rest))
+windows_of_rest f a rest held none n =
+    elim (cases_lt (length rest) n) [
+      | inl short ↦ grind (arith, nat_tests, run_of_none f a n (length rest) short none)
+      | inr within ↦ grind (arith, nat_tests, run_of-take f a (length rest) n rest held within)
+    ]
 
 -- ---- the first address
 
