@@ -1,9 +1,12 @@
 //! System description tables.
 
-ghost use Rattle.std.specs.Prelude.{◌≡◌, ◌≤◌, ◌<◌, ◌^◌, ◌↔◌, List, ℕ, length, IsOk, IfOk, IfErr, MatchOption};
+ghost use Rattle.std.specs.Prelude.{◌≡◌, ◌≤◌, ◌<◌, ◌^◌, ◌↔◌, List, ℕ, Some, length, IsTrue, IsOk, IfOk, IfErr, MatchOption};
 ghost use Rattle.acpi_base.specs.Codes.{code_number, stage_of};
 ghost use Rattle.acpi_base.specs.declared.stage.Stage.{Stage};
 ghost use Rattle.acpi_base.specs.Header.{header_of};
+ghost use Rattle.acpi_base.specs.Image.Rests.{AreBytesFrom};
+ghost use Rattle.acpi_base.specs.Memory.{bytes_at};
+ghost use Rattle.acpi_base.specs.Number.{byte_sum};
 ghost use Rattle.acpi_base.specs.Tables.{length_of, IsTable, IsSoundTable, TableFault};
 ghost use Rattle.acpi_base.specs.declared.code.Code.{Code};
 ghost use Rattle.acpi_read.specs.Headers.{header_value};
@@ -11,7 +14,7 @@ ghost use Rattle.acpi_read.specs.Headers.{header_value};
 use crate::header::{Header, header_at};
 use crate::layout::Layout;
 use acpi_base::field::u32_at;
-use acpi_base::{Code, Image};
+use acpi_base::{Code, Image, sum};
 use std::marker::Model;
 
 /// A system description table of any kind (ACPI 6.5, 5.2.6): as many bytes as its Length says, from 36 to 2^32 - 1. A
@@ -36,12 +39,25 @@ impl<'a> Model for Table<'a> {
         × (length_of table.bytes.now ≡ length table.bytes.now) };
 }
 
+/// How many bytes are summed one by one sooner than by a search for their running sums.
+const FEW: usize = 256;
+
+/// Whether the bytes, which are those at the address, sum to 0 modulo 256.
+fn sums_to_zero(image: &Image, address: u64, bytes: &[u8]) -> bool
+    requires { bytes_at image.now address (length bytes.now) ≡ Some bytes.now }
+    ensures { IsTrue result ↔ (byte_sum bytes.now ≡ 0) }
+{
+    if bytes.len() < FEW {
+        return sum(bytes) == 0;
+    }
+    image.window_sum(address, bytes.len() as u64) == Some(0)
+}
+
 impl<'a> Table<'a> {
     /// The table at an address. Any address is allowed, even one that no root table lists.
     ///
     /// Refuses, in this order: `TableHeaderOut` if its header's 36 bytes are not all present; `TableLength` if its
     /// Length is below 36; `TableOut` if its Length bytes are not all present; `TableSum` if they do not sum to 0.
-    #[tactic(auto, using(acpi_base::proofs::Images::HeldBytes::says_length))]
     pub fn read(image: &'a Image, address: u64) -> Result<Table<'a>, Code>
         ensures ok { IsOk result ↔ IsSoundTable image.now address }
         ensures value { IfOk result
@@ -51,48 +67,61 @@ impl<'a> Table<'a> {
         ensures least { IfErr result (λ code. (other : Code) → TableFault image.now address other
             → code_number code ≤ code_number other) }
     {
-        let Some(header) = image.window(address, Header::LEN as u64) else {
+        Table::read_run(image, address, image.bytes_from(address))
+    }
+
+    /// The same, if the bytes from the address on have been found already: those up to the first address without one.
+    pub fn read_run(image: &'a Image, address: u64, run: &'a [u8]) -> Result<Table<'a>, Code>
+        requires { AreBytesFrom image.now address run.now }
+        ensures ok { IsOk result ↔ IsSoundTable image.now address }
+        ensures value { IfOk result
+            (λ bytes. (header : List ℕ) × IsTable image.now address header bytes) }
+        ensures fault { IfErr result (TableFault image.now address) }
+        ensures stage { IfErr result (λ code. stage_of code ≡ Stage.Tables) }
+        ensures least { IfErr result (λ code. (other : Code) → TableFault image.now address other
+            → code_number code ≤ code_number other) }
+    {
+        let Some(header) = run.get(..Header::LEN) else {
             return Err(Code::TableHeaderOut);
         };
         let length = u32_at(header, 4);
         if length < Header::LEN as u32 {
             return Err(Code::TableLength);
         }
-        let Some(bytes) = image.window(address, u64::from(length)) else {
+        let Some(bytes) = run.get(..length as usize) else {
             return Err(Code::TableOut);
         };
-        if image.window_sum(address, u64::from(length)) != Some(0) {
+        if !sums_to_zero(image, address, bytes) {
             return Err(Code::TableSum);
         }
         Ok(Table { bytes })
     }
 
     /// The table at an address at which there is known to be a valid one. Its bytes are not summed again.
-    #[tactic(auto, using(acpi_base::proofs::Images::HeldBytes::says_length))]
     pub fn sound(image: &'a Image, address: u64) -> Table<'a>
         requires { IsSoundTable image.now address }
         ensures { (header : List ℕ) × IsTable image.now address header result }
     {
-        let header = image.window(address, Header::LEN as u64).unwrap();
-        let length = u32_at(header, 4);
-        let bytes = image.window(address, u64::from(length)).unwrap();
+        let run = image.bytes_from(address);
+        let length = u32_at(run, 4);
+        let bytes = &run[..length as usize];
         Table { bytes }
     }
 
     /// The table at an address, whatever its bytes sum to. None if there is no complete one: if its header's 36 bytes
     /// are not all present, its Length is below 36, or its Length bytes are not all present.
-    #[tactic(auto, using(acpi_base::proofs::Images::HeldBytes::says_length))]
     pub fn whole(image: &'a Image, address: u64) -> Option<Table<'a>>
         ensures { MatchOption result
             ((header bytes : List ℕ) → ¬ IsTable image.now address header bytes)
             (λ bytes. (header : List ℕ) × IsTable image.now address header bytes) }
     {
-        let header = image.window(address, Header::LEN as u64)?;
+        let run = image.bytes_from(address);
+        let header = run.get(..Header::LEN)?;
         let length = u32_at(header, 4);
         if length < Header::LEN as u32 {
             return None;
         }
-        let bytes = image.window(address, u64::from(length))?;
+        let bytes = run.get(..length as usize)?;
         Some(Table { bytes })
     }
 
