@@ -2,9 +2,8 @@
 
 ghost use Rattle.std.specs.Prelude.{◌↔◌, ◌≤◌, ◌<◌, ◌^◌, ℕ, List, IsTrue, IfSome, MatchOption, length};
 ghost use Rattle.acpi_base.specs.Listed.{IsListedTable, ListsNone, IsFirstListed, IsNoneListed};
-ghost use Rattle.acpi_base.specs.Root.{HasSlot};
-ghost use Rattle.acpi_base.specs.Tables.{IsSigned};
-ghost use Rattle.acpi_confirm.specs.Roots.{HasSlots};
+ghost use Rattle.acpi_base.specs.Memory.{Memory};
+ghost use Rattle.acpi_confirm.specs.Roots.{HasSlots, IsHeaderIn, IsSignedIn, IsWholeRoot};
 
 use crate::root::{Root, whole_root};
 use crate::tables::table_at;
@@ -24,6 +23,31 @@ pub(crate) fn listed<'a>(image: &'a Image, policy: &Policy, signature: &[u8; 4])
     table_at(image, address)
 }
 
+/// The bytes of the first listed table with the one signature, and of that with the other, each if it is complete.
+pub(crate) fn both_listed<'a>(
+    image: &'a Image,
+    policy: &Policy,
+    one: &[u8; 4],
+    other: &[u8; 4],
+) -> (Option<&'a [u8]>, Option<&'a [u8]>)
+    ensures one { MatchOption result.0 ((whole : List ℕ)
+        → ¬ IsListedTable image.now policy.now.rsdp one.now whole)
+        (λ whole. IsListedTable image.now policy.now.rsdp one.now whole.now) }
+    ensures other { MatchOption result.1 ((whole : List ℕ)
+        → ¬ IsListedTable image.now policy.now.rsdp other.now whole)
+        (λ whole. IsListedTable image.now policy.now.rsdp other.now whole.now) }
+    ensures one_count { IfSome result.0
+        (λ whole. (36 ≤ length whole.now) × (length whole.now < 2 ^ 32)) }
+    ensures other_count { IfSome result.1
+        (λ whole. (36 ≤ length whole.now) × (length whole.now < 2 ^ 32)) }
+{
+    let Some(root) = whole_root(image, policy.rsdp()) else {
+        return (None, None);
+    };
+    let (first, second) = first_with_each(image, &root, one, other);
+    (table_found(image, first), table_found(image, second))
+}
+
 /// Whether the root table is complete and lists no header with the signature.
 pub(crate) fn lists_none(image: &Image, policy: &Policy, signature: &[u8; 4]) -> bool
     ensures { IsTrue result ↔ ListsNone image.now policy.now.rsdp signature.now }
@@ -34,6 +58,18 @@ pub(crate) fn lists_none(image: &Image, policy: &Policy, signature: &[u8; 4]) ->
     }
 }
 
+/// The table at an address that was found, if there is one and the table is complete.
+fn table_found(image: &Image, address: Option<u64>) -> Option<&[u8]>
+    ensures found { (p d : ℕ) (bytes signature : List ℕ) → IsWholeRoot image.now p d bytes
+        → MatchOption address (IsNoneListed image.now bytes d signature)
+        (IsFirstListed image.now bytes d signature)
+        → MatchOption result ((whole : List ℕ) → ¬ IsListedTable image.now p signature whole)
+        (λ whole. IsListedTable image.now p signature whole.now) }
+    ensures count { IfSome result (λ whole. (36 ≤ length whole.now) × (length whole.now < 2 ^ 32)) }
+{
+    table_at(image, address?)
+}
+
 /// The address in the first slot at whose address a header with the signature is present.
 fn first_with(image: &Image, root: &Root<'_>, signature: &[u8; 4]) -> Option<u64>
     requires { HasSlots root.now.width root.now.bytes.now }
@@ -41,33 +77,57 @@ fn first_with(image: &Image, root: &Root<'_>, signature: &[u8; 4]) -> Option<u64
         (IsNoneListed image.now root.now.bytes.now root.now.width signature.now)
         (IsFirstListed image.now root.now.bytes.now root.now.width signature.now) }
 {
+    first_with_each(image, root, signature, signature).0
+}
+
+/// The address in the first slot at whose address a header with the one signature is present, and the same for the
+/// other one. A slot is looked at once, whatever it lists, and the image is searched for what the next slot lists
+/// before this one's header is read, so that the processor waits for the memory of both at a time.
+fn first_with_each(
+    image: &Image,
+    root: &Root<'_>,
+    one: &[u8; 4],
+    other: &[u8; 4],
+) -> (Option<u64>, Option<u64>)
+    requires { HasSlots root.now.width root.now.bytes.now }
+    ensures one { MatchOption result.0
+        (IsNoneListed image.now root.now.bytes.now root.now.width one.now)
+        (IsFirstListed image.now root.now.bytes.now root.now.width one.now) }
+    ensures other { MatchOption result.1
+        (IsNoneListed image.now root.now.bytes.now root.now.width other.now)
+        (IsFirstListed image.now root.now.bytes.now root.now.width other.now) }
+{
+    let mut first = None;
+    let mut second = None;
+    let mut ahead = header_in(image, root, 0);
     for k in 0..root.slots() {
-        if let Some(address) = signed_at(image, root, k, signature) {
-            return Some(address);
+        let here = ahead;
+        ahead = header_in(image, root, k + 1);
+        first = first.or(signed(here, one));
+        second = second.or(signed(here, other));
+        if first.is_some() && second.is_some() {
+            return (first, second);
         }
     }
-    None
+    (first, second)
 }
 
-/// The address in slot k, if a header with the signature is present there.
+/// The address in slot k and the header there, if the slot has an address and the header is present.
 #[tactic(auto, using(acpi_base::proofs::Root::Slots::one_slot))]
-fn signed_at(image: &Image, root: &Root<'_>, k: u64, signature: &[u8; 4]) -> Option<u64>
+fn header_in<'a>(image: &'a Image, root: &Root<'_>, k: u64) -> Option<(u64, &'a [u8])>
     requires { HasSlots root.now.width root.now.bytes.now }
-    ensures { MatchOption result ((a : ℕ) → HasSlot root.now.bytes.now root.now.width k a
-        → ¬ IsSigned image.now a signature.now)
-        (λ a. HasSlot root.now.bytes.now root.now.width k a × IsSigned image.now a signature.now) }
+    ensures { IsHeaderIn image.now root.now.bytes.now root.now.width k result }
 {
-    match root.slot(k) {
-        Some(address) => has_header(image, address, signature).then_some(address),
-        None => None,
-    }
+    let address = root.slot(k)?;
+    let header = image.window(address, 36)?;
+    Some((address, header))
 }
 
-/// Whether a header with the signature is present at an address.
-fn has_header(image: &Image, address: u64, signature: &[u8; 4]) -> bool
-    ensures { IsTrue result ↔ IsSigned image.now address signature.now }
+/// The address of the header that was found in a slot, if it begins with the signature.
+fn signed(found: Option<(u64, &[u8])>, signature: &[u8; 4]) -> Option<u64>
+    ensures { (m : Memory) (bytes : List ℕ) (d k : ℕ) → IsHeaderIn m bytes d k found.entry
+        → IsSignedIn m bytes d k signature.now result }
 {
-    image
-        .window(address, 36)
-        .is_some_and(|header| is_signed(header, signature))
+    let (address, header) = found?;
+    is_signed(header, signature).then_some(address)
 }
