@@ -1,5 +1,4 @@
-use Rattle.std.proofs.Common.{refl, ◌≡◌, ◌+◌, ◌*◌, ◌<◌, ◌≤◌, ℕ, length, sym, ◌∙◌, arith}
-use Rattle.acpi_base.specs.Number.{field}
+use Rattle.std.proofs.Common.{refl, ◌+◌, ◌*◌, ◌<◌, ◌≤◌, ℕ, length, arith}
 use Rattle.acpi_base.specs.Root.{HasSlot}
 use Rattle.acpi_base.specs.Tables.{IsSoundTable}
 use Rattle.acpi_base.proofs.Root.Slots.{slot_of_root}
@@ -8,43 +7,42 @@ use Rattle.acpi_check.proofs.WholeSets.FirstFaults.{first_table_fault}
 use Rattle.acpi_check.proofs.WholeSets.Slots.{none_below, firsts_skip, firsts_more, firsts_all}
 use Rattle.acpi_check.proofs.tables.sound_tables.Goals as goal
 
--- slot k of a root, which holds an address
-slot_at : (root : RootValue) (k a end : ℕ) → ((j : ℕ) → j < end → 36 + root.width * (j + 1) ≤ length root.bytes)
-    → k < end → a ≡ field root.bytes (36 + root.width * k) root.width → (a ≡ 0 → ⊥) → HasSlot root.bytes root.width k a
-slot_at root k a end inside below is listed = record { inside = inside k below; address = sym is; listed = listed }
-
 -- every slot of a root stands below the end
 slots_end : (root : RootValue) (j a end k : ℕ) → ((i : ℕ) → 36 + root.width * (i + 1) ≤ length root.bytes → i < end)
     → end ≤ k → HasSlot root.bytes root.width j a → j < k
 slots_end root j a end k below past slot = let here = below j slot.inside in omega arith
 
 pub loop-k-init : goal.loop-k-init
-loop-k-init c = none_below c.args.image.now c.args.root.now c.new-firsts.result c.new-firsts.ensures
+loop-k-init c = record {
+  below = none_below c.args.image.now c.args.root.now c.new-firsts.result c.new-firsts.ensures;
+  ahead = c.listed_run-ahead.ensures;
+}
 
-pub loop-k-preserved-then-address-eq0 : goal.loop-k-preserved-then-address-eq0
-loop-k-preserved-then-address-eq0 c =
-    let root = c.args.root.now in
-    let none : (a : ℕ) → ¬ HasSlot root.bytes root.width c.loop-k.k a =
-    λ a slot. slot.listed (sym slot.address ∙ sym c.slot-address.ensures ∙ c.if-address-eq0.true) in
-    firsts_skip c.args.image.now root c.loop-k.k c.loop-k.firsts none c.loop-k.invariant
+pub loop-k-preserved-in_default : goal.loop-k-preserved-in_default
+loop-k-preserved-in_default c =
+    let none = rw c.in_default.is at c.loop-k.invariant.ahead in
+    record {
+      below = firsts_skip c.args.image.now c.args.root.now c.loop-k.k c.loop-k.firsts none c.loop-k.invariant.below;
+      ahead = c.listed_run-ahead-in-loop-k.ensures;
+    }
 
 pub loop-k-preserved : goal.loop-k-preserved
 loop-k-preserved c =
-    let root = c.args.root.now in
-    let slot = slot_at root c.loop-k.k c.slot-address.result c.slots-k-end.result
-    (λ j. (c.slots-k-end.ensures.inside j).0) c.loop-k-test.true c.slot-address.ensures c.if-address-eq0.false in
+    let listed = rw c.in-Some.is at c.loop-k.invariant.ahead in
     let table = c.in-Ok.ensures.value in
-    firsts_more c.args.image.now root c.loop-k.k c.slot-address.result table.0 c.in-Ok.table c.loop-k.firsts
-    c.add.new.self slot (c.in-Ok.ensures.ok.0 refl) table.1 c.add.ensures.tables c.loop-k.invariant
+    record {
+      below = firsts_more c.args.image.now c.args.root.now c.loop-k.k c.in-Some.address table.0 c.in-Ok.table
+          c.loop-k.firsts c.add.new.self listed.0 (c.in-Ok.ensures.ok.0 refl) table.1 c.add.ensures.tables
+          c.loop-k.invariant.below;
+      ahead = c.listed_run-ahead-in-loop-k.ensures;
+    }
 
 pub returns-in-Err : goal.returns-in-Err
 returns-in-Err c = λ q clean is.
-    let root = c.args.root.now in
-    let slot = slot_at root c.loop-k.k c.slot-address.result c.slots-k-end.result
-    (λ j. (c.slots-k-end.ensures.inside j).0) c.loop-k-test.true c.slot-address.ensures c.if-address-eq0.false in
+    let listed = rw c.in-Some.is at c.loop-k.invariant.ahead in
     let read = c.in-Err.ensures in
-    let first = first_table_fault c.args.image.now q root c.in-Err.code c.loop-k.k c.slot-address.result clean is slot
-    read.stage read.fault read.least c.loop-k.invariant.sound in
+    let first = first_table_fault c.args.image.now q c.args.root.now c.in-Err.code c.loop-k.k c.in-Some.address clean is
+    listed.0 read.stage read.fault read.least c.loop-k.invariant.below.sound in
     rw c.listed_fault.ensures (first, read.stage)
 
 pub returns : goal.returns
@@ -56,7 +54,7 @@ returns c = λ q clean is.
     λ j a slot. slots_end root j a c.slots-k-end.result c.loop-k.k (λ i. (c.slots-k-end.ensures.inside i).1)
     c.loop-k-test.false slot in
     let sound : (j a : ℕ) → HasSlot root.bytes root.width j a
-    → IsSoundTable m a = λ j a slot. c.loop-k.invariant.sound j a (below j a slot) slot in (
+    → IsSoundTable m a = λ j a slot. c.loop-k.invariant.below.sound j a (below j a slot) slot in (
       λ k a slot. sound k a (slot_of_root m q.rsdp root.address root.width k a root.bytes is.named is.sound.table slot),
-      firsts_all m q.rsdp c.loop-k.k root c.loop-k.firsts is below c.loop-k.invariant,
+      firsts_all m q.rsdp c.loop-k.k root c.loop-k.firsts is below c.loop-k.invariant.below,
     )
