@@ -192,6 +192,10 @@ pub fn put_values(out: &mut [u8], values: &[Value<'_>])
 pub fn is_signed(bytes: &[u8], signature: &[u8]) -> bool
     ensures { result ≡ has_signature bytes.now signature.now }
 {
+    // Bytes that are not signed so mostly differ in the first one, which is soon seen.
+    if !bytes.is_empty() && !signature.is_empty() && bytes[0] != signature[0] {
+        return false;
+    }
     bytes.starts_with(signature)
 }
 
