@@ -4,6 +4,7 @@ pub mod Bitmaps
 pub mod Builders
 pub mod ByteRuns
 pub mod Drafts
+pub mod EndedPieces
 pub mod FirstTwice
 pub mod HeldBytes
 pub mod Holders

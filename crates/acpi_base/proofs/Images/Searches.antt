@@ -112,15 +112,6 @@ reached store ps base begin a i d laid behind h place = record {
         → lookup (all_runs store ps base begin) x ≡ byte_in (run_in store (get_or ps i d)) x
     all x l m none = rw none (reached_ended store begin ps i a x d laid.within laid.lies laid.apart h place l m)
 
--- the same where it was read
-pub reached_at : (store : List ℕ) (ps : List Piece) (base begin a i n : ℕ) (p : Piece) (bytes : List ℕ)
-    → AreSegments store ps base begin → IsBehind store base begin a
-    → i < length ps → n ≡ i + 1 → IsPartitionPoint ps a n → p ≡ get_or ps i p
-    → bytes ≡ take p.1.len (drop p.1.start store) → IsRunAt (all_runs store ps base begin) a (run_at p.0 bytes)
-reached_at store ps base begin a i n p bytes laid behind h next place is same =
-    let found = reached store ps base begin a i p laid behind h (subst (IsPartitionPoint ps a) next place) in
-    rw same (subst (λ (q : Piece). IsRunAt (all_runs store ps base begin) a (run_in store q)) (sym is) found)
-
 -- the piece of the open run
 pub open_run : (store : List ℕ) (base begin n : ℕ) → n ≡ length store - begin
     → run_in store (base, record { start = begin; len = n }) ≡ run_at base (drop begin store)
@@ -236,15 +227,6 @@ next_ended store ps base begin a i d laid none place h =
     bases_of : (k : ℕ) (e : Piece) → i ≤ k → k < length ps → (get_or ps i d).0 ≤ (get_or ps k e).0
     bases_of k e m o =
         (let rise = bases_rise ps i k e laid.apart m o in let same = get_or_default ps i d e h in rw same rise)
-
--- the same where it was read
-pub next_at : (store : List ℕ) (ps : List Piece) (base begin a i : ℕ) (p : Piece) → AreSegments store ps base begin
-    → lookup (all_runs store ps base begin) a ≡ None
-    → IsPartitionPoint ps a i → i < length ps → p ≡ get_or ps i p
-    → (a < p.0) × IsSome (lookup (all_runs store ps base begin) p.0) × IsGap (all_runs store ps base begin) a p.0
-next_at store ps base begin a i p laid none place h is =
-    subst (λ (q : Piece). (a < q.0) × IsSome (lookup (all_runs store ps base begin) q.0)
-    × IsGap (all_runs store ps base begin) a q.0) (sym is) (next_ended store ps base begin a i p laid none place h)
 
 -- the open one is next
 pub next_open : (store : List ℕ) (ps : List Piece) (base begin a : ℕ) → AreSegments store ps base begin

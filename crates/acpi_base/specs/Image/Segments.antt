@@ -21,13 +21,13 @@ pub record AreSegments (store : List ℕ) (ps : List Piece) (base begin : ℕ) :
   pub image : IsImage (memory_in_store store ps base begin)
 
 abbrev pub runs_of : Segments → List Run
-runs_of s = all_runs s.store s.ended.items s.base s.start
+runs_of s = all_runs s.store s.ended s.base s.start
 
 abbrev pub memory_in : Segments → Memory
-memory_in s = memory_in_store s.store s.ended.items s.base s.start
+memory_in s = memory_in_store s.store s.ended s.base s.start
 
 abbrev pub IsSound : Segments → Type 0
-IsSound s = AreSegments s.store s.ended.items s.base s.start
+IsSound s = AreSegments s.store s.ended s.base s.start
 
 -- the address behind the open segment
 abbrev pub end_in : Segments → ℕ

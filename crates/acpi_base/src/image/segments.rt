@@ -13,6 +13,7 @@ ghost use Rattle.acpi_base.specs.Image.Runs.{lookup, run_at};
 ghost use Rattle.acpi_base.specs.Image.Pieces.{LiesBefore, AreSortedDisjoint, end_at, memory_in_store, run_in, runs_in};
 ghost use Rattle.acpi_base.specs.Image.Segments.{AreSegments, IsGap, IsPartitionPoint, IsRunAt, IsSound, end_in, memory_in, runs_of};
 
+use super::ended::EndedPieces;
 use super::prefix_sums::PrefixSums;
 use super::span::Span;
 use std::alloc::{AllocError, Global};
@@ -21,7 +22,7 @@ use std::alloc::{AllocError, Global};
 #[derive(Debug, Drop)]
 pub struct Segments {
     store: PrefixSums,
-    ended: Vec<(u64, Span)>,
+    ended: EndedPieces,
     base: u64,
     start: usize,
 }
@@ -34,7 +35,7 @@ impl Segments {
     {
         Segments {
             store: PrefixSums::new(alloc),
-            ended: Vec::new(alloc),
+            ended: EndedPieces::new(alloc),
             base: 0,
             start: 0,
         }
@@ -48,7 +49,7 @@ impl Segments {
     {
         Ok(Segments {
             store: PrefixSums::with_capacity(alloc, count)?,
-            ended: Vec::new(alloc),
+            ended: EndedPieces::new(alloc),
             base: 0,
             start: 0,
         })
@@ -69,7 +70,7 @@ impl Segments {
     {
         Ok(Segments {
             store: PrefixSums::of(alloc, store)?,
-            ended,
+            ended: EndedPieces::of(alloc, ended)?,
             base,
             start,
         })
@@ -78,10 +79,10 @@ impl Segments {
     /// How many of the ended segments begin at the address or before it.
     fn place(&self, address: u64) -> usize
         requires { IsSound self.now }
-        ensures within { result ≤ length self.now.ended.items }
-        ensures place { IsPartitionPoint self.now.ended.items address result }
+        ensures within { result ≤ length self.now.ended }
+        ensures place { IsPartitionPoint self.now.ended address result }
     {
-        self.ended.partition_point(|segment| segment.0 <= address)
+        self.ended.place(address)
     }
 
     fn open(&self) -> &[u8]
@@ -112,7 +113,7 @@ impl Segments {
         if place == 0 {
             return None;
         }
-        Some(self.ended[place - 1])
+        Some(self.ended.pieces()[place - 1])
     }
 
     /// The last segment that begins at an address or before it.
@@ -188,8 +189,9 @@ impl Segments {
             × IsGap (runs_of self.now) address base) }
     {
         let place = self.place(address);
-        if place < self.ended.len() {
-            return Some(self.ended[place].0);
+        let ended = self.ended.pieces();
+        if place < ended.len() {
+            return Some(ended[place].0);
         }
         if self.base > address && self.start < self.store.len() {
             return Some(self.base);
@@ -287,7 +289,7 @@ impl Segments {
         ensures ok { IfOk result
             (λ all. memory_in all ≡ with_bytes (memory_in self.now) base bytes.now) }
     {
-        let (low, high) = self.ended.split_at(self.place(base));
+        let (low, high) = self.ended.pieces().split_at(self.place(base));
         let store = self.store.bytes();
         let mut all = Segments::with_capacity(alloc, store.len() + bytes.len())?;
         all.take_all(store, low)?;

@@ -99,6 +99,8 @@ const IMAGES: [Case; 5] = [
 fn check_windows(rt: &impl Abort, image: &Image, windows: &[Window]) {
     for (address, count, bytes) in windows {
         assert!(rt; image.window(*address, *count) == *bytes, "{address:#x}");
+        let from = image.bytes_from(*address);
+        assert!(rt; from.get(..*count as usize) == *bytes, "{address:#x}");
     }
 }
 

@@ -1,6 +1,8 @@
-use Rattle.std.proofs.Common.{inl, inr, subst, sym, refl, arith}
+use Rattle.std.proofs.Common.{◌≡◌, ◌+◌, ◌-◌, ◌<◌, length, get_or, inl, inr, subst, sym, arith}
+use Rattle.std.proofs.lemmas.List.{get_or_default}
+use Rattle.acpi_base.specs.Image.Pieces.{Piece}
 use Rattle.acpi_base.specs.Image.Segments.{IsPartitionPoint, IsRunAt, runs_of}
-use Rattle.acpi_base.proofs.Images.Searches.{IsBehind, open_run, reached_open, reached_at, none_reached, lies_inside}
+use Rattle.acpi_base.proofs.Images.Searches.{IsBehind, open_run, reached_open, reached, none_reached, lies_inside}
 use Rattle.acpi_base.proofs.image.segments.Segments.piece_reaching.Goals as goal
 use Rattle.acpi_base.proofs.image.segments.Segments.piece_reaching.Goals.{else-self-address-via-then-self-address+else-self-count, else-self-address-via-else-self-address}
 
@@ -9,7 +11,7 @@ returns-then-self-count-clause-reached c =
     let s = c.args.self.now in
     let long = c.len-count.ensures in
     subst (IsRunAt (runs_of s) c.args.address) (sym (open_run s.store s.base s.start _ (omega arith)))
-    (reached_open s.store s.ended.items s.base s.start c.args.address c.requires c.if-self-address.true)
+    (reached_open s.store s.ended s.base s.start c.args.address c.requires c.if-self-address.true)
 
 pub returns-then-place-eq0-clause-reached : goal.returns-then-place-eq0-clause-reached
 returns-then-place-eq0-clause-reached c =
@@ -19,8 +21,8 @@ returns-then-place-eq0-clause-reached c =
       | else-self-address-via-then-self-address+else-self-count w ↦ inl (let no = w.if-self-count.false in omega arith)
       | else-self-address-via-else-self-address w ↦ inr (let low = w.if-self-address.false in omega arith)
     ] in
-    none_reached s.store s.ended.items s.base s.start c.args.address c.requires behind
-    (subst (IsPartitionPoint s.ended.items c.args.address) c.if-place-eq0.true c.place-place.ensures.place)
+    none_reached s.store s.ended s.base s.start c.args.address c.requires behind
+    (subst (IsPartitionPoint s.ended c.args.address) c.if-place-eq0.true c.place-place.ensures.place)
 
 pub returns-clause-reached : goal.returns-clause-reached
 returns-clause-reached c =
@@ -32,11 +34,20 @@ returns-clause-reached c =
       | else-self-address-via-then-self-address+else-self-count w ↦ inl (let no = w.if-self-count.false in omega arith)
       | else-self-address-via-else-self-address w ↦ inr (let low = w.if-self-address.false in omega arith)
     ] in
-    reached_at s.store s.ended.items s.base s.start c.args.address _ c.place-place.result c.index.result.now _
-    c.requires behind (omega arith) (omega arith) c.place-place.ensures.place c.index.ensures refl
+    let next : c.place-place.result ≡ c.place-place.result - 1 + 1 = omega arith in
+    rw c.pieces.ensures
+    (reached s.store s.ended s.base s.start c.args.address (c.place-place.result - 1) (0, record { start = 0; len = 0 })
+    c.requires behind (omega arith)
+    (subst (IsPartitionPoint s.ended c.args.address) next c.place-place.ensures.place))
 
 pub returns-clause-lies : goal.returns-clause-lies
 returns-clause-lies c =
     let within = c.place-place.ensures.within in
     let some = c.if-place-eq0.false in
-    lies_inside _ _ _ _ _ c.index.result.now c.requires (omega arith) c.index.ensures
+    let s = c.args.self.now in
+    let none : Piece = (0, record { start = 0; len = 0 }) in
+    let low : c.place-place.result - 1 < length s.ended = omega arith in
+    rw c.pieces.ensures
+    (lies_inside s.store s.ended s.base s.start (c.place-place.result - 1) (get_or s.ended (c.place-place.result - 1) none)
+    c.requires low (get_or_default s.ended (c.place-place.result - 1) none (get_or s.ended (c.place-place.result - 1) none)
+    low))

@@ -1,0 +1,12 @@
+use Rattle.std.proofs.Common.{leb, leb-true, rules}
+use Rattle.std.proofs.lemmas.Bool.{leb-false}
+use Rattle.std.proofs.lemmas.List.Sorted.{IsPartitionPoint-from_clause, IsPartitionedBy-leb}
+use Rattle.acpi_base.specs.Image.Pieces.{Piece}
+use Rattle.acpi_base.proofs.image.ended.pieces_up_to.Goals as goal
+
+pub returns-clause-place : goal.returns-clause-place
+returns-clause-place c =
+    let parted = IsPartitionedBy-leb (λ (p : Piece). p.0) c.args.pieces.now c.args.address c.requires in
+    let point = IsPartitionPoint-from_clause (λ (p : Piece). leb p.0 c.args.address) _ _
+    c.partition_point.ensures.partitioned parted (λ a r q k. search rules) in
+    (λ k d l h. leb-true _ _ (point.0 k d l h), λ k d l h. leb-false _ _ (point.1 k d l h))
