@@ -1,13 +1,17 @@
 -- Printed characters, and texts of them.
-use Rattle.std.proofs.Common.{◌≡◌, ℕ, ◌+◌, ◌-◌, ◌*◌, ◌/◌, ◌%◌, ◌<◌, ◌≤◌, Bool, true, false, List, [], ◌∷◌, ◌++◌, length, refl, sym, ap, ◌∙◌, arith, append-nil, append_assoc, codes, length-append, lit<, encode_utf8, IsUtf8, IsAscii}
-use Rattle.std.proofs.lemmas.Bool.{and_parts, not-true}
+use Rattle.std.proofs.Common.{◌≡◌, ℕ, ◌+◌, ◌-◌, ◌*◌, ◌/◌, ◌%◌, ◌<◌, ◌≤◌, Bool, true, false, List, [], ◌∷◌, ◌++◌, length, get_or, inl, inr, refl, sym, ap, ◌∙◌, arith, append-nil, append_assoc, codes, length-append, lit<, encode_utf8, IsUtf8, IsAscii}
+use Rattle.std.proofs.lemmas.Bool.{and_parts, cases_order, not-true}
 use Rattle.std.proofs.lemmas.Bool.Decides.{nat_tests}
 use Rattle.std.proofs.lemmas.List.Folds.{list_all-append}
 use Rattle.std.proofs.lemmas.Str.Ascii.{IsAscii-cons, IsAscii-nil}
-use Rattle.std.proofs.lemmas.List.{nil_from_length}
+use Rattle.std.proofs.Math.Seq.{get_or-append_seam}
+use Rattle.std.proofs.lemmas.List.{get_or_append_left, nil_from_length}
 use Rattle.std.proofs.lemmas.Str.{IsUtf8-nil, IsUtf8-append, IsUtf8-encode, IsUtf8-from_ascii, IsUtf8-past_char, chars-IsAscii, chars-append, chars-nil, chars_past_char, length-encode, len_utf8_bounds, scalars-chars}
 use Rattle.std.specs.Char.{IsScalar, digit_char, is_control, len_utf8}
+use Rattle.std.specs.Global.{Global}
+use Rattle.std.specs.Prelude.{String}
 use Rattle.std.specs.Str.{chars}
+use Rattle.std.specs.String.{string_bytes}
 use Rattle.acpi_cli.specs.Printable.{IsPrinted, is_printable, visible}
 
 -- ---- characters
@@ -142,10 +146,11 @@ unfolding chars
 dots_printable = refl
 
 pub cut_is_printed : (text printed rest : List ℕ) (room : ℕ) → IsBegun text printed rest room
-    → IsPrinted (printed ++ codes "...")
-cut_is_printed text printed rest room begun = record {
+    → (is_printable text ≡ true → length text ≤ 200 → ⊥) → IsPrinted text (printed ++ codes "...")
+cut_is_printed text printed rest room begun long = record {
   printable = printable_append printed (codes "...") begun.utf8 begun.printable dots_printable;
   short = rw (length-append printed (codes "...")) (omega (arith, begun.short));
+  same = λ printable short. absurd (long printable short);
 }
 
 pub long_is_cut : (text printed rest tail : List ℕ) (room c size : ℕ) → IsBegun text printed rest room
@@ -157,12 +162,36 @@ long_is_cut text printed rest tail room c size begun parts is over printable sho
     ap length parts ∙ length-append (encode_utf8 c) tail ∙ ap (λ n. n + length tail) (length-encode c) in
     omega (arith, so.size)
 
-pub whole_is_printed : (text printed rest : List ℕ) (room : ℕ) → IsBegun text printed rest room → IsPrinted printed
-whole_is_printed text printed rest room begun =
-    record { printable = begun.printable; short = omega (arith, begun.short) }
-
-pub whole_is_same : (text printed rest : List ℕ) (room : ℕ) → IsBegun text printed rest room → length rest ≡ 0
+whole_is_same : (text printed rest : List ℕ) (room : ℕ) → IsBegun text printed rest room → length rest ≡ 0
     → is_printable text ≡ true → printed ≡ text
 whole_is_same text printed rest room begun none printable =
     let so = begun.same printable in
     sym (append-nil printed) ∙ rw (nil_from_length rest none) at so.whole
+
+pub whole_is_printed : (text printed rest : List ℕ) (room : ℕ) → IsBegun text printed rest room → length rest ≡ 0
+    → IsPrinted text printed
+whole_is_printed text printed rest room begun none = record {
+  printable = begun.printable;
+  short = omega (arith, begun.short);
+  same = λ printable short. whole_is_same text printed rest room begun none printable;
+}
+
+-- the first n arguments are printed
+abbrev pub ArePrintedTo : List (String Global) → List (String Global) → ℕ → Type 0
+ArePrintedTo arguments printed n = (length printed ≡ n)
+    × ((i : ℕ) (d : String Global) → i < n → IsPrinted (string_bytes (get_or arguments i d)) (string_bytes (get_or printed i d)))
+
+pub none_printed : (arguments : List (String Global)) → ArePrintedTo arguments [] 0
+none_printed arguments = (refl, λ i d below. absurd (omega arith))
+
+pub one_printed : (arguments printed : List (String Global)) (text : String Global) (n : ℕ) → ArePrintedTo arguments printed n
+    → ((d : String Global) → IsPrinted (string_bytes (get_or arguments n d)) (string_bytes text))
+    → ArePrintedTo arguments (printed ++ text ∷ []) (n + 1)
+one_printed arguments printed text n so is = (
+  length-append printed (text ∷ []) ∙ ap (λ k. k + 1) so.0,
+  λ i d below. elim (cases_order i n) [
+    | inl same ↦ rw (same, ← so.0, get_or-append_seam printed text [] d) (rw so.0 (is d))
+    | inr (inl less) ↦ rw (get_or_append_left printed (text ∷ []) d i (omega (arith, so.0))) (so.1 i d less)
+    | inr (inr more) ↦ absurd (omega arith)
+  ],
+)

@@ -1,10 +1,9 @@
 //! Arguments as error messages print them: without control characters, and not too long.
 
-ghost use Rattle.std.specs.Prelude.{◌≡◌, ◌≤◌, ◌<◌, ◌++◌, IfOk, OnOk, length, true, vec_len};
+ghost use Rattle.std.specs.Prelude.{◌≡◌, ◌<◌, ◌++◌, IfOk, OnOk};
 ghost use Rattle.std.specs.Char.{digit_char};
-ghost use Rattle.std.specs.List.{All};
 ghost use Rattle.std.specs.String.{string_bytes};
-ghost use Rattle.acpi_cli.specs.Printable.{IsPrinted, is_printable, visible};
+ghost use Rattle.acpi_cli.specs.Printable.{ArePrinted, IsPrinted, visible};
 
 use std::alloc::{AllocError, Global};
 
@@ -13,9 +12,7 @@ const MOST_BYTES: usize = 200;
 
 /// The arguments as error messages print them, each by `printable_text`.
 pub fn printable_arguments(alloc: Global, words: &[String]) -> Result<Vec<String>, AllocError>
-    ensures printed { IfOk result
-        (λ printed. All (λ word. IsPrinted (string_bytes word)) printed.items) }
-    ensures each { IfOk result (λ printed. vec_len printed ≡ length words.now) }
+    ensures { IfOk result (λ printed. ArePrinted words.now printed.items) }
 {
     let mut printed = Vec::new(alloc);
     for word in words {
@@ -27,9 +24,7 @@ pub fn printable_arguments(alloc: Global, words: &[String]) -> Result<Vec<String
 /// A text as error messages print it: each control character as its number, such as `\x1b`, and after 200 bytes `...` in place
 /// of the rest, never in the middle of a character. A short text without control characters is unchanged.
 pub fn printable_text(alloc: Global, text: &str) -> Result<String, AllocError>
-    ensures printed { IfOk result (λ printed. IsPrinted (string_bytes printed)) }
-    ensures same { IfOk result (λ printed. is_printable text.now ≡ true → length text.now ≤ 200
-        → string_bytes printed ≡ text.now) }
+    ensures { IfOk result (λ printed. IsPrinted text.now (string_bytes printed)) }
 {
     let mut printed = String::new(alloc);
     let mut room = MOST_BYTES;

@@ -1,6 +1,6 @@
 use Rattle.std.proofs.Common.{◌≡◌, ◌++◌, codes, rules}
 use Rattle.std.specs.String.{string_bytes}
-use Rattle.acpi_cli.proofs.PrintableTexts.{cut_is_printed, long_is_cut, nothing_begun, one_more, whole_is_printed, whole_is_same}
+use Rattle.acpi_cli.proofs.PrintableTexts.{cut_is_printed, long_is_cut, nothing_begun, one_more, whole_is_printed}
 use Rattle.acpi_cli.proofs.printable.printable_text.Goals as goal
 
 pub loop-character-init : goal.loop-character-init
@@ -16,21 +16,16 @@ loop-character-preserved c =
     rw (c.in_ok-push_visible.ensures)
     (one_more _ _ _ _ _ c.in-Some.character _ c.loop-character.invariant parts size (search rules))
 
-pub returns-then-len_utf8-room-clause-printed : goal.returns-then-len_utf8-room-clause-printed
-returns-then-len_utf8-room-clause-printed c =
+pub returns-then-len_utf8-room : goal.returns-then-len_utf8-room
+returns-then-len_utf8-room c =
     let cut : string_bytes c.push_str.new.self ≡ string_bytes c.loop-character.printed ++ codes "..." = search rules in
-    rw cut (cut_is_printed _ _ _ _ c.loop-character.invariant)
-
-pub returns-then-len_utf8-room-clause-same : goal.returns-then-len_utf8-room-clause-same
-returns-then-len_utf8-room-clause-same c = λ printable short.
     let parts = c.in-Some.ensures.steps.0 in
     let over = c.if-len_utf8-room.true in
     let size = c.len_utf8.ensures.value in
-    absurd (long_is_cut _ _ _ _ _ c.in-Some.character _ c.loop-character.invariant parts size over printable short)
+    rw cut
+    (cut_is_printed _ _ _ _ c.loop-character.invariant
+    (λ printable short.
+    long_is_cut _ _ _ _ _ c.in-Some.character _ c.loop-character.invariant parts size over printable short))
 
-pub returns-clause-printed : goal.returns-clause-printed
-returns-clause-printed c = whole_is_printed _ _ _ _ c.loop-character.invariant
-
-pub returns-clause-same : goal.returns-clause-same
-returns-clause-same c = λ printable short.
-    whole_is_same _ _ _ _ c.loop-character.invariant c.in-None.ensures.steps.0.0 printable
+pub returns : goal.returns
+returns c = whole_is_printed _ _ _ _ c.loop-character.invariant c.in-None.ensures.steps.0.0
