@@ -179,12 +179,14 @@ whole_is_printed text printed rest room begun none = record {
 -- the first n arguments are printed
 abbrev pub ArePrintedTo : List (String Global) → List (String Global) → ℕ → Type 0
 ArePrintedTo arguments printed n = (length printed ≡ n)
-    × ((i : ℕ) (d : String Global) → i < n → IsPrinted (string_bytes (get_or arguments i d)) (string_bytes (get_or printed i d)))
+    × ((i : ℕ) (d : String Global) → i < n
+    → IsPrinted (string_bytes (get_or arguments i d)) (string_bytes (get_or printed i d)))
 
 pub none_printed : (arguments : List (String Global)) → ArePrintedTo arguments [] 0
 none_printed arguments = (refl, λ i d below. absurd (omega arith))
 
-pub one_printed : (arguments printed : List (String Global)) (text : String Global) (n : ℕ) → ArePrintedTo arguments printed n
+pub one_printed : (arguments printed : List (String Global)) (text : String Global) (n : ℕ)
+    → ArePrintedTo arguments printed n
     → ((d : String Global) → IsPrinted (string_bytes (get_or arguments n d)) (string_bytes text))
     → ArePrintedTo arguments (printed ++ text ∷ []) (n + 1)
 one_printed arguments printed text n so is = (
