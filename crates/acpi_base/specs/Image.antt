@@ -8,3 +8,4 @@ pub mod Rests
 pub mod Runs
 pub mod Segments
 pub mod Sums
+pub mod Windows

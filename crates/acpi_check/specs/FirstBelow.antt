@@ -2,7 +2,7 @@
 use Rattle.std.specs.Prelude.{◌<◌, ℕ, List, Option, Some, None, MatchOption}
 use denote.Ref.{Bor}
 use Rattle.acpi_base.specs.Memory.{Memory}
-use Rattle.acpi_base.specs.Image.Rests.{AreBytesFrom}
+use Rattle.acpi_base.specs.Image.Windows.{AreBytesFrom}
 use Rattle.acpi_base.specs.Root.{HasSlot}
 use Rattle.acpi_base.specs.Tables.{IsSigned, IsSoundTable, IsTable}
 use Rattle.acpi_base.specs.Listed.{IsFirstListed}

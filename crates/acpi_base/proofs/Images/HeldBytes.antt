@@ -8,7 +8,7 @@ use Rattle.std.proofs.lemmas.Option.{none-some, same_Some}
 use Rattle.byteorder.specs.Numbers.{little_from-lt, little_from-take}
 use Rattle.acpi_base.specs.Memory.{Memory, IsImage, byte_of, bytes_at, run_of}
 use Rattle.acpi_base.specs.Number.{field}
-use Rattle.acpi_base.specs.Image.Rests.{AreBytesFrom}
+use Rattle.acpi_base.specs.Image.Windows.{AreBytesFrom}
 use Rattle.acpi_base.proofs.Images.ByteRuns.{run_of-split, run_of-count, run_of-take}
 
 -- there is a value or none

@@ -3,7 +3,7 @@
 ghost use Rattle.std.specs.Prelude.{◌≡◌, ◌+◌, length, Some, None, MatchOption};
 ghost use Rattle.acpi_base.specs.Image.Segments.{IsSound, memory_in, runs_of};
 ghost use Rattle.acpi_base.specs.Memory.{run_of};
-ghost use Rattle.acpi_base.specs.Image.Rests.{AreBytesFrom};
+ghost use Rattle.acpi_base.specs.Image.Windows.{AreBytesFrom};
 ghost use Rattle.acpi_base.specs.Image.Runs.{lookup};
 ghost use Rattle.acpi_base.specs.Text.WrittenText.{IsEmptyFrom, IsFirstFrom, IsNextRun};
 

@@ -1,6 +1,6 @@
 use Rattle.std.proofs.Common.{◌≡◌, ◌≤◌, ℕ, List, length, take, Some, refl, sym, ap, ◌∙◌, arith}
 use Rattle.std.proofs.lemmas.List.{length-take-le}
-use Rattle.acpi_base.specs.Image.Rests.{AreBytesFrom}
+use Rattle.acpi_base.specs.Image.Windows.{AreBytesFrom}
 use Rattle.acpi_base.specs.Memory.{Memory}
 use Rattle.acpi_base.specs.Number.{field}
 use Rattle.acpi_base.specs.Tables.{length_of, IsSoundTable, IsTable}
