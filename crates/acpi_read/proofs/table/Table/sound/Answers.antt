@@ -23,8 +23,8 @@ beginning m a rest n sound from says_n =
     let same : length_of header ≡ n = ap (λ (bs : List ℕ). field bs 4 4) first.1
     ∙ field-take rest 36 4 4 (omega arith) ∙ sym says_n in
     let least = sound.table.least in
-    let said = rest_says_length rest header (take n rest) 36 n (omega arith) (omega arith) (omega (arith, all.0)) first.1
-    refl (sym same) in
+    let said = rest_says_length rest header (take n rest) 36 n (omega arith) (omega arith) (omega (arith, all.0))
+    first.1 refl (sym same) in
     record {
       fits = omega (arith, all.0);
       long = omega arith;

@@ -46,8 +46,8 @@ returns-clause-lies c =
     let some = c.if-place-eq0.false in
     let s = c.args.self.now in
     let none : Piece = (0, record { start = 0; len = 0 }) in
-    let low : c.place-place.result - 1 < length s.ended = omega arith in
+    let k = c.place-place.result - 1 in
+    let low : k < length s.ended = omega arith in
     rw c.pieces.ensures
-    (lies_inside s.store s.ended s.base s.start (c.place-place.result - 1) (get_or s.ended (c.place-place.result - 1) none)
-    c.requires low (get_or_default s.ended (c.place-place.result - 1) none (get_or s.ended (c.place-place.result - 1) none)
-    low))
+    (lies_inside s.store s.ended s.base s.start k (get_or s.ended k none) c.requires low
+    (get_or_default s.ended k none (get_or s.ended k none) low))
