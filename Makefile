@@ -59,9 +59,9 @@ build:
 test:
 	$(needs_toolchain)@$(alone) sh -c 'scripts/prove tests && $(link_library) && exec tests/all.sh $(program) crates/*/out/*_tests'
 
-# Proves everything from nothing, tries each wrong body that must be refused, and runs all tests.
+# Proves everything from nothing, tries each wrong body that must be refused, and builds what `test` then runs the scripts on.
 gate:
-	$(needs_toolchain)@$(alone) sh -c 'scripts/prove gate && $(link_library) && exec tests/all.sh $(program) crates/*/out/*_tests'
+	$(needs_toolchain)@$(alone) scripts/prove gate
 
 # Proves the library for C and C++, and leaves it as library/libacpiset.a and library/libacpiset.so.1.
 library:
