@@ -73,7 +73,7 @@ pub enum Code {
     FacsOut,
     /// The MADT's Length is below 44.
     MadtShort,
-    /// No entry can begin at an offset in the MADT at which one should.
+    /// The bytes after the last entry of the MADT are no entry: a single byte, or a length below 2 or past the end.
     MadtEntryCut,
     /// A MADT entry's length is not that of its type.
     MadtEntryLength,
@@ -91,7 +91,7 @@ pub enum Code {
     OverrideClash,
     /// The SRAT's Length is below 48.
     SratShort,
-    /// No entry can begin at an offset in the SRAT at which one should.
+    /// The bytes after the last entry of the SRAT are no entry: a single byte, or a length below 2 or past the end.
     SratEntryCut,
     /// An SRAT entry's length is not that of its type.
     SratEntryLength,
@@ -107,7 +107,7 @@ pub enum Code {
     SlitDiagonal,
     /// A distance is below 10.
     SlitLow,
-    /// No entry can begin at an offset in the PPTT at which one should.
+    /// The bytes after the last entry of the PPTT are no entry: a single byte, or a length below 2 or past the end.
     PpttEntryCut,
     /// A PPTT entry's length is not that of its type.
     PpttEntryLength,

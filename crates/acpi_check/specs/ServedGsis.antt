@@ -57,7 +57,7 @@ pub record IsEarlier (one other earlier : NamedGsi) : Type 0 where
   pub upto_one : earlier.offset ≤ one.offset
   pub upto_other : earlier.offset ≤ other.offset
 
--- the number in no range that the first entry names
+-- the first entry that names a number in no range, with that number
 pub record IsFirstUnserved (ranges : List CompactSpan) (named : List NamedGsi) (first : NamedGsi) : Type 0 where
   pub listed : Contains named first
   pub unserved : ¬ IsInRanges ranges first.gsi

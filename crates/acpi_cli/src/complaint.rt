@@ -144,7 +144,7 @@ fn refused_value(
     Some(Complaint { message, tip })
 }
 
-/// The first argument that is no option, and no `ADDRESS=COUNT`.
+/// What is wrong with the first argument that should be `ADDRESS=COUNT`.
 fn inputs_complaint(alloc: Global, words: &[String], options: &ArgMatches) -> Option<Complaint> {
     let given = values(options, "inputs");
     let word = given.iter().find(|word| inputs_of_word(word).is_none())?;

@@ -1,4 +1,4 @@
--- Pieces of an image as they come, where an address that comes twice is looked for at the end.
+-- Pieces of an image in the order in which they arrive; repeated addresses are looked for at the end.
 use Rattle.std.specs.Prelude.{◌≡◌, ℕ, ◌+◌, ◌-◌, ◌<◌, min, List, [], ◌∷◌, ◌++◌, length, take, drop, slice_index_or, ◌==◌, if◌then◌else◌, Bool, true, false, Result, Ok, Err}
 use Rattle.std.specs.Option.{option_map_or}
 use Rattle.std.specs.List.{AllByRecursion}
@@ -59,7 +59,7 @@ IsOnceBefore ps s = (x : ℕ) → holder_count (cut_all s ps) x < 2
 abbrev pub ComesTwice : List Piece → ℕ → ℕ → Type 0
 ComesTwice ps s x = 1 < holder_count (cut_all s ps) x
 
--- the first address that comes twice: the byte behind the first s has it, and these have no address twice
+-- the first repeated address: that of the first byte whose address an earlier byte has
 abbrev pub IsFirstTwice : List Piece → ℕ → Type 0
 IsFirstTwice ps x = (s : ℕ) × IsOnceBefore ps s × ComesTwice ps (s + 1) x
 
@@ -70,7 +70,7 @@ unfoldable pub bytes_of : List ℕ → List Piece → List ℕ
 bytes_of store [] = []
 bytes_of store (p ∷ ps) = take p.1.len (drop p.1.start store) ++ bytes_of store ps
 
--- a piece behind others is a part of the last of them, where that ends at its first address
+-- a piece is appended to others; if it begins where the last of them ends, the two become one
 abbrev pub joined_behind : Piece → List Piece → Piece → List Piece
 joined_behind q [] p = if end_at q == p.0 then (q.0, record { start = q.1.start; len = q.1.len + p.1.len }) ∷ [] else q ∷ p ∷ []
 joined_behind q (r ∷ qs) p = q ∷ joined_behind r qs p
@@ -79,7 +79,7 @@ abbrev pub joined_with : List Piece → Piece → List Piece
 joined_with [] p = p ∷ []
 joined_with (q ∷ qs) p = joined_behind q qs p
 
--- all pieces behind others, where their bytes follow from a place on
+-- all pieces are appended to others; their bytes are one after the other, from a place on
 unfoldable pub joined_from : List Piece → ℕ → List Piece → List Piece
 joined_from qs from [] = qs
 joined_from qs from (p ∷ ps) = joined_from (joined_with qs (p.0, record { start = from; len = p.1.len })) (from + p.1.len) ps

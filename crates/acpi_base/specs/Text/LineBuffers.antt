@@ -21,13 +21,13 @@ buffer_state f = state_with (judged f.parser) f.line.items
 abbrev pub byte_count : LineBuffer → ℕ
 byte_count f = f.parser.through + length f.line.items
 
--- it has met no fault, unless an address has come twice: what has come of the last line makes neither that nor the text too long
+-- no fault so far, except perhaps a repeated address: neither the incomplete line nor the text is too long
 pub record IsLineBuffer (f : LineBuffer) : Type 0 where
   pub image : IsImageData f.parser.image
   pub lines : f.parser.lines ≤ f.parser.through
   pub short : is_too_long (length f.line.items) (byte_count f) ≡ false
 
--- an address that comes twice stops it at once
+-- a repeated address is refused at once
 pub record IsCheckedBuffer (f : LineBuffer) : Type 0 where
   pub sound : IsLineBuffer f
   pub checked : is_checked f.parser.image ≡ true

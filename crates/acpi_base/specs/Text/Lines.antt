@@ -23,11 +23,11 @@ abbrev pub data_line : Bool → List ℕ → Line
 data_line true bytes = Data bytes
 data_line false bytes = Bad
 
--- where the code stands between two lines, where its data holds this
+-- the state of the parser between two lines, if its data is this memory
 abbrev pub reading_with : LineParser → Memory → Reading
 reading_with p m = record { lines = p.lines; through = p.through; next = p.next; image = m }
 
--- where the definition stands that stops at the first address that comes twice, by what the data of the code comes to
+-- the state of a reading that stops at the first repeated address, by what the data so far comes to
 abbrev pub judged_by : LineParser → Result Memory ℕ → Result Reading TextFault
 judged_by p (Ok m) = Ok (reading_with p m)
 judged_by p (Err address) = Err (text.Twice address)
@@ -35,7 +35,7 @@ judged_by p (Err address) = Err (text.Twice address)
 abbrev pub judged : LineParser → Result Reading TextFault
 judged p = judged_by p (data_result p.image)
 
--- the fault of a text in which the code has met this one: an address that came twice before it comes first
+-- the fault of a text in which this one was met: a repeated address before it takes precedence
 abbrev pub told_by : Result Memory ℕ → TextFault → TextFault
 told_by (Ok m) fault = fault
 told_by (Err address) fault = text.Twice address

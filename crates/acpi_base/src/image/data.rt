@@ -13,7 +13,7 @@ use super::draft::DraftImage;
 use super::{Image, ImageFault};
 use std::alloc::Global;
 
-/// Data as it comes.
+/// The data of an image text, gathered while the text is read.
 #[derive(Drop)]
 pub enum ImageData {
     /// An address that comes twice is refused at once.

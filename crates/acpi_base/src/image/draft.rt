@@ -229,7 +229,7 @@ impl DraftImage {
         }
     }
 
-    /// The piece that came last takes more bytes.
+    /// Appends bytes to the piece that came last.
     fn extend(&mut self, bytes: &[u8]) -> Result<(), AllocError>
         requires sound { IsDraft self.old }
         requires end { (base : ℕ) × EndsAt self.old.pieces.items base

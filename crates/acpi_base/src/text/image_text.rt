@@ -33,8 +33,8 @@ const PIECE: usize = 65_536;
 
 /// An image text that comes in pieces, which may end anywhere. Of the text only the incomplete last line is kept.
 ///
-/// A line is judged when its LF comes or the text ends; `TooLong` is returned at the first byte too many. The first line with
-/// a fault decides with what the text is refused. Lines count from 1. In one line the faults have this order:
+/// A line is judged when its LF comes or the text ends; `TooLong` is returned at the first byte too many. The text is refused
+/// with the fault of its first line that has one. Lines count from 1. In one line the faults have this order:
 /// 1. `TooLong`: the line has more than 65,536 bytes, its LF not counted, or the text through its LF more
 ///    than 67,108,864.
 /// 2. `BadLine`: the line is neither an address, nor data, nor blank.

@@ -108,7 +108,7 @@ impl LineParser {
         }
     }
 
-    /// Takes the line that was read last for what it says.
+    /// Applies the line that was read last: sets the next address, or adds its data.
     fn take_line(&mut self, form: Form, bytes: &[u8]) -> Result<(), TextFault>
         requires image { IsImageData self.old.image }
         requires some { form ≡ Form.Data → 0 < length bytes.now }
