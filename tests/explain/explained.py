@@ -7,12 +7,14 @@ import sys
 
 TOP = os.path.realpath(os.path.join(os.path.dirname(os.path.abspath(__file__)), "..", ".."))
 IMAGES = os.path.join(TOP, "tests", "images")
+sys.path.insert(0, os.path.join(TOP, "tests", "rows"))
+from cases import Cases
 
 
-class Tests:
+class Tests(Cases):
     def __init__(self, program, scratch):
-        self.program, self.scratch = program, scratch
-        self.passed = self.failed = 0
+        super().__init__(program)
+        self.scratch = scratch
         self.tool = self.copy("whole", "tools", "explain", os.path.join("docs", "FAULTS.md"))
         os.symlink(program, os.path.join(scratch, "whole", "acpiset"))
         self.path = os.path.dirname(sys.executable) + ":/usr/bin:/bin"
@@ -34,13 +36,6 @@ class Tests:
         with open(path, "wb") as file:
             file.write(data)
         return path
-
-    def count(self, name, wrong):
-        if wrong:
-            self.failed += 1
-            print(f"{name}: {wrong}")
-        else:
-            self.passed += 1
 
     def run(self, *words, text=b"", tool=None, **kept):
         kept.setdefault("stdout", subprocess.PIPE)
