@@ -17,7 +17,6 @@ use crate::refusal::Refusal;
 use crate::search::binary_search;
 use crate::srat::is_enabled;
 use acpi_base::{Code, Processors, Witness};
-use acpi_graph::sort_any_order;
 use acpi_read::{Madt, Srat, SratEntry};
 use std::alloc::{AllocError, Global};
 
@@ -128,7 +127,7 @@ pub fn one_domain(
         (DomainFault processors (madt_contents madt.now) (srat_contents srat.now)) result }
 {
     let mut placements = placements_of(alloc, srat)?;
-    sort_any_order(&mut placements);
+    placements.sort_unstable();
     if do_agree(&placements) {
         return Ok(());
     }

@@ -124,7 +124,7 @@ fn first_unserved(ranges: &[CompactSpan], named: &[NamedGsi]) -> Option<NamedGsi
 /// entry that names a number that is not served; `other` is 0, and `point` is the number, of 32 bits.
 ///
 /// Refuses with `OutOfMemory`: it allocates a compact span of 8 bytes for each I/O APIC; and if there is one, 8 bytes
-/// for each override and each NMI source. Both are sorted (`sort_any_order`) and compared in one pass, whether there is
+/// for each override and each NMI source. Both are sorted and compared in one pass, whether there is
 /// a fault or not.
 pub fn named_served(alloc: Global, policy: &Policy, madt: &Madt<'_>) -> Result<(), Refusal>
     ensures { FindsFirst Stage.Served (AreNamedServed policy.now (madt_contents madt.now))
@@ -136,7 +136,7 @@ pub fn named_served(alloc: Global, policy: &Policy, madt: &Madt<'_>) -> Result<(
     }
     let mut named = all_named(alloc, madt)?;
     sort_any_order(&mut ranges);
-    sort_any_order(&mut named);
+    named.sort_unstable();
     match first_unserved(&ranges, &named) {
         None => Ok(()),
         Some(first) => Err(Refusal::Fault(Witness {

@@ -3,7 +3,6 @@
 ghost use Rattle.std.specs.Prelude.{◌≡◌, ◌+◌, ◌-◌, ◌<◌, ◌≤◌, ◌↔◌, IsTrue, IsOk, IfOk, AllPairs, length, vec_len};
 ghost use Rattle.acpi_graph.specs.Spans.{NamesDiffer, IsClear, ComesBefore, IfAt, IsFirstClash};
 
-use crate::sorting::sort_any_order;
 use crate::span::Span;
 use std::alloc::{AllocError, Global};
 
@@ -24,18 +23,18 @@ pub enum Clash {
 /// The first overlap of the spans, which is at the lowest number that is in two of them, and how many neighbours were
 /// compared to find it.
 ///
-/// The spans have different ids (`name`); their order does not matter. It sorts them once by start and id
-/// (`sort_any_order`), and makes at most n - 1 comparisons for n spans.
+/// The spans have different ids (`name`); their order does not matter. It sorts them once by start and id,
+/// and makes at most n - 1 comparisons for n spans.
 pub fn first_clash(alloc: Global, mut spans: Vec<Span>) -> Result<(Clash, usize), AllocError>
     requires { NamesDiffer spans.items }
 
-    // It does not use `alloc`, and its sort does without a buffer if it has to: it never runs out of memory.
+    // It does not use `alloc`, and its sort needs no buffer: it never runs out of memory.
     ensures always { IsOk result }
     ensures none { IfOk result (λ found. (found.0 ≡ Clash.None) ↔ IsClear spans.items) }
     ensures first { IfOk result (λ found. IfAt found.0 (IsFirstClash spans.items)) }
     ensures comparisons { IfOk result (λ found. found.1 ≤ vec_len spans - 1) }
 {
-    sort_any_order(&mut spans);
+    spans.sort_unstable();
     Ok(first_overlap(&spans))
 }
 

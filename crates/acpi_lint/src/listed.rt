@@ -11,7 +11,6 @@ ghost use Rattle.acpi_lint.specs.Slots.{IsRootOf, AreListed, AreAddresses, Finds
 use crate::numbered::Numbered;
 use acpi_base::Image;
 use acpi_base::field::is_signed;
-use acpi_graph::sort_any_order;
 use acpi_read::Root;
 use std::alloc::{AllocError, Global};
 
@@ -54,7 +53,7 @@ pub fn sorted_addresses(alloc: Global, root: &Option<Root<'_>>) -> Result<Vec<Nu
         return Ok(Vec::new(alloc));
     };
     let mut given = listed_addresses(alloc, root)?;
-    sort_any_order(&mut given);
+    given.sort_unstable();
     Ok(given)
 }
 
