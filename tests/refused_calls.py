@@ -28,7 +28,6 @@ SAMPLED = {
 }
 # The tests with sorts that need a buffer, and how many: where it is refused, the sort goes on in place, and the test ends well.
 SORTS = {
-    "clash::tests::many_shuffled_spans": 2,
     "sorting::tests::numbers_rise": 1,
 }
 
