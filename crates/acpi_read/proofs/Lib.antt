@@ -2,4 +2,5 @@ pub mod EntriesLeft
 pub mod FirstsKept
 mod ListedTables
 pub mod PpttKinds
+pub mod SearchedEntries
 pub mod SlitCells

@@ -58,6 +58,7 @@ pub mod laws;
 mod layout;
 mod listed;
 mod madt;
+mod noted_entries;
 mod pptt;
 mod root;
 mod rsdp;

@@ -75,6 +75,7 @@ impl<'a> MadtEntry<'a> {
 }
 
 impl<'a> TableEntry<'a> for MadtEntry<'a> {
+    ghost use Rattle.acpi_read.specs.SearchedEntries.{searched_in_madt};
     ghost use Rattle.acpi_base.specs.Madt as said;
     ghost use Rattle.acpi_base.specs.Madt.{madt_entry};
     ghost use Rattle.acpi_read.specs.Madts.{madt_value, IsWholeEntry};
@@ -87,9 +88,19 @@ impl<'a> TableEntry<'a> for MadtEntry<'a> {
 
     ghost IsRead = { IsWholeEntry };
 
+    ghost searched = { searched_in_madt };
+
     #[inline(always)]
     fn of(bytes: &'a [u8]) -> MadtEntry<'a> {
         MadtEntry::read(bytes).unwrap_or(MadtEntry::Opaque(bytes))
+    }
+
+    #[inline(always)]
+    fn is_searched(&self) -> bool {
+        match self {
+            MadtEntry::Opaque(bytes) => matches!(bytes.first(), Some(7 | 11 | 17 | 24)),
+            _ => true,
+        }
     }
 }
 

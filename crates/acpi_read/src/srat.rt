@@ -52,6 +52,7 @@ impl<'a> SratEntry<'a> {
 }
 
 impl<'a> TableEntry<'a> for SratEntry<'a> {
+    ghost use Rattle.acpi_read.specs.SearchedEntries.{searched_in_srat};
     ghost use Rattle.acpi_base.specs.Srat as said;
     ghost use Rattle.acpi_base.specs.Srat.{srat_entry};
     ghost use Rattle.acpi_read.specs.Srats.{srat_value, IsWholeEntry};
@@ -64,9 +65,19 @@ impl<'a> TableEntry<'a> for SratEntry<'a> {
 
     ghost IsRead = { IsWholeEntry };
 
+    ghost searched = { searched_in_srat };
+
     #[inline(always)]
     fn of(bytes: &'a [u8]) -> SratEntry<'a> {
         SratEntry::read(bytes).unwrap_or(SratEntry::Opaque(bytes))
+    }
+
+    #[inline(always)]
+    fn is_searched(&self) -> bool {
+        match self {
+            SratEntry::Opaque(bytes) => matches!(bytes.first(), Some(3)),
+            _ => true,
+        }
     }
 }
 
