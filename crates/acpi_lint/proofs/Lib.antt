@@ -31,6 +31,7 @@ mod SameNumbers
 mod SameRules
 mod SciGsis
 mod SecondTables
+mod SearchedOnes
 mod Shorts
 mod SlitFaults
 mod SomeEntries

@@ -13,7 +13,8 @@ use Rattle.acpi_base.proofs.Faults.ListedTables.{of_listed}
 use Rattle.acpi_lint.specs.EntryTypes.{madt_type, srat_type, AreTypesOf}
 use Rattle.acpi_lint.specs.Places.{FindsLeast}
 use Rattle.acpi_lint.specs.Slots.{IsRootOf, AreAddresses}
-use Rattle.acpi_lint.specs.WholeTables.{IsFound, IsLong, table_of, AreTyped, AreWholeTables}
+use Rattle.acpi_lint.specs.NotedTables.{IsLong}
+use Rattle.acpi_lint.specs.WholeTables.{IsFound, table_of, AreTyped, AreWholeTables}
 use Rattle.acpi_lint.specs.declared.place.Place.{Place}
 use Rattle.acpi_lint.specs.declared.whole_tables.WholeTables.{WholeTables}
 use Rattle.acpi_lint.proofs.LeastPlaces.{least_as}
@@ -64,9 +65,9 @@ none_long m p signature least P (Some bytes) looked long short =
 -- the root and the table of each kind are those of the set
 pub are_whole : {m : Memory} {p : ℕ} (tables : WholeTables)
     → IsRootOf m p tables.root → AreAddresses (IsSlot m p) tables.slots.items
-    → IsFound m p fadt_signature tables.fadt → IsFound m p madt_signature tables.madt
-    → IsFound m p srat_signature tables.srat → IsFound m p slit_signature tables.slit
-    → IsFound m p pptt_signature tables.pptt → AreTyped tables → AreWholeTables m p tables
+    → IsFound m p fadt_signature tables.fadt → IsFound m p madt_signature tables.noted.madt
+    → IsFound m p srat_signature tables.noted.srat → IsFound m p slit_signature tables.slit
+    → IsFound m p pptt_signature tables.noted.pptt → AreTyped tables → AreWholeTables m p tables
 are_whole {m} {p} tables root slots fadt madt srat slit pptt typed =
     record { root = root; slots = slots; listed = listed; typed = typed }
   where
@@ -78,10 +79,10 @@ are_whole {m} {p} tables root slots fadt madt srat slit pptt typed =
     listed kind.Pptt = pptt
 
 -- the types that are kept of a table that is found are those of its entries
-pub madt_seen : (tables : WholeTables) (whole : List ℕ) → AreTyped tables → tables.madt ≡ Some whole
+pub madt_seen : (tables : WholeTables) (whole : List ℕ) → AreTyped tables → tables.noted.madt ≡ Some whole
     → AreTypesOf madt_type tables.madt_types (madt_contents whole).entries
 madt_seen tables whole typed is = rw is at typed.madt
 
-pub srat_seen : (tables : WholeTables) (whole : List ℕ) → AreTyped tables → tables.srat ≡ Some whole
+pub srat_seen : (tables : WholeTables) (whole : List ℕ) → AreTyped tables → tables.noted.srat ≡ Some whole
     → AreTypesOf srat_type tables.srat_types (srat_contents whole).entries
 srat_seen tables whole typed is = rw is at typed.srat

@@ -6,6 +6,7 @@ pub mod FirstPicked
 pub mod KnownNumbers
 pub mod Leaves
 pub mod MadtPlaces
+pub mod NotedTables
 pub mod Numbered
 pub mod Overrides
 pub mod OwnAdvice

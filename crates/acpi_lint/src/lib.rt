@@ -45,6 +45,7 @@ mod known_numbers;
 mod leaves;
 mod listed;
 mod madt;
+mod noted_tables;
 mod nowhere;
 mod numbered;
 mod one_code;

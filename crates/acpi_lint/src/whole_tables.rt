@@ -4,10 +4,12 @@ ghost use Rattle.std.specs.Prelude.{◌≡◌, ℕ, IfOk};
 ghost use Rattle.acpi_base.specs.Root.{IsSlot};
 ghost use Rattle.acpi_base.specs.TableKinds.{signature_of};
 ghost use Rattle.acpi_lint.specs.Slots.{AreAddresses};
-ghost use Rattle.acpi_lint.specs.WholeTables.{IsFound, IsLong, table_of, AreWholeTables};
+ghost use Rattle.acpi_lint.specs.NotedTables.{IsLong};
+ghost use Rattle.acpi_lint.specs.WholeTables.{IsFound, table_of, AreWholeTables};
 
 use crate::entry_types::EntryTypes;
 use crate::listed::{first_slot, has_header, sorted_addresses};
+use crate::noted_tables::NotedTables;
 use crate::numbered::Numbered;
 use acpi_base::{Image, TableKind};
 use acpi_read::{Fadt, Madt, Pptt, Root, Srat, Table};
@@ -23,18 +25,14 @@ pub struct WholeTables<'a> {
     pub slots: Vec<Numbered>,
     /// The FADT.
     pub fadt: Option<Table<'a>>,
-    /// The MADT.
-    pub madt: Option<Table<'a>>,
-    /// The types of the MADT's entries.
-    pub madt_types: EntryTypes,
-    /// The SRAT.
-    pub srat: Option<Table<'a>>,
-    /// The types of the SRAT's entries.
-    pub srat_types: EntryTypes,
     /// The SLIT.
     pub slit: Option<Table<'a>>,
-    /// The PPTT.
-    pub pptt: Option<Table<'a>>,
+    /// The MADT, the SRAT and the PPTT.
+    pub noted: NotedTables<'a>,
+    /// The types of the MADT's entries.
+    pub madt_types: EntryTypes,
+    /// The types of the SRAT's entries.
+    pub srat_types: EntryTypes,
 }
 
 /// The first listed table of a kind in a set whose slots list these addresses.
@@ -48,7 +46,8 @@ fn found<'a>(image: &'a Image, listed: &[Numbered], kind: TableKind) -> Option<T
 }
 
 impl<'a> WholeTables<'a> {
-    /// The tables of the set that the RSDP at an address leads to. Allocates for each address that is listed.
+    /// The tables of the set that the RSDP at an address leads to. Allocates for each address that is listed, and for
+    /// each entry that a search looks at.
     pub fn of(alloc: Global, image: &'a Image, rsdp: u64) -> Result<WholeTables<'a>, AllocError>
         ensures { IfOk result (AreWholeTables image.now rsdp) }
     {
@@ -58,15 +57,15 @@ impl<'a> WholeTables<'a> {
         let madt_types = EntryTypes::madt(&madt);
         let srat = found(image, &slots, TableKind::Srat);
         let srat_types = EntryTypes::srat(&srat);
+        let pptt = found(image, &slots, TableKind::Pptt);
+        let noted = NotedTables::of(alloc, madt, srat, pptt)?;
         Ok(WholeTables {
             fadt: found(image, &slots, TableKind::Fadt),
             slit: found(image, &slots, TableKind::Slit),
-            pptt: found(image, &slots, TableKind::Pptt),
             root,
             slots,
-            madt,
+            noted,
             madt_types,
-            srat,
             srat_types,
         })
     }
@@ -75,14 +74,13 @@ impl<'a> WholeTables<'a> {
     pub fn table(&self, kind: TableKind) -> Option<Table<'a>>
         ensures { result ≡ table_of self.now kind }
     {
-        let place = match kind {
-            TableKind::Fadt => &self.fadt,
-            TableKind::Madt => &self.madt,
-            TableKind::Srat => &self.srat,
-            TableKind::Slit => &self.slit,
-            TableKind::Pptt => &self.pptt,
-        };
-        Some(place.as_ref()?.copied())
+        match kind {
+            TableKind::Fadt => Some(self.fadt.as_ref()?.copied()),
+            TableKind::Madt => self.noted.madt_table(),
+            TableKind::Srat => self.noted.srat_table(),
+            TableKind::Slit => Some(self.slit.as_ref()?.copied()),
+            TableKind::Pptt => self.noted.pptt_table(),
+        }
     }
 
     /// The FADT, if it has the 116 bytes that are always read.
@@ -93,23 +91,23 @@ impl<'a> WholeTables<'a> {
     }
 
     /// The MADT, if it has the 44 bytes of its fields.
-    pub fn madt(&self) -> Option<Madt<'a>>
-        ensures { IsLong 44 self.now.madt result }
+    pub fn madt(&self) -> Option<Madt<'_>>
+        ensures { IsLong 44 self.now.noted.madt result }
     {
-        Madt::new(self.table(TableKind::Madt)?)
+        self.noted.madt()
     }
 
     /// The SRAT, if it has the 48 bytes of its fields.
-    pub fn srat(&self) -> Option<Srat<'a>>
-        ensures { IsLong 48 self.now.srat result }
+    pub fn srat(&self) -> Option<Srat<'_>>
+        ensures { IsLong 48 self.now.noted.srat result }
     {
-        Srat::new(self.table(TableKind::Srat)?)
+        self.noted.srat()
     }
 
     /// The PPTT.
-    pub fn pptt(&self) -> Option<Pptt<'a>>
-        ensures { result ≡ self.now.pptt }
+    pub fn pptt(&self) -> Option<Pptt<'_>>
+        ensures { result ≡ self.now.noted.pptt }
     {
-        Some(Pptt::of(self.table(TableKind::Pptt)?))
+        self.noted.pptt()
     }
 }

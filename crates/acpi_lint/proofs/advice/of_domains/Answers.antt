@@ -16,12 +16,12 @@ OfSet r m q madt at other point = OfSrat m q (λ srat. DomainRule r madt srat at
 
 pub returns-in_default : goal.returns-in_default
 returns-in_default c = λ m q are.
-    none_madt m q (OfSet c.args.rule m q) c.args.tables.now.madt (are.listed kind.Madt) c.in_default.ensures
+    none_madt m q (OfSet c.args.rule m q) c.args.tables.now.noted.madt (are.listed kind.Madt) c.in_default.ensures
 
 pub returns-in_default-srat : goal.returns-in_default-srat
 returns-in_default-srat c = λ m q are.
     some_madt m q (OfSet c.args.rule m q) {E = ⊤} (Ok None) (are.listed kind.Madt) c.in-Some.ensures
-    (none_srat m q (DomainRule c.args.rule (madt_contents c.in-Some.madt)) c.args.tables.now.srat (are.listed kind.Srat)
+    (none_srat m q (DomainRule c.args.rule (madt_contents c.in-Some.madt)) c.args.tables.now.noted.srat (are.listed kind.Srat)
     c.in_default-srat.ensures)
 
 pub returns : goal.returns

@@ -9,7 +9,7 @@ use Rattle.acpi_lint.proofs.advice.of_madt.Goals as goal
 
 pub returns-in_default : goal.returns-in_default
 returns-in_default c = λ m q are.
-    none_madt m q (MadtRule c.args.rule) c.args.tables.now.madt (are.listed kind.Madt) c.in_default.ensures
+    none_madt m q (MadtRule c.args.rule) c.args.tables.now.noted.madt (are.listed kind.Madt) c.in_default.ensures
 
 pub returns-then-not-may_break_in_madt : goal.returns-then-not-may_break_in_madt
 returns-then-not-may_break_in_madt c = λ m q are.

@@ -9,7 +9,7 @@ use Rattle.acpi_lint.proofs.one_code.gsi_clash.Goals as goal
 
 pub returns-in_default : goal.returns-in_default
 returns-in_default c = λ m are.
-    no_gsi m c.args.policy.now c.args.tables.now.madt (are.listed kind.Madt) c.in_default.ensures
+    no_gsi m c.args.policy.now c.args.tables.now.noted.madt (are.listed kind.Madt) c.in_default.ensures
 
 pub returns-then-not-has : goal.returns-then-not-has
 returns-then-not-has c = λ m are.

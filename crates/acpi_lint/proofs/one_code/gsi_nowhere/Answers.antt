@@ -55,6 +55,6 @@ returns c = λ m are.
 pub returns-in_default : goal.returns-in_default
 returns-in_default c = λ m are.
     none_long m c.args.policy.now.rsdp madt_signature 44
-    (λ bytes. ServedFault c.args.policy.now (madt_contents bytes) code.GsiNowhere) c.args.tables.now.madt
+    (λ bytes. ServedFault c.args.policy.now (madt_contents bytes) code.GsiNowhere) c.args.tables.now.noted.madt
     (are.listed kind.Madt) c.in_default.ensures
     (λ whole less at other point (some, (e, stands, names), _, _). none_stands whole less at e stands)

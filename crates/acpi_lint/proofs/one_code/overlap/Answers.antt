@@ -9,7 +9,7 @@ use Rattle.acpi_lint.proofs.one_code.overlap.Goals as goal
 
 pub returns-in_default : goal.returns-in_default
 returns-in_default c = λ m are.
-    no_overlap m c.args.policy.now c.args.tables.now.srat (are.listed kind.Srat) c.in_default.ensures
+    no_overlap m c.args.policy.now c.args.tables.now.noted.srat (are.listed kind.Srat) c.in_default.ensures
 
 pub returns-then-not-has : goal.returns-then-not-has
 returns-then-not-has c = λ m are.

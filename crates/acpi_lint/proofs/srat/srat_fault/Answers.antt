@@ -15,7 +15,7 @@ returns-in_err-table c = λ m are.
 pub returns-then-not-may_be_at_fault_in_srat : goal.returns-then-not-may_be_at_fault_in_srat
 returns-then-not-may_be_at_fault_in_srat c = λ m are.
     let whole = c.in_ok-table.table in
-    let is : c.args.tables.now.srat ≡ Some whole = sym c.table.ensures ∙ c.in_ok-table.was in
+    let is : c.args.tables.now.noted.srat ≡ Some whole = sym c.table.ensures ∙ c.in_ok-table.was in
     of_found m c.args.policy.now.rsdp srat_signature
     (λ bytes at other point. SratFault (srat_contents bytes) c.args.code at other point) None (are.listed kind.Srat) is
     (c.may_be_at_fault_in_srat.ensures (srat_contents whole) (srat_seen c.args.tables.now whole are.typed is)
