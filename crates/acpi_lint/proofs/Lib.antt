@@ -17,6 +17,7 @@ mod LeastPlaces
 mod ListedAddresses
 mod MadtFaults
 mod NamedPlaces
+mod NotSearched
 mod OfSets
 mod OneCodes
 mod OnePlace

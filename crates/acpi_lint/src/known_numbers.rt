@@ -29,7 +29,11 @@ pub fn uids(alloc: Global, madt: &Madt<'_>) -> Result<Vec<u64>, AllocError>
     ensures { IfOk result (λ uids.
         AreKnown (IsNamed uid_of (madt_contents madt.now).entries) uids.items) }
 {
-    let numbers = collected(alloc, madt.entries(), |at| uid_of(&at.entry).map(u64::from))?;
+    let numbers = collected(
+        alloc,
+        madt.searched_entries(),
+        |at| uid_of(&at.entry).map(u64::from),
+    )?;
     Ok(sorted_unique(numbers))
 }
 
@@ -52,7 +56,7 @@ pub fn apic_ids(alloc: Global, madt: &Madt<'_>) -> Result<Vec<u64>, AllocError>
     ensures { IfOk result (λ ids.
         AreKnown (IsNamed apic_id_of (madt_contents madt.now).entries) ids.items) }
 {
-    let numbers = collected(alloc, madt.entries(), |at| {
+    let numbers = collected(alloc, madt.searched_entries(), |at| {
         apic_id_of(&at.entry).map(u64::from)
     })?;
     Ok(sorted_unique(numbers))
@@ -63,7 +67,7 @@ pub fn placed_apic_ids(alloc: Global, srat: &Srat<'_>) -> Result<Vec<u64>, Alloc
     ensures { IfOk result (λ ids.
         AreKnown (IsNamed placed_apic_id (srat_contents srat.now).entries) ids.items) }
 {
-    let numbers = collected(alloc, srat.entries(), |at| {
+    let numbers = collected(alloc, srat.searched_entries(), |at| {
         placed_apic_id(&at.entry).map(u64::from)
     })?;
     Ok(sorted_unique(numbers))
@@ -74,7 +78,7 @@ pub fn placed_uids(alloc: Global, srat: &Srat<'_>) -> Result<Vec<u64>, AllocErro
     ensures { IfOk result (λ uids.
         AreKnown (IsNamed placed_uid (srat_contents srat.now).entries) uids.items) }
 {
-    let numbers = collected(alloc, srat.entries(), |at| {
+    let numbers = collected(alloc, srat.searched_entries(), |at| {
         placed_uid(&at.entry).map(u64::from)
     })?;
     Ok(sorted_unique(numbers))
@@ -130,7 +134,7 @@ fn is_other_processor(entry: &MadtEntry<'_>) -> bool
 pub fn are_processors_read(madt: &Madt<'_>) -> bool
     ensures { IsTrue result ↔ AreProcessorsRead (madt_contents madt.now) }
 {
-    let other = first_picked(madt.entries(), |at| {
+    let other = first_picked(madt.searched_entries(), |at| {
         is_other_processor(&at.entry).then_some(())
     });
     other.is_none()
@@ -140,7 +144,7 @@ pub fn are_processors_read(madt: &Madt<'_>) -> bool
 pub fn is_any_on(madt: &Madt<'_>) -> bool
     ensures { IsTrue result ↔ IsAnyNamed uid_on (madt_contents madt.now).entries }
 {
-    let uid = first_picked(madt.entries(), |at| uid_on(&at.entry));
+    let uid = first_picked(madt.searched_entries(), |at| uid_on(&at.entry));
     uid.is_some()
 }
 
@@ -159,7 +163,7 @@ pub fn has_gicc(madt: &Madt<'_>) -> bool
     ensures { IsTrue result
         ↔ ((o : ℕ) × StandsWith (madt_contents madt.now).entries o IsGicc) }
 {
-    let gicc = first_picked(madt.entries(), |at| {
+    let gicc = first_picked(madt.searched_entries(), |at| {
         is_gicc_entry(&at.entry).then_some(())
     });
     gicc.is_some()
@@ -169,7 +173,7 @@ pub fn has_gicc(madt: &Madt<'_>) -> bool
 fn is_any_uid_placed(srat: &Srat<'_>) -> bool
     ensures { IsTrue result ↔ IsAnyNamed placed_uid (srat_contents srat.now).entries }
 {
-    let uid = first_picked(srat.entries(), |at| placed_uid(&at.entry));
+    let uid = first_picked(srat.searched_entries(), |at| placed_uid(&at.entry));
     uid.is_some()
 }
 
@@ -177,6 +181,6 @@ fn is_any_uid_placed(srat: &Srat<'_>) -> bool
 pub fn is_any_placed(srat: &Srat<'_>) -> bool
     ensures { IsTrue result ↔ IsAnyNamed processor_domain (srat_contents srat.now).entries }
 {
-    let domain = first_picked(srat.entries(), |at| processor_domain(&at.entry));
+    let domain = first_picked(srat.searched_entries(), |at| processor_domain(&at.entry));
     domain.is_some()
 }

@@ -1,6 +1,6 @@
 //! Codes 32 to 38: the MADT and its entries, each by itself (ACPI 6.5, 5.2.12).
 
-ghost use Rattle.std.specs.Prelude.{◌≡◌, ◌↔◌, ◌<◌, ◌+◌, ◌^◌, IsTrue};
+ghost use Rattle.std.specs.Prelude.{◌≡◌, ◌↔◌, ◌<◌, ◌+◌, ◌^◌, IsTrue, Some};
 ghost use Rattle.acpi_base.specs.Entries.{IsTypeOf, AreUnused};
 ghost use Rattle.acpi_base.specs.Madt.{madt_kinds, madt_contents, IsAddressOverride, IsReservedInti, HasReservedInti, MadtEntryFault, MadtFault};
 ghost use Rattle.acpi_base.specs.Memory.{Memory};
@@ -10,6 +10,7 @@ ghost use Rattle.acpi_base.specs.declared.stage.Stage.{Stage};
 ghost use Rattle.acpi_read.specs.Madts.{madt_value, IsWholeEntry};
 ghost use Rattle.acpi_read.specs.TypedEntries.{entry_at_value};
 ghost use Rattle.acpi_lint.specs.FirstPicked.{FindsOwn};
+ghost use Rattle.acpi_lint.specs.NotedTables.{IsLong};
 ghost use Rattle.acpi_lint.specs.MadtPlaces.{IsOwnFault, IsOwnFaultAt, IsOverrideHere, IsOverrideBehind};
 ghost use Rattle.acpi_lint.specs.Places.{FindsLeast};
 ghost use Rattle.acpi_lint.specs.StageFaults.{IsFaultOfStage};
@@ -79,11 +80,15 @@ fn own_place(policy: &Policy, code: Code, at: &EntryAt<MadtEntry<'_>>) -> Option
     has_fault(policy, code, &at.entry).then_some(Place::at(at.offset))
 }
 
-/// The place of the first entry of a MADT that has the fault with this code by itself.
+/// The place of the first entry of a MADT that has the fault with this code by itself. A search passes over those
+/// whose length is not that of their type, so for this fault all entries are looked at.
 fn first_own(policy: &Policy, code: Code, madt: &Madt<'_>) -> Option<Place>
     ensures { FindsLeast (IsOwnFaultAt policy.now code (madt_contents madt.now)) result }
 {
-    first_picked(madt.entries(), |at| own_place(policy, code, at))
+    if let Code::MadtEntryLength = code {
+        return first_picked(madt.entries(), |at| own_place(policy, code, at));
+    }
+    first_picked(madt.searched_entries(), |at| own_place(policy, code, at))
 }
 
 /// Whether an entry is an address override.
@@ -119,8 +124,8 @@ fn second_address_override(policy: &Policy, madt: &Madt<'_>) -> Option<Place>
     ensures { FindsLeast
         (MadtFault policy.now (madt_contents madt.now) Code.SecondAddressOverride) result }
 {
-    let first = first_picked(madt.entries(), override_place)?;
-    first_picked(madt.entries(), |at| second_place(first.at, at))
+    let first = first_picked(madt.searched_entries(), override_place)?;
+    first_picked(madt.searched_entries(), |at| second_place(first.at, at))
 }
 
 /// The cut of a MADT: the offset of the bytes after its entries, if there are any.
@@ -134,15 +139,22 @@ pub fn madt_cut(table: &Table<'_>) -> Option<u64>
     }
 }
 
-/// The place of a MADT's first fault with this code. None for a code of another stage.
-fn table_fault(policy: &Policy, code: Code, table: Table<'_>) -> Option<Place>
-    ensures { FindsLeast (MadtFault policy.now (madt_contents table.entry) code) result }
+/// The place of the first fault with this code of a MADT, which is also there as a view if it has the 44 bytes of its
+/// fields. None for a code of another stage.
+fn table_fault(
+    policy: &Policy,
+    code: Code,
+    table: &Table<'_>,
+    madt: Option<Madt<'_>>,
+) -> Option<Place>
+    requires { IsLong 44 (Some table.now) madt }
+    ensures { FindsLeast (MadtFault policy.now (madt_contents table.now) code) result }
 {
     match code {
-        Code::MadtShort => short_place(&table, Entries::MADT_START),
-        Code::MadtEntryCut => Some(Place::at(madt_cut(&table)?)),
-        Code::SecondAddressOverride => second_address_override(policy, &Madt::new(table)?),
-        _ => first_own(policy, code, &Madt::new(table)?),
+        Code::MadtShort => short_place(table, Entries::MADT_START),
+        Code::MadtEntryCut => Some(Place::at(madt_cut(table)?)),
+        Code::SecondAddressOverride => second_address_override(policy, &madt?),
+        _ => first_own(policy, code, &madt?),
     }
 }
 
@@ -156,5 +168,5 @@ pub fn madt_fault(tables: &WholeTables<'_>, policy: &Policy, code: Code) -> Opti
     if !may_be_at_fault_in_madt(code, &tables.madt_types) {
         return None;
     }
-    table_fault(policy, code, table)
+    table_fault(policy, code, &table, tables.madt())
 }

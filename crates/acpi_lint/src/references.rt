@@ -20,7 +20,7 @@ use crate::passes::first_picked;
 use crate::place::Place;
 use crate::whole_tables::WholeTables;
 use acpi_base::field::u32_at;
-use acpi_base::{Code, Policy, TableKind};
+use acpi_base::{Code, Policy};
 use acpi_check::{OffsetSet, collected};
 use acpi_read::{EntryAt, Pptt, PpttEntry};
 use std::alloc::{AllocError, Global};
@@ -57,7 +57,7 @@ fn linked_offset(link: Link, at: &EntryAt<PpttEntry<'_>>) -> Option<u64>
 fn linked_offsets(alloc: Global, link: Link, pptt: &Pptt<'_>) -> Result<OffsetSet, AllocError>
     ensures { IfOk result (AreOffsets (IsAt (Says (linked link) (pptt_contents pptt.now)))) }
 {
-    let offsets = collected(alloc, pptt.entries(), |at| linked_offset(link, at))?;
+    let offsets = collected(alloc, pptt.searched_entries(), |at| linked_offset(link, at))?;
     OffsetSet::of(alloc, &offsets)
 }
 
@@ -81,7 +81,10 @@ fn dangling_link(alloc: Global, link: Link, pptt: &Pptt<'_>) -> Result<Option<Pl
     ensures { IfOk result (FindsLeast (IsDanglingLink link (pptt_contents pptt.now))) }
 {
     let offsets = linked_offsets(alloc, link, pptt)?;
-    Ok(first_picked(pptt.entries(), |at| unlinked_place(link, &offsets, at)))
+    Ok(first_picked(
+        pptt.searched_entries(),
+        |at| unlinked_place(link, &offsets, at),
+    ))
 }
 
 /// Whether an entry may be a private resource: it has another type than a node, even one that is not read.
@@ -148,7 +151,7 @@ fn dangling_resource(alloc: Global, pptt: &Pptt<'_>) -> Result<Option<Place>, Al
         (ReferenceFault (pptt_contents pptt.now) Code.DanglingResource)) }
 {
     let offsets = resource_offsets(alloc, pptt)?;
-    Ok(first_picked(pptt.entries(), |at| missing_place(&offsets, at)))
+    Ok(first_picked(pptt.searched_entries(), |at| missing_place(&offsets, at)))
 }
 
 /// The place of the first fault with this code in the references of a PPTT's entries. None for a code of another
@@ -176,8 +179,8 @@ pub fn reference_fault(
     ensures { (m : Memory) → AreWholeTables m policy.now.rsdp tables.now
         → IfOk result (FindsLeast (IsFaultOfStage Stage.References code m policy.now)) }
 {
-    match tables.table(TableKind::Pptt) {
-        Some(table) => table_fault(alloc, code, &Pptt::of(table)),
+    match tables.pptt() {
+        Some(pptt) => table_fault(alloc, code, &pptt),
         None => Ok(None),
     }
 }

@@ -32,11 +32,15 @@ use std::alloc::{AllocError, Global};
 pub fn same_uid(alloc: Global, madt: &Madt<'_>) -> Result<Option<Place>, AllocError>
     ensures { IfOk result (FindsLeast (IsSameUid (madt_contents madt.now))) }
 {
-    let uids = collected(alloc, madt.entries(), |at| uid_on(&at.entry).map(u64::from))?;
+    let uids = collected(
+        alloc,
+        madt.searched_entries(),
+        |at| uid_on(&at.entry).map(u64::from),
+    )?;
     if are_unique(alloc, uids)? {
         return Ok(None);
     }
-    let numbers = collected(alloc, madt.entries(), |at| {
+    let numbers = collected(alloc, madt.searched_entries(), |at| {
         at_place(at.offset, uid_on(&at.entry))
     })?;
     first_repeated(alloc, numbers)
@@ -48,13 +52,13 @@ pub fn same_apic_id(alloc: Global, madt: &Madt<'_>) -> Result<Option<Place>, All
 {
     let ids = collected(
         alloc,
-        madt.entries(),
+        madt.searched_entries(),
         |at| apic_id_on(&at.entry).map(u64::from),
     )?;
     if are_unique(alloc, ids)? {
         return Ok(None);
     }
-    let numbers = collected(alloc, madt.entries(), |at| {
+    let numbers = collected(alloc, madt.searched_entries(), |at| {
         at_place(at.offset, apic_id_on(&at.entry))
     })?;
     first_repeated(alloc, numbers)
@@ -64,7 +68,7 @@ pub fn same_apic_id(alloc: Global, madt: &Madt<'_>) -> Result<Option<Place>, All
 pub fn same_io_apic_id(alloc: Global, madt: &Madt<'_>) -> Result<Option<Place>, AllocError>
     ensures { IfOk result (FindsLeast (IsSameIoApicId (madt_contents madt.now))) }
 {
-    let numbers = collected(alloc, madt.entries(), |at| {
+    let numbers = collected(alloc, madt.searched_entries(), |at| {
         at_place(at.offset, io_apic_id(&at.entry))
     })?;
     first_repeated(alloc, numbers)
@@ -84,13 +88,13 @@ pub fn same_io_apic_address(alloc: Global, madt: &Madt<'_>) -> Result<Option<Pla
 {
     let addresses = collected(
         alloc,
-        madt.entries(),
+        madt.searched_entries(),
         |at| nonzero_io_apic_address(&at.entry).map(u64::from),
     )?;
     if are_unique(alloc, addresses)? {
         return Ok(None);
     }
-    let numbers = collected(alloc, madt.entries(), |at| {
+    let numbers = collected(alloc, madt.searched_entries(), |at| {
         at_place(at.offset, nonzero_io_apic_address(&at.entry))
     })?;
     first_repeated(alloc, numbers)
@@ -109,7 +113,7 @@ pub fn same_cache_id(alloc: Global, pptt: &Pptt<'_>) -> Result<Option<Place>, Al
     if revision(pptt) < HAS_CACHE_IDS {
         return Ok(None);
     }
-    let numbers = collected(alloc, pptt.entries(), |at| {
+    let numbers = collected(alloc, pptt.searched_entries(), |at| {
         at_place(at.offset, cache_id(&at.entry))
     })?;
     first_repeated(alloc, numbers)
@@ -144,6 +148,6 @@ fn domain_of_uid(at: &EntryAt<SratEntry<'_>>) -> Option<Numbered>
 pub fn two_uid_domains(alloc: Global, srat: &Srat<'_>) -> Result<Option<Place>, AllocError>
     ensures { IfOk result (FindsLeast (IsTwoUidDomains (srat_contents srat.now))) }
 {
-    let domains = collected(alloc, srat.entries(), |at| domain_of_uid(at))?;
+    let domains = collected(alloc, srat.searched_entries(), |at| domain_of_uid(at))?;
     Ok(first_unlike(domains, Order::First))
 }

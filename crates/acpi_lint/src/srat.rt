@@ -1,6 +1,6 @@
 //! Codes 41 to 44: the SRAT and its entries, each by itself (ACPI 6.5, 5.2.16).
 
-ghost use Rattle.std.specs.Prelude.{◌≡◌, ◌↔◌, ◌<◌, ◌+◌, ◌^◌, IsTrue, true};
+ghost use Rattle.std.specs.Prelude.{◌≡◌, ◌↔◌, ◌<◌, ◌+◌, ◌^◌, IsTrue, Some, true};
 ghost use Rattle.acpi_base.specs.Entries.{IsTypeOf};
 ghost use Rattle.acpi_base.specs.Memory.{Memory};
 ghost use Rattle.acpi_base.specs.Srat.{srat_kinds, srat_contents, is_enabled, SratEntryFault, SratFault};
@@ -8,6 +8,7 @@ ghost use Rattle.acpi_base.specs.declared.stage.Stage.{Stage};
 ghost use Rattle.acpi_read.specs.Srats.{srat_value, IsWholeEntry};
 ghost use Rattle.acpi_read.specs.TypedEntries.{entry_at_value};
 ghost use Rattle.acpi_lint.specs.FirstPicked.{FindsOwn};
+ghost use Rattle.acpi_lint.specs.NotedTables.{IsLong};
 ghost use Rattle.acpi_lint.specs.SratPlaces.{IsOwnFault, IsOwnFaultAt};
 ghost use Rattle.acpi_lint.specs.Places.{FindsLeast};
 ghost use Rattle.acpi_lint.specs.StageFaults.{IsFaultOfStage};
@@ -63,11 +64,15 @@ fn own_place(code: Code, at: &EntryAt<SratEntry<'_>>) -> Option<Place>
     has_fault(code, &at.entry).then_some(Place::at(at.offset))
 }
 
-/// The place of the first entry of an SRAT that has the fault with this code by itself.
+/// The place of the first entry of an SRAT that has the fault with this code by itself. A search passes over those
+/// whose length is not that of their type, so for this fault all entries are looked at.
 fn first_own(code: Code, srat: &Srat<'_>) -> Option<Place>
     ensures { FindsLeast (IsOwnFaultAt code (srat_contents srat.now)) result }
 {
-    first_picked(srat.entries(), |at| own_place(code, at))
+    if let Code::SratEntryLength = code {
+        return first_picked(srat.entries(), |at| own_place(code, at));
+    }
+    first_picked(srat.searched_entries(), |at| own_place(code, at))
 }
 
 /// The cut of an SRAT: the offset of the bytes after its entries, if there are any.
@@ -81,14 +86,16 @@ fn srat_cut(table: &Table<'_>) -> Option<u64>
     }
 }
 
-/// The place of an SRAT's first fault with this code. None for a code of another stage.
-fn table_fault(code: Code, table: Table<'_>) -> Option<Place>
-    ensures { FindsLeast (SratFault (srat_contents table.entry) code) result }
+/// The place of the first fault with this code of an SRAT, which is also there as a view if it has the 48 bytes of its
+/// fields. None for a code of another stage.
+fn table_fault(code: Code, table: &Table<'_>, srat: Option<Srat<'_>>) -> Option<Place>
+    requires { IsLong 48 (Some table.now) srat }
+    ensures { FindsLeast (SratFault (srat_contents table.now) code) result }
 {
     match code {
-        Code::SratShort => short_place(&table, Entries::SRAT_START),
-        Code::SratEntryCut => Some(Place::at(srat_cut(&table)?)),
-        _ => first_own(code, &Srat::new(table)?),
+        Code::SratShort => short_place(table, Entries::SRAT_START),
+        Code::SratEntryCut => Some(Place::at(srat_cut(table)?)),
+        _ => first_own(code, &srat?),
     }
 }
 
@@ -102,5 +109,5 @@ pub fn srat_fault(tables: &WholeTables<'_>, policy: &Policy, code: Code) -> Opti
     if !may_be_at_fault_in_srat(code, &tables.srat_types) {
         return None;
     }
-    table_fault(code, table)
+    table_fault(code, &table, tables.srat())
 }

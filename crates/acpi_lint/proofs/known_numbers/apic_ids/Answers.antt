@@ -3,14 +3,17 @@ use Rattle.std.specs.Prelude.{⊤}
 use Rattle.acpi_base.specs.Lint.Processors.{apic_id_of}
 use Rattle.acpi_base.specs.Madt.{madt_contents}
 use Rattle.acpi_read.specs.Madts.{madt_value}
-use Rattle.acpi_check.proofs.EntryPasses.Collecting.{gathered_same}
 use Rattle.acpi_lint.proofs.KnownOnes.{are_known}
+use Rattle.acpi_read.specs.SearchedEntries.{searched_in_madt}
+use Rattle.acpi_lint.proofs.SearchedOnes.{collected_same}
+use Rattle.acpi_lint.proofs.NotSearched.{apic_id_of_none}
 use Rattle.acpi_lint.proofs.known_numbers.apic_ids.Goals as goal
 
 pub returns : goal.returns
 returns c =
     are_known apic_id_of (madt_contents c.args.madt.now).entries c.in_ok-numbers.numbers.items
     c.sorted_unique.result.items
-    (gathered_same {X = ⊤} madt_value (λ s. apic_id_of s.entry) _ (Ok c.in_ok-numbers.numbers) c.in_ok-numbers.ensures
-    c.entries.ensures.entries (λ at picked answers. search rules) (λ found is. is))
+    (collected_same {X = ⊤} madt_value (λ s. apic_id_of s.entry) searched_in_madt _ _ _ (Ok c.in_ok-numbers.numbers) c.in_ok-numbers.ensures
+    c.searched_entries.ensures
+    (λ s passed. apic_id_of_none s.entry passed) (λ at picked answers. search rules) (λ found is. is))
     c.sorted_unique.ensures.rise c.sorted_unique.ensures.same

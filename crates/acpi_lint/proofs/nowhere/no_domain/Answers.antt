@@ -1,4 +1,4 @@
-use Rattle.std.proofs.Common.{rules}
+use Rattle.std.proofs.Common.{rules, inl, inr}
 use Rattle.acpi_base.specs.Lint.Numbered.{IsNamed}
 use Rattle.acpi_base.specs.Lint.Processors.{apic_id_on, gicc_uid_on, placed_apic_id, placed_uid}
 use Rattle.acpi_base.specs.Madt.{madt_contents}
@@ -6,9 +6,11 @@ use Rattle.acpi_base.specs.Srat.{srat_contents}
 use Rattle.acpi_read.specs.Madts.{madt_value}
 use Rattle.acpi_check.proofs.EntryPasses.Kept.{madt_rising}
 use Rattle.acpi_lint.specs.UnknownNumbers.{IsUnplaced}
-use Rattle.acpi_lint.proofs.FirstEntries.{least_of_entries}
 use Rattle.acpi_lint.proofs.LeastPlaces.{least_as}
 use Rattle.acpi_lint.proofs.UnknownOnes.{unknown_of_two}
+use Rattle.acpi_read.specs.SearchedEntries.{searched_in_madt}
+use Rattle.acpi_lint.proofs.SearchedOnes.{least_same}
+use Rattle.acpi_lint.proofs.NotSearched.{no_number, apic_id_on_none, gicc_uid_on_none}
 use Rattle.acpi_lint.proofs.nowhere.no_domain.Goals as goal
 
 pub returns : goal.returns
@@ -26,5 +28,9 @@ returns c =
     uids found
     (rw (← c.as_slice-ids.ensures.value) at c.in_ok-ids.ensures)
     (let known = rw (← c.as_slice-uids.ensures.value) at c.in_ok-uids.ensures in λ n named. known.all n)
-    (least_of_entries madt_value (IsUnplaced ids uids) 44 found c.first_picked.ensures c.entries.ensures.entries
-    (madt_rising c.args.madt.now) (λ at picked here answers. search rules)))
+    (least_same madt_value (IsUnplaced ids uids) searched_in_madt 44 _ _ found c.first_picked.ensures c.searched_entries.ensures
+    (madt_rising c.args.madt.now)
+    (λ o e passed other point wrong. elim wrong [
+      | inl unknown ↦ no_number (apic_id_on_none e passed) unknown.0
+      | inr unknown ↦ no_number (gicc_uid_on_none e passed) unknown.0
+    ]) (λ at picked here answers. search rules)))

@@ -1,4 +1,4 @@
-use Rattle.std.proofs.Common.{Some, sym, ◌∙◌, ap}
+use Rattle.std.proofs.Common.{sym, ◌∙◌}
 use Rattle.acpi_base.specs.Listed.{pptt_signature}
 use Rattle.acpi_base.specs.Pptt.{pptt_contents, ReferenceFault}
 use Rattle.acpi_base.specs.declared.table_kind.TableKind.TheVariants as kind
@@ -12,10 +12,10 @@ returns-in-Some c = λ m are.
     (λ found least. of_found m c.args.policy.now.rsdp pptt_signature
     (λ bytes at other point. ReferenceFault (pptt_contents bytes) c.args.code at other point) found
     (are.listed kind.Pptt)
-    (sym c.table.ensures ∙ c.in-Some.is ∙ ap Some (sym c.of.ensures)) least) c.table_fault.ensures
+    (sym c.pptt.ensures ∙ c.in-Some.is) least) c.table_fault.ensures
 
 pub returns-in-None : goal.returns-in-None
 returns-in-None c = λ m are.
     of_not_found m c.args.policy.now.rsdp pptt_signature
     (λ bytes at other point. ReferenceFault (pptt_contents bytes) c.args.code at other point)
-    (are.listed kind.Pptt) (sym c.table.ensures ∙ c.in-None.is)
+    (are.listed kind.Pptt) (sym c.pptt.ensures ∙ c.in-None.is)

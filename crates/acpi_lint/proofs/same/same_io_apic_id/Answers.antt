@@ -2,18 +2,22 @@ use Rattle.std.proofs.Common.{rules, Ok}
 use Rattle.std.specs.Prelude.{⊤}
 use Rattle.acpi_base.specs.Lint.MadtAdvice.{io_apic_id}
 use Rattle.acpi_lint.proofs.CollectedNumbers.{madt_numbers, found_twice}
+use Rattle.acpi_read.specs.SearchedEntries.{searched_in_madt}
+use Rattle.acpi_lint.proofs.NotSearched.{io_apic_id_none}
 use Rattle.acpi_lint.proofs.same.same_io_apic_id.Goals as goal
 
 pub first_repeated-requires : goal.first_repeated-requires
 first_repeated-requires c =
     let are =
-    madt_numbers {X = ⊤} io_apic_id c.args.madt.now (Ok c.in_ok-numbers.numbers) c.in_ok-numbers.ensures
-    c.entries.ensures.entries (λ at picked answers. search rules) in
+    madt_numbers {X = ⊤} io_apic_id searched_in_madt c.args.madt.now _ (Ok c.in_ok-numbers.numbers) c.in_ok-numbers.ensures
+    c.searched_entries.ensures
+    io_apic_id_none (λ at picked answers. search rules) in
     record { rise = are.rise; placed = are.placed }
 
 pub returns : goal.returns
 returns c =
     found_twice c.in_ok-numbers.numbers.items c.first_repeated.result
-    (madt_numbers {X = ⊤} io_apic_id c.args.madt.now (Ok c.in_ok-numbers.numbers) c.in_ok-numbers.ensures
-    c.entries.ensures.entries (λ at picked answers. search rules))
+    (madt_numbers {X = ⊤} io_apic_id searched_in_madt c.args.madt.now _ (Ok c.in_ok-numbers.numbers) c.in_ok-numbers.ensures
+    c.searched_entries.ensures
+    io_apic_id_none (λ at picked answers. search rules))
     c.first_repeated.ensures
