@@ -1,5 +1,5 @@
--- Entries that a search passes over: they have none of the numbers that are read of entries, and none of the faults of their own
--- that are searched for.
+-- Entries that a search passes over: they have none of the numbers that are read of entries, and none of the faults of
+-- their own that are searched for.
 use Rattle.std.proofs.Common.{◌≡◌, ℕ, List, Option, None, Some, Bool, true, false, refl, sym, ◌∙◌, arith}
 use Rattle.std.specs.Prelude.{◌≢◌, slice_index, ◌==◌, ◌||◌, if◌then◌else◌}
 use Rattle.std.proofs.lemmas.Bool.Decides.{nat_tests}

@@ -129,6 +129,7 @@ impl<'a> Iterator for Entries<'a> {
 
     ghost remaining = { item_count (λ left. left.entries) };
 
+    #[inline(always)]
     fn next(&mut self) -> Option<Entry<'a>> {
         let bytes = entry_at(self.whole, self.offset)?;
         let offset = self.offset as u64;

@@ -13,7 +13,8 @@ pub returns : goal.returns
 returns c =
     are_known apic_id_of (madt_contents c.args.madt.now).entries c.in_ok-numbers.numbers.items
     c.sorted_unique.result.items
-    (collected_same {X = ⊤} madt_value (λ s. apic_id_of s.entry) searched_in_madt _ _ _ (Ok c.in_ok-numbers.numbers) c.in_ok-numbers.ensures
+    (collected_same {X = ⊤} madt_value (λ s. apic_id_of s.entry) searched_in_madt _ _ _ (Ok c.in_ok-numbers.numbers)
+    c.in_ok-numbers.ensures
     c.searched_entries.ensures
     (λ s passed. apic_id_of_none s.entry passed) (λ at picked answers. search rules) (λ found is. is))
     c.sorted_unique.ensures.rise c.sorted_unique.ensures.same

@@ -13,7 +13,8 @@ pub returns : goal.returns
 returns c =
     are_known placed_uid (srat_contents c.args.srat.now).entries c.in_ok-numbers.numbers.items
     c.sorted_unique.result.items
-    (collected_same {X = ⊤} srat_value (λ s. placed_uid s.entry) searched_in_srat _ _ _ (Ok c.in_ok-numbers.numbers) c.in_ok-numbers.ensures
+    (collected_same {X = ⊤} srat_value (λ s. placed_uid s.entry) searched_in_srat _ _ _ (Ok c.in_ok-numbers.numbers)
+    c.in_ok-numbers.ensures
     c.searched_entries.ensures
     (λ s passed. placed_uid_none s.entry passed) (λ at picked answers. search rules) (λ found is. is))
     c.sorted_unique.ensures.rise c.sorted_unique.ensures.same

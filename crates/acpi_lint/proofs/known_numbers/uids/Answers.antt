@@ -12,7 +12,8 @@ use Rattle.acpi_lint.proofs.known_numbers.uids.Goals as goal
 pub returns : goal.returns
 returns c =
     are_known uid_of (madt_contents c.args.madt.now).entries c.in_ok-numbers.numbers.items c.sorted_unique.result.items
-    (collected_same {X = ⊤} madt_value (λ s. uid_of s.entry) searched_in_madt _ _ _ (Ok c.in_ok-numbers.numbers) c.in_ok-numbers.ensures
+    (collected_same {X = ⊤} madt_value (λ s. uid_of s.entry) searched_in_madt _ _ _ (Ok c.in_ok-numbers.numbers)
+    c.in_ok-numbers.ensures
     c.searched_entries.ensures
     (λ s passed. uid_of_none s.entry passed) (λ at picked answers. search rules) (λ found is. is))
     c.sorted_unique.ensures.rise c.sorted_unique.ensures.same

@@ -22,7 +22,8 @@ returns-in_err-first c =
     let first : FindsLeast (IsFaultAt IsOverrideHere entries) c.first_picked.result =
     least_same madt_value IsOverrideHere searched_in_madt 44 _ _ c.first_picked.result c.first_picked.ensures
     c.searched_entries.ensures (madt_rising c.args.madt.now)
-    (λ o e passed other point (over, unused). no_address_override e passed over) (λ at picked here answers. search rules) in
+    (λ o e passed other point (over, unused). no_address_override e passed over) (λ at picked here answers. search
+    rules) in
     let none : c.from_residual.result ≡ None = search rules in
     rw none (no_two {IsAt = IsAt c.args.madt.now}
     (least_outside entries IsAddressOverride (λ at other point. AreUnused other point) None
@@ -35,7 +36,8 @@ returns c =
     let first : FindsLeast (IsFaultAt IsOverrideHere entries) c.first_picked.result =
     least_same madt_value IsOverrideHere searched_in_madt 44 _ _ c.first_picked.result c.first_picked.ensures
     c.searched_entries.ensures (madt_rising c.args.madt.now)
-    (λ o e passed other point (over, unused). no_address_override e passed over) (λ at picked here answers. search rules) in
+    (λ o e passed other point (over, unused). no_address_override e passed over) (λ at picked here answers. search
+    rules) in
     let behind : FindsLeast (IsFaultAt (IsOverrideBehind o) entries) c.first_picked-2.result =
     least_same madt_value (IsOverrideBehind o) searched_in_madt 44 _ _ c.first_picked-2.result c.first_picked-2.ensures
     c.searched_entries-2.ensures (madt_rising c.args.madt.now)

@@ -14,7 +14,8 @@ pub returns-in_err-madt-in-SecondAddressOverride : goal.returns-in_err-madt-in-S
 returns-in_err-madt-in-SecondAddressOverride c =
     let none : c.from_residual-in_err-madt-in-SecondAddressOverride.result ≡ None = search rules in
     rw (none, c.in-SecondAddressOverride.is)
-    (none_in_short_madt c.args.policy.now c.args.table.now (short 44 c.args.table.now c.in_err-madt-in-SecondAddressOverride.was c.requires)
+    (none_in_short_madt c.args.policy.now c.args.table.now (short 44 c.args.table.now
+    c.in_err-madt-in-SecondAddressOverride.was c.requires)
     code.SecondAddressOverride (λ same. omega (arith, ap code_number same)))
 
 pub returns-in_err-madt-in_default : goal.returns-in_err-madt-in_default
@@ -28,7 +29,8 @@ returns-in_err-madt-in_default c =
 pub returns-in_ok-madt-in-SecondAddressOverride : goal.returns-in_ok-madt-in-SecondAddressOverride
 returns-in_ok-madt-in-SecondAddressOverride c =
     rw c.in-SecondAddressOverride.is
-    (rw (whole_view 44 c.args.table.now _ c.in_ok-madt-in-SecondAddressOverride.was c.requires) at c.second_address_override.ensures)
+    (rw (whole_view 44 c.args.table.now _ c.in_ok-madt-in-SecondAddressOverride.was c.requires) at
+    c.second_address_override.ensures)
 
 pub returns-in_ok-madt-in_default : goal.returns-in_ok-madt-in_default
 returns-in_ok-madt-in_default c =

@@ -15,8 +15,10 @@ pub returns : goal.returns
 returns c =
     let IsPast = IsPastHere c.args.localities in
     let found : FindsLeast (IsFaultAt IsPast (srat_contents c.args.srat.now).entries) c.first_picked.result =
-    least_same srat_value IsPast searched_in_srat 48 _ _ c.first_picked.result c.first_picked.ensures c.searched_entries.ensures
+    least_same srat_value IsPast searched_in_srat 48 _ _ c.first_picked.result c.first_picked.ensures
+    c.searched_entries.ensures
     (srat_rising c.args.srat.now)
-    (λ o e passed other point wrong. no_number (any_domain_none e passed) wrong.0) (λ at picked here answers. search rules) in
+    (λ o e passed other point wrong. no_number (any_domain_none e passed) wrong.0) (λ at picked here answers. search
+    rules) in
     least_as c.first_picked.result (λ at other point (e, here, (is, past, count)). ((e, here, is), past, count))
     (λ at other point ((e, here, is), past, count). (e, here, (is, past, count))) found

@@ -27,7 +27,8 @@ OfMadt m q madt at other point = HasListed m q.rsdp srat_signature (λ srat. OfT
 pub returns-in_default : goal.returns-in_default
 returns-in_default c = λ m are.
     let q = c.args.policy.now in
-    none_long m q.rsdp madt_signature 44 (OfMadt m q) c.args.tables.now.noted.madt (are.listed kind.Madt) c.in_default.ensures
+    none_long m q.rsdp madt_signature 44 (OfMadt m q) c.args.tables.now.noted.madt (are.listed kind.Madt)
+    c.in_default.ensures
     (λ whole less at other point (srat, listed, fault).
     (let (o, (e, stands, enabled)) = fault.0 in madts.none_stands whole less o e stands))
 

@@ -12,7 +12,9 @@ pub returns : goal.returns
 returns c =
     same_places c.in_ok-offsets.offsets.items c.of.result
     (linked_there c.args.link c.args.pptt.now c.in_ok-offsets.offsets.items
-    (collected_same {X = ⊤} pptt_value (offset_where (is_linked c.args.link)) searched_in_pptt _ _ _ (Ok c.in_ok-offsets.offsets)
+    (collected_same {X = ⊤} pptt_value (offset_where (is_linked c.args.link)) searched_in_pptt _ _ _ (Ok
+    c.in_ok-offsets.offsets)
     c.in_ok-offsets.ensures c.searched_entries.ensures
-    (λ s passed. rw (is_linked_none c.args.link s.entry passed) refl) (λ at picked answers. search rules) (λ found is. is)))
+    (λ s passed. rw (is_linked_none c.args.link s.entry passed) refl) (λ at picked answers. search rules) (λ found is.
+    is)))
     (rw c.deref.ensures.value at c.of.ensures)

@@ -13,7 +13,8 @@ use Rattle.acpi_lint.proofs.same.same_apic_id.Goals as goal
 pub returns-then-branch : goal.returns-then-branch
 returns-then-branch c =
     none_later apic_id_on (madt_contents c.args.madt.now).entries c.in_ok-ids.ids.items
-    (collected_same {X = ⊤} madt_value (λ s. apic_id_on s.entry) searched_in_madt _ _ _ (Ok c.in_ok-ids.ids) c.in_ok-ids.ensures
+    (collected_same {X = ⊤} madt_value (λ s. apic_id_on s.entry) searched_in_madt _ _ _ (Ok c.in_ok-ids.ids)
+    c.in_ok-ids.ensures
     c.searched_entries.ensures
     (λ s passed. apic_id_on_none s.entry passed) (λ at picked answers. search rules) (λ found is. is))
     (c.in_ok-are_unique.ensures.0 c.if-branch.true)
@@ -21,7 +22,8 @@ returns-then-branch c =
 pub first_repeated-requires : goal.first_repeated-requires
 first_repeated-requires c =
     let are =
-    madt_numbers {X = ⊤} apic_id_on searched_in_madt c.args.madt.now _ (Ok c.in_ok-numbers.numbers) c.in_ok-numbers.ensures
+    madt_numbers {X = ⊤} apic_id_on searched_in_madt c.args.madt.now _ (Ok c.in_ok-numbers.numbers)
+    c.in_ok-numbers.ensures
     c.searched_entries-2.ensures
     apic_id_on_none (λ at picked answers. search rules) in
     record { rise = are.rise; placed = are.placed }
@@ -29,7 +31,8 @@ first_repeated-requires c =
 pub returns : goal.returns
 returns c =
     found_twice c.in_ok-numbers.numbers.items c.first_repeated.result
-    (madt_numbers {X = ⊤} apic_id_on searched_in_madt c.args.madt.now _ (Ok c.in_ok-numbers.numbers) c.in_ok-numbers.ensures
+    (madt_numbers {X = ⊤} apic_id_on searched_in_madt c.args.madt.now _ (Ok c.in_ok-numbers.numbers)
+    c.in_ok-numbers.ensures
     c.searched_entries-2.ensures
     apic_id_on_none (λ at picked answers. search rules))
     c.first_repeated.ensures

@@ -11,7 +11,8 @@ use Rattle.acpi_lint.proofs.same.same_cache_id.Goals as goal
 pub first_repeated-requires : goal.first_repeated-requires
 first_repeated-requires c =
     let are =
-    pptt_numbers {X = ⊤} cache_id searched_in_pptt c.args.pptt.now _ (Ok c.in_ok-numbers.numbers) c.in_ok-numbers.ensures
+    pptt_numbers {X = ⊤} cache_id searched_in_pptt c.args.pptt.now _ (Ok c.in_ok-numbers.numbers)
+    c.in_ok-numbers.ensures
     c.searched_entries.ensures
     cache_id_none (λ at picked answers. search rules) in
     record { rise = are.rise; placed = are.placed }
@@ -21,7 +22,8 @@ returns c =
     each_ok c.first_repeated.result (λ found. found_cache (pptt_contents c.args.pptt.now) found
     (omega (arith, c.if-revision-lt-HAS_CACHE_IDS.false, c.revision.ensures)))
     (found_twice c.in_ok-numbers.numbers.items c.first_repeated.result
-    (pptt_numbers {X = ⊤} cache_id searched_in_pptt c.args.pptt.now _ (Ok c.in_ok-numbers.numbers) c.in_ok-numbers.ensures
+    (pptt_numbers {X = ⊤} cache_id searched_in_pptt c.args.pptt.now _ (Ok c.in_ok-numbers.numbers)
+    c.in_ok-numbers.ensures
     c.searched_entries.ensures
     cache_id_none (λ at picked answers. search rules))
     c.first_repeated.ensures)

@@ -15,7 +15,8 @@ pub returns-then-branch : goal.returns-then-branch
 returns-then-branch c =
     found_address (madt_contents c.args.madt.now) None
     (none_later nonzero_io_apic_address (madt_contents c.args.madt.now).entries c.in_ok-addresses.addresses.items
-    (collected_same {X = ⊤} madt_value (λ s. nonzero_io_apic_address s.entry) searched_in_madt _ _ _ (Ok c.in_ok-addresses.addresses)
+    (collected_same {X = ⊤} madt_value (λ s. nonzero_io_apic_address s.entry) searched_in_madt _ _ _ (Ok
+    c.in_ok-addresses.addresses)
     c.in_ok-addresses.ensures c.searched_entries.ensures
     (λ s passed. nonzero_address_none s.entry passed) (λ at picked answers. search rules) (λ found is. is))
     (c.in_ok-are_unique.ensures.0 c.if-branch.true))
@@ -23,7 +24,8 @@ returns-then-branch c =
 pub first_repeated-requires : goal.first_repeated-requires
 first_repeated-requires c =
     let are =
-    madt_numbers {X = ⊤} nonzero_io_apic_address searched_in_madt c.args.madt.now _ (Ok c.in_ok-numbers.numbers) c.in_ok-numbers.ensures
+    madt_numbers {X = ⊤} nonzero_io_apic_address searched_in_madt c.args.madt.now _ (Ok c.in_ok-numbers.numbers)
+    c.in_ok-numbers.ensures
     c.searched_entries-2.ensures
     nonzero_address_none (λ at picked answers. search rules) in
     record { rise = are.rise; placed = are.placed }
@@ -32,7 +34,8 @@ pub returns : goal.returns
 returns c =
     each_ok c.first_repeated.result (λ found. found_address (madt_contents c.args.madt.now) found)
     (found_twice c.in_ok-numbers.numbers.items c.first_repeated.result
-    (madt_numbers {X = ⊤} nonzero_io_apic_address searched_in_madt c.args.madt.now _ (Ok c.in_ok-numbers.numbers) c.in_ok-numbers.ensures
+    (madt_numbers {X = ⊤} nonzero_io_apic_address searched_in_madt c.args.madt.now _ (Ok c.in_ok-numbers.numbers)
+    c.in_ok-numbers.ensures
     c.searched_entries-2.ensures
     nonzero_address_none (λ at picked answers. search rules))
     c.first_repeated.ensures)

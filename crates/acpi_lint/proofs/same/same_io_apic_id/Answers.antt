@@ -9,7 +9,8 @@ use Rattle.acpi_lint.proofs.same.same_io_apic_id.Goals as goal
 pub first_repeated-requires : goal.first_repeated-requires
 first_repeated-requires c =
     let are =
-    madt_numbers {X = ⊤} io_apic_id searched_in_madt c.args.madt.now _ (Ok c.in_ok-numbers.numbers) c.in_ok-numbers.ensures
+    madt_numbers {X = ⊤} io_apic_id searched_in_madt c.args.madt.now _ (Ok c.in_ok-numbers.numbers)
+    c.in_ok-numbers.ensures
     c.searched_entries.ensures
     io_apic_id_none (λ at picked answers. search rules) in
     record { rise = are.rise; placed = are.placed }
@@ -17,7 +18,8 @@ first_repeated-requires c =
 pub returns : goal.returns
 returns c =
     found_twice c.in_ok-numbers.numbers.items c.first_repeated.result
-    (madt_numbers {X = ⊤} io_apic_id searched_in_madt c.args.madt.now _ (Ok c.in_ok-numbers.numbers) c.in_ok-numbers.ensures
+    (madt_numbers {X = ⊤} io_apic_id searched_in_madt c.args.madt.now _ (Ok c.in_ok-numbers.numbers)
+    c.in_ok-numbers.ensures
     c.searched_entries.ensures
     io_apic_id_none (λ at picked answers. search rules))
     c.first_repeated.ensures

@@ -13,7 +13,8 @@ use Rattle.acpi_lint.proofs.same.same_uid.Goals as goal
 pub returns-then-branch : goal.returns-then-branch
 returns-then-branch c =
     none_later uid_on (madt_contents c.args.madt.now).entries c.in_ok-uids.uids.items
-    (collected_same {X = ⊤} madt_value (λ s. uid_on s.entry) searched_in_madt _ _ _ (Ok c.in_ok-uids.uids) c.in_ok-uids.ensures
+    (collected_same {X = ⊤} madt_value (λ s. uid_on s.entry) searched_in_madt _ _ _ (Ok c.in_ok-uids.uids)
+    c.in_ok-uids.ensures
     c.searched_entries.ensures
     (λ s passed. uid_on_none s.entry passed) (λ at picked answers. search rules) (λ found is. is))
     (c.in_ok-are_unique.ensures.0 c.if-branch.true)

@@ -13,7 +13,8 @@ pub returns : goal.returns
 returns c =
     found_domains (srat_contents c.args.srat.now) c.in_ok-domains.domains.items c.first_unlike.result
     (srat_ones c.args.srat.now)
-    (collected_same {X = ⊤} srat_value (λ s. domain_of_uid s.offset s.entry) searched_in_srat _ _ _ (Ok c.in_ok-domains.domains)
+    (collected_same {X = ⊤} srat_value (λ s. domain_of_uid s.offset s.entry) searched_in_srat _ _ _ (Ok
+    c.in_ok-domains.domains)
     c.in_ok-domains.ensures c.searched_entries.ensures
     (λ s passed. domain_of_uid_none s.offset s.entry passed) (λ at picked answers. search rules) (λ found is. is))
     c.first_unlike.ensures

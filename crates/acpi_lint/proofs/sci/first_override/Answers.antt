@@ -9,6 +9,8 @@ use Rattle.acpi_lint.proofs.sci.first_override.Goals as goal
 
 pub returns : goal.returns
 returns c =
-    least_same madt_value (IsOwnOverride c.args.source) searched_in_madt 44 _ _ c.first_picked.result c.first_picked.ensures
+    least_same madt_value (IsOwnOverride c.args.source) searched_in_madt 44 _ _ c.first_picked.result
+    c.first_picked.ensures
     c.searched_entries.ensures (madt_rising c.args.madt.now)
-    (λ o e passed other point. no_override c.args.source o e passed other point) (λ at picked here answers. search rules)
+    (λ o e passed other point. no_override c.args.source o e passed other point) (λ at picked here answers. search
+    rules)

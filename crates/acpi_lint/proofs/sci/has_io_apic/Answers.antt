@@ -9,6 +9,7 @@ use Rattle.acpi_lint.proofs.sci.has_io_apic.Goals as goal
 pub returns : goal.returns
 returns c =
     rw c.is_some.ensures
-    (some_same madt_value IsIoApic searched_in_madt _ _ c.first_picked.result c.first_picked.ensures c.searched_entries.ensures
+    (some_same madt_value IsIoApic searched_in_madt _ _ c.first_picked.result c.first_picked.ensures
+    c.searched_entries.ensures
     no_io_apic
     (λ at picked answers. search rules))
