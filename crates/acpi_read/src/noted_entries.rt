@@ -66,3 +66,6 @@ impl<'a> Iterator for NotedEntries<'a> {
         })
     }
 }
+
+#[cfg(test)]
+mod tests;

@@ -138,3 +138,15 @@ fn other_types_are_opaque_and_other_lengths_refused(rt: HostRuntime) {
     // The bytes of a Local APIC NMI, but with the length byte 8.
     assert!(rt; LocalNmi::read(&[0x04, 0x08, 0xa1, 0xb1, 0xb2, 0xc1]).is_none());
 }
+
+#[test]
+fn a_search_passes_over_opaque_entries_except_for_processors(rt: HostRuntime) {
+    let address = 0xa8a7_a6a5_a4a3_a2a1;
+    assert!(rt; MadtEntry::AddressOverride(AddressOverride { address }).is_searched());
+    for number in [7, 11, 17, 24] {
+        assert!(rt; MadtEntry::Opaque(&[number, 2]).is_searched());
+    }
+    for number in [0, 1, 9, 12, 0x80] {
+        assert!(rt; !MadtEntry::Opaque(&[number, 2]).is_searched());
+    }
+}

@@ -119,3 +119,10 @@ fn other_types_are_opaque_and_other_lengths_refused(rt: HostRuntime) {
         );
     }
 }
+
+#[test]
+fn a_search_passes_over_opaque_entries(rt: HostRuntime) {
+    for number in [0, 1, 2, 0x80] {
+        assert!(rt; !PpttEntry::Opaque(&[number, 2]).is_searched());
+    }
+}

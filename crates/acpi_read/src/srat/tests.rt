@@ -88,3 +88,11 @@ fn other_types_are_opaque_and_other_lengths_refused(rt: HostRuntime) {
     }
     assert!(rt; ApicDomain::read(&LONG[..16]).is_none());
 }
+
+#[test]
+fn a_search_passes_over_opaque_entries_except_for_gicc_affinities(rt: HostRuntime) {
+    assert!(rt; SratEntry::Opaque(&[3, 2]).is_searched());
+    for number in [0, 1, 2, 4, 0x80] {
+        assert!(rt; !SratEntry::Opaque(&[number, 2]).is_searched());
+    }
+}
