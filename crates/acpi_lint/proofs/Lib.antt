@@ -3,6 +3,7 @@ mod AdviceOfSets
 mod AnyEntries
 mod CacheShapes
 mod CollectedNumbers
+mod Distributors
 mod EntryKinds
 mod FacsSets
 mod FadtSets

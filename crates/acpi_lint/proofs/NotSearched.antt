@@ -7,7 +7,7 @@ use Rattle.std.proofs.lemmas.Option.{none-some}
 use Rattle.acpi_base.specs.Across.{IsIoApic}
 use Rattle.acpi_base.specs.Lint.MadtAdvice.{nmi_uid, io_apic_id, io_apic_address}
 use Rattle.acpi_base.specs.Lint.PpttAdvice.{cache_id}
-use Rattle.acpi_base.specs.Lint.Processors.{is_gicc, processor_of, uid_of, uid_on, apic_id_of, apic_id_on, gicc_uid_on, IsGicc, IsOtherProcessor, placed_apic_id, placed_uid, processor_domain, any_domain}
+use Rattle.acpi_base.specs.Lint.Processors.{processor_of, uid_of, uid_on, apic_id_of, apic_id_on, gicc_uid_on, IsGicc, IsOtherProcessor, placed_apic_id, placed_uid, processor_domain, any_domain}
 use Rattle.acpi_base.specs.Madt as madt
 use Rattle.acpi_base.specs.Policy.{PolicyValue}
 use Rattle.acpi_base.specs.Pptt as pptt

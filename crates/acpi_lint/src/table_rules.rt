@@ -46,7 +46,7 @@ pub fn madt_rule(alloc: Global, rule: Rule, madt: &Madt<'_>) -> Result<Option<Pl
         Rule::SameIoApicId => same_io_apic_id(alloc, madt),
         Rule::SameIoApicAddress => same_io_apic_address(alloc, madt),
         Rule::NmiNowhere => nmi_nowhere(alloc, madt),
-        Rule::SecondGicd => second_gicd(alloc, madt),
+        Rule::SecondGicd => Ok(second_gicd(madt)),
         Rule::NoProcessor => Ok(no_processor(madt)),
         Rule::MadtUnread => Ok(madt_unread(madt)),
         _ => Ok(None),

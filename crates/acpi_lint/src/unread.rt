@@ -1,7 +1,7 @@
 //! Rules on single entries of a table: an I/O APIC at the address 0, and entries that nothing reads. Also a second
 //! GIC distributor.
 
-ghost use Rattle.std.specs.Prelude.{◌≡◌, ◌≤◌, ◌↔◌, length, IfOk, IsTrue};
+ghost use Rattle.std.specs.Prelude.{◌≡◌, ◌≤◌, ◌↔◌, length, Some, IsTrue};
 ghost use Rattle.acpi_base.specs.Lint.MadtAdvice as madt_advice;
 ghost use Rattle.acpi_base.specs.Lint.MadtAdvice.{gicd, IsIoApicAtZero, IsMadtUnread, IsSecondGicd};
 ghost use Rattle.acpi_base.specs.Lint.SratAdvice as srat_advice;
@@ -14,16 +14,13 @@ ghost use Rattle.acpi_read.specs.Srats as srats;
 ghost use Rattle.acpi_read.specs.Srats.{srat_value};
 ghost use Rattle.acpi_read.specs.TypedEntries.{entry_at_value};
 ghost use Rattle.acpi_lint.specs.FirstPicked.{FindsOwn};
-ghost use Rattle.acpi_lint.specs.OwnAdvice.{IsZeroHere, IsMadtUnreadHere, IsSratUnreadHere};
+ghost use Rattle.acpi_lint.specs.OwnAdvice.{IsZeroHere, IsGicdHere, IsGicdBehind, IsMadtUnreadHere, IsSratUnreadHere};
 ghost use Rattle.acpi_lint.specs.Places.{FindsLeast};
 
-use crate::numbered::{at_place, first_repeated};
 use crate::passes::first_picked;
 use crate::place::Place;
 use crate::processors::{GICC, GICC_AFFINITY, GICC_AFFINITY_LEN, io_apic_address, is_gicc};
-use acpi_check::collected;
 use acpi_read::{EntryAt, Madt, MadtEntry, Srat, SratEntry};
-use std::alloc::{AllocError, Global};
 
 // ---- the MADT
 
@@ -45,24 +42,43 @@ pub fn io_apic_at_zero(madt: &Madt<'_>) -> Option<Place>
 /// The type of a GIC distributor (ACPI 6.5, 5.2.12.15).
 pub const GICD: u8 = 12;
 
-/// The number of a GIC distributor: all are given the number 0.
-fn gicd(entry: &MadtEntry<'_>) -> Option<u32>
-    ensures { result ≡ gicd (madt_value entry.now) }
+/// Whether an entry is a GIC distributor. All are given the number 0.
+fn is_gicd(entry: &MadtEntry<'_>) -> bool
+    ensures { IsTrue result ↔ (gicd (madt_value entry.now) ≡ Some 0) }
 {
     match entry {
-        MadtEntry::Opaque(bytes) if !bytes.is_empty() && bytes[0] == GICD => Some(0),
-        _ => None,
+        MadtEntry::Opaque(bytes) => bytes.first() == Some(&GICD),
+        _ => false,
     }
 }
 
-/// The second GIC distributor, with the first. Allocates for each.
-pub fn second_gicd(alloc: Global, madt: &Madt<'_>) -> Result<Option<Place>, AllocError>
-    ensures { IfOk result (FindsLeast (IsSecondGicd (madt_contents madt.now))) }
+/// The place of a GIC distributor.
+fn gicd_place(at: &EntryAt<MadtEntry<'_>>) -> Option<Place>
+    ensures { FindsOwn IsGicdHere (entry_at_value madt_value at.now) result }
 {
-    let distributors = collected(alloc, madt.entries(), |at| {
-        at_place(at.offset, gicd(&at.entry))
-    })?;
-    first_repeated(alloc, distributors)
+    is_gicd(&at.entry).then_some(Place::at(at.offset))
+}
+
+/// The place of a GIC distributor after the first one, which is at an offset.
+fn later_gicd(first: u64, at: &EntryAt<MadtEntry<'_>>) -> Option<Place>
+    ensures { FindsOwn (IsGicdBehind first) (entry_at_value madt_value at.now) result }
+{
+    if !is_gicd(&at.entry) || at.offset <= first {
+        return None;
+    }
+    Some(Place {
+        at: at.offset,
+        other: first,
+        point: 0,
+    })
+}
+
+/// The second GIC distributor, with the first.
+pub fn second_gicd(madt: &Madt<'_>) -> Option<Place>
+    ensures { FindsLeast (IsSecondGicd (madt_contents madt.now)) result }
+{
+    let first = first_picked(madt.entries(), gicd_place)?;
+    first_picked(madt.entries(), |at| later_gicd(first.at, at))
 }
 
 /// Whether neither the stages nor these rules read an entry with these bytes. An entry of a type that the stages read

@@ -1,5 +1,5 @@
 -- Entries at offsets that were noted: they are those of the table that a search looks at.
-use Rattle.std.proofs.Common.{◌≡◌, ℕ, zero, suc, ◌+◌, ◌<◌, ◌≤◌, List, [], ◌∷◌, length, drop, Option, Some, None, Bool, true, false, refl, sym, ◌∙◌, ap, subst, inl, inr, arith, length-drop}
+use Rattle.std.proofs.Common.{◌≡◌, ℕ, zero, suc, ◌+◌, ◌≤◌, List, [], ◌∷◌, length, drop, Option, Some, None, Bool, true, false, refl, ap, subst, inl, inr}
 use Rattle.std.specs.Prelude.{Contains, IfSome}
 use denote.Ref.{Bor}
 use Rattle.std.proofs.lemmas.List.{drop-drop}

@@ -1,4 +1,4 @@
-use Rattle.std.proofs.Common.{◌≡◌, ◌∷◌, ◌∙◌, ◌<◌, length, sym, ap, arith}
+use Rattle.std.proofs.Common.{◌∙◌, length, sym, ap, arith}
 use Rattle.acpi_base.proofs.EntrySteps as step
 use Rattle.acpi_read.specs.SearchedEntries.{noted_entries}
 use Rattle.acpi_read.proofs.SearchedEntries.{no_offsets, none_there, one_there}
