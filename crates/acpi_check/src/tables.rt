@@ -12,7 +12,7 @@ use acpi_base::{Code, Image, Witness};
 use acpi_read::{FirstTables, Listed, Root, Table};
 
 /// What slot k lists: its address, and the bytes from there on. None if there is no such slot or it is 0.
-fn listed_run<'a>(image: &'a Image, root: &Root<'_>, k: u32) -> Option<(u64, &'a [u8])>
+pub(crate) fn listed_run<'a>(image: &'a Image, root: &Root<'_>, k: u32) -> Option<(u64, &'a [u8])>
     ensures { IsListedRun image.now root.now k result }
 {
     if k >= root.slots() {

@@ -102,7 +102,15 @@ impl<'a> Table<'a> {
         requires { IsSoundTable image.now address }
         ensures { (header : List ℕ) × IsTable image.now address header result }
     {
-        let run = image.bytes_from(address);
+        Table::sound_run(image, address, image.bytes_from(address))
+    }
+
+    /// The same, if the bytes from the address on have been found already: those up to the first address without one.
+    pub fn sound_run(image: &'a Image, address: u64, run: &'a [u8]) -> Table<'a>
+        requires sound { IsSoundTable image.now address }
+        requires from { AreBytesFrom image.now address run.now }
+        ensures { (header : List ℕ) × IsTable image.now address header result }
+    {
         let length = u32_at(run, 4);
         let bytes = &run[..length as usize];
         Table { bytes }

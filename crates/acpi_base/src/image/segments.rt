@@ -188,12 +188,16 @@ impl Segments {
             (λ base. (address < base) × IsSome (lookup (runs_of self.now) base)
             × IsGap (runs_of self.now) address base) }
     {
+        // Nothing begins behind the last segment. So there is no search when bytes are appended.
+        if self.base <= address {
+            return None;
+        }
         let place = self.place(address);
         let ended = self.ended.pieces();
         if place < ended.len() {
             return Some(ended[place].0);
         }
-        if self.base > address && self.start < self.store.len() {
+        if self.start < self.store.len() {
             return Some(self.base);
         }
         None

@@ -1,8 +1,8 @@
 -- The bytes of a line and the lines of a run, one by one.
-use Rattle.std.proofs.Common.{◌≡◌, ℕ, suc, ◌+◌, ◌/◌, ◌<◌, ◌≤◌, List, [], ◌∷◌, ◌++◌, length, get_or, take, drop, refl, sym, ap, ◌∙◌, arith, append_assoc, length-append, length-drop, ◌⊎◌, inl, inr}
+use Rattle.std.proofs.Common.{◌≡◌, ℕ, suc, ◌+◌, ◌/◌, ◌<◌, ◌≤◌, List, [], ◌∷◌, ◌++◌, length, get_or, take, drop, set, refl, sym, ap, ◌∙◌, arith, append_assoc, length-append, length-drop, ◌⊎◌, inl, inr}
 use Rattle.std.specs.Prelude.{min}
 use Rattle.std.proofs.lemmas.Bool.{cases_lt}
-use Rattle.std.proofs.lemmas.List.{drop_more, drop_all, take_all, append-nil}
+use Rattle.std.proofs.lemmas.List.{drop_more, drop_all, drop-take, take_all, take_more_set, append-nil}
 use Rattle.acpi_base.specs.Text.WrittenText.{pair, spaced_pairs, row, rows, row_count, line_with_lf, text_of}
 
 pub spaced_more : (bs : List ℕ) (i b : ℕ) → i < length bs → b ≡ get_or bs i b
@@ -15,6 +15,22 @@ unfolding spaced_pairs
 spaced_all bs i h = ap spaced_pairs (drop_all i bs h)
 
 pub ruleset pairs = (spaced_more, spaced_all, append_assoc, append-nil)
+
+-- pairs without the first blank are a line
+without_blank : (bs : List ℕ) → 0 < length bs → drop 1 (spaced_pairs bs ++ 10 ∷ []) ≡ line_with_lf (row bs)
+unfolding spaced_pairs row
+without_blank [] some = absurd (omega arith)
+without_blank (b ∷ bs) some = refl
+
+-- what was made of a line, with its LF
+pub made_line : (bs made : List ℕ) (end n : ℕ) → 0 < length bs → end < length made → take end made ≡ spaced_pairs bs
+    → n ≡ end → take n (drop 1 (set made end 10)) ≡ line_with_lf (row bs)
+made_line bs made end n some fits is same =
+    let next : 1 + n ≡ end + 1 = omega arith in
+    sym (drop-take 1 n (set made end 10))
+    ∙ ap (λ (k : ℕ). drop 1 (take k (set made end 10))) next
+    ∙ ap (drop 1) (take_more_set made end 10 fits ∙ ap (λ (front : List ℕ). front ++ 10 ∷ []) is)
+    ∙ without_blank bs some
 
 -- ---- the lines of a run, one by one
 

@@ -1,8 +1,14 @@
-use Rattle.std.proofs.Common.{◌≡◌, ◌⊎◌, ◌≤◌, inl, inr, length, subst, ap, arith}
+use Rattle.std.proofs.Common.{◌≡◌, inl, inr, length, subst, ap, arith}
 use Rattle.acpi_base.specs.Image.Segments.{IsPartitionPoint}
-use Rattle.acpi_base.proofs.Images.Searches.{next_ended, next_open, no_next}
+use Rattle.acpi_base.proofs.Images.Searches.{all_before, next_ended, next_open, no_next}
 use Rattle.acpi_base.proofs.image.segments.Segments.next_base.Goals as goal
-use Rattle.acpi_base.proofs.image.segments.Segments.next_base.Goals.{else-self-address-via-then-self-address+else-self-len, else-self-address-via-else-self-address}
+
+pub returns-then-self-address-clause-none : goal.returns-then-self-address-clause-none
+returns-then-self-address-clause-none c = λ _.
+    let s = c.args.self.now in
+    let low = c.if-self-address.true in
+    no_next s.store s.ended s.base s.start c.args.address c.requires.sound c.requires.free
+    (all_before s.store s.ended s.base s.start c.args.address c.requires.sound low) (inl low)
 
 pub returns-then-place-ended-clause-some : goal.returns-then-place-ended-clause-some
 returns-then-place-ended-clause-some c =
@@ -23,8 +29,8 @@ returns-then-self-len-clause-some c =
     let s = c.args.self.now in
     let all : c.place-place.result ≡ length s.ended = omega arith in
     next_open s.store s.ended s.base s.start c.args.address c.requires.sound c.requires.free
-    (subst (IsPartitionPoint s.ended c.args.address) all c.place-place.ensures.place) c.if-self-address.true
-    (omega arith)
+    (subst (IsPartitionPoint s.ended c.args.address) all c.place-place.ensures.place)
+    (let behind = c.if-self-address.false in omega arith) (omega arith)
 
 pub returns-clause-none : goal.returns-clause-none
 returns-clause-none c = λ _.
@@ -33,10 +39,6 @@ returns-clause-none c = λ _.
     let within = c.place-place.ensures.within in
     let s = c.args.self.now in
     let all : c.place-place.result ≡ length s.ended = omega arith in
-    let past : (s.base ≤ c.args.address) ⊎ (length s.store ≤ s.start) = elim c.else-self-address.branch [
-      | else-self-address-via-then-self-address+else-self-len w ↦
-          inr (let no = w.if-self-len.false in let store = w.len.ensures in omega arith)
-      | else-self-address-via-else-self-address w ↦ inl w.if-self-address.false
-    ] in
     no_next s.store s.ended s.base s.start c.args.address c.requires.sound c.requires.free
-    (subst (IsPartitionPoint s.ended c.args.address) all c.place-place.ensures.place) past
+    (subst (IsPartitionPoint s.ended c.args.address) all c.place-place.ensures.place)
+    (inr (let no = c.if-self-len.false in let store = c.len.ensures in omega arith))
