@@ -52,8 +52,11 @@ pub(crate) fn listed_tables<'a>(
         (listed_addresses set.now.root.bytes set.now.root.width) (map table_of found.items)) }
 {
     let mut found = Vec::new(alloc);
+    let mut ahead = set.run(0);
     for slot in 0..set.root.slots() {
-        if let Some(listed) = set.table(slot) {
+        let run = ahead;
+        ahead = set.run(slot + 1);
+        if let Some(listed) = set.table_run(slot, run) {
             found.push(listed)?;
         }
     }

@@ -1,11 +1,9 @@
 //! The lines of the RSDP, of the root, and of its slots.
 
-ghost use Rattle.std.specs.Prelude.{◌<◌};
 ghost use Rattle.acpi_check.specs.HandedOn.{IsListedSet};
-ghost use Rattle.acpi_read.specs.Roots.{slots_of};
 
 use acpi_check::ListedSet;
-use acpi_read::Rsdp;
+use acpi_read::{Listed, Rsdp};
 use std::alloc::AllocError;
 use std::fmt::{self, Write};
 
@@ -26,25 +24,27 @@ pub fn add_root(text: &mut String, set: &ListedSet<'_>) -> Result<(), AllocError
     let slots = root.slots();
     write!(text, "root 0x{:x} {kind}", root.address())?;
     writeln!(text, " length {length} slots {slots}")?;
+    let mut ahead = set.run(0);
     for slot in 0..slots {
-        add_slot(text, set, slot)?;
+        let run = ahead;
+        ahead = set.run(slot + 1);
+        add_slot(text, slot, set.table_run(slot, run))?;
     }
     Ok(())
 }
 
 /// Adds the line of a slot of the root, `slot K ADDRESS SIGNATURE length N revision N`, or `slot K empty`.
-fn add_slot(text: &mut String, set: &ListedSet<'_>, slot: u32) -> Result<(), AllocError>
-    requires set { IsListedSet set.now }
-    requires inside { slot < slots_of set.now.root }
-{
-    let Some(listed) = set.table(slot) else {
+fn add_slot(text: &mut String, slot: u32, listed: Option<Listed<'_>>) -> Result<(), AllocError> {
+    let Some(Listed { address, table }) = listed else {
         return writeln!(text, "slot {slot} empty");
     };
-    let header = listed.table.header();
+    let header = table.header();
     let signature = Signature(header.signature);
-    write!(text, "slot {slot} 0x{:x} {signature}", listed.address)?;
-    write!(text, " length {}", header.length)?;
-    writeln!(text, " revision {}", header.revision)
+    let (length, revision) = (header.length, header.revision);
+    writeln!(
+        text,
+        "slot {slot} 0x{address:x} {signature} length {length} revision {revision}"
+    )
 }
 
 /// A signature as four characters: printable ASCII, 0x20 to 0x7e, as it is, any other byte as a dot.
