@@ -2,6 +2,7 @@
 
 mod entries;
 mod fadt;
+mod fields;
 mod listed;
 mod madt;
 mod pptt;

@@ -45,12 +45,16 @@ fn first_from(segments: &Segments, address: u64) -> Option<u64>
     Some(u64::MAX)
 }
 
-/// The first run from an address on.
-fn next_run(segments: &Segments, address: u64) -> Option<(u64, &[u8])>
+/// The first run from an address on. There is no search if `count` runs are before the address, and another one is not the
+/// last.
+fn next_run(segments: &Segments, address: u64, count: usize) -> Option<(u64, &[u8])>
     requires { IsSound segments.now }
     ensures { MatchOption result (IsEmptyFrom (memory_in segments.now) address)
         (λ found. IsNextRun (memory_in segments.now) address found.0 found.1.now) }
 {
+    if let Some((base, bytes)) = segments.next_ended(address, count) {
+        return Some((base, bytes));
+    }
     let base = first_from(segments, address)?;
     Some((base, rest_from(segments, base)))
 }
@@ -66,11 +70,11 @@ impl Image {
     }
 
     /// The first run of bytes from an address on, up to the next address without a byte: its first address, and its bytes.
-    /// Takes no memory.
-    pub(crate) fn run_from(&self, address: u64) -> Option<(u64, &[u8])>
+    /// Takes no memory. Whoever goes over all runs passes how many there were before the address, which saves the search.
+    pub(crate) fn run_from(&self, address: u64, count: usize) -> Option<(u64, &[u8])>
         ensures { MatchOption result (IsEmptyFrom self.now address)
             (λ found. IsNextRun self.now address found.0 found.1.now) }
     {
-        next_run(&self.segments, address)
+        next_run(&self.segments, address, count)
     }
 }

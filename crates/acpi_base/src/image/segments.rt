@@ -3,7 +3,7 @@
 //! There is an address without a byte between two segments. All bytes are in one store. The last segment is open: it has
 //! the store's bytes from `start` on, so bytes that follow it are appended. If it is empty, none is open.
 
-ghost use Rattle.std.specs.Prelude.{◌≡◌, ◌+◌, ◌-◌, ◌^◌, ◌<◌, ◌≤◌, ℕ, None, IfSome, IsSome, OnOk, OnErr, IfOk, MatchOption, length, take, drop};
+ghost use Rattle.std.specs.Prelude.{◌≡◌, ◌+◌, ◌-◌, ◌^◌, ◌<◌, ◌≤◌, ℕ, true, None, IfSome, IsSome, OnOk, OnErr, IfOk, MatchOption, length, take, drop};
 ghost use Rattle.std.specs.Option.{option_map, option_or};
 ghost use Rattle.std.specs.List.{AllByRecursion};
 ghost use Rattle.std.specs.FinMap.{empty};
@@ -11,7 +11,7 @@ ghost use Rattle.acpi_base.specs.Memory.{run_of, least_defined, first_held, with
 ghost use Rattle.acpi_base.specs.Number.{byte_sum};
 ghost use Rattle.acpi_base.specs.Image.Runs.{lookup, run_at};
 ghost use Rattle.acpi_base.specs.Image.Pieces.{LiesBefore, AreSortedDisjoint, end_at, memory_in_store, run_in, runs_in};
-ghost use Rattle.acpi_base.specs.Image.Segments.{AreSegments, IsGap, IsPartitionPoint, IsRunAt, IsSound, end_in, memory_in, runs_of};
+ghost use Rattle.acpi_base.specs.Image.Segments.{AreSegments, IsBetween, IsGap, IsPartitionPoint, IsRunAt, IsSound, end_in, memory_in, runs_of};
 
 use super::ended::EndedPieces;
 use super::prefix_sums::PrefixSums;
@@ -219,6 +219,38 @@ impl Segments {
         } else {
             None
         }
+    }
+
+    /// Whether an address is behind this many of the ended segments, and before the next of them.
+    fn is_between(&self, address: u64, count: usize) -> bool
+        ensures { result ≡ true → IsBetween self.now.ended address count }
+    {
+        let ended = self.ended.pieces();
+        if count >= ended.len() || address >= ended[count].0 {
+            return false;
+        }
+        if count == 0 {
+            return true;
+        }
+        let (base, span) = ended[count - 1];
+        base <= address && span.len as u64 <= address - base
+    }
+
+    /// The next segment behind an address, if this many of the ended ones are before it and another ended one behind it.
+    /// There is no search.
+    pub fn next_ended(&self, address: u64, count: usize) -> Option<(u64, &[u8])>
+        requires { IsSound self.now }
+        ensures next { IfSome result
+            (λ next. (address < next.0) × IsSome (lookup (runs_of self.now) next.0)
+            × IsGap (runs_of self.now) address next.0) }
+        ensures reached { IfSome result
+            (λ next. IsRunAt (runs_of self.now) next.0 (run_at next.0 next.1.now)) }
+    {
+        if !self.is_between(address, count) {
+            return None;
+        }
+        let (base, span) = self.ended.pieces()[count];
+        Some((base, span.bytes(self.store.bytes())))
     }
 
     /// Ends the open segment, unless bytes from `base` on follow it.

@@ -1,11 +1,12 @@
 //! The lines of the entries of the MADT, the SRAT and the PPTT.
 
-use crate::show::madt::write_madt_entry;
-use crate::show::pptt::write_pptt_entry;
-use crate::show::srat::write_srat_entry;
+use crate::show::fields::{add_decimal, add_hex};
+use crate::show::madt::add_madt_entry;
+use crate::show::pptt::add_pptt_entry;
+use crate::show::srat::add_srat_entry;
 use acpi_read::{Entries, Entry};
 use std::alloc::AllocError;
-use std::fmt::{self, Write};
+use std::fmt::Write;
 
 /// The tables that are cut into entries.
 #[derive(Clone, Copy)]
@@ -22,7 +23,14 @@ pub fn add_entries(
     mut entries: Entries<'_>,
 ) -> Result<(), AllocError> {
     while let Some(entry) = entries.next() {
-        writeln!(text, "{}", EntryLine { owner, entry })?;
+        add_hex(text, "", entry.offset)?;
+        text.push(' ')?;
+        match owner {
+            Owner::Madt => add_madt_entry(text, &entry)?,
+            Owner::Srat => add_srat_entry(text, &entry)?,
+            Owner::Pptt => add_pptt_entry(text, &entry)?,
+        }
+        text.push('\n')?;
     }
     match entries.cut() {
         Some(offset) => writeln!(text, "0x{offset:x} cut"),
@@ -30,25 +38,8 @@ pub fn add_entries(
     }
 }
 
-/// `OFFSET` and what the entry says.
-#[derive(Clone, Copy)]
-struct EntryLine<'a> {
-    owner: Owner,
-    entry: Entry<'a>,
-}
-
-impl fmt::Display for EntryLine<'_> {
-    fn fmt<W: fmt::Write>(&self, f: &mut fmt::Formatter<W>) -> fmt::Result {
-        write!(f, "0x{:x} ", self.entry.offset)?;
-        match self.owner {
-            Owner::Madt => write_madt_entry(f, &self.entry),
-            Owner::Srat => write_srat_entry(f, &self.entry),
-            Owner::Pptt => write_pptt_entry(f, &self.entry),
-        }
-    }
-}
-
-/// `entry type N length N`: an entry of a type that is not shown, or with a length that its type does not have.
-pub fn write_other<W: fmt::Write>(f: &mut fmt::Formatter<W>, entry: &Entry<'_>) -> fmt::Result {
-    write!(f, "entry type {} length {}", entry.bytes[0], entry.bytes[1])
+/// Adds `entry type N length N`: an entry of a type that is not shown, or with a length that its type does not have.
+pub fn add_other(text: &mut String, entry: &Entry<'_>) -> Result<(), AllocError> {
+    add_decimal(text, "entry type ", entry.bytes[0])?;
+    add_decimal(text, " length ", entry.bytes[1])
 }

@@ -1,6 +1,7 @@
 //! The lines of the MADT.
 
-use crate::show::entries::{Owner, add_entries, write_other};
+use crate::show::entries::{Owner, add_entries, add_other};
+use crate::show::fields::{add_decimal, add_hex};
 use crate::show::listed::{Unread, add_unread};
 use acpi_base::field::u32_at;
 use acpi_read::{
@@ -8,7 +9,7 @@ use acpi_read::{
     MadtEntry, NmiSource, Override, TableEntry, X2apic, X2apicNmi,
 };
 use std::alloc::AllocError;
-use std::fmt::{self, Write};
+use std::fmt::Write;
 
 /// Adds the lines of the MADT: `madt ADDRESS lapic ADDRESS flags FLAGS`, with the address of the local APICs, and those of
 /// its entries.
@@ -27,61 +28,67 @@ pub fn add_madt(text: &mut String, listed: &Listed<'_>) -> Result<(), AllocError
     add_entries(text, Owner::Madt, entries)
 }
 
-/// What an entry of the MADT says.
-pub fn write_madt_entry<W: fmt::Write>(
-    f: &mut fmt::Formatter<W>,
-    entry: &Entry<'_>,
-) -> fmt::Result {
+/// Adds what an entry of the MADT says.
+pub fn add_madt_entry(text: &mut String, entry: &Entry<'_>) -> Result<(), AllocError> {
     match MadtEntry::of(entry.bytes) {
-        MadtEntry::LocalApic(apic) => write_local_apic(f, apic),
-        MadtEntry::IoApic(apic) => write_io_apic(f, apic),
-        MadtEntry::Override(isa) => write_override(f, isa),
-        MadtEntry::NmiSource(nmi) => write_nmi_source(f, nmi),
-        MadtEntry::LocalNmi(nmi) => write_local_nmi(f, nmi),
-        MadtEntry::AddressOverride(apics) => write!(f, "lapic-address 0x{:x}", apics.address),
-        MadtEntry::X2apic(apic) => write_x2apic(f, apic),
-        MadtEntry::X2apicNmi(nmi) => write_x2apic_nmi(f, nmi),
-        MadtEntry::Opaque(_) => write_other(f, entry),
+        MadtEntry::LocalApic(apic) => add_local_apic(text, apic),
+        MadtEntry::IoApic(apic) => add_io_apic(text, apic),
+        MadtEntry::Override(isa) => add_override(text, isa),
+        MadtEntry::NmiSource(nmi) => add_nmi_source(text, nmi),
+        MadtEntry::LocalNmi(nmi) => add_local_nmi(text, nmi),
+        MadtEntry::AddressOverride(apics) => add_hex(text, "lapic-address ", apics.address),
+        MadtEntry::X2apic(apic) => add_x2apic(text, apic),
+        MadtEntry::X2apicNmi(nmi) => add_x2apic_nmi(text, nmi),
+        MadtEntry::Opaque(_) => add_other(text, entry),
     }
 }
 
-/// `lapic uid N id N flags FLAGS`.
-fn write_local_apic<W: fmt::Write>(f: &mut fmt::Formatter<W>, apic: LocalApic) -> fmt::Result {
-    write!(f, "lapic uid {} id {}", apic.uid, apic.apic_id)?;
-    write!(f, " flags 0x{:x}", apic.flags)
+/// Adds `lapic uid N id N flags FLAGS`.
+fn add_local_apic(text: &mut String, apic: LocalApic) -> Result<(), AllocError> {
+    add_decimal(text, "lapic uid ", apic.uid)?;
+    add_decimal(text, " id ", apic.apic_id)?;
+    add_hex(text, " flags ", apic.flags)
 }
 
-/// `ioapic id N address ADDRESS base N`.
-fn write_io_apic<W: fmt::Write>(f: &mut fmt::Formatter<W>, apic: IoApic) -> fmt::Result {
-    write!(f, "ioapic id {} address 0x{:x}", apic.id, apic.address)?;
-    write!(f, " base {}", apic.gsi_base)
+/// Adds `ioapic id N address ADDRESS base N`.
+fn add_io_apic(text: &mut String, apic: IoApic) -> Result<(), AllocError> {
+    add_decimal(text, "ioapic id ", apic.id)?;
+    add_hex(text, " address ", apic.address)?;
+    add_decimal(text, " base ", apic.gsi_base)
 }
 
-/// `override source N gsi N flags FLAGS`.
-fn write_override<W: fmt::Write>(f: &mut fmt::Formatter<W>, isa: Override) -> fmt::Result {
-    write!(f, "override source {} gsi {}", isa.source, isa.gsi)?;
-    write!(f, " flags 0x{:x}", isa.flags)
+/// Adds `override source N gsi N flags FLAGS`.
+fn add_override(text: &mut String, isa: Override) -> Result<(), AllocError> {
+    add_decimal(text, "override source ", isa.source)?;
+    add_decimal(text, " gsi ", isa.gsi)?;
+    add_hex(text, " flags ", isa.flags)
 }
 
-/// `nmi gsi N flags FLAGS`.
-fn write_nmi_source<W: fmt::Write>(f: &mut fmt::Formatter<W>, nmi: NmiSource) -> fmt::Result {
-    write!(f, "nmi gsi {} flags 0x{:x}", nmi.gsi, nmi.flags)
+/// Adds `nmi gsi N flags FLAGS`.
+fn add_nmi_source(text: &mut String, nmi: NmiSource) -> Result<(), AllocError> {
+    add_decimal(text, "nmi gsi ", nmi.gsi)?;
+    add_hex(text, " flags ", nmi.flags)
 }
 
-/// `lapic-nmi uid N flags FLAGS lint N`.
-fn write_local_nmi<W: fmt::Write>(f: &mut fmt::Formatter<W>, nmi: LocalNmi) -> fmt::Result {
+/// Adds `lapic-nmi uid N flags FLAGS lint N`.
+fn add_local_nmi(text: &mut String, nmi: LocalNmi) -> Result<(), AllocError> {
     let LocalNmi { uid, flags, lint } = nmi;
-    write!(f, "lapic-nmi uid {uid} flags 0x{flags:x} lint {lint}")
+    add_decimal(text, "lapic-nmi uid ", uid)?;
+    add_hex(text, " flags ", flags)?;
+    add_decimal(text, " lint ", lint)
 }
 
-/// `x2apic uid N id N flags FLAGS`.
-fn write_x2apic<W: fmt::Write>(f: &mut fmt::Formatter<W>, apic: X2apic) -> fmt::Result {
-    write!(f, "x2apic uid {} id {}", apic.uid, apic.x2apic_id)?;
-    write!(f, " flags 0x{:x}", apic.flags)
+/// Adds `x2apic uid N id N flags FLAGS`.
+fn add_x2apic(text: &mut String, apic: X2apic) -> Result<(), AllocError> {
+    add_decimal(text, "x2apic uid ", apic.uid)?;
+    add_decimal(text, " id ", apic.x2apic_id)?;
+    add_hex(text, " flags ", apic.flags)
 }
 
-/// `x2apic-nmi uid N flags FLAGS lint N`.
-fn write_x2apic_nmi<W: fmt::Write>(f: &mut fmt::Formatter<W>, nmi: X2apicNmi) -> fmt::Result {
+/// Adds `x2apic-nmi uid N flags FLAGS lint N`.
+fn add_x2apic_nmi(text: &mut String, nmi: X2apicNmi) -> Result<(), AllocError> {
     let X2apicNmi { flags, uid, lint } = nmi;
-    write!(f, "x2apic-nmi uid {uid} flags 0x{flags:x} lint {lint}")
+    add_decimal(text, "x2apic-nmi uid ", uid)?;
+    add_hex(text, " flags ", flags)?;
+    add_decimal(text, " lint ", lint)
 }

@@ -2,11 +2,12 @@
 
 ghost use Rattle.std.specs.Prelude.{◌≡◌, ◌*◌, length};
 
-use crate::show::entries::{Owner, add_entries, write_other};
+use crate::show::entries::{Owner, add_entries, add_other};
+use crate::show::fields::{add_decimal, add_hex};
 use acpi_base::field::u32_at;
 use acpi_read::{Cache24, Cache28, Entries, Entry, Listed, NodeHead, PpttEntry, TableEntry};
 use std::alloc::AllocError;
-use std::fmt::{self, Write};
+use std::fmt::Write;
 
 /// Adds the lines of the PPTT: `pptt ADDRESS`, and those of its entries.
 pub fn add_pptt(text: &mut String, listed: &Listed<'_>) -> Result<(), AllocError> {
@@ -16,50 +17,43 @@ pub fn add_pptt(text: &mut String, listed: &Listed<'_>) -> Result<(), AllocError
     add_entries(text, Owner::Pptt, Entries::pptt(table))
 }
 
-/// What an entry of the PPTT says.
-pub fn write_pptt_entry<W: fmt::Write>(
-    f: &mut fmt::Formatter<W>,
-    entry: &Entry<'_>,
-) -> fmt::Result {
+/// Adds what an entry of the PPTT says.
+pub fn add_pptt_entry(text: &mut String, entry: &Entry<'_>) -> Result<(), AllocError> {
     match PpttEntry::of(entry.bytes) {
-        PpttEntry::Node(head, references) => write_node(f, head, references),
-        PpttEntry::Cache24(cache) => write_cache24(f, cache),
-        PpttEntry::Cache28(cache) => write_cache28(f, cache),
-        PpttEntry::Opaque(_) => write_other(f, entry),
+        PpttEntry::Node(head, references) => add_node(text, head, references),
+        PpttEntry::Cache24(cache) => add_cache24(text, cache),
+        PpttEntry::Cache28(cache) => add_cache28(text, cache),
+        PpttEntry::Opaque(_) => add_other(text, entry),
     }
 }
 
-/// `node flags FLAGS parent OFFSET id N resources OFFSET ..`.
-fn write_node<W: fmt::Write>(
-    f: &mut fmt::Formatter<W>,
-    head: NodeHead,
-    references: &[u8],
-) -> fmt::Result
+/// Adds `node flags FLAGS parent OFFSET id N resources OFFSET ..`.
+fn add_node(text: &mut String, head: NodeHead, references: &[u8]) -> Result<(), AllocError>
     requires { length references.now ≡ 4 * head.count }
 {
-    write!(
-        f,
-        "node flags 0x{:x} parent 0x{:x} id {} resources",
-        head.flags, head.parent, head.id
-    )?;
+    add_hex(text, "node flags ", head.flags)?;
+    add_hex(text, " parent ", head.parent)?;
+    add_decimal(text, " id ", head.id)?;
+    text.push_str(" resources")?;
     for k in 0..head.count as usize {
-        write!(f, " 0x{:x}", u32_at(references, 4 * k))?;
+        add_hex(text, " ", u32_at(references, 4 * k))?;
     }
     Ok(())
 }
 
-/// `cache flags FLAGS next OFFSET size N sets N ways N attributes FLAGS line N`: one of 24 bytes.
-fn write_cache24<W: fmt::Write>(f: &mut fmt::Formatter<W>, cache: Cache24) -> fmt::Result {
-    write!(f, "cache flags 0x{:x}", cache.flags)?;
-    write!(f, " next 0x{:x}", cache.next_level)?;
-    write!(f, " size {} sets {}", cache.size, cache.sets)?;
-    write!(f, " ways {}", cache.associativity)?;
-    write!(f, " attributes 0x{:x}", cache.attributes)?;
-    write!(f, " line {}", cache.line_size)
+/// Adds `cache flags FLAGS next OFFSET size N sets N ways N attributes FLAGS line N`: one of 24 bytes.
+fn add_cache24(text: &mut String, cache: Cache24) -> Result<(), AllocError> {
+    add_hex(text, "cache flags ", cache.flags)?;
+    add_hex(text, " next ", cache.next_level)?;
+    add_decimal(text, " size ", cache.size)?;
+    add_decimal(text, " sets ", cache.sets)?;
+    add_decimal(text, " ways ", cache.associativity)?;
+    add_hex(text, " attributes ", cache.attributes)?;
+    add_decimal(text, " line ", cache.line_size)
 }
 
-/// The same and `id N`: one of 28 bytes.
-fn write_cache28<W: fmt::Write>(f: &mut fmt::Formatter<W>, cache: Cache28) -> fmt::Result {
+/// Adds the same and `id N`: one of 28 bytes.
+fn add_cache28(text: &mut String, cache: Cache28) -> Result<(), AllocError> {
     let fields = Cache24 {
         flags: cache.flags,
         next_level: cache.next_level,
@@ -69,6 +63,6 @@ fn write_cache28<W: fmt::Write>(f: &mut fmt::Formatter<W>, cache: Cache28) -> fm
         attributes: cache.attributes,
         line_size: cache.line_size,
     };
-    write_cache24(f, fields)?;
-    write!(f, " id {}", cache.id)
+    add_cache24(text, fields)?;
+    add_decimal(text, " id ", cache.id)
 }

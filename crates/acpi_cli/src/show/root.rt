@@ -2,10 +2,11 @@
 
 ghost use Rattle.acpi_check.specs.HandedOn.{IsListedSet};
 
+use crate::show::fields::{add_decimal, add_hex};
 use acpi_check::ListedSet;
 use acpi_read::{Listed, Rsdp};
 use std::alloc::AllocError;
-use std::fmt::{self, Write};
+use std::fmt::Write;
 
 /// Adds `rsdp ADDRESS revision N`.
 pub fn add_rsdp(text: &mut String, rsdp: &Rsdp) -> Result<(), AllocError> {
@@ -39,24 +40,20 @@ fn add_slot(text: &mut String, slot: u32, listed: Option<Listed<'_>>) -> Result<
         return writeln!(text, "slot {slot} empty");
     };
     let header = table.header();
-    let signature = Signature(header.signature);
-    let (length, revision) = (header.length, header.revision);
-    writeln!(
-        text,
-        "slot {slot} 0x{address:x} {signature} length {length} revision {revision}"
-    )
+    add_decimal(text, "slot ", slot)?;
+    add_hex(text, " ", address)?;
+    text.push(' ')?;
+    add_signature(text, header.signature)?;
+    add_decimal(text, " length ", header.length)?;
+    add_decimal(text, " revision ", header.revision)?;
+    text.push('\n')
 }
 
-/// A signature as four characters: printable ASCII, 0x20 to 0x7e, as it is, any other byte as a dot.
-#[derive(Clone, Copy)]
-struct Signature([u8; 4]);
-
-impl fmt::Display for Signature {
-    fn fmt<W: fmt::Write>(&self, f: &mut fmt::Formatter<W>) -> fmt::Result {
-        for byte in self.0 {
-            let is_printed = byte == b' ' || byte.is_ascii_graphic();
-            f.write_char(if is_printed { char::from(byte) } else { '.' })?;
-        }
-        Ok(())
+/// Adds a signature as four characters: printable ASCII, 0x20 to 0x7e, as it is, any other byte as a dot.
+fn add_signature(text: &mut String, signature: [u8; 4]) -> Result<(), AllocError> {
+    for byte in signature {
+        let is_printed = byte == b' ' || byte.is_ascii_graphic();
+        text.push(if is_printed { char::from(byte) } else { '.' })?;
     }
+    Ok(())
 }

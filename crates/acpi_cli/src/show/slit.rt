@@ -2,6 +2,7 @@
 
 ghost use Rattle.std.specs.Prelude.{◌<◌};
 
+use crate::show::fields::add_decimal;
 use crate::show::listed::{Unread, add_unread};
 use acpi_base::Code;
 use acpi_read::{Listed, Slit};
@@ -37,7 +38,7 @@ fn add_row(text: &mut String, slit: &Slit<'_>, row: u32) -> Result<(), AllocErro
 {
     write!(text, "row {row}")?;
     for column in 0..slit.count() {
-        write!(text, " {}", slit.distance(row, column))?;
+        add_decimal(text, " ", slit.distance(row, column))?;
     }
     writeln!(text)
 }

@@ -1,10 +1,11 @@
 //! The lines of the SRAT.
 
-use crate::show::entries::{Owner, add_entries, write_other};
+use crate::show::entries::{Owner, add_entries, add_other};
+use crate::show::fields::{add_decimal, add_hex};
 use crate::show::listed::{Unread, add_unread};
 use acpi_read::{Entries, Entry, Listed, MemoryRange, SratEntry, TableEntry};
 use std::alloc::AllocError;
-use std::fmt::{self, Write};
+use std::fmt::Write;
 
 /// Adds the lines of the SRAT: `srat ADDRESS`, and those of its entries.
 pub fn add_srat(text: &mut String, listed: &Listed<'_>) -> Result<(), AllocError> {
@@ -17,36 +18,32 @@ pub fn add_srat(text: &mut String, listed: &Listed<'_>) -> Result<(), AllocError
     add_entries(text, Owner::Srat, entries)
 }
 
-/// What an entry of the SRAT says.
-pub fn write_srat_entry<W: fmt::Write>(
-    f: &mut fmt::Formatter<W>,
-    entry: &Entry<'_>,
-) -> fmt::Result {
+/// Adds what an entry of the SRAT says.
+pub fn add_srat_entry(text: &mut String, entry: &Entry<'_>) -> Result<(), AllocError> {
     match SratEntry::of(entry.bytes) {
-        SratEntry::ApicDomain(cpu) => write_processor(
-            f,
+        SratEntry::ApicDomain(cpu) => add_processor(
+            text,
             u32::from(cpu.apic_id),
             cpu.domain,
             cpu.flags,
         ),
-        SratEntry::MemoryRange(range) => write_memory_range(f, range),
-        SratEntry::X2apicDomain(cpu) => write_processor(f, cpu.x2apic_id, cpu.domain, cpu.flags),
-        SratEntry::Opaque(_) => write_other(f, entry),
+        SratEntry::MemoryRange(range) => add_memory_range(text, range),
+        SratEntry::X2apicDomain(cpu) => add_processor(text, cpu.x2apic_id, cpu.domain, cpu.flags),
+        SratEntry::Opaque(_) => add_other(text, entry),
     }
 }
 
-/// `cpu id N domain N flags FLAGS`: a processor by the ID of its local APIC or its local x2APIC.
-fn write_processor<W: fmt::Write>(
-    f: &mut fmt::Formatter<W>,
-    id: u32,
-    domain: u32,
-    flags: u32,
-) -> fmt::Result {
-    write!(f, "cpu id {id} domain {domain} flags 0x{flags:x}")
+/// Adds `cpu id N domain N flags FLAGS`: a processor by the ID of its local APIC or its local x2APIC.
+fn add_processor(text: &mut String, id: u32, domain: u32, flags: u32) -> Result<(), AllocError> {
+    add_decimal(text, "cpu id ", id)?;
+    add_decimal(text, " domain ", domain)?;
+    add_hex(text, " flags ", flags)
 }
 
 /// `memory domain N base ADDRESS length N flags FLAGS`, the length in hex.
-fn write_memory_range<W: fmt::Write>(f: &mut fmt::Formatter<W>, range: MemoryRange) -> fmt::Result {
-    write!(f, "memory domain {} base 0x{:x}", range.domain, range.base)?;
-    write!(f, " length 0x{:x} flags 0x{:x}", range.size, range.flags)
+fn add_memory_range(text: &mut String, range: MemoryRange) -> Result<(), AllocError> {
+    add_decimal(text, "memory domain ", range.domain)?;
+    add_hex(text, " base ", range.base)?;
+    add_hex(text, " length ", range.size)?;
+    add_hex(text, " flags ", range.flags)
 }

@@ -4,9 +4,9 @@ use Rattle.std.specs.Prelude.{nat_lt}
 use Rattle.std.proofs.lemmas.Bool.{cases_lt}
 use Rattle.std.proofs.lemmas.Bool.Decides.{nat_tests}
 use Rattle.std.proofs.lemmas.List.{get_or-drop}
-use Rattle.acpi_base.specs.Image.Segments.{IsRunAt}
+use Rattle.acpi_base.specs.Image.Segments.{IsGap, IsRunAt}
 use Rattle.acpi_base.specs.Memory.{Memory, byte_of, run_of, least_defined, IsImage}
-use Rattle.acpi_base.specs.Image.Runs.{Run, end_of, lookup, memory_of}
+use Rattle.acpi_base.specs.Image.Runs.{Run, run_at, end_of, lookup, memory_of}
 use Rattle.acpi_base.specs.Text.WrittenText.{IsEmptyFrom, IsFirstFrom, IsNextRun}
 use Rattle.acpi_base.proofs.Images.RunBytes.{held_none, held_at, byte_of_memory_of}
 use Rattle.acpi_base.proofs.Images.Searches.{nothing_held}
@@ -129,3 +129,18 @@ next_of rs a base bytes first held none = record {
   held = (λ i. run_of (λ x. byte_of_memory_of rs x i) base (length bytes)) ∙ held;
   none_behind = byte_of_memory_of rs (base + length bytes) ∙ none;
 }
+
+-- the same where the run was found behind an address without a byte
+pub next_behind : (rs : List Run) (a base : ℕ) (bytes : List ℕ)
+    → (a < base) × IsSome (lookup rs base) × IsGap rs a base
+    → IsRunAt rs base (run_at base bytes) → IsNextRun (memory_of rs) a base bytes
+next_behind rs a base bytes behind reached =
+    let none : base - base ≡ 0 = omega arith in
+    let all : bytes ≡ drop (base - base) bytes = ap (λ (n : ℕ). drop n bytes) (sym none) in
+    let first : IsFirstFrom (memory_of rs) a base = record {
+      from_there = (let low = behind.0 in omega arith);
+      none_before = λ x l m. byte_of_memory_of rs x ∙ behind.2 x l m;
+      held = ap is_some (byte_of_memory_of rs base) ∙ behind.1;
+    } in
+    next_of rs a base bytes first (rest_held rs base (run_at base bytes) bytes reached all)
+    (rest_ends rs base (run_at base bytes) bytes reached all)
