@@ -25,18 +25,28 @@ pub struct ListedSet<'a> {
 }
 
 impl<'a> ListedSet<'a> {
-    /// What a slot of the root table lists: its address, and the bytes from there on. Slots are counted from 0. None if there
-    /// is no such slot or it is 0.
+    /// The table that a slot of the root table lists; slots are counted from 0. None if the slot is 0. Its bytes are
+    /// not summed again.
+    pub fn table(&self, slot: u32) -> Option<Listed<'a>>
+        requires set { IsListedSet self.now }
+        requires inside { slot < slots_of self.now.root }
+        ensures none { IsNone result
+            → field self.now.root.bytes (36 + self.now.root.width * slot) self.now.root.width ≡ 0 }
+        ensures some { IfSome result (IsListedIn self.now slot) }
+    {
+        self.table_run(slot, self.run(slot))
+    }
+
+    /// What a slot of the root table lists: its address, and the bytes from there on. None if there is no such slot or it
+    /// is 0.
     pub fn run(&self, slot: u32) -> Option<(u64, &'a [u8])>
         ensures { IsListedRun self.now.image.now self.now.root slot result }
     {
         listed_run(self.image, &self.root, slot)
     }
 
-    /// The table that a slot lists, where `run` is what the slot lists. None if the slot is 0. Its bytes are not summed again.
-    ///
-    /// Whoever goes over the slots finds what the next slot lists before this one's table is read, so that the processor waits
-    /// for the memory of both at a time.
+    /// The same as `table`, if what the slot lists has been found already. Whoever goes over all slots finds what the next
+    /// one lists before this one's table is read, so that the processor waits for the memory of both at a time.
     pub fn table_run(&self, slot: u32, run: Option<(u64, &'a [u8])>) -> Option<Listed<'a>>
         requires set { IsListedSet self.now }
         requires inside { slot < slots_of self.now.root }

@@ -1,6 +1,6 @@
-use Rattle.std.proofs.Common.{◌≡◌, ◌+◌, ◌-◌, ◌*◌, ◌<◌, ◌++◌, ◌∙◌, List, ℕ, length, take, sym, ap, arith}
+use Rattle.std.proofs.Common.{◌≡◌, ◌+◌, ◌-◌, ◌++◌, ◌∙◌, List, ℕ, take, sym, ap, arith}
 use Rattle.std.proofs.lemmas.List.{append-nil}
-use Rattle.acpi_base.specs.Text.WrittenText.{spaced_pairs, row, line_with_lf}
+use Rattle.acpi_base.specs.Text.WrittenText.{spaced_pairs}
 use Rattle.acpi_base.proofs.Texts.Written.Rows.{made_line, spaced_all}
 use Rattle.acpi_base.proofs.text.written_text.write_row.Goals as goal
 
