@@ -10,7 +10,8 @@ empty : (whole : List ℕ) (d k : ℕ) → 36 + d * (k + 1) ≤ length whole →
     → field whole (36 + d * k) d ≡ 0
 empty whole d k inside none = elim (cases_eq (field whole (36 + d * k) d) 0) [
   | inl zero ↦ zero
-  | inr listed ↦ absurd (none (field whole (36 + d * k) d) (record { inside = inside; address = refl; listed = listed }))
+  | inr listed ↦
+      absurd (none (field whole (36 + d * k) d) (record { inside = inside; address = refl; listed = listed }))
 ]
 
 -- the slot lists the address of what was found
