@@ -59,6 +59,8 @@ ORDERS = {
     "holes-last": (lambda size: size, lambda count: [*range(0, count, 2), *range(1, count, 2)]),
     "rising-far": (lambda size: 256, range),
     "shuffled-far": (lambda size: 256, shuffled),
+    "bad-apart": (lambda size: 2 * size, lambda count: bad_order(count)),
+    "rising-but-one": (lambda size: 2 * size, lambda count: [*range(1, count), 0]),
 }
 
 
@@ -518,22 +520,33 @@ def bad_order(count):
     return numbers
 
 
-def io_apics_in_a_bad_order(count):
-    """I/O APICs, none of which has the number or the address of another one, and an override."""
-    entries = (io_apic(number, 0xA0000000 + number) for number in bad_order(count))
+def last_repeated(numbers):
+    """The numbers below an even count, the last one of which repeats the one that is next to it in size."""
+    return [*numbers[:-1], numbers[-1] ^ 1]
+
+
+def io_apics_of(numbers):
+    """I/O APICs with an address for each number, and an override."""
+    entries = (io_apic(number, 0xA0000000 + number) for number in numbers)
     return set_of([madt(*entries, override(0))], text=rows_text)
 
 
-def x2apics_in_a_bad_order(count):
+def x2apics_of(numbers):
     """Processors, an NMI of the first of them, an affinity and a leaf of it, and two affinities of a processor that is not there."""
+    count = len(numbers)
     local_nmi = struct.pack("<BBHI4x", 10, 12, 0, 0)
     absent = struct.pack("<BBHIIIII", 2, 24, 0, 65, count, 1, 0, 0)
     tables = [
-        madt(*map(x2apic, bad_order(count)), local_nmi),
+        madt(*map(x2apic, numbers), local_nmi),
         srat(x2apic_affinity(0), x2apic_affinity(count), absent),
         pptt(node(0, flags=0b1010)),
     ]
     return set_of(tables, text=rows_text)
+
+
+def slots_of(numbers):
+    """Slots with an address for each number, none of which has a byte."""
+    return pieces_text([(0x10000000, rsdt([LISTED_AT + number for number in numbers]))])
 
 
 SHAPES = {
@@ -542,8 +555,11 @@ SHAPES = {
     "shared-entries": shared_entries,
     "resources-among-short-entries": resources_among_short_entries,
     "chain-in-no-order": chain_in_no_order,
-    "io-apics-in-a-bad-order": io_apics_in_a_bad_order,
-    "x2apics-in-a-bad-order": x2apics_in_a_bad_order,
+    "io-apics-in-a-bad-order": lambda count: io_apics_of(bad_order(count)),
+    "io-apics-last-repeated": lambda count: io_apics_of(last_repeated(bad_order(count))),
+    "x2apics-in-a-bad-order": lambda count: x2apics_of(bad_order(count)),
+    "x2apics-last-repeated": lambda count: x2apics_of(last_repeated(bad_order(count))),
+    "slots-in-a-bad-order": lambda count: slots_of(bad_order(count)),
     "io-apics-with-counts": io_apics_with_counts,
 }
 

@@ -17,6 +17,7 @@ use crate::refusal::Refusal;
 use crate::search::binary_search;
 use crate::srat::is_enabled;
 use acpi_base::{Code, Processors, Witness};
+use acpi_graph::sort_any_order;
 use acpi_read::{Madt, Srat, SratEntry};
 use std::alloc::{AllocError, Global};
 
@@ -127,7 +128,7 @@ pub fn one_domain(
         (DomainFault processors (madt_contents madt.now) (srat_contents srat.now)) result }
 {
     let mut placements = placements_of(alloc, srat)?;
-    placements.sort_unstable();
+    sort_any_order(&mut placements);
     if do_agree(&placements) {
         return Ok(());
     }

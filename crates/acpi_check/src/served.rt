@@ -136,7 +136,7 @@ pub fn named_served(alloc: Global, policy: &Policy, madt: &Madt<'_>) -> Result<(
     }
     let mut named = all_named(alloc, madt)?;
     sort_any_order(&mut ranges);
-    named.sort_unstable();
+    sort_any_order(&mut named);
     match first_unserved(&ranges, &named) {
         None => Ok(()),
         Some(first) => Err(Refusal::Fault(Witness {

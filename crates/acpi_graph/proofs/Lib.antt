@@ -6,4 +6,5 @@ pub mod ReturnsWithin
 pub mod SortedSpans
 mod ApartSpans
 mod FirstOverlap
+mod SortedTwice
 mod Walks

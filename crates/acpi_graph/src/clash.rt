@@ -3,6 +3,7 @@
 ghost use Rattle.std.specs.Prelude.{◌≡◌, ◌+◌, ◌-◌, ◌<◌, ◌≤◌, ◌↔◌, IsTrue, IsOk, IfOk, AllPairs, length, vec_len};
 ghost use Rattle.acpi_graph.specs.Spans.{NamesDiffer, IsClear, ComesBefore, IfAt, IsFirstClash};
 
+use crate::sorting::sort_any_order;
 use crate::span::Span;
 use std::alloc::{AllocError, Global};
 
@@ -34,7 +35,7 @@ pub fn first_clash(alloc: Global, mut spans: Vec<Span>) -> Result<(Clash, usize)
     ensures first { IfOk result (λ found. IfAt found.0 (IsFirstClash spans.items)) }
     ensures comparisons { IfOk result (λ found. found.1 ≤ vec_len spans - 1) }
 {
-    spans.sort_unstable();
+    sort_any_order(&mut spans);
     Ok(first_overlap(&spans))
 }
 

@@ -35,6 +35,7 @@
 
 mod apart;
 mod clash;
+mod mixing;
 mod sorting;
 mod span;
 mod stray;
@@ -43,6 +44,6 @@ mod tests;
 
 pub use apart::first_meeting;
 pub use clash::{Clash, first_clash};
-pub use sorting::sort_any_order;
+pub use sorting::{sort_any_order, sort_any_order_by_key};
 pub use span::{CompactSpan, Span};
 pub use stray::{Stray, first_stray};

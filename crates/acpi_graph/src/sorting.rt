@@ -1,21 +1,33 @@
 //! Sorting, in a time that no order of the items makes much longer.
 
-ghost use Rattle.std.specs.Prelude.{◌≡◌, IsPermutation, IsSorted, vec_len};
+ghost use Rattle.std.specs.Prelude.{◌≡◌, vec_len};
+ghost use Rattle.std.specs.List.Sorted.{IsPermutation, IsSorted, IsSortedByKeyClosure};
 
-/// Sorts items that come in any order. Whoever writes an image chooses the order of its entries, and there are orders
-/// for which `sort_unstable` leaves the items to a heap sort, which takes about 10 times as long as for another order.
-/// `sort` leaves them to a merge sort, which does not.
-///
-/// Its buffer, as long as the items, is freed at the end. Up to 20 items, and those that rise already, need none. If
-/// there is no memory for it, the items are sorted in place by `sort_unstable`: so this never runs out of memory.
+use crate::mixing::mix;
+
+/// Sorts items that come in any order.
 pub fn sort_any_order<T: Ord>(items: &mut Vec<T>)
     ensures permutation { IsPermutation items.old.items items.new.items }
     ensures len { vec_len items.new ≡ vec_len items.old }
     ensures sorted { IsSorted T.cmp items.new.items }
 {
-    if items.sort().is_err() {
-        items.sort_unstable();
-    }
+    let items = items.as_mut_slice();
+    mix(items, |one, other| one.cmp(other).is_lt());
+    items.sort_unstable();
+}
+
+/// Sorts items by a key.
+pub fn sort_any_order_by_key<T, K: Ord, F: Fn(&T) -> K>(items: &mut Vec<T>, key: F)
+where
+    K: Drop,
+    requires { F.IsAlwaysCallable key }
+    ensures permutation { IsPermutation items.old.items items.new.items }
+    ensures len { vec_len items.new ≡ vec_len items.old }
+    ensures sorted { IsSortedByKeyClosure F.FnMut K.cmp key items.new.items }
+{
+    let items = items.as_mut_slice();
+    mix(items, |one, other| key(one).cmp(&key(other)).is_lt());
+    items.sort_unstable_by_key(key);
 }
 
 #[cfg(test)]

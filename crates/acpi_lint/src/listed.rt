@@ -11,6 +11,7 @@ ghost use Rattle.acpi_lint.specs.Slots.{IsRootOf, AreListed, AreAddresses, Finds
 use crate::numbered::Numbered;
 use acpi_base::Image;
 use acpi_base::field::is_signed;
+use acpi_graph::sort_any_order;
 use acpi_read::Root;
 use std::alloc::{AllocError, Global};
 
@@ -53,7 +54,7 @@ pub fn sorted_addresses(alloc: Global, root: &Option<Root<'_>>) -> Result<Vec<Nu
         return Ok(Vec::new(alloc));
     };
     let mut given = listed_addresses(alloc, root)?;
-    given.sort_unstable();
+    sort_any_order(&mut given);
     Ok(given)
 }
 

@@ -7,6 +7,7 @@ ghost use Rattle.acpi_lint.specs.Numbered.{IsNotAbove, IsUnlikeAt, HasAt, at_pla
 ghost use Rattle.acpi_lint.specs.Places.{FindsLeast, IsNotAfter};
 
 use crate::place::Place;
+use acpi_graph::sort_any_order;
 use std::alloc::{AllocError, Global};
 
 /// A value that is given to a number at a place. These compare by number, then by place, then by value.
@@ -92,7 +93,7 @@ pub fn least_unlike(sorted: &[Numbered], order: Order) -> Option<Place>
 pub fn first_unlike(mut given: Vec<Numbered>, order: Order) -> Option<Place>
     ensures { FindsLeast (IsUnlikeAt order given.items) result }
 {
-    given.sort_unstable();
+    sort_any_order(&mut given);
     least_unlike(&given, order)
 }
 

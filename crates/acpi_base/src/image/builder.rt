@@ -11,6 +11,7 @@ ghost use Rattle.acpi_base.specs.Memory.{IsImage, with_bytes, first_held};
 ghost use Rattle.acpi_base.specs.Image.Runs.{lesser_address, memory_of};
 ghost use Rattle.acpi_base.specs.Image.Pieces.{end_at, runs_in};
 ghost use Rattle.std.specs.List.{AllByRecursion};
+ghost use Rattle.std.specs.List.Sorted.{IsNonDecreasingBy, IsPermutation};
 ghost use Rattle.acpi_base.specs.Image.Segments.{AreSegments, AreSegmentsApart, IsSound, memory_in};
 ghost use Rattle.acpi_base.specs.Image.Bitmap.{IsMarked};
 ghost use Rattle.acpi_base.specs.Image.Builder.{AreEnded, AreInOrder, ArePiecesWithRoom, IsBuilder, IsOpenMarked, builder_memory};
@@ -19,6 +20,7 @@ use super::address_bitmap::AddressBitmap;
 use super::segments::Segments;
 use super::span::Span;
 use super::{Image, ImageFault};
+use acpi_graph::sort_any_order_by_key;
 use std::alloc::{AllocError, Global};
 
 /// A number of free addresses from an address on, before the next piece. Looks only at `count` addresses, or to the end of
@@ -94,6 +96,14 @@ fn are_laid_out(store: &[u8], ended: &[(u64, Span)], base: u64, start: usize) ->
     start < store.len() && are_apart(ended, base)
 }
 
+/// Sorts the pieces by address. Takes no memory.
+pub fn sort_by_address(pieces: &mut Vec<(u64, Span)>)
+    ensures permutation { IsPermutation pieces.old.items pieces.new.items }
+    ensures sorted { IsNonDecreasingBy (λ p. p.0) pieces.new.items }
+{
+    sort_any_order_by_key(pieces, |piece| piece.0);
+}
+
 /// The pieces' bytes in the order of their addresses.
 fn lay_out(
     alloc: Global,
@@ -105,7 +115,7 @@ fn lay_out(
     ensures same { IfOk result
         (λ segments. memory_in segments ≡ memory_of (runs_in store.now pieces.items)) }
 {
-    pieces.sort_unstable_by_key(|piece| piece.0);
+    sort_by_address(&mut pieces);
     let mut segments = Segments::with_capacity(alloc, store.len())?;
     segments.take_all(store, &pieces)?;
     Ok(segments)

@@ -14,7 +14,7 @@ ghost use Rattle.acpi_base.specs.Image.Pieces.{LiesBefore, end_at, runs_in};
 ghost use Rattle.acpi_base.specs.Image.Segments.{AreSegmentsApart, IsSound, memory_in};
 ghost use Rattle.acpi_base.specs.Text.ImageText.{on_ok};
 
-use super::builder::are_apart;
+use super::builder::{are_apart, sort_by_address};
 use super::segments::Segments;
 use super::span::Span;
 use super::{Image, ImageFault};
@@ -79,14 +79,6 @@ fn first_twice(pieces: &[(u64, Span)], count: usize) -> Option<u64>
     Some(found)
 }
 
-/// Sorts the pieces by address. Takes no memory.
-fn sort(pieces: &mut Vec<(u64, Span)>)
-    ensures permutation { IsPermutation pieces.old.items pieces.new.items }
-    ensures sorted { IsNonDecreasingBy (λ p. p.0) pieces.new.items }
-{
-    pieces.sort_unstable_by_key(|piece| piece.0);
-}
-
 /// The first address that came twice. The pieces are passed in the order in which they came, and are sorted by address.
 fn judge(store: &[u8], pieces: &mut Vec<(u64, Span)>) -> Option<u64>
     requires { AreDrafted store.now pieces.old.items }
@@ -95,7 +87,7 @@ fn judge(store: &[u8], pieces: &mut Vec<(u64, Span)>) -> Option<u64>
     ensures judged { MatchOption result ((x : ℕ) → holder_count pieces.old.items x < 2)
         (λ address. all_added empty (runs_in store.now pieces.old.items) ≡ Err address) }
 {
-    sort(pieces);
+    sort_by_address(pieces);
     first_twice(pieces, store.len())
 }
 

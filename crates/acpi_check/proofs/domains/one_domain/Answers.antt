@@ -8,13 +8,13 @@ use Rattle.acpi_check.proofs.domains.one_domain.Goals as goal
 
 pub do_agree-requires : goal.do_agree-requires
 do_agree-requires c =
-    rw (c.deref.ensures.value) (processors_rise c.sort_unstable.new.self.items c.sort_unstable.ensures.sorted)
+    rw (c.deref.ensures.value) (processors_rise c.sort_any_order.new.items.items c.sort_any_order.ensures.sorted)
 
 pub returns-then-do_agree : goal.returns-then-do_agree
 returns-then-do_agree c =
     one_domain c.args.processors (madt_contents c.args.madt.now) (srat_contents c.args.srat.now)
-    c.in_ok-placements.placements.items c.sort_unstable.new.self.items c.in_ok-placements.ensures
-    c.sort_unstable.ensures.permutation
+    c.in_ok-placements.placements.items c.sort_any_order.new.items.items c.in_ok-placements.ensures
+    c.sort_any_order.ensures.permutation
     (rw c.deref.ensures.value at c.if-do_agree.ensures)
 
 pub returns-in-None : goal.returns-in-None

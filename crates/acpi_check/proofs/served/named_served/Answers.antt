@@ -19,14 +19,14 @@ first_unserved-requires c =
       ranges = rw c.deref.ensures.value (starts_rise c.sort_any_order.new.items.items c.sort_any_order.ensures.sorted);
       named =
           rw c.deref-2.ensures.value
-          (numbers_rise c.sort_unstable.new.self.items c.sort_unstable.ensures.sorted);
+          (numbers_rise c.sort_any_order-2.new.items.items c.sort_any_order-2.ensures.sorted);
     }
 
 pub returns-in-None : goal.returns-in-None
 returns-in-None c =
     all_served c.args.policy.now (madt_contents c.args.madt.now) c.sort_any_order.new.items.items
-    c.sort_unstable.new.self.items (rw c.in_ok-ranges.ensures at c.sort_any_order.ensures.permutation)
-    (rw c.in_ok-named.ensures at c.sort_unstable.ensures.permutation)
+    c.sort_any_order-2.new.items.items (rw c.in_ok-ranges.ensures at c.sort_any_order.ensures.permutation)
+    (rw c.in_ok-named.ensures at c.sort_any_order-2.ensures.permutation)
     (rw (c.deref.ensures.value, c.deref-2.ensures.value, c.in-None.is) at c.first_unserved.ensures)
 
 pub returns : goal.returns
@@ -36,7 +36,7 @@ returns c =
     grind (arith, nat_tests, c.is_empty.ensures, c.if-is_empty.false, ranges.ok.0) in
     rw (c.from.ensures, c.from-in-Some.ensures)
     (first_unserved c.args.policy.now c.args.madt.now c.sort_any_order.new.items.items
-    c.sort_unstable.new.self.items (rw c.in_ok-ranges.ensures at c.sort_any_order.ensures.permutation)
-    (rw c.in_ok-named.ensures at c.sort_unstable.ensures.permutation)
+    c.sort_any_order-2.new.items.items (rw c.in_ok-ranges.ensures at c.sort_any_order.ensures.permutation)
+    (rw c.in_ok-named.ensures at c.sort_any_order-2.ensures.permutation)
     (has_io_apic c.args.policy.now (madt_contents c.args.madt.now) (rw c.in_ok-ranges.ensures at some))
     c.in-Some.first (rw (c.deref.ensures.value, c.deref-2.ensures.value, c.in-Some.is) at c.first_unserved.ensures))

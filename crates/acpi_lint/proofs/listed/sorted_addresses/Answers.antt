@@ -8,10 +8,10 @@ returns-in_default c = λ m p root. rw c.new.ensures.items (no_addresses (rw c.i
 pub returns : goal.returns
 returns c = λ m p root.
     let given = c.in_ok-given.given.items in
-    let sorted = c.sort_unstable.new.self.items in
+    let sorted = c.sort_any_order.new.items.items in
     record {
       listed =
-          moved_listed given sorted c.sort_unstable.ensures.permutation
+          moved_listed given sorted c.sort_any_order.ensures.permutation
           (set_listed {root = c.in-Some.root} given (rw c.in-Some.is at root) c.in_ok-given.ensures);
-      rise = in_order sorted c.sort_unstable.ensures.sorted;
+      rise = in_order sorted c.sort_any_order.ensures.sorted;
     }

@@ -1,8 +1,6 @@
-use Rattle.std.proofs.Common.{rules, ◌≤◌, length, List, [], ◌∷◌, sym, ap, subst, ◌∙◌, arith}
+use Rattle.std.proofs.Common.{◌≤◌, length, List, [], ◌∷◌, sym, ap, subst, ◌∙◌, arith}
 use Rattle.std.specs.List.{AllByRecursion}
-use Rattle.std.specs.List.Sorted.{IsNonDecreasingBy}
 use Rattle.std.specs.Option.{option_or}
-use Rattle.std.proofs.lemmas.List.Sorted.{IsNonDecreasingBy-from_sort_by_key}
 use Rattle.acpi_base.specs.Memory.{byte_of}
 use Rattle.acpi_base.specs.Image.Runs.{lookup, memory_of}
 use Rattle.acpi_base.specs.Image.Pieces.{Piece, LiesBefore, AreSortedDisjoint, runs_in}
@@ -13,17 +11,14 @@ use Rattle.acpi_base.proofs.image.builder.lay_out.Goals as goal
 
 pub take_all-requires-clause-rising : goal.take_all-requires-clause-rising
 take_all-requires-clause-rising c =
-    let sorted : IsNonDecreasingBy (λ (p : Piece). p.0) c.sort_unstable_by_key.new.self.items =
-    IsNonDecreasingBy-from_sort_by_key (λ (p : Piece). p.0) _ c.sort_unstable_by_key.ensures.sorted
-    (λ a r q k. search rules) in
-    let all = ended_permuted (length c.args.store.now) c.args.pieces.items c.sort_unstable_by_key.new.self.items
-    c.sort_unstable_by_key.ensures.permutation c.requires in
-    subst AreSortedDisjoint (sym c.deref.ensures.value) (rising_sorted _ sorted all.once all.filled)
+    let all = ended_permuted (length c.args.store.now) c.args.pieces.items c.sort_by_address.new.pieces.items
+    c.sort_by_address.ensures.permutation c.requires in
+    subst AreSortedDisjoint (sym c.deref.ensures.value) (rising_sorted _ c.sort_by_address.ensures.sorted all.once all.filled)
 
 pub take_all-requires-clause-lies : goal.take_all-requires-clause-lies
 take_all-requires-clause-lies c =
-    let all = ended_permuted (length c.args.store.now) c.args.pieces.items c.sort_unstable_by_key.new.self.items
-    c.sort_unstable_by_key.ensures.permutation c.requires in
+    let all = ended_permuted (length c.args.store.now) c.args.pieces.items c.sort_by_address.new.pieces.items
+    c.sort_by_address.ensures.permutation c.requires in
     subst (AllByRecursion (LiesBefore (length c.args.store.now))) (sym c.deref.ensures.value) all.lies
 
 pub take_all-requires-clause-behind : goal.take_all-requires-clause-behind
@@ -45,5 +40,5 @@ returns-clause-same c =
     ∙ ap (λ o. option_or o (lookup (runs_in c.args.store.now pieces) x)) (byte_of_memory_of [] x)
     ∙ sym (byte_of_memory_of (runs_in c.args.store.now pieces) x))
     ∙ ap (λ ps. memory_of (runs_in c.args.store.now ps)) c.deref.ensures.value
-    ∙ memory_permuted c.args.store.now c.args.pieces.items c.sort_unstable_by_key.new.self.items
-    c.sort_unstable_by_key.ensures.permutation c.requires
+    ∙ memory_permuted c.args.store.now c.args.pieces.items c.sort_by_address.new.pieces.items
+    c.sort_by_address.ensures.permutation c.requires
