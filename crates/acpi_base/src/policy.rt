@@ -7,7 +7,7 @@ ghost use Rattle.std.specs.Prelude.{◌≡◌, ◌≤◌, ◌↔◌, IfOk, IfErr
 ghost use Rattle.std.specs.FinMap.{get};
 
 use std::alloc::Global;
-use std::collections::BTreeMap;
+use std::collections::HashMap;
 use std::marker::Model;
 use thiserror::Error;
 
@@ -49,7 +49,7 @@ pub enum Processors {
 pub struct Policy {
     rsdp: u64,
     default_inputs: u16,
-    inputs: BTreeMap<u32, u16>,
+    inputs: HashMap<u32, u16>,
     hotplug: HotPlug,
     processors: Processors,
 }
@@ -94,7 +94,7 @@ impl Policy {
         Ok(Policy {
             rsdp,
             default_inputs,
-            inputs: BTreeMap::new(alloc),
+            inputs: HashMap::new(alloc),
             hotplug: HotPlug::Counted,
             processors: Processors::Enabled,
         })

@@ -1,6 +1,6 @@
 //! Bringing items into a mixed order.
 
-ghost use Rattle.std.specs.Prelude.{◌≡◌, ◌+◌, ◌<◌, length};
+ghost use Rattle.std.specs.Prelude.{◌≡◌, ◌+◌, ◌*◌, ◌<◌, ◌≤◌, length};
 ghost use Rattle.std.specs.List.Sorted.{IsPermutation};
 
 /// An odd number of 64 bits without a pattern, 2^64 divided by the golden ratio.
@@ -42,15 +42,30 @@ fn place_of(number: u64, count: usize) -> usize
     ((u128::from(number) * count as u128) >> 64) as usize
 }
 
-/// Swaps each item with one before it or with itself.
+/// How many neighbours stay together. Each group that is swapped with one far away waits for memory once.
+const GROUP: usize = 8;
+
+/// Swaps two groups, item by item.
+fn swap_groups<T>(items: &mut [T], one: usize, other: usize)
+    requires one { GROUP * one + GROUP ≤ length items.old }
+    requires other { GROUP * other + GROUP ≤ length items.old }
+    ensures permutation { IsPermutation items.old items.new }
+    ensures len { length items.new ≡ length items.old }
+{
+    for place in 0..GROUP {
+        items.swap(GROUP * one + place, GROUP * other + place);
+    }
+}
+
+/// Swaps each group with one before it or with itself.
 fn shuffle<T>(items: &mut [T], seed: u64)
     ensures permutation { IsPermutation items.old items.new }
     ensures len { length items.new ≡ length items.old }
 {
     let mut state = seed;
-    for index in 1..items.len() {
+    for group in 1..items.len() / GROUP {
         state = state.wrapping_add(STEP);
-        items.swap(index, place_of(scrambled(state), index + 1));
+        swap_groups(items, group, place_of(scrambled(state), group + 1));
     }
 }
 
