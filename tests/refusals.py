@@ -2,7 +2,7 @@
 """Refuses the built program its memory, request by request, and lets its input and its output fail, call by call.
 
 A run in which a request for memory was refused ends with status 4, writes nothing, and reports that it is out of memory;
-the usual answer comes only where none was refused, or only the buffer of a sort, which then goes on in place. A run in which a read failed reports the device and writes nothing,
+the usual answer comes only where none was refused. A run in which a read failed reports the device and writes nothing,
 save where a fault of the text stood before. A run in which a write failed reports the device, and what went out is a
 prefix.
 
@@ -40,7 +40,7 @@ NO_FADT = "4 NoFadt 0x0 0x0 0x0"
 @dataclass
 class Run:
     """What the program is asked of a text, and what it answers where nothing is refused: status, standard output and
-    standard error. `sorts` is how many of its sorts ask for a buffer: those of more than 20 numbers that do not rise."""
+    standard error."""
 
     name: str
     text: bytes
@@ -48,7 +48,6 @@ class Run:
     status: int
     out: str
     err: str = ""
-    sorts: int = 0
 
     def answer(self):
         return (self.status, self.out, self.err)
@@ -183,16 +182,6 @@ def wordy_runs():
     yield Run("check with 400 counts of inputs", text, [*check, *many], 0, "yes\n")
 
 
-def shuffled_run():
-    """A check that sorts the numbers of I/O APICs in stage 7, and once more in stage 17."""
-    numbers = [7 * place % 30 for place in range(30)]
-    entries = [io_apic(0xFEC00000 + 0x1000 * number, number) for number in numbers]
-    tables = [full_fadt(), madt(lapic(0, 0), *entries, override(0, 2))]
-    text = text_of(image_of(*tables, others={FACS_AT: facs()}))
-    words = ["check", "--rsdp", "e0000", "--default-inputs", "1"]
-    return Run("check, 30 I/O APICs in no order", text, words, 0, "yes\n", sorts=2)
-
-
 def scattered_run():
     """A text of many pieces that come in falling order."""
     pieces = "".join(f"@{address:x}\n00\n" for address in range(8000, 0, -2))
@@ -310,19 +299,16 @@ class Sweep:
         return f"{len(self.refused)} of {self.last} requests refused" if len(self.refused) < self.last else ""
 
 
-def wrong_sweep(sweep, answer, spared, sorts=0):
+def wrong_sweep(sweep, answer, spared):
     """What is wrong with a sweep over a run that has this answer. This many requests may be refused and the answer be the
-    usual one: they come before the input is read. Where not all requests were refused, they need not be among these.
-    After it is read the answer is the usual one for the buffers of this many sorts."""
+    usual one: they come before the input is read. Where not all requests were refused, they need not be among these."""
     if not sweep.refused:
         return "no request was refused"
     if sweep.usual != answer:
         return f"nothing refused: {sweep.usual}, not {answer}"
     others = {number: told for number, told in sweep.refused.items() if told.answer != OUT_OF_MEMORY}
     least = 0 if sweep.sampled() else spared
-    late = sum(told.refused for told in others.values())
-    are_usual = all(told.answer == answer for told in others.values())
-    if are_usual and late == sorts and least <= len(others) - late <= spared:
+    if least <= len(others) <= spared and all((told.answer, told.refused) == (answer, 0) for told in others.values()):
         return ""
     told = "; ".join(f"request {number}: {told.answer}" for number, told in others.items())
     return told or "no request was spared"
@@ -354,9 +340,7 @@ def starved(program, run, setting):
     sweep = Sweep(program, run.words, program.file(run.text), setting)
     if sweep.sampled():
         print(f"{run.name}, {setting}: {sweep.sampled()}")
-    sorts = run.sorts if setting == "REFUSE_AT" else 0
-    wrong = wrong_sweep(sweep, run.answer(), SPARED[setting], sorts)
-    yield f"{run.name}, {setting}", wrong or wrong_extent(sweep, run.name)
+    yield f"{run.name}, {setting}", wrong_sweep(sweep, run.answer(), SPARED[setting]) or wrong_extent(sweep, run.name)
 
 
 def starved_refusal(program, message, words):
@@ -564,7 +548,7 @@ def little_memory(program, run):
 
 def tasks():
     """The tests that need the object, each as a function and its arguments."""
-    for run in [*CLEAN_RUNS, *faulty_runs(), *wordy_runs(), scattered_run(), shuffled_run()]:
+    for run in [*CLEAN_RUNS, *faulty_runs(), *wordy_runs(), scattered_run()]:
         yield starved, run, "REFUSE_AT"
     for run in [*CLEAN_RUNS, scattered_run()]:
         yield starved, run, "REFUSE_FROM"

@@ -1,8 +1,7 @@
 #!/usr/bin/env python3
 """Runs the tests of crates with their requests for memory refused, one in each run: a test ends well only where none was
-refused, or where a sort did without its buffer, and what it says otherwise is that the crate is out of memory. So no call
-gives another answer, nor another fault, where memory is refused: also of those calls that no command of the program
-reaches alone.
+refused, and what it says otherwise is that the crate is out of memory. So no call gives another answer, nor another
+fault, where memory is refused: also of those calls that no command of the program reaches alone.
 
 usage: refused_calls.py TESTS..; the last line is 'refused calls: N passed, M failed'. TESTS is what a crate's tests are built
 as, crates/NAME/out/NAME_tests, where `rt ci` and `rt test` leave it."""
@@ -26,10 +25,6 @@ SAMPLED = {
     "clash::tests::agrees_with_the_plain_search",
     "stray::tests::agrees_with_the_plain_walk",
 }
-# The tests with sorts that need a buffer, and how many: where it is refused, the sort goes on in place, and the test ends well.
-SORTS = {
-    "sorting::tests::numbers_rise": 1,
-}
 
 
 def names(tests):
@@ -47,28 +42,18 @@ def told(tests, name, preload, mark, number):
     return is_refused, run.returncode, run.stdout
 
 
-def wrong_sorts(name, in_place):
-    """As many sorts went on in place as SORTS has it."""
-    sorts = SORTS.get(name, 0)
-    return "" if in_place == sorts else f"{in_place} sorts without a buffer, not {sorts}"
-
-
 def starved(tests, name, preload, mark):
     """How many of its requests for memory were refused, and what is wrong."""
     refused = 0
-    in_place = 0
     for number in numbers():
         is_refused, status, text = told(tests, name, preload, mark, number)
         if not is_refused and status == 0:
             is_right = (refused >= EACH) == (name in SAMPLED)
-            wrong = "" if is_right else f"{refused} requests refused, which is {'a sample' if refused >= EACH else 'all'}"
-            return refused, wrong or wrong_sorts(name, in_place)
+            return refused, "" if is_right else f"{refused} requests refused, which is {'a sample' if refused >= EACH else 'all'}"
         if not is_refused:
             return refused, f"status {status} where nothing is refused: {text}"
         refused += 1
-        if status == 0 and in_place < SORTS.get(name, 0):
-            in_place += 1
-        elif status == 0 or not OUT_OF_MEMORY.search(text):
+        if status == 0 or not OUT_OF_MEMORY.search(text):
             return refused, f"request {number}: status {status}: {text}"
 
 
