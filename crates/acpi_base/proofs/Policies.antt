@@ -29,7 +29,8 @@ count_inserted old new a n updates =
     same_map nat_cmp_total nat_cmp-IsAntisymmetric _ _
     (λ q. count_at new.entries q
     ∙ updates.0 q
-    ∙ (λ i. cond ((unsigned_ties a q ∙ (eq_by_cmp_equiv nat_cmp_total).symm a q) i) (Some n) (sym (count_at old.entries q) i))
+    ∙ (λ i. cond ((unsigned_ties a q ∙ (eq_by_cmp_equiv nat_cmp_total).symm a q) i) (Some n)
+    (sym (count_at old.entries q) i))
     ∙ sym (get-insert nat_cmp_total (from_entries old.entries) a n q))
 
 -- a count of a map with one more is the new one, or was there before
@@ -56,8 +57,8 @@ still_bounded m a n fits least most counts address count e =
     )
 
 -- and so they are after an insertion that may have been refused
-pub bounded_after : {E S : Type 0} (old new : HashMap ℕ ℕ S) (a n : ℕ) (result : Result (Option ℕ) E) → a < 2 ^ 32 → 1 ≤ n
-    → n ≤ 256
+pub bounded_after : {E S : Type 0} (old new : HashMap ℕ ℕ S) (a n : ℕ) (result : Result (Option ℕ) E) → a < 2 ^ 32
+    → 1 ≤ n → n ≤ 256
     → OnOk result (hashed.Updates nat_eq old new a (Some n)) → OnErr result (hashed.IsUnchanged old new)
     → AreBounded (from_entries old.entries) → AreBounded (from_entries new.entries)
 bounded_after old new a n (Ok _) fits least most updates _ counts =

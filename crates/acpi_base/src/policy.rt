@@ -3,7 +3,7 @@
 #[cfg(test)]
 mod tests;
 
-ghost use Rattle.std.specs.Prelude.{◌≡◌, ◌≤◌, ◌↔◌, IfOk, IfErr, OnOk, OnErr, OkIff, Err, None};
+ghost use Rattle.std.specs.Prelude.{◌≡◌, ◌+◌, ◌^◌, ◌<◌, ◌≤◌, ◌↔◌, IsTrue, IfOk, IfErr, OnOk, OnErr, OkIff, Err, None};
 ghost use Rattle.std.specs.FinMap.{get};
 
 use std::alloc::Global;
@@ -43,8 +43,8 @@ pub enum Processors {
 /// The settings of a check: the RSDP's address, how many inputs an I/O APIC has, which no table says, and two
 /// settings. Contracts see the counts of inputs as a map by address.
 ///
-/// The counts are kept in a `BTreeMap`: to add one, or to look one up, takes a number of steps that grows with the
-/// logarithm of how many there are. Only `add_input` allocates.
+/// The counts are kept in a `HashMap`, whose hasher needs no random numbers: to add one, or to look one up, takes a few
+/// steps however many there are, if few of their addresses have one hash. Only `add_input` allocates.
 #[derive(Debug, Drop)]
 pub struct Policy {
     rsdp: u64,
@@ -153,6 +153,19 @@ impl Policy {
             .get(&address)
             .copied()
             .unwrap_or(self.default_inputs)
+    }
+
+    /// Whether the interrupt numbers that the I/O APIC at `address` serves, from `gsi_base` on, end past 2^32. Only
+    /// where the largest count would is this one looked up.
+    #[tactic(auto, using(crate::proofs::Policies::looking), unfolding(crate::specs::Policy::inputs_of))]
+    pub fn is_past_end(&self, gsi_base: u32, address: u32) -> bool
+        ensures { IsTrue result ↔ (2 ^ 32 < gsi_base + inputs_of self.now address) }
+    {
+        // Reading a field opens the policy's invariant to the proof: no count is above the largest one.
+        let _inputs = &self.inputs;
+        let begin = u64::from(gsi_base);
+        let most = u64::from(Policy::MOST_INPUTS);
+        begin + most > 1 << 32 && begin + u64::from(self.inputs_of(address)) > 1 << 32
     }
 
     /// Sets which enabled ranges of memory must not overlap, and nothing else. Allocates nothing.

@@ -38,10 +38,9 @@ fn own_fault(policy: &Policy, entry: &MadtEntry<'_>) -> Option<Code>
         → code_number code ≤ code_number other)) }
 {
     match entry {
-        MadtEntry::IoApic(io_apic) => {
-            let end = u64::from(io_apic.gsi_base) + u64::from(policy.inputs_of(io_apic.address));
-            (end > 1 << 32).then_some(Code::GsiPastEnd)
-        }
+        MadtEntry::IoApic(io_apic) => policy
+            .is_past_end(io_apic.gsi_base, io_apic.address)
+            .then_some(Code::GsiPastEnd),
         MadtEntry::Override(source) if source.bus != 0 => Some(Code::OverrideBus),
         MadtEntry::Override(source) => inti_fault(source.flags),
         MadtEntry::NmiSource(nmi) => inti_fault(nmi.flags),

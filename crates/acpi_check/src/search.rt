@@ -41,8 +41,7 @@ pub fn has(offsets: &[u64], offset: u32) -> bool
     }
 }
 
-/// The numbers in rising order, each once, as `binary_search` and `has` require. It never runs out of memory
-/// (`sort_any_order`).
+/// The numbers in rising order, each once, as `binary_search` and `has` require. Allocates nothing.
 pub fn sorted_unique(mut numbers: Vec<u64>) -> Vec<u64>
     ensures rise { AllPairs (λ i j. i < j) result.items }
     ensures same { (n : ℕ) → Contains result.items n ↔ Contains numbers.items n }

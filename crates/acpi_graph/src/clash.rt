@@ -29,7 +29,7 @@ pub enum Clash {
 pub fn first_clash(alloc: Global, mut spans: Vec<Span>) -> Result<(Clash, usize), AllocError>
     requires { NamesDiffer spans.items }
 
-    // It does not use `alloc`, and its sort needs no buffer: it never runs out of memory.
+    // It does not use `alloc`, and its sort needs no memory: it never runs out of it.
     ensures always { IsOk result }
     ensures none { IfOk result (λ found. (found.0 ≡ Clash.None) ↔ IsClear spans.items) }
     ensures first { IfOk result (λ found. IfAt found.0 (IsFirstClash spans.items)) }

@@ -7,7 +7,7 @@
 //!   and the first two spans that contain it.
 //! - `first_stray`: for nodes that refer to their parents, the first one whose chain of parents leads into a cycle
 //!   and never ends, and where its cycle begins.
-//! - `sort_any_order`: sorts items in a time that no order of theirs makes much longer.
+//! - `sort_any_order`, `sort_any_order_by_key`: sort items in a time that no known order of theirs makes much longer.
 //!
 //! ```rust
 //! let low = Span::new(0, 10, 1).unwrap(); // 0 to 9, under the name 1

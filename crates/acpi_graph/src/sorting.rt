@@ -1,11 +1,12 @@
-//! Sorting, in a time that no order of the items makes much longer.
+//! Sorting, in a time that no known order of the items makes much longer. Items that rise already, or fall, take one pass or
+//! two. All others are brought into a mixed order, and take as long as items in random order.
 
 ghost use Rattle.std.specs.Prelude.{◌≡◌, vec_len};
 ghost use Rattle.std.specs.List.Sorted.{IsPermutation, IsSorted, IsSortedByKeyClosure};
 
 use crate::mixing::mix;
 
-/// Sorts items that come in any order.
+/// Sorts items that come in any order. Equal ones may change places. Allocates nothing.
 pub fn sort_any_order<T: Ord>(items: &mut Vec<T>)
     ensures permutation { IsPermutation items.old.items items.new.items }
     ensures len { vec_len items.new ≡ vec_len items.old }
@@ -16,7 +17,7 @@ pub fn sort_any_order<T: Ord>(items: &mut Vec<T>)
     items.sort_unstable();
 }
 
-/// Sorts items by a key.
+/// Sorts items that come in any order by a key of each. Those with equal keys may change places. Allocates nothing.
 pub fn sort_any_order_by_key<T, K: Ord, F: Fn(&T) -> K>(items: &mut Vec<T>, key: F)
 where
     K: Drop,

@@ -55,7 +55,7 @@ fn is_past_end(policy: &Policy, io_apic: &IoApic) -> bool
     ensures { IsTrue result
         ↔ (2 ^ 32 < io_apic.now.gsi_base + inputs_of policy.now io_apic.now.address) }
 {
-    u64::from(io_apic.gsi_base) + u64::from(policy.inputs_of(io_apic.address)) > 1 << 32
+    policy.is_past_end(io_apic.gsi_base, io_apic.address)
 }
 
 /// Whether an entry has the fault with this code by itself.

@@ -13,7 +13,8 @@ pub take_all-requires-clause-rising : goal.take_all-requires-clause-rising
 take_all-requires-clause-rising c =
     let all = ended_permuted (length c.args.store.now) c.args.pieces.items c.sort_by_address.new.pieces.items
     c.sort_by_address.ensures.permutation c.requires in
-    subst AreSortedDisjoint (sym c.deref.ensures.value) (rising_sorted _ c.sort_by_address.ensures.sorted all.once all.filled)
+    subst AreSortedDisjoint (sym c.deref.ensures.value)
+    (rising_sorted _ c.sort_by_address.ensures.sorted all.once all.filled)
 
 pub take_all-requires-clause-lies : goal.take_all-requires-clause-lies
 take_all-requires-clause-lies c =

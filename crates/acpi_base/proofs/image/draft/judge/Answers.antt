@@ -10,7 +10,8 @@ use Rattle.acpi_base.proofs.image.draft.judge.Goals as goal
 
 pub first_twice-requires-clause-fits : goal.first_twice-requires-clause-fits
 first_twice-requires-clause-fits c =
-    let lies = all_permuted (LiesBefore (length c.args.store.now)) _ _ c.sort_by_address.ensures.permutation c.requires.lies in
+    let lies = all_permuted (LiesBefore (length c.args.store.now)) _ _ c.sort_by_address.ensures.permutation
+    c.requires.lies in
     subst (AllByRecursion (λ (p : Piece). p.0 + p.1.len ≤ 2 ^ 64)) (sym c.deref.ensures.value)
     (all_weaker _ _ _ (λ p inside. inside.1) lies)
 
