@@ -4,9 +4,11 @@ pub mod Filled
 pub mod Kept
 pub mod KindsSeen
 pub mod MadtPass
+pub mod NotSearched
 pub mod OverridesPass
 pub mod Passes
 pub mod PpttPass
+pub mod Searched
 pub mod SratPass
 pub mod TypedPass
 pub mod ValuesPass

@@ -88,7 +88,7 @@ fn first_other_domain(
 fn placements_of(alloc: Global, srat: &Srat<'_>) -> Result<Vec<Placement>, AllocError>
     ensures { IfOk result (λ placements. ArePlacements (srat_contents srat.now) placements.items) }
 {
-    collected(alloc, srat.entries(), |at| placement_of(&at.entry))
+    collected(alloc, srat.searched_entries(), |at| placement_of(&at.entry))
 }
 
 /// Whether placements put no processor into two domains. Those of one processor are next to each other, so neighbours

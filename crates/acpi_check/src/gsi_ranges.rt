@@ -33,7 +33,7 @@ pub fn served_ranges(
     ensures { IfOk result (λ ranges. ranges.items ≡ ranges_of policy.now
         (madt_contents madt.now).entries) }
 {
-    collected(alloc, madt.entries(), |at| {
+    collected(alloc, madt.searched_entries(), |at| {
         served_range(policy, &at.entry)
     })
 }

@@ -68,7 +68,7 @@ fn leaf_ids(alloc: Global, pptt: &Pptt<'_>) -> Result<Vec<u64>, AllocError>
 {
     collected(
         alloc,
-        pptt.entries(),
+        pptt.searched_entries(),
         |at| leaf_id(&at.entry).map(u64::from),
     )
 }

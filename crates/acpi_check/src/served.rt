@@ -62,7 +62,7 @@ fn named_at(at: &EntryAt<MadtEntry<'_>>) -> Option<NamedGsi>
 fn all_named(alloc: Global, madt: &Madt<'_>) -> Result<Vec<NamedGsi>, AllocError>
     ensures { IfOk result (λ named. named.items ≡ all_named (madt_contents madt.now).entries) }
 {
-    collected(alloc, madt.entries(), named_at)
+    collected(alloc, madt.searched_entries(), named_at)
 }
 
 /// Continues over the ranges that begin at the number or below it.

@@ -22,7 +22,7 @@ use Rattle.acpi_lint.specs.Places.{FindsLeast}
 use Rattle.acpi_lint.specs.declared.numbered.Numbered.{Numbered}
 use Rattle.acpi_lint.specs.declared.place.Place.{Place}
 use Rattle.acpi_lint.proofs.LeastPlaces.{least_as}
-use Rattle.acpi_lint.proofs.SearchedOnes.{collected_same}
+use Rattle.acpi_check.proofs.EntryPasses.Searched.{collected_same}
 
 -- ---- collected
 

@@ -1,13 +1,13 @@
 -- Entries that a search passes over: they have none of the numbers that are read of entries, and none of the faults of
 -- their own that are searched for.
 use Rattle.std.proofs.Common.{◌≡◌, ℕ, List, Option, None, Some, Bool, true, false, refl, sym, ◌∙◌, arith}
-use Rattle.std.specs.Prelude.{◌≢◌, slice_index, ◌==◌, ◌||◌, if◌then◌else◌}
+use Rattle.std.specs.Prelude.{◌≢◌, ◌&&◌, if◌then◌else◌}
 use Rattle.std.proofs.lemmas.Bool.Decides.{nat_tests}
 use Rattle.std.proofs.lemmas.Option.{none-some}
 use Rattle.acpi_base.specs.Across.{IsIoApic}
 use Rattle.acpi_base.specs.Lint.MadtAdvice.{nmi_uid, io_apic_id, io_apic_address}
 use Rattle.acpi_base.specs.Lint.PpttAdvice.{cache_id}
-use Rattle.acpi_base.specs.Lint.Processors.{processor_of, uid_of, uid_on, apic_id_of, apic_id_on, gicc_uid_on, IsGicc, IsOtherProcessor, placed_apic_id, placed_uid, processor_domain, any_domain}
+use Rattle.acpi_base.specs.Lint.Processors.{processor_of, uid_of, uid_on, apic_id_of, apic_id_on, gicc_uid_on, IsGicc, placed_apic_id, placed_uid, processor_domain, any_domain}
 use Rattle.acpi_base.specs.Madt as madt
 use Rattle.acpi_base.specs.Policy.{PolicyValue}
 use Rattle.acpi_base.specs.Pptt as pptt
@@ -29,21 +29,8 @@ no_number {n} none some = none-some n (sym none ∙ some)
 
 -- ---- the MADT
 
-all_false : (a b c d : Bool) → (a || b || c || d) ≡ false
-    → (a ≡ false) × (b ≡ false) × (c ≡ false) × (d ≡ false)
-all_false true b c d is = cc
-all_false false true c d is = cc
-all_false false false true d is = cc
-all_false false false false true is = cc
-all_false false false false false is = (refl, refl, refl, refl)
-
-type_passed : (e : List ℕ) → searched_in_madt (madt.Opaque e) ≡ false
-    → ((slice_index e 0 == 7) ≡ false) × ((slice_index e 0 == 11) ≡ false) × ((slice_index e 0 == 17) ≡ false)
-    × ((slice_index e 0 == 24) ≡ false)
-type_passed e passed = all_false _ _ _ _ passed
-
 processor_none : (e : madt.MadtEntry) → searched_in_madt e ≡ false → processor_of e ≡ None
-processor_none (madt.Opaque e) passed = rw (type_passed e passed).1 refl
+processor_none (madt.Opaque e) passed = rw passed refl
 processor_none e passed = cc
 
 pub uid_of_none : (e : madt.MadtEntry) → searched_in_madt e ≡ false → uid_of e ≡ None
@@ -79,15 +66,9 @@ nonzero_address_none e passed = rw (io_apic_address_none e passed) refl
 
 pub no_gicc : (e : madt.MadtEntry) → searched_in_madt e ≡ false → ¬ IsGicc e
 no_gicc (madt.Opaque e) passed = λ is.
-    let none : false ≡ true = rw (type_passed e passed).1 at is in
+    let none : false ≡ true = rw passed at is in
     absurd cc
 no_gicc e passed = cc
-
-pub no_other_processor : (e : madt.MadtEntry) → searched_in_madt e ≡ false → ¬ IsOtherProcessor e
-no_other_processor (madt.Opaque e) passed = λ is.
-    let types = type_passed e passed in
-    grind (arith, nat_tests, is, types.0, types.1, types.2, types.3)
-no_other_processor e passed = cc
 
 pub no_address_override : (e : madt.MadtEntry) → searched_in_madt e ≡ false → ¬ madt.IsAddressOverride e
 no_address_override (madt.Opaque e) passed = λ is. is
@@ -114,16 +95,21 @@ serves_none q g e passed = cc
 
 -- ---- the SRAT
 
+no_third : (a b c : Bool) → (a && b) ≡ false → (a && b && c) ≡ false
+no_third true true c is = cc
+no_third true false c is = refl
+no_third false b c is = refl
+
 pub placed_apic_id_none : (e : srat.SratEntry) → searched_in_srat e ≡ false → placed_apic_id e ≡ None
 placed_apic_id_none (srat.Opaque e) passed = refl
 placed_apic_id_none e passed = cc
 
 pub placed_uid_none : (e : srat.SratEntry) → searched_in_srat e ≡ false → placed_uid e ≡ None
-placed_uid_none (srat.Opaque e) passed = rw passed refl
+placed_uid_none (srat.Opaque e) passed = rw (no_third _ _ _ passed) refl
 placed_uid_none e passed = cc
 
 pub processor_domain_none : (e : srat.SratEntry) → searched_in_srat e ≡ false → processor_domain e ≡ None
-processor_domain_none (srat.Opaque e) passed = rw passed refl
+processor_domain_none (srat.Opaque e) passed = rw (no_third _ _ _ passed) refl
 processor_domain_none e passed = cc
 
 pub any_domain_none : (e : srat.SratEntry) → searched_in_srat e ≡ false → any_domain e ≡ None

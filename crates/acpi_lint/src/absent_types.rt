@@ -10,9 +10,9 @@ ghost use Rattle.acpi_lint.specs.Places.{FindsLeast};
 ghost use Rattle.acpi_lint.specs.TableRules.{MadtRule, SratRule};
 
 use crate::entry_types::EntryTypes;
-use crate::processors::{GICC, GICC_AFFINITY};
 use crate::unread::GICD;
 use acpi_base::{Code, Rule};
+use acpi_read::{GICC, GICC_AFFINITY};
 
 // ---- the MADT (ACPI 6.5, 5.2.12)
 

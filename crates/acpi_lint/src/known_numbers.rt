@@ -16,10 +16,10 @@ use crate::leaves::leaves_of;
 use crate::numbered::Numbered;
 use crate::passes::first_picked;
 use crate::processors::{
-    GICC, apic_id_of, is_gicc, placed_apic_id, placed_uid, processor_domain, uid_of, uid_on,
+    apic_id_of, is_gicc, placed_apic_id, placed_uid, processor_domain, uid_of, uid_on,
 };
 use acpi_check::{collected, sorted_unique};
-use acpi_read::{Madt, MadtEntry, Pptt, Srat};
+use acpi_read::{GICC, Madt, MadtEntry, Pptt, Srat};
 use std::alloc::{AllocError, Global};
 
 // ---- numbers
@@ -134,7 +134,7 @@ fn is_other_processor(entry: &MadtEntry<'_>) -> bool
 pub fn are_processors_read(madt: &Madt<'_>) -> bool
     ensures { IsTrue result ↔ AreProcessorsRead (madt_contents madt.now) }
 {
-    let other = first_picked(madt.searched_entries(), |at| {
+    let other = first_picked(madt.entries(), |at| {
         is_other_processor(&at.entry).then_some(())
     });
     other.is_none()

@@ -12,7 +12,9 @@ ghost use Rattle.acpi_read.specs.Srats.{srat_value};
 ghost use Rattle.acpi_lint.specs.ProcessorValues.{processor_value};
 
 use acpi_base::field::u32_at;
-use acpi_read::{MadtEntry, PpttEntry, SratEntry};
+use acpi_read::{
+    GICC, GICC_AFFINITY, GICC_AFFINITY_LEN, GICC_LEN, MadtEntry, PpttEntry, SratEntry,
+};
 
 /// A processor, as an entry of a MADT describes it.
 #[derive(Clone, Copy)]
@@ -43,12 +45,6 @@ fn is_on(flags: u32) -> bool
 }
 
 // ---- the MADT
-
-/// The type of a GIC CPU interface (ACPI 6.5, 5.2.12.14).
-pub const GICC: u8 = 11;
-
-/// The length of a GIC CPU interface in ACPI 5.0. Later ones are longer.
-const GICC_LEN: usize = 40;
 
 /// Whether the bytes are a GIC CPU interface of at least that length.
 pub fn is_gicc(bytes: &[u8]) -> bool
@@ -159,12 +155,6 @@ pub fn io_apic_address(entry: &MadtEntry<'_>) -> Option<u32>
 }
 
 // ---- the SRAT
-
-/// The type of a GICC affinity (ACPI 6.5, 5.2.16.4).
-pub const GICC_AFFINITY: u8 = 3;
-
-/// The length of a GICC affinity.
-pub const GICC_AFFINITY_LEN: usize = 18;
 
 /// Whether the bytes are a GICC affinity that is enabled.
 fn is_gicc_affinity(bytes: &[u8]) -> bool

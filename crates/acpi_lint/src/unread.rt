@@ -19,8 +19,10 @@ ghost use Rattle.acpi_lint.specs.Places.{FindsLeast};
 
 use crate::passes::first_picked;
 use crate::place::Place;
-use crate::processors::{GICC, GICC_AFFINITY, GICC_AFFINITY_LEN, io_apic_address, is_gicc};
-use acpi_read::{EntryAt, Madt, MadtEntry, Srat, SratEntry};
+use crate::processors::{io_apic_address, is_gicc};
+use acpi_read::{
+    EntryAt, GICC, GICC_AFFINITY, GICC_AFFINITY_LEN, Madt, MadtEntry, Srat, SratEntry,
+};
 
 // ---- the MADT
 

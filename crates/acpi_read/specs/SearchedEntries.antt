@@ -1,25 +1,25 @@
 -- Entries that a search by contents looks at, and entries at offsets that were noted.
-use Rattle.std.specs.Prelude.{◌≡◌, ℕ, List, [], ◌∷◌, drop, slice_index, Option, Some, None, Bool, true, false, ◌==◌, ◌||◌, ◌⊎◌, if◌then◌else◌}
+use Rattle.std.specs.Prelude.{◌≡◌, ℕ, List, [], ◌∷◌, drop, slice_index, length, Option, Some, None, Bool, true, false, ◌==◌, ◌&&◌, ◌⊎◌, if◌then◌else◌}
 use Rattle.std.specs.List.{filter_map}
 use Rattle.std.specs.Option.{option_map_or}
 use denote.Ref.{Bor}
 use Rattle.acpi_base.specs.Entries.{PlacedEntry, first_entry, entries_of}
+use Rattle.acpi_base.specs.Lint.Processors.{is_gicc}
 use Rattle.acpi_base.specs.Madt as madt
 use Rattle.acpi_base.specs.Srat as srat
 use Rattle.acpi_base.specs.Pptt as pptt
 
 -- ---- those that a search looks at
 
--- whether it looks at an entry of a MADT: one of a type whose fields are read, or of one for processors: a local SAPIC (7), a
--- GIC CPU interface (11), or a core of another architecture (17, 24)
+-- whether it looks at an entry of a MADT: one whose fields are read, by a stage or by advice, which also reads those of a GIC
+-- CPU interface (5.2.12.14)
 abbrev pub searched_in_madt : madt.MadtEntry → Bool
-searched_in_madt (madt.Opaque e) =
-    (slice_index e 0 == 7) || (slice_index e 0 == 11) || (slice_index e 0 == 17) || (slice_index e 0 == 24)
+searched_in_madt (madt.Opaque e) = is_gicc e
 searched_in_madt _ = true
 
--- the same for an SRAT: a GICC affinity (3)
+-- the same for an SRAT and a GICC affinity (5.2.16.4)
 abbrev pub searched_in_srat : srat.SratEntry → Bool
-searched_in_srat (srat.Opaque e) = slice_index e 0 == 3
+searched_in_srat (srat.Opaque e) = (slice_index e 0 == 3) && (length e == 18)
 searched_in_srat _ = true
 
 -- and for a PPTT

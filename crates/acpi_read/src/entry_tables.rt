@@ -137,9 +137,12 @@ impl<'a> Madt<'a> {
     /// noted; otherwise all of them.
     #[tactic(auto, unfolding(acpi_base::specs::Madt::madt_contents))]
     pub fn searched_entries(&self) -> TypedEntries<'a, MadtEntry<'a>>
-        ensures { AreSearched searched_in_madt (madt_contents self.now).entries
+        ensures entries { AreSearched searched_in_madt (madt_contents self.now).entries
             (entries_read_by madt_entry result.entries.entries) }
+        ensures size { length self.now < 2 ^ 32 }
     {
+        // Makes the invariant of `Table` available to the proof, as in `entries`.
+        let _ = self.table.bytes();
         noted_or_all(&self.table, Entries::MADT_START, self.searched)
     }
 }
@@ -228,9 +231,12 @@ impl<'a> Srat<'a> {
     /// noted; otherwise all of them.
     #[tactic(auto, unfolding(acpi_base::specs::Srat::srat_contents))]
     pub fn searched_entries(&self) -> TypedEntries<'a, SratEntry<'a>>
-        ensures { AreSearched searched_in_srat (srat_contents self.now).entries
+        ensures entries { AreSearched searched_in_srat (srat_contents self.now).entries
             (entries_read_by srat_entry result.entries.entries) }
+        ensures size { length self.now < 2 ^ 32 }
     {
+        // Makes the invariant of `Table` available to the proof, as in `entries`.
+        let _ = self.table.bytes();
         noted_or_all(&self.table, Entries::SRAT_START, self.searched)
     }
 }
@@ -303,11 +309,11 @@ impl<'a> Pptt<'a> {
     /// noted; otherwise all of them.
     #[tactic(auto, unfolding(acpi_base::specs::Pptt::pptt_contents))]
     pub fn searched_entries(&self) -> TypedEntries<'a, PpttEntry<'a>>
-        ensures { AreSearched searched_in_pptt (pptt_contents self.now).entries
+        ensures entries { AreSearched searched_in_pptt (pptt_contents self.now).entries
             (entries_read_by pptt_entry result.entries.entries) }
+        ensures size { length self.now < 2 ^ 32 }
     {
-        // Makes the invariant of `Table` available to the proof, and does nothing at run time: a table has at least 36
-        // bytes.
+        // Makes the invariant of `Table` available to the proof, as in `entries`. A table has at least 36 bytes.
         let _ = self.table.bytes();
         noted_or_all(&self.table, Entries::PPTT_START, self.searched)
     }

@@ -79,14 +79,16 @@ pub use kind::EntryKind;
 pub use layout::{Layout, read_back};
 pub use listed::{first, listed_table};
 pub use madt::{
-    AddressOverride, IoApic, LocalApic, LocalNmi, MADT_FLAGS, MADT_LOCAL_APIC_ADDRESS, MadtEntry,
-    NmiSource, Override, X2apic, X2apicNmi,
+    AddressOverride, GICC, GICC_LEN, IoApic, LocalApic, LocalNmi, MADT_FLAGS,
+    MADT_LOCAL_APIC_ADDRESS, MadtEntry, NmiSource, Override, X2apic, X2apicNmi,
 };
 pub use pptt::{Cache24, Cache28, NodeHead, PpttEntry};
 pub use root::{Root, RootPlace, named_root};
 pub use rsdp::Rsdp;
 pub use slit::Slit;
-pub use srat::{ApicDomain, MemoryRange, SratEntry, X2apicDomain};
+pub use srat::{
+    ApicDomain, GICC_AFFINITY, GICC_AFFINITY_LEN, MemoryRange, SratEntry, X2apicDomain,
+};
 pub use table::Table;
 pub use typed_entries::{EntryAt, TableEntry, TypedEntries};
 

@@ -15,6 +15,12 @@ pub const MADT_LOCAL_APIC_ADDRESS: usize = 36;
 /// The offset of Flags in a MADT.
 pub const MADT_FLAGS: usize = 40;
 
+/// The type of a GIC CPU interface (ACPI 6.5, 5.2.12.14). Only `lint` reads its fields.
+pub const GICC: u8 = 11;
+
+/// The length of a GIC CPU interface in ACPI 5.0. Later ones are longer.
+pub const GICC_LEN: usize = 40;
+
 /// The contents of an entry of a MADT (ACPI 6.5, 5.2.12).
 #[derive(Clone, Copy, Debug, PartialEq, Eq)]
 pub enum MadtEntry<'a> {
@@ -98,7 +104,7 @@ impl<'a> TableEntry<'a> for MadtEntry<'a> {
     #[inline(always)]
     fn is_searched(&self) -> bool {
         match self {
-            MadtEntry::Opaque(bytes) => matches!(bytes.first(), Some(7 | 11 | 17 | 24)),
+            MadtEntry::Opaque(bytes) => bytes.len() >= GICC_LEN && bytes[0] == GICC,
             _ => true,
         }
     }

@@ -7,6 +7,12 @@ use crate::typed_entries::TableEntry;
 use acpi_base::Code;
 pub use kinds::{ApicDomain, MemoryRange, X2apicDomain};
 
+/// The type of a GICC affinity (ACPI 6.5, 5.2.16.4). Only `lint` reads its fields.
+pub const GICC_AFFINITY: u8 = 3;
+
+/// The length of a GICC affinity.
+pub const GICC_AFFINITY_LEN: usize = 18;
+
 /// The contents of an entry of an SRAT (ACPI 6.5, 5.2.16).
 #[derive(Clone, Copy, Debug, PartialEq, Eq)]
 pub enum SratEntry<'a> {
@@ -75,7 +81,8 @@ impl<'a> TableEntry<'a> for SratEntry<'a> {
     #[inline(always)]
     fn is_searched(&self) -> bool {
         match self {
-            SratEntry::Opaque(bytes) => matches!(bytes.first(), Some(3)),
+            SratEntry::Opaque(bytes) => bytes.len() == GICC_AFFINITY_LEN
+                && bytes[0] == GICC_AFFINITY,
             _ => true,
         }
     }

@@ -36,7 +36,7 @@ pub trait TableEntry<'a>: Sized {
         ensures read { IsRead result };
 
     /// Whether a search by contents looks at the entry. It passes over those of which nothing but the type or the
-    /// length is ever asked: opaque ones, unless their type is one for processors.
+    /// length is ever asked: opaque ones, except for a GIC CPU interface and a GICC affinity, whose fields `lint` reads.
     fn is_searched(&self) -> bool
         ensures { result ≡ searched (value self.now) };
 }

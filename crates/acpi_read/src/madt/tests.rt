@@ -140,13 +140,15 @@ fn other_types_are_opaque_and_other_lengths_refused(rt: HostRuntime) {
 }
 
 #[test]
-fn a_search_passes_over_opaque_entries_except_for_processors(rt: HostRuntime) {
+fn a_search_passes_over_opaque_entries_except_for_giccs(rt: HostRuntime) {
     let address = 0xa8a7_a6a5_a4a3_a2a1;
     assert!(rt; MadtEntry::AddressOverride(AddressOverride { address }).is_searched());
-    for number in [7, 11, 17, 24] {
-        assert!(rt; MadtEntry::Opaque(&[number, 2]).is_searched());
-    }
-    for number in [0, 1, 9, 12, 0x80] {
-        assert!(rt; !MadtEntry::Opaque(&[number, 2]).is_searched());
+    let mut bytes = [0; 40];
+    bytes[0] = 11;
+    assert!(rt; MadtEntry::Opaque(&bytes).is_searched());
+    assert!(rt; !MadtEntry::Opaque(&bytes[..39]).is_searched());
+    for number in [0, 1, 7, 9, 12, 0x80] {
+        bytes[0] = number;
+        assert!(rt; !MadtEntry::Opaque(&bytes).is_searched());
     }
 }

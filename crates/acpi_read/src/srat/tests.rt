@@ -91,8 +91,13 @@ fn other_types_are_opaque_and_other_lengths_refused(rt: HostRuntime) {
 
 #[test]
 fn a_search_passes_over_opaque_entries_except_for_gicc_affinities(rt: HostRuntime) {
-    assert!(rt; SratEntry::Opaque(&[3, 2]).is_searched());
+    let mut bytes = [0; 19];
+    bytes[0] = 3;
+    assert!(rt; SratEntry::Opaque(&bytes[..18]).is_searched());
+    assert!(rt; !SratEntry::Opaque(&bytes[..17]).is_searched());
+    assert!(rt; !SratEntry::Opaque(&bytes).is_searched());
     for number in [0, 1, 2, 4, 0x80] {
-        assert!(rt; !SratEntry::Opaque(&[number, 2]).is_searched());
+        bytes[0] = number;
+        assert!(rt; !SratEntry::Opaque(&bytes[..18]).is_searched());
     }
 }

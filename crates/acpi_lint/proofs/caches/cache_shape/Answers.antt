@@ -15,5 +15,5 @@ returns c =
     least_outside (pptt_contents c.args.pptt.now).entries IsOddCache (λ at other point. AreUnused other point)
     c.first_picked.result
     (least_same pptt_value IsOddCacheHere searched_in_pptt 36 _ _ c.first_picked.result c.first_picked.ensures
-    c.searched_entries.ensures (pptt_rising c.args.pptt.now)
+    c.searched_entries.ensures.entries (pptt_rising c.args.pptt.now)
     (λ o e passed other point wrong. no_odd_cache e passed wrong.0) (λ at picked here answers. search rules))

@@ -5,7 +5,7 @@ use Rattle.acpi_base.specs.Madt.{madt_contents}
 use Rattle.acpi_read.specs.Madts.{madt_value}
 use Rattle.acpi_lint.proofs.KnownOnes.{are_known}
 use Rattle.acpi_read.specs.SearchedEntries.{searched_in_madt}
-use Rattle.acpi_lint.proofs.SearchedOnes.{collected_same}
+use Rattle.acpi_check.proofs.EntryPasses.Searched.{collected_same}
 use Rattle.acpi_lint.proofs.NotSearched.{apic_id_of_none}
 use Rattle.acpi_lint.proofs.known_numbers.apic_ids.Goals as goal
 
@@ -15,6 +15,6 @@ returns c =
     c.sorted_unique.result.items
     (collected_same {X = ⊤} madt_value (λ s. apic_id_of s.entry) searched_in_madt _ _ _ (Ok c.in_ok-numbers.numbers)
     c.in_ok-numbers.ensures
-    c.searched_entries.ensures
+    c.searched_entries.ensures.entries
     (λ s passed. apic_id_of_none s.entry passed) (λ at picked answers. search rules) (λ found is. is))
     c.sorted_unique.ensures.rise c.sorted_unique.ensures.same

@@ -11,6 +11,6 @@ pub returns : goal.returns
 returns c =
     where_some c.first_picked-gicc.result c.is_some.result
     (any_same madt_value IsGicc searched_in_madt _ _ c.first_picked-gicc.result c.first_picked-gicc.ensures
-    c.searched_entries.ensures
+    c.searched_entries.ensures.entries
     no_gicc
     (λ at picked here answers. search rules)) c.is_some.ensures

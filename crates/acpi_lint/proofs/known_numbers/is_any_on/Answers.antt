@@ -13,7 +13,7 @@ returns c =
     any_named uid_on (madt_contents c.args.madt.now).entries c.is_some.result
     (where_some c.first_picked-uid.result c.is_some.result
     (any_same madt_value (HasSome uid_on) searched_in_madt _ _ c.first_picked-uid.result c.first_picked-uid.ensures
-    c.searched_entries.ensures
+    c.searched_entries.ensures.entries
     (λ e passed (n, is). no_number (uid_on_none e passed) is)
     (λ at picked here answers. number_where (uid_on (madt_value at.now.entry)) picked (search rules)))
     c.is_some.ensures)

@@ -13,7 +13,7 @@ returns c =
     any_named processor_domain (srat_contents c.args.srat.now).entries c.is_some.result
     (where_some c.first_picked-domain.result c.is_some.result
     (any_same srat_value (HasSome processor_domain) searched_in_srat _ _ c.first_picked-domain.result
-    c.first_picked-domain.ensures c.searched_entries.ensures
+    c.first_picked-domain.ensures c.searched_entries.ensures.entries
     (λ e passed (n, is). no_number (processor_domain_none e passed) is)
     (λ at picked here answers. number_where (processor_domain (srat_value at.now.entry)) picked (search rules)))
     c.is_some.ensures)

@@ -13,7 +13,7 @@ returns c =
     any_named placed_uid (srat_contents c.args.srat.now).entries c.is_some.result
     (where_some c.first_picked-uid.result c.is_some.result
     (any_same srat_value (HasSome placed_uid) searched_in_srat _ _ c.first_picked-uid.result c.first_picked-uid.ensures
-    c.searched_entries.ensures
+    c.searched_entries.ensures.entries
     (λ e passed (n, is). no_number (placed_uid_none e passed) is)
     (λ at picked here answers. number_where (placed_uid (srat_value at.now.entry)) picked (search rules)))
     c.is_some.ensures)

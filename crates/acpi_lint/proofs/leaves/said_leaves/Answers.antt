@@ -8,6 +8,6 @@ use Rattle.acpi_lint.proofs.leaves.said_leaves.Goals as goal
 pub returns : goal.returns
 returns c =
     pptt_numbers said_leaf_id searched_in_pptt c.args.pptt.now _ c.collected.result c.collected.ensures
-    c.searched_entries.ensures
+    c.searched_entries.ensures.entries
     said_leaf_none
     (λ at picked answers. search rules)

@@ -14,5 +14,5 @@ returns c =
     gathered_numbers pptt_value (λ s. unnamed_id c.in_ok-parents.parents.items s.offset s.entry) searched_in_pptt
     (IsUnnamedAt (pptt_contents c.args.pptt.now)) 36 _ _ c.collected.result (pptt_rising c.args.pptt.now)
     (read_unnamed (pptt_contents c.args.pptt.now) c.in_ok-parents.parents.items c.in_ok-parents.ensures.all)
-    c.collected.ensures c.searched_entries.ensures
+    c.collected.ensures c.searched_entries.ensures.entries
     (λ s passed. unnamed_none c.in_ok-parents.parents.items s.offset s.entry passed) (λ at picked answers. search rules)

@@ -26,7 +26,7 @@ returns c =
     let IsFault = IsOwnFault q c.args.code in
     let found : FindsLeast (IsFaultAt IsFault (madt_contents c.args.madt.now).entries) c.first_picked-2.result =
     least_same madt_value IsFault searched_in_madt 44 _ _ c.first_picked-2.result c.first_picked-2.ensures
-    c.searched_entries.ensures (madt_rising c.args.madt.now)
+    c.searched_entries.ensures.entries (madt_rising c.args.madt.now)
     (λ o e passed other point (wrong, unused). no_madt_fault q c.args.code (search rules) e passed wrong)
     (λ at picked here answers. search rules) in
     least_as c.first_picked-2.result (λ at other point (e, here, (wrong, unused)). ((e, here, wrong), unused))

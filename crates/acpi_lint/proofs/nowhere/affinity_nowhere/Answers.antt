@@ -27,7 +27,7 @@ returns c =
     (rw (← c.as_slice-ids.ensures.value) at c.in_ok-ids.ensures)
     (rw (← c.as_slice-uids.ensures.value) at c.in_ok-uids.ensures.all)
     (least_same srat_value (IsUnknownAffinity ids uids) searched_in_srat 48 _ _ found c.first_picked.ensures
-    c.searched_entries.ensures
+    c.searched_entries.ensures.entries
     (srat_rising c.args.srat.now)
     (λ o e passed other point wrong. elim wrong [
       | inl unknown ↦ no_number (placed_apic_id_none e passed) unknown.0

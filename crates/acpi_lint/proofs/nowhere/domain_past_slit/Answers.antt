@@ -16,7 +16,7 @@ returns c =
     let IsPast = IsPastHere c.args.localities in
     let found : FindsLeast (IsFaultAt IsPast (srat_contents c.args.srat.now).entries) c.first_picked.result =
     least_same srat_value IsPast searched_in_srat 48 _ _ c.first_picked.result c.first_picked.ensures
-    c.searched_entries.ensures
+    c.searched_entries.ensures.entries
     (srat_rising c.args.srat.now)
     (λ o e passed other point wrong. no_number (any_domain_none e passed) wrong.0) (λ at picked here answers. search
     rules) in

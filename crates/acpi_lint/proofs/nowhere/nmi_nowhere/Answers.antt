@@ -24,6 +24,6 @@ returns c =
     (unknown_named nmi_uid (IsNamed uid_of entries) entries known found
     (rw (← c.as_slice-uids.ensures.value) at c.in_ok-uids.ensures)
     (least_same madt_value (IsUnknownOf nmi_uid known) searched_in_madt 44 _ _ found c.first_picked.ensures
-    c.searched_entries.ensures (madt_rising c.args.madt.now)
+    c.searched_entries.ensures.entries (madt_rising c.args.madt.now)
     (λ o e passed other point wrong. no_number (nmi_uid_none e passed) wrong.0) (λ at picked here answers. search
     rules)))

@@ -29,7 +29,7 @@ returns c =
     (rw (← c.as_slice-ids.ensures.value) at c.in_ok-ids.ensures)
     (let known = rw (← c.as_slice-uids.ensures.value) at c.in_ok-uids.ensures in λ n named. known.all n)
     (least_same madt_value (IsUnplaced ids uids) searched_in_madt 44 _ _ found c.first_picked.ensures
-    c.searched_entries.ensures
+    c.searched_entries.ensures.entries
     (madt_rising c.args.madt.now)
     (λ o e passed other point wrong. elim wrong [
       | inl unknown ↦ no_number (apic_id_on_none e passed) unknown.0

@@ -31,7 +31,7 @@ returns c =
     (λ at other point (_, _, named, none, unused). (named, none, unused))
     (unknown_named uid_on IsId entries known found (rw (← c.as_slice-ids.ensures.value) at c.in_ok-ids.ensures)
     (least_same madt_value (IsUnknownOf uid_on known) searched_in_madt 44 _ _ found c.first_picked.ensures
-    c.searched_entries.ensures
+    c.searched_entries.ensures.entries
     (madt_rising c.args.madt.now)
     (λ o e passed other point wrong. no_number (uid_on_none e passed) wrong.0) (λ at picked here answers. search
     rules)))

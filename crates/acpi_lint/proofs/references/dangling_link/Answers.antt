@@ -18,7 +18,7 @@ returns c =
     let found : FindsLeast (IsFaultAt (NamesNoLink c.args.link offsets) said.entries) c.first_picked.result =
     least_same pptt_value (NamesNoLink c.args.link offsets) searched_in_pptt 36 _ _ c.first_picked.result
     c.first_picked.ensures
-    c.searched_entries.ensures (pptt_rising c.args.pptt.now)
+    c.searched_entries.ensures.entries (pptt_rising c.args.pptt.now)
     (λ o e passed other point wrong. no_number (linked_none c.args.link e passed) wrong.0) (λ at picked here answers.
     search rules) in
     links_dangle c.args.link said offsets c.first_picked.result c.in_ok-offsets.ensures found

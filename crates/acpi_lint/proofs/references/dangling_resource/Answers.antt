@@ -17,7 +17,7 @@ returns c =
     let said = pptt_contents c.args.pptt.now in
     let found : FindsLeast (IsFaultAt (NamesNoResource offsets) said.entries) c.first_picked.result =
     least_same pptt_value (NamesNoResource offsets) searched_in_pptt 36 _ _ c.first_picked.result c.first_picked.ensures
-    c.searched_entries.ensures (pptt_rising c.args.pptt.now)
+    c.searched_entries.ensures.entries (pptt_rising c.args.pptt.now)
     (λ o e passed other point (named, wrong). no_number (resource_none other e passed) named) (λ at picked here
     answers. search rules) in
     resources_dangle said offsets c.first_picked.result c.in_ok-offsets.ensures found

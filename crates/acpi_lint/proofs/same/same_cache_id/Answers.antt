@@ -13,7 +13,7 @@ first_repeated-requires c =
     let are =
     pptt_numbers {X = ⊤} cache_id searched_in_pptt c.args.pptt.now _ (Ok c.in_ok-numbers.numbers)
     c.in_ok-numbers.ensures
-    c.searched_entries.ensures
+    c.searched_entries.ensures.entries
     cache_id_none (λ at picked answers. search rules) in
     record { rise = are.rise; placed = are.placed }
 
@@ -24,6 +24,6 @@ returns c =
     (found_twice c.in_ok-numbers.numbers.items c.first_repeated.result
     (pptt_numbers {X = ⊤} cache_id searched_in_pptt c.args.pptt.now _ (Ok c.in_ok-numbers.numbers)
     c.in_ok-numbers.ensures
-    c.searched_entries.ensures
+    c.searched_entries.ensures.entries
     cache_id_none (λ at picked answers. search rules))
     c.first_repeated.ensures)

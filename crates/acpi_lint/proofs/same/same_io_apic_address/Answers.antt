@@ -5,7 +5,7 @@ use Rattle.acpi_lint.specs.SameNumbers.{nonzero_io_apic_address}
 use Rattle.acpi_lint.proofs.CollectedNumbers.{madt_numbers, each_ok, found_twice}
 use Rattle.acpi_lint.proofs.SameRules.{found_address}
 use Rattle.acpi_read.specs.Madts.{madt_value}
-use Rattle.acpi_lint.proofs.SearchedOnes.{collected_same}
+use Rattle.acpi_check.proofs.EntryPasses.Searched.{collected_same}
 use Rattle.acpi_lint.proofs.UniqueNumbers.{none_later}
 use Rattle.acpi_read.specs.SearchedEntries.{searched_in_madt}
 use Rattle.acpi_lint.proofs.NotSearched.{nonzero_address_none}
@@ -17,7 +17,7 @@ returns-then-branch c =
     (none_later nonzero_io_apic_address (madt_contents c.args.madt.now).entries c.in_ok-addresses.addresses.items
     (collected_same {X = ⊤} madt_value (λ s. nonzero_io_apic_address s.entry) searched_in_madt _ _ _ (Ok
     c.in_ok-addresses.addresses)
-    c.in_ok-addresses.ensures c.searched_entries.ensures
+    c.in_ok-addresses.ensures c.searched_entries.ensures.entries
     (λ s passed. nonzero_address_none s.entry passed) (λ at picked answers. search rules) (λ found is. is))
     (c.in_ok-are_unique.ensures.0 c.if-branch.true))
 
@@ -26,7 +26,7 @@ first_repeated-requires c =
     let are =
     madt_numbers {X = ⊤} nonzero_io_apic_address searched_in_madt c.args.madt.now _ (Ok c.in_ok-numbers.numbers)
     c.in_ok-numbers.ensures
-    c.searched_entries-2.ensures
+    c.searched_entries-2.ensures.entries
     nonzero_address_none (λ at picked answers. search rules) in
     record { rise = are.rise; placed = are.placed }
 
@@ -36,6 +36,6 @@ returns c =
     (found_twice c.in_ok-numbers.numbers.items c.first_repeated.result
     (madt_numbers {X = ⊤} nonzero_io_apic_address searched_in_madt c.args.madt.now _ (Ok c.in_ok-numbers.numbers)
     c.in_ok-numbers.ensures
-    c.searched_entries-2.ensures
+    c.searched_entries-2.ensures.entries
     nonzero_address_none (λ at picked answers. search rules))
     c.first_repeated.ensures)

@@ -11,7 +11,7 @@ first_repeated-requires c =
     let are =
     madt_numbers {X = ⊤} io_apic_id searched_in_madt c.args.madt.now _ (Ok c.in_ok-numbers.numbers)
     c.in_ok-numbers.ensures
-    c.searched_entries.ensures
+    c.searched_entries.ensures.entries
     io_apic_id_none (λ at picked answers. search rules) in
     record { rise = are.rise; placed = are.placed }
 
@@ -20,6 +20,6 @@ returns c =
     found_twice c.in_ok-numbers.numbers.items c.first_repeated.result
     (madt_numbers {X = ⊤} io_apic_id searched_in_madt c.args.madt.now _ (Ok c.in_ok-numbers.numbers)
     c.in_ok-numbers.ensures
-    c.searched_entries.ensures
+    c.searched_entries.ensures.entries
     io_apic_id_none (λ at picked answers. search rules))
     c.first_repeated.ensures

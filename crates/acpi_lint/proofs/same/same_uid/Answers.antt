@@ -4,7 +4,7 @@ use Rattle.acpi_base.specs.Lint.Processors.{uid_on}
 use Rattle.acpi_lint.proofs.CollectedNumbers.{madt_numbers, found_twice}
 use Rattle.acpi_base.specs.Madt.{madt_contents}
 use Rattle.acpi_read.specs.Madts.{madt_value}
-use Rattle.acpi_lint.proofs.SearchedOnes.{collected_same}
+use Rattle.acpi_check.proofs.EntryPasses.Searched.{collected_same}
 use Rattle.acpi_lint.proofs.UniqueNumbers.{none_later}
 use Rattle.acpi_read.specs.SearchedEntries.{searched_in_madt}
 use Rattle.acpi_lint.proofs.NotSearched.{uid_on_none}
@@ -15,7 +15,7 @@ returns-then-branch c =
     none_later uid_on (madt_contents c.args.madt.now).entries c.in_ok-uids.uids.items
     (collected_same {X = ⊤} madt_value (λ s. uid_on s.entry) searched_in_madt _ _ _ (Ok c.in_ok-uids.uids)
     c.in_ok-uids.ensures
-    c.searched_entries.ensures
+    c.searched_entries.ensures.entries
     (λ s passed. uid_on_none s.entry passed) (λ at picked answers. search rules) (λ found is. is))
     (c.in_ok-are_unique.ensures.0 c.if-branch.true)
 
@@ -23,7 +23,7 @@ pub first_repeated-requires : goal.first_repeated-requires
 first_repeated-requires c =
     let are =
     madt_numbers {X = ⊤} uid_on searched_in_madt c.args.madt.now _ (Ok c.in_ok-numbers.numbers) c.in_ok-numbers.ensures
-    c.searched_entries-2.ensures
+    c.searched_entries-2.ensures.entries
     uid_on_none (λ at picked answers. search rules) in
     record { rise = are.rise; placed = are.placed }
 
@@ -31,6 +31,6 @@ pub returns : goal.returns
 returns c =
     found_twice c.in_ok-numbers.numbers.items c.first_repeated.result
     (madt_numbers {X = ⊤} uid_on searched_in_madt c.args.madt.now _ (Ok c.in_ok-numbers.numbers) c.in_ok-numbers.ensures
-    c.searched_entries-2.ensures
+    c.searched_entries-2.ensures.entries
     uid_on_none (λ at picked answers. search rules))
     c.first_repeated.ensures

@@ -11,6 +11,6 @@ pub returns : goal.returns
 returns c =
     least_same madt_value (IsOwnOverride c.args.source) searched_in_madt 44 _ _ c.first_picked.result
     c.first_picked.ensures
-    c.searched_entries.ensures (madt_rising c.args.madt.now)
+    c.searched_entries.ensures.entries (madt_rising c.args.madt.now)
     (λ o e passed other point. no_override c.args.source o e passed other point) (λ at picked here answers. search
     rules)

@@ -10,6 +10,6 @@ pub returns : goal.returns
 returns c =
     rw c.is_some.ensures
     (some_same madt_value IsIoApic searched_in_madt _ _ c.first_picked.result c.first_picked.ensures
-    c.searched_entries.ensures
+    c.searched_entries.ensures.entries
     no_io_apic
     (λ at picked answers. search rules))

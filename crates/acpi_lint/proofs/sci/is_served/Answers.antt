@@ -14,5 +14,5 @@ returns c =
     served q (madt_contents c.args.madt.now) c.args.gsi c.is_some.result
     (rw c.is_some.ensures
     (some_same madt_value (ServesNumber q c.args.gsi) searched_in_madt _ _ c.first_picked.result c.first_picked.ensures
-    c.searched_entries.ensures
+    c.searched_entries.ensures.entries
     (λ e passed. serves_none q c.args.gsi e passed) (λ at picked answers. search rules)))

@@ -25,7 +25,7 @@ returns c =
     let IsFault = IsOwnFault c.args.code in
     let found : FindsLeast (IsFaultAt IsFault (srat_contents c.args.srat.now).entries) c.first_picked-2.result =
     least_same srat_value IsFault searched_in_srat 48 _ _ c.first_picked-2.result c.first_picked-2.ensures
-    c.searched_entries.ensures (srat_rising c.args.srat.now)
+    c.searched_entries.ensures.entries (srat_rising c.args.srat.now)
     (λ o e passed other point (wrong, unused). no_srat_fault c.args.code (search rules) e passed wrong)
     (λ at picked here answers. search rules) in
     least_as c.first_picked-2.result (λ at other point (e, here, (wrong, unused)). ((e, here, wrong), unused))

@@ -15,7 +15,7 @@ pub returns : goal.returns
 returns c =
     let found : FindsLeast (IsFaultAt IsZeroHere (madt_contents c.args.madt.now).entries) c.first_picked.result =
     least_same madt_value IsZeroHere searched_in_madt 44 _ _ c.first_picked.result c.first_picked.ensures
-    c.searched_entries.ensures
+    c.searched_entries.ensures.entries
     (madt_rising c.args.madt.now)
     (λ o e passed other point (zero, unused). no_number (io_apic_address_none e passed) zero) (λ at picked here
     answers. search rules) in
