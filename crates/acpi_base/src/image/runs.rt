@@ -45,8 +45,8 @@ fn first_from(segments: &Segments, address: u64) -> Option<u64>
     Some(u64::MAX)
 }
 
-/// The first run from an address on. There is no search if `count` runs are before the address, and another one is not the
-/// last.
+/// The first run from an address on. If `count` runs are before the address, it is found without a search, unless it is the
+/// last one.
 fn next_run(segments: &Segments, address: u64, count: usize) -> Option<(u64, &[u8])>
     requires { IsSound segments.now }
     ensures { MatchOption result (IsEmptyFrom (memory_in segments.now) address)

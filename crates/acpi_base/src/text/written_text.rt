@@ -80,6 +80,7 @@ pub fn image_text(alloc: Global, image: &Image) -> Result<Vec<u8>, AllocError>
     image.numbers_fit();
     let mut text = Vec::new(alloc);
     let mut from = 0;
+    // How many runs are written.
     let mut count: usize = 0;
     while let Some((base, bytes)) = image.run_from(from, count) {
         write_run(&mut text, alloc, base, bytes)?;

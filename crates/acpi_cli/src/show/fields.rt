@@ -20,6 +20,7 @@ pub fn add_hex<N: Into<u64>>(text: &mut String, words: &str, number: N) -> Resul
     let number: u64 = number.into();
     text.push_str(words)?;
     text.push_str("0x")?;
+    // A quarter of the number's bits, rounded up; 0 has a digit too.
     let digits = (67 - (number | 1).leading_zeros()) / 4;
     for place in (0..digits).rev() {
         let digit = ((number >> (4 * place)) & 0xf) as u8;
