@@ -11,4 +11,5 @@ use Rattle.acpi_check.proofs.domains.placements_of.Goals as goal
 pub returns : goal.returns
 returns c =
     collected_same srat_value (λ s. placement_of s.entry) searched_in_srat _ _ _ c.collected.result c.collected.ensures
-    c.searched_entries.ensures.entries (λ s passed. placement_none s.entry passed) (λ at picked answers. search rules) (are_placements (srat_contents c.args.srat.now))
+    c.searched_entries.ensures.entries (λ s passed. placement_none s.entry passed) (λ at picked answers. search rules)
+    (are_placements (srat_contents c.args.srat.now))

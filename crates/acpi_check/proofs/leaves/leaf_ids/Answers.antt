@@ -9,4 +9,5 @@ use Rattle.acpi_check.proofs.leaves.leaf_ids.Goals as goal
 pub returns : goal.returns
 returns c =
     collected_same pptt_value (λ s. leaf_id s.entry) searched_in_pptt _ _ _ c.collected.result c.collected.ensures
-    c.searched_entries.ensures.entries (λ s passed. leaf_none s.entry passed) (λ at picked answers. search rules) (λ found is. is)
+    c.searched_entries.ensures.entries (λ s passed. leaf_none s.entry passed) (λ at picked answers. search rules) (λ
+    found is. is)
