@@ -8,7 +8,6 @@ mod EntryKinds
 mod FacsSets
 mod FadtSets
 mod FewNumbers
-mod FirstBytes
 mod FirstEntries
 mod FirstOfCodes
 mod FirstSlots
@@ -19,6 +18,7 @@ mod ListedAddresses
 mod MadtFaults
 mod NamedPlaces
 mod NotSearched
+mod NotedSlots
 mod OfSets
 mod OneCodes
 mod OnePlace

@@ -12,11 +12,14 @@ use Rattle.acpi_base.proofs.Root.Slots.{slot_of_root, root_slot}
 use Rattle.acpi_base.proofs.Tables.Listed.{one_first_listed, listed_of_root, listed_in_root}
 use Rattle.acpi_read.specs.Roots.{RootValue, IsWholeRoot}
 use Rattle.acpi_lint.specs.Numbered.{at_place}
+use Rattle.acpi_lint.specs.NotedSlots.{AreNotedSlots}
 use Rattle.acpi_lint.specs.Slots.{AreListed, AreAddresses, FindsSlot, StandsAmong}
 use Rattle.acpi_lint.specs.WholeTables.{IsFound}
 use Rattle.acpi_lint.specs.declared.listed.Slot.{Slot}
+use Rattle.acpi_lint.specs.declared.noted_slots.NotedSlots.{NotedSlots}
 use Rattle.acpi_lint.specs.declared.numbered.Numbered.{Numbered}
 use Rattle.acpi_lint.proofs.FirstSlots.{not_wanted}
+use Rattle.acpi_lint.proofs.NotedSlots.{noted_as}
 
 -- ---- which slots they are
 
@@ -76,20 +79,12 @@ stands_listed given k a are (g, here, at, number) =
     (are.all k a).0
     (subst (λ (x : Numbered). Contains given x) (given_at_place g k a (are.placed g here) at number) here)
 
--- so the first of them is the first that lists its address
-pub found_listed : {Lists : ℕ → ℕ → Type 0} {Answers : ℕ → Bool → Type 0} (given : List Numbered)
-    (found : Option Slot) → AreListed Lists given → FindsSlot (StandsAmong given) Answers found
-    → FindsSlot Lists Answers found
-found_listed {Lists} {Answers} given None are first =
-    record {
-      here = tt;
-      before = λ k a before lists. first.before k a tt (at_place k a, (are.all k a).1 lists, refl, refl);
-    }
-found_listed {Lists} {Answers} given (Some s) are first =
-    record {
-      here = (stands_listed given s.number s.address are first.here.0, first.here.1);
-      before = λ k a before lists. first.before k a before (at_place k a, (are.all k a).1 lists, refl, refl);
-    }
+-- so what is noted of them is noted of the slots
+pub listed_noted : {Lists : ℕ → ℕ → Type 0} (m : Memory) (given : List Numbered) (noted : NotedSlots)
+    → AreListed Lists given → AreNotedSlots m (StandsAmong given) noted → AreNotedSlots m Lists noted
+listed_noted m given noted are =
+    noted_as m noted (λ k a stands. stands_listed given k a are stands)
+    (λ k a lists. (at_place k a, (are.all k a).1 lists, refl, refl))
 
 -- ---- the table at its address
 

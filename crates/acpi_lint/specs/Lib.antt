@@ -6,6 +6,7 @@ pub mod FirstPicked
 pub mod KnownNumbers
 pub mod Leaves
 pub mod MadtPlaces
+pub mod NotedSlots
 pub mod NotedTables
 pub mod Numbered
 pub mod Overrides

@@ -9,6 +9,7 @@ use Rattle.acpi_base.specs.TableKinds.{signature_of}
 use Rattle.acpi_base.specs.declared.table_kind.TableKind.{TableKind}
 use Rattle.acpi_base.specs.declared.table_kind.TableKind.TheVariants as kind
 use Rattle.acpi_lint.specs.EntryTypes.{madt_type, srat_type, AreTypesOf}
+use Rattle.acpi_lint.specs.NotedSlots.{AreNotedSlots}
 use Rattle.acpi_lint.specs.Slots.{IsRootOf, AreAddresses}
 use Rattle.acpi_lint.specs.declared.whole_tables.WholeTables.{WholeTables}
 
@@ -34,5 +35,6 @@ pub record AreTyped (tables : WholeTables) : Type 0 where
 pub record AreWholeTables (m : Memory) (p : ℕ) (tables : WholeTables) : Type 0 where
   pub root : IsRootOf m p tables.root
   pub slots : AreAddresses (IsSlot m p) tables.slots.items
+  pub noted_slots : AreNotedSlots m (IsSlot m p) tables.noted_slots
   pub listed : (kind : TableKind) → IsFound m p (signature_of kind) (table_of tables kind)
   pub typed : AreTyped tables

@@ -158,8 +158,8 @@ fn first_place(
 {
     match rule {
         Rule::ListedTwice => Ok(listed_twice(tables)),
-        Rule::SecondTable => Ok(second_table(image, tables)),
-        Rule::ListedApart => Ok(listed_apart(image, tables)),
+        Rule::SecondTable => Ok(second_table(tables)),
+        Rule::ListedApart => Ok(listed_apart(tables)),
         Rule::FadtOfRevision | Rule::FacsDiffers | Rule::DsdtDiffers | Rule::BlockDiffers => {
             Ok(of_fadt(tables, rule))
         }

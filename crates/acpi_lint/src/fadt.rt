@@ -10,12 +10,10 @@ ghost use Rattle.acpi_lint.specs.Places.{FindsLeast};
 ghost use Rattle.acpi_lint.specs.StageFaults.{IsFaultOfStage};
 ghost use Rattle.acpi_lint.specs.WholeTables.{AreWholeTables};
 
-use crate::listed::has_header;
 use crate::place::Place;
-use crate::slots::first_listed;
 use crate::whole_tables::WholeTables;
 use acpi_base::field::{u8_at, u32_at};
-use acpi_base::{Code, Image, TableKind};
+use acpi_base::{Code, TableKind};
 use acpi_read::{Fadt, Table};
 
 /// RESET_REG_SUP, a bit of Flags: the reset register may be used.
@@ -75,24 +73,24 @@ fn table_fault(table: Table<'_>, code: Code) -> Option<Place>
 }
 
 /// Whether the root table is complete and lists no header of a FADT.
-fn lists_no_fadt(image: &Image, tables: &WholeTables<'_>) -> bool
-    ensures { (p : ℕ) → AreWholeTables image.now p tables.now
-        → IsTrue result ↔ HasNoFadt image.now p }
+fn lists_no_fadt(tables: &WholeTables<'_>) -> bool
+    ensures { (m : Memory) (p : ℕ) → AreWholeTables m p tables.now
+        → IsTrue result ↔ HasNoFadt m p }
 {
     match &tables.root {
-        Some(_) => first_listed(tables, |address| has_header(image, address, b"FACP")).is_none(),
+        Some(_) => tables.noted_slots.fadt.first.is_none(),
         None => false,
     }
 }
 
 /// The first fault of the FADT with this code: its offset in the table, or 0 if none is listed. The tables are those
-/// of the image's set.
-pub fn fadt_fault(image: &Image, tables: &WholeTables<'_>, code: Code) -> Option<Place>
-    ensures { (q : PolicyValue) → AreWholeTables image.now q.rsdp tables.now
-        → FindsLeast (IsFaultOfStage Stage.Fadt code image.now q) result }
+/// of the set.
+pub fn fadt_fault(tables: &WholeTables<'_>, code: Code) -> Option<Place>
+    ensures { (m : Memory) (q : PolicyValue) → AreWholeTables m q.rsdp tables.now
+        → FindsLeast (IsFaultOfStage Stage.Fadt code m q) result }
 {
     match code {
-        Code::NoFadt => lists_no_fadt(image, tables).then_some(Place::at(0)),
+        Code::NoFadt => lists_no_fadt(tables).then_some(Place::at(0)),
         _ => table_fault(tables.table(TableKind::Fadt)?, code),
     }
 }

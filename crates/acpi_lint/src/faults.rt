@@ -38,8 +38,8 @@ fn first_place(
     match code.stage() {
         Stage::Rsdp => Ok(rsdp_fault(image, policy, code)),
         Stage::Root => Ok(root_fault(image, policy, code)),
-        Stage::Tables => Ok(slot_fault(image, tables, code)),
-        Stage::Fadt => Ok(fadt_fault(image, tables, code)),
+        Stage::Tables => Ok(slot_fault(tables, code)),
+        Stage::Fadt => Ok(fadt_fault(tables, code)),
         Stage::Facs => Ok(facs_fault(image, tables, code)),
         Stage::Madt => Ok(madt_fault(tables, policy, code)),
         Stage::Interrupts => gsi_clash(alloc, tables, policy),

@@ -3,12 +3,13 @@
 ghost use Rattle.std.specs.Prelude.{◌≡◌, ℕ, IfOk};
 ghost use Rattle.acpi_base.specs.Root.{IsSlot};
 ghost use Rattle.acpi_base.specs.TableKinds.{signature_of};
-ghost use Rattle.acpi_lint.specs.Slots.{AreAddresses};
+ghost use Rattle.acpi_lint.specs.NotedSlots.{AreNotedSlots};
 ghost use Rattle.acpi_lint.specs.NotedTables.{IsLong};
 ghost use Rattle.acpi_lint.specs.WholeTables.{IsFound, table_of, AreWholeTables};
 
 use crate::entry_types::EntryTypes;
-use crate::listed::{first_slot, has_header, sorted_addresses};
+use crate::listed::sorted_addresses;
+use crate::noted_slots::NotedSlots;
 use crate::noted_tables::NotedTables;
 use crate::numbered::Numbered;
 use acpi_base::{Image, TableKind};
@@ -23,6 +24,8 @@ pub struct WholeTables<'a> {
     pub root: Option<Root<'a>>,
     /// The addresses that it lists, each with its slot, by address and then by slot.
     pub slots: Vec<Numbered>,
+    /// The first of these slots that list what is looked for.
+    pub noted_slots: NotedSlots,
     /// The FADT.
     pub fadt: Option<Table<'a>>,
     /// The SLIT.
@@ -35,13 +38,12 @@ pub struct WholeTables<'a> {
     pub srat_types: EntryTypes,
 }
 
-/// The first listed table of a kind in a set whose slots list these addresses.
-fn found<'a>(image: &'a Image, listed: &[Numbered], kind: TableKind) -> Option<Table<'a>>
-    ensures { (p : ℕ) → AreAddresses (IsSlot image.now p) listed.now
+/// The first listed table of a kind in a set whose slots are noted here.
+fn found<'a>(image: &'a Image, slots: &NotedSlots, kind: TableKind) -> Option<Table<'a>>
+    ensures { (p : ℕ) → AreNotedSlots image.now (IsSlot image.now p) slots.now
         → IsFound image.now p (signature_of kind) result }
 {
-    let signature = kind.signature();
-    let slot = first_slot(listed, |address| has_header(image, address, signature))?;
+    let slot = slots.of_kind(kind).first?;
     Table::whole(image, slot.address)
 }
 
@@ -53,17 +55,19 @@ impl<'a> WholeTables<'a> {
     {
         let root = Root::whole(image, rsdp);
         let slots = sorted_addresses(alloc, &root)?;
-        let madt = found(image, &slots, TableKind::Madt);
+        let noted_slots = NotedSlots::of(image, &slots);
+        let madt = found(image, &noted_slots, TableKind::Madt);
         let madt_types = EntryTypes::madt(&madt);
-        let srat = found(image, &slots, TableKind::Srat);
+        let srat = found(image, &noted_slots, TableKind::Srat);
         let srat_types = EntryTypes::srat(&srat);
-        let pptt = found(image, &slots, TableKind::Pptt);
+        let pptt = found(image, &noted_slots, TableKind::Pptt);
         let noted = NotedTables::of(alloc, madt, srat, pptt)?;
         Ok(WholeTables {
-            fadt: found(image, &slots, TableKind::Fadt),
-            slit: found(image, &slots, TableKind::Slit),
+            fadt: found(image, &noted_slots, TableKind::Fadt),
+            slit: found(image, &noted_slots, TableKind::Slit),
             root,
             slots,
+            noted_slots,
             noted,
             madt_types,
             srat_types,

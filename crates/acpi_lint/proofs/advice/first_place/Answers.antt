@@ -6,10 +6,12 @@ returns-in-ListedTwice c =
     rw c.in-ListedTwice.is (c.listed_twice.ensures c.args.image.now c.args.policy.now.rsdp c.requires)
 
 pub returns-in-SecondTable : goal.returns-in-SecondTable
-returns-in-SecondTable c = rw c.in-SecondTable.is (c.second_table.ensures c.args.policy.now.rsdp c.requires)
+returns-in-SecondTable c =
+    rw c.in-SecondTable.is (c.second_table.ensures c.args.image.now c.args.policy.now.rsdp c.requires)
 
 pub returns-in-ListedApart : goal.returns-in-ListedApart
-returns-in-ListedApart c = rw c.in-ListedApart.is (c.listed_apart.ensures c.args.policy.now.rsdp c.requires)
+returns-in-ListedApart c =
+    rw c.in-ListedApart.is (c.listed_apart.ensures c.args.image.now c.args.policy.now.rsdp c.requires)
 
 pub returns-in-SciNowhere : goal.returns-in-SciNowhere
 returns-in-SciNowhere c = rw c.in-SciNowhere.is (c.of_sci.ensures c.args.image.now c.requires)

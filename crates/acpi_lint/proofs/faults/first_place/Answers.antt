@@ -18,13 +18,13 @@ pub returns-in-Tables : goal.returns-in-Tables
 returns-in-Tables c =
     first_of_stage c.args.image.now c.args.policy.now stage.Tables c.args.code (sym c.stage.ensures ∙ c.in-Tables.is)
     (λ e. omega (arith, e), λ e. omega (arith, e)) c.slot_fault.result
-    (c.slot_fault.ensures c.args.policy.now c.requires)
+    (c.slot_fault.ensures c.args.image.now c.args.policy.now c.requires)
 
 pub returns-in-Fadt : goal.returns-in-Fadt
 returns-in-Fadt c =
     first_of_stage c.args.image.now c.args.policy.now stage.Fadt c.args.code (sym c.stage.ensures ∙ c.in-Fadt.is)
     (λ e. omega (arith, e), λ e. omega (arith, e)) c.fadt_fault.result
-    (c.fadt_fault.ensures c.args.policy.now c.requires)
+    (c.fadt_fault.ensures c.args.image.now c.args.policy.now c.requires)
 
 pub returns-in-Facs : goal.returns-in-Facs
 returns-in-Facs c =

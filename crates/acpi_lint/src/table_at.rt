@@ -1,0 +1,91 @@
+//! What is at an address that a slot lists: the fault of the table there, and which table it is (ACPI 6.5, 5.2.6).
+
+ghost use Rattle.std.specs.Prelude.{◌≡◌, ◌↔◌, ◌⊎◌, IsTrue, Some, true, length};
+ghost use Rattle.acpi_base.specs.Facs.{facs_signature};
+ghost use Rattle.acpi_base.specs.Lint.Slots.{dsdt_signature};
+ghost use Rattle.acpi_base.specs.Memory.{bytes_at};
+ghost use Rattle.acpi_base.specs.Signature.{has_signature};
+ghost use Rattle.acpi_base.specs.Tables.{TableFault};
+ghost use Rattle.acpi_base.specs.declared.code.Code.{Code};
+ghost use Rattle.acpi_lint.specs.NotedSlots.{IsTableAt};
+
+use acpi_base::field::{is_signed, u32_at};
+use acpi_base::{Code, Image, TableKind};
+
+/// What is at an address.
+#[derive(Clone, Copy, Debug)]
+pub struct TableAt {
+    /// The address.
+    pub address: u64,
+    /// The fault of the table there, of which there is at most one.
+    pub fault: Option<Code>,
+    /// Its kind, by the signature of its header.
+    pub kind: Option<TableKind>,
+    /// Whether it is a DSDT or a FACS, by the signature too.
+    pub is_apart: bool,
+}
+
+/// The fault of a table whose header is present. No more of it is read than the header requires.
+fn table_fault(image: &Image, address: u64, header: &[u8]) -> Option<Code>
+    requires held { bytes_at image.now address 36 ≡ Some header.now }
+    requires long { length header.now ≡ 36 }
+    ensures { (code : Code) → (result ≡ Some code) ↔ TableFault image.now address code }
+{
+    let length = u32_at(header, 4);
+    if length < 36 {
+        return Some(Code::TableLength);
+    }
+    match image.window_sum(address, u64::from(length)) {
+        Some(0) => None,
+        Some(_) => Some(Code::TableSum),
+        None => Some(Code::TableOut),
+    }
+}
+
+/// Whether a header is that of a DSDT or of a FACS.
+fn is_apart(header: &[u8]) -> bool
+    ensures { IsTrue result
+        ↔ ((has_signature header.now dsdt_signature ≡ true) ⊎ (has_signature header.now facs_signature ≡ true)) }
+{
+    is_signed(header, b"DSDT") || is_signed(header, b"FACS")
+}
+
+impl TableAt {
+    /// What is at an address. Its bytes are summed only if all of them are present.
+    pub fn of(image: &Image, address: u64) -> TableAt
+        ensures there { result.address ≡ address }
+        ensures noted { IsTableAt image.now result }
+    {
+        let Some(header) = image.window(address, 36) else {
+            return TableAt {
+                address,
+                fault: Some(Code::TableHeaderOut),
+                kind: None,
+                is_apart: false,
+            };
+        };
+        TableAt {
+            address,
+            fault: table_fault(image, address, header),
+            kind: TableKind::of(header),
+            is_apart: is_apart(header),
+        }
+    }
+
+    /// Whether the table there has the fault with this code.
+    pub fn has(&self, code: Code) -> bool
+        ensures { IsTrue result ↔ self.now.fault ≡ Some code }
+    {
+        match self.fault {
+            Some(fault) => fault == code,
+            None => false,
+        }
+    }
+
+    /// Whether the table there is of this kind.
+    pub fn is_of(&self, kind: TableKind) -> bool
+        ensures { IsTrue result ↔ self.now.kind ≡ Some kind }
+    {
+        self.kind == Some(kind)
+    }
+}
