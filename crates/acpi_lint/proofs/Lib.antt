@@ -15,6 +15,7 @@ mod KnownOnes
 mod LeafNumbers
 mod LeastPlaces
 mod ListedAddresses
+mod ListedAgain
 mod MadtFaults
 mod NamedPlaces
 mod NotSearched

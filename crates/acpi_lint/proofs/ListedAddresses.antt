@@ -1,5 +1,5 @@
 -- The addresses that the slots of a root list.
-use Rattle.std.proofs.Common.{◌≡◌, ℕ, ◌<◌, ◌≤◌, ◌+◌, ◌*◌, List, [], ◌∷◌, ◌++◌, Option, refl, sym, ap, ◌∙◌, subst, inl, inr, arith, length}
+use Rattle.std.proofs.Common.{◌≡◌, ℕ, ◌<◌, ◌≤◌, ◌+◌, ◌*◌, List, [], ◌∷◌, ◌++◌, Option, sym, ap, ◌∙◌, inl, inr, arith, length}
 use Rattle.std.specs.Prelude.{◌⊎◌, Contains}
 use Rattle.std.proofs.lemmas.Bool.{cases_lt}
 use Rattle.std.proofs.lemmas.List.Elements.{Contains-append_left, Contains-append_right, Contains-append_cases}
@@ -10,15 +10,17 @@ use Rattle.acpi_base.specs.Number.{field}
 use Rattle.acpi_base.specs.Root.{HasSlot, IsSlot}
 use Rattle.acpi_base.proofs.Elements.{first_element, first_or_later, no_element}
 use Rattle.acpi_base.proofs.Root.Slots.{one_slot}
-use Rattle.acpi_lint.specs.Numbered.{at_place, HasAt}
 use Rattle.acpi_lint.specs.Places.{FindsLeast}
-use Rattle.acpi_lint.specs.Slots.{AreListed}
-use Rattle.acpi_lint.specs.declared.numbered.Numbered.{Numbered}
+use Rattle.acpi_lint.specs.Slots.{StandsAmong, AreListed}
+use Rattle.acpi_lint.specs.declared.listed.Slot.{Slot}
 use Rattle.acpi_lint.specs.declared.place.Place.{Place}
 use Rattle.acpi_lint.proofs.CollectedNumbers.{same_later}
 use Rattle.acpi_lint.proofs.LeastPlaces.{least_as}
 
 -- ---- slot by slot
+
+abbrev pub slot_at : ℕ → ℕ → Slot
+slot_at k a = record { address = a; number = k }
 
 -- the slots before this one list these addresses
 abbrev pub ListsBefore : List ℕ → ℕ → ℕ → ℕ → ℕ → Type 0
@@ -27,57 +29,47 @@ ListsBefore whole d end k a = (k < end) × HasSlot whole d k a
 pub none_before : {whole : List ℕ} {d : ℕ} → AreListed (ListsBefore whole d 0) []
 none_before =
     record {
-      placed = λ g here. absurd (no_element g here);
-      all = λ k a. (λ here. absurd (no_element (at_place k a) here), λ lists. absurd (omega (arith, lists.0)));
+      all = λ k a. (λ here. absurd (no_element (slot_at k a) here), λ lists. absurd (omega (arith, lists.0)));
     }
 
 -- a slot that lists one more address
-pub one_more : {whole : List ℕ} {d n : ℕ} (a : ℕ) (given : List Numbered) → AreListed (ListsBefore whole d n) given
-    → HasSlot whole d n a → AreListed (ListsBefore whole d (n + 1)) (given ++ at_place n a ∷ [])
+pub one_more : {whole : List ℕ} {d n : ℕ} (a : ℕ) (given : List Slot) → AreListed (ListsBefore whole d n) given
+    → HasSlot whole d n a → AreListed (ListsBefore whole d (n + 1)) (given ++ slot_at n a ∷ [])
 one_more {whole} {d} {n} a given before slot =
     record {
-      placed = λ g here. placed g (Contains-append_cases given (at_place n a ∷ []) g here);
       all = λ k b. (
-        λ here. from k b (Contains-append_cases given (at_place n a ∷ []) (at_place k b) here),
+        λ here. from k b (Contains-append_cases given (slot_at n a ∷ []) (slot_at k b) here),
         λ (below, lists). to k b lists (cases_lt k n) below,
       );
     }
   where
-    placed : (g : Numbered) → Contains given g ⊎ Contains (at_place n a ∷ []) g → g.value ≡ g.at
-    placed g (inl here) = before.placed g here
-    placed g (inr last) =
-        elim (first_or_later (at_place n a) g [] last) [
-          | inl same ↦ subst (λ (x : Numbered). x.value ≡ x.at) same refl
-          | inr later ↦ absurd (no_element g later)
-        ]
-
-    from : (k b : ℕ) → HasAt given k b ⊎ Contains (at_place n a ∷ []) (at_place k b) → ListsBefore whole d (n + 1) k b
+    from : (k b : ℕ) → StandsAmong given k b ⊎ Contains (slot_at n a ∷ []) (slot_at k b)
+        → ListsBefore whole d (n + 1) k b
     from k b (inl here) = (let lists = (before.all k b).0 here in (omega (arith, lists.0), lists.1))
     from k b (inr last) =
-        elim (first_or_later (at_place n a) (at_place k b) [] last) [
+        elim (first_or_later (slot_at n a) (slot_at k b) [] last) [
           | inl same ↦
-              let place : n ≡ k = ap (λ (x : Numbered). x.at) same in
-              let number : a ≡ b = ap (λ (x : Numbered). x.number) same in
+              let place : n ≡ k = ap (λ (x : Slot). x.number) same in
+              let number : a ≡ b = ap (λ (x : Slot). x.address) same in
               (omega (arith, place), rw (← place, ← number) slot)
-          | inr later ↦ absurd (no_element (at_place k b) later)
+          | inr later ↦ absurd (no_element (slot_at k b) later)
         ]
 
     to : (k b : ℕ) → HasSlot whole d k b → (k < n) ⊎ (n ≤ k) → k < n + 1
-        → Contains (given ++ at_place n a ∷ []) (at_place k b)
+        → Contains (given ++ slot_at n a ∷ []) (slot_at k b)
     to k b lists (inl less) below =
-        Contains-append_left given (at_place n a ∷ []) (at_place k b) ((before.all k b).1 (less, lists))
+        Contains-append_left given (slot_at n a ∷ []) (slot_at k b) ((before.all k b).1 (less, lists))
     to k b lists (inr least) below =
         let place : k ≡ n = omega arith in
         let number : b ≡ a = one_slot whole d n b a (rw place at lists) slot in
-        Contains-append_right given (at_place n a ∷ []) (at_place k b)
-        (rw (place, number) (first_element (at_place n a) []))
+        Contains-append_right given (slot_at n a ∷ []) (slot_at k b)
+        (rw (place, number) (first_element (slot_at n a) []))
 
 -- one that lists none
-pub none_more : {whole : List ℕ} {d n : ℕ} (given : List Numbered) → AreListed (ListsBefore whole d n) given
+pub none_more : {whole : List ℕ} {d n : ℕ} (given : List Slot) → AreListed (ListsBefore whole d n) given
     → field whole (36 + d * n) d ≡ 0 → AreListed (ListsBefore whole d (n + 1)) given
 none_more {whole} {d} {n} given before zero =
     record {
-      placed = before.placed;
       all = λ k a. (
         λ here. (let lists = (before.all k a).0 here in (omega (arith, lists.0), lists.1)),
         λ (below, lists). (before.all k a).1 (upto k a lists below (cases_lt k n), lists),
@@ -92,11 +84,10 @@ none_more {whole} {d} {n} given before zero =
         absurd (here.listed (sym here.address ∙ zero))
 
 -- all of them
-pub all_listed : {whole : List ℕ} {d n : ℕ} (given : List Numbered) → AreListed (ListsBefore whole d n) given
+pub all_listed : {whole : List ℕ} {d n : ℕ} (given : List Slot) → AreListed (ListsBefore whole d n) given
     → ((k : ℕ) → 36 + d * (k + 1) ≤ length whole → k < n) → AreListed (HasSlot whole d) given
 all_listed given before inside =
     record {
-      placed = before.placed;
       all = λ k a. (
         λ here. ((before.all k a).0 here).1,
         λ lists. (before.all k a).1 (inside k lists.inside, lists),
@@ -105,14 +96,14 @@ all_listed given before inside =
 
 -- ---- addresses of a set that are listed twice
 
-pub found_again : {m : Memory} {p : ℕ} (given : List Numbered) (found : Option Place)
-    → AreListed (IsSlot m p) given → FindsLeast (IsLater (HasAt given)) found → FindsLeast (IsListedTwice m p) found
+pub found_again : {m : Memory} {p : ℕ} (given : List Slot) (found : Option Place)
+    → AreListed (IsSlot m p) given → FindsLeast (IsLater (StandsAmong given)) found → FindsLeast (IsListedTwice m p) found
 found_again {m} {p} given found are first =
     least_as found (λ at other point later. same_later at other point to from later)
     (λ at other point later. same_later at other point from to later) first
   where
-    to : (k a : ℕ) → HasAt given k a → IsSlot m p k a
+    to : (k a : ℕ) → StandsAmong given k a → IsSlot m p k a
     to k a here = (are.all k a).0 here
 
-    from : (k a : ℕ) → IsSlot m p k a → HasAt given k a
+    from : (k a : ℕ) → IsSlot m p k a → StandsAmong given k a
     from k a slot = (are.all k a).1 slot

@@ -4,7 +4,6 @@ use Rattle.std.specs.Prelude.{◌↔◌, ◌⊎◌, IsTrue, IfSome}
 use Rattle.std.proofs.lemmas.Bool.{cases_lt}
 use Rattle.std.proofs.lemmas.Option.{none-some, same_Some}
 use Rattle.std.proofs.lemmas.List.{get_or_default}
-use Rattle.std.proofs.lemmas.List.Elements.{Contains-get_or}
 use Rattle.acpi_base.specs.Facs.{facs_signature}
 use Rattle.acpi_base.specs.Lint.Slots.{dsdt_signature}
 use Rattle.acpi_base.specs.Listed.{fadt_signature, madt_signature, srat_signature, slit_signature, pptt_signature}
@@ -23,7 +22,6 @@ use Rattle.acpi_lint.specs.Slots.{FindsSlot, StandsAmong, StandsBefore}
 use Rattle.acpi_lint.specs.declared.listed.Slot.{Slot}
 use Rattle.acpi_lint.specs.declared.noted_slots.FirstTwo.{FirstTwo}
 use Rattle.acpi_lint.specs.declared.noted_slots.NotedSlots.{NotedSlots}
-use Rattle.acpi_lint.specs.declared.numbered.Numbered.{Numbered}
 
 -- ---- what is at an address
 
@@ -306,56 +304,46 @@ each_noted {Lists} m noted header_out length out sum fadt madt srat slit pptt ap
 
 -- ---- one slot after the other
 
-abbrev none : Numbered
-none = record { number = 0; at = 0; value = 0 }
+abbrev none : Slot
+none = record { address = 0; number = 0 }
 
 -- the slots before the next one are those before this one and this one
-pub below_next : {m : Memory} (given : List Numbered) (i : ℕ) (here : Numbered) (noted : NotedSlots) → i < length given
-    → get_or given i none ≡ here
-    → AreNotedSlots m (OneMore (StandsBelow given i) (record { number = here.at; address = here.number })) noted
+pub below_next : {m : Memory} (given : List Slot) (i : ℕ) (here : Slot) (noted : NotedSlots) → i < length given
+    → get_or given i none ≡ here → AreNotedSlots m (OneMore (StandsBelow given i) here) noted
     → AreNotedSlots m (StandsBelow given (i + 1)) noted
 below_next {m} given i here noted within is are = noted_as m noted to from are
   where
-    to : (k a : ℕ) → OneMore (StandsBelow given i) (record { number = here.at; address = here.number }) k a
-        → StandsBelow given (i + 1) k a
-    to k a (inl (j, less, inside, at, number)) = (j, omega (arith, less), inside, at, number)
-    to k a (inr (place, address)) = (
-      i,
-      omega arith,
-      within,
-      ap (λ (g : Numbered). g.at) is ∙ sym place,
-      ap (λ (g : Numbered). g.number) is ∙ sym address,
-    )
+    to : (k a : ℕ) → OneMore (StandsBelow given i) here k a → StandsBelow given (i + 1) k a
+    to k a (inl (j, less, inside, there)) = (j, omega (arith, less), inside, there)
+    to k a (inr (place, address)) = (i, omega arith, within, rw (place, address) is)
 
-    from : (k a : ℕ) → StandsBelow given (i + 1) k a
-        → OneMore (StandsBelow given i) (record { number = here.at; address = here.number }) k a
-    from k a (j, less, inside, at, number) =
+    from : (k a : ℕ) → StandsBelow given (i + 1) k a → OneMore (StandsBelow given i) here k a
+    from k a (j, less, inside, there) =
         elim (cases_lt j i) [
-          | inl before ↦ inl (j, before, inside, at, number)
+          | inl before ↦ inl (j, before, inside, there)
           | inr most ↦
               let same : j ≡ i = omega (arith, less, most) in
               let this : get_or given j none ≡ here = ap (λ (n : ℕ). get_or given n none) same ∙ is in
-              inr (sym at ∙ ap (λ (g : Numbered). g.at) this, sym number ∙ ap (λ (g : Numbered). g.number) this)
+              let one = sym there ∙ this in
+              inr (ap (λ (s : Slot). s.number) one, ap (λ (s : Slot). s.address) one)
         ]
 
 -- and all of them are the slots that are given
-pub below_end : {m : Memory} (given : List Numbered) (i : ℕ) (noted : NotedSlots) → length given ≤ i
+pub below_end : {m : Memory} (given : List Slot) (i : ℕ) (noted : NotedSlots) → length given ≤ i
     → AreNotedSlots m (StandsBelow given i) noted → AreNotedSlots m (StandsAmong given) noted
 below_end {m} given i noted end are = noted_as m noted to from are
   where
     to : (k a : ℕ) → StandsBelow given i k a → StandsAmong given k a
-    to k a (j, less, inside, at, number) =
-        (get_or given j none, Contains-get_or given j none inside, at, number)
+    to k a (j, less, inside, there) =
+        (j, inside, get_or_default given j (record { address = a; number = k }) none inside ∙ there)
 
     from : (k a : ℕ) → StandsAmong given k a → StandsBelow given i k a
-    from k a (g, (j, inside, is), at, number) =
-        let this : get_or given j none ≡ g = sym (get_or_default given j g none inside) ∙ is in (
-          j,
-          omega (arith, inside, end),
-          inside,
-          ap (λ (x : Numbered). x.at) this ∙ at,
-          ap (λ (x : Numbered). x.number) this ∙ number,
-        )
+    from k a (j, inside, there) = (
+      j,
+      omega (arith, inside, end),
+      inside,
+      get_or_default given j none (record { address = a; number = k }) inside ∙ there,
+    )
 
 -- the two of a kind
 pub two_found : {m : Memory} {Lists : ℕ → ℕ → Type 0} (noted : NotedSlots) (k : TableKind) (two : FirstTwo)

@@ -1,8 +1,12 @@
 -- The listed addresses in rising order, and the first slot that is found among them.
-use Rattle.std.proofs.Common.{◌≡◌, ℕ, List, [], Option, Some, None, refl, ap, ◌∙◌, subst, arith}
-use Rattle.std.specs.Prelude.{◌↔◌, IsTrue, Bool, true, Contains, MatchOption}
-use Rattle.std.specs.List.Sorted.{IsPermutation}
-use Rattle.std.proofs.lemmas.List.Sorted.{Contains-permutation, IsPermutation-sym}
+use Rattle.std.proofs.Common.{◌≡◌, ℕ, ◌<◌, ◌≤◌, ◌⊎◌, List, [], get_or, Option, Some, None, false, Ordering, refl, subst, arith}
+use Rattle.std.specs.Prelude.{◌↔◌, IsTrue, Bool, true, AllPairs, MatchOption}
+use Rattle.std.specs.List.Sorted.{IsPermutation, IsSorted}
+use Rattle.std.specs.Cmp.{IsTotalOrder}
+use Rattle.std.specs.Ordering.{nat_cmp, ordering_then, is_lt}
+use Rattle.std.proofs.lemmas.Bool.Decides.{nat_tests}
+use Rattle.std.proofs.lemmas.Cmp.{nat_cmp_total, on_total, then_total}
+use Rattle.std.proofs.lemmas.List.Sorted.{ranks_by, sorted_far, Contains-permutation, IsPermutation-sym}
 use Rattle.acpi_base.specs.Listed.{IsFirstListed}
 use Rattle.acpi_base.specs.Memory.{Memory}
 use Rattle.acpi_base.specs.Root.{HasSlot, IsSlot}
@@ -11,39 +15,34 @@ use Rattle.acpi_base.proofs.Elements.{no_element}
 use Rattle.acpi_base.proofs.Root.Slots.{slot_of_root, root_slot}
 use Rattle.acpi_base.proofs.Tables.Listed.{one_first_listed, listed_of_root, listed_in_root}
 use Rattle.acpi_read.specs.Roots.{RootValue, IsWholeRoot}
-use Rattle.acpi_lint.specs.Numbered.{at_place}
 use Rattle.acpi_lint.specs.NotedSlots.{AreNotedSlots}
-use Rattle.acpi_lint.specs.Slots.{AreListed, AreAddresses, FindsSlot, StandsAmong}
+use Rattle.acpi_lint.specs.Slots.{IsNotBehind, AreListed, AreAddresses, FindsSlot, StandsAmong}
 use Rattle.acpi_lint.specs.WholeTables.{IsFound}
 use Rattle.acpi_lint.specs.declared.listed.Slot.{Slot}
 use Rattle.acpi_lint.specs.declared.noted_slots.NotedSlots.{NotedSlots}
-use Rattle.acpi_lint.specs.declared.numbered.Numbered.{Numbered}
 use Rattle.acpi_lint.proofs.FirstSlots.{not_wanted}
 use Rattle.acpi_lint.proofs.NotedSlots.{noted_as}
 
 -- ---- which slots they are
 
 -- sorted, they are the same
-pub moved_listed : {Lists : ℕ → ℕ → Type 0} (given sorted : List Numbered) → IsPermutation given sorted
+pub moved_listed : {Lists : ℕ → ℕ → Type 0} (given sorted : List Slot) → IsPermutation given sorted
     → AreListed Lists given → AreListed Lists sorted
 moved_listed given sorted moved are =
     record {
-      placed = λ g here. are.placed g (back g here);
       all = λ k a. (
-        λ here. (are.all k a).0 (back (at_place k a) here),
-        λ lists. Contains-permutation given sorted (at_place k a) moved ((are.all k a).1 lists),
+        λ here. (are.all k a).0
+            (Contains-permutation sorted given (record { address = a; number = k })
+            (IsPermutation-sym given sorted moved) here),
+        λ lists. Contains-permutation given sorted (record { address = a; number = k }) moved ((are.all k a).1 lists),
       );
     }
-  where
-    back : (x : Numbered) → Contains sorted x → Contains given x
-    back x listed = Contains-permutation sorted given x (IsPermutation-sym given sorted moved) listed
 
 -- those of a root are those of its set
-pub set_listed : {m : Memory} {p : ℕ} {root : RootValue} (given : List Numbered) → IsWholeRoot m p root
+pub set_listed : {m : Memory} {p : ℕ} {root : RootValue} (given : List Slot) → IsWholeRoot m p root
     → AreListed (HasSlot root.bytes root.width) given → AreListed (IsSlot m p) given
 set_listed {m} {p} {root} given is are =
     record {
-      placed = are.placed;
       all = λ k a. (
         λ here. root_slot is.named is.table ((are.all k a).0 here),
         λ slot. (are.all k a).1 (slot_of_root m p root.address root.width k a root.bytes is.named is.table slot),
@@ -56,9 +55,8 @@ no_addresses none =
     record {
       listed =
           record {
-            placed = λ g here. absurd (no_element g here);
             all = λ k a. (
-              λ here. absurd (no_element (at_place k a) here),
+              λ here. absurd (no_element (record { address = a; number = k }) here),
               λ slot. absurd (none (record { address = slot.r; width = slot.d; bytes = slot.whole })
                   (record { named = slot.root; table = slot.table })),
             );
@@ -66,25 +64,31 @@ no_addresses none =
       rise = λ i j d less within. absurd (omega (arith, within));
     }
 
-given_at_place : (g : Numbered) (k a : ℕ) → g.value ≡ g.at → g.at ≡ k → g.number ≡ a → g ≡ at_place k a
-given_at_place g k a value at number =
-    ap (λ (n : ℕ). record g { number = n }) number
-    ∙ ap (λ (p : ℕ). record { number = a; at = p; value = g.value }) at
-    ∙ ap (λ (v : ℕ). record { number = a; at = k; value = v }) (value ∙ at)
-
--- one that stands among them lists its address
-pub stands_listed : {Lists : ℕ → ℕ → Type 0} (given : List Numbered) (k a : ℕ) → AreListed Lists given
-    → StandsAmong given k a → Lists k a
-stands_listed given k a are (g, here, at, number) =
-    (are.all k a).0
-    (subst (λ (x : Numbered). Contains given x) (given_at_place g k a (are.placed g here) at number) here)
-
 -- so what is noted of them is noted of the slots
-pub listed_noted : {Lists : ℕ → ℕ → Type 0} (m : Memory) (given : List Numbered) (noted : NotedSlots)
+pub listed_noted : {Lists : ℕ → ℕ → Type 0} (m : Memory) (given : List Slot) (noted : NotedSlots)
     → AreListed Lists given → AreNotedSlots m (StandsAmong given) noted → AreNotedSlots m Lists noted
 listed_noted m given noted are =
-    noted_as m noted (λ k a stands. stands_listed given k a are stands)
-    (λ k a lists. (at_place k a, (are.all k a).1 lists, refl, refl))
+    noted_as m noted (λ k a stands. (are.all k a).0 stands) (λ k a lists. (are.all k a).1 lists)
+
+-- ---- their order
+
+abbrev slot_cmp : Slot → Slot → Ordering
+slot_cmp a b = ordering_then (nat_cmp a.address b.address) (nat_cmp a.number b.number)
+
+slot_cmp_total : IsTotalOrder slot_cmp
+slot_cmp_total = then_total (on_total (λ s. s.address) nat_cmp_total) (on_total (λ s. s.number) nat_cmp_total)
+
+not_behind : (m n p q : ℕ) → is_lt (ordering_then (nat_cmp n m) (nat_cmp q p)) ≡ false
+    → (m < n) ⊎ ((m ≡ n) × (p ≤ q))
+not_behind m n p q upto = grind (arith, nat_tests)
+
+-- sorted, each stands before those that are not before it
+pub slots_in_order : (sorted : List Slot) → IsSorted slot_cmp sorted → AllPairs IsNotBehind sorted
+slots_in_order sorted order i j d before within =
+    not_behind (get_or sorted i d).address (get_or sorted j d).address (get_or sorted i d).number
+    (get_or sorted j d).number
+    (sorted_far (λ a b. is_lt (slot_cmp a b)) (ranks_by slot_cmp_total (λ s. s)) sorted order i j d (omega arith)
+    within)
 
 -- ---- the table at its address
 

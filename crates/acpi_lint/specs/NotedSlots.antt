@@ -13,7 +13,6 @@ use Rattle.acpi_lint.specs.Slots.{FindsSlot, StandsBefore}
 use Rattle.acpi_lint.specs.declared.listed.Slot.{Slot}
 use Rattle.acpi_lint.specs.declared.noted_slots.FirstTwo.{FirstTwo}
 use Rattle.acpi_lint.specs.declared.noted_slots.NotedSlots.{NotedSlots}
-use Rattle.acpi_lint.specs.declared.numbered.Numbered.{Numbered}
 use Rattle.acpi_lint.specs.declared.table_at.TableAt.{TableAt}
 
 -- the signature of a table that should not be listed is held at a
@@ -37,11 +36,10 @@ IsEarlier found slot wanted result =
     ⊎ ((¬ (IsTrue wanted × StandsBefore slot.number found)) × (result ≡ found))
 
 -- slot k, with the address a, is among these before n
-abbrev pub StandsBelow : List Numbered → ℕ → ℕ → ℕ → Type 0
+abbrev pub StandsBelow : List Slot → ℕ → ℕ → ℕ → Type 0
 StandsBelow given n k a =
     (i : ℕ) × (i < n) × (i < length given)
-    × ((get_or given i (record { number = 0; at = 0; value = 0 })).at ≡ k)
-    × ((get_or given i (record { number = 0; at = 0; value = 0 })).number ≡ a)
+    × (get_or given i (record { address = 0; number = 0 }) ≡ record { address = a; number = k })
 
 -- or it is this slot
 abbrev pub OneMore : (ℕ → ℕ → Type 0) → Slot → ℕ → ℕ → Type 0

@@ -5,9 +5,7 @@ use Rattle.acpi_base.specs.Memory.{Memory}
 use Rattle.acpi_base.specs.TableKinds.{signature_of}
 use Rattle.acpi_base.specs.declared.table_kind.TableKind.{TableKind}
 use Rattle.acpi_read.specs.Roots.{RootValue, IsWholeRoot}
-use Rattle.acpi_lint.specs.Numbered.{IsNotAbove, HasAt}
 use Rattle.acpi_lint.specs.Places.{IsNotAfter}
-use Rattle.acpi_lint.specs.declared.numbered.Numbered.{Numbered}
 use Rattle.acpi_lint.specs.declared.place.Place.{Place}
 use Rattle.acpi_lint.specs.declared.listed.Slot.{Slot}
 
@@ -27,19 +25,22 @@ pub record FindsSlot (Lists : ℕ → ℕ → Type 0) (Answers : ℕ → Bool �
 abbrev pub IsRootOf : Memory → ℕ → Option RootValue → Type 0
 IsRootOf m p found = MatchOption found ((root : RootValue) → ¬ IsWholeRoot m p root) (IsWholeRoot m p)
 
--- these are the listed addresses, each with the number of its slot as its place and its value
-pub record AreListed (Lists : ℕ → ℕ → Type 0) (given : List Numbered) : Type 0 where
-  pub placed : (g : Numbered) → Contains given g → g.value ≡ g.at
-  pub all : (k a : ℕ) → HasAt given k a ↔ Lists k a
+-- slot k, with the address a, is among these
+abbrev pub StandsAmong : List Slot → ℕ → ℕ → Type 0
+StandsAmong given k a = Contains given (record { address = a; number = k })
+
+-- these are the listed addresses, each with its slot
+pub record AreListed (Lists : ℕ → ℕ → Type 0) (given : List Slot) : Type 0 where
+  pub all : (k a : ℕ) → StandsAmong given k a ↔ Lists k a
+
+-- a's address is lower than b's, or it is the same and a's number is not higher
+abbrev pub IsNotBehind : Slot → Slot → Type 0
+IsNotBehind a b = (a.address < b.address) ⊎ ((a.address ≡ b.address) × (a.number ≤ b.number))
 
 -- these are the listed addresses, each with its slot, by address and then by slot
-pub record AreAddresses (Lists : ℕ → ℕ → Type 0) (sorted : List Numbered) : Type 0 where
+pub record AreAddresses (Lists : ℕ → ℕ → Type 0) (sorted : List Slot) : Type 0 where
   pub listed : AreListed Lists sorted
-  pub rise : AllPairs IsNotAbove sorted
-
--- slot k, with the address a, is among these
-abbrev pub StandsAmong : List Numbered → ℕ → ℕ → Type 0
-StandsAmong given k a = (g : Numbered) × Contains given g × (g.at ≡ k) × (g.number ≡ a)
+  pub rise : AllPairs IsNotBehind sorted
 
 -- as `IsSecondTable`, for tables of this kind
 pub record IsSecondOf (m : Memory) (p : ℕ) (kind : TableKind) (at other point : ℕ) : Type 0 where

@@ -6,10 +6,9 @@ ghost use Rattle.acpi_base.specs.TableKinds.{signature_of};
 ghost use Rattle.acpi_base.specs.Tables.{IsSigned};
 ghost use Rattle.acpi_lint.specs.NotedSlots.{IsTableAt, IsEarlier, StandsBelow, OneMore, FindsTwo, two_of, fault_slot, AreNotedSlots};
 ghost use Rattle.acpi_lint.specs.Slots.{StandsAmong, StandsBefore};
-ghost use Rattle.acpi_lint.specs.declared.numbered.Numbered.{Numbered};
+ghost use Rattle.acpi_lint.specs.declared.listed.Slot.{Slot};
 
 use crate::listed::Slot;
-use crate::numbered::Numbered;
 use crate::table_at::TableAt;
 use acpi_base::{Code, Image, TableKind};
 
@@ -83,7 +82,7 @@ impl FirstTwo {
     /// These two, after one more wanted slot. A first slot that is no longer the first is now the second, unless it has
     /// the same address.
     fn with(&self, slot: Slot) -> FirstTwo
-        ensures { (m : Memory) (kind : TableKind) (given : List Numbered) (n : ℕ)
+        ensures { (m : Memory) (kind : TableKind) (given : List Slot) (n : ℕ)
             → FindsTwo (StandsBelow given n) (λ a. IsSigned m a (signature_of kind)) self.now.first self.now.second
             → IsSigned m slot.address (signature_of kind)
             → FindsTwo (OneMore (StandsBelow given n) slot) (λ a. IsSigned m a (signature_of kind))
@@ -115,7 +114,7 @@ impl FirstTwo {
 
     /// Notes one more slot, if it is wanted.
     fn note(&mut self, slot: Slot, is_wanted: bool)
-        ensures { (m : Memory) (kind : TableKind) (given : List Numbered) (n : ℕ)
+        ensures { (m : Memory) (kind : TableKind) (given : List Slot) (n : ℕ)
             → FindsTwo (StandsBelow given n) (λ a. IsSigned m a (signature_of kind)) self.old.first self.old.second
             → IsTrue is_wanted ↔ IsSigned m slot.address (signature_of kind)
             → FindsTwo (OneMore (StandsBelow given n) slot) (λ a. IsSigned m a (signature_of kind))
@@ -130,7 +129,7 @@ impl FirstTwo {
 impl NotedSlots {
     /// None so far.
     fn none() -> NotedSlots
-        ensures { (m : Memory) (given : List Numbered)
+        ensures { (m : Memory) (given : List Slot)
             → AreNotedSlots m (StandsBelow given 0) result }
     {
         NotedSlots {
@@ -149,7 +148,7 @@ impl NotedSlots {
 
     /// Notes one more slot, which lists this address.
     fn note(&mut self, number: u64, table: &TableAt)
-        ensures { (m : Memory) (given : List Numbered) (n : ℕ)
+        ensures { (m : Memory) (given : List Slot) (n : ℕ)
             → AreNotedSlots m (StandsBelow given n) self.old
             → IsTableAt m table.now
             → AreNotedSlots m
@@ -173,16 +172,16 @@ impl NotedSlots {
 
     /// The first of these slots that list what is looked for. An address is looked up once if slots with the same
     /// address are next to each other.
-    pub fn of(image: &Image, listed: &[Numbered]) -> NotedSlots
+    pub fn of(image: &Image, listed: &[Slot]) -> NotedSlots
         ensures { AreNotedSlots image.now (StandsAmong listed.now) result }
     {
         let mut noted = NotedSlots::none();
         let mut table = TableAt::of(image, 0);
         for here in listed {
-            if here.number != table.address {
-                table = TableAt::of(image, here.number);
+            if here.address != table.address {
+                table = TableAt::of(image, here.address);
             }
-            noted.note(here.at, &table);
+            noted.note(here.number, &table);
         }
         noted
     }

@@ -60,7 +60,7 @@ impl Order {
 }
 
 /// The lower of two places.
-fn lesser(least: Option<Place>, place: Place) -> Place
+pub fn lesser(least: Option<Place>, place: Place) -> Place
     ensures one { (result ≡ place) ⊎ (least ≡ Some result) }
     ensures after { IsNotAfter result place.at place.other place.point }
     ensures before { IfSome least (λ l. IsNotAfter result l.at l.other l.point) }

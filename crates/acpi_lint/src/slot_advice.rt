@@ -8,7 +8,7 @@ ghost use Rattle.acpi_lint.specs.Places.{FindsLeast};
 ghost use Rattle.acpi_lint.specs.Slots.{IsSecondOf, IsLesser};
 ghost use Rattle.acpi_lint.specs.WholeTables.{AreWholeTables};
 
-use crate::numbered::{Order, least_unlike};
+use crate::listed::first_again;
 use crate::place::Place;
 use crate::whole_tables::WholeTables;
 use acpi_base::TableKind;
@@ -18,7 +18,7 @@ pub fn listed_twice(tables: &WholeTables<'_>) -> Option<Place>
     ensures { (m : Memory) (p : ℕ) → AreWholeTables m p tables.now
         → FindsLeast (IsListedTwice m p) result }
 {
-    least_unlike(&tables.slots, Order::Later)
+    first_again(&tables.slots)
 }
 
 /// The first slot that lists a table of a kind at another address than the first slot of this kind.

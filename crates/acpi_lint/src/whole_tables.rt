@@ -8,10 +8,9 @@ ghost use Rattle.acpi_lint.specs.NotedTables.{IsLong};
 ghost use Rattle.acpi_lint.specs.WholeTables.{IsFound, table_of, AreWholeTables};
 
 use crate::entry_types::EntryTypes;
-use crate::listed::sorted_addresses;
+use crate::listed::{Slot, sorted_addresses};
 use crate::noted_slots::NotedSlots;
 use crate::noted_tables::NotedTables;
-use crate::numbered::Numbered;
 use acpi_base::{Image, TableKind};
 use acpi_read::{Fadt, Madt, Pptt, Root, Srat, Table};
 use std::alloc::{AllocError, Global};
@@ -22,8 +21,8 @@ use std::alloc::{AllocError, Global};
 pub struct WholeTables<'a> {
     /// The root table.
     pub root: Option<Root<'a>>,
-    /// The addresses that it lists, each with its slot, by address and then by slot.
-    pub slots: Vec<Numbered>,
+    /// Its slots that list an address, by address and then by number.
+    pub slots: Vec<Slot>,
     /// The first of these slots that list what is looked for.
     pub noted_slots: NotedSlots,
     /// The FADT.

@@ -2,26 +2,26 @@ use Rattle.std.proofs.Common.{rules, ◌<◌, sym, ◌∙◌, arith}
 use Rattle.acpi_base.specs.Root.{HasSlot}
 use Rattle.acpi_lint.proofs.ListedAddresses.{one_more, none_more, all_listed}
 use Rattle.acpi_lint.proofs.listed.listed_addresses.Goals as goal
-use Rattle.acpi_lint.proofs.listed.listed_addresses.Goals.{then-number-ne0+in_ok-push, else-number-ne0}
+use Rattle.acpi_lint.proofs.listed.listed_addresses.Goals.{then-address-ne0+in_ok-push, else-address-ne0}
 
 pub loop-slot-preserved : goal.loop-slot-preserved
 loop-slot-preserved c =
     let root = c.args.root.now in
     let slot = c.loop-slot.slot in
     let given = c.loop-slot.given.items in
-    elim c.if-number-ne0.branch [
-      | then-number-ne0+in_ok-push w ↦
-          let here : HasSlot root.bytes root.width slot c.slot-number.result =
+    elim c.if-address-ne0.branch [
+      | then-address-ne0+in_ok-push w ↦
+          let here : HasSlot root.bytes root.width slot c.slot-address.result =
           record {
             inside = (c.slots-slot-end.ensures.inside slot).0 c.loop-slot-test.true;
-            address = sym c.slot-number.ensures;
+            address = sym c.slot-address.ensures;
             listed = search rules;
           } in
-          rw (w.given-is, w.in_ok-push.ensures.items, c.from-at.ensures)
-          (one_more c.slot-number.result given c.loop-slot.invariant here)
-      | else-number-ne0 w ↦
+          rw (w.given-is, w.in_ok-push.ensures.items, c.from-number.ensures)
+          (one_more c.slot-address.result given c.loop-slot.invariant here)
+      | else-address-ne0 w ↦
           rw w.given-is
-          (none_more given c.loop-slot.invariant (sym c.slot-number.ensures ∙ w.if-number-ne0.false))
+          (none_more given c.loop-slot.invariant (sym c.slot-address.ensures ∙ w.if-address-ne0.false))
     ]
 
 pub returns : goal.returns

@@ -1,5 +1,4 @@
-use Rattle.acpi_lint.proofs.SortedNumbers.{in_order}
-use Rattle.acpi_lint.proofs.SortedSlots.{moved_listed, set_listed, no_addresses}
+use Rattle.acpi_lint.proofs.SortedSlots.{moved_listed, set_listed, no_addresses, slots_in_order}
 use Rattle.acpi_lint.proofs.listed.sorted_addresses.Goals as goal
 
 pub returns-in_default : goal.returns-in_default
@@ -13,5 +12,5 @@ returns c = λ m p root.
       listed =
           moved_listed given sorted c.sort_any_order.ensures.permutation
           (set_listed {root = c.in-Some.root} given (rw c.in-Some.is at root) c.in_ok-given.ensures);
-      rise = in_order sorted c.sort_any_order.ensures.sorted;
+      rise = slots_in_order sorted c.sort_any_order.ensures.sorted;
     }

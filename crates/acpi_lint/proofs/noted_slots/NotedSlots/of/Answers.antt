@@ -1,6 +1,6 @@
-use Rattle.std.proofs.Common.{◌≡◌, refl, get_or}
-use Rattle.acpi_lint.specs.NotedSlots.{IsTableAt}
-use Rattle.acpi_lint.specs.declared.numbered.Numbered.{Numbered}
+use Rattle.std.proofs.Common.{◌≡◌, ℕ, refl, get_or, subst}
+use Rattle.acpi_lint.specs.NotedSlots.{StandsBelow, OneMore, IsTableAt, AreNotedSlots}
+use Rattle.acpi_lint.specs.declared.listed.Slot.{Slot}
 use Rattle.acpi_lint.proofs.NotedSlots.{below_next, below_end}
 use Rattle.acpi_lint.proofs.noted_slots.NotedSlots.of.Goals as goal
 use Rattle.acpi_lint.proofs.noted_slots.NotedSlots.of.Goals.{then-here-table, else-here-table}
@@ -14,14 +14,14 @@ loop-here-preserved c =
     let m = c.args.image.now in
     let listed = c.args.listed.now in
     let i = c.loop-here.here-index in
-    let here : Numbered = get_or listed i (record { number = 0; at = 0; value = 0 }) in
+    let here : Slot = get_or listed i (record { address = 0; number = 0 }) in
     let table = c.if-here-table.table in
     let there : IsTableAt m table =
     elim c.if-here-table.branch [
       | then-here-table w ↦ rw w.table-is w.of-table-then-here-table.ensures.noted
       | else-here-table w ↦ rw w.table-is c.loop-here.invariant.there
     ] in
-    let address : table.address ≡ here.number =
+    let address : table.address ≡ here.address =
     elim c.if-here-table.branch [
       | then-here-table w ↦ rw w.table-is w.of-table-then-here-table.ensures.there
       | else-here-table w ↦ rw (w.table-is, w.if-here-table.false) refl
@@ -29,7 +29,10 @@ loop-here-preserved c =
     record {
       noted =
           below_next listed i here c.note.new.self c.loop-here-test.true refl
-          (rw (← address) (c.note.ensures m listed i c.loop-here.invariant.noted there));
+          (subst
+          (λ (x : ℕ). AreNotedSlots m
+          (OneMore (StandsBelow listed i) (record { address = x; number = here.number })) c.note.new.self)
+          address (c.note.ensures m listed i c.loop-here.invariant.noted there));
       there = there;
     }
 
