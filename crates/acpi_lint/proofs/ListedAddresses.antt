@@ -97,7 +97,8 @@ all_listed given before inside =
 -- ---- addresses of a set that are listed twice
 
 pub found_again : {m : Memory} {p : ℕ} (given : List Slot) (found : Option Place)
-    → AreListed (IsSlot m p) given → FindsLeast (IsLater (StandsAmong given)) found → FindsLeast (IsListedTwice m p) found
+    → AreListed (IsSlot m p) given → FindsLeast (IsLater (StandsAmong given)) found
+    → FindsLeast (IsListedTwice m p) found
 found_again {m} {p} given found are first =
     least_as found (λ at other point later. same_later at other point to from later)
     (λ at other point later. same_later at other point from to later) first

@@ -1,5 +1,5 @@
--- A loop over slots in the order of their addresses: the lowest one that lists an address again. A slot is a number, its
--- address, which is given at a place, the slot's number.
+-- A loop over slots in the order of their addresses: the lowest one that lists an address again. A slot is a number,
+-- its address, which is given at a place, the slot's number.
 use Rattle.std.proofs.Common.{◌≡◌, ℕ, ◌<◌, List, length, map, get_or, Option, sym, ap, ◌∙◌, inl, inr, arith}
 use Rattle.std.specs.Prelude.{AllPairs}
 use Rattle.std.proofs.Math.Nat.{eq-or-lt_of_le}
