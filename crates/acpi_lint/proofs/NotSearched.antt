@@ -1,8 +1,7 @@
 -- Entries that a search passes over: they have none of the numbers that are read of entries, and none of the faults of
 -- their own that are searched for.
-use Rattle.std.proofs.Common.{◌≡◌, ℕ, List, Option, None, Some, Bool, true, false, refl, sym, ◌∙◌, arith}
+use Rattle.std.proofs.Common.{◌≡◌, ℕ, List, Option, None, Some, Bool, true, false, refl, sym, ◌∙◌}
 use Rattle.std.specs.Prelude.{◌≢◌, ◌&&◌, if◌then◌else◌}
-use Rattle.std.proofs.lemmas.Bool.Decides.{nat_tests}
 use Rattle.std.proofs.lemmas.Option.{none-some}
 use Rattle.acpi_base.specs.Across.{IsIoApic}
 use Rattle.acpi_base.specs.Lint.MadtAdvice.{nmi_uid, io_apic_id, io_apic_address}

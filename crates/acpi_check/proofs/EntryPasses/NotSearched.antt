@@ -1,5 +1,5 @@
 -- Entries that a search passes over: nothing that the stages collect is of them.
-use Rattle.std.proofs.Common.{◌≡◌, ℕ, List, None, Bool, false, refl}
+use Rattle.std.proofs.Common.{◌≡◌, ℕ, None, Bool, false, refl}
 use Rattle.acpi_base.specs.Madt as madt
 use Rattle.acpi_base.specs.Policy.{PolicyValue}
 use Rattle.acpi_base.specs.Pptt as pptt

@@ -1,6 +1,6 @@
 -- Passes over the entries that a search by contents looks at: what is collected of them is what is collected of all
 -- entries, since nothing is of the others.
-use Rattle.std.proofs.Common.{◌≡◌, ℕ, ◌<◌, ◌≤◌, suc, List, [], ◌∷◌, Option, Some, None, Bool, true, false, Result, Vec, Global, refl, ◌∙◌, ap, subst, inl, inr, arith}
+use Rattle.std.proofs.Common.{◌≡◌, ℕ, ◌≤◌, suc, List, [], ◌∷◌, Option, None, Bool, false, Result, Vec, Global, refl, ◌∙◌, ap, subst, inl, inr, arith}
 use Rattle.std.specs.Prelude.{◌↔◌, Contains, IfOk, map, option_map}
 use Rattle.std.specs.List.{cons_option, filter_map}
 use denote.Ref.{Bor}
