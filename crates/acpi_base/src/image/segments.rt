@@ -3,7 +3,7 @@
 //! There is an address without a byte between two segments. All bytes are in one store. The last segment is open: it has
 //! the store's bytes from `start` on, so bytes that follow it are appended. If it is empty, none is open.
 
-ghost use Rattle.std.specs.Prelude.{◌≡◌, ◌+◌, ◌-◌, ◌^◌, ◌<◌, ◌≤◌, ℕ, true, None, IfSome, IsSome, OnOk, OnErr, IfOk, MatchOption, length, take, drop};
+ghost use Rattle.std.specs.Prelude.{◌≡◌, ◌+◌, ◌-◌, ◌^◌, ◌<◌, ◌≤◌, ℕ, ◌↔◌, IsTrue, None, IfSome, IsSome, OnOk, OnErr, IfOk, MatchOption, length, take, drop};
 ghost use Rattle.std.specs.Option.{option_map, option_or};
 ghost use Rattle.std.specs.List.{AllByRecursion};
 ghost use Rattle.std.specs.FinMap.{empty};
@@ -223,7 +223,7 @@ impl Segments {
 
     /// Whether an address is behind this many of the ended segments, and before the next of them.
     fn is_between(&self, address: u64, count: usize) -> bool
-        ensures { result ≡ true → IsBetween self.now.ended address count }
+        ensures { IsTrue result ↔ IsBetween self.now.ended address count }
     {
         let ended = self.ended.pieces();
         if count >= ended.len() || address >= ended[count].0 {
@@ -245,6 +245,7 @@ impl Segments {
             × IsGap (runs_of self.now) address next.0) }
         ensures reached { IfSome result
             (λ next. IsRunAt (runs_of self.now) next.0 (run_at next.0 next.1.now)) }
+        ensures none { result ≡ None → ¬ IsBetween self.now.ended address count }
     {
         if !self.is_between(address, count) {
             return None;

@@ -63,8 +63,8 @@ AreRising low [] = Unit {0}
 AreRising low (s ∷ rest) = (low ≤ s.offset) × AreRising (suc s.offset) rest
 
 -- so they do from any lower offset
-rising_from_less : {E : Type 0} (low high : ℕ) (entries : List (PlacedEntry E)) → low ≤ high → AreRising high entries
-    → AreRising low entries
+pub rising_from_less : {E : Type 0} (low high : ℕ) (entries : List (PlacedEntry E)) → low ≤ high
+    → AreRising high entries → AreRising low entries
 rising_from_less low high [] less rises = tt
 rising_from_less low high (s ∷ rest) less rises = (omega (arith, rises.0), rises.1)
 

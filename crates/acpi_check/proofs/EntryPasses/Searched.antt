@@ -1,6 +1,6 @@
 -- Passes over the entries that a search by contents looks at: what is collected of them is what is collected of all
 -- entries, since nothing is of the others.
-use Rattle.std.proofs.Common.{◌≡◌, ℕ, ◌≤◌, suc, List, [], ◌∷◌, Option, None, Bool, false, Result, Vec, Global, refl, ◌∙◌, ap, subst, inl, inr, arith}
+use Rattle.std.proofs.Common.{◌≡◌, ℕ, suc, List, [], ◌∷◌, Option, None, Bool, false, Result, Vec, Global, refl, ◌∙◌, ap, subst, inl, inr, arith}
 use Rattle.std.specs.Prelude.{◌↔◌, Contains, IfOk, map, option_map}
 use Rattle.std.specs.List.{cons_option, filter_map}
 use denote.Ref.{Bor}
@@ -11,7 +11,7 @@ use Rattle.acpi_read.specs.TypedEntries.{entry_at_value}
 use Rattle.acpi_read.specs.declared.typed_entries.EntryAt.{EntryAt}
 use Rattle.acpi_check.specs.CollectedValues.{Picks, Collects}
 use Rattle.acpi_check.proofs.EntryPasses.Collecting.{gathered, gathered_same}
-use Rattle.acpi_check.proofs.EntryPasses.Kept.{AreRising}
+use Rattle.acpi_check.proofs.EntryPasses.Kept.{AreRising, rising_from_less}
 
 -- ---- the entries that are looked at
 
@@ -58,11 +58,6 @@ stands_same searched all taken are P none o = (
 )
 
 -- their offsets rise too
-rising_from_less : {E : Type 0} (low high : ℕ) (entries : List (PlacedEntry E)) → low ≤ high → AreRising high entries
-    → AreRising low entries
-rising_from_less low high [] less rises = tt
-rising_from_less low high (s ∷ rest) less rises = (omega (arith, rises.0), rises.1)
-
 pub still_rising : {E : Type 0} (searched : E → Bool) (low : ℕ) (all taken : List (PlacedEntry E))
     → AreSearched searched all taken → AreRising low all → AreRising low taken
 unfolding AreSearched
