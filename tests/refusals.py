@@ -299,6 +299,16 @@ class Sweep:
         return f"{len(self.refused)} of {self.last} requests refused" if len(self.refused) < self.last else ""
 
 
+def shuffled_run():
+    """A check that sorts the numbers of I/O APICs in stage 7, and once more in stage 17."""
+    numbers = [7 * place % 30 for place in range(30)]
+    entries = [io_apic(0xFEC00000 + 0x1000 * number, number) for number in numbers]
+    tables = [full_fadt(), madt(lapic(0, 0), *entries, override(0, 2))]
+    text = text_of(image_of(*tables, others={FACS_AT: facs()}))
+    words = ["check", "--rsdp", "e0000", "--default-inputs", "1"]
+    return Run("check, 30 I/O APICs in no order", text, words, 0, "yes\n")
+
+
 def wrong_sweep(sweep, answer, spared):
     """What is wrong with a sweep over a run that has this answer. This many requests may be refused and the answer be the
     usual one: they come before the input is read. Where not all requests were refused, they need not be among these."""
@@ -548,7 +558,7 @@ def little_memory(program, run):
 
 def tasks():
     """The tests that need the object, each as a function and its arguments."""
-    for run in [*CLEAN_RUNS, *faulty_runs(), *wordy_runs(), scattered_run()]:
+    for run in [*CLEAN_RUNS, *faulty_runs(), *wordy_runs(), scattered_run(), shuffled_run()]:
         yield starved, run, "REFUSE_AT"
     for run in [*CLEAN_RUNS, scattered_run()]:
         yield starved, run, "REFUSE_FROM"
