@@ -7,7 +7,8 @@
 //!   and the first two spans that contain it.
 //! - `first_stray`: for nodes that refer to their parents, the first one whose chain of parents leads into a cycle
 //!   and never ends, and where its cycle begins.
-//! - `sort_any_order`, `sort_any_order_by_key`: sort items in a time that no known order of theirs makes much longer.
+//! - `sort_any_order`, `sort_slice_any_order`, `sort_any_order_by_key`: sort items in a time that no known order of theirs
+//!   makes much longer.
 //!
 //! ```rust
 //! let low = Span::new(0, 10, 1).unwrap(); // 0 to 9, under the name 1
@@ -44,6 +45,6 @@ mod tests;
 
 pub use apart::first_meeting;
 pub use clash::{Clash, first_clash};
-pub use sorting::{sort_any_order, sort_any_order_by_key};
+pub use sorting::{sort_any_order, sort_any_order_by_key, sort_slice_any_order};
 pub use span::{CompactSpan, Span};
 pub use stray::{Stray, first_stray};

@@ -1,7 +1,7 @@
 //! Sorting, in a time that no known order of the items makes much longer. Items that rise already, or fall, take one pass or
 //! two. All others are brought into a mixed order, and take as long as items in random order.
 
-ghost use Rattle.std.specs.Prelude.{◌≡◌, vec_len};
+ghost use Rattle.std.specs.Prelude.{◌≡◌, length, vec_len};
 ghost use Rattle.std.specs.List.Sorted.{IsPermutation, IsSorted, IsSortedByKeyClosure};
 
 use crate::mixing::mix;
@@ -12,7 +12,15 @@ pub fn sort_any_order<T: Ord>(items: &mut Vec<T>)
     ensures len { vec_len items.new ≡ vec_len items.old }
     ensures sorted { IsSorted T.cmp items.new.items }
 {
-    let items = items.as_mut_slice();
+    sort_slice_any_order(items.as_mut_slice());
+}
+
+/// The same for a slice.
+pub fn sort_slice_any_order<T: Ord>(items: &mut [T])
+    ensures permutation { IsPermutation items.old items.new }
+    ensures len { length items.new ≡ length items.old }
+    ensures sorted { IsSorted T.cmp items.new }
+{
     mix(items, |one, other| one.cmp(other).is_lt());
     items.sort_unstable();
 }

@@ -18,10 +18,6 @@ none_of_some : (found : Option (List ℕ)) → is_some found ≡ true → is_non
 none_of_some (Some whole) some = refl
 none_of_some None some = absurd cc
 
-some_of_none : (found : Option (List ℕ)) → is_some found ≡ false → is_none found ≡ true
-some_of_none (Some whole) none = absurd cc
-some_of_none None none = refl
-
 -- a table is the first of no kind where there is a first of its own
 pub first_of_none : (whole : List ℕ) (one kind : TableKind) (firsts : TableKind → Option (List ℕ))
     → has_signature whole (signature_of one) ≡ true
@@ -36,12 +32,12 @@ first_of_none whole one kind firsts has some =
 -- the first of its own kind is kept, and those of the others stay
 pub first_kept : (whole : List ℕ) (one kind : TableKind) (old new : TableKind → Option (List ℕ))
     → has_signature whole (signature_of one) ≡ true
-    → is_some (old one) ≡ false → new one ≡ Some whole → ((other : TableKind) → ¬ (other ≡ one) → new other ≡ old other)
+    → old one ≡ None → new one ≡ Some whole → ((other : TableKind) → ¬ (other ≡ one) → new other ≡ old other)
     → new kind ≡ first_signed_table (signature_of kind) (old kind) whole
 first_kept whole one kind old new has none kept others =
     elim (cases_Bool (has_signature whole (signature_of kind))) [
       | inl is ↦ rw is (subst (λ (k : TableKind). new k ≡ (if is_none (old k) then Some whole else old k))
-          (one_kind whole one kind has is) (rw (some_of_none (old one) none) kept))
+          (one_kind whole one kind has is) (rw none kept))
       | inr other ↦ rw other (others kind (λ same. both_ways (has_signature whole (signature_of kind)) other
           (subst (λ (k : TableKind). has_signature whole (signature_of k) ≡ true) (sym same) has)))
     ]

@@ -77,6 +77,18 @@ impl<'a> FirstTables<'a> {
         Some(listed.table.copied())
     }
 
+    /// The kind of which a table would be the first one, if it were added next. None if there is one already, or if the
+    /// table is of no kind.
+    pub fn first_as(&self, table: &Table<'_>) -> Option<TableKind>
+        ensures { IsFirstOf self.now table.now result }
+    {
+        let kind = TableKind::of(table.bytes())?;
+        if self.listed(kind).is_some() {
+            return None;
+        }
+        Some(kind)
+    }
+
     /// Adds the next table: keeps it if it is the first of its kind, and then returns the kind.
     pub fn add(&mut self, listed: Listed<'a>) -> Option<TableKind>
         ensures tables { (kind : TableKind)
@@ -84,10 +96,7 @@ impl<'a> FirstTables<'a> {
             (first_table self.old kind) listed.entry.table }
         ensures kind { IsFirstOf self.old listed.entry.table result }
     {
-        let kind = TableKind::of(listed.table.bytes())?;
-        if self.listed(kind).is_some() {
-            return None;
-        }
+        let kind = self.first_as(&listed.table)?;
         self.keep(kind, listed);
         Some(kind)
     }

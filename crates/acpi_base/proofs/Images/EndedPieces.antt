@@ -118,7 +118,7 @@ begins bases ps a b start each within low is =
 -- and ends before the next one
 pub block_ends : (bases : List ℕ) (ps : List Piece) (a b start : ℕ) → AreBases bases ps → AreRisingPieces ps
     → b < length bases
-    → AllWithin (λ x. a < x) bases b (length bases) → start ≡ (b - 1) * 8 → IsBlock ps a start
+    → AllWithin (λ x. a < x) bases b (length bases) → start ≡ (b - 1) * 8 → IsBlock ps a start 8
 block_ends bases ps a b start each rise inside high is =
     let none : Piece = (0, record { start = 0; len = 0 }) in
     let here = each b 0 none inside in (
@@ -185,18 +185,18 @@ module _ (ps part : List Piece) (start w : ℕ) (count : length part ≡ w) (fit
 
 module _ (ps : List Piece) (a start : ℕ) (rise : AreRisingPieces ps) where
   -- few pieces rise
-  pub few_rise : IsBlock ps a start → AreRisingPieces (take 8 (take (length ps - start) (drop start ps)))
-  few_rise block = part_rises ps (take 8 (take (length ps - start) (drop start ps))) start 8
-      (few_count ps start 8 block.0) block.0 (λ k p h. few_at ps start 8 k p block.0 h) rise
+  pub few_rise : (n : ℕ) → IsBlock ps a start n → AreRisingPieces (take n (take (length ps - start) (drop start ps)))
+  few_rise n block = part_rises ps (take n (take (length ps - start) (drop start ps))) start n
+      (few_count ps start n block.0) block.0 (λ k p h. few_at ps start n k p block.0 h) rise
 
   -- where they are parted, all are
-  pub few_joined : (c : ℕ) → IsBegin ps a start → IsBlock ps a start
-      → c ≤ length (take 8 (take (length ps - start) (drop start ps)))
-      → IsPartitionPoint (take 8 (take (length ps - start) (drop start ps))) a c → IsPartitionPoint ps a (start + c)
-  few_joined c begin block within point =
-      let count = few_count ps start 8 block.0 in
-      place_joined ps (take 8 (take (length ps - start) (drop start ps))) start 8 count block.0
-      (λ k p h. few_at ps start 8 k p block.0 h) rise a c begin block.1 (omega arith) point
+  pub few_joined : (n c : ℕ) → IsBegin ps a start → IsBlock ps a start n
+      → c ≤ length (take n (take (length ps - start) (drop start ps)))
+      → IsPartitionPoint (take n (take (length ps - start) (drop start ps))) a c → IsPartitionPoint ps a (start + c)
+  few_joined n c begin block within point =
+      let count = few_count ps start n block.0 in
+      place_joined ps (take n (take (length ps - start) (drop start ps))) start n count block.0
+      (λ k p h. few_at ps start n k p block.0 h) rise a c begin block.1 (omega arith) point
 
   -- and where all from a place on are
   pub rest_joined : (c : ℕ) → IsBegin ps a start → c ≤ length (take (length ps - start) (drop start ps))
@@ -206,3 +206,28 @@ module _ (ps : List Piece) (a start : ℕ) (rise : AreRisingPieces ps) where
       let fits = begin.0 in
       place_joined ps (take (length ps - start) (drop start ps)) start (length ps - start) count (omega arith)
       (λ k p h. rest_at ps start k p h) rise a c begin (λ k p l h. absurd (omega arith)) (omega arith) point
+
+-- ---- a stretch that is found by doubling
+
+-- a piece that begins at the address or before it is a begin
+pub begin_at : (ps : List Piece) (a k : ℕ) (p : Piece) → k < length ps → (get_or ps k p).0 ≤ a → IsBegin ps a k
+begin_at ps a k p h low = (
+  omega arith,
+  inr (h, λ q. subst (λ (r : Piece). r.0 ≤ a) (get_or_default ps k p q h) low),
+)
+
+-- where a piece begins behind the address, so do all after it
+pub block_before : (ps : List Piece) (a start n : ℕ) (p : Piece) → AreRisingPieces ps → start + n < length ps
+    → a < (get_or ps (start + n) p).0 → IsBlock ps a start n
+block_before ps a start n p rise h high = (
+  omega arith,
+  λ k q l b.
+      let up = rise (start + n) k q l b in
+      let same = get_or_default ps (start + n) p q h in
+      let high : a < (get_or ps (start + n) q).0 = subst (λ (r : Piece). a < r.0) same high in
+      omega arith,
+)
+
+-- all that are left
+pub block_of_rest : (ps : List Piece) (a start n : ℕ) → start ≤ length ps → n ≡ length ps - start → IsBlock ps a start n
+block_of_rest ps a start n h is = (omega arith, λ k p l b. absurd (omega arith))

@@ -19,7 +19,7 @@ abbrev pub IsBegin : List Piece → ℕ → ℕ → Type 0
 IsBegin ps a start = (start ≤ length ps)
     × ((start ≡ 0) ⊎ ((start < length ps) × ((p : Piece) → (slice_index_or ps start p).0 ≤ a)))
 
--- there are 8 pieces from this one on, and those after them begin behind the address
-abbrev pub IsBlock : List Piece → ℕ → ℕ → Type 0
-IsBlock ps a start = (start + 8 ≤ length ps)
-    × ((k : ℕ) (p : Piece) → start + 8 ≤ k → k < length ps → a < (slice_index_or ps k p).0)
+-- there are n pieces from this one on, and those after them begin behind the address
+abbrev pub IsBlock : List Piece → ℕ → ℕ → ℕ → Type 0
+IsBlock ps a start n = (start + n ≤ length ps)
+    × ((k : ℕ) (p : Piece) → start + n ≤ k → k < length ps → a < (slice_index_or ps k p).0)

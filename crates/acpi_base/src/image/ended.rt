@@ -59,6 +59,23 @@ fn few_up_to(pieces: &[(u64, Span)], address: u64) -> usize
     count
 }
 
+/// Some of the pieces, among which a search ends that begins with the one at `begin`: where they begin, and how many they
+/// are. It looks twice as far ahead each time.
+fn stretch(pieces: &[(u64, Span)], address: u64, begin: usize) -> (usize, usize)
+    requires rising { AreRisingPieces pieces.now }
+    requires begin { IsBegin pieces.now address begin }
+    ensures begin { IsBegin pieces.now address result.0 }
+    ensures block { IsBlock pieces.now address result.0 result.1 }
+{
+    let mut start = begin;
+    let mut count = DISTANCE;
+    while count < pieces.len() - start && pieces[start + count].0 <= address {
+        start += count;
+        count = count.saturating_mul(2);
+    }
+    (start, count.min(pieces.len() - start))
+}
+
 /// Pieces to which more are appended. Contracts see the pieces.
 #[derive(Debug, Drop)]
 pub struct EndedPieces {
@@ -118,7 +135,7 @@ impl EndedPieces {
     fn block(&self, address: u64) -> (usize, bool)
         requires { AreRisingPieces self.now }
         ensures begin { IsBegin self.now address result.0 }
-        ensures block { IsTrue result.1 → IsBlock self.now address result.0 }
+        ensures block { IsTrue result.1 → IsBlock self.now address result.0 8 }
     {
         let blocks = bases_up_to(&self.bases, address);
         (
@@ -140,5 +157,20 @@ impl EndedPieces {
         } else {
             start + pieces_up_to(rest, address)
         }
+    }
+    /// The same for a caller that passes the number for an address that is not much lower: the fewer pieces begin between
+    /// the two, the sooner the search ends. With any other number it takes as long as without.
+    pub fn place_near(&self, address: u64, near: usize) -> usize
+        requires { AreRisingPieces self.now }
+        ensures within { result ≤ length self.now }
+        ensures place { IsPartitionPoint self.now address result }
+    {
+        let pieces = self.pieces.as_slice();
+        if near == 0 || near > pieces.len() || address < pieces[near - 1].0 {
+            return self.place(address);
+        }
+        let (start, count) = stretch(pieces, address, near - 1);
+        let rest = &pieces[start..];
+        start + pieces_up_to(&rest[..count], address)
     }
 }

@@ -10,22 +10,34 @@ ghost use Rattle.acpi_base.specs.Text.WrittenText.{IsEmptyFrom, IsFirstFrom, IsN
 use crate::image::Image;
 use crate::image::segments::Segments;
 
-/// The bytes from an address on, up to the next address without a byte. None if that is the address itself.
+/// The bytes from an address on, up to the next address without a byte. None if that is the address itself. And the number
+/// to pass as `near` for a higher address.
 #[tactic(auto, using(crate::proofs::Texts::Written::Rests::rests), unfolding(crate::specs::Memory::run_of))]
+fn rest_near(segments: &Segments, address: u64, near: usize) -> (&[u8], usize)
+    requires { IsSound segments.now }
+    ensures held { run_of (lookup (runs_of segments.now)) address (length result.0.now) ≡ Some
+        result.0.now }
+    ensures none_behind { lookup (runs_of segments.now) (address + length result.0.now) ≡ None }
+{
+    let (found, place) = segments.reaching_near(address, near);
+    let Some((base, bytes)) = found else {
+        return (&[], place);
+    };
+    let skipped = address - base;
+    if skipped > bytes.len() as u64 {
+        return (&[], place);
+    }
+    (&bytes[skipped as usize..], place)
+}
+
+/// The bytes from an address on, up to the next address without a byte. None if that is the address itself.
 fn rest_from(segments: &Segments, address: u64) -> &[u8]
     requires { IsSound segments.now }
     ensures held { run_of (lookup (runs_of segments.now)) address (length result.now) ≡ Some
         result.now }
     ensures none_behind { lookup (runs_of segments.now) (address + length result.now) ≡ None }
 {
-    let Some((base, bytes)) = segments.reaching(address) else {
-        return &[];
-    };
-    let skipped = address - base;
-    if skipped > bytes.len() as u64 {
-        return &[];
-    }
-    &bytes[skipped as usize..]
+    rest_near(segments, address, 0).0
 }
 
 /// The lowest address with a byte, from an address on.
@@ -67,6 +79,15 @@ impl Image {
         ensures { AreBytesFrom self.now address result.now }
     {
         rest_from(&self.segments, address)
+    }
+
+    /// Returns the same, and a number to pass as `near` in the next call, if that is for a higher address: the fewer pieces
+    /// of the image are between the two, the sooner they are found. The first time `near` is 0. Any other number is allowed
+    /// too, and only costs time. Takes no memory.
+    pub fn bytes_near(&self, address: u64, near: usize) -> (&[u8], usize)
+        ensures { AreBytesFrom self.now address result.0.now }
+    {
+        rest_near(&self.segments, address, near)
     }
 
     /// The first run of bytes from an address on, up to the next address without a byte: its first address, and its bytes.

@@ -85,11 +85,45 @@ impl Segments {
         self.ended.place(address)
     }
 
+    /// The same for a caller that knows the number of another address.
+    fn place_near(&self, address: u64, near: usize) -> usize
+        requires { IsSound self.now }
+        ensures within { result ≤ length self.now.ended }
+        ensures place { IsPartitionPoint self.now.ended address result }
+    {
+        self.ended.place_near(address, near)
+    }
+
     fn open(&self) -> &[u8]
         requires { IsSound self.now }
         ensures { result.now ≡ drop self.now.start self.now.store }
     {
         &self.store.bytes()[self.start..]
+    }
+
+    /// The last segment that begins at an address or before it: its base, and the span of its bytes. And how many ended
+    /// segments begin there or before it, if that was asked; `near` is such a number of another address, or 0.
+    fn piece_near(&self, address: u64, near: usize) -> (Option<(u64, Span)>, usize)
+        requires { IsSound self.now }
+        ensures reached { MatchOption result.0 (lookup (runs_of self.now) address ≡ None)
+            (λ piece. IsRunAt (runs_of self.now) address (run_in self.now.store piece)) }
+        ensures lies { IfSome result.0
+            (λ piece. piece.1.start + piece.1.len ≤ length self.now.store) }
+        ensures small { length self.now.store < 2 ^ 64 }
+    {
+        let count = self.store.len();
+        if self.base <= address && self.start < count {
+            let span = Span {
+                start: self.start,
+                len: count - self.start,
+            };
+            return (Some((self.base, span)), near);
+        }
+        let place = self.place_near(address, near);
+        if place == 0 {
+            return (None, 0);
+        }
+        (Some(self.ended.pieces()[place - 1]), place)
     }
 
     /// The last segment that begins at an address or before it: its base, and the span of its bytes.
@@ -101,19 +135,7 @@ impl Segments {
             (λ piece. piece.1.start + piece.1.len ≤ length self.now.store) }
         ensures small { length self.now.store < 2 ^ 64 }
     {
-        let count = self.store.len();
-        if self.base <= address && self.start < count {
-            let span = Span {
-                start: self.start,
-                len: count - self.start,
-            };
-            return Some((self.base, span));
-        }
-        let place = self.place(address);
-        if place == 0 {
-            return None;
-        }
-        Some(self.ended.pieces()[place - 1])
+        self.piece_near(address, 0).0
     }
 
     /// The last segment that begins at an address or before it.
@@ -122,8 +144,21 @@ impl Segments {
         ensures { MatchOption result (lookup (runs_of self.now) address ≡ None)
             (λ found. IsRunAt (runs_of self.now) address (run_at found.0 found.1.now)) }
     {
-        let (base, span) = self.piece_reaching(address)?;
-        Some((base, span.bytes(self.store.bytes())))
+        self.reaching_near(address, 0).0
+    }
+
+    /// The same, and a number to pass as `near` when a higher address is searched for next: the search begins there. The
+    /// first time it is 0.
+    pub fn reaching_near(&self, address: u64, near: usize) -> (Option<(u64, &[u8])>, usize)
+        requires { IsSound self.now }
+        ensures { MatchOption result.0 (lookup (runs_of self.now) address ≡ None)
+            (λ found. IsRunAt (runs_of self.now) address (run_at found.0 found.1.now)) }
+    {
+        let (piece, place) = self.piece_near(address, near);
+        let Some((base, span)) = piece else {
+            return (None, place);
+        };
+        (Some((base, span.bytes(self.store.bytes()))), place)
     }
 
     /// The byte at an address.

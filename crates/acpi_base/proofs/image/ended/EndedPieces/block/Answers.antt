@@ -22,7 +22,7 @@ returns-clause-block c = λ more.
     let inside : c.bases_up_to-blocks.result < length c.self.inside.bases.items =
     subst (λ (n : ℕ). c.bases_up_to-blocks.result < n)
     (c.len.ensures ∙ sym c.deref.ensures.len ∙ ap length c.deref.ensures.value) (ltb-true _ _ more) in
-    subst (λ (ps : List Piece). IsBlock ps c.args.address (c.saturating_sub.result * 8)) c.self.view_is
+    subst (λ (ps : List Piece). IsBlock ps c.args.address (c.saturating_sub.result * 8) 8) c.self.view_is
     (block_ends c.self.inside.bases.items c.self.inside.pieces.items c.args.address c.bases_up_to-blocks.result
     (c.saturating_sub.result * 8) c.self.invariant (subst AreRisingPieces (sym c.self.view_is) c.requires) inside
     (rw c.deref.ensures.value at c.bases_up_to-blocks.ensures.high) (ap (λ (n : ℕ). n * 8) c.saturating_sub.ensures))
