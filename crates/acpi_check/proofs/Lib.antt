@@ -2,5 +2,6 @@ pub mod EntryPasses
 pub mod ListedSets
 mod NodeLinks
 mod ProcessorNumbers
+mod SlotBlocks
 mod Spans
 mod WholeSets

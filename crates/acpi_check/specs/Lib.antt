@@ -20,6 +20,7 @@ pub mod RangeKinds
 pub mod RangeSpans
 pub mod ServedGsis
 pub mod Set
+pub mod SlotBlocks
 pub mod StageResults
 pub mod TableResults
 pub mod Tables

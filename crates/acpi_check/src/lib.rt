@@ -50,6 +50,7 @@ mod served;
 mod set;
 mod set_views;
 mod slit;
+mod slot_blocks;
 mod srat;
 mod stages;
 mod subset;

@@ -1,16 +1,16 @@
 -- What the slots below one list first with a signature, from slot to slot.
-use Rattle.std.proofs.Common.{◌≡◌, ◌<◌, ◌+◌, ℕ, List, length, Option, Some, None, true, false, cond, sym, ap, ◌∙◌, subst, inl, inr, arith}
+use Rattle.std.proofs.Common.{◌≡◌, ◌<◌, ◌≤◌, ◌+◌, ◌*◌, ℕ, List, length, Option, Some, None, true, false, cond, sym, ap, ◌∙◌, subst, inl, inr, arith}
 use Rattle.std.specs.Prelude.{◌&&◌}
 use Rattle.std.proofs.lemmas.Bool.{cases_lt, cases_Bool, both_ways}
 use Rattle.acpi_base.specs.Memory.{Memory}
 use Rattle.acpi_base.specs.Signature.{has_signature}
-use Rattle.acpi_base.specs.Root.{HasSlot, IsRoot, IsRootTable}
+use Rattle.acpi_base.specs.Root.{HasSlot, IsRoot, IsRootTable, IsSlot}
 use Rattle.acpi_base.specs.Tables.{IsSigned, IsTable, IsSoundTable}
 use Rattle.acpi_base.specs.Listed.{IsListed}
 use Rattle.acpi_base.specs.TableKinds.{signature_of}
 use Rattle.acpi_base.specs.declared.table_kind.TableKind.{TableKind}
 use Rattle.acpi_base.proofs.Images.HeldBytes.{same_value}
-use Rattle.acpi_base.proofs.Root.Slots.{one_slot}
+use Rattle.acpi_base.proofs.Root.Slots.{one_slot, slot_of_root}
 use Rattle.acpi_base.proofs.Tables.Kinds.{length-signature_of}
 use Rattle.acpi_base.proofs.Tables.Listed.{listed_in_root, none_in_root}
 use Rattle.acpi_base.proofs.Tables.Whole.{signed_table}
@@ -134,3 +134,19 @@ firsts_all m p k root firsts is all below = record {
   each = λ kind. below_all k (signature_of kind) (first_table firsts kind) is.named is.sound.table all
       (below.first kind);
 }
+
+-- every slot of a root stands before the end
+slots_end : (root : RootValue) (n j a : ℕ) → ((k : ℕ) → 36 + root.width * (k + 1) ≤ length root.bytes → k < n)
+    → HasSlot root.bytes root.width j a → j < n
+slots_end root n j a below slot = below j slot.inside
+
+-- where the tables of all slots are sound, so are the set's, and what all slots list first are the set's tables
+pub sound_and_first : (m : Memory) (p n : ℕ) (root : RootValue) (firsts : FirstTables) → IsRootOf m p root
+    → ((k : ℕ) → 36 + root.width * (k + 1) ≤ length root.bytes → k < n) → AreFirstBelow m root n firsts
+    → ((k a : ℕ) → IsSlot m p k a → IsSoundTable m a) × AreFirstTables m p firsts
+sound_and_first m p n root firsts is below all = (
+  λ k a listed.
+      let slot = slot_of_root m p root.address root.width k a root.bytes is.named is.sound.table listed in
+      all.sound k a (slots_end root n k a below slot) slot,
+  firsts_all m p n root firsts is (λ j a. slots_end root n j a below) all,
+)

@@ -1,5 +1,5 @@
 use Rattle.acpi_check.specs.FirstBelow.{AreFirstBelow, IsListedRun}
-use Rattle.acpi_check.proofs.tables.sound_tables.Given as goal
+use Rattle.acpi_check.proofs.tables.add_slots.Given as goal
 
 -- of the slots so far the tables are sound and the first ones kept, and what slot k lists is known
 abbrev pub invariant-loop-k : goal.invariant-loop-k
