@@ -3,5 +3,6 @@ pub mod ListedSets
 mod NodeLinks
 mod ProcessorNumbers
 mod SlotBlocks
+mod SlotRuns
 mod Spans
 mod WholeSets

@@ -24,15 +24,18 @@ use Rattle.acpi_check.specs.SlotBlocks.{AddsNothing, AreSlotsFrom}
 -- a sound table that is not the first of its kind adds nothing
 pub sound_adds_nothing : (m : Memory) (a : ℕ) (header whole : List ℕ) (firsts : FirstTables) → IsSoundTable m a
     → IsTable m a header whole → IsFirstOf firsts whole None → AddsNothing m firsts a
-sound_adds_nothing m a header whole firsts sound table first listed = (sound, λ kind signed none. (
-    let is : has_signature whole (signature_of kind) ≡ true =
-    signed_table m a header whole (signature_of kind) table (length-signature_of kind)
-    ∙ ap (λ h. has_signature h (signature_of kind))
+sound_adds_nothing m a header whole firsts sound table first listed = (
+  sound,
+  λ kind signed none. (
+      let is : has_signature whole (signature_of kind) ≡ true =
+      signed_table m a header whole (signature_of kind) table (length-signature_of kind)
+      ∙ ap (λ h. has_signature h (signature_of kind))
       (same_value header signed.header table.header_held signed.header_held)
-    ∙ signed.signed in
-    let both : (has_signature whole (signature_of kind) && is_none (first_table firsts kind)) ≡ true =
-    rw (is, none) refl in
-    both_ways (has_signature whole (signature_of kind) && is_none (first_table firsts kind)) (first kind) both))
+      ∙ signed.signed in
+      let both : (has_signature whole (signature_of kind) && is_none (first_table firsts kind)) ≡ true =
+      rw (is, none) refl in
+      both_ways (has_signature whole (signature_of kind) && is_none (first_table firsts kind)) (first kind) both),
+)
 
 -- where the addresses of some slots add nothing in any order, none of these slots does
 pub slots_add_nothing : (m : Memory) (root : RootValue) (firsts : FirstTables) (first k a : ℕ) (numbers sorted : List ℕ)

@@ -21,6 +21,7 @@ pub mod RangeSpans
 pub mod ServedGsis
 pub mod Set
 pub mod SlotBlocks
+pub mod SlotRuns
 pub mod StageResults
 pub mod TableResults
 pub mod Tables

@@ -51,6 +51,7 @@ mod set;
 mod set_views;
 mod slit;
 mod slot_blocks;
+mod slot_runs;
 mod srat;
 mod stages;
 mod subset;

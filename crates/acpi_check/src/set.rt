@@ -34,19 +34,10 @@ impl<'a> ListedSet<'a> {
             → field self.now.root.bytes (36 + self.now.root.width * slot) self.now.root.width ≡ 0 }
         ensures some { IfSome result (IsListedIn self.now slot) }
     {
-        self.table_run(slot, self.run(slot))
+        self.table_run(slot, listed_run(self.image, &self.root, slot))
     }
 
-    /// What a slot of the root table lists: its address, and the bytes from there on. None if there is no such slot or it
-    /// is 0.
-    pub fn run(&self, slot: u32) -> Option<(u64, &'a [u8])>
-        ensures { IsListedRun self.now.image.now self.now.root slot result }
-    {
-        listed_run(self.image, &self.root, slot)
-    }
-
-    /// The same as `table`, if what the slot lists has been found already. Whoever goes over all slots finds what the next
-    /// one lists before this one's table is read, so that the processor waits for the memory of both at a time.
+    /// The same as `table`, if what the slot lists has been found already, as `runs` does it for many slots.
     pub fn table_run(&self, slot: u32, run: Option<(u64, &'a [u8])>) -> Option<Listed<'a>>
         requires set { IsListedSet self.now }
         requires inside { slot < slots_of self.now.root }

@@ -42,7 +42,8 @@ pub(crate) fn head_in(header: Header) -> Head
     }
 }
 
-/// The tables that a set lists, in the order of its slots. A slot that is 0 lists nothing.
+/// The tables that a set lists, in the order of its slots. A slot that is 0 lists nothing. What slots list is found for a
+/// block of them at a time.
 pub(crate) fn listed_tables<'a>(
     alloc: Global,
     set: &ListedSet<'a>,
@@ -52,10 +53,14 @@ pub(crate) fn listed_tables<'a>(
         (listed_addresses set.now.root.bytes set.now.root.width) (map table_of found.items)) }
 {
     let mut found = Vec::new(alloc);
-    let mut ahead = set.run(0);
+    let mut first = 0;
+    let mut runs = set.runs(alloc, first)?;
     for slot in 0..set.root.slots() {
-        let run = ahead;
-        ahead = set.run(slot + 1);
+        if (slot - first) as usize >= runs.len() {
+            first = slot;
+            runs = set.runs(alloc, first)?;
+        }
+        let run = runs[(slot - first) as usize];
         if let Some(listed) = set.table_run(slot, run) {
             found.push(listed)?;
         }

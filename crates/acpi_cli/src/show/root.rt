@@ -5,7 +5,7 @@ ghost use Rattle.acpi_check.specs.HandedOn.{IsListedSet};
 use crate::show::fields::{add_decimal, add_hex};
 use acpi_check::ListedSet;
 use acpi_read::{Listed, Rsdp};
-use std::alloc::AllocError;
+use std::alloc::{AllocError, Global};
 use std::fmt::Write;
 
 /// Adds `rsdp ADDRESS revision N`.
@@ -16,7 +16,7 @@ pub fn add_rsdp(text: &mut String, rsdp: &Rsdp) -> Result<(), AllocError> {
 }
 
 /// Adds the line of the root, `root ADDRESS RSDT length N slots N`, or the same of an XSDT, and those of its slots.
-pub fn add_root(text: &mut String, set: &ListedSet<'_>) -> Result<(), AllocError>
+pub fn add_root(alloc: Global, text: &mut String, set: &ListedSet<'_>) -> Result<(), AllocError>
     requires { IsListedSet set.now }
 {
     let root = &set.root;
@@ -25,10 +25,21 @@ pub fn add_root(text: &mut String, set: &ListedSet<'_>) -> Result<(), AllocError
     let slots = root.slots();
     write!(text, "root 0x{:x} {kind}", root.address())?;
     writeln!(text, " length {length} slots {slots}")?;
-    let mut ahead = set.run(0);
-    for slot in 0..slots {
-        let run = ahead;
-        ahead = set.run(slot + 1);
+    add_slots(alloc, text, set)
+}
+
+/// Adds the lines of all slots. What they list is found for a block of them at a time.
+fn add_slots(alloc: Global, text: &mut String, set: &ListedSet<'_>) -> Result<(), AllocError>
+    requires { IsListedSet set.now }
+{
+    let mut first = 0;
+    let mut runs = set.runs(alloc, first)?;
+    for slot in 0..set.root.slots() {
+        if (slot - first) as usize >= runs.len() {
+            first = slot;
+            runs = set.runs(alloc, first)?;
+        }
+        let run = runs[(slot - first) as usize];
         add_slot(text, slot, set.table_run(slot, run))?;
     }
     Ok(())
