@@ -3,6 +3,6 @@ pub mod ListedSets
 mod NodeLinks
 mod ProcessorNumbers
 mod SlotBlocks
-mod SlotRuns
+mod SortedSlots
 mod Spans
 mod WholeSets

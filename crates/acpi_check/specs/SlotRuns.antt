@@ -7,7 +7,9 @@ use Rattle.acpi_base.specs.Memory.{Memory}
 use Rattle.acpi_base.specs.Number.{field}
 use Rattle.acpi_read.specs.Roots.{RootValue}
 use Rattle.acpi_check.specs.FirstBelow.{IsListedRun}
+use Rattle.acpi_check.specs.declared.set.ListedSet.{ListedSet}
 use Rattle.acpi_check.specs.declared.slot_runs.Slot.{Slot}
+use Rattle.acpi_check.specs.declared.slot_runs.SlotRuns.{SlotRuns}
 
 -- an address and the bytes from there on
 abbrev pub Run : Type 0
@@ -34,3 +36,7 @@ AreSound m slots k runs = (i : ℕ) (run : Run) → i < length runs → slice_in
 -- what a slot lists is found in its place
 abbrev pub AreFound : List Slot → ℕ → List (Option Run) → Type 0
 AreFound slots k runs = (slot : Slot) → Contains slots slot → slot.address ≢ 0 → slice_index_or runs (slot.number - k) None ≢ None
+
+-- what a block says is what its slots of the set list
+abbrev pub KnowsRuns : ListedSet → SlotRuns → Type 0
+KnowsRuns set block = AreRunsFrom set.image.now set.root block.first block.runs.items

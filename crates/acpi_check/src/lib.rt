@@ -70,4 +70,5 @@ pub use refusal::Refusal;
 pub use search::{binary_search, has, sorted_unique};
 pub use served::named_served;
 pub use set::{CleanSet, ListedSet};
+pub use slot_runs::SlotRuns;
 pub use stages::{check, check_set, check_to, read_set};

@@ -6,7 +6,9 @@
 ghost use Rattle.std.specs.Prelude.{◌≡◌, ◌≢◌, ◌+◌, ◌-◌, ◌≤◌, ◌<◌, IfOk, None, length};
 ghost use Rattle.std.specs.List.{All};
 ghost use Rattle.acpi_read.specs.Roots.{slots_of};
-ghost use Rattle.acpi_check.specs.SlotRuns.{AreFound, AreNumberedFrom, AreRunsFrom, AreSound, IsNumbered};
+ghost use Rattle.acpi_check.specs.FirstBelow.{IsListedRun};
+ghost use Rattle.acpi_check.specs.SlotRuns.{AreFound, AreNumberedFrom, AreRunsFrom, AreSound, IsNumbered, KnowsRuns};
+ghost use Rattle.acpi_check.specs.declared.set.ListedSet.{ListedSet};
 
 use crate::set::ListedSet;
 use crate::slot_blocks::BLOCK;
@@ -70,16 +72,9 @@ fn find_runs<'a>(image: &'a Image, slots: &[Slot], first: u32, runs: &mut [Optio
 }
 
 impl<'a> ListedSet<'a> {
-    /// What slots from slot `first` on list, each in its place: its address, and the bytes from there on. None for a slot
-    /// that is 0. They are at most 32,768 slots, and at least one if there is a slot `first`. Refuses if out of memory.
-    ///
-    /// Whoever goes over all slots is spared most of the waiting for the processor's memory, compared with `table` for each
-    /// slot, as long as what the slots list is in no order.
-    pub fn runs(
-        &self,
-        alloc: Global,
-        first: u32,
-    ) -> Result<Vec<Option<(u64, &'a [u8])>>, AllocError>
+    /// What slots from slot `first` on list, each in its place. They are at most 32,768 slots, and at least one if there is a
+    /// slot `first`. Refuses if out of memory.
+    fn runs(&self, alloc: Global, first: u32) -> Result<Vec<Option<(u64, &'a [u8])>>, AllocError>
         requires { first ≤ slots_of self.now.root }
         ensures runs { IfOk result
             (λ runs. AreRunsFrom self.now.image.now self.now.root first runs.items) }
@@ -94,5 +89,48 @@ impl<'a> ListedSet<'a> {
         let mut runs = places(alloc, count)?;
         find_runs(self.image, &slots, first, &mut runs);
         Ok(runs)
+    }
+}
+
+/// What a block of slots of a set lists, for a caller that goes over all slots.
+#[derive(Drop)]
+pub struct SlotRuns<'a> {
+    /// The first slot of the block.
+    first: u32,
+    /// What its slots list, each in its place.
+    runs: Vec<Option<(u64, &'a [u8])>>,
+}
+
+impl<'a> SlotRuns<'a> {
+    /// A block without a slot. Takes no memory.
+    pub fn new(alloc: Global) -> SlotRuns<'a>
+        ensures { (set : ListedSet) → KnowsRuns set result }
+    {
+        SlotRuns {
+            first: 0,
+            runs: Vec::new(alloc),
+        }
+    }
+
+    /// What a slot of a set lists: its address, and the bytes from there on, as `ListedSet::table_run` takes it. None if the
+    /// slot is 0. If the slot is not in the block, the next block begins with it: then all its slots are looked up, in the
+    /// order of the addresses in them. So whoever goes over all slots is spared most of the waiting for the processor's
+    /// memory. Refuses if out of memory.
+    pub fn run(
+        &mut self,
+        alloc: Global,
+        set: &ListedSet<'a>,
+        slot: u32,
+    ) -> Result<Option<(u64, &'a [u8])>, AllocError>
+        requires inside { slot < slots_of set.now.root }
+        requires known { KnowsRuns set.now self.old }
+        ensures known { KnowsRuns set.now self.new }
+        ensures run { IfOk result (IsListedRun set.now.image.now set.now.root slot) }
+    {
+        if slot < self.first || (slot - self.first) as usize >= self.runs.len() {
+            self.runs = set.runs(alloc, slot)?;
+            self.first = slot;
+        }
+        Ok(self.runs[(slot - self.first) as usize])
     }
 }

@@ -19,7 +19,7 @@ use crate::fadt_body::with_facs;
 use crate::table_value::{Head, TableValue};
 use acpi_base::TableKind;
 use acpi_base::field::u64_at;
-use acpi_check::ListedSet;
+use acpi_check::{ListedSet, SlotRuns};
 use acpi_read::{
     FirstTables, Header, Layout, Listed, Madt, Pptt, Slit, Srat, Table, TableEntry, TypedEntries,
 };
@@ -53,14 +53,9 @@ pub(crate) fn listed_tables<'a>(
         (listed_addresses set.now.root.bytes set.now.root.width) (map table_of found.items)) }
 {
     let mut found = Vec::new(alloc);
-    let mut first = 0;
-    let mut runs = set.runs(alloc, first)?;
+    let mut runs = SlotRuns::new(alloc);
     for slot in 0..set.root.slots() {
-        if (slot - first) as usize >= runs.len() {
-            first = slot;
-            runs = set.runs(alloc, first)?;
-        }
-        let run = runs[(slot - first) as usize];
+        let run = runs.run(alloc, set, slot)?;
         if let Some(listed) = set.table_run(slot, run) {
             found.push(listed)?;
         }

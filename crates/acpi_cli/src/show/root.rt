@@ -3,7 +3,7 @@
 ghost use Rattle.acpi_check.specs.HandedOn.{IsListedSet};
 
 use crate::show::fields::{add_decimal, add_hex};
-use acpi_check::ListedSet;
+use acpi_check::{ListedSet, SlotRuns};
 use acpi_read::{Listed, Rsdp};
 use std::alloc::{AllocError, Global};
 use std::fmt::Write;
@@ -32,14 +32,9 @@ pub fn add_root(alloc: Global, text: &mut String, set: &ListedSet<'_>) -> Result
 fn add_slots(alloc: Global, text: &mut String, set: &ListedSet<'_>) -> Result<(), AllocError>
     requires { IsListedSet set.now }
 {
-    let mut first = 0;
-    let mut runs = set.runs(alloc, first)?;
+    let mut runs = SlotRuns::new(alloc);
     for slot in 0..set.root.slots() {
-        if (slot - first) as usize >= runs.len() {
-            first = slot;
-            runs = set.runs(alloc, first)?;
-        }
-        let run = runs[(slot - first) as usize];
+        let run = runs.run(alloc, set, slot)?;
         add_slot(text, slot, set.table_run(slot, run))?;
     }
     Ok(())

@@ -15,7 +15,7 @@ loop-slot-init c =
     record {
       tables = begins set.image.now set.root.bytes set.root.width _ (map table_of c.new-found.result.items)
           (omega (arith, c.slots-slot-end.ensures.slots)) (ap (map table_of) c.new-found.ensures.items);
-      ahead = c.run-ahead.ensures;
+      known = c.new-runs.ensures set;
     }
 
 pub loop-slot-preserved : goal.loop-slot-preserved
@@ -41,7 +41,7 @@ loop-slot-preserved c =
             (omega (arith, n, below)) (c.table_run.ensures.none (subst IsNone (sym w.in_default.is) refl))
             so_far)
       ];
-      ahead = c.run-ahead-in-loop-slot.ensures;
+      known = c.run.ensures.known;
     }
 
 pub returns : goal.returns

@@ -1,5 +1,5 @@
-use Rattle.std.proofs.Common.{◌+◌, ◌-◌, ◌/◌, ◌≤◌, length, map}
-use Rattle.acpi_check.specs.SlotRuns.{AreRunsFrom}
+use Rattle.std.proofs.Common.{◌-◌, ◌/◌, length, map}
+use Rattle.acpi_check.specs.SlotRuns.{KnowsRuns}
 use Rattle.acpi_write.specs.Kinds.{table_of}
 use Rattle.acpi_write.proofs.OldSets.Listing.{Completes}
 use Rattle.acpi_write.proofs.table_reading.listed_tables.Given as goal
@@ -11,7 +11,5 @@ invariant-loop-slot l =
     record {
       tables : Completes l.set.image.now root.bytes root.width l.slot ((length root.bytes - 36) / root.width - l.slot)
           (map table_of l.found.items);
-      runs : AreRunsFrom l.set.image.now root l.first l.runs.items;
-      begun : l.first ≤ l.slot;
-      within : l.slot ≤ l.first + length l.runs.items;
+      known : KnowsRuns l.set l.runs;
     }

@@ -1,6 +1,6 @@
 use Rattle.std.proofs.Common.{◌≡◌, ◌+◌, ◌*◌, ◌<◌, ◌≤◌, ℕ, length, sym, subst, arith}
 use Rattle.acpi_check.specs.SlotRuns.{AreRunsFrom}
-use Rattle.acpi_check.proofs.SlotRuns.{all_replaced, runs_listed, sorted_numbered}
+use Rattle.acpi_check.proofs.SortedSlots.{all_replaced, runs_listed, sorted_numbered}
 use Rattle.acpi_check.proofs.set.ListedSet.runs.Goals as goal
 
 pub find_runs-requires-clause-slots : goal.find_runs-requires-clause-slots
