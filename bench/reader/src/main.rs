@@ -1,7 +1,11 @@
-//! A plain reader of image text: what an engineer would write who proves nothing. It reads the text on
-//! standard input as `acpiset` does, with the same refusals, and prints how much it holds. `reader` sorts the rows at the
-//! end; `reader --map` keeps them in an ordered map.
+//! A plain reader of image text: what an engineer would write who proves nothing. It reads the text on standard input
+//! as `acpiset` does, with the same refusals, and prints how much it holds. `reader` sorts the rows at the end;
+//! `reader --map` keeps them in an ordered map. `reader --one-run` and `reader --rows-alone` are models of reading a
+//! text that is one run, and refuse all others.
 
+mod one_run;
+
+use one_run::{read_one_run, LineFeed};
 use std::collections::BTreeMap;
 use std::fmt;
 use std::io::{self, Read};
@@ -16,10 +20,12 @@ const MOST_LINE: usize = 64 << 10;
 enum Refusal {
     BadLine(usize),
     NoAddress(usize),
+    NotARow(usize),
     Twice(u64),
     PastEnd(usize),
     TooLong,
     Device,
+    Option,
 }
 
 impl fmt::Display for Refusal {
@@ -27,10 +33,12 @@ impl fmt::Display for Refusal {
         match self {
             Refusal::BadLine(line) => write!(out, "line {line}: bad line"),
             Refusal::NoAddress(line) => write!(out, "line {line}: no address"),
+            Refusal::NotARow(line) => write!(out, "line {line}: not a row of 16 pairs"),
             Refusal::Twice(address) => write!(out, "address {address:#x} twice"),
             Refusal::PastEnd(line) => write!(out, "line {line}: past the end"),
             Refusal::TooLong => write!(out, "too long"),
             Refusal::Device => write!(out, "device"),
+            Refusal::Option => write!(out, "usage: reader [--map | --one-run | --rows-alone]"),
         }
     }
 }
@@ -218,13 +226,20 @@ fn read_image<R: Rows>(text: &[u8]) -> Result<Image, Refusal> {
     rows.finish().map_err(Refusal::Twice)
 }
 
-fn run() -> Result<Image, Refusal> {
+fn whole_text(input: impl Read) -> Result<Vec<u8>, Refusal> {
     let mut text = Vec::new();
-    let mut reader = io::stdin().lock().take(MOST_TEXT as u64 + 1);
-    reader.read_to_end(&mut text).map_err(|_| Refusal::Device)?;
+    input.take(MOST_TEXT as u64 + 1).read_to_end(&mut text).map_err(|_| Refusal::Device)?;
+    Ok(text)
+}
+
+fn run() -> Result<Image, Refusal> {
+    let input = io::stdin().lock();
     match std::env::args().nth(1).as_deref() {
-        Some("--map") => read_image::<Mapped>(&text),
-        _ => read_image::<SortedAtTheEnd>(&text),
+        None => read_image::<SortedAtTheEnd>(&whole_text(input)?),
+        Some("--map") => read_image::<Mapped>(&whole_text(input)?),
+        Some("--one-run") => read_one_run(input, LineFeed::Searched),
+        Some("--rows-alone") => read_one_run(input, LineFeed::Expected),
+        Some(_) => Err(Refusal::Option),
     }
 }
 
