@@ -1,6 +1,6 @@
 """Writes the generated image texts.
 
-usage: inputs.py run FILE              one run, just below 64 MiB of text
+usage: inputs.py run TEXT FILE         one run, just below TEXT MiB of text
        inputs.py ORDER SIZE COUNT FILE COUNT rows of SIZE bytes, each with its own address; ORDER is one of
                                        ORDERS below
        inputs.py one-table COUNT FILE  COUNT slots that list one table of 16 MiB
@@ -15,7 +15,6 @@ import random
 import struct
 import sys
 
-MOST_TEXT = 64 << 20
 BASE = 0x100000
 ROW = 16
 RSDT = 64  # its offset in the run
@@ -32,10 +31,10 @@ def rows(memory):
     return "".join(memory[at : at + ROW].hex(" ") + "\n" for at in range(0, len(memory), ROW))
 
 
-def long_run():
+def long_run(mebibytes):
     """Random bytes after an RSDP and an RSDT that lists no table."""
     address = f"@{BASE:x}\n"
-    size = (MOST_TEXT - 1 - len(address)) // (3 * ROW) * ROW
+    size = ((mebibytes << 20) - 1 - len(address)) // (3 * ROW) * ROW
     rsdp = struct.pack("<8sB6sBI", b"RSD PTR ", 0, b"BENCH ", 0, BASE + RSDT)
     rsdt = struct.pack("<4sIBB6s8sI4sI", b"RSDT", 36, 1, 0, b"BENCH ", b"BENCHRUN", 1, b"NONE", 1)
     memory = bytearray(random.Random(1).randbytes(size))
@@ -565,11 +564,11 @@ SHAPES = {
 
 
 def text_of(what):
-    if what == ["run"]:
-        return long_run()
     if what == ["counts"]:
         return counts()
     kind, *numbers = what
+    if kind == "run":
+        return long_run(*map(int, numbers))
     if kind in SHAPES:
         return SHAPES[kind](*map(int, numbers))
     if kind in SETS:

@@ -2,22 +2,29 @@
 
 usage: measure.py ROUNDS NAME TEXT COMMAND [NAME TEXT COMMAND]..
        measure.py --over ROUNDS TEXT READING NAME COMMAND [NAME COMMAND]..
+       measure.py --instructions NAME TEXT COMMAND BESIDE COMMAND_BESIDE [ENTRIES READING READING_BESIDE]
 TEXT is the file on the program's standard input; COMMAND is one argument, split at blanks, in which @FILE stands for the words of
 a file.
 Prints a line for each program: its best times, MB of text per second, its peak memory and that divided by the text's size, and
 its three times divided by those of the first program.
 With --over it prints a line for each program: its best processor time, that of the command READING on the same text, the first
 divided by the second, and how many MB it writes.
+With --instructions it prints a line with the instructions of COMMAND and of the one beside it, in millions and per byte of text, and
+the first divided by the second. If there are ENTRIES, a second line has the same less the instructions of the READING commands, per
+entry. It needs valgrind.
 """
 
 import os
+import re
 import shlex
+import subprocess
 import sys
 import tempfile
 import time
 
 TITLES = ("", "wall s", "user s", "cpu s", "MB/s", "MiB", "/ text", "wall", "user", "cpu")
 WIDTHS = (8, 8, 8, 8, 12, 8, 8, 7, 7)
+CALLGRIND = "valgrind --tool=callgrind --callgrind-out-file=/dev/null --cache-sim=no --branch-sim=no --vgdb=no".split()
 
 
 def words_of(word):
@@ -93,7 +100,7 @@ def cells(program, first, least):
 
 def print_row(row):
     name, *numbers = row
-    print(f"{name:<14}" + "".join(f"{cell:>{width}}" for cell, width in zip(numbers, WIDTHS)))
+    print(f"{name:<20}" + "".join(f"{cell:>{width}}" for cell, width in zip(numbers, WIDTHS)))
 
 
 def written_by(program):
@@ -117,11 +124,32 @@ def print_over(rounds, text, reading, *words):
         print(f"{program.name:<40}{program.processor:>8.2f}{reader.processor:>9.3f}{over:>8.1f}{count / 1e6:>10.1f}")
 
 
-def main():
-    if sys.argv[1] == "--over":
-        print_over(*sys.argv[2:])
-        return
-    rounds, *words = sys.argv[1:]
+def instructions(program):
+    """How many instructions it executes in user mode."""
+    with open(program.text, "rb") as text:
+        words = [*CALLGRIND, *program.words]
+        done = subprocess.run(words, stdin=text, stdout=subprocess.DEVNULL, stderr=subprocess.PIPE, check=False)
+    collected = re.search(rb"Collected *: (\d+)", done.stderr)
+    if done.returncode not in (0, 1) or not collected:
+        sys.exit(f"{program.name}: refused by {shlex.join(program.words)}")
+    return int(collected[1])
+
+
+def print_counts(name, beside, unit, size, counts):
+    millions = "".join(f"{count / 1e6:>11.1f}" for count in counts)
+    each = "".join(f"{count / size:>10.2f}" for count in counts)
+    print(f"{name:<36}{beside:<20}{millions}{unit:>7}{each}{ratio(*counts):>7}")
+
+
+def print_instructions(name, text, command, beside, command_beside, entries=None, *readings):
+    ours, theirs, *read = (instructions(Program(name, text, words)) for words in (command, command_beside, *readings))
+    print_counts(name, beside, "byte", os.path.getsize(text), (ours, theirs))
+    if read:
+        print_counts("  without reading", beside, "entry", int(entries), (ours - read[0], theirs - read[1]))
+
+
+def print_best(rounds, *words):
+    """Runs each program this often, in turn."""
     programs = [Program(*words[at : at + 3]) for at in range(0, len(words), 3)]
     least = least_memory()
     for _ in range(int(rounds)):
@@ -130,6 +158,15 @@ def main():
     print_row(TITLES)
     for program in programs:
         print_row(cells(program, programs[0], least))
+
+
+def main():
+    if sys.argv[1] == "--over":
+        print_over(*sys.argv[2:])
+    elif sys.argv[1] == "--instructions":
+        print_instructions(*sys.argv[2:])
+    else:
+        print_best(*sys.argv[1:])
 
 
 main()
