@@ -3,6 +3,7 @@ use Rattle.std.proofs.Common.{◌≡◌, ◌+◌, ◌≤◌, ◌<◌, ◌↔◌,
 use borrow.Author.Count.{below_more}
 use denote.Ref.{Bor}
 use Rattle.std.specs.Option.{option_or, option_zip}
+use Rattle.std.proofs.lemmas.Bool.{cases_lt}
 use Rattle.acpi_base.specs.Memory.{Memory}
 use Rattle.acpi_base.specs.Root.{HasSlot}
 use Rattle.acpi_base.specs.Tables.{IsSigned, IsTable}
@@ -13,6 +14,7 @@ use Rattle.acpi_base.specs.declared.code.Code.{Code}
 use Rattle.acpi_base.proofs.Root.Named.{of_root}
 use Rattle.acpi_base.proofs.Tables.Listed.{one_first_listed, one_listed, none_and_first_listed, none_and_listed, listed_of_root, listed_in_root, none_in_root}
 use Rattle.acpi_confirm.specs.Roots.{IsSignedIn, IsWholeRoot}
+use Rattle.acpi_confirm.specs.Slots.{IsFirstIn, IsFirstSoFar, ListNoSought}
 
 -- ---- one table
 
@@ -141,12 +143,6 @@ match_map (Some a) none some here = some a here
 
 -- ---- what the slots list first, one after the other
 
--- of the slots before k, none lists a header with the signature, or the first one that does was found
-abbrev pub IsFirstSoFar : Memory → List ℕ → ℕ → ℕ → List ℕ → Option ℕ → Type 0
-IsFirstSoFar m bytes d k signature found =
-    MatchOption found ((j b : ℕ) → j < k → HasSlot bytes d j b → ¬ IsSigned m b signature)
-    (IsFirstListed m bytes d signature)
-
 module _ (m : Memory) (bytes : List ℕ) (d k : ℕ) (signature : List ℕ) where
   -- and one slot more
   pub so_far_next : (found here next : Option ℕ) → next ≡ option_or found here
@@ -162,10 +158,20 @@ module _ (m : Memory) (bytes : List ℕ) (d k : ℕ) (signature : List ℕ) wher
       record { k = k; slot = at.0; signed = at.1; none_before = λ j b below slot signed. none j b below slot signed } in
       rw is first
 
+  -- and a block of slots that lists none that is still looked for
+  pub so_far_block : (n : ℕ) (found : Option ℕ) → IsFirstSoFar m bytes d k signature found
+      → ListNoSought m bytes d k n signature found → IsFirstSoFar m bytes d n signature found
+  so_far_block n (Some a) first block = first
+  so_far_block n None none block =
+      λ j b below slot signed. elim (cases_lt j k) [
+        | inl before ↦ none j b before slot signed
+        | inr from ↦ block j b from below slot refl signed
+      ]
+
   -- and all slots
   pub so_far_all : (found : Option ℕ) → ((j b : ℕ) → HasSlot bytes d j b → j < k)
       → IsFirstSoFar m bytes d k signature found
-      → MatchOption found (IsNoneListed m bytes d signature) (IsFirstListed m bytes d signature)
+      → IsFirstIn m bytes d signature found
   so_far_all None within none = λ j b slot signed. none j b (within j b slot) slot signed
   so_far_all (Some a) within first = first
 

@@ -30,7 +30,7 @@
 //! cross    57 to 59    two tables, or two kinds of entries
 //! ```
 //!
-//! `listed` finds the first listed table with a signature, `in_tables` passes its bytes on to be judged, and
+//! `listed` finds the first listed table with a signature, with `slot_blocks` for a large root table, `in_tables` passes its bytes on to be judged, and
 //! `entries` walks over the entries of a table.
 #![tactic(auto)]
 
@@ -48,6 +48,7 @@ mod pptt;
 mod root;
 mod rsdp;
 mod slit;
+mod slot_blocks;
 mod srat;
 mod tables;
 
