@@ -30,8 +30,8 @@
 //! cross    57 to 59    two tables, or two kinds of entries
 //! ```
 //!
-//! `listed` finds the first listed table with a signature, with `slot_blocks` for a large root table, `in_tables` passes its bytes on to be judged, and
-//! `entries` walks over the entries of a table.
+//! `listed` finds the first listed table with a signature, with the help of `slot_blocks` in a large root table.
+//! `in_tables` passes its bytes on to be judged, and `entries` walks over the entries of a table.
 #![tactic(auto)]
 
 ghost use Rattle.std.specs.Prelude.{◌↔◌, IsTrue};

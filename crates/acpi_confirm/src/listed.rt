@@ -109,8 +109,8 @@ fn first_with_each(
     first_in_range(image, root, 0, root.slots(), &one, &other)
 }
 
-/// The same for a large root table, with room for a block of slots, which takes 256 KiB of the stack. It is not inlined,
-/// so that no other call takes as much.
+/// The same for a large root table, with room for a block of slots, which takes 256 KiB of the stack. It is not
+/// inlined, so that no other call takes as much.
 #[inline(never)]
 fn first_in_many(
     image: &Image,
@@ -162,8 +162,8 @@ fn first_by_blocks(
     (first, second)
 }
 
-/// Goes on with the search in the slots from slot `from` on and before slot `to`, and returns what the slots before `to` list first.
-/// A slot is looked at once, whatever it lists, and the image is searched for what the next slot lists before this one's
+/// Goes on with the search in the slots from slot `from` on and before slot `to`, and returns what is found by then. A
+/// slot is looked at once, whatever it lists, and the image is searched for what the next slot lists before this one's
 /// header is read, so that the processor waits for the memory of both at a time.
 fn first_in_range(
     image: &Image,
@@ -176,7 +176,8 @@ fn first_in_range(
     requires slots { HasSlots root.now.width root.now.bytes.now }
     requires order { from ≤ to }
     requires one { IsFirstSoFar image.now root.now.bytes.now root.now.width from one.now.signature.now one.now.first }
-    requires other { IsFirstSoFar image.now root.now.bytes.now root.now.width from other.now.signature.now other.now.first }
+    requires other { IsFirstSoFar image.now root.now.bytes.now root.now.width from
+        other.now.signature.now other.now.first }
     ensures one { IsFirstSoFar image.now root.now.bytes.now root.now.width to one.now.signature.now result.0 }
     ensures other { IsFirstSoFar image.now root.now.bytes.now root.now.width to other.now.signature.now result.1 }
 {

@@ -89,9 +89,9 @@ fn read_slots(root: &Root<'_>, from: u64, addresses: &mut [u64])
     }
 }
 
-/// Whether none of the slots from slot `from` on, as many as `room` has places, lists a header with one of two signatures
-/// that are still looked for. Their addresses are sorted in `room`. False only means that their slots have to be gone
-/// over.
+/// Whether none of the slots from slot `from` on, as many as `room` has places, lists a header with one of two
+/// signatures that are still looked for. Their addresses are sorted in `room`. The answer false only says that these
+/// slots have to be gone over in their own order.
 pub(crate) fn list_neither(
     image: &Image,
     root: &Root<'_>,
