@@ -9,7 +9,7 @@ ghost use Rattle.acpi_base.specs.declared.stage.Stage.{Stage};
 ghost use Rattle.acpi_confirm.specs.Roots.{IsWholeRoot, HasSlots};
 
 use crate::tables::table_at;
-use acpi_base::field::{is_signed, number_at, u8_at, u32_at, u64_at};
+use acpi_base::field::{is_signed, u8_at, u32_at, u64_at};
 use acpi_base::{Code, Image, Policy, Witness, sum};
 
 /// The addresses that an RSDP names; 0 for none.
@@ -188,7 +188,12 @@ impl Root<'_> {
             return None;
         }
         let width = self.width as usize;
-        let address = number_at(self.bytes, 36 + width * k as usize, width);
+        let start = 36 + width * k as usize;
+        let address = if width == 8 {
+            u64_at(self.bytes, start)
+        } else {
+            u64::from(u32_at(self.bytes, start))
+        };
         if address == 0 { None } else { Some(address) }
     }
 }
