@@ -17,12 +17,12 @@ use crate::refusal::Refusal;
 use crate::search::binary_search;
 use crate::srat::is_enabled;
 use acpi_base::{Code, Processors, Witness};
-use acpi_graph::sort_any_order;
+use acpi_graph::sort_any_order_by_key;
 use acpi_read::{Madt, Srat, SratEntry};
 use std::alloc::{AllocError, Global};
 
-/// A processor in a proximity domain. Placements compare by the processor's number, then by the domain.
-#[derive(Clone, Copy, PartialEq, Eq, PartialOrd, Ord)]
+/// A processor in a proximity domain.
+#[derive(Clone, Copy)]
 pub struct Placement {
     /// The APIC ID or x2APIC ID: they are one number space.
     pub processor: u32,
@@ -128,7 +128,7 @@ pub fn one_domain(
         (DomainFault processors (madt_contents madt.now) (srat_contents srat.now)) result }
 {
     let mut placements = placements_of(alloc, srat)?;
-    sort_any_order(&mut placements);
+    sort_any_order_by_key(&mut placements, |placement| placement.processor);
     if do_agree(&placements) {
         return Ok(());
     }

@@ -1,17 +1,13 @@
 -- The placements that are collected from an SRAT, and whether they put a processor in two domains.
-use Rattle.std.proofs.Common.{◌≡◌, ◌≢◌, ℕ, zero, suc, ◌<◌, ◌≤◌, List, length, get_or, Option, false, Ordering, refl, sym, ◌∙◌, ap, inl, inr, arith, add-one}
+use Rattle.std.proofs.Common.{◌≡◌, ◌≢◌, ℕ, zero, suc, ◌<◌, ◌≤◌, List, length, get_or, Option, refl, sym, ◌∙◌, ap, inl, inr, arith, add-one}
 use Rattle.std.specs.Prelude.{AllPairs, Contains}
-use Rattle.std.specs.Cmp.{IsTotalOrder}
 use Rattle.std.specs.List.{filter_map, AllAdjacentBelow}
-use Rattle.std.specs.List.Sorted.{IsPermutation, IsSorted}
-use Rattle.std.specs.Ordering.{nat_cmp, ordering_then, is_lt}
+use Rattle.std.specs.List.Sorted.{IsNonDecreasingBy, IsPermutation}
 use Rattle.std.proofs.Math.Nat.{eq-or-lt_of_le}
 use Rattle.std.proofs.lemmas.Bool.{cases_lt}
-use Rattle.std.proofs.lemmas.Bool.Decides.{nat_tests}
-use Rattle.std.proofs.lemmas.Cmp.{nat_cmp_total, on_total, then_total}
 use Rattle.std.proofs.lemmas.List.{get_or_default}
 use Rattle.std.proofs.lemmas.List.Elements.{Contains-get_or}
-use Rattle.std.proofs.lemmas.List.Sorted.{ranks_by, sorted_far, Contains-permutation}
+use Rattle.std.proofs.lemmas.List.Sorted.{Contains-permutation}
 use Rattle.acpi_base.specs.Across.{PutsAt, HaveOneDomain}
 use Rattle.acpi_base.specs.Entries.{PlacedEntry}
 use Rattle.acpi_base.specs.Madt.{MadtContents}
@@ -49,24 +45,10 @@ are_placements srat placements is i d = (
 
 -- ---- sorted
 
--- how placements compare: by the processor's number, then by the domain
-abbrev placement_cmp : Placement → Placement → Ordering
-placement_cmp a b = ordering_then (nat_cmp a.processor b.processor) (nat_cmp a.domain b.domain)
-
-placement_cmp_total : IsTotalOrder placement_cmp
-placement_cmp_total = then_total (on_total (λ p. p.processor) nat_cmp_total) (on_total (λ p. p.domain) nat_cmp_total)
-
-not_above : (m n p q : ℕ) → is_lt (ordering_then (nat_cmp n m) (nat_cmp q p)) ≡ false → m ≤ n
-not_above m n p q upto = grind (arith, nat_tests)
-
 -- sorted placements have their processors in rising order
-pub processors_rise : (placements : List Placement) → IsSorted placement_cmp placements
+pub processors_rise : (placements : List Placement) → IsNonDecreasingBy (λ (p : Placement). p.processor) placements
     → AllPairs (λ a b. a.processor ≤ b.processor) placements
-processors_rise placements sorted i j d before within =
-    not_above (get_or placements i d).processor (get_or placements j d).processor (get_or placements i d).domain
-    (get_or placements j d).domain
-    (sorted_far (λ a b. is_lt (placement_cmp a b)) (ranks_by placement_cmp_total (λ p. p)) placements sorted i j d
-    (omega arith) within)
+processors_rise placements rise i j d before within = rise i j d (omega arith) within
 
 -- ---- compared
 

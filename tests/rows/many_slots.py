@@ -1,0 +1,169 @@
+#!/usr/bin/env python3
+"""Runs the built program on root tables of 100,000 slots that list tables in no order. It looks at such slots in blocks, by address.
+So what is looked for is at the ends of blocks, and the slot that comes first has the higher address.
+
+usage: many_slots.py PROGRAM; the last line is 'many slots: N passed, M failed'."""
+
+import random
+import subprocess
+import sys
+from concurrent.futures import ThreadPoolExecutor
+
+from tables import RSDP_AT, apic_domain, extended_rsdp, fadt, lapic, madt, rsdp, srat, table, text_of, x2apic_domain
+
+SLOTS = 100_000
+TABLES = 5_000
+# Where the tables are: most of them from OTHERS on, and those that a case is about below and above these.
+LOW, LOWER_STILL, OTHERS, HIGH, FADT_AT = 0x18_0000, 0x17_0000, 0x20_0000, 0x80_0000, 0x90_0000
+# Slots at the ends of blocks of some powers of two, and others. Each case needs the next slot too.
+CHOSEN = (0, 1, 4_095, 32_766, 32_767, 32_768, 40_000, 65_535, 65_536, 98_303, 98_304, SLOTS - 2)
+FADT_SLOT = 50_000
+BASE = 0x4000_0000
+SECONDS = 60
+
+
+def other(number):
+    """A table of which only the header counts. Revisions and lengths differ, so that a line shows whose it is."""
+    return table(b"DATA", bytes(number % 7), revision=number % 251)
+
+
+class Set:
+    """The slots of a root table, one in ten of them 0, and the tables. A FADT is among them."""
+
+    def __init__(self, seed, wide=False):
+        numbers = random.Random(seed)
+        self.wide = wide
+        self.tables = {OTHERS + 0x80 * number: other(number) for number in range(TABLES)}
+        addresses = list(self.tables)
+        self.slots = [0 if numbers.random() < 0.1 else numbers.choice(addresses) for _ in range(SLOTS)]
+        self.put(FADT_SLOT, FADT_AT, fadt())
+
+    def put(self, slot, address, whole):
+        """Lists a table in a slot."""
+        self.tables[address] = whole
+        self.slots[slot] = address
+        return self
+
+    def text(self):
+        width, signature, root_at = (8, b"XSDT", 0x1100) if self.wide else (4, b"RSDT", 0x1000)
+        root = table(signature, b"".join(address.to_bytes(width, "little") for address in self.slots))
+        pointer = extended_rsdp(xsdt=root_at) if self.wide else rsdp(root_at)
+        return text_of({RSDP_AT: pointer, root_at: root, **self.tables})
+
+
+def broken(whole):
+    """The table with another byte behind its checksum, so that its sum is wrong."""
+    return whole[:10] + bytes([whole[10] ^ 1]) + whole[11:]
+
+
+def told(program, words, text):
+    run = subprocess.run([program, *words], input=text, capture_output=True, timeout=SECONDS)
+    return (run.returncode, run.stdout.decode(), run.stderr.decode())
+
+
+def asked(program, words, text, line):
+    """What is wrong with the one line that the program prints; nothing where it is right."""
+    expected = (0 if line in ("yes", "true") else 1, line + "\n", "")
+    answer = told(program, [words[0], "--rsdp", f"{RSDP_AT:x}", *words[1:]], text)
+    return "" if answer == expected else f"{' '.join(words)}: {answer}, not {expected}"
+
+
+# ---- check and confirm
+
+
+def one_fault(program, slot):
+    """A wrong sum, and then one more in the next slot, at a lower address: the first slot counts."""
+    line = f"3 TableSum {slot:#x} {HIGH:#x} 0x0"
+    later = f"3 TableSum {slot + 1:#x} {LOW:#x} 0x0"
+    for wide in (False, True):
+        case = Set(slot, wide).put(slot, HIGH, broken(other(3)))
+        yield asked(program, ["check"], case.text(), f"no {line}")
+        text = case.put(slot + 1, LOW, broken(other(4))).text()
+        yield asked(program, ["check"], text, f"no {line}")
+        yield asked(program, ["confirm", "--witness", line], text, "true")
+        yield asked(program, ["confirm", "--witness", later], text, "true")
+        yield asked(program, ["confirm", "--witness", f"3 TableSum {slot:#x} {LOW:#x} 0x0"], text, "false")
+
+
+def first_of_kind(program, slot):
+    """Two MADTs in neighbouring slots, the second at a lower address: only the first one counts."""
+    good, bad = madt(lapic(0, 0)), madt(b"\0\1")
+    fault = "6 MadtEntryCut 0x2c 0x0 0x0"
+    for wide in (False, True):
+        text = Set(slot, wide).put(slot, HIGH, bad).put(slot + 1, LOW, good).text()
+        yield asked(program, ["check"], text, f"no {fault}")
+        yield asked(program, ["confirm", "--witness", fault], text, "true")
+        text = Set(slot, wide).put(slot, HIGH, good).put(slot + 1, LOW, bad).text()
+        yield asked(program, ["check"], text, "yes")
+        yield asked(program, ["confirm", "--witness", fault], text, "false")
+
+
+def first_of_two_kinds(program, slot):
+    """A fault between a MADT and an SRAT, in slots that are in different blocks or in the same one. A later SRAT, without the fault,
+    has the lowest address."""
+    fault = "16 TwoDomains 0x40 0x30 0x5"
+    one = madt(lapic(0, 5))
+    two = srat(apic_domain(5, 0), x2apic_domain(5, 1))
+    for madt_slot, srat_slot in ((slot, SLOTS - 3), (3, slot), (slot + 1, 3)):
+        case = Set(slot).put(SLOTS - 1, LOWER_STILL, srat()).put(madt_slot, HIGH, one).put(srat_slot, LOW, two)
+        yield asked(program, ["check"], case.text(), f"no {fault}")
+        yield asked(program, ["confirm", "--witness", fault], case.text(), "true")
+        alone = case.put(srat_slot, LOW, other(1))
+        yield asked(program, ["check"], alone.text(), "yes")
+        yield asked(program, ["confirm", "--witness", fault], alone.text(), "false")
+
+
+# ---- show and rebuild
+
+
+def shown(whole):
+    return f"{whole[:4].decode()} length {len(whole)} revision {whole[8]}"
+
+
+def slot_lines(program, rsdp_at, text):
+    status, output, complaint = told(program, ["show", "--rsdp", f"{rsdp_at:x}"], text)
+    lines = [line for line in output.splitlines() if line.startswith("slot ")]
+    return lines if (status, complaint) == (0, "") else (status, complaint)
+
+
+def written(program, seed):
+    """The line of each slot, and the lines of the rebuilt set: its slots list the same tables in the same order, without the zeros."""
+    case = Set(seed, wide=seed % 2 == 1).put(SLOTS - 1, LOW, madt(lapic(0, 0)))
+    text = case.text()
+    expected = [
+        f"slot {slot} {address:#x} {shown(case.tables[address])}" if address else f"slot {slot} empty"
+        for slot, address in enumerate(case.slots)
+    ]
+    lines = slot_lines(program, RSDP_AT, text)
+    yield "" if lines == expected else f"show, seed {seed}: {difference(lines, expected)}"
+    status, rebuilt, complaint = told(program, ["rebuild", "--rsdp", f"{RSDP_AT:x}", "--base", f"{BASE:x}"], text)
+    yield "" if (status, complaint) == (0, "") else f"rebuild, seed {seed}: {status} {complaint}"
+    listed = [case.tables[address] for address in case.slots if address]
+    lines = slot_lines(program, BASE, rebuilt.encode())
+    tails = [line.split(" ", 3)[3] for line in lines]
+    expected = [shown(whole) for whole in listed]
+    yield "" if tails == expected else f"rebuild, seed {seed}: {difference(tails, expected)}"
+
+
+def difference(lines, expected):
+    """The first line that is not as expected."""
+    if not isinstance(lines, list):
+        return lines
+    pairs = ((line, right) for line, right in zip(lines, expected) if line != right)
+    return next(pairs, f"{len(lines)} lines, not {len(expected)}")
+
+
+def main():
+    _, program = sys.argv
+    cases = [(part, slot) for slot in CHOSEN for part in (one_fault, first_of_kind, first_of_two_kinds)]
+    cases += [(written, seed) for seed in range(4)]
+    with ThreadPoolExecutor() as pool:
+        answers = list(pool.map(lambda case: list(case[0](program, case[1])), cases))
+    faults = [f"{part.__name__}, {number}: {wrong}" for (part, number), found in zip(cases, answers) for wrong in found if wrong]
+    count = sum(map(len, answers))
+    print(*faults, sep="\n", end="\n" if faults else "")
+    print(f"many slots: {count - len(faults)} passed, {len(faults)} failed")
+    sys.exit(1 if faults else 0)
+
+
+main()
