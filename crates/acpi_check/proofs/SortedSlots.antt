@@ -10,7 +10,8 @@ use Rattle.acpi_base.specs.Memory.{Memory}
 use Rattle.acpi_base.specs.Number.{field}
 use Rattle.acpi_read.specs.Roots.{RootValue}
 use Rattle.acpi_check.specs.FirstBelow.{IsListedRun}
-use Rattle.acpi_check.specs.SlotRuns.{AreFound, AreNumberedFrom, AreRunsFrom, AreSound, IsNumbered, Run}
+use Rattle.acpi_check.specs.SlotRuns.{AreRunsFrom, Run}
+use Rattle.acpi_check.specs.SortedSlots.{AreFound, AreNumberedFrom, AreSound, IsNumbered}
 use Rattle.acpi_check.specs.declared.slot_runs.Slot.{Slot}
 
 module _ (root : RootValue) (first : ℕ) (slots sorted : List Slot) (each : AreNumberedFrom root first slots)

@@ -1,17 +1,13 @@
 -- The first tables that the slots of a root table list, while the slots are scanned.
-use Rattle.std.specs.Prelude.{◌≡◌, ◌<◌, ◌≤◌, ℕ, List, Option, Some, None, MatchOption}
+use Rattle.std.specs.Prelude.{◌<◌, ℕ, List, Option, Some, None, MatchOption}
 use denote.Ref.{Bor}
-use Rattle.acpi_base.specs.Codes.{code_number, stage_of}
 use Rattle.acpi_base.specs.Memory.{Memory}
 use Rattle.acpi_base.specs.Image.Windows.{AreBytesFrom}
 use Rattle.acpi_base.specs.Root.{HasSlot}
-use Rattle.acpi_base.specs.Tables.{IsSigned, IsSoundTable, IsTable, TableFault}
+use Rattle.acpi_base.specs.Tables.{IsSigned, IsSoundTable, IsTable}
 use Rattle.acpi_base.specs.Listed.{IsFirstListed}
 use Rattle.acpi_base.specs.TableKinds.{signature_of}
-use Rattle.acpi_base.specs.declared.code.Code.{Code}
-use Rattle.acpi_base.specs.declared.stage.Stage.TheVariants as stage
 use Rattle.acpi_base.specs.declared.table_kind.TableKind.{TableKind}
-use Rattle.acpi_base.specs.declared.witness.Witness.{Witness}
 use Rattle.acpi_read.specs.FirstTables.{first_table}
 use Rattle.acpi_read.specs.Roots.{RootValue}
 use Rattle.acpi_read.specs.declared.first_tables.FirstTables.{FirstTables}
@@ -31,12 +27,3 @@ abbrev pub IsListedRun : Memory → RootValue → ℕ → Option (ℕ × Bor (Li
 IsListedRun m root k found =
     MatchOption found ((a : ℕ) → ¬ HasSlot root.bytes root.width k a)
     (λ listed. HasSlot root.bytes root.width k listed.0 × AreBytesFrom m listed.0 listed.1.now)
-
--- the first fault of a listed table: the least one of the table in slot `at`, and the tables of earlier slots are valid
-pub record IsFirstTableFault (m : Memory) (root : RootValue) (w : Witness) : Type 0 where
-  pub slot : HasSlot root.bytes root.width w.at w.other
-  pub fault : TableFault m w.other w.code
-  pub stage : stage_of w.code ≡ stage.Tables
-  pub least : (other : Code) → TableFault m w.other other → code_number w.code ≤ code_number other
-  pub before : (j b : ℕ) → j < w.at → HasSlot root.bytes root.width j b → IsSoundTable m b
-  pub point : w.point ≡ 0

@@ -22,6 +22,7 @@ pub mod ServedGsis
 pub mod Set
 pub mod SlotBlocks
 pub mod SlotRuns
+pub mod SortedSlots
 pub mod StageResults
 pub mod TableResults
 pub mod Tables

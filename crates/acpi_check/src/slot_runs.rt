@@ -7,7 +7,8 @@ ghost use Rattle.std.specs.Prelude.{◌≡◌, ◌≢◌, ◌+◌, ◌-◌, ◌�
 ghost use Rattle.std.specs.List.{All};
 ghost use Rattle.acpi_read.specs.Roots.{slots_of};
 ghost use Rattle.acpi_check.specs.FirstBelow.{IsListedRun};
-ghost use Rattle.acpi_check.specs.SlotRuns.{AreFound, AreNumberedFrom, AreRunsFrom, AreSound, IsNumbered, KnowsRuns};
+ghost use Rattle.acpi_check.specs.SlotRuns.{AreRunsFrom, KnowsRuns};
+ghost use Rattle.acpi_check.specs.SortedSlots.{AreFound, AreNumberedFrom, AreSound, IsNumbered};
 ghost use Rattle.acpi_check.specs.declared.set.ListedSet.{ListedSet};
 
 use crate::set::ListedSet;

@@ -5,7 +5,8 @@ ghost use Rattle.acpi_base.specs.Policy.{PolicyValue};
 ghost use Rattle.acpi_base.specs.Statements.{CleanBefore};
 ghost use Rattle.acpi_base.specs.declared.stage.Stage.{Stage};
 ghost use Rattle.acpi_read.specs.Roots.{slots_of};
-ghost use Rattle.acpi_check.specs.FirstBelow.{AreFirstBelow, IsFirstTableFault, IsListedRun};
+ghost use Rattle.acpi_check.specs.FirstBelow.{AreFirstBelow, IsListedRun};
+ghost use Rattle.acpi_check.specs.SlotBlocks.{IsFirstTableFault};
 ghost use Rattle.acpi_check.specs.StageResults.{Reads};
 ghost use Rattle.acpi_check.specs.Tables.{AreFirstTables, IsRootOf};
 

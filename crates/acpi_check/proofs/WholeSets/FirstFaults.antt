@@ -29,8 +29,9 @@ use Rattle.acpi_base.proofs.Facs.{place}
 use Rattle.acpi_read.specs.Fadts.{FacsValue}
 use Rattle.acpi_read.specs.Roots.{RootValue}
 use Rattle.acpi_read.specs.declared.first_tables.FirstTables.{FirstTables}
-use Rattle.acpi_check.specs.FirstBelow.{AreFirstBelow, IsFirstTableFault}
+use Rattle.acpi_check.specs.FirstBelow.{AreFirstBelow}
 use Rattle.acpi_check.specs.HandedOn.{IsFacsNamed}
+use Rattle.acpi_check.specs.SlotBlocks.{IsFirstTableFault}
 use Rattle.acpi_check.specs.StageResults.{Reads}
 use Rattle.acpi_check.specs.Tables.{AreFirstTables, IsRootOf}
 use Rattle.acpi_check.proofs.WholeSets.Slots.{sound_and_first}

@@ -1,5 +1,5 @@
 use Rattle.std.proofs.Common.{◌≡◌, ◌≢◌, ◌-◌, ◌<◌, ℕ, None, length, get_or}
-use Rattle.acpi_check.specs.SlotRuns.{AreSound}
+use Rattle.acpi_check.specs.SortedSlots.{AreSound}
 use Rattle.acpi_check.specs.declared.slot_runs.Slot.{Slot}
 use Rattle.acpi_check.proofs.slot_runs.find_runs.Given as goal
 

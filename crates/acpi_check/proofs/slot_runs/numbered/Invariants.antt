@@ -1,5 +1,5 @@
 use Rattle.std.proofs.Common.{◌≡◌, ◌+◌, ◌≤◌, length}
-use Rattle.acpi_check.specs.SlotRuns.{AreNumberedFrom}
+use Rattle.acpi_check.specs.SortedSlots.{AreNumberedFrom}
 use Rattle.acpi_check.proofs.slot_runs.numbered.Given as goal
 
 -- the slots so far
