@@ -8,7 +8,7 @@ a file.
 Prints a line for each program: its best times, MB of text per second, its peak memory and that divided by the text's size, and
 its three times divided by those of the first program.
 With --over it prints a line for each program: its best processor time, that of the command READING on the same text, the first
-divided by the second, and how many MB it writes.
+divided by the second, how many MB it writes, and its time per byte that it reads or writes, divided by READING's time per byte.
 With --instructions it prints a line with the instructions of COMMAND and of the one beside it, in millions and per byte of text, and
 the first divided by the second. If there are ENTRIES, a second line has the same less the instructions of the READING commands, per
 entry. It needs valgrind.
@@ -121,7 +121,9 @@ def print_over(rounds, text, reading, *words):
             program.run()
     for program, count in zip(programs, written):
         over = program.processor / reader.processor
-        print(f"{program.name:<40}{program.processor:>8.2f}{reader.processor:>9.3f}{over:>8.1f}{count / 1e6:>10.1f}")
+        per_byte = over * reader.size / (reader.size + count)
+        seconds = f"{program.processor:>8.2f}{reader.processor:>9.3f}"
+        print(f"{program.name:<40}{seconds}{over:>8.1f}{count / 1e6:>10.1f}{per_byte:>10.1f}")
 
 
 def instructions(program):

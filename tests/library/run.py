@@ -45,6 +45,9 @@ def one_of_each_stage():
 
 COUNT = 4096
 MANY_PIECES = 100_000
+# How many bytes of stack a call may take, and one on a set of more than 32,768 slots.
+MOST_STACK = 32_768
+MOST_STACK_OF_MANY_SLOTS = 300_000
 
 
 def many_processors():
@@ -91,6 +94,13 @@ def large_subject(scratch):
     return Subject("e0000", path)
 
 
+def many_slots(scratch):
+    """A set of so many slots that their addresses are sorted on the stack; all list one table, which is no FADT."""
+    path = scratch / "40,000-slots.img.txt"
+    path.write_bytes(text_in({RSDP_AT: rsdp(), RSDT_AT: rsdt(*[0x100000] * 40_000), 0x100000: hpet()}))
+    return Subject("e0000", path)
+
+
 def words_of(some):
     return [word for it in some for word in (it.rsdp, it.path)]
 
@@ -119,10 +129,14 @@ def compiled(cases, builds, scratch):
 
 def tested(cases, build, place, built, scratch, jobs, some):
     """Runs what was built in one way."""
-    words = {"bad_input": [], "many_pieces": [str(MANY_PIECES)], "stack": words_of([*some, large_subject(scratch)])}
-    for program in ("bad_input", "many_pieces", "findings", "guarded", "refused_memory", "threads", "stack"):
+    usual = words_of(some)
+    wanted = [("bad_input", []), ("many_pieces", [str(MANY_PIECES)])]
+    wanted += [(program, usual) for program in ("findings", "guarded", "refused_memory", "threads")]
+    wanted.append(("stack", [str(MOST_STACK), *usual, *words_of([large_subject(scratch)])]))
+    wanted.append(("stack", [str(MOST_STACK_OF_MANY_SLOTS), *words_of([many_slots(scratch)])]))
+    for program, words in wanted:
         if (build.name, program) in built:
-            lines = counted(cases, build, program, [build.path(scratch, program), *words.get(program, words_of(some))])
+            lines = counted(cases, build, program, [build.path(scratch, program), *words])
             if place == 0:
                 print(*lines, sep="\n", end="\n" if lines else "")
     if (build.name, "header") in built:

@@ -1,5 +1,5 @@
 /* How much of the stack each call takes: it is asked in a thread whose stack has a known content, and what differs later was used.
- * usage: stack RSDP FILE [RSDP FILE].. */
+ * usage: stack MOST RSDP FILE [RSDP FILE]..; MOST is how many bytes a call may take. */
 #define _DEFAULT_SOURCE
 #include "calls.h"
 
@@ -10,8 +10,6 @@
 
 #define SIZE ((size_t)1 << 20)
 #define FILLER 0xa5
-/* The most bytes of a call. */
-#define MOST 32768
 
 /* A call on a subject; of none of them only the thread's own bytes are counted. */
 struct question {
@@ -45,7 +43,9 @@ static size_t used_by(struct question question) {
 
 int main(int argc, char **argv) {
     size_t count;
-    struct subject *subjects = subjects_of(argc, argv, &count);
+    if (argc < 2) exit(2);
+    size_t limit = strtoul(argv[1], NULL, 10);
+    struct subject *subjects = subjects_of(argc - 1, argv + 1, &count);
     static struct acpiset_finding findings[ACPISET_MOST_FINDINGS];
     struct question nothing = {CHECK, NULL};
     size_t own = used_by(nothing);
@@ -60,7 +60,7 @@ int main(int argc, char **argv) {
             if (used > own && used - own > most) most = used - own;
         }
         printf(" %s %zu", call_names[call], most);
-        count_case(most < MOST, "%s takes %zu bytes", call_names[call], most);
+        count_case(most < limit, "%s takes %zu bytes", call_names[call], most);
     }
     printf("\n");
     free_subjects(subjects, count);

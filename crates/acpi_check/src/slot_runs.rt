@@ -12,13 +12,11 @@ ghost use Rattle.acpi_check.specs.SortedSlots.{AreFound, AreNumberedFrom, AreSou
 ghost use Rattle.acpi_check.specs.declared.set.ListedSet.{ListedSet};
 
 use crate::set::ListedSet;
+use crate::slot_blocks::BLOCK;
 use acpi_base::Image;
 use acpi_graph::sort_any_order_by_key;
 use acpi_read::Root;
 use std::alloc::{AllocError, Global};
-
-/// At most this many slots are looked up together. They take 10 MiB of memory.
-const BLOCK: u32 = 262_144;
 
 /// A slot of a root table: its number, from 0, and the address in it, or 0.
 #[derive(Clone, Copy)]
@@ -75,7 +73,7 @@ fn find_runs<'a>(image: &'a Image, slots: &[Slot], first: u32, runs: &mut [Optio
 }
 
 impl<'a> ListedSet<'a> {
-    /// What slots from slot `first` on list, each in its place. They are at most 262,144 slots, and at least one if there is a
+    /// What slots from slot `first` on list, each in its place. They are at most 32,768 slots, and at least one if there is a
     /// slot `first`. Refuses if out of memory.
     fn runs(&self, alloc: Global, first: u32) -> Result<Vec<Option<(u64, &'a [u8])>>, AllocError>
         requires { first ≤ slots_of self.now.root }
@@ -86,7 +84,7 @@ impl<'a> ListedSet<'a> {
         ensures some { IfOk result
             (λ runs. first < slots_of self.now.root → 0 < length runs.items) }
     {
-        let count = BLOCK.min(self.root.slots() - first);
+        let count = (BLOCK as u32).min(self.root.slots() - first);
         let mut slots = numbered(alloc, &self.root, first, first + count)?;
         sort_any_order_by_key(&mut slots, |slot| slot.address);
         let mut runs = places(alloc, count)?;
