@@ -23,19 +23,22 @@ module _ (root : RootValue) (first : ℕ) (slots sorted : List Slot) (each : Are
       (λ i d h. (let is = ap (λ (s : Slot). s.number) (each i d h) in (omega arith, omega arith)))
 
   -- each of them is a slot of the root table
-  address_of : (slot : Slot) → Contains sorted slot → field root.bytes (36 + root.width * slot.number) root.width ≡ slot.address
+  address_of : (slot : Slot) → Contains sorted slot
+      → field root.bytes (36 + root.width * slot.number) root.width ≡ slot.address
   address_of slot among =
       All-contains (λ (s : Slot). field root.bytes (36 + root.width * s.number) root.width ≡ s.address) slots slot
       (λ i d h. rw (each i d h) refl)
       (Contains-permutation sorted slots slot (IsPermutation-sym slots sorted same) among)
 
+  -- the slot of the root table that is i slots behind the first one
+  abbrev slot_at : ℕ → Slot
+  slot_at i = record { number = first + i; address = field root.bytes (36 + root.width * (first + i)) root.width }
+
   -- each slot of the root table is one of them
-  among_sorted : (i : ℕ) → i < length slots
-      → Contains sorted (record { number = first + i; address = field root.bytes (36 + root.width * (first + i)) root.width })
+  among_sorted : (i : ℕ) → i < length slots → Contains sorted (slot_at i)
   among_sorted i h =
-      let slot : Slot = record { number = first + i; address = field root.bytes (36 + root.width * (first + i)) root.width } in
-      Contains-permutation slots sorted slot same
-      (subst (Contains slots) (each i slot h) (Contains-get_or slots i slot h))
+      Contains-permutation slots sorted (slot_at i) same
+      (subst (Contains slots) (each i (slot_at i) h) (Contains-get_or slots i (slot_at i) h))
 
   -- what was found for the sorted slots is what the slots list
   pub runs_listed : (m : Memory) (runs : List (Option Run)) → length runs ≡ length slots
@@ -47,8 +50,7 @@ module _ (root : RootValue) (first : ℕ) (slots sorted : List Slot) (each : Are
       listed : (run : Option Run) → get_or runs i None ≡ run → IsListedRun m root (first + i) run
       listed None none = λ a slot.
           let back : first + i - first ≡ i = omega arith in
-          found (record { number = first + i; address = field root.bytes (36 + root.width * (first + i)) root.width })
-          (among_sorted i (omega arith)) (λ zero. slot.listed (sym slot.address ∙ zero))
+          found (slot_at i) (among_sorted i (omega arith)) (λ zero. slot.listed (sym slot.address ∙ zero))
           (ap (λ (j : ℕ). get_or runs j None) back ∙ none)
       listed (Some run) some =
           let is = sound i run h some in (

@@ -125,8 +125,8 @@ impl<'a> SlotRuns<'a> {
     ) -> Result<Option<(u64, &'a [u8])>, AllocError>
         requires inside { slot < slots_of set.now.root }
         requires known { KnowsRuns set.now self.old }
-        ensures known { KnowsRuns set.now self.new }
         ensures run { IfOk result (IsListedRun set.now.image.now set.now.root slot) }
+        ensures known { KnowsRuns set.now self.new }
     {
         if slot < self.first || (slot - self.first) as usize >= self.runs.len() {
             self.runs = set.runs(alloc, slot)?;

@@ -175,11 +175,14 @@ fn first_in_range(
 ) -> (Option<u64>, Option<u64>)
     requires slots { HasSlots root.now.width root.now.bytes.now }
     requires order { from ≤ to }
-    requires one { IsFirstSoFar image.now root.now.bytes.now root.now.width from one.now.signature.now one.now.first }
+    requires one { IsFirstSoFar image.now root.now.bytes.now root.now.width from
+        one.now.signature.now one.now.first }
     requires other { IsFirstSoFar image.now root.now.bytes.now root.now.width from
         other.now.signature.now other.now.first }
-    ensures one { IsFirstSoFar image.now root.now.bytes.now root.now.width to one.now.signature.now result.0 }
-    ensures other { IsFirstSoFar image.now root.now.bytes.now root.now.width to other.now.signature.now result.1 }
+    ensures one { IsFirstSoFar image.now root.now.bytes.now root.now.width to
+        one.now.signature.now result.0 }
+    ensures other { IsFirstSoFar image.now root.now.bytes.now root.now.width to
+        other.now.signature.now result.1 }
 {
     let signature = one.signature;
     let other_signature = other.signature;

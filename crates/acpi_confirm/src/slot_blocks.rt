@@ -58,8 +58,10 @@ fn is_sought(found: Option<&[u8]>, sought: &Sought<'_>) -> bool
 /// Whether at none of the addresses, which rise, a header has one of two signatures that are still looked for. Equal
 /// addresses are looked up once, and 0 never. In another order it only takes longer.
 fn have_neither(image: &Image, addresses: &[u64], one: &Sought<'_>, other: &Sought<'_>) -> bool
-    ensures one { IsTrue result → All (HasNoSought image.now one.now.signature.now one.now.first) addresses.now }
-    ensures other { IsTrue result → All (HasNoSought image.now other.now.signature.now other.now.first) addresses.now }
+    ensures one { IsTrue result
+        → All (HasNoSought image.now one.now.signature.now one.now.first) addresses.now }
+    ensures other { IsTrue result
+        → All (HasNoSought image.now other.now.signature.now other.now.first) addresses.now }
 {
     let mut near = 0;
     let mut last = 0;

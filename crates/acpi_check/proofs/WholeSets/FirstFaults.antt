@@ -203,8 +203,10 @@ facs_named m fadt (Some facs) none some = some
 pub first_listed_fault : (m : Memory) (q : PolicyValue) (root : RootValue) (w : Witness) → CleanBefore stage.Tables m q
     → IsRootOf m q.rsdp root → IsFirstTableFault m root w → IsFirstFault m q w
 first_listed_fault m q root w clean is first =
-    subst (λ (p : ℕ). IsFirstFault m q (record { code = w.code; at = w.at; other = w.other; point = p })) (sym first.point)
-    (first_table_fault m q root w.code w.at w.other clean is first.slot first.stage first.fault first.least first.before)
+    subst (λ (p : ℕ). IsFirstFault m q (record { code = w.code; at = w.at; other = w.other; point = p }))
+    (sym first.point)
+    (first_table_fault m q root w.code w.at w.other clean is first.slot first.stage first.fault first.least
+    first.before)
 
 -- what is read of all slots is what the stage reads
 pub tables_read : (m : Memory) (q : PolicyValue) (n : ℕ) (root : RootValue) (result : Result FirstTables Witness)

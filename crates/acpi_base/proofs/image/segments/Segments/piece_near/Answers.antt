@@ -36,8 +36,8 @@ returns-clause-reached c =
     ] in
     let next : c.place_near-place.result ≡ c.place_near-place.result - 1 + 1 = omega arith in
     rw c.pieces.ensures
-    (reached s.store s.ended s.base s.start c.args.address (c.place_near-place.result - 1) (0, record { start = 0; len = 0 })
-    c.requires behind (omega arith)
+    (reached s.store s.ended s.base s.start c.args.address (c.place_near-place.result - 1)
+    (0, record { start = 0; len = 0 }) c.requires behind (omega arith)
     (subst (IsPartitionPoint s.ended c.args.address) next c.place_near-place.ensures.place))
 
 pub returns-clause-lies : goal.returns-clause-lies
