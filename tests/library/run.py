@@ -45,9 +45,9 @@ def one_of_each_stage():
 
 COUNT = 4096
 MANY_PIECES = 100_000
-# How many bytes of stack a call may take, and one on a set of more than 32,768 slots.
+# How many bytes of stack a call may take, and one on a set of more than 65,536 slots.
 MOST_STACK = 32_768
-MOST_STACK_OF_MANY_SLOTS = 300_000
+MOST_STACK_OF_MANY_SLOTS = 600_000
 
 
 def many_processors():
@@ -96,8 +96,8 @@ def large_subject(scratch):
 
 def many_slots(scratch):
     """A set of so many slots that their addresses are sorted on the stack; all list one table, which is no FADT."""
-    path = scratch / "40,000-slots.img.txt"
-    path.write_bytes(text_in({RSDP_AT: rsdp(), RSDT_AT: rsdt(*[0x100000] * 40_000), 0x100000: hpet()}))
+    path = scratch / "70,000-slots.img.txt"
+    path.write_bytes(text_in({RSDP_AT: rsdp(), RSDT_AT: rsdt(*[0x100000] * 70_000), 0x100000: hpet()}))
     return Subject("e0000", path)
 
 

@@ -37,7 +37,7 @@ impl<'a> ListedSet<'a> {
         self.table_run(slot, listed_run(self.image, &self.root, slot))
     }
 
-    /// The same as `table`, if what the slot lists has been found already, as `runs` does it for many slots.
+    /// The same as `table`, if what the slot lists has been found already, as `SlotRuns::run` finds it.
     pub fn table_run(&self, slot: u32, run: Option<(u64, &'a [u8])>) -> Option<Listed<'a>>
         requires set { IsListedSet self.now }
         requires inside { slot < slots_of self.now.root }

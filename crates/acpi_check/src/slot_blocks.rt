@@ -15,8 +15,8 @@ ghost use Rattle.acpi_check.specs.SlotBlocks.{AddsNothing, AreSlotsFrom};
 use acpi_base::{Image, sort_addresses};
 use acpi_read::{FirstTables, Root, Table};
 
-/// How many slots a block has. Their addresses take 256 KiB of the stack.
-pub const BLOCK: usize = 32_768;
+/// How many slots a block has. Their addresses take 512 KiB of the stack.
+pub const BLOCK: usize = 65_536;
 
 /// Reads the numbers in the slots of a block, from slot `first` to before slot `end`.
 fn read_slots(root: &Root<'_>, first: u32, end: u32, numbers: &mut [u64])

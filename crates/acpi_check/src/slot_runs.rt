@@ -73,7 +73,7 @@ fn find_runs<'a>(image: &'a Image, slots: &[Slot], first: u32, runs: &mut [Optio
 }
 
 impl<'a> ListedSet<'a> {
-    /// What slots from slot `first` on list, each in its place. They are at most 32,768 slots, and at least one if there is a
+    /// What slots from slot `first` on list, each in its place. They are at most 65,536 slots, and at least one if there is a
     /// slot `first`. Refuses if out of memory.
     fn runs(&self, alloc: Global, first: u32) -> Result<Vec<Option<(u64, &'a [u8])>>, AllocError>
         requires { first ≤ slots_of self.now.root }

@@ -13,7 +13,7 @@ use acpi_base::field::is_signed;
 use acpi_base::{Image, Policy};
 
 /// How many slots are gone over at a time, if the root table has more.
-const BLOCK: usize = 32_768;
+const BLOCK: usize = 65_536;
 
 /// The bytes of the first listed table with the signature, if it is complete: the first slot whose address has a
 /// header with the signature decides, and no later one is looked at.
@@ -109,7 +109,7 @@ fn first_with_each(
     first_in_range(image, root, 0, root.slots(), &one, &other)
 }
 
-/// The same for a large root table, with room for a block of slots, which takes 256 KiB of the stack. It is not
+/// The same for a large root table, with room for a block of slots, which takes 512 KiB of the stack. It is not
 /// inlined, so that no other call takes as much.
 #[inline(never)]
 fn first_in_many(
