@@ -209,13 +209,6 @@ module _ (ps : List Piece) (a start : ℕ) (rise : AreRisingPieces ps) where
 
 -- ---- a stretch that is found by doubling
 
--- a piece that begins at the address or before it is a begin
-pub begin_at : (ps : List Piece) (a k : ℕ) (p : Piece) → k < length ps → (get_or ps k p).0 ≤ a → IsBegin ps a k
-begin_at ps a k p h low = (
-  omega arith,
-  inr (h, λ q. subst (λ (r : Piece). r.0 ≤ a) (get_or_default ps k p q h) low),
-)
-
 -- where a piece begins behind the address, so do all after it
 pub block_before : (ps : List Piece) (a start n : ℕ) (p : Piece) → AreRisingPieces ps → start + n < length ps
     → a < (get_or ps (start + n) p).0 → IsBlock ps a start n
