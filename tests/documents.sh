@@ -58,8 +58,9 @@ exports() {
 
 # functions CRATE: its functions outside tests, a method as Type_method. One that must have an edit comes once more with a +
 # before it: an exported one whose contract has an `ensures`. A program exports nothing: there it is those in `program`.
-# Exceptions are a law, which returns nothing and changes nothing, and a function whose whole body returns a field, sets one or
-# passes the same call on to one: `rt plant` tries other fields and values there. A method of an exported type's impl of an
+# Exceptions are a law, which returns nothing and changes nothing, and a function whose whole body returns a field, sets one,
+# passes the same call on to one, or puts its arguments into a new value field by field: `rt plant` tries other fields and values
+# there. A method of an exported type's impl of an
 # exported trait comes with a ~ before it, without its type: its contract is written once, with the trait, so one edit for any
 # type is enough.
 program='^(do_job|obey|read_words|run_[a-z]+|status_of)$'
@@ -86,6 +87,7 @@ functions() {
       is_law = !/->|&mut /
       part = /[{}]$/ ? "" : "head"
       lines = asks = 0
+      is_built = 0
       sub(/.*fn /, "")
       sub(/[^a-z0-9_].*/, "")
       method = $0
@@ -99,11 +101,13 @@ functions() {
     part == "head" && /^ *[{]}?$/ { part = "body"; next }
     part == "head" && !/^ *requires / && /->|&mut / { is_law = 0 }
     part == "body" && /^(    )?}$/ {
-      if (is_open && asks && !is_law && !(lines == 1 && is_plain)) print "+" name
+      if (is_open && asks && !is_law && !(lines == 1 && is_plain) && !is_built) print "+" name
       part = ""
     }
     part == "body" {
       lines++
+      if (lines == 1) is_built = /^ *[A-Z][A-Za-z]* [{]$/
+      else if (!/^ *([a-z_]+(: (None|Some\([a-z_]+\)|self\.[a-z_]+))?,|[}])$/) is_built = 0
       is_plain = /^ *self\.[a-z_]+( = [a-z_]+;)?$/ || $0 ~ "^ *self\\.[a-z_]+\\." method "\\(\\)$"
     }
   ' $(find "crates/$1/src" -name '*.rt' ! -name laws.rt ! -path '*/tests*')
@@ -114,7 +118,8 @@ family() { tr -d '0-9'; }
 
 for crate in $crates; do
   all=$(functions "$crate")
-  edited=$(for edit in "crates/$crate"/must-fail/*.edit; do basename "$edit" .edit; done | sed 's/-.*//')
+  harmless=$(cat "crates/$crate/wrong/harmless" 2>/dev/null)
+  edited=$(find "crates/$crate/wrong" "crates/$crate/must-fail" -name '*.edit' -printf '%f\n' 2>/dev/null | grep -vxF "$harmless.edit" | sed 's/-.*//')
   within "$crate: functions that no edit is named for" "$(sed -n 's/^+//p' <<<"$all" | family)" "$(family <<<"$edited")"
   within "$crate: methods of its own traits that no edit is named for" "$(sed -n 's/^~//p' <<<"$all")" "$(sed 's/^[A-Z][A-Za-z0-9]*_//' <<<"$edited")"
   within "$crate: edits that are named for no function" "$edited" "$all"

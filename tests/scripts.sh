@@ -1,6 +1,7 @@
 #!/usr/bin/env bash
-# Tests the scripts that build and test: that tests/all.sh ends what it started when it is ended, and counts what failed; and that
-# scripts/prove says how long the gate took. Scripts and a toolchain that do nothing replace the real ones.
+# Tests the scripts that build and test: that tests/all.sh ends what it started when it is ended, and counts what failed; what
+# scripts/wrong_bodies says of wrong bodies, by what the compiler printed of them; and what scripts/prove builds in the gate. Scripts
+# and a toolchain that do nothing replace the real ones.
 # usage: tests/scripts.sh; the last line is 'build scripts: N passed, M failed'.
 set -u
 cd "$(dirname "$0")/.." || exit
@@ -83,10 +84,62 @@ END
   done
 fi
 
+# ---- scripts/wrong_bodies
+
+# A crate with wrong bodies, one folder for each way in which an edit can fail, and what the compiler printed of each.
+mkdir -p "$scratch/small/scripts" "$scratch/small/crates/small/src"
+cp scripts/wrong_bodies scripts/crates.py "$scratch/small/scripts"
+cp -r tests/wrong_bodies/wrong "$scratch/small/crates/small"
+cp tests/wrong_bodies/lib.rt.txt "$scratch/small/crates/small/src/lib.rt"
+echo 'small:' >"$scratch/small/crates.txt"
+
+# judged FOLDER [PRINTED]: the status and the verdicts on the edits of a folder, without what the compiler said.
+judged() {
+  local printed
+  printed=$("$scratch/small/scripts/wrong_bodies" --printed "tests/wrong_bodies/printed/${2:-$1}.txt" "small/$1" 2>&1)
+  printf '%s\n' $? "$(awk -F ': ' '/^$/ { exit } /^(FAILED )?small/ { print $1 ": " $2 }' <<<"$printed")" "$(tail -n 1 <<<"$printed")"
+}
+
+same 'wrong bodies: refused, hidden, harmless' "$(judged 1)" '1
+small/1/below_nine-adds_nothing: harmless, and still proved, as it must be
+small/1/count_to-stops_one_early: refused
+small/1/next-is_the_same_number: refused
+FAILED small/1/next_but_one-is_the_next: hidden
+wrong bodies: 2 refused in 1 checks'
+same 'wrong bodies: all refused, one of a const' "$(judged 2)" '0
+small/2/in_groups-of_sixteen: refused
+small/2/next_but_one-is_the_next: refused
+wrong bodies: 2 refused in 1 checks'
+same 'wrong bodies: refused for a name alone' "$(judged 3)" '1
+FAILED small/3/count_to-counts_places: refused for a name alone
+wrong bodies: 0 refused in 1 checks'
+same 'wrong bodies: one that does not compile' "$(judged 4)" '1
+FAILED small/4/below_nine-is_the_number: could not tell
+FAILED small/4/next-of_another_number: does not compile
+wrong bodies: 0 refused in 1 checks'
+same 'wrong bodies: still proved; of a function that is not there; a function that no edit is about' "$(judged 5)" '1
+FAILED small/5/below_nine-is_the_number: still proved
+FAILED small/5/in_groups-of_sixteen: could not tell
+FAILED small/5: small::in_groups is refused, and no edit is about it
+wrong bodies: 0 refused in 1 checks'
+same 'wrong bodies: stale' "$(judged 6 2)" '1
+FAILED small/6/next-of_another_text: stale
+FAILED small/6/next-without_a_bound: stale
+small/6/next_but_one-is_the_next: refused
+FAILED small/6: small::in_groups is refused, and no edit is about it
+wrong bodies: 1 refused in 1 checks'
+# A script that takes a harmless edit for refused, or that sees nothing, fails.
+sed 's/^fn small::below_nine: proved/fn small::below_nine: no proof: expected answers in X/' tests/wrong_bodies/printed/1.txt >"$scratch/blind.txt"
+same 'wrong bodies: a harmless edit that is refused' "$("$scratch/small/scripts/wrong_bodies" --printed "$scratch/blind.txt" small/1 | grep -c '^FAILED small/1/below_nine-adds_nothing: refused')" 1
+cp "$scratch/small/crates/small/wrong/1/next-is_the_same_number.edit" "$scratch/small/crates/small/wrong/1/next-again.edit"
+same 'wrong bodies: two edits of one function' "$("$scratch/small/scripts/wrong_bodies" --printed tests/wrong_bodies/printed/1.txt small/1 2>&1)" 'scripts/wrong_bodies: small/1: next-is_the_same_number and next-again change one function: put one into another folder'
+rm "$scratch/small/crates/small/wrong/1/next-again.edit" "$scratch/small/crates/small/wrong/harmless"
+same 'wrong bodies: no harmless edit' "$("$scratch/small/scripts/wrong_bodies" --printed tests/wrong_bodies/printed/1.txt small/1 2>&1)" 'scripts/wrong_bodies: small: the file wrong/harmless names no edit of the first folder: ``'
+
 # ---- scripts/prove
 
-mkdir -p "$scratch/tree/scripts" "$scratch/tree/crates/acpi_c/src" "$scratch/tree/crates/acpi_cli/src" "$scratch/bin"
-cp scripts/prove "$scratch/tree/scripts"
+mkdir -p "$scratch/tree/scripts" "$scratch/tree/crates/acpi_c/src" "$scratch/tree/crates/acpi_cli/src" "$scratch/bin" "$scratch/kit/bin"
+cp scripts/prove scripts/wrong_bodies scripts/crates.py "$scratch/tree/scripts"
 printf 'acpi_c staticlib:\nacpi_cli:\n' >"$scratch/tree/crates.txt"
 echo 'fn main() {}' >"$scratch/tree/crates/acpi_cli/src/main.rt"
 printf 'check\n' >"$scratch/tree/crates/acpi_cli/args"
@@ -97,22 +150,50 @@ cat >"$scratch/bin/rt" <<'END'
 echo "${PWD##*/}: $*" | sed 's/ --jobs [0-9]*//' >>"$FOLDER/calls"
 case $1 in
   version) echo rattle-kit-stand-in ;;
+  doc) echo "$FOLDER/kit/START-HERE.md" ;;
   ci) mkdir -p crates/acpi_cli/out && echo 'for x86-64-v2' >crates/acpi_cli/out/acpi_cli && echo 'rt ci: 2 passed, 0 failed' ;;
   run) mkdir -p out && echo 'for x86-64' >out/acpi_cli ;;
   lib) mkdir -p out && echo library >out/libacpi_c.a ;;
 esac
 END
-chmod +x "$scratch/bin/rt"
+# The compiler and the linker of the toolchain: they note what they build, for which processor, and write it.
+cat >"$scratch/kit/bin/rattle" <<'END'
+#!/bin/sh
+made=
+processor=
+while [ $# -gt 1 ]; do
+  case $1 in
+    -o) made=$2 ;;
+    --cpu) processor=$2 ;;
+  esac
+  shift
+done
+echo "rattle: ${made##*/} for $processor" >>"$FOLDER/calls"
+echo "for $processor" >"$made"
+END
+cat >"$scratch/kit/bin/rattle-link" <<'END'
+#!/bin/sh
+while [ "$1" != -o ]; do shift; done
+echo "linked: ${2##*/}" >>"$FOLDER/calls"
+cp "$3" "$2"
+END
+chmod +x "$scratch/bin/rt" "$scratch/kit/bin"/*
 printed=$(PATH="$scratch/bin:$PATH" "$scratch/tree/scripts/prove" gate 2>&1)
 same 'scripts/prove gate' "$? $(tail -n 1 <<<"$printed" | sed 's/[0-9][0-9]*/N/g')" '0 gate: proved in N.N minutes, from N:N to N:N'
-# `rt ci` builds for x86-64-v2: the program and the library are built after it, for any x86-64.
-same 'calls of rt by the gate' "$(grep -v ': version$' "$scratch/calls")" $'tree: ci\nacpi_cli: run --cpu x86-64 -- check\nacpi_c: lib --cpu x86-64'
+# `rt ci` builds for x86-64-v2: the program and the library are built after it, for any x86-64, over what it proved.
+same 'calls by the gate' "$(grep -v ': version$\|: doc$' "$scratch/calls" | LC_ALL=C sort)" $'linked: acpi_cli\nrattle: acpi_cli.o for x86-64\nrattle: libacpi_c.a for x86-64\ntree: ci'
 same 'the program of the gate' "$(cat "$scratch/tree/acpiset" "$scratch/tree/crates/acpi_cli/out/acpi_cli")" $'for x86-64\nfor x86-64'
 : >"$scratch/calls"
 PATH="$scratch/bin:$PATH" "$scratch/tree/scripts/prove" program >"$scratch/log" 2>&1
 same 'scripts/prove program after the gate' "$? $(grep -v ': version$' "$scratch/calls")" '0 '
 sums=$(cat "$scratch/tree/crates/acpi_c/out/libacpi_c.a.sources" 2>&1)
 same 'sums of the sources of the library' "$(cd "$scratch/tree" && sha256sum -c <<<"$sums" 2>&1)" $'crates.txt: OK\ncrates/acpi_c/src/lib.rt: OK'
+# A wrong body that is not refused fails the gate: here the compiler says nothing of it.
+mkdir -p "$scratch/tree/crates/acpi_c/wrong/1"
+printf 'file: src/lib.rt\nold: pub fn one\nnew: pub fn two\n' >"$scratch/tree/crates/acpi_c/wrong/1/one-is_two.edit"
+echo one-is_two >"$scratch/tree/crates/acpi_c/wrong/harmless"
+printed=$(PATH="$scratch/bin:$PATH" "$scratch/tree/scripts/prove" gate 2>&1)
+same 'scripts/prove gate with a stale edit' "$? $(tail -n 1 <<<"$printed")" '1 scripts/prove: not all wrong bodies were refused'
 
 printf 'build scripts: %d passed, %d failed\n' "$passed" "$failed"
 [ "$failed" = 0 ]

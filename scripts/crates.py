@@ -1,0 +1,160 @@
+"""The crates of this repository, as crates.txt lists them, and how the toolchain's compiler is called on one of them over what was
+proved of those below it. The scripts beside this file import it."""
+
+import hashlib
+import os
+import re
+import shutil
+import subprocess
+from dataclasses import dataclass
+from functools import lru_cache
+from pathlib import Path
+
+TOP = Path(__file__).resolve().parent.parent
+PARTS = ("src", "specs", "proofs")
+# Where crates are proved beside one another, and with wrong bodies. `out` is in .gitignore.
+ROOMS = TOP / "out" / "rooms"
+# The processor that the program and the library are built for: any x86-64. Without this flag `rt` builds for x86-64-v2, also in `rt ci`.
+CPU = "x86-64"
+# A check of one of these crates takes 1 to 4 GB.
+BYTES_OF_A_CHECK = 4_000_000_000
+# Minutes of one processor that a proof from nothing took, measured as CONTRIBUTING says: so the processors are shared.
+MINUTES = {
+    "acpi_graph": 1.5,
+    "acpi_base": 9,
+    "acpi_read": 6,
+    "acpi_confirm": 6,
+    "acpi_check": 8.5,
+    "acpi_write": 6,
+    "acpi_lint": 19,
+    "acpi_c": 6,
+    "acpi_cli": 22,
+}
+
+
+@lru_cache(maxsize=None)
+def kit():
+    """The folder of the toolchain."""
+    return Path(subprocess.run(["rt", "doc"], stdout=subprocess.PIPE, check=True, text=True).stdout.strip()).parent
+
+
+@dataclass(frozen=True)
+class Crate:
+    """A crate of crates.txt: its name, the crates and the toolchain's libraries that its line names, those of the crates below it,
+    each after those that it depends on, and whether it is a static library."""
+
+    name: str
+    own: tuple
+    of_kit: tuple
+    below: tuple
+    is_static: bool
+
+    @property
+    def folder(self):
+        return TOP / "crates" / self.name
+
+    @property
+    def rlib(self):
+        return rlib_of(self.name)
+
+    @property
+    def program(self):
+        return self.folder / "out" / self.name
+
+    @property
+    def archive(self):
+        return self.folder / "out" / f"lib{self.name}.a"
+
+    @property
+    def tests(self):
+        return self.folder / "out" / f"{self.name}_tests"
+
+    @property
+    def minutes(self):
+        """How long its proof takes on one processor, for sharing them; of a crate that was not measured, a guess by its lines."""
+        return MINUTES.get(self.name, self.lines() / 1000)
+
+    def is_program(self):
+        return (self.folder / "src" / "main.rt").is_file()
+
+    def lines(self):
+        return sum(len(file.read_bytes().splitlines()) for part in PARTS for file in (self.folder / part).glob("**/*") if file.is_file())
+
+    def has_tests(self):
+        return any("#[test]" in file.read_text() for file in self.folder.glob("src/**/*.rt"))
+
+    def sources(self):
+        """The files of the crate and of those below it."""
+        for name in (*self.below, self.name):
+            for part in PARTS:
+                yield from (file for file in sorted((TOP / "crates" / name / part).glob("**/*")) if file.is_file())
+
+    def digest(self, version):
+        """A digest of what its program or its tests are made from: the toolchain, the processor, and the sources of the crate and
+        of those below it."""
+        sources = hashlib.sha256(version.encode() + CPU.encode() + (TOP / "crates.txt").read_bytes())
+        for file in self.sources():
+            sources.update(repr((str(file.relative_to(TOP)), file.read_bytes())).encode())
+        return sources.hexdigest()
+
+    def sums(self):
+        """The checksums of the same sources, as `sha256sum --check` reads them. An added file is named in an existing one, so it
+        shows."""
+        files = (TOP / "crates.txt", *self.sources())
+        return "".join(f"{hashlib.sha256(file.read_bytes()).hexdigest()}  {file.relative_to(TOP)}\n" for file in files)
+
+    def words(self):
+        """What the compiler is told of the crate, as `rt` tells it: its root, the proved libraries, and the program logic."""
+        root = "src/main.rt" if self.is_program() else "src/lib.rt"
+        libraries = [f"{name}={kit()}/rlibs/{name}.rlib" for name in ("std", *self.of_kit)]
+        libraries += [f"{name}={rlib_of(name)}" for name in self.own]
+        places = [kit() / "rlibs", *(rlib_of(name).parent for name in self.below)]
+        return [
+            "--crate-name", self.name, root,
+            *(word for library in libraries for word in ("--extern", library)),
+            *(word for place in places for word in ("-L", f"dependency={place}")),
+            "--antt-project", f"{kit()}/rattle/logic/antt-project.json", "--logic-built", f"{kit()}/logic_built",
+            "--links", f"{self.name}=", *(["--crate-type", "staticlib"] if self.is_static else []),
+        ]  # fmt: skip
+
+
+def rlib_of(name):
+    return TOP / "crates" / name / "out" / "rlib" / f"{name}.rlib"
+
+
+def crates():
+    """The crates of crates.txt, each after those that it depends on."""
+    lines = [line.partition("#")[0] for line in (TOP / "crates.txt").read_text().splitlines()]
+    rows = [(name.split(), uses.split()) for name, _, uses in (line.partition(":") for line in lines if line.strip())]
+    named = {words[0]: uses for words, uses in rows}
+    static = {words[0] for words, _ in rows if "staticlib" in words}
+    found = {}
+
+    def add(name):
+        if name not in found:
+            own = tuple(use for use in named[name] if use in named)
+            for use in own:
+                add(use)
+            below = dict.fromkeys(it for use in own for it in (*found[use].below, use))
+            of_kit = tuple(use for use in named[name] if use not in named)
+            found[name] = Crate(name, own, of_kit, tuple(below), name in static)
+
+    for name in named:
+        add(name)
+    return list(found.values())
+
+
+def processors():
+    return len(os.sched_getaffinity(0))
+
+
+def free_bytes():
+    found = re.search(r"MemAvailable:\s+(\d+) kB", Path("/proc/meminfo").read_text())
+    return 1024 * int(found[1]) if found else 0
+
+
+def link_tree(source, target):
+    """Copies a folder, with hard links instead of copies of its files. The compiler and `rt` replace files and never write into
+    them, so the first folder stays as it is."""
+    if source.is_dir():
+        shutil.copytree(source, target, copy_function=os.link)
