@@ -179,6 +179,35 @@ pptt 0x2000
 """,
 )
 
+HIGH = 0x1_0000_0000
+shown(
+    "one of each kind above 4 GB, with other low halves and with the same",
+    {
+        RSDP_AT: extended_rsdp(5 * HIGH),
+        5 * HIGH: xsdt(HIGH + 0x2000, 2 * HIGH + 0x3000, 3 * HIGH, 0xFFFFFFFFFFFF0000, 4 * HIGH + 0x3000),
+        HIGH + 0x2000: fadt(),
+        2 * HIGH + 0x3000: madt(),
+        3 * HIGH: srat(),
+        0xFFFFFFFFFFFF0000: slit(0),
+        4 * HIGH + 0x3000: pptt(),
+    },
+    """
+rsdp 0xe0000 revision 2
+root 0x500000000 XSDT length 76 slots 5
+slot 0 0x100002000 FACP length 116 revision 1
+slot 1 0x200003000 APIC length 44 revision 1
+slot 2 0x300000000 SRAT length 48 revision 1
+slot 3 0xffffffffffff0000 SLIT length 44 revision 1
+slot 4 0x400003000 PPTT length 36 revision 2
+fadt 0x100002000 length 116 profile 0 sci 0 flags 0x100000 reduced yes
+dsdt 0x0
+madt 0x200003000 lapic 0xfee00000 flags 0x1
+srat 0x300000000
+slit 0xffffffffffff0000 count 0
+pptt 0x400003000
+""",
+)
+
 # ---- the FADT, its register blocks, and the FACS
 
 

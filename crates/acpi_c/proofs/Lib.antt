@@ -1,4 +1,5 @@
 mod AddedPieces
 mod Answers
+mod FindingsFit
 mod PiecesMean
 mod RefusedPieces

@@ -1,6 +1,6 @@
 //! All findings, for C.
 
-ghost use Rattle.std.specs.Prelude.{◌≡◌, ◌++◌, List, Result, Ok, IfOk, MatchResult, OnOk, map};
+ghost use Rattle.std.specs.Prelude.{◌≡◌, ◌≤◌, ◌++◌, List, Result, Ok, IfOk, MatchResult, OnOk, length, map};
 ghost use Rattle.acpi_base.specs.declared.rule.Advice.{Advice};
 ghost use Rattle.acpi_base.specs.declared.witness.Witness.{Witness};
 ghost use Rattle.acpi_c.specs.Answers.{advice_finding, all_findings, fault_finding, lint_answer, written, written_over};
@@ -18,6 +18,11 @@ use crate::settings::{Inputs, Settings, policy_of};
 use acpi_base::{Advice, Witness};
 use acpi_lint::{Findings, lint};
 use std::alloc::{AllocError, Global};
+
+/// The most faults that `acpiset_lint` finds: one of each code.
+pub const MOST_FAULTS: usize = 59;
+/// The most findings of advice: one of each rule.
+pub const MOST_ADVICE: usize = 28;
 
 /// All findings on the image of the pieces, and the same as numbers.
 fn searched(
@@ -111,8 +116,8 @@ fn answer_of(found: &Findings) -> Answer
 /// order of the rules' numbers. They are written to `findings`, as many as fit; the rest of the array does not
 /// change. The last stage of the settings is ignored.
 ///
-/// Returns `Yes` if there is no fault, otherwise `No`, with the number of faults and the number of findings of
-/// advice. An array of 87 is always long enough.
+/// Returns `Yes` if there is no fault, otherwise `No`, with the number of faults, at most `MOST_FAULTS`, and the number
+/// of findings of advice, at most `MOST_ADVICE`. An array of as many as both together, 87, is always long enough.
 ///
 /// Refuses, in this order, and then writes nothing: `BadSize`, `BadDefaultInputs`, `BadHotPlug`, `BadProcessors`, `BadInputs`,
 /// `PiecePastEnd`, `PiecesOverlap`, `OutOfMemory`, as `acpiset_check` does.
@@ -126,6 +131,7 @@ pub extern "C" fn acpiset_lint(
 ) -> Answer
     ensures { (found : Result (List Witness × List Advice) Refusal)
         × Lints (pieces_source pieces.now) settings.now inputs.now found
+        × IfOk found (λ own. (length own.0 ≤ MOST_FAULTS) × (length own.1 ≤ MOST_ADVICE))
         × (result ≡ lint_answer found)
         × (findings.new ≡ written found findings.old) }
 {

@@ -6,16 +6,25 @@ use Rattle.acpi_base.specs.TableKinds.{signature_of}
 use Rattle.acpi_base.specs.declared.table_kind.TableKind.{TableKind}
 use Rattle.acpi_base.specs.declared.table_kind.TableKind.TheVariants as kind
 use Rattle.acpi_read.specs.declared.first_tables.FirstTables.{FirstTables}
+use Rattle.acpi_read.specs.declared.first_tables.Listed.{Listed}
 
--- the bytes of the first table of a kind, if there is one
+-- the first table of a kind with its address, if there is one
+abbrev pub first_listed : FirstTables → TableKind → Option Listed
+first_listed tables kind.Fadt = tables.fadt
+first_listed tables kind.Madt = tables.madt
+first_listed tables kind.Srat = tables.srat
+first_listed tables kind.Slit = tables.slit
+first_listed tables kind.Pptt = tables.pptt
+
+-- its bytes
 abbrev pub first_table : FirstTables → TableKind → Option (List ℕ)
-first_table tables kind.Fadt = option_map (λ first. first.table) tables.fadt
-first_table tables kind.Madt = option_map (λ first. first.table) tables.madt
-first_table tables kind.Srat = option_map (λ first. first.table) tables.srat
-first_table tables kind.Slit = option_map (λ first. first.table) tables.slit
-first_table tables kind.Pptt = option_map (λ first. first.table) tables.pptt
+first_table tables kind = option_map (λ first. first.table) (first_listed tables kind)
 
--- the first table with a signature, if one table comes after those before it
+-- the first table with a signature, with its address, if one table comes after those before it
+abbrev pub first_signed : List ℕ → Option Listed → Listed → Option Listed
+first_signed signature found next = if has_signature next.table signature && is_none found then Some next else found
+
+-- its bytes
 abbrev pub first_signed_table : List ℕ → Option (List ℕ) → List ℕ → Option (List ℕ)
 first_signed_table signature found whole = if has_signature whole signature && is_none found then Some whole else found
 

@@ -40,7 +40,7 @@ pub struct FirstTables<'a> {
 
 impl<'a> FirstTables<'a> {
     ghost use Rattle.acpi_base.specs.TableKinds.{signature_of};
-    ghost use Rattle.acpi_read.specs.FirstTables.{first_table, first_signed_table, IsFirstOf};
+    ghost use Rattle.acpi_read.specs.FirstTables.{first_listed, first_table, first_signed, IsFirstOf};
 
     /// No table yet.
     pub fn new() -> FirstTables<'a>
@@ -57,7 +57,7 @@ impl<'a> FirstTables<'a> {
 
     /// The first table of a kind, with its address, if there is one.
     pub fn listed(&self, kind: TableKind) -> Option<&Listed<'a>>
-        ensures { option_map (λ first. first.now.table) result ≡ first_table self.now kind }
+        ensures { option_map (λ first. first.now) result ≡ first_listed self.now kind }
     {
         let place = match kind {
             TableKind::Fadt => &self.fadt,
@@ -92,8 +92,8 @@ impl<'a> FirstTables<'a> {
     /// Adds the next table: keeps it if it is the first of its kind, and then returns the kind.
     pub fn add(&mut self, listed: Listed<'a>) -> Option<TableKind>
         ensures tables { (kind : TableKind)
-            → first_table self.new kind ≡ first_signed_table (signature_of kind)
-            (first_table self.old kind) listed.entry.table }
+            → first_listed self.new kind ≡ first_signed (signature_of kind)
+            (first_listed self.old kind) listed.entry }
         ensures kind { IsFirstOf self.old listed.entry.table result }
     {
         let kind = self.first_as(&listed.table)?;
@@ -103,9 +103,9 @@ impl<'a> FirstTables<'a> {
 
     /// Keeps a table as the first of a kind.
     fn keep(&mut self, kind: TableKind, listed: Listed<'a>)
-        ensures kept { first_table self.new kind ≡ Some listed.entry.table }
+        ensures kept { first_listed self.new kind ≡ Some listed.entry }
         ensures others { (other : TableKind) → ¬ (other ≡ kind)
-            → first_table self.new other ≡ first_table self.old other }
+            → first_listed self.new other ≡ first_listed self.old other }
     {
         match kind {
             TableKind::Fadt => self.fadt = Some(listed),

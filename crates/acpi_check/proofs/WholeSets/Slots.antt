@@ -14,9 +14,11 @@ use Rattle.acpi_base.proofs.Root.Slots.{one_slot, slot_of_root}
 use Rattle.acpi_base.proofs.Tables.Kinds.{length-signature_of}
 use Rattle.acpi_base.proofs.Tables.Listed.{listed_in_root, none_in_root}
 use Rattle.acpi_base.proofs.Tables.Whole.{signed_table}
-use Rattle.acpi_read.specs.FirstTables.{first_table, first_signed_table}
+use Rattle.acpi_read.specs.FirstTables.{first_listed, first_table, first_signed, first_signed_table}
 use Rattle.acpi_read.specs.Roots.{RootValue}
 use Rattle.acpi_read.specs.declared.first_tables.FirstTables.{FirstTables}
+use Rattle.acpi_read.specs.declared.first_tables.Listed.{Listed}
+use Rattle.acpi_read.proofs.FirstsKept.{bytes_of_first}
 use Rattle.acpi_check.specs.FirstBelow.{IsFirstBelow, AreFirstBelow}
 use Rattle.acpi_check.specs.Tables.{IsRootOf, AreFirstTables}
 
@@ -109,11 +111,11 @@ firsts_skip m root k firsts empty below = record {
 }
 
 -- a slot that lists a sound table
-pub firsts_more : (m : Memory) (root : RootValue) (k a : ℕ) (header whole : List ℕ) (old new : FirstTables)
-    → HasSlot root.bytes root.width k a → IsSoundTable m a → IsTable m a header whole
-    → ((kind : TableKind) → first_table new kind ≡ first_signed_table (signature_of kind) (first_table old kind) whole)
+pub firsts_more : (m : Memory) (root : RootValue) (k a : ℕ) (header : List ℕ) (next : Listed) (old new : FirstTables)
+    → HasSlot root.bytes root.width k a → IsSoundTable m a → IsTable m a header next.table
+    → ((kind : TableKind) → first_listed new kind ≡ first_signed (signature_of kind) (first_listed old kind) next)
     → AreFirstBelow m root k old → AreFirstBelow m root (k + 1) new
-firsts_more m root k a header whole old new slot sound table added below = record {
+firsts_more m root k a header next old new slot sound table added below = record {
   sound = λ j b less there. elim (cases_lt j k) [
     | inl before ↦ below.sound j b before there
     | inr last ↦
@@ -122,7 +124,8 @@ firsts_more m root k a header whole old new slot sound table added below = recor
         subst (λ (x : ℕ). IsSoundTable m x) (one_slot root.bytes root.width k a b slot here) sound
   ];
   first = λ kind.
-      rw (added kind) (below_more m root.bytes root.width k a header whole (signature_of kind) (first_table old kind)
+      rw (bytes_of_first (signature_of kind) (first_listed old kind) next (added kind))
+      (below_more m root.bytes root.width k a header next.table (signature_of kind) (first_table old kind)
       (length-signature_of kind) slot table (below.first kind));
 }
 

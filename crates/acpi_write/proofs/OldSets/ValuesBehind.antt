@@ -12,7 +12,9 @@ use Rattle.acpi_base.specs.Signature.{has_signature}
 use Rattle.acpi_base.specs.TableKinds.{signature_of}
 use Rattle.acpi_base.specs.declared.table_kind.TableKind.{TableKind}
 use Rattle.acpi_base.proofs.Tables.Kinds.{one_kind, length-signature_of}
-use Rattle.acpi_read.specs.FirstTables.{first_table, first_signed_table, IsFirstOf}
+use Rattle.acpi_read.specs.FirstTables.{first_listed, first_table, first_signed, IsFirstOf}
+use Rattle.acpi_read.specs.declared.first_tables.Listed.{Listed}
+use Rattle.acpi_read.proofs.FirstsKept.{bytes_of_first}
 use Rattle.acpi_read.specs.declared.first_tables.FirstTables.{FirstTables}
 use Rattle.acpi_write.specs.Bodies.{kinds}
 use Rattle.acpi_write.specs.Kinds.{is_among, IsKindBehind, HasFirsts}
@@ -158,13 +160,17 @@ kept_or_not None whole true false same = refl
 kept_or_not None whole false false same = refl
 kept_or_not None whole has true same = absurd cc
 
-pub firsts_more : (tables next : List (List ℕ)) (whole : List ℕ) (old new : FirstTables) → next ≡ tables ++ whole ∷ []
-    → HasFirsts tables old
-    → ((kind : TableKind) → first_table new kind ≡ first_signed_table (signature_of kind) (first_table old kind) whole)
+pub firsts_more : (tables next : List (List ℕ)) (listed : Listed) (old new : FirstTables)
+    → next ≡ tables ++ listed.table ∷ [] → HasFirsts tables old
+    → ((kind : TableKind) → first_listed new kind ≡ first_signed (signature_of kind) (first_listed old kind) listed)
     → HasFirsts next new
-firsts_more tables next whole old new is has added kind =
-    rw (is, added kind, among_more tables whole (signature_of kind))
-    (kept_or_not (first_table old kind) whole (has_signature whole (signature_of kind))
+firsts_more tables next listed old new is has added kind =
+    rw (
+      is,
+      bytes_of_first (signature_of kind) (first_listed old kind) listed (added kind),
+      among_more tables listed.table (signature_of kind),
+    )
+    (kept_or_not (first_table old kind) listed.table (has_signature listed.table (signature_of kind))
     (is_among tables (signature_of kind)) (has kind))
 
 -- so the kind is that of the table behind them

@@ -69,7 +69,7 @@ loop-k-preserved c =
     (subst (λ (w : List ℕ). IsKindBehind (take k ts) w c.add-kind.result) same first))
     ∙ ap (table_value_behind (take k ts)) nil in
     let next = next_take ts k below ∙ ap (λ (w : List ℕ). take k ts ++ w ∷ []) (sym (same ∙ nil)) in (
-      firsts_more (take k ts) (take (k + 1) ts) (table_of c.copied.result) c.loop-k.firsts c.add-kind.new.self next
+      firsts_more (take k ts) (take (k + 1) ts) c.copied.result c.loop-k.firsts c.add-kind.new.self next
           c.loop-k.invariant.0 c.add-kind.ensures.tables,
       ap (map table_value) c.in_ok-push.ensures.items ∙ map-append table_value c.loop-k.found.items
           (c.in_ok-value.value ∷ []) ∙ (λ i. c.loop-k.invariant.1 i ++ here i ∷ []) ∙ sym (values_next ts k below),

@@ -1,0 +1,56 @@
+-- There are no more findings than codes and rules.
+use Rattle.std.proofs.Common.{◌≡◌, ◌<◌, ◌≤◌, ◌+◌, ◌-◌, ℕ, zero, suc, List, [], ◌∷◌, length, arith}
+use Rattle.std.specs.List.{AllPairs, slice_index_or}
+use Rattle.acpi_base.specs.Codes.{code_number}
+use Rattle.acpi_base.specs.Lint.Findings.{AreFindings}
+use Rattle.acpi_base.specs.Lint.Rules.{rule_number}
+use Rattle.acpi_base.specs.Memory.{Memory}
+use Rattle.acpi_base.specs.Policy.{PolicyValue}
+use Rattle.acpi_base.specs.declared.code.Code.{Code}
+use Rattle.acpi_base.specs.declared.code.Code.TheVariants as code
+use Rattle.acpi_base.specs.declared.rule.Advice.{Advice}
+use Rattle.acpi_base.specs.declared.rule.Rule.{Rule}
+use Rattle.acpi_base.specs.declared.rule.Rule.TheVariants as rule
+use Rattle.acpi_base.specs.declared.witness.Witness.{Witness}
+use Rattle.acpi_base.proofs.Faults.Numbers.{code_below}
+
+code_from : (c : Code) → 1 ≤ code_number c
+code_from code.RsdpOut = omega arith
+code_from _ = omega arith
+
+rule_below : (r : Rule) → rule_number r < 129
+rule_below rule.ListedTwice = omega arith
+rule_below _ = omega arith
+
+rule_from : (r : Rule) → 101 ≤ rule_number r
+rule_from rule.ListedTwice = omega arith
+rule_from _ = omega arith
+
+-- numbers that rise from `low` on are at least that and their place
+rises : {X : Type 0} (number : X → ℕ) (low : ℕ) (xs : List X) (d : X) → ((x : X) → low ≤ number x)
+    → AllPairs (λ x y. number x < number y) xs → (i : ℕ) → i < length xs → low + i ≤ number (slice_index_or xs i d)
+rises number low xs d from rise zero below = let least = from (slice_index_or xs 0 d) in omega arith
+rises number low xs d from rise (suc i) below =
+    let before : low + i ≤ number (slice_index_or xs i d) = rises number low xs d from rise i (omega arith) in
+    let next : number (slice_index_or xs i d) < number (slice_index_or xs (suc i) d) =
+    rise i (suc i) d (omega arith) below in
+    omega arith
+
+-- so there are at most as many as there are numbers
+fits : {X : Type 0} (number : X → ℕ) (low high : ℕ) (xs : List X) → ((x : X) → low ≤ number x)
+    → ((x : X) → number x < high) → AllPairs (λ x y. number x < number y) xs → length xs ≤ high - low
+fits number low high [] from to rise = omega arith
+fits number low high (x ∷ rest) from to rise =
+    let last : length rest < length (x ∷ rest) = omega arith in
+    let reached = rises number low (x ∷ rest) x from rise (length rest) last in
+    let below = to (slice_index_or (x ∷ rest) (length rest) x) in
+    omega arith
+
+pub findings_fit : (m : Memory) (q : PolicyValue) (faults : List Witness) (advice : List Advice)
+    → AreFindings m q faults advice → (length faults ≤ 59) × (length advice ≤ 28)
+findings_fit m q faults advice are = (
+  fits (λ (w : Witness). code_number w.code) 1 60 faults (λ w. code_from w.code) (λ w. code_below w.code)
+      are.faults.rise,
+  fits (λ (a : Advice). rule_number a.rule) 101 129 advice (λ a. rule_from a.rule) (λ a. rule_below a.rule)
+      are.advice.rise,
+)
