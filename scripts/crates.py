@@ -29,6 +29,7 @@ MINUTES = {
     "acpi_lint": 19,
     "acpi_c": 6,
     "acpi_cli": 22,
+    "acpi_tests": 15,
 }
 
 

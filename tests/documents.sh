@@ -148,20 +148,22 @@ for crate in $crates; do
   same "$crate: public calls and their clauses (<) and those of PROMISES.md (>)" "$(calls "$crate")" "$(calls_told "$crate")"
 done
 refusals=$(sed -n '/^## Every public call$/,/^## Wrong/p' docs/PROMISES.md | sed -n 's/^| `[^`]*` | \(.*\) | .* |$/\1/p' | grep -o '`[A-Za-z]*`' | tr -d '`')
-known=$(cat $(find crates/*/src -name '*.rt' ! -path '*/tests*') | sed -n 's/^    \([A-Z][A-Za-z0-9]*\)\([ ({].*\)\{0,1\},\{0,1\}$/\1/p; s/^pub struct \([A-Za-z]*\).*/\1/p'; echo AllocError)
+known=$(cat $(find crates/*/src -name '*.rt' ! -path '*tests*') | sed -n 's/^    \([A-Z][A-Za-z0-9]*\)\([ ({].*\)\{0,1\},\{0,1\}$/\1/p; s/^pub struct \([A-Za-z]*\).*/\1/p'; echo AllocError)
 within 'refusals that the code does not have' "$refusals" "$known"
 
 samples=$(sed -n '/^SAMPLED = {$/,/^}$/s/^    "\(.*\)",$/\1/p' tests/refusals.py tests/refused_calls.py)
 named=$(sed -n '/^## By test alone$/,/^## /p' docs/PROMISES.md | grep -o '`[^`]*`' | tr -d '`')
 within 'runs of which a sample of requests is refused, and that PROMISES.md does not name' "$samples" "$named"
 
-# ---- examples at the heads of the libraries: their lines also occur in code that is compiled
+# ---- examples at the heads of the libraries that export something: their lines also occur in code that is compiled, mostly in a
+# test of acpi_tests
 
 # bare: code without indents, and without trailing comments.
 bare() { sed 's/^ *//; s/ *\/\/ .*$//'; }
 
 for head in crates/*/src/lib.rt; do
   grep -qx "$(cut -d / -f 2 <<<"$head")" <<<"$for_c" && continue
+  grep -q '^pub ' "$head" || continue
   example=$(sed -n '/^\/\/! ```rust$/,/^\/\/! ```$/s/^\/\/! \{0,1\}//p' "$head" | grep -v '^```' | bare)
   found=
   for file in $(grep -rlF "$(tail -n 1 <<<"$example")" crates/*/src); do
@@ -212,7 +214,7 @@ same 'the contracts of the headline, as PROOF.md has them (<) and in the code (>
 
 count 'definitions that public contracts rest on' "$(tests/definitions.py 2>&1)"
 for crate in $crates; do
-  files=$(for file in "crates/$crate"/specs/*.antt; do basename "$file" .antt; done | grep -vx Lib)
+  files=$(find "crates/$crate" -maxdepth 2 -path '*/specs/*.antt' | sed 's/.*\///; s/\.antt$//' | grep -vx Lib)
   part=$(sed -n '/^## Definitions$/,/^## /p' docs/ARCHITECTURE.md)
   [ "$crate" = acpi_base ] || part=$(grep "^| \`$crate\` |" <<<"$part")
   within "$crate: files of definitions that ARCHITECTURE.md does not name" "$files" "$(grep -o '`[A-Z][A-Za-z]*`' <<<"$part" | tr -d '`')"

@@ -21,9 +21,9 @@ SECONDS = 60
 OUT_OF_MEMORY = re.compile(rb'\b(AllocError|AllocFailed|Memory|DeviceFailed)\b')
 # The tests that make more requests than are refused each in its turn. docs/PROMISES.md names them.
 SAMPLED = {
-    "text::image_text::tests::reads_a_row_with_one_byte_changed",
-    "clash::tests::agrees_with_the_plain_search",
-    "stray::tests::agrees_with_the_plain_walk",
+    "base::text::image_text::reads_a_row_with_one_byte_changed",
+    "graph::clash::agrees_with_the_plain_search",
+    "graph::stray::agrees_with_the_plain_walk",
 }
 
 

@@ -154,6 +154,7 @@ case $1 in
   ci) mkdir -p crates/acpi_cli/out && echo 'for x86-64-v2' >crates/acpi_cli/out/acpi_cli && echo 'rt ci: 2 passed, 0 failed' ;;
   run) mkdir -p out && echo 'for x86-64' >out/acpi_cli ;;
   lib) mkdir -p out && echo library >out/libacpi_c.a ;;
+  test) mkdir -p out && echo tests >"out/${PWD##*/}_tests" ;;
 esac
 END
 # The compiler and the linker of the toolchain: they note what they build, for which processor, and write it.
@@ -194,6 +195,15 @@ printf 'file: src/lib.rt\nold: pub fn one\nnew: pub fn two\n' >"$scratch/tree/cr
 echo one-is_two >"$scratch/tree/crates/acpi_c/wrong/harmless"
 printed=$(PATH="$scratch/bin:$PATH" "$scratch/tree/scripts/prove" gate 2>&1)
 same 'scripts/prove gate with a stale edit' "$? $(tail -n 1 <<<"$printed")" '1 scripts/prove: not all wrong bodies were refused'
+
+# Only one of the two crates has tests. From the other one old ones are left.
+echo '#[test]' >>"$scratch/tree/crates/acpi_c/src/lib.rt"
+mkdir -p "$scratch/tree/crates/acpi_cli/out"
+echo old >"$scratch/tree/crates/acpi_cli/out/acpi_cli_tests"
+: >"$scratch/calls"
+PATH="$scratch/bin:$PATH" "$scratch/tree/scripts/prove" tests >"$scratch/log" 2>&1
+same 'scripts/prove tests' "$? $(grep -v ': version$' "$scratch/calls")" $'0 acpi_c: lib --cpu x86-64\nacpi_c: test'
+same 'tests that were built' "$(cd "$scratch/tree/crates" && echo */out/*_tests)" acpi_c/out/acpi_c_tests
 
 printf 'build scripts: %d passed, %d failed\n' "$passed" "$failed"
 [ "$failed" = 0 ]

@@ -19,8 +19,6 @@ mod prefix_sums;
 mod runs;
 mod segments;
 mod span;
-#[cfg(test)]
-mod tests;
 
 use segments::Segments;
 use std::alloc::{AllocError, Global};

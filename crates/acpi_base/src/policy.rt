@@ -1,8 +1,5 @@
 //! The settings of a check.
 
-#[cfg(test)]
-mod tests;
-
 ghost use Rattle.std.specs.Prelude.{◌≡◌, ◌+◌, ◌^◌, ◌<◌, ◌≤◌, ◌↔◌, IsTrue, IfOk, IfErr, OnOk, OnErr, OkIff, Err, None};
 ghost use Rattle.std.specs.FinMap.{get};
 

@@ -1,8 +1,5 @@
 //! Readers and writers whose failures are counted.
 
-#[cfg(test)]
-mod tests;
-
 ghost use Rattle.std.specs.Prelude.{◌≡◌, ◌<◌, IfOk, OnOk, OnErr, IsErr, length};
 ghost use Rattle.std.specs.Io.{ReadsAtMost, WritesAtMost};
 ghost use Rattle.std.specs.Io.KnownBytes.{ReadConsumes, WriteAppends};

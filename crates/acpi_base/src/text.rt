@@ -3,8 +3,6 @@
 pub(crate) mod fault_parsing;
 pub(crate) mod fault_text;
 pub(crate) mod image_text;
-#[cfg(test)]
-mod tests;
 pub mod written_text;
 
 ghost use Rattle.std.specs.Prelude.{◌≡◌};

@@ -43,6 +43,3 @@ fn runs_into(span: &CompactSpan, next: &CompactSpan, comparisons: &mut usize) ->
     *comparisons += 1;
     u64::from(next.start) < span.end()
 }
-
-#[cfg(test)]
-mod tests;

@@ -76,6 +76,3 @@ fn overlaps(span: &Span, next: &Span, comparisons: &mut usize) -> bool
     *comparisons += 1;
     next.start < span.end
 }
-
-#[cfg(test)]
-mod tests;

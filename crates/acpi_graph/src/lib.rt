@@ -40,8 +40,6 @@ mod mixing;
 mod sorting;
 mod span;
 mod stray;
-#[cfg(test)]
-mod tests;
 
 pub use apart::first_meeting;
 pub use clash::{Clash, first_clash};

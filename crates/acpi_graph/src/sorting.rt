@@ -38,6 +38,3 @@ where
     mix(items, |one, other| key(one).cmp(&key(other)).is_lt());
     items.sort_unstable_by_key(key);
 }
-
-#[cfg(test)]
-mod tests;

@@ -111,6 +111,3 @@ fn step(parents: &[Option<usize>], node: usize, steps: &mut usize) -> Option<usi
     *steps += 1;
     parents[node]
 }
-
-#[cfg(test)]
-mod tests;

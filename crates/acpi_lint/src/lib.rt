@@ -4,7 +4,7 @@
 //! Earlier stages need not hold: a table whose checksum is wrong is still looked at, and a dangling reference ends
 //! its chain.
 //!
-//! An example, from `crates/acpi_lint/src/tests.rt`. The RSDP at 0xE0000 has a wrong byte in its signature, and so a
+//! An example, from `crates/acpi_tests/src/lint.rt`. The RSDP at 0xE0000 has a wrong byte in its signature, and so a
 //! wrong checksum. It names an RSDT that lists the address 0x2000 in slots 0 and 1, where there is no table.
 //!
 //! ```rust
@@ -71,6 +71,3 @@ mod verdicts;
 mod whole_tables;
 
 pub use findings::{Findings, lint};
-
-#[cfg(test)]
-mod tests;

@@ -137,6 +137,3 @@ impl<'a> Iterator for Entries<'a> {
         Some(Entry { offset, bytes })
     }
 }
-
-#[cfg(test)]
-mod tests;

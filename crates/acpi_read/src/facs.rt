@@ -103,6 +103,3 @@ impl<'a> Facs<'a> {
         self.bytes
     }
 }
-
-#[cfg(test)]
-mod tests;

@@ -358,6 +358,3 @@ impl<'a> Fadt<'a> {
         self.table.header()
     }
 }
-
-#[cfg(test)]
-mod tests;

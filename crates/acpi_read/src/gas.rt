@@ -73,6 +73,3 @@ impl Layout for Gas {
 
     ghost one_value = { λ _ _ same. Prim.search rules };
 }
-
-#[cfg(test)]
-mod tests;

@@ -90,6 +90,3 @@ impl Layout for Header {
 
     ghost one_value = { λ _ _ same. Prim.search rules };
 }
-
-#[cfg(test)]
-mod tests;

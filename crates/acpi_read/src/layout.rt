@@ -50,6 +50,3 @@ pub fn read_back<L: Layout>(value: &L, out: &mut [u8]) -> Option<L>
     value.write(out);
     L::read(out)
 }
-
-#[cfg(test)]
-mod tests;

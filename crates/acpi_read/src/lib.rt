@@ -91,8 +91,3 @@ pub use srat::{
 };
 pub use table::Table;
 pub use typed_entries::{EntryAt, TableEntry, TypedEntries};
-
-#[cfg(test)]
-mod samples;
-#[cfg(test)]
-mod tests;

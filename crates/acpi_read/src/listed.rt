@@ -71,6 +71,3 @@ pub fn listed_table<'a>(image: &'a Image, rsdp: u64, signature: [u8; 4]) -> Opti
     let address = first(image, &root, signature)?;
     Table::whole(image, address)
 }
-
-#[cfg(test)]
-mod tests;

@@ -109,6 +109,3 @@ impl<'a> TableEntry<'a> for MadtEntry<'a> {
         }
     }
 }
-
-#[cfg(test)]
-mod tests;

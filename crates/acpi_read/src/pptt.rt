@@ -87,6 +87,3 @@ impl<'a> TableEntry<'a> for PpttEntry<'a> {
         !matches!(self, PpttEntry::Opaque(_))
     }
 }
-
-#[cfg(test)]
-mod tests;

@@ -295,6 +295,3 @@ impl<'a> Root<'a> {
         self.width == Root::XSDT_SLOT
     }
 }
-
-#[cfg(test)]
-mod tests;

@@ -156,6 +156,3 @@ impl Rsdp {
         self.xsdt
     }
 }
-
-#[cfg(test)]
-mod tests;

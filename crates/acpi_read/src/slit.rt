@@ -122,6 +122,3 @@ impl<'a> Slit<'a> {
         self.bytes[Slit::CELLS + count * i as usize + j as usize]
     }
 }
-
-#[cfg(test)]
-mod tests;

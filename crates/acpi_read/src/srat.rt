@@ -87,6 +87,3 @@ impl<'a> TableEntry<'a> for SratEntry<'a> {
         }
     }
 }
-
-#[cfg(test)]
-mod tests;

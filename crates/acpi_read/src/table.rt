@@ -158,6 +158,3 @@ impl<'a> Table<'a> {
         header_at(self.bytes)
     }
 }
-
-#[cfg(test)]
-mod tests;

@@ -1,8 +1,5 @@
 //! Tables as bytes.
 
-#[cfg(test)]
-mod tests;
-
 ghost use Rattle.std.specs.Prelude.{◌≡◌, ◌≢◌, ◌+◌, ◌*◌, ◌^◌, ◌<◌, ◌≤◌, ◌++◌, length, map, flat_map, IsTrue, IfOk, IfErr, OnOk, MatchOption, ◌↔◌};
 ghost use Rattle.acpi_write.specs.Encoded.{table_bytes, encoded_bytes, body_of, encoded_length, FitsHead};
 ghost use Rattle.acpi_base.specs.Number.{number_bytes};

@@ -38,8 +38,6 @@ mod set_value;
 mod set_writing;
 mod table_reading;
 mod table_value;
-#[cfg(test)]
-mod test_sets;
 mod xsdt_writing;
 
 pub use encode::{WriteFault, encode_table};

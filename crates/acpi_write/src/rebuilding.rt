@@ -1,8 +1,5 @@
 //! Sets at another address.
 
-#[cfg(test)]
-mod tests;
-
 ghost use Rattle.std.specs.Prelude.{IfOk, IfErr};
 ghost use Rattle.acpi_base.specs.Memory.{IsImage};
 ghost use Rattle.acpi_base.specs.Policy.{with_rsdp};

@@ -1,8 +1,5 @@
 //! Values of sets.
 
-#[cfg(test)]
-mod tests;
-
 ghost use Rattle.std.specs.Prelude.{IfOk, IfErr};
 ghost use Rattle.std.specs.List.{All};
 ghost use Rattle.acpi_base.specs.Statements.{IsClean};

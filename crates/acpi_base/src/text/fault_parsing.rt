@@ -1,8 +1,5 @@
 //! Faults read from their text.
 
-#[cfg(test)]
-mod tests;
-
 ghost use Rattle.std.specs.Prelude.{◌≡◌, ◌<◌, ◌+◌, ◌∷◌, ◌++◌, ◌^◌, ◌↔◌, ℕ, IsTrue, IfSome, Some, MatchOption, true, false, decimal};
 ghost use Rattle.std.specs.List.{list_all};
 ghost use Rattle.std.specs.Fmt.{digits, digit_glyph};

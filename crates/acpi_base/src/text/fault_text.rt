@@ -1,8 +1,5 @@
 //! Faults, verdicts and advice as text.
 
-#[cfg(test)]
-mod tests;
-
 ghost use Rattle.std.specs.Prelude.{◌≡◌, ◌++◌, IfOk, OnOk, codes};
 ghost use Rattle.acpi_base.specs.Text.WitnessText.{advice_line, hex_text, witness_line, verdict_line};
 

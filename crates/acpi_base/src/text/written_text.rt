@@ -1,8 +1,5 @@
 //! Images written as text, which `read_image` reads.
 
-#[cfg(test)]
-mod tests;
-
 ghost use Rattle.std.specs.Prelude.{◌≡◌, ◌+◌, ◌<◌, ◌≤◌, ◌++◌, ◌∷◌, length, take, IfOk, OnOk};
 ghost use Rattle.acpi_base.specs.Text.WrittenText.{pair, row, rows, row_count, line_with_lf, text_of, address_line, run_lines, IsWritten};
 

@@ -1,7 +1,0 @@
-use Rattle.std.proofs.Common.{ℕ, ◌<◌, Option, length, get_or}
-use Rattle.std.specs.Prelude.{IfSome}
-use Rattle.acpi_graph.proofs.stray.tests.are_nodes.Given as goal
-
-abbrev pub invariant-loop-parent : goal.invariant-loop-parent
-invariant-loop-parent l = (k : ℕ) (d : Option ℕ) → k < l.parent-index
-    → IfSome (get_or l.parents k d) (λ node. node < length l.parents)

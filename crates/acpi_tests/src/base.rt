@@ -1,0 +1,6 @@
+mod field;
+mod image;
+mod policy;
+mod table_kind;
+mod tally;
+mod text;

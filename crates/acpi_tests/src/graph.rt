@@ -1,0 +1,5 @@
+mod apart;
+mod clash;
+mod example;
+mod sorting;
+mod stray;

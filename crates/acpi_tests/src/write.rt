@@ -1,0 +1,3 @@
+mod encode;
+mod rebuilding;
+mod set_reading;
