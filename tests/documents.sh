@@ -106,7 +106,7 @@ functions() {
     }
     part == "body" {
       lines++
-      if (lines == 1) is_built = /^ *[A-Z][A-Za-z]* [{]$/
+      if (lines == 1) is_built = /^ *[A-Z][A-Za-z]* [{]( [a-z_, ]* [}])?$/
       else if (!/^ *([a-z_]+(: (None|Some\([a-z_]+\)|self\.[a-z_]+))?,|[}])$/) is_built = 0
       is_plain = /^ *self\.[a-z_]+( = [a-z_]+;)?$/ || $0 ~ "^ *self\\.[a-z_]+\\." method "\\(\\)$"
     }

@@ -82,6 +82,7 @@ pub use madt::{
     AddressOverride, GICC, GICC_LEN, IoApic, LocalApic, LocalNmi, MADT_FLAGS,
     MADT_LOCAL_APIC_ADDRESS, MadtEntry, NmiSource, Override, X2apic, X2apicNmi,
 };
+pub use noted_entries::NotedEntries;
 pub use pptt::{Cache24, Cache28, NodeHead, PpttEntry};
 pub use root::{Root, RootPlace, named_root};
 pub use rsdp::Rsdp;

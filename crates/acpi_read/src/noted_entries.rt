@@ -66,6 +66,3 @@ impl<'a> Iterator for NotedEntries<'a> {
         })
     }
 }
-
-#[cfg(test)]
-mod tests;

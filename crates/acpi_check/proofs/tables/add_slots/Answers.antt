@@ -22,7 +22,8 @@ loop-k-preserved c =
     let table = c.in-Ok.ensures.value in
     record {
       below = firsts_more c.args.image.now c.args.root.now c.loop-k.k c.in-Some.address table.0
-          (record { address = c.in-Some.address; table = c.in-Ok.table }) c.loop-k.firsts c.add.new.self listed.0 (c.in-Ok.ensures.ok.0 refl) table.1 c.add.ensures.tables
+          (record { address = c.in-Some.address; table = c.in-Ok.table }) c.loop-k.firsts c.add.new.self listed.0
+          (c.in-Ok.ensures.ok.0 refl) table.1 c.add.ensures.tables
           c.loop-k.invariant.below;
       ahead = c.listed_run-ahead-in-loop-k.ensures;
     }

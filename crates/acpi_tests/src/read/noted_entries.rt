@@ -1,4 +1,4 @@
-use super::*;
+use acpi_read::{Entry, NotedEntries};
 use std::test::*;
 
 /// Entries of 3 and of 2 bytes, and a byte at which none begins.
