@@ -364,7 +364,7 @@ wrong 'advice is not a fault, and confirm judges only faults' 'advice SlitDiffer
 for text in '10  Overlap 0x30 0x58 0x0' '10 Overlap 0x30 0x58 0x0 ' ' 10 Overlap 0x30 0x58 0x0' ' '; do
   wrong 'expected one space between two parts, and none at either end' "$text"
 done
-for text in 10 yes '10 Overlap' '10 Overlap 0x30 0x58' '10,Overlap,0x30,0x58,0x0' advice advice, advices; do
+for text in 10 yes '10 Overlap' '10 Overlap 0x30 0x58' '10,Overlap,0x30,0x58,0x0' advice 'advice,' advices; do
   few "$text"
 done
 # The longest text of a fault has 80 bytes. One of more than 200 is not looked at.
