@@ -6,6 +6,7 @@ slots as a block, one fewer and one more.
 usage: many_slots.py PROGRAM; the last line is 'many slots: N passed, M failed'."""
 
 import random
+import resource
 import subprocess
 import sys
 from concurrent.futures import ThreadPoolExecutor
@@ -22,6 +23,8 @@ FADT_SLOT = 50_000
 BLOCK = 65_536
 BASE = 0x4000_0000
 SECONDS = 60
+# Each run has this much stack: a block takes half of it.
+STACK = 1 << 20
 
 
 def other(number):
@@ -179,6 +182,7 @@ def difference(name, lines, expected):
 
 def main():
     _, program = sys.argv
+    resource.setrlimit(resource.RLIMIT_STACK, (STACK, resource.getrlimit(resource.RLIMIT_STACK)[1]))
     cases = [(part, slot) for slot in CHOSEN for part in (one_fault, first_of_kind, first_of_two_kinds)]
     cases += [(last_of, count) for count in (BLOCK - 1, BLOCK, BLOCK + 1)]
     cases += [(written, seed) for seed in range(4)]
