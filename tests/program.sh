@@ -128,6 +128,7 @@ runs "no RSDP with a right sum to check" 1 "no rsdp\n" "" "$scratch/sum" check
 runs "half a pair" 3 '' 'acpiset: line 2: bad line\n' "$(text half '@0\n1')" check --rsdp e0000
 runs "data before an address" 3 '' 'acpiset: line 1: no address\n' "$(text none '01')" check --rsdp e0000
 runs "an address twice" 3 '' 'acpiset: address 0x0 twice\n' "$(text twice '@0\n01\n@0\n02')" check --rsdp e0000
+runs "the byte at 4 GiB - 4 KiB twice" 3 '' 'acpiset: address 0xfffff000 twice\n' "$(text high '@fffff000\n01\n@fffff000\n02')" check --rsdp e0000
 runs "an address with letters twice" 3 '' 'acpiset: address 0xfec0abcd twice\n' "$(text letters '@fec0abcd\n01\n@fec0abcd\n02')" check --rsdp e0000
 runs "a line past the end" 3 '' 'acpiset: line 2: past the end\n' "$(text past '@ffffffffffffffff\n01 02')" check --rsdp e0000
 runs "a line after the last address" 3 '' 'acpiset: line 3: past the end\n' "$(text after '@ffffffffffffffff\n01\n02')" check --rsdp e0000
@@ -260,6 +261,12 @@ hints "unrecognized subcommand 'image.txt'" "$path image.txt" image.txt
 hints "unexpected argument './image' found" "$path ./image" find ./image
 hints "'image.txt': expected ADDRESS=COUNT, as in fec00000=24" "$path image.txt" check --rsdp e0000 image.txt
 refuses "--hotplug './image': expected counted or apart" check --hotplug ./image
+# An option's value is no path of an image, whatever else is wrong.
+for command in check lint confirm rebuild show; do
+  refuses "unexpected argument '--fix' found" $command --rsdp ./image --fix
+done
+refuses "unexpected argument '--fix' found" find --fix ./image.txt
+hints "unexpected argument '--fix' found" "$path b.txt" check --rsdp a.txt b.txt --fix
 
 # Values, the first wrong one: numbers in hex and in decimal, and settings.
 hex='expected 1 to 16 hex digits, with or without 0x before them, as in f59e0'
@@ -303,6 +310,22 @@ refuses "--hotplug 'both': expected counted or apart" confirm --witness "$overla
 refuses "--processors 'both': expected enabled or usable" confirm --witness "$overlap" --processors both
 refuses "--processors 'both': expected enabled or usable" lint --processors both
 
+# Of several wrong values the first in this order is named, in whatever order they come: --rsdp, --base, --witness, --through,
+# --default-inputs, --hotplug, --processors, ADDRESS=COUNT.
+refuses "--rsdp 'g': $hex" check 0=0 --processors x --hotplug x --default-inputs 0 --through 0 --rsdp g
+refuses "--through '0': $stages" check 0=0 --processors x --hotplug x --default-inputs 0 --through 0 --rsdp 0
+refuses "--default-inputs '0': $inputs" check 0=0 --processors x --hotplug x --default-inputs 0 --through 1
+refuses "--hotplug 'x': expected counted or apart" check 0=0 --processors x --hotplug x --default-inputs 1
+refuses "--processors 'x': expected enabled or usable" check 0=0 --processors x --hotplug apart
+for text in '--processors x --hotplug x --default-inputs 0' '--hotplug x' '--processors x' '0=0'; do
+  read -ra behind <<<"$text"
+  refuses "--rsdp 'g': $hex" rebuild "${behind[@]}" --base g --rsdp g
+  refuses "--base 'g': $hex" rebuild "${behind[@]}" --base g --rsdp 0
+  refuses "--rsdp 'g': $hex" lint "${behind[@]}" --rsdp g
+  refuses "--rsdp 'g': $hex" confirm "${behind[@]}" --witness '' --rsdp g
+  refuses "--witness '': expected a fault as check prints it after no, as in '10 Overlap 0x30 0x58 0x0'" confirm "${behind[@]}" --witness ''
+done
+
 # Input counts.
 count='expected a COUNT from 1 to 256, in at most 3 decimal digits'
 address='expected an ADDRESS of 1 to 8 hex digits, with or without 0x before them'
@@ -341,8 +364,17 @@ wrong 'advice is not a fault, and confirm judges only faults' 'advice SlitDiffer
 for text in '10  Overlap 0x30 0x58 0x0' '10 Overlap 0x30 0x58 0x0 ' ' 10 Overlap 0x30 0x58 0x0' ' '; do
   wrong 'expected one space between two parts, and none at either end' "$text"
 done
-for text in 10 yes '10 Overlap' '10 Overlap 0x30 0x58' '10,Overlap,0x30,0x58,0x0'; do
+for text in 10 yes '10 Overlap' '10 Overlap 0x30 0x58' '10,Overlap,0x30,0x58,0x0' advice 'advice,' advices; do
   few "$text"
+done
+# The longest text of a fault has 80 bytes. One of more than 200 is not looked at.
+top=0xffffffffffffffff
+runs "the longest text of a fault" 1 'false\n' '' "$smallest" confirm --rsdp e0000 --witness "6 SecondAddressOverride $top $top $top"
+for length in 60 61 79 80 81 100 199 200; do
+  printf -v text "%${length}s" ''
+  text=${text// /a}
+  few "$text"
+  wrong "no fault is named '${text:15}'" "10 ${text:15} 0x0 0x0 0x0"
 done
 hints "--witness '10': too few parts: expected a stage, a name and three numbers" "$quoted" confirm --witness 10 Overlap 0x30 0x58 0x0
 wrong 'too many parts: expected a stage, a name and three numbers' "$overlap 0x0"
@@ -378,6 +410,7 @@ refuses "--hotplug '\\x7f\\x01\\x1f': expected counted or apart" check --hotplug
 hints "'\\x09./a b': expected ADDRESS=COUNT, as in fec00000=24" "$path \\x09./a b" check $'\t./a b'
 few $'10\tOverlap 0x30' '10\x09Overlap 0x30'
 long=$(printf 'a%.0s' {1..200})
+refuses "--witness '$long...': expected $a_fault, as in '10 Overlap 0x30 0x58 0x0'" confirm --witness "${long}a"
 refuses "--rsdp '$long': $hex" check --rsdp "$long"
 refuses "--rsdp '$long...': $hex" check --rsdp "${long}a"
 refuses "unrecognized subcommand '$long...'" "$long$long"

@@ -189,6 +189,26 @@ static void inputs(void) {
     expect_settings(&request, ACPISET_YES, "inputs", 5);
 }
 
+/* The only number that is refused comes late. */
+static void late_inputs(void) {
+    enum { COUNT = 50000, LATE = 40000 };
+    static struct acpiset_inputs own[COUNT];
+    struct request request = request_of_set();
+    request.inputs = own;
+    request.inputs_count = COUNT;
+    for (uint32_t i = 0; i < COUNT; i++) {
+        own[i].address = 16 * i;
+        own[i].count = 1 + i % 256;
+    }
+    expect_settings(&request, ACPISET_YES, "inputs", COUNT);
+    for (size_t i = 0; i < COUNTS(bad_counts); i++) {
+        own[LATE].count = bad_counts[i];
+        for (int call = CHECK; call <= LINT; call++)
+            expect(ask((enum call)call, &request), answer_of(ACPISET_BAD_INPUTS, LATE, 0), "%s, inputs %lu at %d", names[call],
+                   (unsigned long)bad_counts[i], LATE);
+    }
+}
+
 /* ---- codes */
 
 static void codes(void) {
@@ -496,6 +516,7 @@ int main(void) {
     hotplug_and_processors();
     through();
     inputs();
+    late_inputs();
     codes();
     pieces();
     pieces_without_bytes();

@@ -66,10 +66,10 @@ static struct subject guarded_subject(const struct subject *subject) {
     return it;
 }
 
-/* The calls again, with settings and a fault that are guarded too. */
+/* The calls again, with a fault that is guarded too, and as many bytes of the settings as they say that they have. */
 static struct acpiset_answer ask_guarded(enum call call, const struct subject *it) {
     const struct acpiset_settings *settings =
-        (const struct acpiset_settings *)guarded(&it->settings, sizeof it->settings, PROT_READ);
+        (const struct acpiset_settings *)guarded(&it->settings, it->settings.size, PROT_READ);
     const struct acpiset_finding *fault = (const struct acpiset_finding *)guarded(&it->fault, sizeof it->fault, PROT_READ);
     const struct acpiset_piece *pieces = it->image.pieces;
     size_t count = it->image.count;
@@ -98,6 +98,17 @@ static void ask_all(const struct subject *subject) {
     unmap_all();
 }
 
+/* Settings of fewer bytes, as another header may have them, between guarded pages. */
+static void ask_short(const struct subject *subject) {
+    struct subject it = guarded_subject(subject);
+    for (size_t size = sizeof it.settings.size; size < sizeof it.settings; size += sizeof it.settings.size) {
+        it.settings.size = size;
+        for (int call = CHECK; call <= LINT; call++)
+            expect(ask_guarded((enum call)call, &it), answer_of(ACPISET_BAD_SIZE, 0, 0), "%s, settings of %zu bytes", call_names[call], size);
+    }
+    unmap_all();
+}
+
 int main(int argc, char **argv) {
     page = (size_t)sysconf(_SC_PAGESIZE);
     size_t count;
@@ -105,6 +116,7 @@ int main(int argc, char **argv) {
     for (int place = 0; place < 2; place++) {
         is_at_end = place == 1;
         for (size_t i = 0; i < count; i++) ask_all(&subjects[i]);
+        ask_short(&subjects[0]);
     }
     free(maps);
     free_subjects(subjects, count);

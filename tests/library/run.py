@@ -26,6 +26,7 @@ from headers import header, lists, printed
 from jobs import STAGES, firmware
 
 from cases import FIRMWARE, IMAGES, Cases, text_in
+from chains import falling, ring
 from expected import EXPECTED
 from rows import ROWS, WHOLE
 from tables import *
@@ -45,9 +46,10 @@ def one_of_each_stage():
 
 COUNT = 4096
 MANY_PIECES = 100_000
-# How many bytes of stack a call may take, and one on a set of more than 65,536 slots.
+# How many bytes of stack a call may take, one on a set of more than 65,536 slots, and one about a cycle in a PPTT of more than 512 KiB.
 MOST_STACK = 32_768
 MOST_STACK_OF_MANY_SLOTS = 600_000
+MOST_STACK_OF_LONG_CYCLE = 300_000
 
 
 def many_processors():
@@ -101,6 +103,13 @@ def many_slots(scratch):
     return Subject("e0000", path)
 
 
+def long_cycle(scratch):
+    """A set of so many nodes in a ring that `acpiset_confirm` keeps notes of their places in its larger array."""
+    path = scratch / "30,000-nodes.img.txt"
+    path.write_bytes(text_in(image_of(fadt(), slots=[TABLES_AT, 0x100000], others={0x100000: pptt(ring(falling(30_000)))})))
+    return Subject("e0000", path)
+
+
 def words_of(some):
     return [word for it in some for word in (it.rsdp, it.path)]
 
@@ -134,6 +143,7 @@ def tested(cases, build, place, built, scratch, jobs, some):
     wanted += [(program, usual) for program in ("findings", "guarded", "refused_memory", "threads")]
     wanted.append(("stack", [str(MOST_STACK), *usual, *words_of([large_subject(scratch)])]))
     wanted.append(("stack", [str(MOST_STACK_OF_MANY_SLOTS), *words_of([many_slots(scratch)])]))
+    wanted.append(("stack", [str(MOST_STACK_OF_LONG_CYCLE), *words_of([long_cycle(scratch)])]))
     for program, words in wanted:
         if (build.name, program) in built:
             lines = counted(cases, build, program, [build.path(scratch, program), *words])

@@ -866,6 +866,148 @@ expected(
     "advice NoProcessor 0x0 0x0 0x0",
 )
 expected(
+    "39 faults, and every rule of advice but NoProcessor",
+    {
+        RSDP_AT: changed(extended_rsdp(), {0: ord("X")}),
+        XSDT_AT: changed(
+            xsdt(0x2000, 0x3000, 0x4000, 0x5000, 0x6000, 0x8000, 0x9000, 0xA000, 0xB000, 0xC000, 0xD000, 0x2000), {9: 0}
+        ),
+        0x2000: revised(
+            full_fadt(
+                length=244,
+                _40=number(0xA020000, 4),
+                _46=number(200, 2),
+                _56=number(0x600, 4),
+                _88=b"\3",
+                _89=b"\1",
+                _91=b"\3\1",
+                _112=number(RESET_REG_SUP, 4),
+                _132=number(0x7004, 8),
+                _140=number(0xA010000, 8),
+                _148=generic_address(0x604),
+            ),
+            6,
+        ),
+        0x3000: madt(
+            numbered_io_apic(0, 0, 0),  # 0x2C, serves 0 to 23
+            numbered_io_apic(0, 0xFEC00000, 20),  # 0x38, serves 20 to 43
+            numbered_io_apic(1, 0xFEC00000, 0xFFFFFFF0),  # 0x44
+            override(5, 5),  # 0x50
+            override(5, 9, 2, bus=1),  # 0x5A
+            lapic_address(0xFEE00000),  # 0x64
+            lapic_address(0xFEE00000),  # 0x70
+            nmi_source(50),  # 0x7C
+            lapic(1, 1),  # 0x84
+            lapic(1, 1),  # 0x8C
+            gicc(7),  # 0x94
+            lapic_nmi(9, 0),  # 0xE4
+            gicd(),  # 0xEA
+            gicd(),  # 0x102
+            other(13),  # 0x11A
+            changed(lapic(7, 7), {1: 7})[:7],  # 0x122
+            b"\7\0",  # 0x129
+        ),
+        0x4000: srat(
+            apic_domain(1, 0),  # 0x30
+            x2apic_domain(1, 1),  # 0x40
+            uid_domain(5, 0),  # 0x58
+            uid_domain(5, 1),  # 0x6A
+            memory(0x1000, 0x2000),  # 0x7C
+            memory_of(9, 0x2000, 0x1000),  # 0xA4
+            memory(0xFFFFFFFFFFFFF000, 0x1001),  # 0xCC
+            other(5),  # 0xF4
+            other(2, 12),  # 0xFC
+            bytes(1),  # 0x108
+        ),
+        0x5000: slit(2, [11, 9, 20, 10]),
+        0x6000: pptt(
+            node(81, resources=[36]),  # 0x24
+            node(60),  # 0x3C, its own parent
+            leaf(8),  # 0x50
+            leaf(8),  # 0x64
+            shaped_cache(SETS_VALID | CACHE_ID_VALID, sets=0, cache_id=4),  # 0x78
+            shaped_cache(CACHE_ID_VALID, cache_id=4),  # 0x94
+            cache(176),  # 0xB0, its own next level
+            cache(1),  # 0xC8
+            other(0, 16),  # 0xE0
+            bytes(1),  # 0xF0
+            revision=3,
+        ),
+        0x7004: b"FACT\x3f\0\0\0",
+        0x9000: changed(hpet(), {4: 35}),
+        0xA000: hpet()[:55],
+        0xB000: changed(hpet(), {9: 0}),
+        0xC000: srat(),
+        0xD000: DSDT,
+    },
+    "no 1 RsdpSignature 0xe0000 0x0 0x0",
+    "no 1 RsdpSum 0xe0000 0x0 0x0",
+    "no 1 RsdpExtendedSum 0xe0000 0x0 0x0",
+    "no 2 RootSum 0x1100 0x0 0x0",
+    "no 3 TableHeaderOut 0x5 0x8000 0x0",
+    "no 3 TableLength 0x6 0x9000 0x0",
+    "no 3 TableOut 0x7 0xa000 0x0",
+    "no 3 TableSum 0x8 0xb000 0x0",
+    "no 4 PmEventLength 0x58 0x0 0x0",
+    "no 4 PmControlLength 0x59 0x0 0x0",
+    "no 4 PmTimerLength 0x5b 0x0 0x0",
+    "no 4 GpeLength 0x5c 0x0 0x0",
+    "no 4 ResetRegister 0x74 0x0 0x0",
+    "no 5 FacsAlign 0x7004 0x0 0x0",
+    "no 5 FacsSignature 0x7004 0x0 0x0",
+    "no 5 FacsLength 0x7004 0x0 0x0",
+    "no 6 MadtEntryCut 0x129 0x0 0x0",
+    "no 6 MadtEntryLength 0x122 0x0 0x0",
+    "no 6 OverrideBus 0x5a 0x0 0x0",
+    "no 6 ReservedInti 0x5a 0x0 0x0",
+    "no 6 SecondAddressOverride 0x70 0x64 0x0",
+    "no 6 GsiPastEnd 0x44 0x0 0x0",
+    "no 7 GsiClash 0x2c 0x38 0x14",
+    "no 8 OverrideClash 0x5a 0x50 0x5",
+    "no 9 SratEntryCut 0x108 0x0 0x0",
+    "no 9 SratEntryLength 0xfc 0x0 0x0",
+    "no 9 RangePastEnd 0xcc 0x0 0x0",
+    "no 10 Overlap 0x7c 0xa4 0x2000",
+    "no 11 SlitDiagonal 0x2c 0x0 0x0",
+    "no 11 SlitLow 0x2d 0x0 0x0",
+    "no 12 PpttEntryCut 0xf0 0x0 0x0",
+    "no 12 PpttEntryLength 0xe0 0x0 0x0",
+    "no 13 DanglingParent 0x24 0x51 0x0",
+    "no 13 DanglingResource 0x24 0x0 0x24",
+    "no 13 DanglingCache 0xc8 0x1 0x0",
+    "no 14 ParentCycle 0x3c 0x0 0x1",
+    "no 15 CacheCycle 0xb0 0x0 0x1",
+    "no 16 TwoDomains 0x40 0x30 0x1",
+    "no 17 GsiNowhere 0x7c 0x0 0x32",
+    "advice ListedTwice 0xb 0x0 0x2000",
+    "advice SecondTable 0x9 0x2 0xc000",
+    "advice ListedApart 0xa 0x0 0xd000",
+    "advice FadtOfRevision 0x4 0xf4 0x114",
+    "advice FacsDiffers 0x24 0x7000 0x7004",
+    "advice DsdtDiffers 0x28 0xa020000 0xa010000",
+    "advice BlockDiffers 0x38 0x600 0x604",
+    "advice SciNowhere 0x2e 0x0 0xc8",
+    "advice SameUid 0x8c 0x84 0x1",
+    "advice SameApicId 0x8c 0x84 0x1",
+    "advice IoApicAtZero 0x2c 0x0 0x0",
+    "advice SameIoApicId 0x38 0x2c 0x0",
+    "advice SameIoApicAddress 0x44 0x38 0xfec00000",
+    "advice NmiNowhere 0xe4 0x0 0x9",
+    "advice SecondGicd 0x102 0xea 0x0",
+    "advice TwoUidDomains 0x58 0x6a 0x5",
+    "advice AffinityNowhere 0x58 0x0 0x5",
+    "advice NoDomain 0x94 0x0 0x7",
+    "advice DomainPastSlit 0xa4 0x2 0x9",
+    "advice SlitDiffers 0x2d 0x2e 0x0",
+    "advice SameLeaf 0x64 0x50 0x8",
+    "advice CacheShape 0x78 0x0 0x0",
+    "advice SameCacheId 0x94 0x78 0x4",
+    "advice NoLeaf 0x84 0x0 0x1",
+    "advice LeafNowhere 0x50 0x0 0x8",
+    "advice MadtUnread 0x11a 0xd 0x0",
+    "advice SratUnread 0xf4 0x5 0x0",
+)
+expected(
     "each fault of the MADT's entries, and of the interrupt numbers",
     listed(
         madt(

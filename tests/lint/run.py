@@ -12,6 +12,7 @@ from dataclasses import dataclass
 
 from expected import EXPECTED
 from judge import NO_RSDP, judge, status_of
+from many_entries import many_entries
 from many_slots import many_slots
 from mistakes import MISTAKES, UNCHANGED, firmware_text
 from sets import SHOWN
@@ -172,6 +173,7 @@ def main():
     refused(cases)
     mistakes(cases)
     judged_by_hand(cases)
+    many_entries(cases)
     many_slots(cases)
     print(f"lint: {cases.passed} passed, {cases.failed} failed")
     sys.exit(1 if cases.failed else 0)

@@ -1,6 +1,6 @@
 """Sets with 10,000 entries of each kind that a stage gathers in memory, and what the program has to answer, worked out by hand:
-once without a fault, and once with one among the last entries. A stage that gives up on this many is out of memory to each
-contract, so only these sets show it."""
+once without a fault, and once with one among the last entries; and PPTTs of 2 MiB. A stage that gives up on this many is out of
+memory to each contract, so only these sets show it."""
 
 from rows import Row
 from tables import *
@@ -13,11 +13,11 @@ PLACES = [0x1000000 * place for place in range(1, 4)]
 MANY = []
 
 
-def many(name, answer, *listed, words=""):
+def many(name, answer, *listed, words="", count=COUNT):
     """The program's line for a FADT and these tables."""
     others = dict(zip(PLACES, listed))
     pieces = image_of(fadt(), slots=[TABLES_AT, *others], others=others)
-    MANY.append(Row(f"{COUNT} {name}", pieces, f"check --rsdp e0000 {words}".strip(), answer))
+    MANY.append(Row(f"{count} {name}", pieces, f"check --rsdp e0000 {words}".strip(), answer))
 
 
 def at(first, size, place):
@@ -138,4 +138,30 @@ many(
     f"no 18 LeafUnknown {at(36, 20, LAST)} 0x0 {COUNT:#x}",
     PROCESSORS,
     pptt(*LEAVES[:LAST], node(0, IS_ID_VALID | IS_LEAF, COUNT)),
+)
+
+# ---- a PPTT of 2 MiB: a node of 24 bytes under the node before it, and its cache of 24 bytes before that of the next node
+PAIRS = 2**21 // 48 + 1
+END = 36 + 48 * PAIRS
+NODE_AT, CACHE_AT = END - 48, END - 24
+
+
+def pairs(resource, level):
+    """The last node has this resource, and the last cache this next level."""
+    body = [node(48 * place - 12 if place else 0, resources=[60 + 48 * place]) + cache(108 + 48 * place) for place in range(PAIRS - 1)]
+    return pptt(*body, node(NODE_AT - 48, resources=[resource]), cache(level))
+
+
+many("nodes with a cache each", "yes", pairs(CACHE_AT, 0), count=PAIRS)
+many(
+    "nodes with a cache each, the last one with a resource behind the last",
+    f"no 13 DanglingResource {NODE_AT:#x} 0x0 {END:#x}",
+    pairs(END, 0),
+    count=PAIRS,
+)
+many(
+    "nodes with a cache each, the last one its own next level",
+    f"no 15 CacheCycle 0x3c {PAIRS - 1:#x} 0x1",
+    pairs(CACHE_AT, CACHE_AT),
+    count=PAIRS,
 )

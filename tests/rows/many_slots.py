@@ -1,10 +1,12 @@
 #!/usr/bin/env python3
 """Runs the built program on root tables of 100,000 slots that list tables in no order. It looks at such slots in blocks, by address.
-So what is looked for is at the ends of blocks, and the slot that comes first has the higher address.
+So what is looked for is at the ends of blocks, and the slot that comes first has the higher address. Other root tables have as many
+slots as a block, one fewer and one more.
 
 usage: many_slots.py PROGRAM; the last line is 'many slots: N passed, M failed'."""
 
 import random
+import resource
 import subprocess
 import sys
 from concurrent.futures import ThreadPoolExecutor
@@ -18,8 +20,11 @@ LOW, LOWER_STILL, OTHERS, HIGH, FADT_AT = 0x18_0000, 0x17_0000, 0x20_0000, 0x80_
 # Slots at the ends of blocks of some powers of two, and others. Each case needs the next slot too.
 CHOSEN = (0, 1, 4_095, 32_766, 32_767, 32_768, 40_000, 65_535, 65_536, 98_303, 98_304, SLOTS - 2)
 FADT_SLOT = 50_000
+BLOCK = 65_536
 BASE = 0x4000_0000
 SECONDS = 60
+# Each run has this much stack: a block takes half of it.
+STACK = 1 << 20
 
 
 def other(number):
@@ -30,12 +35,12 @@ def other(number):
 class Set:
     """The slots of a root table, one in ten of them 0, and the tables. A FADT is among them."""
 
-    def __init__(self, seed, wide=False):
+    def __init__(self, seed, wide=False, count=SLOTS):
         numbers = random.Random(seed)
         self.wide = wide
         self.tables = {OTHERS + 0x80 * number: other(number) for number in range(TABLES)}
         addresses = list(self.tables)
-        self.slots = [0 if numbers.random() < 0.1 else numbers.choice(addresses) for _ in range(SLOTS)]
+        self.slots = [0 if numbers.random() < 0.1 else numbers.choice(addresses) for _ in range(count)]
         self.put(FADT_SLOT, FADT_AT, fadt())
 
     def put(self, slot, address, whole):
@@ -43,6 +48,17 @@ class Set:
         self.tables[address] = whole
         self.slots[slot] = address
         return self
+
+    def listed_twice(self):
+        """The advice on the first slot that lists what an earlier one does."""
+        first = {}
+        at = next(slot for slot, address in enumerate(self.slots) if address and first.setdefault(address, slot) != slot)
+        return f"advice ListedTwice {at:#x} {first[self.slots[at]]:#x} {self.slots[at]:#x}"
+
+    def slot_lines(self):
+        """What `show` writes of each slot."""
+        for slot, address in enumerate(self.slots):
+            yield f"slot {slot} {address:#x} {shown(self.tables[address])}" if address else f"slot {slot} empty"
 
     def text(self):
         width, signature, root_at = (8, b"XSDT", 0x1100) if self.wide else (4, b"RSDT", 0x1000)
@@ -113,6 +129,21 @@ def first_of_two_kinds(program, slot):
         yield asked(program, ["confirm", "--witness", fault], alone.text(), "false")
 
 
+def last_of(program, count):
+    """What is in the last slot of this many counts as in any other."""
+    last = count - 1
+    case = Set(count, count=count)
+    cut = madt(lapic(0, 0), b"\0\1")
+    for fault, whole in ((f"3 TableSum {last:#x} {HIGH:#x} 0x0", broken(other(3))), ("6 MadtEntryCut 0x34 0x0 0x0", cut)):
+        text = case.put(last, HIGH, whole).text()
+        yield asked(program, ["check"], text, f"no {fault}")
+        yield asked(program, ["confirm", "--witness", fault], text, "true")
+        yield asked(program, ["lint"], text, f"no {fault}\n{case.listed_twice()}")
+    text = case.put(last, HIGH, madt(lapic(0, 0))).text()
+    yield asked(program, ["check"], text, "yes")
+    yield difference(f"show, {count} slots", slot_lines(program, RSDP_AT, text), list(case.slot_lines()))
+
+
 # ---- show and rebuild
 
 
@@ -130,32 +161,30 @@ def written(program, seed):
     """The line of each slot, and the lines of the rebuilt set: its slots list the same tables in the same order, without the zeros."""
     case = Set(seed, wide=seed % 2 == 1).put(SLOTS - 1, LOW, madt(lapic(0, 0)))
     text = case.text()
-    expected = [
-        f"slot {slot} {address:#x} {shown(case.tables[address])}" if address else f"slot {slot} empty"
-        for slot, address in enumerate(case.slots)
-    ]
-    lines = slot_lines(program, RSDP_AT, text)
-    yield "" if lines == expected else f"show, seed {seed}: {difference(lines, expected)}"
+    yield difference(f"show, seed {seed}", slot_lines(program, RSDP_AT, text), list(case.slot_lines()))
     status, rebuilt, complaint = told(program, ["rebuild", "--rsdp", f"{RSDP_AT:x}", "--base", f"{BASE:x}"], text)
     yield "" if (status, complaint) == (0, "") else f"rebuild, seed {seed}: {status} {complaint}"
     listed = [case.tables[address] for address in case.slots if address]
     lines = slot_lines(program, BASE, rebuilt.encode())
     tails = [line.split(" ", 3)[3] for line in lines]
-    expected = [shown(whole) for whole in listed]
-    yield "" if tails == expected else f"rebuild, seed {seed}: {difference(tails, expected)}"
+    yield difference(f"rebuild, seed {seed}", tails, [shown(whole) for whole in listed])
 
 
-def difference(lines, expected):
-    """The first line that is not as expected."""
+def difference(name, lines, expected):
+    """The first line that is not as expected; nothing where all are."""
+    if lines == expected:
+        return ""
     if not isinstance(lines, list):
-        return lines
+        return f"{name}: {lines}"
     pairs = ((line, right) for line, right in zip(lines, expected) if line != right)
-    return next(pairs, f"{len(lines)} lines, not {len(expected)}")
+    return f"{name}: {next(pairs, f'{len(lines)} lines, not {len(expected)}')}"
 
 
 def main():
     _, program = sys.argv
+    resource.setrlimit(resource.RLIMIT_STACK, (STACK, resource.getrlimit(resource.RLIMIT_STACK)[1]))
     cases = [(part, slot) for slot in CHOSEN for part in (one_fault, first_of_kind, first_of_two_kinds)]
+    cases += [(last_of, count) for count in (BLOCK - 1, BLOCK, BLOCK + 1)]
     cases += [(written, seed) for seed in range(4)]
     with ThreadPoolExecutor() as pool:
         answers = list(pool.map(lambda case: list(case[0](program, case[1])), cases))

@@ -49,6 +49,26 @@ UNSUMMED = changed(hpet(), {9: 0})
 row("a table without a sum in two slots", image_of(fadt(), UNSUMMED, slots=(0x2000, 0x3000, 0x3000)), "no 3 TableSum 0x1 0x3000 0x0")
 row("an RSDT that lists itself", image_of(fadt(), slots=(0x1000, 0x2000)), "yes")
 
+# ---- tables at 4 GiB and at the last address: rows of text end exactly there
+LONG = table(b"HPET", bytes(28))
+
+
+def high_row(name, answer, pieces, slot):
+    """A set by an XSDT, with what is in its second slot."""
+    row(name, {RSDP_AT: extended_rsdp(), XSDT_AT: xsdt(TABLES_AT, slot), TABLES_AT: fadt(), **pieces}, answer)
+
+
+for at in (2**32 - 0x1000, 2**32 - len(LONG), 2**32 - 32, 2**32, 2**64 - 0x1000, 2**64 - len(LONG)):
+    high_row(f"a table at {at:x}", "yes", {at: LONG}, at)
+    high_row(f"a table at {at:x}, without a sum", f"no 3 TableSum 0x1 {at:#x} 0x0", {at: changed(LONG, {63: 1})}, at)
+    high_row(f"a table at {at:x}, without its last byte", f"no 3 TableOut 0x1 {at:#x} 0x0", {at: LONG[:-1]}, at)
+for at in (2**32 - 0x1000, 2**32 - 1, 2**32):
+    pieces = {at + 1: LONG[11:], at: LONG[10:11], at - 10: LONG[:10]}
+    high_row(f"a byte at {at:x}, which comes alone", "yes", pieces, at - 10)
+    del pieces[at]
+    high_row(f"no byte at {at:x}", f"no 3 TableHeaderOut 0x1 {at - 10:#x} 0x0", pieces, at - 10)
+row("a table up to 4 GiB, by an RSDT", image_of(fadt(), slots=(0x2000, 2**32 - 64), others={2**32 - 64: LONG}), "yes")
+
 # ---- FADT and FACS
 FULL = image_of(full_fadt(), others={FACS_AT: facs()})
 row("full hardware", FULL, "yes")

@@ -1,5 +1,6 @@
 #!/usr/bin/env python3
-"""Runs the built program on texts that come in pieces, and on large texts whose rows come in any order.
+"""Runs the built program on texts that come in pieces, on rows as long as a line may be, and on large texts whose rows come in any
+order.
 
 usage: texts.py PROGRAM; the last line is 'texts: N passed, M failed'. Each run has 30 seconds: far more than a reader
 needs that looks at each row once, and far less than one that goes over all rows for each."""
@@ -10,7 +11,7 @@ import struct
 import subprocess
 import sys
 
-from tables import RSDP_AT, RSDT_AT, rsdp, rsdt, summed, table
+from tables import RSDP_AT, RSDT_AT, changed, rsdp, rsdt, summed, table
 
 WORDS = "check --rsdp e0000 --through 3"
 TABLES_AT = 0x100000
@@ -84,22 +85,39 @@ def in_pieces(program):
             yield f"{name}, {len(pieces)} pieces, the first of {len(pieces[0])} bytes", answer, expected
 
 
+# ---- a table in one row
+
+
+def long_rows(program):
+    """The table is 32,768 bytes, so that its line is as long as one may be."""
+    whole = table(b"ROWS", bytes(range(256)) * 127 + bytes(range(220)))
+    head = front([TABLES_AT]) + f"@{TABLES_AT:x}\n"
+    for name, digits, expected in (
+        ("32,768 bytes in a row", whole.hex(), verdict("yes")),
+        ("the last one wrong", whole.hex()[:-1] + "0", verdict(f"no 3 TableSum 0x0 {TABLES_AT:#x} 0x0")),
+        ("all but the last digit", whole.hex()[:-1], refusal("line 6: bad line")),
+        ("a digit that is none at the end", whole.hex()[:-1] + "g", refusal("line 6: bad line")),
+        ("a byte more", whole.hex() + "00", refusal("too long")),
+    ):
+        yield name, told(program, f"{head}{digits}\n".encode()), expected
+
+
 # ---- rows in any order
 
 COUNT = 100_000
 BROKEN = 77_777
 
 
-def front(addresses):
+def front(addresses, root_at=RSDT_AT):
     """The RSDP, and an RSDT that lists tables at these addresses."""
-    pointer = rsdp().hex()
+    pointer = rsdp(root_at).hex()
     root = table(b"RSDT", struct.pack(f"<{len(addresses)}I", *addresses))
     rows = [root[at : at + 16_384].hex() for at in range(0, len(root), 16_384)]
-    return f"@{RSDP_AT:x}\n{pointer}\n@{RSDT_AT:x}\n" + "\n".join(rows) + "\n"
+    return f"@{RSDP_AT:x}\n{pointer}\n@{root_at:x}\n" + "\n".join(rows) + "\n"
 
 
-def shuffled():
-    numbers = list(range(COUNT))
+def shuffled(count=COUNT):
+    numbers = list(range(count))
     random.Random(1).shuffle(numbers)
     return numbers
 
@@ -129,6 +147,24 @@ def in_order(program):
         yield f"{name}, a wrong sum", told(program, (head + "".join(changed)).encode()), fault
         again = (head + "".join(rows) + f"@{addresses[BROKEN]:x}\n00\n").encode()
         yield f"{name}, a row again", told(program, again), refusal(f"address {addresses[BROKEN]:#x} twice")
+
+
+# A table a row, apart, and the RSDT behind them. The last table that is listed has a wrong sum.
+PIECES = 250_000
+ROOT_AT = 0x2000000
+
+
+def many_pieces(program):
+    """The pieces in three orders."""
+    addresses = [TABLES_AT + 64 * number for number in range(PIECES)]
+    sound = table(b"HPET", b"")
+    rows = [f"@{address:x}\n{sound.hex()}\n" for address in addresses]
+    rows[-1] = f"@{addresses[-1]:x}\n{changed(sound, {10: 0}).hex()}\n"
+    expected = verdict(f"no 3 TableSum {PIECES - 1:#x} {addresses[-1]:#x} 0x0")
+    head = front(addresses, ROOT_AT)
+    for name, order in (("rising", range(PIECES)), ("falling", range(PIECES - 1, -1, -1)), ("shuffled", shuffled(PIECES))):
+        text = head + "".join(rows[number] for number in order)
+        yield f"{PIECES} pieces, {name}", told(program, text.encode()), expected
 
 
 # ---- sums
@@ -166,7 +202,7 @@ def sums(program):
 def main():
     _, program = sys.argv
     passed = failed = 0
-    for part in (in_pieces, in_order, sums):
+    for part in (in_pieces, long_rows, in_order, many_pieces, sums):
         for name, answer, expected in part(program):
             if answer == expected:
                 passed += 1

@@ -19,11 +19,11 @@ pub struct Findings {
 }
 
 /// All that is wrong with the set of tables that the policy's RSDP leads to. Earlier stages need not hold: each fault
-/// is one that `confirm` accepts, and there is none exactly when `check` says yes. An image without an RSDP at the
-/// policy's address has only the fault `RsdpOut`.
+/// is one that `confirm` accepts, and there is none exactly when `check` says yes. An image that lacks any of the 20
+/// bytes from the policy's address on has only the fault `RsdpOut`, and no advice.
 ///
 /// Refuses with `AllocError` if out of memory: it allocates for each finding, and for what is compared or looked up,
-/// at most for each slot of the root table and each entry of the MADT, the SRAT and the PPTT.
+/// at most for each slot of the root table, each entry of the MADT, the SRAT and the PPTT, and each byte of the PPTT.
 pub fn lint(alloc: Global, image: &Image, policy: &Policy) -> Result<Findings, AllocError>
     ensures { IfOk result (λ found.
         AreFindings image.now policy.now found.faults.items found.advice.items) }
