@@ -129,10 +129,10 @@ small/6/next_but_one-is_the_next: refused
 FAILED small/6: small::in_groups is refused, and no edit is about it
 wrong bodies: 1 refused in 1 checks'
 # A script that takes a harmless edit for refused, or that sees nothing, fails.
-sed 's/^fn small::below_nine: proved/fn small::below_nine: no proof: expected answers in X/' tests/wrong_bodies/printed/1.txt >"$scratch/blind.txt"
+sed 's/^fn small::below_nine: proved/fn small::below_nine: no proof: expected answers in X; `search` did not prove `returns`/' tests/wrong_bodies/printed/1.txt >"$scratch/blind.txt"
 same 'wrong bodies: a harmless edit that is refused' "$("$scratch/small/scripts/wrong_bodies" --printed "$scratch/blind.txt" small/1 | grep -c '^FAILED small/1/below_nine-adds_nothing: refused')" 1
 cp "$scratch/small/crates/small/wrong/1/next-is_the_same_number.edit" "$scratch/small/crates/small/wrong/1/next-again.edit"
-same 'wrong bodies: two edits of one function' "$("$scratch/small/scripts/wrong_bodies" --printed tests/wrong_bodies/printed/1.txt small/1 2>&1)" 'scripts/wrong_bodies: small/1: next-is_the_same_number and next-again change one function: put one into another folder'
+same 'wrong bodies: two edits of one function' "$("$scratch/small/scripts/wrong_bodies" --printed tests/wrong_bodies/printed/1.txt small/1 2>&1)" 'scripts/wrong_bodies: small/1: next-again and next-is_the_same_number change one function: put one into another folder'
 rm "$scratch/small/crates/small/wrong/1/next-again.edit" "$scratch/small/crates/small/wrong/harmless"
 same 'wrong bodies: no harmless edit' "$("$scratch/small/scripts/wrong_bodies" --printed tests/wrong_bodies/printed/1.txt small/1 2>&1)" 'scripts/wrong_bodies: small: the file wrong/harmless names no edit of the first folder: ``'
 
