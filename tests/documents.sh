@@ -116,6 +116,7 @@ functions() {
 # Functions whose names differ only in digits, as for each width of a number, are a family: one edit is enough.
 family() { tr -d '0-9'; }
 
+refused=
 for crate in $crates; do
   all=$(functions "$crate")
   harmless=$(cat "crates/$crate/wrong/harmless" 2>/dev/null)
@@ -123,7 +124,10 @@ for crate in $crates; do
   within "$crate: functions that no edit is named for" "$(sed -n 's/^+//p' <<<"$all" | family)" "$(family <<<"$edited")"
   within "$crate: methods of its own traits that no edit is named for" "$(sed -n 's/^~//p' <<<"$all")" "$(sed 's/^[A-Z][A-Za-z0-9]*_//' <<<"$edited")"
   within "$crate: edits that are named for no function" "$edited" "$all"
+  [ -z "$edited" ] || refused="$refused$(wc -l <<<"$edited") $crate"$'\n'
 done
+told=$(sed -n '/^\*\*Wrong bodies are refused\.\*\*/,/^$/p' docs/PROOF.md | tr '\n' ' ' | grep -o '[0-9]* of `[a-z_]*`' | sed 's/ of `\(.*\)`/ \1/')
+same 'wrong bodies (<) and those of PROOF.md (>)' "${refused%$'\n'}" "$told"
 
 # ---- public calls
 

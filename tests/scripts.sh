@@ -129,6 +129,7 @@ small/6/next_but_one-is_the_next: refused
 FAILED small/6: small::in_groups is refused, and no edit is about it
 wrong bodies: 1 refused in 1 checks'
 # A script that takes a harmless edit for refused, or that sees nothing, fails.
+# shellcheck disable=SC2016 # the prover writes names between backticks
 sed 's/^fn small::below_nine: proved/fn small::below_nine: no proof: expected answers in X; `search` did not prove `returns`/' tests/wrong_bodies/printed/1.txt >"$scratch/blind.txt"
 same 'wrong bodies: a harmless edit that is refused' "$("$scratch/small/scripts/wrong_bodies" --printed "$scratch/blind.txt" small/1 | grep -c '^FAILED small/1/below_nine-adds_nothing: refused')" 1
 cp "$scratch/small/crates/small/wrong/1/next-is_the_same_number.edit" "$scratch/small/crates/small/wrong/1/next-again.edit"
