@@ -224,6 +224,17 @@ for crate in $crates; do
   within "$crate: files of definitions that ARCHITECTURE.md does not name" "$files" "$(grep -o '`[A-Z][A-Za-z]*`' <<<"$part" | tr -d '`')"
 done
 
+# ---- how long the commands take: measured on a state that is at most 60 days older than this one, and the same in README
+
+took=$(grep -o 'measured at commit [0-9a-f]*' CONTRIBUTING.md | grep -o '[0-9a-f]*$')
+if git rev-parse --is-inside-work-tree >/dev/null 2>&1; then
+  then=$(git log -1 --format=%ct "$took" 2>/dev/null || echo 0)
+  age=$((($(git log -1 --format=%ct) - then) / 86400))
+  count 'the state on which times were measured, and its age in days' "$([ "$age" -le 60 ] || echo "$took: $age")"
+fi
+minutes=$(tr '\n' ' ' <CONTRIBUTING.md | sed -n 's/.*clean `make run` took \([0-9]*\) minutes.*`make test` after it \([0-9]*\).*/\1 and \2 minutes/p')
+count 'minutes of make run and make test that README does not name' "$(grep -qF "${minutes:-none}" README.md || echo "$minutes")"
+
 count 'links that lead nowhere' "$(tests/links.py 2>&1)"
 count 'lines of README beyond 150' "$(tail -n +151 README.md)"
 paths=$(cat README.md docs/*.md | grep -o '`\(bindings\|crates\|docs\|examples\|tests\|bench\|tools\|man\|scripts\|release\|share/acpiset\)/[A-Za-z0-9_./-]*[A-Za-z0-9_]`' | tr -d '`' | sort -u)
