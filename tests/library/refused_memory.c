@@ -46,30 +46,32 @@ static long refuse_each(enum call call, const struct subject *subject) {
     return requests;
 }
 
-/* Many numbers of inputs, of which a late one is out of range: it is reported whether or not there is memory. If all are in range,
- * there is none. */
+/* Many numbers of inputs, of which a late one may be out of range: then that is the answer, whether or not there is memory. */
 static void refuse_inputs(const struct subject *subject) {
     enum { COUNT = 50000, LATE = 40000 };
     static struct acpiset_inputs inputs[COUNT];
     static const uint32_t counts[] = {24, 0, 257};
+    struct subject it = *subject;
+    it.inputs = inputs;
+    it.inputs_count = COUNT;
     for (uint32_t i = 0; i < COUNT; i++) {
         inputs[i].address = i;
         inputs[i].count = 24;
     }
-    struct subject it = *subject;
-    it.inputs = inputs;
-    it.inputs_count = COUNT;
     for (int call = CHECK; call <= LINT; call++) {
-        for (long number = 1; number <= 1000; number *= 10) {
+        refuse_request(0, false);
+        ask((enum call)call, &it);
+        long requests = requests_made();
+        for (long number = 1; number <= requests; number++) {
             for (size_t i = 0; i < sizeof counts / sizeof counts[0]; i++) {
                 inputs[LATE].count = counts[i];
-                struct acpiset_answer wanted =
-                    counts[i] == 24 ? answer_of(ACPISET_OUT_OF_MEMORY, 0, 0) : answer_of(ACPISET_BAD_INPUTS, LATE, 0);
                 refuse_request(number, true);
                 struct acpiset_answer answer = ask((enum call)call, &it);
                 refuse_request(0, false);
-                expect(answer, wanted, "%s: %lu inputs, request %ld and later ones", call_names[call], (unsigned long)counts[i], number);
+                expect(answer, answer_of(counts[i] == 24 ? ACPISET_OUT_OF_MEMORY : ACPISET_BAD_INPUTS, counts[i] == 24 ? 0 : LATE, 0),
+                       "%s: inputs %lu at %d, request %ld and later ones", call_names[call], (unsigned long)counts[i], LATE, number);
             }
+            inputs[LATE].count = 24;
         }
     }
 }

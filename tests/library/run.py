@@ -7,6 +7,7 @@ passed.
 
 usage: run.py PROGRAM LIBRARY_FOLDER; the last line is 'library: N passed, M failed'"""
 
+import functools
 import os
 import re
 import sys
@@ -26,7 +27,7 @@ from headers import header, lists, printed
 from jobs import STAGES, firmware
 
 from cases import FIRMWARE, IMAGES, Cases, text_in
-from chains import falling, ring
+from chains import falling, ring, shuffled
 from expected import EXPECTED
 from rows import ROWS, WHOLE
 from tables import *
@@ -90,12 +91,14 @@ def subjects(scratch):
         yield Subject("e0000", path)
 
 
+@functools.cache
 def large_subject(scratch):
     path = scratch / "4,096-processors.img.txt"
     path.write_bytes(text_in(many_processors()))
     return Subject("e0000", path)
 
 
+@functools.cache
 def many_slots(scratch):
     """A set of so many slots that their addresses are sorted on the stack; all list one table, which is no FADT."""
     path = scratch / "70,000-slots.img.txt"
@@ -103,10 +106,20 @@ def many_slots(scratch):
     return Subject("e0000", path)
 
 
+@functools.cache
 def long_cycle(scratch):
     """A set of so many nodes in a ring that `acpiset_confirm` keeps notes of their places in its larger array."""
     path = scratch / "30,000-nodes.img.txt"
     path.write_bytes(text_in(image_of(fadt(), slots=[TABLES_AT, 0x100000], others={0x100000: pptt(ring(falling(30_000)))})))
+    return Subject("e0000", path)
+
+
+@functools.cache
+def many_ranges(scratch):
+    """Ranges of memory in no order: the sort takes more of the stack the more there are."""
+    path = scratch / "200,000-ranges.img.txt"
+    ranges = srat(*(memory(0x1000 * place, 0x1000) for place in shuffled(200_000)))
+    path.write_bytes(text_in(image_of(fadt(), slots=[TABLES_AT, 0x100000], others={0x100000: ranges})))
     return Subject("e0000", path)
 
 
@@ -141,7 +154,7 @@ def tested(cases, build, place, built, scratch, jobs, some):
     usual = words_of(some)
     wanted = [("bad_input", []), ("many_pieces", [str(MANY_PIECES)])]
     wanted += [(program, usual) for program in ("findings", "guarded", "refused_memory", "threads")]
-    wanted.append(("stack", [str(MOST_STACK), *usual, *words_of([large_subject(scratch)])]))
+    wanted.append(("stack", [str(MOST_STACK), *usual, *words_of([large_subject(scratch), many_ranges(scratch)])]))
     wanted.append(("stack", [str(MOST_STACK_OF_MANY_SLOTS), *words_of([many_slots(scratch)])]))
     wanted.append(("stack", [str(MOST_STACK_OF_LONG_CYCLE), *words_of([long_cycle(scratch)])]))
     for program, words in wanted:

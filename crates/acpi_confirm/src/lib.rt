@@ -2,8 +2,8 @@
 //!
 //! `confirm` returns true exactly for the faults of the definitions, wherever the witness comes from and whatever its
 //! three numbers are. It does not require that earlier stages hold. With the crates that check it shares only
-//! `acpi_base`: images, numbers at an offset, byte sums, the policy, and the sort of addresses. It looks the bytes up in the image itself,
-//! and has its own walks over slots and entries. It allocates nothing.
+//! `acpi_base`: images, numbers at an offset, byte sums, the policy, and the sort of addresses. It looks the bytes up in
+//! the image itself, and has its own walks over slots and entries. It allocates nothing.
 //!
 //! An example, from `crates/acpi_cli/src/confirm.rt`, where `parse_witness` has read the fault from an argument:
 //!
