@@ -1,11 +1,13 @@
 -- One verdict on one image, and what a search finds.
-use Rattle.std.proofs.Common.{◌≡◌, ◌⊎◌, inl, inr, ℕ, ◌∙◌, List, Option, Some, None, Result, Ok, Err, sym, subst, ap, refl}
+use Rattle.std.proofs.Common.{◌≡◌, inl, inr, ℕ, ◌∙◌, List, [], ◌∷◌, Option, Some, None, Result, Ok, Err, sym, subst, ap, refl}
 use Rattle.std.specs.Prelude.{◌↔◌, Bool, IfSome, IsNone, IsTrue}
 use Rattle.std.specs.FinMap.{empty}
+use Rattle.std.specs.Option.{option_or}
 use Rattle.acpi_base.specs.Codes.{code_number, stage_number}
 use Rattle.acpi_base.specs.Faults.{Fault, IsVerdict}
 use Rattle.acpi_base.specs.Lint.Findings.{AreFindings}
-use Rattle.acpi_base.specs.Memory.{Memory}
+use Rattle.acpi_base.specs.Image.Adding.{add_refusal}
+use Rattle.acpi_base.specs.Memory.{Memory, with_bytes}
 use Rattle.acpi_base.specs.Policy.{PolicyValue}
 use Rattle.acpi_base.specs.RsdpSearch.{IsFound, IsNowhere}
 use Rattle.acpi_base.specs.Text.ImageText.{IsText, Reading}
@@ -14,15 +16,18 @@ use Rattle.acpi_base.specs.Text.TextMachine.{ReaderState, EndsAs, initial_state,
 use Rattle.acpi_base.proofs.Faults.Laws.{one_verdict}
 use Rattle.acpi_base.proofs.Faults.Numbers.{same_stage}
 use Rattle.acpi_base.specs.declared.code.Code.{Code}
+use Rattle.acpi_base.specs.declared.image.ImageFault.{ImageFault}
 use Rattle.acpi_base.specs.declared.rule.Advice.{Advice}
 use Rattle.acpi_base.specs.declared.stage.Stage.{Stage}
 use Rattle.acpi_base.specs.declared.verdict.Verdict.{Verdict}
 use Rattle.acpi_base.specs.declared.witness.Witness.{Witness}
 use Rattle.acpi_c.specs.Laws.{OneAnswer}
-use Rattle.acpi_c.specs.Results.{Finds, Judges, Reports, Tells}
-use Rattle.acpi_c.specs.Settings.{policy_of}
+use Rattle.acpi_c.specs.Pieces.{FirstFits, unless_refused, with_pieces}
+use Rattle.acpi_c.specs.Results.{Asks, Finds, IsRefusal, Judges, Reports, Tells}
+use Rattle.acpi_c.specs.Settings.{policy_of, with_inputs}
 use Rattle.acpi_c.specs.Sources.{Source}
 use Rattle.acpi_c.specs.declared.answer.Finding.{Finding}
+use Rattle.acpi_c.specs.declared.pieces.Piece.{Piece}
 use Rattle.acpi_c.specs.declared.refusal.Refusal.{Refusal}
 use Rattle.acpi_c.specs.declared.refusal.Refusal.TheVariants.{OutOfMemory}
 use Rattle.acpi_c.specs.declared.settings.Inputs.{Inputs}
@@ -36,52 +41,51 @@ finds source m (Some p) is some none = (m, is, some)
 
 -- ---- a verdict on what was passed
 
--- a policy that was read is that of the settings
-abbrev pub IsRead : PolicyValue → Result PolicyValue Refusal → Type 0
-IsRead q policy = (◌≡◌ {A = Result PolicyValue Refusal} (Ok q) (Err OutOfMemory)) ⊎ (Ok q ≡ policy)
-
-ok_policy : (q : PolicyValue) (policy : Result PolicyValue Refusal) → IsRead q policy → policy ≡ Ok q
-ok_policy q policy (inl never) = absurd (cc)
-ok_policy q policy (inr is) = sym is
+-- what was asked, once the tested policy has its numbers of inputs
+pub asks : (source : Source) (settings : Settings) (inputs : List Inputs) (m : Memory) (tested q : PolicyValue)
+    → source.Is m → policy_of settings inputs ≡ Ok (with_inputs tested inputs) → q ≡ with_inputs tested inputs
+    → Asks source settings inputs m q
+asks source settings inputs m tested q is policy given =
+    record { image = is; policy = policy ∙ ap (λ p. Ok p) (sym given) }
 
 pub judges : (source : Source) (settings : Settings) (inputs : List Inputs) (m : Memory) (q : PolicyValue)
-    (last : Stage) (v : Verdict) → source.Is m → IsRead q (policy_of settings inputs)
-    → stage_number last ≡ settings.through → IsVerdict last m q v → Judges source settings inputs v
-judges source settings inputs m q last v is policy through verdict =
-    record {
-      image = m;
-      policy = q;
-      asked = record { image = is; policy = ok_policy q (policy_of settings inputs) policy };
-      last = last;
-      through = through;
-      verdict = verdict;
-    }
+    (last : Stage) (v : Verdict) → Asks source settings inputs m q → stage_number last ≡ settings.through
+    → IsVerdict last m q v → Judges source settings inputs v
+judges source settings inputs m q last v asked through verdict =
+    record { image = m; policy = q; asked = asked; last = last; through = through; verdict = verdict }
 
 pub tells : (source : Source) (settings : Settings) (inputs : List Inputs) (f : Finding) (m : Memory) (q : PolicyValue)
-    (code : Code) (b : Bool) → source.Is m → IsRead q (policy_of settings inputs)
-    → code_number code ≡ f.number
+    (code : Code) (b : Bool) → Asks source settings inputs m q → code_number code ≡ f.number
     → IsTrue b ↔ Fault m q (record { code = code; at = f.at; other = f.other; point = f.point })
     → Tells source settings inputs f b
-tells source settings inputs f m q code b is policy number fault =
-    record {
-      image = m;
-      policy = q;
-      asked = record { image = is; policy = ok_policy q (policy_of settings inputs) policy };
-      code = code;
-      number = number;
-      fault = fault;
-    }
+tells source settings inputs f m q code b asked number fault =
+    record { image = m; policy = q; asked = asked; code = code; number = number; fault = fault }
 
 pub reports : (source : Source) (settings : Settings) (inputs : List Inputs) (m : Memory) (q : PolicyValue)
-    (faults : List Witness) (advice : List Advice) → source.Is m → IsRead q (policy_of settings inputs)
-    → AreFindings m q faults advice → Reports source settings inputs (faults, advice)
-reports source settings inputs m q faults advice is policy found =
-    record {
-      image = m;
-      policy = q;
-      asked = record { image = is; policy = ok_policy q (policy_of settings inputs) policy };
-      findings = found;
-    }
+    (faults : List Witness) (advice : List Advice) → Asks source settings inputs m q → AreFindings m q faults advice
+    → Reports source settings inputs (faults, advice)
+reports source settings inputs m q faults advice asked found =
+    record { image = m; policy = q; asked = asked; findings = found }
+
+-- ---- memory that runs out
+
+-- pieces that give an image begin with one that fits
+pub pieces_begin : (pieces : List Piece) (m : Memory) → with_pieces 0 empty pieces ≡ Ok m → FirstFits pieces
+pieces_begin [] m e = tt
+pieces_begin (p ∷ rest) m e = go (add_refusal empty p.address p.bytes.now) e
+  where
+    go : (o : Option ImageFault)
+        → unless_refused o 0 (with_pieces 1 (with_bytes empty p.address p.bytes.now) rest) ≡ Ok m → o ≡ None
+    go None h = refl
+    go (Some fault) h = absurd (cc)
+
+-- nothing is wrong with the numbers, and memory runs out
+pub runs_out : (numbers : Option Refusal) (source : Source) (r : Refusal) → numbers ≡ None → source.MayRunOut
+    → r ≡ OutOfMemory → IsRefusal numbers source r
+runs_out numbers source r none may out = inr (none, inl (out, may))
+
+pub neither : (one other : Option Refusal) → one ≡ None → other ≡ None → option_or one other ≡ None
+neither one other e f = rw e f
 
 -- ---- one verdict
 

@@ -1,5 +1,6 @@
 -- The image that pieces give.
-use Rattle.std.specs.Prelude.{ℕ, suc, List, [], ◌∷◌, Option, Some, None, Result, Ok, Err}
+use Rattle.std.specs.Prelude.{◌≡◌, ℕ, suc, List, [], ◌∷◌, Option, Some, None, Result, Ok, Err}
+use Rattle.std.specs.FinMap.{empty}
 use Rattle.acpi_base.specs.Memory.{Memory, with_bytes}
 use Rattle.acpi_base.specs.Image.Adding.{add_refusal}
 use Rattle.acpi_base.specs.declared.image.ImageFault.{ImageFault}
@@ -28,3 +29,8 @@ with_pieces index m (p ∷ rest) =
     (add_refusal m p.address p.bytes.now)
     index
     (with_pieces (suc index) (with_bytes m p.address p.bytes.now) rest)
+
+-- there are no pieces, or the first one can be added to an image without bytes
+abbrev pub FirstFits : List Piece → Type 0
+FirstFits [] = Unit {0}
+FirstFits (p ∷ rest) = add_refusal empty p.address p.bytes.now ≡ None

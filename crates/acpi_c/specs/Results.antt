@@ -13,17 +13,16 @@ use Rattle.acpi_base.specs.declared.stage.Stage.{Stage}
 use Rattle.acpi_base.specs.declared.verdict.Verdict.{Verdict}
 use Rattle.acpi_base.specs.declared.witness.Witness.{Witness}
 use Rattle.acpi_c.specs.Settings.{policy_of, policy_refusal, stage_refusal, code_refusal}
-use Rattle.acpi_c.specs.Sources.{Source}
+use Rattle.acpi_c.specs.Sources.{Source, Fails}
 use Rattle.acpi_c.specs.declared.answer.Finding.{Finding}
 use Rattle.acpi_c.specs.declared.refusal.Refusal.{Refusal}
-use Rattle.acpi_c.specs.declared.refusal.Refusal.TheVariants as refusal
 use Rattle.acpi_c.specs.declared.settings.Inputs.{Inputs}
 use Rattle.acpi_c.specs.declared.settings.Settings.{Settings}
 
 -- The refusal of a call: what is wrong with its numbers, if anything is; otherwise what is wrong with what was passed
--- as an image. Instead of either it may be out of memory.
+-- as an image, or out of memory. So memory runs out only if all numbers are right.
 abbrev pub IsRefusal : Option Refusal → Source → Refusal → Type 0
-IsRefusal numbers source r = (r ≡ refusal.OutOfMemory) ⊎ (numbers ≡ Some r) ⊎ ((numbers ≡ None) × source.Refuses r)
+IsRefusal numbers source r = (numbers ≡ Some r) ⊎ ((numbers ≡ None) × Fails source r)
 
 -- the image that was passed, and the policy
 pub record Asks (source : Source) (settings : Settings) (inputs : List Inputs) (m : Memory) (q : PolicyValue) : Type 0 where

@@ -1,5 +1,5 @@
 -- The policy of settings and numbers of inputs.
-use Rattle.std.specs.Prelude.{ℕ, suc, ◌==◌, ◌&&◌, nat_le, List, [], ◌∷◌, Option, Some, None, Result, Ok, Err, if◌then◌else◌}
+use Rattle.std.specs.Prelude.{ℕ, suc, ◌==◌, ◌&&◌, Bool, nat_le, List, [], ◌∷◌, Option, Some, None, Result, Ok, Err, if◌then◌else◌}
 use Rattle.acpi_base.specs.Policy.{PolicyValue, new_policy, with_input}
 use Rattle.acpi_base.specs.Text.ImageText.{on_ok}
 use Rattle.acpi_base.specs.declared.policy.HotPlug.{HotPlug}
@@ -12,8 +12,11 @@ use Rattle.acpi_c.specs.declared.settings.Inputs.{Inputs}
 use Rattle.acpi_c.specs.declared.settings.Settings.{Settings}
 
 -- a number of inputs is from 1 to 256
+abbrev pub is_count : ℕ → Bool
+is_count n = nat_le 1 n && nat_le n 256
+
 abbrev pub count_of : ℕ → Option ℕ
-count_of n = if nat_le 1 n && nat_le n 256 then Some n else None
+count_of n = if is_count n then Some n else None
 
 -- the setting of hot-pluggable ranges
 abbrev pub hotplug_of : ℕ → Option HotPlug
@@ -38,17 +41,26 @@ settings_policy s =
     Ok (record (new_policy s.rsdp count) { hotplug = hotplug; processors = processors }))))
     else Err refusal.Size
 
--- the policy with these numbers of inputs, the first of which has this index: if an address is repeated, the first
--- number wins
-abbrev pub with_inputs : ℕ → PolicyValue → List Inputs → Result PolicyValue Refusal
-with_inputs index q [] = Ok q
-with_inputs index q (own ∷ rest) =
-    given (count_of own.count) (refusal.Inputs index) (λ count. with_inputs (suc index) (with_input q own.address count) rest)
+-- the first of these numbers of inputs that is out of range, where this is the index of the first of them
+abbrev pub inputs_refusal : ℕ → List Inputs → Option Refusal
+inputs_refusal index [] = None
+inputs_refusal index (own ∷ rest) =
+    if is_count own.count then inputs_refusal (suc index) rest else Some (refusal.Inputs index)
+
+-- the policy with these numbers of inputs: if an address is repeated, the first number wins
+abbrev pub with_inputs : PolicyValue → List Inputs → PolicyValue
+with_inputs q [] = q
+with_inputs q (own ∷ rest) = with_inputs (with_input q own.address own.count) rest
+
+-- this value, unless there is a refusal
+abbrev pub unless : {A : Type 0} → Option Refusal → A → Result A Refusal
+unless None x = Ok x
+unless (Some r) x = Err r
 
 -- the policy of settings and numbers of inputs, or the first of them that is out of range, in the order in which they
 -- are checked
 abbrev pub policy_of : Settings → List Inputs → Result PolicyValue Refusal
-policy_of s inputs = on_ok (settings_policy s) (λ q. with_inputs 0 q inputs)
+policy_of s inputs = on_ok (settings_policy s) (λ q. unless (inputs_refusal 0 inputs) (with_inputs q inputs))
 
 abbrev pub refusal_in : Result PolicyValue Refusal → Option Refusal
 refusal_in (Ok q) = None

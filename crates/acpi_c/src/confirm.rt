@@ -1,6 +1,7 @@
 //! One fault, confirmed for C.
 
-ghost use Rattle.std.specs.Prelude.{◌≡◌, Bool, IfErr, IfOk, Result, Some};
+ghost use Rattle.std.specs.Prelude.{◌≡◌, Bool, IfOk, Result};
+ghost use Rattle.std.specs.Result.{result_err};
 ghost use Rattle.acpi_base.specs.Codes.{code_number};
 ghost use Rattle.acpi_c.specs.Answers.{confirm_answer};
 ghost use Rattle.acpi_c.specs.Results.{Confirms};
@@ -11,7 +12,7 @@ ghost use Rattle.acpi_c.specs.declared.refusal.Refusal.{Refusal};
 use crate::answer::{Answer, Finding, yes_or_no};
 use crate::pieces::{Piece, image_of_pieces};
 use crate::refusal::Refusal;
-use crate::settings::{Inputs, Settings, policy_of};
+use crate::settings::{Inputs, Settings, tested_policy, with_inputs};
 use acpi_base::{Code, Witness};
 use acpi_confirm::confirm;
 use std::alloc::Global;
@@ -19,7 +20,7 @@ use std::alloc::Global;
 /// The fault code that the finding names.
 fn code_of(finding: &Finding) -> Result<Code, Refusal>
     ensures ok { IfOk result (λ code. code_number code ≡ finding.now.number) }
-    ensures err { IfErr result (λ refusal. code_refusal finding.now.number ≡ Some refusal) }
+    ensures refused { code_refusal finding.now.number ≡ result_err result }
 {
     u8::try_from(finding.number)
         .ok()
@@ -37,9 +38,10 @@ fn confirmed(
 ) -> Result<bool, Refusal>
     ensures { Confirms (pieces_source pieces.now) settings.now inputs.now finding.now result }
 {
-    let policy = policy_of(alloc, settings, inputs)?;
+    let policy = tested_policy(alloc, settings, inputs)?;
     let code = code_of(finding)?;
     let image = image_of_pieces(alloc, pieces)?;
+    let policy = with_inputs(policy, inputs)?;
     let witness = Witness {
         code,
         at: finding.at,

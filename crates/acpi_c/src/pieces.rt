@@ -1,9 +1,14 @@
 //! Images that are passed as pieces.
 
-ghost use Rattle.acpi_c.specs.Sources.{Reads, pieces_source};
+ghost use Rattle.std.specs.Prelude.{◌≡◌, Err, IfErr, IsOkUnless, MatchOption, Ok, OnOk};
+ghost use Rattle.std.specs.FinMap.{empty};
+ghost use Rattle.acpi_base.specs.Image.Adding.{add_refusal};
+ghost use Rattle.acpi_base.specs.Memory.{Memory, with_bytes};
+ghost use Rattle.acpi_c.specs.Pieces.{piece_refusal, with_pieces};
+ghost use Rattle.acpi_c.specs.Sources.{Fails, Reads, pieces_source};
 
 use crate::refusal::Refusal;
-use acpi_base::{Image, ImagePieces};
+use acpi_base::{Image, ImageFault, ImagePieces};
 use std::alloc::Global;
 
 /// Bytes of an image, and where they are.
@@ -32,16 +37,67 @@ fn are_rising(pieces: &[Piece<'_>]) -> bool {
     true
 }
 
+/// What pieces are added to.
+trait AddBytes {
+    /// The bytes so far.
+    ghost memory: { Self → Memory };
+
+    /// Adds the bytes, which take the addresses from `base` on. Refuses as `Image::add` does.
+    fn add_bytes(&mut self, base: u64, bytes: &[u8]) -> Result<(), ImageFault>
+        ensures refused { MatchOption (add_refusal (memory self.old) base bytes.now)
+            (IsOkUnless result ImageFault.Memory) (λ fault. result ≡ Err fault) }
+        ensures ok { OnOk result (memory self.new ≡ with_bytes (memory self.old) base bytes.now) };
+}
+
+impl AddBytes for Image {
+    ghost memory = { λ image. image };
+
+    fn add_bytes(&mut self, base: u64, bytes: &[u8]) -> Result<(), ImageFault> {
+        self.add(base, bytes)
+    }
+}
+
+impl AddBytes for ImagePieces {
+    ghost memory = { λ built. built };
+
+    fn add_bytes(&mut self, base: u64, bytes: &[u8]) -> Result<(), ImageFault> {
+        self.add(base, bytes)
+    }
+}
+
+/// Adds the piece at this index. Refuses as `image_of_pieces` does.
+fn add_piece<B: AddBytes>(built: &mut B, index: usize, piece: &Piece<'_>) -> Result<(), Refusal>
+    ensures refused { MatchOption
+        (add_refusal (B.memory built.old) piece.now.address piece.now.bytes.now)
+        (IsOkUnless result Refusal.OutOfMemory)
+        (λ fault. result ≡ Err (piece_refusal index fault)) }
+    ensures ok { OnOk result (B.memory built.new
+        ≡ with_bytes (B.memory built.old) piece.now.address piece.now.bytes.now) }
+{
+    match built.add_bytes(piece.address, piece.bytes) {
+        Ok(()) => Ok(()),
+        Err(fault) => Err(Refusal::of_piece(index as u64, fault)),
+    }
+}
+
+/// Adds the pieces in their order. Refuses as `image_of_pieces` does.
+fn add_pieces<B: AddBytes>(built: &mut B, pieces: &[Piece<'_>]) -> Result<(), Refusal>
+    requires { B.memory built.old ≡ empty }
+    ensures ok { OnOk result (with_pieces 0 empty pieces.now ≡ Ok (B.memory built.new)) }
+    ensures err { IfErr result (Fails (pieces_source pieces.now)) }
+{
+    for (index, piece) in pieces.iter().enumerate() {
+        add_piece(built, index, piece)?;
+    }
+    Ok(())
+}
+
 /// The image of the pieces, added one by one.
 fn image_by_adding(alloc: Global, pieces: &[Piece<'_>]) -> Result<Image, Refusal>
     ensures { Reads (pieces_source pieces.now) result }
 {
     let mut image = Image::new(alloc);
-    for (index, piece) in pieces.iter().enumerate() {
-        if let Err(fault) = image.add(piece.address, piece.bytes) {
-            return Err(Refusal::of_piece(index as u64, fault));
-        }
-    }
+    add_pieces(&mut image, pieces)?;
     Ok(image)
 }
 
@@ -50,11 +106,7 @@ fn image_by_sorting(alloc: Global, pieces: &[Piece<'_>]) -> Result<Image, Refusa
     ensures { Reads (pieces_source pieces.now) result }
 {
     let mut built = ImagePieces::new(alloc);
-    for (index, piece) in pieces.iter().enumerate() {
-        if let Err(fault) = built.add(piece.address, piece.bytes) {
-            return Err(Refusal::of_piece(index as u64, fault));
-        }
-    }
+    add_pieces(&mut built, pieces)?;
     let image = built.finish()?;
     Ok(image)
 }

@@ -1,14 +1,15 @@
 //! The settings of a call.
 
-ghost use Rattle.std.specs.Prelude.{◌≡◌, ◌⊎◌, ℕ, Err, IfErr, IfOk, None, OnOk, Some};
+ghost use Rattle.std.specs.Prelude.{◌≡◌, IfOk, IsTrue, None, Ok, OnOk};
+ghost use Rattle.std.specs.Result.{result_err};
 ghost use Rattle.acpi_base.specs.Codes.{stage_number};
 ghost use Rattle.acpi_base.specs.Policy.{with_input};
-ghost use Rattle.acpi_c.specs.Settings.{count_of, hotplug_of, policy_of, processors_of, settings_policy, stage_refusal};
+ghost use Rattle.acpi_c.specs.Settings.{count_of, hotplug_of, inputs_refusal, is_count, policy_of, policy_refusal, processors_of, settings_policy, stage_refusal, with_inputs};
 ghost use Rattle.acpi_c.specs.declared.refusal.Refusal.{Refusal};
 
 use crate::refusal::Refusal;
-use acpi_base::{HotPlug, Policy, PolicyFault, Processors, Stage};
-use std::alloc::Global;
+use acpi_base::{HotPlug, Policy, Processors, Stage};
+use std::alloc::{AllocError, Global};
 
 /// How many inputs an I/O APIC has.
 #[repr(C)]
@@ -93,34 +94,56 @@ fn settings_policy(alloc: Global, settings: &Settings) -> Result<Policy, Refusal
     Ok(policy)
 }
 
-/// Gives the I/O APIC its number of inputs, unless it has one.
-fn add_inputs(policy: &mut Policy, index: usize, inputs: &Inputs) -> Result<(), Refusal>
-    ensures ok { OnOk result ((count : ℕ) × (count_of inputs.now.count ≡ Some count)
-        × (policy.new ≡ with_input policy.old inputs.now.address count)) }
-    ensures err { IfErr result (λ refusal. (refusal ≡ Refusal.OutOfMemory)
-        ⊎ ((refusal ≡ Refusal.Inputs index) × (count_of inputs.now.count ≡ None))) }
+/// Refuses the first number of inputs outside 1 to 256. Allocates nothing.
+fn test_inputs(inputs: &[Inputs]) -> Result<(), Refusal>
+    ensures { inputs_refusal 0 inputs.now ≡ result_err result }
 {
-    let Some(count) = count_of(inputs.count) else {
-        return Err(Refusal::Inputs {
-            index: index as u64,
-        });
-    };
-    match policy.add_input(inputs.address, count) {
+    for (index, own) in inputs.iter().enumerate() {
+        if count_of(own.count).is_none() {
+            return Err(Refusal::Inputs {
+                index: index as u64,
+            });
+        }
+    }
+    Ok(())
+}
+
+/// The policy of the settings, if all numbers of inputs can be given too. It has none of them yet. Allocates nothing.
+///
+/// Refuses, in this order: as `settings_policy` does; `Inputs`, for the first number outside 1 to 256.
+pub fn tested_policy(
+    alloc: Global,
+    settings: &Settings,
+    inputs: &[Inputs],
+) -> Result<Policy, Refusal>
+    ensures ok { IfOk result (λ policy.
+        policy_of settings.now inputs.now ≡ Ok (with_inputs policy inputs.now)) }
+    ensures inputs { OnOk result (inputs_refusal 0 inputs.now ≡ None) }
+    ensures refused { policy_refusal settings.now inputs.now ≡ result_err result }
+{
+    let policy = settings_policy(alloc, settings)?;
+    test_inputs(inputs)?;
+    Ok(policy)
+}
+
+/// Gives the I/O APIC its number of inputs, unless it has one.
+fn add_inputs(policy: &mut Policy, inputs: &Inputs) -> Result<(), AllocError>
+    requires { IsTrue (is_count inputs.now.count) }
+    ensures { OnOk result (policy.new ≡ with_input policy.old inputs.now.address inputs.now.count) }
+{
+    match policy.add_input(inputs.address, inputs.count as u16) {
         Ok(()) => Ok(()),
-        Err(_) => Err(Refusal::OutOfMemory),
+        Err(_) => Err(AllocError),
     }
 }
 
-/// The policy of the settings and the numbers of inputs. If an address is repeated, the first number wins.
-///
-/// Refuses, in this order: as `settings_policy` does; `Inputs`, for the first number outside 1 to 256; `OutOfMemory`,
-/// which may also be returned instead of a later `Inputs`.
-pub fn policy_of(alloc: Global, settings: &Settings, inputs: &[Inputs]) -> Result<Policy, Refusal>
-    ensures { (result ≡ Err Refusal.OutOfMemory) ⊎ (result ≡ policy_of settings.now inputs.now) }
+/// The policy with these numbers of inputs. If an address is repeated, the first number wins.
+pub fn with_inputs(mut policy: Policy, inputs: &[Inputs]) -> Result<Policy, AllocError>
+    requires { inputs_refusal 0 inputs.now ≡ None }
+    ensures { IfOk result (λ own. own ≡ with_inputs policy inputs.now) }
 {
-    let mut policy = settings_policy(alloc, settings)?;
-    for (index, own) in inputs.iter().enumerate() {
-        add_inputs(&mut policy, index, own)?;
+    for own in inputs {
+        add_inputs(&mut policy, own)?;
     }
     Ok(policy)
 }
@@ -128,7 +151,7 @@ pub fn policy_of(alloc: Global, settings: &Settings, inputs: &[Inputs]) -> Resul
 /// The last stage of a check.
 pub fn last_stage(settings: &Settings) -> Result<Stage, Refusal>
     ensures ok { IfOk result (λ stage. stage_number stage ≡ settings.now.through) }
-    ensures err { IfErr result (λ refusal. stage_refusal settings.now.through ≡ Some refusal) }
+    ensures refused { stage_refusal settings.now.through ≡ result_err result }
 {
     u8::try_from(settings.through)
         .ok()

@@ -1,9 +1,21 @@
+use Rattle.std.proofs.lemmas.Result.{err_from_is_err_and}
 use Rattle.acpi_c.specs.Sources.{pieces_source}
-use Rattle.acpi_c.proofs.Answers.{judges}
+use Rattle.acpi_c.proofs.Answers.{asks, judges, neither, pieces_begin, runs_out}
 use Rattle.acpi_c.proofs.check.judged_pieces.Goals as goal
 
 pub returns : goal.returns
 returns c =
     judges (pieces_source c.args.pieces.now) c.args.settings.now c.args.inputs.now c.in_ok-image.image
-    c.in_ok-policy.policy c.in_ok-last.last c.in_ok-verdict.verdict c.in_ok-image.ensures c.in_ok-policy.ensures
-    c.in_ok-last.ensures.ok c.in_ok-verdict.ensures.verdict
+    c.in_ok-policy-2.policy c.in_ok-last.last c.in_ok-verdict.verdict
+    (asks _ _ _ _ _ _ c.in_ok-image.ensures c.in_ok-policy.ensures.ok c.in_ok-policy-2.ensures) c.in_ok-last.ensures.ok
+    c.in_ok-verdict.ensures.verdict
+
+pub returns-in_err-policy-2 : goal.returns-in_err-policy-2
+returns-in_err-policy-2 c =
+    let p = err_from_is_err_and c.from_residual-in_err-policy-2.result c.from_residual-in_err-policy-2.ensures.1 in
+    rw p.1 (runs_out _ (pieces_source c.args.pieces.now) p.0 (neither _ _ c.in_ok-policy.ensures.refused c.in_ok-last.ensures.refused) (pieces_begin _ _ c.in_ok-image.ensures) p.2)
+
+pub returns-in_err-verdict : goal.returns-in_err-verdict
+returns-in_err-verdict c =
+    let p = err_from_is_err_and c.from_residual-in_err-verdict.result c.from_residual-in_err-verdict.ensures.1 in
+    rw p.1 (runs_out _ (pieces_source c.args.pieces.now) p.0 (neither _ _ c.in_ok-policy.ensures.refused c.in_ok-last.ensures.refused) (pieces_begin _ _ c.in_ok-image.ensures) p.2)
