@@ -45,7 +45,8 @@ pub refused_piece : (ps : List Piece) (index : ℕ) (d : Piece) (m : Memory) (ad
     (r : Refusal) → index < length ps → with_pieces index m (drop index ps) ≡ with_pieces 0 empty ps
     → IsBegun ps index m → IsAdded m index (get_or ps index d) added → added ≡ Err r → Fails (pieces_source ps) r
 refused_piece ps index d m added r below so_far begun is err =
-    go (add_refusal m (get_or ps index d).address (get_or ps index d).bytes.now) refl is (next ps index d m below so_far)
+    go (add_refusal m (get_or ps index d).address (get_or ps index d).bytes.now) refl is
+    (next ps index d m below so_far)
   where
     go : (o : Option ImageFault) → add_refusal m (get_or ps index d).address (get_or ps index d).bytes.now ≡ o
         → MatchOption o (IsOkUnless added OutOfMemory) (λ fault. added ≡ Err (piece_refusal index fault))
@@ -62,7 +63,8 @@ pub added_piece : (ps : List Piece) (index : ℕ) (d : Piece) (m n : Memory) (ad
     → OnOk added (n ≡ with_bytes m (get_or ps index d).address (get_or ps index d).bytes.now) → added ≡ Ok x
     → (with_pieces (index + 1) n (drop (index + 1) ps) ≡ with_pieces 0 empty ps) × IsBegun ps (index + 1) n
 added_piece ps index d m n added x below so_far begun is ok was =
-    go (add_refusal m (get_or ps index d).address (get_or ps index d).bytes.now) refl is (next ps index d m below so_far)
+    go (add_refusal m (get_or ps index d).address (get_or ps index d).bytes.now) refl is
+    (next ps index d m below so_far)
   where
     new : n ≡ with_bytes m (get_or ps index d).address (get_or ps index d).bytes.now
     new = subst (λ a. OnOk a (n ≡ with_bytes m (get_or ps index d).address (get_or ps index d).bytes.now)) was ok

@@ -1,5 +1,5 @@
--- One verdict on one image, and what a search finds.
-use Rattle.std.proofs.Common.{◌≡◌, inl, inr, ℕ, ◌∙◌, List, [], ◌∷◌, Option, Some, None, Result, Ok, Err, sym, subst, ap, refl}
+-- One verdict on one image, what a search finds, and what is known if memory runs out.
+use Rattle.std.proofs.Common.{◌≡◌, inl, inr, ℕ, ◌∙◌, List, [], ◌∷◌, Option, Some, None, Result, Ok, sym, subst, ap, refl}
 use Rattle.std.specs.Prelude.{◌↔◌, Bool, IfSome, IsNone, IsTrue}
 use Rattle.std.specs.FinMap.{empty}
 use Rattle.std.specs.Option.{option_or}

@@ -1,17 +1,17 @@
 -- Which pieces are refused, and why.
-use Rattle.std.proofs.Common.{◌≡◌, ◌⊎◌, inl, inr, ℕ, zero, suc, ◌+◌, ◌-◌, ◌^◌, ◌<◌, ◌≤◌, Bool, true, false, cond, List, [], ◌∷◌, ◌++◌, length, slice_get, Option, Some, None, IsSome, is_some, Result, Ok, Err, refl, sym, subst, ap, ◌∙◌, arith, add-zero}
-use Rattle.std.specs.Prelude.{◌↔◌, nat_lt}
+use Rattle.std.proofs.Common.{◌≡◌, inl, inr, ℕ, zero, suc, ◌+◌, ◌-◌, ◌^◌, ◌<◌, ◌≤◌, Bool, true, false, cond, List, [], ◌∷◌, ◌++◌, length, Option, Some, None, IsSome, is_some, Ok, Err, refl, sym, subst, ap, ◌∙◌, arith, add-zero}
+use Rattle.std.specs.Prelude.{nat_lt}
 use Rattle.std.specs.FinMap.{empty}
 use Rattle.std.specs.Option.{option_map}
 use Rattle.std.proofs.lemmas.Bool.{cases_lt}
 use Rattle.std.proofs.lemmas.Bool.Decides.{nat_tests}
 use Rattle.acpi_base.specs.Image.Adding.{add_refusal}
-use Rattle.acpi_base.specs.Image.Runs.{end_of, run_at}
+use Rattle.acpi_base.specs.Image.Runs.{run_at}
 use Rattle.acpi_base.specs.Memory.{Memory, byte_of, first_held, least_defined, with_bytes}
 use Rattle.acpi_base.specs.declared.image.ImageFault.{ImageFault}
 use Rattle.acpi_base.specs.declared.image.ImageFault.TheVariants.{PastEnd, Twice}
 use Rattle.acpi_base.specs.declared.image.ImageFault.TheVariants as image
-use Rattle.acpi_base.proofs.Images.ByteRuns.{first_of_at, first_of_from}
+use Rattle.acpi_base.proofs.Images.ByteRuns.{first_of_at}
 use Rattle.acpi_base.proofs.Images.RunBytes.{held_inside, held_some}
 use Rattle.acpi_c.specs.Laws.{StandsBehind, IsPastEnd, IsOverlap, HasByte, HaveByte, PastEndMeans, OverlapMeans}
 use Rattle.acpi_c.specs.Pieces.{piece_refusal, unless_refused, with_pieces}

@@ -67,7 +67,7 @@ fn answer_of(judged: Result<Verdict, Refusal>) -> Answer
 /// `BadInputs`, for the first number of inputs outside 1 to 256, with its index; `BadStage` if the last stage is
 /// outside 1 to 18; `PiecePastEnd` and `PiecesOverlap`, for the first piece that passes the last address or shares
 /// addresses with those before it, with its index, and for an overlap the lowest address; `OutOfMemory`, which may
-/// also be returned instead of any answer after `BadProcessors`.
+/// also be returned instead of any answer after `BadStage`, but not instead of `PiecePastEnd` for the first piece.
 #[unsafe(no_mangle)]
 pub extern "C" fn acpiset_check(
     alloc: Global,

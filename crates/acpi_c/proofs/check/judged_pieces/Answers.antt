@@ -13,9 +13,13 @@ returns c =
 pub returns-in_err-policy-2 : goal.returns-in_err-policy-2
 returns-in_err-policy-2 c =
     let p = err_from_is_err_and c.from_residual-in_err-policy-2.result c.from_residual-in_err-policy-2.ensures.1 in
-    rw p.1 (runs_out _ (pieces_source c.args.pieces.now) p.0 (neither _ _ c.in_ok-policy.ensures.refused c.in_ok-last.ensures.refused) (pieces_begin _ _ c.in_ok-image.ensures) p.2)
+    rw p.1 (runs_out _ (pieces_source c.args.pieces.now) p.0
+    (neither _ _ c.in_ok-policy.ensures.refused c.in_ok-last.ensures.refused)
+    (pieces_begin _ _ c.in_ok-image.ensures) p.2)
 
 pub returns-in_err-verdict : goal.returns-in_err-verdict
 returns-in_err-verdict c =
     let p = err_from_is_err_and c.from_residual-in_err-verdict.result c.from_residual-in_err-verdict.ensures.1 in
-    rw p.1 (runs_out _ (pieces_source c.args.pieces.now) p.0 (neither _ _ c.in_ok-policy.ensures.refused c.in_ok-last.ensures.refused) (pieces_begin _ _ c.in_ok-image.ensures) p.2)
+    rw p.1 (runs_out _ (pieces_source c.args.pieces.now) p.0
+    (neither _ _ c.in_ok-policy.ensures.refused c.in_ok-last.ensures.refused)
+    (pieces_begin _ _ c.in_ok-image.ensures) p.2)

@@ -13,4 +13,5 @@ returns c =
 pub returns-in_err-verdict : goal.returns-in_err-verdict
 returns-in_err-verdict c =
     let p = err_from_is_err_and c.from_residual-in_err-verdict.result c.from_residual-in_err-verdict.ensures.1 in
-    rw p.1 (runs_out _ (text_source c.args.text.now) p.0 (neither _ _ c.in_ok-policy.ensures.refused c.in_ok-last.ensures.refused) tt p.2)
+    rw p.1 (runs_out _ (text_source c.args.text.now) p.0
+    (neither _ _ c.in_ok-policy.ensures.refused c.in_ok-last.ensures.refused) tt p.2)

@@ -15,9 +15,11 @@ returns c = (
 pub returns-in_err-found : goal.returns-in_err-found
 returns-in_err-found c =
     let p = err_from_is_err_and c.from_residual-in_err-found.result c.from_residual-in_err-found.ensures.1 in
-    rw p.1 (runs_out _ (pieces_source c.args.pieces.now) p.0 c.in_ok-policy.ensures.refused (pieces_begin _ _ c.in_ok-image.ensures) p.2)
+    rw p.1 (runs_out _ (pieces_source c.args.pieces.now) p.0 c.in_ok-policy.ensures.refused
+    (pieces_begin _ _ c.in_ok-image.ensures) p.2)
 
 pub returns-in_err-all : goal.returns-in_err-all
 returns-in_err-all c =
     let p = err_from_is_err_and c.from_residual-in_err-all.result c.from_residual-in_err-all.ensures.1 in
-    rw p.1 (runs_out _ (pieces_source c.args.pieces.now) p.0 c.in_ok-policy.ensures.refused (pieces_begin _ _ c.in_ok-image.ensures) p.2)
+    rw p.1 (runs_out _ (pieces_source c.args.pieces.now) p.0 c.in_ok-policy.ensures.refused
+    (pieces_begin _ _ c.in_ok-image.ensures) p.2)
