@@ -10,7 +10,7 @@ ghost use Rattle.acpi_c.specs.declared.refusal.Refusal.{Refusal};
 use crate::answer::Answer;
 use crate::pieces::{Piece, image_of_pieces};
 use crate::refusal::Refusal;
-use crate::settings::{Inputs, Settings, last_stage, tested_policy, with_inputs};
+use crate::settings::{Inputs, Settings, add_inputs, last_stage, tested_policy};
 use crate::text::image_of_text;
 use acpi_base::Verdict;
 use acpi_check::check_to;
@@ -25,10 +25,10 @@ fn judged_pieces(
 ) -> Result<Verdict, Refusal>
     ensures { Checks (pieces_source pieces.now) settings.now inputs.now result }
 {
-    let policy = tested_policy(alloc, settings, inputs)?;
+    let mut policy = tested_policy(alloc, settings, inputs)?;
     let last = last_stage(settings)?;
     let image = image_of_pieces(alloc, pieces)?;
-    let policy = with_inputs(policy, inputs)?;
+    add_inputs(&mut policy, inputs)?;
     let verdict = check_to(alloc, &image, &policy, last)?;
     Ok(verdict)
 }
@@ -42,10 +42,10 @@ fn judged_text(
 ) -> Result<Verdict, Refusal>
     ensures { Checks (text_source text.now) settings.now inputs.now result }
 {
-    let policy = tested_policy(alloc, settings, inputs)?;
+    let mut policy = tested_policy(alloc, settings, inputs)?;
     let last = last_stage(settings)?;
     let image = image_of_text(alloc, text)?;
-    let policy = with_inputs(policy, inputs)?;
+    add_inputs(&mut policy, inputs)?;
     let verdict = check_to(alloc, &image, &policy, last)?;
     Ok(verdict)
 }

@@ -12,7 +12,7 @@ ghost use Rattle.acpi_c.specs.declared.refusal.Refusal.{Refusal};
 use crate::answer::{Answer, Finding, yes_or_no};
 use crate::pieces::{Piece, image_of_pieces};
 use crate::refusal::Refusal;
-use crate::settings::{Inputs, Settings, tested_policy, with_inputs};
+use crate::settings::{Inputs, Settings, add_inputs, tested_policy};
 use acpi_base::{Code, Witness};
 use acpi_confirm::confirm;
 use std::alloc::Global;
@@ -38,10 +38,10 @@ fn confirmed(
 ) -> Result<bool, Refusal>
     ensures { Confirms (pieces_source pieces.now) settings.now inputs.now finding.now result }
 {
-    let policy = tested_policy(alloc, settings, inputs)?;
+    let mut policy = tested_policy(alloc, settings, inputs)?;
     let code = code_of(finding)?;
     let image = image_of_pieces(alloc, pieces)?;
-    let policy = with_inputs(policy, inputs)?;
+    add_inputs(&mut policy, inputs)?;
     let witness = Witness {
         code,
         at: finding.at,

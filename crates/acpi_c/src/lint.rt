@@ -14,7 +14,7 @@ use crate::answer::{Answer, Finding};
 use crate::kind::Kind;
 use crate::pieces::{Piece, image_of_pieces};
 use crate::refusal::Refusal;
-use crate::settings::{Inputs, Settings, tested_policy, with_inputs};
+use crate::settings::{Inputs, Settings, add_inputs, tested_policy};
 use acpi_base::{Advice, Witness};
 use acpi_lint::{Findings, lint};
 use std::alloc::{AllocError, Global};
@@ -37,9 +37,9 @@ fn searched(
         × (both.1.items ≡ all_findings both.0.faults.items both.0.advice.items))
         (IsRefusal (policy_refusal settings.now inputs.now) (pieces_source pieces.now)) }
 {
-    let policy = tested_policy(alloc, settings, inputs)?;
+    let mut policy = tested_policy(alloc, settings, inputs)?;
     let image = image_of_pieces(alloc, pieces)?;
-    let policy = with_inputs(policy, inputs)?;
+    add_inputs(&mut policy, inputs)?;
     let found = lint(alloc, &image, &policy)?;
     let all = numbers_of(alloc, &found)?;
     Ok((found, all))

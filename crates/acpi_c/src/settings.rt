@@ -108,7 +108,8 @@ fn test_inputs(inputs: &[Inputs]) -> Result<(), Refusal>
     Ok(())
 }
 
-/// The policy of the settings, if all numbers of inputs can be given too. It has none of them yet. Allocates nothing.
+/// The policy of the settings, if all numbers of inputs are in range too. It has none of them yet: `add_inputs` adds
+/// them. Allocates nothing.
 ///
 /// Refuses, in this order: as `settings_policy` does; `Inputs`, for the first number outside 1 to 256.
 pub fn tested_policy(
@@ -127,7 +128,7 @@ pub fn tested_policy(
 }
 
 /// Gives the I/O APIC its number of inputs, unless it has one.
-fn add_inputs(policy: &mut Policy, inputs: &Inputs) -> Result<(), AllocError>
+fn add_count(policy: &mut Policy, inputs: &Inputs) -> Result<(), AllocError>
     requires { IsTrue (is_count inputs.now.count) }
     ensures { OnOk result (policy.new ≡ with_input policy.old inputs.now.address inputs.now.count) }
 {
@@ -137,15 +138,16 @@ fn add_inputs(policy: &mut Policy, inputs: &Inputs) -> Result<(), AllocError>
     }
 }
 
-/// The policy with these numbers of inputs. If an address is repeated, the first number wins.
-pub fn with_inputs(mut policy: Policy, inputs: &[Inputs]) -> Result<Policy, AllocError>
+/// Gives the policy these numbers of inputs. If an address is repeated, the first number wins. If memory runs out, the
+/// policy has some of them. A call does this once it has an image: so it looks at the first piece before it allocates.
+pub fn add_inputs(policy: &mut Policy, inputs: &[Inputs]) -> Result<(), AllocError>
     requires { inputs_refusal 0 inputs.now ≡ None }
-    ensures { IfOk result (λ own. own ≡ with_inputs policy inputs.now) }
+    ensures { OnOk result (policy.new ≡ with_inputs policy.old inputs.now) }
 {
     for own in inputs {
-        add_inputs(&mut policy, own)?;
+        add_count(policy, own)?;
     }
-    Ok(policy)
+    Ok(())
 }
 
 /// The last stage of a check.

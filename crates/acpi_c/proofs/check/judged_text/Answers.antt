@@ -6,8 +6,8 @@ use Rattle.acpi_c.proofs.check.judged_text.Goals as goal
 pub returns : goal.returns
 returns c =
     judges (text_source c.args.text.now) c.args.settings.now c.args.inputs.now c.in_ok-image.image
-    c.in_ok-policy-2.policy c.in_ok-last.last c.in_ok-verdict.verdict
-    (asks _ _ _ _ _ _ c.in_ok-image.ensures c.in_ok-policy.ensures.ok c.in_ok-policy-2.ensures) c.in_ok-last.ensures.ok
+    c.add_inputs.new.policy c.in_ok-last.last c.in_ok-verdict.verdict
+    (asks _ _ _ _ _ _ c.in_ok-image.ensures c.in_ok-policy.ensures.ok c.in_ok-add_inputs.ensures) c.in_ok-last.ensures.ok
     c.in_ok-verdict.ensures.verdict
 
 pub returns-in_err-verdict : goal.returns-in_err-verdict

@@ -6,8 +6,8 @@ use Rattle.acpi_c.proofs.lint.searched.Goals as goal
 pub returns : goal.returns
 returns c = (
   reports (pieces_source c.args.pieces.now) c.args.settings.now c.args.inputs.now c.in_ok-image.image
-      c.in_ok-policy-2.policy c.in_ok-found.found.faults.items c.in_ok-found.found.advice.items
-      (asks _ _ _ _ _ _ c.in_ok-image.ensures c.in_ok-policy.ensures.ok c.in_ok-policy-2.ensures)
+      c.add_inputs.new.policy c.in_ok-found.found.faults.items c.in_ok-found.found.advice.items
+      (asks _ _ _ _ _ _ c.in_ok-image.ensures c.in_ok-policy.ensures.ok c.in_ok-add_inputs.ensures)
       c.in_ok-found.ensures,
   c.in_ok-all.ensures,
 )
