@@ -18,7 +18,8 @@ ROOMS = TOP / "out" / "rooms"
 CPU = "x86-64"
 # A check of one of these crates takes 1 to 4 GB.
 BYTES_OF_A_CHECK = 4_000_000_000
-# Minutes of one processor that a proof from nothing took, measured as CONTRIBUTING says: so the processors are shared.
+# Minutes of one processor that a proof from nothing took; and that of a crate's tests, over the proof that is kept of the crate. The
+# processors are shared by these.
 MINUTES = {
     "acpi_graph": 1.5,
     "acpi_base": 9,
@@ -29,8 +30,8 @@ MINUTES = {
     "acpi_lint": 19,
     "acpi_c": 6,
     "acpi_cli": 22,
-    "acpi_tests": 15,
 }
+MINUTES_OF_TESTS = {"acpi_c": 3, "acpi_cli": 6, "acpi_tests": 20}
 
 
 @lru_cache(maxsize=None)
