@@ -7,8 +7,8 @@ pub returns : goal.returns
 returns c =
     judges (pieces_source c.args.pieces.now) c.args.settings.now c.args.inputs.now c.in_ok-image.image
     c.add_inputs.new.policy c.in_ok-last.last c.in_ok-verdict.verdict
-    (asks _ _ _ _ _ _ c.in_ok-image.ensures c.in_ok-policy.ensures.ok c.in_ok-add_inputs.ensures) c.in_ok-last.ensures.ok
-    c.in_ok-verdict.ensures.verdict
+    (asks _ _ _ _ _ _ c.in_ok-image.ensures c.in_ok-policy.ensures.ok c.in_ok-add_inputs.ensures)
+    c.in_ok-last.ensures.ok c.in_ok-verdict.ensures.verdict
 
 pub returns-in_err-add_inputs : goal.returns-in_err-add_inputs
 returns-in_err-add_inputs c =

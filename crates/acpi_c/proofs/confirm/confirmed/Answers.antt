@@ -7,8 +7,8 @@ pub returns : goal.returns
 returns c =
     tells (pieces_source c.args.pieces.now) c.args.settings.now c.args.inputs.now c.args.finding.now c.in_ok-image.image
     c.add_inputs.new.policy c.in_ok-code.code c.confirm.result
-    (asks _ _ _ _ _ _ c.in_ok-image.ensures c.in_ok-policy.ensures.ok c.in_ok-add_inputs.ensures) c.in_ok-code.ensures.ok
-    c.confirm.ensures.fault
+    (asks _ _ _ _ _ _ c.in_ok-image.ensures c.in_ok-policy.ensures.ok c.in_ok-add_inputs.ensures)
+    c.in_ok-code.ensures.ok c.confirm.ensures.fault
 
 pub returns-in_err-add_inputs : goal.returns-in_err-add_inputs
 returns-in_err-add_inputs c =
