@@ -116,11 +116,12 @@ functions() {
 # Functions whose names differ only in digits, as for each width of a number, are a family: one edit is enough.
 family() { tr -d '0-9'; }
 
+count 'wrong bodies that cannot be tried' "$(scripts/wrong_bodies --read 2>&1)"
 refused=
 for crate in $crates; do
   all=$(functions "$crate")
-  harmless=$(cat "crates/$crate/wrong/harmless" 2>/dev/null)
-  edited=$(find "crates/$crate/wrong" "crates/$crate/must-fail" -name '*.edit' -printf '%f\n' 2>/dev/null | grep -vxF "$harmless.edit" | sed 's/-.*//')
+  harmless=$(sed 's/.*\///; s/$/.edit/' "crates/$crate/wrong/harmless" 2>/dev/null)
+  edited=$(find "crates/$crate/wrong" "crates/$crate/must-fail" -name '*.edit' -printf '%f\n' 2>/dev/null | grep -vxF "${harmless:-none}" | sed 's/-.*//')
   within "$crate: functions that no edit is named for" "$(sed -n 's/^+//p' <<<"$all" | family)" "$(family <<<"$edited")"
   within "$crate: methods of its own traits that no edit is named for" "$(sed -n 's/^~//p' <<<"$all")" "$(sed 's/^[A-Z][A-Za-z0-9]*_//' <<<"$edited")"
   within "$crate: edits that are named for no function" "$edited" "$all"
@@ -227,7 +228,7 @@ done
 # ---- how long the commands take: measured on a state that is at most 60 days older than this one, and the same in README
 
 took=$(grep -o 'measured at commit [0-9a-f]*' CONTRIBUTING.md | grep -o '[0-9a-f]*$')
-if git rev-parse --is-inside-work-tree >/dev/null 2>&1; then
+if [ "$(git rev-parse --is-shallow-repository 2>/dev/null)" = false ]; then
   then=$(git log -1 --format=%ct "$took" 2>/dev/null || echo 0)
   age=$((($(git log -1 --format=%ct) - then) / 86400))
   count 'the state on which times were measured, and its age in days' "$([ "$age" -le 60 ] || echo "$took: $age")"

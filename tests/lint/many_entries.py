@@ -1,5 +1,5 @@
-"""`check` and `lint` on tables of a million entries, of each of which they gather a number. A rule that gives up on this many is out of
-memory to each contract, so only these sets show it."""
+"""`check` and `lint` on tables of a million entries, of each of which they gather a number. A rule that gave up on this many
+would be out of memory by its contract, so only these sets show it."""
 
 import struct
 

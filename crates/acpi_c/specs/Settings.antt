@@ -41,7 +41,7 @@ settings_policy s =
     Ok (record (new_policy s.rsdp count) { hotplug = hotplug; processors = processors }))))
     else Err refusal.Size
 
--- the first of these numbers of inputs that is out of range, where this is the index of the first of them
+-- the refusal of the first of these numbers of inputs that is out of range; `index` is that of the list's first one
 abbrev pub inputs_refusal : ℕ → List Inputs → Option Refusal
 inputs_refusal index [] = None
 inputs_refusal index (own ∷ rest) =

@@ -24,7 +24,7 @@ first_table tables kind = option_map (λ first. first.table) (first_listed table
 abbrev pub first_signed : List ℕ → Option Listed → Listed → Option Listed
 first_signed signature found next = if has_signature next.table signature && is_none found then Some next else found
 
--- its bytes
+-- the same of the bytes alone
 abbrev pub first_signed_table : List ℕ → Option (List ℕ) → List ℕ → Option (List ℕ)
 first_signed_table signature found whole = if has_signature whole signature && is_none found then Some whole else found
 
