@@ -124,6 +124,11 @@ def rlib_of(name):
     return TOP / "crates" / name / "out" / "rlib" / f"{name}.rlib"
 
 
+def for_any(built):
+    """Where the gate builds this file for any x86-64 processor, while `rt ci` builds it in its own place for x86-64-v2."""
+    return built.parent / "for_any" / built.name
+
+
 def crates():
     """The crates of crates.txt, each after those that it depends on."""
     lines = [line.partition("#")[0] for line in (TOP / "crates.txt").read_text().splitlines()]
