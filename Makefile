@@ -37,10 +37,15 @@ alone := scripts/alone
 # Ends make with one line if the toolchain is missing. It is expanded at the beginning of a recipe.
 needs_toolchain = $(if $(shell command -v rt || :),,$(error the Rattle toolchain is missing: put the folder of its command `rt` on the PATH, or take the archive of a release, which needs no toolchain (README.md)))
 
+targets := try run build test gate kept library bench fuzz install install-library uninstall dist clean
+
+# The crates that `gate` is limited to: words beside it that are no target.
+named := $(if $(filter gate,$(MAKECMDGOALS)),$(filter-out $(targets),$(MAKECMDGOALS)))
+
 # Makes the library from what was proved, so that it is tested too; not on a machine without a C compiler.
 link_library = { ! command -v cc >/dev/null || scripts/library $(archive); }
 
-.PHONY: try run build test gate library bench fuzz install install-library uninstall dist clean
+.PHONY: $(targets) $(named)
 
 # Builds the program without a proof, and runs it on the example and on IMAGE.
 try:
@@ -59,9 +64,17 @@ build:
 test:
 	$(needs_toolchain)@$(alone) sh -c 'scripts/prove tests && $(link_library) && exec tests/all.sh $(program) crates/*/out/*_tests'
 
-# Proves everything from nothing, tries each wrong body that must be refused, and builds what `test` then runs the scripts on.
+# Proves everything that this machine has not passed with the same sources, tries each wrong body that must be refused, and builds what
+# `test` then runs the scripts on. `make gate acpi_base acpi_read` only passes these crates and those below them, on a copy, so that the
+# gate need not prove them again; `make kept` says which are passed.
 gate:
-	$(needs_toolchain)@$(alone) scripts/prove gate
+	$(needs_toolchain)@$(if $(named),,$(alone)) scripts/prove gate $(named)
+
+# Nothing is made of the words themselves.
+$(if $(named),$(eval $(named): ; @:))
+
+kept:
+	$(needs_toolchain)@scripts/kept
 
 # Proves the library for C and C++, and leaves it as library/libacpiset.a and library/libacpiset.so.1.
 library:

@@ -161,7 +161,7 @@ changed 'wrong bodies: an edit in no folder' 'crates/small/wrong/next-again.edit
 # ---- scripts/prove
 
 mkdir -p "$scratch/tree/scripts" "$scratch/tree/crates/acpi_c/src" "$scratch/tree/crates/acpi_cli/src" "$scratch/bin" "$scratch/kit/bin"
-cp scripts/prove scripts/wrong_bodies scripts/crates.py "$scratch/tree/scripts"
+cp scripts/prove scripts/wrong_bodies scripts/kept scripts/crates.py "$scratch/tree/scripts"
 printf 'acpi_c staticlib:\nacpi_cli:\n' >"$scratch/tree/crates.txt"
 echo 'fn main() {}' >"$scratch/tree/crates/acpi_cli/src/main.rt"
 printf 'check\n' >"$scratch/tree/crates/acpi_cli/args"
@@ -173,7 +173,7 @@ echo "${PWD##*/}: $*" | sed 's/ --jobs [0-9]*//' >>"$FOLDER/calls"
 case $1 in
   version) echo rattle-kit-stand-in ;;
   doc) echo "$FOLDER/kit/START-HERE.md" ;;
-  ci) mkdir -p crates/acpi_cli/out && echo 'for x86-64-v2' >crates/acpi_cli/out/acpi_cli && echo 'rt ci: 2 passed, 0 failed' ;;
+  ci) mkdir -p crates/acpi_cli/out && echo 'for x86-64-v2' >crates/acpi_cli/out/acpi_cli && cat "$FOLDER/said" ;;
   run) mkdir -p out && echo 'for x86-64' >out/acpi_cli ;;
   lib) mkdir -p out && echo library >out/libacpi_c.a ;;
   test) mkdir -p out && echo tests >"out/${PWD##*/}_tests" ;;
@@ -201,6 +201,7 @@ echo "linked: ${2##*/}" >>"$FOLDER/calls"
 cp "$3" "$2"
 END
 chmod +x "$scratch/bin/rt" "$scratch/kit/bin"/*
+echo '2 passed, 0 failed' >"$scratch/said"
 printed=$(PATH="$scratch/bin:$PATH" "$scratch/tree/scripts/prove" gate 2>&1)
 same 'scripts/prove gate' "$? $(tail -n 1 <<<"$printed" | sed 's/[0-9][0-9]*/N/g')" '0 gate: proved in N.N minutes, from N:N to N:N'
 # `rt ci` builds for x86-64-v2: the program and the library are built after it, for any x86-64, over what it proved.
@@ -218,6 +219,71 @@ printf 'file: src/lib.rt\nold:     1\nnew:     2\n' >"$scratch/tree/crates/acpi_
 echo 1/one-is_two >"$scratch/tree/crates/acpi_c/wrong/harmless"
 printed=$(PATH="$scratch/bin:$PATH" "$scratch/tree/scripts/prove" gate 2>&1)
 same 'scripts/prove gate with an edit that is not refused' "$? $(tail -n 1 <<<"$printed") $(grep -c '^FAILED acpi_c/1/one-is_two: could not tell' <<<"$printed")" '1 scripts/prove: not all wrong bodies were refused 1'
+# The wrong bodies of a crate are tried once the libraries below it are proved, now or by an earlier run.
+printf 'acpi_graph:\nacpi_c staticlib: acpi_graph\nacpi_cli:\n' >"$scratch/tree/crates.txt"
+mkdir -p "$scratch/tree/crates/acpi_graph/src"
+rm -r "$scratch/tree/crates/acpi_c/wrong"
+for line in 'acpi_graph proved' 'acpi_graph is kept: an earlier run on this machine proved the same files over the same libraries' 'acpi_graph NOT PROVED'; do
+  printf 'rt: %s\n2 passed, 0 failed\n' "$line" >"$scratch/said"
+  printed=$(PATH="$scratch/bin:$PATH" "$scratch/tree/scripts/prove" gate 2>&1)
+  same "the gate, with a library of which rt ci says: $line" "$? $(grep -c '^acpi_c: proved' <<<"$printed")" "$([[ $line = *NOT* ]] && echo '1 0' || echo '0 1')"
+done
+
+# With names it only passes these crates.
+: >"$scratch/calls"
+PATH="$scratch/bin:$PATH" "$scratch/tree/scripts/prove" gate acpi_c acpi_graph >"$scratch/log" 2>&1
+same 'scripts/prove gate acpi_c acpi_graph' "$? $(cat "$scratch/calls") $(cat "$scratch/log")" "0 tree: ci acpi_c acpi_graph $(cat "$scratch/said")"
+PATH="$scratch/bin:$PATH" "$scratch/tree/scripts/prove" program acpi_c >"$scratch/log" 2>&1
+same 'scripts/prove program acpi_c' "$? $(head -n 1 "$scratch/log" | cut -c 1-28)" '1 usage: scripts/prove program'
+same 'make gate acpi_c acpi_graph' "$(PATH="$scratch/bin:$PATH" make -n gate acpi_c acpi_graph 2>&1 | head -n 1)" 'scripts/prove gate acpi_c acpi_graph'
+same 'make gate test' "$(PATH="$scratch/bin:$PATH" make -n gate test 2>&1 | sed -n 's/^\(scripts.alone \(scripts.prove gate\|sh -c .scripts.prove tests\)\).*/\1/p')" $'scripts/alone scripts/prove gate\nscripts/alone sh -c \'scripts/prove tests'
+
+# ---- scripts/kept
+
+# The command `rt`, as far as it is asked: it has passed each crate and its tests whose file is in a folder.
+cat >"$scratch/kit/bin/rt" <<'END'
+import os
+class Crate:
+    def __init__(self, name, below, tests):
+        self.name, self.is_program, self.below, self.has_tests = name, name == "acpi_cli", lambda: below, lambda: tests
+def handles_of(root):
+    return ()
+def crates_of(root):
+    graph = Crate("acpi_graph", [], False)
+    return [graph, Crate("acpi_c", [graph], True), Crate("acpi_cli", [], False)]
+class Kept:
+    def __init__(self, crates):
+        self.rlibs = {}
+    def key(self, crate):
+        return "-".join([crate.name, *(self.rlibs[it.name][:8] for it in crate.below())])
+    def place(self, crate, tests, key):
+        return f"{os.environ['FOLDER']}/passed/{'tests' if tests else 'proof'}-{key}"
+END
+passed_by_rt() {
+  mkdir -p "$scratch/passed/$1"
+  echo '{"files": [["rlib/format", "1f"]]}' >"$scratch/passed/$1/made.json"
+}
+kept() {
+  PATH="$scratch/bin:$PATH" "$scratch/tree/scripts/kept" 2>&1
+}
+same 'scripts/kept, of nothing' "$(kept)" 'acpi_graph: not kept: its sources were not passed over these libraries
+acpi_c: not kept: acpi_graph is not
+acpi_cli: not kept: its sources were not passed over these libraries
+0 of 3 crates are kept'
+passed_by_rt proof-acpi_graph
+passed_by_rt proof-acpi_cli
+# The library below as it was built: the SHA-256 of [('rlib/format', '1f')].
+below=$(printf "[('rlib/format', '1f')]" | sha256sum | cut -c 1-8)
+passed_by_rt "proof-acpi_c-$below"
+same 'scripts/kept, of all but tests' "$(kept)" 'acpi_graph: kept
+acpi_c: not kept: its tests were not passed
+acpi_cli: kept
+2 of 3 crates are kept'
+passed_by_rt "tests-acpi_c-$below"
+same 'scripts/kept, of all' "$(kept | tail -n 1)" '3 of 3 crates are kept'
+echo 'def crates_of(root): return [1]' >>"$scratch/kit/bin/rt"
+printed=$(kept)
+same 'scripts/kept, with another toolchain' "$? ${printed%%: AttributeError*}" '1 scripts/kept: cannot tell with this toolchain'
 
 printf 'build scripts: %d passed, %d failed\n' "$passed" "$failed"
 [ "$failed" = 0 ]
