@@ -25,20 +25,18 @@ MANY_ARGUMENTS = ("io-apics-with-counts",)
 
 
 def stated():
-    """The limits in README: times by command, memory beside the text by command, and KiB of stack."""
+    """The limits in README: times by command, memory beside the text, and KiB of stack."""
     limits = re.sub(r"\s+", " ", (TOP / "README.md").read_text().partition("\n## Limits\n")[2].partition("\n## ")[0])
     times = re.search(r"`check`, `confirm` and `find` at most (\d+) times and `lint` at most (\d+) times", limits)
-    memory = re.search(r"`check`, `confirm` and `find` need at most (\d+) times, and `lint` at most (\d+) times, the memory of the text", limits)
-    stack = re.search(r"(\d+) KiB of stack", limits)
-    by_command = lambda found: {"check": int(found[1]), "confirm": int(found[1]), "find": int(found[1]), "lint": int(found[2])}
-    return by_command(times), by_command(memory), int(stack[1])
+    stack, memory = re.search(r"(\d+) KiB of stack, and (\d+) times the memory of the text", limits).groups()
+    return {"check": int(times[1]), "confirm": int(times[1]), "find": int(times[1]), "lint": int(times[2])}, int(memory), int(stack)
 
 
 def wrong_with(it, memory):
     """What is beyond a limit."""
     if it.is_beyond:
         return f"{it.times:.1f} times the time of the plain program"
-    if it.memory > memory.get(it.command, it.memory / it.text) * it.text:
+    if it.command in MOST_TIMES and it.memory > memory * it.text:
         return f"{it.memory / it.text:.1f} times the memory of the text"
     return ""
 
