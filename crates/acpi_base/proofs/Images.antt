@@ -4,7 +4,6 @@ pub mod Bitmaps
 pub mod Builders
 pub mod ByteRuns
 pub mod Drafts
-pub mod EndedPieces
 pub mod FirstTwice
 pub mod HeldBytes
 pub mod Holders

@@ -13,7 +13,6 @@ mod address_bitmap;
 pub(crate) mod builder;
 pub(crate) mod data;
 mod draft;
-mod ended;
 pub(crate) mod pieces;
 mod prefix_sums;
 mod runs;

@@ -77,11 +77,8 @@ pub fn image_text(alloc: Global, image: &Image) -> Result<Vec<u8>, AllocError>
     image.numbers_fit();
     let mut text = Vec::new(alloc);
     let mut from = 0;
-    // How many runs are written.
-    let mut count: usize = 0;
-    while let Some((base, bytes)) = image.run_from(from, count) {
+    while let Some((base, bytes)) = image.run_from(from) {
         write_run(&mut text, alloc, base, bytes)?;
-        count = count.saturating_add(1);
         // A run that ends at 2^64 is the last.
         let Some(end) = base.checked_add(bytes.len() as u64) else {
             break;

@@ -9,6 +9,6 @@ pub returns : goal.returns
 returns c = λ n.
     let s = c.self.inside.segments in
     rw (← c.self.view_is)
-    (bytes_at_held_by s.store s.ended s.base s.start c.args.address n
+    (bytes_at_held_by s.store s.ended.items s.base s.start c.args.address n
     ∙ windows_of_rest (lookup (runs_of s)) c.args.address c.rest_from.result.now c.rest_from.ensures.held
     c.rest_from.ensures.none_behind n)
