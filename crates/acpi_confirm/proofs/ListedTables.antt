@@ -1,9 +1,7 @@
 -- What a root's slots list first is what the set lists.
 use Rattle.std.proofs.Common.{◌≡◌, ◌+◌, ◌≤◌, ◌<◌, ◌↔◌, ℕ, Bool, true, false, not, Option, Some, None, is_some, List, length, IsTrue, MatchOption, inl, inr, refl, subst}
-use borrow.Author.Count.{below_more}
 use denote.Ref.{Bor}
-use Rattle.std.specs.Option.{option_or, option_zip}
-use Rattle.std.proofs.lemmas.Bool.{cases_lt}
+use Rattle.std.specs.Option.{option_zip}
 use Rattle.acpi_base.specs.Memory.{Memory}
 use Rattle.acpi_base.specs.Root.{HasSlot}
 use Rattle.acpi_base.specs.Tables.{IsSigned, IsTable}
@@ -13,8 +11,7 @@ use Rattle.acpi_base.specs.Listed.{fadt_signature, IsFirstListed, IsNoneListed, 
 use Rattle.acpi_base.specs.declared.code.Code.{Code}
 use Rattle.acpi_base.proofs.Root.Named.{of_root}
 use Rattle.acpi_base.proofs.Tables.Listed.{one_first_listed, one_listed, none_and_first_listed, none_and_listed, listed_of_root, listed_in_root, none_in_root}
-use Rattle.acpi_confirm.specs.Roots.{IsSignedIn, IsWholeRoot}
-use Rattle.acpi_confirm.specs.Slots.{IsFirstIn, IsFirstSoFar, ListNoSought}
+use Rattle.acpi_confirm.specs.Roots.{IsWholeRoot}
 
 -- ---- one table
 
@@ -140,47 +137,3 @@ pub match_map : {A : Type 0} {N N' : Type 0} {S S' : A → Type 0} (o : Option A
     → MatchOption o N S → MatchOption o N' S'
 match_map None none some here = none here
 match_map (Some a) none some here = some a here
-
--- ---- what the slots list first, one after the other
-
-module _ (m : Memory) (bytes : List ℕ) (d k : ℕ) (signature : List ℕ) where
-  -- and one slot more
-  pub so_far_next : (found here next : Option ℕ) → next ≡ option_or found here
-      → IsFirstSoFar m bytes d k signature found → IsSignedIn m bytes d k signature here
-      → IsFirstSoFar m bytes d (k + 1) signature next
-  so_far_next (Some a) here next is first at = rw is first
-  so_far_next None None next is none at =
-      rw is
-      (λ j b below slot signed. below_more (λ (i : ℕ). (a : ℕ) → HasSlot bytes d i a → ¬ IsSigned m a signature) k
-      (λ i lower a. none i a lower) at j below b slot signed)
-  so_far_next None (Some a) next is none at =
-      let first : IsFirstListed m bytes d signature a =
-      record { k = k; slot = at.0; signed = at.1; none_before = λ j b below slot signed. none j b below slot signed } in
-      rw is first
-
-  -- and a block of slots that lists none that is still looked for
-  pub so_far_block : (n : ℕ) (found : Option ℕ) → IsFirstSoFar m bytes d k signature found
-      → ListNoSought m bytes d k n signature found → IsFirstSoFar m bytes d n signature found
-  so_far_block n (Some a) first block = first
-  so_far_block n None none block =
-      λ j b below slot signed. elim (cases_lt j k) [
-        | inl before ↦ none j b before slot signed
-        | inr from ↦ block j b from below slot refl signed
-      ]
-
-  -- and all slots
-  pub so_far_all : (found : Option ℕ) → ((j b : ℕ) → HasSlot bytes d j b → j < k)
-      → IsFirstSoFar m bytes d k signature found
-      → IsFirstIn m bytes d signature found
-  so_far_all None within none = λ j b slot signed. none j b (within j b slot) slot signed
-  so_far_all (Some a) within first = first
-
--- the table at the first address is the set's, if it is complete
-pub table_of_first : {m : Memory} {p d : ℕ} {bytes signature : List ℕ} (a : ℕ) (table : Option (Bor (List ℕ)))
-    → IsWholeRoot m p d bytes → IsFirstListed m bytes d signature a
-    → MatchOption table ((header whole : List ℕ) → ¬ IsTable m a header whole)
-    (λ whole. (header : List ℕ) × IsTable m a header whole.now)
-    → MatchOption table ((whole : List ℕ) → ¬ IsListedTable m p signature whole)
-    (λ whole. IsListedTable m p signature whole.now)
-table_of_first a None root first none = λ whole listed. none listed.header whole (table_of_set root first listed)
-table_of_first a (Some whole) root first table = listed_of_set root first table.1
