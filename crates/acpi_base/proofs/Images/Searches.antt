@@ -181,9 +181,6 @@ pub free_short : (rs : List Run) (a n : ℕ) → 0 < n → lookup rs a ≡ None 
 free_short rs a n some none =
     (let first : a + 0 ≡ a = omega arith in run_of_none (lookup rs) a n 0 some (ap (lookup rs) first ∙ none))
 
--- what a window shows
-pub ruleset reached_window = (reached_whole, reached_short, free_short)
-
 -- ---- the next segment behind an address that is not held
 
 -- what begins at the address or before it has ended there
