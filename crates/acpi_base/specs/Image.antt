@@ -3,7 +3,6 @@ pub mod Bitmap
 pub mod Builder
 pub mod Draft
 pub mod Pieces
-pub mod Rests
 pub mod Runs
 pub mod Segments
 pub mod Sums

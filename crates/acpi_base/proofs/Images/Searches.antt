@@ -92,12 +92,6 @@ reached_open store ps base begin a laid low =
         (all_weaker _ _ ps (λ p below. inl (omega arith)) laid.below) in
         grind (arith, none)
 
--- from the base of the open segment on, all others are behind
-pub all_before : (store : List ℕ) (ps : List Piece) (base begin a : ℕ) → AreSegments store ps base begin → base ≤ a
-    → IsPartitionPoint ps a (length ps)
-all_before store ps base begin a laid low =
-    (λ k d l h. (let below = of_all _ ps k d laid.below h in omega arith), λ k d l h. absurd (omega arith))
-
 -- the segment before the place is the one that is reached, where the open one begins behind the address
 pub reached : (store : List ℕ) (ps : List Piece) (base begin a i : ℕ) (d : Piece) → AreSegments store ps base begin
     → IsBehind store base begin a → i < length ps
@@ -180,9 +174,6 @@ reached_short rs a n r reaches some short =
 pub free_short : (rs : List Run) (a n : ℕ) → 0 < n → lookup rs a ≡ None → run_of (lookup rs) a n ≡ None
 free_short rs a n some none =
     (let first : a + 0 ≡ a = omega arith in run_of_none (lookup rs) a n 0 some (ap (lookup rs) first ∙ none))
-
--- what a window shows
-pub ruleset reached_window = (reached_whole, reached_short, free_short)
 
 -- ---- the next segment behind an address that is not held
 

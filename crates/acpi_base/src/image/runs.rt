@@ -48,13 +48,6 @@ impl Image {
         rest_from(&self.segments, address)
     }
 
-    /// Returns the same, and 0. The second argument has no effect.
-    pub fn bytes_near(&self, address: u64, _near: usize) -> (&[u8], usize)
-        ensures { AreBytesFrom self.now address result.0.now }
-    {
-        (self.bytes_from(address), 0)
-    }
-
     /// The first run of bytes from an address on, up to the next address without a byte: its first address, and its bytes.
     /// Takes no memory.
     pub(crate) fn run_from(&self, address: u64) -> Option<(u64, &[u8])>

@@ -187,15 +187,11 @@ impl Segments {
             (λ base. (address < base) × IsSome (lookup (runs_of self.now) base)
             × IsGap (runs_of self.now) address base) }
     {
-        // Nothing begins behind the last segment. So there is no search when bytes are appended.
-        if self.base <= address {
-            return None;
-        }
         let place = self.place(address);
         if place < self.ended.len() {
             return Some(self.ended[place].0);
         }
-        if self.start < self.store.len() {
+        if address < self.base && self.start < self.store.len() {
             return Some(self.base);
         }
         None
