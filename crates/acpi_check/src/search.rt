@@ -4,28 +4,13 @@ ghost use Rattle.std.specs.Prelude.{◌≡◌, ◌<◌, ◌↔◌, ℕ, AllPairs
 
 use acpi_graph::sort_any_order;
 
-/// Interpolated index, assuming even spacing; it may be out of range.
-fn interpolated_place(offsets: &[u64], offset: u64) -> usize {
-    let [first, .., last] = offsets else {
-        return 0;
-    };
-    let steps = offsets.len() as u64 - 1;
-    let span = last.saturating_sub(*first).max(1);
-    (offset.saturating_sub(*first).saturating_mul(steps) / span) as usize
-}
-
 /// The index of an offset among offsets that rise, or none if it is not among them. The numbers may be any of 64
-/// bits. If they are evenly spaced, as the offsets of entries of one length are (ACPI 6.5, 5.2.30), it looks at one
-/// of them; otherwise at as many as a binary search does. Allocates nothing.
+/// bits. Allocates nothing.
 pub fn binary_search(offsets: &[u64], offset: u64) -> Option<usize>
     requires { AllPairs (λ o p. o < p) offsets.now }
     ensures { MatchOption result (¬ Contains offsets.now offset)
         (λ k. (k < length offsets.now) × (slice_index offsets.now k ≡ offset)) }
 {
-    let place = interpolated_place(offsets, offset);
-    if place < offsets.len() && offsets[place] == offset {
-        return Some(place);
-    }
     offsets.binary_search(&offset).ok()
 }
 
