@@ -416,10 +416,10 @@ def entry_of_each_type():
     return local_apic + io_apic(0) + override(0) + nmi_source(0) + local_nmi + address_override + x2apic(0) + x2apic_nmi
 
 
-def shared_entries(count):
-    """A MADT, an SRAT and a PPTT with the same COUNT entries of two bytes, of the type of a GIC distributor in a MADT. The SRAT
-    is inside the MADT and the PPTT inside the SRAT. The MADT ends with an entry of each type."""
-    shared = bytes((12, 2)) * count
+def shared_entries(count, kind=12):
+    """A MADT, an SRAT and a PPTT with the same COUNT entries of two bytes, of the type of a GIC distributor in a MADT if no other is
+    given. The SRAT is inside the MADT and the PPTT inside the SRAT. The MADT ends with an entry of each type."""
+    shared = bytes((kind, 2)) * count
     inner = table(b"PPTT", shared, revision=3)
     middle = srat(memory_range(0), x2apic_affinity(0), spanning(inner, shared))
     outer = madt(spanning(middle, shared), entry_of_each_type())
@@ -552,6 +552,7 @@ SHAPES = {
     "slots-of-scattered-tables": slots_of_scattered_tables,
     "slots-of-nested-tables": slots_of_nested_tables,
     "shared-entries": shared_entries,
+    "shared-processors": lambda count: shared_entries(count, kind=0),
     "resources-among-short-entries": resources_among_short_entries,
     "chain-in-no-order": chain_in_no_order,
     "io-apics-in-a-bad-order": lambda count: io_apics_of(bad_order(count)),
@@ -589,4 +590,5 @@ def main():
         out.write(text)
 
 
-main()
+if __name__ == "__main__":
+    main()

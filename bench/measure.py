@@ -1,14 +1,11 @@
 """Measures programs that read one text. They run in turn, so that a busy machine slows all of them alike.
 
 usage: measure.py ROUNDS NAME TEXT COMMAND [NAME TEXT COMMAND]..
-       measure.py --over ROUNDS TEXT READING NAME COMMAND [NAME COMMAND]..
        measure.py --instructions NAME TEXT COMMAND BESIDE COMMAND_BESIDE [ENTRIES READING READING_BESIDE]
 TEXT is the file on the program's standard input; COMMAND is one argument, split at blanks, in which @FILE stands for the words of
 a file.
 Prints a line for each program: its best times, MB of text per second, its peak memory and that divided by the text's size, and
 its three times divided by those of the first program.
-With --over it prints a line for each program: its best processor time, that of the command READING on the same text, the first
-divided by the second, how many MB it writes, and its time per byte that it reads or writes, divided by READING's time per byte.
 With --instructions it prints a line with the instructions of COMMAND and of the one beside it, in millions and per byte of text, and
 the first divided by the second. If there are ENTRIES, a second line has the same less the instructions of the READING commands, per
 entry. It needs valgrind.
@@ -110,22 +107,6 @@ def written_by(program):
         return os.path.getsize(output.name)
 
 
-def print_over(rounds, text, reading, *words):
-    """One run more than ROUNDS, of each program, says how much it writes."""
-    reader = Program("reading", text, reading)
-    programs = [Program(words[at], text, words[at + 1]) for at in range(0, len(words), 2)]
-    written = [written_by(program) for program in programs]
-    for _ in range(int(rounds)):
-        for program in programs:
-            reader.run()
-            program.run()
-    for program, count in zip(programs, written):
-        over = program.processor / reader.processor
-        per_byte = over * reader.size / (reader.size + count)
-        seconds = f"{program.processor:>8.2f}{reader.processor:>9.3f}"
-        print(f"{program.name:<40}{seconds}{over:>8.1f}{count / 1e6:>10.1f}{per_byte:>10.1f}")
-
-
 def instructions(program):
     """How many instructions it executes in user mode."""
     with open(program.text, "rb") as text:
@@ -163,12 +144,11 @@ def print_best(rounds, *words):
 
 
 def main():
-    if sys.argv[1] == "--over":
-        print_over(*sys.argv[2:])
-    elif sys.argv[1] == "--instructions":
+    if sys.argv[1] == "--instructions":
         print_instructions(*sys.argv[2:])
     else:
         print_best(*sys.argv[1:])
 
 
-main()
+if __name__ == "__main__":
+    main()

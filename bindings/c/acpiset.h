@@ -2,7 +2,7 @@
  *
  * A call reads what it is passed and keeps none of it. It takes memory from malloc and has freed all of it when it returns.
  * Calls on several threads at the same time need no lock. Whatever the bytes, addresses, counts and settings are, a call
- * returns an answer; the pointers and lengths have to be right, and the thread needs 600,000 bytes of stack. */
+ * returns an answer; the pointers and lengths have to be right, and the thread needs 100 KiB of stack. */
 #ifndef ACPISET_H
 #define ACPISET_H
 
