@@ -1,7 +1,8 @@
 -- What a root's slots list first is what the set lists.
-use Rattle.std.proofs.Common.{◌≡◌, ◌+◌, ◌≤◌, ◌<◌, ◌↔◌, ℕ, Bool, true, false, not, Option, Some, None, is_some, List, length, IsTrue, MatchOption, inl, inr, refl, subst}
+use Rattle.std.proofs.Common.{◌≡◌, ◌+◌, ◌≤◌, ◌<◌, ◌↔◌, ℕ, Bool, true, false, not, Option, Some, None, is_some, List, length, IsTrue, MatchOption, inl, inr, refl, subst, arith}
+use borrow.Author.Count.{below_more}
 use denote.Ref.{Bor}
-use Rattle.std.specs.Option.{option_zip}
+use Rattle.std.specs.Option.{option_or, option_zip}
 use Rattle.acpi_base.specs.Memory.{Memory}
 use Rattle.acpi_base.specs.Root.{HasSlot}
 use Rattle.acpi_base.specs.Tables.{IsSigned, IsTable}
@@ -11,7 +12,7 @@ use Rattle.acpi_base.specs.Listed.{fadt_signature, IsFirstListed, IsNoneListed, 
 use Rattle.acpi_base.specs.declared.code.Code.{Code}
 use Rattle.acpi_base.proofs.Root.Named.{of_root}
 use Rattle.acpi_base.proofs.Tables.Listed.{one_first_listed, one_listed, none_and_first_listed, none_and_listed, listed_of_root, listed_in_root, none_in_root}
-use Rattle.acpi_confirm.specs.Roots.{IsWholeRoot}
+use Rattle.acpi_confirm.specs.Roots.{IsFirstSoFar, IsSignedIn, IsWholeRoot}
 
 -- ---- one table
 
@@ -23,6 +24,10 @@ listed_of_set root first table = listed_in_root root.root root.table first table
 pub root_of_listed : {m : Memory} {p : ℕ} {signature whole : List ℕ} (listed : IsListedTable m p signature whole)
     → IsWholeRoot m p listed.first.d listed.first.whole
 root_of_listed listed = record { r = listed.first.r; root = listed.first.root; table = listed.first.table }
+
+pub none_without_root : {m : Memory} {p : ℕ} {signature : List ℕ} → ((d : ℕ) (bytes : List ℕ) → ¬ IsWholeRoot m p d bytes)
+    → (whole : List ℕ) → ¬ IsListedTable m p signature whole
+none_without_root none whole listed = none _ _ (root_of_listed listed)
 
 -- and the table comes first in its slots
 pub first_of_listed : {m : Memory} {p d : ℕ} {bytes signature whole : List ℕ} → IsWholeRoot m p d bytes
@@ -130,10 +135,36 @@ test_of_facs {m} {p} {fadt} code at listed decides = (
       (one_listed m p fadt_signature fault.0 fadt fault.1 listed) (fault.2, fault.3)),
 )
 
--- ---- options
+-- ---- what the slots list first, one after the other
 
--- what holds of a value or of none follows from what does
-pub match_map : {A : Type 0} {N N' : Type 0} {S S' : A → Type 0} (o : Option A) → (N → N') → ((a : A) → S a → S' a)
-    → MatchOption o N S → MatchOption o N' S'
-match_map None none some here = none here
-match_map (Some a) none some here = some a here
+module _ (m : Memory) (bytes signature : List ℕ) (d k : ℕ) where
+  -- and one slot more
+  pub so_far_next : (found here next : Option ℕ) → next ≡ option_or found here
+      → IsFirstSoFar m bytes d k signature found → IsSignedIn m bytes d k signature here
+      → IsFirstSoFar m bytes d (k + 1) signature next
+  so_far_next (Some a) here next is first at = rw is first
+  so_far_next None None next is none at =
+      rw is
+      (λ j b below slot signed. below_more (λ (i : ℕ). (a : ℕ) → HasSlot bytes d i a → ¬ IsSigned m a signature) k
+      (λ i lower a. none i a lower) at j below b slot signed)
+  so_far_next None (Some a) next is none at =
+      let first : IsFirstListed m bytes d signature a =
+      record { k = k; slot = at.0; signed = at.1; none_before = λ j b below slot signed. none j b below slot signed } in
+      rw is first
+
+  -- and all of them
+  pub so_far_all : (n : ℕ) (found : Option ℕ) → ((j b : ℕ) → HasSlot bytes d j b → j < n) → n ≤ k
+      → IsFirstSoFar m bytes d k signature found
+      → MatchOption found (IsNoneListed m bytes d signature) (IsFirstListed m bytes d signature)
+  so_far_all n None within past none = λ j b slot. none j b (let below = within j b slot in omega arith) slot
+  so_far_all n (Some a) within past first = first
+
+-- the table at the first address is the set's, if it is complete
+pub table_of_first : {m : Memory} {p d : ℕ} {bytes signature : List ℕ} (a : ℕ) (table : Option (Bor (List ℕ)))
+    → IsWholeRoot m p d bytes → IsFirstListed m bytes d signature a
+    → MatchOption table ((header whole : List ℕ) → ¬ IsTable m a header whole)
+    (λ whole. (header : List ℕ) × IsTable m a header whole.now)
+    → MatchOption table ((whole : List ℕ) → ¬ IsListedTable m p signature whole)
+    (λ whole. IsListedTable m p signature whole.now)
+table_of_first a None root first none = λ whole listed. none listed.header whole (table_of_set root first listed)
+table_of_first a (Some whole) root first table = listed_of_set root first table.1

@@ -8,7 +8,7 @@ ghost use Rattle.acpi_base.specs.Slit.{SlitFault};
 ghost use Rattle.acpi_confirm.specs.Conditions.{MadtCondition, SratCondition, PpttCondition};
 
 use crate::cross::{is_domain_fault, is_leaf_fault};
-use crate::listed::listed;
+use crate::listed::{both_listed, listed};
 use crate::madt::is_madt_fault;
 use crate::pptt::is_pptt_fault;
 use crate::slit::is_slit_fault;
@@ -55,9 +55,8 @@ pub(crate) fn in_madt_and_srat(image: &Image, policy: &Policy, witness: &Witness
         (λ srat. DomainFault policy.now.processors madt srat witness.now.code witness.now.at
         witness.now.other witness.now.point)) }
 {
-    listed(image, policy, b"APIC")
-        .zip(listed(image, policy, b"SRAT"))
-        .is_some_and(|(madt, srat)| is_domain_fault(madt, srat, policy, witness))
+    let (madt, srat) = both_listed(image, policy, b"APIC", b"SRAT");
+    madt.zip(srat).is_some_and(|(madt, srat)| is_domain_fault(madt, srat, policy, witness))
 }
 
 /// Code 59: whether the witness is a fault of the listed MADT and PPTT.
@@ -67,7 +66,7 @@ pub(crate) fn in_madt_and_pptt(image: &Image, policy: &Policy, witness: &Witness
         (λ pptt. LeafFault madt pptt witness.now.code witness.now.at witness.now.other
         witness.now.point)) }
 {
-    listed(image, policy, b"APIC")
-        .zip(listed(image, policy, b"PPTT"))
+    let (madt, pptt) = both_listed(image, policy, b"APIC", b"PPTT");
+    madt.zip(pptt)
         .is_some_and(|(madt, pptt)| is_leaf_fault(madt, pptt, witness))
 }
