@@ -40,7 +40,7 @@ none_next {key = key} {n = n} before none =
     }
 
 -- keys rise where one more comes last that has the greatest
-rise_more : {X : Type 0} (key : X → ℕ) (xs : List X) (y : X) → AllPairs (λ x z. key x < key z) xs
+pub rise_more : {X : Type 0} (key : X → ℕ) (xs : List X) (y : X) → AllPairs (λ x z. key x < key z) xs
     → ((x : X) → Contains xs x → key x < key y) → AllPairs (λ x z. key x < key z) (xs ++ y ∷ [])
 rise_more {X} key xs y rise below i j d before within =
     let inside : i < length xs = omega (arith, before, within, length-append xs (y ∷ [])) in

@@ -14,7 +14,7 @@ use Rattle.acpi_base.specs.Madt as madt
 use Rattle.acpi_base.specs.Number.{field, has_bit}
 use Rattle.acpi_base.specs.Srat as srat
 use Rattle.acpi_lint.specs.FirstPicked.{FindsOwn}
-use Rattle.acpi_lint.specs.KnownNumbers.{AreKnown, IsKnownAmong}
+use Rattle.acpi_lint.specs.KnownNumbers.{AreKnown}
 use Rattle.acpi_lint.specs.Numbered.{at_place, AreNumbersAt}
 use Rattle.acpi_lint.specs.Places.{IsLeast, FindsLeast}
 use Rattle.acpi_lint.specs.UnknownNumbers.{IsUnknown, IsUnknownOf, IsUnknownAt}
@@ -123,7 +123,7 @@ IsUnknownNamedOfTwo first IsId second IsUid entries at other point =
 
 pub unknown_of_two : {E : Type 0} (first second : E → Option ℕ) (IsId IsUid : ℕ → Type 0)
     (entries : List (PlacedEntry E)) (ids uids : List ℕ) (found : Option Place) → AreKnown IsId ids
-    → IsKnownAmong (IsNamed second entries) IsUid uids
+    → AreKnown IsUid uids
     → FindsLeast (IsFaultAt (IsUnknownOfTwo ids uids first second) entries) found
     → FindsLeast (IsUnknownNamedOfTwo first IsId second IsUid entries) found
 unknown_of_two {E} first second IsId IsUid entries ids uids found some others least = least_as found to from least
@@ -133,14 +133,14 @@ unknown_of_two {E} first second IsId IsUid entries ids uids found some others le
     to at other point (e, stands, inl (is, none, unused)) =
         (inl ((e, stands, is), λ named. none ((some.all point).1 named)), unused)
     to at other point (e, stands, inr (is, none, unused)) =
-        (inr ((e, stands, is), λ named. none ((others point (at, (e, stands, is))).1 named)), unused)
+        (inr ((e, stands, is), λ named. none ((others.all point).1 named)), unused)
 
     from : (at other point : ℕ) → IsUnknownNamedOfTwo first IsId second IsUid entries at other point
         → IsFaultAt (IsUnknownOfTwo ids uids first second) entries at other point
     from at other point (inl ((e, stands, is), none), unused) =
         (e, stands, inl (is, λ listed. none ((some.all point).0 listed), unused))
     from at other point (inr ((e, stands, is), none), unused) =
-        (e, stands, inr (is, λ listed. none ((others point (at, (e, stands, is))).0 listed), unused))
+        (e, stands, inr (is, λ listed. none ((others.all point).0 listed), unused))
 
 -- ---- numbers at places
 

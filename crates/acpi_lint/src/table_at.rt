@@ -7,10 +7,21 @@ ghost use Rattle.acpi_base.specs.Memory.{bytes_at};
 ghost use Rattle.acpi_base.specs.Signature.{has_signature};
 ghost use Rattle.acpi_base.specs.Tables.{TableFault};
 ghost use Rattle.acpi_base.specs.declared.code.Code.{Code};
-ghost use Rattle.acpi_lint.specs.NotedSlots.{IsTableAt};
+ghost use Rattle.acpi_lint.specs.Slots.{IsTableAt, HasSought};
 
 use acpi_base::field::{is_signed, u32_at};
 use acpi_base::{Code, Image, TableKind};
+
+/// What is looked for at the addresses that slots list.
+#[derive(Clone, Copy, Debug)]
+pub enum Sought {
+    /// A table that has the fault with this code.
+    Fault(Code),
+    /// A header of this kind.
+    Kind(TableKind),
+    /// The header of a DSDT or of a FACS.
+    Apart,
+}
 
 /// What is at an address.
 #[derive(Clone, Copy, Debug)]
@@ -73,7 +84,7 @@ impl TableAt {
     }
 
     /// Whether the table there has the fault with this code.
-    pub fn has(&self, code: Code) -> bool
+    fn has_fault(&self, code: Code) -> bool
         ensures { IsTrue result ↔ self.now.fault ≡ Some code }
     {
         match self.fault {
@@ -82,10 +93,14 @@ impl TableAt {
         }
     }
 
-    /// Whether the table there is of this kind.
-    pub fn is_of(&self, kind: TableKind) -> bool
-        ensures { IsTrue result ↔ self.now.kind ≡ Some kind }
+    /// Whether this is looked for.
+    pub fn has(&self, sought: Sought) -> bool
+        ensures { IsTrue result ↔ HasSought sought self.now }
     {
-        self.kind == Some(kind)
+        match sought {
+            Sought::Fault(code) => self.has_fault(code),
+            Sought::Kind(kind) => self.kind == Some(kind),
+            Sought::Apart => self.is_apart,
+        }
     }
 }
