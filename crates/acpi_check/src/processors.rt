@@ -58,5 +58,5 @@ pub fn numbers_of(alloc: Global, key: Key, madt: &Madt<'_>) -> Result<Vec<u64>, 
     let numbers = collected(alloc, madt.entries(), |at| {
         number_of(key, &at.entry).map(u64::from)
     })?;
-    Ok(sorted_unique(numbers))
+    sorted_unique(numbers)
 }

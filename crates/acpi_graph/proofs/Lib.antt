@@ -4,7 +4,6 @@ pub mod Chains
 pub mod Rounds
 pub mod ReturnsWithin
 pub mod SortedSpans
-mod ApartSpans
 mod FirstOverlap
 mod SortedTwice
 mod Walks

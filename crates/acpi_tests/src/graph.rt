@@ -1,4 +1,3 @@
-mod apart;
 mod clash;
 mod example;
 mod sorting;

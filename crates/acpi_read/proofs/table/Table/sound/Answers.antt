@@ -5,7 +5,7 @@ use Rattle.acpi_base.specs.Memory.{Memory}
 use Rattle.acpi_base.specs.Number.{field}
 use Rattle.acpi_base.specs.Tables.{length_of, IsSoundTable, IsTable}
 use Rattle.acpi_base.proofs.Images.HeldBytes.{field-take, held_of_rest, rest_says_length}
-use Rattle.acpi_read.proofs.table.Table.sound_run.Goals as goal
+use Rattle.acpi_read.proofs.table.Table.sound.Goals as goal
 
 -- a table's bytes are the first of those from its address on, as many as these say at 4
 record IsBeginning (m : Memory) (a : ℕ) (rest : List ℕ) (n : ℕ) : Type 0 where
@@ -41,13 +41,13 @@ beginning m a rest n sound from says_n =
 
 pub slice_bounds-bytes-end : goal.slice_bounds-bytes-end
 slice_bounds-bytes-end c =
-    let is = beginning c.args.image.now c.args.address c.args.run.now _ c.requires.sound c.requires.from
+    let is = beginning c.args.image.now c.args.address c.bytes_from-rest.result.now _ c.requires c.bytes_from-rest.ensures
     c.u32_at-length.ensures in
     sym (length-take-le _ _ is.fits)
 
 pub invariant_of-result : goal.invariant_of-result
 invariant_of-result c =
-    let is = beginning c.args.image.now c.args.address c.args.run.now _ c.requires.sound c.requires.from
+    let is = beginning c.args.image.now c.args.address c.bytes_from-rest.result.now _ c.requires c.bytes_from-rest.ensures
     c.u32_at-length.ensures in
     let count = length-take-le _ _ is.fits in
     let long = is.long in
@@ -55,5 +55,5 @@ invariant_of-result c =
 
 pub returns : goal.returns
 returns c =
-    (beginning c.args.image.now c.args.address c.args.run.now _ c.requires.sound c.requires.from
+    (beginning c.args.image.now c.args.address c.bytes_from-rest.result.now _ c.requires c.bytes_from-rest.ensures
     c.u32_at-length.ensures).table
