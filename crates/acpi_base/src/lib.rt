@@ -3,7 +3,6 @@
 //!
 //! - `Image`: bytes at 64-bit addresses. `ImagePieces` builds one from pieces in any order. `read_image` reads one
 //!   from image text, `ImageText` from such a text in pieces, and `written_text::image_text` writes it.
-//! - `sort_addresses`: sorts addresses that are looked up together.
 //! - `sum`, `find_rsdp`: a checksum, and the search for the RSDP.
 //! - `field`: numbers and bytes at an offset in a table, read and written.
 //! - `Code`, `Stage`, `Witness`, `Verdict`: what can be wrong, in which part of the check, where, and the
@@ -24,7 +23,6 @@
 //! `specs/` has the definitions, one file for each subject. None depends on a function of the code.
 #![tactic(auto)]
 
-mod addresses;
 mod checksum;
 mod code;
 pub mod field;
@@ -40,7 +38,6 @@ mod text;
 mod verdict;
 mod witness;
 
-pub use addresses::sort_addresses;
 pub use checksum::sum;
 pub use code::Code;
 pub use find::find_rsdp;
