@@ -10,6 +10,7 @@ pub mod Holders
 pub mod Inserts
 pub mod Joining
 pub mod LeastAddresses
+pub mod Rests
 pub mod RunBytes
 pub mod RunMemory
 pub mod Searches
