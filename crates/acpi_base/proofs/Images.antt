@@ -1,7 +1,3 @@
-pub mod Adopted
-pub mod AdoptedDrafts
-pub mod Bitmaps
-pub mod Builders
 pub mod ByteRuns
 pub mod Drafts
 pub mod EndedPieces
@@ -9,8 +5,6 @@ pub mod FirstTwice
 pub mod HeldBytes
 pub mod Holders
 pub mod Inserts
-pub mod Joining
-pub mod LeastAddresses
 pub mod RunBytes
 pub mod RunMemory
 pub mod Searches

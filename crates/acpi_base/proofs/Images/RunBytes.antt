@@ -76,12 +76,6 @@ run_of_held r a zero l h = refl
 run_of_held r a (suc n) l h =
     grind (arith, common_steps, held_at, drop-cons, run_of_held r (a + 1) n (omega arith) (omega arith))
 
--- where a run does not hold all n addresses from a on
-pub run_of_held_outside : (r : Run) (a n : ℕ) → 0 < n → ((a < r.base) ⊎ (end_of r < a + n))
-    → run_of (byte_in r) a n ≡ None
-run_of_held_outside r a n h l =
-    grind (arith, cases_lt, held_none, run_of_none (byte_in r) a n 0, run_of_none (byte_in r) a n (end_of r - a))
-
 -- ---- after bytes were put in
 
 -- at their addresses, the bytes that were put in
