@@ -9,11 +9,7 @@ ghost use Rattle.acpi_base.specs.Number.{byte_sum};
 ghost use Rattle.acpi_base.specs.Image.Runs.{lookup};
 ghost use Rattle.acpi_base.specs.Image.Segments.{IsSound, runs_of};
 
-mod address_bitmap;
-pub(crate) mod builder;
-pub(crate) mod data;
-mod draft;
-pub(crate) mod pieces;
+pub(crate) mod draft;
 mod prefix_sums;
 mod runs;
 mod segments;
