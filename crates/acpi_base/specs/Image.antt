@@ -1,6 +1,4 @@
 pub mod Adding
-pub mod Bitmap
-pub mod Builder
 pub mod Draft
 pub mod Pieces
 pub mod Runs

@@ -35,6 +35,14 @@ pub on_ok_last : {A E : Type 0} → (x : Result A E) → on_ok x (λ a. Ok a) �
 on_ok_last (Ok a) = refl
 on_ok_last (Err e) = refl
 
+-- no bytes are added
+pub added_nothing : (x : Result Memory ℕ) (a : ℕ) (bytes : List ℕ) → length bytes ≡ 0
+    → x ≡ on_ok x (λ m. added m a bytes)
+unfolding with_bytes least_defined
+added_nothing (Ok m) a [] none = refl
+added_nothing (Ok m) a (b ∷ bytes) none = absurd (omega arith)
+added_nothing (Err x) a bytes none = refl
+
 -- more runs come
 pub all_added-append : (m : Memory) (rs ts : List Run)
     → all_added m (rs ++ ts) ≡ on_ok (all_added m rs) (λ n. all_added n ts)
@@ -276,17 +284,3 @@ drafted_last store new more ps i d p v base a e end fits at is s l =
     let ends = ends_there ps i d p base end at is in
     drafted-grow store new more (take i ps) (slice_set ps i (p.0, v)) p v (subst (AreDrafted store) split a) e
     (last_set ps i (p.0, v) n) s l (omega arith)
-
-pub ends_last : (ps : List Piece) (p : Piece) (base : ℕ) → slice_get ps (length ps - 1) ≡ Some p → p.0 ≤ base
-    → base - p.0 ≡ p.1.len → EndsAt ps base
-ends_last ps p base e l n = (
-  elim (cases_lt 0 (length ps)) [
-    | inl some ↦ some
-    | inr none ↦ absurd (let not = slice_get_past ps (length ps - 1) (omega arith) in cc)
-  ],
-  λ d. ap end_at (get_or_from_slice_get ps (length ps - 1) p d e) ∙ omega arith,
-)
-
-pub no_pieces : (ps : List Piece) → length ps ≡ 0 → ps ≡ []
-no_pieces [] e = refl
-no_pieces (p ∷ ps) e = absurd (omega arith)

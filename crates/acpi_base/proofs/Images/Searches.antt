@@ -1,14 +1,14 @@
 -- What a search of the segments finds.
-use Rattle.std.proofs.Common.{◌≡◌, ◌⊎◌, inl, inr, ℕ, zero, suc, ◌+◌, ◌-◌, ◌<◌, ◌≤◌, List, [], ◌∷◌, length, get_or, take, drop, Option, None, Some, IsSome, sym, ap, subst, ◌∙◌, arith, length-drop}
+use Rattle.std.proofs.Common.{◌≡◌, ◌⊎◌, inl, inr, ℕ, zero, suc, ◌+◌, ◌-◌, ◌<◌, ◌≤◌, List, [], ◌∷◌, length, get_or, drop, Option, None, Some, IsSome, sym, ap, subst, ◌∙◌, arith, length-drop}
 use Rattle.std.specs.List.{AllByRecursion}
 use Rattle.std.proofs.lemmas.Bool.{cases_lt}
-use Rattle.std.proofs.lemmas.List.{get_or_default, take_all, length-take-le, take-take, drop-take, drop-drop}
-use Rattle.acpi_base.specs.Memory.{least_defined, run_of}
-use Rattle.acpi_base.specs.Image.Runs.{Run, byte_in, run_at, lookup, end_of}
+use Rattle.std.proofs.lemmas.List.{get_or_default, take_all}
+use Rattle.acpi_base.specs.Memory.{least_defined}
+use Rattle.acpi_base.specs.Image.Runs.{byte_in, run_at, lookup, end_of}
 use Rattle.acpi_base.specs.Image.Pieces.{Piece, end_at, LiesBefore, run_in, runs_in, all_runs}
 use Rattle.acpi_base.specs.Image.Segments.{AreSegmentsApart, AreSegments, IsPartitionPoint, IsRunAt, IsGap}
-use Rattle.acpi_base.proofs.Images.RunBytes.{held_none, held_some, run_of_held}
-use Rattle.acpi_base.proofs.Images.ByteRuns.{run_of-agree, run_of_none, first_of_at, first_of_none}
+use Rattle.acpi_base.proofs.Images.RunBytes.{held_none, held_some}
+use Rattle.acpi_base.proofs.Images.ByteRuns.{first_of_at, first_of_none}
 use Rattle.acpi_base.proofs.Images.Stores.{all_from, of_all, all_weaker, run_ends, none_held, base_held}
 
 -- where nothing is first, there is nothing
@@ -114,22 +114,6 @@ pub open_run : (store : List ℕ) (base begin n : ℕ) → n ≡ length store - 
 open_run store base begin n e =
     (let long = length-drop begin store in ap (run_at base) (take_all n (drop begin store) (omega arith)))
 
--- where the piece lies in the store, its run ends where it does
-pub piece_ends : (store : List ℕ) (p : Piece) → p.1.start + p.1.len ≤ length store → end_of (run_in store p) ≡ end_at p
-piece_ends store p l =
-    (let long = length-drop p.1.start store in
-    ap (λ n. p.0 + n) (length-take-le p.1.len (drop p.1.start store) (omega arith)))
-
--- a part of a piece lies in the store where the piece does
-pub part_in : (store : List ℕ) (start len k n : ℕ) → k + n ≤ len
-    → take n (drop k (take len (drop start store))) ≡ take n (drop (start + k) store)
-part_in store start len k n fits =
-    let parts : k + (len - k) ≡ len = omega arith in
-    ap (λ m. take n (drop k (take m (drop start store)))) (sym parts)
-    ∙ ap (take n) (drop-take k (len - k) (drop start store))
-    ∙ take-take n (len - k) (drop k (drop start store)) (omega arith)
-    ∙ ap (take n) (drop-drop k start store)
-
 -- its bytes lie in the store
 pub lies_inside : (store : List ℕ) (ps : List Piece) (base begin i : ℕ) (p : Piece) → AreSegments store ps base begin
     → i < length ps → p ≡ get_or ps i p
@@ -147,33 +131,6 @@ pub none_reached : (store : List ℕ) (ps : List Piece) (base begin a : ℕ) →
 none_reached store ps base begin a laid behind place =
     rw (behind_none store base begin a behind)
     (none_held store begin ps a laid.within laid.lies (all_from _ ps (λ k d l. inr (place.1 k d (omega arith) l))))
-
--- the bytes from the address on, where the run that is reached has so many
-pub reached_whole : (rs : List Run) (a n : ℕ) (r : Run) → IsRunAt rs a r → a + n ≤ end_of r
-    → run_of (lookup rs) a n ≡ Some (take n (drop (a - r.base) r.bytes))
-reached_whole rs a n r reaches fits =
-    run_of-agree (lookup rs) (byte_in r) a n (λ k h. reaches.further (a + k) (omega arith) (omega arith))
-    ∙ run_of_held r a n reaches.begins fits
-
--- there are none where it has not
-pub reached_short : (rs : List Run) (a n : ℕ) (r : Run) → IsRunAt rs a r → 0 < n → end_of r < a + n
-    → run_of (lookup rs) a n ≡ None
-reached_short rs a n r reaches some short =
-    elim (cases_lt a (end_of r)) [
-      | inl m ↦
-          let last : a + (end_of r - a) ≡ end_of r = omega arith in
-          run_of_none (lookup rs) a n (end_of r - a) (omega arith)
-          (ap (lookup rs) last ∙ reaches.further (end_of r) (omega arith) (omega arith)
-          ∙ held_none r (end_of r) (inr (omega arith)))
-      | inr m ↦
-          let first : a + 0 ≡ a = omega arith in
-          run_of_none (lookup rs) a n 0 some (ap (lookup rs) first ∙ reaches.here ∙ held_none r a (inr m))
-    ]
-
--- nor where nothing is held at the first
-pub free_short : (rs : List Run) (a n : ℕ) → 0 < n → lookup rs a ≡ None → run_of (lookup rs) a n ≡ None
-free_short rs a n some none =
-    (let first : a + 0 ≡ a = omega arith in run_of_none (lookup rs) a n 0 some (ap (lookup rs) first ∙ none))
 
 -- ---- the next segment behind an address that is not held
 

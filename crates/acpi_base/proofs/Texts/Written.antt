@@ -1,6 +1,5 @@
 pub mod Lines
 pub mod OneWritten
 pub mod Reading
-pub mod Rests
 pub mod Rows
 pub mod WrittenRuns

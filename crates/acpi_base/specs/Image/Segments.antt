@@ -1,8 +1,8 @@
 -- Segments: the pieces of an image in the order of their addresses.
-use Rattle.std.specs.Prelude.{◌≡◌, ℕ, ◌+◌, ◌-◌, ◌^◌, ◌<◌, ◌≤◌, List, [], ◌∷◌, length, None}
+use Rattle.std.specs.Prelude.{◌≡◌, ℕ, ◌+◌, ◌-◌, ◌^◌, ◌<◌, ◌≤◌, List, [], ◌∷◌, length, Some, None}
 use Rattle.std.specs.List.{AllByRecursion, AllWithin}
 use Rattle.acpi_base.specs.declared.image.segments.Segments.{Segments}
-use Rattle.acpi_base.specs.Memory.{Memory, IsImage}
+use Rattle.acpi_base.specs.Memory.{Memory, IsImage, run_of}
 use Rattle.acpi_base.specs.Image.Runs.{Run, byte_in, lookup, end_of}
 use Rattle.acpi_base.specs.Image.Pieces.{Piece, end_at, LiesBefore, all_runs, memory_in_store}
 
@@ -46,3 +46,8 @@ pub record IsRunAt (rs : List Run) (a : ℕ) (r : Run) : Type 0 where
 -- the runs hold nothing at these addresses
 abbrev pub IsGap : List Run → ℕ → ℕ → Type 0
 IsGap rs a b = (x : ℕ) → a ≤ x → x < b → lookup rs x ≡ None
+
+-- these are the bytes from a on, up to the first address that is not held
+pub record IsRest (rs : List Run) (a : ℕ) (bytes : List ℕ) : Type 0 where
+  pub held : run_of (lookup rs) a (length bytes) ≡ Some bytes
+  pub none_behind : lookup rs (a + length bytes) ≡ None

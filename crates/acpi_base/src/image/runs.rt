@@ -1,32 +1,12 @@
 //! The runs of an image, in rising order of addresses.
 
-ghost use Rattle.std.specs.Prelude.{◌≡◌, ◌+◌, length, Some, None, MatchOption};
-ghost use Rattle.acpi_base.specs.Image.Segments.{IsSound, memory_in, runs_of};
-ghost use Rattle.acpi_base.specs.Memory.{run_of};
+ghost use Rattle.std.specs.Prelude.{MatchOption};
+ghost use Rattle.acpi_base.specs.Image.Segments.{IsSound, memory_in};
 ghost use Rattle.acpi_base.specs.Image.Windows.{AreBytesFrom};
-ghost use Rattle.acpi_base.specs.Image.Runs.{lookup};
-ghost use Rattle.acpi_base.specs.Text.WrittenText.{IsEmptyFrom, IsFirstFrom, IsNextRun};
+ghost use Rattle.acpi_base.specs.Text.WrittenText.{IsEmptyFrom, IsNextRun};
 
 use crate::image::Image;
 use crate::image::segments::Segments;
-
-/// The bytes from an address on, up to the next address without a byte. None if that is the address itself.
-#[tactic(auto, using(crate::proofs::Texts::Written::Rests::rests), unfolding(crate::specs::Memory::run_of))]
-fn rest_from(segments: &Segments, address: u64) -> &[u8]
-    requires { IsSound segments.now }
-    ensures held { run_of (lookup (runs_of segments.now)) address (length result.now) ≡ Some
-        result.now }
-    ensures none_behind { lookup (runs_of segments.now) (address + length result.now) ≡ None }
-{
-    let Some((base, bytes)) = segments.reaching(address) else {
-        return &[];
-    };
-    let skipped = address - base;
-    if skipped > bytes.len() as u64 {
-        return &[];
-    }
-    &bytes[skipped as usize..]
-}
 
 /// The first run from an address on.
 fn next_run(segments: &Segments, address: u64) -> Option<(u64, &[u8])>
@@ -35,7 +15,7 @@ fn next_run(segments: &Segments, address: u64) -> Option<(u64, &[u8])>
         (λ found. IsNextRun (memory_in segments.now) address found.0 found.1.now) }
 {
     let base = segments.first_from(address)?;
-    Some((base, rest_from(segments, base)))
+    Some((base, segments.rest_from(base)))
 }
 
 impl Image {
@@ -45,7 +25,7 @@ impl Image {
     pub fn bytes_from(&self, address: u64) -> &[u8]
         ensures { AreBytesFrom self.now address result.now }
     {
-        rest_from(&self.segments, address)
+        self.segments.rest_from(address)
     }
 
     /// The first run of bytes from an address on, up to the next address without a byte: its first address, and its bytes.

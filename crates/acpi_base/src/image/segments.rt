@@ -3,15 +3,15 @@
 //! There is an address without a byte between two segments. All bytes are in one store. The last segment is open: it has
 //! the store's bytes from `start` on, so bytes that follow it are appended. If it is empty, none is open.
 
-ghost use Rattle.std.specs.Prelude.{◌≡◌, ◌+◌, ◌-◌, ◌^◌, ◌<◌, ◌≤◌, ℕ, ◌↔◌, IsTrue, None, IfSome, IsSome, OnOk, OnErr, IfOk, MatchOption, length, take, drop};
+ghost use Rattle.std.specs.Prelude.{◌≡◌, ◌+◌, ◌-◌, ◌^◌, ◌<◌, ◌≤◌, ℕ, None, IfSome, IsSome, OnOk, OnErr, IfOk, MatchOption, length, take, drop};
 ghost use Rattle.std.specs.Option.{option_map, option_or};
 ghost use Rattle.std.specs.List.{AllByRecursion};
 ghost use Rattle.std.specs.FinMap.{empty};
-ghost use Rattle.acpi_base.specs.Memory.{run_of, least_defined, first_held, with_bytes, byte_of};
+ghost use Rattle.acpi_base.specs.Memory.{run_of, least_defined, with_bytes, byte_of};
 ghost use Rattle.acpi_base.specs.Number.{byte_sum};
-ghost use Rattle.acpi_base.specs.Image.Runs.{lookup, run_at};
-ghost use Rattle.acpi_base.specs.Image.Pieces.{LiesBefore, AreSortedDisjoint, end_at, memory_in_store, run_in, runs_in};
-ghost use Rattle.acpi_base.specs.Image.Segments.{AreSegments, IsGap, IsPartitionPoint, IsRunAt, IsSound, end_in, memory_in, runs_of};
+ghost use Rattle.acpi_base.specs.Image.Runs.{lookup};
+ghost use Rattle.acpi_base.specs.Image.Pieces.{LiesBefore, AreSortedDisjoint, end_at, run_in, runs_in};
+ghost use Rattle.acpi_base.specs.Image.Segments.{IsGap, IsPartitionPoint, IsRest, IsRunAt, IsSound, end_in, memory_in, runs_of};
 
 use super::prefix_sums::PrefixSums;
 use super::span::Span;
@@ -51,27 +51,6 @@ impl Segments {
             ended: Vec::new(alloc),
             base: 0,
             start: 0,
-        })
-    }
-
-    /// Segments whose bytes are in a store already, the last of them open.
-    pub fn of(
-        alloc: Global,
-        store: Vec<u8>,
-        ended: Vec<(u64, Span)>,
-        base: u64,
-        start: usize,
-    ) -> Result<Segments, AllocError>
-        requires { AreSegments store.items ended.items base start }
-        ensures sound { IfOk result IsSound }
-        ensures same { IfOk result
-            (λ segments. memory_in segments ≡ memory_in_store store.items ended.items base start) }
-    {
-        Ok(Segments {
-            store: PrefixSums::of(alloc, store)?,
-            ended,
-            base,
-            start,
         })
     }
 
@@ -115,51 +94,60 @@ impl Segments {
         Some(self.ended[place - 1])
     }
 
-    /// The last segment that begins at an address or before it.
-    pub fn reaching(&self, address: u64) -> Option<(u64, &[u8])>
+    /// Where the bytes from an address on are, up to the next address without a byte. None if that is the address itself.
+    fn span_from(&self, address: u64) -> Span
         requires { IsSound self.now }
-        ensures { MatchOption result (lookup (runs_of self.now) address ≡ None)
-            (λ found. IsRunAt (runs_of self.now) address (run_at found.0 found.1.now)) }
+        ensures lies { result.start + result.len ≤ length self.now.store }
+        ensures rest { IsRest (runs_of self.now) address
+            (take result.len (drop result.start self.now.store)) }
     {
-        let (base, span) = self.piece_reaching(address)?;
-        Some((base, span.bytes(self.store.bytes())))
+        let Some((base, span)) = self.piece_reaching(address) else {
+            return Span { start: 0, len: 0 };
+        };
+        let skipped = (address - base).min(span.len as u64) as usize;
+        Span {
+            start: span.start + skipped,
+            len: span.len - skipped,
+        }
+    }
+
+    /// The bytes from an address on, up to the next address without a byte. None if that is the address itself.
+    pub fn rest_from(&self, address: u64) -> &[u8]
+        requires { IsSound self.now }
+        ensures { IsRest (runs_of self.now) address result.now }
+    {
+        self.span_from(address).bytes(self.store.bytes())
     }
 
     /// The byte at an address.
-    #[tactic(auto, using(crate::proofs::Images::RunBytes::held_from))]
     pub fn byte_at(&self, address: u64) -> Option<u8>
         requires { IsSound self.now }
         ensures { result ≡ lookup (runs_of self.now) address }
     {
-        let (base, bytes) = self.reaching(address)?;
-        bytes.get((address - base) as usize).copied()
+        self.rest_from(address).first().copied()
     }
 
     /// The span of the bytes at this many addresses, if one segment has them all.
     fn window_span(&self, address: u64, count: u64) -> Option<Span>
-        requires sound { IsSound self.now }
-        requires some { 0 < count }
+        requires { IsSound self.now }
         ensures bytes { option_map (λ span. take span.len (drop span.start self.now.store))
             result ≡ run_of (lookup (runs_of self.now)) address count }
         ensures count { IfSome result (λ span. span.len ≡ count) }
         ensures lies { IfSome result (λ span. span.start + span.len ≤ length self.now.store) }
     {
-        let (base, span) = self.piece_reaching(address)?;
-        let skipped = address - base;
-        let held = span.len as u64;
-        if skipped >= held || count > held - skipped {
+        let span = self.span_from(address);
+        if count > span.len as u64 {
             return None;
         }
         Some(Span {
-            start: span.start + skipped as usize,
+            start: span.start,
             len: count as usize,
         })
     }
 
     /// The bytes at this many addresses, if one segment has them all.
     pub fn window(&self, address: u64, count: u64) -> Option<&[u8]>
-        requires sound { IsSound self.now }
-        requires some { 0 < count }
+        requires { IsSound self.now }
         ensures bytes { option_map (λ bytes. bytes.now) result ≡ run_of (lookup (runs_of self.now))
             address count }
         ensures count { IfSome result (λ bytes. length bytes.now ≡ count) }
@@ -170,8 +158,7 @@ impl Segments {
 
     /// The sum of the bytes at this many addresses, if one segment has them all.
     pub fn window_sum(&self, address: u64, count: u64) -> Option<u8>
-        requires sound { IsSound self.now }
-        requires some { 0 < count }
+        requires { IsSound self.now }
         ensures { result ≡ option_map byte_sum (run_of (lookup (runs_of self.now)) address count) }
     {
         let span = self.window_span(address, count)?;
