@@ -5,5 +5,4 @@ pub mod Rounds
 pub mod ReturnsWithin
 pub mod SortedSpans
 mod FirstOverlap
-mod SortedTwice
 mod Walks
