@@ -1,5 +1,6 @@
 pub mod Lines
 pub mod OneWritten
+pub mod Pairs
 pub mod Reading
 pub mod Rows
 pub mod WrittenRuns

@@ -2,7 +2,7 @@
 
 ghost use Rattle.std.specs.Prelude.{◌≡◌, ◌<◌, ◌+◌, ◌∷◌, ◌++◌, ◌^◌, ◌↔◌, ℕ, IsTrue, IfSome, Some, MatchOption, true, false, decimal};
 ghost use Rattle.std.specs.List.{list_all};
-ghost use Rattle.std.specs.Fmt.{digits};
+ghost use Rattle.std.specs.Fmt.{digits, digit_glyph};
 ghost use Rattle.acpi_base.specs.Laws.{NumbersFit};
 ghost use Rattle.acpi_base.specs.Text.WitnessText.{hex_text, witness_line, is_no_blank, AreWords, IsHead};
 ghost use Rattle.acpi_base.specs.declared.code.Code.{Code};
@@ -10,7 +10,6 @@ ghost use Rattle.acpi_base.specs.declared.witness.Witness.{Witness};
 
 use crate::code::Code;
 use crate::text::image_text::line::number_value;
-use crate::text::written_text::hex_digit;
 use crate::witness::Witness;
 use itoa::Buffer;
 
@@ -129,5 +128,18 @@ fn spells(text: &[u8], number: u64) -> bool
         Some((last, front)) if number < 16 => front.is_empty() && *last == hex_digit(number),
         Some((last, front)) => *last == hex_digit(number % 16) && spells(front, number / 16),
         None => false,
+    }
+}
+
+/// The digit for a number below 16.
+fn hex_digit(number: u64) -> u8
+    requires { number < 16 }
+    ensures { result ≡ digit_glyph false number }
+{
+    let number = number as u8;
+    if number < 10 {
+        b'0' + number
+    } else {
+        b'a' + number - 10
     }
 }

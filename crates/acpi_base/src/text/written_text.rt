@@ -1,7 +1,6 @@
 //! Images written as text, which `read_image` reads.
 
-ghost use Rattle.std.specs.Prelude.{◌≡◌, ◌<◌, ◌++◌, false, IfOk, OnOk};
-ghost use Rattle.std.specs.Fmt.{digit_glyph};
+ghost use Rattle.std.specs.Prelude.{◌≡◌, ◌++◌, IfOk, OnOk};
 ghost use Rattle.acpi_base.specs.Text.WrittenText.{pair, row, rows, row_count, line_with_lf, text_of, address_line, run_lines, IsWritten};
 
 use crate::image::Image;
@@ -10,27 +9,14 @@ use std::alloc::{AllocError, Global};
 /// How many bytes a line has at most.
 const ROW: usize = 16;
 
-/// The digit for a number below 16.
-pub(crate) fn hex_digit(number: u64) -> u8
-    requires { number < 16 }
-    ensures { result ≡ digit_glyph false number }
-{
-    let number = number as u8;
-    if number < 10 {
-        b'0' + number
-    } else {
-        b'a' + number - 10
-    }
-}
-
 /// Adds a byte's two digits.
+#[tactic(auto, using(crate::proofs::Texts::Written::Pairs::pair_encoded))]
 fn write_pair(text: &mut Vec<u8>, byte: u8) -> Result<(), AllocError>
     ensures { OnOk result (text.new.items ≡ text.old.items ++ pair byte) }
 {
-    let number = u64::from(byte);
-    text.push(hex_digit(number / 16))?;
-    text.push(hex_digit(number % 16))?;
-    Ok(())
+    let mut digits = [0; 2];
+    hex::encode_to_slice([byte], &mut digits).unwrap();
+    text.extend_from_slice(&digits)
 }
 
 /// Adds a line of bytes.
