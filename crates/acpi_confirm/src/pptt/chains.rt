@@ -11,8 +11,8 @@ use super::starts::{Starts, entry_noted, note_starts};
 use super::{Link, named};
 use acpi_base::{Code, Witness};
 
-/// How many starts are noted. In a table of 32 MiB, about as much as an image text can hold, a block has 1,024 bytes.
-const NOTES: usize = 32_768;
+/// How many starts are noted. In a table of 32 MiB, about as much as an image text can hold, a block has 512 bytes.
+const NOTES: usize = 65_536;
 
 /// A node or a cache: its offset, and the offset that it refers to by the link.
 #[derive(Clone, Copy)]
