@@ -1,6 +1,5 @@
 mod AbsentTypes
 mod AdviceOfSets
-mod AnyEntries
 mod CacheShapes
 mod CollectedNumbers
 mod Distributors
