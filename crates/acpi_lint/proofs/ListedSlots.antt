@@ -1,8 +1,8 @@
--- The slots of a root that list an address, and the first of them.
-use Rattle.std.proofs.Common.{◌≡◌, ℕ, ◌<◌, ◌≤◌, ◌+◌, ◌*◌, List, [], ◌∷◌, ◌++◌, get_or, length, map, None, false, refl, sym, ap, subst, ◌∙◌, inl, inr, arith}
-use Rattle.std.specs.Prelude.{◌⊎◌, AllPairs, Contains}
-use Rattle.std.proofs.lemmas.Bool.{cases_lt, cases_order}
-use Rattle.std.proofs.lemmas.List.{get_or_default, get_or-map, length-map}
+-- The slots of a root that list an address.
+use Rattle.std.proofs.Common.{◌≡◌, ℕ, ◌<◌, ◌≤◌, ◌+◌, ◌*◌, List, [], ◌∷◌, ◌++◌, length, map, None, false, refl, sym, ap, ◌∙◌, inl, inr, arith}
+use Rattle.std.specs.Prelude.{◌⊎◌, Contains}
+use Rattle.std.proofs.lemmas.Bool.{cases_lt}
+use Rattle.std.proofs.lemmas.List.{get_or-map, length-map}
 use Rattle.std.proofs.lemmas.List.Elements.{Contains-append_left, Contains-append_right, Contains-append_cases}
 use Rattle.acpi_base.specs.Memory.{Memory}
 use Rattle.acpi_base.specs.Number.{field}
@@ -112,28 +112,6 @@ no_slots none =
       all = λ k a slot. absurd (none (record { address = slot.r; width = slot.d; bytes = slot.whole })
           (record { named = slot.root; table = slot.table }));
     }
-
--- ---- the first of them
-
--- one that is such stands at the place i, or has a higher number, where none before i is such
-pub at_or_behind : (P : Slot → Type 0) (slots : List Slot) (i : ℕ) (d t : Slot)
-    → AllPairs (λ (s : Slot) (t : Slot). s.number < t.number) slots → i < length slots
-    → ((j : ℕ) → j < i → ¬ P (get_or slots j d)) → Contains slots t → P t
-    → (t ≡ get_or slots i d) ⊎ ((get_or slots i d).number < t.number)
-at_or_behind P slots i d t rise within passed (j, inside, is) holds =
-    let there : get_or slots j d ≡ t = get_or_default slots j d t inside ∙ is in
-    elim (cases_order i j) [
-      | inl same ↦ inl (sym there ∙ ap (λ (k : ℕ). get_or slots k d) (sym same))
-      | inr (inl before) ↦ inr (subst (λ (x : Slot). (get_or slots i d).number < x.number) there
-          (rise i j d before inside))
-      | inr (inr behind) ↦ absurd (passed j behind (subst P (sym there) holds))
-    ]
-
--- and there is none where none before the end is such
-pub none_such : (P : Slot → Type 0) (slots : List Slot) (i : ℕ) (d t : Slot) → length slots ≤ i
-    → ((j : ℕ) → j < i → ¬ P (get_or slots j d)) → Contains slots t → ¬ P t
-none_such P slots i d t end passed (j, inside, is) holds =
-    passed j (omega (arith, inside, end)) (subst P (sym (get_or_default slots j d t inside ∙ is)) holds)
 
 -- ---- their addresses
 

@@ -6,7 +6,7 @@ use Rattle.std.proofs.lemmas.Option.{none-some}
 use Rattle.acpi_base.specs.Across.{IsIoApic}
 use Rattle.acpi_base.specs.Lint.MadtAdvice.{nmi_uid, io_apic_id, io_apic_address}
 use Rattle.acpi_base.specs.Lint.PpttAdvice.{cache_id}
-use Rattle.acpi_base.specs.Lint.Processors.{processor_of, uid_of, uid_on, apic_id_of, apic_id_on, gicc_uid_on, IsGicc, placed_apic_id, placed_uid, processor_domain, any_domain}
+use Rattle.acpi_base.specs.Lint.Processors.{processor_of, uid_on, apic_id_on, gicc_uid_on, IsGicc, placed_apic_id, placed_uid, processor_domain, any_domain}
 use Rattle.acpi_base.specs.Madt as madt
 use Rattle.acpi_base.specs.Policy.{PolicyValue}
 use Rattle.acpi_base.specs.Pptt as pptt
@@ -18,7 +18,7 @@ use Rattle.acpi_lint.specs.Leaves.{valid_id, said_leaf_id, unnamed_id}
 use Rattle.acpi_lint.specs.Overrides.{IsOwnOverride, ServesNumber}
 use Rattle.acpi_lint.specs.PpttPlaces.{IsOddCache}
 use Rattle.acpi_lint.specs.References.{linked, is_linked}
-use Rattle.acpi_lint.specs.EntryNumbers.{madt_number, nonzero_io_apic_address, domain_of_uid}
+use Rattle.acpi_lint.specs.EntryNumbers.{madt_number, domain_of_uid}
 use Rattle.acpi_lint.specs.declared.processors.MadtNumber.{MadtNumber}
 use Rattle.acpi_lint.specs.declared.processors.MadtNumber.TheVariants as number
 use Rattle.acpi_lint.specs.declared.references.Link.{Link}

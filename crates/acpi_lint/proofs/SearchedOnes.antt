@@ -1,6 +1,6 @@
 -- Passes over the entries that a search by contents looks at: what is picked of them is what is picked of all entries,
 -- since nothing is of the others.
-use Rattle.std.proofs.Common.{◌≡◌, ℕ, ◌<◌, List, length, Option, Some, None, Bool, false, refl}
+use Rattle.std.proofs.Common.{◌≡◌, ℕ, ◌<◌, List, length, Option, Bool, false, refl}
 use Rattle.std.specs.Prelude.{◌↔◌, Contains, IsTrue}
 use Rattle.std.specs.Option.{is_some}
 use denote.Ref.{Bor}

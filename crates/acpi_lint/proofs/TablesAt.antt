@@ -1,5 +1,5 @@
 -- What is at an address that a slot lists.
-use Rattle.std.proofs.Common.{◌≡◌, ℕ, Bool, List, Option, Some, None, true, false, refl, sym, ◌∙◌, ap, subst, inl, inr}
+use Rattle.std.proofs.Common.{◌≡◌, ℕ, Bool, List, Option, Some, None, true, false, sym, ◌∙◌, ap, subst, inl, inr}
 use Rattle.std.specs.Prelude.{◌↔◌, ◌⊎◌, IsTrue}
 use Rattle.std.proofs.lemmas.Option.{none-some, same_Some}
 use Rattle.acpi_base.specs.Facs.{facs_signature}
@@ -9,9 +9,7 @@ use Rattle.acpi_base.specs.Signature.{has_signature}
 use Rattle.acpi_base.specs.TableKinds.{signature_of, IsKindOf}
 use Rattle.acpi_base.specs.Tables.{IsSigned, TableFault}
 use Rattle.acpi_base.specs.declared.code.Code.{Code}
-use Rattle.acpi_base.specs.declared.code.Code.TheVariants as code
 use Rattle.acpi_base.specs.declared.table_kind.TableKind.{TableKind}
-use Rattle.acpi_base.proofs.Images.HeldBytes.{none_and_some}
 use Rattle.acpi_base.proofs.Tables.Kinds.{one_kind}
 use Rattle.acpi_lint.specs.Slots.{IsTableAt, HasSought, IsSought}
 use Rattle.acpi_lint.specs.declared.table_at.Sought.{Sought}

@@ -2,12 +2,18 @@
 use Rattle.std.specs.Prelude.{ℕ, Option, Some, None, ◌==◌, if◌then◌else◌}
 use Rattle.std.specs.Option.{option_and_then, option_map}
 use Rattle.acpi_base.specs.Lint.MadtAdvice.{io_apic_id, io_apic_address}
+use Rattle.acpi_base.specs.Lint.Processors as said
 use Rattle.acpi_base.specs.Lint.Processors.{uid_of, uid_on, apic_id_of, apic_id_on, placed_uid, processor_domain}
 use Rattle.acpi_base.specs.Madt.{MadtEntry}
 use Rattle.acpi_base.specs.Srat.{SratEntry}
 use Rattle.acpi_lint.specs.declared.numbered.Numbered.{Numbered}
 use Rattle.acpi_lint.specs.declared.processors.MadtNumber.{MadtNumber}
 use Rattle.acpi_lint.specs.declared.processors.MadtNumber.TheVariants as number
+use Rattle.acpi_lint.specs.declared.processors.Processor.{Processor}
+
+-- the processor that a struct describes
+abbrev pub processor_value : Processor → said.Processor
+processor_value p = record { uid = p.uid; apic_id = p.apic_id; on = p.on }
 
 -- the address of an I/O APIC, if it is not 0
 abbrev pub nonzero_io_apic_address : MadtEntry → Option ℕ

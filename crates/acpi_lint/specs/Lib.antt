@@ -13,7 +13,6 @@ pub mod Overrides
 pub mod OwnAdvice
 pub mod Places
 pub mod PpttPlaces
-pub mod ProcessorValues
 pub mod References
 pub mod SlitPlaces
 pub mod Slots

@@ -9,8 +9,7 @@ ghost use Rattle.acpi_base.specs.Number.{has_bit};
 ghost use Rattle.acpi_read.specs.Madts.{madt_value};
 ghost use Rattle.acpi_read.specs.Pptts.{pptt_value};
 ghost use Rattle.acpi_read.specs.Srats.{srat_value};
-ghost use Rattle.acpi_lint.specs.EntryNumbers.{madt_number, nonzero_io_apic_address};
-ghost use Rattle.acpi_lint.specs.ProcessorValues.{processor_value};
+ghost use Rattle.acpi_lint.specs.EntryNumbers.{processor_value, madt_number, nonzero_io_apic_address};
 
 use acpi_base::field::u32_at;
 use acpi_read::{

@@ -3,7 +3,7 @@ use borrow.Author.Count.{below_more}
 use Rattle.std.proofs.lemmas.List.Elements.{Contains-get_or}
 use Rattle.acpi_lint.specs.Slots.{HasSought}
 use Rattle.acpi_lint.specs.declared.listed.Slot.{Slot}
-use Rattle.acpi_lint.proofs.ListedSlots.{at_or_behind, none_such}
+use Rattle.acpi_lint.proofs.RisingLists.{at_or_behind, none_such}
 use Rattle.acpi_lint.proofs.listed.first_slot.Goals as goal
 
 abbrev none : Slot
@@ -23,7 +23,7 @@ returns-then-has c = λ m p are.
           let (t, here, number, address) = are.all k a other in
           let holds : HasSought c.args.sought t.table =
           ((are.listed t here).1.tells c.args.sought).1 (rw address sought) in
-          elim (at_or_behind (λ (x : Slot). HasSought c.args.sought x.table) slots i none t are.rise within
+          elim (at_or_behind (λ (x : Slot). x.number) (λ (x : Slot). HasSought c.args.sought x.table) slots i none t are.rise within
           c.loop-slot.invariant here holds) [
             | inl same ↦ absurd (omega (arith, less, number, ap (λ (x : Slot). x.number) same))
             | inr more ↦ absurd (omega (arith, less, number, more))

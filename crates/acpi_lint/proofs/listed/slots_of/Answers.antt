@@ -1,6 +1,6 @@
 use Rattle.std.proofs.Common.{rules, ◌<◌, sym, ◌∙◌, arith}
 use Rattle.acpi_base.specs.Root.{HasSlot}
-use Rattle.acpi_lint.proofs.ListedSlots.{none_before, one_more, none_more, all_listed}
+use Rattle.acpi_lint.proofs.ListedSlots.{one_more, none_more, all_listed}
 use Rattle.acpi_lint.proofs.listed.slots_of.Goals as goal
 use Rattle.acpi_lint.proofs.listed.slots_of.Goals.{then-address-ne0+in_ok-push, else-address-ne0}
 

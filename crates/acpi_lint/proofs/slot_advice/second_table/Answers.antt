@@ -1,10 +1,10 @@
-use Rattle.std.proofs.Common.{◌≡◌, ℕ, get_or, Some, None, false, sym, ◌∙◌, ap, subst, inl, inr, arith}
+use Rattle.std.proofs.Common.{◌≡◌, ℕ, get_or, Some, None, false, sym, ◌∙◌, ap, inl, inr, arith}
 use Rattle.std.proofs.lemmas.List.Elements.{Contains-get_or}
 use Rattle.std.proofs.lemmas.Option.{none-some, same_Some}
 use Rattle.acpi_lint.specs.Slots.{second_place}
 use Rattle.acpi_lint.specs.declared.listed.Slot.{Slot}
 use Rattle.acpi_lint.specs.declared.place.Place.{Place}
-use Rattle.acpi_lint.proofs.ListedSlots.{at_or_behind, none_such}
+use Rattle.acpi_lint.proofs.RisingLists.{at_or_behind, none_such}
 use Rattle.acpi_lint.proofs.OnePlace.{not_after_itself}
 use Rattle.acpi_lint.proofs.SecondTables.{second_from, second_to}
 use Rattle.acpi_lint.proofs.slot_advice.second_table.Goals as goal
@@ -32,7 +32,7 @@ returns-in-Some c = λ m p whole.
       least = λ at other point second.
           let (t, listed, same, address) = whole.slots.all at point second.here.0 in
           let also = second_to firsts t whole.firsts same address (whole.slots.listed t listed).1 second in
-          elim (at_or_behind (λ (x : Slot). second_place firsts x ≡ Some (numbers at other point)) slots i none t
+          elim (at_or_behind (λ (x : Slot). x.number) (λ (x : Slot). second_place firsts x ≡ Some (numbers at other point)) slots i none t
           whole.slots.rise within
           (λ j below some. none-some (numbers at other point) (sym (c.loop-slot.invariant j below) ∙ some)) listed
           also) [

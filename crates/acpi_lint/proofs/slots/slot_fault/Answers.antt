@@ -1,4 +1,4 @@
-use Rattle.std.proofs.Common.{Some, None, refl}
+use Rattle.std.proofs.Common.{Some, refl}
 use Rattle.acpi_base.specs.Tables.{TableFault}
 use Rattle.acpi_lint.proofs.FirstSlots.{place_of, least_slot}
 use Rattle.acpi_lint.proofs.LeastPlaces.{least_as}
