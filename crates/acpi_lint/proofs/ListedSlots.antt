@@ -18,6 +18,10 @@ use Rattle.acpi_lint.specs.declared.numbered.Numbered.{Numbered}
 use Rattle.acpi_lint.proofs.KnownOnes.{map_from}
 use Rattle.acpi_lint.proofs.RisingLists.{rise_more}
 
+-- the slot at which a list is read that has none there
+abbrev pub no_slot : Slot
+no_slot = record { number = 0; table = record { address = 0; fault = None; kind = None; is_apart = false } }
+
 -- ---- slot by slot
 
 -- the slots before this one list these addresses
@@ -125,11 +129,13 @@ are_numbered {Lists = Lists} slots are =
     record {
       rise = λ i j d before within.
           let inside : j < length slots = omega (arith, within, length-map slots numbered_slot) in
-          let s : Slot = record { number = 0; table = record { address = 0; fault = None; kind = None; is_apart = false } } in
-          rw (get_or-map numbered_slot slots i s d (omega arith), get_or-map numbered_slot slots j s d inside)
-          (are.rise i j s before inside);
+          rw (get_or-map numbered_slot slots i no_slot d (omega arith))
+          (rw (get_or-map numbered_slot slots j no_slot d inside) (are.rise i j no_slot before inside));
       placed = at_numbers slots;
-      all = λ at n. (λ here. from at n (map_from numbered_slot slots (at_place at n) here), λ lists. to (are.all at n lists));
+      all = λ at n. (
+        λ here. from at n (map_from numbered_slot slots (at_place at n) here),
+        λ lists. to (are.all at n lists),
+      );
     }
   where
     from : (at n : ℕ) → ((s : Slot) × Contains slots s × (numbered_slot s ≡ at_place at n)) → Lists at n

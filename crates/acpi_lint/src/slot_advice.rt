@@ -54,8 +54,8 @@ fn second_place(firsts: &FirstSlots, slot: &Slot) -> Option<Place>
     })
 }
 
-/// The first slot that lists a table of the same kind as an earlier one, at another address. The tables are those of the
-/// set.
+/// The first slot that lists a table of the same kind as an earlier one, at another address. The tables are those of
+/// the set.
 pub fn second_table(tables: &WholeTables<'_>) -> Option<Place>
     ensures { (m : Memory) (p : ℕ) → AreWholeTables m p tables.now
         → FindsLeast (IsSecondTable m p) result }

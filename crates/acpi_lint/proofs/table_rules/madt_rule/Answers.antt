@@ -17,7 +17,8 @@ returns-in-SameIoApicId c = rw c.in-SameIoApicId.is c.same_in_madt-in-SameIoApic
 
 pub returns-in-SameIoApicAddress : goal.returns-in-SameIoApicAddress
 returns-in-SameIoApicAddress c = rw c.in-SameIoApicAddress.is
-    (each_ok c.same_in_madt-in-SameIoApicAddress.result (found_address (madt_contents c.args.madt.now)) c.same_in_madt-in-SameIoApicAddress.ensures)
+    (each_ok c.same_in_madt-in-SameIoApicAddress.result (found_address (madt_contents c.args.madt.now))
+    c.same_in_madt-in-SameIoApicAddress.ensures)
 
 pub returns-in-NmiNowhere : goal.returns-in-NmiNowhere
 returns-in-NmiNowhere c = rw c.in-NmiNowhere.is c.nmi_nowhere.ensures
