@@ -11,7 +11,6 @@ use Rattle.std.proofs.lemmas.Bool.Decides.{nat_tests}
 use Rattle.std.proofs.lemmas.Option.{slice_get_past, slice_get-get_or}
 use Rattle.acpi_base.specs.Memory.{Memory, byte_of, run_of, with_bytes, cons_both}
 use Rattle.acpi_base.specs.Image.Runs.{Run, byte_in, end_of, lookup, memory_of, run_at}
-use Rattle.acpi_base.proofs.Images.ByteRuns.{run_of_none}
 
 -- from its base on, a run holds its bytes
 pub held_from : (r : Run) (a : ℕ) → r.base ≤ a → byte_in r a ≡ slice_get r.bytes (a - r.base)
