@@ -1,13 +1,11 @@
 -- One more piece is added, or is refused.
-use Rattle.std.proofs.Common.{◌≡◌, ◌⊎◌, inl, inr, ℕ, zero, suc, ◌+◌, ◌^◌, ◌<◌, ◌≤◌, Bool, true, false, cond, List, [], ◌∷◌, length, get_or, drop, Option, Some, None, IsSome, is_some, refl, sym, subst, ap, ◌∙◌, arith, drop-cons}
-use Rattle.std.specs.Prelude.{nat_lt, IsOk, Result, Ok, Err}
+use Rattle.std.proofs.Common.{◌≡◌, ◌⊎◌, inl, inr, ℕ, zero, suc, ◌+◌, ◌^◌, ◌<◌, ◌≤◌, true, false, List, [], ◌∷◌, length, get_or, drop, Option, Some, None, is_some, refl, sym, subst, ap, ◌∙◌, arith, drop-cons}
+use Rattle.std.specs.Prelude.{nat_lt, Result, Ok, Err}
 use Rattle.std.specs.FinMap.{empty, get-empty}
-use Rattle.std.specs.Option.{option_map_or, option_or}
+use Rattle.std.specs.Option.{option_map_or}
 use Rattle.std.specs.Ordering.{nat_cmp}
 use Rattle.std.proofs.lemmas.Bool.{cases_lt, le-ltb, lt-ltb}
 use Rattle.std.proofs.lemmas.Bool.Decides.{nat_tests}
-use Rattle.std.proofs.lemmas.List.{drop_all}
-use Rattle.acpi_base.specs.Image.Adding.{add_refusal}
 use Rattle.acpi_base.specs.Image.Draft.{added}
 use Rattle.acpi_base.specs.Image.Runs.{byte_in, run_at}
 use Rattle.acpi_base.specs.Memory.{Memory, byte_of, first_held, with_bytes}
@@ -17,11 +15,10 @@ use Rattle.acpi_base.specs.declared.image.ImageFault.TheVariants as image
 use Rattle.acpi_base.proofs.Images.RunBytes.{byte_of-with_bytes, held_none, held_some}
 use Rattle.acpi_base.proofs.Images.ByteRuns.{first_of_from, first_of_here, first_of_none}
 use Rattle.acpi_base.proofs.Images.Searches.{nothing_held}
-use Rattle.acpi_c.specs.Pieces.{FirstFits, RefusesFirst, Stands, has_address, piece_refusal, second_with, unless_refused, with_pieces}
+use Rattle.acpi_c.specs.Pieces.{FirstFits, RefusesFirst, Stands, has_address, piece_refusal, second_with, with_pieces}
 use Rattle.acpi_c.specs.Sources.{Fails, pieces_source}
 use Rattle.acpi_c.specs.declared.pieces.Piece.{Piece}
-use Rattle.acpi_c.specs.declared.refusal.Refusal.{Refusal}
-use Rattle.acpi_c.specs.declared.refusal.Refusal.TheVariants.{OutOfMemory, PiecePastEnd, PiecesOverlap}
+use Rattle.acpi_c.specs.declared.refusal.Refusal.TheVariants.{PiecesOverlap}
 
 -- no piece has been added
 pub stands_first : (ps : List Piece) → Stands ps 0 (Ok empty)

@@ -1,7 +1,8 @@
-//! An image in the making: pieces in the order in which they came. Whether an address came twice is asked once they are there.
+//! An image in the making: pieces in the order in which they came. Whether an address came twice is asked once they are
+//! there.
 //!
-//! The store has all bytes in the order in which they came. If an address occurs twice among its first `n` bytes, one occurs
-//! twice among more bytes too. So the first byte at fault is found by bisection.
+//! The store has all bytes in the order in which they came. If an address occurs twice among its first `n` bytes, one
+//! occurs twice among more bytes too. So the first byte at fault is found by bisection.
 
 ghost use Rattle.std.specs.Prelude.{◌≡◌, ◌⊎◌, ℕ, ◌+◌, ◌-◌, ◌^◌, ◌<◌, ◌≤◌, min, true, length, Ok, Err, IfOk, IfErr, IsOk, OnOk, OnErr, MatchOption, MatchResult};
 ghost use Rattle.std.specs.FinMap.{empty};
@@ -175,8 +176,8 @@ fn open(
     Ok(())
 }
 
-/// An image in the making, to which pieces are added in any order. If an address comes twice, that is asked for by `first_twice`,
-/// or told by `finish`. Contracts see what the pieces hold, or the first address that came twice. The time grows with the number
+/// An image in the making, to which pieces are added in any order. Whether an address came twice is asked by `first_twice`
+/// and `finish`. Contracts see what the pieces hold, or the first address that came twice. The time grows with the number
 /// of bytes, and with n log n for n pieces.
 #[derive(Drop)]
 pub struct DraftImage {
@@ -217,8 +218,8 @@ impl DraftImage {
 
     /// Adds the bytes, which take the addresses from `base` on, even if an address has a byte already.
     ///
-    /// Refuses, in this order, and then leaves the pieces as they were: `PastEnd`, if the last byte would be past the address
-    /// 2^64 - 1; `Memory`. Adding no bytes always returns `Ok`, and takes no memory.
+    /// Refuses, in this order, and then leaves the pieces as they were: `PastEnd`, if the last byte would be past the
+    /// address 2^64 - 1; `Memory`. Adding no bytes always returns `Ok`, and takes no memory.
     pub fn add(&mut self, base: u64, bytes: &[u8]) -> Result<(), ImageFault>
         ensures fits { OnOk result (base + length bytes.now ≤ 2 ^ 64) }
         ensures ok { OnOk result (self.new ≡ on_ok self.old (λ m. added m base bytes.now)) }
@@ -244,8 +245,8 @@ impl DraftImage {
         Ok(())
     }
 
-    /// The first address that came twice: the lowest one that the first piece to share addresses with those before it shares with
-    /// them. Needs no memory.
+    /// The first address that came twice: the lowest one that the first overlapping piece shares with those before it.
+    /// Needs no memory.
     pub fn first_twice(self) -> Option<u64>
         ensures { MatchOption result ((m : Memory) × (self ≡ Ok m)) (λ address. self ≡ Err address) }
     {

@@ -43,8 +43,8 @@ const PIECE: usize = 65_536;
 /// `Memory`: out of memory for the line or the image. Until the text is refused, it can be returned instead of any other
 /// result. A refused text stays refused with the same fault.
 ///
-/// Each `feed` copies and sorts the list of the pieces of data so far, to see whether an address came twice. If there are many
-/// of them, `parse_image` and `read_image`, which look only once, take less time.
+/// Each `feed` copies and sorts the list of the pieces of data so far, to see whether an address came twice. If there are
+/// many of them, `parse_image` and `read_image`, which look only once, take less time.
 #[derive(Drop)]
 pub struct ImageText {
     buffer: LineBuffer,

@@ -62,8 +62,8 @@ fn line_end(text: &[u8]) -> usize
     64 * blocks + line_end_of_short(&text[64 * blocks..])
 }
 
-/// What has been read, and the incomplete last line. Reading goes on after a line that gives an address twice: `take_once` and
-/// `first_fault` tell that.
+/// What has been read, and the incomplete last line. Reading goes on after a line that gives an address twice:
+/// `take_once` and `first_fault` tell that.
 #[derive(Drop)]
 pub struct LineBuffer {
     parser: LineParser,
@@ -155,8 +155,8 @@ impl LineBuffer {
         }
     }
 
-    /// The first fault of the text, given the one that reading has met: an address may have come twice before that. Needs no
-    /// memory.
+    /// The first fault of the text, given the one that reading has met: an address may have come twice before that. Needs
+    /// no memory.
     pub fn first_fault(self, fault: TextFault) -> TextFault
         ensures { result ≡ told self.parser.image fault }
     {

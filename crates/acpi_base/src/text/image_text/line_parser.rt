@@ -16,7 +16,8 @@ use std::alloc::Global;
 /// The most bytes of a line, with its CR and without its LF.
 pub const MAX_LINE: usize = 65_536;
 
-/// Parses one line after another: what was read so far, and the data. Reading goes on after a line that gives an address twice.
+/// Parses one line after another: what was read so far, and the data. Reading goes on after a line that gives an address
+/// twice.
 #[derive(Drop)]
 pub struct LineParser {
     /// How many lines were read.
@@ -168,8 +169,8 @@ impl LineParser {
         }
     }
 
-    /// The first fault of the text, given the one that reading has met: an address may have come twice before that. Needs no
-    /// memory.
+    /// The first fault of the text, given the one that reading has met: an address may have come twice before that. Needs
+    /// no memory.
     pub fn first_fault(self, fault: TextFault) -> TextFault
         ensures { result ≡ told self.image fault }
     {

@@ -1,5 +1,4 @@
-use Rattle.std.proofs.Common.{inl, refl, sym, subst, ap}
-use Rattle.std.specs.Prelude.{Ok}
+use Rattle.std.proofs.Common.{inl, refl, sym, subst}
 use Rattle.acpi_c.specs.Pieces.{Stands}
 use Rattle.acpi_c.proofs.AddedPieces.{begun_next, stands_first, stands_next}
 use Rattle.acpi_c.proofs.pieces.add_pieces.Goals as goal

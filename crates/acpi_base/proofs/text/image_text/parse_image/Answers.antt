@@ -7,7 +7,8 @@ returns-in-Err-clause-err c =
 
 pub returns-clause-ok : goal.returns-clause-ok
 returns-clause-ok c =
-    whole_ends c.args.text.now _ _ c.finish.result c.new-buffer.ensures.state c.in_default.ensures.ok c.finish.ensures.ok
+    whole_ends c.args.text.now _ _ c.finish.result c.new-buffer.ensures.state c.in_default.ensures.ok
+    c.finish.ensures.ok
 
 pub returns-clause-err : goal.returns-clause-err
 returns-clause-err c =
