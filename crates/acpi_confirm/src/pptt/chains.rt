@@ -88,13 +88,8 @@ fn is_cycle(pptt: &[u8], link: Link, most: u64, witness: &Witness) -> bool
     if !steps_fit(most, lead, round) {
         return false;
     }
-    let size = pptt.len() / NOTES + 1;
     let mut notes = [0; NOTES];
-    note_starts(pptt, size, &mut notes);
-    let starts = Starts {
-        size,
-        notes: &notes,
-    };
+    let starts = note_starts(pptt, &mut notes);
     let Some(there) = follow(pptt, link, &starts, from, lead) else {
         return false;
     };

@@ -4,7 +4,7 @@
 //! block begins, in one byte. A look-up of an entry starts at the note of its block, so it walks over at most one
 //! block. It is proved that a note is the start of an entry; that it is the first one matters only for time.
 
-ghost use Rattle.std.specs.Prelude.{◌≡◌, ◌≤◌, IfSome};
+ghost use Rattle.std.specs.Prelude.{◌≡◌, ◌≤◌, IfSome, length};
 ghost use Rattle.std.specs.Option.{option_map};
 ghost use Rattle.acpi_base.specs.Entries.{IsEntry, entries_of};
 ghost use Rattle.acpi_confirm.specs.Starts.{IsNoted, AreStarts, AreNotedWith};
@@ -36,17 +36,19 @@ fn note(notes: &mut [u8], size: usize, start: usize)
     }
 }
 
-/// Notes starts of the table's entries by blocks of a size: for each block that of its first entry.
-pub(super) fn note_starts(pptt: &[u8], size: usize, notes: &mut [u8])
-    requires { 1 ≤ size }
-    ensures { AreStarts size notes.new pptt.now }
+/// Notes starts of the table's entries: for each of as many blocks as there is room for that of its first entry.
+pub(super) fn note_starts<'a>(pptt: &[u8], notes: &'a mut [u8]) -> Starts<'a>
+    requires { 1 ≤ length notes.old }
+    ensures { AreStarts result.size result.notes.now pptt.now }
 {
+    let size = pptt.len() / notes.len() + 1;
     notes.fill(NOTHING);
     let mut start = FIRST_ENTRY;
     while let Some(entry) = entry_from(pptt, start) {
         note(notes, size, start);
         start += entry.len();
     }
+    Starts { size, notes }
 }
 
 /// The start that is noted for an offset's block, if it is not after the offset.

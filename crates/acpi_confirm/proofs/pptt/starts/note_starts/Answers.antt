@@ -7,6 +7,6 @@ loop-entry-preserved c =
     let (over, starts) = c.loop-entry.invariant in
     let next = c.in-Some.ensures in (
       over_next _ 36 c.loop-entry.start c.args.pptt.now c.in-Some.entry.now over next tt,
-      noted_with c.args.size c.loop-entry.start _ _ c.args.pptt.now starts
+      noted_with _ c.loop-entry.start _ _ c.args.pptt.now starts
           (has_entry _ c.loop-entry.start c.args.pptt.now c.in-Some.entry.now over next) c.note.ensures,
     )
