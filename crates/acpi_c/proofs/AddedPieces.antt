@@ -6,7 +6,7 @@ use Rattle.std.specs.Option.{option_map_or}
 use Rattle.std.specs.Ordering.{nat_cmp}
 use Rattle.std.proofs.lemmas.Bool.{cases_lt, le-ltb, lt-ltb}
 use Rattle.std.proofs.lemmas.Bool.Decides.{nat_tests}
-use Rattle.acpi_base.specs.Image.Draft.{added}
+use Rattle.acpi_base.specs.Image.Adding.{added}
 use Rattle.acpi_base.specs.Image.Runs.{byte_in, run_at}
 use Rattle.acpi_base.specs.Memory.{Memory, byte_of, first_held, with_bytes}
 use Rattle.acpi_base.specs.Text.ImageText.{on_ok}
@@ -66,7 +66,8 @@ stands_next ps index d (Err a) new below fits is stands = subst (Stands ps (inde
 stands_next ps index d (Ok m) new below fits is (so_far, seen) =
     let place : suc index ≡ index + 1 = omega arith in
     subst (Stands ps (index + 1)) (sym is)
-    (subst (λ k. Stands ps k (added m p.address p.bytes.now)) place (go (first_held m p.address (length p.bytes.now)) refl))
+    (subst (λ k. Stands ps k (added m p.address p.bytes.now)) place
+    (go (first_held m p.address (length p.bytes.now)) refl))
   where
     p : Piece
     p = get_or ps index d
@@ -121,7 +122,8 @@ begun_next (p ∷ rest) (suc index) d below fits (inl start) = absurd (omega ari
 
 -- the piece at which adding stopped is refused, where none before it repeats an address
 pub stopped : (ps : List Piece) (index : ℕ) (m : Memory) (fault : ImageFault) → Stands ps index (Ok m)
-    → RefusesFirst (drop index ps) fault → (index ≡ 0) ⊎ FirstFits ps → Fails (pieces_source ps) (piece_refusal index fault)
+    → RefusesFirst (drop index ps) fault → (index ≡ 0) ⊎ FirstFits ps
+    → Fails (pieces_source ps) (piece_refusal index fault)
 stopped ps index m fault (so_far, seen) refuses begun = go (drop index ps) refl fault refuses
   where
     go : (rest : List Piece) → drop index ps ≡ rest → (f : ImageFault) → RefusesFirst rest f

@@ -55,7 +55,8 @@ fn overlap(pieces: &[Piece<'_>], address: u64) -> Refusal
 /// Adds the pieces in their order, even if they overlap. Stops at the first one that is refused: its index, and why.
 fn add_pieces(draft: &mut DraftImage, pieces: &[Piece<'_>]) -> Result<(), (usize, ImageFault)>
     requires { draft.old ≡ Ok empty }
-    ensures ok { OnOk result (Stands pieces.now (length pieces.now) draft.new × FirstFits pieces.now) }
+    ensures ok { OnOk result
+        (Stands pieces.now (length pieces.now) draft.new × FirstFits pieces.now) }
     ensures err { IfErr result (λ refused. Stands pieces.now refused.0 draft.new
         × RefusesFirst (drop refused.0 pieces.now) refused.1
         × ((refused.0 ≡ 0) ⊎ FirstFits pieces.now)) }

@@ -68,7 +68,8 @@ fn has_number(spans: &[Span], gsi: u32) -> bool
 /// The fault of an entry that names a number which is in none of the spans. None for an entry that names none.
 fn own_fault(spans: &[Span], at: &EntryAt<MadtEntry<'_>>) -> Option<Witness>
     requires { DoRise spans.now }
-    ensures { MatchOption result (IsKnown (IsInSpans spans.now) (named_gsi (madt_value at.now.entry)))
+    ensures { MatchOption result
+        (IsKnown (IsInSpans spans.now) (named_gsi (madt_value at.now.entry)))
         (IsUnknown (IsInSpans spans.now) Code.GsiNowhere at.now.offset
         (named_gsi (madt_value at.now.entry))) }
 {

@@ -8,7 +8,8 @@ use Rattle.std.proofs.lemmas.List.{take_all, drop-append-le}
 use Rattle.std.proofs.Math.Seq.{drop-append_seam}
 use Rattle.acpi_base.specs.declared.image.span.Span.{Span}
 use Rattle.acpi_base.specs.Memory.{Memory, byte_of, first_held, least_defined, with_bytes}
-use Rattle.acpi_base.specs.Image.Draft.{AreContiguous, AreDrafted, EndsAt, added, all_added}
+use Rattle.acpi_base.specs.Image.Adding.{added}
+use Rattle.acpi_base.specs.Image.Draft.{AreContiguous, AreDrafted, EndsAt, all_added}
 use Rattle.acpi_base.specs.Image.Pieces.{Piece, LiesBefore, end_at, run_in, runs_in}
 use Rattle.acpi_base.specs.Image.Runs.{Run, run_at}
 use Rattle.acpi_base.specs.Text.ImageText.{on_ok}

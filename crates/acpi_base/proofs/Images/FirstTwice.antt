@@ -7,7 +7,8 @@ use Rattle.std.specs.List.Sorted.{IsNonDecreasingBy, IsPermutation}
 use Rattle.std.specs.FinMap.{empty}
 use Rattle.std.proofs.lemmas.Bool.{cases_lt}
 use Rattle.acpi_base.specs.Memory.{Memory, byte_of, with_bytes}
-use Rattle.acpi_base.specs.Image.Draft.{AreContiguous, AreDisjoint, AreDrafted, IsFirstTwice, IsOnceBefore, added, all_added, cut, cut_all, holder_count, holds_at}
+use Rattle.acpi_base.specs.Image.Adding.{added}
+use Rattle.acpi_base.specs.Image.Draft.{AreContiguous, AreDisjoint, AreDrafted, IsFirstTwice, IsOnceBefore, all_added, cut, cut_all, holder_count, holds_at}
 use Rattle.acpi_base.specs.Image.Pieces.{Piece, AreSortedDisjoint, LiesBefore, end_at, run_in, runs_in}
 use Rattle.acpi_base.specs.Image.Runs.{byte_in, lookup, memory_of}
 use Rattle.acpi_base.specs.Text.ImageText.{on_ok}

@@ -1,8 +1,8 @@
 -- Pieces of an image in the order in which they arrive; repeated addresses are looked for at the end.
 use Rattle.std.specs.Prelude.{◌≡◌, ℕ, ◌+◌, ◌-◌, ◌<◌, ◌≤◌, min, List, [], ◌∷◌, length, slice_index_or, nat_lt, if◌then◌else◌, Result, Ok, Err}
-use Rattle.std.specs.Option.{option_map_or}
 use Rattle.std.specs.List.{AllByRecursion}
-use Rattle.acpi_base.specs.Memory.{Memory, first_held, with_bytes}
+use Rattle.acpi_base.specs.Memory.{Memory}
+use Rattle.acpi_base.specs.Image.Adding.{added}
 use Rattle.acpi_base.specs.Image.Pieces.{Piece, LiesBefore, end_at}
 use Rattle.acpi_base.specs.Image.Runs.{Run}
 use Rattle.acpi_base.specs.Text.ImageText.{on_ok}
@@ -21,10 +21,6 @@ pub record AreDisjoint (n : ℕ) (ps : List Piece) : Type 0 where
   pub once : (x : ℕ) → holder_count ps x ≤ 1
   pub filled : AllByRecursion (λ p. 0 < p.1.len) ps
   pub lies : AllByRecursion (LiesBefore n) ps
-
--- the memory with these bytes put in, or the least of their addresses that it holds already
-abbrev pub added : Memory → ℕ → List ℕ → Result Memory ℕ
-added m base bytes = option_map_or (λ address. Err address) (first_held m base (length bytes)) (Ok (with_bytes m base bytes))
 
 -- runs come one after the other, up to the first address that comes twice
 unfoldable pub all_added : Memory → List Run → Result Memory ℕ

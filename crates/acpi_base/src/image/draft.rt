@@ -9,7 +9,8 @@ ghost use Rattle.std.specs.FinMap.{empty};
 ghost use Rattle.std.specs.List.{AllByRecursion};
 ghost use Rattle.std.specs.List.Sorted.{IsNonDecreasingBy, IsPermutation};
 ghost use Rattle.acpi_base.specs.Memory.{Memory, IsImage};
-ghost use Rattle.acpi_base.specs.Image.Draft.{AreDrafted, ComesTwice, EndsAt, IsFirstTwice, IsOnceBefore, added, all_added, holder_count};
+ghost use Rattle.acpi_base.specs.Image.Adding.{added};
+ghost use Rattle.acpi_base.specs.Image.Draft.{AreDrafted, ComesTwice, EndsAt, IsFirstTwice, IsOnceBefore, all_added, holder_count};
 ghost use Rattle.acpi_base.specs.Image.Pieces.{runs_in};
 ghost use Rattle.acpi_base.specs.Image.Segments.{IsSound, memory_in};
 ghost use Rattle.acpi_base.specs.Text.ImageText.{on_ok};
@@ -248,7 +249,8 @@ impl DraftImage {
     /// The first address that came twice: the lowest one that the first overlapping piece shares with those before it.
     /// Needs no memory.
     pub fn first_twice(self) -> Option<u64>
-        ensures { MatchOption result ((m : Memory) × (self ≡ Ok m)) (λ address. self ≡ Err address) }
+        ensures { MatchOption result ((m : Memory) × (self ≡ Ok m))
+            (λ address. self ≡ Err address) }
     {
         let DraftImage {
             store,

@@ -10,5 +10,5 @@ returns-in-Err c =
     let refused = c.in-Err.ensures.err in
     let once = c.in_default-first_twice.ensures in
     subst (Fails (pieces_source pieces)) (sym c.of_piece.ensures)
-    (stopped pieces c.in-Err.index once.0 c.in-Err.fault (subst (Stands pieces c.in-Err.index) once.1 refused.0) refused.1
-    refused.2)
+    (stopped pieces c.in-Err.index once.0 c.in-Err.fault (subst (Stands pieces c.in-Err.index) once.1 refused.0)
+    refused.1 refused.2)

@@ -4,4 +4,5 @@ use Rattle.acpi_c.proofs.pieces.second_with.Given as goal
 
 -- the search goes on from here as it began
 abbrev pub invariant-loop-index : goal.invariant-loop-index
-invariant-loop-index l = second_with l.seen l.index (drop l.index l.pieces) l.address ≡ second_with false 0 l.pieces l.address
+invariant-loop-index l =
+    second_with l.seen l.index (drop l.index l.pieces) l.address ≡ second_with false 0 l.pieces l.address

@@ -31,7 +31,8 @@ returns-in-Some c = λ m p whole.
           let (t, listed, same, address) = whole.slots.all at point second.here.0 in
           let also = second_to firsts t whole.firsts same address (whole.slots.listed t listed).1 second in
           elim (at_or_behind (λ (x : Slot). x.number)
-          (λ (x : Slot). second_place firsts x ≡ Some (numbers at other point)) slots i no_slot t whole.slots.rise within
+          (λ (x : Slot). second_place firsts x ≡ Some (numbers at other point)) slots i no_slot t
+          whole.slots.rise within
           (λ j below some. none-some (numbers at other point) (sym (c.loop-slot.invariant j below) ∙ some)) listed
           also) [
             | inl one ↦

@@ -41,14 +41,14 @@ beginning m a rest n sound from says_n =
 
 pub slice_bounds-bytes-end : goal.slice_bounds-bytes-end
 slice_bounds-bytes-end c =
-    let is = beginning c.args.image.now c.args.address c.bytes_from-rest.result.now _ c.requires c.bytes_from-rest.ensures
-    c.u32_at-length.ensures in
+    let is = beginning c.args.image.now c.args.address c.bytes_from-rest.result.now _ c.requires
+    c.bytes_from-rest.ensures c.u32_at-length.ensures in
     sym (length-take-le _ _ is.fits)
 
 pub invariant_of-result : goal.invariant_of-result
 invariant_of-result c =
-    let is = beginning c.args.image.now c.args.address c.bytes_from-rest.result.now _ c.requires c.bytes_from-rest.ensures
-    c.u32_at-length.ensures in
+    let is = beginning c.args.image.now c.args.address c.bytes_from-rest.result.now _ c.requires
+    c.bytes_from-rest.ensures c.u32_at-length.ensures in
     let count = length-take-le _ _ is.fits in
     let long = is.long in
     (omega arith, omega arith, is.says)

@@ -10,7 +10,8 @@ pub returns-then-place-len-clause-some : goal.returns-then-place-len-clause-some
 returns-then-place-len-clause-some c =
     let s = c.args.self.now in
     let low = c.if-place-len.true in
-    subst (λ (p : Piece). (c.args.address < p.0) × IsSome (lookup (runs_of s) p.0) × IsGap (runs_of s) c.args.address p.0)
+    subst
+    (λ (p : Piece). (c.args.address < p.0) × IsSome (lookup (runs_of s) p.0) × IsGap (runs_of s) c.args.address p.0)
     (sym c.index.ensures)
     (next_ended s.store s.ended.items s.base s.start c.args.address c.place-place.result c.index.result.now
     c.requires.sound c.requires.free c.place-place.ensures.place (omega arith))
