@@ -3,5 +3,4 @@ pub mod Chains
 pub mod Rounds
 pub mod SortedSpans
 mod FirstOverlap
-mod SortedTwice
 mod Walks

@@ -1,4 +1,3 @@
 mod clash;
 mod example;
-mod sorting;
 mod stray;
