@@ -24,10 +24,11 @@ pub fn sound_tables<'a>(image: &'a Image, root: &Root<'a>) -> Result<FirstTables
         if address == 0 {
             continue;
         }
-        match Table::read(image, address) {
-            Ok(table) => firsts.add(Listed { address, table }),
+        let table = match Table::read(image, address) {
+            Ok(table) => table,
             Err(code) => return Err(listed_fault(code, slot, address)),
         };
+        firsts.add(Listed { address, table });
     }
     Ok(firsts)
 }
