@@ -1,9 +1,11 @@
 //! System description tables.
 
-ghost use Rattle.std.specs.Prelude.{◌≡◌, ◌≤◌, ◌<◌, ◌^◌, ◌↔◌, List, ℕ, length, IsOk, IfOk, IfErr, MatchOption};
+ghost use Rattle.std.specs.Prelude.{◌≡◌, ◌≤◌, ◌<◌, ◌^◌, ◌↔◌, List, ℕ, Some, length, IsTrue, IsOk, IfOk, IfErr, MatchOption};
 ghost use Rattle.acpi_base.specs.Codes.{code_number, stage_of};
 ghost use Rattle.acpi_base.specs.declared.stage.Stage.{Stage};
 ghost use Rattle.acpi_base.specs.Header.{header_of};
+ghost use Rattle.acpi_base.specs.Memory.{bytes_at};
+ghost use Rattle.acpi_base.specs.Number.{byte_sum};
 ghost use Rattle.acpi_base.specs.Tables.{length_of, IsTable, IsSoundTable, TableFault};
 ghost use Rattle.acpi_base.specs.declared.code.Code.{Code};
 ghost use Rattle.acpi_read.specs.Headers.{header_value};
@@ -11,7 +13,7 @@ ghost use Rattle.acpi_read.specs.Headers.{header_value};
 use crate::header::{Header, header_at};
 use crate::layout::Layout;
 use acpi_base::field::u32_at;
-use acpi_base::{Code, Image};
+use acpi_base::{Code, Image, sum};
 use std::marker::Model;
 
 /// A system description table of any kind (ACPI 6.5, 5.2.6): as many bytes as its Length says, from 36 to 2^32 - 1. A
@@ -34,6 +36,21 @@ impl<'a> Model for Table<'a> {
 
     ghost invariant = { λ table. (36 ≤ length table.bytes.now) × (length table.bytes.now < 2 ^ 32)
         × (length_of table.bytes.now ≡ length table.bytes.now) };
+}
+
+/// How many bytes are summed one by one sooner than by a search for their running sums: most tables of firmware have
+/// fewer.
+const FEW: usize = 256;
+
+/// Whether the bytes, which are those at the address, sum to 0 modulo 256.
+fn sums_to_zero(image: &Image, address: u64, bytes: &[u8]) -> bool
+    requires { bytes_at image.now address (length bytes.now) ≡ Some bytes.now }
+    ensures { IsTrue result ↔ (byte_sum bytes.now ≡ 0) }
+{
+    if bytes.len() < FEW {
+        return sum(bytes) == 0;
+    }
+    image.window_sum(address, bytes.len() as u64) == Some(0)
 }
 
 impl<'a> Table<'a> {
@@ -61,7 +78,7 @@ impl<'a> Table<'a> {
         let Some(bytes) = run.get(..length as usize) else {
             return Err(Code::TableOut);
         };
-        if image.window_sum(address, u64::from(length)) != Some(0) {
+        if !sums_to_zero(image, address, bytes) {
             return Err(Code::TableSum);
         }
         Ok(Table { bytes })
