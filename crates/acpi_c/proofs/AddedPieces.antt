@@ -15,7 +15,8 @@ use Rattle.acpi_base.specs.declared.image.ImageFault.TheVariants as image
 use Rattle.acpi_base.proofs.Images.RunBytes.{byte_of-with_bytes, held_none, held_some}
 use Rattle.acpi_base.proofs.Images.ByteRuns.{first_of_from, first_of_here, first_of_none}
 use Rattle.acpi_base.proofs.Images.Searches.{nothing_held}
-use Rattle.acpi_c.specs.Pieces.{FirstFits, RefusesFirst, Stands, has_address, piece_refusal, second_with, with_pieces}
+use Rattle.acpi_c.specs.AddedPieces.{RefusesFirst, Stands, has_address, second_with}
+use Rattle.acpi_c.specs.Pieces.{FirstFits, piece_refusal, with_pieces}
 use Rattle.acpi_c.specs.Sources.{Fails, pieces_source}
 use Rattle.acpi_c.specs.declared.pieces.Piece.{Piece}
 use Rattle.acpi_c.specs.declared.refusal.Refusal.TheVariants.{PiecesOverlap}

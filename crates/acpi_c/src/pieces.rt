@@ -2,7 +2,8 @@
 
 ghost use Rattle.std.specs.Prelude.{◌≡◌, ◌⊎◌, IfErr, Ok, OnOk, drop, false, length};
 ghost use Rattle.std.specs.FinMap.{empty};
-ghost use Rattle.acpi_c.specs.Pieces.{FirstFits, RefusesFirst, Stands, has_address, second_with};
+ghost use Rattle.acpi_c.specs.AddedPieces.{RefusesFirst, Stands, has_address, second_with};
+ghost use Rattle.acpi_c.specs.Pieces.{FirstFits};
 ghost use Rattle.acpi_c.specs.Sources.{Reads, pieces_source};
 
 use crate::refusal::Refusal;

@@ -42,8 +42,9 @@ impl<'a> Model for Table<'a> {
 /// fewer.
 const FEW: usize = 256;
 
-/// Whether the bytes, which are those at the address, sum to 0 modulo 256.
-fn sums_to_zero(image: &Image, address: u64, bytes: &[u8]) -> bool
+/// Whether the bytes, which are those at the address, sum to 0 modulo 256. Fewer than 256 of them are read, however many
+/// there are.
+pub fn sums_to_zero(image: &Image, address: u64, bytes: &[u8]) -> bool
     requires { bytes_at image.now address (length bytes.now) ≡ Some bytes.now }
     ensures { IsTrue result ↔ (byte_sum bytes.now ≡ 0) }
 {

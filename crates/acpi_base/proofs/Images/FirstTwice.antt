@@ -1,13 +1,15 @@
 -- What pieces that come one after the other make: an image, or the first address that comes twice.
 use Rattle.std.proofs.Common.{◌≡◌, ◌⊎◌, inl, inr, ℕ, ◌+◌, ◌-◌, ◌<◌, ◌≤◌, List, [], ◌∷◌, length, take, drop, Option, Some, None, IsSome, refl, sym, ap, subst, ◌∙◌, arith}
-use Rattle.std.specs.Prelude.{Ok, Err, MatchOption, Result}
+use Rattle.std.specs.Prelude.{Ok, Err, MatchOption, MatchResult, Result}
+use Rattle.std.specs.Result.{IsErrAnd}
 use Rattle.std.specs.Option.{option_map_or, option_or}
 use Rattle.std.specs.List.{AllByRecursion}
 use Rattle.std.specs.List.Sorted.{IsNonDecreasingBy, IsPermutation}
 use Rattle.std.specs.FinMap.{empty}
 use Rattle.std.proofs.lemmas.Bool.{cases_lt}
 use Rattle.acpi_base.specs.Memory.{Memory, byte_of, with_bytes}
-use Rattle.acpi_base.specs.Image.Adding.{added}
+use Rattle.acpi_base.specs.Image.Adding.{IsLayoutRefusal, added}
+use Rattle.acpi_base.specs.declared.image.ImageFault.{ImageFault}
 use Rattle.acpi_base.specs.Image.Draft.{AreContiguous, AreDisjoint, AreDrafted, IsFirstTwice, IsOnceBefore, all_added, cut, cut_all, holder_count, holds_at}
 use Rattle.acpi_base.specs.Image.Pieces.{Piece, AreSortedDisjoint, LiesBefore, end_at, run_in, runs_in}
 use Rattle.acpi_base.specs.Image.Runs.{byte_in, lookup, memory_of}
@@ -250,3 +252,9 @@ are_judged store ps qs drafted moved sorted once =
       lies = all.lies;
       same = all_joined store ps drafted.lies once ∙ ap (λ m. Ok m) (sym (memory_permuted store ps qs moved disjoint));
     }
+
+-- a refusal is passed on
+pub told_on : {U : Type 0} (P : U → Type 0) (r : Result U ImageFault) (e : ImageFault) (held : Result Memory ℕ)
+    → IsErrAnd r (λ f. f ≡ e) → IsLayoutRefusal held e → MatchResult r P (IsLayoutRefusal held)
+told_on P (Ok x) e held is told = absurd is
+told_on P (Err f) e held is told = subst (IsLayoutRefusal held) (sym is) told

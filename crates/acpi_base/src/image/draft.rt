@@ -1,5 +1,4 @@
-//! An image in the making: pieces in the order in which they came. Whether an address came twice is asked once they are
-//! there.
+//! An image in the making: pieces in the order in which they came. Whether an address came twice is decided at the end.
 //!
 //! The store has all bytes in the order in which they came. If an address occurs twice among its first `n` bytes, one
 //! occurs twice among more bytes too. So the first byte at fault is found by bisection.
@@ -9,7 +8,7 @@ ghost use Rattle.std.specs.FinMap.{empty};
 ghost use Rattle.std.specs.List.{AllByRecursion};
 ghost use Rattle.std.specs.List.Sorted.{IsNonDecreasingBy, IsPermutation};
 ghost use Rattle.acpi_base.specs.Memory.{Memory, IsImage};
-ghost use Rattle.acpi_base.specs.Image.Adding.{added};
+ghost use Rattle.acpi_base.specs.Image.Adding.{IsLayoutRefusal, added};
 ghost use Rattle.acpi_base.specs.Image.Draft.{AreDrafted, ComesTwice, EndsAt, IsFirstTwice, IsOnceBefore, all_added, holder_count};
 ghost use Rattle.acpi_base.specs.Image.Pieces.{runs_in};
 ghost use Rattle.acpi_base.specs.Image.Segments.{IsSound, memory_in};
@@ -104,8 +103,7 @@ fn lay_out(
     requires { AreDrafted store.now pieces.items }
     ensures same { MatchResult result
         (λ segments. all_added empty (runs_in store.now pieces.items) ≡ Ok (memory_in segments))
-        (λ fault. (fault ≡ ImageFault.Memory) ⊎ ((address : ℕ) × (fault ≡ ImageFault.Twice address)
-        × (all_added empty (runs_in store.now pieces.items) ≡ Err address))) }
+        (IsLayoutRefusal (all_added empty (runs_in store.now pieces.items))) }
     ensures sound { IfOk result IsSound }
 {
     if let Some(address) = judge(store, &mut pieces) {
@@ -177,8 +175,8 @@ fn open(
     Ok(())
 }
 
-/// An image in the making, to which pieces are added in any order. Whether an address came twice is asked by `first_twice`
-/// and `finish`. Contracts see what the pieces hold, or the first address that came twice. The time grows with the number
+/// An image in the making, to which pieces are added in any order. `first_twice` and `finish` say whether an address came
+/// twice. Contracts see what the pieces hold, or the first address that came twice. The time grows with the number
 /// of bytes, and with n log n for n pieces.
 #[derive(Drop)]
 pub struct DraftImage {
@@ -272,8 +270,7 @@ impl DraftImage {
     /// The image of all pieces. Refuses `Twice`, with the first address that came twice, and `Memory`.
     pub fn finish(self) -> Result<Image, ImageFault>
         ensures same { MatchResult result (λ image. self ≡ Ok image)
-            (λ fault. (fault ≡ ImageFault.Memory)
-            ⊎ ((address : ℕ) × (fault ≡ ImageFault.Twice address) × (self ≡ Err address))) }
+            (IsLayoutRefusal self) }
         ensures image { IfOk result IsImage }
     {
         let DraftImage {

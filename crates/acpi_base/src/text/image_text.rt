@@ -91,7 +91,7 @@ impl ImageText {
         if let Some(fault) = self.stopped {
             return Err(fault);
         }
-        let taken = self.buffer.take_once(piece);
+        let taken = self.buffer.take_and_judge(piece);
         if let Err(fault) = taken {
             self.stopped = Some(fault);
         }

@@ -36,7 +36,7 @@ fn note(notes: &mut [u8], size: usize, start: usize)
     }
 }
 
-/// Notes starts of the table's entries: for each of as many blocks as there is room for that of its first entry.
+/// Divides the table into as many blocks as there are notes, and notes for each where its first entry begins.
 pub(super) fn note_starts<'a>(pptt: &[u8], notes: &'a mut [u8]) -> Starts<'a>
     requires { 1 ≤ length notes.old }
     ensures { AreStarts result.size result.notes.now pptt.now }

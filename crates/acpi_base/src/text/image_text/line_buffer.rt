@@ -63,7 +63,7 @@ fn line_end(text: &[u8]) -> usize
 }
 
 /// What has been read, and the incomplete last line. Reading goes on after a line that gives an address twice:
-/// `take_once` and `first_fault` tell that.
+/// `take_and_judge` and `first_fault` tell that.
 #[derive(Drop)]
 pub struct LineBuffer {
     parser: LineParser,
@@ -164,7 +164,7 @@ impl LineBuffer {
     }
 
     /// Reads the next piece of the text, and refuses at once an address that came twice.
-    pub fn take_once(&mut self, piece: &[u8]) -> Result<(), TextFault>
+    pub fn take_and_judge(&mut self, piece: &[u8]) -> Result<(), TextFault>
         requires { IsLineBuffer self.old }
         ensures sound { OnOk result (IsLineBuffer self.new) }
         ensures ok { OnOk result (run (buffer_state self.old) piece.now ≡ buffer_state self.new) }

@@ -1,5 +1,5 @@
 use Rattle.std.proofs.Common.{inl, refl, sym, subst}
-use Rattle.acpi_c.specs.Pieces.{Stands}
+use Rattle.acpi_c.specs.AddedPieces.{Stands}
 use Rattle.acpi_c.proofs.AddedPieces.{begun_next, stands_first, stands_next}
 use Rattle.acpi_c.proofs.pieces.add_pieces.Goals as goal
 

@@ -1,5 +1,6 @@
 use Rattle.std.proofs.Common.{◌≡◌, ◌⊎◌}
-use Rattle.acpi_c.specs.Pieces.{FirstFits, Stands}
+use Rattle.acpi_c.specs.AddedPieces.{Stands}
+use Rattle.acpi_c.specs.Pieces.{FirstFits}
 use Rattle.acpi_c.proofs.pieces.add_pieces.Given as goal
 
 abbrev pub invariant-loop-index : goal.invariant-loop-index

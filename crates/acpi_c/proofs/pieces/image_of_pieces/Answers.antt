@@ -1,5 +1,5 @@
 use Rattle.std.proofs.Common.{subst, sym}
-use Rattle.acpi_c.specs.Pieces.{Stands}
+use Rattle.acpi_c.specs.AddedPieces.{Stands}
 use Rattle.acpi_c.specs.Sources.{Fails, pieces_source}
 use Rattle.acpi_c.proofs.AddedPieces.{stopped}
 use Rattle.acpi_c.proofs.pieces.image_of_pieces.Goals as goal

@@ -1,5 +1,5 @@
 use Rattle.std.proofs.Common.{◌≡◌, false, drop}
-use Rattle.acpi_c.specs.Pieces.{second_with}
+use Rattle.acpi_c.specs.AddedPieces.{second_with}
 use Rattle.acpi_c.proofs.pieces.second_with.Given as goal
 
 -- the search goes on from here as it began
