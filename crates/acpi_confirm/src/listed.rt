@@ -11,7 +11,7 @@ use acpi_base::field::is_signed;
 use acpi_base::{Image, Policy};
 
 /// The bytes of the first listed table with the signature, if it is complete: the first slot whose address has a
-/// header with the signature decides, and no later one is looked at.
+/// header with the signature decides.
 pub(crate) fn listed<'a>(image: &'a Image, policy: &Policy, signature: &[u8; 4]) -> Option<&'a [u8]>
     ensures found { MatchOption result ((whole : List ℕ)
         → ¬ IsListedTable image.now policy.now.rsdp signature.now whole)
