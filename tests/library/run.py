@@ -47,10 +47,9 @@ def one_of_each_stage():
 
 COUNT = 4096
 MANY_PIECES = 100_000
-# How many bytes of stack a call may take, one on a set of more than 65,536 slots, and one about a cycle in a PPTT of more than 512 KiB.
-MOST_STACK = 32_768
-MOST_STACK_OF_MANY_SLOTS = 600_000
-MOST_STACK_OF_LONG_CYCLE = 300_000
+MANY_COUNTS = 1_100_000
+# How many bytes of stack a call may take on any image.
+MOST_STACK = 100_000
 
 
 def many_processors():
@@ -86,41 +85,38 @@ def subjects(scratch):
     for name, rsdp, text in firmware():
         yield Subject(rsdp[1], FIRMWARE / f"{name}.img.txt")
     for name, pieces in made:
-        path = scratch / f"{name.replace(' ', '-')}.img.txt"
-        path.write_bytes(text_in(pieces))
-        yield Subject("e0000", path)
+        yield written(scratch, name, pieces)
+
+
+def written(scratch, name, pieces):
+    """An image in a file with this name."""
+    path = scratch / f"{name.replace(' ', '-')}.img.txt"
+    path.write_bytes(text_in(pieces))
+    return Subject("e0000", path)
 
 
 @functools.cache
 def large_subject(scratch):
-    path = scratch / "4,096-processors.img.txt"
-    path.write_bytes(text_in(many_processors()))
-    return Subject("e0000", path)
+    return written(scratch, "4,096 processors", many_processors())
 
 
-@functools.cache
-def many_slots(scratch):
-    """A set of so many slots that their addresses are sorted on the stack; all list one table, which is no FADT."""
-    path = scratch / "70,000-slots.img.txt"
-    path.write_bytes(text_in({RSDP_AT: rsdp(), RSDT_AT: rsdt(*[0x100000] * 70_000), 0x100000: hpet()}))
-    return Subject("e0000", path)
-
-
-@functools.cache
-def long_cycle(scratch):
-    """A set of so many nodes in a ring that `acpiset_confirm` keeps notes of their places in its larger array."""
-    path = scratch / "30,000-nodes.img.txt"
-    path.write_bytes(text_in(image_of(fadt(), slots=[TABLES_AT, 0x100000], others={0x100000: pptt(ring(falling(30_000)))})))
-    return Subject("e0000", path)
-
-
-@functools.cache
-def many_ranges(scratch):
-    """Ranges of memory in no order: the sort takes more of the stack the more there are."""
-    path = scratch / "200,000-ranges.img.txt"
+def worst_for_the_stack(scratch):
+    """Sets for which a call may take more of the stack than for others, if it keeps there what it sorts, notes or reads."""
+    addresses = [0x100000 + 0x40 * place for place in range(5000)]
+    tables = {address: hpet() for address in addresses}
+    slots = [addresses[place % 5000] for place in shuffled(70_000)]
+    yield written(scratch, "slots in no order", {RSDP_AT: rsdp(), RSDT_AT: rsdt(*slots), **tables})
     ranges = srat(*(memory(0x1000 * place, 0x1000) for place in shuffled(200_000)))
-    path.write_bytes(text_in(image_of(fadt(), slots=[TABLES_AT, 0x100000], others={0x100000: ranges})))
-    return Subject("e0000", path)
+    yield written(scratch, "ranges in no order", with_fadt(ranges))
+    with_counts = madt(*(io_apic(place, 24 * place) for place in shuffled(MANY_COUNTS)))
+    yield written(scratch, "IO APICs with counts", with_fadt(with_counts))
+    # 22 MB of nodes; the text has just below 64 MiB.
+    yield written(scratch, "a long cycle", with_fadt(pptt(ring(falling(1_110_000)))))
+
+
+def with_fadt(whole):
+    """A set of a FADT and a large table."""
+    return image_of(fadt(), slots=[TABLES_AT, 0x1000000], others={0x1000000: whole})
 
 
 def words_of(some):
@@ -154,9 +150,9 @@ def tested(cases, build, place, built, scratch, jobs, some):
     usual = words_of(some)
     wanted = [("bad_input", []), ("many_pieces", [str(MANY_PIECES)])]
     wanted += [(program, usual) for program in ("findings", "guarded", "refused_memory", "threads")]
-    wanted.append(("stack", [str(MOST_STACK), *usual, *words_of([large_subject(scratch), many_ranges(scratch)])]))
-    wanted.append(("stack", [str(MOST_STACK_OF_MANY_SLOTS), *words_of([many_slots(scratch)])]))
-    wanted.append(("stack", [str(MOST_STACK_OF_LONG_CYCLE), *words_of([long_cycle(scratch)])]))
+    wanted.append(("stack", [str(MOST_STACK), "12", *usual, *words_of([large_subject(scratch)])]))
+    if place == 0:
+        wanted.append(("stack", [str(MOST_STACK), str(MANY_COUNTS), *words_of(worst_for_the_stack(scratch))]))
     for program, words in wanted:
         if (build.name, program) in built:
             lines = counted(cases, build, program, [build.path(scratch, program), *words])

@@ -1,5 +1,7 @@
 /* How much of the stack each call takes: it is asked in a thread whose stack has a known content, and what differs later was used.
- * usage: stack MOST RSDP FILE [RSDP FILE]..; MOST is how many bytes a call may take. */
+ * Then it is asked once more in a thread with a small stack, where too little of it would end the program.
+ * usage: stack MOST COUNTS RSDP FILE [RSDP FILE]..; MOST is how many bytes a call may take, and COUNTS how many I/O APICs, at the
+ * addresses from 0 on, have a count of inputs. */
 #define _DEFAULT_SOURCE
 #include "calls.h"
 
@@ -10,6 +12,8 @@
 
 #define SIZE ((size_t)1 << 20)
 #define FILLER 0xa5
+/* What a thread has by default with musl. */
+#define SMALL ((size_t)128 << 10)
 
 /* A call on a subject; of none of them only the thread's own bytes are counted. */
 struct question {
@@ -23,29 +27,52 @@ static void *ask_one(void *argument) {
     return NULL;
 }
 
+/* Asks in a thread with such a stack, of which the attributes are then destroyed. */
+static void ask_in_thread(pthread_attr_t *attributes, struct question *question) {
+    pthread_t thread;
+    if (pthread_create(&thread, attributes, ask_one, question) != 0) exit(2);
+    pthread_join(thread, NULL);
+    pthread_attr_destroy(attributes);
+}
+
 /* How many bytes of its stack a thread with this question uses. */
 static size_t used_by(struct question question) {
     unsigned char *stack = (unsigned char *)mmap(NULL, SIZE, PROT_READ | PROT_WRITE, MAP_PRIVATE | MAP_ANONYMOUS, -1, 0);
     if (stack == MAP_FAILED) exit(2);
     memset(stack, FILLER, SIZE);
     pthread_attr_t attributes;
-    pthread_t thread;
     pthread_attr_init(&attributes);
     if (pthread_attr_setstack(&attributes, stack, SIZE) != 0) exit(2);
-    if (pthread_create(&thread, &attributes, ask_one, &question) != 0) exit(2);
-    pthread_join(thread, NULL);
-    pthread_attr_destroy(&attributes);
+    ask_in_thread(&attributes, &question);
     size_t unused = 0;
     while (unused < SIZE && stack[unused] == FILLER) unused++;
     munmap(stack, SIZE);
     return SIZE - unused;
 }
 
+static void ask_with_small_stack(struct question question) {
+    pthread_attr_t attributes;
+    pthread_attr_init(&attributes);
+    if (pthread_attr_setstacksize(&attributes, SMALL) != 0) exit(2);
+    ask_in_thread(&attributes, &question);
+}
+
+/* Counts of inputs for so many I/O APICs. */
+static struct acpiset_inputs *counts_of(size_t count) {
+    struct acpiset_inputs *inputs = (struct acpiset_inputs *)block_of(count * sizeof *inputs);
+    for (size_t i = 0; i < count; i++) {
+        inputs[i].address = (uint32_t)i;
+        inputs[i].count = 1 + (uint32_t)(i % 24);
+    }
+    return inputs;
+}
+
 int main(int argc, char **argv) {
     size_t count;
-    if (argc < 2) exit(2);
-    size_t limit = strtoul(argv[1], NULL, 10);
-    struct subject *subjects = subjects_of(argc - 1, argv + 1, &count);
+    if (argc < 3) exit(2);
+    size_t limit = strtoul(argv[1], NULL, 10), inputs_count = strtoul(argv[2], NULL, 10);
+    struct acpiset_inputs *inputs = counts_of(inputs_count);
+    struct subject *subjects = subjects_of(argc - 2, argv + 2, &count);
     static struct acpiset_finding findings[ACPISET_MOST_FINDINGS];
     struct question nothing = {CHECK, NULL};
     size_t own = used_by(nothing);
@@ -55,6 +82,8 @@ int main(int argc, char **argv) {
         for (size_t i = 0; i < count; i++) {
             subjects[i].findings = findings;
             subjects[i].findings_count = ACPISET_MOST_FINDINGS;
+            subjects[i].inputs = inputs;
+            subjects[i].inputs_count = inputs_count;
             struct question question = {(enum call)call, &subjects[i]};
             size_t used = used_by(question);
             if (used > own && used - own > most) most = used - own;
@@ -63,6 +92,14 @@ int main(int argc, char **argv) {
         count_case(most < limit, "%s takes %zu bytes", call_names[call], most);
     }
     printf("\n");
+    fflush(stdout);
+    for (int call = 0; call < CALLS; call++) {
+        for (size_t i = 0; i < count; i++) {
+            struct question question = {(enum call)call, &subjects[i]};
+            ask_with_small_stack(question);
+        }
+    }
     free_subjects(subjects, count);
+    free(inputs);
     return report("stack");
 }

@@ -1,7 +1,6 @@
 #!/usr/bin/env python3
-"""Runs the built program on root tables of 100,000 slots that list tables in no order. It looks at such slots in blocks, by address.
-So what is looked for is at the ends of blocks, and the slot that comes first has the higher address. Other root tables have as many
-slots as a block, one fewer and one more.
+"""Runs the built program on root tables of 100,000 slots that list tables in no order. What is looked for is in slots all over the table,
+and the slot that comes first has the higher address. Other root tables have 65,536 slots, one fewer and one more.
 
 usage: many_slots.py PROGRAM; the last line is 'many slots: N passed, M failed'."""
 
@@ -17,13 +16,12 @@ SLOTS = 100_000
 TABLES = 5_000
 # Where the tables are: most of them from OTHERS on, and those that a case is about below and above these.
 LOW, LOWER_STILL, OTHERS, HIGH, FADT_AT = 0x18_0000, 0x17_0000, 0x20_0000, 0x80_0000, 0x90_0000
-# Slots at the ends of blocks of some powers of two, and others. Each case needs the next slot too.
+# Slots beside powers of two, and others. Each case needs the next slot too.
 CHOSEN = (0, 1, 4_095, 32_766, 32_767, 32_768, 40_000, 65_535, 65_536, 98_303, 98_304, SLOTS - 2)
 FADT_SLOT = 50_000
-BLOCK = 65_536
 BASE = 0x4000_0000
 SECONDS = 60
-# Each run has this much stack: a block takes half of it.
+# Each run has this much stack.
 STACK = 1 << 20
 
 
@@ -184,7 +182,7 @@ def main():
     _, program = sys.argv
     resource.setrlimit(resource.RLIMIT_STACK, (STACK, resource.getrlimit(resource.RLIMIT_STACK)[1]))
     cases = [(part, slot) for slot in CHOSEN for part in (one_fault, first_of_kind, first_of_two_kinds)]
-    cases += [(last_of, count) for count in (BLOCK - 1, BLOCK, BLOCK + 1)]
+    cases += [(last_of, count) for count in (65_535, 65_536, 65_537)]
     cases += [(written, seed) for seed in range(4)]
     with ThreadPoolExecutor() as pool:
         answers = list(pool.map(lambda case: list(case[0](program, case[1])), cases))

@@ -1,16 +1,10 @@
-pub mod Adopted
-pub mod AdoptedDrafts
-pub mod Bitmaps
-pub mod Builders
 pub mod ByteRuns
 pub mod Drafts
-pub mod EndedPieces
 pub mod FirstTwice
 pub mod HeldBytes
 pub mod Holders
 pub mod Inserts
-pub mod Joining
-pub mod LeastAddresses
+pub mod Rests
 pub mod RunBytes
 pub mod RunMemory
 pub mod Searches

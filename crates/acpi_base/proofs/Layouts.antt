@@ -1,4 +1,3 @@
-pub mod Gases
 pub mod Headers
 pub mod Kinds
 pub mod RoundTrip

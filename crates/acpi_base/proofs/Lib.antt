@@ -9,7 +9,6 @@ pub mod Facs
 pub mod Fadt
 pub mod Faults
 pub mod Images
-pub mod Lanes
 pub mod Layouts
 pub mod Lint
 pub mod Madt

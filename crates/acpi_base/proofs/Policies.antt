@@ -1,36 +1,33 @@
 -- What policies are made of.
-use Rattle.std.proofs.Common.{◌≡◌, ℕ, ◌==◌, nat_eq, ◌^◌, ◌<◌, ◌≤◌, ◌⊎◌, inl, inr, Bool, true, false, IsTrue, cond, List, [], ◌∷◌, Option, Some, None, unwrap_or, Result, Ok, Err, OnOk, OnErr, refl, sym, ap, subst, ◌∙◌, arith}
+use Rattle.std.proofs.Common.{◌≡◌, ℕ, ◌==◌, ◌^◌, ◌<◌, ◌≤◌, ◌⊎◌, inl, inr, Bool, true, false, IsTrue, cond, List, [], ◌∷◌, Option, Some, None, unwrap_or, Result, Ok, Err, OnOk, OnErr, refl, sym, ap, subst, ◌∙◌, arith}
 use Rattle.std.specs.Ordering.{nat_cmp, is_eq}
-use Rattle.std.specs.Cmp.{nat_cmp_total, eq_by_cmp_equiv, unsigned_tied, unsigned_ties}
+use Rattle.std.specs.Cmp.{nat_cmp_total, eq_by_cmp_equiv, unsigned_tied}
 use Rattle.std.proofs.lemmas.Bool.Decides.{nat_tests}
 use Rattle.std.specs.Map.{lookup}
-use Rattle.std.specs.HashMap as hashed
-use Rattle.std.specs.HashMap.{HashMap}
+use Rattle.std.specs.BTreeMap as tree
+use Rattle.std.specs.BTreeMap.{BTreeMap, is_at}
 use Rattle.std.specs.FinMap.{FinMap, find, get, insert, from_entries, gets, get-insert, get-from_entries, same_map, nat_cmp-IsAntisymmetric}
 
 -- what a map has at a key
 pub ruleset map_reads = (gets)
 
 -- both kinds of map look a key up in the same way
-find_as_lookup : (q : ℕ) (es : List (ℕ × ℕ)) → find nat_cmp q es ≡ lookup (nat_eq q) es
-find_as_lookup q [] = refl
-find_as_lookup q (e ∷ es) =
-    ap (cond (is_eq (nat_cmp q e.0)) (Some e.1)) (find_as_lookup q es)
-    ∙ ap (λ b. cond b (Some e.1) (lookup (nat_eq q) es)) (unsigned_tied q e.0)
+find_as_lookup : (a : ℕ) (es : List (ℕ × ℕ)) → find nat_cmp a es ≡ lookup (is_at (nat_cmp a)) es
+find_as_lookup a [] = refl
+find_as_lookup a (e ∷ es) = ap (cond (is_eq (nat_cmp a e.0)) (Some e.1)) (find_as_lookup a es)
 
 -- what a policy has at an address is what its entries have there
-pub count_at : (es : List (ℕ × ℕ)) (a : ℕ) → get (from_entries {R = nat_cmp} es) a ≡ lookup (nat_eq a) es
+pub count_at : (es : List (ℕ × ℕ)) (a : ℕ) → get (from_entries {R = nat_cmp} es) a ≡ lookup (is_at (nat_cmp a)) es
 count_at es a = get-from_entries nat_cmp_total es a ∙ find_as_lookup a es
 
 -- a count that is inserted among the entries is inserted in the map that they make
-pub count_inserted : {S : Type 0} (old new : HashMap ℕ ℕ S) (a n : ℕ) → hashed.Updates nat_eq old new a (Some n)
+pub count_inserted : (old new : BTreeMap ℕ ℕ) (a n : ℕ) → tree.Updates nat_cmp old new a (Some n)
     → from_entries {R = nat_cmp} new.entries ≡ insert (from_entries old.entries) a n
 count_inserted old new a n updates =
     same_map nat_cmp_total nat_cmp-IsAntisymmetric _ _
     (λ q. count_at new.entries q
     ∙ updates.0 q
-    ∙ (λ i. cond ((unsigned_ties a q ∙ (eq_by_cmp_equiv nat_cmp_total).symm a q) i) (Some n)
-    (sym (count_at old.entries q) i))
+    ∙ (λ i. cond ((eq_by_cmp_equiv nat_cmp_total).symm a q i) (Some n) (sym (count_at old.entries q) i))
     ∙ sym (get-insert nat_cmp_total (from_entries old.entries) a n q))
 
 -- a count of a map with one more is the new one, or was there before
@@ -57,9 +54,9 @@ still_bounded m a n fits least most counts address count e =
     )
 
 -- and so they are after an insertion that may have been refused
-pub bounded_after : {E S : Type 0} (old new : HashMap ℕ ℕ S) (a n : ℕ) (result : Result (Option ℕ) E) → a < 2 ^ 32
+pub bounded_after : {E : Type 0} (old new : BTreeMap ℕ ℕ) (a n : ℕ) (result : Result (Option ℕ) E) → a < 2 ^ 32
     → 1 ≤ n → n ≤ 256
-    → OnOk result (hashed.Updates nat_eq old new a (Some n)) → OnErr result (hashed.IsUnchanged old new)
+    → OnOk result (tree.Updates nat_cmp old new a (Some n)) → OnErr result (tree.IsUnchanged old new)
     → AreBounded (from_entries old.entries) → AreBounded (from_entries new.entries)
 bounded_after old new a n (Ok _) fits least most updates _ counts =
     subst AreBounded (sym (count_inserted old new a n updates))
@@ -73,9 +70,9 @@ pub ruleset adding = (count_at, count_inserted, bounded_after)
 -- a count that stands for an address, or the default, is in its bounds
 pub inputs_bounded : (es : List (ℕ × ℕ)) (default a : ℕ) → (1 ≤ default) × (default ≤ 256)
     → AreBounded (from_entries es)
-    → (1 ≤ unwrap_or (lookup (nat_eq a) es) default)
-    × (unwrap_or (lookup (nat_eq a) es) default ≤ 256)
-inputs_bounded es default a fits counts = within (lookup (nat_eq a) es) (count_at es a)
+    → (1 ≤ unwrap_or (lookup (is_at (nat_cmp a)) es) default)
+    × (unwrap_or (lookup (is_at (nat_cmp a)) es) default ≤ 256)
+inputs_bounded es default a fits counts = within (lookup (is_at (nat_cmp a)) es) (count_at es a)
   where
     within : (given : Option ℕ) → get (from_entries {R = nat_cmp} es) a ≡ given
         → (1 ≤ unwrap_or given default) × (unwrap_or given default ≤ 256)

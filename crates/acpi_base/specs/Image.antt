@@ -1,10 +1,6 @@
 pub mod Adding
-pub mod Bitmap
-pub mod Builder
 pub mod Draft
-pub mod Ended
 pub mod Pieces
-pub mod Rests
 pub mod Runs
 pub mod Segments
 pub mod Sums

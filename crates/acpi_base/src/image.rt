@@ -9,12 +9,7 @@ ghost use Rattle.acpi_base.specs.Number.{byte_sum};
 ghost use Rattle.acpi_base.specs.Image.Runs.{lookup};
 ghost use Rattle.acpi_base.specs.Image.Segments.{IsSound, runs_of};
 
-mod address_bitmap;
-pub(crate) mod builder;
-pub(crate) mod data;
-mod draft;
-mod ended;
-pub(crate) mod pieces;
+pub(crate) mod draft;
 mod prefix_sums;
 mod runs;
 mod segments;
@@ -154,27 +149,21 @@ impl Image {
 
     /// Returns the `count` bytes from an address on, or `None` if one of these addresses has no byte. The bytes may have
     /// been added in several calls. For a count of 0 it returns no bytes, at any address. Takes no memory.
-    #[tactic(auto, using(crate::proofs::Images::RunMemory::bytes_at_held_by), unfolding(crate::specs::Memory::run_of))]
+    #[tactic(auto, using(crate::proofs::Images::RunMemory::bytes_at_held_by))]
     pub fn window(&self, address: u64, count: u64) -> Option<&[u8]>
         ensures bytes { option_map (λ bytes. bytes.now) result ≡ bytes_at self.now address count }
         ensures count { IfSome result (λ bytes. length bytes.now ≡ count) }
     {
-        if count == 0 {
-            return Some(&[]);
-        }
         self.segments.window(address, count)
     }
 
     /// Returns the sum modulo 256 of the `count` bytes from an address on, or `None` if one of these addresses has no byte.
     /// It is 0 if a checksum is right, and for a count of 0, at any address. However many bytes there are, fewer than 256
     /// of them are read. Takes no memory.
-    #[tactic(auto, using(crate::proofs::Images::RunMemory::bytes_at_held_by), unfolding(crate::specs::Memory::run_of, crate::specs::Number::byte_sum))]
+    #[tactic(auto, using(crate::proofs::Images::RunMemory::bytes_at_held_by))]
     pub fn window_sum(&self, address: u64, count: u64) -> Option<u8>
         ensures { result ≡ option_map byte_sum (bytes_at self.now address count) }
     {
-        if count == 0 {
-            return Some(0);
-        }
         self.segments.window_sum(address, count)
     }
 }

@@ -1,9 +1,8 @@
 //! The base of all parts of the ACPI table checker: images of a machine's memory, the text that they are read from,
 //! the codes of faults, and the definitions of a valid set of tables.
 //!
-//! - `Image`: bytes at 64-bit addresses. `ImagePieces` builds one from pieces in any order. `read_image` reads one
-//!   from image text, `ImageText` from such a text in pieces, and `written_text::image_text` writes it.
-//! - `sort_addresses`: sorts addresses that are looked up together.
+//! - `Image`: bytes at 64-bit addresses. `DraftImage` builds one from pieces in any order. `read_image` and `parse_image`
+//!   read one from image text, `ImageText` from such a text in pieces, and `written_text::image_text` writes it.
 //! - `sum`, `find_rsdp`: a checksum, and the search for the RSDP.
 //! - `field`: numbers and bytes at an offset in a table, read and written.
 //! - `Code`, `Stage`, `Witness`, `Verdict`: what can be wrong, in which part of the check, where, and the
@@ -24,7 +23,6 @@
 //! `specs/` has the definitions, one file for each subject. None depends on a function of the code.
 #![tactic(auto)]
 
-mod addresses;
 mod checksum;
 mod code;
 pub mod field;
@@ -40,11 +38,10 @@ mod text;
 mod verdict;
 mod witness;
 
-pub use addresses::sort_addresses;
 pub use checksum::sum;
 pub use code::Code;
 pub use find::find_rsdp;
-pub use image::pieces::ImagePieces;
+pub use image::draft::DraftImage;
 pub use image::{Image, ImageFault};
 pub use policy::{HotPlug, Policy, PolicyFault, Processors};
 pub use rule::{Advice, Rule};
@@ -53,7 +50,7 @@ pub use table_kind::TableKind;
 pub use tally::{DeviceFailed, Tally};
 pub use text::fault_parsing::parse_witness;
 pub use text::fault_text::{advice_text, verdict_text, witness_text};
-pub use text::image_text::{ImageText, read_image};
+pub use text::image_text::{ImageText, parse_image, read_image};
 pub use text::{TextFault, written_text};
 pub use verdict::Verdict;
 pub use witness::Witness;

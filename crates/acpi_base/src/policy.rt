@@ -4,7 +4,7 @@ ghost use Rattle.std.specs.Prelude.{◌≡◌, ◌+◌, ◌^◌, ◌<◌, ◌≤
 ghost use Rattle.std.specs.FinMap.{get};
 
 use std::alloc::Global;
-use std::collections::HashMap;
+use std::collections::BTreeMap;
 use std::marker::Model;
 use thiserror::Error;
 
@@ -40,13 +40,13 @@ pub enum Processors {
 /// The settings of a check: the RSDP's address, how many inputs an I/O APIC has, which no table says, and two
 /// settings. Contracts see the counts of inputs as a map by address.
 ///
-/// The counts are kept in a `HashMap`, whose hasher needs no random numbers: to add one, or to look one up, takes a few
-/// steps however many there are, if few of their addresses have one hash. Only `add_input` allocates.
+/// The counts are kept in the order of their addresses: to add one, or to look one up, takes a time that grows with the
+/// logarithm of their number, whatever the addresses are. Only `add_input` allocates.
 #[derive(Debug, Drop)]
 pub struct Policy {
     rsdp: u64,
     default_inputs: u16,
-    inputs: HashMap<u32, u16>,
+    inputs: BTreeMap<u32, u16>,
     hotplug: HotPlug,
     processors: Processors,
 }
@@ -91,7 +91,7 @@ impl Policy {
         Ok(Policy {
             rsdp,
             default_inputs,
-            inputs: HashMap::new(alloc),
+            inputs: BTreeMap::new(alloc),
             hotplug: HotPlug::Counted,
             processors: Processors::Enabled,
         })
@@ -152,17 +152,11 @@ impl Policy {
             .unwrap_or(self.default_inputs)
     }
 
-    /// Whether the interrupt numbers that the I/O APIC at `address` serves, from `gsi_base` on, end past 2^32. Only
-    /// where the largest count would is this one looked up.
-    #[tactic(auto, using(crate::proofs::Policies::looking), unfolding(crate::specs::Policy::inputs_of))]
+    /// Whether the interrupt numbers that the I/O APIC at `address` serves, from `gsi_base` on, end past 2^32.
     pub fn is_past_end(&self, gsi_base: u32, address: u32) -> bool
         ensures { IsTrue result ↔ (2 ^ 32 < gsi_base + inputs_of self.now address) }
     {
-        // Reading a field opens the policy's invariant to the proof: no count is above the largest one.
-        let _inputs = &self.inputs;
-        let begin = u64::from(gsi_base);
-        let most = u64::from(Policy::MOST_INPUTS);
-        begin + most > 1 << 32 && begin + u64::from(self.inputs_of(address)) > 1 << 32
+        u64::from(gsi_base) + u64::from(self.inputs_of(address)) > 1 << 32
     }
 
     /// Sets which enabled ranges of memory must not overlap, and nothing else. Allocates nothing.

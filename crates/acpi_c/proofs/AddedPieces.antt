@@ -1,82 +1,144 @@
 -- One more piece is added, or is refused.
-use Rattle.std.proofs.Common.{◌≡◌, ◌⊎◌, inl, inr, ℕ, suc, ◌+◌, ◌<◌, List, [], ◌∷◌, length, get_or, drop, Option, Some, None, Result, Ok, Err, refl, sym, subst, ap, ◌∙◌, arith, drop-cons}
-use Rattle.std.specs.Prelude.{IsOkUnless, OnOk}
-use Rattle.std.specs.FinMap.{empty}
-use Rattle.std.specs.Option.{MatchOption}
-use Rattle.acpi_base.specs.Image.Adding.{add_refusal}
-use Rattle.acpi_base.specs.Memory.{Memory, with_bytes}
+use Rattle.std.proofs.Common.{◌≡◌, ◌⊎◌, inl, inr, ℕ, zero, suc, ◌+◌, ◌^◌, ◌<◌, ◌≤◌, true, false, List, [], ◌∷◌, length, get_or, drop, Option, Some, None, is_some, refl, sym, subst, ap, ◌∙◌, arith, drop-cons}
+use Rattle.std.specs.Prelude.{nat_lt, Result, Ok, Err}
+use Rattle.std.specs.FinMap.{empty, get-empty}
+use Rattle.std.specs.Option.{option_map_or}
+use Rattle.std.specs.Ordering.{nat_cmp}
+use Rattle.std.proofs.lemmas.Bool.{cases_lt, le-ltb, lt-ltb}
+use Rattle.std.proofs.lemmas.Bool.Decides.{nat_tests}
+use Rattle.acpi_base.specs.Image.Adding.{added}
+use Rattle.acpi_base.specs.Image.Runs.{byte_in, run_at}
+use Rattle.acpi_base.specs.Memory.{Memory, byte_of, first_held, with_bytes}
+use Rattle.acpi_base.specs.Text.ImageText.{on_ok}
 use Rattle.acpi_base.specs.declared.image.ImageFault.{ImageFault}
-use Rattle.acpi_c.specs.Pieces.{FirstFits, piece_refusal, unless_refused, with_pieces}
+use Rattle.acpi_base.specs.declared.image.ImageFault.TheVariants as image
+use Rattle.acpi_base.proofs.Images.RunBytes.{byte_of-with_bytes, held_none, held_some}
+use Rattle.acpi_base.proofs.Images.ByteRuns.{first_of_from, first_of_here, first_of_none}
+use Rattle.acpi_base.proofs.Images.Searches.{nothing_held}
+use Rattle.acpi_c.specs.AddedPieces.{RefusesFirst, Stands, has_address, second_with}
+use Rattle.acpi_c.specs.Pieces.{FirstFits, piece_refusal, with_pieces}
 use Rattle.acpi_c.specs.Sources.{Fails, pieces_source}
 use Rattle.acpi_c.specs.declared.pieces.Piece.{Piece}
-use Rattle.acpi_c.specs.declared.refusal.Refusal.{Refusal}
-use Rattle.acpi_c.specs.declared.refusal.Refusal.TheVariants.{OutOfMemory}
+use Rattle.acpi_c.specs.declared.refusal.Refusal.TheVariants.{PiecesOverlap}
 
--- what adding the piece at this index returns, by the contract of `add_piece`
-abbrev pub IsAdded : Memory → ℕ → Piece → Result (Unit {0}) Refusal → Type 0
-IsAdded m index p added =
-    MatchOption
-    (add_refusal m p.address p.bytes.now)
-    (IsOkUnless added OutOfMemory)
-    (λ fault. added ≡ Err (piece_refusal index fault))
+-- no piece has been added
+pub stands_first : (ps : List Piece) → Stands ps 0 (Ok empty)
+stands_first ps = (refl, λ a. ap (λ o. second_with (is_some o) 0 ps a) (get-empty nat_cmp a))
 
--- no piece was added, or the first one fits
-abbrev pub IsBegun : List Piece → ℕ → Memory → Type 0
-IsBegun ps index m = ((index ≡ 0) × (m ≡ empty)) ⊎ FirstFits ps
+-- ---- a piece that fits
 
-first_fits : (ps : List Piece) (index : ℕ) (d : Piece) (m : Memory) → IsBegun ps index m
-    → add_refusal m (get_or ps index d).address (get_or ps index d).bytes.now ≡ None → FirstFits ps
-first_fits [] index d m begun free = tt
-first_fits (p ∷ rest) index d m (inr fits) free = fits
-first_fits (p ∷ rest) index d m (inl start) free = rw (start.0, start.1) at free
+-- it has an address or not
+has_or_not : (p : Piece) (a : ℕ)
+    → ((has_address p a ≡ true) × (p.address ≤ a) × (a < p.address + length p.bytes.now))
+    ⊎ ((has_address p a ≡ false) × ((a < p.address) ⊎ (p.address + length p.bytes.now ≤ a)))
+has_or_not p a = elim (cases_lt a p.address) [
+  | inl low ↦ inr (grind (arith, nat_tests), inl low)
+  | inr from ↦ elim (cases_lt a (p.address + length p.bytes.now)) [
+    | inl below ↦ inl (grind (arith, nat_tests), from, below)
+    | inr past ↦ inr (grind (arith, nat_tests), inr past)
+  ]
+]
 
--- what the pieces behind this one make up, once it was added
-abbrev pub with_rest : List Piece → ℕ → Memory → Piece → Result Memory Refusal
-with_rest ps index m p = with_pieces (suc index) (with_bytes m p.address p.bytes.now) (drop (suc index) ps)
-
--- the pieces from this index on are the one there, and those behind it
-next : (ps : List Piece) (index : ℕ) (d : Piece) (m : Memory) → index < length ps
-    → with_pieces index m (drop index ps) ≡ with_pieces 0 empty ps
-    → unless_refused (add_refusal m (get_or ps index d).address (get_or ps index d).bytes.now) index
-    (with_rest ps index m (get_or ps index d)) ≡ with_pieces 0 empty ps
-next ps index d m below so_far = ap (λ l. with_pieces index m l) (sym (drop-cons ps index d below)) ∙ so_far
-
-pub refused_piece : (ps : List Piece) (index : ℕ) (d : Piece) (m : Memory) (added : Result (Unit {0}) Refusal)
-    (r : Refusal) → index < length ps → with_pieces index m (drop index ps) ≡ with_pieces 0 empty ps
-    → IsBegun ps index m → IsAdded m index (get_or ps index d) added → added ≡ Err r → Fails (pieces_source ps) r
-refused_piece ps index d m added r below so_far begun is err =
-    go (add_refusal m (get_or ps index d).address (get_or ps index d).bytes.now) refl is
-    (next ps index d m below so_far)
+-- where none of its addresses was held, the search for the second holder goes on behind it
+passed : (m : Memory) (p : Piece) (rest : List Piece) (index a : ℕ)
+    → first_held m p.address (length p.bytes.now) ≡ None
+    → second_with (is_some (byte_of (with_bytes m p.address p.bytes.now) a)) (suc index) rest a
+    ≡ second_with (is_some (byte_of m a)) index (p ∷ rest) a
+passed m p rest index a free =
+    ap (λ o. second_with (is_some o) (suc index) rest a) (byte_of-with_bytes m p.address p.bytes.now a)
+    ∙ elim (has_or_not p a) [
+      | inl y ↦
+          let here : is_some (byte_at a) ≡ true = held_some (run_at p.address p.bytes.now) a y.1 y.2 in
+          let before : byte_of m a ≡ None = nothing_held (byte_of m) p.address (length p.bytes.now) a free y.1 y.2 in
+          grind (arith, here, before, y.0)
+      | inr y ↦
+          let none : byte_at a ≡ None = held_none (run_at p.address p.bytes.now) a y.1 in
+          grind (arith, none, y.0)
+    ]
   where
-    go : (o : Option ImageFault) → add_refusal m (get_or ps index d).address (get_or ps index d).bytes.now ≡ o
-        → MatchOption o (IsOkUnless added OutOfMemory) (λ fault. added ≡ Err (piece_refusal index fault))
-        → unless_refused o index (with_rest ps index m (get_or ps index d)) ≡ with_pieces 0 empty ps
-        → Fails (pieces_source ps) r
-    go (Some fault) why here all =
-        let same : piece_refusal index fault ≡ r = cc in inr (sym all ∙ ap (λ x. Err x) same)
-    go None free here all =
-        inl (subst (λ a. IsOkUnless a OutOfMemory) err here, first_fits ps index d m begun free)
+    byte_at : ℕ → Option ℕ
+    byte_at a = byte_in (run_at p.address p.bytes.now) a
 
-pub added_piece : (ps : List Piece) (index : ℕ) (d : Piece) (m n : Memory) (added : Result (Unit {0}) Refusal)
-    (x : Unit {0}) → index < length ps → with_pieces index m (drop index ps) ≡ with_pieces 0 empty ps
-    → IsBegun ps index m → IsAdded m index (get_or ps index d) added
-    → OnOk added (n ≡ with_bytes m (get_or ps index d).address (get_or ps index d).bytes.now) → added ≡ Ok x
-    → (with_pieces (index + 1) n (drop (index + 1) ps) ≡ with_pieces 0 empty ps) × IsBegun ps (index + 1) n
-added_piece ps index d m n added x below so_far begun is ok was =
-    go (add_refusal m (get_or ps index d).address (get_or ps index d).bytes.now) refl is
-    (next ps index d m below so_far)
+pub stands_next : (ps : List Piece) (index : ℕ) (d : Piece) (old new : Result Memory ℕ) → index < length ps
+    → (get_or ps index d).address + length (get_or ps index d).bytes.now ≤ 2 ^ 64
+    → new ≡ on_ok old (λ m. added m (get_or ps index d).address (get_or ps index d).bytes.now)
+    → Stands ps index old → Stands ps (index + 1) new
+stands_next ps index d (Err a) new below fits is stands = subst (Stands ps (index + 1)) (sym is) stands
+stands_next ps index d (Ok m) new below fits is (so_far, seen) =
+    let place : suc index ≡ index + 1 = omega arith in
+    subst (Stands ps (index + 1)) (sym is)
+    (subst (λ k. Stands ps k (added m p.address p.bytes.now)) place
+    (go (first_held m p.address (length p.bytes.now)) refl))
   where
-    new : n ≡ with_bytes m (get_or ps index d).address (get_or ps index d).bytes.now
-    new = subst (λ a. OnOk a (n ≡ with_bytes m (get_or ps index d).address (get_or ps index d).bytes.now)) was ok
+    p : Piece
+    p = get_or ps index d
 
-    go : (o : Option ImageFault) → add_refusal m (get_or ps index d).address (get_or ps index d).bytes.now ≡ o
-        → MatchOption o (IsOkUnless added OutOfMemory) (λ fault. added ≡ Err (piece_refusal index fault))
-        → unless_refused o index (with_rest ps index m (get_or ps index d)) ≡ with_pieces 0 empty ps
-        → (with_pieces (index + 1) n (drop (index + 1) ps) ≡ with_pieces 0 empty ps) × IsBegun ps (index + 1) n
-    go (Some fault) why here all = absurd (cc)
-    go None free here all =
-        let place : suc index ≡ index + 1 = omega arith in (
-          subst (λ k. with_pieces k n (drop k ps) ≡ with_pieces 0 empty ps) place
-              (ap (λ o. with_pieces (suc index) o (drop (suc index) ps)) new ∙ all),
-          inr (first_fits ps index d m begun free),
-        )
+    rest : List Piece
+    rest = drop (suc index) ps
+
+    split : drop index ps ≡ p ∷ rest
+    split = drop-cons ps index d below
+
+    low : nat_lt (2 ^ 64) (p.address + length p.bytes.now) ≡ false
+    low = le-ltb (2 ^ 64) (p.address + length p.bytes.now) fits
+
+    all : with_pieces index m (p ∷ rest) ≡ with_pieces 0 empty ps
+    all = ap (with_pieces index m) (sym split) ∙ so_far
+
+    searched : (a : ℕ) → second_with (is_some (byte_of m a)) index (p ∷ rest) a ≡ second_with false 0 ps a
+    searched a = ap (λ l. second_with (is_some (byte_of m a)) index l a) (sym split) ∙ seen a
+
+    go : (o : Option ℕ) → first_held m p.address (length p.bytes.now) ≡ o
+        → Stands ps (suc index) (option_map_or (λ a. Err a) o (Ok (with_bytes m p.address p.bytes.now)))
+    go None free = (
+      rw (low, free) at all,
+      λ a. passed m p rest index a free ∙ searched a,
+    )
+    go (Some a) held =
+        let from = first_of_from (byte_of m) p.address (length p.bytes.now) a held in
+        let there = first_of_here (byte_of m) p.address (length p.bytes.now) a held in
+        let here : has_address p a ≡ true = grind (arith, nat_tests, there.0) in
+        let second : second_with false 0 ps a ≡ index = sym (searched a) ∙ rw (here, there.1) refl in
+        let overlap : Err (PiecesOverlap index a) ≡ with_pieces 0 empty ps = rw (low, held) at all in
+        sym overlap ∙ ap (λ k. Err (PiecesOverlap k a)) (sym second)
+
+-- ---- how adding ends
+
+-- the first piece fits
+fits_first : (p : Piece) (rest : List Piece) → p.address + length p.bytes.now ≤ 2 ^ 64 → FirstFits (p ∷ rest)
+fits_first p rest fits =
+    rw (
+      le-ltb (2 ^ 64) (p.address + length p.bytes.now) fits,
+      first_of_none (byte_of empty) p.address (length p.bytes.now) (λ k l. get-empty nat_cmp (p.address + k)),
+    ) refl
+
+-- once a piece was added, the first one fits
+pub begun_next : (ps : List Piece) (index : ℕ) (d : Piece) → index < length ps
+    → (get_or ps index d).address + length (get_or ps index d).bytes.now ≤ 2 ^ 64 → (index ≡ 0) ⊎ FirstFits ps
+    → (index + 1 ≡ 0) ⊎ FirstFits ps
+begun_next [] index d below fits begun = absurd (omega arith)
+begun_next (p ∷ rest) index d below fits (inr first) = inr first
+begun_next (p ∷ rest) zero d below fits (inl start) = inr (fits_first p rest fits)
+begun_next (p ∷ rest) (suc index) d below fits (inl start) = absurd (omega arith)
+
+-- the piece at which adding stopped is refused, where none before it repeats an address
+pub stopped : (ps : List Piece) (index : ℕ) (m : Memory) (fault : ImageFault) → Stands ps index (Ok m)
+    → RefusesFirst (drop index ps) fault → (index ≡ 0) ⊎ FirstFits ps
+    → Fails (pieces_source ps) (piece_refusal index fault)
+stopped ps index m fault (so_far, seen) refuses begun = go (drop index ps) refl fault refuses
+  where
+    go : (rest : List Piece) → drop index ps ≡ rest → (f : ImageFault) → RefusesFirst rest f
+        → Fails (pieces_source ps) (piece_refusal index f)
+    go [] e f never = absurd never
+    go (p ∷ rest) e image.PastEnd past =
+        let high : nat_lt (2 ^ 64) (p.address + length p.bytes.now) ≡ true = lt-ltb _ _ past in
+        let all : with_pieces index m (p ∷ rest) ≡ with_pieces 0 empty ps = ap (with_pieces index m) (sym e) ∙ so_far in
+        inr (sym (rw high at all))
+    go (p ∷ rest) e (image.Twice a) never = absurd never
+    go (p ∷ rest) e image.Memory fits = inl (
+      refl,
+      elim begun [
+        | inl start ↦ subst FirstFits (sym (ap (λ k. drop k ps) (sym start) ∙ e)) (fits_first p rest fits)
+        | inr first ↦ first
+      ],
+    )

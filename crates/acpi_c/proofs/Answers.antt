@@ -11,8 +11,6 @@ use Rattle.acpi_base.specs.Memory.{Memory, with_bytes}
 use Rattle.acpi_base.specs.Policy.{PolicyValue}
 use Rattle.acpi_base.specs.RsdpSearch.{IsFound, IsNowhere}
 use Rattle.acpi_base.specs.Text.ImageText.{IsText, Reading}
-use Rattle.acpi_base.specs.Text.TextLaws.{RunReadsText}
-use Rattle.acpi_base.specs.Text.TextMachine.{ReaderState, EndsAs, initial_state, text_result, run}
 use Rattle.acpi_base.proofs.Faults.Laws.{one_verdict}
 use Rattle.acpi_base.proofs.Faults.Numbers.{same_stage}
 use Rattle.acpi_base.specs.declared.code.Code.{Code}
@@ -109,10 +107,3 @@ one_answer pieces text m settings inputs v w made is one other =
     (subst (λ s. IsVerdict s one.image one.policy w) last
     (subst (λ q. IsVerdict other.last one.image q w) policy
     (subst (λ n. IsVerdict other.last n other.policy w) same other.verdict)))
-
--- ---- texts
-
--- the image with which a reader of the whole text ends is the text's
-pub text_ends : RunReadsText → (text : List ℕ) (s : ReaderState) (m : Memory) → s ≡ run initial_state text → EndsAs s m
-    → IsText text m
-text_ends law text s m e ends = (ends.0, sym (law text) ∙ ap text_result (sym e) ∙ ends.1, ends.2)

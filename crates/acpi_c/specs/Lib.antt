@@ -1,4 +1,5 @@
 -- What the contracts of the exported functions cite.
+pub mod AddedPieces
 pub mod Answers
 pub mod Kinds
 pub mod Laws

@@ -1,14 +1,13 @@
 //! Images that are passed as pieces.
 
-ghost use Rattle.std.specs.Prelude.{◌≡◌, Err, IfErr, IsOkUnless, MatchOption, Ok, OnOk};
+ghost use Rattle.std.specs.Prelude.{◌≡◌, ◌⊎◌, IfErr, Ok, OnOk, drop, false, length};
 ghost use Rattle.std.specs.FinMap.{empty};
-ghost use Rattle.acpi_base.specs.Image.Adding.{add_refusal};
-ghost use Rattle.acpi_base.specs.Memory.{Memory, with_bytes};
-ghost use Rattle.acpi_c.specs.Pieces.{piece_refusal, with_pieces};
-ghost use Rattle.acpi_c.specs.Sources.{Fails, Reads, pieces_source};
+ghost use Rattle.acpi_c.specs.AddedPieces.{RefusesFirst, Stands, has_address, second_with};
+ghost use Rattle.acpi_c.specs.Pieces.{FirstFits};
+ghost use Rattle.acpi_c.specs.Sources.{Reads, pieces_source};
 
 use crate::refusal::Refusal;
-use acpi_base::{Image, ImageFault, ImagePieces};
+use acpi_base::{DraftImage, Image, ImageFault};
 use std::alloc::Global;
 
 /// Bytes of an image, and where they are.
@@ -21,94 +20,54 @@ pub struct Piece<'a> {
     pub bytes: &'a [u8],
 }
 
-/// At most this many pieces are added one by one whatever their order: copying what is present costs less than
-/// marking each address.
-const FEW: usize = 16;
-
-/// Whether each piece begins where the one before it ends, or after that.
-fn are_rising(pieces: &[Piece<'_>]) -> bool {
-    let mut end = 0;
-    for piece in pieces {
-        if piece.address < end {
-            return false;
-        }
-        end = piece.address.saturating_add(piece.bytes.len() as u64);
-    }
-    true
-}
-
-/// What pieces are added to.
-trait AddBytes {
-    /// The bytes so far.
-    ghost memory: { Self → Memory };
-
-    /// Adds the bytes, which take the addresses from `base` on. Refuses as `Image::add` does.
-    fn add_bytes(&mut self, base: u64, bytes: &[u8]) -> Result<(), ImageFault>
-        ensures refused { MatchOption (add_refusal (memory self.old) base bytes.now)
-            (IsOkUnless result ImageFault.Memory) (λ fault. result ≡ Err fault) }
-        ensures ok { OnOk result (memory self.new ≡ with_bytes (memory self.old) base bytes.now) };
-}
-
-impl AddBytes for Image {
-    ghost memory = { λ image. image };
-
-    fn add_bytes(&mut self, base: u64, bytes: &[u8]) -> Result<(), ImageFault> {
-        self.add(base, bytes)
-    }
-}
-
-impl AddBytes for ImagePieces {
-    ghost memory = { λ built. built };
-
-    fn add_bytes(&mut self, base: u64, bytes: &[u8]) -> Result<(), ImageFault> {
-        self.add(base, bytes)
-    }
-}
-
-/// Adds the piece at this index. Refuses as `image_of_pieces` does.
-fn add_piece<B: AddBytes>(built: &mut B, index: usize, piece: &Piece<'_>) -> Result<(), Refusal>
-    ensures refused { MatchOption
-        (add_refusal (B.memory built.old) piece.now.address piece.now.bytes.now)
-        (IsOkUnless result Refusal.OutOfMemory)
-        (λ fault. result ≡ Err (piece_refusal index fault)) }
-    ensures ok { OnOk result (B.memory built.new
-        ≡ with_bytes (B.memory built.old) piece.now.address piece.now.bytes.now) }
+/// Whether the piece has a byte at the address.
+fn has(piece: &Piece<'_>, address: u64) -> bool
+    ensures { result ≡ has_address piece.now address }
 {
-    match built.add_bytes(piece.address, piece.bytes) {
-        Ok(()) => Ok(()),
-        Err(fault) => Err(Refusal::of_piece(index as u64, fault)),
+    piece.address <= address && address - piece.address < piece.bytes.len() as u64
+}
+
+/// The index of the second piece that has a byte at the address.
+fn second_with(pieces: &[Piece<'_>], address: u64) -> usize
+    ensures { result ≡ second_with false 0 pieces.now address }
+{
+    let mut seen = false;
+    for (index, piece) in pieces.iter().enumerate() {
+        if has(piece, address) {
+            if seen {
+                return index;
+            }
+            seen = true;
+        }
+    }
+    pieces.len()
+}
+
+/// The refusal of pieces of which one repeats this address first: the second one that has it.
+fn overlap(pieces: &[Piece<'_>], address: u64) -> Refusal
+    ensures { result ≡ Refusal.PiecesOverlap (second_with false 0 pieces.now address) address }
+{
+    Refusal::PiecesOverlap {
+        index: second_with(pieces, address) as u64,
+        address,
     }
 }
 
-/// Adds the pieces in their order. Refuses as `image_of_pieces` does.
-fn add_pieces<B: AddBytes>(built: &mut B, pieces: &[Piece<'_>]) -> Result<(), Refusal>
-    requires { B.memory built.old ≡ empty }
-    ensures ok { OnOk result (with_pieces 0 empty pieces.now ≡ Ok (B.memory built.new)) }
-    ensures err { IfErr result (Fails (pieces_source pieces.now)) }
+/// Adds the pieces in their order, even if they overlap. Stops at the first one that is refused: its index, and why.
+fn add_pieces(draft: &mut DraftImage, pieces: &[Piece<'_>]) -> Result<(), (usize, ImageFault)>
+    requires { draft.old ≡ Ok empty }
+    ensures ok { OnOk result
+        (Stands pieces.now (length pieces.now) draft.new × FirstFits pieces.now) }
+    ensures err { IfErr result (λ refused. Stands pieces.now refused.0 draft.new
+        × RefusesFirst (drop refused.0 pieces.now) refused.1
+        × ((refused.0 ≡ 0) ⊎ FirstFits pieces.now)) }
 {
     for (index, piece) in pieces.iter().enumerate() {
-        add_piece(built, index, piece)?;
+        if let Err(fault) = draft.add(piece.address, piece.bytes) {
+            return Err((index, fault));
+        }
     }
     Ok(())
-}
-
-/// The image of the pieces, added one by one.
-fn image_by_adding(alloc: Global, pieces: &[Piece<'_>]) -> Result<Image, Refusal>
-    ensures { Reads (pieces_source pieces.now) result }
-{
-    let mut image = Image::new(alloc);
-    add_pieces(&mut image, pieces)?;
-    Ok(image)
-}
-
-/// The image of the pieces, which are marked and sorted.
-fn image_by_sorting(alloc: Global, pieces: &[Piece<'_>]) -> Result<Image, Refusal>
-    ensures { Reads (pieces_source pieces.now) result }
-{
-    let mut built = ImagePieces::new(alloc);
-    add_pieces(&mut built, pieces)?;
-    let image = built.finish()?;
-    Ok(image)
 }
 
 /// The image that the pieces give.
@@ -116,15 +75,20 @@ fn image_by_sorting(alloc: Global, pieces: &[Piece<'_>]) -> Result<Image, Refusa
 /// Refuses, for the first piece that cannot be added to those before it, in this order: `PiecePastEnd` if it passes
 /// the address 2^64 - 1; `PiecesOverlap` if it shares addresses with those before it, with the lowest of them;
 /// `OutOfMemory`. A piece without bytes is always added.
-///
-/// Pieces at rising addresses are appended without a search. For others, up to 16 are added with a copy of those
-/// before each; more are marked and sorted.
 pub fn image_of_pieces(alloc: Global, pieces: &[Piece<'_>]) -> Result<Image, Refusal>
     ensures { Reads (pieces_source pieces.now) result }
 {
-    if pieces.len() <= FEW || are_rising(pieces) {
-        image_by_adding(alloc, pieces)
-    } else {
-        image_by_sorting(alloc, pieces)
+    let mut draft = DraftImage::new(alloc);
+    if let Err((index, fault)) = add_pieces(&mut draft, pieces) {
+        // A piece before it may repeat an address.
+        if let Some(address) = draft.first_twice() {
+            return Err(overlap(pieces, address));
+        }
+        return Err(Refusal::of_piece(index as u64, fault));
+    }
+    match draft.finish() {
+        Ok(image) => Ok(image),
+        Err(ImageFault::Twice { address }) => Err(overlap(pieces, address)),
+        Err(_) => Err(Refusal::OutOfMemory),
     }
 }

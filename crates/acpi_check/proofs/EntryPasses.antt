@@ -2,9 +2,7 @@
 pub mod Collecting
 pub mod Filled
 pub mod Kept
-pub mod KindsSeen
 pub mod MadtPass
-pub mod NotSearched
 pub mod OverridesPass
 pub mod Passes
 pub mod PpttPass

@@ -3,9 +3,7 @@ pub mod Clashes
 pub mod CoveredSpans
 pub mod EntrySpans
 pub mod GsiClashes
-pub mod GsiMeetings
-pub mod GsiRanges
 pub mod RangeClashes
 pub mod ServedFaults
-pub mod ServedWalk
+pub mod RisingSpans
 pub mod ServedSpans

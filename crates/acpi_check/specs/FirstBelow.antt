@@ -1,8 +1,6 @@
 -- The first tables that the slots of a root table list, while the slots are scanned.
-use Rattle.std.specs.Prelude.{◌<◌, ℕ, List, Option, Some, None, MatchOption}
-use denote.Ref.{Bor}
+use Rattle.std.specs.Prelude.{◌<◌, ℕ, List, Option, Some, None}
 use Rattle.acpi_base.specs.Memory.{Memory}
-use Rattle.acpi_base.specs.Image.Windows.{AreBytesFrom}
 use Rattle.acpi_base.specs.Root.{HasSlot}
 use Rattle.acpi_base.specs.Tables.{IsSigned, IsSoundTable, IsTable}
 use Rattle.acpi_base.specs.Listed.{IsFirstListed}
@@ -21,9 +19,3 @@ IsFirstBelow m bytes d k signature (Some whole) = (a : ℕ) × (header : List �
 pub record AreFirstBelow (m : Memory) (root : RootValue) (k : ℕ) (firsts : FirstTables) : Type 0 where
   pub sound : (j a : ℕ) → j < k → HasSlot root.bytes root.width j a → IsSoundTable m a
   pub first : (kind : TableKind) → IsFirstBelow m root.bytes root.width k (signature_of kind) (first_table firsts kind)
-
--- what slot k lists: its address, and the bytes from there on
-abbrev pub IsListedRun : Memory → RootValue → ℕ → Option (ℕ × Bor (List ℕ)) → Type 0
-IsListedRun m root k found =
-    MatchOption found ((a : ℕ) → ¬ HasSlot root.bytes root.width k a)
-    (λ listed. HasSlot root.bytes root.width k listed.0 × AreBytesFrom m listed.0 listed.1.now)

@@ -7,11 +7,9 @@ pub mod Domains
 pub mod EntryPlaces
 pub mod FirstBelow
 pub mod FirstSeen
-pub mod GsiRanges
 pub mod HandedOn
 pub mod Headline
 pub mod Leaves
-pub mod MadtKinds
 pub mod NamedNumbers
 pub mod OffsetSets
 pub mod PassResults
@@ -20,9 +18,6 @@ pub mod RangeKinds
 pub mod RangeSpans
 pub mod ServedGsis
 pub mod Set
-pub mod SlotBlocks
-pub mod SlotRuns
-pub mod SortedSlots
 pub mod StageResults
 pub mod TableResults
 pub mod Tables

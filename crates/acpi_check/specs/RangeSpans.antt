@@ -1,9 +1,9 @@
 -- The contents of a table's entries, collected for a search: ranges as spans, and their first overlap.
-use Rattle.std.specs.Prelude.{◌≡◌, ℕ, ◌+◌, ◌^◌, ◌<◌, ◌&&◌, ◌||◌, ◌↔◌, Bool, List, All, Contains, Option, Some, None, nat_lt, nat_le, if◌then◌else◌}
+use Rattle.std.specs.Prelude.{◌≡◌, ℕ, ◌+◌, ◌^◌, ◌<◌, ◌&&◌, ◌↔◌, Bool, List, All, Contains, Option, Some, None, nat_lt, if◌then◌else◌}
 use Rattle.std.specs.List.{filter_map}
 use Rattle.acpi_base.specs.Overlaps.{AreApart, IsFirstIntervalOverlap}
-use Rattle.acpi_base.specs.Entries.{PlacedEntry, StandsWith}
-use Rattle.acpi_base.specs.Madt.{MadtEntry, IoApic, MadtContents, ServesFrom}
+use Rattle.acpi_base.specs.Entries.{PlacedEntry}
+use Rattle.acpi_base.specs.Madt.{MadtEntry, IoApic}
 use Rattle.acpi_base.specs.Policy.{PolicyValue, inputs_of}
 use Rattle.acpi_base.specs.Srat.{SratEntry, MemoryRange, MemoryValue, SratContents, is_enabled, AreRangesApart, IsFirstOverlap}
 use Rattle.acpi_base.specs.declared.policy.HotPlug.{HotPlug}
@@ -53,10 +53,6 @@ abbrev pub IsRangesResult : HotPlug → SratContents → Clash → Type 0
 IsRangesResult h c clash.None = AreRangesApart h c
 IsRangesResult h c (clash.At first second point) = IsFirstOverlap h c first second point
 
--- an I/O APIC at o serves interrupt numbers from s on, and x and g are two of them
-abbrev pub ServesAt : PolicyValue → ℕ → MadtContents → ℕ → ℕ → ℕ → Type 0
-ServesAt q g c o s x = StandsWith c.entries o (λ e. ServesFrom q s x e × ServesFrom q s g e)
-
 -- ---- how they are collected
 
 -- the contents of a span
@@ -72,10 +68,10 @@ span_value span = record { start = span.start; end = span.end; name = span.name 
 abbrev pub span_from : ℕ → ℕ → ℕ → Option SpanValue
 span_from start end name = if nat_lt start end then Some (record { start = start; end = end; name = name }) else None
 
--- the interrupt numbers that an entry at the offset o serves, if g is one of them
-abbrev pub served_span : PolicyValue → ℕ → ℕ → MadtEntry → Option SpanValue
-served_span q g o (IoApic v) = if nat_lt g v.gsi_base || nat_le (v.gsi_base + inputs_of q v.address) g then None else span_from v.gsi_base (v.gsi_base + inputs_of q v.address) o
-served_span q g o _ = None
+-- the interrupt numbers that an entry at the offset o serves
+abbrev pub served_span : PolicyValue → ℕ → MadtEntry → Option SpanValue
+served_span q o (IoApic v) = span_from v.gsi_base (v.gsi_base + inputs_of q v.address) o
+served_span q o _ = None
 
 -- the addresses that an entry at the offset o covers, if it is an enabled range and counts
 abbrev pub covered_span : (MemoryValue → Bool) → ℕ → SratEntry → Option SpanValue

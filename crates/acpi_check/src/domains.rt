@@ -1,23 +1,21 @@
 //! Stage 16: the proximity domains into which the SRAT puts the processors of the MADT.
 
-ghost use Rattle.std.specs.Prelude.{◌≡◌, ◌<◌, ◌≤◌, AllPairs, IfOk, IfSome, MatchBool, length};
+ghost use Rattle.std.specs.Prelude.{◌≡◌, ◌<◌, AllPairs, IfOk, IfSome, length};
 ghost use Rattle.acpi_base.specs.Across.{HaveOneDomain, DomainFault};
 ghost use Rattle.acpi_base.specs.Madt.{madt_contents};
 ghost use Rattle.acpi_base.specs.Srat.{srat_contents};
 ghost use Rattle.acpi_base.specs.declared.stage.Stage.{Stage};
 ghost use Rattle.acpi_read.specs.Srats.{srat_value};
-ghost use Rattle.acpi_check.specs.Domains.{placement_of, PutsPlaced, ArePlacements, DoAgree};
+ghost use Rattle.acpi_check.specs.Domains.{placement_of, PutsPlaced};
 ghost use Rattle.acpi_check.specs.FirstSeen.{IsGiven, FindsOther};
 ghost use Rattle.acpi_check.specs.TableResults.{FindsFirst};
 
-use crate::collecting::collected;
 use crate::first_seen::{Given, OtherValue, pass_given};
 use crate::processors::{Key, numbers_of};
 use crate::refusal::Refusal;
 use crate::search::binary_search;
 use crate::srat::is_enabled;
 use acpi_base::{Code, Processors, Witness};
-use acpi_graph::sort_any_order_by_key;
 use acpi_read::{Madt, Srat, SratEntry};
 use std::alloc::{AllocError, Global};
 
@@ -84,29 +82,6 @@ fn first_other_domain(
     Ok(None)
 }
 
-/// The placements by the enabled entries of an SRAT, in the entries' order.
-fn placements_of(alloc: Global, srat: &Srat<'_>) -> Result<Vec<Placement>, AllocError>
-    ensures { IfOk result (λ placements. ArePlacements (srat_contents srat.now) placements.items) }
-{
-    collected(alloc, srat.searched_entries(), |at| placement_of(&at.entry))
-}
-
-/// Whether placements put no processor into two domains. Those of one processor are next to each other, so neighbours
-/// are compared.
-fn do_agree(placements: &[Placement]) -> bool
-    requires { AllPairs (λ a b. a.processor ≤ b.processor) placements.now }
-    ensures { MatchBool result (DoAgree placements.now) (¬ DoAgree placements.now) }
-{
-    for next in 1..placements.len() {
-        let before = &placements[next - 1];
-        let after = &placements[next];
-        if before.processor == after.processor && before.domain != after.domain {
-            return false;
-        }
-    }
-    true
-}
-
 /// Whether an SRAT puts no processor of a MADT that counts as enabled into two proximity domains (ACPI 6.5, 5.2.16.1
 /// and 5.2.16.3; 5.2.12.2 and 5.2.12.12). APIC IDs and x2APIC IDs are one number space. Both tables may have any
 /// entries.
@@ -115,8 +90,7 @@ fn do_agree(placements: &[Placement]) -> bool
 /// entry that puts such a processor into another domain than the first entry for this processor, whose offset is
 /// `other`; `point` is the processor's APIC ID or x2APIC ID, of 32 bits.
 ///
-/// Refuses with `OutOfMemory`: it allocates for each enabled entry of the SRAT that puts a processor into a domain;
-/// and if some processor is put into two, also for each processor that counts as enabled.
+/// Refuses with `OutOfMemory`: it allocates for each processor that counts as enabled.
 pub fn one_domain(
     alloc: Global,
     processors: Processors,
@@ -127,11 +101,6 @@ pub fn one_domain(
         (HaveOneDomain processors (madt_contents madt.now) (srat_contents srat.now))
         (DomainFault processors (madt_contents madt.now) (srat_contents srat.now)) result }
 {
-    let mut placements = placements_of(alloc, srat)?;
-    sort_any_order_by_key(&mut placements, |placement| placement.processor);
-    if do_agree(&placements) {
-        return Ok(());
-    }
     let numbers = numbers_of(alloc, Key::Enabled(processors), madt)?;
     match first_other_domain(alloc, &numbers, srat)? {
         None => Ok(()),

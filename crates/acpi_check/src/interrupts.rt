@@ -6,21 +6,19 @@ ghost use Rattle.acpi_base.specs.declared.code.Code.{Code};
 ghost use Rattle.acpi_base.specs.declared.stage.Stage.{Stage};
 ghost use Rattle.acpi_read.specs.Madts.{madt_value};
 ghost use Rattle.acpi_check.specs.TableResults.{Finds, IsOverlap};
-ghost use Rattle.acpi_check.specs.RangeSpans.{span_value, served_span, ServesAt, AreSpansOf, BeginLow, HasLowPoint, IsOverlapResult};
+ghost use Rattle.acpi_check.specs.RangeSpans.{span_value, served_span, AreSpansOf, BeginLow, HasLowPoint, IsOverlapResult};
 
 use crate::collecting::collected;
-use crate::gsi_ranges::served_ranges;
 use crate::refusal::Refusal;
 use acpi_base::{Code, Policy, Witness};
-use acpi_graph::{Clash, Span, first_clash, first_meeting};
+use acpi_graph::{Clash, Span, first_clash};
 use acpi_read::{EntryAt, Madt, MadtEntry};
 use std::alloc::{AllocError, Global};
 
-/// The interrupt numbers that an I/O APIC serves, as a span with the entry's offset as its id, if the point is one of
-/// them. None for another entry.
-fn served_span(policy: &Policy, point: u32, at: &EntryAt<MadtEntry<'_>>) -> Option<Span>
+/// The interrupt numbers that an I/O APIC serves, as a span with the entry's offset as its id. None for another entry.
+fn served_span(policy: &Policy, at: &EntryAt<MadtEntry<'_>>) -> Option<Span>
     requires { at.now.offset < 2 ^ 32 }
-    ensures span { option_map span_value result ≡ served_span policy.now point at.now.offset
+    ensures span { option_map span_value result ≡ served_span policy.now at.now.offset
         (madt_value at.now.entry) }
     ensures low { IfSome result (λ span. span.start < 2 ^ 64) }
 {
@@ -29,42 +27,29 @@ fn served_span(policy: &Policy, point: u32, at: &EntryAt<MadtEntry<'_>>) -> Opti
     };
     let start = u128::from(io_apic.gsi_base);
     let end = start + u128::from(policy.inputs_of(io_apic.address));
-    let point = u128::from(point);
-    if point < start || end <= point {
-        return None;
-    }
     Span::new(start, end, at.offset as u32)
 }
 
-/// The interrupt numbers of each I/O APIC of a MADT that serves the point, in the entries' order.
-fn served_spans(
+/// The interrupt numbers that each I/O APIC of a MADT serves, in the entries' order.
+pub fn served_spans(
     alloc: Global,
     policy: &Policy,
-    point: u32,
     madt: &Madt<'_>,
 ) -> Result<Vec<Span>, AllocError>
-    ensures spans { IfOk result (λ spans. AreSpansOf
-        (ServesAt policy.now point (madt_contents madt.now)) spans.items) }
+    ensures spans { IfOk result
+        (λ spans. AreSpansOf (Serves policy.now (madt_contents madt.now)) spans.items) }
     ensures low { IfOk result (λ spans. BeginLow spans.items) }
 {
-    collected(alloc, madt.entries(), |at| served_span(policy, point, at))
+    collected(alloc, madt.entries(), |at| served_span(policy, at))
 }
 
-/// The lowest interrupt number that two I/O APICs of a MADT serve, and the first two that do. Compact spans, which
-/// have no ids, say which number it is; then the I/O APICs that serve it are searched for.
+/// The lowest interrupt number that two I/O APICs of a MADT serve, and the first two that do.
+#[tactic(auto, using(crate::proofs::Spans::Clashes::is_found, crate::proofs::Spans::Clashes::low_point))]
 fn first_gsi_clash(alloc: Global, policy: &Policy, madt: &Madt<'_>) -> Result<Clash, AllocError>
     ensures found { IfOk result (IsOverlapResult (Serves policy.now (madt_contents madt.now))) }
     ensures low { IfOk result HasLowPoint }
 {
-    // Makes the invariant of `Policy` available to the proof, and does nothing at run time: a policy gives each I/O
-    // APIC at least one input, so each serves the number at which it begins.
-    let _ = policy.rsdp();
-    let ranges = served_ranges(alloc, policy, madt)?;
-    let (meeting, _) = first_meeting(ranges);
-    let Some(point) = meeting else {
-        return Ok(Clash::None);
-    };
-    let spans = served_spans(alloc, policy, point, madt)?;
+    let spans = served_spans(alloc, policy, madt)?;
     let (clash, _) = first_clash(alloc, spans)?;
     Ok(clash)
 }
@@ -75,8 +60,7 @@ fn first_gsi_clash(alloc: Global, policy: &Policy, madt: &Madt<'_>) -> Result<Cl
 ///
 /// Refuses with `Fault` and the code `GsiClash` if two serve one number: `point` is the lowest such number, which is
 /// below 2^32; `at` and `other` are the offsets, in bytes from the table's start, of the first two that serve it, by
-/// their first number and then by offset. Refuses with `OutOfMemory`: it allocates a compact span of 8 bytes for each
-/// I/O APIC; and if two serve one number, a span for each that serves the lowest such number.
+/// their first number and then by offset. Refuses with `OutOfMemory`: it allocates a span for each I/O APIC.
 pub fn apart_interrupts(alloc: Global, policy: &Policy, madt: &Madt<'_>) -> Result<(), Refusal>
     ensures { Finds Stage.Interrupts (AreInterruptsApart policy.now (madt_contents madt.now))
         (IsOverlap Code.GsiClash (IsFirstGsiClash policy.now (madt_contents madt.now))) result }

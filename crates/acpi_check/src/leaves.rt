@@ -1,6 +1,6 @@
 //! Stage 18: the IDs of the PPTT's leaves among the UIDs of the MADT's processors.
 
-ghost use Rattle.std.specs.Prelude.{◌≡◌, ◌<◌, ⊤, AllPairs, Contains, IfOk, MatchBool, MatchOption, None};
+ghost use Rattle.std.specs.Prelude.{◌≡◌, ◌<◌, ⊤, AllPairs, Contains, MatchBool, MatchOption, None};
 ghost use Rattle.acpi_base.specs.Across.{AreLeavesKnown, LeafFault};
 ghost use Rattle.acpi_base.specs.Madt.{madt_contents, IsWhollyTyped};
 ghost use Rattle.acpi_base.specs.Pptt.{pptt_contents};
@@ -11,16 +11,13 @@ ghost use Rattle.acpi_read.specs.Pptts.{pptt_value};
 ghost use Rattle.acpi_check.specs.Leaves.{is_typed, leaf_id};
 ghost use Rattle.acpi_check.specs.NamedNumbers.{IsKnown, IsUnknown, FindsUnknown};
 ghost use Rattle.acpi_check.specs.TableResults.{FindsFirst};
-ghost use Rattle.acpi_check.specs.Processors.{numbers_in};
 
-use crate::collecting::collected;
 use crate::processors::{Key, numbers_of};
 use crate::refusal::{Refusal, refuse};
-use crate::search::{has, sorted_unique};
-use crate::subset::is_sorted_subset;
+use crate::search::has;
 use acpi_base::{Code, Witness};
 use acpi_read::{EntryAt, Madt, MadtEntry, Pptt, PpttEntry};
-use std::alloc::{AllocError, Global};
+use std::alloc::Global;
 
 /// Whether an entry of a MADT is of one of the eight types that are read here: one of another type may describe a
 /// processor.
@@ -60,17 +57,6 @@ fn leaf_id(entry: &PpttEntry<'_>) -> Option<u32>
     let is_valid = head.flags >> 1 & 1 == 1;
     let is_leaf = head.flags >> 3 & 1 == 1;
     (is_valid && is_leaf).then_some(head.id)
-}
-
-/// The IDs of a PPTT's leaves, in the entries' order.
-fn leaf_ids(alloc: Global, pptt: &Pptt<'_>) -> Result<Vec<u64>, AllocError>
-    ensures { IfOk result (λ ids. ids.items ≡ numbers_in leaf_id (pptt_contents pptt.now).entries) }
-{
-    collected(
-        alloc,
-        pptt.searched_entries(),
-        |at| leaf_id(&at.entry).map(u64::from),
-    )
 }
 
 /// The fault of a leaf whose ID is not among the UIDs, which rise. None for an entry that is not a leaf.
@@ -120,8 +106,7 @@ const HAS_LEAVES: u8 = 2;
 /// leaf whose ID is no UID; `other` is 0, and `point` is the ID, of 32 bits.
 ///
 /// Refuses with `OutOfMemory`. What exempts tables is tested first, in this order, and allocates nothing. After that
-/// it allocates for the UID of each processor and the ID of each leaf, which are sorted and compared in one pass;
-/// only if not all IDs are found among the UIDs are the leaves looked up one by one.
+/// it allocates for the UID of each processor; these are sorted, and each leaf's ID is looked up among them.
 pub fn known_leaves(alloc: Global, madt: &Madt<'_>, pptt: &Pptt<'_>) -> Result<(), Refusal>
     requires { (madt_contents madt.now).cut ≡ None }
     ensures { FindsFirst Stage.Leaves
@@ -132,9 +117,5 @@ pub fn known_leaves(alloc: Global, madt: &Madt<'_>, pptt: &Pptt<'_>) -> Result<(
         return Ok(());
     }
     let uids = numbers_of(alloc, Key::Uid, madt)?;
-    let ids = sorted_unique(leaf_ids(alloc, pptt)?);
-    if is_sorted_subset(&ids, &uids) {
-        return Ok(());
-    }
     refuse(first_unknown(&uids, pptt))
 }

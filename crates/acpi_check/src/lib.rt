@@ -3,8 +3,8 @@
 //! Each stage is one function, which is called only if the earlier stages hold, and reports its own first fault. The
 //! first five pass on what they have read: the RSDP, the root table, the listed tables, the FADT, the FACS. The
 //! others look at that, and pass on nothing. `check` runs all eighteen in their order, `check_to` those up to one.
-//! `read_set` and `check_set` return the set for which stages 1 to 3, or all eighteen, hold; `SlotRuns` finds what the
-//! slots of such a set list. Stages 7, 10 and 13 to 18 allocate; the others do not.
+//! `read_set` and `check_set` return the set for which stages 1 to 3, or all eighteen, hold. Stages 7, 10 and 13 to 18
+//! allocate; the others do not.
 //!
 //! The finders of stages that have one code are public: `apart_interrupts`, `agreeing_overrides`, `apart_ranges`,
 //! `first_cycle`, `one_domain`, `named_served` and `known_leaves` require nothing of earlier stages, and may be
@@ -27,12 +27,10 @@ mod domains;
 mod facs;
 mod fadt;
 mod first_seen;
-mod gsi_ranges;
 mod interrupts;
 mod leaves;
 mod listed;
 mod madt;
-mod madt_kinds;
 mod nodes;
 mod offset_set;
 mod overrides;
@@ -50,11 +48,8 @@ mod served;
 mod set;
 mod set_views;
 mod slit;
-mod slot_blocks;
-mod slot_runs;
 mod srat;
 mod stages;
-mod subset;
 mod tables;
 
 pub use chains::first_cycle;
@@ -70,5 +65,4 @@ pub use refusal::Refusal;
 pub use search::{binary_search, has, sorted_unique};
 pub use served::named_served;
 pub use set::{CleanSet, ListedSet};
-pub use slot_runs::SlotRuns;
 pub use stages::{check, check_set, check_to, read_set};

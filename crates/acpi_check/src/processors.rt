@@ -55,8 +55,8 @@ fn number_of(key: Key, entry: &MadtEntry<'_>) -> Option<u32>
 pub fn numbers_of(alloc: Global, key: Key, madt: &Madt<'_>) -> Result<Vec<u64>, AllocError>
     ensures { IfOk result (λ numbers. AreNumbers key (madt_contents madt.now) numbers.items) }
 {
-    let numbers = collected(alloc, madt.searched_entries(), |at| {
+    let numbers = collected(alloc, madt.entries(), |at| {
         number_of(key, &at.entry).map(u64::from)
     })?;
-    Ok(sorted_unique(numbers))
+    sorted_unique(numbers)
 }

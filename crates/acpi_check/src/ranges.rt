@@ -57,7 +57,7 @@ fn covered_spans(alloc: Global, kind: RangeKind, srat: &Srat<'_>) -> Result<Vec<
         (λ spans. AreSpansOf (Covers (IsOfKind kind) (srat_contents srat.now)) spans.items) }
     ensures low { IfOk result (λ spans. BeginLow spans.items) }
 {
-    collected(alloc, srat.searched_entries(), |at| covered_span(kind, at))
+    collected(alloc, srat.entries(), |at| covered_span(kind, at))
 }
 
 /// The lowest address that two enabled ranges of the kind cover, and the first two that do.

@@ -1,31 +1,16 @@
 //! Look-ups among numbers that rise, as offsets do.
 
-ghost use Rattle.std.specs.Prelude.{◌≡◌, ◌<◌, ◌↔◌, ℕ, AllPairs, Contains, MatchBool, MatchOption, length, slice_index};
+ghost use Rattle.std.specs.Prelude.{◌≡◌, ◌<◌, ◌≤◌, ◌↔◌, ℕ, AllPairs, Contains, IfOk, IsOk, MatchBool, MatchOption, length, slice_index, vec_len};
 
-use acpi_graph::sort_any_order;
-
-/// Interpolated index, assuming even spacing; it may be out of range.
-fn interpolated_place(offsets: &[u64], offset: u64) -> usize {
-    let [first, .., last] = offsets else {
-        return 0;
-    };
-    let steps = offsets.len() as u64 - 1;
-    let span = last.saturating_sub(*first).max(1);
-    (offset.saturating_sub(*first).saturating_mul(steps) / span) as usize
-}
+use std::alloc::AllocError;
 
 /// The index of an offset among offsets that rise, or none if it is not among them. The numbers may be any of 64
-/// bits. If they are evenly spaced, as the offsets of entries of one length are (ACPI 6.5, 5.2.30), it looks at one
-/// of them; otherwise at as many as a binary search does. Allocates nothing.
+/// bits. Allocates nothing.
 pub fn binary_search(offsets: &[u64], offset: u64) -> Option<usize>
     requires { AllPairs (λ o p. o < p) offsets.now }
     ensures { MatchOption result (¬ Contains offsets.now offset)
         (λ k. (k < length offsets.now) × (slice_index offsets.now k ≡ offset)) }
 {
-    let place = interpolated_place(offsets, offset);
-    if place < offsets.len() && offsets[place] == offset {
-        return Some(place);
-    }
     offsets.binary_search(&offset).ok()
 }
 
@@ -41,12 +26,15 @@ pub fn has(offsets: &[u64], offset: u32) -> bool
     }
 }
 
-/// The numbers in rising order, each once, as `binary_search` and `has` require. Allocates nothing.
-pub fn sorted_unique(mut numbers: Vec<u64>) -> Vec<u64>
-    ensures rise { AllPairs (λ i j. i < j) result.items }
-    ensures same { (n : ℕ) → Contains result.items n ↔ Contains numbers.items n }
+/// The numbers in rising order, each once, as `binary_search` and `has` require. Refuses if out of
+/// memory: the sort of more than 20 numbers needs a buffer.
+pub fn sorted_unique(mut numbers: Vec<u64>) -> Result<Vec<u64>, AllocError>
+    ensures few { vec_len numbers ≤ 20 → IsOk result }
+    ensures rise { IfOk result (λ sorted. AllPairs (λ i j. i < j) sorted.items) }
+    ensures same { IfOk result
+        (λ sorted. (n : ℕ) → Contains sorted.items n ↔ Contains numbers.items n) }
 {
-    sort_any_order(&mut numbers);
+    numbers.sort()?;
     numbers.dedup();
-    numbers
+    Ok(numbers)
 }

@@ -3,10 +3,8 @@
 ghost use Rattle.std.specs.Prelude.{◌≡◌, ◌<◌, ◌+◌, ◌*◌, IfSome, IsNone};
 ghost use Rattle.acpi_base.specs.Number.{field};
 ghost use Rattle.acpi_read.specs.Roots.{slots_of};
-ghost use Rattle.acpi_check.specs.FirstBelow.{IsListedRun};
 ghost use Rattle.acpi_check.specs.HandedOn.{IsListedSet, IsListedIn};
 
-use crate::tables::listed_run;
 use acpi_base::{Image, Policy};
 use acpi_read::{Facs, Fadt, FirstTables, Listed, Root, Rsdp, Table};
 
@@ -34,22 +32,11 @@ impl<'a> ListedSet<'a> {
             → field self.now.root.bytes (36 + self.now.root.width * slot) self.now.root.width ≡ 0 }
         ensures some { IfSome result (IsListedIn self.now slot) }
     {
-        self.table_run(slot, listed_run(self.image, &self.root, slot))
-    }
-
-    /// The same as `table`, if what the slot lists has been found already, as `SlotRuns::run` finds it.
-    pub fn table_run(&self, slot: u32, run: Option<(u64, &'a [u8])>) -> Option<Listed<'a>>
-        requires set { IsListedSet self.now }
-        requires inside { slot < slots_of self.now.root }
-        requires run { IsListedRun self.now.image.now self.now.root slot run }
-        ensures none { IsNone result
-            → field self.now.root.bytes (36 + self.now.root.width * slot) self.now.root.width ≡ 0 }
-        ensures some { IfSome result (IsListedIn self.now slot) }
-    {
-        let Some((address, bytes)) = run else {
+        let address = self.root.slot(slot);
+        if address == 0 {
             return None;
-        };
-        let table = Table::sound_run(self.image, address, bytes);
+        }
+        let table = Table::sound(self.image, address);
         Some(Listed { address, table })
     }
 }

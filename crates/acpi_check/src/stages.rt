@@ -10,19 +10,17 @@ ghost use Rattle.acpi_base.specs.declared.verdict.Verdict.{Verdict};
 ghost use Rattle.acpi_check.specs.Headline.{IfNo};
 ghost use Rattle.acpi_check.specs.StageResults.{ReadsTo, IsResultTo};
 ghost use Rattle.acpi_check.specs.HandedOn.{IsListedSetOf, IsCleanSetOf};
-ghost use Rattle.acpi_check.specs.MadtKinds.{AreMadtKinds};
 ghost use Rattle.acpi_check.specs.Set.{IsSetOf, IsSet};
 
 use crate::facs::sound_facs;
 use crate::fadt::sound_fadt;
 use crate::listed::run_stage;
-use crate::madt_kinds::{ANY, MadtKinds, madt_kinds};
 use crate::refusal::Refusal;
 use crate::root::sound_root;
 use crate::rsdp::sound_rsdp;
 use crate::set::{CleanSet, ListedSet, Set};
 use crate::tables::sound_tables;
-use acpi_base::{Image, Policy, Stage, TableKind, Verdict, Witness};
+use acpi_base::{Image, Policy, Stage, Verdict, Witness};
 use std::alloc::{AllocError, Global};
 
 /// The verdict on the image's tables: `Yes` exactly when all eighteen statements hold for the image and the policy,
@@ -103,26 +101,15 @@ fn sound_set<'a, 'p>(image: &'a Image, policy: &'p Policy) -> Result<Set<'a, 'p>
     })
 }
 
-/// The kinds of entries that a set's MADT has. The MADT is looked at only if later stages are run.
-fn known_kinds(set: &Set<'_, '_>, last: Stage) -> MadtKinds
-    ensures { AreMadtKinds set.now result }
-{
-    if last.number() <= Stage::Madt.number() {
-        return ANY;
-    }
-    madt_kinds(set.listed.tables.first(TableKind::Madt))
-}
-
 /// Runs the stages after the FACS, up to `last`, in their order.
 fn later_stages(alloc: Global, set: &Set<'_, '_>, last: Stage) -> Result<(), Refusal>
     requires { IsSet set.now }
     ensures { IsResultTo last set.now.listed.image.now set.now.policy.now
         (λ _. CleanTo last set.now.listed.image.now set.now.policy.now) result }
 {
-    let kinds = known_kinds(set, last);
     for number in Stage::Madt.number()..last.number() + 1 {
         if let Some(stage) = Stage::new(number) {
-            run_stage(alloc, set, &kinds, stage)?;
+            run_stage(alloc, set, stage)?;
         }
     }
     Ok(())

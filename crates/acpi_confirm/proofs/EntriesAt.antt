@@ -1,10 +1,8 @@
 -- What stands at an offset of a table, by what its entries say.
-use Rattle.std.proofs.Common.{◌≡◌, ◌≢◌, ℕ, List, [], ◌∷◌, Option, Some, None, refl, sym, ap, ◌∙◌, subst, inl, inr, arith, nat_eq}
+use Rattle.std.proofs.Common.{◌≡◌, ◌≢◌, ℕ, List, [], ◌∷◌, Option, Some, None, refl, sym, ap, ◌∙◌, subst, inl, inr}
 use denote.Ref.{Bor}
 use Rattle.std.specs.Prelude.{◌↔◌, IsTrue, Bool, true, false}
-use Rattle.std.specs.Option.{option_eq, option_map, option_zip, is_some, MatchOption}
-use Rattle.std.proofs.lemmas.Bool.{eqb-true}
-use Rattle.std.proofs.lemmas.Bool.Decides.{nat_tests}
+use Rattle.std.specs.Option.{option_map, option_zip, is_some, MatchOption}
 use Rattle.std.proofs.lemmas.Option.{same_Some}
 use Rattle.acpi_base.specs.Entries.{PlacedEntry, Stands, StandsWith, entries_read_by}
 use Rattle.acpi_base.proofs.Elements.{first_element, later_element, first_or_later, no_element}
@@ -120,14 +118,7 @@ differ known is = (
 pub only_same : {X : Type 0} (is only : Option X) → only ≡ is → IsOnly (λ x. is ≡ Some x) only
 only_same is only same = record { is = λ x. (λ some. same ∙ some, λ some. sym same ∙ some) }
 
--- whether P holds of a number, and whether it holds of any
-pub only_eq : (P : ℕ → Type 0) (only : Option ℕ) (x : ℕ) → IsOnly P only → IsTrue (option_eq nat_eq only (Some x)) ↔ P x
-only_eq P None x is = (λ true. absurd (cc), λ holds. absurd (none_and_some refl ((is.is x).0 holds)))
-only_eq P (Some n) x is = (
-  λ true. (is.is x).1 (ap Some (eqb-true n x true)),
-  λ holds. let same : n ≡ x = same_Some _ _ ((is.is x).0 holds) in grind (arith, nat_tests),
-)
-
+-- whether P holds of any
 pub only_some : {X : Type 0} (P : X → Type 0) (only : Option X) → IsOnly P only
     → IsTrue (is_some only) ↔ ((x : X) × P x)
 only_some P None is = (λ true. absurd (cc), λ (x, holds). absurd (none_and_some refl ((is.is x).0 holds)))

@@ -6,7 +6,6 @@ pub mod ListedTables
 pub mod MadtFaults
 pub mod PpttEntries
 pub mod Roots
-pub mod SlotBlocks
 pub mod SratFaults
 pub mod Starts
 pub mod Walks

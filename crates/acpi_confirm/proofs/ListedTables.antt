@@ -1,9 +1,8 @@
 -- What a root's slots list first is what the set lists.
-use Rattle.std.proofs.Common.{◌≡◌, ◌+◌, ◌≤◌, ◌<◌, ◌↔◌, ℕ, Bool, true, false, not, Option, Some, None, is_some, List, length, IsTrue, MatchOption, inl, inr, refl, subst}
+use Rattle.std.proofs.Common.{◌≡◌, ◌+◌, ◌≤◌, ◌<◌, ◌↔◌, ℕ, Bool, true, false, not, Option, Some, None, is_some, List, length, IsTrue, MatchOption, inl, inr, refl, subst, arith}
 use borrow.Author.Count.{below_more}
 use denote.Ref.{Bor}
 use Rattle.std.specs.Option.{option_or, option_zip}
-use Rattle.std.proofs.lemmas.Bool.{cases_lt}
 use Rattle.acpi_base.specs.Memory.{Memory}
 use Rattle.acpi_base.specs.Root.{HasSlot}
 use Rattle.acpi_base.specs.Tables.{IsSigned, IsTable}
@@ -13,58 +12,52 @@ use Rattle.acpi_base.specs.Listed.{fadt_signature, IsFirstListed, IsNoneListed, 
 use Rattle.acpi_base.specs.declared.code.Code.{Code}
 use Rattle.acpi_base.proofs.Root.Named.{of_root}
 use Rattle.acpi_base.proofs.Tables.Listed.{one_first_listed, one_listed, none_and_first_listed, none_and_listed, listed_of_root, listed_in_root, none_in_root}
-use Rattle.acpi_confirm.specs.Roots.{IsSignedIn, IsWholeRoot}
-use Rattle.acpi_confirm.specs.Slots.{IsFirstIn, IsFirstSoFar, ListNoSought}
+use Rattle.acpi_confirm.specs.Roots.{IsFirstSoFar, IsSignedIn, IsWholeRoot}
 
 -- ---- one table
 
-pub listed_of_set : {m : Memory} {p d a : ℕ} {bytes signature header whole : List ℕ} → IsWholeRoot m p d bytes
-    → IsFirstListed m bytes d signature a → IsTable m a header whole → IsListedTable m p signature whole
-listed_of_set root first table = listed_in_root root.root root.table first table
+-- a set without a root lists no table
+pub none_without_root : {m : Memory} {p : ℕ} {signature : List ℕ}
+    → ((d : ℕ) (bytes : List ℕ) → ¬ IsWholeRoot m p d bytes) → (whole : List ℕ) → ¬ IsListedTable m p signature whole
+none_without_root none whole listed =
+    let first = listed.first in none _ _ (record { r = first.r; root = first.root; table = first.table })
 
--- a set that lists a table has a root
-pub root_of_listed : {m : Memory} {p : ℕ} {signature whole : List ℕ} (listed : IsListedTable m p signature whole)
-    → IsWholeRoot m p listed.first.d listed.first.whole
-root_of_listed listed = record { r = listed.first.r; root = listed.first.root; table = listed.first.table }
-
--- and the table comes first in its slots
+-- the table that a set lists comes first in its slots
 pub first_of_listed : {m : Memory} {p d : ℕ} {bytes signature whole : List ℕ} → IsWholeRoot m p d bytes
     → (listed : IsListedTable m p signature whole) → IsFirstListed m bytes d signature listed.a
 first_of_listed root listed = listed_of_root root.root root.table listed.first
 
--- the table at the first address is the set's
-pub table_of_set : {m : Memory} {p d a : ℕ} {bytes signature whole : List ℕ} → IsWholeRoot m p d bytes
-    → IsFirstListed m bytes d signature a → (listed : IsListedTable m p signature whole)
-    → IsTable m a listed.header whole
-table_of_set {m} {d = d} {a = a} {bytes = bytes} {signature = signature} {whole = whole} root first listed =
-    subst (λ (b : ℕ). IsTable m b listed.header whole)
-    (one_first_listed m bytes d signature listed.a a (first_of_listed root listed) first) listed.table
+-- the table at the first address is the set's, if it is complete
+pub table_of_first : {m : Memory} {p d : ℕ} {bytes signature : List ℕ} (a : ℕ) (table : Option (Bor (List ℕ)))
+    → IsWholeRoot m p d bytes → IsFirstListed m bytes d signature a
+    → MatchOption table ((header whole : List ℕ) → ¬ IsTable m a header whole)
+    (λ whole. (header : List ℕ) × IsTable m a header whole.now)
+    → MatchOption table ((whole : List ℕ) → ¬ IsListedTable m p signature whole)
+    (λ whole. IsListedTable m p signature whole.now)
+table_of_first {m} {d = d} {bytes = bytes} {signature = signature} a None root first none = λ whole listed.
+    none listed.header whole (subst (λ (b : ℕ). IsTable m b listed.header whole)
+    (one_first_listed m bytes d signature listed.a a (first_of_listed root listed) first) listed.table)
+table_of_first a (Some whole) root first table = listed_in_root root.root root.table first table.1
 
 -- ---- none
-
-pub none_of_set : {m : Memory} {p d : ℕ} {bytes signature : List ℕ} → IsWholeRoot m p d bytes
-    → IsNoneListed m bytes d signature → ListsNone m p signature
-none_of_set root none = none_in_root root.root root.table none
 
 pub root_of_none : {m : Memory} {p : ℕ} {signature : List ℕ} (none : ListsNone m p signature)
     → IsWholeRoot m p none.d none.root_bytes
 root_of_none none = record { r = none.r; root = none.root; table = none.table }
-
-pub none_of_bytes : {m : Memory} {p d : ℕ} {bytes signature : List ℕ} → IsWholeRoot m p d bytes
-    → ListsNone m p signature → IsNoneListed m bytes d signature
-none_of_bytes {m} {signature = signature} root none =
-    of_root (λ x bs. IsNoneListed m bs x signature) none.root root.root none.table root.table none.none
 
 -- no slot has such a header exactly where the set lists none
 pub test_of_none : {m : Memory} {p d : ℕ} {bytes signature : List ℕ} (found : Option ℕ) (test : Bool)
     → IsWholeRoot m p d bytes → is_some found ≡ not test
     → MatchOption found (IsNoneListed m bytes d signature) (IsFirstListed m bytes d signature)
     → IsTrue test ↔ ListsNone m p signature
-test_of_none None true root is none = (λ _. none_of_set root none, λ _. refl)
+test_of_none None true root is none = (λ _. none_in_root root.root root.table none, λ _. refl)
 test_of_none None false root is none = absurd cc
 test_of_none (Some a) true root is first = absurd cc
-test_of_none (Some a) false root is first =
-    (λ yes. absurd cc, λ none. absurd (none_and_first_listed (none_of_bytes root none) first))
+test_of_none {m} {signature = signature} (Some a) false root is first = (
+  λ yes. absurd cc,
+  λ none. absurd (none_and_first_listed
+      (of_root (λ x bs. IsNoneListed m bs x signature) none.root root.root none.table root.table none.none) first),
+)
 
 -- ---- a table with P of its bytes
 
@@ -133,17 +126,9 @@ test_of_facs {m} {p} {fadt} code at listed decides = (
       (one_listed m p fadt_signature fault.0 fadt fault.1 listed) (fault.2, fault.3)),
 )
 
--- ---- options
-
--- what holds of a value or of none follows from what does
-pub match_map : {A : Type 0} {N N' : Type 0} {S S' : A → Type 0} (o : Option A) → (N → N') → ((a : A) → S a → S' a)
-    → MatchOption o N S → MatchOption o N' S'
-match_map None none some here = none here
-match_map (Some a) none some here = some a here
-
 -- ---- what the slots list first, one after the other
 
-module _ (m : Memory) (bytes : List ℕ) (d k : ℕ) (signature : List ℕ) where
+module _ (m : Memory) (bytes signature : List ℕ) (d k : ℕ) where
   -- and one slot more
   pub so_far_next : (found here next : Option ℕ) → next ≡ option_or found here
       → IsFirstSoFar m bytes d k signature found → IsSignedIn m bytes d k signature here
@@ -158,29 +143,9 @@ module _ (m : Memory) (bytes : List ℕ) (d k : ℕ) (signature : List ℕ) wher
       record { k = k; slot = at.0; signed = at.1; none_before = λ j b below slot signed. none j b below slot signed } in
       rw is first
 
-  -- and a block of slots that lists none that is still looked for
-  pub so_far_block : (n : ℕ) (found : Option ℕ) → IsFirstSoFar m bytes d k signature found
-      → ListNoSought m bytes d k n signature found → IsFirstSoFar m bytes d n signature found
-  so_far_block n (Some a) first block = first
-  so_far_block n None none block =
-      λ j b below slot signed. elim (cases_lt j k) [
-        | inl before ↦ none j b before slot signed
-        | inr from ↦ block j b from below slot refl signed
-      ]
-
-  -- and all slots
-  pub so_far_all : (found : Option ℕ) → ((j b : ℕ) → HasSlot bytes d j b → j < k)
+  -- and all of them
+  pub so_far_all : (n : ℕ) (found : Option ℕ) → ((j b : ℕ) → HasSlot bytes d j b → j < n) → n ≤ k
       → IsFirstSoFar m bytes d k signature found
-      → IsFirstIn m bytes d signature found
-  so_far_all None within none = λ j b slot signed. none j b (within j b slot) slot signed
-  so_far_all (Some a) within first = first
-
--- the table at the first address is the set's, if it is complete
-pub table_of_first : {m : Memory} {p d : ℕ} {bytes signature : List ℕ} (a : ℕ) (table : Option (Bor (List ℕ)))
-    → IsWholeRoot m p d bytes → IsFirstListed m bytes d signature a
-    → MatchOption table ((header whole : List ℕ) → ¬ IsTable m a header whole)
-    (λ whole. (header : List ℕ) × IsTable m a header whole.now)
-    → MatchOption table ((whole : List ℕ) → ¬ IsListedTable m p signature whole)
-    (λ whole. IsListedTable m p signature whole.now)
-table_of_first a None root first none = λ whole listed. none listed.header whole (table_of_set root first listed)
-table_of_first a (Some whole) root first table = listed_of_set root first table.1
+      → MatchOption found (IsNoneListed m bytes d signature) (IsFirstListed m bytes d signature)
+  so_far_all n None within past none = λ j b slot. none j b (let below = within j b slot in omega arith) slot
+  so_far_all n (Some a) within past first = first

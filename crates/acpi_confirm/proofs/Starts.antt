@@ -1,11 +1,9 @@
 -- Starts of a PPTT's entries that are noted.
-use Rattle.std.proofs.Common.{◌≤◌, ℕ, List, length, None, refl, sym, subst, inl, inr, arith}
-use Rattle.std.specs.Prelude.{Bool, true, false, MatchBool}
+use Rattle.std.proofs.Common.{◌≤◌, ℕ, List, Option, length, sym, subst, inl, inr, arith}
 use Rattle.acpi_base.specs.Entries.{entries_of}
-use Rattle.acpi_base.proofs.Elements.{first_element, no_element}
-use Rattle.acpi_base.proofs.Images.HeldBytes.{none_and_some}
+use Rattle.acpi_base.proofs.Elements.{first_element}
 use Rattle.acpi_confirm.specs.Starts.{HasEntryAt, AreStarts, AreNotedWith}
-use Rattle.acpi_confirm.specs.Walks.{IsThere, IsEnd, IsNext, IsOnWay}
+use Rattle.acpi_confirm.specs.Walks.{IsThere, IsNext}
 use Rattle.acpi_confirm.proofs.Chains.{ahead}
 use Rattle.acpi_confirm.proofs.Walks.{IsOver}
 
@@ -32,28 +30,9 @@ has_entry No start whole e over next = (e, over.listed start e (rw next.first (f
 
 -- ---- a look-up
 
--- what the walk from the table's first entry comes to, by the walk from a start
-pub on_way : (pptt : List ℕ) (start at : ℕ) → HasEntryAt pptt start → start ≤ at → IsOnWay 36 start pptt at
-on_way pptt start at (e, stands) behind = ahead (length pptt) 36 start pptt at e (omega arith) stands behind
-
-pub reached_ahead : (pptt : List ℕ) (start at : ℕ) (b : Bool) → HasEntryAt pptt start → start ≤ at
-    → MatchBool b (IsOnWay start at pptt at) (IsThere (entries_of start pptt) at None)
-    → MatchBool b (IsOnWay 36 at pptt at) (IsThere (entries_of 36 pptt) at None)
-reached_ahead pptt start at true here behind way =
-    let first = on_way pptt start at here behind in
-    record { same = λ e. (λ h. (way.same e).0 ((first.same e).0 h), λ h. (first.same e).1 ((way.same e).1 h)) }
-reached_ahead pptt start at false here behind none =
-    let first = on_way pptt start at here behind in
-    record { is = λ e. (λ h. (none.is e).0 ((first.same e).0 h), λ h. (first.same e).1 ((none.is e).1 h)) }
-
--- nothing stands at an offset from which on no entry stands
-pub nothing_there : (pptt : List ℕ) (at : ℕ) → IsEnd at pptt → IsThere (entries_of 36 pptt) at None
-nothing_there pptt at end =
-    record {
-      is = λ e. (
-        λ stands.
-            let way = on_way pptt at at (e, stands) (omega arith) in
-            absurd (no_element _ (rw end.none at ((way.same e).0 stands))),
-        λ some. absurd (none_and_some refl some),
-      );
-    }
+-- what the walk from the table's first entry comes to is what the walk from a start does
+pub there_ahead : (pptt : List ℕ) (start at : ℕ) (there : Option (List ℕ)) → HasEntryAt pptt start → start ≤ at
+    → IsThere (entries_of start pptt) at there → IsThere (entries_of 36 pptt) at there
+there_ahead pptt start at there (e, stands) behind is =
+    let way = ahead (length pptt) 36 start pptt at e (omega arith) stands behind in
+    record { is = λ x. (λ h. (is.is x).0 ((way.same x).0 h), λ h. (way.same x).1 ((is.is x).1 h)) }

@@ -1,8 +1,6 @@
 -- A walk over the entries of a table.
-use Rattle.std.proofs.Common.{◌≡◌, ℕ, ◌+◌, ◌<◌, ◌≤◌, List, [], ◌∷◌, length, drop, Option, Some, None, refl, ap, ◌∙◌, sym, subst, inl, inr, arith, length-drop, nat_eq}
-use Rattle.std.specs.Prelude.{◌⊎◌, Bool, true, false, MatchBool}
-use Rattle.std.proofs.lemmas.Bool.{eqb-true}
-use Rattle.std.proofs.lemmas.Bool.Decides.{nat_tests}
+use Rattle.std.proofs.Common.{◌≡◌, ℕ, ◌+◌, ◌<◌, ◌≤◌, List, [], ◌∷◌, length, drop, Option, Some, None, refl, ap, ◌∙◌, sym, subst, inl, inr, arith, length-drop}
+use Rattle.std.specs.Prelude.{◌⊎◌}
 use Rattle.std.proofs.lemmas.List.{nil_from_length}
 use Rattle.std.proofs.lemmas.Option.{same_Some}
 use denote.Ref.{Bor}
@@ -93,36 +91,25 @@ passed_there first start whole at way before =
     }
 
 -- at the offset itself the next entry stands, or none
-pub is_there : (first : ℕ) (whole : List ℕ) (at : ℕ) (found : Option (Bor (List ℕ))) → IsOnWay first at whole at
-    → MatchOption found (IsEnd at whole) (λ entry. IsNext at whole entry.now)
+pub is_there : (first start : ℕ) (whole : List ℕ) (at : ℕ) (found : Option (Bor (List ℕ))) → start ≡ at
+    → IsOnWay first start whole at → MatchOption found (IsEnd start whole) (λ entry. IsNext start whole entry.now)
     → IsThere (entries_of first whole) at (option_map (λ entry. entry.now) found)
-is_there first whole at None way end = none_there first at whole at way end
-is_there first whole at (Some e) way next =
-    let entries = record { offset = at; entry = e.now } ∷ entries_of (at + length e.now) whole in
+is_there first start whole at None here way end = none_there first start whole at way end
+is_there first start whole at (Some e) here way next =
+    let entries = record { offset = start; entry = e.now } ∷ entries_of (start + length e.now) whole in
     record {
       is = λ d. (
         λ stands. elim (first_or_later _ _ _ (rw next.first at ((way.same d).0 stands))) [
           | inl is ↦ ap (λ (s : PlacedEntry (List ℕ)). Some s.entry) is
           | inr later ↦ let least =
-              next.entry.least in absurd (none_before (at + length e.now) whole at d (omega arith) later)
+              next.entry.least in absurd (none_before (start + length e.now) whole at d (omega arith) later)
         ],
         λ is. (way.same d).1 (rw next.first
-            (subst (λ (x : List ℕ). Stands entries at x) (same_Some _ _ is) (first_element _ _))),
+            (rw (← same_Some _ _ is, ← here) (first_element _ _))),
       );
     }
 
--- behind the walk up to the offset: it has come to it, or none stands there
-pub come_to : (first start : ℕ) (whole : List ℕ) (at : ℕ) → IsOnWay first start whole at → at ≤ start
-    → MatchBool (nat_eq start at) (IsOnWay first at whole at) (IsThere (entries_of first whole) at None)
-come_to first start whole at way past = by_test (nat_eq start at) refl
-  where
-    by_test : (b : Bool) → nat_eq start at ≡ b
-        → MatchBool b (IsOnWay first at whole at) (IsThere (entries_of first whole) at None)
-    by_test true is = subst (λ (k : ℕ). IsOnWay first k whole at) (eqb-true start at is) way
-    by_test false is =
-        let behind : at < start = grind (arith, nat_tests) in passed_there first start whole at way behind
-
-pub ruleset walking = (at_first, at_next, is_past, end_or_next, none_there, passed_there, is_there)
+pub ruleset walking = (at_first, at_next, is_past, end_or_next, none_there)
 
 -- ---- a search
 

@@ -3,7 +3,6 @@ pub mod Conditions
 pub mod Links
 pub mod Madts
 pub mod Roots
-pub mod Slots
 pub mod Srats
 pub mod Starts
 pub mod Walks

@@ -1,7 +1,8 @@
 -- The root table of a set and its slots.
-use Rattle.std.specs.Prelude.{◌≡◌, ℕ, ◌≤◌, List, length, Option, Some, MatchOption}
+use Rattle.std.specs.Prelude.{◌≡◌, ℕ, ◌<◌, ◌≤◌, List, length, Option, Some, MatchOption}
 use denote.Ref.{Bor}
 use Rattle.acpi_base.specs.Memory.{Memory, bytes_at}
+use Rattle.acpi_base.specs.Listed.{IsFirstListed}
 use Rattle.acpi_base.specs.Root.{HasSlot, IsRoot, IsRootTable, IsSlotWidth}
 use Rattle.acpi_base.specs.Tables.{IsSigned}
 
@@ -27,3 +28,9 @@ abbrev pub IsSignedIn : Memory → List ℕ → ℕ → ℕ → List ℕ → Opt
 IsSignedIn m bytes d k signature found =
     MatchOption found ((a : ℕ) → HasSlot bytes d k a → ¬ IsSigned m a signature)
     (λ a. HasSlot bytes d k a × IsSigned m a signature)
+
+-- of the slots before k, none lists a header with the signature, or the first one that does was found
+abbrev pub IsFirstSoFar : Memory → List ℕ → ℕ → ℕ → List ℕ → Option ℕ → Type 0
+IsFirstSoFar m bytes d k signature found =
+    MatchOption found ((j b : ℕ) → j < k → HasSlot bytes d j b → ¬ IsSigned m b signature)
+    (IsFirstListed m bytes d signature)

@@ -1,11 +1,11 @@
 //! The entries of a table, one after another.
 
-ghost use Rattle.std.specs.Prelude.{◌≡◌, ◌<◌, IfSome, MatchBool, List, ℕ, None};
+ghost use Rattle.std.specs.Prelude.{◌≡◌, ◌<◌, IfSome, List, ℕ};
 ghost use denote.Ref.{Bor};
 ghost use Rattle.std.specs.Option.{option_map, MatchOption};
 ghost use Rattle.acpi_base.specs.Entries.{IsEntry, first_entry, entries_of, cut_of};
 ghost use Rattle.acpi_base.specs.Number.{has_bit};
-ghost use Rattle.acpi_confirm.specs.Walks.{IsThere, IsEnd, IsNext, IsOnWay, FindsAny};
+ghost use Rattle.acpi_confirm.specs.Walks.{IsThere, IsEnd, IsNext, FindsAny};
 
 /// Whether a bit of an entry's flags is set; bit 0 is the lowest.
 #[tactic(auto, unfolding(acpi_base::specs::Number::has_bit))]
@@ -40,22 +40,6 @@ pub(crate) fn entry_from(whole: &[u8], start: usize) -> Option<&[u8]>
     first_entry(&whole[start..])
 }
 
-/// Whether the walk over the entries of a table from a start on reaches an offset.
-#[tactic(auto, using(crate::proofs::Walks::walking))]
-pub(crate) fn comes_to(whole: &[u8], first: usize, at: u64) -> bool
-    ensures { MatchBool result (IsOnWay first at whole.now at)
-        (IsThere (entries_of first whole.now) at None) }
-{
-    let mut start = first;
-    while (start as u64) < at {
-        let Some(entry) = entry_from(whole, start) else {
-            return false;
-        };
-        start += entry.len();
-    }
-    start as u64 == at
-}
-
 /// The entry at an offset of a table whose entries begin at `first`, if there is one: the walk passes the entries up
 /// to the offset.
 #[tactic(auto, using(crate::proofs::Walks::walking))]
@@ -64,10 +48,17 @@ pub(crate) fn entry_at(whole: &[u8], first: usize, at: u64) -> Option<&[u8]>
         (option_map (λ entry. entry.now) result) }
     ensures entry { IfSome result (λ entry. IsEntry entry.now) }
 {
-    if !comes_to(whole, first, at) {
+    let mut start = first;
+    while (start as u64) < at {
+        let Some(entry) = entry_from(whole, start) else {
+            return None;
+        };
+        start += entry.len();
+    }
+    if start as u64 > at {
         return None;
     }
-    entry_from(whole, at as usize)
+    entry_from(whole, start)
 }
 
 /// The cut: the offset of the bytes after the entries of a table, if any are left. No entry can begin there.

@@ -2,8 +2,8 @@
 //!
 //! `confirm` returns true exactly for the faults of the definitions, wherever the witness comes from and whatever its
 //! three numbers are. It does not require that earlier stages hold. With the crates that check it shares only
-//! `acpi_base`: images, numbers at an offset, byte sums, the policy, and the sort of addresses. It looks the bytes up in
-//! the image itself, and has its own walks over slots and entries. It allocates nothing.
+//! `acpi_base`: images, numbers at an offset, byte sums and the policy. It looks the bytes up in the image itself, and
+//! has its own walks over slots and entries. It allocates nothing.
 //!
 //! An example, from `crates/acpi_cli/src/confirm.rt`, where `parse_witness` has read the fault from an argument:
 //!
@@ -31,8 +31,8 @@
 //! cross    57 to 59    two tables, or two kinds of entries
 //! ```
 //!
-//! `listed` finds the first listed table with a signature, with the help of `slot_blocks` in a large root table.
-//! `in_tables` passes its bytes on to be judged, and `entries` walks over the entries of a table.
+//! `listed` finds the first listed table with a signature. `in_tables` passes its bytes on to be judged, and `entries`
+//! walks over the entries of a table.
 #![tactic(auto)]
 
 ghost use Rattle.std.specs.Prelude.{◌↔◌, IsTrue};
@@ -49,7 +49,6 @@ mod pptt;
 mod root;
 mod rsdp;
 mod slit;
-mod slot_blocks;
 mod srat;
 mod tables;
 

@@ -4,31 +4,25 @@ ghost use Rattle.std.specs.Prelude.{◌↔◌, ◌≤◌, ◌<◌, ◌^◌, ℕ,
 ghost use Rattle.acpi_base.specs.Listed.{IsListedTable, ListsNone, IsFirstListed, IsNoneListed};
 ghost use Rattle.acpi_base.specs.Memory.{Memory};
 ghost use Rattle.acpi_confirm.specs.Roots.{HasSlots, IsHeaderIn, IsSignedIn, IsWholeRoot};
-ghost use Rattle.acpi_confirm.specs.Slots.{IsFirstIn, IsFirstSoFar};
 
 use crate::root::{Root, whole_root};
-use crate::slot_blocks::{Sought, list_neither};
 use crate::tables::table_at;
 use acpi_base::field::is_signed;
 use acpi_base::{Image, Policy};
 
-/// How many slots are gone over at a time, if the root table has more.
-const BLOCK: usize = 65_536;
-
 /// The bytes of the first listed table with the signature, if it is complete: the first slot whose address has a
-/// header with the signature decides, and no later one is looked at.
+/// header with the signature decides.
 pub(crate) fn listed<'a>(image: &'a Image, policy: &Policy, signature: &[u8; 4]) -> Option<&'a [u8]>
     ensures found { MatchOption result ((whole : List ℕ)
         → ¬ IsListedTable image.now policy.now.rsdp signature.now whole)
         (λ whole. IsListedTable image.now policy.now.rsdp signature.now whole.now) }
     ensures count { IfSome result (λ whole. (36 ≤ length whole.now) × (length whole.now < 2 ^ 32)) }
 {
-    let root = whole_root(image, policy.rsdp())?;
-    let address = first_with(image, &root, signature)?;
-    table_at(image, address)
+    both_listed(image, policy, signature, signature).0
 }
 
-/// The bytes of the first listed table with the one signature, and of that with the other, each if it is complete.
+/// The bytes of the first listed table with the one signature, and of that with the other, each if it is complete. The
+/// slots are gone over once for both.
 pub(crate) fn both_listed<'a>(
     image: &'a Image,
     policy: &Policy,
@@ -58,7 +52,9 @@ pub(crate) fn lists_none(image: &Image, policy: &Policy, signature: &[u8; 4]) ->
     ensures { IsTrue result ↔ ListsNone image.now policy.now.rsdp signature.now }
 {
     match whole_root(image, policy.rsdp()) {
-        Some(root) => first_with(image, &root, signature).is_none(),
+        Some(root) => first_with_each(image, &root, signature, signature)
+            .0
+            .is_none(),
         None => false,
     }
 }
@@ -73,16 +69,6 @@ fn table_found(image: &Image, address: Option<u64>) -> Option<&[u8]>
     ensures count { IfSome result (λ whole. (36 ≤ length whole.now) × (length whole.now < 2 ^ 32)) }
 {
     table_at(image, address?)
-}
-
-/// The address in the first slot at whose address a header with the signature is present.
-fn first_with(image: &Image, root: &Root<'_>, signature: &[u8; 4]) -> Option<u64>
-    requires { HasSlots root.now.width root.now.bytes.now }
-    ensures { MatchOption result
-        (IsNoneListed image.now root.now.bytes.now root.now.width signature.now)
-        (IsFirstListed image.now root.now.bytes.now root.now.width signature.now) }
-{
-    first_with_each(image, root, signature, signature).0
 }
 
 /// The address in the first slot at whose address a header with the one signature is present, and the same for the
@@ -101,102 +87,12 @@ fn first_with_each(
         (IsNoneListed image.now root.now.bytes.now root.now.width other.now)
         (IsFirstListed image.now root.now.bytes.now root.now.width other.now) }
 {
-    if root.slots() > BLOCK as u64 {
-        return first_in_many(image, root, one, other);
-    }
-    let one = Sought::new(one, None);
-    let other = Sought::new(other, None);
-    first_in_range(image, root, 0, root.slots(), &one, &other)
-}
-
-/// The same for a large root table, with room for a block of slots, which takes 512 KiB of the stack. It is not
-/// inlined, so that no other call takes as much.
-#[inline(never)]
-fn first_in_many(
-    image: &Image,
-    root: &Root<'_>,
-    one: &[u8; 4],
-    other: &[u8; 4],
-) -> (Option<u64>, Option<u64>)
-    requires { HasSlots root.now.width root.now.bytes.now }
-    ensures one { IsFirstIn image.now root.now.bytes.now root.now.width one.now result.0 }
-    ensures other { IsFirstIn image.now root.now.bytes.now root.now.width other.now result.1 }
-{
-    first_by_blocks(image, root, one, other, &mut [0; BLOCK])
-}
-
-/// The same by blocks of slots, each of as many as `room` has places for. Only a block that lists a header with a
-/// signature that is still looked for is gone over in the order of its slots, so at most two blocks are.
-fn first_by_blocks(
-    image: &Image,
-    root: &Root<'_>,
-    one: &[u8; 4],
-    other: &[u8; 4],
-    room: &mut [u64],
-) -> (Option<u64>, Option<u64>)
-    requires slots { HasSlots root.now.width root.now.bytes.now }
-    requires room { 0 < length room.old }
-    ensures one { IsFirstIn image.now root.now.bytes.now root.now.width one.now result.0 }
-    ensures other { IsFirstIn image.now root.now.bytes.now root.now.width other.now result.1 }
-{
-    let slots = root.slots();
     let mut first = None;
     let mut second = None;
-    let mut k = 0;
-    while k < slots && (first.is_none() || second.is_none()) {
-        let sought_one = Sought::new(one, first);
-        let sought_other = Sought::new(other, second);
-        let count = (slots - k).min(room.len() as u64);
-        if !list_neither(
-            image,
-            root,
-            k,
-            &mut room[..count as usize],
-            &sought_one,
-            &sought_other,
-        ) {
-            (first, second) = first_in_range(image, root, k, k + count, &sought_one, &sought_other);
-        }
-        k += count;
-    }
-    (first, second)
-}
-
-/// Goes on with the search in the slots from slot `from` on and before slot `to`, and returns what is found by then. A
-/// slot is looked at once, whatever it lists, and the image is searched for what the next slot lists before this one's
-/// header is read, so that the processor waits for the memory of both at a time.
-fn first_in_range(
-    image: &Image,
-    root: &Root<'_>,
-    from: u64,
-    to: u64,
-    one: &Sought<'_>,
-    other: &Sought<'_>,
-) -> (Option<u64>, Option<u64>)
-    requires slots { HasSlots root.now.width root.now.bytes.now }
-    requires order { from ≤ to }
-    requires one { IsFirstSoFar image.now root.now.bytes.now root.now.width from
-        one.now.signature.now one.now.first }
-    requires other { IsFirstSoFar image.now root.now.bytes.now root.now.width from
-        other.now.signature.now other.now.first }
-    ensures one { IsFirstSoFar image.now root.now.bytes.now root.now.width to
-        one.now.signature.now result.0 }
-    ensures other { IsFirstSoFar image.now root.now.bytes.now root.now.width to
-        other.now.signature.now result.1 }
-{
-    let signature = one.signature;
-    let other_signature = other.signature;
-    let mut first = one.first;
-    let mut second = other.first;
-    let mut ahead = header_in(image, root, from);
-    for k in from..to {
-        let here = ahead;
-        ahead = header_in(image, root, k + 1);
-        first = first.or(signed(here, signature));
-        second = second.or(signed(here, other_signature));
-        if first.is_some() && second.is_some() {
-            return (first, second);
-        }
+    for k in 0..root.slots() {
+        let here = header_in(image, root, k);
+        first = first.or(signed(here, one));
+        second = second.or(signed(here, other));
     }
     (first, second)
 }

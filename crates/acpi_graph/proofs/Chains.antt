@@ -75,17 +75,3 @@ parent_is_node parents nodes node parent up = elim (slice_get_cases parents node
       let none : None ≡ Some parent = subst (λ o. option_and_then (λ (p : Option ℕ). p) o ≡ Some parent) past.1 up in
       absurd cc
 ]
-
--- a chain that begins at a node keeps to the nodes
-pub after_is_node : (parents : List (Option ℕ)) → AreNodes parents → (node : ℕ) → node < length parents
-    → (steps there : ℕ) → node_after parents node steps ≡ Some there → there < length parents
-after_is_node parents nodes node is_node zero there stands = let same : node ≡ there = cc in
-    omega arith
-after_is_node parents nodes node is_node (suc steps) there stands =
-    elim (over_or_there (node_after parents node steps)) [
-      | inl over ↦
-          let none : None ≡ Some there = subst (λ o. option_and_then (parent_of parents) o ≡ Some there) over stands in
-          absurd cc
-      | inr before ↦ parent_is_node parents nodes before.0 there
-          (subst (λ o. option_and_then (parent_of parents) o ≡ Some there) before.1 stands)
-    ]

@@ -19,14 +19,3 @@ ends_before_later {X} from to xs high within forward next i (suc j) d before bel
           let itself : from (get_or xs j d) ≤ to (get_or xs j d) = forward j d (omega arith) in
           omega arith
     ]
-
--- and no number lies in it and in one that follows
-pub none_shared : {X : Type 0} (from to : X → ℕ) (xs : List X) (high : ℕ) → high ≤ length xs
-    → All (λ x. from x ≤ to x) xs
-    → AllAdjacentBelow (λ x y. to x ≤ from y) xs high
-    → (i j : ℕ) (d : X) → i < j → j < high
-    → (number : ℕ) → number < to (get_or xs i d) → from (get_or xs j d) ≤ number → ⊥
-none_shared from to xs high within forward next i j d before below number inside reached =
-    let ends : to (get_or xs i d) ≤ from (get_or xs j d) =
-    ends_before_later from to xs high within forward next i j d before below in
-    omega arith

@@ -1,10 +1,6 @@
 pub mod ClearOfNeighbours
-pub mod Pigeonholes
 pub mod Chains
 pub mod Rounds
-pub mod ReturnsWithin
 pub mod SortedSpans
-mod ApartSpans
 mod FirstOverlap
-mod SortedTwice
 mod Walks

@@ -1,7 +1,5 @@
-use Rattle.std.specs.Prelude.{◌≡◌, ◌≢◌, ℕ, ◌+◌, ◌<◌, ◌≤◌, ◌⊎◌, List, AllPairs, Contains, length, slice_index_or}
-use Rattle.std.specs.List.{AllAdjacentBelow}
+use Rattle.std.specs.Prelude.{◌≡◌, ◌≢◌, ℕ, ◌<◌, ◌≤◌, ◌⊎◌, List, AllPairs, Contains}
 use Rattle.acpi_graph.specs.declared.span.Span.{Span}
-use Rattle.acpi_graph.specs.declared.span.CompactSpan.{CompactSpan}
 use Rattle.acpi_graph.specs.declared.clash.Clash.{Clash}
 use Rattle.acpi_graph.specs.declared.clash.Clash.TheVariants as clash
 
@@ -57,46 +55,3 @@ pub record IsFirstClash (spans : List Span) (first second point : ℕ) : Type 0 
 abbrev pub IfAt : Clash → (ℕ → ℕ → ℕ → Type 0) → Type 0
 IfAt clash.None P = Unit {0}
 IfAt (clash.At first second point) P = P first second point
-
--- ---- compact spans, which have no ids
-
--- the number after the last one of the span
-abbrev pub end_of : CompactSpan → ℕ
-end_of span = span.start + span.length
-
--- one span ends before the other begins
-abbrev pub EndsBefore : CompactSpan → CompactSpan → Type 0
-EndsBefore a b = end_of a ≤ b.start
-
--- of any two spans of the list one ends before the other begins, in one order or the other: so no number is in both
-abbrev pub AreApart : List CompactSpan → Type 0
-AreApart spans = AllPairs (λ a b. EndsBefore a b ⊎ EndsBefore b a) spans
-
--- each span of the list ends before all after it begin
-abbrev pub AreSortedDisjoint : List CompactSpan → Type 0
-AreSortedDisjoint spans = AllPairs EndsBefore spans
-
--- the span begins at the number, or contains it
-abbrev pub Reaches : CompactSpan → ℕ → Type 0
-Reaches span g = (span.start ≤ g) × ((g < end_of span) ⊎ (span.start ≡ g))
-
--- of any two spans that begin below the number one ends before the other begins
-abbrev pub AreApartBelow : List CompactSpan → ℕ → Type 0
-AreApartBelow spans g = AllPairs (λ a b. a.start < g → b.start < g → EndsBefore a b ⊎ EndsBefore b a) spans
-
--- no two spans reach the number
-abbrev pub AreApartAt : List CompactSpan → ℕ → Type 0
-AreApartAt spans g = AllPairs (λ a b. Reaches a g → Reaches b g → ⊥) spans
-
--- it is the first number at which spans overlap: two reach it, and those that begin below it do not overlap
-pub record IsFirstMeeting (spans : List CompactSpan) (g : ℕ) : Type 0 where
-  pub below : AreApartBelow spans g
-  pub here : ¬ AreApartAt spans g
-
--- in a list of spans one overlaps the next one, which begins at g, and all before it end before their next one begins
-pub record RunsInto (spans : List CompactSpan) (g : ℕ) : Type 0 where
-  pub place : ℕ
-  pub within : place + 1 < length spans
-  pub start : (d : CompactSpan) → (slice_index_or spans (place + 1) d).start ≡ g
-  pub into : (d : CompactSpan) → g < end_of (slice_index_or spans place d)
-  pub before : AllAdjacentBelow EndsBefore spans (place + 1)

@@ -3,7 +3,6 @@
 ghost use Rattle.std.specs.Prelude.{◌≡◌, ◌+◌, ◌-◌, ◌<◌, ◌≤◌, ◌↔◌, IsTrue, IsOk, IfOk, AllPairs, length, vec_len};
 ghost use Rattle.acpi_graph.specs.Spans.{NamesDiffer, IsClear, ComesBefore, IfAt, IsFirstClash};
 
-use crate::sorting::sort_any_order;
 use crate::span::Span;
 use std::alloc::{AllocError, Global};
 
@@ -25,17 +24,16 @@ pub enum Clash {
 /// compared to find it.
 ///
 /// The spans have different ids (`name`); their order does not matter. It sorts them once by start and id,
-/// and makes at most n - 1 comparisons for n spans.
+/// and makes at most n - 1 comparisons for n spans. Refuses if out of memory: the sort of more than 20 spans needs a
+/// buffer, which the allocator of the vector gives; `alloc` is not used.
 pub fn first_clash(alloc: Global, mut spans: Vec<Span>) -> Result<(Clash, usize), AllocError>
     requires { NamesDiffer spans.items }
-
-    // It does not use `alloc`, and its sort needs no memory: it never runs out of it.
-    ensures always { IsOk result }
+    ensures few { vec_len spans ≤ 20 → IsOk result }
     ensures none { IfOk result (λ found. (found.0 ≡ Clash.None) ↔ IsClear spans.items) }
     ensures first { IfOk result (λ found. IfAt found.0 (IsFirstClash spans.items)) }
     ensures comparisons { IfOk result (λ found. found.1 ≤ vec_len spans - 1) }
 {
-    sort_any_order(&mut spans);
+    spans.sort()?;
     Ok(first_overlap(&spans))
 }
 

@@ -1,14 +1,10 @@
-//! Two searches that a checker of tables needs, a test that saves most calls of the first one, and a sort. Each search
-//! returns the first case in a fixed order, so that the result does not depend on how the tables list their entries.
+//! Two searches that a checker of tables needs. Each returns the first case in a fixed order, so that the result does not
+//! depend on how the tables list their entries.
 //!
-//! - `first_meeting`: for spans of numbers in 8 bytes each, without ids, whether two overlap, and the first number at
-//!   which two do.
 //! - `first_clash`: for spans of numbers, such as memory ranges, the first overlap: the lowest number that is in two,
 //!   and the first two spans that contain it.
 //! - `first_stray`: for nodes that refer to their parents, the first one whose chain of parents leads into a cycle
 //!   and never ends, and where its cycle begins.
-//! - `sort_any_order`, `sort_slice_any_order`, `sort_any_order_by_key`: sort items in a time that no known order of theirs
-//!   makes much longer.
 //!
 //! ```rust
 //! let low = Span::new(0, 10, 1).unwrap(); // 0 to 9, under the name 1
@@ -31,18 +27,13 @@
 //! assert!(rt; stray == found && steps == 4);
 //! ```
 //!
-//! The searches and the test return how many of their steps they took. The steps inside a sort are not counted.
+//! The searches return how many of their steps they took. The steps inside a sort are not counted.
 #![tactic(auto)]
 
-mod apart;
 mod clash;
-mod mixing;
-mod sorting;
 mod span;
 mod stray;
 
-pub use apart::first_meeting;
 pub use clash::{Clash, first_clash};
-pub use sorting::{sort_any_order, sort_any_order_by_key, sort_slice_any_order};
-pub use span::{CompactSpan, Span};
+pub use span::Span;
 pub use stray::{Stray, first_stray};

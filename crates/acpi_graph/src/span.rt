@@ -1,6 +1,6 @@
 //! Spans of numbers.
 
-ghost use Rattle.std.specs.Prelude.{◌≡◌, ◌+◌, ◌<◌, ◌↔◌, IsSome, IfSome};
+ghost use Rattle.std.specs.Prelude.{◌≡◌, ◌<◌, ◌↔◌, IsSome, IfSome};
 
 /// The numbers from `start` on and below `end`: at least one. `name` is the id by which results name the span.
 ///
@@ -26,24 +26,5 @@ impl Span {
         } else {
             None
         }
-    }
-}
-
-/// The numbers from `start` on, `length` of them, in 8 bytes and without an id: many of these are sorted much faster
-/// than `Span`s.
-///
-/// Compact spans compare by `start`, then by `length`.
-#[derive(Clone, Copy, Debug, PartialEq, Eq, Hash, PartialOrd, Ord)]
-pub struct CompactSpan {
-    pub start: u32,
-    pub length: u16,
-}
-
-impl CompactSpan {
-    /// The number after the last one.
-    pub fn end(&self) -> u64
-        ensures { result ≡ self.now.start + self.now.length }
-    {
-        u64::from(self.start) + u64::from(self.length)
     }
 }

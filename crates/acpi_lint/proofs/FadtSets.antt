@@ -1,10 +1,9 @@
 -- Faults of the FADT of a set.
 use Rattle.std.proofs.Common.{◌≢◌, ℕ, List, Option, Some, None, refl, inl, inr}
-use Rattle.std.specs.Prelude.{◌↔◌, IsTrue, IsNone, Bool, true}
+use Rattle.std.specs.Prelude.{◌↔◌, IsTrue, IsNone, Bool}
 use Rattle.acpi_base.specs.Listed.{fadt_signature, ListsNone, IsListedTable, HasListed}
 use Rattle.acpi_base.specs.Memory.{Memory}
 use Rattle.acpi_base.specs.Policy.{PolicyValue}
-use Rattle.acpi_base.specs.Root.{IsSlot}
 use Rattle.acpi_base.specs.Tables.{IsSigned}
 use Rattle.acpi_base.specs.declared.code.Code.{Code}
 use Rattle.acpi_base.specs.declared.code.Code.TheVariants as code
@@ -18,29 +17,24 @@ use Rattle.acpi_lint.specs.Slots.{FindsSlot}
 use Rattle.acpi_lint.specs.StageFaults.{IsFaultOfStage}
 use Rattle.acpi_lint.specs.declared.listed.Slot.{Slot}
 use Rattle.acpi_lint.specs.declared.place.Place.{Place}
-use Rattle.acpi_lint.proofs.FirstSlots.{not_wanted}
 use Rattle.acpi_lint.proofs.LeastPlaces.{least_as}
 use Rattle.acpi_lint.proofs.OfSets.{of_table, of_no_table}
 
 -- ---- a set that lists none
 
 -- a set lists none with a signature exactly where no slot of its root is found
-pub lists_none : {m : Memory} {p : ℕ} {root : RootValue} {signature : List ℕ} {Answers : ℕ → Bool → Type 0}
-    (found : Option Slot) (b : Bool) → (IsTrue b ↔ IsNone found) → IsWholeRoot m p root
-    → FindsSlot (IsSlot m p) Answers found → ((a : ℕ) (b : Bool) → Answers a b → IsTrue b ↔ IsSigned m a signature)
+pub lists_none : {m : Memory} {p : ℕ} {root : RootValue} {signature : List ℕ} (found : Option Slot) (b : Bool)
+    → (IsTrue b ↔ IsNone found) → IsWholeRoot m p root → FindsSlot m p (λ a. IsSigned m a signature) found
     → IsTrue b ↔ ListsNone m p signature
-lists_none {m} {signature = signature} {Answers = Answers} None b test is first decides = (
-  λ yes. none_in_root is.named is.table
-      (λ k a slot signed.
-      not_wanted (λ x. IsSigned m x signature) Answers a decides
-      (first.before k a tt (root_slot is.named is.table slot)) signed),
+lists_none None b test is first = (
+  λ yes. none_in_root is.named is.table (λ k a slot. first k a (root_slot is.named is.table slot)),
   λ lists. test.1 refl,
 )
-lists_none {m} {p} (Some s) b test is first decides = (
+lists_none {m} {p} (Some s) b test is first = (
   λ yes. (let no_one : IsNone (Some s) = test.0 yes in absurd cc),
-  λ lists. absurd (lists.none s.number s.address
-      (slot_of_root m p lists.r lists.d s.number s.address lists.root_bytes lists.root lists.table first.here.0)
-      ((decides s.address true first.here.1).0 refl)),
+  λ lists. absurd (lists.none s.number s.table.address
+      (slot_of_root m p lists.r lists.d s.number s.table.address lists.root_bytes lists.root lists.table first.slot)
+      first.here),
 )
 
 -- a set with no whole root does not list none

@@ -32,7 +32,7 @@ are_known {E} read entries gathered numbers is rise same =
     from n (s, listed, names) = (s.offset, (s.entry, listed, names))
 
 -- what a map has it makes of an element
-map_from : {X Y : Type 0} (f : X → Y) (xs : List X) (y : Y) → Contains (map f xs) y
+pub map_from : {X Y : Type 0} (f : X → Y) (xs : List X) (y : Y) → Contains (map f xs) y
     → (x : X) × Contains xs x × (f x ≡ y)
 map_from f [] y listed = absurd (no_element y listed)
 map_from f (u ∷ xs) y listed =

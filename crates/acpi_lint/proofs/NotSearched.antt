@@ -6,7 +6,7 @@ use Rattle.std.proofs.lemmas.Option.{none-some}
 use Rattle.acpi_base.specs.Across.{IsIoApic}
 use Rattle.acpi_base.specs.Lint.MadtAdvice.{nmi_uid, io_apic_id, io_apic_address}
 use Rattle.acpi_base.specs.Lint.PpttAdvice.{cache_id}
-use Rattle.acpi_base.specs.Lint.Processors.{processor_of, uid_of, uid_on, apic_id_of, apic_id_on, gicc_uid_on, IsGicc, placed_apic_id, placed_uid, processor_domain, any_domain}
+use Rattle.acpi_base.specs.Lint.Processors.{processor_of, uid_on, apic_id_on, gicc_uid_on, IsGicc, placed_apic_id, placed_uid, processor_domain, any_domain}
 use Rattle.acpi_base.specs.Madt as madt
 use Rattle.acpi_base.specs.Policy.{PolicyValue}
 use Rattle.acpi_base.specs.Pptt as pptt
@@ -18,7 +18,9 @@ use Rattle.acpi_lint.specs.Leaves.{valid_id, said_leaf_id, unnamed_id}
 use Rattle.acpi_lint.specs.Overrides.{IsOwnOverride, ServesNumber}
 use Rattle.acpi_lint.specs.PpttPlaces.{IsOddCache}
 use Rattle.acpi_lint.specs.References.{linked, is_linked}
-use Rattle.acpi_lint.specs.SameNumbers.{nonzero_io_apic_address, domain_of_uid}
+use Rattle.acpi_lint.specs.EntryNumbers.{madt_number, domain_of_uid}
+use Rattle.acpi_lint.specs.declared.processors.MadtNumber.{MadtNumber}
+use Rattle.acpi_lint.specs.declared.processors.MadtNumber.TheVariants as number
 use Rattle.acpi_lint.specs.declared.references.Link.{Link}
 use Rattle.acpi_lint.specs.declared.references.Link.TheVariants as link
 
@@ -32,14 +34,8 @@ processor_none : (e : madt.MadtEntry) → searched_in_madt e ≡ false → proce
 processor_none (madt.Opaque e) passed = rw passed refl
 processor_none e passed = cc
 
-pub uid_of_none : (e : madt.MadtEntry) → searched_in_madt e ≡ false → uid_of e ≡ None
-uid_of_none e passed = rw (processor_none e passed) refl
-
 pub uid_on_none : (e : madt.MadtEntry) → searched_in_madt e ≡ false → uid_on e ≡ None
 uid_on_none e passed = rw (processor_none e passed) refl
-
-pub apic_id_of_none : (e : madt.MadtEntry) → searched_in_madt e ≡ false → apic_id_of e ≡ None
-apic_id_of_none e passed = rw (processor_none e passed) refl
 
 pub apic_id_on_none : (e : madt.MadtEntry) → searched_in_madt e ≡ false → apic_id_on e ≡ None
 apic_id_on_none e passed = rw (processor_none e passed) refl
@@ -52,7 +48,7 @@ pub nmi_uid_none : (e : madt.MadtEntry) → searched_in_madt e ≡ false → nmi
 nmi_uid_none (madt.Opaque e) passed = refl
 nmi_uid_none e passed = cc
 
-pub io_apic_id_none : (e : madt.MadtEntry) → searched_in_madt e ≡ false → io_apic_id e ≡ None
+io_apic_id_none : (e : madt.MadtEntry) → searched_in_madt e ≡ false → io_apic_id e ≡ None
 io_apic_id_none (madt.Opaque e) passed = refl
 io_apic_id_none e passed = cc
 
@@ -60,8 +56,14 @@ pub io_apic_address_none : (e : madt.MadtEntry) → searched_in_madt e ≡ false
 io_apic_address_none (madt.Opaque e) passed = refl
 io_apic_address_none e passed = cc
 
-pub nonzero_address_none : (e : madt.MadtEntry) → searched_in_madt e ≡ false → nonzero_io_apic_address e ≡ None
-nonzero_address_none e passed = rw (io_apic_address_none e passed) refl
+pub madt_number_none : (number : MadtNumber) (e : madt.MadtEntry) → searched_in_madt e ≡ false
+    → madt_number number e ≡ None
+madt_number_none number.Uid e passed = rw (processor_none e passed) refl
+madt_number_none number.UidOn e passed = uid_on_none e passed
+madt_number_none number.ApicId e passed = rw (processor_none e passed) refl
+madt_number_none number.ApicIdOn e passed = apic_id_on_none e passed
+madt_number_none number.IoApicId e passed = io_apic_id_none e passed
+madt_number_none number.IoApicAddress e passed = rw (io_apic_address_none e passed) refl
 
 pub no_gicc : (e : madt.MadtEntry) → searched_in_madt e ≡ false → ¬ IsGicc e
 no_gicc (madt.Opaque e) passed = λ is.

@@ -12,9 +12,8 @@ use Rattle.acpi_base.specs.declared.table_kind.TableKind.TheVariants as kind
 use Rattle.acpi_base.proofs.Faults.ListedTables.{of_listed}
 use Rattle.acpi_lint.specs.EntryTypes.{madt_type, srat_type, AreTypesOf}
 use Rattle.acpi_lint.specs.Places.{FindsLeast}
-use Rattle.acpi_lint.specs.Slots.{IsRootOf, AreAddresses}
-use Rattle.acpi_lint.specs.NotedSlots.{AreNotedSlots}
 use Rattle.acpi_lint.specs.NotedTables.{IsLong}
+use Rattle.acpi_lint.specs.Slots.{IsRootOf, AreSlots, AreFirstSlots}
 use Rattle.acpi_lint.specs.WholeTables.{IsFound, table_of, AreTyped, AreWholeTables}
 use Rattle.acpi_lint.specs.declared.place.Place.{Place}
 use Rattle.acpi_lint.specs.declared.whole_tables.WholeTables.{WholeTables}
@@ -65,13 +64,12 @@ none_long m p signature least P (Some bytes) looked long short =
 
 -- the root and the table of each kind are those of the set
 pub are_whole : {m : Memory} {p : ℕ} (tables : WholeTables)
-    → IsRootOf m p tables.root → AreAddresses (IsSlot m p) tables.slots.items
-    → AreNotedSlots m (IsSlot m p) tables.noted_slots
+    → IsRootOf m p tables.root → AreSlots m (IsSlot m p) tables.slots.items → AreFirstSlots m p tables.firsts
     → IsFound m p fadt_signature tables.fadt → IsFound m p madt_signature tables.noted.madt
     → IsFound m p srat_signature tables.noted.srat → IsFound m p slit_signature tables.slit
     → IsFound m p pptt_signature tables.noted.pptt → AreTyped tables → AreWholeTables m p tables
-are_whole {m} {p} tables root slots noted_slots fadt madt srat slit pptt typed =
-    record { root = root; slots = slots; noted_slots = noted_slots; listed = listed; typed = typed }
+are_whole {m} {p} tables root slots firsts fadt madt srat slit pptt typed =
+    record { root = root; slots = slots; firsts = firsts; listed = listed; typed = typed }
   where
     listed : (k : TableKind) → IsFound m p (signature_of k) (table_of tables k)
     listed kind.Fadt = fadt

@@ -1,10 +1,10 @@
--- Lists in which keys rise, made by adding what has the next key.
-use Rattle.std.proofs.Common.{◌≡◌, ◌≢◌, ℕ, ◌+◌, ◌<◌, ◌≤◌, List, [], ◌∷◌, ◌++◌, length, get_or, inl, inr, arith}
-use Rattle.std.specs.Prelude.{AllPairs, Contains}
+-- Lists in which keys rise: made by adding what has the next key, and the first with a property.
+use Rattle.std.proofs.Common.{◌≡◌, ◌≢◌, ℕ, ◌+◌, ◌<◌, ◌≤◌, List, [], ◌∷◌, ◌++◌, length, get_or, sym, ap, subst, ◌∙◌, inl, inr, arith}
+use Rattle.std.specs.Prelude.{◌⊎◌, AllPairs, Contains}
 use Rattle.std.proofs.Math.ListN.{get_or-append}
 use Rattle.std.proofs.Math.Seq.{get_or-append_seam}
-use Rattle.std.proofs.lemmas.Bool.{cases_lt, cases_eq}
-use Rattle.std.proofs.lemmas.List.{length-append}
+use Rattle.std.proofs.lemmas.Bool.{cases_lt, cases_eq, cases_order}
+use Rattle.std.proofs.lemmas.List.{get_or_default, length-append}
 use Rattle.std.proofs.lemmas.List.Elements.{Contains-append_left, Contains-append_right, Contains-append_cases, Contains-get_or}
 use Rattle.acpi_base.proofs.Elements.{first_element, first_or_later, no_element}
 
@@ -40,7 +40,7 @@ none_next {key = key} {n = n} before none =
     }
 
 -- keys rise where one more comes last that has the greatest
-rise_more : {X : Type 0} (key : X → ℕ) (xs : List X) (y : X) → AllPairs (λ x z. key x < key z) xs
+pub rise_more : {X : Type 0} (key : X → ℕ) (xs : List X) (y : X) → AllPairs (λ x z. key x < key z) xs
     → ((x : X) → Contains xs x → key x < key y) → AllPairs (λ x z. key x < key z) (xs ++ y ∷ [])
 rise_more {X} key xs y rise below i j d before within =
     let inside : i < length xs = omega (arith, before, within, length-append xs (y ∷ [])) in
@@ -75,3 +75,24 @@ one_next {X} {P} {key} {n} {xs} y before holds next one =
           | inl same ↦ rw (← same) (holds, omega (arith, next))
           | inr none ↦ absurd (no_element x none)
         ]
+
+-- ---- the first with P
+
+-- one with P is the one at i, or has a greater key, where none before i has P
+pub at_or_behind : {X : Type 0} (key : X → ℕ) (P : X → Type 0) (xs : List X) (i : ℕ) (d t : X)
+    → AllPairs (λ x y. key x < key y) xs → i < length xs → ((j : ℕ) → j < i → ¬ P (get_or xs j d)) → Contains xs t
+    → P t → (t ≡ get_or xs i d) ⊎ (key (get_or xs i d) < key t)
+at_or_behind {X} key P xs i d t rise within passed (j, inside, is) holds =
+    let there : get_or xs j d ≡ t = get_or_default xs j d t inside ∙ is in
+    elim (cases_order i j) [
+      | inl same ↦ inl (sym there ∙ ap (λ (k : ℕ). get_or xs k d) (sym same))
+      | inr (inl before) ↦ inr
+          (subst (λ (x : X). key (get_or xs i d) < key x) there (rise i j d before inside))
+      | inr (inr behind) ↦ absurd (passed j behind (subst P (sym there) holds))
+    ]
+
+-- and there is none where none before the end has P
+pub none_such : {X : Type 0} (P : X → Type 0) (xs : List X) (i : ℕ) (d t : X) → length xs ≤ i
+    → ((j : ℕ) → j < i → ¬ P (get_or xs j d)) → Contains xs t → ¬ P t
+none_such P xs i d t end passed (j, inside, is) holds =
+    passed j (omega (arith, inside, end)) (subst P (sym (get_or_default xs j d t inside ∙ is)) holds)

@@ -9,7 +9,7 @@ use Rattle.acpi_base.specs.Lint.PpttAdvice.{cache_id, IsSameCacheId}
 use Rattle.acpi_base.specs.Madt.{MadtContents}
 use Rattle.acpi_base.specs.Pptt.{PpttContents}
 use Rattle.acpi_lint.specs.Places.{FindsLeast}
-use Rattle.acpi_lint.specs.SameNumbers.{nonzero_io_apic_address}
+use Rattle.acpi_lint.specs.EntryNumbers.{nonzero_io_apic_address}
 use Rattle.acpi_lint.specs.declared.place.Place.{Place}
 use Rattle.acpi_lint.proofs.LeastPlaces.{least_as}
 

@@ -1,6 +1,6 @@
 -- Passes over the entries that a search by contents looks at: what is picked of them is what is picked of all entries,
 -- since nothing is of the others.
-use Rattle.std.proofs.Common.{◌≡◌, ℕ, ◌<◌, List, length, Option, Some, None, Bool, false, refl}
+use Rattle.std.proofs.Common.{◌≡◌, ℕ, ◌<◌, List, length, Option, Bool, false, refl}
 use Rattle.std.specs.Prelude.{◌↔◌, Contains, IsTrue}
 use Rattle.std.specs.Option.{is_some}
 use denote.Ref.{Bor}
@@ -16,10 +16,9 @@ use Rattle.acpi_check.proofs.EntryPasses.Searched.{is_one, stands_same, still_ri
 use Rattle.acpi_lint.specs.FirstPicked.{PicksFirst, FindsOwn}
 use Rattle.acpi_lint.specs.Places.{FindsLeast}
 use Rattle.acpi_lint.specs.declared.place.Place.{Place}
-use Rattle.acpi_lint.proofs.AnyEntries as any
 use Rattle.acpi_lint.proofs.FirstEntries.{IsFaultAt, least_of_entries}
 use Rattle.acpi_lint.proofs.LeastPlaces.{least_as}
-use Rattle.acpi_lint.proofs.SomeEntries as some
+use Rattle.acpi_lint.proofs.SomeEntries.{any_of_entries}
 
 -- an entry of a PPTT begins before its end
 pub pptt_inside : (whole : List ℕ) (s : PlacedEntry PpttEntry) → Contains (pptt_contents whole).entries s
@@ -53,24 +52,6 @@ least_same {E} {Said} value IsFault searched low taken entries found picks are r
         (λ e passed. none at e passed other point) at
 
 -- whether something holds of any of them, where it does not of those that are passed over
-pub any_same : {E Said T : Type 0} (value : E → Said) {Answers : Bor (EntryAt E) → Option T → Type 0}
-    (P : Said → Type 0) (searched : Said → Bool) (taken entries : List (PlacedEntry Said)) (found : Option T)
-    → PicksFirst (Picks value Answers) taken found → AreSearched searched entries taken
-    → ((e : Said) → searched e ≡ false → ¬ P e)
-    → ((at : Bor (EntryAt E)) (picked : Option T) → Contains entries (entry_at_value value at.now)
-    → Answers at picked → any.IsWhere (P (value at.now.entry)) picked)
-    → any.IsWhere ((o : ℕ) × StandsWith entries o P) found
-any_same {E} {Said} {T} value P searched taken entries found picks are none each =
-    moved found (any.any_entry value P found picks refl
-    (λ at picked here answers. each at picked
-    (is_one searched entries taken are (entry_at_value value at.now) here) answers))
-  where
-    moved : (found : Option T) → any.IsWhere ((o : ℕ) × StandsWith taken o P) found
-        → any.IsWhere ((o : ℕ) × StandsWith entries o P) found
-    moved None nowhere = λ (o, stands). nowhere (o, (stands_same searched entries taken are P none o).1 stands)
-    moved (Some v) (o, stands) = (o, (stands_same searched entries taken are P none o).0 stands)
-
--- the same where the answer is whether it holds
 pub some_same : {E Said T : Type 0} (value : E → Said) {Answers : Bor (EntryAt E) → Option T → Type 0}
     (P : Said → Type 0) (searched : Said → Bool) (taken entries : List (PlacedEntry Said)) (found : Option T)
     → PicksFirst (Picks value Answers) taken found → AreSearched searched entries taken
@@ -79,7 +60,7 @@ pub some_same : {E Said T : Type 0} (value : E → Said) {Answers : Bor (EntryAt
     → IsTrue (is_some picked) ↔ P (value at.now.entry))
     → IsTrue (is_some found) ↔ ((o : ℕ) × StandsWith entries o P)
 some_same value P searched taken entries found picks are none each =
-    let there = some.any_of_entries value P found picks refl each in (
+    let there = any_of_entries value P found picks refl each in (
       λ is. (let (o, stands) = there.0 is in (o, (stands_same searched entries taken are P none o).0 stands)),
       λ (o, stands). there.1 (o, (stands_same searched entries taken are P none o).1 stands),
     )

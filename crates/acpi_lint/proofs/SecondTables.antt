@@ -1,171 +1,79 @@
--- The first slot that lists a second table of its kind.
-use Rattle.std.proofs.Common.{◌≡◌, ◌≢◌, ℕ, ◌≤◌, Option, Some, None, refl, sym, ◌∙◌, subst, inl, inr, arith}
-use Rattle.std.specs.Prelude.{◌⊎◌, ◌↔◌, IsTrue, Bool, true}
+-- A slot that lists another address than the first slot of its kind.
+use Rattle.std.proofs.Common.{◌≡◌, ◌≢◌, ℕ, Option, Some, None, refl, sym, ◌∙◌, inl, inr, arith}
+use Rattle.std.specs.Prelude.{◌==◌, if◌then◌else◌}
+use Rattle.std.specs.Option.{option_and_then}
 use Rattle.std.proofs.lemmas.Bool.{cases_lt}
-use Rattle.acpi_base.specs.Lint.Slots.{ListsSigned, IsSecondTable}
+use Rattle.std.proofs.lemmas.Bool.Decides.{nat_tests}
+use Rattle.acpi_base.specs.Lint.Slots.{IsSecondTable}
 use Rattle.acpi_base.specs.Memory.{Memory}
 use Rattle.acpi_base.specs.Root.{IsSlot}
-use Rattle.acpi_base.specs.TableKinds.{signature_of}
-use Rattle.acpi_base.specs.Tables.{IsSigned}
 use Rattle.acpi_base.specs.declared.table_kind.TableKind.{TableKind}
-use Rattle.acpi_base.specs.declared.table_kind.TableKind.TheVariants as kind
-use Rattle.acpi_lint.specs.Places.{FindsLeast}
-use Rattle.acpi_lint.specs.Slots.{FindsSlot, IsSecondOf, IsLesser}
-use Rattle.acpi_lint.specs.declared.place.Place.{Place}
+use Rattle.acpi_lint.specs.Slots.{IsTableAt, IsSought, FindsSlot, AreFirstSlots, first_of, second_after, second_place}
+use Rattle.acpi_lint.specs.declared.first_slots.FirstSlots.{FirstSlots}
 use Rattle.acpi_lint.specs.declared.listed.Slot.{Slot}
-use Rattle.acpi_lint.proofs.FirstSlots.{IsSlotWith, not_wanted, one_listed}
-use Rattle.acpi_lint.proofs.LeastPlaces.{least_as, not_after_trans}
+use Rattle.acpi_lint.specs.declared.place.Place.{Place}
+use Rattle.acpi_lint.specs.declared.table_at.Sought.TheVariants as sought
+use Rattle.acpi_lint.proofs.FirstSlots.{one_listed}
 
--- ---- of one kind
+differs_from : (a b : ℕ) (x y : Place) → (if a == b then None else Some x) ≡ Some y → (a ≢ b) × (x ≡ y)
+differs_from a b x y is = (λ same. grind (arith, nat_tests), grind (arith, nat_tests))
 
--- the address is another than this one, and a header of the kind is held there
-abbrev pub IsOtherOf : Memory → TableKind → Slot → ℕ → Type 0
-IsOtherOf m kind s a = (a ≢ s.address) × IsSigned m a (signature_of kind)
+differs_to : (a b : ℕ) (x : Place) → a ≢ b → (if a == b then None else Some x) ≡ Some x
+differs_to a b x differs = grind (arith, nat_tests)
 
--- the answers tell headers of the kind
-abbrev pub AreOfKind : Memory → TableKind → (ℕ → Bool → Type 0) → Type 0
-AreOfKind m kind Answers = (a : ℕ) (b : Bool) → Answers a b → IsTrue b ↔ IsSigned m a (signature_of kind)
+-- such a slot is a second one
+pub second_from : {m : Memory} {p : ℕ} (firsts : FirstSlots) (s : Slot) (place : Place) → AreFirstSlots m p firsts
+    → IsSlot m p s.number s.table.address → IsTableAt m s.table → second_place firsts s ≡ Some place
+    → IsSecondTable m p place.at place.other place.point × (place.at ≡ s.number)
+second_from {m} {p} firsts s place are slot there is = from s.table.kind refl is
+  where
+    behind : (kind : TableKind) (found : Option Slot) → s.table.kind ≡ Some kind
+        → FindsSlot m p (IsSought m (sought.Kind kind)) found → option_and_then (second_after s) found ≡ Some place
+        → IsSecondTable m p place.at place.other place.point × (place.at ≡ s.number)
+    behind kind None same none is = cc
+    behind kind (Some f) same first is =
+        let (differs, one) = differs_from f.table.address s.table.address
+        (record { at = s.number; other = f.number; point = s.table.address }) place is in
+        rw (← one) (
+          record {
+            kind = kind;
+            here = (slot, (there.tells (sought.Kind kind)).0 same);
+            a = f.table.address;
+            there = (first.slot, first.here);
+            first = λ k b (other, signed).
+                elim (cases_lt k f.number) [
+                  | inl less ↦ absurd (first.before k b less other signed)
+                  | inr most ↦ most
+                ];
+            differs = differs;
+          },
+          refl,
+        )
 
--- the first slot of a kind
-record IsFirstOf (m : Memory) (p : ℕ) (kind : TableKind) (s : Slot) : Type 0 where
-  lists : ListsSigned m p (signature_of kind) s.number s.address
-  least : (k b : ℕ) → ListsSigned m p (signature_of kind) k b → s.number ≤ k
+    from : (found : Option TableKind) → s.table.kind ≡ found
+        → option_and_then (λ kind. option_and_then (second_after s) (first_of firsts kind)) found ≡ Some place
+        → IsSecondTable m p place.at place.other place.point × (place.at ≡ s.number)
+    from None same is = cc
+    from (Some kind) same is = behind kind (first_of firsts kind) same (are kind) is
 
-first_of : {m : Memory} {p : ℕ} {Answers : ℕ → Bool → Type 0} (kind : TableKind) (s : Slot) → AreOfKind m kind Answers
-    → FindsSlot (IsSlot m p) Answers (Some s) → IsFirstOf m p kind s
-first_of {m} {Answers = Answers} kind s decides found =
-    record {
-      lists = (found.here.0, (decides s.address true found.here.1).0 refl);
-      least = λ k b (slot, signed).
-          elim (cases_lt k s.number) [
-            | inl less ↦
-                absurd (not_wanted (λ a. IsSigned m a (signature_of kind)) Answers b decides
-                (found.before k b less slot) signed)
-            | inr most ↦ most
-          ];
-    }
-
-pub none_of_kind : {m : Memory} {p : ℕ} {Answers : ℕ → Bool → Type 0} (kind : TableKind)
-    → FindsSlot (IsSlot m p) Answers None → AreOfKind m kind Answers → FindsLeast (IsSecondOf m p kind) None
-none_of_kind {m} {Answers = Answers} kind found decides = λ at other point second.
-    not_wanted (λ a. IsSigned m a (signature_of kind)) Answers point decides
-    (found.before at point tt second.here.0) second.here.1
-
--- the first slot at another address is the second of the kind
-pub second_of_kind : {m : Memory} {p : ℕ} {Answers : ℕ → Bool → Type 0} (kind : TableKind) (s : Slot)
-    (found : Option Place) → FindsSlot (IsSlot m p) Answers (Some s) → AreOfKind m kind Answers
-    → FindsLeast (IsSlotWith m p (IsOtherOf m kind s) (λ a. s.number) (λ a. a)) found
-    → FindsLeast (IsSecondOf m p kind) found
-second_of_kind {m} {p} kind s found slot decides least =
-    let first : IsFirstOf m p kind s = first_of kind s decides slot in
-    least_as found
-    (λ at other point (a, lists, (differs, signed), second, third).
-    rw (second, third)
-    (record {
-      here = (lists, signed);
-      a = s.address;
-      there = first.lists;
-      first = first.least;
-      differs = λ same. differs (sym same);
-    }))
-    (λ at other point second.
-    let here : other ≤ s.number = second.first s.number s.address first.lists in
-    let there : s.number ≤ other = first.least other second.a second.there in
-    let same : other ≡ s.number = omega arith in
-    let address : second.a ≡ s.address =
-    one_listed (subst (λ (k : ℕ). IsSlot m p k second.a) same second.there.0) first.lists.0 in
-    (point, second.here.0, (λ one. second.differs (address ∙ sym one), second.here.1), same, refl))
-    least
-
--- ---- of all
-
-abbrev Either : (ℕ → ℕ → ℕ → Type 0) → (ℕ → ℕ → ℕ → Type 0) → ℕ → ℕ → ℕ → Type 0
-Either P Q at other point = P at other point ⊎ Q at other point
-
--- the lesser of the least places of two
-lesser_is : (P Q : ℕ → ℕ → ℕ → Type 0) (one two found : Option Place) → FindsLeast P one → FindsLeast Q two
-    → IsLesser one two found → FindsLeast (Either P Q) found
-lesser_is P Q None two found none other is =
-    rw is (least_as two (λ at other point holds. inr holds)
-    (λ at other point holds.
-    elim holds [ inl first ↦ absurd (none at other point first) | inr second ↦ second ]) other)
-lesser_is P Q (Some p) None found one none is =
-    rw is (record {
-      here = inl one.here;
-      least = λ at other point holds.
-          elim holds [
-            | inl first ↦ one.least at other point first
-            | inr second ↦ absurd (none at other point second)
-          ];
-    })
-lesser_is P Q (Some p) (Some q) found one two (inl (is, before)) =
-    rw is (record {
-      here = inl one.here;
-      least = λ at other point holds.
-          elim holds [
-            | inl first ↦ one.least at other point first
-            | inr second ↦ not_after_trans p q at other point before (two.least at other point second)
-          ];
-    })
-lesser_is P Q (Some p) (Some q) found one two (inr (is, before)) =
-    rw is (record {
-      here = inr two.here;
-      least = λ at other point holds.
-          elim holds [
-            | inl first ↦ not_after_trans q p at other point before (one.least at other point first)
-            | inr second ↦ two.least at other point second
-          ];
-    })
-
--- a second table is one of some kind
-as_of : {m : Memory} {p : ℕ} (kind : TableKind) (at other point : ℕ) → IsSecondOf m p kind at other point
-    → IsSecondTable m p at other point
-as_of kind at other point second =
-    record {
-      kind = kind;
-      here = second.here;
-      a = second.a;
-      there = second.there;
-      first = second.first;
-      differs = second.differs;
-    }
-
-abbrev OfAny : Memory → ℕ → ℕ → ℕ → ℕ → Type 0
-OfAny m p =
-    Either (Either (Either (Either (IsSecondOf m p kind.Fadt) (IsSecondOf m p kind.Madt)) (IsSecondOf m p kind.Srat))
-    (IsSecondOf m p kind.Slit)) (IsSecondOf m p kind.Pptt)
-
-of_any : {m : Memory} {p : ℕ} (kind : TableKind) (at other point : ℕ) → IsSecondOf m p kind at other point
-    → OfAny m p at other point
-of_any kind.Fadt at other point second = inl (inl (inl (inl second)))
-of_any kind.Madt at other point second = inl (inl (inl (inr second)))
-of_any kind.Srat at other point second = inl (inl (inr second))
-of_any kind.Slit at other point second = inl (inr second)
-of_any kind.Pptt at other point second = inr second
-
-from_any : {m : Memory} {p : ℕ} (at other point : ℕ) → OfAny m p at other point → IsSecondTable m p at other point
-from_any at other point (inl (inl (inl (inl second)))) = as_of kind.Fadt at other point second
-from_any at other point (inl (inl (inl (inr second)))) = as_of kind.Madt at other point second
-from_any at other point (inl (inl (inr second))) = as_of kind.Srat at other point second
-from_any at other point (inl (inr second)) = as_of kind.Slit at other point second
-from_any at other point (inr second) = as_of kind.Pptt at other point second
-
--- the least of the five kinds' is the first of all
-pub second_of_all : (m : Memory) (p : ℕ) (fadt madt srat slit pptt two three four five : Option Place)
-    → FindsLeast (IsSecondOf m p kind.Fadt) fadt → FindsLeast (IsSecondOf m p kind.Madt) madt
-    → FindsLeast (IsSecondOf m p kind.Srat) srat → FindsLeast (IsSecondOf m p kind.Slit) slit
-    → FindsLeast (IsSecondOf m p kind.Pptt) pptt → IsLesser fadt madt two → IsLesser two srat three
-    → IsLesser three slit four → IsLesser four pptt five → FindsLeast (IsSecondTable m p) five
-second_of_all m p fadt madt srat slit pptt two three four five f m' s l t one next then last =
-    least_as five from_any
-    (λ at other point second.
-    of_any second.kind at other point
-    (record {
-      here = second.here;
-      a = second.a;
-      there = second.there;
-      first = second.first;
-      differs = second.differs;
-    }))
-    (lesser_is _ _ four pptt five (lesser_is _ _ three slit four (lesser_is _ _ two srat three (lesser_is
-    (IsSecondOf m p kind.Fadt) (IsSecondOf m p kind.Madt) fadt madt two f m' one) s next) l then) t last)
+-- and a second one is such a slot
+pub second_to : {m : Memory} {p at other point : ℕ} (firsts : FirstSlots) (s : Slot) → AreFirstSlots m p firsts
+    → s.number ≡ at → s.table.address ≡ point → IsTableAt m s.table → IsSecondTable m p at other point
+    → second_place firsts s ≡ Some (record { at = at; other = other; point = point })
+second_to {m} {p} {at} {other} {point} firsts s are number address there second =
+    let kind : s.table.kind ≡ Some second.kind =
+    (there.tells (sought.Kind second.kind)).1 (rw address second.here.1) in
+    rw kind (behind (first_of firsts second.kind) (are second.kind))
+  where
+    behind : (found : Option Slot) → FindsSlot m p (IsSought m (sought.Kind second.kind)) found
+        → option_and_then (second_after s) found ≡ Some (record { at = at; other = other; point = point })
+    behind None none = absurd (none at point second.here.0 second.here.1)
+    behind (Some f) first =
+        let upto = second.first f.number f.table.address (first.slot, first.here) in
+        let same : f.number ≡ other =
+        elim (cases_lt other f.number) [
+          | inl less ↦ absurd (first.before other second.a less second.there.0 second.there.1)
+          | inr most ↦ omega (arith, upto, most)
+        ] in
+        let there : f.table.address ≡ second.a = one_listed (rw same at first.slot) second.there.0 in
+        rw (number, same, address) (differs_to f.table.address point _ (λ is. second.differs (sym there ∙ is)))

@@ -1,13 +1,14 @@
 -- Whether anything is picked of the entries of a table.
-use Rattle.std.proofs.Common.{◌≡◌, ℕ, List, [], ◌∷◌, Option, Some, None, refl, subst, inl, inr}
+use Rattle.std.proofs.Common.{◌≡◌, ℕ, List, [], ◌∷◌, Option, Some, None, Bool, true, false, refl, subst, inl, inr}
 use Rattle.std.specs.Option.{is_some}
-use Rattle.std.specs.Prelude.{◌↔◌, Contains, IsTrue, false}
+use Rattle.std.specs.Prelude.{◌↔◌, Contains, IsTrue, not}
 use denote.Ref.{Bor}
 use Rattle.acpi_base.specs.Entries.{PlacedEntry, StandsWith}
 use Rattle.acpi_base.proofs.Elements.{first_element, later_element, first_or_later, no_element}
 use Rattle.acpi_read.specs.declared.typed_entries.EntryAt.{EntryAt}
 use Rattle.acpi_check.specs.CollectedValues.{Picks}
 use Rattle.acpi_lint.specs.FirstPicked.{PicksFirst}
+use Rattle.acpi_lint.specs.KnownNumbers.{IsAnyNamed}
 
 -- something is given of an entry exactly where this holds of it
 abbrev GivesWhere : {S T : Type 0} → (S → Option T → Type 0) → (S → Type 0) → Type 0
@@ -56,3 +57,27 @@ any_of_entries {E} {Said} {T} value {Answers} Is {said} {entries} found picks sa
     where_given : GivesWhere (Picks value Answers) (λ (s : PlacedEntry Said). Is s.entry)
     where_given s picked (at, is, answers) =
         subst (λ (t : PlacedEntry Said). IsTrue (is_some picked) ↔ Is t.entry) is (each at picked answers)
+
+-- whether something is picked tells whether there is none
+pub where_none : {T : Type 0} {Q : ℕ → Type 0} (found : Option T) (answer : Bool)
+    → IsTrue (is_some found) ↔ ((o : ℕ) × Q o) → is_some found ≡ not answer → IsTrue answer ↔ ((o : ℕ) → ¬ Q o)
+where_none None true tells is = (λ yes. λ o holds. absurd (let there = tells.1 (o, holds) in cc), λ none. refl)
+where_none None false tells is = cc
+where_none (Some v) true tells is = cc
+where_none (Some v) false tells is = (λ yes. cc, λ none. (let (o, holds) = tells.0 refl in absurd (none o holds)))
+
+-- a number that `read` gives of any entry
+abbrev pub HasSome : {E : Type 0} → (E → Option ℕ) → E → Type 0
+HasSome read e = (n : ℕ) × (read e ≡ Some n)
+
+pub number_where : (number picked : Option ℕ) → picked ≡ number
+    → IsTrue (is_some picked) ↔ ((n : ℕ) × (number ≡ Some n))
+number_where None picked is = rw is (λ some. cc, λ (n, some). cc)
+number_where (Some n) picked is = rw is (λ some. (n, refl), λ there. refl)
+
+pub any_named : {E : Type 0} (read : E → Option ℕ) (entries : List (PlacedEntry E)) (answer : Bool)
+    → IsTrue answer ↔ ((o : ℕ) × StandsWith entries o (HasSome read)) → IsTrue answer ↔ IsAnyNamed read entries
+any_named read entries answer tells = (
+  λ true. let (o, (e, stands, (n, is))) = tells.0 true in (n, (o, (e, stands, is))),
+  λ (n, (o, (e, stands, is))). tells.1 (o, (e, stands, (n, is))),
+)

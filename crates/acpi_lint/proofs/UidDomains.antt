@@ -14,7 +14,7 @@ use Rattle.acpi_base.proofs.EntryOffsets.{AreOnes, one_said}
 use Rattle.acpi_check.proofs.EntryPasses.Kept.{kept_has, kept_from}
 use Rattle.acpi_lint.specs.Numbered.{IsNoLater, IsUnlikeAt}
 use Rattle.acpi_lint.specs.Places.{FindsLeast}
-use Rattle.acpi_lint.specs.SameNumbers.{domain_of_uid}
+use Rattle.acpi_lint.specs.EntryNumbers.{domain_of_uid}
 use Rattle.acpi_lint.specs.declared.numbered.Numbered.{Numbered}
 use Rattle.acpi_lint.specs.declared.numbered.Order.TheVariants.{First}
 use Rattle.acpi_lint.specs.declared.place.Place.{Place}

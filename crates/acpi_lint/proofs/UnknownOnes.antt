@@ -1,22 +1,21 @@
 -- Numbers that are none of those that are known: what is found of entries by lists of known numbers is what the rules
 -- say.
-use Rattle.std.proofs.Common.{◌≡◌, ◌≢◌, ℕ, ◌+◌, ◌<◌, ◌≤◌, ◌⊎◌, List, get_or, length, Option, Some, None, Bool, true, false, refl, sym, ◌∙◌, ap, subst, inl, inr, arith}
-use Rattle.std.specs.Prelude.{if◌then◌else◌, AllPairs, Contains, MatchOption, slice_index}
+use Rattle.std.proofs.Common.{◌≡◌, ◌≢◌, ℕ, ◌<◌, ◌⊎◌, List, length, Option, Some, None, Bool, true, false, refl, sym, ◌∙◌, inl, inr, arith}
+use Rattle.std.specs.Prelude.{if◌then◌else◌, Contains, MatchOption, slice_index}
 use Rattle.std.specs.Option.{is_some, option_and_then}
-use Rattle.std.proofs.lemmas.Bool.{cases_order}
 use Rattle.std.proofs.lemmas.List.Elements.{Contains-get_or}
 use Rattle.std.proofs.lemmas.List.{get_or_default}
 use Rattle.std.proofs.lemmas.Option.{none-some, same_Some}
 use Rattle.acpi_base.specs.Entries.{PlacedEntry}
-use Rattle.acpi_base.specs.Lint.Numbered.{NamesAt, IsNamed}
+use Rattle.acpi_base.specs.Lint.Numbered.{NamesAt}
 use Rattle.acpi_base.specs.Lint.Processors.{Processor, is_gicc, apic_id_on, gicc_uid_on, placed_apic_id, placed_uid}
 use Rattle.acpi_base.specs.Madt as madt
 use Rattle.acpi_base.specs.Number.{field, has_bit}
 use Rattle.acpi_base.specs.Srat as srat
 use Rattle.acpi_lint.specs.FirstPicked.{FindsOwn}
-use Rattle.acpi_lint.specs.KnownNumbers.{AreKnown, IsKnownAmong}
+use Rattle.acpi_lint.specs.KnownNumbers.{AreKnown}
 use Rattle.acpi_lint.specs.Numbered.{at_place, AreNumbersAt}
-use Rattle.acpi_lint.specs.Places.{IsLeast, FindsLeast}
+use Rattle.acpi_lint.specs.Places.{FindsLeast}
 use Rattle.acpi_lint.specs.UnknownNumbers.{IsUnknown, IsUnknownOf, IsUnknownAt}
 use Rattle.acpi_lint.specs.declared.numbered.Numbered.{Numbered}
 use Rattle.acpi_lint.specs.declared.place.Place.{Place}
@@ -123,7 +122,7 @@ IsUnknownNamedOfTwo first IsId second IsUid entries at other point =
 
 pub unknown_of_two : {E : Type 0} (first second : E → Option ℕ) (IsId IsUid : ℕ → Type 0)
     (entries : List (PlacedEntry E)) (ids uids : List ℕ) (found : Option Place) → AreKnown IsId ids
-    → IsKnownAmong (IsNamed second entries) IsUid uids
+    → AreKnown IsUid uids
     → FindsLeast (IsFaultAt (IsUnknownOfTwo ids uids first second) entries) found
     → FindsLeast (IsUnknownNamedOfTwo first IsId second IsUid entries) found
 unknown_of_two {E} first second IsId IsUid entries ids uids found some others least = least_as found to from least
@@ -133,14 +132,14 @@ unknown_of_two {E} first second IsId IsUid entries ids uids found some others le
     to at other point (e, stands, inl (is, none, unused)) =
         (inl ((e, stands, is), λ named. none ((some.all point).1 named)), unused)
     to at other point (e, stands, inr (is, none, unused)) =
-        (inr ((e, stands, is), λ named. none ((others point (at, (e, stands, is))).1 named)), unused)
+        (inr ((e, stands, is), λ named. none ((others.all point).1 named)), unused)
 
     from : (at other point : ℕ) → IsUnknownNamedOfTwo first IsId second IsUid entries at other point
         → IsFaultAt (IsUnknownOfTwo ids uids first second) entries at other point
     from at other point (inl ((e, stands, is), none), unused) =
         (e, stands, inl (is, λ listed. none ((some.all point).0 listed), unused))
     from at other point (inr ((e, stands, is), none), unused) =
-        (e, stands, inr (is, λ listed. none ((others point (at, (e, stands, is))).0 listed), unused))
+        (e, stands, inr (is, λ listed. none ((others.all point).0 listed), unused))
 
 -- ---- numbers at places
 
@@ -157,52 +156,6 @@ pub is_found : (known : List ℕ) (n : ℕ) (found : Option ℕ) → IsSearch kn
     → Contains known n
 is_found known n None none is = cc
 is_found known n (Some k) (within, here) is = (k, within, get_or_default known k n 0 within ∙ here)
-
--- those before the place i are known
-abbrev pub AreKnownBefore : List ℕ → List Numbered → ℕ → Type 0
-AreKnownBefore known given i = (k : ℕ) (d : Numbered) → k < i → k < length given
-    → Contains known (get_or given k d).number
-
-pub one_known : (known : List ℕ) (given : List Numbered) (i : ℕ) (d : Numbered) → i < length given
-    → Contains known (get_or given i d).number → AreKnownBefore known given i → AreKnownBefore known given (i + 1)
-one_known known given i d within has before k e less below =
-    elim (cases_order k i) [
-      | inl same ↦ rw (same, ← get_or_default given i d e within) has
-      | inr (inl earlier) ↦ before k e earlier below
-      | inr (inr later) ↦ absurd (omega arith)
-    ]
-
-pub one_unknown : (known : List ℕ) (given : List Numbered) (i : ℕ) (d : Numbered)
-    → AllPairs (λ a b. a.at < b.at) given → i < length given → ¬ Contains known (get_or given i d).number
-    → AreKnownBefore known given i
-    → IsLeast (IsUnknownAt known given)
-    (record { at = (get_or given i d).at; other = 0; point = (get_or given i d).number })
-one_unknown known given i d rise within none before =
-    record {
-      here = (get_or given i d, Contains-get_or given i d within, refl, (refl, none, refl));
-      least = λ at other point (g, (k, below, is), place, (number, unknown, unused)).
-          elim (cases_order k i) [
-            | inr (inl earlier) ↦
-                absurd (unknown (subst (Contains known) (ap (λ (x : Numbered). x.number) is
-                ∙ same_Some g.number point number) (before k g earlier below)))
-            | inl same ↦
-                let first : get_or given i d ≡ g =
-                get_or_default given i d g within ∙ subst (λ (j : ℕ). get_or given j g ≡ g) same is in
-                let numbers : (get_or given i d).number ≡ point =
-                ap (λ (x : Numbered). x.number) first ∙ same_Some g.number point number in
-                inr (ap (λ (x : Numbered). x.at) first ∙ place, inr (sym unused, omega (arith, numbers)))
-            | inr (inr later) ↦
-                let first = ap (λ (x : Numbered). x.at) (get_or_default given i d g within) in
-                let second = ap (λ (x : Numbered). x.at) is in
-                inl (omega (arith, rise i k g later below, first, second, place))
-          ];
-    }
-
-pub all_known : (known : List ℕ) (given : List Numbered) (i : ℕ) → length given ≤ i → AreKnownBefore known given i
-    → FindsLeast (IsUnknownAt known given) None
-all_known known given i passed before at other point (g, (k, below, is), place, (number, none, unused)) =
-    none (subst (Contains known) (ap (λ (x : Numbered). x.number) is ∙ same_Some g.number point number)
-    (before k g (omega arith) below))
 
 -- so it is of those that stand at places
 pub unknown_placed : (IsKnown : ℕ → Type 0) (StandsAt : ℕ → ℕ → Type 0) (known : List ℕ) (given : List Numbered)

@@ -8,10 +8,6 @@ pub record AreKnown (IsKnown : ℕ → Type 0) (numbers : List ℕ) : Type 0 whe
   pub rise : AllPairs (λ i j. i < j) numbers
   pub all : (n : ℕ) → Contains numbers n ↔ IsKnown n
 
--- of the numbers for which `IsAsked` holds, these are those for which `IsKnown` holds
-abbrev pub IsKnownAmong : (ℕ → Type 0) → (ℕ → Type 0) → List ℕ → Type 0
-IsKnownAmong IsAsked IsKnown numbers = (n : ℕ) → IsAsked n → Contains numbers n ↔ IsKnown n
-
 -- `read` gives a number for an entry
 abbrev pub IsAnyNamed : {E : Type 0} → (E → Option ℕ) → List (PlacedEntry E) → Type 0
 IsAnyNamed read entries = (n : ℕ) × IsNamed read entries n

@@ -1,4 +1,5 @@
 -- What the contracts of the linter cite.
+pub mod EntryNumbers
 pub mod EntryTypes
 pub mod FacsPlaces
 pub mod FadtPlaces
@@ -6,16 +7,13 @@ pub mod FirstPicked
 pub mod KnownNumbers
 pub mod Leaves
 pub mod MadtPlaces
-pub mod NotedSlots
 pub mod NotedTables
 pub mod Numbered
 pub mod Overrides
 pub mod OwnAdvice
 pub mod Places
 pub mod PpttPlaces
-pub mod ProcessorValues
 pub mod References
-pub mod SameNumbers
 pub mod SlitPlaces
 pub mod Slots
 pub mod SratPlaces

@@ -1,58 +1,92 @@
--- What is looked for in the slots of a root table (ACPI 6.5, 5.2.7, 5.2.8).
-use Rattle.std.specs.Prelude.{◌≡◌, ◌≢◌, ℕ, ◌<◌, ◌≤◌, ◌⊎◌, ◌↔◌, Bool, true, false, List, Option, Some, None, IfSome, MatchOption, AllPairs, Contains}
-use Rattle.acpi_base.specs.Lint.Slots.{ListsSigned}
+-- The slots of a root table, and what is at the addresses that they list (ACPI 6.5, 5.2.6 to 5.2.8).
+use Rattle.std.specs.Prelude.{◌≡◌, ℕ, ◌<◌, ◌⊎◌, ◌↔◌, ◌==◌, if◌then◌else◌, List, Option, Some, None, IsTrue, MatchOption, AllPairs, Contains}
+use Rattle.std.specs.Option.{option_and_then}
+use Rattle.acpi_base.specs.Facs.{facs_signature}
+use Rattle.acpi_base.specs.Lint.Slots.{dsdt_signature}
 use Rattle.acpi_base.specs.Memory.{Memory}
+use Rattle.acpi_base.specs.Root.{IsSlot}
 use Rattle.acpi_base.specs.TableKinds.{signature_of}
+use Rattle.acpi_base.specs.Tables.{IsSigned, TableFault}
 use Rattle.acpi_base.specs.declared.table_kind.TableKind.{TableKind}
+use Rattle.acpi_base.specs.declared.table_kind.TableKind.TheVariants as kind
 use Rattle.acpi_read.specs.Roots.{RootValue, IsWholeRoot}
-use Rattle.acpi_lint.specs.Places.{IsNotAfter}
-use Rattle.acpi_lint.specs.declared.place.Place.{Place}
+use Rattle.acpi_lint.specs.declared.first_slots.FirstSlots.{FirstSlots}
 use Rattle.acpi_lint.specs.declared.listed.Slot.{Slot}
+use Rattle.acpi_lint.specs.declared.numbered.Numbered.{Numbered}
+use Rattle.acpi_lint.specs.declared.place.Place.{Place}
+use Rattle.acpi_lint.specs.declared.table_at.Sought.{Sought}
+use Rattle.acpi_lint.specs.declared.table_at.Sought.TheVariants as sought
+use Rattle.acpi_lint.specs.declared.table_at.TableAt.{TableAt}
 
--- the slot k comes before this one, or there is none
-abbrev pub StandsBefore : ℕ → Option Slot → Type 0
-StandsBefore k None = Unit {0}
-StandsBefore k (Some s) = k < s.number
+-- ---- what is at an address
 
--- `Lists k a` says that slot k lists the address a, and `Answers a b` that the answer for this address may be b: the
--- slot that is found lists its address, for which the answer may be yes, and it may be no for those before it, or for
--- all if none is found
-pub record FindsSlot (Lists : ℕ → ℕ → Type 0) (Answers : ℕ → Bool → Type 0) (found : Option Slot) : Type 0 where
-  pub here : IfSome found (λ s. Lists s.number s.address × Answers s.address true)
-  pub before : (k a : ℕ) → StandsBefore k found → Lists k a → Answers a false
+-- the signature of a table that should not be listed is held at a
+abbrev pub IsApart : Memory → ℕ → Type 0
+IsApart m a = IsSigned m a dsdt_signature ⊎ IsSigned m a facs_signature
+
+-- this is looked for, and is at a
+abbrev pub IsSought : Memory → Sought → ℕ → Type 0
+IsSought m (sought.Fault code) a = TableFault m a code
+IsSought m (sought.Kind kind) a = IsSigned m a (signature_of kind)
+IsSought m sought.Apart a = IsApart m a
+
+-- the same by what is noted of an address
+abbrev pub HasSought : Sought → TableAt → Type 0
+HasSought (sought.Fault code) table = table.fault ≡ Some code
+HasSought (sought.Kind kind) table = table.kind ≡ Some kind
+HasSought sought.Apart table = IsTrue table.is_apart
+
+-- what is noted of an address is what is there
+pub record IsTableAt (m : Memory) (table : TableAt) : Type 0 where
+  pub tells : (sought : Sought) → HasSought sought table ↔ IsSought m sought table.address
+
+-- ---- slots
 
 -- this is the root table that the RSDP at p names, or there is no complete one
 abbrev pub IsRootOf : Memory → ℕ → Option RootValue → Type 0
 IsRootOf m p found = MatchOption found ((root : RootValue) → ¬ IsWholeRoot m p root) (IsWholeRoot m p)
 
--- slot k, with the address a, is among these
-abbrev pub StandsAmong : List Slot → ℕ → ℕ → Type 0
-StandsAmong given k a = Contains given (record { address = a; number = k })
+-- `Lists k a` says that slot k lists the address a: these are the slots, in their order, each with what is there
+pub record AreSlots (m : Memory) (Lists : ℕ → ℕ → Type 0) (slots : List Slot) : Type 0 where
+  pub rise : AllPairs (λ s t. s.number < t.number) slots
+  pub listed : (s : Slot) → Contains slots s → Lists s.number s.table.address × IsTableAt m s.table
+  pub all : (k a : ℕ) → Lists k a → (s : Slot) × Contains slots s × (s.number ≡ k) × (s.table.address ≡ a)
 
--- these are the listed addresses, each with its slot
-pub record AreListed (Lists : ℕ → ℕ → Type 0) (given : List Slot) : Type 0 where
-  pub all : (k a : ℕ) → StandsAmong given k a ↔ Lists k a
+-- this slot of a set lists an address of which `Is` holds, and none before it does
+pub record IsFirstSlot (m : Memory) (p : ℕ) (Is : ℕ → Type 0) (s : Slot) : Type 0 where
+  pub slot : IsSlot m p s.number s.table.address
+  pub here : Is s.table.address
+  pub before : (k a : ℕ) → k < s.number → IsSlot m p k a → ¬ Is a
 
--- a's address is lower than b's, or it is the same and a's number is not higher
-abbrev pub IsNotBehind : Slot → Slot → Type 0
-IsNotBehind a b = (a.address < b.address) ⊎ ((a.address ≡ b.address) × (a.number ≤ b.number))
+-- no slot lists such an address, or this is the first that does
+abbrev pub FindsSlot : Memory → ℕ → (ℕ → Type 0) → Option Slot → Type 0
+FindsSlot m p Is None = (k a : ℕ) → IsSlot m p k a → ¬ Is a
+FindsSlot m p Is (Some s) = IsFirstSlot m p Is s
 
--- these are the listed addresses, each with its slot, by address and then by slot
-pub record AreAddresses (Lists : ℕ → ℕ → Type 0) (sorted : List Slot) : Type 0 where
-  pub listed : AreListed Lists sorted
-  pub rise : AllPairs IsNotBehind sorted
+-- the first slot of a kind
+abbrev pub first_of : FirstSlots → TableKind → Option Slot
+first_of firsts kind.Fadt = firsts.fadt
+first_of firsts kind.Madt = firsts.madt
+first_of firsts kind.Srat = firsts.srat
+first_of firsts kind.Slit = firsts.slit
+first_of firsts kind.Pptt = firsts.pptt
 
--- as `IsSecondTable`, for tables of this kind
-pub record IsSecondOf (m : Memory) (p : ℕ) (kind : TableKind) (at other point : ℕ) : Type 0 where
-  pub here : ListsSigned m p (signature_of kind) at point
-  pub a : ℕ
-  pub there : ListsSigned m p (signature_of kind) other a
-  pub first : (k b : ℕ) → ListsSigned m p (signature_of kind) k b → other ≤ k
-  pub differs : a ≢ point
+-- these are the first slots of each kind
+abbrev pub AreFirstSlots : Memory → ℕ → FirstSlots → Type 0
+AreFirstSlots m p firsts = (kind : TableKind) → FindsSlot m p (IsSought m (sought.Kind kind)) (first_of firsts kind)
 
--- the lower of two places, or the only one
-abbrev pub IsLesser : Option Place → Option Place → Option Place → Type 0
-IsLesser None two found = found ≡ two
-IsLesser (Some p) None found = found ≡ Some p
-IsLesser (Some p) (Some q) found =
-    ((found ≡ Some p) × IsNotAfter p q.at q.other q.point) ⊎ ((found ≡ Some q) × IsNotAfter q p.at p.other p.point)
+-- ---- advice
+
+-- a slot's address, which stands at the slot's number
+abbrev pub numbered_slot : Slot → Numbered
+numbered_slot s = record { number = s.table.address; at = s.number; value = s.number }
+
+-- where a slot lists another address than the first slot of its kind
+abbrev pub second_after : Slot → Slot → Option Place
+second_after s first =
+    if first.table.address == s.table.address
+    then None
+    else Some (record { at = s.number; other = first.number; point = s.table.address })
+
+abbrev pub second_place : FirstSlots → Slot → Option Place
+second_place firsts s = option_and_then (λ kind. option_and_then (second_after s) (first_of firsts kind)) s.table.kind

@@ -9,8 +9,7 @@ use Rattle.acpi_base.specs.TableKinds.{signature_of}
 use Rattle.acpi_base.specs.declared.table_kind.TableKind.{TableKind}
 use Rattle.acpi_base.specs.declared.table_kind.TableKind.TheVariants as kind
 use Rattle.acpi_lint.specs.EntryTypes.{madt_type, srat_type, AreTypesOf}
-use Rattle.acpi_lint.specs.NotedSlots.{AreNotedSlots}
-use Rattle.acpi_lint.specs.Slots.{IsRootOf, AreAddresses}
+use Rattle.acpi_lint.specs.Slots.{IsRootOf, AreSlots, AreFirstSlots}
 use Rattle.acpi_lint.specs.declared.whole_tables.WholeTables.{WholeTables}
 
 -- these are the bytes of the set's first listed table with the signature, or it is missing or incomplete
@@ -34,7 +33,7 @@ pub record AreTyped (tables : WholeTables) : Type 0 where
 -- these are the root table and the tables of the set that the RSDP at p leads to
 pub record AreWholeTables (m : Memory) (p : ℕ) (tables : WholeTables) : Type 0 where
   pub root : IsRootOf m p tables.root
-  pub slots : AreAddresses (IsSlot m p) tables.slots.items
-  pub noted_slots : AreNotedSlots m (IsSlot m p) tables.noted_slots
+  pub slots : AreSlots m (IsSlot m p) tables.slots.items
+  pub firsts : AreFirstSlots m p tables.firsts
   pub listed : (kind : TableKind) → IsFound m p (signature_of kind) (table_of tables kind)
   pub typed : AreTyped tables

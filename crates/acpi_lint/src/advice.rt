@@ -157,7 +157,7 @@ fn first_place(
     ensures { IfOk result (FindsLeast (IsBroken rule image.now policy.now)) }
 {
     match rule {
-        Rule::ListedTwice => Ok(listed_twice(tables)),
+        Rule::ListedTwice => listed_twice(alloc, tables),
         Rule::SecondTable => Ok(second_table(tables)),
         Rule::ListedApart => Ok(listed_apart(tables)),
         Rule::FadtOfRevision | Rule::FacsDiffers | Rule::DsdtDiffers | Rule::BlockDiffers => {

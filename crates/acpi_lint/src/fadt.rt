@@ -78,7 +78,7 @@ fn lists_no_fadt(tables: &WholeTables<'_>) -> bool
         → IsTrue result ↔ HasNoFadt m p }
 {
     match &tables.root {
-        Some(_) => tables.noted_slots.fadt.first.is_none(),
+        Some(_) => tables.firsts.fadt.is_none(),
         None => false,
     }
 }

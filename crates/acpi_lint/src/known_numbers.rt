@@ -1,22 +1,23 @@
 //! Numbers that are looked up, in rising order: those of the processors of a MADT, of the affinities of an SRAT, and
 //! of the leaves of a PPTT. Also whether tables have entries of a kind without which a rule does not apply.
 
-ghost use Rattle.std.specs.Prelude.{◌≡◌, ◌<◌, ◌≤◌, ◌↔◌, ℕ, length, map, AllPairs, IfOk, IsTrue};
+ghost use Rattle.std.specs.Prelude.{◌≡◌, ◌≤◌, ◌↔◌, ℕ, length, map, IfOk, IsTrue};
 ghost use Rattle.acpi_base.specs.Entries.{StandsWith};
 ghost use Rattle.acpi_base.specs.Lint.Numbered.{IsNamed};
-ghost use Rattle.acpi_base.specs.Lint.Processors.{uid_of, uid_on, apic_id_of, placed_apic_id, placed_uid, processor_domain, IsGicc, IsOtherProcessor, AreProcessorsRead, IsLeafId};
+ghost use Rattle.acpi_base.specs.Lint.Processors.{uid_on, placed_apic_id, placed_uid, processor_domain, IsGicc, IsOtherProcessor, AreProcessorsRead, IsLeafId};
 ghost use Rattle.acpi_base.specs.Madt.{madt_contents};
 ghost use Rattle.acpi_base.specs.Madt as madts;
 ghost use Rattle.acpi_base.specs.Pptt.{pptt_contents};
 ghost use Rattle.acpi_base.specs.Srat.{srat_contents};
 ghost use Rattle.acpi_read.specs.Madts.{madt_value, IsWholeEntry};
-ghost use Rattle.acpi_lint.specs.KnownNumbers.{AreKnown, IsKnownAmong, IsAnyNamed};
+ghost use Rattle.acpi_lint.specs.EntryNumbers.{madt_number};
+ghost use Rattle.acpi_lint.specs.KnownNumbers.{AreKnown, IsAnyNamed};
 
 use crate::leaves::leaves_of;
 use crate::numbered::Numbered;
 use crate::passes::first_picked;
 use crate::processors::{
-    apic_id_of, is_gicc, placed_apic_id, placed_uid, processor_domain, uid_of, uid_on,
+    MadtNumber, is_gicc, madt_number, placed_apic_id, placed_uid, processor_domain, uid_on,
 };
 use acpi_check::{collected, sorted_unique};
 use acpi_read::{GICC, Madt, MadtEntry, Pptt, Srat};
@@ -24,42 +25,20 @@ use std::alloc::{AllocError, Global};
 
 // ---- numbers
 
-/// The UIDs of a MADT's processors, whether they are on or not. Allocates for each.
-pub fn uids(alloc: Global, madt: &Madt<'_>) -> Result<Vec<u64>, AllocError>
-    ensures { IfOk result (λ uids.
-        AreKnown (IsNamed uid_of (madt_contents madt.now).entries) uids.items) }
-{
-    let numbers = collected(
-        alloc,
-        madt.searched_entries(),
-        |at| uid_of(&at.entry).map(u64::from),
-    )?;
-    Ok(sorted_unique(numbers))
-}
-
-/// The same, for looking up only those that an SRAT places: if it places none, there may be fewer. Allocates for each
-/// if it places some.
-pub fn uids_for(alloc: Global, madt: &Madt<'_>, srat: &Srat<'_>) -> Result<Vec<u64>, AllocError>
-    ensures rise { IfOk result (λ uids. AllPairs (λ i j. i < j) uids.items) }
-    ensures all { IfOk result (λ uids. IsKnownAmong
-        (IsNamed placed_uid (srat_contents srat.now).entries)
-        (IsNamed uid_of (madt_contents madt.now).entries) uids.items) }
-{
-    if !is_any_uid_placed(srat) {
-        return Ok(Vec::new(alloc));
-    }
-    uids(alloc, madt)
-}
-
-/// Their APIC IDs and x2APIC IDs. Allocates for each.
-pub fn apic_ids(alloc: Global, madt: &Madt<'_>) -> Result<Vec<u64>, AllocError>
-    ensures { IfOk result (λ ids.
-        AreKnown (IsNamed apic_id_of (madt_contents madt.now).entries) ids.items) }
+/// The numbers of this kind of a MADT's entries. Allocates for each.
+pub fn known_in_madt(
+    alloc: Global,
+    madt: &Madt<'_>,
+    number: MadtNumber,
+) -> Result<Vec<u64>, AllocError>
+    ensures { IfOk result (λ known.
+        AreKnown (IsNamed (madt_number number) (madt_contents madt.now).entries) known.items) }
 {
     let numbers = collected(alloc, madt.searched_entries(), |at| {
-        apic_id_of(&at.entry).map(u64::from)
+        madt_number(number, &at.entry).map(u64::from)
     })?;
-    Ok(sorted_unique(numbers))
+    let known = sorted_unique(numbers)?;
+    Ok(known)
 }
 
 /// The APIC IDs and x2APIC IDs that an SRAT's enabled affinities place. Allocates for each.
@@ -70,7 +49,8 @@ pub fn placed_apic_ids(alloc: Global, srat: &Srat<'_>) -> Result<Vec<u64>, Alloc
     let numbers = collected(alloc, srat.searched_entries(), |at| {
         placed_apic_id(&at.entry).map(u64::from)
     })?;
-    Ok(sorted_unique(numbers))
+    let known = sorted_unique(numbers)?;
+    Ok(known)
 }
 
 /// The UIDs that an SRAT's enabled GICC affinities place. Allocates for each.
@@ -81,7 +61,8 @@ pub fn placed_uids(alloc: Global, srat: &Srat<'_>) -> Result<Vec<u64>, AllocErro
     let numbers = collected(alloc, srat.searched_entries(), |at| {
         placed_uid(&at.entry).map(u64::from)
     })?;
-    Ok(sorted_unique(numbers))
+    let known = sorted_unique(numbers)?;
+    Ok(known)
 }
 
 /// Only the numbers.
@@ -101,7 +82,8 @@ pub fn leaf_ids(alloc: Global, pptt: &Pptt<'_>) -> Result<Vec<u64>, AllocError>
 {
     let leaves = leaves_of(alloc, pptt)?;
     let ids = without_places(alloc, &leaves)?;
-    Ok(sorted_unique(ids))
+    let known = sorted_unique(ids)?;
+    Ok(known)
 }
 
 // ---- entries of a kind
@@ -167,14 +149,6 @@ pub fn has_gicc(madt: &Madt<'_>) -> bool
         is_gicc_entry(&at.entry).then_some(())
     });
     gicc.is_some()
-}
-
-/// Whether an SRAT has an enabled GICC affinity, which places a processor by its UID.
-fn is_any_uid_placed(srat: &Srat<'_>) -> bool
-    ensures { IsTrue result ↔ IsAnyNamed placed_uid (srat_contents srat.now).entries }
-{
-    let uid = first_picked(srat.searched_entries(), |at| placed_uid(&at.entry));
-    uid.is_some()
 }
 
 /// Whether an SRAT has an enabled affinity for a processor.

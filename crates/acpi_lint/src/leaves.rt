@@ -72,7 +72,8 @@ fn parents_of(alloc: Global, pptt: &Pptt<'_>) -> Result<Vec<u64>, AllocError>
     let parents = collected(alloc, pptt.searched_entries(), |at| {
         parent_of(&at.entry).map(u64::from)
     })?;
-    Ok(sorted_unique(parents))
+    let known = sorted_unique(parents)?;
+    Ok(known)
 }
 
 /// The ID of a node that has a valid one and is not at one of these offsets, which rise.

@@ -1,77 +1,66 @@
-//! The addresses that the slots of the root table list, in rising order (ACPI 6.5, 5.2.7, 5.2.8).
+//! The slots of the root table that list an address (ACPI 6.5, 5.2.7, 5.2.8).
 
-ghost use Rattle.std.specs.Prelude.{ℕ, AllPairs, IfOk};
-ghost use Rattle.acpi_base.specs.Lint.Numbered.{IsLater};
+ghost use Rattle.std.specs.Prelude.{ℕ, IfOk};
 ghost use Rattle.acpi_base.specs.Memory.{Memory};
 ghost use Rattle.acpi_base.specs.Root.{HasSlot, IsSlot};
-ghost use Rattle.acpi_lint.specs.Places.{FindsLeast};
-ghost use Rattle.acpi_lint.specs.Slots.{IsRootOf, IsNotBehind, StandsAmong, AreListed, AreAddresses};
+ghost use Rattle.acpi_lint.specs.Slots.{IsRootOf, IsSought, AreSlots, FindsSlot};
 
-use crate::numbered::lesser;
-use crate::place::Place;
-use acpi_graph::sort_any_order;
+use crate::table_at::{Sought, TableAt};
+use acpi_base::Image;
 use acpi_read::Root;
 use std::alloc::{AllocError, Global};
 
-/// A slot of the root table that lists an address. Slots compare by address, then by number.
-#[derive(Clone, Copy, Debug, PartialEq, Eq, PartialOrd, Ord)]
+/// A slot of the root table that lists an address.
+#[derive(Clone, Copy, Debug)]
 pub struct Slot {
-    /// The address, which is not 0.
-    pub address: u64,
     /// The slot's number, from 0; slots that list nothing count too.
     pub number: u64,
+    /// What is at the address, which is not 0.
+    pub table: TableAt,
 }
 
 /// The slots of a root table that list an address.
-fn listed_addresses(alloc: Global, root: &Root<'_>) -> Result<Vec<Slot>, AllocError>
+fn slots_of(alloc: Global, image: &Image, root: &Root<'_>) -> Result<Vec<Slot>, AllocError>
     ensures { IfOk result
-        (λ given. AreListed (HasSlot root.now.bytes root.now.width) given.items) }
+        (λ slots. AreSlots image.now (HasSlot root.now.bytes root.now.width) slots.items) }
 {
-    let mut given = Vec::new(alloc);
+    let mut slots = Vec::new(alloc);
     for slot in 0..root.slots() {
         let address = root.slot(slot);
-        let number = u64::from(slot);
         if address != 0 {
-            given.push(Slot { address, number })?;
+            let table = TableAt::of(image, address);
+            let number = u64::from(slot);
+            slots.push(Slot { number, table })?;
         }
     }
-    Ok(given)
+    Ok(slots)
 }
 
-/// The slots of a set's root table that list an address: by address, and those of one address by number. None if there
-/// is no root table. Allocates for each of them.
-pub fn sorted_addresses(alloc: Global, root: &Option<Root<'_>>) -> Result<Vec<Slot>, AllocError>
-    ensures { (m : Memory) (p : ℕ) → IsRootOf m p root.now
-        → IfOk result (λ sorted. AreAddresses (IsSlot m p) sorted.items) }
+/// The slots of a set's root table that list an address, in their order. None if there is no root table. Each address
+/// is looked up once. Allocates for each of them.
+pub fn listed_slots(
+    alloc: Global,
+    image: &Image,
+    root: &Option<Root<'_>>,
+) -> Result<Vec<Slot>, AllocError>
+    ensures { (p : ℕ) → IsRootOf image.now p root.now
+        → IfOk result (λ slots. AreSlots image.now (IsSlot image.now p) slots.items) }
 {
-    let Some(root) = root else {
-        return Ok(Vec::new(alloc));
-    };
-    let mut given = listed_addresses(alloc, root)?;
-    sort_any_order(&mut given);
-    Ok(given)
+    match root {
+        Some(root) => slots_of(alloc, image, root),
+        None => Ok(Vec::new(alloc)),
+    }
 }
 
-/// The lowest slot that lists an address which a lower slot also lists, if they are in order: those of one address are
-/// next to each other, the lowest one before the others.
-pub fn first_again(sorted: &[Slot]) -> Option<Place>
-    ensures { AllPairs IsNotBehind sorted.now
-        → FindsLeast (IsLater (StandsAmong sorted.now)) result }
+/// The first slot at whose address there is what is looked for. The slots are those of a set.
+pub fn first_slot(slots: &[Slot], sought: Sought) -> Option<Slot>
+    ensures { (m : Memory) (p : ℕ) → AreSlots m (IsSlot m p) slots.now
+        → FindsSlot m p (IsSought m sought) result }
 {
-    let mut first = *sorted.first()?;
-    let mut least = None;
-    for here in sorted {
-        if here.address != first.address {
-            first = *here;
-        }
-        if here.number != first.number {
-            let place = Place {
-                at: here.number,
-                other: first.number,
-                point: here.address,
-            };
-            least = Some(lesser(least, place));
+    for slot in slots {
+        if slot.table.has(sought) {
+            return Some(*slot);
         }
     }
-    least
+    None
 }

@@ -18,15 +18,15 @@ ghost use Rattle.acpi_lint.specs.Places.{FindsLeast};
 ghost use Rattle.acpi_lint.specs.UnknownNumbers.{IsUnknown, IsUnknownOf, IsUnknownAffinity, IsUnplaced, IsPastHere, IsUnknownAt};
 
 use crate::known_numbers::{
-    apic_ids, are_processors_read, has_gicc, is_any_on, is_any_placed, leaf_ids, placed_apic_ids,
-    placed_uids, uids, uids_for,
+    are_processors_read, has_gicc, is_any_on, is_any_placed, known_in_madt, leaf_ids,
+    placed_apic_ids, placed_uids,
 };
 use crate::leaves::leaves_of;
 use crate::numbered::Numbered;
 use crate::passes::first_picked;
 use crate::place::Place;
 use crate::processors::{
-    any_domain, apic_id_on, gicc_uid_on, nmi_uid, placed_apic_id, placed_uid, uid_on,
+    MadtNumber, any_domain, apic_id_on, gicc_uid_on, nmi_uid, placed_apic_id, placed_uid, uid_on,
 };
 use acpi_check::{binary_search, has};
 use acpi_read::{EntryAt, Madt, MadtEntry, Pptt, Srat, SratEntry};
@@ -79,7 +79,7 @@ pub fn nmi_nowhere(alloc: Global, madt: &Madt<'_>) -> Result<Option<Place>, Allo
     if !are_processors_read(madt) {
         return Ok(None);
     }
-    let uids = uids(alloc, madt)?;
+    let uids = known_in_madt(alloc, madt, MadtNumber::Uid)?;
     let uids = uids.as_slice();
     Ok(first_picked(madt.searched_entries(), |at| unknown_nmi(uids, at)))
 }
@@ -112,8 +112,8 @@ pub fn affinity_nowhere(
     if !are_processors_read(madt) {
         return Ok(None);
     }
-    let ids = apic_ids(alloc, madt)?;
-    let uids = uids_for(alloc, madt, srat)?;
+    let ids = known_in_madt(alloc, madt, MadtNumber::ApicId)?;
+    let uids = known_in_madt(alloc, madt, MadtNumber::Uid)?;
     let ids = ids.as_slice();
     let uids = uids.as_slice();
     Ok(first_picked(
@@ -236,7 +236,7 @@ pub fn leaf_nowhere(
     if !are_processors_read(madt) || !has_gicc(madt) {
         return Ok(None);
     }
-    let uids = uids(alloc, madt)?;
+    let uids = known_in_madt(alloc, madt, MadtNumber::Uid)?;
     let leaves = leaves_of(alloc, pptt)?;
     Ok(first_unknown(&uids, &leaves))
 }

@@ -1,14 +1,13 @@
 //! Numbers with values at places, and those that occur again with another value.
 
-ghost use Rattle.std.specs.Prelude.{◌≡◌, ◌<◌, ◌⊎◌, AllPairs, Contains, IfOk, IfSome, Some};
+ghost use Rattle.std.specs.Prelude.{◌≡◌, ◌⊎◌, AllPairs, Contains, IfOk, IfSome, Some};
 ghost use Rattle.std.specs.Option.{option_map};
 ghost use Rattle.acpi_base.specs.Lint.Numbered.{IsLater};
 ghost use Rattle.acpi_lint.specs.Numbered.{IsNotAbove, IsUnlikeAt, HasAt, at_place, unlike_place};
 ghost use Rattle.acpi_lint.specs.Places.{FindsLeast, IsNotAfter};
 
 use crate::place::Place;
-use acpi_graph::sort_any_order;
-use std::alloc::{AllocError, Global};
+use std::alloc::AllocError;
 
 /// A value that is given to a number at a place. These compare by number, then by place, then by value.
 #[derive(Clone, Copy, Debug, PartialEq, Eq, PartialOrd, Ord)]
@@ -60,7 +59,7 @@ impl Order {
 }
 
 /// The lower of two places.
-pub fn lesser(least: Option<Place>, place: Place) -> Place
+fn lesser(least: Option<Place>, place: Place) -> Place
     ensures one { (result ≡ place) ⊎ (least ≡ Some result) }
     ensures after { IsNotAfter result place.at place.other place.point }
     ensures before { IfSome least (λ l. IsNotAfter result l.at l.other l.point) }
@@ -73,7 +72,7 @@ pub fn lesser(least: Option<Place>, place: Place) -> Place
 
 /// The lowest place of a number whose value differs from that at its first place, if they are in order: those of one
 /// number are next to each other, its first one before the others.
-pub fn least_unlike(sorted: &[Numbered], order: Order) -> Option<Place>
+fn least_unlike(sorted: &[Numbered], order: Order) -> Option<Place>
     ensures { AllPairs IsNotAbove sorted.now → FindsLeast (IsUnlikeAt order sorted.now) result }
 {
     let mut first = *sorted.first()?;
@@ -89,37 +88,19 @@ pub fn least_unlike(sorted: &[Numbered], order: Order) -> Option<Place>
     least
 }
 
-/// The lowest place of a number whose value differs from that at its first place.
-pub fn first_unlike(mut given: Vec<Numbered>, order: Order) -> Option<Place>
-    ensures { FindsLeast (IsUnlikeAt order given.items) result }
+/// The lowest place of a number whose value differs from that at its first place. Allocates while it sorts them.
+pub fn first_unlike(mut given: Vec<Numbered>, order: Order) -> Result<Option<Place>, AllocError>
+    ensures { IfOk result (FindsLeast (IsUnlikeAt order given.items)) }
 {
-    sort_any_order(&mut given);
-    least_unlike(&given, order)
+    given.sort()?;
+    Ok(least_unlike(&given, order))
 }
 
 /// The first place of a number that also occurs at an earlier one; `other` is the first of these, and `point` the
-/// number. The value that is given to a number is its place.
-fn first_same(given: Vec<Numbered>) -> Option<Place>
+/// number. The value that is given to a number is its place. Allocates while it sorts them.
+pub fn first_repeated(given: Vec<Numbered>) -> Result<Option<Place>, AllocError>
     requires { (g : Numbered) → Contains given.items g → g.value ≡ g.at }
-    ensures { FindsLeast (IsLater (HasAt given.items)) result }
-{
-    first_unlike(given, Order::Later)
-}
-
-/// How many numbers are compared before all of them. One-byte IDs repeat among this many.
-const FEW: usize = 1024;
-
-/// The same for numbers whose places rise. The first few are compared first: if one of them repeats, no other is
-/// looked at. Allocates for those.
-pub fn first_repeated(alloc: Global, given: Vec<Numbered>) -> Result<Option<Place>, AllocError>
-    requires rise { AllPairs (λ a b. a.at < b.at) given.items }
-    requires placed { (g : Numbered) → Contains given.items g → g.value ≡ g.at }
     ensures { IfOk result (FindsLeast (IsLater (HasAt given.items))) }
 {
-    let few = FEW.min(given.len());
-    let first = Vec::from_slice(alloc, &given[..few])?;
-    if let Some(place) = first_unlike(first, Order::Later) {
-        return Ok(Some(place));
-    }
-    Ok(first_same(given))
+    first_unlike(given, Order::Later)
 }

@@ -9,7 +9,7 @@ ghost use Rattle.acpi_base.specs.Number.{has_bit};
 ghost use Rattle.acpi_read.specs.Madts.{madt_value};
 ghost use Rattle.acpi_read.specs.Pptts.{pptt_value};
 ghost use Rattle.acpi_read.specs.Srats.{srat_value};
-ghost use Rattle.acpi_lint.specs.ProcessorValues.{processor_value};
+ghost use Rattle.acpi_lint.specs.EntryNumbers.{processor_value, madt_number, nonzero_io_apic_address};
 
 use acpi_base::field::u32_at;
 use acpi_read::{
@@ -25,6 +25,23 @@ pub struct Processor {
     pub apic_id: Option<u32>,
     /// Whether it is Enabled or Online Capable, or for a GIC CPU interface Enabled.
     pub on: bool,
+}
+
+/// A number of an entry of a MADT that is looked up, or that each should have alone.
+#[derive(Clone, Copy)]
+pub enum MadtNumber {
+    /// The UID of a processor.
+    Uid,
+    /// The UID of a processor that is on.
+    UidOn,
+    /// The APIC ID or x2APIC ID of a processor.
+    ApicId,
+    /// The APIC ID or x2APIC ID of a processor that is on.
+    ApicIdOn,
+    /// The ID of an I/O APIC.
+    IoApicId,
+    /// The address of an I/O APIC, if it is not 0.
+    IoApicAddress,
 }
 
 /// Whether flags have bit 0, which is Enabled in the flags of each entry for which this is used.
@@ -79,7 +96,7 @@ fn processor_of(entry: &MadtEntry<'_>) -> Option<Processor>
 }
 
 /// The UID of a processor.
-pub fn uid_of(entry: &MadtEntry<'_>) -> Option<u32>
+fn uid_of(entry: &MadtEntry<'_>) -> Option<u32>
     ensures { result ≡ uid_of (madt_value entry.now) }
 {
     let processor = processor_of(entry)?;
@@ -95,7 +112,7 @@ pub fn uid_on(entry: &MadtEntry<'_>) -> Option<u32>
 }
 
 /// The APIC ID or x2APIC ID of a processor that has one.
-pub fn apic_id_of(entry: &MadtEntry<'_>) -> Option<u32>
+fn apic_id_of(entry: &MadtEntry<'_>) -> Option<u32>
     ensures { result ≡ apic_id_of (madt_value entry.now) }
 {
     processor_of(entry)?.apic_id
@@ -135,7 +152,7 @@ pub fn nmi_uid(entry: &MadtEntry<'_>) -> Option<u32>
 }
 
 /// The ID of an I/O APIC.
-pub fn io_apic_id(entry: &MadtEntry<'_>) -> Option<u32>
+fn io_apic_id(entry: &MadtEntry<'_>) -> Option<u32>
     ensures { result ≡ io_apic_id (madt_value entry.now) }
 {
     match entry {
@@ -151,6 +168,28 @@ pub fn io_apic_address(entry: &MadtEntry<'_>) -> Option<u32>
     match entry {
         MadtEntry::IoApic(io_apic) => Some(io_apic.address),
         _ => None,
+    }
+}
+
+/// The address of an I/O APIC, if it is not 0.
+fn nonzero_io_apic_address(entry: &MadtEntry<'_>) -> Option<u32>
+    ensures { result ≡ nonzero_io_apic_address (madt_value entry.now) }
+{
+    let address = io_apic_address(entry)?;
+    (address != 0).then_some(address)
+}
+
+/// The number of this kind.
+pub fn madt_number(number: MadtNumber, entry: &MadtEntry<'_>) -> Option<u32>
+    ensures { result ≡ madt_number number (madt_value entry.now) }
+{
+    match number {
+        MadtNumber::Uid => uid_of(entry),
+        MadtNumber::UidOn => uid_on(entry),
+        MadtNumber::ApicId => apic_id_of(entry),
+        MadtNumber::ApicIdOn => apic_id_on(entry),
+        MadtNumber::IoApicId => io_apic_id(entry),
+        MadtNumber::IoApicAddress => nonzero_io_apic_address(entry),
     }
 }
 

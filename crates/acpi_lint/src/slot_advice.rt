@@ -1,62 +1,71 @@
 //! Advice on the slots of the root table: what is listed again, and what should not be listed (ACPI 6.5, 5.2.7,
 //! 5.2.8).
 
-ghost use Rattle.std.specs.Prelude.{ℕ};
+ghost use Rattle.std.specs.Prelude.{◌≡◌, ℕ, map, IfOk};
 ghost use Rattle.acpi_base.specs.Lint.Slots.{IsListedTwice, IsSecondTable, IsListedApart};
 ghost use Rattle.acpi_base.specs.Memory.{Memory};
 ghost use Rattle.acpi_lint.specs.Places.{FindsLeast};
-ghost use Rattle.acpi_lint.specs.Slots.{IsSecondOf, IsLesser};
+ghost use Rattle.acpi_lint.specs.Slots.{numbered_slot, second_place};
 ghost use Rattle.acpi_lint.specs.WholeTables.{AreWholeTables};
 
-use crate::listed::first_again;
+use crate::first_slots::FirstSlots;
+use crate::listed::{Slot, first_slot};
+use crate::numbered::{Numbered, first_repeated};
 use crate::place::Place;
+use crate::table_at::Sought;
 use crate::whole_tables::WholeTables;
-use acpi_base::TableKind;
+use std::alloc::{AllocError, Global};
 
-/// The first slot that lists an address that an earlier slot also lists. The tables are those of the set.
-pub fn listed_twice(tables: &WholeTables<'_>) -> Option<Place>
-    ensures { (m : Memory) (p : ℕ) → AreWholeTables m p tables.now
-        → FindsLeast (IsListedTwice m p) result }
+/// The addresses that slots list, each at its slot's number.
+fn numbered_slots(alloc: Global, slots: &[Slot]) -> Result<Vec<Numbered>, AllocError>
+    ensures { IfOk result (λ given. given.items ≡ map numbered_slot slots.now) }
 {
-    first_again(&tables.slots)
+    let mut given = Vec::new(alloc);
+    for slot in slots {
+        given.push(Numbered {
+            number: slot.table.address,
+            at: slot.number,
+            value: slot.number,
+        })?;
+    }
+    Ok(given)
 }
 
-/// The first slot that lists a table of a kind at another address than the first slot of this kind.
-fn second_of(tables: &WholeTables<'_>, kind: TableKind) -> Option<Place>
+/// The first slot that lists an address that an earlier slot also lists. The tables are those of the set. Allocates for
+/// each slot.
+pub fn listed_twice(alloc: Global, tables: &WholeTables<'_>) -> Result<Option<Place>, AllocError>
     ensures { (m : Memory) (p : ℕ) → AreWholeTables m p tables.now
-        → FindsLeast (IsSecondOf m p kind) result }
+        → IfOk result (FindsLeast (IsListedTwice m p)) }
 {
-    let slots = tables.noted_slots.of_kind(kind);
-    let first = slots.first?;
-    slots.second.map(|second| Place {
-        at: second.number,
+    let given = numbered_slots(alloc, &tables.slots)?;
+    first_repeated(given)
+}
+
+/// The place of a slot that lists a table of a kind at another address than the first slot of this kind.
+fn second_place(firsts: &FirstSlots, slot: &Slot) -> Option<Place>
+    ensures { result ≡ second_place firsts.now slot.now }
+{
+    let kind = slot.table.kind?;
+    let first = firsts.of_kind(kind)?;
+    (first.table.address != slot.table.address).then_some(Place {
+        at: slot.number,
         other: first.number,
-        point: second.address,
+        point: slot.table.address,
     })
 }
 
-/// The lower of two places, or the only one.
-fn lesser(one: Option<Place>, two: Option<Place>) -> Option<Place>
-    ensures { IsLesser one two result }
-{
-    match (one, two) {
-        (Some(one), Some(two)) if two <= one => Some(two),
-        (Some(one), _) => Some(one),
-        (None, two) => two,
-    }
-}
-
-/// The first slot that lists a table of the same kind as an earlier one, at another address. The tables are those of the
-/// set.
+/// The first slot that lists a table of the same kind as an earlier one, at another address. The tables are those of
+/// the set.
 pub fn second_table(tables: &WholeTables<'_>) -> Option<Place>
     ensures { (m : Memory) (p : ℕ) → AreWholeTables m p tables.now
         → FindsLeast (IsSecondTable m p) result }
 {
-    let place = second_of(tables, TableKind::Fadt);
-    let place = lesser(place, second_of(tables, TableKind::Madt));
-    let place = lesser(place, second_of(tables, TableKind::Srat));
-    let place = lesser(place, second_of(tables, TableKind::Slit));
-    lesser(place, second_of(tables, TableKind::Pptt))
+    for slot in &tables.slots {
+        if let Some(place) = second_place(&tables.firsts, slot) {
+            return Some(place);
+        }
+    }
+    None
 }
 
 /// The first slot that lists a DSDT or a FACS, which only the FADT should name. The tables are those of the set.
@@ -64,9 +73,10 @@ pub fn listed_apart(tables: &WholeTables<'_>) -> Option<Place>
     ensures { (m : Memory) (p : ℕ) → AreWholeTables m p tables.now
         → FindsLeast (IsListedApart m p) result }
 {
-    tables.noted_slots.apart.map(|slot| Place {
+    let slot = first_slot(&tables.slots, Sought::Apart)?;
+    Some(Place {
         at: slot.number,
         other: 0,
-        point: slot.address,
+        point: slot.table.address,
     })
 }

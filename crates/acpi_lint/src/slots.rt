@@ -7,7 +7,9 @@ ghost use Rattle.acpi_lint.specs.Places.{FindsLeast};
 ghost use Rattle.acpi_lint.specs.StageFaults.{IsFaultOfStage};
 ghost use Rattle.acpi_lint.specs.WholeTables.{AreWholeTables};
 
+use crate::listed::first_slot;
 use crate::place::Place;
+use crate::table_at::Sought;
 use crate::whole_tables::WholeTables;
 use acpi_base::Code;
 
@@ -16,10 +18,10 @@ pub fn slot_fault(tables: &WholeTables<'_>, code: Code) -> Option<Place>
     ensures { (m : Memory) (q : PolicyValue) → AreWholeTables m q.rsdp tables.now
         → FindsLeast (IsFaultOfStage Stage.Tables code m q) result }
 {
-    let slot = tables.noted_slots.with_fault(code);
-    slot.map(|slot| Place {
+    let slot = first_slot(&tables.slots, Sought::Fault(code))?;
+    Some(Place {
         at: slot.number,
-        other: slot.address,
+        other: slot.table.address,
         point: 0,
     })
 }

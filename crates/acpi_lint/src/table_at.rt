@@ -2,15 +2,28 @@
 
 ghost use Rattle.std.specs.Prelude.{◌≡◌, ◌↔◌, ◌⊎◌, IsTrue, Some, true, length};
 ghost use Rattle.acpi_base.specs.Facs.{facs_signature};
+ghost use Rattle.acpi_base.specs.Image.Windows.{AreBytesFrom};
 ghost use Rattle.acpi_base.specs.Lint.Slots.{dsdt_signature};
 ghost use Rattle.acpi_base.specs.Memory.{bytes_at};
 ghost use Rattle.acpi_base.specs.Signature.{has_signature};
 ghost use Rattle.acpi_base.specs.Tables.{TableFault};
 ghost use Rattle.acpi_base.specs.declared.code.Code.{Code};
-ghost use Rattle.acpi_lint.specs.NotedSlots.{IsTableAt};
+ghost use Rattle.acpi_lint.specs.Slots.{IsTableAt, HasSought};
 
 use acpi_base::field::{is_signed, u32_at};
 use acpi_base::{Code, Image, TableKind};
+use acpi_read::sums_to_zero;
+
+/// What is looked for at the addresses that slots list.
+#[derive(Clone, Copy, Debug)]
+pub enum Sought {
+    /// A table that has the fault with this code.
+    Fault(Code),
+    /// A header of this kind.
+    Kind(TableKind),
+    /// The header of a DSDT or of a FACS.
+    Apart,
+}
 
 /// What is at an address.
 #[derive(Clone, Copy, Debug)]
@@ -25,8 +38,9 @@ pub struct TableAt {
     pub is_apart: bool,
 }
 
-/// The fault of a table whose header is present. No more of it is read than the header requires.
-fn table_fault(image: &Image, address: u64, header: &[u8]) -> Option<Code>
+/// The fault of a table whose header is present. `run` has the bytes from its address on.
+fn table_fault(image: &Image, address: u64, run: &[u8], header: &[u8]) -> Option<Code>
+    requires run { AreBytesFrom image.now address run.now }
     requires held { bytes_at image.now address 36 ≡ Some header.now }
     requires long { length header.now ≡ 36 }
     ensures { (code : Code) → (result ≡ Some code) ↔ TableFault image.now address code }
@@ -35,10 +49,13 @@ fn table_fault(image: &Image, address: u64, header: &[u8]) -> Option<Code>
     if length < 36 {
         return Some(Code::TableLength);
     }
-    match image.window_sum(address, u64::from(length)) {
-        Some(0) => None,
-        Some(_) => Some(Code::TableSum),
-        None => Some(Code::TableOut),
+    let Some(bytes) = run.get(..length as usize) else {
+        return Some(Code::TableOut);
+    };
+    if sums_to_zero(image, address, bytes) {
+        None
+    } else {
+        Some(Code::TableSum)
     }
 }
 
@@ -51,12 +68,13 @@ fn is_apart(header: &[u8]) -> bool
 }
 
 impl TableAt {
-    /// What is at an address. Its bytes are summed only if all of them are present.
+    /// What is at an address, for which the image is searched once. Its bytes are summed only if all of them are present.
     pub fn of(image: &Image, address: u64) -> TableAt
         ensures there { result.address ≡ address }
         ensures noted { IsTableAt image.now result }
     {
-        let Some(header) = image.window(address, 36) else {
+        let run = image.bytes_from(address);
+        let Some(header) = run.get(..36) else {
             return TableAt {
                 address,
                 fault: Some(Code::TableHeaderOut),
@@ -66,14 +84,14 @@ impl TableAt {
         };
         TableAt {
             address,
-            fault: table_fault(image, address, header),
+            fault: table_fault(image, address, run, header),
             kind: TableKind::of(header),
             is_apart: is_apart(header),
         }
     }
 
     /// Whether the table there has the fault with this code.
-    pub fn has(&self, code: Code) -> bool
+    fn has_fault(&self, code: Code) -> bool
         ensures { IsTrue result ↔ self.now.fault ≡ Some code }
     {
         match self.fault {
@@ -82,10 +100,14 @@ impl TableAt {
         }
     }
 
-    /// Whether the table there is of this kind.
-    pub fn is_of(&self, kind: TableKind) -> bool
-        ensures { IsTrue result ↔ self.now.kind ≡ Some kind }
+    /// Whether this is looked for.
+    pub fn has(&self, sought: Sought) -> bool
+        ensures { IsTrue result ↔ HasSought sought self.now }
     {
-        self.kind == Some(kind)
+        match sought {
+            Sought::Fault(code) => self.has_fault(code),
+            Sought::Kind(kind) => self.kind == Some(kind),
+            Sought::Apart => self.is_apart,
+        }
     }
 }

@@ -13,10 +13,8 @@ use crate::nowhere::{
     affinity_nowhere, leaf_nowhere, nmi_nowhere, no_domain, no_leaf, no_processor,
 };
 use crate::place::Place;
-use crate::same::{
-    same_apic_id, same_cache_id, same_io_apic_address, same_io_apic_id, same_leaf, same_uid,
-    two_uid_domains,
-};
+use crate::processors::MadtNumber;
+use crate::same::{same_cache_id, same_in_madt, same_leaf, two_uid_domains};
 use crate::unread::{io_apic_at_zero, madt_unread, second_gicd, srat_unread};
 use acpi_base::Rule;
 use acpi_read::{Fadt, Madt, Pptt, Srat};
@@ -40,11 +38,11 @@ pub fn madt_rule(alloc: Global, rule: Rule, madt: &Madt<'_>) -> Result<Option<Pl
     ensures { IfOk result (FindsLeast (MadtRule rule (madt_contents madt.now))) }
 {
     match rule {
-        Rule::SameUid => same_uid(alloc, madt),
-        Rule::SameApicId => same_apic_id(alloc, madt),
+        Rule::SameUid => same_in_madt(alloc, madt, MadtNumber::UidOn),
+        Rule::SameApicId => same_in_madt(alloc, madt, MadtNumber::ApicIdOn),
         Rule::IoApicAtZero => Ok(io_apic_at_zero(madt)),
-        Rule::SameIoApicId => same_io_apic_id(alloc, madt),
-        Rule::SameIoApicAddress => same_io_apic_address(alloc, madt),
+        Rule::SameIoApicId => same_in_madt(alloc, madt, MadtNumber::IoApicId),
+        Rule::SameIoApicAddress => same_in_madt(alloc, madt, MadtNumber::IoApicAddress),
         Rule::NmiNowhere => nmi_nowhere(alloc, madt),
         Rule::SecondGicd => Ok(second_gicd(madt)),
         Rule::NoProcessor => Ok(no_processor(madt)),

@@ -1,15 +1,14 @@
 //! The tables of a set that are looked at.
 
 ghost use Rattle.std.specs.Prelude.{◌≡◌, ℕ, IfOk};
-ghost use Rattle.acpi_base.specs.Root.{IsSlot};
 ghost use Rattle.acpi_base.specs.TableKinds.{signature_of};
-ghost use Rattle.acpi_lint.specs.NotedSlots.{AreNotedSlots};
 ghost use Rattle.acpi_lint.specs.NotedTables.{IsLong};
+ghost use Rattle.acpi_lint.specs.Slots.{AreFirstSlots};
 ghost use Rattle.acpi_lint.specs.WholeTables.{IsFound, table_of, AreWholeTables};
 
 use crate::entry_types::EntryTypes;
-use crate::listed::{Slot, sorted_addresses};
-use crate::noted_slots::NotedSlots;
+use crate::first_slots::FirstSlots;
+use crate::listed::{Slot, listed_slots};
 use crate::noted_tables::NotedTables;
 use acpi_base::{Image, TableKind};
 use acpi_read::{Fadt, Madt, Pptt, Root, Srat, Table};
@@ -21,10 +20,10 @@ use std::alloc::{AllocError, Global};
 pub struct WholeTables<'a> {
     /// The root table.
     pub root: Option<Root<'a>>,
-    /// Its slots that list an address, by address and then by number.
+    /// Its slots that list an address, in their order.
     pub slots: Vec<Slot>,
-    /// The first of these slots that list what is looked for.
-    pub noted_slots: NotedSlots,
+    /// The first of these slots of each kind.
+    pub firsts: FirstSlots,
     /// The FADT.
     pub fadt: Option<Table<'a>>,
     /// The SLIT.
@@ -37,13 +36,13 @@ pub struct WholeTables<'a> {
     pub srat_types: EntryTypes,
 }
 
-/// The first listed table of a kind in a set whose slots are noted here.
-fn found<'a>(image: &'a Image, slots: &NotedSlots, kind: TableKind) -> Option<Table<'a>>
-    ensures { (p : ℕ) → AreNotedSlots image.now (IsSlot image.now p) slots.now
+/// The first listed table of a kind in a set with these first slots.
+fn found<'a>(image: &'a Image, firsts: &FirstSlots, kind: TableKind) -> Option<Table<'a>>
+    ensures { (p : ℕ) → AreFirstSlots image.now p firsts.now
         → IsFound image.now p (signature_of kind) result }
 {
-    let slot = slots.of_kind(kind).first?;
-    Table::whole(image, slot.address)
+    let slot = firsts.of_kind(kind)?;
+    Table::whole(image, slot.table.address)
 }
 
 impl<'a> WholeTables<'a> {
@@ -53,20 +52,20 @@ impl<'a> WholeTables<'a> {
         ensures { IfOk result (AreWholeTables image.now rsdp) }
     {
         let root = Root::whole(image, rsdp);
-        let slots = sorted_addresses(alloc, &root)?;
-        let noted_slots = NotedSlots::of(image, &slots);
-        let madt = found(image, &noted_slots, TableKind::Madt);
+        let slots = listed_slots(alloc, image, &root)?;
+        let firsts = FirstSlots::of(&slots);
+        let madt = found(image, &firsts, TableKind::Madt);
         let madt_types = EntryTypes::madt(&madt);
-        let srat = found(image, &noted_slots, TableKind::Srat);
+        let srat = found(image, &firsts, TableKind::Srat);
         let srat_types = EntryTypes::srat(&srat);
-        let pptt = found(image, &noted_slots, TableKind::Pptt);
+        let pptt = found(image, &firsts, TableKind::Pptt);
         let noted = NotedTables::of(alloc, madt, srat, pptt)?;
         Ok(WholeTables {
-            fadt: found(image, &noted_slots, TableKind::Fadt),
-            slit: found(image, &noted_slots, TableKind::Slit),
+            fadt: found(image, &firsts, TableKind::Fadt),
+            slit: found(image, &firsts, TableKind::Slit),
             root,
             slots,
-            noted_slots,
+            firsts,
             noted,
             madt_types,
             srat_types,

@@ -79,7 +79,7 @@ impl<'a> FirstTables<'a> {
 
     /// The kind of which a table would be the first one, if it were added next. None if there is one already, or if the
     /// table is of no kind.
-    pub fn first_as(&self, table: &Table<'_>) -> Option<TableKind>
+    fn first_as(&self, table: &Table<'_>) -> Option<TableKind>
         ensures { IsFirstOf self.now table.now result }
     {
         let kind = TableKind::of(table.bytes())?;

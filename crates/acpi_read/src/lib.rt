@@ -90,5 +90,5 @@ pub use slit::Slit;
 pub use srat::{
     ApicDomain, GICC_AFFINITY, GICC_AFFINITY_LEN, MemoryRange, SratEntry, X2apicDomain,
 };
-pub use table::Table;
+pub use table::{Table, sums_to_zero};
 pub use typed_entries::{EntryAt, TableEntry, TypedEntries};

@@ -4,7 +4,6 @@ ghost use Rattle.std.specs.Prelude.{◌≡◌, ◌≤◌, ◌<◌, ◌^◌, ◌�
 ghost use Rattle.acpi_base.specs.Codes.{code_number, stage_of};
 ghost use Rattle.acpi_base.specs.declared.stage.Stage.{Stage};
 ghost use Rattle.acpi_base.specs.Header.{header_of};
-ghost use Rattle.acpi_base.specs.Image.Windows.{AreBytesFrom};
 ghost use Rattle.acpi_base.specs.Memory.{bytes_at};
 ghost use Rattle.acpi_base.specs.Number.{byte_sum};
 ghost use Rattle.acpi_base.specs.Tables.{length_of, IsTable, IsSoundTable, TableFault};
@@ -39,11 +38,13 @@ impl<'a> Model for Table<'a> {
         × (length_of table.bytes.now ≡ length table.bytes.now) };
 }
 
-/// How many bytes are summed one by one sooner than by a search for their running sums.
+/// How many bytes are summed one by one sooner than by a search for their running sums: most tables of firmware have
+/// fewer.
 const FEW: usize = 256;
 
-/// Whether the bytes, which are those at the address, sum to 0 modulo 256.
-fn sums_to_zero(image: &Image, address: u64, bytes: &[u8]) -> bool
+/// Whether the bytes, which are those at the address, sum to 0 modulo 256. Fewer than 256 of them are read, however many
+/// there are.
+pub fn sums_to_zero(image: &Image, address: u64, bytes: &[u8]) -> bool
     requires { bytes_at image.now address (length bytes.now) ≡ Some bytes.now }
     ensures { IsTrue result ↔ (byte_sum bytes.now ≡ 0) }
 {
@@ -67,20 +68,7 @@ impl<'a> Table<'a> {
         ensures least { IfErr result (λ code. (other : Code) → TableFault image.now address other
             → code_number code ≤ code_number other) }
     {
-        Table::read_run(image, address, image.bytes_from(address))
-    }
-
-    /// The same, if the bytes from the address on have been found already: those up to the first address without one.
-    pub fn read_run(image: &'a Image, address: u64, run: &'a [u8]) -> Result<Table<'a>, Code>
-        requires { AreBytesFrom image.now address run.now }
-        ensures ok { IsOk result ↔ IsSoundTable image.now address }
-        ensures value { IfOk result
-            (λ bytes. (header : List ℕ) × IsTable image.now address header bytes) }
-        ensures fault { IfErr result (TableFault image.now address) }
-        ensures stage { IfErr result (λ code. stage_of code ≡ Stage.Tables) }
-        ensures least { IfErr result (λ code. (other : Code) → TableFault image.now address other
-            → code_number code ≤ code_number other) }
-    {
+        let run = image.bytes_from(address);
         let Some(header) = run.get(..Header::LEN) else {
             return Err(Code::TableHeaderOut);
         };
@@ -102,17 +90,9 @@ impl<'a> Table<'a> {
         requires { IsSoundTable image.now address }
         ensures { (header : List ℕ) × IsTable image.now address header result }
     {
-        Table::sound_run(image, address, image.bytes_from(address))
-    }
-
-    /// The same, if the bytes from the address on have been found already: those up to the first address without one.
-    pub fn sound_run(image: &'a Image, address: u64, run: &'a [u8]) -> Table<'a>
-        requires sound { IsSoundTable image.now address }
-        requires from { AreBytesFrom image.now address run.now }
-        ensures { (header : List ℕ) × IsTable image.now address header result }
-    {
-        let length = u32_at(run, 4);
-        let bytes = &run[..length as usize];
+        let rest = image.bytes_from(address);
+        let length = u32_at(rest, 4);
+        let bytes = &rest[..length as usize];
         Table { bytes }
     }
 

@@ -1,5 +1,3 @@
-mod apart;
 mod clash;
 mod example;
-mod sorting;
 mod stray;

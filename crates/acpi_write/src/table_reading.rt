@@ -19,7 +19,7 @@ use crate::fadt_body::with_facs;
 use crate::table_value::{Head, TableValue};
 use acpi_base::TableKind;
 use acpi_base::field::u64_at;
-use acpi_check::{ListedSet, SlotRuns};
+use acpi_check::ListedSet;
 use acpi_read::{
     FirstTables, Header, Layout, Listed, Madt, Pptt, Slit, Srat, Table, TableEntry, TypedEntries,
 };
@@ -42,8 +42,7 @@ pub(crate) fn head_in(header: Header) -> Head
     }
 }
 
-/// The tables that a set lists, in the order of its slots. A slot that is 0 lists nothing. What slots list is found for a
-/// block of them at a time.
+/// The tables that a set lists, in the order of its slots. A slot that is 0 lists nothing.
 pub(crate) fn listed_tables<'a>(
     alloc: Global,
     set: &ListedSet<'a>,
@@ -53,10 +52,8 @@ pub(crate) fn listed_tables<'a>(
         (listed_addresses set.now.root.bytes set.now.root.width) (map table_of found.items)) }
 {
     let mut found = Vec::new(alloc);
-    let mut runs = SlotRuns::new(alloc);
     for slot in 0..set.root.slots() {
-        let run = runs.run(alloc, set, slot)?;
-        if let Some(listed) = set.table_run(slot, run) {
+        if let Some(listed) = set.table(slot) {
             found.push(listed)?;
         }
     }

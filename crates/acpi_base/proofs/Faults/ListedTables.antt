@@ -49,12 +49,6 @@ listed_judged s m p signature Sound IsFault (Some whole, is) each =
           (judged.holds (λ c at other point own fault. none c at other point own (whole, is, fault)));
     }
 
--- a fault of each table that excludes that it is sound does so of the one that is listed first
-pub listed_excludes : {m : Memory} {p : ℕ} {signature : List ℕ} (Sound : List ℕ → Type 0) (IsFault : List ℕ → Type 0)
-    → ((whole : List ℕ) → IsFault whole → ¬ Sound whole)
-    → HasListed m p signature IsFault → ¬ ForListed m p signature Sound
-listed_excludes Sound IsFault excludes (whole, is, fault) sound = excludes whole fault (sound whole is)
-
 -- the bytes of a listed table are below 256, and fewer than 2^32
 pub listed_fits : {m : Memory} {p : ℕ} {signature whole : List ℕ} → IsImage m → IsListedTable m p signature whole
     → ((k : ℕ) → slice_index whole k < 256) × (length whole < 2 ^ 32)

@@ -42,6 +42,12 @@ unfolding least_defined
 first_of_from f a zero x e = absurd (cc)
 first_of_from f a (suc n) x e = grind (arith, first_of_from f (a + 1) n x)
 
+-- it is one of the n numbers, and there is something at it
+pub first_of_here : (f : ℕ → Option ℕ) (a n x : ℕ) → least_defined f a n ≡ Some x → (x < a + n) × IsSome (f x)
+unfolding least_defined
+first_of_here f a zero x e = absurd (cc)
+first_of_here f a (suc n) x e = grind (arith, first_of_here f (a + 1) n x)
+
 -- f and g agree at the n numbers from a on
 pub run_of-agree : (f g : ℕ → Option ℕ) (a n : ℕ) → ((k : ℕ) → k < n → f (a + k) ≡ g (a + k))
     → run_of f a n ≡ run_of g a n

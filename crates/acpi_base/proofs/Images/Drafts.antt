@@ -1,16 +1,15 @@
 -- Pieces that come one after the other: what they hold, and that they stay in order.
-use Rattle.std.proofs.Common.{◌≡◌, inl, inr, ℕ, zero, suc, ◌+◌, ◌-◌, ◌^◌, ◌<◌, ◌≤◌, Bool, true, false, cond, List, [], ◌∷◌, ◌++◌, length, get_or, take, drop, slice_set, slice_get, Option, Some, None, is_some, refl, sym, ap, subst, ◌∙◌, arith, length-append, length-drop, add-zero}
+use Rattle.std.proofs.Common.{◌≡◌, inr, ℕ, zero, suc, ◌+◌, ◌-◌, ◌^◌, ◌<◌, ◌≤◌, Bool, true, false, cond, List, [], ◌∷◌, ◌++◌, length, get_or, take, drop, slice_set, Option, Some, None, is_some, refl, sym, ap, subst, ◌∙◌, arith, length-append, length-drop, add-zero}
 use Rattle.std.specs.Prelude.{Result, Ok, Err}
 use Rattle.std.specs.Option.{option_map_or, option_or}
 use Rattle.std.specs.List.{AllByRecursion}
 use Rattle.std.specs.FinMap.{empty}
 use Rattle.std.proofs.lemmas.List.{take_all, drop-append-le}
-use Rattle.std.proofs.lemmas.Bool.{cases_lt}
-use Rattle.std.proofs.lemmas.Option.{get_or_from_slice_get, slice_get_past}
 use Rattle.std.proofs.Math.Seq.{drop-append_seam}
 use Rattle.acpi_base.specs.declared.image.span.Span.{Span}
 use Rattle.acpi_base.specs.Memory.{Memory, byte_of, first_held, least_defined, with_bytes}
-use Rattle.acpi_base.specs.Image.Draft.{AreContiguous, AreDrafted, EndsAt, added, all_added}
+use Rattle.acpi_base.specs.Image.Adding.{added}
+use Rattle.acpi_base.specs.Image.Draft.{AreContiguous, AreDrafted, EndsAt, all_added}
 use Rattle.acpi_base.specs.Image.Pieces.{Piece, LiesBefore, end_at, run_in, runs_in}
 use Rattle.acpi_base.specs.Image.Runs.{Run, run_at}
 use Rattle.acpi_base.specs.Text.ImageText.{on_ok}
@@ -34,6 +33,14 @@ on_ok_same (Err e) f g h = refl
 pub on_ok_last : {A E : Type 0} → (x : Result A E) → on_ok x (λ a. Ok a) ≡ x
 on_ok_last (Ok a) = refl
 on_ok_last (Err e) = refl
+
+-- no bytes are added
+pub added_nothing : (x : Result Memory ℕ) (a : ℕ) (bytes : List ℕ) → length bytes ≡ 0
+    → x ≡ on_ok x (λ m. added m a bytes)
+unfolding with_bytes least_defined
+added_nothing (Ok m) a [] none = refl
+added_nothing (Ok m) a (b ∷ bytes) none = absurd (omega arith)
+added_nothing (Err x) a bytes none = refl
 
 -- more runs come
 pub all_added-append : (m : Memory) (rs ts : List Run)
@@ -276,17 +283,3 @@ drafted_last store new more ps i d p v base a e end fits at is s l =
     let ends = ends_there ps i d p base end at is in
     drafted-grow store new more (take i ps) (slice_set ps i (p.0, v)) p v (subst (AreDrafted store) split a) e
     (last_set ps i (p.0, v) n) s l (omega arith)
-
-pub ends_last : (ps : List Piece) (p : Piece) (base : ℕ) → slice_get ps (length ps - 1) ≡ Some p → p.0 ≤ base
-    → base - p.0 ≡ p.1.len → EndsAt ps base
-ends_last ps p base e l n = (
-  elim (cases_lt 0 (length ps)) [
-    | inl some ↦ some
-    | inr none ↦ absurd (let not = slice_get_past ps (length ps - 1) (omega arith) in cc)
-  ],
-  λ d. ap end_at (get_or_from_slice_get ps (length ps - 1) p d e) ∙ omega arith,
-)
-
-pub no_pieces : (ps : List Piece) → length ps ≡ 0 → ps ≡ []
-no_pieces [] e = refl
-no_pieces (p ∷ ps) e = absurd (omega arith)

@@ -1,19 +1,21 @@
 -- What pieces that come one after the other make: an image, or the first address that comes twice.
 use Rattle.std.proofs.Common.{◌≡◌, ◌⊎◌, inl, inr, ℕ, ◌+◌, ◌-◌, ◌<◌, ◌≤◌, List, [], ◌∷◌, length, take, drop, Option, Some, None, IsSome, refl, sym, ap, subst, ◌∙◌, arith}
-use Rattle.std.specs.Prelude.{Ok, Err, MatchOption}
+use Rattle.std.specs.Prelude.{Ok, Err, MatchOption, MatchResult, Result}
+use Rattle.std.specs.Result.{IsErrAnd}
 use Rattle.std.specs.Option.{option_map_or, option_or}
 use Rattle.std.specs.List.{AllByRecursion}
-use Rattle.std.specs.List.Sorted.{IsPermutation}
+use Rattle.std.specs.List.Sorted.{IsNonDecreasingBy, IsPermutation}
 use Rattle.std.specs.FinMap.{empty}
 use Rattle.std.proofs.lemmas.Bool.{cases_lt}
 use Rattle.acpi_base.specs.Memory.{Memory, byte_of, with_bytes}
-use Rattle.acpi_base.specs.Image.Builder.{AreEnded, holds_at, holder_count}
-use Rattle.acpi_base.specs.Image.Draft.{AreContiguous, AreDrafted, IsFirstTwice, IsOnceBefore, added, all_added, cut, cut_all}
-use Rattle.acpi_base.specs.Image.Pieces.{Piece, LiesBefore, end_at, run_in, runs_in}
+use Rattle.acpi_base.specs.Image.Adding.{IsLayoutRefusal, added}
+use Rattle.acpi_base.specs.declared.image.ImageFault.{ImageFault}
+use Rattle.acpi_base.specs.Image.Draft.{AreContiguous, AreDisjoint, AreDrafted, IsFirstTwice, IsOnceBefore, all_added, cut, cut_all, holder_count, holds_at}
+use Rattle.acpi_base.specs.Image.Pieces.{Piece, AreSortedDisjoint, LiesBefore, end_at, run_in, runs_in}
 use Rattle.acpi_base.specs.Image.Runs.{byte_in, lookup, memory_of}
 use Rattle.acpi_base.specs.Text.ImageText.{on_ok}
 use Rattle.acpi_base.proofs.Images.ByteRuns.{first_of_at, first_of_none}
-use Rattle.acpi_base.proofs.Images.Holders.{has_or_not, has_within, lookup_none}
+use Rattle.acpi_base.proofs.Images.Holders.{disjoint_permuted, has_or_not, has_within, lookup_none, memory_permuted, rising_sorted}
 use Rattle.acpi_base.proofs.Images.RunBytes.{byte_of-with_bytes, byte_of_memory_of, held_none, held_some}
 use Rattle.acpi_base.proofs.Images.RunMemory.{same_memory}
 use Rattle.acpi_base.proofs.Images.Stores.{run_ends}
@@ -218,10 +220,41 @@ pub match_weaker : (o : Option ℕ) {P P' : Type 0} {Q Q' : ℕ → Type 0} → 
 match_weaker None none some h = none h
 match_weaker (Some x) none some h = some x h
 
-pub ended_drafted : (store : List ℕ) (ps : List Piece) → AreDrafted store ps → ((x : ℕ) → holder_count ps x < 2)
-    → AreEnded (length store) ps
-ended_drafted store ps drafted once = record {
-  once = λ x. (let few = once x in omega arith);
-  filled = drafted.filled;
-  lies = drafted.lies;
-}
+-- what is found among the pieces, or among a copy of them
+pub found_in_copy : (value : Result Memory ℕ) (store : List ℕ) (ps : List Piece) (others : List ℕ) (qs : List Piece)
+    (found : Option ℕ) → all_added empty (runs_in store ps) ≡ value → AreDrafted store ps → others ≡ store → qs ≡ ps
+    → MatchOption found ((x : ℕ) → holder_count qs x < 2) (λ x. all_added empty (runs_in others qs) ≡ Err x)
+    → MatchOption found ((m : Memory) × (value ≡ Ok m)) (λ x. value ≡ Err x)
+found_in_copy value store ps others qs found is drafted same copied judged =
+    match_weaker found
+    (λ once. (_, sym is ∙ all_joined store ps drafted.lies (subst (λ rs. (x : ℕ) → holder_count rs x < 2) copied once)))
+    (λ x twice. sym is ∙ ap (λ rs. all_added empty (runs_in store rs)) (sym copied)
+    ∙ ap (λ s. all_added empty (runs_in s qs)) (sym same) ∙ twice)
+    judged
+
+-- pieces in the order of their addresses, no two of which have an address
+pub record AreJudged (store : List ℕ) (ps qs : List Piece) : Type 0 where
+  pub rising : AreSortedDisjoint qs
+  pub lies : AllByRecursion (LiesBefore (length store)) qs
+  pub same : all_added empty (runs_in store ps) ≡ Ok (memory_of (runs_in store qs))
+
+pub are_judged : (store : List ℕ) (ps qs : List Piece) → AreDrafted store ps → IsPermutation ps qs
+    → IsNonDecreasingBy (λ (p : Piece). p.0) qs → ((x : ℕ) → holder_count ps x < 2) → AreJudged store ps qs
+are_judged store ps qs drafted moved sorted once =
+    let disjoint : AreDisjoint (length store) ps = record {
+      once = λ x. (let few = once x in omega arith);
+      filled = drafted.filled;
+      lies = drafted.lies;
+    } in
+    let all = disjoint_permuted (length store) ps qs moved disjoint in
+    record {
+      rising = rising_sorted qs sorted all.once all.filled;
+      lies = all.lies;
+      same = all_joined store ps drafted.lies once ∙ ap (λ m. Ok m) (sym (memory_permuted store ps qs moved disjoint));
+    }
+
+-- a refusal is passed on
+pub told_on : {U : Type 0} (P : U → Type 0) (r : Result U ImageFault) (e : ImageFault) (held : Result Memory ℕ)
+    → IsErrAnd r (λ f. f ≡ e) → IsLayoutRefusal held e → MatchResult r P (IsLayoutRefusal held)
+told_on P (Ok x) e held is told = absurd is
+told_on P (Err f) e held is told = subst (IsLayoutRefusal held) (sym is) told

@@ -1,5 +1,5 @@
 -- How many pieces have an address, and what the pieces hold there.
-use Rattle.std.proofs.Common.{◌≡◌, ◌⊎◌, inl, inr, ℕ, zero, suc, ◌+◌, ◌<◌, ◌≤◌, List, [], ◌∷◌, ◌++◌, length, get_or, Option, Some, None, IsSome, refl, sym, ap, ◌∙◌, arith}
+use Rattle.std.proofs.Common.{◌≡◌, ◌⊎◌, inl, inr, ℕ, zero, suc, ◌+◌, ◌<◌, ◌≤◌, List, [], ◌∷◌, ◌++◌, length, get_or, Option, Some, None, refl, sym, ap, ◌∙◌, arith}
 use Rattle.std.specs.Option.{option_or}
 use Rattle.std.specs.List.{AllByRecursion, sum_by}
 use Rattle.std.specs.List.Sorted.{IsPermutation, IsNonDecreasingBy}
@@ -10,9 +10,9 @@ use Rattle.std.proofs.lemmas.List.Sums.{sum_by-cons}
 use Rattle.std.proofs.lemmas.List.Sorted.{All-permutation, sum_by-IsPermutation}
 use Rattle.acpi_base.specs.Image.Runs.{byte_in, lookup, memory_of}
 use Rattle.acpi_base.specs.Image.Pieces.{Piece, AreSortedDisjoint, end_at, LiesBefore, run_in, runs_in}
-use Rattle.acpi_base.specs.Image.Builder.{AreEnded, holds_at, holder_count}
-use Rattle.acpi_base.proofs.Images.RunBytes.{held_none, held_some, byte_of_memory_of}
-use Rattle.acpi_base.proofs.Images.Stores.{all_from, all_weaker, of_all, run_ends}
+use Rattle.acpi_base.specs.Image.Draft.{AreDisjoint, holds_at, holder_count}
+use Rattle.acpi_base.proofs.Images.RunBytes.{held_none, byte_of_memory_of}
+use Rattle.acpi_base.proofs.Images.Stores.{all_from, of_all, run_ends}
 use Rattle.acpi_base.proofs.Images.RunMemory.{same_memory}
 
 -- ---- one piece
@@ -46,22 +46,7 @@ holds_none store n p x l lies none =
       | inr y ↦ held_none (run_in store p) x (elim y.1 [ inl low ↦ inl low | inr high ↦ inr (omega arith) ])
     ]
 
-holds_some : (store : List ℕ) (n : ℕ) (p : Piece) (x : ℕ) → n ≤ length store → LiesBefore n p → holds_at x p ≡ 1
-    → IsSome (byte_in (run_in store p) x)
-holds_some store n p x l lies one =
-    let ends = run_ends store p n l lies in
-    elim (has_or_not x p) [
-      | inl y ↦ (let high = y.2 in held_some (run_in store p) x y.1 (omega arith))
-      | inr y ↦ absurd (let none = y.0 in omega arith)
-    ]
-
 -- ---- many pieces
-
-or_some : (x y : Option ℕ) → IsSome y → IsSome (option_or x y)
-or_some x y some = grind arith
-
-some_or : (x y : Option ℕ) → IsSome x → IsSome (option_or x y)
-some_or x y some = grind arith
 
 -- an address that no piece has is not held
 pub lookup_none : (store : List ℕ) (n : ℕ) (ps : List Piece) (x : ℕ) → n ≤ length store
@@ -69,15 +54,6 @@ pub lookup_none : (store : List ℕ) (n : ℕ) (ps : List Piece) (x : ℕ) → n
 lookup_none store n [] x l lies none = refl
 lookup_none store n (p ∷ ps) x l lies none =
     rw (holds_none store n p x l lies.0 (omega arith)) (lookup_none store n ps x l lies.1 (omega arith))
-
--- one that some piece has is
-pub lookup_some : (store : List ℕ) (n : ℕ) (ps : List Piece) (x : ℕ) → n ≤ length store
-    → AllByRecursion (LiesBefore n) ps → 0 < holder_count ps x → IsSome (lookup (runs_in store ps) x)
-lookup_some store n [] x l lies some = absurd (omega arith)
-lookup_some store n (p ∷ ps) x l lies some = elim (has_or_not x p) [
-  | inl y ↦ some_or _ _ (holds_some store n p x l lies.0 y.0)
-  | inr y ↦ (let none = y.0 in or_some _ _ (lookup_some store n ps x l lies.1 (omega arith)))
-]
 
 -- a piece more at the end
 pub holder_count-push : (ps : List Piece) (p : Piece) (x : ℕ)
@@ -89,37 +65,6 @@ pub all_push : (P : Piece → Type 0) (ps : List Piece) (q : Piece) → AllByRec
     → AllByRecursion P (ps ++ q ∷ [])
 all_push P [] q all here = (here, tt)
 all_push P (p ∷ ps) q all here = (all.0, all_push P ps q all.1 here)
-
-last_first : (x y z : Option ℕ) → (x ≡ None) ⊎ (y ≡ None) → option_or x (option_or y z) ≡ option_or y (option_or x z)
-last_first x y z (inl e) = grind arith
-last_first x y z (inr e) = grind arith
-
--- where no other piece has its addresses, it holds them
-pub lookup-push : (store : List ℕ) (n : ℕ) (ps : List Piece) (q : Piece) (x : ℕ) → n ≤ length store
-    → AllByRecursion (LiesBefore n) ps → LiesBefore n q
-    → holder_count ps x + holds_at x q ≤ 1
-    → lookup (runs_in store (ps ++ q ∷ [])) x ≡ option_or (byte_in (run_in store q) x) (lookup (runs_in store ps) x)
-lookup-push store n [] q x l lies here once = refl
-lookup-push store n (p ∷ ps) q x l lies here once =
-    ap (option_or (byte_in (run_in store p) x)) (lookup-push store n ps q x l lies.1 here (omega arith))
-    ∙ last_first (byte_in (run_in store p) x) (byte_in (run_in store q) x) (lookup (runs_in store ps) x)
-    (elim (has_or_not x p) [
-      | inl y ↦ inr (let one = y.0 in holds_none store n q x l here (omega arith))
-      | inr y ↦ inl (holds_none store n p x l lies.0 y.0)
-    ])
-
--- more of the store changes nothing
-pub ended-push : (n m : ℕ) (ps : List Piece) (q : Piece) → n ≤ m → AreEnded n ps → 0 < q.1.len → LiesBefore m q
-    → ((x : ℕ) → q.0 ≤ x → x < end_at q → holder_count ps x ≡ 0) → AreEnded m (ps ++ q ∷ [])
-ended-push n m ps q l s some here free = record {
-  once = λ x. elim (has_or_not x q) [
-    | inl y ↦ (let one = y.0 in let none = free x y.1 y.2 in let e = holder_count-push ps q x in omega arith)
-    | inr y ↦ (let none = y.0 in let most = s.once x in let e = holder_count-push ps q x in omega arith)
-  ];
-  filled = all_push _ ps q s.filled some;
-  lies = all_push _ ps q (all_weaker (LiesBefore n) (LiesBefore m) ps (λ p h. (let low = h.0 in omega arith, h.1))
-      s.lies) here;
-}
 
 -- ---- the same pieces in another order
 
@@ -164,8 +109,8 @@ pub all_permuted : (P : Piece → Type 0) (ps qs : List Piece) → IsPermutation
     → AllByRecursion P qs
 all_permuted P ps qs moved all = recursion_from_All P qs (All-permutation P ps qs moved (All-from_recursion P ps all))
 
-pub ended_permuted : (n : ℕ) (ps qs : List Piece) → IsPermutation ps qs → AreEnded n ps → AreEnded n qs
-ended_permuted n ps qs moved s = record {
+pub disjoint_permuted : (n : ℕ) (ps qs : List Piece) → IsPermutation ps qs → AreDisjoint n ps → AreDisjoint n qs
+disjoint_permuted n ps qs moved s = record {
   once = λ x. (
       let e : holder_count qs x ≡ holder_count ps x = holder_count-sum qs x
       ∙ sum_by-IsPermutation (holds_at x) ps qs moved ∙ sym (holder_count-sum ps x) in
@@ -176,10 +121,10 @@ ended_permuted n ps qs moved s = record {
   lies = all_permuted _ ps qs moved s.lies;
 }
 
-pub memory_permuted : (store : List ℕ) (ps qs : List Piece) → IsPermutation ps qs → AreEnded (length store) ps
+pub memory_permuted : (store : List ℕ) (ps qs : List Piece) → IsPermutation ps qs → AreDisjoint (length store) ps
     → memory_of (runs_in store qs) ≡ memory_of (runs_in store ps)
 memory_permuted store ps qs moved s =
-    let t = ended_permuted (length store) ps qs moved s in
+    let t = disjoint_permuted (length store) ps qs moved s in
     same_memory _ _ (λ x.
     byte_of_memory_of (runs_in store qs) x
     ∙ code-injective (lookup (runs_in store qs) x) (lookup (runs_in store ps) x)

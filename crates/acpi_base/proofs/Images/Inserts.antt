@@ -52,26 +52,26 @@ lookup_parts store (p ∷ ps) (suc i) x = grind (arith, lookup_parts store ps i 
 
 -- the segments before a place end before n addresses from a on, and the others begin behind them
 pub record Parts (s : Segments) (a n i : ℕ) : Type 0 where
-  pub low_rising : AreSortedDisjoint (take i s.ended)
-  pub low_lies : AllByRecursion (LiesBefore (length s.store)) (take i s.ended)
-  pub low_end : AllByRecursion (λ p. end_at p ≤ a) (take i s.ended)
-  pub low_begin : AllByRecursion (λ p. 0 ≤ p.0) (take i s.ended)
-  pub high_rising : AreSortedDisjoint (drop i s.ended)
-  pub high_lies : AllByRecursion (LiesBefore (length s.store)) (drop i s.ended)
-  pub high_begin : AllByRecursion (λ p. a + n ≤ p.0) (drop i s.ended)
-  pub high_end : AllByRecursion (λ p. end_at p ≤ s.base) (drop i s.ended)
+  pub low_rising : AreSortedDisjoint (take i s.ended.items)
+  pub low_lies : AllByRecursion (LiesBefore (length s.store)) (take i s.ended.items)
+  pub low_end : AllByRecursion (λ p. end_at p ≤ a) (take i s.ended.items)
+  pub low_begin : AllByRecursion (λ p. 0 ≤ p.0) (take i s.ended.items)
+  pub high_rising : AreSortedDisjoint (drop i s.ended.items)
+  pub high_lies : AllByRecursion (LiesBefore (length s.store)) (drop i s.ended.items)
+  pub high_begin : AllByRecursion (λ p. a + n ≤ p.0) (drop i s.ended.items)
+  pub high_end : AllByRecursion (λ p. end_at p ≤ s.base) (drop i s.ended.items)
   pub last_begin : s.start < length s.store → a + n ≤ s.base
 
 -- where the bytes find nothing held, the ended segments hold nothing there
 gap_in_ended : (s : Segments) (a b x : ℕ) → IsGap (runs_of s) a b → a ≤ x → x < b
-    → lookup (runs_in s.store s.ended) x ≡ None
+    → lookup (runs_in s.store s.ended.items) x ≡ None
 gap_in_ended s a b x gap l h = (let none = gap x l h in grind arith)
 
 pub parts_at : (s : Segments) (a n i : ℕ) → IsSound s → a < s.base → 0 < n → IsGap (runs_of s) a (a + n)
-    → i ≤ length s.ended → IsPartitionPoint s.ended a i → Parts s a n i
+    → i ≤ length s.ended.items → IsPartitionPoint s.ended.items a i → Parts s a n i
 parts_at s a n i sound low some gap within place =
     let store = s.store in
-    let ps = s.ended in
+    let ps = s.ended.items in
     let inside = sound.within in
     let lies = all_weaker (LiesBefore s.start) (LiesBefore (length store)) ps (λ p h. (let l = h.0 in omega arith, h.1))
     sound.lies in
@@ -102,13 +102,13 @@ parts_at s a n i sound low some gap within place =
           ];
     }
   where
-    behind : (k : ℕ) (d : Piece) → i ≤ k → k < length s.ended → a + n ≤ (get_or s.ended k d).0
-    behind k d l h = elim (cases_lt (get_or s.ended k d).0 (a + n)) [
+    behind : (k : ℕ) (d : Piece) → i ≤ k → k < length s.ended.items → a + n ≤ (get_or s.ended.items k d).0
+    behind k d l h = elim (cases_lt (get_or s.ended.items k d).0 (a + n)) [
       | inl m ↦ absurd (
           let above = place.1 k d l h in
-          let none = gap_in_ended s a (a + n) (get_or s.ended k d).0 gap (omega arith) m in
-          let here = base_held s.store s.start s.ended k d sound.within sound.lies h
-          (filled s.ended k d sound.apart h) in
+          let none = gap_in_ended s a (a + n) (get_or s.ended.items k d).0 gap (omega arith) m in
+          let here = base_held s.store s.start s.ended.items k d sound.within sound.lies h
+          (filled s.ended.items k d sound.apart h) in
           grind arith)
       | inr m ↦ m
     ]
@@ -118,9 +118,9 @@ parts_at s a n i sound low some gap within place =
 -- the bytes are put in where nothing was held
 pub put_among : (s : Segments) (a i : ℕ) (bs : List ℕ) (m0 m1 m2 m3 : Memory) → IsGap (runs_of s) a (a + length bs)
     → m0 ≡ empty
-    → ((x : ℕ) → byte_of m1 x ≡ option_or (byte_of m0 x) (lookup (runs_in s.store (take i s.ended)) x))
+    → ((x : ℕ) → byte_of m1 x ≡ option_or (byte_of m0 x) (lookup (runs_in s.store (take i s.ended.items)) x))
     → m2 ≡ with_bytes m1 a bs
-    → ((x : ℕ) → byte_of m3 x ≡ option_or (byte_of m2 x) (lookup (runs_in s.store (drop i s.ended)) x))
+    → ((x : ℕ) → byte_of m3 x ≡ option_or (byte_of m2 x) (lookup (runs_in s.store (drop i s.ended.items)) x))
     → with_bytes m3 s.base (drop s.start s.store) ≡ with_bytes (memory_in s) a bs
 put_among s a i bs m0 m1 m2 m3 gap e0 e1 e2 e3 = same_memory _ _ (λ x.
     let here = held_inside (run_at a bs) x in
@@ -130,10 +130,10 @@ put_among s a i bs m0 m1 m2 m3 gap e0 e1 e2 e3 = same_memory _ _ (λ x.
     ap (λ m. byte_of m x) e2 ∙ byte_of-with_bytes m1 a bs x in
     let old = byte_of_memory_of (runs_of s) x in
     composed (byte_in (run_at a bs) x) (byte_in (run_at s.base (drop s.start s.store)) x)
-    (lookup (runs_in s.store (take i s.ended)) x)
-    (lookup (runs_in s.store (drop i s.ended)) x) (lookup (runs_in s.store s.ended) x) (byte_of m0 x)
+    (lookup (runs_in s.store (take i s.ended.items)) x)
+    (lookup (runs_in s.store (drop i s.ended.items)) x) (lookup (runs_in s.store s.ended.items) x) (byte_of m0 x)
     (byte_of m1 x) (byte_of m2 x) (byte_of m3 x)
-    (byte_of (memory_in s) x) _ _ (lookup_parts s.store s.ended i x) nothing (e1 x) second (e3 x) old
+    (byte_of (memory_in s) x) _ _ (lookup_parts s.store s.ended.items i x) nothing (e1 x) second (e3 x) old
     (byte_of-with_bytes m3 s.base (drop s.start s.store) x) (byte_of-with_bytes (memory_in s) a bs x)
     (λ some. (let within = here some in free within.0 within.1)))
   where

@@ -11,7 +11,6 @@ use Rattle.std.proofs.lemmas.Bool.Decides.{nat_tests}
 use Rattle.std.proofs.lemmas.Option.{slice_get_past, slice_get-get_or}
 use Rattle.acpi_base.specs.Memory.{Memory, byte_of, run_of, with_bytes, cons_both}
 use Rattle.acpi_base.specs.Image.Runs.{Run, byte_in, end_of, lookup, memory_of, run_at}
-use Rattle.acpi_base.proofs.Images.ByteRuns.{run_of_none}
 
 -- from its base on, a run holds its bytes
 pub held_from : (r : Run) (a : ℕ) → r.base ≤ a → byte_in r a ≡ slice_get r.bytes (a - r.base)
@@ -75,12 +74,6 @@ unfolding run_of cons_both
 run_of_held r a zero l h = refl
 run_of_held r a (suc n) l h =
     grind (arith, common_steps, held_at, drop-cons, run_of_held r (a + 1) n (omega arith) (omega arith))
-
--- where a run does not hold all n addresses from a on
-pub run_of_held_outside : (r : Run) (a n : ℕ) → 0 < n → ((a < r.base) ⊎ (end_of r < a + n))
-    → run_of (byte_in r) a n ≡ None
-run_of_held_outside r a n h l =
-    grind (arith, cases_lt, held_none, run_of_none (byte_in r) a n 0, run_of_none (byte_in r) a n (end_of r - a))
 
 -- ---- after bytes were put in
 

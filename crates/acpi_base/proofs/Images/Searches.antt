@@ -1,14 +1,14 @@
 -- What a search of the segments finds.
-use Rattle.std.proofs.Common.{◌≡◌, ◌⊎◌, inl, inr, ℕ, zero, suc, ◌+◌, ◌-◌, ◌<◌, ◌≤◌, List, [], ◌∷◌, length, get_or, take, drop, Option, None, Some, IsSome, sym, ap, subst, ◌∙◌, arith, length-drop}
+use Rattle.std.proofs.Common.{◌≡◌, ◌⊎◌, inl, inr, ℕ, zero, suc, ◌+◌, ◌-◌, ◌<◌, ◌≤◌, List, [], ◌∷◌, length, get_or, drop, Option, None, Some, IsSome, sym, ap, subst, ◌∙◌, arith, length-drop}
 use Rattle.std.specs.List.{AllByRecursion}
 use Rattle.std.proofs.lemmas.Bool.{cases_lt}
-use Rattle.std.proofs.lemmas.List.{get_or_default, take_all, length-take-le, take-take, drop-take, drop-drop}
-use Rattle.acpi_base.specs.Memory.{least_defined, run_of}
-use Rattle.acpi_base.specs.Image.Runs.{Run, byte_in, run_at, lookup, end_of}
+use Rattle.std.proofs.lemmas.List.{get_or_default, take_all}
+use Rattle.acpi_base.specs.Memory.{least_defined}
+use Rattle.acpi_base.specs.Image.Runs.{byte_in, run_at, lookup, end_of}
 use Rattle.acpi_base.specs.Image.Pieces.{Piece, end_at, LiesBefore, run_in, runs_in, all_runs}
-use Rattle.acpi_base.specs.Image.Segments.{AreSegmentsApart, AreSegments, IsBetween, IsPartitionPoint, IsRunAt, IsGap}
-use Rattle.acpi_base.proofs.Images.RunBytes.{held_none, held_some, run_of_held}
-use Rattle.acpi_base.proofs.Images.ByteRuns.{run_of-agree, run_of_none, first_of_at, first_of_none}
+use Rattle.acpi_base.specs.Image.Segments.{AreSegmentsApart, AreSegments, IsPartitionPoint, IsRunAt, IsGap}
+use Rattle.acpi_base.proofs.Images.RunBytes.{held_none, held_some}
+use Rattle.acpi_base.proofs.Images.ByteRuns.{first_of_at, first_of_none}
 use Rattle.acpi_base.proofs.Images.Stores.{all_from, of_all, all_weaker, run_ends, none_held, base_held}
 
 -- where nothing is first, there is nothing
@@ -17,12 +17,8 @@ unfolding least_defined
 nothing_held f a zero x e l h = absurd (omega arith)
 nothing_held f a (suc n) x e l h = grind (arith, cases_lt a x, nothing_held f (a + 1) n x)
 
--- the first is the one that is held here
-pub first_here : (f : ℕ → Option ℕ) (a n : ℕ) → 0 < n → IsSome (f a) → Some a ≡ least_defined f a n
-first_here f a n l some = grind (arith, first_of_at f a n 0)
-
--- or the one behind a gap
-pub first_next : (f : ℕ → Option ℕ) (a n b : ℕ) → a < b → b < a + n → IsSome (f b)
+-- the first is the one behind a gap
+pub first_next : (f : ℕ → Option ℕ) (a n b : ℕ) → a ≤ b → b < a + n → IsSome (f b)
     → ((x : ℕ) → a ≤ x → x < b → f x ≡ None) → Some b ≡ least_defined f a n
 first_next f a n b l m some gap =
     let same : a + (b - a) ≡ b = omega arith in
@@ -34,7 +30,7 @@ pub first_never : (f : ℕ → Option ℕ) (a n : ℕ) → ((x : ℕ) → a ≤ 
 first_never f a n gap = sym (first_of_none f a n (λ k h. gap (a + k) (omega arith) (omega arith)))
 
 -- the first address that is held
-pub ruleset first_in_gap = (first_here, first_next, first_never)
+pub ruleset first_in_gap = (first_next, first_never)
 
 -- ---- the order of the segments
 
@@ -96,12 +92,6 @@ reached_open store ps base begin a laid low =
         (all_weaker _ _ ps (λ p below. inl (omega arith)) laid.below) in
         grind (arith, none)
 
--- from the base of the open segment on, all others are behind
-pub all_before : (store : List ℕ) (ps : List Piece) (base begin a : ℕ) → AreSegments store ps base begin → base ≤ a
-    → IsPartitionPoint ps a (length ps)
-all_before store ps base begin a laid low =
-    (λ k d l h. (let below = of_all _ ps k d laid.below h in omega arith), λ k d l h. absurd (omega arith))
-
 -- the segment before the place is the one that is reached, where the open one begins behind the address
 pub reached : (store : List ℕ) (ps : List Piece) (base begin a i : ℕ) (d : Piece) → AreSegments store ps base begin
     → IsBehind store base begin a → i < length ps
@@ -124,22 +114,6 @@ pub open_run : (store : List ℕ) (base begin n : ℕ) → n ≡ length store - 
 open_run store base begin n e =
     (let long = length-drop begin store in ap (run_at base) (take_all n (drop begin store) (omega arith)))
 
--- where the piece lies in the store, its run ends where it does
-pub piece_ends : (store : List ℕ) (p : Piece) → p.1.start + p.1.len ≤ length store → end_of (run_in store p) ≡ end_at p
-piece_ends store p l =
-    (let long = length-drop p.1.start store in
-    ap (λ n. p.0 + n) (length-take-le p.1.len (drop p.1.start store) (omega arith)))
-
--- a part of a piece lies in the store where the piece does
-pub part_in : (store : List ℕ) (start len k n : ℕ) → k + n ≤ len
-    → take n (drop k (take len (drop start store))) ≡ take n (drop (start + k) store)
-part_in store start len k n fits =
-    let parts : k + (len - k) ≡ len = omega arith in
-    ap (λ m. take n (drop k (take m (drop start store)))) (sym parts)
-    ∙ ap (take n) (drop-take k (len - k) (drop start store))
-    ∙ take-take n (len - k) (drop k (drop start store)) (omega arith)
-    ∙ ap (take n) (drop-drop k start store)
-
 -- its bytes lie in the store
 pub lies_inside : (store : List ℕ) (ps : List Piece) (base begin i : ℕ) (p : Piece) → AreSegments store ps base begin
     → i < length ps → p ≡ get_or ps i p
@@ -157,36 +131,6 @@ pub none_reached : (store : List ℕ) (ps : List Piece) (base begin a : ℕ) →
 none_reached store ps base begin a laid behind place =
     rw (behind_none store base begin a behind)
     (none_held store begin ps a laid.within laid.lies (all_from _ ps (λ k d l. inr (place.1 k d (omega arith) l))))
-
--- the bytes from the address on, where the run that is reached has so many
-pub reached_whole : (rs : List Run) (a n : ℕ) (r : Run) → IsRunAt rs a r → a + n ≤ end_of r
-    → run_of (lookup rs) a n ≡ Some (take n (drop (a - r.base) r.bytes))
-reached_whole rs a n r reaches fits =
-    run_of-agree (lookup rs) (byte_in r) a n (λ k h. reaches.further (a + k) (omega arith) (omega arith))
-    ∙ run_of_held r a n reaches.begins fits
-
--- there are none where it has not
-pub reached_short : (rs : List Run) (a n : ℕ) (r : Run) → IsRunAt rs a r → 0 < n → end_of r < a + n
-    → run_of (lookup rs) a n ≡ None
-reached_short rs a n r reaches some short =
-    elim (cases_lt a (end_of r)) [
-      | inl m ↦
-          let last : a + (end_of r - a) ≡ end_of r = omega arith in
-          run_of_none (lookup rs) a n (end_of r - a) (omega arith)
-          (ap (lookup rs) last ∙ reaches.further (end_of r) (omega arith) (omega arith)
-          ∙ held_none r (end_of r) (inr (omega arith)))
-      | inr m ↦
-          let first : a + 0 ≡ a = omega arith in
-          run_of_none (lookup rs) a n 0 some (ap (lookup rs) first ∙ reaches.here ∙ held_none r a (inr m))
-    ]
-
--- nor where nothing is held at the first
-pub free_short : (rs : List Run) (a n : ℕ) → 0 < n → lookup rs a ≡ None → run_of (lookup rs) a n ≡ None
-free_short rs a n some none =
-    (let first : a + 0 ≡ a = omega arith in run_of_none (lookup rs) a n 0 some (ap (lookup rs) first ∙ none))
-
--- what a window shows
-pub ruleset reached_window = (reached_whole, reached_short, free_short)
 
 -- ---- the next segment behind an address that is not held
 
@@ -268,72 +212,3 @@ no_next store ps base begin a laid none place past x from =
     ) in
     rw past_end (gap_ended store begin ps a (x + 1) (length ps) x laid.within laid.lies rest place
     (λ k e m o. absurd (omega arith)) from (omega arith))
-
--- ---- the segment behind an address that is behind the first ones
-
-pub between_point : (ps : List Piece) (a n : ℕ) → AreSegmentsApart ps → IsBetween ps a n → IsPartitionPoint ps a n
-between_point ps a n apart between = (
-  λ k d l h. elim between.2 [
-    | inl none ↦ absurd (omega arith)
-    | inr ends ↦
-        let end = ends d in
-        let inside = between.0 in
-        let rise = bases_rise ps k (n - 1) d apart (omega arith) (omega arith) in
-        omega arith
-  ],
-  λ k d l h. (let low = between.1 d in let rise = bases_rise ps n k d apart l h in omega arith),
-)
-
-pub between_free : (store : List ℕ) (ps : List Piece) (base begin a n : ℕ) → AreSegments store ps base begin
-    → IsBetween ps a n → lookup (all_runs store ps base begin) a ≡ None
-between_free store ps base begin a n laid between =
-    let none : Piece = (0, record { start = 0; len = 0 }) in
-    let point = between_point ps a n laid.apart between in
-    let inside = between.0 in
-    let low = between.1 none in
-    let below = of_all _ ps n none laid.below inside in
-    let behind : IsBehind store base begin a = inr (omega arith) in
-    elim (cases_lt 0 n) [
-      | inl some ↦
-          let end : end_at (get_or ps (n - 1) none) ≤ a = elim between.2 [
-            | inl nil ↦ absurd (omega arith)
-            | inr ends ↦ ends none
-          ] in
-          let next : n ≡ n - 1 + 1 = omega arith in
-          let last = reached store ps base begin a (n - 1) none laid behind (omega arith)
-          (subst (IsPartitionPoint ps a) next point) in
-          let stop = run_ends store (get_or ps (n - 1) none) begin laid.within
-          (of_all _ ps (n - 1) none laid.lies (omega arith)) in
-          last.here ∙ held_none (run_in store (get_or ps (n - 1) none)) a (inr (omega (arith, stop, end)))
-      | inr nil ↦
-          let first : n ≡ 0 = omega arith in
-          none_reached store ps base begin a laid behind (subst (IsPartitionPoint ps a) first point)
-    ]
-
-pub between_next : (store : List ℕ) (ps : List Piece) (base begin a n : ℕ) (d : Piece) → AreSegments store ps base begin
-    → IsBetween ps a n
-    → (a < (get_or ps n d).0) × IsSome (lookup (all_runs store ps base begin) (get_or ps n d).0)
-    × IsGap (all_runs store ps base begin) a (get_or ps n d).0
-between_next store ps base begin a n d laid between =
-    next_ended store ps base begin a n d laid (between_free store ps base begin a n laid between)
-    (between_point ps a n laid.apart between) between.0
-
--- each ends before all later ones begin
-ends_before : (ps : List Piece) (i k : ℕ) (d : Piece) → AreSegmentsApart ps → i < k → k < length ps
-    → end_at (get_or ps i d) < (get_or ps k d).0
-ends_before [] i k d apart l h = absurd (omega arith)
-ends_before (p ∷ ps) i zero d apart l h = absurd (omega arith)
-ends_before (p ∷ ps) zero (suc k) d apart l h = of_all _ ps k d apart.1 (omega arith)
-ends_before (p ∷ ps) (suc i) (suc k) d apart l h = ends_before ps i k d apart.2 (omega arith) (omega arith)
-
--- an ended segment is the one that is reached at its base
-pub ended_run : (store : List ℕ) (ps : List Piece) (base begin n : ℕ) (d : Piece) → AreSegments store ps base begin
-    → n < length ps → IsRunAt (all_runs store ps base begin) (get_or ps n d).0 (run_in store (get_or ps n d))
-ended_run store ps base begin n d laid h =
-    let below = of_all _ ps n d laid.below h in
-    reached store ps base begin (get_or ps n d).0 n d laid (inr (omega arith)) h (
-      λ k e l m. subst (λ (p : Piece). (get_or ps k e).0 ≤ p.0) (get_or_default ps n e d h)
-          (bases_rise ps k n e laid.apart (omega arith) h),
-      λ k e l m. subst (λ (p : Piece). p.0 < (get_or ps k e).0) (get_or_default ps n e d h)
-          (let later = ends_before ps n k e laid.apart (omega arith) m in omega arith),
-    )

@@ -194,10 +194,10 @@ past_end s x sound past =
     let store = s.store in
     let long = length-drop s.start store in
     let within = sound.within in
-    let none : lookup (runs_in store s.ended) x ≡ None =
-    none_held store s.start s.ended x within sound.lies
-    (all_weaker _ _ s.ended (λ p below. inl (omega arith)) sound.below) in
-    byte_of_memory_of (all_runs store s.ended s.base s.start) x
+    let none : lookup (runs_in store s.ended.items) x ≡ None =
+    none_held store s.start s.ended.items x within sound.lies
+    (all_weaker _ _ s.ended.items (λ p below. inl (omega arith)) sound.below) in
+    byte_of_memory_of (all_runs store s.ended.items s.base s.start) x
     ∙ rw (held_none (run_at s.base (drop s.start store)) x (inr (omega arith))) none
 
 -- the next of the pieces has come

@@ -74,14 +74,6 @@ sum_next bytes k a b e f =
 
 -- ---- running sums
 
-pub none_are_sums : (bytes : List ℕ) → AreSums [] bytes
-none_are_sums bytes = λ k l. absurd (omega arith)
-
-pub no_sums : (sums bytes : List ℕ) → sums ≡ [] → bytes ≡ [] → HasAllSums sums bytes
-no_sums sums bytes e f =
-    subst (λ s. HasAllSums s bytes) (sym e)
-    (subst (λ b. HasAllSums [] b) (sym f) (record { count = refl; each = none_are_sums [] }))
-
 -- a running sum more
 pub sums_pushed : (sums new bytes : List ℕ) (k t : ℕ) → new ≡ sums ++ t ∷ [] → length sums ≡ k
     → t ≡ byte_sum (take (128 * (k + 1)) bytes) → AreSums sums bytes → AreSums new bytes

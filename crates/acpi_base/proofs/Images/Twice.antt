@@ -6,8 +6,7 @@ use Rattle.std.proofs.lemmas.Bool.{cases_lt}
 use Rattle.std.proofs.lemmas.List.{get_or-take, get_or_default, length-take-le, take_all, take_more}
 use Rattle.std.proofs.lemmas.List.Sums.{sum_by-cons}
 use Rattle.std.proofs.lemmas.List.Sorted.{sum_by-IsPermutation}
-use Rattle.acpi_base.specs.Image.Builder.{holds_at, holder_count}
-use Rattle.acpi_base.specs.Image.Draft.{ComesTwice, IsOnceBefore, cut, cut_all}
+use Rattle.acpi_base.specs.Image.Draft.{ComesTwice, IsOnceBefore, cut, cut_all, holder_count, holds_at}
 use Rattle.acpi_base.specs.Image.Pieces.{Piece, LiesBefore}
 use Rattle.acpi_base.proofs.Images.Holders.{has_or_not, has_outside, has_within, holder_count-push}
 use Rattle.acpi_base.proofs.Images.Stores.{all_from, of_all}

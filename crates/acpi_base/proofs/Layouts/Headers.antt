@@ -32,11 +32,6 @@ pub head_of-header_bytes : (signature : List ℕ) (size checksum : ℕ) (head : 
 head_of-header_bytes signature size checksum head rest fits =
     rw (header_of-header_bytes (header_with signature size checksum head) rest fits) refl
 
--- a header is made of what it says
-pub header_with-head_of : (bytes : List ℕ) → let v = header_of bytes in
-    header_with v.signature v.length v.checksum (head_of bytes) ≡ v
-header_with-head_of bytes = refl
-
 pub length-header_bytes : (v : HeaderValue) → FitsHeader v → length (header_bytes v) ≡ 36
 unfolding header_bytes
 length-header_bytes v fits = length-layout_bytes header_parts (header_values v) (FitLayout-header v fits)

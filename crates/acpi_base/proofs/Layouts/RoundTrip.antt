@@ -77,12 +77,6 @@ pub values_at-layout_bytes : (parts : List Part) (values : List PartValue) (rest
 values_at-layout_bytes parts values rest fit =
     (read_there 0 parts values (layout_bytes parts values ++ rest) rest fit refl).0
 
--- the fixed bytes are there, whatever stands behind
-pub HasFixedAt-layout_bytes : (parts : List Part) (values : List PartValue) (rest : List ℕ) → FitLayout parts values
-    → HasFixedAt 0 parts (layout_bytes parts values ++ rest)
-HasFixedAt-layout_bytes parts values rest fit =
-    (read_there 0 parts values (layout_bytes parts values ++ rest) rest fit refl).1
-
 -- what stands behind is found there
 pub drop-layout_bytes : (parts : List Part) (values : List PartValue) (rest : List ℕ) → FitLayout parts values
     → drop (layout_size parts) (layout_bytes parts values ++ rest) ≡ rest
@@ -99,8 +93,3 @@ HasValues-layout_bytes parts values fit =
       layout = record { count = length-layout_bytes parts values fit; fixed = there.1 };
       same = there.0;
     }
-
--- a structure has one list of values
-pub one_values : (parts : List Part) (bytes : List ℕ) (one other : List PartValue) → HasValues parts bytes one
-    → HasValues parts bytes other → one ≡ other
-one_values parts bytes one other one_read other_read = sym one_read.same ∙ other_read.same

@@ -5,14 +5,14 @@ use Rattle.std.specs.Io.KnownBytes.{Consumes, IsAtEnd, Keeps}
 use Rattle.std.proofs.KnownBytes.{Consumes-trans, Consumes-kept}
 use Rattle.std.proofs.lemmas.List.{take-append-le}
 use Rattle.acpi_base.specs.Memory.{Memory}
-use Rattle.acpi_base.specs.Text.ImageText.{max_text, IsText, IsRefused, IsRefusedPrefix}
+use Rattle.acpi_base.specs.Text.ImageText.{max_text, read_text, IsText, IsRefused, IsRefusedPrefix}
 use Rattle.acpi_base.specs.Text.TextMachine.{ReaderState, Stopped, EndsAs, initial_state, run, text_result, prefix_result}
 use Rattle.acpi_base.specs.Tally.{CountsFailure}
 use Rattle.acpi_base.specs.Text.TextReading.{IsRefusal, CountsRead}
 use Rattle.acpi_base.specs.Text.LineBuffers.{HasRead, IsLineBuffer, byte_count, state_with}
 use Rattle.acpi_base.specs.declared.text.image_text.line_buffer.LineBuffer.{LineBuffer}
 use Rattle.acpi_base.proofs.Texts.LineBuffers.{short_bounds}
-use Rattle.acpi_base.specs.Text.Lines.{Refuses, reading_with, judged_by, told_by}
+use Rattle.acpi_base.specs.Text.Lines.{Refuses, reading_with, judged_by, told}
 use Rattle.acpi_base.specs.declared.text.image_text.line_parser.LineParser.{LineParser}
 use Rattle.acpi_base.specs.declared.text.TextFault.{TextFault}
 use Rattle.acpi_base.specs.declared.text.TextFault.TheVariants as text
@@ -116,6 +116,36 @@ is_judged left standing bytes (Err fault) is end ok (inl memory) = text_refused 
 is_judged left standing bytes (Err fault) is end ok (inr refused) =
     text_refused bytes left fault end (inr (sym (run_reads_text bytes) ∙ ap text_result is ∙ refused.0))
 
+-- ---- a whole text
+
+-- what comes after it is not asked
+whole_read : (bytes : List ℕ) (start end : ReaderState) → start ≡ initial_state → run start bytes ≡ end
+    → text_result end ≡ read_text bytes
+whole_read bytes start end first is =
+    ap text_result (sym is ∙ ap (λ s. run s bytes) first) ∙ run_reads_text bytes
+
+pub whole_ends : (bytes : List ℕ) (start end : ReaderState) (result : Result Memory TextFault) → start ≡ initial_state
+    → run start bytes ≡ end → IfOk result (EndsAs end) → IfOk result (IsText bytes)
+whole_ends bytes start end (Ok image) first is ok = (ok.0, sym (whole_read bytes start end first is) ∙ ok.1, ok.2)
+whole_ends bytes start end (Err fault) first is ok = tt
+
+pub whole_refused : (bytes : List ℕ) (start end : ReaderState) (result : Result Memory TextFault)
+    → start ≡ initial_state → run start bytes ≡ end → IfErr result (Refuses (text_result end))
+    → IfErr result (λ fault. (fault ≡ text.Memory) ⊎ IsRefused bytes fault)
+whole_refused bytes start end (Ok image) first is err = tt
+whole_refused bytes start end (Err fault) first is (inl memory) = inl memory
+whole_refused bytes start end (Err fault) first is (inr refused) =
+    inr (sym (whole_read bytes start end first is) ∙ refused.0)
+
+pub whole_stopped : (bytes : List ℕ) (start : ReaderState) (told fault : TextFault) → start ≡ initial_state
+    → fault ≡ told → (told ≡ text.Memory) ⊎ (run start bytes ≡ Stopped told)
+    → (fault ≡ text.Memory) ⊎ IsRefused bytes fault
+whole_stopped bytes start told fault first same (inl memory) = inl (same ∙ memory)
+whole_stopped bytes start told fault first same (inr stopped) =
+    inr (sym (whole_read bytes start (Stopped told) first stopped) ∙ ap (λ f. Err f) (sym same))
+
+-- ---- what is returned
+
 pub returned_whole : (before middle left : Option (List ℕ)) (standing : ReaderState) (count : ℕ)
     (result : Result Memory TextFault) → HasRead before middle standing count → count ≤ max_text
     → Consumes middle left [] → IsAtEnd left → IfOk result (EndsAs standing)
@@ -189,14 +219,14 @@ count_fault before middle left standing count old new piece fault b consumed sam
 
 -- a failed read is counted
 pub count_read : (d : Result Memory ℕ) (old middle new : ℕ) → middle ≡ old → CountsFailure middle new
-    → CountsRead old new (told_by d text.Read)
+    → CountsRead old new (told d text.Read)
 count_read (Ok m) old middle new same failed = subst (λ (n : ℕ). CountsFailure n new) same failed
 count_read (Err address) old middle new same failed = inr (subst (λ (n : ℕ). CountsFailure n new) same failed)
 
 -- a read has failed: that is told, unless an address came twice before
 pub returned_read : (before middle left : Option (List ℕ)) (p : LineParser) (d : Result Memory ℕ) (line : List ℕ)
     (count : ℕ) → HasRead before middle (state_with (judged_by p d) line) count → count ≤ max_text → Keeps middle left
-    → HasReturned before left (Err (told_by d text.Read))
+    → HasReturned before left (Err (told d text.Read))
 returned_read before middle left p (Ok m) line count b fits keeps =
     let long = b.long in (
       b.text,

@@ -8,7 +8,7 @@ use Rattle.std.specs.Result.{IsErrAnd}
 use Rattle.acpi_base.specs.Memory.{Memory}
 use Rattle.acpi_base.specs.Text.ImageText.{Reading, on_ok, read_line, is_too_long, max_text, max_line}
 use Rattle.acpi_base.specs.Text.TextMachine.{Going, Stopped, run, text_result}
-use Rattle.acpi_base.specs.Text.Lines.{Refuses, reading_with, judged_by, told_by}
+use Rattle.acpi_base.specs.Text.Lines.{Refuses, reading_with, judged_by, told}
 use Rattle.acpi_base.specs.Text.LineBuffers.{state_with}
 use Rattle.acpi_base.specs.declared.text.image_text.line_parser.LineParser.{LineParser}
 use Rattle.acpi_base.specs.declared.text.TextFault.{TextFault}
@@ -86,26 +86,26 @@ pub kept_refused : (p : LineParser) (line part : List ℕ) → is_too_long (leng
     → ((k : ℕ) → k < length part → get_or part k 0 ≢ 10)
     → (max_line < length line + length part) ⊎ (max_text < p.through + length line + length part)
     → (d : Result Memory ℕ)
-    → run (state_with (judged_by p d) line) part ≡ Stopped (told_by d TooLong)
+    → run (state_with (judged_by p d) line) part ≡ Stopped (told d TooLong)
 kept_refused p line part short free far (Ok m) = kept_too_long (reading_with p m) line part short free far
 kept_refused p line part short free far (Err address) = run_stopped (Twice address) part
 
 -- memory has run out, and an address may have come twice before
 kept_memory : (p : LineParser) (line part : List ℕ) (d : Result Memory ℕ) (stop : TextFault) → stop ≡ fault.Memory
-    → (told_by d stop ≡ fault.Memory) ⊎ (run (state_with (judged_by p d) line) part ≡ Stopped (told_by d stop))
+    → (told d stop ≡ fault.Memory) ⊎ (run (state_with (judged_by p d) line) part ≡ Stopped (told d stop))
 kept_memory p line part (Ok m) stop memory = inl memory
 kept_memory p line part (Err address) stop memory = inr (run_stopped (Twice address) part)
 
 pub not_kept : {A : Type 0} (p : LineParser) (line part : List ℕ) (d : Result Memory ℕ) (result : Result A TextFault)
     → IsErrAnd result (λ stop. stop ≡ fault.Memory)
-    → IfErr result (λ stop. (told_by d stop ≡ fault.Memory)
-    ⊎ (run (state_with (judged_by p d) line) part ≡ Stopped (told_by d stop)))
+    → IfErr result (λ stop. (told d stop ≡ fault.Memory)
+    ⊎ (run (state_with (judged_by p d) line) part ≡ Stopped (told d stop)))
 not_kept p line part d (Ok x) memory = tt
 not_kept p line part d (Err stop) memory = kept_memory p line part d stop memory
 
 -- a fault of a line counts only where no address came twice before
 pub refuses_told : (p : LineParser) (d : Result Memory ℕ) (f : Reading → Result Reading TextFault) (stop : TextFault)
-    → ((m : Memory) → Refuses (f (reading_with p m)) stop) → Refuses (on_ok (judged_by p d) f) (told_by d stop)
+    → ((m : Memory) → Refuses (f (reading_with p m)) stop) → Refuses (on_ok (judged_by p d) f) (told d stop)
 refuses_told p (Ok m) f stop refuses = refuses m
 refuses_told p (Err address) f stop refuses = inr (refl, refl)
 

@@ -2,6 +2,5 @@ pub mod Lines
 pub mod OneWritten
 pub mod Pairs
 pub mod Reading
-pub mod Rests
 pub mod Rows
 pub mod WrittenRuns

@@ -1,9 +1,10 @@
--- When bytes cannot be added to an image.
-use Rattle.std.specs.Prelude.{ℕ, ◌+◌, ◌^◌, List, length, Option, Some, nat_lt, if◌then◌else◌}
-use Rattle.std.specs.Option.{option_map}
+-- When bytes cannot be added to an image, and what adding them gives.
+use Rattle.std.specs.Prelude.{◌≡◌, ◌⊎◌, ℕ, ◌+◌, ◌^◌, List, length, Option, Some, Result, Ok, Err, nat_lt, if◌then◌else◌}
+use Rattle.std.specs.Option.{option_map, option_map_or}
 use Rattle.acpi_base.specs.declared.image.ImageFault.{ImageFault}
 use Rattle.acpi_base.specs.declared.image.ImageFault.TheVariants.{PastEnd, Twice}
-use Rattle.acpi_base.specs.Memory.{Memory, first_held}
+use Rattle.acpi_base.specs.declared.image.ImageFault.TheVariants as fault
+use Rattle.acpi_base.specs.Memory.{Memory, first_held, with_bytes}
 
 -- the bytes would pass the address 2^64 - 1, or the least of their addresses that is held already
 abbrev pub add_refusal : Memory → ℕ → List ℕ → Option ImageFault
@@ -11,3 +12,13 @@ add_refusal m base bytes =
     if nat_lt (2 ^ 64) (base + length bytes)
     then Some PastEnd
     else option_map (λ address. Twice address) (first_held m base (length bytes))
+
+-- the memory with these bytes put in, or the least of their addresses that it holds already
+abbrev pub added : Memory → ℕ → List ℕ → Result Memory ℕ
+added m base bytes = option_map_or (λ address. Err address) (first_held m base (length bytes)) (Ok (with_bytes m base bytes))
+
+-- why runs that come to this give no image: an address comes twice, or none does and memory ran out
+abbrev pub IsLayoutRefusal : Result Memory ℕ → ImageFault → Type 0
+IsLayoutRefusal held refusal =
+    ((m : Memory) × (refusal ≡ fault.Memory) × (held ≡ Ok m))
+    ⊎ ((address : ℕ) × (refusal ≡ Twice address) × (held ≡ Err address))

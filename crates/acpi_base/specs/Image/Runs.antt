@@ -1,5 +1,5 @@
 -- What an image holds, as runs of bytes.
-use Rattle.std.specs.Prelude.{ℕ, ◌+◌, ◌-◌, ◌^◌, ◌<◌, ◌≤◌, min, List, [], ◌∷◌, length, slice_get, Option, Some, None, nat_lt, if◌then◌else◌}
+use Rattle.std.specs.Prelude.{ℕ, ◌+◌, ◌-◌, ◌^◌, ◌<◌, ◌≤◌, List, [], ◌∷◌, length, slice_get, Option, None, nat_lt, if◌then◌else◌}
 use Rattle.std.specs.Option.{option_or}
 use Rattle.std.specs.List.{AllByRecursion}
 use Rattle.std.specs.FinMap.{empty}
@@ -25,12 +25,6 @@ byte_in r a = if nat_lt a r.base then None else slice_get r.bytes (a - r.base)
 abbrev pub lookup : List Run → ℕ → Option ℕ
 lookup [] a = None
 lookup (r ∷ rs) a = option_or (byte_in r a) (lookup rs a)
-
--- the lesser of two addresses, where there are two
-abbrev pub lesser_address : Option ℕ → Option ℕ → Option ℕ
-lesser_address None y = y
-lesser_address (Some x) None = Some x
-lesser_address (Some x) (Some y) = Some (min x y)
 
 -- all that the runs hold
 abbrev pub memory_of : List Run → Memory

@@ -1,8 +1,8 @@
 -- Segments: the pieces of an image in the order of their addresses.
-use Rattle.std.specs.Prelude.{◌≡◌, ◌⊎◌, ℕ, ◌+◌, ◌-◌, ◌^◌, ◌<◌, ◌≤◌, List, [], ◌∷◌, length, slice_index_or, None}
+use Rattle.std.specs.Prelude.{◌≡◌, ℕ, ◌+◌, ◌-◌, ◌^◌, ◌<◌, ◌≤◌, List, [], ◌∷◌, length, Some, None}
 use Rattle.std.specs.List.{AllByRecursion, AllWithin}
 use Rattle.acpi_base.specs.declared.image.segments.Segments.{Segments}
-use Rattle.acpi_base.specs.Memory.{Memory, IsImage}
+use Rattle.acpi_base.specs.Memory.{Memory, IsImage, run_of}
 use Rattle.acpi_base.specs.Image.Runs.{Run, byte_in, lookup, end_of}
 use Rattle.acpi_base.specs.Image.Pieces.{Piece, end_at, LiesBefore, all_runs, memory_in_store}
 
@@ -21,13 +21,13 @@ pub record AreSegments (store : List ℕ) (ps : List Piece) (base begin : ℕ) :
   pub image : IsImage (memory_in_store store ps base begin)
 
 abbrev pub runs_of : Segments → List Run
-runs_of s = all_runs s.store s.ended s.base s.start
+runs_of s = all_runs s.store s.ended.items s.base s.start
 
 abbrev pub memory_in : Segments → Memory
-memory_in s = memory_in_store s.store s.ended s.base s.start
+memory_in s = memory_in_store s.store s.ended.items s.base s.start
 
 abbrev pub IsSound : Segments → Type 0
-IsSound s = AreSegments s.store s.ended s.base s.start
+IsSound s = AreSegments s.store s.ended.items s.base s.start
 
 -- the address behind the open segment
 abbrev pub end_in : Segments → ℕ
@@ -36,12 +36,6 @@ end_in s = s.base + (length s.store - s.start)
 -- the pieces before the place begin at the address or before it, the others behind it
 abbrev pub IsPartitionPoint : List Piece → ℕ → ℕ → Type 0
 IsPartitionPoint ps a i = AllWithin (λ p. p.0 ≤ a) ps 0 i × AllWithin (λ p. a < p.0) ps i (length ps)
-
--- the address is behind the first n pieces, and before the next
-abbrev pub IsBetween : List Piece → ℕ → ℕ → Type 0
-IsBetween ps a n = (n < length ps)
-    × ((d : Piece) → a < (slice_index_or ps n d).0)
-    × ((n ≡ 0) ⊎ ((d : Piece) → end_at (slice_index_or ps (n - 1) d) ≤ a))
 
 -- what the runs hold at an address, and from there on to the end of the run r, is what r holds
 pub record IsRunAt (rs : List Run) (a : ℕ) (r : Run) : Type 0 where
@@ -52,3 +46,8 @@ pub record IsRunAt (rs : List Run) (a : ℕ) (r : Run) : Type 0 where
 -- the runs hold nothing at these addresses
 abbrev pub IsGap : List Run → ℕ → ℕ → Type 0
 IsGap rs a b = (x : ℕ) → a ≤ x → x < b → lookup rs x ≡ None
+
+-- these are the bytes from a on, up to the first address that is not held
+pub record IsRest (rs : List Run) (a : ℕ) (bytes : List ℕ) : Type 0 where
+  pub held : run_of (lookup rs) a (length bytes) ≡ Some bytes
+  pub none_behind : lookup rs (a + length bytes) ≡ None

@@ -1,5 +1,5 @@
 -- What each rule of advice finds, and the first finding of each. Offsets and numbers are as the tables' own rules say.
-use Rattle.std.specs.Prelude.{◌≡◌, ◌<◌, ◌≤◌, ◌⊎◌, ℕ, Option, Some, None}
+use Rattle.std.specs.Prelude.{◌≡◌, ◌<◌, ◌≤◌, ◌⊎◌, ℕ}
 use Rattle.acpi_base.specs.Memory.{Memory}
 use Rattle.acpi_base.specs.Policy.{PolicyValue}
 use Rattle.acpi_base.specs.Contents.{HasPptt}
@@ -57,8 +57,3 @@ NotAfter a b = (a.at < b.at) ⊎ ((a.at ≡ b.at) × ((a.other < b.other) ⊎ ((
 pub record IsFirstAdvice (m : Memory) (q : PolicyValue) (a : Advice) : Type 0 where
   pub broken : IsAdvice m q a
   pub least : (b : Advice) → b.rule ≡ a.rule → IsAdvice m q b → NotAfter a b
-
--- the rule is kept, or this is its first advice
-abbrev pub FindsFirstAdvice : Rule → Memory → PolicyValue → Option Advice → Type 0
-FindsFirstAdvice rule m q None = (at other point : ℕ) → ¬ IsBroken rule m q at other point
-FindsFirstAdvice rule m q (Some a) = (a.rule ≡ rule) × IsFirstAdvice m q a

@@ -1,12 +1,11 @@
 -- What a reader of a text in pieces keeps, and what it stands for.
-use Rattle.std.specs.Prelude.{◌≡◌, ◌+◌, ◌≤◌, ℕ, List, length, Option, Some, None, Result, Ok, Err, true, false}
+use Rattle.std.specs.Prelude.{◌≡◌, ◌+◌, ◌≤◌, ℕ, List, length, Option, Some, None, Result, Ok, Err, false}
 use Rattle.std.specs.Io.KnownBytes.{Consumes}
 use Rattle.acpi_base.specs.declared.text.image_text.line_buffer.LineBuffer.{LineBuffer}
 use Rattle.acpi_base.specs.declared.text.TextFault.{TextFault}
-use Rattle.acpi_base.specs.Image.Draft.{IsImageData, is_checked}
 use Rattle.acpi_base.specs.Text.ImageText.{Reading, is_too_long}
 use Rattle.acpi_base.specs.Text.Lines.{judged}
-use Rattle.acpi_base.specs.Text.TextMachine.{ReaderState, Going, Stopped, initial_state, run}
+use Rattle.acpi_base.specs.Text.TextMachine.{ReaderState, Going, IsGoing, Stopped, initial_state, run}
 
 -- the state within a line, by where reading stands between two lines
 abbrev pub state_with : Result Reading TextFault → List ℕ → ReaderState
@@ -23,22 +22,17 @@ byte_count f = f.parser.through + length f.line.items
 
 -- no fault so far, except perhaps a repeated address: neither the incomplete line nor the text is too long
 pub record IsLineBuffer (f : LineBuffer) : Type 0 where
-  pub image : IsImageData f.parser.image
   pub lines : f.parser.lines ≤ f.parser.through
   pub short : is_too_long (length f.line.items) (byte_count f) ≡ false
-
--- a repeated address is refused at once
-pub record IsCheckedBuffer (f : LineBuffer) : Type 0 where
-  pub sound : IsLineBuffer f
-  pub checked : is_checked f.parser.image ≡ true
 
 -- the state of a reader; once stopped, it stays so
 abbrev pub reader_state : Option TextFault → LineBuffer → ReaderState
 reader_state None f = buffer_state f
 reader_state (Some fault) f = Stopped fault
 
+-- until then no address has come twice
 abbrev pub IsReader : Option TextFault → LineBuffer → Type 0
-IsReader None f = IsCheckedBuffer f
+IsReader None f = IsLineBuffer f × IsGoing (buffer_state f)
 IsReader (Some fault) f = Unit {0}
 
 -- The reader has read a text of so many bytes, and this is the machine's state behind it.

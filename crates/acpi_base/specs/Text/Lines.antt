@@ -1,8 +1,6 @@
 -- What the reader of lines keeps and returns, in the words of image text.
 use Rattle.std.specs.Prelude.{◌≡◌, ◌⊎◌, ℕ, List, Bool, true, false, Result, Ok, Err}
 use Rattle.acpi_base.specs.Memory.{Memory}
-use Rattle.acpi_base.specs.Image.Draft.{data_result}
-use Rattle.acpi_base.specs.declared.image.data.ImageData.{ImageData}
 use Rattle.acpi_base.specs.Text.ImageText.{Line, Blank, Address, Data, Bad, Reading}
 use Rattle.acpi_base.specs.Text.TextReading.{is_of_text}
 use Rattle.acpi_base.specs.declared.text.TextFault.{TextFault}
@@ -33,15 +31,12 @@ judged_by p (Ok m) = Ok (reading_with p m)
 judged_by p (Err address) = Err (text.Twice address)
 
 abbrev pub judged : LineParser → Result Reading TextFault
-judged p = judged_by p (data_result p.image)
+judged p = judged_by p p.image
 
 -- the fault of a text in which this one was met: a repeated address before it takes precedence
-abbrev pub told_by : Result Memory ℕ → TextFault → TextFault
-told_by (Ok m) fault = fault
-told_by (Err address) fault = text.Twice address
-
-abbrev pub told : ImageData → TextFault → TextFault
-told image fault = told_by (data_result image) fault
+abbrev pub told : Result Memory ℕ → TextFault → TextFault
+told (Ok m) fault = fault
+told (Err address) fault = text.Twice address
 
 -- what the definition gives is this fault of the text, unless memory ran out
 abbrev pub Refuses : {A : Type 0} → Result A TextFault → TextFault → Type 0

@@ -1,32 +1,24 @@
-//! Pieces of an image in the order in which they come. Whether an address occurs twice is only asked at the end.
+//! An image in the making: pieces in the order in which they came. Whether an address came twice is decided at the end.
 //!
-//! The store has all bytes in the order in which they came. If an address occurs twice among its first `n` bytes, one occurs
-//! twice among more bytes too. So the first byte at fault is found by bisection.
+//! The store has all bytes in the order in which they came. If an address occurs twice among its first `n` bytes, one
+//! occurs twice among more bytes too. So the first byte at fault is found by bisection.
 
-ghost use Rattle.std.specs.Prelude.{◌≡◌, ◌⊎◌, ℕ, ◌+◌, ◌-◌, ◌^◌, ◌<◌, ◌≤◌, ◌==◌, min, true, [], length, take, drop, Ok, Err, None, IfOk, IfErr, OnOk, OnErr, MatchOption, MatchResult};
+ghost use Rattle.std.specs.Prelude.{◌≡◌, ◌⊎◌, ℕ, ◌+◌, ◌-◌, ◌^◌, ◌<◌, ◌≤◌, min, true, length, Ok, Err, IfOk, IfErr, IsOk, OnOk, OnErr, MatchOption, MatchResult};
 ghost use Rattle.std.specs.FinMap.{empty};
-ghost use Rattle.std.specs.List.{AllByRecursion, sum_by};
+ghost use Rattle.std.specs.List.{AllByRecursion};
 ghost use Rattle.std.specs.List.Sorted.{IsNonDecreasingBy, IsPermutation};
-ghost use Rattle.acpi_base.specs.Image.Builder.{holder_count};
 ghost use Rattle.acpi_base.specs.Memory.{Memory, IsImage};
-ghost use Rattle.acpi_base.specs.Image.Draft.{AreDrafted, ComesTwice, EndsAt, IsDraft, IsFirstTwice, IsOnceBefore, added, all_added, bytes_of, draft_result, joined_from, joined_with};
-ghost use Rattle.acpi_base.specs.Image.Pieces.{LiesBefore, end_at, runs_in};
-ghost use Rattle.acpi_base.specs.Image.Segments.{AreSegmentsApart, IsSound, memory_in};
+ghost use Rattle.acpi_base.specs.Image.Adding.{IsLayoutRefusal, added};
+ghost use Rattle.acpi_base.specs.Image.Draft.{AreDrafted, ComesTwice, EndsAt, IsFirstTwice, IsOnceBefore, all_added, holder_count};
+ghost use Rattle.acpi_base.specs.Image.Pieces.{runs_in};
+ghost use Rattle.acpi_base.specs.Image.Segments.{IsSound, memory_in};
 ghost use Rattle.acpi_base.specs.Text.ImageText.{on_ok};
 
-use super::builder::{are_apart, sort_by_address};
 use super::segments::Segments;
 use super::span::Span;
 use super::{Image, ImageFault};
 use std::alloc::{AllocError, Global};
-
-/// Whether the piece ends at the address.
-fn ends_at(piece: (u64, Span), address: u64) -> bool
-    ensures { result ≡ (end_at piece == address) }
-{
-    let (first, span) = piece;
-    first <= address && address - first == span.len as u64
-}
+use std::marker::Model;
 
 /// How many of the piece's bytes are among the first `count` of the store.
 fn held_before(span: Span, count: usize) -> usize
@@ -79,6 +71,17 @@ fn first_twice(pieces: &[(u64, Span)], count: usize) -> Option<u64>
     Some(found)
 }
 
+/// Sorts the pieces by address. If there is no memory for a buffer, it takes longer.
+fn sort_by_address(pieces: &mut Vec<(u64, Span)>)
+    ensures permutation { IsPermutation pieces.old.items pieces.new.items }
+    ensures sorted { IsNonDecreasingBy (λ p. p.0) pieces.new.items }
+{
+    match pieces.sort_by_key(|piece| piece.0) {
+        Ok(()) => (),
+        Err(_) => pieces.sort_unstable_by_key(|piece| piece.0),
+    }
+}
+
 /// The first address that came twice. The pieces are passed in the order in which they came, and are sorted by address.
 fn judge(store: &[u8], pieces: &mut Vec<(u64, Span)>) -> Option<u64>
     requires { AreDrafted store.now pieces.old.items }
@@ -91,224 +94,191 @@ fn judge(store: &[u8], pieces: &mut Vec<(u64, Span)>) -> Option<u64>
     first_twice(pieces, store.len())
 }
 
-/// Whether the pieces are sorted by address, with at least one free address between neighbours.
-fn are_rising(pieces: &[(u64, Span)]) -> bool
-    requires { AllByRecursion (λ p. 0 < p.1.len) pieces.now }
-    ensures { result ≡ true → AreSegmentsApart pieces.now }
-{
-    match pieces.split_last() {
-        Some((last, before)) => are_apart(before, last.0),
-        None => true,
-    }
-}
-
-/// The segments of sorted pieces, whose bytes stay where they are.
-fn adopt(
-    alloc: Global,
-    store: Vec<u8>,
-    mut pieces: Vec<(u64, Span)>,
-) -> Result<Segments, AllocError>
-    requires draft { AreDrafted store.items pieces.items }
-    requires apart { AreSegmentsApart pieces.items }
-    ensures sound { IfOk result IsSound }
-    ensures same { IfOk result
-        (λ segments. all_added empty (runs_in store.items pieces.items) ≡ Ok (memory_in segments)) }
-{
-    let Some((base, span)) = pieces.pop() else {
-        return Ok(Segments::new(alloc));
-    };
-    Segments::of(alloc, store, pieces, base, span.start)
-}
-
-/// The bytes of all pieces, in the order of the list.
-#[tactic(auto, unfolding(crate::specs::Image::Draft::bytes_of))]
-fn gather(alloc: Global, store: &[u8], pieces: &[(u64, Span)]) -> Result<Vec<u8>, AllocError>
-    requires { AllByRecursion (LiesBefore (length store.now)) pieces.now }
-    ensures { IfOk result (λ bytes. bytes.items ≡ bytes_of store.now pieces.now) }
-{
-    let mut bytes = Vec::with_capacity(alloc, store.len())?;
-    for piece in pieces {
-        bytes.extend_from_slice(piece.1.bytes(store))?;
-    }
-    Ok(bytes)
-}
-
-/// Puts a piece after the first `kept` ones, or joins it to the last of them if that ends at its first address. Returns the
-/// number of pieces up to there.
-fn keep(pieces: &mut Vec<(u64, Span)>, kept: usize, piece: (u64, Span)) -> usize
-    requires room { kept < length pieces.old.items }
-    requires fits { AllByRecursion (λ p. p.1.len + piece.1.len < 2 ^ 64)
-        (take kept pieces.old.items) }
-    ensures kept { take result pieces.new.items ≡ joined_with (take kept pieces.old.items) piece }
-    ensures rest { drop (kept + 1) pieces.new.items ≡ drop (kept + 1) pieces.old.items }
-    ensures same { length pieces.new.items ≡ length pieces.old.items }
-    ensures few { result ≤ kept + 1 }
-{
-    if kept > 0 && ends_at(pieces[kept - 1], piece.0) {
-        pieces[kept - 1].1.len += piece.1.len;
-        return kept;
-    }
-    pieces[kept] = piece;
-    kept + 1
-}
-
-/// Joins neighbours that touch. The bytes of the pieces are now in the order of the list.
-fn join(pieces: &mut Vec<(u64, Span)>)
-    requires { sum_by (λ p. p.1.len) pieces.old.items < 2 ^ 64 }
-    ensures { pieces.new.items ≡ joined_from [] 0 pieces.old.items }
-{
-    let mut kept = 0;
-    let mut start = 0;
-    for i in 0..pieces.len() {
-        let (first, span) = pieces[i];
-        let len = span.len;
-        kept = keep(pieces, kept, (first, Span { start, len }));
-        start += len;
-    }
-    pieces.truncate(kept);
-}
-
 /// The segments of pieces that came in any order.
 fn lay_out(
     alloc: Global,
-    store: Vec<u8>,
+    store: &[u8],
     mut pieces: Vec<(u64, Span)>,
 ) -> Result<Segments, ImageFault>
-    requires { AreDrafted store.items pieces.items }
+    requires { AreDrafted store.now pieces.items }
     ensures same { MatchResult result
-        (λ segments. all_added empty (runs_in store.items pieces.items) ≡ Ok (memory_in segments))
-        (λ fault. (fault ≡ ImageFault.Memory) ⊎ ((address : ℕ) × (fault ≡ ImageFault.Twice address)
-        × (all_added empty (runs_in store.items pieces.items) ≡ Err address))) }
+        (λ segments. all_added empty (runs_in store.now pieces.items) ≡ Ok (memory_in segments))
+        (IsLayoutRefusal (all_added empty (runs_in store.now pieces.items))) }
     ensures sound { IfOk result IsSound }
 {
-    if let Some(address) = judge(&store, &mut pieces) {
+    if let Some(address) = judge(store, &mut pieces) {
         return Err(ImageFault::Twice { address });
     }
-    let bytes = gather(alloc, &store, &pieces)?;
-    // The list of pieces becomes that of the segments, so that there are never two lists.
-    drop(store);
-    join(&mut pieces);
-    let segments = adopt(alloc, bytes, pieces)?;
+    let mut segments = Segments::with_capacity(alloc, store.len())?;
+    segments.take_all(store, &pieces)?;
     Ok(segments)
 }
 
-/// The pieces so far.
+/// Whether bytes from `base` on follow the piece that came last.
+fn follows(pieces: &[(u64, Span)], base: u64) -> bool
+    ensures { result ≡ true → EndsAt pieces.now base }
+{
+    match pieces.last() {
+        Some((first, span)) => *first <= base && base - *first == span.len as u64,
+        None => false,
+    }
+}
+
+/// Appends bytes to the piece that came last.
+fn extend(
+    store: &mut Vec<u8>,
+    pieces: &mut Vec<(u64, Span)>,
+    bytes: &[u8],
+) -> Result<(), AllocError>
+    requires draft { AreDrafted store.old.items pieces.old.items }
+    requires end { (base : ℕ) × EndsAt pieces.old.items base × (base + length bytes.now ≤ 2 ^ 64) }
+    ensures draft { AreDrafted store.new.items pieces.new.items }
+    ensures ok { OnOk result ((base : ℕ) → EndsAt pieces.old.items base
+        → all_added empty (runs_in store.new.items pieces.new.items)
+        ≡ on_ok (all_added empty (runs_in store.old.items pieces.old.items))
+        (λ m. added m base bytes.now)) }
+    ensures err { OnErr result (all_added empty (runs_in store.new.items pieces.new.items)
+        ≡ all_added empty (runs_in store.old.items pieces.old.items)) }
+{
+    store.extend_from_slice(bytes)?;
+    let last = pieces.len() - 1;
+    pieces[last].1.len += bytes.len();
+    Ok(())
+}
+
+/// Appends a piece.
+fn open(
+    store: &mut Vec<u8>,
+    pieces: &mut Vec<(u64, Span)>,
+    base: u64,
+    bytes: &[u8],
+) -> Result<(), AllocError>
+    requires draft { AreDrafted store.old.items pieces.old.items }
+    requires some { 0 < length bytes.now }
+    requires fits { base + length bytes.now ≤ 2 ^ 64 }
+    ensures draft { AreDrafted store.new.items pieces.new.items }
+    ensures ok { OnOk result (all_added empty (runs_in store.new.items pieces.new.items)
+        ≡ on_ok (all_added empty (runs_in store.old.items pieces.old.items))
+        (λ m. added m base bytes.now)) }
+    ensures err { OnErr result (all_added empty (runs_in store.new.items pieces.new.items)
+        ≡ all_added empty (runs_in store.old.items pieces.old.items)) }
+{
+    let span = Span {
+        start: store.len(),
+        len: bytes.len(),
+    };
+    pieces.push((base, span))?;
+    if let Err(error) = store.extend_from_slice(bytes) {
+        pieces.pop();
+        return Err(error);
+    }
+    Ok(())
+}
+
+/// An image in the making, to which pieces are added in any order. `first_twice` and `finish` say whether an address came
+/// twice. Contracts see what the pieces hold, or the first address that came twice. The time grows with the number
+/// of bytes, and with n log n for n pieces.
 #[derive(Drop)]
 pub struct DraftImage {
     store: Vec<u8>,
     pieces: Vec<(u64, Span)>,
+    alloc: Global,
+}
+
+impl Model for DraftImage {
+    ghost use Rattle.std.specs.Prelude.{ℕ, Result};
+    ghost use Rattle.std.specs.Coded.{coded_ℕ, coded_result};
+    ghost use Rattle.std.specs.FinMap.{code, empty};
+    ghost use Rattle.acpi_base.specs.Memory.{Memory};
+
+    ghost Value = { Result Memory ℕ };
+
+    ghost coded = { coded_result (code coded_ℕ coded_ℕ) coded_ℕ };
+
+    ghost use Rattle.acpi_base.specs.Image.Draft.{AreDrafted, all_added};
+    ghost use Rattle.acpi_base.specs.Image.Pieces.{runs_in};
+
+    ghost view = { λ draft. all_added empty (runs_in draft.store.items draft.pieces.items) };
+
+    ghost invariant = { λ draft. AreDrafted draft.store.items draft.pieces.items };
 }
 
 impl DraftImage {
     /// No pieces. Takes no memory.
     pub fn new(alloc: Global) -> DraftImage
-        ensures sound { IsDraft result }
-        ensures nothing { draft_result result ≡ Ok empty }
+        ensures { result ≡ Ok empty }
     {
         DraftImage {
             store: Vec::new(alloc),
             pieces: Vec::new(alloc),
+            alloc,
         }
     }
 
-    /// Whether bytes from `base` on follow those that came last.
-    fn follows(&self, base: u64) -> bool
-        ensures { result ≡ true → EndsAt self.now.pieces.items base }
-    {
-        match self.pieces.last() {
-            Some(piece) => ends_at(*piece, base),
-            None => false,
-        }
-    }
-
-    /// Appends bytes to the piece that came last.
-    fn extend(&mut self, bytes: &[u8]) -> Result<(), AllocError>
-        requires sound { IsDraft self.old }
-        requires end { (base : ℕ) × EndsAt self.old.pieces.items base
-            × (base + length bytes.now ≤ 2 ^ 64) }
-        ensures sound { IsDraft self.new }
-        ensures ok { OnOk result ((base : ℕ) → EndsAt self.old.pieces.items base
-            → draft_result self.new ≡ on_ok (draft_result self.old) (λ m. added m base bytes.now)) }
-        ensures err { OnErr result (draft_result self.new ≡ draft_result self.old) }
-    {
-        self.store.extend_from_slice(bytes)?;
-        let last = self.pieces.len() - 1;
-        self.pieces[last].1.len += bytes.len();
-        Ok(())
-    }
-
-    /// Appends a piece.
-    fn open(&mut self, base: u64, bytes: &[u8]) -> Result<(), AllocError>
-        requires sound { IsDraft self.old }
-        requires some { 0 < length bytes.now }
-        requires fits { base + length bytes.now ≤ 2 ^ 64 }
-        ensures sound { IsDraft self.new }
-        ensures ok { OnOk result
-            (draft_result self.new ≡ on_ok (draft_result self.old) (λ m. added m base bytes.now)) }
-        ensures err { OnErr result (draft_result self.new ≡ draft_result self.old) }
-    {
-        let span = Span {
-            start: self.store.len(),
-            len: bytes.len(),
-        };
-        self.pieces.push((base, span))?;
-        if let Err(error) = self.store.extend_from_slice(bytes) {
-            self.pieces.pop();
-            return Err(error);
-        }
-        Ok(())
-    }
-
-    /// Adds the bytes from `base` on, even if an address occurs twice. Refuses `PastEnd` and `Memory`.
+    /// Adds the bytes, which take the addresses from `base` on, even if an address has a byte already.
+    ///
+    /// Refuses, in this order, and then leaves the pieces as they were: `PastEnd`, if the last byte would be past the
+    /// address 2^64 - 1; `Memory`. Adding no bytes always returns `Ok`, and takes no memory.
     pub fn add(&mut self, base: u64, bytes: &[u8]) -> Result<(), ImageFault>
-        requires sound { IsDraft self.old }
-        requires some { 0 < length bytes.now }
-        ensures sound { IsDraft self.new }
         ensures fits { OnOk result (base + length bytes.now ≤ 2 ^ 64) }
-        ensures ok { OnOk result
-            (draft_result self.new ≡ on_ok (draft_result self.old) (λ m. added m base bytes.now)) }
-        ensures err { OnErr result (draft_result self.new ≡ draft_result self.old) }
-        ensures refused { IfErr result (λ fault. (fault ≡ ImageFault.Memory)
+        ensures ok { OnOk result (self.new ≡ on_ok self.old (λ m. added m base bytes.now)) }
+        ensures err { OnErr result (self.new ≡ self.old) }
+        ensures refused { IfErr result
+            (λ fault. ((fault ≡ ImageFault.Memory) × (base + length bytes.now ≤ 2 ^ 64))
             ⊎ ((fault ≡ ImageFault.PastEnd) × (2 ^ 64 < base + length bytes.now))) }
+        ensures nothing { length bytes.now ≡ 0 → IsOk result }
     {
+        if bytes.is_empty() {
+            return Ok(());
+        }
         let count = bytes.len() as u64;
         // The end itself may be 2^64, which is no number of 64 bits.
         if count - 1 > u64::MAX - base {
             return Err(ImageFault::PastEnd);
         }
-        if self.follows(base) {
-            self.extend(bytes)?;
+        if follows(&self.pieces, base) {
+            extend(&mut self.store, &mut self.pieces, bytes)?;
         } else {
-            self.open(base, bytes)?;
+            open(&mut self.store, &mut self.pieces, base, bytes)?;
         }
         Ok(())
     }
 
-    /// The first address that came twice. Takes no memory.
+    /// The first address that came twice: the lowest one that the first overlapping piece shares with those before it.
+    /// Needs no memory.
     pub fn first_twice(self) -> Option<u64>
-        requires { IsDraft self }
-        ensures { MatchOption result ((m : Memory) × (draft_result self ≡ Ok m))
-            (λ address. draft_result self ≡ Err address) }
+        ensures { MatchOption result ((m : Memory) × (self ≡ Ok m))
+            (λ address. self ≡ Err address) }
     {
-        let DraftImage { store, mut pieces } = self;
+        let DraftImage {
+            store,
+            mut pieces,
+            ..
+        } = self;
         judge(&store, &mut pieces)
     }
 
+    /// The same for a draft to which more is added. The list of pieces is copied.
+    pub fn first_twice_so_far(&self) -> Result<Option<u64>, AllocError>
+        ensures { IfOk result (λ found. MatchOption found ((m : Memory) × (self.now ≡ Ok m))
+            (λ address. self.now ≡ Err address)) }
+    {
+        let mut pieces = Vec::from_slice(self.alloc, &self.pieces)?;
+        Ok(judge(&self.store, &mut pieces))
+    }
+
     /// The image of all pieces. Refuses `Twice`, with the first address that came twice, and `Memory`.
-    pub fn finish(self, alloc: Global) -> Result<Image, ImageFault>
-        requires { IsDraft self }
-        ensures same { MatchResult result (λ image. draft_result self ≡ Ok image)
-            (λ fault. (fault ≡ ImageFault.Memory)
-            ⊎ ((address : ℕ) × (fault ≡ ImageFault.Twice address)
-            × (draft_result self ≡ Err address))) }
+    pub fn finish(self) -> Result<Image, ImageFault>
+        ensures same { MatchResult result (λ image. self ≡ Ok image)
+            (IsLayoutRefusal self) }
         ensures image { IfOk result IsImage }
     {
-        let DraftImage { store, pieces } = self;
-        let segments = if are_rising(&pieces) {
-            adopt(alloc, store, pieces)?
-        } else {
-            lay_out(alloc, store, pieces)?
-        };
+        let DraftImage {
+            store,
+            pieces,
+            alloc,
+        } = self;
+        let segments = lay_out(alloc, &store, pieces)?;
         Ok(Image { segments, alloc })
     }
 }

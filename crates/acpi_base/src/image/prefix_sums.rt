@@ -5,7 +5,7 @@ ghost use Rattle.acpi_base.specs.Number.{byte_sum};
 ghost use Rattle.acpi_base.specs.Image.Sums.{AreSums, HasAllSums};
 
 use super::span::Span;
-use crate::checksum::sum_short;
+use crate::checksum::sum;
 use std::alloc::{AllocError, Global};
 use std::marker::Model;
 
@@ -35,7 +35,7 @@ fn add_sums(sums: &mut Vec<u8>, bytes: &[u8]) -> Result<(), AllocError>
     let mut total = sum_of_blocks(sums, count);
     for block in count..bytes.len() / DISTANCE {
         let start = block * DISTANCE;
-        total = total.wrapping_add(sum_short(&bytes[start..start + DISTANCE]));
+        total = total.wrapping_add(sum(&bytes[start..start + DISTANCE]));
         sums.push(total)?;
     }
     Ok(())
@@ -49,7 +49,7 @@ fn sum_before(bytes: &[u8], sums: &[u8], end: usize) -> u8
     ensures { result ≡ byte_sum (take end bytes.now) }
 {
     let blocks = end / DISTANCE;
-    sum_of_blocks(sums, blocks).wrapping_add(sum_short(&bytes[blocks * DISTANCE..end]))
+    sum_of_blocks(sums, blocks).wrapping_add(sum(&bytes[blocks * DISTANCE..end]))
 }
 
 /// Bytes to which more are appended. Contracts see the bytes.
@@ -90,16 +90,6 @@ impl PrefixSums {
             bytes: Vec::with_capacity(alloc, count)?,
             sums: Vec::with_capacity(alloc, count / DISTANCE)?,
         })
-    }
-
-    /// These bytes, each of them summed once.
-    #[tactic(auto, using(crate::proofs::Images::Sums::no_sums))]
-    pub fn of(alloc: Global, bytes: Vec<u8>) -> Result<PrefixSums, AllocError>
-        ensures { IfOk result (λ sums. sums ≡ bytes.items) }
-    {
-        let mut sums = Vec::with_capacity(alloc, bytes.len() / DISTANCE)?;
-        add_sums(&mut sums, &bytes)?;
-        Ok(PrefixSums { bytes, sums })
     }
 
     /// How many they are.

@@ -3,17 +3,16 @@
 //! There is an address without a byte between two segments. All bytes are in one store. The last segment is open: it has
 //! the store's bytes from `start` on, so bytes that follow it are appended. If it is empty, none is open.
 
-ghost use Rattle.std.specs.Prelude.{◌≡◌, ◌+◌, ◌-◌, ◌^◌, ◌<◌, ◌≤◌, ℕ, ◌↔◌, IsTrue, None, IfSome, IsSome, OnOk, OnErr, IfOk, MatchOption, length, take, drop};
+ghost use Rattle.std.specs.Prelude.{◌≡◌, ◌+◌, ◌-◌, ◌^◌, ◌<◌, ◌≤◌, ℕ, None, IfSome, IsSome, OnOk, OnErr, IfOk, MatchOption, length, take, drop};
 ghost use Rattle.std.specs.Option.{option_map, option_or};
 ghost use Rattle.std.specs.List.{AllByRecursion};
 ghost use Rattle.std.specs.FinMap.{empty};
-ghost use Rattle.acpi_base.specs.Memory.{run_of, least_defined, first_held, with_bytes, byte_of};
+ghost use Rattle.acpi_base.specs.Memory.{run_of, least_defined, with_bytes, byte_of};
 ghost use Rattle.acpi_base.specs.Number.{byte_sum};
-ghost use Rattle.acpi_base.specs.Image.Runs.{lookup, run_at};
-ghost use Rattle.acpi_base.specs.Image.Pieces.{LiesBefore, AreSortedDisjoint, end_at, memory_in_store, run_in, runs_in};
-ghost use Rattle.acpi_base.specs.Image.Segments.{AreSegments, IsBetween, IsGap, IsPartitionPoint, IsRunAt, IsSound, end_in, memory_in, runs_of};
+ghost use Rattle.acpi_base.specs.Image.Runs.{lookup};
+ghost use Rattle.acpi_base.specs.Image.Pieces.{LiesBefore, AreSortedDisjoint, end_at, run_in, runs_in};
+ghost use Rattle.acpi_base.specs.Image.Segments.{IsGap, IsPartitionPoint, IsRest, IsRunAt, IsSound, end_in, memory_in, runs_of};
 
-use super::ended::EndedPieces;
 use super::prefix_sums::PrefixSums;
 use super::span::Span;
 use std::alloc::{AllocError, Global};
@@ -22,7 +21,7 @@ use std::alloc::{AllocError, Global};
 #[derive(Debug, Drop)]
 pub struct Segments {
     store: PrefixSums,
-    ended: EndedPieces,
+    ended: Vec<(u64, Span)>,
     base: u64,
     start: usize,
 }
@@ -35,7 +34,7 @@ impl Segments {
     {
         Segments {
             store: PrefixSums::new(alloc),
-            ended: EndedPieces::new(alloc),
+            ended: Vec::new(alloc),
             base: 0,
             start: 0,
         }
@@ -49,49 +48,19 @@ impl Segments {
     {
         Ok(Segments {
             store: PrefixSums::with_capacity(alloc, count)?,
-            ended: EndedPieces::new(alloc),
+            ended: Vec::new(alloc),
             base: 0,
             start: 0,
-        })
-    }
-
-    /// Segments whose bytes are in a store already, the last of them open.
-    pub fn of(
-        alloc: Global,
-        store: Vec<u8>,
-        ended: Vec<(u64, Span)>,
-        base: u64,
-        start: usize,
-    ) -> Result<Segments, AllocError>
-        requires { AreSegments store.items ended.items base start }
-        ensures sound { IfOk result IsSound }
-        ensures same { IfOk result
-            (λ segments. memory_in segments ≡ memory_in_store store.items ended.items base start) }
-    {
-        Ok(Segments {
-            store: PrefixSums::of(alloc, store)?,
-            ended: EndedPieces::of(alloc, ended)?,
-            base,
-            start,
         })
     }
 
     /// How many of the ended segments begin at the address or before it.
     fn place(&self, address: u64) -> usize
         requires { IsSound self.now }
-        ensures within { result ≤ length self.now.ended }
-        ensures place { IsPartitionPoint self.now.ended address result }
+        ensures within { result ≤ length self.now.ended.items }
+        ensures place { IsPartitionPoint self.now.ended.items address result }
     {
-        self.ended.place(address)
-    }
-
-    /// The same for a caller that knows the number of another address.
-    fn place_near(&self, address: u64, near: usize) -> usize
-        requires { IsSound self.now }
-        ensures within { result ≤ length self.now.ended }
-        ensures place { IsPartitionPoint self.now.ended address result }
-    {
-        self.ended.place_near(address, near)
+        self.ended.partition_point(|piece| piece.0 <= address)
     }
 
     fn open(&self) -> &[u8]
@@ -99,31 +68,6 @@ impl Segments {
         ensures { result.now ≡ drop self.now.start self.now.store }
     {
         &self.store.bytes()[self.start..]
-    }
-
-    /// The last segment that begins at an address or before it: its base, and the span of its bytes. And how many ended
-    /// segments begin there or before it, if that was asked; `near` is such a number of another address, or 0.
-    fn piece_near(&self, address: u64, near: usize) -> (Option<(u64, Span)>, usize)
-        requires { IsSound self.now }
-        ensures reached { MatchOption result.0 (lookup (runs_of self.now) address ≡ None)
-            (λ piece. IsRunAt (runs_of self.now) address (run_in self.now.store piece)) }
-        ensures lies { IfSome result.0
-            (λ piece. piece.1.start + piece.1.len ≤ length self.now.store) }
-        ensures small { length self.now.store < 2 ^ 64 }
-    {
-        let count = self.store.len();
-        if self.base <= address && self.start < count {
-            let span = Span {
-                start: self.start,
-                len: count - self.start,
-            };
-            return (Some((self.base, span)), near);
-        }
-        let place = self.place_near(address, near);
-        if place == 0 {
-            return (None, 0);
-        }
-        (Some(self.ended.pieces()[place - 1]), place)
     }
 
     /// The last segment that begins at an address or before it: its base, and the span of its bytes.
@@ -135,67 +79,75 @@ impl Segments {
             (λ piece. piece.1.start + piece.1.len ≤ length self.now.store) }
         ensures small { length self.now.store < 2 ^ 64 }
     {
-        self.piece_near(address, 0).0
+        let count = self.store.len();
+        if self.base <= address && self.start < count {
+            let span = Span {
+                start: self.start,
+                len: count - self.start,
+            };
+            return Some((self.base, span));
+        }
+        let place = self.place(address);
+        if place == 0 {
+            return None;
+        }
+        Some(self.ended[place - 1])
     }
 
-    /// The last segment that begins at an address or before it.
-    pub fn reaching(&self, address: u64) -> Option<(u64, &[u8])>
+    /// Where the bytes from an address on are, up to the next address without a byte. None if that is the address itself.
+    fn span_from(&self, address: u64) -> Span
         requires { IsSound self.now }
-        ensures { MatchOption result (lookup (runs_of self.now) address ≡ None)
-            (λ found. IsRunAt (runs_of self.now) address (run_at found.0 found.1.now)) }
+        ensures lies { result.start + result.len ≤ length self.now.store }
+        ensures rest { IsRest (runs_of self.now) address
+            (take result.len (drop result.start self.now.store)) }
     {
-        self.reaching_near(address, 0).0
-    }
-
-    /// The same, and a number to pass as `near` when a higher address is searched for next: the search begins there. The
-    /// first time it is 0.
-    pub fn reaching_near(&self, address: u64, near: usize) -> (Option<(u64, &[u8])>, usize)
-        requires { IsSound self.now }
-        ensures { MatchOption result.0 (lookup (runs_of self.now) address ≡ None)
-            (λ found. IsRunAt (runs_of self.now) address (run_at found.0 found.1.now)) }
-    {
-        let (piece, place) = self.piece_near(address, near);
-        let Some((base, span)) = piece else {
-            return (None, place);
+        let Some((base, span)) = self.piece_reaching(address) else {
+            return Span { start: 0, len: 0 };
         };
-        (Some((base, span.bytes(self.store.bytes()))), place)
+        let skipped = (address - base).min(span.len as u64) as usize;
+        Span {
+            start: span.start + skipped,
+            len: span.len - skipped,
+        }
+    }
+
+    /// The bytes from an address on, up to the next address without a byte. None if that is the address itself.
+    pub fn rest_from(&self, address: u64) -> &[u8]
+        requires { IsSound self.now }
+        ensures { IsRest (runs_of self.now) address result.now }
+    {
+        self.span_from(address).bytes(self.store.bytes())
     }
 
     /// The byte at an address.
-    #[tactic(auto, using(crate::proofs::Images::RunBytes::held_from))]
     pub fn byte_at(&self, address: u64) -> Option<u8>
         requires { IsSound self.now }
         ensures { result ≡ lookup (runs_of self.now) address }
     {
-        let (base, bytes) = self.reaching(address)?;
-        bytes.get((address - base) as usize).copied()
+        self.rest_from(address).first().copied()
     }
 
     /// The span of the bytes at this many addresses, if one segment has them all.
     fn window_span(&self, address: u64, count: u64) -> Option<Span>
-        requires sound { IsSound self.now }
-        requires some { 0 < count }
+        requires { IsSound self.now }
         ensures bytes { option_map (λ span. take span.len (drop span.start self.now.store))
             result ≡ run_of (lookup (runs_of self.now)) address count }
         ensures count { IfSome result (λ span. span.len ≡ count) }
         ensures lies { IfSome result (λ span. span.start + span.len ≤ length self.now.store) }
     {
-        let (base, span) = self.piece_reaching(address)?;
-        let skipped = address - base;
-        let held = span.len as u64;
-        if skipped >= held || count > held - skipped {
+        let span = self.span_from(address);
+        if count > span.len as u64 {
             return None;
         }
         Some(Span {
-            start: span.start + skipped as usize,
+            start: span.start,
             len: count as usize,
         })
     }
 
     /// The bytes at this many addresses, if one segment has them all.
     pub fn window(&self, address: u64, count: u64) -> Option<&[u8]>
-        requires sound { IsSound self.now }
-        requires some { 0 < count }
+        requires { IsSound self.now }
         ensures bytes { option_map (λ bytes. bytes.now) result ≡ run_of (lookup (runs_of self.now))
             address count }
         ensures count { IfSome result (λ bytes. length bytes.now ≡ count) }
@@ -206,8 +158,7 @@ impl Segments {
 
     /// The sum of the bytes at this many addresses, if one segment has them all.
     pub fn window_sum(&self, address: u64, count: u64) -> Option<u8>
-        requires sound { IsSound self.now }
-        requires some { 0 < count }
+        requires { IsSound self.now }
         ensures { result ≡ option_map byte_sum (run_of (lookup (runs_of self.now)) address count) }
     {
         let span = self.window_span(address, count)?;
@@ -223,19 +174,28 @@ impl Segments {
             (λ base. (address < base) × IsSome (lookup (runs_of self.now) base)
             × IsGap (runs_of self.now) address base) }
     {
-        // Nothing begins behind the last segment. So there is no search when bytes are appended.
-        if self.base <= address {
-            return None;
-        }
         let place = self.place(address);
-        let ended = self.ended.pieces();
-        if place < ended.len() {
-            return Some(ended[place].0);
+        if place < self.ended.len() {
+            return Some(self.ended[place].0);
         }
-        if self.start < self.store.len() {
+        if address < self.base && self.start < self.store.len() {
             return Some(self.base);
         }
         None
+    }
+
+    /// The lowest address with a byte, from an address on.
+    pub fn first_from(&self, address: u64) -> Option<u64>
+        requires { IsSound self.now }
+        ensures none { result ≡ None → (x : ℕ) → address ≤ x → lookup (runs_of self.now) x ≡ None }
+        ensures some { IfSome result
+            (λ first. (address ≤ first) × IsSome (lookup (runs_of self.now) first)
+            × IsGap (runs_of self.now) address first) }
+    {
+        if self.byte_at(address).is_some() {
+            return Some(address);
+        }
+        self.next_base(address)
     }
 
     /// The lowest of this many addresses that has a byte.
@@ -245,48 +205,12 @@ impl Segments {
         requires some { 0 < count }
         ensures { result ≡ least_defined (lookup (runs_of self.now)) base count }
     {
-        if self.byte_at(base).is_some() {
-            return Some(base);
-        }
-        let next = self.next_base(base)?;
-        if next - base < count {
-            Some(next)
+        let first = self.first_from(base)?;
+        if first - base < count {
+            Some(first)
         } else {
             None
         }
-    }
-
-    /// Whether an address is behind this many of the ended segments, and before the next of them.
-    fn is_between(&self, address: u64, count: usize) -> bool
-        ensures { IsTrue result ↔ IsBetween self.now.ended address count }
-    {
-        let ended = self.ended.pieces();
-        if count >= ended.len() || address >= ended[count].0 {
-            return false;
-        }
-        if count == 0 {
-            return true;
-        }
-        let (base, span) = ended[count - 1];
-        base <= address && span.len as u64 <= address - base
-    }
-
-    /// The next segment behind an address, if this many of the ended ones are before it and another ended one behind it.
-    /// There is no search.
-    pub fn next_ended(&self, address: u64, count: usize) -> Option<(u64, &[u8])>
-        requires { IsSound self.now }
-        ensures next { IfSome result
-            (λ next. (address < next.0) × IsSome (lookup (runs_of self.now) next.0)
-            × IsGap (runs_of self.now) address next.0) }
-        ensures reached { IfSome result
-            (λ next. IsRunAt (runs_of self.now) next.0 (run_at next.0 next.1.now)) }
-        ensures none { result ≡ None → ¬ IsBetween self.now.ended address count }
-    {
-        if !self.is_between(address, count) {
-            return None;
-        }
-        let (base, span) = self.ended.pieces()[count];
-        Some((base, span.bytes(self.store.bytes())))
     }
 
     /// Ends the open segment, unless bytes from `base` on follow it.
@@ -361,7 +285,7 @@ impl Segments {
         ensures ok { IfOk result
             (λ all. memory_in all ≡ with_bytes (memory_in self.now) base bytes.now) }
     {
-        let (low, high) = self.ended.pieces().split_at(self.place(base));
+        let (low, high) = self.ended.split_at(self.place(base));
         let store = self.store.bytes();
         let mut all = Segments::with_capacity(alloc, store.len() + bytes.len())?;
         all.take_all(store, low)?;

@@ -9,7 +9,7 @@ mod row;
 ghost use Rattle.std.specs.Prelude.{◌≡◌, ◌≤◌, ◌+◌, ◌⊎◌, ℕ, List, length, OnOk, IfOk, IfErr, MatchResult};
 ghost use Rattle.std.specs.Io.KnownBytes.{Consumes, IsAtEnd};
 ghost use Rattle.acpi_base.specs.Memory.{IsImage};
-ghost use Rattle.acpi_base.specs.Text.ImageText.{IsText, max_text};
+ghost use Rattle.acpi_base.specs.Text.ImageText.{IsRefused, IsText, max_text};
 ghost use Rattle.acpi_base.specs.Text.TextMachine.{ReaderState, Stopped, EndsAs, IsGoing, initial_state, text_result, run};
 ghost use Rattle.acpi_base.specs.Text.TextReading.{IsRefusal, CountsRead};
 ghost use Rattle.acpi_base.specs.Text.Lines.{told};
@@ -42,11 +42,13 @@ const PIECE: usize = 65_536;
 ///
 /// `Memory`: out of memory for the line or the image. Until the text is refused, it can be returned instead of any other
 /// result. A refused text stays refused with the same fault.
+///
+/// Each `feed` copies and sorts the list of the pieces of data so far, to see whether an address came twice. If there are
+/// many of them, `parse_image` and `read_image`, which look only once, take less time.
 #[derive(Drop)]
 pub struct ImageText {
     buffer: LineBuffer,
     stopped: Option<TextFault>,
-    alloc: Global,
 }
 
 impl Model for ImageText {
@@ -72,7 +74,6 @@ impl ImageText {
         ImageText {
             buffer: LineBuffer::new(alloc),
             stopped: None,
-            alloc,
         }
     }
 
@@ -90,13 +91,11 @@ impl ImageText {
         if let Some(fault) = self.stopped {
             return Err(fault);
         }
-        match self.buffer.take(piece) {
-            Ok(()) => Ok(()),
-            Err(fault) => {
-                self.stopped = Some(fault);
-                Err(fault)
-            }
+        let taken = self.buffer.take_and_judge(piece);
+        if let Err(fault) = taken {
+            self.stopped = Some(fault);
         }
+        taken
     }
 
     /// Ends the text: judges its last line as far as it has come, and returns the image of its data. After a refusal it
@@ -108,14 +107,9 @@ impl ImageText {
         ensures stays { (fault : TextFault) → self ≡ Stopped fault → result ≡ Err fault }
         ensures image { IfOk result IsImage }
     {
-        let ImageText {
-            buffer,
-            stopped,
-            alloc,
-        } = self;
-        match stopped {
+        match self.stopped {
             Some(fault) => Err(fault),
-            None => buffer.finish(alloc),
+            None => self.buffer.finish(),
         }
     }
 }
@@ -138,7 +132,7 @@ pub fn read_image<R: Read>(alloc: Global, reader: &mut Tally<R>) -> Result<Image
     ensures count { MatchResult result (λ _. reader.new.failures ≡ reader.old.failures)
         (CountsRead reader.old.failures reader.new.failures) }
 {
-    let mut buffer = LineBuffer::draft(alloc);
+    let mut buffer = LineBuffer::new(alloc);
     let mut piece = [0; PIECE];
     let mut total = 0;
     'pieces: loop {
@@ -148,11 +142,24 @@ pub fn read_image<R: Read>(alloc: Global, reader: &mut Tally<R>) -> Result<Image
             return Err(buffer.first_fault(TextFault::Read));
         };
         if count == 0 {
-            return buffer.finish(alloc);
+            return buffer.finish();
         }
         if let Err(fault) = buffer.take(&piece[..count]) {
             return Err(buffer.first_fault(fault));
         }
         total += count;
     }
+}
+
+/// The image of a whole text. Refuses as `ImageText` does.
+pub fn parse_image(alloc: Global, text: &[u8]) -> Result<Image, TextFault>
+    ensures ok { IfOk result (IsText text.now) }
+    ensures err { IfErr result (λ fault. (fault ≡ TextFault.Memory) ⊎ IsRefused text.now fault) }
+    ensures image { IfOk result IsImage }
+{
+    let mut buffer = LineBuffer::new(alloc);
+    if let Err(fault) = buffer.take(text) {
+        return Err(buffer.first_fault(fault));
+    }
+    buffer.finish()
 }

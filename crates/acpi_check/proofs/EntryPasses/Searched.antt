@@ -1,7 +1,7 @@
 -- Passes over the entries that a search by contents looks at: what is collected of them is what is collected of all
 -- entries, since nothing is of the others.
 use Rattle.std.proofs.Common.{◌≡◌, ℕ, suc, List, [], ◌∷◌, Option, None, Bool, false, Result, Vec, Global, refl, ◌∙◌, ap, subst, inl, inr, arith}
-use Rattle.std.specs.Prelude.{◌↔◌, Contains, IfOk, map, option_map}
+use Rattle.std.specs.Prelude.{◌↔◌, Contains, IfOk}
 use Rattle.std.specs.List.{cons_option, filter_map}
 use denote.Ref.{Bor}
 use Rattle.acpi_base.specs.Entries.{PlacedEntry, StandsWith}
@@ -10,7 +10,7 @@ use Rattle.acpi_read.specs.SearchedEntries.{AreSearched}
 use Rattle.acpi_read.specs.TypedEntries.{entry_at_value}
 use Rattle.acpi_read.specs.declared.typed_entries.EntryAt.{EntryAt}
 use Rattle.acpi_check.specs.CollectedValues.{Picks, Collects}
-use Rattle.acpi_check.proofs.EntryPasses.Collecting.{gathered, gathered_same}
+use Rattle.acpi_check.proofs.EntryPasses.Collecting.{gathered_same}
 use Rattle.acpi_check.proofs.EntryPasses.Kept.{AreRising, rising_from_less}
 
 -- ---- the entries that are looked at
@@ -91,19 +91,4 @@ pub collected_same : {E Said T X : Type 0} (value : E → Said) {Answers : Bor (
     → ((found : List T) → found ≡ filter_map h entries → P found) → IfOk r (λ v. P v.items)
 collected_same value h searched taken entries P r found are none each says =
     gathered_same value h P r found refl each
-    (λ values is. says values (is ∙ same_kept searched h entries taken are none))
-
--- the same through a view of the values
-pub gathered_searched : {E Said T V X : Type 0} (value : E → Said) {Answers : Bor (EntryAt E) → Option T → Type 0}
-    (view : T → V) (h : PlacedEntry Said → Option V) (searched : Said → Bool) (taken entries : List (PlacedEntry Said))
-    (P : List T → Type 0) (r : Result (Vec T Global) X)
-    → IfOk r (λ v. Collects (Picks value Answers) taken v.items) → AreSearched searched entries taken
-    → ((s : PlacedEntry Said) → searched s.entry ≡ false → h s ≡ None)
-    → ((at : Bor (EntryAt E)) (picked : Option T) → Contains entries (entry_at_value value at.now) → Answers at picked
-    → option_map view picked ≡ h (entry_at_value value at.now))
-    → ((found : List T) → map view found ≡ filter_map h entries → P found) → IfOk r (λ v. P v.items)
-gathered_searched value view h searched taken entries P r found are none each says =
-    gathered value view h P r found refl
-    (λ at picked here answers. each at picked
-    (is_one searched entries taken are (entry_at_value value at.now) here) answers)
     (λ values is. says values (is ∙ same_kept searched h entries taken are none))

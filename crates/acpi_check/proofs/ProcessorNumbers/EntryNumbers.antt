@@ -1,6 +1,6 @@
 -- Numbers that are collected from the entries of a MADT are those of its processors.
-use Rattle.std.proofs.Common.{◌≡◌, ℕ, ◌<◌, List, Option}
-use Rattle.std.specs.Prelude.{◌↔◌, AllPairs, Contains}
+use Rattle.std.proofs.Common.{◌≡◌, ℕ, ◌<◌, List, Option, Result, Ok, Err, Vec, Global}
+use Rattle.std.specs.Prelude.{◌↔◌, AllPairs, Contains, IfOk}
 use Rattle.acpi_base.specs.Entries.{PlacedEntry}
 use Rattle.acpi_base.specs.Madt.{MadtContents}
 use Rattle.acpi_check.specs.NamedNumbers.{NamesAt}
@@ -22,10 +22,13 @@ in_entries {E} read entries n = (
         (s.offset, (s.entry, found, is))
 
 -- in rising order they are those of the processors
-pub are_numbers : (k : Key) (madt : MadtContents) (gathered numbers : List ℕ)
-    → gathered ≡ numbers_in (number_of k) madt.entries → AllPairs (λ i j. i < j) numbers
-    → ((n : ℕ) → Contains numbers n ↔ Contains gathered n) → AreNumbers k madt numbers
-are_numbers k madt gathered numbers is rise same =
+pub are_numbers : {X : Type 0} (k : Key) (madt : MadtContents) (gathered : List ℕ) (r : Result (Vec ℕ Global) X)
+    → gathered ≡ numbers_in (number_of k) madt.entries
+    → IfOk r (λ numbers. AllPairs (λ i j. i < j) numbers.items)
+    → IfOk r (λ numbers. (n : ℕ) → Contains numbers.items n ↔ Contains gathered n)
+    → IfOk r (λ numbers. AreNumbers k madt numbers.items)
+are_numbers k madt gathered (Err e) is rise same = tt
+are_numbers k madt gathered (Ok numbers) is rise same =
     record {
       rise = rise;
       all = λ n. (

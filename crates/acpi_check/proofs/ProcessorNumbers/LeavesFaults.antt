@@ -17,9 +17,8 @@ use Rattle.acpi_base.specs.declared.witness.Witness.{Witness}
 use Rattle.acpi_check.specs.Leaves.{leaf_id}
 use Rattle.acpi_check.specs.NamedNumbers.{FindsUnknown}
 use Rattle.acpi_check.specs.PassResults.{FindsFault}
-use Rattle.acpi_check.specs.Processors.{number_of, numbers_in, AreNumbers}
+use Rattle.acpi_check.specs.Processors.{number_of, AreNumbers}
 use Rattle.acpi_check.specs.declared.processors.Key.TheVariants as key
-use Rattle.acpi_check.proofs.ProcessorNumbers.EntryNumbers.{in_entries}
 
 -- ---- entries
 
@@ -86,12 +85,3 @@ leaves_found madt pptt uids are recent typed (Some w) first =
         (first.first at point (e, stands, (is_leaf point e).0 leaf)
         (λ listed. unknown ((are_uids madt uids are point).0 listed)))
     least _ at other point wrong = absurd wrong
-
--- where the IDs of all leaves are among the UIDs, all leaves are known
-pub all_known : (madt : MadtContents) (pptt : PpttContents) (uids named ids : List ℕ) → AreNumbers key.Uid madt uids
-    → named ≡ numbers_in leaf_id pptt.entries → ((n : ℕ) → Contains ids n ↔ Contains named n)
-    → ((n : ℕ) → Contains ids n → Contains uids n) → AreLeavesKnown madt pptt
-all_known madt pptt uids named ids are is same among recent typed o id (e, stands, leaf) =
-    (are_uids madt uids are id).0
-    (among id ((same id).1 (subst (λ (ns : List ℕ). Contains ns id) (sym is)
-    ((in_entries leaf_id pptt.entries id).1 (o, (e, stands, (is_leaf id e).0 leaf))))))

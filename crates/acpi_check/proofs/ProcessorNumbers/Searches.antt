@@ -1,5 +1,5 @@
 -- Numbers that rise, and what a binary search finds among them.
-use Rattle.std.proofs.Common.{◌≡◌, ℕ, suc, ◌<◌, ◌≤◌, List, length, get_or, eqb, ◌∙◌, subst, inl, inr, arith}
+use Rattle.std.proofs.Common.{◌≡◌, ℕ, ◌<◌, ◌≤◌, List, length, get_or, eqb, inl, inr, arith}
 use Rattle.std.specs.Prelude.{◌↔◌, AllPairs, Contains, MatchOption, slice_index, Result, Ok, Err}
 use Rattle.std.specs.List.{dedup}
 use Rattle.std.specs.List.Sorted.{IsPermutation, IsSorted}
@@ -7,7 +7,6 @@ use Rattle.std.specs.Ordering.{nat_cmp}
 use Rattle.std.specs.Result.{MatchResult, result_ok}
 use Rattle.std.proofs.lemmas.Bool.{cases_order, cases_lt}
 use Rattle.std.proofs.lemmas.List.{get_or_default}
-use Rattle.std.proofs.lemmas.List.Elements.{Contains-get_or}
 use Rattle.std.proofs.lemmas.List.Kept.{AllPairs-from_increasing, Contains-dedup_nat, Contains-from_dedup}
 use Rattle.std.proofs.lemmas.List.Sorted.{Contains-permutation, IsPermutation-sym}
 use Rattle.std.proofs.lemmas.Map.Keys.{IsStrictlyIncreasing-dedup}
@@ -50,20 +49,3 @@ in_order xs sorted kept moved order is = (
     λ listed. rw is (Contains-dedup_nat sorted x (Contains-permutation xs sorted x moved listed)),
   ),
 )
-
--- where those before a place are among others, and the one at the place is like one of these, those up to it are
-pub one_more : (asked known : List ℕ) (place j : ℕ) → ((k : ℕ) → k < place → Contains known (get_or asked k 0))
-    → j < length known → get_or asked place 0 ≡ get_or known j 0
-    → (k : ℕ) → k < suc place → Contains known (get_or asked k 0)
-one_more asked known place j before within is k below =
-    elim (cases_order k place) [
-      | inl same ↦ rw (same, is) (Contains-get_or known j 0 within)
-      | inr (inl less) ↦ before k less
-      | inr (inr more) ↦ absurd (omega arith)
-    ]
-
--- where those at all places are among others, all are
-pub all_among : (asked known : List ℕ) → ((k : ℕ) → k < length asked → Contains known (get_or asked k 0)) → (n : ℕ)
-    → Contains asked n → Contains known n
-all_among asked known among n (k, within, is) =
-    subst (Contains known) (get_or_default asked k 0 n within ∙ is) (among k within)

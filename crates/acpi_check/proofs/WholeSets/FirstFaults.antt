@@ -1,6 +1,6 @@
 -- From what a view reports to the first fault of a set.
-use Rattle.std.proofs.Common.{◌≡◌, ◌<◌, ◌≤◌, ◌+◌, ◌*◌, ℕ, List, length, Option, Some, None, Result, Ok, Err, refl, sym, ◌∙◌, subst, inl, inr, arith}
-use Rattle.std.specs.Prelude.{◌⊎◌, ◌≢◌, IfSome, IfOk, IfErr}
+use Rattle.std.proofs.Common.{◌≡◌, ◌<◌, ◌≤◌, ℕ, List, Option, Some, None, refl, sym, ◌∙◌, subst, inl, inr, arith}
+use Rattle.std.specs.Prelude.{◌⊎◌, ◌≢◌, IfSome}
 use Rattle.std.proofs.lemmas.Bool.{cases_order}
 use Rattle.acpi_base.specs.Memory.{Memory}
 use Rattle.acpi_base.specs.Policy.{PolicyValue}
@@ -28,13 +28,8 @@ use Rattle.acpi_base.proofs.Tables.Listed.{none_and_listed, one_listed}
 use Rattle.acpi_base.proofs.Facs.{place}
 use Rattle.acpi_read.specs.Fadts.{FacsValue}
 use Rattle.acpi_read.specs.Roots.{RootValue}
-use Rattle.acpi_read.specs.declared.first_tables.FirstTables.{FirstTables}
-use Rattle.acpi_check.specs.FirstBelow.{AreFirstBelow}
 use Rattle.acpi_check.specs.HandedOn.{IsFacsNamed}
-use Rattle.acpi_check.specs.SlotBlocks.{IsFirstTableFault}
-use Rattle.acpi_check.specs.StageResults.{Reads}
-use Rattle.acpi_check.specs.Tables.{AreFirstTables, IsRootOf}
-use Rattle.acpi_check.proofs.WholeSets.Slots.{sound_and_first}
+use Rattle.acpi_check.specs.Tables.{IsRootOf}
 
 -- the least fault of the RSDP
 pub rsdp_first : (m : Memory) (q : PolicyValue) (w : Witness) (p : ℕ) (c : Code) → p ≡ q.rsdp
@@ -198,21 +193,3 @@ pub facs_named : (m : Memory) (fadt : List ℕ) (found : Option FacsValue) → (
     → IsFacsNamed m fadt found
 facs_named m fadt None none some = none refl
 facs_named m fadt (Some facs) none some = some
-
--- the first fault of a listed table is the set's
-pub first_listed_fault : (m : Memory) (q : PolicyValue) (root : RootValue) (w : Witness) → CleanBefore stage.Tables m q
-    → IsRootOf m q.rsdp root → IsFirstTableFault m root w → IsFirstFault m q w
-first_listed_fault m q root w clean is first =
-    subst (λ (p : ℕ). IsFirstFault m q (record { code = w.code; at = w.at; other = w.other; point = p }))
-    (sym first.point)
-    (first_table_fault m q root w.code w.at w.other clean is first.slot first.stage first.fault first.least
-    first.before)
-
--- what is read of all slots is what the stage reads
-pub tables_read : (m : Memory) (q : PolicyValue) (n : ℕ) (root : RootValue) (result : Result FirstTables Witness)
-    → CleanBefore stage.Tables m q → IsRootOf m q.rsdp root
-    → ((k : ℕ) → 36 + root.width * (k + 1) ≤ length root.bytes → k < n)
-    → IfOk result (AreFirstBelow m root n) → IfErr result (IsFirstTableFault m root)
-    → Reads stage.Tables m q (AreFirstTables m q.rsdp) result
-tables_read m q n root (Ok firsts) clean is below ok err = sound_and_first m q.rsdp n root firsts is below ok
-tables_read m q n root (Err w) clean is below ok err = (first_listed_fault m q root w clean is err, err.stage)

@@ -3,9 +3,9 @@
 ghost use Rattle.acpi_check.specs.HandedOn.{IsListedSet};
 
 use crate::show::fields::{add_decimal, add_hex};
-use acpi_check::{ListedSet, SlotRuns};
+use acpi_check::ListedSet;
 use acpi_read::{Listed, Rsdp};
-use std::alloc::{AllocError, Global};
+use std::alloc::AllocError;
 use std::fmt::Write;
 
 /// Adds `rsdp ADDRESS revision N`.
@@ -16,7 +16,7 @@ pub fn add_rsdp(text: &mut String, rsdp: &Rsdp) -> Result<(), AllocError> {
 }
 
 /// Adds the line of the root, `root ADDRESS RSDT length N slots N`, or the same of an XSDT, and those of its slots.
-pub fn add_root(alloc: Global, text: &mut String, set: &ListedSet<'_>) -> Result<(), AllocError>
+pub fn add_root(text: &mut String, set: &ListedSet<'_>) -> Result<(), AllocError>
     requires { IsListedSet set.now }
 {
     let root = &set.root;
@@ -25,17 +25,8 @@ pub fn add_root(alloc: Global, text: &mut String, set: &ListedSet<'_>) -> Result
     let slots = root.slots();
     write!(text, "root 0x{:x} {kind}", root.address())?;
     writeln!(text, " length {length} slots {slots}")?;
-    add_slots(alloc, text, set)
-}
-
-/// Adds the lines of all slots. What they list is found for a block of them at a time.
-fn add_slots(alloc: Global, text: &mut String, set: &ListedSet<'_>) -> Result<(), AllocError>
-    requires { IsListedSet set.now }
-{
-    let mut runs = SlotRuns::new(alloc);
-    for slot in 0..set.root.slots() {
-        let run = runs.run(alloc, set, slot)?;
-        add_slot(text, slot, set.table_run(slot, run))?;
+    for slot in 0..slots {
+        add_slot(text, slot, set.table(slot))?;
     }
     Ok(())
 }

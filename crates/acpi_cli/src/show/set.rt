@@ -18,7 +18,7 @@ pub fn set_text(alloc: Global, set: &ListedSet<'_>) -> Result<String, AllocError
 {
     let mut text = String::new(alloc);
     add_rsdp(&mut text, &set.rsdp)?;
-    add_root(alloc, &mut text, set)?;
+    add_root(&mut text, set)?;
     add_tables(&mut text, set)?;
     Ok(text)
 }

@@ -11,14 +11,8 @@ use super::starts::{Starts, entry_noted, note_starts};
 use super::{Link, named};
 use acpi_base::{Code, Witness};
 
-/// The minimum size of a block of the table with one noted start, in bytes.
-const LEAST_BLOCK: usize = 128;
-
-/// How many starts are noted for a table of at most 512 KiB, and for a larger one. With this many, blocks have their
-/// minimum size up to 32 MiB, which is more than an image text can hold.
-const FEW_NOTES: usize = 4096;
-
-const MANY_NOTES: usize = 262_144;
+/// How many starts are noted. In a table of 32 MiB, about as much as an image text can hold, a block has 512 bytes.
+const NOTES: usize = 65_536;
 
 /// A node or a cache: its offset, and the offset that it refers to by the link.
 #[derive(Clone, Copy)]
@@ -82,10 +76,11 @@ fn steps_fit(most: u64, lead: u64, round: u64) -> bool
     round >= 1 && u128::from(lead) + u128::from(round) <= u128::from(most)
 }
 
-/// Whether `other` steps lead from the offset `at` to one from which `point` steps lead back to it, with room for notes of
-/// starts. The steps are compared with `most` before the first is taken.
-fn goes_round(pptt: &[u8], link: Link, most: u64, witness: &Witness, room: &mut [u8]) -> bool
-    requires { 0 < length room.old }
+/// Whether `other` steps lead from the offset `at` to one from which `point` steps lead back to it, at most `most` in
+/// all, with which they are compared before the first is taken. It is not inlined, so that no other call takes the
+/// stack for the notes.
+#[inline(never)]
+fn is_cycle(pptt: &[u8], link: Link, most: u64, witness: &Witness) -> bool
     ensures { IsTrue result ↔ IsCycle (Names link (pptt_contents pptt.now)) most witness.now.at
         witness.now.other witness.now.point }
 {
@@ -93,36 +88,12 @@ fn goes_round(pptt: &[u8], link: Link, most: u64, witness: &Witness, room: &mut 
     if !steps_fit(most, lead, round) {
         return false;
     }
-    let size = (pptt.len() / room.len() + 1).max(LEAST_BLOCK);
-    note_starts(pptt, link, size, room);
-    let starts = Starts { size, notes: room };
+    let mut notes = [0; NOTES];
+    let starts = note_starts(pptt, &mut notes);
     let Some(there) = follow(pptt, link, &starts, from, lead) else {
         return false;
     };
     follow(pptt, link, &starts, there, round) == Some(there)
-}
-
-/// The same for a large table, whose notes take 256 KiB of the stack. It is not inlined, so that no other call takes
-/// as much.
-#[inline(never)]
-fn is_long_cycle(pptt: &[u8], link: Link, most: u64, witness: &Witness) -> bool
-    ensures { IsTrue result ↔ IsCycle (Names link (pptt_contents pptt.now)) most witness.now.at
-        witness.now.other witness.now.point }
-{
-    goes_round(pptt, link, most, witness, &mut [0; MANY_NOTES])
-}
-
-/// Whether `other` steps lead from the offset `at` to one from which `point` steps lead back to it, at most `most` in
-/// all. It is not inlined either, since the notes of a small table take 4 KiB.
-#[inline(never)]
-fn is_cycle(pptt: &[u8], link: Link, most: u64, witness: &Witness) -> bool
-    ensures { IsTrue result ↔ IsCycle (Names link (pptt_contents pptt.now)) most witness.now.at
-        witness.now.other witness.now.point }
-{
-    if pptt.len() > FEW_NOTES * LEAST_BLOCK {
-        return is_long_cycle(pptt, link, most, witness);
-    }
-    goes_round(pptt, link, most, witness, &mut [0; FEW_NOTES])
 }
 
 /// Code 55: a cycle of parents. No more than one node fits into 20 bytes.

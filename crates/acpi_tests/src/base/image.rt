@@ -1,4 +1,4 @@
-use acpi_base::{Image, ImageFault, ImagePieces};
+use acpi_base::{DraftImage, Image, ImageFault};
 use std::alloc::Global;
 use std::process::Abort;
 
@@ -18,14 +18,16 @@ fn image_of(rt: &impl Abort, alloc: Global, pieces: &[Added]) -> Image {
     image
 }
 
-/// The image of these pieces.
-fn image_of_pieces(rt: &impl Abort, alloc: Global, pieces: &[Added]) -> Image {
-    let mut built = ImagePieces::new(alloc);
+/// The image of those of these pieces that `Image::add` takes.
+fn image_of_draft(rt: &impl Abort, alloc: Global, pieces: &[Added]) -> Image {
+    let mut draft = DraftImage::new(alloc);
     for (address, bytes, result) in pieces {
-        let added = built.add(*address, bytes);
-        assert!(rt; added == *result, "{address:#x}: {added:?}");
+        if result.is_ok() {
+            let added = draft.add(*address, bytes);
+            assert!(rt; added == Ok(()), "{address:#x}: {added:?}");
+        }
     }
-    built.finish().expect(rt, "memory")
+    draft.finish().expect(rt, "no address twice")
 }
 
 /// What is added to an image, windows of it, and a byte that is looked up.
@@ -115,6 +117,34 @@ fn check_image(rt: &impl Abort, image: &Image, case: &Case) {
 fn images_hold_what_was_added(rt: HostRuntime) {
     for case in &IMAGES {
         check_image(&rt, &image_of(&rt, rt.alloc(), case.0), case);
-        check_image(&rt, &image_of_pieces(&rt, rt.alloc(), case.0), case);
+        check_image(&rt, &image_of_draft(&rt, rt.alloc(), case.0), case);
     }
+}
+
+/// A draft of three pieces: the second repeats two addresses, the third one.
+fn repeating(rt: &impl Abort, alloc: Global) -> DraftImage {
+    let mut draft = DraftImage::new(alloc);
+    let results = [
+        draft.add(0x20, &[2, 3]),
+        draft.add(0x10, &[0; 64]),
+        draft.add(u64::MAX, &[1, 2]),
+        draft.add(0x10, &[0]),
+    ];
+    let expected = [Ok(()), Ok(()), Err(ImageFault::PastEnd), Ok(())];
+    assert!(rt; results == expected, "{results:?}");
+    draft
+}
+
+#[test]
+fn a_draft_tells_the_first_address_that_came_twice(rt: HostRuntime) {
+    let draft = repeating(&rt, rt.alloc());
+    let so_far = draft.first_twice_so_far().ok();
+    assert!(rt; so_far == Some(Some(0x20)), "{so_far:?}");
+    let first = draft.first_twice();
+    assert!(rt; first == Some(0x20), "{first:?}");
+    let refused = repeating(&rt, rt.alloc()).finish().err();
+    assert!(rt;
+        refused == Some(ImageFault::Twice { address: 0x20 }),
+        "{refused:?}"
+    );
 }

@@ -2,7 +2,8 @@
 use Rattle.std.proofs.Common.{◌≡◌, ℕ, suc, ◌+◌, ◌/◌, ◌<◌, ◌≤◌, List, [], ◌∷◌, ◌++◌, length, get_or, take, drop, set, refl, sym, ap, ◌∙◌, arith, append_assoc, length-append, length-drop, ◌⊎◌, inl, inr}
 use Rattle.std.specs.Prelude.{min}
 use Rattle.std.proofs.lemmas.Bool.{cases_lt}
-use Rattle.std.proofs.lemmas.List.{drop_more, drop_all, drop-take, take_all, take_more_set, append-nil}
+use Rattle.std.proofs.Math.Seq.{take-append_seam, drop-append_seam}
+use Rattle.std.proofs.lemmas.List.{nil_from_length, drop_more, drop_all, drop-take, take_all, take_more_set, append-nil}
 use Rattle.acpi_base.specs.Text.WrittenText.{pair, spaced_pairs, row, rows, row_count, line_with_lf, text_of}
 
 pub spaced_more : (bs : List ℕ) (i b : ℕ) → i < length bs → b ≡ get_or bs i b
@@ -15,22 +16,6 @@ unfolding spaced_pairs
 spaced_all bs i h = ap spaced_pairs (drop_all i bs h)
 
 pub ruleset pairs = (spaced_more, spaced_all, append_assoc, append-nil)
-
--- pairs without the first blank are a line
-without_blank : (bs : List ℕ) → 0 < length bs → drop 1 (spaced_pairs bs ++ 10 ∷ []) ≡ line_with_lf (row bs)
-unfolding spaced_pairs row
-without_blank [] some = absurd (omega arith)
-without_blank (b ∷ bs) some = refl
-
--- what was made of a line, with its LF
-pub made_line : (bs made : List ℕ) (end n : ℕ) → 0 < length bs → end < length made → take end made ≡ spaced_pairs bs
-    → n ≡ end → take n (drop 1 (set made end 10)) ≡ line_with_lf (row bs)
-made_line bs made end n some fits is same =
-    let next : 1 + n ≡ end + 1 = omega arith in
-    sym (drop-take 1 n (set made end 10))
-    ∙ ap (λ (k : ℕ). drop 1 (take k (set made end 10))) next
-    ∙ ap (drop 1) (take_more_set made end 10 fits ∙ ap (λ (front : List ℕ). front ++ 10 ∷ []) is)
-    ∙ without_blank bs some
 
 -- ---- the lines of a run, one by one
 
@@ -49,30 +34,17 @@ first_part x later count =
     let both = length-append x later in
     elim (cases_lt (length x) 16) [
       | inl short ↦
-          let none : length later ≡ 0 = omega (arith, both, count) in
-          let nothing : later ≡ [] = no_elements later none in
+          let nothing : later ≡ [] = nil_from_length later (omega (arith, both, count)) in
           let whole : x ++ later ≡ x = ap (λ (ys : List ℕ). x ++ ys) nothing ∙ append-nil x in (
-            take_all 16 (x ++ later) (omega (arith, both, none)) ∙ whole,
-            drop_all 16 (x ++ later) (omega (arith, both, none)) ∙ sym nothing,
+            take_all 16 (x ++ later) (omega arith) ∙ whole,
+            drop_all 16 (x ++ later) (omega arith) ∙ sym nothing,
           )
       | inr full ↦
           let sixteen : 16 ≡ length x = omega (arith, both, count) in (
-            ap (λ (n : ℕ). take n (x ++ later)) sixteen ∙ take-length x later,
-            ap (λ (n : ℕ). drop n (x ++ later)) sixteen ∙ drop-length x later,
+            ap (λ (n : ℕ). take n (x ++ later)) sixteen ∙ take-append_seam x later,
+            ap (λ (n : ℕ). drop n (x ++ later)) sixteen ∙ drop-append_seam x later,
           )
     ]
-  where
-    no_elements : (ys : List ℕ) → length ys ≡ 0 → ys ≡ []
-    no_elements [] e = refl
-    no_elements (y ∷ ys) e = absurd (omega arith)
-
-    take-length : (xs ys : List ℕ) → take (length xs) (xs ++ ys) ≡ xs
-    take-length [] ys = refl
-    take-length (x ∷ xs) ys = ap (λ (zs : List ℕ). x ∷ zs) (take-length xs ys)
-
-    drop-length : (xs ys : List ℕ) → drop (length xs) (xs ++ ys) ≡ ys
-    drop-length [] ys = refl
-    drop-length (x ∷ xs) ys = drop-length xs ys
 
 -- the next line is that of the next 16 bytes
 pub rows_next : (rest x later : List ℕ) → rest ≡ x ++ later → length x ≡ min 16 (length rest) → 0 < length rest

@@ -4,9 +4,8 @@ ghost use Rattle.std.specs.Prelude.{◌≡◌, ◌+◌, ◌≤◌, ◌<◌, ◌�
 ghost use Rattle.std.specs.List.{prefix_len};
 ghost use Rattle.std.specs.Simd.Lanes.{chunk};
 ghost use Rattle.acpi_base.specs.Memory.{IsImage};
-ghost use Rattle.acpi_base.specs.Image.Draft.{IsImageData, is_checked};
 ghost use Rattle.acpi_base.specs.Text.ImageText.{on_ok, read_line};
-ghost use Rattle.acpi_base.specs.Text.TextMachine.{run, EndsAs, Stopped, initial_state, text_result};
+ghost use Rattle.acpi_base.specs.Text.TextMachine.{run, EndsAs, IsGoing, Stopped, initial_state, text_result};
 ghost use Rattle.acpi_base.specs.Text.Lines.{Refuses, judged, told};
 ghost use Rattle.acpi_base.specs.Text.LineBuffers.{IsLineBuffer, buffer_state, byte_count};
 
@@ -63,8 +62,8 @@ fn line_end(text: &[u8]) -> usize
     64 * blocks + line_end_of_short(&text[64 * blocks..])
 }
 
-/// What has been read, and the incomplete last line. A fault of `take` may come after an address that came twice: `first_fault`
-/// returns the first of them.
+/// What has been read, and the incomplete last line. Reading goes on after a line that gives an address twice:
+/// `take_and_judge` and `first_fault` tell that.
 #[derive(Drop)]
 pub struct LineBuffer {
     parser: LineParser,
@@ -74,28 +73,14 @@ pub struct LineBuffer {
 }
 
 impl LineBuffer {
-    /// Nothing read. An address that comes twice is refused at once. Takes no memory.
+    /// Nothing read. Takes no memory.
     pub fn new(alloc: Global) -> LineBuffer
-        ensures sound { IsLineBuffer result }
-        ensures state { buffer_state result ≡ initial_state }
-        ensures kind { is_checked result.parser.image ≡ true }
-    {
-        LineBuffer {
-            parser: LineParser::new(alloc),
-            line: Vec::new(alloc),
-            bytes: Vec::new(alloc),
-        }
-    }
-
-    /// Nothing read. An address that comes twice is looked for at the end, so reading goes on after such a line. Takes no
-    /// memory.
-    pub fn draft(alloc: Global) -> LineBuffer
         ensures sound { IsLineBuffer result }
         ensures state { buffer_state result ≡ initial_state }
         ensures count { byte_count result ≡ 0 }
     {
         LineBuffer {
-            parser: LineParser::draft(alloc),
+            parser: LineParser::new(alloc),
             line: Vec::new(alloc),
             bytes: Vec::new(alloc),
         }
@@ -105,8 +90,6 @@ impl LineBuffer {
     fn end_line(&mut self, part: &[u8]) -> Result<(), TextFault>
         requires { IsLineBuffer self.old }
         ensures sound { OnOk result (IsLineBuffer self.new) }
-        ensures image { IsImageData self.new.parser.image }
-        ensures kind { is_checked self.new.parser.image ≡ is_checked self.old.parser.image }
         ensures ok { OnOk result
             (on_ok (judged self.old.parser) (λ r. read_line r (self.old.line.items ++ part.now) 1)
             ≡ judged self.new.parser) }
@@ -153,8 +136,6 @@ impl LineBuffer {
     pub fn take(&mut self, piece: &[u8]) -> Result<(), TextFault>
         requires { IsLineBuffer self.old }
         ensures sound { OnOk result (IsLineBuffer self.new) }
-        ensures image { IsImageData self.new.parser.image }
-        ensures kind { is_checked self.new.parser.image ≡ is_checked self.old.parser.image }
         ensures ok { OnOk result (run (buffer_state self.old) piece.now ≡ buffer_state self.new) }
         ensures count { OnOk result (byte_count self.new ≡ byte_count self.old + length piece.now) }
         ensures err { IfErr result (λ fault. (told self.new.parser.image fault ≡ TextFault.Memory)
@@ -174,17 +155,30 @@ impl LineBuffer {
         }
     }
 
-    /// The first fault of the text, given the one that reading has met: an address may have come twice before that. Takes no
-    /// memory.
+    /// The first fault of the text, given the one that reading has met: an address may have come twice before that. Needs
+    /// no memory.
     pub fn first_fault(self, fault: TextFault) -> TextFault
-        requires { IsImageData self.parser.image }
         ensures { result ≡ told self.parser.image fault }
     {
         self.parser.first_fault(fault)
     }
 
+    /// Reads the next piece of the text, and refuses at once an address that came twice.
+    pub fn take_and_judge(&mut self, piece: &[u8]) -> Result<(), TextFault>
+        requires { IsLineBuffer self.old }
+        ensures sound { OnOk result (IsLineBuffer self.new) }
+        ensures ok { OnOk result (run (buffer_state self.old) piece.now ≡ buffer_state self.new) }
+        ensures going { OnOk result (IsGoing (buffer_state self.new)) }
+        ensures err { IfErr result (λ fault. (fault ≡ TextFault.Memory)
+            ⊎ (run (buffer_state self.old) piece.now ≡ Stopped fault)) }
+    {
+        let taken = self.take(piece);
+        self.parser.refuse_twice()?;
+        taken
+    }
+
     /// Reads the last line, since the text ends, and lays out the image.
-    pub fn finish(self, alloc: Global) -> Result<Image, TextFault>
+    pub fn finish(self) -> Result<Image, TextFault>
         requires { IsLineBuffer self }
         ensures ok { IfOk result (EndsAs (buffer_state self)) }
         ensures err { IfErr result (Refuses (text_result (buffer_state self))) }
@@ -194,6 +188,6 @@ impl LineBuffer {
         if let Err(fault) = buffer.parser.read_line(&buffer.line, 0, &mut buffer.bytes) {
             return Err(buffer.first_fault(fault));
         }
-        buffer.parser.finish(alloc)
+        buffer.parser.finish()
     }
 }

@@ -1,16 +1,14 @@
 //! Reading a text line by line.
 
-ghost use Rattle.std.specs.Prelude.{◌≡◌, ◌≤◌, ◌<◌, ◌+◌, true, false, length, OnOk, OnErr, IfOk, IfErr};
-ghost use Rattle.std.specs.FinMap.{empty};
+ghost use Rattle.std.specs.Prelude.{◌≡◌, ◌≤◌, ◌<◌, ◌+◌, length, Ok, IsOk, OnOk, OnErr, IfOk, IfErr};
 ghost use Rattle.acpi_base.specs.Memory.{IsImage};
-ghost use Rattle.acpi_base.specs.Image.Draft.{IsImageData, data_result, is_checked};
 ghost use Rattle.acpi_base.specs.Text.ImageText.{on_ok, start, max_text, data_fault, put_data, take_line, read_line};
 ghost use Rattle.acpi_base.specs.Text.Lines.{Refuses, line_with, reading_with, judged, told};
 
 use super::MAX_TEXT;
 use super::line::{Form, parse_line};
 use super::row::parse_row;
-use crate::image::data::ImageData;
+use crate::image::draft::DraftImage;
 use crate::image::{Image, ImageFault};
 use crate::text::TextFault;
 use std::alloc::Global;
@@ -18,8 +16,8 @@ use std::alloc::Global;
 /// The most bytes of a line, with its CR and without its LF.
 pub const MAX_LINE: usize = 65_536;
 
-/// Parses one line after another: what was read so far, and the data. If an address that comes twice is looked for at the
-/// end, reading goes on after such a line.
+/// Parses one line after another: what was read so far, and the data. Reading goes on after a line that gives an address
+/// twice.
 #[derive(Drop)]
 pub struct LineParser {
     /// How many lines were read.
@@ -29,7 +27,7 @@ pub struct LineParser {
     /// The address of the next data: 2^64 if data has reached the last address.
     next: Option<u128>,
     /// The data so far.
-    image: ImageData,
+    image: DraftImage,
 }
 
 /// Why the bytes of a line cannot be added.
@@ -44,11 +42,9 @@ fn data_fault(line: u64, fault: ImageFault) -> TextFault
 }
 
 impl LineParser {
-    /// Nothing read. An address that comes twice is refused at once. Takes no memory.
+    /// Nothing read. Takes no memory.
     pub fn new(alloc: Global) -> LineParser
         ensures start { judged result ≡ Ok start }
-        ensures image { IsImageData result.image }
-        ensures kind { is_checked result.image ≡ true }
         ensures lines { result.lines ≡ 0 }
         ensures through { result.through ≡ 0 }
     {
@@ -56,38 +52,20 @@ impl LineParser {
             lines: 0,
             through: 0,
             next: None,
-            image: ImageData::checked(alloc),
-        }
-    }
-
-    /// Nothing read. An address that comes twice is looked for at the end. Takes no memory.
-    pub fn draft(alloc: Global) -> LineParser
-        ensures start { judged result ≡ Ok start }
-        ensures image { IsImageData result.image }
-        ensures lines { result.lines ≡ 0 }
-        ensures through { result.through ≡ 0 }
-    {
-        LineParser {
-            lines: 0,
-            through: 0,
-            next: None,
-            image: ImageData::draft(alloc),
+            image: DraftImage::new(alloc),
         }
     }
 
     /// Adds the bytes of the line that was read last at the next address.
     fn put_data(&mut self, bytes: &[u8]) -> Result<(), TextFault>
-        requires some { 0 < length bytes.now }
-        requires image { IsImageData self.old.image }
+        requires { 0 < length bytes.now }
         ensures ok { OnOk result
             (on_ok (judged self.old) (λ r. put_data r self.old.lines bytes.now r.next)
             ≡ judged self.new) }
         ensures err { IfErr result (λ fault. Refuses
             (on_ok (judged self.old) (λ r. put_data r self.old.lines bytes.now r.next))
             (told self.new.image fault)) }
-        ensures image { IsImageData self.new.image }
-        ensures kind { is_checked self.new.image ≡ is_checked self.old.image }
-        ensures same { OnErr result (data_result self.new.image ≡ data_result self.old.image) }
+        ensures same { OnErr result (self.new.image ≡ self.old.image) }
         ensures lines { self.new.lines ≡ self.old.lines }
         ensures through { self.new.through ≡ self.old.through }
     {
@@ -110,17 +88,14 @@ impl LineParser {
 
     /// Applies the line that was read last: sets the next address, or adds its data.
     fn take_line(&mut self, form: Form, bytes: &[u8]) -> Result<(), TextFault>
-        requires image { IsImageData self.old.image }
-        requires some { form ≡ Form.Data → 0 < length bytes.now }
+        requires { form ≡ Form.Data → 0 < length bytes.now }
         ensures ok { OnOk result
             (on_ok (judged self.old) (λ r. take_line r self.old.lines (line_with form bytes.now))
             ≡ judged self.new) }
         ensures err { IfErr result (λ fault. Refuses
             (on_ok (judged self.old) (λ r. take_line r self.old.lines (line_with form bytes.now)))
             (told self.new.image fault)) }
-        ensures image { IsImageData self.new.image }
-        ensures kind { is_checked self.new.image ≡ is_checked self.old.image }
-        ensures same { OnErr result (data_result self.new.image ≡ data_result self.old.image) }
+        ensures same { OnErr result (self.new.image ≡ self.old.image) }
         ensures lines { self.new.lines ≡ self.old.lines }
         ensures through { self.new.through ≡ self.old.through }
     {
@@ -143,7 +118,6 @@ impl LineParser {
         ending: u64,
         bytes: &mut Vec<u8>,
     ) -> Result<(), TextFault>
-        requires image { IsImageData self.old.image }
         requires lines { self.old.lines ≤ self.old.through }
         requires through { self.old.through ≤ max_text }
         requires ending { ending ≤ 1 }
@@ -152,9 +126,7 @@ impl LineParser {
         ensures err { IfErr result (λ fault. Refuses
             (on_ok (judged self.old) (λ r. read_line r line.now ending))
             (told self.new.image fault)) }
-        ensures image { IsImageData self.new.image }
-        ensures kind { is_checked self.new.image ≡ is_checked self.old.image }
-        ensures same { OnErr result (data_result self.new.image ≡ data_result self.old.image) }
+        ensures same { OnErr result (self.new.image ≡ self.old.image) }
         ensures lines { OnOk result (self.new.lines ≡ self.old.lines + 1) }
         ensures through { OnOk result
             (self.new.through ≡ self.old.through + length line.now + ending) }
@@ -186,10 +158,20 @@ impl LineParser {
         self.through
     }
 
-    /// The first fault of the text, given the one that reading has met: an address may have come twice before that. Takes no
-    /// memory.
+    /// Refuses `Twice` if an address came twice so far, with the first such address.
+    pub fn refuse_twice(&self) -> Result<(), TextFault>
+        ensures ok { OnOk result (IsOk (judged self.now)) }
+        ensures err { IfErr result (Refuses (judged self.now)) }
+    {
+        match self.image.first_twice_so_far()? {
+            Some(address) => Err(TextFault::Twice { address }),
+            None => Ok(()),
+        }
+    }
+
+    /// The first fault of the text, given the one that reading has met: an address may have come twice before that. Needs
+    /// no memory.
     pub fn first_fault(self, fault: TextFault) -> TextFault
-        requires { IsImageData self.image }
         ensures { result ≡ told self.image fault }
     {
         match self.image.first_twice() {
@@ -199,14 +181,13 @@ impl LineParser {
     }
 
     /// The image of the data.
-    pub fn finish(self, alloc: Global) -> Result<Image, TextFault>
-        requires { IsImageData self.image }
+    pub fn finish(self) -> Result<Image, TextFault>
         ensures ok { IfOk result (λ image. judged self ≡ Ok (reading_with self image)) }
         ensures err { IfErr result (Refuses (judged self)) }
         ensures image { IfOk result IsImage }
     {
         let lines = self.lines;
-        match self.image.finish(alloc) {
+        match self.image.finish() {
             Ok(image) => Ok(image),
             Err(fault) => Err(data_fault(lines, fault)),
         }

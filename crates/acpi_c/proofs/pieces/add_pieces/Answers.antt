@@ -1,20 +1,20 @@
-use Rattle.std.proofs.lemmas.Result.{err_from_is_err_and}
-use Rattle.acpi_c.proofs.AddedPieces.{added_piece, refused_piece}
+use Rattle.std.proofs.Common.{inl, refl, sym, subst}
+use Rattle.acpi_c.specs.AddedPieces.{Stands}
+use Rattle.acpi_c.proofs.AddedPieces.{begun_next, stands_first, stands_next}
 use Rattle.acpi_c.proofs.pieces.add_pieces.Goals as goal
 
-pub returns-in_err-add_piece-clause-err : goal.returns-in_err-add_piece-clause-err
-returns-in_err-add_piece-clause-err g c =
-    let p = err_from_is_err_and c.from_residual.result c.from_residual.ensures.1 in
-    rw (p.1, p.2)
-    (refused_piece c.args.pieces.now c.loop-index.index _ (g.B.AddBytes.memory c.loop-index.built) c.add_piece.result
-    c.in_err-add_piece.field-0.0 c.loop-index-test.true c.loop-index.invariant.so_far c.loop-index.invariant.begun
-    c.add_piece.ensures.refused c.in_err-add_piece.was)
+pub loop-index-init : goal.loop-index-init
+loop-index-init c = record {
+  stands = subst (Stands c.args.pieces.now 0) (sym c.requires) (stands_first c.args.pieces.now);
+  begun = inl refl;
+}
 
 pub loop-index-preserved : goal.loop-index-preserved
-loop-index-preserved g c =
-    let next =
-    added_piece c.args.pieces.now c.loop-index.index _ (g.B.AddBytes.memory c.loop-index.built)
-    (g.B.AddBytes.memory c.add_piece.new.built) c.add_piece.result c.in_ok-add_piece.field-0 c.loop-index-test.true
-    c.loop-index.invariant.so_far c.loop-index.invariant.begun c.add_piece.ensures.refused c.add_piece.ensures.ok
-    c.in_ok-add_piece.was in
-    record { so_far = next.0; begun = next.1 }
+loop-index-preserved c =
+    let ps = c.args.pieces.now in
+    let invariant = c.loop-index.invariant in
+    record {
+      stands = stands_next ps c.loop-index.index _ c.loop-index.draft c.add.new.self c.loop-index-test.true
+          c.in_default.ensures.fits c.in_default.ensures.ok invariant.stands;
+      begun = begun_next ps c.loop-index.index _ c.loop-index-test.true c.in_default.ensures.fits invariant.begun;
+    }

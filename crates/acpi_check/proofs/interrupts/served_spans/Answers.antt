@@ -21,9 +21,9 @@ collected-requires c =
 pub returns : goal.returns
 returns c =
     record {
-      spans = gathered madt_value span_value (λ s. served_span c.args.policy.now c.args.point s.offset s.entry) _
+      spans = gathered madt_value span_value (λ s. served_span c.args.policy.now s.offset s.entry) _
           c.collected.result c.collected.ensures c.entries.ensures.entries (λ at picked here answers. search rules)
-          (served_spans c.args.policy.now c.args.point c.args.madt.now);
+          (served_spans c.args.policy.now c.args.madt.now);
       low = gathered_each madt_value (λ (span : Span). span.start < 2 ^ 64) _ c.collected.result c.collected.ensures
           (λ at picked answers. search rules);
     }

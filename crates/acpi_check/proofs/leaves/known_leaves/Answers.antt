@@ -1,8 +1,8 @@
-use Rattle.std.proofs.Common.{◌≡◌, refl, ◌∙◌, ap, arith}
+use Rattle.std.proofs.Common.{◌≡◌, ◌∙◌, ap, arith}
 use Rattle.acpi_base.specs.Header.{HeaderValue}
 use Rattle.acpi_base.specs.Madt.{madt_contents}
 use Rattle.acpi_base.specs.Pptt.{pptt_contents}
-use Rattle.acpi_check.proofs.ProcessorNumbers.LeavesFaults.{revision, leaves_found, all_known}
+use Rattle.acpi_check.proofs.ProcessorNumbers.LeavesFaults.{revision, leaves_found}
 use Rattle.acpi_check.proofs.EntryPasses.Passes.{refused}
 use Rattle.acpi_check.proofs.leaves.known_leaves.Goals as goal
 use Rattle.acpi_check.proofs.leaves.known_leaves.Goals.{then-header-lt-HAS_LEAVES-via-then-header-lt-HAS_LEAVES, then-header-lt-HAS_LEAVES-via-else-header-lt-HAS_LEAVES+then-not-is_wholly_typed}
@@ -19,13 +19,6 @@ returns-then-header-lt-HAS_LEAVES c =
           absurd (w.if-not-is_wholly_typed.ensures typed)
     ]
 
-pub returns-then-is_sorted_subset : goal.returns-then-is_sorted_subset
-returns-then-is_sorted_subset c =
-    all_known (madt_contents c.args.madt.now) (pptt_contents c.args.pptt.now) c.in_ok-uids.uids.items
-    c.in_ok-leaf_ids.field-0.items c.sorted_unique-ids.result.items c.in_ok-uids.ensures c.in_ok-leaf_ids.ensures
-    c.sorted_unique-ids.ensures.same
-    ((rw (c.deref.ensures.value, c.deref-2.ensures.value) at c.if-is_sorted_subset.ensures) refl)
-
 pub returns : goal.returns
 returns c =
     let is : c.header.result.revision ≡ (pptt_contents c.args.pptt.now).revision =
@@ -34,4 +27,4 @@ returns c =
     (leaves_found (madt_contents c.args.madt.now) (pptt_contents c.args.pptt.now) c.in_ok-uids.uids.items
     c.in_ok-uids.ensures (omega (arith, c.if-header-lt-HAS_LEAVES.false)) c.if-not-is_wholly_typed.ensures
     c.first_unknown.result
-    (rw c.deref-3.ensures.value at c.first_unknown.ensures))
+    (rw c.deref.ensures.value at c.first_unknown.ensures))

@@ -8,7 +8,6 @@ use Rattle.acpi_base.specs.declared.code.Code.TheVariants as code
 use Rattle.acpi_base.specs.declared.stage.Stage.TheVariants as stage
 use Rattle.acpi_base.specs.declared.table_kind.TableKind.TheVariants as kind
 use Rattle.acpi_check.specs.TableResults.{IsOverlap}
-use Rattle.acpi_check.proofs.EntryPasses.KindsSeen.{of_listed}
 use Rattle.acpi_check.proofs.Spans.GsiClashes.{gsi_clash_first}
 use Rattle.acpi_check.proofs.Spans.RangeClashes.{overlap_first}
 use Rattle.acpi_check.proofs.WholeSets.TablesLifted.{listed_of_first, of_none, of_one, of_two, earlier, unlisted, settled}
@@ -16,22 +15,22 @@ use Rattle.acpi_check.proofs.listed.found.Goals as goal
 
 pub returns-in_err-first-in-Madt : goal.returns-in_err-first-in-Madt
 returns-in_err-first-in-Madt c =
-    unlisted c.requires.ready c.in-Madt.is kind.Madt c.first.ensures c.in_err-first-in-Madt.was c.from_residual.ensures
+    unlisted c.requires c.in-Madt.is kind.Madt c.first.ensures c.in_err-first-in-Madt.was c.from_residual.ensures
     (of_none _)
 
 pub returns-in_ok-first-in-Madt : goal.returns-in_ok-first-in-Madt
 returns-in_ok-first-in-Madt c =
-    settled c.requires.ready c.in-Madt.is kind.Madt c.first.ensures c.in_ok-first-in-Madt.was
+    settled c.requires c.in-Madt.is kind.Madt c.first.ensures c.in_ok-first-in-Madt.was
     (λ whole. IsSoundMadt c.args.set.now.policy.now (madt_contents whole))
     (λ whole. MadtFault c.args.set.now.policy.now (madt_contents whole)) (λ all. all) (λ v. (λ h. h, λ h. h))
     (λ v least. least) c.sound_madt.result c.sound_madt.ensures
 
 pub madt-requires-clause-holds : goal.madt-requires-clause-holds
-madt-requires-clause-holds c = earlier c.requires.ready c.in-Interrupts.is stage.Madt (omega arith)
+madt-requires-clause-holds c = earlier c.requires c.in-Interrupts.is stage.Madt (omega arith)
 
 pub returns-in_err-madt-in-Interrupts : goal.returns-in_err-madt-in-Interrupts
 returns-in_err-madt-in-Interrupts c =
-    unlisted c.requires.ready c.in-Interrupts.is kind.Madt c.madt.ensures c.in_err-madt-in-Interrupts.was
+    unlisted c.requires c.in-Interrupts.is kind.Madt c.madt.ensures c.in_err-madt-in-Interrupts.was
     c.from_residual-in_err-madt-in-Interrupts.ensures (of_none _)
 
 pub returns-in_ok-madt-in-Interrupts : goal.returns-in_ok-madt-in-Interrupts
@@ -40,48 +39,41 @@ returns-in_ok-madt-in-Interrupts c =
     (of_one stage.Interrupts (λ whole. AreInterruptsApart c.args.set.now.policy.now (madt_contents whole))
     (λ whole. IsOverlap code.GsiClash (IsFirstGsiClash c.args.set.now.policy.now (madt_contents whole))) (λ all. all)
     (gsi_clash_first c.args.set.now.listed.image.now c.args.set.now.policy.now
-    (rw c.in-Interrupts.is at c.requires.ready.clean))
-    (listed_of_first c.requires.ready.tables.listed.tables kind.Madt c.madt.ensures c.in_ok-madt-in-Interrupts.was)
+    (rw c.in-Interrupts.is at c.requires.clean))
+    (listed_of_first c.requires.tables.listed.tables kind.Madt c.madt.ensures c.in_ok-madt-in-Interrupts.was)
     c.apart_interrupts.result c.apart_interrupts.ensures)
 
-pub apart_interrupts-requires : goal.apart_interrupts-requires
-apart_interrupts-requires c = of_listed c.args.set.now c.requires.kinds c.madt.ensures c.in_ok-madt-in-Interrupts.was
-
 pub madt-requires-in-Overrides-clause-holds : goal.madt-requires-in-Overrides-clause-holds
-madt-requires-in-Overrides-clause-holds c = earlier c.requires.ready c.in-Overrides.is stage.Madt (omega arith)
+madt-requires-in-Overrides-clause-holds c = earlier c.requires c.in-Overrides.is stage.Madt (omega arith)
 
 pub returns-in_err-madt-in-Overrides : goal.returns-in_err-madt-in-Overrides
 returns-in_err-madt-in-Overrides c =
-    unlisted c.requires.ready c.in-Overrides.is kind.Madt c.madt-in-Overrides.ensures c.in_err-madt-in-Overrides.was
+    unlisted c.requires c.in-Overrides.is kind.Madt c.madt-in-Overrides.ensures c.in_err-madt-in-Overrides.was
     c.from_residual-in_err-madt-in-Overrides.ensures (of_none _)
 
 pub returns-in_ok-madt-in-Overrides : goal.returns-in_ok-madt-in-Overrides
 returns-in_ok-madt-in-Overrides c =
-    settled c.requires.ready c.in-Overrides.is kind.Madt c.madt-in-Overrides.ensures c.in_ok-madt-in-Overrides.was
+    settled c.requires c.in-Overrides.is kind.Madt c.madt-in-Overrides.ensures c.in_ok-madt-in-Overrides.was
     (λ whole. DoOverridesAgree (madt_contents whole)) (λ whole. OverrideFault (madt_contents whole)) (λ all. all)
-    (λ v. (λ h. h, λ h. h)) (λ v least. least) c.agreeing_overrides.result c.agreeing_overrides.ensures
-
-pub agreeing_overrides-requires : goal.agreeing_overrides-requires
-agreeing_overrides-requires c =
-    of_listed c.args.set.now c.requires.kinds c.madt-in-Overrides.ensures c.in_ok-madt-in-Overrides.was
+    (λ v. (λ h. h, λ h. h)) (λ v least. least) c.agreeing_overrides.result c.agreeing_overrides.ensures.settled
 
 pub returns-in_err-first-in-Srat : goal.returns-in_err-first-in-Srat
 returns-in_err-first-in-Srat c =
-    unlisted c.requires.ready c.in-Srat.is kind.Srat c.first-in-Srat.ensures c.in_err-first-in-Srat.was
+    unlisted c.requires c.in-Srat.is kind.Srat c.first-in-Srat.ensures c.in_err-first-in-Srat.was
     c.from_residual-in_err-first-in-Srat.ensures (of_none _)
 
 pub returns-in_ok-first-in-Srat : goal.returns-in_ok-first-in-Srat
 returns-in_ok-first-in-Srat c =
-    settled c.requires.ready c.in-Srat.is kind.Srat c.first-in-Srat.ensures c.in_ok-first-in-Srat.was
+    settled c.requires c.in-Srat.is kind.Srat c.first-in-Srat.ensures c.in_ok-first-in-Srat.was
     (λ whole. IsSoundSrat (srat_contents whole)) (λ whole. SratFault (srat_contents whole)) (λ all. all)
     (λ v. (λ h. h, λ h. h)) (λ v least. least) c.sound_srat.result c.sound_srat.ensures
 
 pub srat-requires-clause-holds : goal.srat-requires-clause-holds
-srat-requires-clause-holds c = earlier c.requires.ready c.in-Ranges.is stage.Srat (omega arith)
+srat-requires-clause-holds c = earlier c.requires c.in-Ranges.is stage.Srat (omega arith)
 
 pub returns-in_err-srat-in-Ranges : goal.returns-in_err-srat-in-Ranges
 returns-in_err-srat-in-Ranges c =
-    unlisted c.requires.ready c.in-Ranges.is kind.Srat c.srat.ensures c.in_err-srat-in-Ranges.was
+    unlisted c.requires c.in-Ranges.is kind.Srat c.srat.ensures c.in_err-srat-in-Ranges.was
     c.from_residual-in_err-srat-in-Ranges.ensures (of_none _)
 
 pub returns-in_ok-srat-in-Ranges : goal.returns-in_ok-srat-in-Ranges
@@ -91,96 +83,96 @@ returns-in_ok-srat-in-Ranges c =
     (λ whole. IsOverlap code.Overlap (IsFirstOverlap c.args.set.now.policy.now.hotplug (srat_contents whole)))
     (λ all. all)
     (overlap_first c.args.set.now.listed.image.now c.args.set.now.policy.now
-    (rw c.in-Ranges.is at c.requires.ready.clean))
-    (listed_of_first c.requires.ready.tables.listed.tables kind.Srat c.srat.ensures c.in_ok-srat-in-Ranges.was)
+    (rw c.in-Ranges.is at c.requires.clean))
+    (listed_of_first c.requires.tables.listed.tables kind.Srat c.srat.ensures c.in_ok-srat-in-Ranges.was)
     c.apart_ranges.result (rw c.hotplug.ensures.value at c.apart_ranges.ensures))
 
 pub returns-in_err-first-in-Slit : goal.returns-in_err-first-in-Slit
 returns-in_err-first-in-Slit c =
-    unlisted c.requires.ready c.in-Slit.is kind.Slit c.first-in-Slit.ensures c.in_err-first-in-Slit.was
+    unlisted c.requires c.in-Slit.is kind.Slit c.first-in-Slit.ensures c.in_err-first-in-Slit.was
     c.from_residual-in_err-first-in-Slit.ensures (of_none _)
 
 pub returns-in_ok-first-in-Slit : goal.returns-in_ok-first-in-Slit
 returns-in_ok-first-in-Slit c =
-    settled c.requires.ready c.in-Slit.is kind.Slit c.first-in-Slit.ensures c.in_ok-first-in-Slit.was
+    settled c.requires c.in-Slit.is kind.Slit c.first-in-Slit.ensures c.in_ok-first-in-Slit.was
     (λ whole. IsSoundSlit (slit_contents whole)) (λ whole. SlitFault (slit_contents whole)) (λ all. all)
     (λ v. (λ h. h, λ h. h)) (λ v least. least) c.sound_slit.result c.sound_slit.ensures
 
 pub returns-in_err-first-in-Pptt : goal.returns-in_err-first-in-Pptt
 returns-in_err-first-in-Pptt c =
-    unlisted c.requires.ready c.in-Pptt.is kind.Pptt c.first-in-Pptt.ensures c.in_err-first-in-Pptt.was
+    unlisted c.requires c.in-Pptt.is kind.Pptt c.first-in-Pptt.ensures c.in_err-first-in-Pptt.was
     c.from_residual-in_err-first-in-Pptt.ensures (of_none _)
 
 pub returns-in_ok-first-in-Pptt : goal.returns-in_ok-first-in-Pptt
 returns-in_ok-first-in-Pptt c =
-    settled c.requires.ready c.in-Pptt.is kind.Pptt c.first-in-Pptt.ensures c.in_ok-first-in-Pptt.was
+    settled c.requires c.in-Pptt.is kind.Pptt c.first-in-Pptt.ensures c.in_ok-first-in-Pptt.was
     (λ whole. IsCutPptt (pptt_contents whole)) (λ whole. PpttFault (pptt_contents whole)) (λ all. all)
     (λ v. (λ h. h, λ h. h)) (λ v least. least) c.sound_pptt.result c.sound_pptt.ensures
 
 pub returns-in_err-pptt-in-References : goal.returns-in_err-pptt-in-References
 returns-in_err-pptt-in-References c =
-    unlisted c.requires.ready c.in-References.is kind.Pptt c.pptt.ensures c.in_err-pptt-in-References.was
+    unlisted c.requires c.in-References.is kind.Pptt c.pptt.ensures c.in_err-pptt-in-References.was
     c.from_residual-in_err-pptt-in-References.ensures (of_none _)
 
 pub sound_references-requires : goal.sound_references-requires
 sound_references-requires c =
-    earlier c.requires.ready c.in-References.is stage.Pptt (omega arith) _
-    (listed_of_first c.requires.ready.tables.listed.tables kind.Pptt c.pptt.ensures c.in_ok-pptt-in-References.was)
+    earlier c.requires c.in-References.is stage.Pptt (omega arith) _
+    (listed_of_first c.requires.tables.listed.tables kind.Pptt c.pptt.ensures c.in_ok-pptt-in-References.was)
 
 pub returns-in_ok-pptt-in-References : goal.returns-in_ok-pptt-in-References
 returns-in_ok-pptt-in-References c =
-    settled c.requires.ready c.in-References.is kind.Pptt c.pptt.ensures c.in_ok-pptt-in-References.was
+    settled c.requires c.in-References.is kind.Pptt c.pptt.ensures c.in_ok-pptt-in-References.was
     (λ whole. AreReferencesSound (pptt_contents whole)) (λ whole. ReferenceFault (pptt_contents whole)) (λ all. all)
     (λ v. (λ h. h, λ h. h)) (λ v least. least) c.sound_references.result c.sound_references.ensures
 
 pub returns-in_err-pptt-in-Parents : goal.returns-in_err-pptt-in-Parents
 returns-in_err-pptt-in-Parents c =
-    unlisted c.requires.ready c.in-Parents.is kind.Pptt c.pptt-in-Parents.ensures c.in_err-pptt-in-Parents.was
+    unlisted c.requires c.in-Parents.is kind.Pptt c.pptt-in-Parents.ensures c.in_err-pptt-in-Parents.was
     c.from_residual-in_err-pptt-in-Parents.ensures (of_none _)
 
 pub parents_end-requires : goal.parents_end-requires
 parents_end-requires c =
-    earlier c.requires.ready c.in-Parents.is stage.References (omega arith) _
-    (listed_of_first c.requires.ready.tables.listed.tables kind.Pptt c.pptt-in-Parents.ensures
+    earlier c.requires c.in-Parents.is stage.References (omega arith) _
+    (listed_of_first c.requires.tables.listed.tables kind.Pptt c.pptt-in-Parents.ensures
     c.in_ok-pptt-in-Parents.was)
 
 pub returns-in_ok-pptt-in-Parents : goal.returns-in_ok-pptt-in-Parents
 returns-in_ok-pptt-in-Parents c =
-    settled c.requires.ready c.in-Parents.is kind.Pptt c.pptt-in-Parents.ensures c.in_ok-pptt-in-Parents.was
+    settled c.requires c.in-Parents.is kind.Pptt c.pptt-in-Parents.ensures c.in_ok-pptt-in-Parents.was
     (λ whole. DoParentsEnd (pptt_contents whole)) (λ whole. ParentFault (pptt_contents whole)) (λ all. all)
     (λ v. (λ h. h, λ h. h)) (λ v least. least) c.parents_end.result c.parents_end.ensures
 
 pub returns-in_err-pptt-in-Caches : goal.returns-in_err-pptt-in-Caches
 returns-in_err-pptt-in-Caches c =
-    unlisted c.requires.ready c.in-Caches.is kind.Pptt c.pptt-in-Caches.ensures c.in_err-pptt-in-Caches.was
+    unlisted c.requires c.in-Caches.is kind.Pptt c.pptt-in-Caches.ensures c.in_err-pptt-in-Caches.was
     c.from_residual-in_err-pptt-in-Caches.ensures (of_none _)
 
 pub caches_end-requires : goal.caches_end-requires
 caches_end-requires c =
-    earlier c.requires.ready c.in-Caches.is stage.References (omega arith) _
-    (listed_of_first c.requires.ready.tables.listed.tables kind.Pptt c.pptt-in-Caches.ensures
+    earlier c.requires c.in-Caches.is stage.References (omega arith) _
+    (listed_of_first c.requires.tables.listed.tables kind.Pptt c.pptt-in-Caches.ensures
     c.in_ok-pptt-in-Caches.was)
 
 pub returns-in_ok-pptt-in-Caches : goal.returns-in_ok-pptt-in-Caches
 returns-in_ok-pptt-in-Caches c =
-    settled c.requires.ready c.in-Caches.is kind.Pptt c.pptt-in-Caches.ensures c.in_ok-pptt-in-Caches.was
+    settled c.requires c.in-Caches.is kind.Pptt c.pptt-in-Caches.ensures c.in_ok-pptt-in-Caches.was
     (λ whole. DoCachesEnd (pptt_contents whole)) (λ whole. CacheFault (pptt_contents whole)) (λ all. all)
     (λ v. (λ h. h, λ h. h)) (λ v least. least) c.caches_end.result c.caches_end.ensures
 
 pub madt-requires-in-Domains-clause-holds : goal.madt-requires-in-Domains-clause-holds
-madt-requires-in-Domains-clause-holds c = earlier c.requires.ready c.in-Domains.is stage.Madt (omega arith)
+madt-requires-in-Domains-clause-holds c = earlier c.requires c.in-Domains.is stage.Madt (omega arith)
 
 pub returns-in_err-madt-in-Domains : goal.returns-in_err-madt-in-Domains
 returns-in_err-madt-in-Domains c =
-    unlisted c.requires.ready c.in-Domains.is kind.Madt c.madt-in-Domains.ensures c.in_err-madt-in-Domains.was
+    unlisted c.requires c.in-Domains.is kind.Madt c.madt-in-Domains.ensures c.in_err-madt-in-Domains.was
     c.from_residual-in_err-madt-in-Domains.ensures (of_none _)
 
 pub srat-requires-in-Domains-clause-holds : goal.srat-requires-in-Domains-clause-holds
-srat-requires-in-Domains-clause-holds c = earlier c.requires.ready c.in-Domains.is stage.Srat (omega arith)
+srat-requires-in-Domains-clause-holds c = earlier c.requires c.in-Domains.is stage.Srat (omega arith)
 
 pub returns-in_err-srat-in-Domains : goal.returns-in_err-srat-in-Domains
 returns-in_err-srat-in-Domains c =
-    unlisted c.requires.ready c.in-Domains.is kind.Srat c.srat-in-Domains.ensures c.in_err-srat-in-Domains.was
+    unlisted c.requires c.in-Domains.is kind.Srat c.srat-in-Domains.ensures c.in_err-srat-in-Domains.was
     c.from_residual-in_err-srat-in-Domains.ensures (λ none _ _. of_none _ none)
 
 pub returns-in_ok-srat-in-Domains : goal.returns-in_ok-srat-in-Domains
@@ -189,48 +181,45 @@ returns-in_ok-srat-in-Domains c =
     (of_two stage.Domains (λ x y. HaveOneDomain c.args.set.now.policy.now.processors (madt_contents x)
     (srat_contents y))
     (λ x y. DomainFault c.args.set.now.policy.now.processors (madt_contents x) (srat_contents y))
-    (λ all. all) (λ v. (λ h. h, λ h. h)) (λ v least. least) (rw c.in-Domains.is at c.requires.ready.clean)
-    (listed_of_first c.requires.ready.tables.listed.tables kind.Madt c.madt-in-Domains.ensures
+    (λ all. all) (λ v. (λ h. h, λ h. h)) (λ v least. least) (rw c.in-Domains.is at c.requires.clean)
+    (listed_of_first c.requires.tables.listed.tables kind.Madt c.madt-in-Domains.ensures
     c.in_ok-madt-in-Domains.was)
-    (listed_of_first c.requires.ready.tables.listed.tables kind.Srat c.srat-in-Domains.ensures
+    (listed_of_first c.requires.tables.listed.tables kind.Srat c.srat-in-Domains.ensures
     c.in_ok-srat-in-Domains.was)
     c.one_domain.result (rw c.processors.ensures.value at c.one_domain.ensures))
 
 pub madt-requires-in-Served-clause-holds : goal.madt-requires-in-Served-clause-holds
-madt-requires-in-Served-clause-holds c = earlier c.requires.ready c.in-Served.is stage.Madt (omega arith)
+madt-requires-in-Served-clause-holds c = earlier c.requires c.in-Served.is stage.Madt (omega arith)
 
 pub returns-in_err-madt-in-Served : goal.returns-in_err-madt-in-Served
 returns-in_err-madt-in-Served c =
-    unlisted c.requires.ready c.in-Served.is kind.Madt c.madt-in-Served.ensures c.in_err-madt-in-Served.was
+    unlisted c.requires c.in-Served.is kind.Madt c.madt-in-Served.ensures c.in_err-madt-in-Served.was
     c.from_residual-in_err-madt-in-Served.ensures (of_none _)
 
 pub returns-in_ok-madt-in-Served : goal.returns-in_ok-madt-in-Served
 returns-in_ok-madt-in-Served c =
-    settled c.requires.ready c.in-Served.is kind.Madt c.madt-in-Served.ensures c.in_ok-madt-in-Served.was
+    settled c.requires c.in-Served.is kind.Madt c.madt-in-Served.ensures c.in_ok-madt-in-Served.was
     (λ whole. AreNamedServed c.args.set.now.policy.now (madt_contents whole))
     (λ whole. ServedFault c.args.set.now.policy.now (madt_contents whole)) (λ all. all) (λ v. (λ h. h, λ h. h))
     (λ v least. least) c.named_served.result c.named_served.ensures
 
-pub named_served-requires : goal.named_served-requires
-named_served-requires c = of_listed c.args.set.now c.requires.kinds c.madt-in-Served.ensures c.in_ok-madt-in-Served.was
-
 pub madt-requires-in-Leaves-clause-holds : goal.madt-requires-in-Leaves-clause-holds
-madt-requires-in-Leaves-clause-holds c = earlier c.requires.ready c.in-Leaves.is stage.Madt (omega arith)
+madt-requires-in-Leaves-clause-holds c = earlier c.requires c.in-Leaves.is stage.Madt (omega arith)
 
 pub returns-in_err-madt-in-Leaves : goal.returns-in_err-madt-in-Leaves
 returns-in_err-madt-in-Leaves c =
-    unlisted c.requires.ready c.in-Leaves.is kind.Madt c.madt-in-Leaves.ensures c.in_err-madt-in-Leaves.was
+    unlisted c.requires c.in-Leaves.is kind.Madt c.madt-in-Leaves.ensures c.in_err-madt-in-Leaves.was
     c.from_residual-in_err-madt-in-Leaves.ensures (of_none _)
 
 pub returns-in_err-pptt-in-Leaves : goal.returns-in_err-pptt-in-Leaves
 returns-in_err-pptt-in-Leaves c =
-    unlisted c.requires.ready c.in-Leaves.is kind.Pptt c.pptt-in-Leaves.ensures c.in_err-pptt-in-Leaves.was
+    unlisted c.requires c.in-Leaves.is kind.Pptt c.pptt-in-Leaves.ensures c.in_err-pptt-in-Leaves.was
     c.from_residual-in_err-pptt-in-Leaves.ensures (λ none _ _. of_none _ none)
 
 pub known_leaves-requires : goal.known_leaves-requires
 known_leaves-requires c =
-    (earlier c.requires.ready c.in-Leaves.is stage.Madt (omega arith) _
-    (listed_of_first c.requires.ready.tables.listed.tables kind.Madt c.madt-in-Leaves.ensures
+    (earlier c.requires c.in-Leaves.is stage.Madt (omega arith) _
+    (listed_of_first c.requires.tables.listed.tables kind.Madt c.madt-in-Leaves.ensures
     c.in_ok-madt-in-Leaves.was)).filled
 
 pub returns-in_ok-pptt-in-Leaves : goal.returns-in_ok-pptt-in-Leaves
@@ -238,9 +227,9 @@ returns-in_ok-pptt-in-Leaves c =
     rw c.in-Leaves.is
     (of_two stage.Leaves (λ x y. AreLeavesKnown (madt_contents x) (pptt_contents y))
     (λ x y. LeafFault (madt_contents x) (pptt_contents y))
-    (λ all. all) (λ v. (λ h. h, λ h. h)) (λ v least. least) (rw c.in-Leaves.is at c.requires.ready.clean)
-    (listed_of_first c.requires.ready.tables.listed.tables kind.Madt c.madt-in-Leaves.ensures
+    (λ all. all) (λ v. (λ h. h, λ h. h)) (λ v least. least) (rw c.in-Leaves.is at c.requires.clean)
+    (listed_of_first c.requires.tables.listed.tables kind.Madt c.madt-in-Leaves.ensures
     c.in_ok-madt-in-Leaves.was)
-    (listed_of_first c.requires.ready.tables.listed.tables kind.Pptt c.pptt-in-Leaves.ensures
+    (listed_of_first c.requires.tables.listed.tables kind.Pptt c.pptt-in-Leaves.ensures
     c.in_ok-pptt-in-Leaves.was)
     c.known_leaves.result c.known_leaves.ensures)

@@ -1,13 +1,11 @@
-use Rattle.std.proofs.Common.{ℕ, ◌≤◌, ◌<◌, length, get_or}
-use Rattle.acpi_check.specs.ServedGsis.{IsReach, HaveBegun}
-use Rattle.acpi_check.specs.declared.served.NamedGsi.{NamedGsi}
-use Rattle.acpi_check.proofs.Spans.ServedWalk.{FindsSoFar}
+use Rattle.acpi_base.specs.Entries.{entries_read_by}
+use Rattle.acpi_base.specs.Madt.{madt_entry, madt_contents}
+use Rattle.acpi_check.specs.ServedGsis.{named_gsi, IsInSpans}
+use Rattle.acpi_check.proofs.ProcessorNumbers.NamedPass.{IsAt}
 use Rattle.acpi_check.proofs.served.first_unserved.Given as goal
 
--- the ranges that were passed begin at the number to come or below it, and the first of the numbers so far is found
-abbrev pub invariant-loop-entry : goal.invariant-loop-entry
-invariant-loop-entry l =
-    IsReach l.ranges l.reach
-    × ((j : ℕ) (d : NamedGsi) → l.entry-index ≤ j → j < length l.named
-    → HaveBegun l.ranges l.reach (get_or l.named j d).gsi)
-    × FindsSoFar l.ranges l.named l.entry-index l.first
+-- the numbers that entries so far name are in the spans, and the entries left are the rest of the table's
+abbrev pub invariant-loop-at : goal.invariant-loop-at
+invariant-loop-at l =
+    IsAt (IsInSpans l.fn.spans) named_gsi (madt_contents l.fn.madt).entries
+    (entries_read_by madt_entry l.entries.entries.entries)

@@ -1,42 +1,34 @@
 use Rattle.std.proofs.Common.{◌≡◌, ◌<◌, length, arith}
 use Rattle.std.proofs.lemmas.Bool.Decides.{nat_tests}
 use Rattle.acpi_base.specs.Madt.{madt_contents}
-use Rattle.acpi_check.proofs.Spans.GsiRanges.{no_io_apic, has_io_apic}
-use Rattle.acpi_check.proofs.Spans.ServedWalk.{starts_rise, numbers_rise}
-use Rattle.acpi_check.proofs.Spans.ServedFaults.{all_served, first_unserved}
+use Rattle.acpi_graph.proofs.SortedSpans.{in_order, names_permuted}
+use Rattle.acpi_check.proofs.EntryPasses.Passes.{refused}
+use Rattle.acpi_check.proofs.Spans.ServedFaults.{starts_rise, no_io_apic, has_io_apic, rising_served, unserved_found}
 use Rattle.acpi_check.proofs.served.named_served.Goals as goal
 
 pub returns-then-is_empty : goal.returns-then-is_empty
 returns-then-is_empty c =
-    let ranges = c.in_ok-ranges.ranges in
-    let none : length ranges.items ≡ 0 =
-    grind (arith, nat_tests, c.is_empty.ensures, c.if-is_empty.true, ranges.ok.0) in
-    λ io. absurd (no_io_apic c.args.policy.now (madt_contents c.args.madt.now) (rw c.in_ok-ranges.ensures at none) io)
+    let spans = c.in_ok-spans.spans in
+    let none : length spans.items ≡ 0 =
+    grind (arith, nat_tests, c.is_empty.ensures, c.if-is_empty.true, spans.ok.0) in
+    λ io. absurd (no_io_apic c.args.policy.now c.rsdp.ensures.policy (madt_contents c.args.madt.now) spans.items
+    c.in_ok-spans.ensures.spans none io)
 
-pub first_unserved-requires : goal.first_unserved-requires
-first_unserved-requires c =
-    record {
-      ranges = rw c.deref.ensures.value (starts_rise c.sort_any_order.new.items.items c.sort_any_order.ensures.sorted);
-      named =
-          rw c.deref-2.ensures.value
-          (numbers_rise c.sort_any_order-2.new.items.items c.sort_any_order-2.ensures.sorted);
-    }
-
-pub returns-in-None : goal.returns-in-None
-returns-in-None c =
-    all_served c.args.policy.now (madt_contents c.args.madt.now) c.sort_any_order.new.items.items
-    c.sort_any_order-2.new.items.items (rw c.in_ok-ranges.ensures at c.sort_any_order.ensures.permutation)
-    (rw c.in_ok-named.ensures at c.sort_any_order-2.ensures.permutation)
-    (rw (c.deref.ensures.value, c.deref-2.ensures.value, c.in-None.is) at c.first_unserved.ensures)
+pub rising_spans-requires : goal.rising_spans-requires
+rising_spans-requires c =
+    rw c.deref.ensures.value (starts_rise c.sort.new.self.items (in_order c.sort.new.self.items
+    (names_permuted c.in_ok-spans.spans.items c.sort.new.self.items c.sort.ensures.permutation
+    c.in_ok-spans.ensures.spans.names) c.in_ok-sort.ensures.sorted))
 
 pub returns : goal.returns
 returns c =
-    let ranges = c.in_ok-ranges.ranges in
-    let some : 0 < length ranges.items =
-    grind (arith, nat_tests, c.is_empty.ensures, c.if-is_empty.false, ranges.ok.0) in
-    rw (c.from.ensures, c.from-in-Some.ensures)
-    (first_unserved c.args.policy.now c.args.madt.now c.sort_any_order.new.items.items
-    c.sort_any_order-2.new.items.items (rw c.in_ok-ranges.ensures at c.sort_any_order.ensures.permutation)
-    (rw c.in_ok-named.ensures at c.sort_any_order-2.ensures.permutation)
-    (has_io_apic c.args.policy.now (madt_contents c.args.madt.now) (rw c.in_ok-ranges.ensures at some))
-    c.in-Some.first (rw (c.deref.ensures.value, c.deref-2.ensures.value, c.in-Some.is) at c.first_unserved.ensures))
+    let q = c.args.policy.now in
+    let madt = madt_contents c.args.madt.now in
+    let spans = c.in_ok-spans.spans in
+    let some : 0 < length spans.items = grind (arith, nat_tests, c.is_empty.ensures, c.if-is_empty.false, spans.ok.0) in
+    refused _ _ _ c.first_unserved.result c.refuse.result c.refuse.ensures
+    (unserved_found q madt c.deref-2.result.now
+    (has_io_apic q madt spans.items c.in_ok-spans.ensures.spans some)
+    (rising_served q madt spans.items c.sort.new.self.items c.deref-2.result.now c.in_ok-spans.ensures.spans
+    c.sort.ensures.permutation (rw (c.deref.ensures.value, ← c.deref-2.ensures.value) at c.in_ok-rising.ensures.same))
+    c.first_unserved.result c.first_unserved.ensures)

@@ -20,18 +20,18 @@ none_where_clear xs (clash.At first second point) found clear =
 
 pub first_overlap-requires-clause-names : goal.first_overlap-requires-clause-names
 first_overlap-requires-clause-names c = subst NamesDiffer (sym c.deref.ensures.value)
-    (names_permuted c.args.spans.items c.sort_any_order.new.items.items c.sort_any_order.ensures.permutation c.requires)
+    (names_permuted c.args.spans.items c.sort.new.self.items c.sort.ensures.permutation c.requires)
 
 pub first_overlap-requires-clause-order : goal.first_overlap-requires-clause-order
 first_overlap-requires-clause-order c = subst (AllPairs ComesBefore) (sym c.deref.ensures.value)
-    (in_order c.sort_any_order.new.items.items
-    (names_permuted c.args.spans.items c.sort_any_order.new.items.items c.sort_any_order.ensures.permutation c.requires)
-    c.sort_any_order.ensures.sorted)
+    (in_order c.sort.new.self.items
+    (names_permuted c.args.spans.items c.sort.new.self.items c.sort.ensures.permutation c.requires)
+    c.in_ok-sort.ensures.sorted)
 
 pub returns-clause-none : goal.returns-clause-none
 returns-clause-none c =
     let moved : IsPermutation c.args.spans.items c.deref.result.now =
-    subst (IsPermutation c.args.spans.items) (sym c.deref.ensures.value) c.sort_any_order.ensures.permutation in (
+    subst (IsPermutation c.args.spans.items) (sym c.deref.ensures.value) c.sort.ensures.permutation in (
       (λ none. clear_permuted c.args.spans.items c.deref.result.now moved (c.first_overlap.ensures.none none)),
       none_where_clear c.args.spans.items c.first_overlap.result.0
           (found_permuted c.args.spans.items c.deref.result.now c.first_overlap.result.0 moved
@@ -41,5 +41,5 @@ returns-clause-none c =
 pub returns-clause-first : goal.returns-clause-first
 returns-clause-first c =
     let moved : IsPermutation c.args.spans.items c.deref.result.now =
-    subst (IsPermutation c.args.spans.items) (sym c.deref.ensures.value) c.sort_any_order.ensures.permutation in
+    subst (IsPermutation c.args.spans.items) (sym c.deref.ensures.value) c.sort.ensures.permutation in
     found_permuted c.args.spans.items c.deref.result.now c.first_overlap.result.0 moved c.first_overlap.ensures.first

@@ -1,12 +1,11 @@
 use Rattle.std.proofs.Common.{rules}
 use Rattle.acpi_base.specs.Lint.Processors.{IsOtherProcessor}
 use Rattle.acpi_read.specs.Madts.{madt_value}
-use Rattle.acpi_lint.proofs.AnyEntries.{any_entry, where_none}
+use Rattle.acpi_lint.proofs.SomeEntries.{any_of_entries, where_none}
 use Rattle.acpi_lint.proofs.known_numbers.are_processors_read.Goals as goal
 
 pub returns : goal.returns
 returns c =
     where_none c.first_picked-other.result c.is_none.result
-    (any_entry madt_value IsOtherProcessor c.first_picked-other.result c.first_picked-other.ensures
-    c.entries.ensures.entries
-    (λ at picked here answers. search rules)) c.is_none.ensures
+    (any_of_entries madt_value IsOtherProcessor c.first_picked-other.result c.first_picked-other.ensures
+    c.entries.ensures.entries (λ at picked answers. search rules)) c.is_none.ensures

@@ -25,7 +25,7 @@ returns c =
     (λ at other point (_, sides, unused). (sides, unused))
     (unknown_of_two placed_apic_id placed_uid (IsNamed apic_id_of others) (IsNamed uid_of others) entries ids uids found
     (rw (← c.as_slice-ids.ensures.value) at c.in_ok-ids.ensures)
-    (rw (← c.as_slice-uids.ensures.value) at c.in_ok-uids.ensures.all)
+    (rw (← c.as_slice-uids.ensures.value) at c.in_ok-uids.ensures)
     (least_same srat_value (IsUnknownAffinity ids uids) searched_in_srat 48 _ _ found c.first_picked.ensures
     c.searched_entries.ensures.entries
     (srat_rising c.args.srat.now)

@@ -27,7 +27,7 @@ returns c =
     (unknown_of_two apic_id_on gicc_uid_on (IsNamed placed_apic_id others) (IsNamed placed_uid others) entries ids
     uids found
     (rw (← c.as_slice-ids.ensures.value) at c.in_ok-ids.ensures)
-    (let known = rw (← c.as_slice-uids.ensures.value) at c.in_ok-uids.ensures in λ n named. known.all n)
+    (rw (← c.as_slice-uids.ensures.value) at c.in_ok-uids.ensures)
     (least_same madt_value (IsUnplaced ids uids) searched_in_madt 44 _ _ found c.first_picked.ensures
     c.searched_entries.ensures.entries
     (madt_rising c.args.madt.now)

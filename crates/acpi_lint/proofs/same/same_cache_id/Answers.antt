@@ -15,7 +15,7 @@ first_repeated-requires c =
     c.in_ok-numbers.ensures
     c.searched_entries.ensures.entries
     cache_id_none (λ at picked answers. search rules) in
-    record { rise = are.rise; placed = are.placed }
+    are.placed
 
 pub returns : goal.returns
 returns c =

@@ -1,16 +1,19 @@
-use Rattle.std.proofs.Common.{rules, ◌≡◌}
-use Rattle.std.specs.Option.{option_map}
-use Rattle.acpi_lint.specs.NotedSlots.{IsApart}
+use Rattle.std.proofs.Common.{rules, Some}
+use Rattle.acpi_lint.specs.Slots.{IsApart}
 use Rattle.acpi_lint.proofs.FirstSlots.{place_of, least_slot}
 use Rattle.acpi_lint.proofs.LeastPlaces.{least_as}
 use Rattle.acpi_lint.proofs.slot_advice.listed_apart.Goals as goal
 
+pub returns-in_err-slot : goal.returns-in_err-slot
+returns-in_err-slot c = λ m p whole.
+    let none = rw c.in_err-slot.was at (rw c.deref.ensures.value at c.first_slot.ensures) m p whole.slots in
+    rw c.from_residual.ensures (λ at other point (lists, unused). none at point (search rules) (search rules))
+
 pub returns : goal.returns
 returns c = λ m p whole.
-    let found = c.args.tables.now.noted_slots.apart in
-    let mapped : c.map.result ≡ option_map (place_of (λ a. 0) (λ a. a)) found = search rules in
-    rw mapped
-    (least_as (option_map (place_of (λ a. 0) (λ a. a)) found)
+    let first = rw c.in_ok-slot.was at (rw c.deref.ensures.value at c.first_slot.ensures) m p whole.slots in
+    let slot = c.in_ok-slot.slot in
+    least_as (Some (place_of (λ a. 0) (λ a. a) slot))
     (λ at other point (a, slot, signed, second, third). rw third (search rules))
     (λ at other point (lists, second). search rules)
-    (least_slot (IsApart m) (λ a. 0) (λ a. a) found whole.noted_slots.apart (λ a b answer. answer)))
+    (least_slot m p (IsApart m) (λ a. 0) (λ a. a) (Some slot) first)

@@ -1,7 +1,16 @@
-use Rattle.acpi_lint.proofs.ListedAddresses.{found_again}
+use Rattle.std.proofs.Common.{map}
+use Rattle.acpi_lint.specs.Slots.{numbered_slot}
+use Rattle.acpi_lint.proofs.CollectedNumbers.{found_twice}
+use Rattle.acpi_lint.proofs.ListedSlots.{at_numbers, are_numbered}
 use Rattle.acpi_lint.proofs.slot_advice.listed_twice.Goals as goal
+
+pub first_repeated-requires : goal.first_repeated-requires
+first_repeated-requires c =
+    rw (c.in_ok-given.ensures, c.deref.ensures.value) (at_numbers c.args.tables.now.slots.items)
 
 pub returns : goal.returns
 returns c = λ m p whole.
-    found_again c.args.tables.now.slots.items c.first_again.result whole.slots.listed
-    ((rw c.deref.ensures.value at c.first_again.ensures) whole.slots.rise)
+    let slots = c.args.tables.now.slots.items in
+    let given = rw c.deref.ensures.value at c.in_ok-given.ensures in
+    found_twice (map numbered_slot slots) c.first_repeated.result (are_numbered slots whole.slots)
+    (rw given at c.first_repeated.ensures)

@@ -1,6 +1,6 @@
 ghost use Rattle.std.specs.Prelude.{◌<◌, ◌≤◌, IfSome};
 
-use acpi_base::{Image, ImageText, Tally, TextFault, read_image};
+use acpi_base::{Image, ImageText, Tally, TextFault, parse_image, read_image};
 use std::alloc::{AllocError, Global};
 use std::io;
 use std::io::Read;
@@ -127,6 +127,16 @@ fn reads_each_byte(rt: HostRuntime) -> Result<(), TextFault> {
     let unread = reader.into_inner().len();
     let told = (first_wrong(&image), failures, unread);
     assert!(rt; told == (None, 0, 0), "{told:?}");
+    Ok(())
+}
+
+#[test]
+fn a_whole_text_is_parsed(rt: HostRuntime) -> Result<(), TextFault> {
+    let wrong = first_wrong(&parse_image(rt.alloc(), TABLES)?);
+    assert!(rt; wrong.is_none(), "{wrong:?}");
+    // The address that comes twice precedes the bad line behind it.
+    let fault = parse_image(rt.alloc(), b"@0\n01 02\n@1\n03\n?\n").err();
+    assert!(rt; fault == Some(TextFault::Twice { address: 1 }), "{fault:?}");
     Ok(())
 }
 

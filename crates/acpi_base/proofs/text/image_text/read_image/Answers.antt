@@ -4,7 +4,6 @@ use Rattle.std.specs.Io.KnownBytes.{Consumes}
 use Rattle.std.proofs.KnownBytes.{Consumes-nil}
 use Rattle.std.proofs.lemmas.List.{take-append-le}
 use Rattle.acpi_base.specs.declared.text.TextFault.{TextFault}
-use Rattle.acpi_base.specs.Image.Draft.{data_result}
 use Rattle.acpi_base.specs.Text.TextMachine.{run}
 use Rattle.acpi_base.specs.Text.LineBuffers.{buffer_state}
 use Rattle.acpi_base.specs.Text.TextReading.{CountsRead}
@@ -13,9 +12,9 @@ use Rattle.acpi_base.proofs.text.image_text.read_image.Goals as goal
 
 pub pieces-init : goal.pieces-init
 pieces-init g c = record {
-  brought = nothing_brought _ _ c.draft-buffer.ensures.state (Consumes-nil _);
-  sound = c.draft-buffer.ensures.sound;
-  counted = c.draft-buffer.ensures.count;
+  brought = nothing_brought _ _ c.new-buffer.ensures.state (Consumes-nil _);
+  sound = c.new-buffer.ensures.sound;
+  counted = c.new-buffer.ensures.count;
   count = refl;
 }
 
@@ -31,14 +30,14 @@ returns-in_default-clause-text g c =
     let before = g.R.Read.remaining c.args.reader.now.inner in
     let middle = g.R.Read.remaining c.pieces.reader.inner in
     let left = g.R.Read.remaining c.read.new.self.inner in
-    let returned = returned_read before middle left b.parser (data_result b.parser.image) b.line.items c.pieces.total
+    let returned = returned_read before middle left b.parser b.parser.image b.line.items c.pieces.total
     c.pieces.invariant.brought fits c.in_default.ensures.bytes in
     subst (λ (fault : TextFault). HasReturned before left (Err fault)) (sym c.first_fault.ensures) returned
 
 pub returns-in_default-clause-count : goal.returns-in_default-clause-count
 returns-in_default-clause-count g c =
     subst (CountsRead c.args.reader.now.failures c.read.new.self.failures) (sym c.first_fault.ensures)
-    (count_read (data_result c.pieces.buffer.parser.image) _ c.pieces.reader.failures _ c.pieces.invariant.count
+    (count_read c.pieces.buffer.parser.image _ c.pieces.reader.failures _ c.pieces.invariant.count
     c.in_default.ensures.err)
 
 pub returns-then-count-eq0-clause-text : goal.returns-then-count-eq0-clause-text

@@ -1,7 +1,8 @@
-use Rattle.std.proofs.Common.{Some}
-use Rattle.acpi_confirm.proofs.Walks.{is_there}
+use Rattle.acpi_confirm.proofs.Starts.{there_ahead}
 use Rattle.acpi_confirm.proofs.pptt.starts.entry_noted.Goals as goal
 
-pub returns-then-is_reached-clause-there : goal.returns-then-is_reached-clause-there
-returns-then-is_reached-clause-there c =
-    is_there 36 c.args.pptt.now c.args.at (Some c.in-Some.entry) c.if-is_reached.ensures c.in-Some.ensures
+pub returns-in-Some-clause-there : goal.returns-in-Some-clause-there
+returns-in-Some-clause-there c =
+    let (behind, noted) = c.in-Some.ensures in
+    there_ahead c.args.pptt.now c.in-Some.start c.args.at _ (c.requires.stand c.in-Some.start noted) behind
+    c.entry_at.ensures.there

@@ -1,7 +1,7 @@
 use Rattle.std.proofs.Common.{rules, ◌≡◌}
 use Rattle.std.specs.Prelude.{Some}
 use Rattle.acpi_base.specs.Memory.{bytes_at}
-use Rattle.acpi_lint.proofs.NotedSlots.{table_there}
+use Rattle.acpi_lint.proofs.TablesAt.{table_there}
 use Rattle.acpi_lint.proofs.table_at.TableAt.of.Goals as goal
 
 pub returns-clause-noted : goal.returns-clause-noted

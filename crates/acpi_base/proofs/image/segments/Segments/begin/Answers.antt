@@ -21,12 +21,12 @@ returns-clause-sound c =
     let gap = c.if-base-self.false in
     let behind = c.requires.behind in
     let within = c.requires.sound.within in
-    pushed_laid _ _ _ _ _ c.args.self.now.start _ _ c.in_ok-push.ensures.ok c.requires.sound refl (omega arith)
+    pushed_laid _ _ _ _ _ c.args.self.now.start _ _ c.in_ok-push.ensures.items c.requires.sound refl (omega arith)
     (omega arith) (omega arith) (omega arith) (omega arith)
 
 pub returns-clause-same : goal.returns-clause-same
 returns-clause-same c =
     let long = c.len.ensures in
     let within = c.requires.sound.within in
-    pushed_held _ _ _ _ _ c.args.self.now.start _ _ c.in_ok-push.ensures.ok c.requires.sound refl (omega arith)
+    pushed_held _ _ _ _ _ c.args.self.now.start _ _ c.in_ok-push.ensures.items c.requires.sound refl (omega arith)
     (omega arith)

@@ -14,7 +14,7 @@ returns-clause-sound c =
 pub returns-clause-ok : goal.returns-clause-ok
 returns-clause-ok c =
     let s = c.begin.new.self in
-    more_held s.store _ c.args.bytes.now s.ended s.base s.start c.in_ok-extend.ensures.ok
+    more_held s.store _ c.args.bytes.now s.ended.items s.base s.start c.in_ok-extend.ensures.ok
     c.in_ok-begin.ensures.sound.within c.in_ok-begin.ensures.sound.lies
     ∙ ap (λ a. with_bytes (memory_in s) a c.args.bytes.now) (sym c.in_ok-begin.ensures.at)
     ∙ ap (λ m. with_bytes m c.args.base c.args.bytes.now) c.in_ok-begin.ensures.same

@@ -12,20 +12,20 @@ pub take_all-requires-clause-rising : goal.take_all-requires-clause-rising
 take_all-requires-clause-rising c =
     let parts = parts_at c.args.self.now c.args.base (length c.args.bytes.now) c.place.result c.requires.sound
     c.requires.before c.requires.some c.requires.free c.place.ensures.within c.place.ensures.place in
-    rw (c.split_at.ensures.front, c.pieces.ensures) parts.low_rising
+    rw (c.split_at.ensures.front, c.deref.ensures.value) parts.low_rising
 
 pub take_all-requires-clause-lies : goal.take_all-requires-clause-lies
 take_all-requires-clause-lies c =
     let parts = parts_at c.args.self.now c.args.base (length c.args.bytes.now) c.place.result c.requires.sound
     c.requires.before c.requires.some c.requires.free c.place.ensures.within c.place.ensures.place in
-    rw (c.split_at.ensures.front, c.pieces.ensures, c.bytes-store.ensures) parts.low_lies
+    rw (c.split_at.ensures.front, c.deref.ensures.value, c.bytes-store.ensures) parts.low_lies
 
 pub take_all-requires-clause-behind : goal.take_all-requires-clause-behind
 take_all-requires-clause-behind c =
     let parts = parts_at c.args.self.now c.args.base (length c.args.bytes.now) c.place.result c.requires.sound
     c.requires.before c.requires.some c.requires.free c.place.ensures.within c.place.ensures.place in
-    rw (c.split_at.ensures.front, c.pieces.ensures)
-    (subst (λ n. AllByRecursion (λ (p : Piece). n ≤ p.0) (take c.place.result c.args.self.now.ended))
+    rw (c.split_at.ensures.front, c.deref.ensures.value)
+    (subst (λ n. AllByRecursion (λ (p : Piece). n ≤ p.0) (take c.place.result c.args.self.now.ended.items))
     (sym c.in_ok-all.ensures.end) parts.low_begin)
 
 pub take-requires-clause-behind : goal.take-requires-clause-behind
@@ -34,26 +34,26 @@ take-requires-clause-behind c =
     c.requires.before c.requires.some c.requires.free c.place.ensures.within c.place.ensures.place in
     let empty_end = c.in_ok-all.ensures.end in
     c.in_ok-take_all.ensures.end c.args.base (omega arith)
-    (rw (c.split_at.ensures.front, c.pieces.ensures) parts.low_end)
+    (rw (c.split_at.ensures.front, c.deref.ensures.value) parts.low_end)
 
 pub take_all-requires-2-clause-rising : goal.take_all-requires-2-clause-rising
 take_all-requires-2-clause-rising c =
     let parts = parts_at c.args.self.now c.args.base (length c.args.bytes.now) c.place.result c.requires.sound
     c.requires.before c.requires.some c.requires.free c.place.ensures.within c.place.ensures.place in
-    rw (c.split_at.ensures.back, c.pieces.ensures) parts.high_rising
+    rw (c.split_at.ensures.back, c.deref.ensures.value) parts.high_rising
 
 pub take_all-requires-2-clause-lies : goal.take_all-requires-2-clause-lies
 take_all-requires-2-clause-lies c =
     let parts = parts_at c.args.self.now c.args.base (length c.args.bytes.now) c.place.result c.requires.sound
     c.requires.before c.requires.some c.requires.free c.place.ensures.within c.place.ensures.place in
-    rw (c.split_at.ensures.back, c.pieces.ensures, c.bytes-store.ensures) parts.high_lies
+    rw (c.split_at.ensures.back, c.deref.ensures.value, c.bytes-store.ensures) parts.high_lies
 
 pub take_all-requires-2-clause-behind : goal.take_all-requires-2-clause-behind
 take_all-requires-2-clause-behind c =
     let parts = parts_at c.args.self.now c.args.base (length c.args.bytes.now) c.place.result c.requires.sound
     c.requires.before c.requires.some c.requires.free c.place.ensures.within c.place.ensures.place in
-    rw (c.split_at.ensures.back, c.pieces.ensures)
-    (subst (λ n. AllByRecursion (λ (p : Piece). n ≤ p.0) (drop c.place.result c.args.self.now.ended))
+    rw (c.split_at.ensures.back, c.deref.ensures.value)
+    (subst (λ n. AllByRecursion (λ (p : Piece). n ≤ p.0) (drop c.place.result c.args.self.now.ended.items))
     (sym c.in_ok-take.ensures.end) parts.high_begin)
 
 pub take-requires-then-self-store-clause-behind : goal.take-requires-then-self-store-clause-behind
@@ -65,14 +65,14 @@ take-requires-then-self-store-clause-behind c =
     let last = parts.last_begin (omega arith) in
     let before = c.in_ok-take.ensures.end in
     c.in_ok-take_all-2.ensures.end c.args.self.now.base (omega arith)
-    (rw (c.split_at.ensures.back, c.pieces.ensures) parts.high_end)
+    (rw (c.split_at.ensures.back, c.deref.ensures.value) parts.high_end)
 
 pub returns-clause-ok : goal.returns-clause-ok
 returns-clause-ok c =
     let s = c.args.self.now in
-    let e1 = rw (c.split_at.ensures.front, c.pieces.ensures, c.bytes-store.ensures) at
+    let e1 = rw (c.split_at.ensures.front, c.deref.ensures.value, c.bytes-store.ensures) at
     c.in_ok-take_all.ensures.whole in
-    let e3 = rw (c.split_at.ensures.back, c.pieces.ensures, c.bytes-store.ensures) at
+    let e3 = rw (c.split_at.ensures.back, c.deref.ensures.value, c.bytes-store.ensures) at
     c.in_ok-take_all-2.ensures.whole in
     let all = put_among s c.args.base c.place.result c.args.bytes.now (memory_in c.in_ok-all.all)
     (memory_in c.take_all.new.self) (memory_in c.take.new.self) (memory_in c.take_all-2.new.self)

@@ -1,5 +1,4 @@
 use Rattle.std.proofs.Common.{inr, refl, ◌++◌, length, arith}
-use Rattle.acpi_base.specs.Image.Draft.{data_result}
 use Rattle.acpi_base.specs.Text.ImageText.{read_line}
 use Rattle.acpi_base.specs.Text.LineBuffers.{byte_count}
 use Rattle.acpi_base.specs.Text.Lines.{reading_with}
@@ -13,5 +12,5 @@ returns-then-part-len-clause-err c =
     let line_fits = (short_bounds (length f.line.items) (byte_count f) c.requires.short).0 in
     let long = c.len.ensures in
     let far = c.if-part-len.true in
-    refuses_told f.parser (data_result f.parser.image) (λ r. read_line r (f.line.items ++ c.args.part.now) 1) TooLong
+    refuses_told f.parser f.parser.image (λ r. read_line r (f.line.items ++ c.args.part.now) 1) TooLong
     (λ m. inr (line_too_long (reading_with f.parser m) f.line.items c.args.part.now 1 (omega arith), refl))

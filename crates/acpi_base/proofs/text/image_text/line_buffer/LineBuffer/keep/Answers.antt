@@ -1,6 +1,5 @@
 use Rattle.std.proofs.Common.{inl, inr, ◌+◌, ◌∙◌, length, ap, sym, arith}
 use Rattle.std.proofs.lemmas.Bool.{cases_lt}
-use Rattle.acpi_base.specs.Image.Draft.{data_result}
 use Rattle.acpi_base.specs.Text.ImageText.{max_line}
 use Rattle.acpi_base.specs.Text.Lines.{judged}
 use Rattle.acpi_base.specs.Text.LineBuffers.{state_with, byte_count}
@@ -22,7 +21,7 @@ returns-then-part-most-clause-err c =
       | inl l ↦ inl l
       | inr l ↦ inr (omega arith)
     ])
-    (data_result f.parser.image))
+    f.parser.image)
 
 pub returns-clause-ok : goal.returns-clause-ok
 returns-clause-ok c =
@@ -35,11 +34,11 @@ returns-clause-ok c =
     let long = c.len.ensures in
     let near = c.if-part-most.false in
     kept f.parser f.line.items c.args.part.now c.requires.sound.short c.requires.free (omega arith)
-    (omega arith) (data_result f.parser.image)
+    (omega arith) f.parser.image
     ∙ ap (state_with (judged f.parser)) (sym c.in_ok-extend_from_slice.ensures.items)
 
 pub returns-in_err-extend_from_slice-clause-err : goal.returns-in_err-extend_from_slice-clause-err
 returns-in_err-extend_from_slice-clause-err c =
     let f = c.args.self.now in
-    not_kept f.parser f.line.items c.args.part.now (data_result f.parser.image) c.from_residual.result
+    not_kept f.parser f.line.items c.args.part.now f.parser.image c.from_residual.result
     c.from_residual.ensures.1

@@ -2,7 +2,6 @@ use Rattle.std.proofs.Common.{◌≡◌, inl, inr, ◌++◌, ◌-◌, ◌<◌, �
 use Rattle.std.proofs.lemmas.Bool.Decides.{nat_tests}
 use Rattle.std.proofs.lemmas.List.{drop-drop, length-drop, length-take-le}
 use Rattle.std.proofs.lemmas.Slice.{between_to_end}
-use Rattle.acpi_base.specs.Image.Draft.{data_result}
 use Rattle.acpi_base.specs.Text.ImageText.{on_ok, read_line}
 use Rattle.acpi_base.specs.Text.TextMachine.{run}
 use Rattle.acpi_base.specs.Text.LineBuffers.{state_with, byte_count}
@@ -21,7 +20,7 @@ returns-in-Err-clause-err c =
     let low : n < length text = omega arith in
     let refused = subst (λ part. Refuses (on_ok (judged f.parser) (λ r. read_line r (f.line.items ++ part) 1)) stop)
     c.split_at.ensures.front c.in-Err.ensures.err in
-    elim (line_refused f.parser (data_result f.parser.image) f.line.items text n stop c.lines.invariant.sound.short low
+    elim (line_refused f.parser f.parser.image f.line.items text n stop c.lines.invariant.sound.short low
     c.line_end.ensures.before (c.line_end.ensures.found low) refused) [
       | inl memory ↦ inl memory
       | inr stopped ↦ inr (sym c.lines.invariant.run ∙ stopped)
@@ -52,9 +51,8 @@ lines-preserved c =
     let so_far = c.lines.invariant.count in
     record {
       sound = sound;
-      kind = c.end_line.ensures.kind ∙ c.lines.invariant.kind;
       run = ap (λ line. run (state_with (judged next.parser) line) rest) c.in_default.ensures.line
-          ∙ sym (line_passed f.parser next.parser (data_result f.parser.image) (data_result next.parser.image)
+          ∙ sym (line_passed f.parser next.parser f.parser.image next.parser.image
           f.line.items text n rest c.lines.invariant.sound.short low c.line_end.ensures.before
           (c.line_end.ensures.found low) read (omega arith) behind)
           ∙ c.lines.invariant.run;

@@ -1,5 +1,4 @@
 use Rattle.std.proofs.Common.{◌≡◌, ◌+◌, length}
-use Rattle.acpi_base.specs.Image.Draft.{is_checked}
 use Rattle.acpi_base.specs.Text.TextMachine.{run}
 use Rattle.acpi_base.specs.Text.LineBuffers.{IsLineBuffer, buffer_state, byte_count}
 use Rattle.acpi_base.proofs.text.image_text.line_buffer.LineBuffer.take.Given as goal
@@ -8,7 +7,6 @@ use Rattle.acpi_base.proofs.text.image_text.line_buffer.LineBuffer.take.Given as
 abbrev pub invariant-lines : goal.invariant-lines
 invariant-lines l = record {
   sound : IsLineBuffer l.self;
-  kind : is_checked l.self.parser.image ≡ is_checked l.initial.self.parser.image;
   run : run (buffer_state l.self) l.rest ≡ run (buffer_state l.initial.self) l.piece;
   count : byte_count l.self + length l.rest ≡ byte_count l.initial.self + length l.piece;
 }
