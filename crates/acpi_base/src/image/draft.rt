@@ -71,11 +71,26 @@ fn first_twice(pieces: &[(u64, Span)], count: usize) -> Option<u64>
     Some(found)
 }
 
+/// Whether the pieces come in the order of their addresses, as those of firmware mostly do.
+fn are_sorted(pieces: &[(u64, Span)]) -> bool
+    ensures { result ≡ true → IsNonDecreasingBy (λ p. p.0) pieces.now }
+{
+    for next in 1..pieces.len() {
+        if pieces[next].0 < pieces[next - 1].0 {
+            return false;
+        }
+    }
+    true
+}
+
 /// Sorts the pieces by address. If there is no memory for a buffer, it takes longer.
 fn sort_by_address(pieces: &mut Vec<(u64, Span)>)
     ensures permutation { IsPermutation pieces.old.items pieces.new.items }
     ensures sorted { IsNonDecreasingBy (λ p. p.0) pieces.new.items }
 {
+    if are_sorted(pieces) {
+        return;
+    }
     match pieces.sort_by_key(|piece| piece.0) {
         Ok(()) => (),
         Err(_) => pieces.sort_unstable_by_key(|piece| piece.0),
