@@ -453,17 +453,20 @@ def chain_in_no_order(count):
     return set_of([pptt(*(gap + node(parent) for gap, parent in zip(gaps, parents)))])
 
 
+# As many as a command line can surely have counts for.
+MOST_COUNTS = 90000
+
+
 def counted_addresses():
-    """As many as a command line can surely have counts for."""
-    return random.Random(1).sample(range(1 << 31, 1 << 32), 90000)
+    return random.Random(1).sample(range(1 << 31, 1 << 32), MOST_COUNTS)
 
 
-def counts():
-    return "".join(f"{address:x}=1\n" for address in counted_addresses())
+def counts(count=MOST_COUNTS):
+    return "".join(f"{address:x}=1\n" for address in counted_addresses()[:count])
 
 
 def io_apics_with_counts(count):
-    """I/O APICs in no order, for whose addresses there are counts of inputs, and an override."""
+    """I/O APICs in no order, at addresses for which there may be counts of inputs, and an override."""
     addresses = random.Random(2).choices(counted_addresses(), k=count)
     return set_of([madt(*map(io_apic, shuffled(count), addresses), override(0))], text=rows_text)
 

@@ -15,7 +15,7 @@ import sys
 import tempfile
 from dataclasses import dataclass
 
-from inputs import CHAINS, counts, long_run, many_rows, pieces_text, rows_text, set_of, text_of
+from inputs import CHAINS, MOST_COUNTS, counts, long_run, many_rows, pieces_text, rows_text, set_of, text_of
 from measure import Program, written_by
 
 MOST_TIMES = {"check": 40, "confirm": 40, "find": 40, "lint": 80}
@@ -66,7 +66,7 @@ def orders():
         yield Shape(name, 5150000, commands=("check", "find"), size=1)
 
 
-# The file with 90,000 counts of inputs, about as many as fit on a command line.
+# The file with the counts of inputs.
 WITH_COUNTS = "@counts"
 ONE_INPUT = "--default-inputs 1"
 SHOWN = (*CHECKED, "show", "rebuild --base 100000000")
@@ -136,7 +136,7 @@ class Measured:
 def write(number, divisor, path):
     """Writes the text of a shape, or of one run, or the counts of inputs, and returns the commands."""
     if number in ("run", "counts"):
-        text, commands = long_run(MEBIBYTES // divisor) if number == "run" else counts(), ()
+        text, commands = long_run(MEBIBYTES // divisor) if number == "run" else counts(MOST_COUNTS // divisor), ()
     else:
         text, commands = WORST[int(number)].text(divisor)
     with open(path, "w", encoding="ascii") as out:
