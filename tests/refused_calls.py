@@ -22,6 +22,7 @@ OUT_OF_MEMORY = re.compile(rb'\b(AllocError|AllocFailed|Memory|DeviceFailed)\b')
 # The tests that make more requests than are refused each in its turn. docs/PROMISES.md names them.
 SAMPLED = {
     "base::text::image_text::reads_a_row_with_one_byte_changed",
+    "base::text::image_text::text_comes_in_pieces",
     "graph::clash::agrees_with_the_plain_search",
     "graph::stray::agrees_with_the_plain_walk",
 }

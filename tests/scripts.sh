@@ -235,8 +235,8 @@ PATH="$scratch/bin:$PATH" "$scratch/tree/scripts/prove" gate acpi_c acpi_graph >
 same 'scripts/prove gate acpi_c acpi_graph' "$? $(cat "$scratch/calls") $(cat "$scratch/log")" "0 tree: ci acpi_c acpi_graph $(cat "$scratch/said")"
 PATH="$scratch/bin:$PATH" "$scratch/tree/scripts/prove" program acpi_c >"$scratch/log" 2>&1
 same 'scripts/prove program acpi_c' "$? $(head -n 1 "$scratch/log" | cut -c 1-28)" '1 usage: scripts/prove program'
-same 'make gate acpi_c acpi_graph' "$(PATH="$scratch/bin:$PATH" make -n gate acpi_c acpi_graph 2>&1 | head -n 1)" 'scripts/prove gate acpi_c acpi_graph'
-same 'make gate test' "$(PATH="$scratch/bin:$PATH" make -n gate test 2>&1 | sed -n 's/^\(scripts.alone \(scripts.prove gate\|sh -c .scripts.prove tests\)\).*/\1/p')" $'scripts/alone scripts/prove gate\nscripts/alone sh -c \'scripts/prove tests'
+same 'make gate acpi_c acpi_graph' "$(PATH="$scratch/bin:$PATH" make --no-print-directory -n gate acpi_c acpi_graph 2>&1 | head -n 1)" 'scripts/prove gate acpi_c acpi_graph'
+same 'make gate test' "$(PATH="$scratch/bin:$PATH" make --no-print-directory -n gate test 2>&1 | sed -n 's/^\(scripts.alone \(scripts.prove gate\|sh -c .scripts.prove tests\)\).*/\1/p')" $'scripts/alone scripts/prove gate\nscripts/alone sh -c \'scripts/prove tests'
 
 # ---- scripts/kept
 

@@ -1,6 +1,7 @@
 use acpi_base::{DraftImage, Image, ImageFault};
 use std::alloc::Global;
 use std::process::Abort;
+use std::test::Fail;
 
 /// Bytes that are added, the address of the first, and what `add` returns.
 type Added<'a> = (u64, &'a [u8], Result<(), ImageFault>);
@@ -136,10 +137,10 @@ fn repeating(rt: &impl Abort, alloc: Global) -> DraftImage {
 }
 
 #[test]
-fn a_draft_tells_the_first_address_that_came_twice(rt: HostRuntime) {
+fn a_draft_tells_the_first_address_that_came_twice(rt: HostRuntime) -> Result<(), Fail> {
     let draft = repeating(&rt, rt.alloc());
-    let so_far = draft.first_twice_so_far().ok();
-    assert!(rt; so_far == Some(Some(0x20)), "{so_far:?}");
+    let so_far = draft.first_twice_so_far()?;
+    assert!(rt; so_far == Some(0x20), "{so_far:?}");
     let first = draft.first_twice();
     assert!(rt; first == Some(0x20), "{first:?}");
     let refused = repeating(&rt, rt.alloc()).finish().err();
@@ -147,4 +148,5 @@ fn a_draft_tells_the_first_address_that_came_twice(rt: HostRuntime) {
         refused == Some(ImageFault::Twice { address: 0x20 }),
         "{refused:?}"
     );
+    Ok(())
 }
