@@ -1,3 +1,4 @@
+pub mod Adopted
 pub mod ByteRuns
 pub mod Drafts
 pub mod FirstTwice

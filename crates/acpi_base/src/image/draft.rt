@@ -11,7 +11,7 @@ ghost use Rattle.acpi_base.specs.Memory.{Memory, IsImage};
 ghost use Rattle.acpi_base.specs.Image.Adding.{IsLayoutRefusal, added};
 ghost use Rattle.acpi_base.specs.Image.Draft.{AreDrafted, ComesTwice, EndsAt, IsFirstTwice, IsOnceBefore, all_added, holder_count};
 ghost use Rattle.acpi_base.specs.Image.Pieces.{runs_in};
-ghost use Rattle.acpi_base.specs.Image.Segments.{IsSound, memory_in};
+ghost use Rattle.acpi_base.specs.Image.Segments.{AreSegmentsApart, IsSound, memory_in};
 ghost use Rattle.acpi_base.specs.Text.ImageText.{on_ok};
 
 use super::segments::Segments;
@@ -71,14 +71,20 @@ fn first_twice(pieces: &[(u64, Span)], count: usize) -> Option<u64>
     Some(found)
 }
 
-/// Whether the pieces come in the order of their addresses, as those of firmware mostly do.
-fn are_sorted(pieces: &[(u64, Span)]) -> bool
-    ensures { result ≡ true → IsNonDecreasingBy (λ p. p.0) pieces.now }
+/// Whether the pieces came in the order of their addresses, with an address without a byte between neighbours, as those of
+/// firmware do.
+fn are_apart(pieces: &[(u64, Span)]) -> bool
+    requires { AllByRecursion (λ p. 0 < p.1.len) pieces.now }
+    ensures { result ≡ true → AreSegmentsApart pieces.now }
 {
-    for next in 1..pieces.len() {
-        if pieces[next].0 < pieces[next - 1].0 {
+    // Where the piece behind begins: no piece ends at 2^65.
+    let mut next: u128 = 1 << 65;
+    for i in (0..pieces.len()).rev() {
+        let (first, span) = pieces[i];
+        if next <= first as u128 + span.len as u128 {
             return false;
         }
+        next = first as u128;
     }
     true
 }
@@ -88,9 +94,6 @@ fn sort_by_address(pieces: &mut Vec<(u64, Span)>)
     ensures permutation { IsPermutation pieces.old.items pieces.new.items }
     ensures sorted { IsNonDecreasingBy (λ p. p.0) pieces.new.items }
 {
-    if are_sorted(pieces) {
-        return;
-    }
     match pieces.sort_by_key(|piece| piece.0) {
         Ok(()) => (),
         Err(_) => pieces.sort_unstable_by_key(|piece| piece.0),
@@ -107,6 +110,24 @@ fn judge(store: &[u8], pieces: &mut Vec<(u64, Span)>) -> Option<u64>
 {
     sort_by_address(pieces);
     first_twice(pieces, store.len())
+}
+
+/// The segments of pieces that are apart, whose bytes stay where they are.
+fn adopt(
+    alloc: Global,
+    store: Vec<u8>,
+    mut pieces: Vec<(u64, Span)>,
+) -> Result<Segments, AllocError>
+    requires draft { AreDrafted store.items pieces.items }
+    requires apart { AreSegmentsApart pieces.items }
+    ensures sound { IfOk result IsSound }
+    ensures same { IfOk result
+        (λ segments. all_added empty (runs_in store.items pieces.items) ≡ Ok (memory_in segments)) }
+{
+    match pieces.pop() {
+        Some((base, span)) => Segments::of(alloc, store, pieces, base, span.start),
+        None => Ok(Segments::new(alloc)),
+    }
 }
 
 /// The segments of pieces that came in any order.
@@ -273,11 +294,15 @@ impl DraftImage {
         judge(&store, &mut pieces)
     }
 
-    /// The same for a draft to which more is added. The list of pieces is copied.
+    /// The same for a draft to which more is added. The list of pieces is copied, unless they came in the order of their
+    /// addresses.
     pub fn first_twice_so_far(&self) -> Result<Option<u64>, AllocError>
         ensures { IfOk result (λ found. MatchOption found ((m : Memory) × (self.now ≡ Ok m))
             (λ address. self.now ≡ Err address)) }
     {
+        if are_apart(&self.pieces) {
+            return Ok(None);
+        }
         let mut pieces = Vec::from_slice(self.alloc, &self.pieces)?;
         Ok(judge(&self.store, &mut pieces))
     }
@@ -293,7 +318,11 @@ impl DraftImage {
             pieces,
             alloc,
         } = self;
-        let segments = lay_out(alloc, &store, pieces)?;
+        let segments = if are_apart(&pieces) {
+            adopt(alloc, store, pieces)?
+        } else {
+            lay_out(alloc, &store, pieces)?
+        };
         Ok(Image { segments, alloc })
     }
 }

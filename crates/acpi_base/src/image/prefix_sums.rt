@@ -92,6 +92,15 @@ impl PrefixSums {
         })
     }
 
+    /// These bytes, which are summed once.
+    pub fn of(alloc: Global, bytes: Vec<u8>) -> Result<PrefixSums, AllocError>
+        ensures { IfOk result (λ sums. sums ≡ bytes.items) }
+    {
+        let mut sums = Vec::with_capacity(alloc, bytes.len() / DISTANCE)?;
+        add_sums(&mut sums, &bytes)?;
+        Ok(PrefixSums { bytes, sums })
+    }
+
     /// How many they are.
     pub fn len(&self) -> usize
         ensures { result ≡ length self.now }

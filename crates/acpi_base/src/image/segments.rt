@@ -10,8 +10,8 @@ ghost use Rattle.std.specs.FinMap.{empty};
 ghost use Rattle.acpi_base.specs.Memory.{run_of, least_defined, with_bytes, byte_of};
 ghost use Rattle.acpi_base.specs.Number.{byte_sum};
 ghost use Rattle.acpi_base.specs.Image.Runs.{lookup};
-ghost use Rattle.acpi_base.specs.Image.Pieces.{LiesBefore, AreSortedDisjoint, end_at, run_in, runs_in};
-ghost use Rattle.acpi_base.specs.Image.Segments.{IsGap, IsPartitionPoint, IsRest, IsRunAt, IsSound, end_in, memory_in, runs_of};
+ghost use Rattle.acpi_base.specs.Image.Pieces.{LiesBefore, AreSortedDisjoint, end_at, memory_in_store, run_in, runs_in};
+ghost use Rattle.acpi_base.specs.Image.Segments.{AreSegments, IsGap, IsPartitionPoint, IsRest, IsRunAt, IsSound, end_in, memory_in, runs_of};
 
 use super::prefix_sums::PrefixSums;
 use super::span::Span;
@@ -51,6 +51,27 @@ impl Segments {
             ended: Vec::new(alloc),
             base: 0,
             start: 0,
+        })
+    }
+
+    /// Segments whose bytes are in a store already, the last of them open.
+    pub fn of(
+        alloc: Global,
+        store: Vec<u8>,
+        ended: Vec<(u64, Span)>,
+        base: u64,
+        start: usize,
+    ) -> Result<Segments, AllocError>
+        requires { AreSegments store.items ended.items base start }
+        ensures sound { IfOk result IsSound }
+        ensures same { IfOk result
+            (λ segments. memory_in segments ≡ memory_in_store store.items ended.items base start) }
+    {
+        Ok(Segments {
+            store: PrefixSums::of(alloc, store)?,
+            ended,
+            base,
+            start,
         })
     }
 

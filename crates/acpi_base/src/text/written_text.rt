@@ -1,6 +1,6 @@
 //! Images written as text, which `read_image` reads.
 
-ghost use Rattle.std.specs.Prelude.{◌≡◌, ◌++◌, IfOk, OnOk};
+ghost use Rattle.std.specs.Prelude.{◌≡◌, ◌+◌, ◌<◌, ◌≤◌, ◌++◌, ◌∷◌, length, take, IfOk, OnOk};
 ghost use Rattle.acpi_base.specs.Text.WrittenText.{pair, row, rows, row_count, line_with_lf, text_of, address_line, run_lines, IsWritten};
 
 use crate::image::Image;
@@ -9,30 +9,39 @@ use std::alloc::{AllocError, Global};
 /// How many bytes a line has at most.
 const ROW: usize = 16;
 
-/// Adds a byte's two digits.
-#[tactic(auto, using(crate::proofs::Texts::Written::Pairs::pair_encoded))]
-fn write_pair(text: &mut Vec<u8>, byte: u8) -> Result<(), AllocError>
-    ensures { OnOk result (text.new.items ≡ text.old.items ++ pair byte) }
+/// How many characters a line has at most: a blank before each byte's two digits, and the LF.
+const LINE: usize = 3 * ROW + 1;
+
+/// Writes a blank and a byte's two digits into a line.
+#[tactic(auto, using(crate::proofs::Texts::Written::Pairs::pair_put))]
+fn put_pair(line: &mut [u8], at: usize, byte: u8)
+    requires { at + 3 ≤ length line.old }
+    ensures written { take (at + 3) line.new ≡ take at line.old ++ 32 ∷ pair byte }
+    ensures same { length line.new ≡ length line.old }
 {
     let mut digits = [0; 2];
     hex::encode_to_slice([byte], &mut digits).unwrap();
-    text.extend_from_slice(&digits)
+    line[at] = b' ';
+    line[at + 1] = digits[0];
+    line[at + 2] = digits[1];
 }
 
-/// Adds a line of bytes.
+/// Adds a line of bytes. It is made beside the text, and appended at once.
 #[tactic(auto, using(crate::proofs::Texts::Written::Rows::pairs), unfolding(crate::specs::Text::WrittenText::row, crate::specs::Text::WrittenText::spaced_pairs))]
 fn write_row(text: &mut Vec<u8>, bytes: &[u8]) -> Result<(), AllocError>
+    requires some { 0 < length bytes.now }
+    requires short { length bytes.now ≤ 16 }
     ensures { OnOk result (text.new.items ≡ text.old.items ++ line_with_lf (row bytes.now)) }
 {
-    if let Some((first, rest)) = bytes.split_first() {
-        write_pair(text, *first)?;
-        for byte in rest {
-            text.push(b' ')?;
-            write_pair(text, *byte)?;
-        }
+    let mut line = [0; LINE];
+    let mut end = 0;
+    for byte in bytes {
+        put_pair(&mut line, end, *byte);
+        end += 3;
     }
-    text.push(b'\n')?;
-    Ok(())
+    line[end] = b'\n';
+    // There is no blank before the first byte.
+    text.extend_from_slice(&line[1..end + 1])
 }
 
 /// Adds the lines of a run.

@@ -33,3 +33,28 @@ pair_encoded b fits =
     let high = digit_encoded (b / 16) (omega arith) in
     let low = digit_encoded (b % 16) (omega arith) in
     rw (high, low) refl
+
+-- three writes in a row, seen from the front
+three_writes : (xs : List ℕ) (o x y z : ℕ) → o + 3 ≤ length xs
+    → take (o + 3) (slice_set (slice_set (slice_set xs o x) (o + 1) y) (o + 2) z) ≡ take o xs ++ x ∷ y ∷ z ∷ []
+three_writes xs o x y z fits =
+    let one = slice_set xs o x in
+    let two = slice_set one (o + 1) y in
+    let long_one : length one ≡ length xs = length-set xs o x in
+    let long_two : length two ≡ length one = length-set one (o + 1) y in
+    let next : o + 3 ≡ o + 2 + 1 = omega arith in
+    let more : o + 2 ≡ o + 1 + 1 = omega arith in
+    let third = take_more_set two (o + 2) z (omega (arith, long_one, long_two)) in
+    let second = take_more_set one (o + 1) y (omega (arith, long_one)) in
+    let first = take_more_set xs o x (omega arith) in
+    rw (next, third, more, second, first)
+    (append_assoc (take o xs ++ x ∷ []) (y ∷ []) (z ∷ []) ∙ append_assoc (take o xs) (x ∷ []) (y ∷ z ∷ []))
+
+-- a blank and the digits of a byte, written in a row
+pub pair_put : (xs digits : List ℕ) (o b : ℕ) → o + 3 ≤ length xs → b < 256 → digits ≡ encode_lower (b ∷ [])
+    → take (o + 3) (slice_set (slice_set (slice_set xs o 32) (o + 1) (get_or digits 0 0)) (o + 2) (get_or digits 1 0))
+    ≡ take o xs ++ 32 ∷ pair b
+pair_put xs digits o b fits byte is =
+    let digits_are : digits ≡ pair b = is ∙ pair_encoded b byte in
+    three_writes xs o 32 (get_or digits 0 0) (get_or digits 1 0) fits
+    ∙ (λ i. take o xs ++ 32 ∷ get_or (digits_are i) 0 0 ∷ get_or (digits_are i) 1 0 ∷ [])

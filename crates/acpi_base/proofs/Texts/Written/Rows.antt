@@ -17,6 +17,22 @@ spaced_all bs i h = ap spaced_pairs (drop_all i bs h)
 
 pub ruleset pairs = (spaced_more, spaced_all, append_assoc, append-nil)
 
+-- pairs without the first blank are a line
+without_blank : (bs : List ℕ) → 0 < length bs → drop 1 (spaced_pairs bs ++ 10 ∷ []) ≡ line_with_lf (row bs)
+unfolding spaced_pairs row
+without_blank [] some = absurd (omega arith)
+without_blank (b ∷ bs) some = refl
+
+-- what was made of a line, with its LF
+pub made_line : (bs made : List ℕ) (end n : ℕ) → 0 < length bs → end < length made → take end made ≡ spaced_pairs bs
+    → n ≡ end → take n (drop 1 (set made end 10)) ≡ line_with_lf (row bs)
+made_line bs made end n some fits is same =
+    let next : 1 + n ≡ end + 1 = omega arith in
+    sym (drop-take 1 n (set made end 10))
+    ∙ ap (λ (k : ℕ). drop 1 (take k (set made end 10))) next
+    ∙ ap (drop 1) (take_more_set made end 10 fits ∙ ap (λ (front : List ℕ). front ++ 10 ∷ []) is)
+    ∙ without_blank bs some
+
 -- ---- the lines of a run, one by one
 
 rows_more : (bs : List ℕ) → 0 < length bs

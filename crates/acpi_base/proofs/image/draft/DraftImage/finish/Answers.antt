@@ -1,17 +1,22 @@
-use Rattle.std.proofs.Common.{ℕ, List, subst}
+use Rattle.std.proofs.Common.{ℕ, List, refl, inl, sym, subst, ◌∙◌}
 use Rattle.std.specs.Prelude.{Result}
 use Rattle.std.specs.FinMap.{empty}
+use Rattle.acpi_base.specs.declared.image.ImageFault.TheVariants as fault
 use Rattle.acpi_base.specs.Image.Adding.{IsLayoutRefusal}
 use Rattle.acpi_base.specs.Image.Draft.{all_added}
 use Rattle.acpi_base.specs.Image.Pieces.{runs_in}
+use Rattle.acpi_base.specs.Image.Segments.{AreSegmentsApart}
 use Rattle.acpi_base.specs.Memory.{Memory}
+use Rattle.acpi_base.proofs.Images.Adopted.{apart_joined}
 use Rattle.acpi_base.proofs.Images.FirstTwice.{told_on}
 use Rattle.acpi_base.proofs.image.draft.DraftImage.finish.Goals as goal
 
 pub returns-in_err-segments-clause-same : goal.returns-in_err-segments-clause-same
 returns-in_err-segments-clause-same c =
-    let refusal = c.in_err-segments.field-0.0 in
-    told_on _ c.from_residual.result refusal c.args.self c.from_residual.ensures.1
-    (subst (λ (held : Result Memory ℕ). IsLayoutRefusal held refusal) c.self.view_is
-    (subst (λ (store : List ℕ). IsLayoutRefusal (all_added empty (runs_in store c.self.inside.pieces.items)) refusal)
-    c.deref.ensures.value c.in_err-segments.ensures.same))
+    told_on _ c.from_residual.result fault.Memory c.args.self c.from_residual.ensures.1
+    (inl (
+      _,
+      refl,
+      sym c.self.view_is ∙ apart_joined c.self.inside.store.items c.self.inside.pieces.items
+          c.self.invariant (subst AreSegmentsApart c.deref.ensures.value (c.are_apart.ensures c.if-are_apart.true)),
+    ))
