@@ -8,4 +8,5 @@ pub mod Least
 pub mod ListedTables
 pub mod Numbers
 pub mod Order
+pub mod Rows
 pub mod Stages

@@ -65,115 +65,65 @@ pub enum Rule {
     SratUnread,
 }
 
+/// The number of the first rule.
+const FIRST: u8 = 101;
+
+/// Each rule with its name, in the order of their numbers.
+const ROWS: [(Rule, &str); 28] = [
+    (Rule::ListedTwice, "ListedTwice"),
+    (Rule::SecondTable, "SecondTable"),
+    (Rule::ListedApart, "ListedApart"),
+    (Rule::FadtOfRevision, "FadtOfRevision"),
+    (Rule::FacsDiffers, "FacsDiffers"),
+    (Rule::DsdtDiffers, "DsdtDiffers"),
+    (Rule::BlockDiffers, "BlockDiffers"),
+    (Rule::SciNowhere, "SciNowhere"),
+    (Rule::SameUid, "SameUid"),
+    (Rule::SameApicId, "SameApicId"),
+    (Rule::IoApicAtZero, "IoApicAtZero"),
+    (Rule::SameIoApicId, "SameIoApicId"),
+    (Rule::SameIoApicAddress, "SameIoApicAddress"),
+    (Rule::NmiNowhere, "NmiNowhere"),
+    (Rule::SecondGicd, "SecondGicd"),
+    (Rule::NoProcessor, "NoProcessor"),
+    (Rule::TwoUidDomains, "TwoUidDomains"),
+    (Rule::AffinityNowhere, "AffinityNowhere"),
+    (Rule::NoDomain, "NoDomain"),
+    (Rule::DomainPastSlit, "DomainPastSlit"),
+    (Rule::SlitDiffers, "SlitDiffers"),
+    (Rule::SameLeaf, "SameLeaf"),
+    (Rule::CacheShape, "CacheShape"),
+    (Rule::SameCacheId, "SameCacheId"),
+    (Rule::NoLeaf, "NoLeaf"),
+    (Rule::LeafNowhere, "LeafNowhere"),
+    (Rule::MadtUnread, "MadtUnread"),
+    (Rule::SratUnread, "SratUnread"),
+];
+
 impl Rule {
     /// The rule with this number, from 101 to 128.
     pub fn new(number: u8) -> Option<Rule>
         ensures some { IsSome result ↔ ((101 ≤ number) × (number ≤ 128)) }
         ensures same { IfSome result (λ rule. rule_number rule ≡ number) }
     {
-        match number {
-            101 => Some(Rule::ListedTwice),
-            102 => Some(Rule::SecondTable),
-            103 => Some(Rule::ListedApart),
-            104 => Some(Rule::FadtOfRevision),
-            105 => Some(Rule::FacsDiffers),
-            106 => Some(Rule::DsdtDiffers),
-            107 => Some(Rule::BlockDiffers),
-            108 => Some(Rule::SciNowhere),
-            109 => Some(Rule::SameUid),
-            110 => Some(Rule::SameApicId),
-            111 => Some(Rule::IoApicAtZero),
-            112 => Some(Rule::SameIoApicId),
-            113 => Some(Rule::SameIoApicAddress),
-            114 => Some(Rule::NmiNowhere),
-            115 => Some(Rule::SecondGicd),
-            116 => Some(Rule::NoProcessor),
-            117 => Some(Rule::TwoUidDomains),
-            118 => Some(Rule::AffinityNowhere),
-            119 => Some(Rule::NoDomain),
-            120 => Some(Rule::DomainPastSlit),
-            121 => Some(Rule::SlitDiffers),
-            122 => Some(Rule::SameLeaf),
-            123 => Some(Rule::CacheShape),
-            124 => Some(Rule::SameCacheId),
-            125 => Some(Rule::NoLeaf),
-            126 => Some(Rule::LeafNowhere),
-            127 => Some(Rule::MadtUnread),
-            128 => Some(Rule::SratUnread),
-            _ => None,
-        }
+        let index = number.checked_sub(FIRST)?;
+        let rows = ROWS.as_slice();
+        let (rule, _) = rows.get(usize::from(index))?;
+        Some(*rule)
     }
 
     /// The rule's number, from 101 to 128.
     pub fn number(self) -> u8
         ensures { result ≡ rule_number self }
     {
-        match self {
-            Rule::ListedTwice => 101,
-            Rule::SecondTable => 102,
-            Rule::ListedApart => 103,
-            Rule::FadtOfRevision => 104,
-            Rule::FacsDiffers => 105,
-            Rule::DsdtDiffers => 106,
-            Rule::BlockDiffers => 107,
-            Rule::SciNowhere => 108,
-            Rule::SameUid => 109,
-            Rule::SameApicId => 110,
-            Rule::IoApicAtZero => 111,
-            Rule::SameIoApicId => 112,
-            Rule::SameIoApicAddress => 113,
-            Rule::NmiNowhere => 114,
-            Rule::SecondGicd => 115,
-            Rule::NoProcessor => 116,
-            Rule::TwoUidDomains => 117,
-            Rule::AffinityNowhere => 118,
-            Rule::NoDomain => 119,
-            Rule::DomainPastSlit => 120,
-            Rule::SlitDiffers => 121,
-            Rule::SameLeaf => 122,
-            Rule::CacheShape => 123,
-            Rule::SameCacheId => 124,
-            Rule::NoLeaf => 125,
-            Rule::LeafNowhere => 126,
-            Rule::MadtUnread => 127,
-            Rule::SratUnread => 128,
-        }
+        self as u8 + FIRST
     }
 
     /// The rule's name, as in a line of advice.
     pub fn name(self) -> &'static str
         ensures { result.now ≡ rule_name self }
     {
-        match self {
-            Rule::ListedTwice => "ListedTwice",
-            Rule::SecondTable => "SecondTable",
-            Rule::ListedApart => "ListedApart",
-            Rule::FadtOfRevision => "FadtOfRevision",
-            Rule::FacsDiffers => "FacsDiffers",
-            Rule::DsdtDiffers => "DsdtDiffers",
-            Rule::BlockDiffers => "BlockDiffers",
-            Rule::SciNowhere => "SciNowhere",
-            Rule::SameUid => "SameUid",
-            Rule::SameApicId => "SameApicId",
-            Rule::IoApicAtZero => "IoApicAtZero",
-            Rule::SameIoApicId => "SameIoApicId",
-            Rule::SameIoApicAddress => "SameIoApicAddress",
-            Rule::NmiNowhere => "NmiNowhere",
-            Rule::SecondGicd => "SecondGicd",
-            Rule::NoProcessor => "NoProcessor",
-            Rule::TwoUidDomains => "TwoUidDomains",
-            Rule::AffinityNowhere => "AffinityNowhere",
-            Rule::NoDomain => "NoDomain",
-            Rule::DomainPastSlit => "DomainPastSlit",
-            Rule::SlitDiffers => "SlitDiffers",
-            Rule::SameLeaf => "SameLeaf",
-            Rule::CacheShape => "CacheShape",
-            Rule::SameCacheId => "SameCacheId",
-            Rule::NoLeaf => "NoLeaf",
-            Rule::LeafNowhere => "LeafNowhere",
-            Rule::MadtUnread => "MadtUnread",
-            Rule::SratUnread => "SratUnread",
-        }
+        ROWS[self as usize].1
     }
 }
 

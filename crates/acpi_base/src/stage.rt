@@ -44,6 +44,28 @@ pub enum Stage {
     Leaves,
 }
 
+/// All stages, in the order of their numbers.
+const STAGES: [Stage; 18] = [
+    Stage::Rsdp,
+    Stage::Root,
+    Stage::Tables,
+    Stage::Fadt,
+    Stage::Facs,
+    Stage::Madt,
+    Stage::Interrupts,
+    Stage::Overrides,
+    Stage::Srat,
+    Stage::Ranges,
+    Stage::Slit,
+    Stage::Pptt,
+    Stage::References,
+    Stage::Parents,
+    Stage::Caches,
+    Stage::Domains,
+    Stage::Served,
+    Stage::Leaves,
+];
+
 impl Stage {
     /// The last stage: a check goes up to it if no other is given.
     pub const LAST: Stage = Stage::Leaves;
@@ -53,52 +75,14 @@ impl Stage {
         ensures some { IsSome result ↔ ((1 ≤ number) × (number ≤ 18)) }
         ensures same { IfSome result (λ stage. stage_number stage ≡ number) }
     {
-        match number {
-            1 => Some(Stage::Rsdp),
-            2 => Some(Stage::Root),
-            3 => Some(Stage::Tables),
-            4 => Some(Stage::Fadt),
-            5 => Some(Stage::Facs),
-            6 => Some(Stage::Madt),
-            7 => Some(Stage::Interrupts),
-            8 => Some(Stage::Overrides),
-            9 => Some(Stage::Srat),
-            10 => Some(Stage::Ranges),
-            11 => Some(Stage::Slit),
-            12 => Some(Stage::Pptt),
-            13 => Some(Stage::References),
-            14 => Some(Stage::Parents),
-            15 => Some(Stage::Caches),
-            16 => Some(Stage::Domains),
-            17 => Some(Stage::Served),
-            18 => Some(Stage::Leaves),
-            _ => None,
-        }
+        let index = number.checked_sub(1)?;
+        STAGES.get(usize::from(index)).copied()
     }
 
     /// The stage's number, from 1 to 18.
     pub fn number(self) -> u8
         ensures { result ≡ stage_number self }
     {
-        match self {
-            Stage::Rsdp => 1,
-            Stage::Root => 2,
-            Stage::Tables => 3,
-            Stage::Fadt => 4,
-            Stage::Facs => 5,
-            Stage::Madt => 6,
-            Stage::Interrupts => 7,
-            Stage::Overrides => 8,
-            Stage::Srat => 9,
-            Stage::Ranges => 10,
-            Stage::Slit => 11,
-            Stage::Pptt => 12,
-            Stage::References => 13,
-            Stage::Parents => 14,
-            Stage::Caches => 15,
-            Stage::Domains => 16,
-            Stage::Served => 17,
-            Stage::Leaves => 18,
-        }
+        self as u8 + 1
     }
 }
