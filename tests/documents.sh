@@ -178,7 +178,7 @@ for head in crates/*/src/lib.rt; do
 done
 
 # ---- the documents
-codes=$(sed -n 's/^code_number code\.\([A-Za-z]*\) = \([0-9]*\)$/\2 \1/p' crates/acpi_base/specs/Codes.antt)
+codes=$(sed -n 's/^code_row code\.\([A-Za-z]*\) = (\([0-9]*\), .*)$/\2 \1/p' crates/acpi_base/specs/Codes.antt)
 parts=$(sed -n 's/^### \([0-9]* [A-Za-z]*\)$/\1/p' docs/FAULTS.md)
 described=$(awk '$1 <= 100' <<<"$parts")
 advised=$(awk '$1 > 100' <<<"$parts")
@@ -196,7 +196,7 @@ same 'what a part of FAULTS.md has to say (<) and what it says (>)' "$asked" "$c
 stages=$(sed -n 's/^stage_number stage\.[A-Za-z]* = \([0-9]*\)$/\1/p' crates/acpi_base/specs/Codes.antt)
 listed=$(sed -n 's/^| \([0-9]*\) | .* | [0-9to, ]* |$/\1/p' docs/FAULTS.md)
 same 'stages (<) and those that FAULTS.md lists (>)' "$stages" "$listed"
-rules=$(sed -n 's/^rule_number rule\.\([A-Za-z]*\) = \([0-9]*\)$/\2 \1/p' crates/acpi_base/specs/Lint/Rules.antt)
+rules=$(sed -n 's/^rule_row rule\.\([A-Za-z]*\) = (\([0-9]*\), .*)$/\2 \1/p' crates/acpi_base/specs/Lint/Rules.antt)
 listed=$(sed -n '/^## Advice$/,/^## /s/^| \([0-9]* [A-Za-z]*\) | .*/\1/p' docs/TABLES.md)
 same 'rules of advice (<) and those that TABLES.md lists (>)' "$rules" "$listed"
 same 'rules of advice (<) and their parts in FAULTS.md (>)' "$rules" "$advised"

@@ -143,7 +143,7 @@ enum acpiset_code {
     ACPISET_RSDP_LENGTH = 5,              /* the RSDP's Length is below 36 */
     ACPISET_RSDP_LONG_OUT = 6,            /* the RSDP's Length bytes are not all in the image */
     ACPISET_RSDP_EXTENDED_SUM = 7,        /* the RSDP's extended checksum is wrong */
-    /* stage 2: the XSDT or RSDT */
+    /* stage 2: the RSDT or XSDT */
     ACPISET_NO_ROOT = 8,                  /* the RSDP gives the address of neither an XSDT nor an RSDT */
     ACPISET_ROOT_HEADER_OUT = 9,          /* the header of the XSDT or RSDT is not all in the image */
     ACPISET_ROOT_SIGNATURE = 10,          /* the XSDT or RSDT has another signature */
@@ -151,7 +151,7 @@ enum acpiset_code {
     ACPISET_ROOT_OUT = 12,                /* the XSDT or RSDT is not all in the image */
     ACPISET_ROOT_RAGGED = 13,             /* the XSDT or RSDT ends inside an entry */
     ACPISET_ROOT_SUM = 14,                /* the checksum of the XSDT or RSDT is wrong */
-    /* stage 3: the listed tables */
+    /* stage 3: each listed table's header, length and checksum */
     ACPISET_TABLE_HEADER_OUT = 15,        /* the header of a listed table is not all in the image */
     ACPISET_TABLE_LENGTH = 16,            /* the Length of a listed table is below 36 */
     ACPISET_TABLE_OUT = 17,               /* a listed table is not all in the image */
@@ -171,7 +171,7 @@ enum acpiset_code {
     ACPISET_FACS_SIGNATURE = 29,          /* the FACS does not begin with "FACS" */
     ACPISET_FACS_LENGTH = 30,             /* the FACS's Length is below 64 */
     ACPISET_FACS_OUT = 31,                /* the FACS is not all in the image */
-    /* stage 6: the MADT */
+    /* stage 6: the MADT's entries */
     ACPISET_MADT_SHORT = 32,              /* the MADT's Length is below 44 */
     ACPISET_MADT_ENTRY_CUT = 33,          /* a structure of the MADT is cut off, or its length is below 2 */
     ACPISET_MADT_ENTRY_LENGTH = 34,       /* a structure of the MADT does not have the length of its type */
@@ -179,38 +179,38 @@ enum acpiset_code {
     ACPISET_RESERVED_INTI = 36,           /* MPS INTI Flags have a reserved polarity or trigger mode */
     ACPISET_SECOND_ADDRESS_OVERRIDE = 37, /* there is a second Local APIC Address Override */
     ACPISET_GSI_PAST_END = 38,            /* an interrupt number of an I/O APIC is above 2^32 - 1 */
-    /* stage 7: interrupt numbers of the I/O APICs */
+    /* stage 7: interrupt numbers: none is served by two I/O APICs */
     ACPISET_GSI_CLASH = 39,               /* two I/O APICs serve one interrupt number */
-    /* stage 8: interrupt source overrides */
+    /* stage 8: interrupt source overrides: none contradicts another */
     ACPISET_OVERRIDE_CLASH = 40,          /* two overrides give one source two interrupt numbers */
-    /* stage 9: the SRAT */
+    /* stage 9: the SRAT's entries */
     ACPISET_SRAT_SHORT = 41,              /* the SRAT's Length is below 48 */
     ACPISET_SRAT_ENTRY_CUT = 42,          /* a structure of the SRAT is cut off, or its length is below 2 */
     ACPISET_SRAT_ENTRY_LENGTH = 43,       /* a structure of the SRAT does not have the length of its type */
     ACPISET_RANGE_PAST_END = 44,          /* an enabled memory range passes 2^64 - 1 */
-    /* stage 10: memory ranges of the SRAT */
+    /* stage 10: memory ranges: no address is in two */
     ACPISET_OVERLAP = 45,                 /* two enabled memory ranges overlap */
     /* stage 11: the SLIT */
     ACPISET_SLIT_SHORT = 46,              /* the SLIT's Length is below 44 */
     ACPISET_SLIT_SIZE = 47,               /* the SLIT's Length does not fit its number of localities */
     ACPISET_SLIT_DIAGONAL = 48,           /* the distance of a locality to itself is not 10 */
     ACPISET_SLIT_LOW = 49,                /* a distance is below 10 */
-    /* stage 12: the PPTT */
+    /* stage 12: the PPTT's entries */
     ACPISET_PPTT_ENTRY_CUT = 50,          /* a structure of the PPTT is cut off, or its length is below 2 */
     ACPISET_PPTT_ENTRY_LENGTH = 51,       /* a structure of the PPTT does not have the length of its type */
-    /* stage 13: offsets in the PPTT */
+    /* stage 13: references of the PPTT's entries */
     ACPISET_DANGLING_PARENT = 52,         /* a node's Parent is neither 0 nor the offset of a node */
     ACPISET_DANGLING_RESOURCE = 53,       /* a node's private resource is no offset of a structure, or that of a node */
     ACPISET_DANGLING_CACHE = 54,          /* a cache's Next Level of Cache is neither 0 nor the offset of a cache */
-    /* stage 14: parents of nodes */
+    /* stage 14: chains of parents end */
     ACPISET_PARENT_CYCLE = 55,            /* the Parents of nodes form a cycle */
-    /* stage 15: next levels of caches */
+    /* stage 15: chains of caches end */
     ACPISET_CACHE_CYCLE = 56,             /* the next levels of caches form a cycle */
-    /* stage 16: proximity domains of processors */
+    /* stage 16: no enabled processor has two proximity domains */
     ACPISET_TWO_DOMAINS = 57,             /* an enabled processor is in two proximity domains */
-    /* stage 17: interrupt numbers that the MADT names */
+    /* stage 17: each interrupt number that an entry names is served */
     ACPISET_GSI_NOWHERE = 58,             /* an override or NMI source has an interrupt number that no I/O APIC serves */
-    /* stage 18: leaves of the PPTT */
+    /* stage 18: each leaf of the PPTT is a processor of the MADT */
     ACPISET_LEAF_UNKNOWN = 59             /* a leaf's ACPI Processor ID is no processor's UID in the MADT */
 };
 /* end: codes */

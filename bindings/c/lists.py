@@ -19,121 +19,8 @@ HEADER = TOP / "bindings" / "c" / "acpiset.h"
 BASE = TOP / "crates" / "acpi_base" / "specs"
 CRATE = TOP / "crates" / "acpi_c"
 
-# What each code means. The crates say it at length.
-CODES = {
-    "RsdpOut": "the 20 bytes at the RSDP's address are not all in the image",
-    "RsdpSignature": 'the RSDP does not begin with "RSD PTR "',
-    "RsdpSum": "the checksum of the RSDP's first 20 bytes is wrong",
-    "RsdpTailOut": "the RSDP has Revision 2 or more, and its 36 bytes are not all in the image",
-    "RsdpLength": "the RSDP's Length is below 36",
-    "RsdpLongOut": "the RSDP's Length bytes are not all in the image",
-    "RsdpExtendedSum": "the RSDP's extended checksum is wrong",
-    "NoRoot": "the RSDP gives the address of neither an XSDT nor an RSDT",
-    "RootHeaderOut": "the header of the XSDT or RSDT is not all in the image",
-    "RootSignature": "the XSDT or RSDT has another signature",
-    "RootLength": "the Length of the XSDT or RSDT is below 36",
-    "RootOut": "the XSDT or RSDT is not all in the image",
-    "RootRagged": "the XSDT or RSDT ends inside an entry",
-    "RootSum": "the checksum of the XSDT or RSDT is wrong",
-    "TableHeaderOut": "the header of a listed table is not all in the image",
-    "TableLength": "the Length of a listed table is below 36",
-    "TableOut": "a listed table is not all in the image",
-    "TableSum": "the checksum of a listed table is wrong",
-    "NoFadt": "no FADT is listed",
-    "FadtShort": "the FADT's Length is below 116",
-    "PmEventLength": "PM1_EVT_LEN is below 4",
-    "PmControlLength": "PM1_CNT_LEN is below 2",
-    "PmTimerLength": "PM_TMR_LEN is neither 0 nor 4",
-    "GpeLength": "the length of a GPE block is odd",
-    "ResetRegister": "RESET_REG is not one that ACPI 6.5, 4.8.3.6 allows",
-    "NoFacs": "the hardware is not reduced, and the FADT gives no address of a FACS",
-    "FacsAlign": "the FACS's address is no multiple of 64",
-    "FacsHeaderOut": "the FACS's first 8 bytes are not all in the image",
-    "FacsSignature": 'the FACS does not begin with "FACS"',
-    "FacsLength": "the FACS's Length is below 64",
-    "FacsOut": "the FACS is not all in the image",
-    "MadtShort": "the MADT's Length is below 44",
-    "MadtEntryCut": "a structure of the MADT is cut off, or its length is below 2",
-    "MadtEntryLength": "a structure of the MADT does not have the length of its type",
-    "OverrideBus": "an Interrupt Source Override has a Bus other than 0",
-    "ReservedInti": "MPS INTI Flags have a reserved polarity or trigger mode",
-    "SecondAddressOverride": "there is a second Local APIC Address Override",
-    "GsiPastEnd": "an interrupt number of an I/O APIC is above 2^32 - 1",
-    "GsiClash": "two I/O APICs serve one interrupt number",
-    "OverrideClash": "two overrides give one source two interrupt numbers",
-    "SratShort": "the SRAT's Length is below 48",
-    "SratEntryCut": "a structure of the SRAT is cut off, or its length is below 2",
-    "SratEntryLength": "a structure of the SRAT does not have the length of its type",
-    "RangePastEnd": "an enabled memory range passes 2^64 - 1",
-    "Overlap": "two enabled memory ranges overlap",
-    "SlitShort": "the SLIT's Length is below 44",
-    "SlitSize": "the SLIT's Length does not fit its number of localities",
-    "SlitDiagonal": "the distance of a locality to itself is not 10",
-    "SlitLow": "a distance is below 10",
-    "PpttEntryCut": "a structure of the PPTT is cut off, or its length is below 2",
-    "PpttEntryLength": "a structure of the PPTT does not have the length of its type",
-    "DanglingParent": "a node's Parent is neither 0 nor the offset of a node",
-    "DanglingResource": "a node's private resource is no offset of a structure, or that of a node",
-    "DanglingCache": "a cache's Next Level of Cache is neither 0 nor the offset of a cache",
-    "ParentCycle": "the Parents of nodes form a cycle",
-    "CacheCycle": "the next levels of caches form a cycle",
-    "TwoDomains": "an enabled processor is in two proximity domains",
-    "GsiNowhere": "an override or NMI source has an interrupt number that no I/O APIC serves",
-    "LeafUnknown": "a leaf's ACPI Processor ID is no processor's UID in the MADT",
-}
-
-# What each rule finds. A processor is usable if it is Enabled or Online Capable.
-RULES = {
-    "ListedTwice": "an address is listed twice",
-    "SecondTable": "a second table of a kind is listed, of which only the first is read",
-    "ListedApart": "a DSDT or FACS is listed, which only the FADT has to name",
-    "FadtOfRevision": "the FADT is too short for its Revision",
-    "FacsDiffers": "FIRMWARE_CTRL and X_FIRMWARE_CTRL differ",
-    "DsdtDiffers": "DSDT and X_DSDT differ",
-    "BlockDiffers": "the two fields of a register block give different I/O ports",
-    "SciNowhere": "no I/O APIC serves the interrupt number of SCI_INT",
-    "SameUid": "two usable processors have the same UID",
-    "SameApicId": "two usable processors have the same APIC ID or x2APIC ID",
-    "IoApicAtZero": "an I/O APIC has the address 0",
-    "SameIoApicId": "two I/O APICs have the same ID",
-    "SameIoApicAddress": "two I/O APICs have the same address",
-    "NmiNowhere": "a Local APIC NMI is of a UID that no processor has",
-    "SecondGicd": "there is a second GIC Distributor",
-    "NoProcessor": "no processor is usable",
-    "TwoUidDomains": "two GICC Affinity Structures put one UID in two proximity domains",
-    "AffinityNowhere": "the SRAT has a processor that the MADT does not have",
-    "NoDomain": "a usable processor is not in the SRAT, and others are",
-    "DomainPastSlit": "a proximity domain of the SRAT is no locality of the SLIT",
-    "SlitDiffers": "the distance between two localities depends on the direction",
-    "SameLeaf": "two leaves of the PPTT have the same ACPI Processor ID",
-    "CacheShape": "a cache has no sets, or a line size that is no power of two",
-    "SameCacheId": "two caches have the same Cache ID",
-    "NoLeaf": "a usable processor has no leaf in the PPTT, and others have",
-    "LeafNowhere": "a leaf's ACPI Processor ID is no UID, and the MADT has GIC CPU interfaces",
-    "MadtUnread": "a structure of the MADT of a type that nothing here judges",
-    "SratUnread": "a structure of the SRAT of a type that nothing here judges",
-}
-
-STAGES = {
-    1: "the RSDP",
-    2: "the XSDT or RSDT",
-    3: "the listed tables",
-    4: "the FADT",
-    5: "the FACS",
-    6: "the MADT",
-    7: "interrupt numbers of the I/O APICs",
-    8: "interrupt source overrides",
-    9: "the SRAT",
-    10: "memory ranges of the SRAT",
-    11: "the SLIT",
-    12: "the PPTT",
-    13: "offsets in the PPTT",
-    14: "parents of nodes",
-    15: "next levels of caches",
-    16: "proximity domains of processors",
-    17: "interrupt numbers that the MADT names",
-    18: "leaves of the PPTT",
-}
+# The source files whose comments say what each code, rule and stage is.
+SOURCES = {it: TOP / "crates" / "acpi_base" / "src" / f"{it}.rt" for it in ("code", "rule", "stage")}
 
 # Enumerators that are spelled otherwise than their variants.
 SPELLED = {"BadHotPlug": "BAD_HOTPLUG"}
@@ -167,28 +54,48 @@ def numbers(path, function):
 
 @dataclass
 class Crates:
-    """The numbers of codes, rules and kinds, their names, and the stages of codes, by variant; and the fields of structs, each as
-    its name, offset and size, with the struct's size at the end."""
+    """The numbers of codes, rules and kinds, their names, the stages of codes, and what codes, rules and stages are; and the fields of
+    structs, each as its name, offset and size, with the struct's size at the end."""
 
     codes: dict
     rules: dict
     kinds: dict
     names: dict
     stages: dict
+    sentences: dict
+    stage_sentences: dict
     structs: dict
     abi: int
+
+
+def rows(path, function, value):
+    """The rows of a function of a file of definitions, by the variant that each is of: the groups of `value`."""
+    found = re.findall(rf"^{function} \w+\.(\w+) = \({value}\)$", path.read_text(), re.M)
+    if not found:
+        sys.exit(f"{path}: no row of {function}")
+    return {variant: row for variant, *row in found}
+
+
+def sentences(enum):
+    """What the comments of an enum's variants say, as a part of a sentence, without the sections of the standard."""
+    found = re.findall(r"^    /// (.*?)(?: \([\d., ]+\))?\.\n    (\w+),$", SOURCES[enum].read_text(), re.M)
+    return {variant: text[0].lower() + text[1:] if text[1].islower() or text[1] == " " else text for text, variant in found}
 
 
 def read_crates():
     codes, rules = BASE / "Codes.antt", BASE / "Lint" / "Rules.antt"
     stage_numbers = numbers(codes, "stage_number")
-    name = r'codes "(\w+)"'
+    code_rows = rows(codes, "code_row", r'(\d+), stage\.(\w+), codes "(\w+)"')
+    rule_rows = rows(rules, "rule_row", r'(\d+), codes "(\w+)"')
+    stage_sentences = sentences("stage")
     return Crates(
-        codes=numbers(codes, "code_number"),
-        rules=numbers(rules, "rule_number"),
+        codes={code: int(row[0]) for code, row in code_rows.items()},
+        rules={rule: int(row[0]) for rule, row in rule_rows.items()},
         kinds=numbers(CRATE / "specs" / "Kinds.antt", "kind_number"),
-        names={**clauses(codes, "code_name", name), **clauses(rules, "rule_name", name)},
-        stages={code: stage_numbers[stage] for code, stage in clauses(codes, "stage_of", r"\w+\.(\w+)").items()},
+        names={variant: row[-1] for variant, row in {**code_rows, **rule_rows}.items()},
+        stages={code: stage_numbers[row[1]] for code, row in code_rows.items()},
+        sentences={**sentences("code"), **sentences("rule")},
+        stage_sentences={number: stage_sentences.get(stage) for stage, number in stage_numbers.items()},
         structs=read_structs(),
         abi=int(re.search(r"fn acpiset_abi\(\) -> u32\n.*?\n\{\n    (\d+)\n\}", (CRATE / "src" / "lib.rt").read_text(), re.S)[1]),
     )
@@ -238,12 +145,12 @@ def code_lines(crates):
     for code, number in crates.codes.items():
         if crates.stages[code] != stage:
             stage = crates.stages[code]
-            yield "", f"stage {stage}: {STAGES[stage]}"
-        yield f"{enumerator(code)} = {number}", CODES[code]
+            yield "", f"stage {stage}: {crates.stage_sentences[stage]}"
+        yield f"{enumerator(code)} = {number}", crates.sentences[code]
 
 
 def rule_lines(crates):
-    return ((f"{enumerator(rule)} = {number}", RULES[rule]) for rule, number in crates.rules.items())
+    return ((f"{enumerator(rule)} = {number}", crates.sentences[rule]) for rule, number in crates.rules.items())
 
 
 def switch(function, number, cases):
@@ -322,10 +229,10 @@ def by_hand(header, crates):
 
 
 def undescribed(crates):
-    """Codes, rules and stages without words of their own above, and words of none."""
-    for told, known in ((CODES, crates.codes), (RULES, crates.rules), (STAGES, set(crates.stages.values()))):
-        yield from (f"{it} has to be described in lists.py" for it in known if it not in told)
-        yield from (f"{it} is described in lists.py, and is not in the crates" for it in told if it not in known)
+    """Codes, rules and stages whose variant does not have a sentence on one line as its comment."""
+    known = [*crates.codes, *crates.rules]
+    yield from (f"{it}: its comment has to be a sentence on one line" for it in known if it not in crates.sentences)
+    yield from (f"stage {it}: its comment has to be a sentence on one line" for it, told in crates.stage_sentences.items() if not told)
 
 
 def main():

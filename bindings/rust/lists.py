@@ -31,9 +31,9 @@ RULE = """A rule of advice. A set of tables may have a reason to break one, so n
 # ---- what the definitions say
 
 
-def table(path, function, of, to):
-    """A function from names to names or numbers, such as `code_number code.Overlap = 45`."""
-    lines = re.findall(rf"^{function} {of}\.(\w+) = {to}(\w+)$", path.read_text(), re.M)
+def table(path, function, value):
+    """A function from names to names or numbers, such as `stage_number stage.Ranges = 10`."""
+    lines = re.findall(rf"^{function} \w+\.(\w+) = {value}$", path.read_text(), re.M)
     if not lines:
         sys.exit(f"{path}: no line of {function}")
     return dict(lines)
@@ -99,10 +99,10 @@ def lists():
 use crate::numbered::numbered;
 """
     parts = [
-        numbered("Stage", STAGE, table(CODES, "stage_number", "stage", ""), meanings_of_stages()),
-        numbered("Code", CODE, table(CODES, "code_number", "code", ""), meanings("Wrong")),
-        stages(table(CODES, "stage_of", "code", r"stage\.")),
-        numbered("Rule", RULE, table(RULES, "rule_number", "rule", ""), meanings("Found")),
+        numbered("Stage", STAGE, table(CODES, "stage_number", r"(\d+)"), meanings_of_stages()),
+        numbered("Code", CODE, table(CODES, "code_row", r"\((\d+), .*\)"), meanings("Wrong")),
+        stages(table(CODES, "code_row", r"\(\d+, stage\.(\w+), .*\)")),
+        numbered("Rule", RULE, table(RULES, "rule_row", r"\((\d+), .*\)"), meanings("Found")),
     ]
     return "\n".join([head, *parts])
 
@@ -161,7 +161,7 @@ def differences():
     if LISTS.read_text() != lists():
         yield "src/lists.rs is not what the definitions and docs/FAULTS.md say: run bindings/rust/lists.py"
     names = {"Yes": "true", "No": "false"}
-    kinds = {names.get(kind, kind): number for kind, number in table(KINDS, "kind_number", "kind", "").items()}
+    kinds = {names.get(kind, kind): number for kind, number in table(KINDS, "kind_number", r"(\d+)").items()}
     for kind in sorted(kinds.items() ^ kinds_told().items()):
         yield f"src/refusal.rs and Kinds.antt differ in {kind[0]}, {kind[1]}"
     in_c, in_rust = dict(declared_in_c()), dict(declared_in_rust())

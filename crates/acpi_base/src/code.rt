@@ -9,41 +9,41 @@ use crate::stage::Stage;
 /// system and what a firmware author fixes.
 #[derive(Clone, Copy, Debug, PartialEq, Eq)]
 pub enum Code {
-    /// The 20 bytes of the RSDP are not all present.
+    /// The 20 bytes at the RSDP's address are not all in the image.
     RsdpOut,
-    /// The 20 bytes do not begin with `RSD PTR `.
+    /// The RSDP does not begin with "RSD PTR ".
     RsdpSignature,
-    /// The 20 bytes do not sum to 0.
+    /// The checksum of the RSDP's first 20 bytes is wrong.
     RsdpSum,
-    /// The revision is 2 or more, and the 36 bytes are not all present.
+    /// The RSDP has Revision 2 or more, and its 36 bytes are not all in the image.
     RsdpTailOut,
-    /// The extended RSDP's Length is below 36.
+    /// The RSDP's Length is below 36.
     RsdpLength,
-    /// The extended RSDP's Length bytes are not all present.
+    /// The RSDP's Length bytes are not all in the image.
     RsdpLongOut,
-    /// The extended RSDP's Length bytes do not sum to 0.
+    /// The RSDP's extended checksum is wrong.
     RsdpExtendedSum,
-    /// The RSDP names neither an RSDT nor an XSDT.
+    /// The RSDP gives the address of neither an XSDT nor an RSDT.
     NoRoot,
-    /// The 36 bytes of the root table's header are not all present.
+    /// The header of the XSDT or RSDT is not all in the image.
     RootHeaderOut,
-    /// The root table's signature is not that of its kind.
+    /// The XSDT or RSDT has another signature.
     RootSignature,
-    /// The root table's Length is below 36.
+    /// The Length of the XSDT or RSDT is below 36.
     RootLength,
-    /// The root table's Length bytes are not all present.
+    /// The XSDT or RSDT is not all in the image.
     RootOut,
-    /// The root table's Length ends within a slot.
+    /// The XSDT or RSDT ends inside an entry.
     RootRagged,
-    /// The root table's Length bytes do not sum to 0.
+    /// The checksum of the XSDT or RSDT is wrong.
     RootSum,
-    /// The 36 bytes of a listed table's header are not all present.
+    /// The header of a listed table is not all in the image.
     TableHeaderOut,
-    /// A listed table's Length is below 36.
+    /// The Length of a listed table is below 36.
     TableLength,
-    /// A listed table's Length bytes are not all present.
+    /// A listed table is not all in the image.
     TableOut,
-    /// A listed table's Length bytes do not sum to 0.
+    /// The checksum of a listed table is wrong.
     TableSum,
     /// No FADT is listed.
     NoFadt,
@@ -55,77 +55,77 @@ pub enum Code {
     PmControlLength,
     /// PM_TMR_LEN is neither 0 nor 4.
     PmTimerLength,
-    /// A GPE block's length is odd.
+    /// The length of a GPE block is odd.
     GpeLength,
-    /// The reset register is not one that 4.8.3.6 allows.
+    /// RESET_REG is not one that ACPI 6.5, 4.8.3.6 allows.
     ResetRegister,
-    /// There is no FACS, and the hardware is not reduced.
+    /// The hardware is not reduced, and the FADT gives no address of a FACS.
     NoFacs,
-    /// The FACS starts at an address that is not a multiple of 64.
+    /// The FACS's address is no multiple of 64.
     FacsAlign,
-    /// The first 8 bytes of the FACS are not all present.
+    /// The FACS's first 8 bytes are not all in the image.
     FacsHeaderOut,
-    /// The FACS does not begin with `FACS`.
+    /// The FACS does not begin with "FACS".
     FacsSignature,
     /// The FACS's Length is below 64.
     FacsLength,
-    /// The FACS's Length bytes are not all present.
+    /// The FACS is not all in the image.
     FacsOut,
     /// The MADT's Length is below 44.
     MadtShort,
-    /// The bytes after the last entry of the MADT are no entry: a single byte, or a length below 2 or past the end.
+    /// A structure of the MADT is cut off, or its length is below 2.
     MadtEntryCut,
-    /// A MADT entry's length is not that of its type.
+    /// A structure of the MADT does not have the length of its type.
     MadtEntryLength,
-    /// An interrupt source override's Bus is not 0.
+    /// An Interrupt Source Override has a Bus other than 0.
     OverrideBus,
-    /// MPS INTI flags have a reserved polarity or trigger mode.
+    /// MPS INTI Flags have a reserved polarity or trigger mode.
     ReservedInti,
-    /// There is a second Local APIC address override.
+    /// There is a second Local APIC Address Override.
     SecondAddressOverride,
-    /// An I/O APIC's interrupt numbers pass 2^32.
+    /// An interrupt number of an I/O APIC is above 2^32 - 1.
     GsiPastEnd,
     /// Two I/O APICs serve one interrupt number.
     GsiClash,
-    /// Two overrides send one source to two interrupt numbers.
+    /// Two overrides give one source two interrupt numbers.
     OverrideClash,
     /// The SRAT's Length is below 48.
     SratShort,
-    /// The bytes after the last entry of the SRAT are no entry: a single byte, or a length below 2 or past the end.
+    /// A structure of the SRAT is cut off, or its length is below 2.
     SratEntryCut,
-    /// An SRAT entry's length is not that of its type.
+    /// A structure of the SRAT does not have the length of its type.
     SratEntryLength,
-    /// An enabled memory range passes 2^64.
+    /// An enabled memory range passes 2^64 - 1.
     RangePastEnd,
-    /// Two enabled memory ranges cover one address.
+    /// Two enabled memory ranges overlap.
     Overlap,
     /// The SLIT's Length is below 44.
     SlitShort,
-    /// The SLIT's Length does not match its number of localities.
+    /// The SLIT's Length does not fit its number of localities.
     SlitSize,
-    /// A locality's distance to itself is not 10.
+    /// The distance of a locality to itself is not 10.
     SlitDiagonal,
     /// A distance is below 10.
     SlitLow,
-    /// The bytes after the last entry of the PPTT are no entry: a single byte, or a length below 2 or past the end.
+    /// A structure of the PPTT is cut off, or its length is below 2.
     PpttEntryCut,
-    /// A PPTT entry's length is not that of its type.
+    /// A structure of the PPTT does not have the length of its type.
     PpttEntryLength,
-    /// A node's Parent is neither 0 nor a node.
+    /// A node's Parent is neither 0 nor the offset of a node.
     DanglingParent,
-    /// A node's private resource is not an entry, or is a node.
+    /// A node's private resource is no offset of a structure, or that of a node.
     DanglingResource,
-    /// A cache's Next Level is neither 0 nor a cache.
+    /// A cache's Next Level of Cache is neither 0 nor the offset of a cache.
     DanglingCache,
-    /// A node's parents form a cycle.
+    /// The Parents of nodes form a cycle.
     ParentCycle,
-    /// A cache's next levels form a cycle.
+    /// The next levels of caches form a cycle.
     CacheCycle,
-    /// An enabled processor has two proximity domains.
+    /// An enabled processor is in two proximity domains.
     TwoDomains,
-    /// No I/O APIC serves an interrupt number that an entry names.
+    /// An override or NMI source has an interrupt number that no I/O APIC serves.
     GsiNowhere,
-    /// A leaf node's ID is no processor UID of the MADT.
+    /// A leaf's ACPI Processor ID is no processor's UID in the MADT.
     LeafUnknown,
 }
 

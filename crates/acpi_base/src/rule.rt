@@ -3,65 +3,65 @@
 ghost use Rattle.std.specs.Prelude.{◌≡◌, ◌≤◌, ◌↔◌, IsSome, IfSome};
 ghost use Rattle.acpi_base.specs.Lint.Rules.{rule_name, rule_number};
 
-/// A rule of advice. A set of tables may have a reason to break a rule, so none is a fault. Sections are those of
-/// ACPI 6.5.
+/// A rule of advice. A set of tables may have a reason to break a rule, so none is a fault. A processor is usable if it
+/// is Enabled or Online Capable. Sections are those of ACPI 6.5.
 #[derive(Clone, Copy, Debug, PartialEq, Eq)]
 pub enum Rule {
-    /// A slot lists an address that an earlier slot also lists (5.2.7).
+    /// An address is listed twice (5.2.7).
     ListedTwice,
-    /// A slot lists a second table of a kind, at another address, of which only the first one is read (5.2).
+    /// A second table of a kind is listed, of which only the first is read (5.2).
     SecondTable,
-    /// A slot lists a DSDT or a FACS, which only the FADT should name (5.2.9).
+    /// A DSDT or FACS is listed, which only the FADT has to name (5.2.9).
     ListedApart,
-    /// The FADT is too short for the fields of its Revision (5.2.9).
+    /// The FADT is too short for its Revision (5.2.9).
     FadtOfRevision,
-    /// FIRMWARE_CTRL and X_FIRMWARE_CTRL name different addresses (5.2.9).
+    /// FIRMWARE_CTRL and X_FIRMWARE_CTRL differ (5.2.9).
     FacsDiffers,
-    /// DSDT and X_DSDT name different addresses (5.2.9).
+    /// DSDT and X_DSDT differ (5.2.9).
     DsdtDiffers,
-    /// A register block's 4-byte field and its X_ structure name different system I/O ports (5.2.9).
+    /// The two fields of a register block give different I/O ports (5.2.9).
     BlockDiffers,
     /// No I/O APIC serves the interrupt number of SCI_INT (5.2.9, 5.2.12.5).
     SciNowhere,
-    /// Two processors that are on have the same UID (5.2.12).
+    /// Two usable processors have the same UID (5.2.12).
     SameUid,
-    /// Two processors that are on have the same APIC ID or x2APIC ID (5.2.12).
+    /// Two usable processors have the same APIC ID or x2APIC ID (5.2.12).
     SameApicId,
-    /// An I/O APIC's address is 0 (5.2.12.3).
+    /// An I/O APIC has the address 0 (5.2.12.3).
     IoApicAtZero,
     /// Two I/O APICs have the same ID (5.2.12.3).
     SameIoApicId,
     /// Two I/O APICs have the same address (5.2.12.3).
     SameIoApicAddress,
-    /// A local APIC NMI or x2APIC NMI names a UID that no processor has (5.2.12.7, 5.2.12.13).
+    /// A Local APIC NMI is of a UID that no processor has (5.2.12.7, 5.2.12.13).
     NmiNowhere,
-    /// There are two GIC distributors (5.2.12.15).
+    /// There is a second GIC Distributor (5.2.12.15).
     SecondGicd,
-    /// No processor is on (5.2.12).
+    /// No processor is usable (5.2.12).
     NoProcessor,
-    /// Two GICC affinities put one UID in two proximity domains (5.2.16.4).
+    /// Two GICC Affinity Structures put one UID in two proximity domains (5.2.16.4).
     TwoUidDomains,
-    /// An affinity of the SRAT names a processor that the MADT does not have (5.2.16).
+    /// The SRAT has a processor that the MADT does not have (5.2.16).
     AffinityNowhere,
-    /// A processor that is on has no affinity, though the SRAT has some (5.2.16).
+    /// A usable processor is not in the SRAT, and others are (5.2.16).
     NoDomain,
-    /// A proximity domain of the SRAT is not one of the SLIT's localities (5.2.17).
+    /// A proximity domain of the SRAT is no locality of the SLIT (5.2.17).
     DomainPastSlit,
-    /// The distance between two localities differs by direction (5.2.17).
+    /// The distance between two localities depends on the direction (5.2.17).
     SlitDiffers,
-    /// Two leaves of the PPTT have the same ACPI processor ID (5.2.30.1).
+    /// Two leaves of the PPTT have the same ACPI Processor ID (5.2.30.1).
     SameLeaf,
-    /// A cache has no sets, or a line size that is not a power of two (5.2.30.2).
+    /// A cache has no sets, or a line size that is no power of two (5.2.30.2).
     CacheShape,
     /// Two caches have the same Cache ID (5.2.30.2).
     SameCacheId,
-    /// A processor that is on has no leaf of the PPTT, though there are leaves (5.2.30.1).
+    /// A usable processor has no leaf in the PPTT, and others have (5.2.30.1).
     NoLeaf,
-    /// A leaf's ID is no processor's UID; checked only if the MADT has a GIC CPU interface (5.2.30.1).
+    /// A leaf's ACPI Processor ID is no UID, and the MADT has GIC CPU interfaces (5.2.30.1).
     LeafNowhere,
-    /// An entry of the MADT that neither the stages nor these rules look at (5.2.12).
+    /// A structure of the MADT of a type that nothing here judges (5.2.12).
     MadtUnread,
-    /// An entry of the SRAT that neither the stages nor these rules look at (5.2.16).
+    /// A structure of the SRAT of a type that nothing here judges (5.2.16).
     SratUnread,
 }
 
