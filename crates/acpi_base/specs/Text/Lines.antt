@@ -21,6 +21,10 @@ abbrev pub data_line : Bool → List ℕ → Line
 data_line true bytes = Data bytes
 data_line false bytes = Bad
 
+-- it is a data line
+abbrev pub IsData : Line → Type 0
+IsData said = (bytes : List ℕ) × (said ≡ Data bytes)
+
 -- the state of the parser between two lines, if its data is this memory
 abbrev pub reading_with : LineParser → Memory → Reading
 reading_with p m = record { lines = p.lines; through = p.through; next = p.next; image = m }

@@ -1,9 +1,9 @@
 //! What one line of image text says.
 
-ghost use Rattle.std.specs.Prelude.{◌≡◌, ◌≤◌, ◌<◌, ℕ, List, [], length, IfOk, IfSome, take_while};
+ghost use Rattle.std.specs.Prelude.{◌≡◌, ◌≤◌, ◌<◌, ◌++◌, ◌∷◌, ℕ, List, [], length, IsOk, OnOk, OnErr, IfOk, IfSome, take_while};
 ghost use Rattle.std.specs.List.{list_all};
 ghost use Rattle.acpi_base.specs.Text.ImageText.{digit_of, is_blank, is_hex_digit, without_cr, without_comment, skip_blanks, hex_number, address_line_of, data_from, line_of};
-ghost use Rattle.acpi_base.specs.Text.Lines.{data_line, line_with};
+ghost use Rattle.acpi_base.specs.Text.Lines.{IsData, data_line, line_with};
 
 use super::digit::digit_value;
 use std::alloc::AllocError;
@@ -107,14 +107,31 @@ fn parse_address(rest: &[u8]) -> Form
     Form::Address(number_value(&rest[..count]))
 }
 
+/// Appends the byte, unless memory has run out for one before it.
+fn push_after(
+    pushed: Result<(), AllocError>,
+    bytes: &mut Vec<u8>,
+    byte: u8,
+) -> Result<(), AllocError>
+    ensures before { OnOk result (IsOk pushed) }
+    ensures ok { OnOk result (bytes.new.items ≡ bytes.old.items ++ byte ∷ []) }
+{
+    pushed?;
+    bytes.push(byte)?;
+    Ok(())
+}
+
 /// Whether the line is pairs of hex digits, with any blanks between pairs and after the last. If so, the
-/// vector has their bytes.
+/// vector has their bytes, unless memory runs out for them.
 #[tactic(auto, unfolding(crate::specs::Text::ImageText::data_from), using(crate::proofs::Texts::LineParsing::one_more))]
 fn parse_data(line: &[u8], bytes: &mut Vec<u8>) -> Result<bool, AllocError>
-    ensures { IfOk result (λ is_data. data_line is_data bytes.new.items ≡ data_from [] None
+    ensures ok { IfOk result (λ is_data. data_line is_data bytes.new.items ≡ data_from [] None
         line.now) }
+    ensures err { OnErr result (IsData (data_from [] None line.now)) }
 {
     bytes.clear();
+    // A byte for which memory runs out does not end the search for what is no pair.
+    let mut pushed = Ok(());
     let mut rest = line;
     while let Some((first, after)) = rest.split_first() {
         let Some(high) = digit_value(*first) else {
@@ -130,16 +147,19 @@ fn parse_data(line: &[u8], bytes: &mut Vec<u8>) -> Result<bool, AllocError>
         let Some(low) = digit_value(*second) else {
             return Ok(false);
         };
-        bytes.push(16 * high + low)?;
+        pushed = push_after(pushed, bytes, 16 * high + low);
         rest = behind;
     }
+    pushed?;
     Ok(true)
 }
 
-/// What a line says, without its LF. The bytes of a data line replace the contents of the vector.
+/// What a line says, without its LF. The bytes of a data line replace the contents of the vector, and memory runs out only
+/// for them.
 #[tactic(auto, unfolding(crate::specs::Text::ImageText::line_of, crate::specs::Text::ImageText::form_of))]
 pub fn parse_line(line: &[u8], bytes: &mut Vec<u8>) -> Result<Form, AllocError>
-    ensures { IfOk result (λ form. line_with form bytes.new.items ≡ line_of line.now) }
+    ensures ok { IfOk result (λ form. line_with form bytes.new.items ≡ line_of line.now) }
+    ensures err { OnErr result (IsData (line_of line.now)) }
 {
     let rest = cut_blanks(cut_comment(cut_cr(line)));
     if rest.is_empty() {
