@@ -1,9 +1,10 @@
 //! Reading a text line by line.
 
-ghost use Rattle.std.specs.Prelude.{◌≡◌, ◌≤◌, ◌<◌, ◌+◌, length, Ok, IsOk, OnOk, OnErr, IfOk, IfErr};
+ghost use Rattle.std.specs.Prelude.{◌≡◌, ◌≤◌, ◌<◌, ◌+◌, ◌⊎◌, ℕ, length, Ok, Some, IsOk, OnOk, OnErr, IfOk, IfErr};
 ghost use Rattle.acpi_base.specs.Memory.{IsImage};
-ghost use Rattle.acpi_base.specs.Text.ImageText.{on_ok, start, max_text, data_fault, put_data, take_line, read_line};
+ghost use Rattle.acpi_base.specs.Text.ImageText.{Reading, on_ok, start, max_text, data_fault, put_data, take_line, read_line};
 ghost use Rattle.acpi_base.specs.Text.Lines.{Refuses, line_with, reading_with, judged, told};
+ghost use Rattle.acpi_base.specs.Text.TextMemory.{IsPlacedData};
 
 use super::MAX_TEXT;
 use super::line::{Form, parse_line};
@@ -65,6 +66,8 @@ impl LineParser {
         ensures err { IfErr result (λ fault. Refuses
             (on_ok (judged self.old) (λ r. put_data r self.old.lines bytes.now r.next))
             (told self.new.image fault)) }
+        ensures memory { IfErr result (λ fault. fault ≡ TextFault.Memory
+            → (address : ℕ) × (self.old.next ≡ Some address)) }
         ensures same { OnErr result (self.new.image ≡ self.old.image) }
         ensures lines { self.new.lines ≡ self.old.lines }
         ensures through { self.new.through ≡ self.old.through }
@@ -95,6 +98,8 @@ impl LineParser {
         ensures err { IfErr result (λ fault. Refuses
             (on_ok (judged self.old) (λ r. take_line r self.old.lines (line_with form bytes.now)))
             (told self.new.image fault)) }
+        ensures memory { IfErr result (λ fault. fault ≡ TextFault.Memory
+            → (form ≡ Form.Data) × ((address : ℕ) × (self.old.next ≡ Some address))) }
         ensures same { OnErr result (self.new.image ≡ self.old.image) }
         ensures lines { self.new.lines ≡ self.old.lines }
         ensures through { self.new.through ≡ self.old.through }
@@ -126,6 +131,8 @@ impl LineParser {
         ensures err { IfErr result (λ fault. Refuses
             (on_ok (judged self.old) (λ r. read_line r line.now ending))
             (told self.new.image fault)) }
+        ensures memory { IfErr result (λ fault. told self.new.image fault ≡ TextFault.Memory
+            → IsPlacedData (judged self.old) line.now) }
         ensures same { OnErr result (self.new.image ≡ self.old.image) }
         ensures lines { OnOk result (self.new.lines ≡ self.old.lines + 1) }
         ensures through { OnOk result
@@ -147,6 +154,8 @@ impl LineParser {
         }
         match parse_line(line, bytes) {
             Ok(form) => self.take_line(form, bytes),
+            // It is a line of data, for whose bytes there is no memory.
+            Err(_) if self.next.is_none() => Err(TextFault::NoAddress { line: self.lines }),
             Err(_) => Err(TextFault::Memory),
         }
     }
@@ -181,9 +190,11 @@ impl LineParser {
     }
 
     /// The image of the data.
-    pub fn finish(self) -> Result<Image, TextFault>
+    fn lay_out(self) -> Result<Image, TextFault>
         ensures ok { IfOk result (λ image. judged self ≡ Ok (reading_with self image)) }
         ensures err { IfErr result (Refuses (judged self)) }
+        ensures memory { IfErr result (λ fault. fault ≡ TextFault.Memory
+            → (r : Reading) × (judged self ≡ Ok r)) }
         ensures image { IfOk result IsImage }
     {
         let lines = self.lines;
@@ -191,5 +202,25 @@ impl LineParser {
             Ok(image) => Ok(image),
             Err(fault) => Err(data_fault(lines, fault)),
         }
+    }
+
+    /// Reads the last line, since the text ends, and lays out the image. The vector is used for the line's bytes.
+    pub fn finish(self, last: &[u8], bytes: &mut Vec<u8>) -> Result<Image, TextFault>
+        requires lines { self.lines ≤ self.through }
+        requires through { self.through ≤ max_text }
+        ensures ok { IfOk result (λ image. (r : Reading)
+            × (on_ok (judged self) (λ r. read_line r last.now 0) ≡ Ok r) × (r.image ≡ image)) }
+        ensures err { IfErr result
+            (Refuses (on_ok (judged self) (λ r. read_line r last.now 0))) }
+        ensures memory { IfErr result (λ fault. fault ≡ TextFault.Memory
+            → IsPlacedData (judged self) last.now
+            ⊎ ((r : Reading) × (on_ok (judged self) (λ r. read_line r last.now 0) ≡ Ok r))) }
+        ensures image { IfOk result IsImage }
+    {
+        let mut parser = self;
+        if let Err(fault) = parser.read_line(last, 0, bytes) {
+            return Err(parser.first_fault(fault));
+        }
+        parser.lay_out()
     }
 }
