@@ -1,8 +1,8 @@
 -- Where memory may run out for a text: at a line of data with an address, or at the end.
-use Rattle.std.proofs.Common.{◌≡◌, ◌⊎◌, inl, inr, ℕ, zero, suc, ◌+◌, ◌<◌, ◌≢◌, List, [], ◌∷◌, ◌++◌, length, get_or, take, drop, refl, sym, subst, ap, ◌∙◌, arith, eqb, if◌then◌else◌, append_assoc, true, false}
+use Rattle.std.proofs.Common.{◌≡◌, ◌⊎◌, inl, inr, ℕ, zero, suc, ◌+◌, ◌<◌, ◌≢◌, List, [], ◌∷◌, ◌++◌, length, get_or, take, drop, refl, sym, subst, ap, ◌∙◌, arith, append_assoc, false}
 use Rattle.std.proofs.lemmas.Bool.{ne_eqb}
 use Rattle.std.proofs.lemmas.List.{append-nil}
-use Rattle.std.specs.Prelude.{Option, Some, None, is_some, Result, Ok, Err, IfErr, OnErr}
+use Rattle.std.specs.Prelude.{Option, Result, Ok, Err, IfErr, OnErr}
 use Rattle.acpi_base.specs.Memory.{Memory}
 use Rattle.acpi_base.specs.Image.Adding.{IsLayoutRefusal}
 use Rattle.acpi_base.specs.declared.image.ImageFault.{ImageFault}
@@ -13,27 +13,32 @@ use Rattle.acpi_base.specs.declared.text.image_text.line.Form.TheVariants as for
 use Rattle.acpi_base.specs.declared.text.image_text.line_parser.LineParser.{LineParser}
 use Rattle.acpi_base.specs.Text.ImageText.{Reading, Data, line_of, is_too_long, on_ok, data_fault, start, read_line, read_lines, read_text, ended_lines_from, last_line_from, ended_lines, last_line}
 use Rattle.acpi_base.specs.Text.TextMeaning.{text_lines}
-use Rattle.acpi_base.specs.Text.TextMemory.{IsPlacedData, HasPlacedData, MayRunOut}
+use Rattle.acpi_base.specs.Text.TextMemory.{HasRoom, IsPlacedData, HasPlacedData, MayRunOut}
 use Rattle.acpi_base.specs.Text.Lines.{IsData, line_with, reading_with, judged_by, told}
 
 -- ---- one line
 
--- memory runs out at a line of data, unless an address came twice before
+-- a line of data for which there are addresses
+pub record HasRoomFor (next : Option ℕ) (line : List ℕ) : Type 0 where
+  pub bytes : List ℕ
+  pub spells : line_of line ≡ Data bytes
+  pub room : HasRoom next (length bytes)
+
+-- memory runs out at such a line, unless an address came twice before
 pub placed_line : (p : LineParser) (d e : Result Memory ℕ) (line : List ℕ) (fault : TextFault)
     → is_too_long (length line) (p.through + length line) ≡ false → e ≡ d
-    → (fault ≡ refusal.Memory → IsData (line_of line) × ((address : ℕ) × (p.next ≡ Some address)))
+    → (fault ≡ refusal.Memory → HasRoomFor p.next line)
     → told e fault ≡ refusal.Memory → IsPlacedData (judged_by p d) line
 placed_line p (Ok m) e line fault short same has memory =
     let met : fault ≡ refusal.Memory = ap (λ d. told d fault) (sym same) ∙ memory in
-    let facts = has met in
+    let there = has met in
     record {
       r = reading_with p m;
-      bytes = facts.0.0;
-      address = facts.1.0;
+      bytes = there.bytes;
       faultless = refl;
       short = short;
-      spells = facts.0.1;
-      placed = facts.1.1;
+      spells = there.spells;
+      room = there.room;
     }
 placed_line p (Err address) e line fault short same has memory =
     let twice : refusal.Twice address ≡ refusal.Memory = ap (λ d. told d fault) (sym same) ∙ memory in absurd (cc)
@@ -41,32 +46,37 @@ placed_line p (Err address) e line fault short same has memory =
 -- the same for what reading the line returned
 pub placed_result : {A : Type 0} (p : LineParser) (d e : Result Memory ℕ) (line : List ℕ) (result : Result A TextFault)
     → is_too_long (length line) (p.through + length line) ≡ false → OnErr result (e ≡ d)
-    → IfErr result (λ fault. fault ≡ refusal.Memory → IsData (line_of line) × ((address : ℕ) × (p.next ≡ Some address)))
+    → IfErr result (λ fault. fault ≡ refusal.Memory → HasRoomFor p.next line)
     → IfErr result (λ fault. told e fault ≡ refusal.Memory → IsPlacedData (judged_by p d) line)
 placed_result p d e line (Ok x) short same has = tt
 placed_result p d e line (Err fault) short same has = placed_line p d e line fault short same has
 
--- the bytes of a row of digits are data; the address is known where they were not added
-pub row_has : {A : Type 0} (next : Option ℕ) (line bytes : List ℕ) (result : Result A TextFault) → line_of line ≡ Data bytes
-    → IfErr result (λ fault. fault ≡ refusal.Memory → (address : ℕ) × (next ≡ Some address))
-    → IfErr result (λ fault. fault ≡ refusal.Memory → IsData (line_of line) × ((address : ℕ) × (next ≡ Some address)))
+-- a row is data
+pub row_has : {A : Type 0} (next : Option ℕ) (line bytes : List ℕ) (result : Result A TextFault)
+    → line_of line ≡ Data bytes → IfErr result (λ fault. fault ≡ refusal.Memory → HasRoom next (length bytes))
+    → IfErr result (λ fault. fault ≡ refusal.Memory → HasRoomFor next line)
 row_has next line bytes (Ok x) spells has = tt
-row_has next line bytes (Err fault) spells has = λ memory. ((bytes, spells), has memory)
+row_has next line bytes (Err fault) spells has = λ memory.
+    record { bytes = bytes; spells = spells; room = has memory }
 
 -- the same of a line whose form was found
 pub form_has : {A : Type 0} (next : Option ℕ) (line bytes : List ℕ) (found : Form) (result : Result A TextFault)
     → line_with found bytes ≡ line_of line
-    → IfErr result (λ fault. fault ≡ refusal.Memory → (found ≡ form.Data) × ((address : ℕ) × (next ≡ Some address)))
-    → IfErr result (λ fault. fault ≡ refusal.Memory → IsData (line_of line) × ((address : ℕ) × (next ≡ Some address)))
+    → IfErr result (λ fault. fault ≡ refusal.Memory → (found ≡ form.Data) × HasRoom next (length bytes))
+    → IfErr result (λ fault. fault ≡ refusal.Memory → HasRoomFor next line)
 form_has next line bytes found (Ok x) is has = tt
 form_has next line bytes found (Err fault) is has = λ memory.
     let facts = has memory in
-    ((bytes, sym is ∙ ap (λ f. line_with f bytes) facts.0), facts.1)
+    record { bytes = bytes; spells = sym is ∙ ap (λ f. line_with f bytes) facts.0; room = facts.1 }
 
--- an option that is not empty has an address
-pub some_address : (next : Option ℕ) → is_some next ≡ true → (address : ℕ) × (next ≡ Some address)
-some_address None some = absurd (cc)
-some_address (Some address) some = (address, refl)
+-- the same of a line for whose bytes there was no memory
+pub data_has : (next : Option ℕ) (line : List ℕ) (count : ℕ) → IsData (line_of line) count → HasRoom next count
+    → HasRoomFor next line
+data_has next line count spelled room = record {
+  bytes = spelled.0;
+  spells = spelled.1;
+  room = subst (HasRoom next) (sym spelled.2) room;
+}
 
 -- ---- the end
 

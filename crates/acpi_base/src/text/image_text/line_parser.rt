@@ -1,10 +1,10 @@
 //! Reading a text line by line.
 
-ghost use Rattle.std.specs.Prelude.{◌≡◌, ◌≤◌, ◌<◌, ◌+◌, ◌⊎◌, ℕ, length, Ok, Some, IsOk, OnOk, OnErr, IfOk, IfErr};
+ghost use Rattle.std.specs.Prelude.{◌≡◌, ◌≤◌, ◌<◌, ◌+◌, ◌⊎◌, ℕ, List, length, Ok, IsOk, OnOk, OnErr, IfOk, IfErr};
 ghost use Rattle.acpi_base.specs.Memory.{IsImage};
 ghost use Rattle.acpi_base.specs.Text.ImageText.{Reading, on_ok, start, max_text, data_fault, put_data, take_line, read_line};
 ghost use Rattle.acpi_base.specs.Text.Lines.{Refuses, line_with, reading_with, judged, told};
-ghost use Rattle.acpi_base.specs.Text.TextMemory.{IsPlacedData};
+ghost use Rattle.acpi_base.specs.Text.TextMemory.{HasRoom, IsPlacedData};
 
 use super::MAX_TEXT;
 use super::line::{Form, parse_line};
@@ -16,6 +16,9 @@ use std::alloc::Global;
 
 /// The most bytes of a line, with its CR and without its LF.
 pub const MAX_LINE: usize = 65_536;
+
+/// The address after the last one.
+const END: u128 = 1 << 64;
 
 /// Parses one line after another: what was read so far, and the data. Reading goes on after a line that gives an address
 /// twice.
@@ -67,7 +70,7 @@ impl LineParser {
             (on_ok (judged self.old) (λ r. put_data r self.old.lines bytes.now r.next))
             (told self.new.image fault)) }
         ensures memory { IfErr result (λ fault. fault ≡ TextFault.Memory
-            → (address : ℕ) × (self.old.next ≡ Some address)) }
+            → HasRoom self.old.next (length bytes.now)) }
         ensures same { OnErr result (self.new.image ≡ self.old.image) }
         ensures lines { self.new.lines ≡ self.old.lines }
         ensures through { self.new.through ≡ self.old.through }
@@ -99,7 +102,7 @@ impl LineParser {
             (on_ok (judged self.old) (λ r. take_line r self.old.lines (line_with form bytes.now)))
             (told self.new.image fault)) }
         ensures memory { IfErr result (λ fault. fault ≡ TextFault.Memory
-            → (form ≡ Form.Data) × ((address : ℕ) × (self.old.next ≡ Some address))) }
+            → (form ≡ Form.Data) × HasRoom self.old.next (length bytes.now)) }
         ensures same { OnErr result (self.new.image ≡ self.old.image) }
         ensures lines { self.new.lines ≡ self.old.lines }
         ensures through { self.new.through ≡ self.old.through }
@@ -113,6 +116,23 @@ impl LineParser {
             Form::Data => self.put_data(bytes),
             Form::Bad => Err(TextFault::BadLine { line: self.lines }),
         }
+    }
+
+    /// Why the line that was read last is refused: memory ran out for its data, of so many bytes.
+    fn memory_fault(&self, count: usize) -> TextFault
+        ensures refused { (bytes : List ℕ) → length bytes ≡ count → Refuses
+            (on_ok (judged self.now) (λ r. put_data r self.now.lines bytes r.next))
+            (told self.now.image result) }
+        ensures memory { result ≡ TextFault.Memory → HasRoom self.now.next count }
+    {
+        let line = self.lines;
+        let Some(next) = self.next else {
+            return TextFault::NoAddress { line };
+        };
+        if next > END - count as u128 {
+            return TextFault::PastEnd { line };
+        }
+        TextFault::Memory
     }
 
     /// Reads the next line: `ending` is 1 if an LF ends it, and 0 if the text does. The vector is reused for its bytes.
@@ -154,9 +174,7 @@ impl LineParser {
         }
         match parse_line(line, bytes) {
             Ok(form) => self.take_line(form, bytes),
-            // It is a line of data, for whose bytes there is no memory.
-            Err(_) if self.next.is_none() => Err(TextFault::NoAddress { line: self.lines }),
-            Err(_) => Err(TextFault::Memory),
+            Err(error) => Err(self.memory_fault(error.count)),
         }
     }
 
