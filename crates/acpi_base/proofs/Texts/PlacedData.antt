@@ -25,11 +25,11 @@ pub record HasRoomFor (next : Option ℕ) (line : List ℕ) : Type 0 where
   pub room : HasRoom next (length bytes)
 
 -- memory runs out at such a line, unless an address came twice before
-pub placed_line : (p : LineParser) (d e : Result Memory ℕ) (line : List ℕ) (fault : TextFault)
-    → is_too_long (length line) (p.through + length line) ≡ false → e ≡ d
+pub placed_line : (p : LineParser) (d e : Result Memory ℕ) (line : List ℕ) (ending : ℕ) (fault : TextFault)
+    → is_too_long (length line) (p.through + length line + ending) ≡ false → e ≡ d
     → (fault ≡ refusal.Memory → HasRoomFor p.next line)
-    → told e fault ≡ refusal.Memory → IsPlacedData (judged_by p d) line
-placed_line p (Ok m) e line fault short same has memory =
+    → told e fault ≡ refusal.Memory → IsPlacedData (judged_by p d) line ending
+placed_line p (Ok m) e line ending fault short same has memory =
     let met : fault ≡ refusal.Memory = ap (λ d. told d fault) (sym same) ∙ memory in
     let there = has met in
     record {
@@ -40,16 +40,16 @@ placed_line p (Ok m) e line fault short same has memory =
       spells = there.spells;
       room = there.room;
     }
-placed_line p (Err address) e line fault short same has memory =
+placed_line p (Err address) e line ending fault short same has memory =
     let twice : refusal.Twice address ≡ refusal.Memory = ap (λ d. told d fault) (sym same) ∙ memory in absurd (cc)
 
 -- the same for what reading the line returned
-pub placed_result : {A : Type 0} (p : LineParser) (d e : Result Memory ℕ) (line : List ℕ) (result : Result A TextFault)
-    → is_too_long (length line) (p.through + length line) ≡ false → OnErr result (e ≡ d)
+pub placed_result : {A : Type 0} (p : LineParser) (d e : Result Memory ℕ) (line : List ℕ) (ending : ℕ)
+    (result : Result A TextFault) → is_too_long (length line) (p.through + length line + ending) ≡ false → OnErr result (e ≡ d)
     → IfErr result (λ fault. fault ≡ refusal.Memory → HasRoomFor p.next line)
-    → IfErr result (λ fault. told e fault ≡ refusal.Memory → IsPlacedData (judged_by p d) line)
-placed_result p d e line (Ok x) short same has = tt
-placed_result p d e line (Err fault) short same has = placed_line p d e line fault short same has
+    → IfErr result (λ fault. told e fault ≡ refusal.Memory → IsPlacedData (judged_by p d) line ending)
+placed_result p d e line ending (Ok x) short same has = tt
+placed_result p d e line ending (Err fault) short same has = placed_line p d e line ending fault short same has
 
 -- a row is data
 pub row_has : {A : Type 0} (next : Option ℕ) (line bytes : List ℕ) (result : Result A TextFault)
@@ -160,10 +160,12 @@ goes_on_behind first x y whole text n rest on l before at read same =
         before = line ∷ there.before;
         line = there.line;
         after = there.after;
+        ending = there.ending;
+        last = there.last;
         lines = ap (λ lines. lines ++ last_line text ∷ []) ended
             ∙ ap (λ end. line ∷ (ended_lines rest ++ end ∷ [])) last
             ∙ ap (λ lines. line ∷ lines) there.lines;
-        placed = subst (λ z. IsPlacedData z there.line)
+        placed = subst (λ z. IsPlacedData z there.line there.ending)
             (ap (λ z. on_ok z (λ r. read_lines r there.before)) (sym read) ∙ sym (one_more_line x line there.before))
             there.placed;
       });
@@ -171,7 +173,7 @@ goes_on_behind first x y whole text n rest on l before at read same =
 
 -- at the line itself
 pub found_here : (x : Result Reading TextFault) (text : List ℕ) (n : ℕ) → n < length text
-    → ((k : ℕ) → k < n → get_or text k 0 ≢ 10) → get_or text n 0 ≡ 10 → IsPlacedData x (take n text)
+    → ((k : ℕ) → k < n → get_or text k 0 ≢ 10) → get_or text n 0 ≡ 10 → IsPlacedData x (take n text) 1
     → HasPlacedData x text
 found_here x text n l before at placed =
     let parts = first_line_from [] text n l before at in
@@ -179,20 +181,24 @@ found_here x text n l before at placed =
       before = [];
       line = take n text;
       after = text_lines (drop (suc n) text);
+      ending = 1;
+      last = λ none. absurd (cc);
       lines = ap (λ lines. lines ++ last_line text ∷ []) parts.0
           ∙ ap (λ end. take n text ∷ (ended_lines (drop (suc n) text) ++ end ∷ [])) parts.1;
-      placed = subst (λ z. IsPlacedData z (take n text)) (sym (no_more x)) placed;
+      placed = subst (λ z. IsPlacedData z (take n text) 1) (sym (no_more x)) placed;
     }
 
 -- at the last line
 pub found_last : (x y : Result Reading TextFault) (text last : List ℕ) → last ≡ last_line text
-    → on_ok x (λ r. read_lines r (ended_lines text)) ≡ y → IsPlacedData y last → HasPlacedData x text
+    → on_ok x (λ r. read_lines r (ended_lines text)) ≡ y → IsPlacedData y last 0 → HasPlacedData x text
 found_last x y text last same read placed = record {
   before = ended_lines text;
   line = last;
   after = [];
+  ending = 0;
+  last = λ none. refl;
   lines = ap (λ line. ended_lines text ++ line ∷ []) (sym same);
-  placed = subst (λ z. IsPlacedData z last) (sym read) placed;
+  placed = subst (λ z. IsPlacedData z last 0) (sym read) placed;
 }
 
 -- behind the last LF
@@ -219,7 +225,7 @@ whole_text first behind text last is same read =
 -- where memory runs out at its end
 whole_runs_out : (first behind : Result Reading TextFault) (text last : List ℕ) → first ≡ Ok start
     → last ≡ last_line text → on_ok first (λ r. read_lines r (ended_lines text)) ≡ behind
-    → IsPlacedData behind last ⊎ ((r : Reading) × (on_ok behind (λ r. read_line r last 0) ≡ Ok r)) → MayRunOut text
+    → IsPlacedData behind last 0 ⊎ ((r : Reading) × (on_ok behind (λ r. read_line r last 0) ≡ Ok r)) → MayRunOut text
 whole_runs_out first behind text last is same read (inl placed) =
     inl (subst (λ x. HasPlacedData x text) is (found_last first behind text last same read placed))
 whole_runs_out first behind text last is same read (inr faultless) =
@@ -229,7 +235,7 @@ pub whole_memory : {A : Type 0} (first behind : Result Reading TextFault) (text 
     (result : Result A TextFault) → first ≡ Ok start
     → last ≡ last_line text → on_ok first (λ r. read_lines r (ended_lines text)) ≡ behind
     → IfErr result (λ fault. fault ≡ refusal.Memory
-    → IsPlacedData behind last ⊎ ((r : Reading) × (on_ok behind (λ r. read_line r last 0) ≡ Ok r)))
+    → IsPlacedData behind last 0 ⊎ ((r : Reading) × (on_ok behind (λ r. read_line r last 0) ≡ Ok r)))
     → IfErr result (λ fault. fault ≡ refusal.Memory → MayRunOut text)
 whole_memory first behind text last (Ok image) is same read err = tt
 whole_memory first behind text last (Err fault) is same read err = λ memory.

@@ -104,7 +104,7 @@ impl LineBuffer {
             (told self.new.parser.image fault)) }
         ensures memory { self.old.line.items ≡ [] → IfErr result
             (λ fault. told self.new.parser.image fault ≡ TextFault.Memory
-            → IsPlacedData (judged self.old.parser) part.now) }
+            → IsPlacedData (judged self.old.parser) part.now 1) }
     {
         if self.line.is_empty() {
             return self.parser.read_line(part, 1, &mut self.bytes);
@@ -219,7 +219,7 @@ impl LineBuffer {
         ensures err { IfErr result
             (Refuses (on_ok (judged self.parser) (λ r. read_line r last.now 0))) }
         ensures memory { IfErr result (λ fault. fault ≡ TextFault.Memory
-            → IsPlacedData (judged self.parser) last.now
+            → IsPlacedData (judged self.parser) last.now 0
             ⊎ ((r : Reading)
             × (on_ok (judged self.parser) (λ r. read_line r last.now 0) ≡ Ok r))) }
         ensures image { IfOk result IsImage }

@@ -152,7 +152,7 @@ impl LineParser {
             (on_ok (judged self.old) (λ r. read_line r line.now ending))
             (told self.new.image fault)) }
         ensures memory { IfErr result (λ fault. told self.new.image fault ≡ TextFault.Memory
-            → IsPlacedData (judged self.old) line.now) }
+            → IsPlacedData (judged self.old) line.now ending) }
         ensures same { OnErr result (self.new.image ≡ self.old.image) }
         ensures lines { OnOk result (self.new.lines ≡ self.old.lines + 1) }
         ensures through { OnOk result
@@ -231,7 +231,7 @@ impl LineParser {
         ensures err { IfErr result
             (Refuses (on_ok (judged self) (λ r. read_line r last.now 0))) }
         ensures memory { IfErr result (λ fault. fault ≡ TextFault.Memory
-            → IsPlacedData (judged self) last.now
+            → IsPlacedData (judged self) last.now 0
             ⊎ ((r : Reading) × (on_ok (judged self) (λ r. read_line r last.now 0) ≡ Ok r))) }
         ensures image { IfOk result IsImage }
     {

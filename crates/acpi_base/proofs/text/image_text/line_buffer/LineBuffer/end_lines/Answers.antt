@@ -36,7 +36,7 @@ returns-in-Err-clause-memory c empty memory =
     let left = c.split_at.ensures.back_len in
     let some : 0 < length c.split_at.result.1.now = grind (arith, nat_tests, c.is_empty.ensures, c.if-is_empty.false) in
     let low : n < length text = omega arith in
-    let placed = subst (IsPlacedData (judged f.parser)) c.split_at.ensures.front
+    let placed = subst (λ line. IsPlacedData (judged f.parser) line 1) c.split_at.ensures.front
     (c.in-Err.ensures.memory (c.lines.invariant.whole empty) memory) in
     (c.lines.invariant.on empty).found (found_here (judged f.parser) text n low c.line_end.ensures.before
     (c.line_end.ensures.found low) placed)

@@ -13,5 +13,5 @@ returns-clause-ok c =
 
 pub returns-clause-memory : goal.returns-clause-memory
 returns-clause-memory c =
-    ended_there (IsPlacedData (judged c.args.self) c.args.last.now) _ _ c.lay_out.result c.in_default.ensures.ok
+    ended_there (IsPlacedData (judged c.args.self) c.args.last.now 0) _ _ c.lay_out.result c.in_default.ensures.ok
     c.lay_out.ensures.memory
