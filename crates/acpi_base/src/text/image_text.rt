@@ -154,8 +154,8 @@ pub fn read_image<R: Read>(alloc: Global, reader: &mut Tally<R>) -> Result<Image
 
 /// The image of a whole text. Refuses as `ImageText` does.
 ///
-/// `Memory` only at a line of data with an address, if no line before it has a fault, or at the end of a text without a fault,
-/// when the image is laid out.
+/// It copies no part of the text but its data. So it returns `Memory` only at a line of data that has an address and does not
+/// pass the last one, if no line before it has a fault; or at the end of a text without a fault, when the image is laid out.
 pub fn parse_image(alloc: Global, text: &[u8]) -> Result<Image, TextFault>
     ensures ok { IfOk result (IsText text.now) }
     ensures err { IfErr result (λ fault. (fault ≡ TextFault.Memory) ⊎ IsRefused text.now fault) }

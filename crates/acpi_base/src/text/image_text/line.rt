@@ -129,7 +129,7 @@ fn push_after(
 }
 
 /// Whether the line is pairs of hex digits, with any blanks between pairs and after the last. If so, the
-/// vector has their bytes, unless memory runs out for them.
+/// vector has their bytes, unless memory runs out.
 #[tactic(auto, unfolding(crate::specs::Text::ImageText::data_from), using(crate::proofs::Texts::LineParsing::one_more))]
 fn parse_data(line: &[u8], bytes: &mut Vec<u8>) -> Result<bool, NoMemory>
     ensures ok { IfOk result (λ is_data. data_line is_data bytes.new.items ≡ data_from [] None
@@ -159,14 +159,14 @@ fn parse_data(line: &[u8], bytes: &mut Vec<u8>) -> Result<bool, NoMemory>
         count += 1;
         rest = behind;
     }
-    match pushed {
-        Ok(()) => Ok(true),
-        Err(_) => Err(NoMemory { count }),
+    if pushed.is_err() {
+        return Err(NoMemory { count });
     }
+    Ok(true)
 }
 
-/// What a line says, without its LF. The bytes of a data line replace the contents of the vector, and memory runs out only
-/// for them.
+/// What a line says, without its LF. The bytes of a data line replace the contents of the vector. Memory runs out only for
+/// them, so only at a line of data.
 #[tactic(auto, unfolding(crate::specs::Text::ImageText::line_of, crate::specs::Text::ImageText::form_of))]
 pub fn parse_line(line: &[u8], bytes: &mut Vec<u8>) -> Result<Form, NoMemory>
     ensures ok { IfOk result (λ form. line_with form bytes.new.items ≡ line_of line.now) }
