@@ -12,4 +12,5 @@ pub mod LineFeeds
 pub mod LineParsing
 pub mod LineSplitting
 pub mod OwnFaults
+pub mod PlacedData
 pub mod Written

@@ -5,6 +5,7 @@ pub mod StateCode
 pub mod TextLaws
 pub mod TextMachine
 pub mod TextMeaning
+pub mod TextMemory
 pub mod TextReading
 pub mod WitnessText
 pub mod WrittenText

@@ -11,6 +11,7 @@ use Rattle.acpi_base.specs.Memory.{Memory, with_bytes}
 use Rattle.acpi_base.specs.Policy.{PolicyValue}
 use Rattle.acpi_base.specs.RsdpSearch.{IsFound, IsNowhere}
 use Rattle.acpi_base.specs.Text.ImageText.{IsText, Reading}
+use Rattle.acpi_base.specs.Text.TextMemory.{MayRunOut}
 use Rattle.acpi_base.proofs.Faults.Laws.{one_verdict}
 use Rattle.acpi_base.proofs.Faults.Numbers.{same_stage}
 use Rattle.acpi_base.specs.declared.code.Code.{Code}
@@ -76,6 +77,10 @@ pieces_begin (p ∷ rest) m e = go (add_refusal empty p.address p.bytes.now) e
         → unless_refused o 0 (with_pieces 1 (with_bytes empty p.address p.bytes.now) rest) ≡ Ok m → o ≡ None
     go None h = refl
     go (Some fault) h = absurd (cc)
+
+-- a text that gives an image has no fault
+pub text_faultless : (bytes : List ℕ) (m : Memory) → IsText bytes m → MayRunOut bytes
+text_faultless bytes m is = inr (is.0, is.1)
 
 -- nothing is wrong with the numbers, and memory runs out
 pub runs_out : (numbers : Option Refusal) (source : Source) (r : Refusal) → numbers ≡ None → source.MayRunOut

@@ -3,6 +3,7 @@ use Rattle.std.specs.Prelude.{◌≡◌, ◌⊎◌, ℕ, List, Result, Ok, Err}
 use Rattle.std.specs.FinMap.{empty}
 use Rattle.acpi_base.specs.Memory.{Memory}
 use Rattle.acpi_base.specs.Text.ImageText.{IsText, IsRefused}
+use Rattle.acpi_base.specs.Text.TextMemory as memory
 use Rattle.acpi_base.specs.declared.text.TextFault.{TextFault}
 use Rattle.acpi_base.specs.declared.text.TextFault.TheVariants as fault
 use Rattle.acpi_c.specs.Pieces.{FirstFits, with_pieces}
@@ -35,13 +36,13 @@ text_refusal fault.TooLong = refusal.TextTooLong
 text_refusal fault.Read = refusal.OutOfMemory
 text_refusal fault.Memory = refusal.OutOfMemory
 
--- nothing is known of the text if memory runs out
+-- memory runs out only at a line of data that can be read, if no line before it has a fault, or for a text without a fault
 abbrev pub text_source : List ℕ → Source
 text_source text =
     record {
       Is = IsText text;
       Refuses = λ r. (f : TextFault) × IsRefused text f × (r ≡ text_refusal f);
-      MayRunOut = Unit {0};
+      MayRunOut = memory.MayRunOut text;
     }
 
 -- why there is no result for it: there is no image, or memory runs out

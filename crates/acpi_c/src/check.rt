@@ -86,6 +86,7 @@ pub extern "C" fn acpiset_check(
 ///
 /// Refuses as `acpiset_check` does, but instead of `PiecePastEnd` and `PiecesOverlap`: `TextTooLong`, `BadLine`,
 /// `NoAddress`, `TextPastEnd` or `TextOverlap`, for the first line with a fault, and within one line in this order.
+/// `OutOfMemory` is not returned instead of a fault that comes before the first line of data or in it.
 #[unsafe(no_mangle)]
 pub extern "C" fn acpiset_check_text(
     alloc: Global,

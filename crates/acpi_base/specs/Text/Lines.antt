@@ -1,5 +1,5 @@
 -- What the reader of lines keeps and returns, in the words of image text.
-use Rattle.std.specs.Prelude.{◌≡◌, ◌⊎◌, ℕ, List, Bool, true, false, Result, Ok, Err}
+use Rattle.std.specs.Prelude.{◌≡◌, ◌⊎◌, ℕ, List, length, Bool, true, false, Result, Ok, Err}
 use Rattle.acpi_base.specs.Memory.{Memory}
 use Rattle.acpi_base.specs.Text.ImageText.{Line, Blank, Address, Data, Bad, Reading}
 use Rattle.acpi_base.specs.Text.TextReading.{is_of_text}
@@ -20,6 +20,10 @@ line_with form.Bad bytes = Bad
 abbrev pub data_line : Bool → List ℕ → Line
 data_line true bytes = Data bytes
 data_line false bytes = Bad
+
+-- it is a line of data with so many bytes
+abbrev pub IsData : Line → ℕ → Type 0
+IsData said count = (bytes : List ℕ) × (said ≡ Data bytes) × (length bytes ≡ count)
 
 -- the state of the parser between two lines, if its data is this memory
 abbrev pub reading_with : LineParser → Memory → Reading

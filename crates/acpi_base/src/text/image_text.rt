@@ -11,6 +11,7 @@ ghost use Rattle.std.specs.Io.KnownBytes.{Consumes, IsAtEnd};
 ghost use Rattle.acpi_base.specs.Memory.{IsImage};
 ghost use Rattle.acpi_base.specs.Text.ImageText.{IsRefused, IsText, max_text};
 ghost use Rattle.acpi_base.specs.Text.TextMachine.{ReaderState, Stopped, EndsAs, IsGoing, initial_state, text_result, run};
+ghost use Rattle.acpi_base.specs.Text.TextMemory.{MayRunOut};
 ghost use Rattle.acpi_base.specs.Text.TextReading.{IsRefusal, CountsRead};
 ghost use Rattle.acpi_base.specs.Text.Lines.{told};
 ghost use Rattle.acpi_base.specs.Text.LineBuffers.{IsLineBuffer};
@@ -43,8 +44,9 @@ const PIECE: usize = 65_536;
 /// `Memory`: out of memory for the line or the image. Until the text is refused, it can be returned instead of any other
 /// result. A refused text stays refused with the same fault.
 ///
-/// Each `feed` copies and sorts the list of the pieces of data so far, to see whether an address came twice. If there are
-/// many of them, `parse_image` and `read_image`, which look only once, take less time.
+/// Each `feed` goes over the list of the runs of data so far, to see whether an address came twice, and copies and sorts it
+/// if they did not come in the order of their addresses. If there are many of them, `parse_image` and `read_image`, which
+/// look only once, take less time.
 #[derive(Drop)]
 pub struct ImageText {
     buffer: LineBuffer,
@@ -152,14 +154,18 @@ pub fn read_image<R: Read>(alloc: Global, reader: &mut Tally<R>) -> Result<Image
 }
 
 /// The image of a whole text. Refuses as `ImageText` does.
+///
+/// It copies no part of the text but its data. So it returns `Memory` only at a line of data that has an address and does not
+/// pass the last one, if no line before it has a fault; or at the end of a text without a fault, when the image is laid out.
 pub fn parse_image(alloc: Global, text: &[u8]) -> Result<Image, TextFault>
     ensures ok { IfOk result (IsText text.now) }
     ensures err { IfErr result (λ fault. (fault ≡ TextFault.Memory) ⊎ IsRefused text.now fault) }
+    ensures memory { IfErr result (λ fault. fault ≡ TextFault.Memory → MayRunOut text.now) }
     ensures image { IfOk result IsImage }
 {
     let mut buffer = LineBuffer::new(alloc);
-    if let Err(fault) = buffer.take(text) {
-        return Err(buffer.first_fault(fault));
+    match buffer.end_lines(text) {
+        Ok(last) => buffer.finish_at(last),
+        Err(fault) => Err(buffer.first_fault(fault)),
     }
-    buffer.finish()
 }

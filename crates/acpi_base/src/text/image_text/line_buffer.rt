@@ -1,12 +1,13 @@
 //! Reading a text that comes in pieces. Of the text only the incomplete last line is kept.
 
-ghost use Rattle.std.specs.Prelude.{◌≡◌, ◌+◌, ◌≤◌, ◌<◌, ◌≢◌, ◌⊎◌, ◌++◌, ◌==◌, ℕ, [], true, length, not, slice_index, OnOk, IfOk, IfErr};
+ghost use Rattle.std.specs.Prelude.{◌≡◌, ◌+◌, ◌≤◌, ◌<◌, ◌≢◌, ◌⊎◌, ◌++◌, ◌==◌, ℕ, [], true, length, not, slice_index, Ok, OnOk, IfOk, IfErr};
 ghost use Rattle.std.specs.List.{prefix_len};
 ghost use Rattle.std.specs.Simd.Lanes.{chunk};
 ghost use Rattle.acpi_base.specs.Memory.{IsImage};
-ghost use Rattle.acpi_base.specs.Text.ImageText.{on_ok, read_line};
+ghost use Rattle.acpi_base.specs.Text.ImageText.{Reading, on_ok, start, read_line, read_lines, ended_lines, last_line};
 ghost use Rattle.acpi_base.specs.Text.TextMachine.{run, EndsAs, IsGoing, Stopped, initial_state, text_result};
 ghost use Rattle.acpi_base.specs.Text.Lines.{Refuses, judged, told};
+ghost use Rattle.acpi_base.specs.Text.TextMemory.{IsPlacedData, HasPlacedData};
 ghost use Rattle.acpi_base.specs.Text.LineBuffers.{IsLineBuffer, buffer_state, byte_count};
 
 use super::MAX_TEXT;
@@ -77,6 +78,8 @@ impl LineBuffer {
     pub fn new(alloc: Global) -> LineBuffer
         ensures sound { IsLineBuffer result }
         ensures state { buffer_state result ≡ initial_state }
+        ensures parser { judged result.parser ≡ Ok start }
+        ensures line { result.line.items ≡ [] }
         ensures count { byte_count result ≡ 0 }
     {
         LineBuffer {
@@ -99,6 +102,9 @@ impl LineBuffer {
         ensures err { IfErr result (λ fault. Refuses
             (on_ok (judged self.old.parser) (λ r. read_line r (self.old.line.items ++ part.now) 1))
             (told self.new.parser.image fault)) }
+        ensures memory { self.old.line.items ≡ [] → IfErr result
+            (λ fault. told self.new.parser.image fault ≡ TextFault.Memory
+            → IsPlacedData (judged self.old.parser) part.now 1) }
     {
         if self.line.is_empty() {
             return self.parser.read_line(part, 1, &mut self.bytes);
@@ -132,6 +138,41 @@ impl LineBuffer {
         Ok(())
     }
 
+    /// Reads the lines that end in the piece, and returns what comes after its last LF. If no part of a line was kept
+    /// before, memory is needed for data alone.
+    pub fn end_lines<'a>(&mut self, piece: &'a [u8]) -> Result<&'a [u8], TextFault>
+        requires { IsLineBuffer self.old }
+        ensures sound { OnOk result (IsLineBuffer self.new) }
+        ensures ok { IfOk result (λ rest.
+            run (buffer_state self.new) rest.now ≡ run (buffer_state self.old) piece.now) }
+        ensures free { IfOk result (λ rest.
+            (k : ℕ) → k < length rest.now → slice_index rest.now k ≢ 10) }
+        ensures count { IfOk result (λ rest.
+            byte_count self.new + length rest.now ≡ byte_count self.old + length piece.now) }
+        ensures whole { self.old.line.items ≡ [] → IfOk result (λ rest.
+            (rest.now ≡ last_line piece.now)
+            × (on_ok (judged self.old.parser) (λ r. read_lines r (ended_lines piece.now))
+            ≡ judged self.new.parser)) }
+        ensures err { IfErr result (λ fault. (told self.new.parser.image fault ≡ TextFault.Memory)
+            ⊎ (run (buffer_state self.old) piece.now
+            ≡ Stopped (told self.new.parser.image fault))) }
+        ensures memory { self.old.line.items ≡ [] → IfErr result
+            (λ fault. told self.new.parser.image fault ≡ TextFault.Memory
+            → HasPlacedData (judged self.old.parser) piece.now) }
+    {
+        let mut rest = piece;
+        'lines: loop {
+            let (line, after) = rest.split_at(line_end(rest));
+            if after.is_empty() {
+                return Ok(rest);
+            }
+            if let Err(fault) = self.end_line(line) {
+                return Err(fault);
+            }
+            rest = &after[1..];
+        }
+    }
+
     /// Reads the next piece of the text.
     pub fn take(&mut self, piece: &[u8]) -> Result<(), TextFault>
         requires { IsLineBuffer self.old }
@@ -142,16 +183,9 @@ impl LineBuffer {
             ⊎ (run (buffer_state self.old) piece.now
             ≡ Stopped (told self.new.parser.image fault))) }
     {
-        let mut rest = piece;
-        'lines: loop {
-            let (line, after) = rest.split_at(line_end(rest));
-            if after.is_empty() {
-                return self.keep(rest);
-            }
-            if let Err(fault) = self.end_line(line) {
-                return Err(fault);
-            }
-            rest = &after[1..];
+        match self.end_lines(piece) {
+            Ok(rest) => self.keep(rest),
+            Err(fault) => Err(fault),
         }
     }
 
@@ -177,6 +211,27 @@ impl LineBuffer {
         taken
     }
 
+    /// Reads the last line, since the text ends, and lays out the image. The line is passed, and none was kept.
+    pub fn finish_at(self, last: &[u8]) -> Result<Image, TextFault>
+        requires { IsLineBuffer self }
+        ensures ok { IfOk result (λ image. (r : Reading)
+            × (on_ok (judged self.parser) (λ r. read_line r last.now 0) ≡ Ok r) × (r.image ≡ image)) }
+        ensures err { IfErr result
+            (Refuses (on_ok (judged self.parser) (λ r. read_line r last.now 0))) }
+        ensures memory { IfErr result (λ fault. fault ≡ TextFault.Memory
+            → IsPlacedData (judged self.parser) last.now 0
+            ⊎ ((r : Reading)
+            × (on_ok (judged self.parser) (λ r. read_line r last.now 0) ≡ Ok r))) }
+        ensures image { IfOk result IsImage }
+    {
+        let LineBuffer {
+            parser,
+            mut bytes,
+            ..
+        } = self;
+        parser.finish(last, &mut bytes)
+    }
+
     /// Reads the last line, since the text ends, and lays out the image.
     pub fn finish(self) -> Result<Image, TextFault>
         requires { IsLineBuffer self }
@@ -184,10 +239,11 @@ impl LineBuffer {
         ensures err { IfErr result (Refuses (text_result (buffer_state self))) }
         ensures image { IfOk result IsImage }
     {
-        let mut buffer = self;
-        if let Err(fault) = buffer.parser.read_line(&buffer.line, 0, &mut buffer.bytes) {
-            return Err(buffer.first_fault(fault));
-        }
-        buffer.parser.finish()
+        let LineBuffer {
+            parser,
+            line,
+            mut bytes,
+        } = self;
+        parser.finish(&line, &mut bytes)
     }
 }

@@ -1,9 +1,10 @@
 //! Reading a text line by line.
 
-ghost use Rattle.std.specs.Prelude.{◌≡◌, ◌≤◌, ◌<◌, ◌+◌, length, Ok, IsOk, OnOk, OnErr, IfOk, IfErr};
+ghost use Rattle.std.specs.Prelude.{◌≡◌, ◌≤◌, ◌<◌, ◌+◌, ◌⊎◌, ℕ, List, length, Ok, IsOk, OnOk, OnErr, IfOk, IfErr};
 ghost use Rattle.acpi_base.specs.Memory.{IsImage};
-ghost use Rattle.acpi_base.specs.Text.ImageText.{on_ok, start, max_text, data_fault, put_data, take_line, read_line};
+ghost use Rattle.acpi_base.specs.Text.ImageText.{Reading, on_ok, start, max_text, data_fault, put_data, take_line, read_line};
 ghost use Rattle.acpi_base.specs.Text.Lines.{Refuses, line_with, reading_with, judged, told};
+ghost use Rattle.acpi_base.specs.Text.TextMemory.{HasRoom, IsPlacedData};
 
 use super::MAX_TEXT;
 use super::line::{Form, parse_line};
@@ -15,6 +16,9 @@ use std::alloc::Global;
 
 /// The most bytes of a line, with its CR and without its LF.
 pub const MAX_LINE: usize = 65_536;
+
+/// The address after the last one.
+const END: u128 = 1 << 64;
 
 /// Parses one line after another: what was read so far, and the data. Reading goes on after a line that gives an address
 /// twice.
@@ -65,6 +69,8 @@ impl LineParser {
         ensures err { IfErr result (λ fault. Refuses
             (on_ok (judged self.old) (λ r. put_data r self.old.lines bytes.now r.next))
             (told self.new.image fault)) }
+        ensures memory { IfErr result (λ fault. fault ≡ TextFault.Memory
+            → HasRoom self.old.next (length bytes.now)) }
         ensures same { OnErr result (self.new.image ≡ self.old.image) }
         ensures lines { self.new.lines ≡ self.old.lines }
         ensures through { self.new.through ≡ self.old.through }
@@ -95,6 +101,8 @@ impl LineParser {
         ensures err { IfErr result (λ fault. Refuses
             (on_ok (judged self.old) (λ r. take_line r self.old.lines (line_with form bytes.now)))
             (told self.new.image fault)) }
+        ensures memory { IfErr result (λ fault. fault ≡ TextFault.Memory
+            → (form ≡ Form.Data) × HasRoom self.old.next (length bytes.now)) }
         ensures same { OnErr result (self.new.image ≡ self.old.image) }
         ensures lines { self.new.lines ≡ self.old.lines }
         ensures through { self.new.through ≡ self.old.through }
@@ -108,6 +116,23 @@ impl LineParser {
             Form::Data => self.put_data(bytes),
             Form::Bad => Err(TextFault::BadLine { line: self.lines }),
         }
+    }
+
+    /// Why the line that was read last is refused: memory ran out for its data, of so many bytes.
+    fn memory_fault(&self, count: usize) -> TextFault
+        ensures refused { (bytes : List ℕ) → length bytes ≡ count → Refuses
+            (on_ok (judged self.now) (λ r. put_data r self.now.lines bytes r.next))
+            (told self.now.image result) }
+        ensures memory { result ≡ TextFault.Memory → HasRoom self.now.next count }
+    {
+        let line = self.lines;
+        let Some(next) = self.next else {
+            return TextFault::NoAddress { line };
+        };
+        if next > END - count as u128 {
+            return TextFault::PastEnd { line };
+        }
+        TextFault::Memory
     }
 
     /// Reads the next line: `ending` is 1 if an LF ends it, and 0 if the text does. The vector is reused for its bytes.
@@ -126,6 +151,8 @@ impl LineParser {
         ensures err { IfErr result (λ fault. Refuses
             (on_ok (judged self.old) (λ r. read_line r line.now ending))
             (told self.new.image fault)) }
+        ensures memory { IfErr result (λ fault. told self.new.image fault ≡ TextFault.Memory
+            → IsPlacedData (judged self.old) line.now ending) }
         ensures same { OnErr result (self.new.image ≡ self.old.image) }
         ensures lines { OnOk result (self.new.lines ≡ self.old.lines + 1) }
         ensures through { OnOk result
@@ -147,7 +174,7 @@ impl LineParser {
         }
         match parse_line(line, bytes) {
             Ok(form) => self.take_line(form, bytes),
-            Err(_) => Err(TextFault::Memory),
+            Err(error) => Err(self.memory_fault(error.count)),
         }
     }
 
@@ -181,9 +208,11 @@ impl LineParser {
     }
 
     /// The image of the data.
-    pub fn finish(self) -> Result<Image, TextFault>
+    fn lay_out(self) -> Result<Image, TextFault>
         ensures ok { IfOk result (λ image. judged self ≡ Ok (reading_with self image)) }
         ensures err { IfErr result (Refuses (judged self)) }
+        ensures memory { IfErr result (λ fault. fault ≡ TextFault.Memory
+            → (r : Reading) × (judged self ≡ Ok r)) }
         ensures image { IfOk result IsImage }
     {
         let lines = self.lines;
@@ -191,5 +220,25 @@ impl LineParser {
             Ok(image) => Ok(image),
             Err(fault) => Err(data_fault(lines, fault)),
         }
+    }
+
+    /// Reads the last line, since the text ends, and lays out the image. The vector is used for the line's bytes.
+    pub fn finish(self, last: &[u8], bytes: &mut Vec<u8>) -> Result<Image, TextFault>
+        requires lines { self.lines ≤ self.through }
+        requires through { self.through ≤ max_text }
+        ensures ok { IfOk result (λ image. (r : Reading)
+            × (on_ok (judged self) (λ r. read_line r last.now 0) ≡ Ok r) × (r.image ≡ image)) }
+        ensures err { IfErr result
+            (Refuses (on_ok (judged self) (λ r. read_line r last.now 0))) }
+        ensures memory { IfErr result (λ fault. fault ≡ TextFault.Memory
+            → IsPlacedData (judged self) last.now 0
+            ⊎ ((r : Reading) × (on_ok (judged self) (λ r. read_line r last.now 0) ≡ Ok r))) }
+        ensures image { IfOk result IsImage }
+    {
+        let mut parser = self;
+        if let Err(fault) = parser.read_line(last, 0, bytes) {
+            return Err(parser.first_fault(fault));
+        }
+        parser.lay_out()
     }
 }

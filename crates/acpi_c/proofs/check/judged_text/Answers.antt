@@ -1,6 +1,6 @@
 use Rattle.std.proofs.lemmas.Result.{err_from_is_err_and}
 use Rattle.acpi_c.specs.Sources.{text_source}
-use Rattle.acpi_c.proofs.Answers.{asks, judges, neither, runs_out}
+use Rattle.acpi_c.proofs.Answers.{asks, judges, neither, runs_out, text_faultless}
 use Rattle.acpi_c.proofs.check.judged_text.Goals as goal
 
 pub returns : goal.returns
@@ -14,4 +14,5 @@ pub returns-in_err-verdict : goal.returns-in_err-verdict
 returns-in_err-verdict c =
     let p = err_from_is_err_and c.from_residual-in_err-verdict.result c.from_residual-in_err-verdict.ensures.1 in
     rw p.1 (runs_out _ (text_source c.args.text.now) p.0
-    (neither _ _ c.in_ok-policy.ensures.refused c.in_ok-last.ensures.refused) tt p.2)
+    (neither _ _ c.in_ok-policy.ensures.refused c.in_ok-last.ensures.refused)
+    (text_faultless c.args.text.now c.in_ok-image.image c.in_ok-image.ensures) p.2)

@@ -6,8 +6,10 @@ use Rattle.acpi_base.specs.Text.ImageText.{on_ok, read_line}
 use Rattle.acpi_base.specs.Text.TextMachine.{run}
 use Rattle.acpi_base.specs.Text.LineBuffers.{state_with, byte_count}
 use Rattle.acpi_base.specs.Text.Lines.{Refuses, judged, told}
+use Rattle.acpi_base.specs.Text.TextMemory.{IsPlacedData}
 use Rattle.acpi_base.proofs.Texts.LineBuffers.{line_passed, line_refused, short_bounds}
-use Rattle.acpi_base.proofs.text.image_text.line_buffer.LineBuffer.take.Goals as goal
+use Rattle.acpi_base.proofs.Texts.PlacedData.{found_here, goes_on_behind, goes_on_last}
+use Rattle.acpi_base.proofs.text.image_text.line_buffer.LineBuffer.end_lines.Goals as goal
 
 pub returns-in-Err-clause-err : goal.returns-in-Err-clause-err
 returns-in-Err-clause-err c =
@@ -25,6 +27,27 @@ returns-in-Err-clause-err c =
       | inl memory ↦ inl memory
       | inr stopped ↦ inr (sym c.lines.invariant.run ∙ stopped)
     ]
+
+pub returns-in-Err-clause-memory : goal.returns-in-Err-clause-memory
+returns-in-Err-clause-memory c empty memory =
+    let f = c.lines.self in
+    let text = c.lines.rest.now in
+    let n = c.line_end.result in
+    let left = c.split_at.ensures.back_len in
+    let some : 0 < length c.split_at.result.1.now = grind (arith, nat_tests, c.is_empty.ensures, c.if-is_empty.false) in
+    let low : n < length text = omega arith in
+    let placed = subst (λ line. IsPlacedData (judged f.parser) line 1) c.split_at.ensures.front
+    (c.in-Err.ensures.memory (c.lines.invariant.whole empty) memory) in
+    (c.lines.invariant.on empty).found (found_here (judged f.parser) text n low c.line_end.ensures.before
+    (c.line_end.ensures.found low) placed)
+
+pub returns-then-is_empty-clause-whole : goal.returns-then-is_empty-clause-whole
+returns-then-is_empty-clause-whole c empty =
+    let text = c.lines.rest.now in
+    let left = c.split_at.ensures.back_len in
+    let none : length c.split_at.result.1.now ≡ 0 = grind (arith, nat_tests, c.is_empty.ensures, c.if-is_empty.true) in
+    goes_on_last (judged c.args.self.now.parser) (judged c.lines.self.parser) c.args.piece.now text
+    (c.lines.invariant.on empty) (λ k l. c.line_end.ensures.before k (omega arith))
 
 pub lines-preserved : goal.lines-preserved
 lines-preserved c =
@@ -57,4 +80,10 @@ lines-preserved c =
           (c.line_end.ensures.found low) read (omega arith) behind)
           ∙ c.lines.invariant.run;
       count = omega arith;
+      whole = λ empty. c.in_default.ensures.line;
+      on = λ empty. goes_on_behind (judged c.args.self.now.parser) (judged f.parser) (judged next.parser)
+          c.args.piece.now text n rest (c.lines.invariant.on empty) low c.line_end.ensures.before
+          (c.line_end.ensures.found low)
+          (ap (λ line. on_ok (judged f.parser) (λ r. read_line r (line ++ take n text) 1))
+          (sym (c.lines.invariant.whole empty)) ∙ read) behind;
     }
