@@ -110,7 +110,8 @@ lie_before (p ∷ ps) q from to n row lies =
     ((omega arith, lies.0.1), lie_before ps q (from + p.1.len) to n row.1 lies.1)
 
 laid : (store : List ℕ) (ps : List Piece) (base : ℕ) (v : Span) → ((k : ℕ) → get_or store k 0 < 256)
-    → AreDrafted store (ps ++ (base, v) ∷ []) → AreSegmentsApart (ps ++ (base, v) ∷ []) → AreSegments store ps base v.start
+    → AreDrafted store (ps ++ (base, v) ∷ []) → AreSegmentsApart (ps ++ (base, v) ∷ [])
+    → AreSegments store ps base v.start
 laid store ps base v bytes drafted apart =
     let ends = contiguous-last ps (base, v) 0 (length store) drafted.contiguous in
     let fits = (all_last (LiesBefore (length store)) ps (base, v) drafted.lies).1 in
