@@ -26,6 +26,8 @@ use std::alloc::{AllocError, Global};
 // ---- numbers
 
 /// The numbers of this kind of a MADT's entries. Allocates for each.
+// Each caller names one kind: inlined, it asks for no kind at each entry.
+#[inline(always)]
 pub fn known_in_madt(
     alloc: Global,
     madt: &Madt<'_>,
