@@ -1,12 +1,12 @@
 //! Stage 16: the proximity domains into which the SRAT puts the processors of the MADT.
 
-ghost use Rattle.std.specs.Prelude.{◌≡◌, ◌<◌, AllPairs, IfOk, IfSome, length};
+ghost use Rattle.std.specs.Prelude.{◌≡◌, ◌<◌, AllPairs, IfOk, IfSome, IsTrue, length};
 ghost use Rattle.acpi_base.specs.Across.{HaveOneDomain, DomainFault};
 ghost use Rattle.acpi_base.specs.Madt.{madt_contents};
 ghost use Rattle.acpi_base.specs.Srat.{srat_contents};
 ghost use Rattle.acpi_base.specs.declared.stage.Stage.{Stage};
 ghost use Rattle.acpi_read.specs.Srats.{srat_value};
-ghost use Rattle.acpi_check.specs.Domains.{placement_of, PutsPlaced};
+ghost use Rattle.acpi_check.specs.Domains.{placement_of, PutsEachInOne, PutsPlaced};
 ghost use Rattle.acpi_check.specs.FirstSeen.{IsGiven, FindsOther};
 ghost use Rattle.acpi_check.specs.TableResults.{FindsFirst};
 
@@ -43,6 +43,25 @@ fn placement_of(entry: &SratEntry<'_>) -> Option<Placement>
         }),
         _ => None,
     }
+}
+
+/// Whether each processor that an entry of an SRAT puts into a domain has a greater number than those before it, as in
+/// most machines. Then none is put into two.
+fn do_processors_rise(srat: &Srat<'_>) -> bool
+    ensures { IsTrue result → PutsEachInOne (srat_contents srat.now) }
+{
+    let mut entries = srat.entries();
+    let mut least = 0;
+    while let Some(at) = entries.next() {
+        if let Some(put) = placement_of(&at.entry) {
+            let processor = u64::from(put.processor);
+            if processor < least {
+                return false;
+            }
+            least = processor + 1;
+        }
+    }
+    true
 }
 
 /// The domain into which an entry puts a processor, with the index of the processor's number among these, which rise.
@@ -90,7 +109,8 @@ fn first_other_domain(
 /// entry that puts such a processor into another domain than the first entry for this processor, whose offset is
 /// `other`; `point` is the processor's APIC ID or x2APIC ID, of 32 bits.
 ///
-/// Refuses with `OutOfMemory`: it allocates for each processor that counts as enabled.
+/// Refuses with `OutOfMemory`: unless the entries name processors in rising order, it allocates for each processor that
+/// counts as enabled.
 pub fn one_domain(
     alloc: Global,
     processors: Processors,
@@ -101,6 +121,9 @@ pub fn one_domain(
         (HaveOneDomain processors (madt_contents madt.now) (srat_contents srat.now))
         (DomainFault processors (madt_contents madt.now) (srat_contents srat.now)) result }
 {
+    if do_processors_rise(srat) {
+        return Ok(());
+    }
     let numbers = numbers_of(alloc, Key::Enabled(processors), madt)?;
     match first_other_domain(alloc, &numbers, srat)? {
         None => Ok(()),

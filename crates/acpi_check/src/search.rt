@@ -2,7 +2,18 @@
 
 ghost use Rattle.std.specs.Prelude.{◌≡◌, ◌<◌, ◌≤◌, ◌↔◌, ℕ, AllPairs, Contains, IfOk, IsOk, MatchBool, MatchOption, length, slice_index, vec_len};
 
+use acpi_graph::sort_unless_sorted;
 use std::alloc::AllocError;
+
+/// The index of an offset if the offsets are evenly spaced; it may be out of range.
+fn interpolated_place(offsets: &[u64], offset: u64) -> usize {
+    let [first, .., last] = offsets else {
+        return 0;
+    };
+    let steps = offsets.len() as u64 - 1;
+    let span = last.saturating_sub(*first).max(1);
+    (offset.saturating_sub(*first).saturating_mul(steps) / span) as usize
+}
 
 /// The index of an offset among offsets that rise, or none if it is not among them. The numbers may be any of 64
 /// bits. Allocates nothing.
@@ -11,6 +22,12 @@ pub fn binary_search(offsets: &[u64], offset: u64) -> Option<usize>
     ensures { MatchOption result (¬ Contains offsets.now offset)
         (λ k. (k < length offsets.now) × (slice_index offsets.now k ≡ offset)) }
 {
+    // Entries of one length, and numbers without gaps, are found at once: machines of 64 to 4,096 processors: N % of
+    // the instructions of a check.
+    let place = interpolated_place(offsets, offset);
+    if place < offsets.len() && offsets[place] == offset {
+        return Some(place);
+    }
     offsets.binary_search(&offset).ok()
 }
 
@@ -27,14 +44,14 @@ pub fn has(offsets: &[u64], offset: u32) -> bool
 }
 
 /// The numbers in rising order, each once, as `binary_search` and `has` require. Refuses if out of
-/// memory: the sort of more than 20 numbers needs a buffer.
+/// memory: the sort of more than 20 numbers that do not rise needs a buffer.
 pub fn sorted_unique(mut numbers: Vec<u64>) -> Result<Vec<u64>, AllocError>
     ensures few { vec_len numbers ≤ 20 → IsOk result }
     ensures rise { IfOk result (λ sorted. AllPairs (λ i j. i < j) sorted.items) }
     ensures same { IfOk result
         (λ sorted. (n : ℕ) → Contains sorted.items n ↔ Contains numbers.items n) }
 {
-    numbers.sort()?;
+    sort_unless_sorted(&mut numbers)?;
     numbers.dedup();
     Ok(numbers)
 }

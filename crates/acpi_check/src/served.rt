@@ -13,7 +13,7 @@ ghost use Rattle.acpi_check.specs.ServedGsis.{named_gsi, IsInSpans, DoStartsRise
 use crate::interrupts::served_spans;
 use crate::refusal::{Refusal, refuse};
 use acpi_base::{Code, Policy, Witness};
-use acpi_graph::Span;
+use acpi_graph::{Span, sort_unless_sorted};
 use acpi_read::{EntryAt, Madt, MadtEntry};
 use std::alloc::{AllocError, Global};
 
@@ -120,7 +120,7 @@ pub fn named_served(alloc: Global, policy: &Policy, madt: &Madt<'_>) -> Result<(
     if spans.is_empty() {
         return Ok(());
     }
-    spans.sort()?;
+    sort_unless_sorted(&mut spans)?;
     let rising = rising_spans(alloc, &spans)?;
     refuse(first_unserved(&rising, madt))
 }

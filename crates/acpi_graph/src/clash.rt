@@ -3,6 +3,7 @@
 ghost use Rattle.std.specs.Prelude.{◌≡◌, ◌+◌, ◌-◌, ◌<◌, ◌≤◌, ◌↔◌, IsTrue, IsOk, IfOk, AllPairs, length, vec_len};
 ghost use Rattle.acpi_graph.specs.Spans.{NamesDiffer, IsClear, ComesBefore, IfAt, IsFirstClash};
 
+use crate::sorting::sort_unless_sorted;
 use crate::span::Span;
 use std::alloc::{AllocError, Global};
 
@@ -24,8 +25,8 @@ pub enum Clash {
 /// compared to find it.
 ///
 /// The spans have different ids (`name`); their order does not matter. It sorts them once by start and id,
-/// and makes at most n - 1 comparisons for n spans. Refuses if out of memory: the sort of more than 20 spans needs a
-/// buffer, which the allocator of the vector gives; `alloc` is not used.
+/// unless they are in that order, and makes at most n - 1 comparisons for n spans. Refuses if out of memory: the sort
+/// of more than 20 spans needs a buffer, which the allocator of the vector gives; `alloc` is not used.
 pub fn first_clash(alloc: Global, mut spans: Vec<Span>) -> Result<(Clash, usize), AllocError>
     requires { NamesDiffer spans.items }
     ensures few { vec_len spans ≤ 20 → IsOk result }
@@ -33,7 +34,7 @@ pub fn first_clash(alloc: Global, mut spans: Vec<Span>) -> Result<(Clash, usize)
     ensures first { IfOk result (λ found. IfAt found.0 (IsFirstClash spans.items)) }
     ensures comparisons { IfOk result (λ found. found.1 ≤ vec_len spans - 1) }
 {
-    spans.sort()?;
+    sort_unless_sorted(&mut spans)?;
     Ok(first_overlap(&spans))
 }
 

@@ -6,6 +6,8 @@
 //! - `first_stray`: for nodes that refer to their parents, the first one whose chain of parents leads into a cycle
 //!   and never ends, and where its cycle begins.
 //!
+//! `sort_unless_sorted` sorts what such a checker gathers, which is mostly in order already.
+//!
 //! ```rust
 //! let low = Span::new(0, 10, 1).unwrap(); // 0 to 9, under the name 1
 //! let high = Span::new(8, 12, 2).unwrap(); // 8 to 11, under the name 2
@@ -31,9 +33,11 @@
 #![tactic(auto)]
 
 mod clash;
+mod sorting;
 mod span;
 mod stray;
 
 pub use clash::{Clash, first_clash};
+pub use sorting::sort_unless_sorted;
 pub use span::Span;
 pub use stray::{Stray, first_stray};

@@ -1,6 +1,6 @@
 -- Numbers that are collected and then sorted are those that are known.
-use Rattle.std.proofs.Common.{◌≡◌, ℕ, ◌<◌, List, [], ◌∷◌, Option, Some, subst, inl, inr}
-use Rattle.std.specs.Prelude.{◌↔◌, AllPairs, Contains, map}
+use Rattle.std.proofs.Common.{◌≡◌, ℕ, ◌<◌, List, [], ◌∷◌, Option, Some, Result, Ok, Err, Vec, Global, subst, inl, inr}
+use Rattle.std.specs.Prelude.{◌↔◌, AllPairs, Contains, IfOk, map}
 use Rattle.std.specs.List.{filter_map}
 use Rattle.acpi_base.specs.Entries.{PlacedEntry}
 use Rattle.acpi_base.specs.Lint.Numbered.{IsNamed}
@@ -12,10 +12,13 @@ use Rattle.acpi_lint.specs.declared.numbered.Numbered.{Numbered}
 use Rattle.acpi_lint.proofs.SameNumbers.{has_at}
 
 -- those of entries are those that entries name
-pub are_known : {E : Type 0} (read : E → Option ℕ) (entries : List (PlacedEntry E)) (gathered numbers : List ℕ)
-    → gathered ≡ filter_map (λ s. read s.entry) entries → AllPairs (λ i j. i < j) numbers
-    → ((n : ℕ) → Contains numbers n ↔ Contains gathered n) → AreKnown (IsNamed read entries) numbers
-are_known {E} read entries gathered numbers is rise same =
+pub are_known : {E X : Type 0} (read : E → Option ℕ) (entries : List (PlacedEntry E)) (gathered : List ℕ)
+    (r : Result (Vec ℕ Global) X) → gathered ≡ filter_map (λ s. read s.entry) entries
+    → IfOk r (λ numbers. AllPairs (λ i j. i < j) numbers.items)
+    → IfOk r (λ numbers. (n : ℕ) → Contains numbers.items n ↔ Contains gathered n)
+    → IfOk r (λ numbers. AreKnown (IsNamed read entries) numbers.items)
+are_known read entries gathered (Err e) is rise same = tt
+are_known {E} read entries gathered (Ok numbers) is rise same =
     record {
       rise = rise;
       all = λ n. (
@@ -42,10 +45,13 @@ map_from f (u ∷ xs) y listed =
     ]
 
 -- and those that stand at places stand at some place
-pub are_placed : (StandsAt : ℕ → ℕ → Type 0) (given : List Numbered) (gathered numbers : List ℕ)
-    → AreNumbersAt StandsAt given → gathered ≡ map (λ g. g.number) given → AllPairs (λ i j. i < j) numbers
-    → ((n : ℕ) → Contains numbers n ↔ Contains gathered n) → AreKnown (λ n. (at : ℕ) × StandsAt at n) numbers
-are_placed StandsAt given gathered numbers are is rise same =
+pub are_placed : {X : Type 0} (StandsAt : ℕ → ℕ → Type 0) (given : List Numbered) (gathered : List ℕ)
+    (r : Result (Vec ℕ Global) X) → AreNumbersAt StandsAt given → gathered ≡ map (λ g. g.number) given
+    → IfOk r (λ numbers. AllPairs (λ i j. i < j) numbers.items)
+    → IfOk r (λ numbers. (n : ℕ) → Contains numbers.items n ↔ Contains gathered n)
+    → IfOk r (λ numbers. AreKnown (λ n. (at : ℕ) × StandsAt at n) numbers.items)
+are_placed StandsAt given gathered (Err e) are is rise same = tt
+are_placed StandsAt given gathered (Ok numbers) are is rise same =
     record {
       rise = rise;
       all = λ n. (

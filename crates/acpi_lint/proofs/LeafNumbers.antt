@@ -20,16 +20,20 @@ use Rattle.acpi_lint.proofs.CollectedNumbers.{IsReadAt, as_named, numbers_as}
 -- ---- Parents
 
 -- the Parents that entries name
-pub are_parents : (c : PpttContents) (given parents : List ℕ) → given ≡ filter_map (λ s. parent_of s.entry) c.entries
-    → ((n : ℕ) → Contains parents n ↔ Contains given n) → (o : ℕ) → Contains parents o ↔ IsParent c o
-are_parents c given parents is same o = (
-  λ listed. from (kept_from (λ s. parent_of s.entry) c.entries o (rw is at ((same o).0 listed))),
+pub are_parents : {X : Type 0} (c : PpttContents) (given : List ℕ) (r : Result (Vec ℕ Global) X)
+    → given ≡ filter_map (λ s. parent_of s.entry) c.entries
+    → IfOk r (λ parents. (n : ℕ) → Contains parents.items n ↔ Contains given n)
+    → IfOk r (λ parents. (o : ℕ) → Contains parents.items o ↔ IsParent c o)
+are_parents c given (Err e) is same = tt
+are_parents c given (Ok parents) is same = λ o. (
+  λ listed. from o (kept_from (λ s. parent_of s.entry) c.entries o (rw is at ((same o).0 listed))),
   λ (p, (e, stands, names)). (same o).1
       (rw is (kept_has (λ s. parent_of s.entry) c.entries (record { offset = p; entry = e }) o stands names)),
 )
   where
-    from : ((s : PlacedEntry PpttEntry) × Contains c.entries s × (parent_of s.entry ≡ Some o)) → IsParent c o
-    from (s, listed, names) = (s.offset, (s.entry, listed, names))
+    from : (o : ℕ) → ((s : PlacedEntry PpttEntry) × Contains c.entries s × (parent_of s.entry ≡ Some o))
+        → IsParent c o
+    from o (s, listed, names) = (s.offset, (s.entry, listed, names))
 
 -- an offset is among others
 pub among : (parents : List ℕ) (o : ℕ) → Contains parents o → list_any (λ p. p == o) parents ≡ true

@@ -9,9 +9,6 @@ pub record IsPicking {S T : Type 0} (Gives : S → Option T → Type 0) (all lef
   pub listed : (s : S) → Contains left s → Contains all s
   pub others : (found : Option T) → PicksFirst Gives left found → PicksFirst Gives all found
 
-pub picking_begins : {S T : Type 0} {Gives : S → Option T → Type 0} {all : List S} → IsPicking Gives all all
-picking_begins = record { listed = λ s here. here; others = λ found is. is }
-
 next_picked : {S T : Type 0} (Gives : S → Option T → Type 0) (s : S) (left : List S) (found : Option T) → Gives s None
     → PicksFirst Gives left found → PicksFirst Gives (s ∷ left) found
 unfolding PicksFirst

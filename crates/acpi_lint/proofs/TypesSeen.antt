@@ -10,9 +10,6 @@ abbrev pub AreSeenBut : List Bool → List (PlacedEntry (List ℕ)) → List (Pl
 AreSeenBut seen all left =
     (o : ℕ) (e : List ℕ) → Stands all o e → Stands left o e ⊎ (get_or seen (slice_index e 0) false ≡ true)
 
-pub seen_begins : (seen : List Bool) (all : List (PlacedEntry (List ℕ))) → AreSeenBut seen all all
-seen_begins seen all = λ o e stands. inl stands
-
 -- what is seen stays seen
 stays_seen : (seen : List Bool) (i j : ℕ) → i < length seen → get_or seen j false ≡ true
     → get_or (set seen i true) j false ≡ true

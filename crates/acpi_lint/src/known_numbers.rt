@@ -26,6 +26,8 @@ use std::alloc::{AllocError, Global};
 // ---- numbers
 
 /// The numbers of this kind of a MADT's entries. Allocates for each.
+// Each caller names one kind: inlined, it asks for no kind at each entry.
+#[inline(always)]
 pub fn known_in_madt(
     alloc: Global,
     madt: &Madt<'_>,
@@ -37,8 +39,7 @@ pub fn known_in_madt(
     let numbers = collected(alloc, madt.searched_entries(), |at| {
         madt_number(number, &at.entry).map(u64::from)
     })?;
-    let known = sorted_unique(numbers)?;
-    Ok(known)
+    sorted_unique(numbers)
 }
 
 /// The APIC IDs and x2APIC IDs that an SRAT's enabled affinities place. Allocates for each.
@@ -49,8 +50,7 @@ pub fn placed_apic_ids(alloc: Global, srat: &Srat<'_>) -> Result<Vec<u64>, Alloc
     let numbers = collected(alloc, srat.searched_entries(), |at| {
         placed_apic_id(&at.entry).map(u64::from)
     })?;
-    let known = sorted_unique(numbers)?;
-    Ok(known)
+    sorted_unique(numbers)
 }
 
 /// The UIDs that an SRAT's enabled GICC affinities place. Allocates for each.
@@ -61,8 +61,7 @@ pub fn placed_uids(alloc: Global, srat: &Srat<'_>) -> Result<Vec<u64>, AllocErro
     let numbers = collected(alloc, srat.searched_entries(), |at| {
         placed_uid(&at.entry).map(u64::from)
     })?;
-    let known = sorted_unique(numbers)?;
-    Ok(known)
+    sorted_unique(numbers)
 }
 
 /// Only the numbers.
@@ -82,8 +81,7 @@ pub fn leaf_ids(alloc: Global, pptt: &Pptt<'_>) -> Result<Vec<u64>, AllocError>
 {
     let leaves = leaves_of(alloc, pptt)?;
     let ids = without_places(alloc, &leaves)?;
-    let known = sorted_unique(ids)?;
-    Ok(known)
+    sorted_unique(ids)
 }
 
 // ---- entries of a kind

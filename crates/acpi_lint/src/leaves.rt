@@ -72,8 +72,7 @@ fn parents_of(alloc: Global, pptt: &Pptt<'_>) -> Result<Vec<u64>, AllocError>
     let parents = collected(alloc, pptt.searched_entries(), |at| {
         parent_of(&at.entry).map(u64::from)
     })?;
-    let known = sorted_unique(parents)?;
-    Ok(known)
+    sorted_unique(parents)
 }
 
 /// The ID of a node that has a valid one and is not at one of these offsets, which rise.

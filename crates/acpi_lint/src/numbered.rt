@@ -7,6 +7,7 @@ ghost use Rattle.acpi_lint.specs.Numbered.{IsNotAbove, IsUnlikeAt, HasAt, at_pla
 ghost use Rattle.acpi_lint.specs.Places.{FindsLeast, IsNotAfter};
 
 use crate::place::Place;
+use acpi_graph::sort_unless_sorted;
 use std::alloc::AllocError;
 
 /// A value that is given to a number at a place. These compare by number, then by place, then by value.
@@ -92,7 +93,7 @@ fn least_unlike(sorted: &[Numbered], order: Order) -> Option<Place>
 pub fn first_unlike(mut given: Vec<Numbered>, order: Order) -> Result<Option<Place>, AllocError>
     ensures { IfOk result (FindsLeast (IsUnlikeAt order given.items)) }
 {
-    given.sort()?;
+    sort_unless_sorted(&mut given)?;
     Ok(least_unlike(&given, order))
 }
 

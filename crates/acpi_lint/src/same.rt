@@ -22,6 +22,8 @@ use std::alloc::{AllocError, Global};
 // ---- the MADT
 
 /// The first entry of a MADT with the number that an earlier one has. Allocates for the number of each.
+// Each caller names one kind: inlined, it asks for no kind at each entry.
+#[inline(always)]
 pub fn same_in_madt(
     alloc: Global,
     madt: &Madt<'_>,

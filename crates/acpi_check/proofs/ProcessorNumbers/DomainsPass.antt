@@ -26,7 +26,7 @@ puts i d (X2apicDomain v) = (
 puts i d _ = (λ h. absurd h, λ is. none-some (record { processor = i; domain = d }) is)
 
 -- one processor in one domain
-one_put : (e : SratEntry) (i j d h : ℕ) → PutsIn i d e → PutsIn j h e → (i ≡ j) × (d ≡ h)
+pub one_put : (e : SratEntry) (i j d h : ℕ) → PutsIn i d e → PutsIn j h e → (i ≡ j) × (d ≡ h)
 one_put e i j d h one other =
     let is = same_Some (record { processor = i; domain = d }) (record { processor = j; domain = h })
     (sym ((puts i d e).0 one) ∙ (puts j h e).0 other) in

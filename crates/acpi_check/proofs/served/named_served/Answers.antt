@@ -16,9 +16,10 @@ returns-then-is_empty c =
 
 pub rising_spans-requires : goal.rising_spans-requires
 rising_spans-requires c =
-    rw c.deref.ensures.value (starts_rise c.sort.new.self.items (in_order c.sort.new.self.items
-    (names_permuted c.in_ok-spans.spans.items c.sort.new.self.items c.sort.ensures.permutation
-    c.in_ok-spans.ensures.spans.names) c.in_ok-sort.ensures.sorted))
+    let sorted = c.sort_unless_sorted.new.items.items in
+    rw c.deref.ensures.value (starts_rise sorted (in_order sorted
+    (names_permuted c.in_ok-spans.spans.items sorted c.sort_unless_sorted.ensures.permutation
+    c.in_ok-spans.ensures.spans.names) c.in_ok-sort_unless_sorted.ensures.sorted))
 
 pub returns : goal.returns
 returns c =
@@ -29,6 +30,7 @@ returns c =
     refused _ _ _ c.first_unserved.result c.refuse.result c.refuse.ensures
     (unserved_found q madt c.deref-2.result.now
     (has_io_apic q madt spans.items c.in_ok-spans.ensures.spans some)
-    (rising_served q madt spans.items c.sort.new.self.items c.deref-2.result.now c.in_ok-spans.ensures.spans
-    c.sort.ensures.permutation (rw (c.deref.ensures.value, ← c.deref-2.ensures.value) at c.in_ok-rising.ensures.same))
+    (rising_served q madt spans.items c.sort_unless_sorted.new.items.items c.deref-2.result.now
+    c.in_ok-spans.ensures.spans c.sort_unless_sorted.ensures.permutation
+    (rw (c.deref.ensures.value, ← c.deref-2.ensures.value) at c.in_ok-rising.ensures.same))
     c.first_unserved.result c.first_unserved.ensures)

@@ -19,19 +19,22 @@ none_where_clear xs (clash.At first second point) found clear =
     absurd (clear point (point_shared xs first second point found))
 
 pub first_overlap-requires-clause-names : goal.first_overlap-requires-clause-names
-first_overlap-requires-clause-names c = subst NamesDiffer (sym c.deref.ensures.value)
-    (names_permuted c.args.spans.items c.sort.new.self.items c.sort.ensures.permutation c.requires)
+first_overlap-requires-clause-names c =
+    let sorted = c.sort_unless_sorted.new.items.items in
+    subst NamesDiffer (sym c.deref.ensures.value)
+    (names_permuted c.args.spans.items sorted c.sort_unless_sorted.ensures.permutation c.requires)
 
 pub first_overlap-requires-clause-order : goal.first_overlap-requires-clause-order
-first_overlap-requires-clause-order c = subst (AllPairs ComesBefore) (sym c.deref.ensures.value)
-    (in_order c.sort.new.self.items
-    (names_permuted c.args.spans.items c.sort.new.self.items c.sort.ensures.permutation c.requires)
-    c.in_ok-sort.ensures.sorted)
+first_overlap-requires-clause-order c =
+    let sorted = c.sort_unless_sorted.new.items.items in
+    subst (AllPairs ComesBefore) (sym c.deref.ensures.value) (in_order sorted
+    (names_permuted c.args.spans.items sorted c.sort_unless_sorted.ensures.permutation c.requires)
+    c.in_ok-sort_unless_sorted.ensures.sorted)
 
 pub returns-clause-none : goal.returns-clause-none
 returns-clause-none c =
     let moved : IsPermutation c.args.spans.items c.deref.result.now =
-    subst (IsPermutation c.args.spans.items) (sym c.deref.ensures.value) c.sort.ensures.permutation in (
+    subst (IsPermutation c.args.spans.items) (sym c.deref.ensures.value) c.sort_unless_sorted.ensures.permutation in (
       (λ none. clear_permuted c.args.spans.items c.deref.result.now moved (c.first_overlap.ensures.none none)),
       none_where_clear c.args.spans.items c.first_overlap.result.0
           (found_permuted c.args.spans.items c.deref.result.now c.first_overlap.result.0 moved
@@ -41,5 +44,5 @@ returns-clause-none c =
 pub returns-clause-first : goal.returns-clause-first
 returns-clause-first c =
     let moved : IsPermutation c.args.spans.items c.deref.result.now =
-    subst (IsPermutation c.args.spans.items) (sym c.deref.ensures.value) c.sort.ensures.permutation in
+    subst (IsPermutation c.args.spans.items) (sym c.deref.ensures.value) c.sort_unless_sorted.ensures.permutation in
     found_permuted c.args.spans.items c.deref.result.now c.first_overlap.result.0 moved c.first_overlap.ensures.first

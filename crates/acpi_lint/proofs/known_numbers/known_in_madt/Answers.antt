@@ -12,9 +12,9 @@ use Rattle.acpi_lint.proofs.known_numbers.known_in_madt.Goals as goal
 pub returns : goal.returns
 returns c =
     are_known (madt_number c.args.number) (madt_contents c.args.madt.now).entries c.in_ok-numbers.numbers.items
-    c.in_ok-known.known.items
+    c.sorted_unique.result
     (collected_same {X = ⊤} madt_value (λ s. madt_number c.args.number s.entry) searched_in_madt _ _ _ (Ok
     c.in_ok-numbers.numbers)
     c.in_ok-numbers.ensures c.searched_entries.ensures.entries
     (λ s passed. madt_number_none c.args.number s.entry passed) (λ at picked answers. search rules) (λ found is. is))
-    c.in_ok-known.ensures.rise c.in_ok-known.ensures.same
+    c.sorted_unique.ensures.rise c.sorted_unique.ensures.same

@@ -6,5 +6,5 @@ use Rattle.acpi_lint.proofs.known_numbers.leaf_ids.Goals as goal
 pub returns : goal.returns
 returns c =
     are_placed (IsLeafAt (pptt_contents c.args.pptt.now)) c.in_ok-leaves.leaves.items c.in_ok-ids.ids.items
-    c.in_ok-known.known.items c.in_ok-leaves.ensures (rw c.deref.ensures.value at c.in_ok-ids.ensures)
-    c.in_ok-known.ensures.rise c.in_ok-known.ensures.same
+    c.sorted_unique.result c.in_ok-leaves.ensures (rw c.deref.ensures.value at c.in_ok-ids.ensures)
+    c.sorted_unique.ensures.rise c.sorted_unique.ensures.same

@@ -12,9 +12,9 @@ use Rattle.acpi_lint.proofs.known_numbers.placed_apic_ids.Goals as goal
 pub returns : goal.returns
 returns c =
     are_known placed_apic_id (srat_contents c.args.srat.now).entries c.in_ok-numbers.numbers.items
-    c.in_ok-known.known.items
+    c.sorted_unique.result
     (collected_same {X = ⊤} srat_value (λ s. placed_apic_id s.entry) searched_in_srat _ _ _ (Ok c.in_ok-numbers.numbers)
     c.in_ok-numbers.ensures
     c.searched_entries.ensures.entries
     (λ s passed. placed_apic_id_none s.entry passed) (λ at picked answers. search rules) (λ found is. is))
-    c.in_ok-known.ensures.rise c.in_ok-known.ensures.same
+    c.sorted_unique.ensures.rise c.sorted_unique.ensures.same

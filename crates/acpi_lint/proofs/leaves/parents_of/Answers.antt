@@ -10,9 +10,9 @@ use Rattle.acpi_lint.proofs.leaves.parents_of.Goals as goal
 
 pub returns-clause-all : goal.returns-clause-all
 returns-clause-all c =
-    are_parents (pptt_contents c.args.pptt.now) c.in_ok-parents.parents.items c.in_ok-known.known.items
+    are_parents (pptt_contents c.args.pptt.now) c.in_ok-parents.parents.items c.sorted_unique.result
     (collected_same {X = ⊤} pptt_value (λ s. parent_of s.entry) searched_in_pptt _ _ _ (Ok c.in_ok-parents.parents)
     c.in_ok-parents.ensures
     c.searched_entries.ensures.entries
     (λ s passed. parent_none s.entry passed) (λ at picked answers. search rules) (λ found is. is))
-    c.in_ok-known.ensures.same
+    c.sorted_unique.ensures.same

@@ -3,6 +3,6 @@ use Rattle.acpi_lint.proofs.numbered.first_unlike.Goals as goal
 
 pub returns : goal.returns
 returns c =
-    let sorted = c.sort.new.self.items in
-    found_moved c.args.order c.args.given.items sorted c.least_unlike.result c.sort.ensures.permutation
-    ((rw c.deref.ensures.value at c.least_unlike.ensures) (in_order sorted c.in_ok-sort.ensures.sorted))
+    let sorted = c.sort_unless_sorted.new.items.items in
+    found_moved c.args.order c.args.given.items sorted c.least_unlike.result c.sort_unless_sorted.ensures.permutation
+    ((rw c.deref.ensures.value at c.least_unlike.ensures) (in_order sorted c.in_ok-sort_unless_sorted.ensures.sorted))
