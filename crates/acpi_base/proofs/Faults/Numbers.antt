@@ -1,5 +1,5 @@
 -- A code or a stage is the only one with its number.
-use Rattle.std.proofs.Common.{◌≡◌, ◌<◌, ℕ, List, [], ◌∷◌, Some, refl, sym, ap, ◌∙◌, inl, inr, arith}
+use Rattle.std.proofs.Common.{◌≡◌, ◌<◌, ◌≤◌, ℕ, List, [], ◌∷◌, Some, refl, sym, ap, ◌∙◌, inl, inr, arith}
 use Rattle.std.specs.Prelude.{◌⊎◌}
 use Rattle.std.specs.List.{slice_get}
 use Rattle.std.proofs.lemmas.Bool.{cases_eq}
@@ -45,6 +45,11 @@ same_stage s t e = grind (arith, same_Some, stage_at_number s, stage_at_number t
 pub code_below : (c : Code) → code_number c < 60
 code_below code.RsdpOut = omega arith
 code_below _ = omega arith
+
+-- they begin at 1
+pub code_from : (c : Code) → 1 ≤ code_number c
+code_from code.RsdpOut = omega arith
+code_from _ = omega arith
 
 -- those of stages begin at 1
 pub stage_from_1 : (s : Stage) → 0 < stage_number s

@@ -76,11 +76,12 @@ fn code_with(stage: &[u8], name: &[u8]) -> Option<Code>
     ensures { MatchOption result ((code : Code) → ¬ IsHead stage.now name.now code)
         (IsHead stage.now name.now) }
 {
-    for number in 1..60 {
-        let code = Code::new(number)?;
+    let mut number = 1;
+    while let Some(code) = Code::new(number) {
         if is_head(stage, name, code) {
             return Some(code);
         }
+        number += 1;
     }
     None
 }
