@@ -6,17 +6,11 @@ use Rattle.acpi_base.specs.Lint.Findings.{AreFindings}
 use Rattle.acpi_base.specs.Lint.Rules.{rule_number}
 use Rattle.acpi_base.specs.Memory.{Memory}
 use Rattle.acpi_base.specs.Policy.{PolicyValue}
-use Rattle.acpi_base.specs.declared.code.Code.{Code}
-use Rattle.acpi_base.specs.declared.code.Code.TheVariants as code
 use Rattle.acpi_base.specs.declared.rule.Advice.{Advice}
 use Rattle.acpi_base.specs.declared.rule.Rule.{Rule}
 use Rattle.acpi_base.specs.declared.rule.Rule.TheVariants as rule
 use Rattle.acpi_base.specs.declared.witness.Witness.{Witness}
-use Rattle.acpi_base.proofs.Faults.Numbers.{code_below}
-
-code_from : (c : Code) → 1 ≤ code_number c
-code_from code.RsdpOut = omega arith
-code_from _ = omega arith
+use Rattle.acpi_base.proofs.Faults.Numbers.{code_below, code_from}
 
 rule_below : (r : Rule) → rule_number r < 129
 rule_below rule.ListedTwice = omega arith
