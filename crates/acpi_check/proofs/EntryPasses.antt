@@ -6,7 +6,6 @@ pub mod MadtPass
 pub mod OverridesPass
 pub mod Passes
 pub mod PpttPass
-pub mod Searched
 pub mod SratPass
 pub mod TypedPass
 pub mod ValuesPass

@@ -11,8 +11,7 @@ use Rattle.acpi_base.specs.Slit.{slit_contents, HasSlitSize}
 use Rattle.acpi_base.specs.Srat.{SratContents, srat_contents}
 use Rattle.acpi_read.specs.Slits.{HasRows}
 use Rattle.acpi_lint.specs.Places.{FindsLeast}
-use Rattle.acpi_lint.specs.NotedTables.{IsLong}
-use Rattle.acpi_lint.specs.WholeTables.{IsFound}
+use Rattle.acpi_lint.specs.WholeTables.{IsFound, IsLong}
 use Rattle.acpi_lint.specs.declared.place.Place.{Place}
 use Rattle.acpi_lint.proofs.LeastPlaces.{least_as}
 use Rattle.acpi_lint.proofs.OfSets.{some_long, none_long}

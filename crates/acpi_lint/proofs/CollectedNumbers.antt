@@ -1,5 +1,5 @@
 -- Numbers that are collected from the entries of a table, each with its place for its value.
-use Rattle.std.proofs.Common.{◌≡◌, ℕ, List, Bool, false, Option, Some, None, Result, Ok, Err, Vec, Global, refl, sym, ap, subst}
+use Rattle.std.proofs.Common.{◌≡◌, ℕ, List, Option, Some, None, Result, Ok, Err, Vec, Global, refl, sym, ap, subst}
 use Rattle.std.specs.Prelude.{◌↔◌, Contains, IfOk, option_map}
 use Rattle.std.specs.List.{filter_map}
 use Rattle.std.proofs.lemmas.Option.{same_Some}
@@ -10,19 +10,18 @@ use Rattle.acpi_base.specs.Madt.{MadtEntry, madt_contents}
 use Rattle.acpi_base.specs.Pptt.{PpttEntry, pptt_contents}
 use Rattle.acpi_read.specs.Madts.{madt_value}
 use Rattle.acpi_read.specs.Pptts.{pptt_value}
-use Rattle.acpi_read.specs.SearchedEntries.{AreSearched}
 use Rattle.acpi_read.specs.TypedEntries.{entry_at_value}
 use Rattle.acpi_read.specs.declared.madt.MadtEntry as madts
 use Rattle.acpi_read.specs.declared.pptt.PpttEntry as pptts
 use Rattle.acpi_read.specs.declared.typed_entries.EntryAt.{EntryAt}
 use Rattle.acpi_check.specs.CollectedValues.{Picks, Collects}
+use Rattle.acpi_check.proofs.EntryPasses.Collecting.{gathered_same}
 use Rattle.acpi_check.proofs.EntryPasses.Kept.{AreRising, kept_has, kept_from, keys_rise, madt_rising, pptt_rising}
 use Rattle.acpi_lint.specs.Numbered.{at_place, HasAt, AreNumbersAt}
 use Rattle.acpi_lint.specs.Places.{FindsLeast}
 use Rattle.acpi_lint.specs.declared.numbered.Numbered.{Numbered}
 use Rattle.acpi_lint.specs.declared.place.Place.{Place}
 use Rattle.acpi_lint.proofs.LeastPlaces.{least_as}
-use Rattle.acpi_check.proofs.EntryPasses.Searched.{collected_same}
 
 -- ---- collected
 
@@ -83,48 +82,42 @@ as_named {E} read entries at n = (
   λ (e, stands, number). (record { offset = at; entry = e }, stands, refl, number),
 )
 
--- so they are where each call answers the number of its entry, and those that are passed over have none
+-- so they are where each call answers the number of its entry
 pub gathered_numbers : {E Said X : Type 0} (value : E → Said) {Answers : Bor (EntryAt E) → Option Numbered → Type 0}
-    (read : PlacedEntry Said → Option ℕ) (searched : Said → Bool) (StandsAt : ℕ → ℕ → Type 0) (low : ℕ)
-    (taken entries : List (PlacedEntry Said)) (r : Result (Vec Numbered Global) X) → AreRising low entries
+    (read : PlacedEntry Said → Option ℕ) (StandsAt : ℕ → ℕ → Type 0) (low : ℕ)
+    {said entries : List (PlacedEntry Said)} (r : Result (Vec Numbered Global) X) → AreRising low entries
     → ((at n : ℕ) → IsReadAt read entries at n ↔ StandsAt at n)
-    → IfOk r (λ v. Collects (Picks value Answers) taken v.items) → AreSearched searched entries taken
-    → ((s : PlacedEntry Said) → searched s.entry ≡ false → read s ≡ None)
+    → IfOk r (λ v. Collects (Picks value Answers) said v.items) → said ≡ entries
     → ((at : Bor (EntryAt E)) (picked : Option Numbered) → Answers at picked
     → picked ≡ option_map (at_place at.now.offset) (read (entry_at_value value at.now)))
     → IfOk r (λ v. AreNumbersAt StandsAt v.items)
-gathered_numbers value read searched StandsAt low taken entries r rises stands found are none each =
-    collected_same value (λ s. option_map (at_place s.offset) (read s)) searched taken entries (AreNumbersAt StandsAt) r
-    found are (λ s passed. rw (none s passed) refl) each
+gathered_numbers value read StandsAt low {entries = entries} r rises stands found same each =
+    gathered_same value (λ s. option_map (at_place s.offset) (read s)) (AreNumbersAt StandsAt) r found same each
     (λ given is. are_numbers read StandsAt low entries given rises is stands)
 
 -- those of a MADT
-pub madt_numbers : {X : Type 0} (read : MadtEntry → Option ℕ) (searched : MadtEntry → Bool) (whole : List ℕ)
-    {Answers : Bor (EntryAt madts.MadtEntry) → Option Numbered → Type 0} (taken : List (PlacedEntry MadtEntry))
-    (r : Result (Vec Numbered Global) X) → IfOk r (λ v. Collects (Picks madt_value Answers) taken v.items)
-    → AreSearched searched (madt_contents whole).entries taken
-    → ((e : MadtEntry) → searched e ≡ false → read e ≡ None)
+pub madt_numbers : {X : Type 0} (read : MadtEntry → Option ℕ) (whole : List ℕ)
+    {Answers : Bor (EntryAt madts.MadtEntry) → Option Numbered → Type 0} {said : List (PlacedEntry MadtEntry)}
+    (r : Result (Vec Numbered Global) X) → IfOk r (λ v. Collects (Picks madt_value Answers) said v.items)
+    → said ≡ (madt_contents whole).entries
     → ((at : Bor (EntryAt madts.MadtEntry)) (picked : Option Numbered) → Answers at picked
     → picked ≡ option_map (at_place at.now.offset) (read (madt_value at.now.entry)))
     → IfOk r (λ v. AreNumbersAt (NamesAt read (madt_contents whole).entries) v.items)
-madt_numbers read searched whole taken r found are none each =
-    gathered_numbers madt_value (λ s. read s.entry) searched (NamesAt read (madt_contents whole).entries) 44 taken
-    (madt_contents whole).entries r (madt_rising whole) (as_named read (madt_contents whole).entries) found are
-    (λ s passed. none s.entry passed) each
+madt_numbers read whole r found same each =
+    gathered_numbers madt_value (λ s. read s.entry) (NamesAt read (madt_contents whole).entries) 44 r
+    (madt_rising whole) (as_named read (madt_contents whole).entries) found same each
 
 -- and of a PPTT
-pub pptt_numbers : {X : Type 0} (read : PpttEntry → Option ℕ) (searched : PpttEntry → Bool) (whole : List ℕ)
-    {Answers : Bor (EntryAt pptts.PpttEntry) → Option Numbered → Type 0} (taken : List (PlacedEntry PpttEntry))
-    (r : Result (Vec Numbered Global) X) → IfOk r (λ v. Collects (Picks pptt_value Answers) taken v.items)
-    → AreSearched searched (pptt_contents whole).entries taken
-    → ((e : PpttEntry) → searched e ≡ false → read e ≡ None)
+pub pptt_numbers : {X : Type 0} (read : PpttEntry → Option ℕ) (whole : List ℕ)
+    {Answers : Bor (EntryAt pptts.PpttEntry) → Option Numbered → Type 0} {said : List (PlacedEntry PpttEntry)}
+    (r : Result (Vec Numbered Global) X) → IfOk r (λ v. Collects (Picks pptt_value Answers) said v.items)
+    → said ≡ (pptt_contents whole).entries
     → ((at : Bor (EntryAt pptts.PpttEntry)) (picked : Option Numbered) → Answers at picked
     → picked ≡ option_map (at_place at.now.offset) (read (pptt_value at.now.entry)))
     → IfOk r (λ v. AreNumbersAt (NamesAt read (pptt_contents whole).entries) v.items)
-pptt_numbers read searched whole taken r found are none each =
-    gathered_numbers pptt_value (λ s. read s.entry) searched (NamesAt read (pptt_contents whole).entries) 36 taken
-    (pptt_contents whole).entries r (pptt_rising whole) (as_named read (pptt_contents whole).entries) found are
-    (λ s passed. none s.entry passed) each
+pptt_numbers read whole r found same each =
+    gathered_numbers pptt_value (λ s. read s.entry) (NamesAt read (pptt_contents whole).entries) 36 r
+    (pptt_rising whole) (as_named read (pptt_contents whole).entries) found same each
 
 -- where A and B put the same numbers at places, those of A are those of B
 pub numbers_as : {A B : ℕ → ℕ → Type 0} (given : List Numbered) → ((at n : ℕ) → A at n ↔ B at n)

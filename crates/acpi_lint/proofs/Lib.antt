@@ -1,9 +1,7 @@
-mod AbsentTypes
 mod AdviceOfSets
 mod CacheShapes
 mod CollectedNumbers
 mod Distributors
-mod EntryKinds
 mod FacsSets
 mod FadtSets
 mod FirstEntries
@@ -15,7 +13,6 @@ mod LeastPlaces
 mod ListedSlots
 mod MadtFaults
 mod NamedPlaces
-mod NotSearched
 mod OfSets
 mod OneCodes
 mod OnePlace
@@ -30,7 +27,6 @@ mod SameNumbers
 mod SameRules
 mod SciGsis
 mod SecondTables
-mod SearchedOnes
 mod Shorts
 mod SlitFaults
 mod SomeEntries
@@ -38,7 +34,6 @@ mod SortedNumbers
 mod SratFaults
 mod StageVerdicts
 mod TablesAt
-mod TypesSeen
 mod UidDomains
 mod UnknownOnes
 mod UnlikeNumbers

@@ -3,18 +3,14 @@ use Rattle.std.proofs.Common.{◌≡◌, ℕ, ◌<◌, List, length, Option, Som
 use Rattle.std.specs.Prelude.{IfOk}
 use Rattle.acpi_base.specs.Memory.{Memory}
 use Rattle.acpi_base.specs.Listed.{fadt_signature, madt_signature, srat_signature, slit_signature, pptt_signature, IsListedTable, HasListed}
-use Rattle.acpi_base.specs.Madt.{madt_contents}
 use Rattle.acpi_base.specs.Root.{IsSlot}
-use Rattle.acpi_base.specs.Srat.{srat_contents}
 use Rattle.acpi_base.specs.TableKinds.{signature_of}
 use Rattle.acpi_base.specs.declared.table_kind.TableKind.{TableKind}
 use Rattle.acpi_base.specs.declared.table_kind.TableKind.TheVariants as kind
 use Rattle.acpi_base.proofs.Faults.ListedTables.{of_listed}
-use Rattle.acpi_lint.specs.EntryTypes.{madt_type, srat_type, AreTypesOf}
 use Rattle.acpi_lint.specs.Places.{FindsLeast}
-use Rattle.acpi_lint.specs.NotedTables.{IsLong}
 use Rattle.acpi_lint.specs.Slots.{IsRootOf, AreSlots, AreFirstSlots}
-use Rattle.acpi_lint.specs.WholeTables.{IsFound, table_of, AreTyped, AreWholeTables}
+use Rattle.acpi_lint.specs.WholeTables.{IsFound, IsLong, table_of, AreWholeTables}
 use Rattle.acpi_lint.specs.declared.place.Place.{Place}
 use Rattle.acpi_lint.specs.declared.whole_tables.WholeTables.{WholeTables}
 use Rattle.acpi_lint.proofs.LeastPlaces.{least_as}
@@ -65,11 +61,11 @@ none_long m p signature least P (Some bytes) looked long short =
 -- the root and the table of each kind are those of the set
 pub are_whole : {m : Memory} {p : ℕ} (tables : WholeTables)
     → IsRootOf m p tables.root → AreSlots m (IsSlot m p) tables.slots.items → AreFirstSlots m p tables.firsts
-    → IsFound m p fadt_signature tables.fadt → IsFound m p madt_signature tables.noted.madt
-    → IsFound m p srat_signature tables.noted.srat → IsFound m p slit_signature tables.slit
-    → IsFound m p pptt_signature tables.noted.pptt → AreTyped tables → AreWholeTables m p tables
-are_whole {m} {p} tables root slots firsts fadt madt srat slit pptt typed =
-    record { root = root; slots = slots; firsts = firsts; listed = listed; typed = typed }
+    → IsFound m p fadt_signature tables.fadt → IsFound m p madt_signature tables.madt
+    → IsFound m p srat_signature tables.srat → IsFound m p slit_signature tables.slit
+    → IsFound m p pptt_signature tables.pptt → AreWholeTables m p tables
+are_whole {m} {p} tables root slots firsts fadt madt srat slit pptt =
+    record { root = root; slots = slots; firsts = firsts; listed = listed }
   where
     listed : (k : TableKind) → IsFound m p (signature_of k) (table_of tables k)
     listed kind.Fadt = fadt
@@ -77,12 +73,3 @@ are_whole {m} {p} tables root slots firsts fadt madt srat slit pptt typed =
     listed kind.Srat = srat
     listed kind.Slit = slit
     listed kind.Pptt = pptt
-
--- the types that are kept of a table that is found are those of its entries
-pub madt_seen : (tables : WholeTables) (whole : List ℕ) → AreTyped tables → tables.noted.madt ≡ Some whole
-    → AreTypesOf madt_type tables.madt_types (madt_contents whole).entries
-madt_seen tables whole typed is = rw is at typed.madt
-
-pub srat_seen : (tables : WholeTables) (whole : List ℕ) → AreTyped tables → tables.noted.srat ≡ Some whole
-    → AreTypesOf srat_type tables.srat_types (srat_contents whole).entries
-srat_seen tables whole typed is = rw is at typed.srat

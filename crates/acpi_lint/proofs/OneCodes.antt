@@ -29,8 +29,7 @@ use Rattle.acpi_check.specs.declared.refusal.Refusal.TheVariants as refusal
 use Rattle.acpi_lint.specs.Places.{IsLeast}
 use Rattle.acpi_lint.specs.StageFaults.{FindsFirstAt}
 use Rattle.acpi_lint.specs.Verdicts.{IsPlaceOf}
-use Rattle.acpi_lint.specs.NotedTables.{IsLong}
-use Rattle.acpi_lint.specs.WholeTables.{IsFound}
+use Rattle.acpi_lint.specs.WholeTables.{IsFound, IsLong}
 use Rattle.acpi_lint.specs.declared.place.Place.{Place}
 use Rattle.acpi_lint.proofs.MadtFaults as madts
 use Rattle.acpi_lint.proofs.OfSets.{none_long}

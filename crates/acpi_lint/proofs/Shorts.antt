@@ -2,7 +2,7 @@
 use Rattle.std.proofs.Common.{◌≡◌, ℕ, ◌<◌, ◌≤◌, List, length, Option, Some, None, true, false, true≢false, refl, sym, inl, inr}
 use Rattle.std.proofs.lemmas.Bool.{cases_lt}
 use Rattle.std.proofs.lemmas.Option.{same_Some}
-use Rattle.acpi_lint.specs.NotedTables.{IsLong}
+use Rattle.acpi_lint.specs.WholeTables.{IsLong}
 
 -- where a table of the least size would have been taken, one that is refused is shorter
 pub refused : (least size : ℕ) → (least ≤ size → false ≡ true) → size < least

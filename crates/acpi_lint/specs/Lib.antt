@@ -1,13 +1,11 @@
 -- What the contracts of the linter cite.
 pub mod EntryNumbers
-pub mod EntryTypes
 pub mod FacsPlaces
 pub mod FadtPlaces
 pub mod FirstPicked
 pub mod KnownNumbers
 pub mod Leaves
 pub mod MadtPlaces
-pub mod NotedTables
 pub mod Numbered
 pub mod Overrides
 pub mod OwnAdvice

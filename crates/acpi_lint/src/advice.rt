@@ -13,7 +13,6 @@ ghost use Rattle.acpi_lint.specs.StageFaults.{FindsAdviceOfNumber};
 ghost use Rattle.acpi_lint.specs.TableRules.{FadtRule, MadtRule, SratRule, DomainRule, PpttRule, LeafRule};
 ghost use Rattle.acpi_lint.specs.WholeTables.{AreWholeTables};
 
-use crate::absent_types::{IO_APIC, may_break_in_madt, may_break_in_srat};
 use crate::nowhere::domain_past_slit;
 use crate::place::Place;
 use crate::sci::sci_nowhere;
@@ -39,13 +38,10 @@ fn of_madt(alloc: Global, tables: &WholeTables<'_>, rule: Rule) -> Result<Option
         → IfOk result (FindsLeast
         (λ at other point. OfMadt m q (λ madt. MadtRule rule madt at other point))) }
 {
-    let Some(madt) = tables.madt() else {
-        return Ok(None);
-    };
-    if !may_break_in_madt(rule, &tables.madt_types) {
-        return Ok(None);
+    match tables.madt() {
+        Some(madt) => madt_rule(alloc, rule, &madt),
+        None => Ok(None),
     }
-    madt_rule(alloc, rule, &madt)
 }
 
 /// The first finding of a rule on a set's SRAT alone.
@@ -54,13 +50,10 @@ fn of_srat(alloc: Global, tables: &WholeTables<'_>, rule: Rule) -> Result<Option
         → IfOk result (FindsLeast
         (λ at other point. OfSrat m q (λ srat. SratRule rule srat at other point))) }
 {
-    let Some(srat) = tables.srat() else {
-        return Ok(None);
-    };
-    if !may_break_in_srat(rule, &tables.srat_types) {
-        return Ok(None);
+    match tables.srat() {
+        Some(srat) => srat_rule(alloc, rule, &srat),
+        None => Ok(None),
     }
-    srat_rule(alloc, rule, &srat)
 }
 
 /// The first finding of a rule on a set's PPTT alone.
@@ -120,9 +113,6 @@ fn of_sci(tables: &WholeTables<'_>, policy: &Policy) -> Option<Place>
 {
     let fadt = tables.fadt()?;
     let madt = tables.madt()?;
-    if !tables.madt_types.has(IO_APIC) {
-        return None;
-    }
     sci_nowhere(policy, &fadt, &madt)
 }
 

@@ -61,5 +61,5 @@ fn odd_place(at: &EntryAt<PpttEntry<'_>>) -> Option<Place>
 pub fn cache_shape(pptt: &Pptt<'_>) -> Option<Place>
     ensures { FindsLeast (IsCacheShape (pptt_contents pptt.now)) result }
 {
-    first_picked(pptt.searched_entries(), odd_place)
+    first_picked(pptt.entries(), odd_place)
 }

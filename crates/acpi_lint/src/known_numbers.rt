@@ -36,7 +36,7 @@ pub fn known_in_madt(
     ensures { IfOk result (λ known.
         AreKnown (IsNamed (madt_number number) (madt_contents madt.now).entries) known.items) }
 {
-    let numbers = collected(alloc, madt.searched_entries(), |at| {
+    let numbers = collected(alloc, madt.entries(), |at| {
         madt_number(number, &at.entry).map(u64::from)
     })?;
     sorted_unique(numbers)
@@ -47,7 +47,7 @@ pub fn placed_apic_ids(alloc: Global, srat: &Srat<'_>) -> Result<Vec<u64>, Alloc
     ensures { IfOk result (λ ids.
         AreKnown (IsNamed placed_apic_id (srat_contents srat.now).entries) ids.items) }
 {
-    let numbers = collected(alloc, srat.searched_entries(), |at| {
+    let numbers = collected(alloc, srat.entries(), |at| {
         placed_apic_id(&at.entry).map(u64::from)
     })?;
     sorted_unique(numbers)
@@ -58,7 +58,7 @@ pub fn placed_uids(alloc: Global, srat: &Srat<'_>) -> Result<Vec<u64>, AllocErro
     ensures { IfOk result (λ uids.
         AreKnown (IsNamed placed_uid (srat_contents srat.now).entries) uids.items) }
 {
-    let numbers = collected(alloc, srat.searched_entries(), |at| {
+    let numbers = collected(alloc, srat.entries(), |at| {
         placed_uid(&at.entry).map(u64::from)
     })?;
     sorted_unique(numbers)
@@ -124,7 +124,7 @@ pub fn are_processors_read(madt: &Madt<'_>) -> bool
 pub fn is_any_on(madt: &Madt<'_>) -> bool
     ensures { IsTrue result ↔ IsAnyNamed uid_on (madt_contents madt.now).entries }
 {
-    let uid = first_picked(madt.searched_entries(), |at| uid_on(&at.entry));
+    let uid = first_picked(madt.entries(), |at| uid_on(&at.entry));
     uid.is_some()
 }
 
@@ -143,7 +143,7 @@ pub fn has_gicc(madt: &Madt<'_>) -> bool
     ensures { IsTrue result
         ↔ ((o : ℕ) × StandsWith (madt_contents madt.now).entries o IsGicc) }
 {
-    let gicc = first_picked(madt.searched_entries(), |at| {
+    let gicc = first_picked(madt.entries(), |at| {
         is_gicc_entry(&at.entry).then_some(())
     });
     gicc.is_some()
@@ -153,6 +153,6 @@ pub fn has_gicc(madt: &Madt<'_>) -> bool
 pub fn is_any_placed(srat: &Srat<'_>) -> bool
     ensures { IsTrue result ↔ IsAnyNamed processor_domain (srat_contents srat.now).entries }
 {
-    let domain = first_picked(srat.searched_entries(), |at| processor_domain(&at.entry));
+    let domain = first_picked(srat.entries(), |at| processor_domain(&at.entry));
     domain.is_some()
 }

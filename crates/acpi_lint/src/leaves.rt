@@ -48,7 +48,7 @@ fn said_leaves(alloc: Global, pptt: &Pptt<'_>) -> Result<Vec<Numbered>, AllocErr
     ensures { IfOk result (λ leaves. AreNumbersAt
         (NamesAt said_leaf_id (pptt_contents pptt.now).entries) leaves.items) }
 {
-    collected(alloc, pptt.searched_entries(), |at| {
+    collected(alloc, pptt.entries(), |at| {
         at_place(at.offset, said_leaf_id(&at.entry))
     })
 }
@@ -69,7 +69,7 @@ fn parents_of(alloc: Global, pptt: &Pptt<'_>) -> Result<Vec<u64>, AllocError>
     ensures all { IfOk result (λ parents. (o : ℕ) →
         Contains parents.items o ↔ IsParent (pptt_contents pptt.now) o) }
 {
-    let parents = collected(alloc, pptt.searched_entries(), |at| {
+    let parents = collected(alloc, pptt.entries(), |at| {
         parent_of(&at.entry).map(u64::from)
     })?;
     sorted_unique(parents)
@@ -92,7 +92,7 @@ fn unnamed_leaves(alloc: Global, pptt: &Pptt<'_>) -> Result<Vec<Numbered>, Alloc
         leaves.items) }
 {
     let parents = parents_of(alloc, pptt)?;
-    collected(alloc, pptt.searched_entries(), |at| {
+    collected(alloc, pptt.entries(), |at| {
         at_place(at.offset, unnamed_id(&parents, at))
     })
 }

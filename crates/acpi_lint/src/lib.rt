@@ -32,10 +32,8 @@
 //! ```
 #![tactic(auto)]
 
-mod absent_types;
 mod advice;
 mod caches;
-mod entry_types;
 mod facs;
 mod fadt;
 mod fadt_advice;
@@ -46,7 +44,6 @@ mod known_numbers;
 mod leaves;
 mod listed;
 mod madt;
-mod noted_tables;
 mod nowhere;
 mod numbered;
 mod one_code;

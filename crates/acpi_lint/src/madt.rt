@@ -10,13 +10,11 @@ ghost use Rattle.acpi_base.specs.declared.stage.Stage.{Stage};
 ghost use Rattle.acpi_read.specs.Madts.{madt_value, IsWholeEntry};
 ghost use Rattle.acpi_read.specs.TypedEntries.{entry_at_value};
 ghost use Rattle.acpi_lint.specs.FirstPicked.{FindsOwn};
-ghost use Rattle.acpi_lint.specs.NotedTables.{IsLong};
 ghost use Rattle.acpi_lint.specs.MadtPlaces.{IsOwnFault, IsOwnFaultAt, IsOverrideHere, IsOverrideBehind};
 ghost use Rattle.acpi_lint.specs.Places.{FindsLeast};
 ghost use Rattle.acpi_lint.specs.StageFaults.{IsFaultOfStage};
-ghost use Rattle.acpi_lint.specs.WholeTables.{AreWholeTables};
+ghost use Rattle.acpi_lint.specs.WholeTables.{IsLong, AreWholeTables};
 
-use crate::absent_types::may_be_at_fault_in_madt;
 use crate::passes::{cut, first_picked, short_place};
 use crate::place::Place;
 use crate::whole_tables::WholeTables;
@@ -80,15 +78,11 @@ fn own_place(policy: &Policy, code: Code, at: &EntryAt<MadtEntry<'_>>) -> Option
     has_fault(policy, code, &at.entry).then_some(Place::at(at.offset))
 }
 
-/// The place of the first entry of a MADT that has the fault with this code by itself. A search passes over those
-/// whose length is not that of their type, so for this fault all entries are looked at.
+/// The place of the first entry of a MADT that has the fault with this code by itself.
 fn first_own(policy: &Policy, code: Code, madt: &Madt<'_>) -> Option<Place>
     ensures { FindsLeast (IsOwnFaultAt policy.now code (madt_contents madt.now)) result }
 {
-    if let Code::MadtEntryLength = code {
-        return first_picked(madt.entries(), |at| own_place(policy, code, at));
-    }
-    first_picked(madt.searched_entries(), |at| own_place(policy, code, at))
+    first_picked(madt.entries(), |at| own_place(policy, code, at))
 }
 
 /// Whether an entry is an address override.
@@ -124,8 +118,8 @@ fn second_address_override(policy: &Policy, madt: &Madt<'_>) -> Option<Place>
     ensures { FindsLeast
         (MadtFault policy.now (madt_contents madt.now) Code.SecondAddressOverride) result }
 {
-    let first = first_picked(madt.searched_entries(), override_place)?;
-    first_picked(madt.searched_entries(), |at| second_place(first.at, at))
+    let first = first_picked(madt.entries(), override_place)?;
+    first_picked(madt.entries(), |at| second_place(first.at, at))
 }
 
 /// The cut of a MADT: the offset of the bytes after its entries, if there are any.
@@ -165,8 +159,5 @@ pub fn madt_fault(tables: &WholeTables<'_>, policy: &Policy, code: Code) -> Opti
         → FindsLeast (IsFaultOfStage Stage.Madt code m policy.now) result }
 {
     let table = tables.table(TableKind::Madt)?;
-    if !may_be_at_fault_in_madt(code, &tables.madt_types) {
-        return None;
-    }
     table_fault(policy, code, &table, tables.madt())
 }

@@ -81,7 +81,7 @@ pub fn nmi_nowhere(alloc: Global, madt: &Madt<'_>) -> Result<Option<Place>, Allo
     }
     let uids = known_in_madt(alloc, madt, MadtNumber::Uid)?;
     let uids = uids.as_slice();
-    Ok(first_picked(madt.searched_entries(), |at| unknown_nmi(uids, at)))
+    Ok(first_picked(madt.entries(), |at| unknown_nmi(uids, at)))
 }
 
 // ---- the MADT and the SRAT
@@ -116,10 +116,7 @@ pub fn affinity_nowhere(
     let uids = known_in_madt(alloc, madt, MadtNumber::Uid)?;
     let ids = ids.as_slice();
     let uids = uids.as_slice();
-    Ok(first_picked(
-        srat.searched_entries(),
-        |at| unknown_affinity(ids, uids, at),
-    ))
+    Ok(first_picked(srat.entries(), |at| unknown_affinity(ids, uids, at)))
 }
 
 /// The place of a processor that is on and whose number is unknown: its APIC ID or x2APIC ID, or for a GIC CPU
@@ -152,7 +149,7 @@ pub fn no_domain(
     let uids = placed_uids(alloc, srat)?;
     let ids = ids.as_slice();
     let uids = uids.as_slice();
-    Ok(first_picked(madt.searched_entries(), |at| unplaced(ids, uids, at)))
+    Ok(first_picked(madt.entries(), |at| unplaced(ids, uids, at)))
 }
 
 // ---- the SRAT and the SLIT
@@ -174,7 +171,7 @@ fn past_place(localities: u64, at: &EntryAt<SratEntry<'_>>) -> Option<Place>
 pub fn domain_past_slit(localities: u64, srat: &Srat<'_>) -> Option<Place>
     ensures { FindsLeast (IsDomainPastSlit (srat_contents srat.now) localities) result }
 {
-    first_picked(srat.searched_entries(), |at| past_place(localities, at))
+    first_picked(srat.entries(), |at| past_place(localities, at))
 }
 
 // ---- the MADT and the PPTT
@@ -201,7 +198,7 @@ pub fn no_leaf(alloc: Global, madt: &Madt<'_>, pptt: &Pptt<'_>) -> Result<Option
         return Ok(None);
     }
     let ids = ids.as_slice();
-    Ok(first_picked(madt.searched_entries(), |at| leafless(ids, at)))
+    Ok(first_picked(madt.entries(), |at| leafless(ids, at)))
 }
 
 /// The place of the first of these numbers that is not among the known ones, which rise. Their places rise.

@@ -12,7 +12,6 @@ ghost use Rattle.acpi_lint.specs.Places.{FindsLeast};
 ghost use Rattle.acpi_lint.specs.StageFaults.{IsFaultOfStage, FindsFirstAt};
 ghost use Rattle.acpi_lint.specs.WholeTables.{AreWholeTables};
 
-use crate::absent_types::{IO_APIC, MEMORY_RANGE, NMI_SOURCE, OVERRIDE};
 use crate::madt::madt_cut;
 use crate::place::Place;
 use crate::verdicts::place_of;
@@ -34,13 +33,10 @@ pub fn override_clash(
         → IfOk result (FindsLeast
         (IsFaultOfStage Stage.Overrides Code.OverrideClash m policy.now)) }
 {
-    let Some(madt) = tables.madt() else {
-        return Ok(None);
-    };
-    if !tables.madt_types.has(OVERRIDE) {
-        return Ok(None);
+    match tables.madt() {
+        Some(madt) => place_of(agreeing_overrides(&madt)),
+        None => Ok(None),
     }
-    place_of(agreeing_overrides(&madt))
 }
 
 /// The place of the first entry of a set's MADT that names an interrupt number that none of its I/O APICs serves.
@@ -53,16 +49,10 @@ pub fn gsi_nowhere(
     ensures { (m : Memory) → AreWholeTables m policy.now.rsdp tables.now
         → IfOk result (FindsLeast (IsFaultOfStage Stage.Served Code.GsiNowhere m policy.now)) }
 {
-    let Some(madt) = tables.madt() else {
-        return Ok(None);
-    };
-    if !tables.madt_types.has(IO_APIC) {
-        return Ok(None);
+    match tables.madt() {
+        Some(madt) => place_of(named_served(alloc, policy, &madt)),
+        None => Ok(None),
     }
-    if !tables.madt_types.has_any(&[OVERRIDE, NMI_SOURCE]) {
-        return Ok(None);
-    }
-    place_of(named_served(alloc, policy, &madt))
 }
 
 /// The place of the lowest interrupt number that two I/O APICs of a set's MADT serve. Allocates as the stage does.
@@ -74,13 +64,10 @@ pub fn gsi_clash(
     ensures { (m : Memory) → AreWholeTables m policy.now.rsdp tables.now
         → IfOk result (FindsFirstAt Code.GsiClash m policy.now) }
 {
-    let Some(madt) = tables.madt() else {
-        return Ok(None);
-    };
-    if !tables.madt_types.has(IO_APIC) {
-        return Ok(None);
+    match tables.madt() {
+        Some(madt) => place_of(apart_interrupts(alloc, policy, &madt)),
+        None => Ok(None),
     }
-    place_of(apart_interrupts(alloc, policy, &madt))
 }
 
 /// The place of the lowest address that two compared ranges of a set's SRAT cover. Allocates as the stage does.
@@ -92,13 +79,10 @@ pub fn overlap(
     ensures { (m : Memory) → AreWholeTables m policy.now.rsdp tables.now
         → IfOk result (FindsFirstAt Code.Overlap m policy.now) }
 {
-    let Some(srat) = tables.srat() else {
-        return Ok(None);
-    };
-    if !tables.srat_types.has(MEMORY_RANGE) {
-        return Ok(None);
+    match tables.srat() {
+        Some(srat) => place_of(apart_ranges(alloc, policy.hotplug(), &srat)),
+        None => Ok(None),
     }
-    place_of(apart_ranges(alloc, policy.hotplug(), &srat))
 }
 
 /// The place of the first node of a PPTT whose chain has a cycle.

@@ -57,7 +57,7 @@ fn linked_offset(link: Link, at: &EntryAt<PpttEntry<'_>>) -> Option<u64>
 fn linked_offsets(alloc: Global, link: Link, pptt: &Pptt<'_>) -> Result<OffsetSet, AllocError>
     ensures { IfOk result (AreOffsets (IsAt (Says (linked link) (pptt_contents pptt.now)))) }
 {
-    let offsets = collected(alloc, pptt.searched_entries(), |at| linked_offset(link, at))?;
+    let offsets = collected(alloc, pptt.entries(), |at| linked_offset(link, at))?;
     OffsetSet::of(alloc, &offsets)
 }
 
@@ -81,10 +81,7 @@ fn dangling_link(alloc: Global, link: Link, pptt: &Pptt<'_>) -> Result<Option<Pl
     ensures { IfOk result (FindsLeast (IsDanglingLink link (pptt_contents pptt.now))) }
 {
     let offsets = linked_offsets(alloc, link, pptt)?;
-    Ok(first_picked(
-        pptt.searched_entries(),
-        |at| unlinked_place(link, &offsets, at),
-    ))
+    Ok(first_picked(pptt.entries(), |at| unlinked_place(link, &offsets, at)))
 }
 
 /// Whether an entry may be a private resource: it has another type than a node, even one that is not read.
@@ -151,7 +148,7 @@ fn dangling_resource(alloc: Global, pptt: &Pptt<'_>) -> Result<Option<Place>, Al
         (ReferenceFault (pptt_contents pptt.now) Code.DanglingResource)) }
 {
     let offsets = resource_offsets(alloc, pptt)?;
-    Ok(first_picked(pptt.searched_entries(), |at| missing_place(&offsets, at)))
+    Ok(first_picked(pptt.entries(), |at| missing_place(&offsets, at)))
 }
 
 /// The place of the first fault with this code in the references of a PPTT's entries. None for a code of another

@@ -32,7 +32,7 @@ pub fn same_in_madt(
     ensures { IfOk result (FindsLeast
         (IsLater (NamesAt (madt_number number) (madt_contents madt.now).entries))) }
 {
-    let numbers = collected(alloc, madt.searched_entries(), |at| {
+    let numbers = collected(alloc, madt.entries(), |at| {
         at_place(at.offset, madt_number(number, &at.entry))
     })?;
     first_repeated(numbers)
@@ -51,7 +51,7 @@ pub fn same_cache_id(alloc: Global, pptt: &Pptt<'_>) -> Result<Option<Place>, Al
     if revision(pptt) < HAS_CACHE_IDS {
         return Ok(None);
     }
-    let numbers = collected(alloc, pptt.searched_entries(), |at| {
+    let numbers = collected(alloc, pptt.entries(), |at| {
         at_place(at.offset, cache_id(&at.entry))
     })?;
     first_repeated(numbers)
@@ -86,6 +86,6 @@ fn domain_of_uid(at: &EntryAt<SratEntry<'_>>) -> Option<Numbered>
 pub fn two_uid_domains(alloc: Global, srat: &Srat<'_>) -> Result<Option<Place>, AllocError>
     ensures { IfOk result (FindsLeast (IsTwoUidDomains (srat_contents srat.now))) }
 {
-    let domains = collected(alloc, srat.searched_entries(), |at| domain_of_uid(at))?;
+    let domains = collected(alloc, srat.entries(), |at| domain_of_uid(at))?;
     first_unlike(domains, Order::First)
 }

@@ -36,7 +36,7 @@ fn own_override(source: u16, at: &EntryAt<MadtEntry<'_>>) -> Option<Place>
 fn first_override(madt: &Madt<'_>, source: u16) -> Option<Place>
     ensures { FindsLeast (IsOverrideAt source (madt_contents madt.now)) result }
 {
-    first_picked(madt.searched_entries(), |at| own_override(source, at))
+    first_picked(madt.entries(), |at| own_override(source, at))
 }
 
 /// The interrupt number of an ISA interrupt: that of its first override, or else its own.
@@ -54,7 +54,7 @@ fn gsi_of(madt: &Madt<'_>, source: u16) -> u64
 fn has_io_apic(madt: &Madt<'_>) -> bool
     ensures { IsTrue result ↔ HasIoApic (madt_contents madt.now) }
 {
-    first_picked(madt.searched_entries(), |at| {
+    first_picked(madt.entries(), |at| {
         matches!(at.entry, MadtEntry::IoApic(_)).then_some(at.offset)
     })
     .is_some()
@@ -77,7 +77,7 @@ fn serves(policy: &Policy, entry: &MadtEntry<'_>, gsi: u64) -> bool
 fn is_served(policy: &Policy, madt: &Madt<'_>, gsi: u64) -> bool
     ensures { IsTrue result ↔ IsServed policy.now (madt_contents madt.now) gsi }
 {
-    first_picked(madt.searched_entries(), |at| {
+    first_picked(madt.entries(), |at| {
         serves(policy, &at.entry, gsi).then_some(at.offset)
     })
     .is_some()

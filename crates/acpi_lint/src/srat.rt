@@ -8,13 +8,11 @@ ghost use Rattle.acpi_base.specs.declared.stage.Stage.{Stage};
 ghost use Rattle.acpi_read.specs.Srats.{srat_value, IsWholeEntry};
 ghost use Rattle.acpi_read.specs.TypedEntries.{entry_at_value};
 ghost use Rattle.acpi_lint.specs.FirstPicked.{FindsOwn};
-ghost use Rattle.acpi_lint.specs.NotedTables.{IsLong};
 ghost use Rattle.acpi_lint.specs.SratPlaces.{IsOwnFault, IsOwnFaultAt};
 ghost use Rattle.acpi_lint.specs.Places.{FindsLeast};
 ghost use Rattle.acpi_lint.specs.StageFaults.{IsFaultOfStage};
-ghost use Rattle.acpi_lint.specs.WholeTables.{AreWholeTables};
+ghost use Rattle.acpi_lint.specs.WholeTables.{IsLong, AreWholeTables};
 
-use crate::absent_types::may_be_at_fault_in_srat;
 use crate::passes::{cut, first_picked, short_place};
 use crate::place::Place;
 use crate::whole_tables::WholeTables;
@@ -64,15 +62,11 @@ fn own_place(code: Code, at: &EntryAt<SratEntry<'_>>) -> Option<Place>
     has_fault(code, &at.entry).then_some(Place::at(at.offset))
 }
 
-/// The place of the first entry of an SRAT that has the fault with this code by itself. A search passes over those
-/// whose length is not that of their type, so for this fault all entries are looked at.
+/// The place of the first entry of an SRAT that has the fault with this code by itself.
 fn first_own(code: Code, srat: &Srat<'_>) -> Option<Place>
     ensures { FindsLeast (IsOwnFaultAt code (srat_contents srat.now)) result }
 {
-    if let Code::SratEntryLength = code {
-        return first_picked(srat.entries(), |at| own_place(code, at));
-    }
-    first_picked(srat.searched_entries(), |at| own_place(code, at))
+    first_picked(srat.entries(), |at| own_place(code, at))
 }
 
 /// The cut of an SRAT: the offset of the bytes after its entries, if there are any.
@@ -106,8 +100,5 @@ pub fn srat_fault(tables: &WholeTables<'_>, policy: &Policy, code: Code) -> Opti
         → FindsLeast (IsFaultOfStage Stage.Srat code m policy.now) result }
 {
     let table = tables.table(TableKind::Srat)?;
-    if !may_be_at_fault_in_srat(code, &tables.srat_types) {
-        return None;
-    }
     table_fault(code, &table, tables.srat())
 }

@@ -38,7 +38,7 @@ fn zero_place(at: &EntryAt<MadtEntry<'_>>) -> Option<Place>
 pub fn io_apic_at_zero(madt: &Madt<'_>) -> Option<Place>
     ensures { FindsLeast (IsIoApicAtZero (madt_contents madt.now)) result }
 {
-    first_picked(madt.searched_entries(), zero_place)
+    first_picked(madt.entries(), zero_place)
 }
 
 /// The type of a GIC distributor (ACPI 6.5, 5.2.12.15).

@@ -2,20 +2,17 @@
 
 ghost use Rattle.std.specs.Prelude.{◌≡◌, ℕ, IfOk};
 ghost use Rattle.acpi_base.specs.TableKinds.{signature_of};
-ghost use Rattle.acpi_lint.specs.NotedTables.{IsLong};
 ghost use Rattle.acpi_lint.specs.Slots.{AreFirstSlots};
-ghost use Rattle.acpi_lint.specs.WholeTables.{IsFound, table_of, AreWholeTables};
+ghost use Rattle.acpi_lint.specs.WholeTables.{IsFound, IsLong, table_of, AreWholeTables};
 
-use crate::entry_types::EntryTypes;
 use crate::first_slots::FirstSlots;
 use crate::listed::{Slot, listed_slots};
-use crate::noted_tables::NotedTables;
 use acpi_base::{Image, TableKind};
 use acpi_read::{Fadt, Madt, Pptt, Root, Srat, Table};
 use std::alloc::{AllocError, Global};
 
 /// The root table of a set and the first listed table of each kind, if they are complete, whatever their checksums.
-/// They are looked up once, and so are the types of the entries of the MADT and the SRAT.
+/// They are looked up once.
 #[derive(Drop)]
 pub struct WholeTables<'a> {
     /// The root table.
@@ -26,14 +23,14 @@ pub struct WholeTables<'a> {
     pub firsts: FirstSlots,
     /// The FADT.
     pub fadt: Option<Table<'a>>,
+    /// The MADT.
+    pub madt: Option<Table<'a>>,
+    /// The SRAT.
+    pub srat: Option<Table<'a>>,
     /// The SLIT.
     pub slit: Option<Table<'a>>,
-    /// The MADT, the SRAT and the PPTT.
-    pub noted: NotedTables<'a>,
-    /// The types of the MADT's entries.
-    pub madt_types: EntryTypes,
-    /// The types of the SRAT's entries.
-    pub srat_types: EntryTypes,
+    /// The PPTT.
+    pub pptt: Option<Table<'a>>,
 }
 
 /// The first listed table of a kind in a set with these first slots.
@@ -46,29 +43,22 @@ fn found<'a>(image: &'a Image, firsts: &FirstSlots, kind: TableKind) -> Option<T
 }
 
 impl<'a> WholeTables<'a> {
-    /// The tables of the set that the RSDP at an address leads to. Allocates for each address that is listed, and for
-    /// each entry that a search looks at.
+    /// The tables of the set that the RSDP at an address leads to. Allocates for each address that is listed.
     pub fn of(alloc: Global, image: &'a Image, rsdp: u64) -> Result<WholeTables<'a>, AllocError>
         ensures { IfOk result (AreWholeTables image.now rsdp) }
     {
         let root = Root::whole(image, rsdp);
         let slots = listed_slots(alloc, image, &root)?;
         let firsts = FirstSlots::of(&slots);
-        let madt = found(image, &firsts, TableKind::Madt);
-        let madt_types = EntryTypes::madt(&madt);
-        let srat = found(image, &firsts, TableKind::Srat);
-        let srat_types = EntryTypes::srat(&srat);
-        let pptt = found(image, &firsts, TableKind::Pptt);
-        let noted = NotedTables::of(alloc, madt, srat, pptt)?;
         Ok(WholeTables {
             fadt: found(image, &firsts, TableKind::Fadt),
+            madt: found(image, &firsts, TableKind::Madt),
+            srat: found(image, &firsts, TableKind::Srat),
             slit: found(image, &firsts, TableKind::Slit),
+            pptt: found(image, &firsts, TableKind::Pptt),
             root,
             slots,
             firsts,
-            noted,
-            madt_types,
-            srat_types,
         })
     }
 
@@ -76,13 +66,14 @@ impl<'a> WholeTables<'a> {
     pub fn table(&self, kind: TableKind) -> Option<Table<'a>>
         ensures { result ≡ table_of self.now kind }
     {
-        match kind {
-            TableKind::Fadt => Some(self.fadt.as_ref()?.copied()),
-            TableKind::Madt => self.noted.madt_table(),
-            TableKind::Srat => self.noted.srat_table(),
-            TableKind::Slit => Some(self.slit.as_ref()?.copied()),
-            TableKind::Pptt => self.noted.pptt_table(),
-        }
+        let table = match kind {
+            TableKind::Fadt => &self.fadt,
+            TableKind::Madt => &self.madt,
+            TableKind::Srat => &self.srat,
+            TableKind::Slit => &self.slit,
+            TableKind::Pptt => &self.pptt,
+        };
+        Some(table.as_ref()?.copied())
     }
 
     /// The FADT, if it has the 116 bytes that are always read.
@@ -93,23 +84,23 @@ impl<'a> WholeTables<'a> {
     }
 
     /// The MADT, if it has the 44 bytes of its fields.
-    pub fn madt(&self) -> Option<Madt<'_>>
-        ensures { IsLong 44 self.now.noted.madt result }
+    pub fn madt(&self) -> Option<Madt<'a>>
+        ensures { IsLong 44 self.now.madt result }
     {
-        self.noted.madt()
+        Madt::new(self.table(TableKind::Madt)?)
     }
 
     /// The SRAT, if it has the 48 bytes of its fields.
-    pub fn srat(&self) -> Option<Srat<'_>>
-        ensures { IsLong 48 self.now.noted.srat result }
+    pub fn srat(&self) -> Option<Srat<'a>>
+        ensures { IsLong 48 self.now.srat result }
     {
-        self.noted.srat()
+        Srat::new(self.table(TableKind::Srat)?)
     }
 
     /// The PPTT.
-    pub fn pptt(&self) -> Option<Pptt<'_>>
-        ensures { result ≡ self.now.noted.pptt }
+    pub fn pptt(&self) -> Option<Pptt<'a>>
+        ensures { result ≡ self.now.pptt }
     {
-        self.noted.pptt()
+        Some(Pptt::of(self.table(TableKind::Pptt)?))
     }
 }

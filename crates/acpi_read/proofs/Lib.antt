@@ -2,5 +2,4 @@ pub mod EntriesLeft
 pub mod FirstsKept
 mod ListedTables
 pub mod PpttKinds
-pub mod SearchedEntries
 pub mod SlitCells

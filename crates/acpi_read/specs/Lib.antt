@@ -9,8 +9,6 @@ pub mod NodeHeads
 pub mod Places
 pub mod Pptts
 pub mod Roots
-pub mod SearchedEntries
 pub mod Slits
 pub mod Srats
-pub mod TakenEntries
 pub mod TypedEntries

@@ -35,7 +35,7 @@ impl<'a> Model for Entries<'a> {
 
 /// The entry that the bytes begin with, if there is one.
 #[tactic(auto, unfolding(acpi_base::specs::Entries::first_entry))]
-pub(crate) fn first_entry(left: &[u8]) -> Option<&[u8]>
+fn first_entry(left: &[u8]) -> Option<&[u8]>
     ensures { option_map (λ entry. entry.now) result ≡ first_entry left.now }
 {
     if left.len() < 2 {

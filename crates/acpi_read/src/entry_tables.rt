@@ -8,12 +8,10 @@ ghost use Rattle.acpi_base.specs.Madt.{madt_contents, madt_entry};
 ghost use Rattle.acpi_base.specs.Srat.{srat_contents, srat_entry};
 ghost use Rattle.acpi_base.specs.Pptt.{pptt_contents, pptt_entry};
 ghost use Rattle.acpi_read.specs.Headers.{header_value};
-ghost use Rattle.acpi_read.specs.SearchedEntries.{searched_in_madt, searched_in_srat, searched_in_pptt, searched_offsets, AreSearched, IsFromEither};
 
 use crate::entries::{Entries, entries_from};
 use crate::header::Header;
 use crate::madt::{MADT_FLAGS, MADT_LOCAL_APIC_ADDRESS, MadtEntry};
-use crate::noted_entries::NotedEntries;
 use crate::pptt::PpttEntry;
 use crate::srat::SratEntry;
 use crate::table::Table;
@@ -21,41 +19,20 @@ use crate::typed_entries::TypedEntries;
 use acpi_base::field::u32_at;
 use std::marker::Model;
 
-/// The entries of a table from an offset on; only those that a search looks at, if their offsets were noted.
-fn noted_or_all<'a, E>(
-    table: &Table<'a>,
-    first: usize,
-    noted: Option<&'a [u32]>,
-) -> TypedEntries<'a, E>
-    requires { first ≤ length table.now }
-    ensures { IsFromEither first table.now noted.entry result.entries.entries }
-{
-    match noted {
-        Some(offsets) => NotedEntries::of(table.bytes(), offsets).into(),
-        None => entries_from(table.copied(), first).into(),
-    }
-}
-
 /// A MADT of at least 44 bytes, enough for its fields (ACPI 6.5, 5.2.12). Contracts see its bytes.
 #[derive(Debug, Drop)]
 pub struct Madt<'a> {
     table: Table<'a>,
-    /// The offsets of the entries that a search looks at, if they were noted.
-    searched: Option<&'a [u32]>,
 }
 
 impl<'a> Model for Madt<'a> {
-    ghost use Rattle.std.specs.Prelude.{◌≡◌, ◌≤◌, ℕ, List, length, IfSome};
-    ghost use Rattle.acpi_base.specs.Madt.{madt_contents};
-    ghost use Rattle.acpi_read.specs.SearchedEntries.{searched_in_madt, searched_offsets};
+    ghost use Rattle.std.specs.Prelude.{◌≤◌, ℕ, List, length};
 
     ghost Value = { List ℕ };
 
     ghost view = { λ madt. madt.table };
 
-    ghost invariant = { λ madt. (44 ≤ length madt.table)
-        × IfSome madt.searched (λ offsets. offsets.now
-        ≡ searched_offsets searched_in_madt (madt_contents madt.table).entries) };
+    ghost invariant = { λ madt. 44 ≤ length madt.table };
 }
 
 impl<'a> Madt<'a> {
@@ -67,10 +44,7 @@ impl<'a> Madt<'a> {
         if table.bytes().len() < Entries::MADT_START {
             return None;
         }
-        Some(Madt {
-            table,
-            searched: None,
-        })
+        Some(Madt { table })
     }
 
     /// The view of a table that is known to have at least 44 bytes. No byte is read.
@@ -78,10 +52,7 @@ impl<'a> Madt<'a> {
         requires { 44 ≤ length table }
         ensures { result ≡ table.entry }
     {
-        Madt {
-            table,
-            searched: None,
-        }
+        Madt { table }
     }
 
     /// The fields of its header.
@@ -120,53 +91,22 @@ impl<'a> Madt<'a> {
         let _ = self.table.bytes();
         entries_from(self.table.copied(), Entries::MADT_START).into()
     }
-
-    /// The same view, with the offsets of the entries that a search looks at: `searched_entries` then returns only these.
-    /// No byte is read.
-    pub fn with_searched(self, offsets: &'a [u32]) -> Madt<'a>
-        requires { offsets.now ≡ searched_offsets searched_in_madt (madt_contents self).entries }
-        ensures { result ≡ self.entry }
-    {
-        Madt {
-            table: self.table,
-            searched: Some(offsets),
-        }
-    }
-
-    /// Those of its entries that a search by contents looks at (`TableEntry::is_searched`), if their offsets were
-    /// noted; otherwise all of them.
-    #[tactic(auto, unfolding(acpi_base::specs::Madt::madt_contents))]
-    pub fn searched_entries(&self) -> TypedEntries<'a, MadtEntry<'a>>
-        ensures entries { AreSearched searched_in_madt (madt_contents self.now).entries
-            (entries_read_by madt_entry result.entries.entries) }
-        ensures size { length self.now < 2 ^ 32 }
-    {
-        // Makes the invariant of `Table` available to the proof, as in `entries`.
-        let _ = self.table.bytes();
-        noted_or_all(&self.table, Entries::MADT_START, self.searched)
-    }
 }
 
 /// An SRAT of at least 48 bytes, enough for its fields (ACPI 6.5, 5.2.16). Contracts see its bytes.
 #[derive(Debug, Drop)]
 pub struct Srat<'a> {
     table: Table<'a>,
-    /// The offsets of the entries that a search looks at, if they were noted.
-    searched: Option<&'a [u32]>,
 }
 
 impl<'a> Model for Srat<'a> {
-    ghost use Rattle.std.specs.Prelude.{◌≡◌, ◌≤◌, ℕ, List, length, IfSome};
-    ghost use Rattle.acpi_base.specs.Srat.{srat_contents};
-    ghost use Rattle.acpi_read.specs.SearchedEntries.{searched_in_srat, searched_offsets};
+    ghost use Rattle.std.specs.Prelude.{◌≤◌, ℕ, List, length};
 
     ghost Value = { List ℕ };
 
     ghost view = { λ srat. srat.table };
 
-    ghost invariant = { λ srat. (48 ≤ length srat.table)
-        × IfSome srat.searched (λ offsets. offsets.now
-        ≡ searched_offsets searched_in_srat (srat_contents srat.table).entries) };
+    ghost invariant = { λ srat. 48 ≤ length srat.table };
 }
 
 impl<'a> Srat<'a> {
@@ -178,10 +118,7 @@ impl<'a> Srat<'a> {
         if table.bytes().len() < Entries::SRAT_START {
             return None;
         }
-        Some(Srat {
-            table,
-            searched: None,
-        })
+        Some(Srat { table })
     }
 
     /// The view of a table that is known to have at least 48 bytes. No byte is read.
@@ -189,10 +126,7 @@ impl<'a> Srat<'a> {
         requires { 48 ≤ length table }
         ensures { result ≡ table.entry }
     {
-        Srat {
-            table,
-            searched: None,
-        }
+        Srat { table }
     }
 
     /// The fields of its header.
@@ -214,52 +148,20 @@ impl<'a> Srat<'a> {
         let _ = self.table.bytes();
         entries_from(self.table.copied(), Entries::SRAT_START).into()
     }
-
-    /// The same view, with the offsets of the entries that a search looks at: `searched_entries` then returns only these.
-    /// No byte is read.
-    pub fn with_searched(self, offsets: &'a [u32]) -> Srat<'a>
-        requires { offsets.now ≡ searched_offsets searched_in_srat (srat_contents self).entries }
-        ensures { result ≡ self.entry }
-    {
-        Srat {
-            table: self.table,
-            searched: Some(offsets),
-        }
-    }
-
-    /// Those of its entries that a search by contents looks at (`TableEntry::is_searched`), if their offsets were
-    /// noted; otherwise all of them.
-    #[tactic(auto, unfolding(acpi_base::specs::Srat::srat_contents))]
-    pub fn searched_entries(&self) -> TypedEntries<'a, SratEntry<'a>>
-        ensures entries { AreSearched searched_in_srat (srat_contents self.now).entries
-            (entries_read_by srat_entry result.entries.entries) }
-        ensures size { length self.now < 2 ^ 32 }
-    {
-        // Makes the invariant of `Table` available to the proof, as in `entries`.
-        let _ = self.table.bytes();
-        noted_or_all(&self.table, Entries::SRAT_START, self.searched)
-    }
 }
 
 /// A PPTT (ACPI 6.5, 5.2.30). Contracts see its bytes.
 #[derive(Debug, Drop)]
 pub struct Pptt<'a> {
     table: Table<'a>,
-    /// The offsets of the entries that a search looks at, if they were noted.
-    searched: Option<&'a [u32]>,
 }
 
 impl<'a> Model for Pptt<'a> {
-    ghost use Rattle.std.specs.Prelude.{◌≡◌, ℕ, List, IfSome};
-    ghost use Rattle.acpi_base.specs.Pptt.{pptt_contents};
-    ghost use Rattle.acpi_read.specs.SearchedEntries.{searched_in_pptt, searched_offsets};
+    ghost use Rattle.std.specs.Prelude.{ℕ, List};
 
     ghost Value = { List ℕ };
 
     ghost view = { λ pptt. pptt.table };
-
-    ghost invariant = { λ pptt. IfSome pptt.searched (λ offsets. offsets.now
-        ≡ searched_offsets searched_in_pptt (pptt_contents pptt.table).entries) };
 }
 
 impl<'a> Pptt<'a> {
@@ -267,10 +169,7 @@ impl<'a> Pptt<'a> {
     pub fn of(table: Table<'a>) -> Pptt<'a>
         ensures { result ≡ table.entry }
     {
-        Pptt {
-            table,
-            searched: None,
-        }
+        Pptt { table }
     }
 
     /// The fields of its header.
@@ -291,30 +190,5 @@ impl<'a> Pptt<'a> {
         // 2^32 bytes.
         let _ = self.table.bytes();
         entries_from(self.table.copied(), Entries::PPTT_START).into()
-    }
-
-    /// The same view, with the offsets of the entries that a search looks at: `searched_entries` then returns only these.
-    /// No byte is read.
-    pub fn with_searched(self, offsets: &'a [u32]) -> Pptt<'a>
-        requires { offsets.now ≡ searched_offsets searched_in_pptt (pptt_contents self).entries }
-        ensures { result ≡ self.entry }
-    {
-        Pptt {
-            table: self.table,
-            searched: Some(offsets),
-        }
-    }
-
-    /// Those of its entries that a search by contents looks at (`TableEntry::is_searched`), if their offsets were
-    /// noted; otherwise all of them.
-    #[tactic(auto, unfolding(acpi_base::specs::Pptt::pptt_contents))]
-    pub fn searched_entries(&self) -> TypedEntries<'a, PpttEntry<'a>>
-        ensures entries { AreSearched searched_in_pptt (pptt_contents self.now).entries
-            (entries_read_by pptt_entry result.entries.entries) }
-        ensures size { length self.now < 2 ^ 32 }
-    {
-        // Makes the invariant of `Table` available to the proof, as in `entries`. A table has at least 36 bytes.
-        let _ = self.table.bytes();
-        noted_or_all(&self.table, Entries::PPTT_START, self.searched)
     }
 }

@@ -58,7 +58,6 @@ pub mod laws;
 mod layout;
 mod listed;
 mod madt;
-mod noted_entries;
 mod pptt;
 mod root;
 mod rsdp;
@@ -82,7 +81,6 @@ pub use madt::{
     AddressOverride, GICC, GICC_LEN, IoApic, LocalApic, LocalNmi, MADT_FLAGS,
     MADT_LOCAL_APIC_ADDRESS, MadtEntry, NmiSource, Override, X2apic, X2apicNmi,
 };
-pub use noted_entries::NotedEntries;
 pub use pptt::{Cache24, Cache28, NodeHead, PpttEntry};
 pub use root::{Root, RootPlace, named_root};
 pub use rsdp::Rsdp;

@@ -81,7 +81,6 @@ impl<'a> MadtEntry<'a> {
 }
 
 impl<'a> TableEntry<'a> for MadtEntry<'a> {
-    ghost use Rattle.acpi_read.specs.SearchedEntries.{searched_in_madt};
     ghost use Rattle.acpi_base.specs.Madt as said;
     ghost use Rattle.acpi_base.specs.Madt.{madt_entry};
     ghost use Rattle.acpi_read.specs.Madts.{madt_value, IsWholeEntry};
@@ -94,18 +93,8 @@ impl<'a> TableEntry<'a> for MadtEntry<'a> {
 
     ghost IsRead = { IsWholeEntry };
 
-    ghost searched = { searched_in_madt };
-
     #[inline(always)]
     fn of(bytes: &'a [u8]) -> MadtEntry<'a> {
         MadtEntry::read(bytes).unwrap_or(MadtEntry::Opaque(bytes))
-    }
-
-    #[inline(always)]
-    fn is_searched(&self) -> bool {
-        match self {
-            MadtEntry::Opaque(bytes) => bytes.len() >= GICC_LEN && bytes[0] == GICC,
-            _ => true,
-        }
     }
 }

@@ -62,7 +62,6 @@ impl<'a> PpttEntry<'a> {
 }
 
 impl<'a> TableEntry<'a> for PpttEntry<'a> {
-    ghost use Rattle.acpi_read.specs.SearchedEntries.{searched_in_pptt};
     ghost use Rattle.acpi_base.specs.Pptt as said;
     ghost use Rattle.acpi_base.specs.Pptt.{pptt_entry};
     ghost use Rattle.acpi_read.specs.Pptts.{pptt_value, HasReferences, IsWholeEntry};
@@ -75,15 +74,8 @@ impl<'a> TableEntry<'a> for PpttEntry<'a> {
 
     ghost IsRead = { λ entry. HasReferences entry × IsWholeEntry entry };
 
-    ghost searched = { searched_in_pptt };
-
     #[inline(always)]
     fn of(bytes: &'a [u8]) -> PpttEntry<'a> {
         PpttEntry::read(bytes).unwrap_or(PpttEntry::Opaque(bytes))
-    }
-
-    #[inline(always)]
-    fn is_searched(&self) -> bool {
-        !matches!(self, PpttEntry::Opaque(_))
     }
 }

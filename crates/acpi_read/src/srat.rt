@@ -58,7 +58,6 @@ impl<'a> SratEntry<'a> {
 }
 
 impl<'a> TableEntry<'a> for SratEntry<'a> {
-    ghost use Rattle.acpi_read.specs.SearchedEntries.{searched_in_srat};
     ghost use Rattle.acpi_base.specs.Srat as said;
     ghost use Rattle.acpi_base.specs.Srat.{srat_entry};
     ghost use Rattle.acpi_read.specs.Srats.{srat_value, IsWholeEntry};
@@ -71,19 +70,8 @@ impl<'a> TableEntry<'a> for SratEntry<'a> {
 
     ghost IsRead = { IsWholeEntry };
 
-    ghost searched = { searched_in_srat };
-
     #[inline(always)]
     fn of(bytes: &'a [u8]) -> SratEntry<'a> {
         SratEntry::read(bytes).unwrap_or(SratEntry::Opaque(bytes))
-    }
-
-    #[inline(always)]
-    fn is_searched(&self) -> bool {
-        match self {
-            SratEntry::Opaque(bytes) => bytes.len() == GICC_AFFINITY_LEN
-                && bytes[0] == GICC_AFFINITY,
-            _ => true,
-        }
     }
 }

@@ -7,7 +7,6 @@ mod header;
 mod layout;
 mod listed;
 mod madt;
-mod noted_entries;
 mod pptt;
 mod root;
 mod rsdp;

@@ -1,8 +1,8 @@
 use crate::samples::{expect_layout, is_entry};
 use acpi_base::Code;
 use acpi_read::{
-    AddressOverride, IoApic, Layout, LocalApic, LocalNmi, MadtEntry, NmiSource, Override,
-    TableEntry, X2apic, X2apicNmi,
+    AddressOverride, IoApic, Layout, LocalApic, LocalNmi, MadtEntry, NmiSource, Override, X2apic,
+    X2apicNmi,
 };
 use std::process::Abort;
 use std::test::*;
@@ -140,18 +140,4 @@ fn other_types_are_opaque_and_other_lengths_refused(rt: HostRuntime) {
     }
     // The bytes of a Local APIC NMI, but with the length byte 8.
     assert!(rt; LocalNmi::read(&[0x04, 0x08, 0xa1, 0xb1, 0xb2, 0xc1]).is_none());
-}
-
-#[test]
-fn a_search_passes_over_opaque_entries_except_for_giccs(rt: HostRuntime) {
-    let address = 0xa8a7_a6a5_a4a3_a2a1;
-    assert!(rt; MadtEntry::AddressOverride(AddressOverride { address }).is_searched());
-    let mut bytes = [0; 40];
-    bytes[0] = 11;
-    assert!(rt; MadtEntry::Opaque(&bytes).is_searched());
-    assert!(rt; !MadtEntry::Opaque(&bytes[..39]).is_searched());
-    for number in [0, 1, 7, 9, 12, 0x80] {
-        bytes[0] = number;
-        assert!(rt; !MadtEntry::Opaque(&bytes).is_searched());
-    }
 }

@@ -1,6 +1,6 @@
 use crate::samples::{expect_layout, is_entry};
 use acpi_base::Code;
-use acpi_read::{Cache24, Cache28, Layout, NodeHead, PpttEntry, TableEntry};
+use acpi_read::{Cache24, Cache28, Layout, NodeHead, PpttEntry};
 use std::process::Abort;
 use std::test::*;
 
@@ -117,12 +117,5 @@ fn other_types_are_opaque_and_other_lengths_refused(rt: HostRuntime) {
             read == opaque.ok_or(Code::PpttEntryLength),
             "{bytes:?}: {read:?}"
         );
-    }
-}
-
-#[test]
-fn a_search_passes_over_opaque_entries(rt: HostRuntime) {
-    for number in [0, 1, 2, 0x80] {
-        assert!(rt; !PpttEntry::Opaque(&[number, 2]).is_searched());
     }
 }

@@ -1,6 +1,6 @@
 use crate::samples::{expect_layout, is_entry};
 use acpi_base::Code;
-use acpi_read::{ApicDomain, Layout, MemoryRange, SratEntry, TableEntry, X2apicDomain};
+use acpi_read::{ApicDomain, Layout, MemoryRange, SratEntry, X2apicDomain};
 use std::process::Abort;
 use std::test::*;
 
@@ -87,17 +87,4 @@ fn other_types_are_opaque_and_other_lengths_refused(rt: HostRuntime) {
         assert!(rt; X2apicDomain::read(bytes).is_none(), "{bytes:?}");
     }
     assert!(rt; ApicDomain::read(&LONG[..16]).is_none());
-}
-
-#[test]
-fn a_search_passes_over_opaque_entries_except_for_gicc_affinities(rt: HostRuntime) {
-    let mut bytes = [0; 19];
-    bytes[0] = 3;
-    assert!(rt; SratEntry::Opaque(&bytes[..18]).is_searched());
-    assert!(rt; !SratEntry::Opaque(&bytes[..17]).is_searched());
-    assert!(rt; !SratEntry::Opaque(&bytes).is_searched());
-    for number in [0, 1, 2, 4, 0x80] {
-        bytes[0] = number;
-        assert!(rt; !SratEntry::Opaque(&bytes[..18]).is_searched());
-    }
 }

@@ -3,16 +3,13 @@ use Rattle.std.specs.Prelude.{⊤}
 use Rattle.acpi_base.specs.Pptt.{pptt_contents, parent_of}
 use Rattle.acpi_read.specs.Pptts.{pptt_value}
 use Rattle.acpi_lint.proofs.LeafNumbers.{are_parents}
-use Rattle.acpi_read.specs.SearchedEntries.{searched_in_pptt}
-use Rattle.acpi_check.proofs.EntryPasses.Searched.{collected_same}
-use Rattle.acpi_lint.proofs.NotSearched.{parent_none}
+use Rattle.acpi_check.proofs.EntryPasses.Collecting.{gathered_same}
 use Rattle.acpi_lint.proofs.leaves.parents_of.Goals as goal
 
 pub returns-clause-all : goal.returns-clause-all
 returns-clause-all c =
     are_parents (pptt_contents c.args.pptt.now) c.in_ok-parents.parents.items c.sorted_unique.result
-    (collected_same {X = ⊤} pptt_value (λ s. parent_of s.entry) searched_in_pptt _ _ _ (Ok c.in_ok-parents.parents)
+    (gathered_same {X = ⊤} pptt_value (λ s. parent_of s.entry) _ (Ok c.in_ok-parents.parents)
     c.in_ok-parents.ensures
-    c.searched_entries.ensures.entries
-    (λ s passed. parent_none s.entry passed) (λ at picked answers. search rules) (λ found is. is))
+    c.entries.ensures.entries (λ at picked answers. search rules) (λ found is. is))
     c.sorted_unique.ensures.same

@@ -5,14 +5,11 @@ use Rattle.acpi_check.proofs.EntryPasses.Kept.{pptt_rising}
 use Rattle.acpi_lint.specs.Leaves.{unnamed_id, IsUnnamedAt}
 use Rattle.acpi_lint.proofs.CollectedNumbers.{gathered_numbers}
 use Rattle.acpi_lint.proofs.LeafNumbers.{read_unnamed}
-use Rattle.acpi_read.specs.SearchedEntries.{searched_in_pptt}
-use Rattle.acpi_lint.proofs.NotSearched.{unnamed_none}
 use Rattle.acpi_lint.proofs.leaves.unnamed_leaves.Goals as goal
 
 pub returns : goal.returns
 returns c =
-    gathered_numbers pptt_value (λ s. unnamed_id c.in_ok-parents.parents.items s.offset s.entry) searched_in_pptt
-    (IsUnnamedAt (pptt_contents c.args.pptt.now)) 36 _ _ c.collected.result (pptt_rising c.args.pptt.now)
+    gathered_numbers pptt_value (λ s. unnamed_id c.in_ok-parents.parents.items s.offset s.entry)
+    (IsUnnamedAt (pptt_contents c.args.pptt.now)) 36 c.collected.result (pptt_rising c.args.pptt.now)
     (read_unnamed (pptt_contents c.args.pptt.now) c.in_ok-parents.parents.items c.in_ok-parents.ensures.all)
-    c.collected.ensures c.searched_entries.ensures.entries
-    (λ s passed. unnamed_none c.in_ok-parents.parents.items s.offset s.entry passed) (λ at picked answers. search rules)
+    c.collected.ensures c.entries.ensures.entries (λ at picked answers. search rules)

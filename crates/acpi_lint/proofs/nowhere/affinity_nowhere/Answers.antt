@@ -6,11 +6,9 @@ use Rattle.acpi_base.specs.Srat.{srat_contents}
 use Rattle.acpi_read.specs.Srats.{srat_value}
 use Rattle.acpi_check.proofs.EntryPasses.Kept.{srat_rising}
 use Rattle.acpi_lint.specs.UnknownNumbers.{IsUnknownAffinity}
+use Rattle.acpi_lint.proofs.FirstEntries.{least_of_entries}
 use Rattle.acpi_lint.proofs.LeastPlaces.{least_as}
 use Rattle.acpi_lint.proofs.UnknownOnes.{unknown_of_two}
-use Rattle.acpi_read.specs.SearchedEntries.{searched_in_srat}
-use Rattle.acpi_lint.proofs.SearchedOnes.{least_same}
-use Rattle.acpi_lint.proofs.NotSearched.{no_number, placed_apic_id_none, placed_uid_none}
 use Rattle.acpi_lint.proofs.nowhere.affinity_nowhere.Goals as goal
 
 pub returns : goal.returns
@@ -26,10 +24,6 @@ returns c =
     (unknown_of_two placed_apic_id placed_uid (IsNamed apic_id_of others) (IsNamed uid_of others) entries ids uids found
     (rw (← c.as_slice-ids.ensures.value) at c.in_ok-ids.ensures)
     (rw (← c.as_slice-uids.ensures.value) at c.in_ok-uids.ensures)
-    (least_same srat_value (IsUnknownAffinity ids uids) searched_in_srat 48 _ _ found c.first_picked.ensures
-    c.searched_entries.ensures.entries
-    (srat_rising c.args.srat.now)
-    (λ o e passed other point wrong. elim wrong [
-      | inl unknown ↦ no_number (placed_apic_id_none e passed) unknown.0
-      | inr unknown ↦ no_number (placed_uid_none e passed) unknown.0
-    ]) (λ at picked here answers. search rules)))
+    (least_of_entries srat_value (IsUnknownAffinity ids uids) 48 found c.first_picked.ensures
+    c.entries.ensures.entries
+    (srat_rising c.args.srat.now) (λ at picked here answers. search rules)))

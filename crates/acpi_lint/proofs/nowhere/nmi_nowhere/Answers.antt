@@ -6,11 +6,9 @@ use Rattle.acpi_base.specs.Madt.{madt_contents}
 use Rattle.acpi_read.specs.Madts.{madt_value}
 use Rattle.acpi_check.proofs.EntryPasses.Kept.{madt_rising}
 use Rattle.acpi_lint.specs.UnknownNumbers.{IsUnknownOf}
+use Rattle.acpi_lint.proofs.FirstEntries.{least_of_entries}
 use Rattle.acpi_lint.proofs.LeastPlaces.{least_as}
 use Rattle.acpi_lint.proofs.UnknownOnes.{unknown_named}
-use Rattle.acpi_read.specs.SearchedEntries.{searched_in_madt}
-use Rattle.acpi_lint.proofs.SearchedOnes.{least_same}
-use Rattle.acpi_lint.proofs.NotSearched.{no_number, nmi_uid_none}
 use Rattle.acpi_lint.proofs.nowhere.nmi_nowhere.Goals as goal
 
 pub returns : goal.returns
@@ -23,7 +21,6 @@ returns c =
     (λ at other point (_, named, none, unused). (named, none, unused))
     (unknown_named nmi_uid (IsNamed uid_of entries) entries known found
     (rw (← c.as_slice-uids.ensures.value) at c.in_ok-uids.ensures)
-    (least_same madt_value (IsUnknownOf nmi_uid known) searched_in_madt 44 _ _ found c.first_picked.ensures
-    c.searched_entries.ensures.entries (madt_rising c.args.madt.now)
-    (λ o e passed other point wrong. no_number (nmi_uid_none e passed) wrong.0) (λ at picked here answers. search
+    (least_of_entries madt_value (IsUnknownOf nmi_uid known) 44 found c.first_picked.ensures
+    c.entries.ensures.entries (madt_rising c.args.madt.now) (λ at picked here answers. search
     rules)))

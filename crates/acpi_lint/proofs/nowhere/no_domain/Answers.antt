@@ -6,11 +6,9 @@ use Rattle.acpi_base.specs.Srat.{srat_contents}
 use Rattle.acpi_read.specs.Madts.{madt_value}
 use Rattle.acpi_check.proofs.EntryPasses.Kept.{madt_rising}
 use Rattle.acpi_lint.specs.UnknownNumbers.{IsUnplaced}
+use Rattle.acpi_lint.proofs.FirstEntries.{least_of_entries}
 use Rattle.acpi_lint.proofs.LeastPlaces.{least_as}
 use Rattle.acpi_lint.proofs.UnknownOnes.{unknown_of_two}
-use Rattle.acpi_read.specs.SearchedEntries.{searched_in_madt}
-use Rattle.acpi_lint.proofs.SearchedOnes.{least_same}
-use Rattle.acpi_lint.proofs.NotSearched.{no_number, apic_id_on_none, gicc_uid_on_none}
 use Rattle.acpi_lint.proofs.nowhere.no_domain.Goals as goal
 
 pub returns : goal.returns
@@ -28,10 +26,6 @@ returns c =
     uids found
     (rw (← c.as_slice-ids.ensures.value) at c.in_ok-ids.ensures)
     (rw (← c.as_slice-uids.ensures.value) at c.in_ok-uids.ensures)
-    (least_same madt_value (IsUnplaced ids uids) searched_in_madt 44 _ _ found c.first_picked.ensures
-    c.searched_entries.ensures.entries
-    (madt_rising c.args.madt.now)
-    (λ o e passed other point wrong. elim wrong [
-      | inl unknown ↦ no_number (apic_id_on_none e passed) unknown.0
-      | inr unknown ↦ no_number (gicc_uid_on_none e passed) unknown.0
-    ]) (λ at picked here answers. search rules)))
+    (least_of_entries madt_value (IsUnplaced ids uids) 44 found c.first_picked.ensures
+    c.entries.ensures.entries
+    (madt_rising c.args.madt.now) (λ at picked here answers. search rules)))

@@ -6,11 +6,9 @@ use Rattle.acpi_base.specs.Pptt.{pptt_contents}
 use Rattle.acpi_read.specs.Madts.{madt_value}
 use Rattle.acpi_check.proofs.EntryPasses.Kept.{madt_rising}
 use Rattle.acpi_lint.specs.UnknownNumbers.{IsUnknownOf}
+use Rattle.acpi_lint.proofs.FirstEntries.{least_of_entries}
 use Rattle.acpi_lint.proofs.LeastPlaces.{least_as}
 use Rattle.acpi_lint.proofs.UnknownOnes.{unknown_named, none_known, some_known}
-use Rattle.acpi_read.specs.SearchedEntries.{searched_in_madt}
-use Rattle.acpi_lint.proofs.SearchedOnes.{least_same}
-use Rattle.acpi_lint.proofs.NotSearched.{no_number, uid_on_none}
 use Rattle.acpi_lint.proofs.nowhere.no_leaf.Goals as goal
 
 pub returns-then-is_empty : goal.returns-then-is_empty
@@ -30,8 +28,7 @@ returns c =
     least_as found (λ at other point (named, none, unused). (asked, some, named, none, unused))
     (λ at other point (_, _, named, none, unused). (named, none, unused))
     (unknown_named uid_on IsId entries known found (rw (← c.as_slice-ids.ensures.value) at c.in_ok-ids.ensures)
-    (least_same madt_value (IsUnknownOf uid_on known) searched_in_madt 44 _ _ found c.first_picked.ensures
-    c.searched_entries.ensures.entries
-    (madt_rising c.args.madt.now)
-    (λ o e passed other point wrong. no_number (uid_on_none e passed) wrong.0) (λ at picked here answers. search
+    (least_of_entries madt_value (IsUnknownOf uid_on known) 44 found c.first_picked.ensures
+    c.entries.ensures.entries
+    (madt_rising c.args.madt.now) (λ at picked here answers. search
     rules)))

@@ -27,7 +27,7 @@ OfMadt m q madt at other point = HasListed m q.rsdp srat_signature (λ srat. OfT
 pub returns-in_default : goal.returns-in_default
 returns-in_default c = λ m are.
     let q = c.args.policy.now in
-    none_long m q.rsdp madt_signature 44 (OfMadt m q) c.args.tables.now.noted.madt (are.listed kind.Madt)
+    none_long m q.rsdp madt_signature 44 (OfMadt m q) c.args.tables.now.madt (are.listed kind.Madt)
     c.in_default.ensures
     (λ whole less at other point (srat, listed, fault).
     (let (o, (e, stands, enabled)) = fault.0 in madts.none_stands whole less o e stands))
@@ -37,7 +37,7 @@ returns-in_default-srat c = λ m are.
     let q = c.args.policy.now in
     let madt = c.in-Some.madt in
     of_found m q.rsdp madt_signature (OfMadt m q) None (are.listed kind.Madt) c.in-Some.ensures.0
-    (none_long m q.rsdp srat_signature 48 (OfTables q madt) c.args.tables.now.noted.srat (are.listed kind.Srat)
+    (none_long m q.rsdp srat_signature 48 (OfTables q madt) c.args.tables.now.srat (are.listed kind.Srat)
     c.in_default-srat.ensures
     (λ whole less at other point (enabled, d, f, (e, stands, puts), _, _, _). srats.none_stands whole less at e stands))
 

@@ -4,11 +4,8 @@ use Rattle.acpi_read.specs.Pptts.{pptt_value}
 use Rattle.acpi_check.proofs.EntryPasses.Kept.{pptt_rising}
 use Rattle.acpi_lint.specs.Places.{FindsLeast}
 use Rattle.acpi_lint.specs.References.{NamesNoLink}
-use Rattle.acpi_lint.proofs.FirstEntries.{IsFaultAt}
+use Rattle.acpi_lint.proofs.FirstEntries.{IsFaultAt, least_of_entries}
 use Rattle.acpi_lint.proofs.NamedPlaces.{links_dangle}
-use Rattle.acpi_read.specs.SearchedEntries.{searched_in_pptt}
-use Rattle.acpi_lint.proofs.SearchedOnes.{least_same}
-use Rattle.acpi_lint.proofs.NotSearched.{no_number, linked_none}
 use Rattle.acpi_lint.proofs.references.dangling_link.Goals as goal
 
 pub returns : goal.returns
@@ -16,9 +13,8 @@ returns c =
     let offsets = c.in_ok-offsets.offsets in
     let said = pptt_contents c.args.pptt.now in
     let found : FindsLeast (IsFaultAt (NamesNoLink c.args.link offsets) said.entries) c.first_picked.result =
-    least_same pptt_value (NamesNoLink c.args.link offsets) searched_in_pptt 36 _ _ c.first_picked.result
+    least_of_entries pptt_value (NamesNoLink c.args.link offsets) 36 c.first_picked.result
     c.first_picked.ensures
-    c.searched_entries.ensures.entries (pptt_rising c.args.pptt.now)
-    (λ o e passed other point wrong. no_number (linked_none c.args.link e passed) wrong.0) (λ at picked here answers.
+    c.entries.ensures.entries (pptt_rising c.args.pptt.now) (λ at picked here answers.
     search rules) in
     links_dangle c.args.link said offsets c.first_picked.result c.in_ok-offsets.ensures found

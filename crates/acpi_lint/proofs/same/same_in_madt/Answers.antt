@@ -1,23 +1,21 @@
 use Rattle.std.proofs.Common.{rules, Ok}
 use Rattle.std.specs.Prelude.{⊤}
-use Rattle.acpi_read.specs.SearchedEntries.{searched_in_madt}
 use Rattle.acpi_lint.specs.EntryNumbers.{madt_number}
 use Rattle.acpi_lint.proofs.CollectedNumbers.{madt_numbers, found_twice}
-use Rattle.acpi_lint.proofs.NotSearched.{madt_number_none}
 use Rattle.acpi_lint.proofs.same.same_in_madt.Goals as goal
 
 pub first_repeated-requires : goal.first_repeated-requires
 first_repeated-requires c =
     let are =
-    madt_numbers {X = ⊤} (madt_number c.args.number) searched_in_madt c.args.madt.now _ (Ok c.in_ok-numbers.numbers)
-    c.in_ok-numbers.ensures c.searched_entries.ensures.entries (madt_number_none c.args.number)
+    madt_numbers {X = ⊤} (madt_number c.args.number) c.args.madt.now (Ok c.in_ok-numbers.numbers)
+    c.in_ok-numbers.ensures c.entries.ensures.entries
     (λ at picked answers. search rules) in
     are.placed
 
 pub returns : goal.returns
 returns c =
     found_twice c.in_ok-numbers.numbers.items c.first_repeated.result
-    (madt_numbers {X = ⊤} (madt_number c.args.number) searched_in_madt c.args.madt.now _ (Ok c.in_ok-numbers.numbers)
-    c.in_ok-numbers.ensures c.searched_entries.ensures.entries (madt_number_none c.args.number)
+    (madt_numbers {X = ⊤} (madt_number c.args.number) c.args.madt.now (Ok c.in_ok-numbers.numbers)
+    c.in_ok-numbers.ensures c.entries.ensures.entries
     (λ at picked answers. search rules))
     c.first_repeated.ensures

@@ -2,9 +2,7 @@ use Rattle.std.proofs.Common.{rules, Ok}
 use Rattle.std.specs.Prelude.{⊤}
 use Rattle.acpi_base.specs.Srat.{srat_contents}
 use Rattle.acpi_read.specs.Srats.{srat_value}
-use Rattle.acpi_read.specs.SearchedEntries.{searched_in_srat}
-use Rattle.acpi_lint.proofs.NotSearched.{domain_of_uid_none}
-use Rattle.acpi_check.proofs.EntryPasses.Searched.{collected_same}
+use Rattle.acpi_check.proofs.EntryPasses.Collecting.{gathered_same}
 use Rattle.acpi_lint.specs.EntryNumbers.{domain_of_uid}
 use Rattle.acpi_lint.proofs.CollectedNumbers.{each_ok}
 use Rattle.acpi_lint.proofs.UidDomains.{srat_ones, found_domains}
@@ -14,8 +12,7 @@ pub returns : goal.returns
 returns c =
     each_ok c.first_unlike.result (λ found. found_domains (srat_contents c.args.srat.now) c.in_ok-domains.domains.items
     found (srat_ones c.args.srat.now)
-    (collected_same {X = ⊤} srat_value (λ s. domain_of_uid s.offset s.entry) searched_in_srat _ _ _ (Ok
+    (gathered_same {X = ⊤} srat_value (λ s. domain_of_uid s.offset s.entry) _ (Ok
     c.in_ok-domains.domains)
-    c.in_ok-domains.ensures c.searched_entries.ensures.entries
-    (λ s passed. domain_of_uid_none s.offset s.entry passed) (λ at picked answers. search rules) (λ found is. is)))
+    c.in_ok-domains.ensures c.entries.ensures.entries (λ at picked answers. search rules) (λ found is. is)))
     c.first_unlike.ensures

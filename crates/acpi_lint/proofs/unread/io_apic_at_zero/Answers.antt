@@ -4,20 +4,16 @@ use Rattle.acpi_read.specs.Madts.{madt_value}
 use Rattle.acpi_check.proofs.EntryPasses.Kept.{madt_rising}
 use Rattle.acpi_lint.specs.OwnAdvice.{IsZeroHere}
 use Rattle.acpi_lint.specs.Places.{FindsLeast}
-use Rattle.acpi_lint.proofs.FirstEntries.{IsFaultAt}
+use Rattle.acpi_lint.proofs.FirstEntries.{IsFaultAt, least_of_entries}
 use Rattle.acpi_lint.proofs.LeastPlaces.{least_as}
-use Rattle.acpi_read.specs.SearchedEntries.{searched_in_madt}
-use Rattle.acpi_lint.proofs.SearchedOnes.{least_same}
-use Rattle.acpi_lint.proofs.NotSearched.{no_number, io_apic_address_none}
 use Rattle.acpi_lint.proofs.unread.io_apic_at_zero.Goals as goal
 
 pub returns : goal.returns
 returns c =
     let found : FindsLeast (IsFaultAt IsZeroHere (madt_contents c.args.madt.now).entries) c.first_picked.result =
-    least_same madt_value IsZeroHere searched_in_madt 44 _ _ c.first_picked.result c.first_picked.ensures
-    c.searched_entries.ensures.entries
-    (madt_rising c.args.madt.now)
-    (λ o e passed other point (zero, unused). no_number (io_apic_address_none e passed) zero) (λ at picked here
+    least_of_entries madt_value IsZeroHere 44 c.first_picked.result c.first_picked.ensures
+    c.entries.ensures.entries
+    (madt_rising c.args.madt.now) (λ at picked here
     answers. search rules) in
     least_as c.first_picked.result (λ at other point (e, here, (zero, unused)). ((e, here, zero), unused))
     (λ at other point ((e, here, zero), unused). (e, here, (zero, unused))) found

@@ -5,8 +5,6 @@ pub returns : goal.returns
 returns c =
     let slots = c.in_ok-slots.ensures c.args.rsdp c.whole-root.ensures in
     let firsts = (rw c.deref.ensures.value at c.of-firsts.ensures) c.args.image.now c.args.rsdp slots in
-    rw c.in_ok-noted.ensures
-    (are_whole _ c.whole-root.ensures slots firsts (c.found.ensures c.args.rsdp firsts)
-    (c.found-madt.ensures c.args.rsdp firsts) (c.found-srat.ensures c.args.rsdp firsts)
-    (c.found-2.ensures c.args.rsdp firsts) (c.found-pptt.ensures c.args.rsdp firsts)
-    (record { madt = c.madt-madt_types.ensures; srat = c.srat-srat_types.ensures }))
+    are_whole _ c.whole-root.ensures slots firsts (c.found.ensures c.args.rsdp firsts)
+    (c.found-2.ensures c.args.rsdp firsts) (c.found-3.ensures c.args.rsdp firsts)
+    (c.found-4.ensures c.args.rsdp firsts) (c.found-5.ensures c.args.rsdp firsts)
