@@ -45,7 +45,8 @@ placed_line p (Err address) e line ending fault short same has memory =
 
 -- the same for what reading the line returned
 pub placed_result : {A : Type 0} (p : LineParser) (d e : Result Memory ℕ) (line : List ℕ) (ending : ℕ)
-    (result : Result A TextFault) → is_too_long (length line) (p.through + length line + ending) ≡ false → OnErr result (e ≡ d)
+    (result : Result A TextFault) → is_too_long (length line) (p.through + length line + ending) ≡ false
+    → OnErr result (e ≡ d)
     → IfErr result (λ fault. fault ≡ refusal.Memory → HasRoomFor p.next line)
     → IfErr result (λ fault. told e fault ≡ refusal.Memory → IsPlacedData (judged_by p d) line ending)
 placed_result p d e line ending (Ok x) short same has = tt
@@ -132,7 +133,8 @@ one_more_line (Ok r) line lines = refl
 one_more_line (Err fault) line lines = refl
 
 -- The lines of a text are read on from `middle` at `rest` as they were from `first` at its start.
-pub record GoesOn (first : Result Reading TextFault) (text : List ℕ) (middle : Result Reading TextFault) (rest : List ℕ) : Type 0 where
+pub record GoesOn (first : Result Reading TextFault) (text : List ℕ)
+    (middle : Result Reading TextFault) (rest : List ℕ) : Type 0 where
   pub lines : on_ok middle (λ r. read_lines r (ended_lines rest)) ≡ on_ok first (λ r. read_lines r (ended_lines text))
   pub last : last_line rest ≡ last_line text
   pub found : HasPlacedData middle rest → HasPlacedData first text

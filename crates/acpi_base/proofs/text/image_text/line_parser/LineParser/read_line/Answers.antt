@@ -11,7 +11,8 @@ returns-in-Some-clause-memory c =
     let line = c.args.line.now in
     let line_fits = c.if-line-gt-MAX_LINE.false in
     let text_fits = c.if-through.false in
-    let short : is_too_long (length line) (p.through + length line + c.args.ending) ≡ false = grind (arith, nat_tests) in
+    let short : is_too_long (length line) (p.through + length line + c.args.ending) ≡ false =
+    grind (arith, nat_tests) in
     placed_result p p.image c.put_data.new.self.image line c.args.ending c.put_data.result short c.put_data.ensures.same
     (row_has p.next line c.in-Some.row c.put_data.result c.in-Some.ensures c.put_data.ensures.memory)
 
@@ -21,8 +22,10 @@ returns-in-Ok-clause-memory c =
     let line = c.args.line.now in
     let line_fits = c.if-line-gt-MAX_LINE.false in
     let text_fits = c.if-through.false in
-    let short : is_too_long (length line) (p.through + length line + c.args.ending) ≡ false = grind (arith, nat_tests) in
-    placed_result p p.image c.take_line.new.self.image line c.args.ending c.take_line.result short c.take_line.ensures.same
+    let short : is_too_long (length line) (p.through + length line + c.args.ending) ≡ false =
+    grind (arith, nat_tests) in
+    placed_result p p.image c.take_line.new.self.image line c.args.ending c.take_line.result short
+    c.take_line.ensures.same
     (form_has p.next line _ c.in-Ok.form c.take_line.result
     (ap (line_with c.in-Ok.form) c.deref.ensures.value ∙ c.in-Ok.ensures.ok) c.take_line.ensures.memory)
 
@@ -32,6 +35,7 @@ returns-in-Err-clause-memory c =
     let line = c.args.line.now in
     let line_fits = c.if-line-gt-MAX_LINE.false in
     let text_fits = c.if-through.false in
-    let short : is_too_long (length line) (p.through + length line + c.args.ending) ≡ false = grind (arith, nat_tests) in
+    let short : is_too_long (length line) (p.through + length line + c.args.ending) ≡ false =
+    grind (arith, nat_tests) in
     placed_line p p.image p.image line c.args.ending c.memory_fault.result short refl
     (λ memory. data_has p.next line c.in-Err.error.count c.in-Err.ensures.err (c.memory_fault.ensures.memory memory))
