@@ -133,8 +133,8 @@ one_more_line (Ok r) line lines = refl
 one_more_line (Err fault) line lines = refl
 
 -- The lines of a text are read on from `middle` at `rest` as they were from `first` at its start.
-pub record GoesOn (first : Result Reading TextFault) (text : List ℕ) (middle : Result Reading TextFault)
-    (rest : List ℕ) : Type 0 where
+pub record GoesOn (first : Result Reading TextFault) (text : List ℕ)
+    (middle : Result Reading TextFault) (rest : List ℕ) : Type 0 where
   pub lines : on_ok middle (λ r. read_lines r (ended_lines rest)) ≡ on_ok first (λ r. read_lines r (ended_lines text))
   pub last : last_line rest ≡ last_line text
   pub found : HasPlacedData middle rest → HasPlacedData first text

@@ -1,12 +1,11 @@
 //! What one line of image text says.
 
-ghost use Rattle.std.specs.Prelude.{◌≡◌, ◌≤◌, ◌<◌, ◌++◌, ◌∷◌, ℕ, List, [], length, IsOk, OnOk, IfOk, IfErr, IfSome, take_while};
+ghost use Rattle.std.specs.Prelude.{◌≡◌, ◌≤◌, ◌<◌, ℕ, List, [], length, IfOk, IfErr, IfSome, MatchOption, take_while};
 ghost use Rattle.std.specs.List.{list_all};
-ghost use Rattle.acpi_base.specs.Text.ImageText.{digit_of, is_blank, is_hex_digit, without_cr, without_comment, skip_blanks, hex_number, address_line_of, data_from, line_of};
+ghost use Rattle.acpi_base.specs.Text.ImageText.{Bad, digit_of, is_blank, is_hex_digit, without_cr, without_comment, skip_blanks, hex_number, address_line_of, data_from, line_of};
 ghost use Rattle.acpi_base.specs.Text.Lines.{IsData, data_line, line_with};
 
 use super::digit::digit_value;
-use std::alloc::AllocError;
 
 /// What a line says.
 #[derive(Clone, Copy)]
@@ -114,18 +113,29 @@ fn parse_address(rest: &[u8]) -> Form
     Form::Address(number_value(&rest[..count]))
 }
 
-/// Appends the byte, unless memory has run out for one before it.
-fn push_after(
-    pushed: Result<(), AllocError>,
-    bytes: &mut Vec<u8>,
-    byte: u8,
-) -> Result<(), AllocError>
-    ensures before { OnOk result (IsOk pushed) }
-    ensures ok { OnOk result (bytes.new.items ≡ bytes.old.items ++ byte ∷ []) }
+/// How many bytes the line has, which is pairs of hex digits, with any blanks between pairs and after the last; none for
+/// another line. Needs no memory.
+#[tactic(auto, unfolding(crate::specs::Text::ImageText::data_from), using(crate::proofs::Texts::LineParsing::one_more))]
+fn data_count(line: &[u8]) -> Option<usize>
+    ensures { MatchOption result (data_from [] None line.now ≡ Bad)
+        (IsData (data_from [] None line.now)) }
 {
-    pushed?;
-    bytes.push(byte)?;
-    Ok(())
+    let mut count = 0;
+    let mut rest = line;
+    while let Some((first, after)) = rest.split_first() {
+        if digit_value(*first).is_none() {
+            if !is_blank_byte(*first) {
+                return None;
+            }
+            rest = after;
+            continue;
+        }
+        let (second, behind) = after.split_first()?;
+        digit_value(*second)?;
+        count += 1;
+        rest = behind;
+    }
+    Some(count)
 }
 
 /// Whether the line is pairs of hex digits, with any blanks between pairs and after the last. If so, the
@@ -137,9 +147,6 @@ fn parse_data(line: &[u8], bytes: &mut Vec<u8>) -> Result<bool, NoMemory>
     ensures err { IfErr result (λ error. IsData (data_from [] None line.now) error.count) }
 {
     bytes.clear();
-    // If memory runs out for a byte, the rest of the line may still be bad.
-    let mut pushed = Ok(());
-    let mut count = 0;
     let mut rest = line;
     while let Some((first, after)) = rest.split_first() {
         let Some(high) = digit_value(*first) else {
@@ -155,12 +162,14 @@ fn parse_data(line: &[u8], bytes: &mut Vec<u8>) -> Result<bool, NoMemory>
         let Some(low) = digit_value(*second) else {
             return Ok(false);
         };
-        pushed = push_after(pushed, bytes, 16 * high + low);
-        count += 1;
+        if bytes.push(16 * high + low).is_err() {
+            // A bad line is refused for that, also if there is no memory.
+            return match data_count(line) {
+                Some(count) => Err(NoMemory { count }),
+                None => Ok(false),
+            };
+        }
         rest = behind;
-    }
-    if pushed.is_err() {
-        return Err(NoMemory { count });
     }
     Ok(true)
 }

@@ -10,6 +10,13 @@ returns c =
     (asks _ _ _ _ _ _ c.in_ok-image.ensures c.in_ok-policy.ensures.ok c.in_ok-add_inputs.ensures)
     c.in_ok-last.ensures.ok c.in_ok-verdict.ensures.verdict
 
+pub returns-in_err-add_inputs : goal.returns-in_err-add_inputs
+returns-in_err-add_inputs c =
+    let p = err_from_is_err_and c.from_residual-in_err-add_inputs.result c.from_residual-in_err-add_inputs.ensures.1 in
+    rw p.1 (runs_out _ (text_source c.args.text.now) p.0
+    (neither _ _ c.in_ok-policy.ensures.refused c.in_ok-last.ensures.refused)
+    (text_faultless c.args.text.now c.in_ok-image.image c.in_ok-image.ensures) p.2)
+
 pub returns-in_err-verdict : goal.returns-in_err-verdict
 returns-in_err-verdict c =
     let p = err_from_is_err_and c.from_residual-in_err-verdict.result c.from_residual-in_err-verdict.ensures.1 in

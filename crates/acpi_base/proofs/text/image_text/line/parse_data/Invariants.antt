@@ -1,14 +1,11 @@
-use Rattle.std.proofs.Common.{◌≡◌, ◌+◌, ◌≤◌, ℕ, List, [], length, vec_items}
-use Rattle.std.specs.Prelude.{None, OnOk}
+use Rattle.std.proofs.Common.{◌≡◌, length, [], vec_items}
+use Rattle.std.specs.Prelude.{None}
 use Rattle.acpi_base.specs.Text.ImageText.{data_from}
 use Rattle.acpi_base.proofs.text.image_text.line.parse_data.Given as goal
 
--- the line goes on so from the bytes so far, which the vector has unless memory has run out
+-- the line goes on so from the bytes so far
 abbrev pub invariant-loop-first : goal.invariant-loop-first
-invariant-loop-first l =
-    (spelled : List ℕ) × (data_from spelled None l.rest ≡ data_from [] None l.line)
-    × OnOk l.pushed (vec_items l.bytes ≡ spelled) × (length spelled ≡ l.count)
-    × (l.count + length l.rest ≤ length l.line)
+invariant-loop-first l = data_from (vec_items l.bytes) None l.rest ≡ data_from [] None l.line
 
 abbrev pub decreases-loop-first : goal.decreases-loop-first
 decreases-loop-first l = length l.rest
