@@ -12,7 +12,7 @@ use Rattle.acpi_base.specs.declared.rule.Rule.{Rule}
 use Rattle.acpi_base.specs.declared.rule.Rule.TheVariants as rule
 use Rattle.acpi_base.proofs.Lint.{one_first_advice}
 use Rattle.acpi_lint.specs.Places.{FindsLeast}
-use Rattle.acpi_lint.specs.StageFaults.{FindsAdviceOfNumber}
+use Rattle.acpi_lint.specs.StageFaults.{FindsFirstAdvice}
 use Rattle.acpi_lint.specs.declared.place.Place.{Place}
 use Rattle.acpi_lint.proofs.RisingLists.{IsUpTo, none_below, none_next, one_next}
 
@@ -70,15 +70,18 @@ AreAdviceBelow m q n advice = IsUpTo (IsFirstAdvice m q) (λ a. rule_number a.ru
 pub advice_begins : (m : Memory) (q : PolicyValue) → AreAdviceBelow m q 101 []
 advice_begins m q = none_below (IsFirstAdvice m q) (λ a. rule_number a.rule) 101 (λ a first. rule_from_101 a.rule)
 
-pub no_more_advice : (m : Memory) (q : PolicyValue) (n : ℕ) (advice : List Advice) → AreAdviceBelow m q n advice
-    → FindsAdviceOfNumber n m q None → AreAdviceBelow m q (n + 1) advice
-no_more_advice m q n advice before none = none_next before (λ a first same. none a same first)
+pub no_more_advice : (m : Memory) (q : PolicyValue) (r : Rule) (n : ℕ) (advice : List Advice) → rule_number r ≡ n
+    → AreAdviceBelow m q n advice → FindsFirstAdvice r m q None → AreAdviceBelow m q (n + 1) advice
+no_more_advice m q r n advice number before none =
+    none_next before (λ a first same. none a (same_rule a.rule r (same ∙ sym number)) first)
 
-pub one_more_advice : (m : Memory) (q : PolicyValue) (n : ℕ) (advice : List Advice) (a : Advice)
-    → AreAdviceBelow m q n advice → FindsAdviceOfNumber n m q (Some a) → AreAdviceBelow m q (n + 1) (advice ++ a ∷ [])
-one_more_advice m q n advice a before (number, first) =
-    one_next a before first number
-    (λ b other same. one_first_advice m q b a (same_rule b.rule a.rule (same ∙ sym number)) other first)
+pub one_more_advice : (m : Memory) (q : PolicyValue) (r : Rule) (n : ℕ) (advice : List Advice) (a : Advice)
+    → rule_number r ≡ n → AreAdviceBelow m q n advice → FindsFirstAdvice r m q (Some a)
+    → AreAdviceBelow m q (n + 1) (advice ++ a ∷ [])
+one_more_advice m q r n advice a number before (is, first) =
+    let own : rule_number a.rule ≡ n = ap rule_number is ∙ number in
+    one_next a before first own
+    (λ b other same. one_first_advice m q b a (same_rule b.rule a.rule (same ∙ sym own)) other first)
 
 pub all_advice : (m : Memory) (q : PolicyValue) (n : ℕ) (advice : List Advice) → AreAdviceBelow m q n advice → 129 ≤ n
     → AreFirstAdvice m q advice

@@ -1,16 +1,15 @@
 -- The first faults of the codes up to one, as they are collected.
-use Rattle.std.proofs.Common.{ℕ, ◌+◌, ◌≤◌, List, [], ◌∷◌, ◌++◌, Some, None, sym, ◌∙◌, arith}
+use Rattle.std.proofs.Common.{◌≡◌, ℕ, ◌+◌, ◌≤◌, List, [], ◌∷◌, ◌++◌, Some, None, sym, ◌∙◌, ap, arith}
 use Rattle.acpi_base.specs.Codes.{code_number}
 use Rattle.acpi_base.specs.Memory.{Memory}
 use Rattle.acpi_base.specs.Policy.{PolicyValue}
 use Rattle.acpi_base.specs.Lint.Findings.{AreFirstFaults}
-use Rattle.acpi_base.specs.Lint.FirstOfCode.{IsFirstOfCode}
+use Rattle.acpi_base.specs.Lint.FirstOfCode.{IsFirstOfCode, FindsFirstOfCode}
 use Rattle.acpi_base.specs.declared.code.Code.{Code}
 use Rattle.acpi_base.specs.declared.code.Code.TheVariants as code
 use Rattle.acpi_base.specs.declared.witness.Witness.{Witness}
 use Rattle.acpi_base.proofs.Faults.Numbers.{code_below, same_code}
 use Rattle.acpi_base.proofs.Lint.{one_first_of_code}
-use Rattle.acpi_lint.specs.StageFaults.{FindsFirstOfNumber}
 use Rattle.acpi_lint.proofs.RisingLists.{IsUpTo, none_below, none_next, one_next}
 
 -- those of the codes with lower numbers
@@ -25,15 +24,18 @@ code_from_1 _ = omega arith
 pub faults_begin : (m : Memory) (q : PolicyValue) → AreFirstsBelow m q 1 []
 faults_begin m q = none_below (IsFirstOfCode m q) (λ w. code_number w.code) 1 (λ w first. code_from_1 w.code)
 
-pub no_more_faults : (m : Memory) (q : PolicyValue) (n : ℕ) (faults : List Witness) → AreFirstsBelow m q n faults
-    → FindsFirstOfNumber n m q None → AreFirstsBelow m q (n + 1) faults
-no_more_faults m q n faults before none = none_next before (λ w first same. none w same first)
+pub no_more_faults : (m : Memory) (q : PolicyValue) (c : Code) (n : ℕ) (faults : List Witness) → code_number c ≡ n
+    → AreFirstsBelow m q n faults → FindsFirstOfCode c m q None → AreFirstsBelow m q (n + 1) faults
+no_more_faults m q c n faults number before none =
+    none_next before (λ w first same. none w (same_code w.code c (same ∙ sym number)) first.fault)
 
-pub one_more_fault : (m : Memory) (q : PolicyValue) (n : ℕ) (faults : List Witness) (w : Witness)
-    → AreFirstsBelow m q n faults → FindsFirstOfNumber n m q (Some w) → AreFirstsBelow m q (n + 1) (faults ++ w ∷ [])
-one_more_fault m q n faults w before (number, first) =
-    one_next w before first number
-    (λ v other same. one_first_of_code m q v w (same_code v.code w.code (same ∙ sym number)) other first)
+pub one_more_fault : (m : Memory) (q : PolicyValue) (c : Code) (n : ℕ) (faults : List Witness) (w : Witness)
+    → code_number c ≡ n → AreFirstsBelow m q n faults → FindsFirstOfCode c m q (Some w)
+    → AreFirstsBelow m q (n + 1) (faults ++ w ∷ [])
+one_more_fault m q c n faults w number before (is, first) =
+    let own : code_number w.code ≡ n = ap code_number is ∙ number in
+    one_next w before first own
+    (λ v other same. one_first_of_code m q v w (same_code v.code w.code (same ∙ sym own)) other first)
 
 pub all_faults : (m : Memory) (q : PolicyValue) (n : ℕ) (faults : List Witness) → AreFirstsBelow m q n faults → 60 ≤ n
     → AreFirstFaults m q faults

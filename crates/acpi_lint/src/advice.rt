@@ -9,7 +9,7 @@ ghost use Rattle.acpi_base.specs.Memory.{Memory};
 ghost use Rattle.acpi_base.specs.Policy.{PolicyValue};
 ghost use Rattle.acpi_base.specs.declared.rule.Rule.{Rule};
 ghost use Rattle.acpi_lint.specs.Places.{FindsLeast};
-ghost use Rattle.acpi_lint.specs.StageFaults.{FindsAdviceOfNumber};
+ghost use Rattle.acpi_lint.specs.StageFaults.{FindsFirstAdvice};
 ghost use Rattle.acpi_lint.specs.TableRules.{FadtRule, MadtRule, SratRule, DomainRule, PpttRule, LeafRule};
 ghost use Rattle.acpi_lint.specs.WholeTables.{AreWholeTables};
 
@@ -172,20 +172,17 @@ fn first_place(
     }
 }
 
-/// The first finding of the rule with a number, from 101 to 128.
+/// The first finding of a rule.
 fn first_finding(
     alloc: Global,
     image: &Image,
     tables: &WholeTables<'_>,
     policy: &Policy,
-    number: u8,
+    rule: Rule,
 ) -> Result<Option<Advice>, AllocError>
     requires { AreWholeTables image.now policy.now.rsdp tables.now }
-    ensures { IfOk result (FindsAdviceOfNumber number image.now policy.now) }
+    ensures { IfOk result (FindsFirstAdvice rule image.now policy.now) }
 {
-    let Some(rule) = Rule::new(number) else {
-        return Ok(None);
-    };
     let Some(Place { at, other, point }) = first_place(alloc, image, tables, policy, rule)? else {
         return Ok(None);
     };
@@ -196,12 +193,6 @@ fn first_finding(
         point,
     }))
 }
-
-/// The number of the first rule.
-const RULES_BEGIN: u8 = 101;
-
-/// The number after that of the last rule.
-const RULES_END: u8 = 129;
 
 /// The first findings of all rules that are broken, in the order of the rules' numbers.
 pub fn first_advice(
@@ -214,10 +205,12 @@ pub fn first_advice(
     ensures { IfOk result (λ advice. AreFirstAdvice image.now policy.now advice.items) }
 {
     let mut advice = Vec::new(alloc);
-    for number in RULES_BEGIN..RULES_END {
-        if let Some(finding) = first_finding(alloc, image, tables, policy, number)? {
+    let mut number = Rule::ListedTwice.number();
+    while let Some(rule) = Rule::new(number) {
+        if let Some(finding) = first_finding(alloc, image, tables, policy, rule)? {
             advice.push(finding)?;
         }
+        number += 1;
     }
     Ok(advice)
 }

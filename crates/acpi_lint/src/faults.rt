@@ -2,7 +2,8 @@
 
 ghost use Rattle.std.specs.Prelude.{IfOk};
 ghost use Rattle.acpi_base.specs.Lint.Findings.{AreFirstFaults};
-ghost use Rattle.acpi_lint.specs.StageFaults.{FindsFirstAt, FindsFirstOfNumber};
+ghost use Rattle.acpi_base.specs.Lint.FirstOfCode.{FindsFirstOfCode};
+ghost use Rattle.acpi_lint.specs.StageFaults.{FindsFirstAt};
 ghost use Rattle.acpi_lint.specs.WholeTables.{AreWholeTables};
 
 use crate::facs::facs_fault;
@@ -57,20 +58,17 @@ fn first_place(
     }
 }
 
-/// The first fault with the code of a number, from 1 to 59.
+/// The first fault with a code, whether or not earlier stages hold.
 fn first_fault(
     alloc: Global,
     image: &Image,
     tables: &WholeTables<'_>,
     policy: &Policy,
-    number: u8,
+    code: Code,
 ) -> Result<Option<Witness>, AllocError>
     requires { AreWholeTables image.now policy.now.rsdp tables.now }
-    ensures { IfOk result (FindsFirstOfNumber number image.now policy.now) }
+    ensures { IfOk result (FindsFirstOfCode code image.now policy.now) }
 {
-    let Some(code) = Code::new(number) else {
-        return Ok(None);
-    };
     let Some(Place { at, other, point }) = first_place(alloc, image, tables, policy, code)? else {
         return Ok(None);
     };
@@ -81,9 +79,6 @@ fn first_fault(
         point,
     }))
 }
-
-/// The number after that of the last code.
-const CODES_END: u8 = 60;
 
 /// The first faults of all codes that have one, in the order of the codes' numbers.
 pub fn first_faults(
@@ -96,10 +91,12 @@ pub fn first_faults(
     ensures { IfOk result (λ faults. AreFirstFaults image.now policy.now faults.items) }
 {
     let mut faults = Vec::new(alloc);
-    for number in 1..CODES_END {
-        if let Some(fault) = first_fault(alloc, image, tables, policy, number)? {
+    let mut number = 1;
+    while let Some(code) = Code::new(number) {
+        if let Some(fault) = first_fault(alloc, image, tables, policy, code)? {
             faults.push(fault)?;
         }
+        number += 1;
     }
     Ok(faults)
 }

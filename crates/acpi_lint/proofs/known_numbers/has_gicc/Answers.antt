@@ -7,5 +7,5 @@ use Rattle.acpi_lint.proofs.known_numbers.has_gicc.Goals as goal
 pub returns : goal.returns
 returns c =
     rw c.is_some.ensures
-    (any_of_entries madt_value IsGicc c.first_picked-gicc.result c.first_picked-gicc.ensures
-    c.entries.ensures.entries (λ at picked answers. search rules))
+    (any_of_entries madt_value IsGicc c.first_picked-gicc.result c.first_picked-gicc.ensures c.entries.ensures.entries
+    (λ at picked answers. search rules))

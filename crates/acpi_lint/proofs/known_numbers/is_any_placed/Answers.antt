@@ -9,6 +9,6 @@ pub returns : goal.returns
 returns c =
     any_named processor_domain (srat_contents c.args.srat.now).entries c.is_some.result
     (rw c.is_some.ensures
-    (any_of_entries srat_value (HasSome processor_domain) c.first_picked-domain.result
-    c.first_picked-domain.ensures c.entries.ensures.entries
+    (any_of_entries srat_value (HasSome processor_domain) c.first_picked-domain.result c.first_picked-domain.ensures
+    c.entries.ensures.entries
     (λ at picked answers. number_where (processor_domain (srat_value at.now.entry)) picked (search rules))))

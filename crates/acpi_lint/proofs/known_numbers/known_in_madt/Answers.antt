@@ -11,7 +11,7 @@ pub returns : goal.returns
 returns c =
     are_known (madt_number c.args.number) (madt_contents c.args.madt.now).entries c.in_ok-numbers.numbers.items
     c.sorted_unique.result
-    (gathered_same {X = ⊤} madt_value (λ s. madt_number c.args.number s.entry) _ (Ok
-    c.in_ok-numbers.numbers)
-    c.in_ok-numbers.ensures c.entries.ensures.entries (λ at picked answers. search rules) (λ found is. is))
+    (gathered_same {X = ⊤} madt_value (λ s. madt_number c.args.number s.entry) _
+    (Ok c.in_ok-numbers.numbers) c.in_ok-numbers.ensures c.entries.ensures.entries
+    (λ at picked answers. search rules) (λ found is. is))
     c.sorted_unique.ensures.rise c.sorted_unique.ensures.same

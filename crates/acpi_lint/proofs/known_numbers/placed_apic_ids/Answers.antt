@@ -12,6 +12,5 @@ returns c =
     are_known placed_apic_id (srat_contents c.args.srat.now).entries c.in_ok-numbers.numbers.items
     c.sorted_unique.result
     (gathered_same {X = ⊤} srat_value (λ s. placed_apic_id s.entry) _ (Ok c.in_ok-numbers.numbers)
-    c.in_ok-numbers.ensures
-    c.entries.ensures.entries (λ at picked answers. search rules) (λ found is. is))
+    c.in_ok-numbers.ensures c.entries.ensures.entries (λ at picked answers. search rules) (λ found is. is))
     c.sorted_unique.ensures.rise c.sorted_unique.ensures.same

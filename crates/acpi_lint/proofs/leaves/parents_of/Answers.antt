@@ -10,6 +10,5 @@ pub returns-clause-all : goal.returns-clause-all
 returns-clause-all c =
     are_parents (pptt_contents c.args.pptt.now) c.in_ok-parents.parents.items c.sorted_unique.result
     (gathered_same {X = ⊤} pptt_value (λ s. parent_of s.entry) _ (Ok c.in_ok-parents.parents)
-    c.in_ok-parents.ensures
-    c.entries.ensures.entries (λ at picked answers. search rules) (λ found is. is))
+    c.in_ok-parents.ensures c.entries.ensures.entries (λ at picked answers. search rules) (λ found is. is))
     c.sorted_unique.ensures.same

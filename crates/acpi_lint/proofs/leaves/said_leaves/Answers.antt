@@ -5,6 +5,5 @@ use Rattle.acpi_lint.proofs.leaves.said_leaves.Goals as goal
 
 pub returns : goal.returns
 returns c =
-    pptt_numbers said_leaf_id c.args.pptt.now c.collected.result c.collected.ensures
-    c.entries.ensures.entries
+    pptt_numbers said_leaf_id c.args.pptt.now c.collected.result c.collected.ensures c.entries.ensures.entries
     (λ at picked answers. search rules)

@@ -24,6 +24,5 @@ returns c =
     (unknown_of_two placed_apic_id placed_uid (IsNamed apic_id_of others) (IsNamed uid_of others) entries ids uids found
     (rw (← c.as_slice-ids.ensures.value) at c.in_ok-ids.ensures)
     (rw (← c.as_slice-uids.ensures.value) at c.in_ok-uids.ensures)
-    (least_of_entries srat_value (IsUnknownAffinity ids uids) 48 found c.first_picked.ensures
-    c.entries.ensures.entries
+    (least_of_entries srat_value (IsUnknownAffinity ids uids) 48 found c.first_picked.ensures c.entries.ensures.entries
     (srat_rising c.args.srat.now) (λ at picked here answers. search rules)))

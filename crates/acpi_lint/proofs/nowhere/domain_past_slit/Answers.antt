@@ -12,9 +12,7 @@ pub returns : goal.returns
 returns c =
     let IsPast = IsPastHere c.args.localities in
     let found : FindsLeast (IsFaultAt IsPast (srat_contents c.args.srat.now).entries) c.first_picked.result =
-    least_of_entries srat_value IsPast 48 c.first_picked.result c.first_picked.ensures
-    c.entries.ensures.entries
-    (srat_rising c.args.srat.now) (λ at picked here answers. search
-    rules) in
+    least_of_entries srat_value IsPast 48 c.first_picked.result c.first_picked.ensures c.entries.ensures.entries
+    (srat_rising c.args.srat.now) (λ at picked here answers. search rules) in
     least_as c.first_picked.result (λ at other point (e, here, (is, past, count)). ((e, here, is), past, count))
     (λ at other point ((e, here, is), past, count). (e, here, (is, past, count))) found

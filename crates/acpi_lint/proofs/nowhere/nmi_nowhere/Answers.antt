@@ -22,5 +22,4 @@ returns c =
     (unknown_named nmi_uid (IsNamed uid_of entries) entries known found
     (rw (← c.as_slice-uids.ensures.value) at c.in_ok-uids.ensures)
     (least_of_entries madt_value (IsUnknownOf nmi_uid known) 44 found c.first_picked.ensures
-    c.entries.ensures.entries (madt_rising c.args.madt.now) (λ at picked here answers. search
-    rules)))
+    c.entries.ensures.entries (madt_rising c.args.madt.now) (λ at picked here answers. search rules)))

@@ -26,6 +26,5 @@ returns c =
     uids found
     (rw (← c.as_slice-ids.ensures.value) at c.in_ok-ids.ensures)
     (rw (← c.as_slice-uids.ensures.value) at c.in_ok-uids.ensures)
-    (least_of_entries madt_value (IsUnplaced ids uids) 44 found c.first_picked.ensures
-    c.entries.ensures.entries
+    (least_of_entries madt_value (IsUnplaced ids uids) 44 found c.first_picked.ensures c.entries.ensures.entries
     (madt_rising c.args.madt.now) (λ at picked here answers. search rules)))

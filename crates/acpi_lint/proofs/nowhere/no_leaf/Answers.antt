@@ -28,7 +28,5 @@ returns c =
     least_as found (λ at other point (named, none, unused). (asked, some, named, none, unused))
     (λ at other point (_, _, named, none, unused). (named, none, unused))
     (unknown_named uid_on IsId entries known found (rw (← c.as_slice-ids.ensures.value) at c.in_ok-ids.ensures)
-    (least_of_entries madt_value (IsUnknownOf uid_on known) 44 found c.first_picked.ensures
-    c.entries.ensures.entries
-    (madt_rising c.args.madt.now) (λ at picked here answers. search
-    rules)))
+    (least_of_entries madt_value (IsUnknownOf uid_on known) 44 found c.first_picked.ensures c.entries.ensures.entries
+    (madt_rising c.args.madt.now) (λ at picked here answers. search rules)))

@@ -14,6 +14,5 @@ returns c =
     let said = pptt_contents c.args.pptt.now in
     let found : FindsLeast (IsFaultAt (NamesNoResource offsets) said.entries) c.first_picked.result =
     least_of_entries pptt_value (NamesNoResource offsets) 36 c.first_picked.result c.first_picked.ensures
-    c.entries.ensures.entries (pptt_rising c.args.pptt.now) (λ at picked here
-    answers. search rules) in
+    c.entries.ensures.entries (pptt_rising c.args.pptt.now) (λ at picked here answers. search rules) in
     resources_dangle said offsets c.first_picked.result c.in_ok-offsets.ensures found

@@ -9,8 +9,7 @@ use Rattle.acpi_lint.proofs.same.same_cache_id.Goals as goal
 pub first_repeated-requires : goal.first_repeated-requires
 first_repeated-requires c =
     let are =
-    pptt_numbers {X = ⊤} cache_id c.args.pptt.now (Ok c.in_ok-numbers.numbers)
-    c.in_ok-numbers.ensures
+    pptt_numbers {X = ⊤} cache_id c.args.pptt.now (Ok c.in_ok-numbers.numbers) c.in_ok-numbers.ensures
     c.entries.ensures.entries (λ at picked answers. search rules) in
     are.placed
 
@@ -19,7 +18,6 @@ returns c =
     each_ok c.first_repeated.result (λ found. found_cache (pptt_contents c.args.pptt.now) found
     (omega (arith, c.if-revision-lt-HAS_CACHE_IDS.false, c.revision.ensures)))
     (found_twice c.in_ok-numbers.numbers.items c.first_repeated.result
-    (pptt_numbers {X = ⊤} cache_id c.args.pptt.now (Ok c.in_ok-numbers.numbers)
-    c.in_ok-numbers.ensures
+    (pptt_numbers {X = ⊤} cache_id c.args.pptt.now (Ok c.in_ok-numbers.numbers) c.in_ok-numbers.ensures
     c.entries.ensures.entries (λ at picked answers. search rules))
     c.first_repeated.ensures)

@@ -12,7 +12,7 @@ pub returns : goal.returns
 returns c =
     each_ok c.first_unlike.result (λ found. found_domains (srat_contents c.args.srat.now) c.in_ok-domains.domains.items
     found (srat_ones c.args.srat.now)
-    (gathered_same {X = ⊤} srat_value (λ s. domain_of_uid s.offset s.entry) _ (Ok
-    c.in_ok-domains.domains)
-    c.in_ok-domains.ensures c.entries.ensures.entries (λ at picked answers. search rules) (λ found is. is)))
+    (gathered_same {X = ⊤} srat_value (λ s. domain_of_uid s.offset s.entry) _
+    (Ok c.in_ok-domains.domains) c.in_ok-domains.ensures c.entries.ensures.entries
+    (λ at picked answers. search rules) (λ found is. is)))
     c.first_unlike.ensures

@@ -7,6 +7,5 @@ use Rattle.acpi_lint.proofs.sci.has_io_apic.Goals as goal
 pub returns : goal.returns
 returns c =
     rw c.is_some.ensures
-    (any_of_entries madt_value IsIoApic c.first_picked.result c.first_picked.ensures
-    c.entries.ensures.entries
+    (any_of_entries madt_value IsIoApic c.first_picked.result c.first_picked.ensures c.entries.ensures.entries
     (λ at picked answers. search rules))
