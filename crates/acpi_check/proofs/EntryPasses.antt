@@ -6,6 +6,7 @@ pub mod MadtPass
 pub mod OverridesPass
 pub mod Passes
 pub mod PpttPass
+pub mod RisingKeys
 pub mod SratPass
 pub mod TypedPass
 pub mod ValuesPass

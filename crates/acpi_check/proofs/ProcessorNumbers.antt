@@ -4,5 +4,4 @@ pub mod DomainsPass
 pub mod EntryNumbers
 pub mod LeavesFaults
 pub mod NamedPass
-pub mod RisingPlacements
 pub mod Searches

@@ -1,7 +1,6 @@
 -- Processors that an SRAT puts into domains.
-use Rattle.std.specs.Prelude.{◌≡◌, ℕ, ◌<◌, List, length, slice_index, Option, Some, None, if◌then◌else◌}
-use Rattle.acpi_base.specs.Across.{PutsAt}
-use Rattle.acpi_base.specs.Srat.{SratEntry, ApicDomain, X2apicDomain, SratContents, PutsIn, is_enabled}
+use Rattle.std.specs.Prelude.{ℕ, ◌<◌, List, length, slice_index, Option, Some, None, if◌then◌else◌}
+use Rattle.acpi_base.specs.Srat.{SratEntry, ApicDomain, X2apicDomain, PutsIn, is_enabled}
 use Rattle.acpi_check.specs.declared.domains.Placement.{Placement}
 
 -- the processor that an enabled entry puts into a domain
@@ -15,7 +14,3 @@ placement_of _ = None
 -- the entry puts the processor whose number has the index k among these into the domain d
 abbrev pub PutsPlaced : List ℕ → ℕ → ℕ → SratEntry → Type 0
 PutsPlaced numbers k d e = (k < length numbers) × PutsIn (slice_index numbers k) d e
-
--- no processor is put into two domains, whether it is enabled or not
-abbrev pub PutsEachInOne : SratContents → Type 0
-PutsEachInOne srat = (i o r d f : ℕ) → PutsAt srat o i d → PutsAt srat r i f → d ≡ f

@@ -1,12 +1,12 @@
 //! Stage 16: the proximity domains into which the SRAT puts the processors of the MADT.
 
-ghost use Rattle.std.specs.Prelude.{◌≡◌, ◌<◌, AllPairs, IfOk, IfSome, IsTrue, length};
+ghost use Rattle.std.specs.Prelude.{◌≡◌, ◌<◌, AllPairs, IfOk, IfSome, IsTrue, None, length};
 ghost use Rattle.acpi_base.specs.Across.{HaveOneDomain, DomainFault};
 ghost use Rattle.acpi_base.specs.Madt.{madt_contents};
-ghost use Rattle.acpi_base.specs.Srat.{srat_contents};
+ghost use Rattle.acpi_base.specs.Srat.{srat_contents, PutsIn};
 ghost use Rattle.acpi_base.specs.declared.stage.Stage.{Stage};
 ghost use Rattle.acpi_read.specs.Srats.{srat_value};
-ghost use Rattle.acpi_check.specs.Domains.{placement_of, PutsEachInOne, PutsPlaced};
+ghost use Rattle.acpi_check.specs.Domains.{placement_of, PutsPlaced};
 ghost use Rattle.acpi_check.specs.FirstSeen.{IsGiven, FindsOther};
 ghost use Rattle.acpi_check.specs.TableResults.{FindsFirst};
 
@@ -48,7 +48,7 @@ fn placement_of(entry: &SratEntry<'_>) -> Option<Placement>
 /// Whether each processor that an entry of an SRAT puts into a domain has a greater number than those before it, as in
 /// most machines. Then none is put into two.
 fn do_processors_rise(srat: &Srat<'_>) -> bool
-    ensures { IsTrue result → PutsEachInOne (srat_contents srat.now) }
+    ensures { IsTrue result → FindsOther PutsIn (srat_contents srat.now).entries None }
 {
     let mut entries = srat.entries();
     let mut least = 0;

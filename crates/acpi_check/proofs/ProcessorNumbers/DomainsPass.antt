@@ -1,5 +1,5 @@
 -- What the entries of an SRAT say of processors.
-use Rattle.std.proofs.Common.{◌≡◌, ℕ, ◌<◌, List, Some, sym, ◌∙◌, ap, inl, inr, arith, refl}
+use Rattle.std.proofs.Common.{◌≡◌, ℕ, ◌<◌, List, Some, None, sym, ◌∙◌, ap, inl, inr, arith, refl}
 use Rattle.std.specs.Prelude.{◌↔◌, AllPairs, slice_index}
 use Rattle.std.proofs.lemmas.Bool.{cases_order}
 use Rattle.std.proofs.lemmas.Option.{none-some, same_Some, cond_some}
@@ -31,6 +31,16 @@ one_put e i j d h one other =
     let is = same_Some (record { processor = i; domain = d }) (record { processor = j; domain = h })
     (sym ((puts i d e).0 one) ∙ (puts j h e).0 other) in
     (ap (λ (p : Placement). p.processor) is, ap (λ (p : Placement). p.domain) is)
+
+-- which is the one that is read
+pub put_alone : (e : SratEntry) (put : Placement) → placement_of e ≡ Some put → (i d : ℕ) → PutsIn i d e
+    → i ≡ put.processor
+put_alone e put is i d says =
+    ap (λ (p : Placement). p.processor)
+    (same_Some (record { processor = i; domain = d }) put (sym ((puts i d e).0 says) ∙ is))
+
+pub none_put : (e : SratEntry) → placement_of e ≡ None → (i d : ℕ) → ¬ PutsIn i d e
+none_put e none i d says = none-some (record { processor = i; domain = d }) (sym none ∙ (puts i d e).0 says)
 
 -- whose number, where the numbers rise, stands at one place
 pub one_place : (numbers : List ℕ) → AllPairs (λ i j. i < j) numbers → (e : SratEntry) (k l d h : ℕ)

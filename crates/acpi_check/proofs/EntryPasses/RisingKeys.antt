@@ -1,0 +1,101 @@
+-- Entries that give keys values, where the keys rise: then none is given two values.
+use Rattle.std.proofs.Common.{◌≡◌, ℕ, ◌+◌, ◌<◌, ◌≤◌, List, [], ◌∷◌, sym, subst, inl, inr, arith}
+use Rattle.std.specs.Prelude.{⊤, None}
+use Rattle.acpi_base.specs.Entries.{PlacedEntry, StandsWith}
+use Rattle.acpi_base.proofs.Elements.{first_or_later, no_element}
+use Rattle.acpi_check.specs.FirstSeen.{FindsOther}
+
+-- the keys that entries give values rise from this number on
+unfoldable pub RiseFrom : {E : Type 0} → (ℕ → ℕ → E → Type 0) → ℕ → List (PlacedEntry E) → Type 0
+RiseFrom Gives least [] = ⊤
+RiseFrom Gives least (s ∷ left) =
+    (next : ℕ) × (least ≤ next) × ((k d : ℕ) → Gives k d s.entry → (least ≤ k) × (k < next)) × RiseFrom Gives next left
+
+-- ---- the pass
+
+-- those of all entries rise if those of the entries left do, from this number on
+pub record DoRiseTo {E : Type 0} (Gives : ℕ → ℕ → E → Type 0) (all left : List (PlacedEntry E))
+    (least : ℕ) : Type 0 where
+  pub all_rise : RiseFrom Gives least left → RiseFrom Gives 0 all
+
+pub begins : {E : Type 0} {Gives : ℕ → ℕ → E → Type 0} (all : List (PlacedEntry E)) → DoRiseTo Gives all all 0
+begins all = record { all_rise = λ rise. rise }
+
+-- an entry gives no key a value
+pub without : {E : Type 0} {Gives : ℕ → ℕ → E → Type 0} {all left : List (PlacedEntry E)} {s : PlacedEntry E}
+    {least : ℕ} → DoRiseTo Gives all (s ∷ left) least → ((k d : ℕ) → ¬ Gives k d s.entry)
+    → DoRiseTo Gives all left least
+unfolding RiseFrom
+without {least = least} before none =
+    record { all_rise = λ rise. before.all_rise (least, omega arith, (λ k d gives. absurd (none k d gives)), rise) }
+
+-- an entry gives this key alone one
+pub with_one : {E : Type 0} {Gives : ℕ → ℕ → E → Type 0} {all left : List (PlacedEntry E)} {s : PlacedEntry E}
+    {least : ℕ} (key : ℕ) → DoRiseTo Gives all (s ∷ left) least → least ≤ key
+    → ((k d : ℕ) → Gives k d s.entry → k ≡ key) → DoRiseTo Gives all left (key + 1)
+unfolding RiseFrom
+with_one key before from is =
+    record {
+      all_rise = λ rise. before.all_rise (
+        key + 1,
+        omega (arith, from),
+        (λ k d gives. (omega (arith, from, is k d gives), omega (arith, is k d gives))),
+        rise,
+      );
+    }
+
+-- ---- all entries
+
+gives_of : {E : Type 0} (Gives : ℕ → ℕ → E → Type 0) (s : PlacedEntry E) (o : ℕ) (e : E) (k d : ℕ)
+    → s ≡ record { offset = o; entry = e } → Gives k d e → Gives k d s.entry
+gives_of {E} Gives s o e k d is gives = subst (λ (t : PlacedEntry E). Gives k d t.entry) (sym is) gives
+
+not_below : {E : Type 0} (Gives : ℕ → ℕ → E → Type 0) (entries : List (PlacedEntry E)) (least o k d : ℕ)
+    → RiseFrom Gives least entries → StandsWith entries o (Gives k d) → least ≤ k
+unfolding RiseFrom
+not_below Gives [] least o k d rise (e, stands, gives) =
+    absurd (no_element (record { offset = o; entry = e }) stands)
+not_below Gives (s ∷ left) least o k d (next, up, own, rest) (e, stands, gives) =
+    elim (first_or_later s (record { offset = o; entry = e }) left stands) [
+      | inl is ↦ (own k d (gives_of Gives s o e k d is gives)).0
+      | inr later ↦ omega (arith, up, not_below Gives left next o k d rest (e, later, gives))
+    ]
+
+one_value : {E : Type 0} (Gives : ℕ → ℕ → E → Type 0)
+    → ((e : E) (k l d h : ℕ) → Gives k d e → Gives l h e → (k ≡ l) × (d ≡ h)) → (entries : List (PlacedEntry E))
+    (least : ℕ) → RiseFrom Gives least entries → FindsOther Gives entries None
+unfolding RiseFrom
+one_value Gives one [] least rise o p k d h (e, stands, gives) other =
+    absurd (no_element (record { offset = o; entry = e }) stands)
+one_value Gives one (s ∷ left) least (next, up, own, rest) o p k d h (e, stands, gives) (b, also, gives_too) =
+    elim (first_or_later s (record { offset = o; entry = e }) left stands) [
+      | inl is ↦
+          elim (first_or_later s (record { offset = p; entry = b }) left also) [
+            | inl is_too ↦
+                (one s.entry k k d h (gives_of Gives s o e k d is gives) (gives_of Gives s p b k h is_too gives_too)).1
+            | inr later ↦
+                absurd (omega (
+                  arith,
+                  not_below Gives left next p k h rest (b, later, gives_too),
+                  (own k d (gives_of Gives s o e k d is gives)).1,
+                ))
+          ]
+      | inr later ↦
+          elim (first_or_later s (record { offset = p; entry = b }) left also) [
+            | inl is_too ↦
+                absurd (omega (
+                  arith,
+                  not_below Gives left next o k d rest (e, later, gives),
+                  (own k h (gives_of Gives s p b k h is_too gives_too)).1,
+                ))
+            | inr later_too ↦
+                one_value Gives one left next rest o p k d h (e, later, gives) (b, later_too, gives_too)
+          ]
+    ]
+
+-- where no entry is left no key is given two values
+pub ends : {E : Type 0} {Gives : ℕ → ℕ → E → Type 0} {entries : List (PlacedEntry E)} {least : ℕ}
+    → ((e : E) (k l d h : ℕ) → Gives k d e → Gives l h e → (k ≡ l) × (d ≡ h)) → DoRiseTo Gives entries [] least
+    → FindsOther Gives entries None
+unfolding RiseFrom
+ends {Gives = Gives} {entries = entries} one before = one_value Gives one entries 0 (before.all_rise tt)
