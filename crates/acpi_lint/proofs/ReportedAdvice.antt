@@ -1,36 +1,18 @@
 -- The first findings of the rules up to one, as they are collected.
-use Rattle.std.proofs.Common.{◌≡◌, ℕ, ◌+◌, ◌-◌, ◌≤◌, ◌<◌, List, [], ◌∷◌, ◌++◌, Some, None, refl, sym, ◌∙◌, ap, subst, arith}
+use Rattle.std.proofs.Common.{◌≡◌, ℕ, ◌+◌, ◌-◌, ◌≤◌, ◌<◌, List, [], ◌∷◌, ◌++◌, Some, None, refl, sym, ◌∙◌, ap, arith}
 use Rattle.std.specs.List.{slice_get}
 use Rattle.std.proofs.lemmas.Option.{same_Some}
 use Rattle.acpi_base.specs.Memory.{Memory}
 use Rattle.acpi_base.specs.Policy.{PolicyValue}
-use Rattle.acpi_base.specs.Lint.Advice.{IsBroken, IsFirstAdvice}
+use Rattle.acpi_base.specs.Lint.Advice.{IsFirstAdvice}
 use Rattle.acpi_base.specs.Lint.Findings.{AreFirstAdvice}
 use Rattle.acpi_base.specs.Lint.Rules.{rule_number}
 use Rattle.acpi_base.specs.declared.rule.Advice.{Advice}
 use Rattle.acpi_base.specs.declared.rule.Rule.{Rule}
 use Rattle.acpi_base.specs.declared.rule.Rule.TheVariants as rule
 use Rattle.acpi_base.proofs.Lint.{one_first_advice}
-use Rattle.acpi_lint.specs.Places.{FindsLeast}
 use Rattle.acpi_lint.specs.StageFaults.{FindsFirstAdvice}
-use Rattle.acpi_lint.specs.declared.place.Place.{Place}
 use Rattle.acpi_lint.proofs.RisingLists.{IsUpTo, none_below, none_next, one_next}
-
--- ---- one rule
-
--- the advice at a place
-abbrev pub advice_at : Rule → Place → Advice
-advice_at r p = record { rule = r; at = p.at; other = p.other; point = p.point }
-
--- the least place of a rule's findings is that of its first
-pub first_at : (m : Memory) (q : PolicyValue) (r : Rule) (p : Place) → FindsLeast (IsBroken r m q) (Some p)
-    → IsFirstAdvice m q (advice_at r p)
-first_at m q r p found =
-    record {
-      broken = found.here;
-      least = λ b same broken.
-          found.least b.at b.other b.point (subst (λ (s : Rule). IsBroken s m q b.at b.other b.point) same broken);
-    }
 
 -- ---- their numbers
 

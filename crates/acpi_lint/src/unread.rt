@@ -42,7 +42,7 @@ pub fn io_apic_at_zero(madt: &Madt<'_>) -> Option<Place>
 }
 
 /// The type of a GIC distributor (ACPI 6.5, 5.2.12.15).
-pub const GICD: u8 = 12;
+const GICD: u8 = 12;
 
 /// Whether an entry is a GIC distributor. All are given the number 0.
 fn is_gicd(entry: &MadtEntry<'_>) -> bool

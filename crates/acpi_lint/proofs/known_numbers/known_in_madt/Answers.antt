@@ -2,9 +2,9 @@ use Rattle.std.proofs.Common.{rules, Ok}
 use Rattle.std.specs.Prelude.{⊤}
 use Rattle.acpi_base.specs.Madt.{madt_contents}
 use Rattle.acpi_read.specs.Madts.{madt_value}
+use Rattle.acpi_check.proofs.EntryPasses.Collecting.{gathered_same}
 use Rattle.acpi_lint.specs.EntryNumbers.{madt_number}
 use Rattle.acpi_lint.proofs.KnownOnes.{are_known}
-use Rattle.acpi_check.proofs.EntryPasses.Collecting.{gathered_same}
 use Rattle.acpi_lint.proofs.known_numbers.known_in_madt.Goals as goal
 
 pub returns : goal.returns

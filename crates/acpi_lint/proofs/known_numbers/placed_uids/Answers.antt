@@ -3,8 +3,8 @@ use Rattle.std.specs.Prelude.{⊤}
 use Rattle.acpi_base.specs.Lint.Processors.{placed_uid}
 use Rattle.acpi_base.specs.Srat.{srat_contents}
 use Rattle.acpi_read.specs.Srats.{srat_value}
-use Rattle.acpi_lint.proofs.KnownOnes.{are_known}
 use Rattle.acpi_check.proofs.EntryPasses.Collecting.{gathered_same}
+use Rattle.acpi_lint.proofs.KnownOnes.{are_known}
 use Rattle.acpi_lint.proofs.known_numbers.placed_uids.Goals as goal
 
 pub returns : goal.returns

@@ -2,8 +2,8 @@ use Rattle.std.proofs.Common.{rules, Ok}
 use Rattle.std.specs.Prelude.{⊤}
 use Rattle.acpi_base.specs.Pptt.{pptt_contents, parent_of}
 use Rattle.acpi_read.specs.Pptts.{pptt_value}
-use Rattle.acpi_lint.proofs.LeafNumbers.{are_parents}
 use Rattle.acpi_check.proofs.EntryPasses.Collecting.{gathered_same}
+use Rattle.acpi_lint.proofs.LeafNumbers.{are_parents}
 use Rattle.acpi_lint.proofs.leaves.parents_of.Goals as goal
 
 pub returns-clause-all : goal.returns-clause-all

@@ -1,4 +1,4 @@
-use Rattle.std.proofs.Common.{rules, inl, inr}
+use Rattle.std.proofs.Common.{rules}
 use Rattle.acpi_base.specs.Lint.Numbered.{IsNamed}
 use Rattle.acpi_base.specs.Lint.Processors.{apic_id_of, placed_apic_id, placed_uid, uid_of}
 use Rattle.acpi_base.specs.Madt.{madt_contents}

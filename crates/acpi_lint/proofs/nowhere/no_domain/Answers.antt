@@ -1,4 +1,4 @@
-use Rattle.std.proofs.Common.{rules, inl, inr}
+use Rattle.std.proofs.Common.{rules}
 use Rattle.acpi_base.specs.Lint.Numbered.{IsNamed}
 use Rattle.acpi_base.specs.Lint.Processors.{apic_id_on, gicc_uid_on, placed_apic_id, placed_uid}
 use Rattle.acpi_base.specs.Madt.{madt_contents}

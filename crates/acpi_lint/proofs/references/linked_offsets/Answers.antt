@@ -1,9 +1,9 @@
-use Rattle.std.proofs.Common.{Ok, refl, rules}
+use Rattle.std.proofs.Common.{Ok, rules}
 use Rattle.std.specs.Prelude.{⊤}
 use Rattle.acpi_read.specs.Pptts.{pptt_value}
+use Rattle.acpi_check.proofs.EntryPasses.Collecting.{gathered_same}
 use Rattle.acpi_lint.specs.References.{offset_where, is_linked}
 use Rattle.acpi_lint.proofs.NamedPlaces.{linked_there, same_places}
-use Rattle.acpi_check.proofs.EntryPasses.Collecting.{gathered_same}
 use Rattle.acpi_lint.proofs.references.linked_offsets.Goals as goal
 
 pub returns : goal.returns
