@@ -180,6 +180,7 @@ fn nonzero_io_apic_address(entry: &MadtEntry<'_>) -> Option<u32>
 }
 
 /// The number of this kind.
+#[inline(always)]
 pub fn madt_number(number: MadtNumber, entry: &MadtEntry<'_>) -> Option<u32>
     ensures { result ≡ madt_number number (madt_value entry.now) }
 {
