@@ -178,14 +178,14 @@ for head in crates/*/src/lib.rt; do
 done
 
 # ---- the documents
-codes=$(sed -n 's/^code_row code\.\([A-Za-z]*\) = (\([0-9]*\), .*)$/\2 \1/p' crates/acpi_base/specs/Codes.antt)
-parts=$(sed -n 's/^### \([0-9]* [A-Za-z]*\)$/\1/p' docs/FAULTS.md)
+codes=$(sed -n 's/^code_row code\.\([A-Za-z0-9]*\) = (\([0-9]*\), .*)$/\2 \1/p' crates/acpi_base/specs/Codes.antt)
+parts=$(sed -n 's/^### \([0-9]* [A-Za-z0-9]*\)$/\1/p' docs/FAULTS.md)
 described=$(awk '$1 <= 100' <<<"$parts")
 advised=$(awk '$1 > 100' <<<"$parts")
 same 'codes (<) and parts of FAULTS.md (>)' "$codes" "$described"
-indexed=$(sed -n '/^## Index$/,/^## How/p' docs/FAULTS.md | grep -o '[0-9][0-9]* \[[A-Za-z]*\](#[a-z0-9-]*)' | sed 's/\[\(.*\)\](#.*/\1/')
+indexed=$(sed -n '/^## Index$/,/^## How/p' docs/FAULTS.md | grep -o '[0-9][0-9]* \[[A-Za-z0-9]*\](#[a-z0-9-]*)' | sed 's/\[\(.*\)\](#.*/\1/')
 same 'parts of FAULTS.md (<) and its index by code (>)' "$described" "$indexed"
-by_name=$(sed -n '/^## Index$/,/^## How/p' docs/FAULTS.md | grep -o '\[[A-Za-z]*\](#[0-9]*-[a-z]*) [0-9][0-9]*' | sed 's/\[\(.*\)\](#.*) \(.*\)/\2 \1/')
+by_name=$(sed -n '/^## Index$/,/^## How/p' docs/FAULTS.md | grep -o '\[[A-Za-z0-9]*\](#[0-9]*-[a-z]*) [0-9][0-9]*' | sed 's/\[\(.*\)\](#.*) \(.*\)/\2 \1/')
 same 'parts of FAULTS.md (<) and its index by name (>)' "$described" "$by_name"
 complete=$(awk 'BEGIN { part = "" } /^### [0-9]/ { part = $2 " " $3 } /^## / { part = "" } part != "" && /^- [A-Z][a-z]*:/ { print part, $2 }' docs/FAULTS.md)
 asked=$(
@@ -193,16 +193,16 @@ asked=$(
   while read -r part; do printf '%s %s\n' "$part" Found: "$part" Fields: "$part" Numbers: "$part" Severity: "$part" System: "$part" Fix: "$part" Example:; done <<<"$advised"
 )
 same 'what a part of FAULTS.md has to say (<) and what it says (>)' "$asked" "$complete"
-stages=$(sed -n 's/^stage_number stage\.[A-Za-z]* = \([0-9]*\)$/\1/p' crates/acpi_base/specs/Codes.antt)
+stages=$(sed -n 's/^stage_number stage\.[A-Za-z0-9]* = \([0-9]*\)$/\1/p' crates/acpi_base/specs/Codes.antt)
 listed=$(sed -n 's/^| \([0-9]*\) | .* | [0-9to, ]* |$/\1/p' docs/FAULTS.md)
 same 'stages (<) and those that FAULTS.md lists (>)' "$stages" "$listed"
-rules=$(sed -n 's/^rule_row rule\.\([A-Za-z]*\) = (\([0-9]*\), .*)$/\2 \1/p' crates/acpi_base/specs/Lint/Rules.antt)
-listed=$(sed -n '/^## Advice$/,/^## /s/^| \([0-9]* [A-Za-z]*\) | .*/\1/p' docs/TABLES.md)
+rules=$(sed -n 's/^rule_row rule\.\([A-Za-z0-9]*\) = (\([0-9]*\), .*)$/\2 \1/p' crates/acpi_base/specs/Lint/Rules.antt)
+listed=$(sed -n '/^## Advice$/,/^## /s/^| \([0-9]* [A-Za-z0-9]*\) | .*/\1/p' docs/TABLES.md)
 same 'rules of advice (<) and those that TABLES.md lists (>)' "$rules" "$listed"
 same 'rules of advice (<) and their parts in FAULTS.md (>)' "$rules" "$advised"
-same 'rules of advice (<) and their parts in man/acpiset-faults.7 (>)' "$rules" "$(sed -n 's/^\.SS \([0-9]* [A-Za-z]*\)$/\1/p' man/acpiset-faults.7 | awk '$1 > 100')"
+same 'rules of advice (<) and their parts in man/acpiset-faults.7 (>)' "$rules" "$(sed -n 's/^\.SS \([0-9]* [A-Za-z0-9]*\)$/\1/p' man/acpiset-faults.7 | awk '$1 > 100')"
 index=$(sed -n '/^### Index of advice$/,/^### What/p' docs/FAULTS.md)
-indexed=$(grep -o '[0-9][0-9]* \[[A-Za-z]*\](#[a-z0-9-]*)' <<<"$index" | sed 's/\[\(.*\)\](#.*/\1/')
+indexed=$(grep -o '[0-9][0-9]* \[[A-Za-z0-9]*\](#[a-z0-9-]*)' <<<"$index" | sed 's/\[\(.*\)\](#.*/\1/')
 same 'rules of advice (<) and their index by number in FAULTS.md (>)' "$rules" "$indexed"
 by_name=$(grep -o '\[[A-Za-z]*\](#[0-9]*-[a-z]*) [0-9][0-9]*' <<<"$index" | sed 's/\[\(.*\)\](#.*) \(.*\)/\2 \1/')
 same 'rules of advice (<) and their index by name in FAULTS.md (>)' "$rules" "$by_name"

@@ -2,7 +2,7 @@
 """Refuses the built program its memory, request by request, and lets its input and its output fail, call by call.
 
 A run in which a request for memory was refused ends with status 4, writes nothing, and reports that it is out of memory;
-the usual answer comes only where none was refused. A run in which a read failed reports the device and writes nothing,
+the usual answer comes only where none was refused, or where SPARED_AFTER says so. A run in which a read failed reports the device and writes nothing,
 save where a fault of the text stood before. A run in which a write failed reports the device, and what went out is a
 prefix.
 
@@ -191,11 +191,18 @@ def scattered_runs():
     yield Run(ONE_TWICE, rows_at([*shuffled, 0x1000]), ["find"], 3, "", "acpiset: address 0x1000 twice\n")
 
 
-# The runs that sort pieces of the text, after the input was read. The buffer for that may be refused; an address that is there twice is
-# then told without any other request.
+# The runs with a request, after the input was read, that may be refused without another answer: for the buffer in which pieces are
+# sorted, and for the bytes of a line of data that has no address or passes the last one. An address that is there twice is told without
+# any other request.
 IN_NO_ORDER = "find in 4,000 pieces in no order"
 ONE_TWICE = "find in 4,000 pieces in no order, one twice"
-SPARED_AFTER = {(IN_NO_ORDER, "REFUSE_AT"), (ONE_TWICE, "REFUSE_AT"), (ONE_TWICE, "REFUSE_FROM")}
+SPARED_AFTER = {
+    (IN_NO_ORDER, "REFUSE_AT"),
+    (ONE_TWICE, "REFUSE_AT"),
+    (ONE_TWICE, "REFUSE_FROM"),
+    ("check, no address", "REFUSE_AT"),
+    ("check, a row past the end", "REFUSE_AT"),
+}
 
 
 def rows_at(addresses):

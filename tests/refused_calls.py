@@ -1,7 +1,8 @@
 #!/usr/bin/env python3
 """Runs the tests of crates with their requests for memory refused, one in each run: a test ends well only where none was
 refused, and what it says otherwise is that the crate is out of memory. So no call gives another answer, nor another
-fault, where memory is refused: also of those calls that no command of the program reaches alone.
+fault, where memory is refused: also of those calls that no command of the program reaches alone. Only in the tests of
+REFUSED_ANYWAY may a call give its usual answer.
 
 usage: refused_calls.py TESTS..; the last line is 'refused calls: N passed, M failed'. TESTS is what a crate's tests are built
 as, crates/NAME/out/NAME_tests, where `rt ci` and `rt test` leave it."""
@@ -25,6 +26,13 @@ SAMPLED = {
     "base::text::image_text::text_comes_in_pieces",
     "graph::clash::agrees_with_the_plain_search",
     "graph::stray::agrees_with_the_plain_walk",
+}
+# The tests that read lines of data which are refused whether or not there is memory for their bytes: bad ones, and those that have no
+# address or pass the last one.
+REFUSED_ANYWAY = {
+    "base::text::image_text::a_refusal_stays",
+    "base::text::image_text::reads_a_row_with_one_byte_changed",
+    "base::text::image_text::reports_the_first_fault",
 }
 
 
@@ -54,6 +62,8 @@ def starved(tests, name, preload, mark):
         if not is_refused:
             return refused, f"status {status} where nothing is refused: {text}"
         refused += 1
+        if status == 0 and name in REFUSED_ANYWAY:
+            continue
         if status == 0 or not OUT_OF_MEMORY.search(text):
             return refused, f"request {number}: status {status}: {text}"
 

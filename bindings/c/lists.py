@@ -78,7 +78,7 @@ def rows(path, function, value):
 
 def sentences(enum):
     """What the comments of an enum's variants say, as a part of a sentence, without the sections of the standard."""
-    found = re.findall(r"^    /// (.*?)(?: \([\d., ]+\))?\.\n    (\w+),$", SOURCES[enum].read_text(), re.M)
+    found = re.findall(r"(?<=[,{]\n)    /// (.*?)(?: \([\d., ]+\))?\.\n    (\w+),$", SOURCES[enum].read_text(), re.M)
     return {variant: text[0].lower() + text[1:] if text[1].islower() or text[1] == " " else text for text, variant in found}
 
 
@@ -229,9 +229,10 @@ def by_hand(header, crates):
 
 
 def undescribed(crates):
-    """Codes, rules and stages whose variant does not have a sentence on one line as its comment."""
+    """Codes, rules and stages whose variant does not have a sentence on one line as its comment, and variants without a row."""
     known = [*crates.codes, *crates.rules]
     yield from (f"{it}: its comment has to be a sentence on one line" for it in known if it not in crates.sentences)
+    yield from (f"{it}: the definitions have no row of it" for it in crates.sentences if it not in known)
     yield from (f"stage {it}: its comment has to be a sentence on one line" for it, told in crates.stage_sentences.items() if not told)
 
 

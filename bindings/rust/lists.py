@@ -41,7 +41,7 @@ def table(path, function, value):
 
 def meanings_of_stages():
     """What the comments in the source say of the stages."""
-    return {name: [meaning] for meaning, name in re.findall(r"^    /// (.*)\n    (\w+),$", STAGES.read_text(), re.M)}
+    return {name: [meaning] for meaning, name in re.findall(r"(?<=[,{]\n)    /// (.*)\n    (\w+),$", STAGES.read_text(), re.M)}
 
 
 def meanings(item):

@@ -1,5 +1,6 @@
 /* Each request for memory of each call is refused in its turn, alone and with all that follow: the answer is OUT_OF_MEMORY, no block
- * is left, and nothing is written to the caller's array.
+ * is left, and nothing is written to the caller's array. Only numbers that are out of range, and a fault of a text up to its first line
+ * of data, are told all the same.
  * usage: refused_memory RSDP FILE [RSDP FILE].. */
 #include "calls.h"
 #include "counted_memory.h"
@@ -77,6 +78,32 @@ static void refuse_inputs(const struct subject *subject) {
     }
 }
 
+/* A text that is refused at its first line of data: then that is the answer, whether or not there is memory. */
+static void refuse_texts(void) {
+    static const struct {
+        const char *text;
+        enum acpiset_kind kind;
+        uint64_t line;
+    } refused[] = {
+        {"00\n", ACPISET_NO_ADDRESS, 1},
+        {"@ffffffffffffffff\n00 00\n", ACPISET_TEXT_PAST_END, 2},
+        {"@0\n00 0g\n", ACPISET_BAD_LINE, 2},
+    };
+    struct acpiset_settings settings = ACPISET_SETTINGS(0);
+    for (size_t i = 0; i < sizeof refused / sizeof refused[0]; i++) {
+        const char *text = refused[i].text;
+        long requests = 1;
+        for (long number = 0; number <= requests; number++) {
+            refuse_request(number, true);
+            struct acpiset_answer answer = acpiset_check_text(text, strlen(text), NULL, 0, &settings);
+            if (number == 0) requests = requests_made();
+            refuse_request(0, false);
+            expect(answer, answer_of(refused[i].kind, refused[i].line, 0), "text %zu, request %ld and later ones", i, number);
+        }
+        count_case(requests > 0, "text %zu: no request was made", i);
+    }
+}
+
 int main(int argc, char **argv) {
     size_t count;
     struct subject *subjects = subjects_of(argc, argv, &count);
@@ -87,6 +114,7 @@ int main(int argc, char **argv) {
         for (int call = 0; call < CALLS; call++) requests[call] += refuse_each((enum call)call, &subjects[i]);
     }
     refuse_inputs(&subjects[0]);
+    refuse_texts();
     refuse_request(0, false);
     count_case(acpiset_abi() == ACPISET_ABI && requests_made() == 0, "acpiset_abi takes no memory");
     printf("requests for memory, each refused:");
